@@ -7,7 +7,6 @@ use Rattle.rasn_types.specs.declared.types.codec.Codec.{Codec}
 use Rattle.rasn_types.specs.declared.types.codec.Codec.TheVariants.{Ber, Cer, Der}
 use Rattle.rasn_types.specs.declared.types.constraints.Constraints.{Constraints}
 use Rattle.rasn_types.specs.declared.error.decode.DecodeError.{DecodeError}
-use Rattle.rasn_types.specs.Framing.{AreOctets}
 use Rattle.rasn_types.specs.Tags.{IsCanonical}
 use Rattle.rasn_types.specs.Shapes.{Tree, bits, leaf, bit_string, named_bits, AdmitsPadded}
 use Rattle.rasn_types.specs.BitString.{significant, zeros}
@@ -22,7 +21,6 @@ use Rattle.rasn_de.specs.Leaves.{is_ber}
 use Rattle.rasn_de.specs.State.{State}
 use Rattle.rasn_de.specs.Steps.{IsErrorOf}
 use Rattle.rasn_de.specs.Decodes.{Decodes}
-use Rattle.rasn_de.proofs.Strings.BitString.{bits_decodes}
 use Rattle.rasn_de.proofs.Leaves.Outcomes.{Exact-none, Exact-refusal}
 use Rattle.rasn_de.proofs.Leaves.Rules.{bits_rules}
 
@@ -64,48 +62,67 @@ module _ (rule : Codec) (tag : Tag) (bounds : Constraints) (depth : ℕ) (closin
       ((xs, ap (λ (l : List Bool). bits (significant l)) (sym f), n, s, subst (λ (l : List Bool). IsCanonical rule → significant l ≡ l) (sym f) z), b)
 
 -- ---- what a call says
-pub named_decodes : (tag : Tag) (bounds : Constraints) (old new : State) (result : Result (List Bool) DecodeError) → AreOctets old.rest → DecodesNamedBits tag bounds old result new
-    → Decodes (leaf named_bits tag bounds) named_bits_tree old result new
-named_decodes tag bounds old new (Ok bs) o (read, h, (z, e, b)) =
-    let d = bits_decodes tag unconstrained old new (Ok read) o h in
-    let tree_is : named_bits_tree bs ≡ bits (significant read) = ap named_bits_tree e ∙ ap bits (significant_once read) in
-    record {
-      stays = d.stays;
-      end = d.end;
-      exact = rw tree_is (
-        reads_named old.rule tag bounds old.depth old.closing old.rest read new.rest d.exact.0 z b,
-        λ u s r.
-          let w = is_named old.rule tag bounds old.depth old.closing old.rest u s r in
-          let k = d.exact.1 (bits w.0) s w.1 in
-          let f : w.0 ≡ read = cc in
-          (w.2 ∙ ap (λ (l : List Bool). bits (significant l)) f, k.1),
-      );
-    }
-named_decodes tag bounds old new (Err e) o (inl h) =
-    let d = bits_decodes tag unconstrained old new (Err e) o h in
-    record {
+abbrev pub Says : Tag → Constraints → State → Result (List Bool) DecodeError → State → Type 0
+Says tag bounds old result new = record {
+  reads : Decodes (leaf named_bits tag bounds) named_bits_tree old result new;
+  exact : DecodesNamedBits tag bounds old result new;
+  rules : IfErr result (λ e. e.codec ≡ old.rule);
+}
+
+module _ (tag : Tag) (bounds : Constraints) (old new : State) where
+  -- bits that aren't read
+  pub named_unread : (e : DecodeError) → Decodes (leaf bit_string tag unconstrained) bits_tree old (Err e) new → DecodesBitString tag unconstrained old (Err e) new → Says tag bounds old (Err e) new
+  named_unread e d h = record {
+    reads = record {
       stays = d.stays;
       end = d.end;
       exact = Exact-refusal e.kind (Reads old.rule (leaf bit_string tag unconstrained) old.depth old.closing) (Reads old.rule (leaf named_bits tag bounds) old.depth old.closing) old.rest old.rest
-        (λ none u s r. let w = is_named old.rule tag bounds old.depth old.closing old.rest u s r in none (bits w.0) s w.1) d.exact;
-    }
-named_decodes tag bounds old new (Err e) o (inr (read, f, h, refused, k)) =
-    let d = bits_decodes tag unconstrained old new (Ok read) o h in
-    record {
-      stays = d.stays;
-      end = d.end;
-      exact = Exact-none e.kind (Reads old.rule (leaf named_bits tag bounds) old.depth old.closing) old.rest
-        (λ u s r.
-          let w = is_named old.rule tag bounds old.depth old.closing old.rest u s r in
-          let q = d.exact.1 (bits w.0) s w.1 in
-          let g : w.0 ≡ read = cc in
-          none (subst (λ (l : List Bool). IsCanonical old.rule → significant l ≡ l) g w.3) (subst (λ (l : List Bool). AdmitsPadded bounds.size (length (significant l))) g w.4));
-    }
-  where
-    none : (IsCanonical old.rule → significant read ≡ read) → AdmitsPadded bounds.size (length (significant read)) → ⊥
-    none z b = elim refused [ inl x ↦ x.1 (z x.0) | inr x ↦ x.1 b ]
+          (λ none u s r. let w = is_named old.rule tag bounds old.depth old.closing old.rest u s r in none (bits w.0) s w.1) d.exact;
+    };
+    exact = inl h;
+    rules = bits_rules tag unconstrained old new (Err e) h;
+  }
 
-pub named_rules : (tag : Tag) (bounds : Constraints) (old new : State) (result : Result (List Bool) DecodeError) → DecodesNamedBits tag bounds old result new → IfErr result (λ e. e.codec ≡ old.rule)
-named_rules tag bounds old new (Ok bs) h = tt
-named_rules tag bounds old new (Err e) (inl h) = bits_rules tag unconstrained old new (Err e) h
-named_rules tag bounds old new (Err e) (inr (read, f, h, refused, k)) = ap (λ (x : DecodeError). x.codec) k ∙ ap (λ (x : State). x.rule) h.1
+  module _ (read : List Bool) (d : Decodes (leaf bit_string tag unconstrained) bits_tree old (Ok read) new) (h : DecodesBitString tag unconstrained old (Ok read) new) where
+    -- the only bits that are read here
+    only_read : (bs : List Bool) (s : List ℕ) → Reads old.rule (leaf bit_string tag unconstrained) old.depth old.closing old.rest (bits bs) s → (bs ≡ read) × (s ≡ new.rest)
+    only_read bs s r =
+        let k = d.exact.1 (bits bs) s r in
+        let e = k.0 in
+        (cc, k.1)
+
+    pub named_found : (bs : List Bool) → NamesBits old.rule bounds read (Ok bs) → Says tag bounds old (Ok bs) new
+    named_found bs (z, e, b) =
+        let tree_is : named_bits_tree bs ≡ bits (significant read) = ap named_bits_tree e ∙ ap bits (significant_once read) in
+        record {
+          reads = record {
+            stays = d.stays;
+            end = d.end;
+            exact = rw tree_is (
+              reads_named old.rule tag bounds old.depth old.closing old.rest read new.rest d.exact.0 z b,
+              λ u s r.
+                  let w = is_named old.rule tag bounds old.depth old.closing old.rest u s r in
+                  let k = only_read w.0 s w.1 in
+                  (w.2 ∙ ap (λ (l : List Bool). bits (significant l)) k.0, k.1),
+            );
+          };
+          exact = (read, h, (z, e, b));
+          rules = tt;
+        }
+
+    pub named_refused : (f : ParseError) (e : DecodeError) → NamesBits old.rule bounds read (Err f) → IsErrorOf f new e → Says tag bounds old (Err e) new
+    named_refused f e refused k = record {
+      reads = record {
+        stays = d.stays;
+        end = d.end;
+        exact = Exact-none e.kind (Reads old.rule (leaf named_bits tag bounds) old.depth old.closing) old.rest (λ u s r.
+            let w = is_named old.rule tag bounds old.depth old.closing old.rest u s r in
+            let g = (only_read w.0 s w.1).0 in
+            none (subst (λ (l : List Bool). IsCanonical old.rule → significant l ≡ l) g w.3) (subst (λ (l : List Bool). AdmitsPadded bounds.size (length (significant l))) g w.4));
+      };
+      exact = inr (read, f, h, refused, k);
+      rules = ap (λ (x : DecodeError). x.codec) k ∙ ap (λ (x : State). x.rule) d.stays;
+    }
+      where
+        none : (IsCanonical old.rule → significant read ≡ read) → AdmitsPadded bounds.size (length (significant read)) → ⊥
+        none z b = elim refused [ inl x ↦ x.1 (z x.0) | inr x ↦ x.1 b ]

@@ -40,6 +40,7 @@ mod contents;
 mod cow_bits;
 mod default;
 mod enumerated;
+mod extensible;
 mod extension;
 mod fixed_octet_string;
 mod integer;

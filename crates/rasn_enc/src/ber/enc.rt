@@ -18,6 +18,7 @@ mod config;
 mod constructed;
 mod default;
 mod enumerated;
+mod extensible;
 mod extension;
 mod fixed_octet_string;
 mod integer;

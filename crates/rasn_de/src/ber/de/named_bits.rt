@@ -46,8 +46,9 @@ impl<'input> Decoder<'input> {
         ensures exact { DecodesNamedBits tag constraints.now self.old result self.new }
         ensures rules { IfErr result (λ e. e.codec ≡ self.old.rule) }
     {
+        let rules = self.codec();
         let bits = self.decode_bit_string(tag, &Constraints::NONE)?;
-        match named(self.rules, constraints, bits) {
+        match named(rules, constraints, bits) {
             Ok(bits) => Ok(bits),
             Err(fault) => Err(self.error(fault)),
         }
