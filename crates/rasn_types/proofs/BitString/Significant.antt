@@ -1,7 +1,8 @@
 -- Bits without their trailing 0 bits.
-use Rattle.std.proofs.Common.{◌≡◌, ◌≢◌, ℕ, zero, suc, ◌+◌, ◌<◌, ◌≤◌, Bool, true, false, List, [], ◌∷◌, ◌++◌, length, take, get_or, refl, sym, ap, ◌∙◌, subst, arith}
-use Rattle.std.proofs.lemmas.List.{length-append, take_all}
-use Rattle.rasn_types.specs.BitString.{zeros, bit_before, significant}
+use Rattle.std.proofs.Common.{◌≡◌, ◌≢◌, ℕ, zero, suc, ◌+◌, ◌*◌, ◌<◌, ◌≤◌, Bool, true, false, List, [], ◌∷◌, ◌++◌, length, take, drop, get_or, refl, sym, ap, ◌∙◌, subst, arith}
+use Rattle.std.proofs.lemmas.List.{length-append, take-append-le}
+use Rattle.rasn_types.specs.BitString.{bits_in, bits_from, zeros, Packs, bit_before, significant}
+use Rattle.rasn_types.proofs.BitString.Bits.{length-bits_in}
 
 before_once : (b : Bool) (l : List Bool) → significant l ≡ l → significant (bit_before b l) ≡ bit_before b l
 before_once true l e = ap (λ k. true ∷ k) e
@@ -47,6 +48,14 @@ front_of (x ∷ l) k = ap (λ z. x ∷ z) (front_of l k)
 
 pub significant_front : (bs : List Bool) → take (length (significant bs)) bs ≡ significant bs
 significant_front bs = let r = then_zeros bs in ap (take (length (significant bs))) r.1 ∙ front_of (significant bs) (zeros r.0)
+
+-- The significant bits of packed octets are their first ones.
+pub significant_packed : (bs : List Bool) (octets : List ℕ) (len : ℕ) → Packs bs octets → len ≡ length (significant bs) → bits_from 0 len octets ≡ significant bs
+significant_packed bs octets len p e =
+    ap (λ l. take len (drop 0 l)) p.all ∙ (take-append-le len bs (zeros p.unused) (omega (arith, e, significant_le bs)) ∙ (ap (λ n. take n bs) e ∙ significant_front bs))
+
+pub significant_held : (bs : List Bool) (octets : List ℕ) (len : ℕ) → Packs bs octets → len ≡ length (significant bs) → len ≤ 8 * length octets
+significant_held bs octets len p e = omega (arith, e, significant_le bs, ap length p.all, length-append bs (zeros p.unused), length-bits_in octets)
 
 -- One bit more of a list.
 one_more : (l : List Bool) (k : ℕ) (d : Bool) → k < length l → take (suc k) l ≡ take k l ++ get_or l k d ∷ []

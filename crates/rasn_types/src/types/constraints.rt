@@ -148,7 +148,7 @@ fn is_padded_size_within(bounded: Bounded<usize>, size: usize) -> bool
         Bounded::Range {
             start,
             end: Some(high),
-        } => size <= high && start.is_none_or(|low| low <= high),
+        } => size <= high && start.unwrap_or(0) <= high,
     }
 }
 
