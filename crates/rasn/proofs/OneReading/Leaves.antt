@@ -8,6 +8,7 @@ use Rattle.rasn_types.specs.Framing.{Extent, definite, indefinite, Frame, number
 use Rattle.rasn_types.specs.Shapes.{Tree, number, bits, numbers, Kind, boolean, null, object_identifier, octet_string, integer, enumerated, fixed, numeric, printable, visible, ia5, any_octets, bmp, utf8, utc_time, generalized_time, date}
 use Rattle.rasn_types.specs.declared.types.constraints.Constraints.{Constraints}
 use Rattle.rasn_types.specs.Contents.{IsBool, Contents, bits_of, joined_lists, BitSegment, ReadsBitSegment, OctetSegment, ReadsString, primitive, segments, closed_segments, ReadsSegments}
+use Rattle.rasn_types.specs.BitString.{significant}
 use Rattle.rasn_types.specs.Grammar.{Text, units, Family, plain_family, bit_family, named_family, text_family, family, ReadsIn, ReadsLeaf}
 use Rattle.rasn_types.proofs.Headers.Frames.{frame_one, split_one}
 use Rattle.rasn_de.proofs.Leaves.ObjectIdentifier.{identifier_one}

@@ -1,11 +1,11 @@
 -- A leaf that is written is read again.
-use Rattle.std.proofs.Common.{◌≡◌, ℕ, zero, suc, ◌<◌, ◌≢◌, inl, inr, List, [], ◌∷◌, ◌++◌, length, true, false, ℤ, refl, sym, subst, arith}
+use Rattle.std.proofs.Common.{◌≡◌, ℕ, zero, suc, ◌<◌, ◌≢◌, inl, inr, List, [], ◌∷◌, ◌++◌, length, true, false, ℤ, refl, sym, subst, arith, ap, ◌∙◌}
 use Rattle.rasn_types.specs.Tags.{tag_bit, eoc, form, IsStrict, in_universal}
 use Rattle.rasn_types.specs.declared.types.codec.Codec.{Codec}
 use Rattle.rasn_types.specs.declared.types.codec.Codec.TheVariants.{Ber, Cer, Der}
 use Rattle.rasn_types.specs.declared.types.tag.Tag.{Tag}
 use Rattle.rasn_types.specs.Framing.{Frame, definite}
-use Rattle.rasn_types.specs.Shapes.{Tree, Kind, boolean, null, object_identifier, integer, enumerated, octet_string, fixed, numeric, printable, visible, ia5, any_octets, bmp, utf8, utc_time, generalized_time, date}
+use Rattle.rasn_types.specs.Shapes.{Tree, Kind, boolean, null, object_identifier, integer, enumerated, octet_string, fixed, numeric, printable, visible, ia5, any_octets, bmp, utf8, utc_time, generalized_time, date, bits}
 use Rattle.rasn_types.specs.declared.types.constraints.Constraints.{Constraints}
 use Rattle.rasn_types.specs.Readings.{ReadsContents, definite_form, indefinite_form, ReadsMany}
 use Rattle.rasn_types.specs.Contents.{joined_lists, ReadsString, primitive, segments, closed_segments, ReadsBitSegment, OctetSegment, Contents, IsBool}
