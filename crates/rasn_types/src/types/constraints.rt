@@ -144,11 +144,10 @@ fn is_padded_size_within(bounded: Bounded<usize>, size: usize) -> bool
     match bounded {
         Bounded::None => true,
         Bounded::Single(only) => size <= only,
-        Bounded::Range { end: None, .. } => true,
-        Bounded::Range {
-            start,
-            end: Some(high),
-        } => size <= high && start.unwrap_or(0) <= high,
+        Bounded::Range { start, end } => match end {
+            None => true,
+            Some(high) => size <= high && start.unwrap_or(0) <= high,
+        },
     }
 }
 

@@ -5,9 +5,10 @@ use Rattle.rasn_types.proofs.types.constraints.is_padded_size_within.Goals as go
 pub returns-in-Single : goal.returns-in-Single
 returns-in-Single c = single_padded c.args.bounded _ c.in-Single.only c.args.size c.in-Single.is (leb_tells c.args.size c.in-Single.only)
 
-pub returns-in-Range-default-None : goal.returns-in-Range-default-None
-returns-in-Range-default-None c = open_padded c.args.bounded _ _ c.args.size c.in-Range-default-None.is c.in-Range-default-None.end-is
+pub returns-in-None-end : goal.returns-in-None-end
+returns-in-None-end c = open_padded c.args.bounded c.in-Range.start c.in-Range.end c.args.size c.in-Range.is c.in-None-end.is
 
 pub returns-then-size-high : goal.returns-then-size-high
 returns-then-size-high c =
-    range_padded c.args.bounded _ _ c.in-Range-default-Some.high c.args.size c.in-Range-default-Some.is c.in-Range-default-Some.end-is _ c.unwrap_or.result (low_end _ c.unwrap_or.result c.unwrap_or.ensures) c.if-size-high.true (leb_tells c.unwrap_or.result c.in-Range-default-Some.high)
+    range_padded c.args.bounded c.in-Range.start c.in-Range.end c.in-Some.high c.args.size c.in-Range.is c.in-Some.is _ c.unwrap_or.result
+    (low_end c.in-Range.start c.unwrap_or.result c.unwrap_or.ensures) c.if-size-high.true (leb_tells c.unwrap_or.result c.in-Some.high)
