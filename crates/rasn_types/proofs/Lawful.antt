@@ -4,7 +4,7 @@ use Rattle.std.specs.Bool.{Decides}
 use Rattle.std.specs.List.{list_all, list_any}
 use Rattle.std.proofs.lemmas.Bool.Decides.{Decides-eqb, Decides-ltb, Decides-and, Decides-or, Decides-not, Decides-like, not_from_Decides}
 use Rattle.rasn_types.specs.Tags.{Class, Universal, Application, Context, Private, Tag, tag_bit, rank, eoc, is_universal, is_eoc, IsTagBelow}
-use Rattle.rasn_types.specs.Shapes.{Shape, leaf, any, prefix, choice, option, seq, set, list, set_of, Parts, part, own, IsFirst, IsFirstOf, IsAlwaysPresent, AreAlwaysPresent, Key, own_tag, first_tags, Presence, required, addition, optional_by, default_by}
+use Rattle.rasn_types.specs.Shapes.{Shape, leaf, any, prefix, choice, option, seq, set, list, set_of, open_choice, open_seq, Parts, part, own, IsFirst, IsFirstOf, IsAlwaysPresent, AreAlwaysPresent, Key, own_tag, first_tags, Presence, required, addition, optional_by, default_by}
 use Rattle.rasn_types.specs.Shapes.Parts.{none}
 use Rattle.rasn_types.specs.Grammar.{Family, plain_family, bit_family, named_family, text_family, family}
 use Rattle.rasn_types.specs.Lawful.{AreDisjoint, AreDistinguished, IsFirstBehind, IsDistinguished, IsRecognized, MayBeLeftOut, IsBitFree, HasTag, IsLawful, AreAlternatives, AreLawfulInOrder, AreLawfulByTag}
@@ -112,6 +112,8 @@ mutual
   firsts_tell (set tag ps) = tells_one tag
   firsts_tell (list tag s size) = tells_one tag
   firsts_tell (set_of tag s size) = tells_one tag
+  firsts_tell (open_choice ps) = λ n. (λ h. tt, λ h. tt)
+  firsts_tell (open_seq tag ps) = tells_one tag
 
   all_tell : (ps : Parts) → DescribesFirsts (firsts_of ps) (IsFirstOf ps)
   all_tell none = λ n. (λ h. h, λ h. h)
@@ -204,6 +206,8 @@ tagged (seq tag ps) = decides_yes
 tagged (set tag ps) = decides_yes
 tagged (list tag s size) = decides_yes
 tagged (set_of tag s size) = decides_yes
+tagged (open_choice ps) = decides_no (λ h. h)
+tagged (open_seq tag ps) = decides_yes
 
 -- A number above those of the tags.
 abbrev above : List Tag → ℕ
@@ -267,6 +271,8 @@ mutual
   solid (set tag ps) = decides_yes
   solid (list tag s size) = decides_yes
   solid (set_of tag s size) = decides_yes
+  solid (open_choice ps) = all_solid ps
+  solid (open_seq tag ps) = decides_yes
 
   all_solid : (ps : Parts) → Decides (are_always_present ps) (AreAlwaysPresent ps)
   all_solid none = decides_yes
@@ -309,6 +315,8 @@ mutual
   lawful_decides (set tag ps) = Decides-and _ _ (no_value tag) (by_tag ps)
   lawful_decides (list tag s size) = both _ _ _ (no_value tag) (solid s) (lawful_decides s)
   lawful_decides (set_of tag s size) = both _ _ _ (no_value tag) (solid s) (lawful_decides s)
+  lawful_decides (open_choice ps) = Decides-and _ _ (alternatives ps) (told_apart ps)
+  lawful_decides (open_seq tag ps) = Decides-and _ _ (no_value tag) (in_order ps)
 
   alternatives : (ps : Parts) → Decides (are_alternatives ps) (AreAlternatives ps)
   alternatives none = decides_yes

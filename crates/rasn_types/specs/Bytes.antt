@@ -7,8 +7,9 @@ use Rattle.rasn_types.specs.Calendar.{Day, IsDay, Moment, IsMoment}
 use Rattle.rasn_types.specs.Time.{written_date, written_generalized, written_utc}
 pub use Rattle.rasn_types.specs.Order.{Each, IsLess, AreAscending}
 pub use Rattle.rasn_types.specs.Shapes.{Same}
-use Rattle.rasn_types.specs.Shapes.{Tree, bits, numbers, instant, on_day, items, set_elements, chosen, absent, Kind, utc_time, generalized_time, date, Bound, Admits, Shape, leaf, any, prefix, choice, option, seq, set, list, set_of, Parts, part, Presence, required, addition, optional_by, default_by}
+use Rattle.rasn_types.specs.Shapes.{Tree, bits, numbers, instant, on_day, items, joined, set_elements, chosen, absent, Kind, utc_time, generalized_time, date, Bound, Admits, Shape, leaf, any, prefix, choice, option, seq, set, list, set_of, open_choice, open_seq, Parts, part, Presence, required, addition, optional_by, default_by}
 use Rattle.rasn_types.specs.Shapes.Parts.{none}
+use Rattle.rasn_types.specs.Described.{count}
 pub use Rattle.rasn_types.specs.Contents.{AllFalse}
 use Rattle.rasn_types.specs.Contents.{IsShortest, Contents, BitSegment, joined_lists}
 use Rattle.rasn_types.specs.BitString.{significant}
@@ -139,6 +140,11 @@ abbrev pub WritesSetOf : Codec → Tag → Option (Bound ℕ) → Writing Tree �
 WritesSetOf rule tag size writes t b = (ts : List Tree) × (bs : List (List ℕ)) × (t ≡ set_elements (items ts)) × Admits ◌≤◌ size (length ts)
     × Each writes ts bs × AreAscending IsLess bs × ConstructedEncoding rule tag (joined_lists bs) b
 
+-- Unknown values follow the parts, as they are.
+abbrev pub WritesOpenSeq : Codec → Tag → List Field → Writing Tree
+WritesOpenSeq rule tag fs t b = (ts : List Tree) × (us : List Tree) × (bs : List (List ℕ)) × (cs : List (List ℕ)) × (t ≡ joined (items ts) (items us))
+    × PartsWritten fs ts bs × Each (λ u c. u ≡ numbers c) us cs × ConstructedEncoding rule tag (joined_lists bs ++ joined_lists cs) b
+
 -- The tree is written as an untagged open type.
 unfoldable mutual
   pub IsUntaggedOpen : Shape → Tree → Type 0
@@ -152,6 +158,8 @@ unfoldable mutual
   IsUntaggedOpen (set tag ps) t = ⊥
   IsUntaggedOpen (list tag s size) t = ⊥
   IsUntaggedOpen (set_of tag s size) t = ⊥
+  IsUntaggedOpen (open_choice ps) t = IsUntaggedOpenIn 0 ps t ⊎ ((u : Tree) × (t ≡ chosen (count ps) u))
+  IsUntaggedOpen (open_seq tag ps) t = ⊥
 
   pub IsUntaggedOpenIn : ℕ → Parts → Tree → Type 0
   IsUntaggedOpenIn k none t = ⊥
@@ -171,6 +179,8 @@ unfoldable mutual
   Bytes rule (set tag ps) = WritesSet rule tag (fields_of rule ps)
   Bytes rule (list tag s size) = WritesList rule tag size (Bytes rule s)
   Bytes rule (set_of tag s size) = WritesSetOf rule tag size (Bytes rule s)
+  Bytes rule (open_choice ps) = λ t b. WritesChoice 0 (fields_of rule ps) t b ⊎ (t ≡ chosen (count ps) (numbers b))
+  Bytes rule (open_seq tag ps) = WritesOpenSeq rule tag (fields_of rule ps)
 
   pub fields_of : Codec → Parts → List Field
   fields_of rule none = []

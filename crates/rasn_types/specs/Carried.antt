@@ -1,12 +1,13 @@
 -- The values that are read back after they are written: those that are carried.
-use Rattle.std.specs.Prelude.{◌≡◌, ℕ, suc, ◌-◌, ◌^◌, ◌<◌, ◌⊎◌, ◌≢◌, List, [], ◌∷◌, length, Bool}
-use Rattle.rasn_types.specs.Tags.{loose_form, Codec, Tag}
-use Rattle.rasn_types.specs.Framing.{Frame, definite}
+use Rattle.std.specs.Prelude.{◌≡◌, ℕ, suc, ◌-◌, ◌^◌, ◌<◌, ◌⊎◌, ◌≢◌, List, [], ◌∷◌, length, Bool, Some, None}
+use Rattle.rasn_types.specs.Tags.{loose_form, der_form, Codec, Tag}
+use Rattle.rasn_types.specs.Framing.{Frame, definite, Begins, NextTag}
 use Rattle.rasn_types.specs.Calendar.{Day, Moment}
 use Rattle.rasn_types.specs.Time.{CarriedUtc, CarriedDay}
-use Rattle.rasn_types.specs.Shapes.{Tree, bits, numbers, instant, on_day, items, set_elements, chosen, absent, Kind, utc_time, generalized_time, date, Shape, leaf, any, prefix, choice, option, seq, set, list, set_of, Parts, part, Presence, required, addition, optional_by, default_by}
+use Rattle.rasn_types.specs.Shapes.{Tree, bits, numbers, instant, on_day, items, joined, set_elements, chosen, absent, Kind, utc_time, generalized_time, date, Shape, leaf, any, prefix, choice, option, seq, set, list, set_of, open_choice, open_seq, Parts, part, IsFirstOf, Presence, required, addition, optional_by, default_by, Sought, one_tag, any_of, sought_in}
 use Rattle.rasn_types.specs.Shapes.Parts.{none}
 use Rattle.rasn_types.specs.Grammar.{Family, plain_family, bit_family, named_family, text_family, family}
+use Rattle.rasn_types.specs.Described.{count}
 use Rattle.rasn_types.specs.Bytes.{Same, IsCer, WritesText, Bytes}
 
 abbrev pub EachOf : (Tree → Type 0) → List Tree → Type 0
@@ -44,6 +45,40 @@ pub record IsOneEncoding (t : Tree) : Type 0 where
   pub contents : List ℕ
   pub frame : Frame loose_form octets tag bit [] (definite contents)
 
+-- An encoding whose identifier is as under DER, and whose tag none of the parts begins with.
+pub record IsUnknownTo (ps : Parts) (t : Tree) : Type 0 where
+  pub encoding : IsOneEncoding t
+  pub next : NextTag der_form encoding.octets encoding.tag
+  pub unknown : IsFirstOf ps encoding.tag → ⊥
+
+-- The first of the unknown values begins with this tag.
+abbrev pub FirstUnknown : List Tree → Tag → Type 0
+FirstUnknown [] n = ⊥
+FirstUnknown (u ∷ us) n = (octets : List ℕ) × (u ≡ numbers octets) × Begins octets n
+
+-- A part that isn't written, and parts none of which is.
+abbrev pub IsUnwritten : Presence → Tree → Type 0
+IsUnwritten required t = ⊥
+IsUnwritten (optional_by key) t = t ≡ absent
+IsUnwritten addition t = t ≡ absent
+IsUnwritten (default_by key d) t = Same t d
+
+abbrev pub AreUnwritten : Parts → List Tree → Type 0
+AreUnwritten none ts = Unit {0}
+AreUnwritten (part presence s ps) ts = (t : Tree) × (us : List Tree) × (ts ≡ t ∷ us) × IsUnwritten presence t × AreUnwritten ps us
+
+-- The tag is one that a part is recognized by.
+abbrev pub IsSought : Sought → Tag → Type 0
+IsSought (one_tag None) n = Unit {0}
+IsSought (one_tag (Some tag)) n = n ≡ tag
+IsSought (any_of P) n = P n
+
+-- No part that is left out just before unknown values is recognized by the tag of the first of them.
+abbrev pub IsNotTaken : Parts → List Tree → (Tag → Type 0) → Type 0
+IsNotTaken none ts IsNext = Unit {0}
+IsNotTaken (part presence s ps) ts IsNext = (t : Tree) × (us : List Tree) × (ts ≡ t ∷ us)
+    × (IsUnwritten presence t → AreUnwritten ps us → (n : Tag) → IsNext n → IsSought (sought_in presence s) n → ⊥) × IsNotTaken ps us IsNext
+
 -- The limits of a carried value: the depth, counted down from 128, suffices, and open types, times and additions are
 -- within their limits.
 unfoldable mutual
@@ -57,6 +92,10 @@ unfoldable mutual
   IsWithinLimits rule (set tag ps) depth t = (0 < depth) × (ts : List Tree) × (t ≡ items ts) × AreWithinLimits rule ps (depth - 1) ts
   IsWithinLimits rule (list tag s size) depth t = (0 < depth) × (ts : List Tree) × (t ≡ items ts) × EachOf (IsWithinLimits rule s (depth - 2)) ts
   IsWithinLimits rule (set_of tag s size) depth t = (0 < depth) × (ts : List Tree) × (t ≡ set_elements (items ts)) × EachOf (IsWithinLimits rule s (depth - 2)) ts
+
+  IsWithinLimits rule (open_choice ps) depth t = ChosenIsWithinLimits rule 0 ps depth t ⊎ ((u : Tree) × (t ≡ chosen (count ps) u) × IsUnknownTo ps u)
+  IsWithinLimits rule (open_seq tag ps) depth t = (0 < depth) × (ts : List Tree) × (us : List Tree) × (t ≡ joined (items ts) (items us))
+      × AreWithinLimits rule ps (depth - 1) ts × EachOf IsOneEncoding us × IsNotTaken ps ts (FirstUnknown us)
 
   pub AreWithinLimits : Codec → Parts → ℕ → List Tree → Type 0
   AreWithinLimits rule none depth ts = ts ≡ []

@@ -1,7 +1,7 @@
 -- Lawful shapes.
 use Rattle.std.specs.Prelude.{◌≡◌, ◌⊎◌, ◌≢◌, false, Option, Some, None}
 use Rattle.rasn_types.specs.Tags.{tag_bit, Tag, eoc, IsTagBelow}
-use Rattle.rasn_types.specs.Shapes.{Shape, leaf, any, prefix, choice, option, seq, set, list, set_of, Parts, part, own, IsFirst, IsFirstOf, Key, own_tag, first_tags, Presence, required, addition, optional_by, default_by, IsAlwaysPresent}
+use Rattle.rasn_types.specs.Shapes.{Shape, leaf, any, prefix, choice, option, seq, set, list, set_of, open_choice, open_seq, Parts, part, own, IsFirst, IsFirstOf, Key, own_tag, first_tags, Presence, required, addition, optional_by, default_by, IsAlwaysPresent}
 use Rattle.rasn_types.specs.Shapes.Parts.{none}
 use Rattle.rasn_types.specs.Grammar.{Family, plain_family, bit_family, named_family, text_family, family}
 
@@ -21,9 +21,10 @@ IsFirstBehind (part addition s ps) n = IsFirst s n
 IsFirstBehind (part (optional_by key) s ps) n = IsFirst s n ⊎ IsFirstBehind ps n
 IsFirstBehind (part (default_by key d) s ps) n = IsFirst s n ⊎ IsFirstBehind ps n
 
--- The shape isn't an open type without a tag.
+-- The shape isn't an open type without a tag, nor a CHOICE with unknown alternatives.
 abbrev pub HasTag : Shape → Type 0
 HasTag (any None) = ⊥
+HasTag (open_choice ps) = ⊥
 HasTag s = Unit {0}
 
 -- The own tag of a part that may be left out distinguishes it from what follows. A part without an own tag is the last.
@@ -62,6 +63,8 @@ unfoldable mutual
   IsLawful (set tag ps) = (tag ≢ eoc) × AreLawfulByTag ps
   IsLawful (list tag s size) = (tag ≢ eoc) × IsAlwaysPresent s × IsLawful s
   IsLawful (set_of tag s size) = (tag ≢ eoc) × IsAlwaysPresent s × IsLawful s
+  IsLawful (open_choice ps) = AreAlternatives ps × AreDistinguished ps
+  IsLawful (open_seq tag ps) = (tag ≢ eoc) × AreLawfulInOrder ps
 
   pub AreAlternatives : Parts → Type 0
   AreAlternatives none = Unit {0}

@@ -2,7 +2,7 @@
 use Rattle.std.specs.Prelude.{Bool, true, false, not, ◌&&◌, ◌||◌, nat_eq, nat_lt, List, [], ◌∷◌, ◌++◌, Option, Some, None}
 use Rattle.std.specs.List.{list_all, list_any}
 use Rattle.rasn_types.specs.Tags.{tag_bit, Tag, rank, is_eoc}
-use Rattle.rasn_types.specs.Shapes.{Shape, leaf, any, prefix, choice, option, seq, set, list, set_of, Parts, part, own, Key, own_tag, first_tags, Presence, required, addition, optional_by, default_by}
+use Rattle.rasn_types.specs.Shapes.{Shape, leaf, any, prefix, choice, option, seq, set, list, set_of, open_choice, open_seq, Parts, part, own, Key, own_tag, first_tags, Presence, required, addition, optional_by, default_by}
 use Rattle.rasn_types.specs.Shapes.Parts.{none}
 use Rattle.rasn_types.specs.Grammar.{Family, plain_family, bit_family, named_family, text_family, family}
 
@@ -35,6 +35,8 @@ abbrev mutual
   firsts (set tag ps) = Some (tag ∷ [])
   firsts (list tag s size) = Some (tag ∷ [])
   firsts (set_of tag s size) = Some (tag ∷ [])
+  firsts (open_choice ps) = None
+  firsts (open_seq tag ps) = Some (tag ∷ [])
 
   pub firsts_of : Parts → Firsts
   firsts_of none = Some []
@@ -80,6 +82,8 @@ has_tag (seq tag ps) = true
 has_tag (set tag ps) = true
 has_tag (list tag s size) = true
 has_tag (set_of tag s size) = true
+has_tag (open_choice ps) = false
+has_tag (open_seq tag ps) = true
 
 abbrev pub is_distinguished : Option Tag → Parts → Bool
 is_distinguished (Some tag) ps = not (is_first (firsts_behind ps) tag)
@@ -116,6 +120,8 @@ abbrev mutual
   is_always_present (set tag ps) = true
   is_always_present (list tag s size) = true
   is_always_present (set_of tag s size) = true
+  is_always_present (open_choice ps) = are_always_present ps
+  is_always_present (open_seq tag ps) = true
 
   pub are_always_present : Parts → Bool
   are_always_present none = true
@@ -151,6 +157,8 @@ abbrev mutual
   is_lawful (set tag ps) = not (is_eoc tag) && are_lawful_by_tag ps
   is_lawful (list tag s size) = not (is_eoc tag) && (is_always_present s && is_lawful s)
   is_lawful (set_of tag s size) = not (is_eoc tag) && (is_always_present s && is_lawful s)
+  is_lawful (open_choice ps) = are_alternatives ps && are_distinguished ps
+  is_lawful (open_seq tag ps) = not (is_eoc tag) && are_lawful_in_order ps
 
   pub are_alternatives : Parts → Bool
   are_alternatives none = true

@@ -1,8 +1,8 @@
 -- How readings are combined. A reading relates an input to the value at its front, and to the rest.
-use Rattle.std.specs.Prelude.{◌≡◌, ℕ, suc, ◌⊎◌, ◌≢◌, List, [], ◌∷◌, ◌++◌, Bool, true, false, Option, Some, None}
+use Rattle.std.specs.Prelude.{◌≡◌, ℕ, suc, ◌⊎◌, ◌≢◌, List, [], ◌∷◌, ◌++◌, length, Bool, true, false, Option, Some, None}
 use Rattle.rasn_types.specs.Tags.{Form, form, IsStrict, Codec, Tag, IsTagBelow}
 use Rattle.rasn_types.specs.Framing.{Frame, definite, indefinite, Begins, NextTag, Ended}
-use Rattle.rasn_types.specs.Shapes.{Tree, items, chosen, absent, Same, Presence, required, addition, optional_by, default_by, Sought, one_tag, any_of}
+use Rattle.rasn_types.specs.Shapes.{Tree, items, joined, chosen, absent, Same, Presence, required, addition, optional_by, default_by, Sought, one_tag, any_of}
 use Rattle.rasn_types.specs.Order.{Each, AreAscending}
 
 abbrev pub Reading : Type 0 → Type 1
@@ -104,6 +104,20 @@ ReadsChoice rule k [] input t rest = ⊥
 ReadsChoice rule k (p ∷ ps) input t rest =
     ((u : Tree) × (t ≡ chosen k u) × (next : Tag) × NextTag (form rule) input next × p.IsFirst next × p.reads input u rest × (IsStrict rule → IsNoDefault p.presence u))
     ⊎ ReadsChoice rule (suc k) ps input t rest
+
+-- A part begins with the tag.
+abbrev pub IsFirstAmong : List Part → Tag → Type 0
+IsFirstAmong [] n = ⊥
+IsFirstAmong (p ∷ ps) n = p.IsFirst n ⊎ IsFirstAmong ps n
+
+-- One of the alternatives; or, as an open type, an unknown one, whose tag no alternative begins with.
+abbrev pub ReadsOpenChoice : Codec → List Part → Reading Tree → Reading Tree
+ReadsOpenChoice rule ps reads_open input t rest = ReadsChoice rule 0 ps input t rest
+    ⊎ ((u : Tree) × (t ≡ chosen (length ps) u) × (next : Tag) × NextTag (form rule) input next × (IsFirstAmong ps next → ⊥) × reads_open input u rest)
+
+-- One reading, and then another one.
+abbrev pub ReadsBoth : Reading Tree → Reading Tree → Reading Tree
+ReadsBoth first second input t rest = (a : Tree) × (b : Tree) × (middle : List ℕ) × (t ≡ joined a b) × first input a middle × second middle b rest
 
 -- `NoneOf`: none of the readings is of part k. `OneOf`: exactly one is.
 abbrev pub NoneOf : ℕ → List Tree → Type 0

@@ -97,7 +97,10 @@ optional_choice = optional_by first_tags
 abbrev pub default_choice : Tree → Presence
 default_choice d = default_by first_tags d
 
--- `any None` is an open type without a tag. The tag of `option` is the one that is looked for.
+-- `any None` is an open type without a tag. The tag of `option` is the one that is looked for. `open_choice` and
+-- `open_seq` have an extension marker: an alternative may be unknown, and unknown values may follow the parts
+-- (X.680 25, 29). An unknown alternative is chosen by the number of the known ones; a SEQUENCE with unknown values is
+-- the list of its parts joined to the list of these values.
 mutual
   pub data Shape : Type 0 where
     leaf : Kind → Tag → Constraints → Shape
@@ -109,6 +112,8 @@ mutual
     set : Tag → Parts → Shape
     list : Tag → Shape → Option (Bound ℕ) → Shape
     set_of : Tag → Shape → Option (Bound ℕ) → Shape
+    open_choice : Parts → Shape
+    open_seq : Tag → Parts → Shape
 
   -- The parts of a SEQUENCE or a SET, or the alternatives of a CHOICE, which are all required.
   pub data Parts : Type 0 where
@@ -130,6 +135,8 @@ own (seq tag parts) = Some tag
 own (set tag parts) = Some tag
 own (list tag s size) = Some tag
 own (set_of tag s size) = Some tag
+own (open_choice ps) = None
+own (open_seq tag ps) = Some tag
 
 abbrev pub IsTagOf : Option Tag → Tag → Type 0
 IsTagOf None n = Unit {0}
@@ -147,6 +154,8 @@ abbrev mutual
   IsFirst (set tag parts) n = n ≡ tag
   IsFirst (list tag s size) n = n ≡ tag
   IsFirst (set_of tag s size) n = n ≡ tag
+  IsFirst (open_choice ps) n = Unit {0}
+  IsFirst (open_seq tag ps) n = n ≡ tag
 
   pub IsFirstOf : Parts → Tag → Type 0
   IsFirstOf none n = ⊥
@@ -183,6 +192,8 @@ tagged_as t c (seq tag parts) = seq t parts
 tagged_as t c (set tag parts) = set t parts
 tagged_as t c (list tag s size) = list t s c.size
 tagged_as t c (set_of tag s size) = set_of t s c.size
+tagged_as t c (open_choice ps) = open_choice ps
+tagged_as t c (open_seq tag ps) = open_seq t ps
 
 -- No value of the shape is absent.
 abbrev mutual
@@ -196,6 +207,8 @@ abbrev mutual
   IsAlwaysPresent (set tag parts) = Unit {0}
   IsAlwaysPresent (list tag s size) = Unit {0}
   IsAlwaysPresent (set_of tag s size) = Unit {0}
+  IsAlwaysPresent (open_choice ps) = AreAlwaysPresent ps
+  IsAlwaysPresent (open_seq tag ps) = Unit {0}
 
   pub AreAlwaysPresent : Parts → Type 0
   AreAlwaysPresent none = Unit {0}

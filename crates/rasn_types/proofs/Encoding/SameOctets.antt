@@ -1,8 +1,9 @@
 -- Trees that are the same have the same octets.
-use Rattle.std.proofs.Common.{◌≡◌, ℕ, suc, ◌<◌, ◌⊎◌, ◌≢◌, inl, inr, List, [], ◌∷◌, refl, sym, ap, ap₂, ◌∙◌, subst, arith, IsPermutation, Some, None}
+use Rattle.std.proofs.Common.{◌≡◌, ℕ, suc, ◌+◌, ◌<◌, ◌≤◌, ◌⊎◌, ◌≢◌, inl, inr, List, [], ◌∷◌, ◌++◌, refl, sym, ap, ap₂, ◌∙◌, subst, arith, IsPermutation, Some, None}
 use Rattle.std.proofs.lemmas.List.Sorted.{IsPermutation-sym}
 use Rattle.rasn_types.specs.Tags.{Codec, Der, Tag}
-use Rattle.rasn_types.specs.Shapes.{Tree, number, bits, numbers, instant, on_day, items, set_elements, chosen, absent, Kind, boolean, null, object_identifier, integer, enumerated, octet_string, fixed, numeric, printable, visible, ia5, any_octets, bmp, utf8, utc_time, generalized_time, date, Shape, leaf, any, prefix, choice, option, seq, set, list, set_of, Parts, part, Presence, required, optional, addition, optional_by, default_by}
+use Rattle.rasn_types.specs.Shapes.{Tree, number, bits, numbers, instant, on_day, items, joined, set_elements, chosen, absent, Kind, boolean, null, object_identifier, integer, enumerated, octet_string, fixed, numeric, printable, visible, ia5, any_octets, bmp, utf8, utc_time, generalized_time, date, Shape, leaf, any, prefix, choice, option, seq, set, list, set_of, open_choice, open_seq, Parts, part, Presence, required, optional, addition, optional_by, default_by}
+use Rattle.rasn_types.specs.Described.{count}
 use Rattle.rasn_types.specs.Contents.{Contents, joined_lists}
 use Rattle.rasn_types.specs.Grammar.{Family, plain_family, bit_family, named_family, text_family, family}
 use Rattle.rasn_types.specs.Bytes.{Same, Each, ConstructedEncoding, WritesIn, WritesText, WritesPart, PartsWritten, WritesChoice, AreAscending, IsLess, Bytes, fields_of}
@@ -129,6 +130,14 @@ other_written rule (part presence s ps) k j t u b h e (inl m) =
     let f = m.1 in let g : j ≡ k = cc in omega arith
 other_written rule (part presence s ps) k j t u b h e (inr m) = other_written rule ps (suc k) j t u b (omega arith) e m
 
+-- What is chosen has a number below that of an unknown alternative.
+past_written : (rule : Codec) (ps : Parts) (k j : ℕ) (t u : Tree) (b : List ℕ) → k + count ps ≤ j → t ≡ chosen j u → WritesChoice k (fields_of rule ps) t b → ⊥
+unfolding Bytes fields_of
+past_written rule Parts.none k j t u b h e m = m
+past_written rule (part presence s ps) k j t u b h e (inl m) =
+    let f = m.1 in let g : j ≡ k = cc in omega (arith, h, g)
+past_written rule (part presence s ps) k j t u b h e (inr m) = past_written rule ps (suc k) j t u b (omega (arith, h)) e m
+
 choice_once : (rule : Codec) (ps : Parts) → EachOnce rule ps → (k : ℕ) (t u : Tree) (a b : List ℕ) → Same t u
     → WritesChoice k (fields_of rule ps) t a → WritesChoice k (fields_of rule ps) u b → a ≡ b
 unfolding Bytes fields_of
@@ -168,6 +177,10 @@ open_once rule tag t u a b same (k, e, h) (l, f, i) =
     go (inr x) (inl y) z = absurd (x.0 (z ∙ y.0))
     go (inr x) (inr y) z = cons_one rule tag k l a b x.1 y.1 z
 
+open_list : (rule : Codec) → IsOnce rule (any None)
+unfolding Bytes fields_of
+open_list rule t u a b same h k = let g : u ≡ numbers a = subst (λ z. Same z u) h same in numbers_one a b (sym g ∙ k)
+
 mutual
   unfolding Bytes fields_of
 
@@ -188,6 +201,26 @@ mutual
   once (set_of tag s size) rule t u a b same (ts, ls, e, n, w, o, c) (us, bs, f, m, x, q, d) =
       cons_one rule tag (joined_lists ls) (joined_lists bs) a b c d
       (ap joined_lists (set_of_once rule s (once s rule) ts us ls bs (subst (λ z. Same z (set_elements (items us))) e (subst (Same t) f same)) w x o q))
+
+  once (open_choice ps) rule t u a b same (inl h) (inl k) = choice_once rule ps (each_is_once ps rule) 0 t u a b same h k
+  once (open_choice ps) rule t u a b same (inl h) (inr k) =
+      let r : Same (chosen (count ps) (numbers b)) t = subst (λ z. Same z t) k (same_sym t u same) in
+      absurd (past_written rule ps 0 (count ps) t r.0 a (omega arith) r.1 h)
+  once (open_choice ps) rule t u a b same (inr h) (inl k) =
+      let r : Same (chosen (count ps) (numbers a)) u = subst (λ z. Same z u) h same in
+      absurd (past_written rule ps 0 (count ps) u r.0 b (omega arith) r.1 k)
+  once (open_choice ps) rule t u a b same (inr h) (inr k) =
+      let r : Same (chosen (count ps) (numbers a)) u = subst (λ z. Same z u) h same in
+      let e : r.0 ≡ numbers b = let f = sym r.1 ∙ k in cc in
+      numbers_one a b (sym r.2 ∙ e)
+  once (open_seq tag ps) rule t u a b same (ts, us, ls, cs, e, w, h, c) (vs, xs, bs, ds, f, x, k, d) =
+      let r : Same (joined (items ts) (items us)) (joined (items vs) (items xs)) = subst (λ z. Same z (joined (items vs) (items xs))) e (subst (Same t) f same) in
+      let g = r.2 in
+      let known : items vs ≡ r.0 = cc in
+      let unknown : items xs ≡ r.1 = cc in
+      let p : ls ≡ bs = parts_once rule ps (each_is_once ps rule) ts vs ls bs (same_each ts vs (subst (Same (items ts)) (sym known) r.3)) w x in
+      let q : cs ≡ ds = elements_once rule (any None) (open_list rule) us xs cs ds (same_each us xs (subst (Same (items us)) (sym unknown) r.4)) h k in
+      cons_one rule tag (joined_lists ls ++ joined_lists cs) (joined_lists bs ++ joined_lists ds) a b c d (ap₂ (λ l m. joined_lists l ++ joined_lists m) p q)
 
   pub each_is_once : (ps : Parts) (rule : Codec) → EachOnce rule ps
   each_is_once Parts.none rule = tt
