@@ -4,7 +4,7 @@ use Rattle.rasn_types.specs.declared.types.tag.Tag.{Tag}
 use Rattle.rasn_types.specs.declared.types.codec.Codec.{Codec}
 use Rattle.rasn_types.specs.Tags.{Form, form, IsStrict, in_universal}
 use Rattle.rasn_types.specs.Framing.{Extent, Frame, NextTag, SpellsAnyIdentifier, CompleteEncoding, plain, closed}
-use Rattle.rasn_types.specs.Shapes.{Tree, absent, Kind, Shape, leaf, any, prefix, choice, option, seq, set, list, set_of, Parts, part, Presence, required, addition, optional_by, default_by, Sought, one_tag, any_of, sought_by, sought_in}
+use Rattle.rasn_types.specs.Shapes.{Tree, absent, Kind, Shape, leaf, any, prefix, choice, option, seq, set, list, set_of, Parts, part, Presence, required, addition, optional_by, default_by, Sought, one_tag, any_of, sought_by, sought_in, open_choice, open_seq}
 use Rattle.rasn_types.specs.Shapes.Parts.{none}
 use Rattle.rasn_types.specs.Readings.{Reading, ReadsContents, definite_form, indefinite_form, ReadsOptional, Part, IsNoDefault, ReadsPart, ReadsInOrder, ReadsChoice}
 use Rattle.rasn_types.specs.Contents.{ReadsString, ReadsBitSegment, OctetSegment}
@@ -68,6 +68,9 @@ shape_nothing rule (seq tag ps) depth closing t rest (d, r) = no_inside rule tag
 shape_nothing rule (set tag ps) depth closing t rest (d, r) = no_inside rule tag true _ t rest r
 shape_nothing rule (list tag s size) depth closing t rest (d, r) = no_inside rule tag true _ t rest r
 shape_nothing rule (set_of tag s size) depth closing t rest (d, r) = no_inside rule tag true _ t rest r
+shape_nothing rule (open_choice ps) depth closing t rest (inl r) = no_choice rule 0 (parts_of rule ps depth closing) t rest r
+shape_nothing rule (open_choice ps) depth closing t rest (inr (u, f, next, m, g, r)) = no_next next m
+shape_nothing rule (open_seq tag ps) depth closing t rest (d, r) = no_inside rule tag true _ t rest r
 
 part_nothing : (p : Presence) (rule : Codec) (s : Shape) (depth : ℕ) (closing : Bool) (t : Tree) (rest : List ℕ) → ReadsPart rule p (sought_in p s) (Reads rule s depth closing) closing [] t rest → rest ≡ []
 part_nothing required rule s depth closing t rest r = shape_nothing rule s depth closing t rest r

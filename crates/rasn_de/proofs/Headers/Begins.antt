@@ -6,7 +6,7 @@ use Rattle.rasn_types.specs.declared.types.codec.Codec.{Codec}
 use Rattle.rasn_types.specs.declared.types.codec.Codec.TheVariants.{Ber, Cer, Der}
 use Rattle.rasn_types.specs.Tags.{Form, IsStrict, in_universal}
 use Rattle.rasn_types.specs.Framing.{Extent, HasIndefinite, Frame, with_length, without_length, Begins, CompleteEncoding, plain, closed}
-use Rattle.rasn_types.specs.Shapes.{Tree, Kind, Shape, leaf, any, prefix, choice, option, seq, set, list, set_of, Parts, part}
+use Rattle.rasn_types.specs.Shapes.{Tree, Kind, Shape, leaf, any, prefix, choice, option, seq, set, list, set_of, Parts, part, open_choice, open_seq}
 use Rattle.rasn_types.specs.Shapes.Parts.{none}
 use Rattle.rasn_types.specs.Readings.{Reading, ReadsContents, definite_form, indefinite_form, ReadsChoice}
 use Rattle.rasn_types.specs.Contents.{ReadsString, ReadsBitSegment, OctetSegment}
@@ -64,6 +64,9 @@ mutual
   headed (set tag ps) depth closing input t rest b e n (d, r) = nested input b rest e tag true _ t r
   headed (list tag s size) depth closing input t rest b e n (d, r) = nested input b rest e tag true _ t r
   headed (set_of tag s size) depth closing input t rest b e n (d, r) = nested input b rest e tag true _ t r
+  headed (open_choice ps) depth closing input t rest b e n (inl r) = headed_choice ps 0 depth closing input t rest b e n r
+  headed (open_choice ps) depth closing input t rest b e n (inr (u, f, next, m, g, (text, h, w, q))) = headed_text text b rest w (sym q ∙ e)
+  headed (open_seq tag ps) depth closing input t rest b e n (d, r) = nested input b rest e tag true _ t r
 
   headed_choice : (ps : Parts) (k depth : ℕ) (closing : Bool) (input : List ℕ) (t : Tree) (rest b : List ℕ) → input ≡ b ++ rest → b ≢ []
       → ReadsChoice Der k (parts_of Der ps depth closing) input t rest → IsHeaded b
