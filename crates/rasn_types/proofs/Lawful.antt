@@ -206,7 +206,7 @@ tagged (seq tag ps) = decides_yes
 tagged (set tag ps) = decides_yes
 tagged (list tag s size) = decides_yes
 tagged (set_of tag s size) = decides_yes
-tagged (open_choice ps) = decides_no (λ h. h)
+tagged (open_choice ps) = decides_yes
 tagged (open_seq tag ps) = decides_yes
 
 -- A number above those of the tags.

@@ -158,7 +158,7 @@ unfoldable mutual
   IsUntaggedOpen (set tag ps) t = ⊥
   IsUntaggedOpen (list tag s size) t = ⊥
   IsUntaggedOpen (set_of tag s size) t = ⊥
-  IsUntaggedOpen (open_choice ps) t = IsUntaggedOpenIn 0 ps t ⊎ ((u : Tree) × (t ≡ chosen (count ps) u))
+  IsUntaggedOpen (open_choice ps) t = IsUntaggedOpenIn 0 ps t
   IsUntaggedOpen (open_seq tag ps) t = ⊥
 
   pub IsUntaggedOpenIn : ℕ → Parts → Tree → Type 0

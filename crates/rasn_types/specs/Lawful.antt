@@ -21,10 +21,9 @@ IsFirstBehind (part addition s ps) n = IsFirst s n
 IsFirstBehind (part (optional_by key) s ps) n = IsFirst s n ⊎ IsFirstBehind ps n
 IsFirstBehind (part (default_by key d) s ps) n = IsFirst s n ⊎ IsFirstBehind ps n
 
--- The shape isn't an open type without a tag, nor a CHOICE with unknown alternatives.
+-- The shape isn't an open type without a tag.
 abbrev pub HasTag : Shape → Type 0
 HasTag (any None) = ⊥
-HasTag (open_choice ps) = ⊥
 HasTag s = Unit {0}
 
 -- The own tag of a part that may be left out distinguishes it from what follows. A part without an own tag is the last.

@@ -82,7 +82,7 @@ has_tag (seq tag ps) = true
 has_tag (set tag ps) = true
 has_tag (list tag s size) = true
 has_tag (set_of tag s size) = true
-has_tag (open_choice ps) = false
+has_tag (open_choice ps) = true
 has_tag (open_seq tag ps) = true
 
 abbrev pub is_distinguished : Option Tag → Parts → Bool

@@ -1,15 +1,15 @@
 -- What CER or DER reads, BER reads.
-use Rattle.std.proofs.Common.{◌≡◌, ℕ, suc, ◌-◌, ◌⊎◌, inl, inr, List, [], ◌∷◌, Bool, true, false, ℤ, Option, Some, None, refl, sym, subst}
+use Rattle.std.proofs.Common.{◌≡◌, ℕ, suc, ◌-◌, ◌⊎◌, inl, inr, List, [], ◌∷◌, Bool, true, false, ℤ, Option, Some, None, refl, sym, subst, length, ap, ◌∙◌}
 use Rattle.rasn_types.specs.Tags.{Form, basic_form, form, IsStrict}
 use Rattle.rasn_types.specs.declared.types.codec.Codec.{Codec}
 use Rattle.rasn_types.specs.declared.types.codec.Codec.TheVariants.{Ber, Cer, Der}
 use Rattle.rasn_types.specs.declared.types.tag.Tag.{Tag}
 use Rattle.rasn_types.specs.Framing.{Frame, with_length, without_length, Extent, NextTag, CompleteEncoding, plain, closed, CompleteEncodings, none, one_more}
-use Rattle.rasn_types.specs.Shapes.{Tree, absent, Kind, boolean, null, object_identifier, integer, enumerated, octet_string, fixed, numeric, printable, visible, ia5, any_octets, bmp, utf8, utc_time, generalized_time, date, Shape, leaf, any, prefix, choice, option, seq, set, list, set_of, Parts, part, own, presences, Presence, required, addition, optional_by, default_by, Sought, one_tag, any_of, sought_in, IsAlwaysPresent, AreAlwaysPresent}
+use Rattle.rasn_types.specs.Shapes.{Tree, absent, Kind, boolean, null, object_identifier, integer, enumerated, octet_string, fixed, numeric, printable, visible, ia5, any_octets, bmp, utf8, utc_time, generalized_time, date, Shape, leaf, any, prefix, choice, option, seq, set, list, set_of, Parts, part, own, presences, Presence, required, addition, optional_by, default_by, Sought, one_tag, any_of, sought_in, IsAlwaysPresent, AreAlwaysPresent, chosen, open_choice, open_seq}
 use Rattle.rasn_types.specs.declared.types.constraints.Bound.{Bound}
-use Rattle.rasn_types.specs.Readings.{Reading, ReadsContents, definite_form, indefinite_form, ReadsMany, IsLeftOut, IsPresent, ReadsOptional, IsNoDefault, ReadsPart, ReadsInOrder, AllMissing, presences_in, HasRequired, ReadsSeq, ReadsChoice, ReadsSet}
+use Rattle.rasn_types.specs.Readings.{Reading, ReadsContents, definite_form, indefinite_form, ReadsMany, IsLeftOut, IsPresent, ReadsOptional, IsNoDefault, ReadsPart, ReadsInOrder, AllMissing, presences_in, HasRequired, ReadsSeq, ReadsChoice, ReadsSet, IsFirstAmong, ReadsOpenChoice, ReadsBoth}
 use Rattle.rasn_types.specs.Contents.{ReadsString, primitive, segments, closed_segments, ReadsSegments, ReadsBitSegment, OctetSegment, Contents, IsBool}
-use Rattle.rasn_types.specs.Grammar.{Reads, parts_of, top, Family, plain_family, bit_family, named_family, text_family, family, ReadsIn, ReadsOpen, ReadsList, ReadsSetOf, Text}
+use Rattle.rasn_types.specs.Grammar.{Reads, parts_of, top, Family, plain_family, bit_family, named_family, text_family, family, ReadsIn, ReadsOpen, ReadsList, ReadsSetOf, Text, ReadsAny}
 use Rattle.rasn_types.specs.Lawful.{IsLawful, AreAlternatives}
 use Rattle.rasn.proofs.Time.Texts.{utc_in, generalized_in}
 use Rattle.rasn.proofs.ReadBack.Begins.{solid_closing, wider}
@@ -174,6 +174,30 @@ set_in ps rule depth c into closing input t rest (rs, ts, e, m, b, z) =
     let wide = ReadsChoice Ber 0 (parts_of Ber ps depth c) in
     (rs, ts, e, many_in reads wide (choice_in ps rule depth c into 0) closing input rs rest m, b, λ s. absurd s)
 
+-- The parts are as many under each rule, and begin with the same tags.
+count_same : (ps : Parts) (rule other : Codec) (depth : ℕ) (c : Bool) → length (parts_of rule ps depth c) ≡ length (parts_of other ps depth c)
+unfolding Reads parts_of
+count_same Parts.none rule other depth c = refl
+count_same (part presence s ps) rule other depth c = ap suc (count_same ps rule other depth c)
+
+first_same : (ps : Parts) (rule other : Codec) (depth : ℕ) (c : Bool) (n : Tag) → IsFirstAmong (parts_of rule ps depth c) n → IsFirstAmong (parts_of other ps depth c) n
+unfolding Reads parts_of
+first_same Parts.none rule other depth c n h = h
+first_same (part presence s ps) rule other depth c n (inl h) = inl h
+first_same (part presence s ps) rule other depth c n (inr h) = inr (first_same ps rule other depth c n h)
+
+open_choice_in : (ps : Parts) (rule : Codec) (depth : ℕ) (c : Bool) → EachIn rule depth c ps
+    → IsIn (ReadsOpenChoice rule (parts_of rule ps depth c) (ReadsAny rule)) (ReadsOpenChoice Ber (parts_of Ber ps depth c) (ReadsAny Ber))
+open_choice_in ps rule depth c into input t rest (inl h) = inl (choice_in ps rule depth c into 0 input t rest h)
+open_choice_in ps rule depth c into input t rest (inr (u, e, n, m, no, a)) =
+    inr (u, e ∙ ap (λ k. chosen k u) (count_same ps rule Ber depth c), n, next_ber m, (λ f. no (first_same ps Ber rule depth c n f)), (a.0, a.1, whole_ber a.2, a.3))
+
+both_in : (first second wide broad : Reading Tree) → IsIn first wide → IsIn second broad → IsIn (ReadsBoth first second) (ReadsBoth wide broad)
+both_in first second wide broad f g input t rest (a, b, m, e, h, k) = (a, b, m, e, f input a m h, g m b rest k)
+
+any_in : (rule : Codec) → IsIn (ReadsAny rule) (ReadsAny Ber)
+any_in rule input t rest h = (h.0, h.1, whole_ber h.2, h.3)
+
 list_in : (size : Option (Bound ℕ)) (reads wide : Reading Tree) → IsIn reads wide → (closing : Bool) → IsIn (ReadsList size reads closing) (ReadsList size wide closing)
 list_in size reads wide into closing input t rest (ts, e, b, m) = (ts, e, b, many_in reads wide into closing input ts rest m)
 
@@ -212,6 +236,14 @@ mutual
         (λ c. set_of_in rule size (Reads rule s (depth - 2) c) (Reads Ber s (depth - 2) c) (reads_in s rule (depth - 2) c) c) input t rest h.1,
   )
 
+  reads_in (open_choice ps) rule depth closing = open_choice_in ps rule depth closing (parts_in ps rule depth closing)
+  reads_in (open_seq tag ps) rule depth closing = λ input t rest h. (
+    h.0,
+    inside_in (λ c. ReadsBoth (ReadsSeq rule (parts_of rule ps (depth - 1) c) c) (ReadsList None (ReadsAny rule) c)) (λ c. ReadsBoth (ReadsSeq Ber (parts_of Ber ps (depth - 1) c) c) (ReadsList None (ReadsAny Ber) c))
+        (λ c. both_in (ReadsSeq rule (parts_of rule ps (depth - 1) c) c) (ReadsList None (ReadsAny rule) c) (ReadsSeq Ber (parts_of Ber ps (depth - 1) c) c) (ReadsList None (ReadsAny Ber) c)
+        (seq_in ps rule (depth - 1) c (parts_in ps rule (depth - 1) c) c) (list_in None (ReadsAny rule) (ReadsAny Ber) (any_in rule) c)) input t rest h.1,
+  )
+
   parts_in : (ps : Parts) (rule : Codec) (depth : ℕ) (c : Bool) → EachIn rule depth c ps
   parts_in Parts.none rule depth c = tt
   parts_in (part presence s ps) rule depth c = (reads_in s rule depth c, parts_in ps rule depth c)
@@ -238,6 +270,8 @@ solid_of (seq tag ps) lawful = inl tt
 solid_of (set tag ps) lawful = inl tt
 solid_of (list tag s size) lawful = inl tt
 solid_of (set_of tag s size) lawful = inl tt
+solid_of (open_choice ps) lawful = inl (alternatives_solid ps lawful.0)
+solid_of (open_seq tag ps) lawful = inl tt
 
 -- What a rule reads at its top, BER reads at its top.
 pub included : (s : Shape) → IsLawful s → (rule : Codec) (depth : ℕ) (input : List ℕ) (t : Tree) (rest : List ℕ)

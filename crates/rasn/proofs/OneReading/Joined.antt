@@ -1,11 +1,11 @@
 -- Readings that relate an input to one value and one rest stay so when they are joined.
-use Rattle.std.proofs.Common.{◌≡◌, ℕ, suc, ◌⊎◌, inl, inr, List, [], ◌∷◌, Bool, true, false, Option, refl, sym, ap, ap₂, ◌∙◌, subst}
+use Rattle.std.proofs.Common.{◌≡◌, ℕ, suc, ◌⊎◌, inl, inr, List, [], ◌∷◌, length, Bool, true, false, Option, refl, sym, ap, ap₂, ◌∙◌, subst}
 use Rattle.rasn_types.specs.Tags.{Form, form, IsStrict}
 use Rattle.rasn_types.specs.declared.types.codec.Codec.{Codec}
 use Rattle.rasn_types.specs.declared.types.tag.Tag.{Tag}
 use Rattle.rasn_types.specs.Framing.{NextTag}
-use Rattle.rasn_types.specs.Shapes.{Tree, items, chosen, absent, Presence, required, addition, optional_by, default_by, Sought}
-use Rattle.rasn_types.specs.Readings.{Reading, ReadsContents, definite_form, indefinite_form, ReadsMany, IsNoDefault, ReadsOptional, Part, ReadsPart, ReadsInOrder, AllMissing, presences_in, AreAllLeftOut, ReadsSeq, ReadsChoice, ByPart, ReadsSet}
+use Rattle.rasn_types.specs.Shapes.{Tree, items, joined, chosen, absent, Presence, required, addition, optional_by, default_by, Sought}
+use Rattle.rasn_types.specs.Readings.{Reading, ReadsContents, definite_form, indefinite_form, ReadsMany, IsNoDefault, ReadsOptional, Part, ReadsPart, ReadsInOrder, AllMissing, presences_in, AreAllLeftOut, ReadsSeq, ReadsChoice, IsFirstAmong, ReadsOpenChoice, ReadsBoth, ByPart, ReadsSet}
 use Rattle.rasn_types.proofs.Headers.Frames.{frame_one, next_one}
 use Rattle.rasn_de.proofs.Constructed.Optional.{apart}
 use Rattle.rasn_de.proofs.Constructed.OneReading.{all_missing_one, by_part_one}
@@ -81,15 +81,11 @@ seq_one rule ps one closing input t u rest other h k = go h.2 k.2
         let o = in_order_one rule ps one closing input h.0 k.0 rest other b e in (h.1 ∙ (ap items o.0 ∙ sym k.1), o.1)
 
 -- some part's first tag
-abbrev pub IsFirstIn : List Part → Tag → Type 0
-IsFirstIn [] n = ⊥
-IsFirstIn (p ∷ ps) n = p.IsFirst n ⊎ IsFirstIn ps n
-
 abbrev pub AreApart : List Part → Type 0
 AreApart [] = Unit {0}
-AreApart (p ∷ ps) = ((n : Tag) → p.IsFirst n → IsFirstIn ps n → ⊥) × AreApart ps
+AreApart (p ∷ ps) = ((n : Tag) → p.IsFirst n → IsFirstAmong ps n → ⊥) × AreApart ps
 
-choice_first : (rule : Codec) (ps : List Part) (k : ℕ) (input : List ℕ) (t : Tree) (rest : List ℕ) → ReadsChoice rule k ps input t rest → (n : Tag) × NextTag (form rule) input n × IsFirstIn ps n
+choice_first : (rule : Codec) (ps : List Part) (k : ℕ) (input : List ℕ) (t : Tree) (rest : List ℕ) → ReadsChoice rule k ps input t rest → (n : Tag) × NextTag (form rule) input n × IsFirstAmong ps n
 choice_first rule [] k input t rest h = absurd h
 choice_first rule (p ∷ ps) k input t rest (inl h) = (h.2, h.3, inl h.4)
 choice_first rule (p ∷ ps) k input t rest (inr h) = let r = choice_first rule ps (suc k) input t rest h in (r.0, r.1, inr r.2)
@@ -105,6 +101,25 @@ choice_one rule (p ∷ ps) one apart k input t u rest other (inr h) (inl l) =
     let r = choice_first rule ps (suc k) input t rest h in
     absurd (apart.0 r.0 (subst p.IsFirst (next_one input l.2 r.0 l.3 r.1) l.4) r.2)
 choice_one rule (p ∷ ps) one apart k input t u rest other (inr h) (inr l) = choice_one rule ps one.1 apart.1 (suc k) input t u rest other h l
+
+-- An unknown alternative has a tag that no known one begins with.
+pub open_choice_one : (rule : Codec) (ps : List Part) (reads_open : Reading Tree) → IsOne (ReadsChoice rule 0 ps) → IsOne reads_open → IsOne (ReadsOpenChoice rule ps reads_open)
+open_choice_one rule ps reads_open one open_one input t u rest other (inl h) (inl k) = one input t u rest other h k
+open_choice_one rule ps reads_open one open_one input t u rest other (inl h) (inr (v, e, n, m, no, a)) =
+    let r = choice_first rule ps 0 input t rest h in
+    absurd (no (subst (IsFirstAmong ps) (next_one input r.0 n r.1 m) r.2))
+open_choice_one rule ps reads_open one open_one input t u rest other (inr (v, e, n, m, no, a)) (inl k) =
+    let r = choice_first rule ps 0 input u other k in
+    absurd (no (subst (IsFirstAmong ps) (next_one input r.0 n r.1 m) r.2))
+open_choice_one rule ps reads_open one open_one input t u rest other (inr (v, e, n, m, no, a)) (inr (w, f, o, q, nor, b)) =
+    let p = open_one input v w rest other a b in
+    (e ∙ (ap (chosen (length ps)) p.0 ∙ sym f), p.1)
+
+pub both_one : (first second : Reading Tree) → IsOne first → IsOne second → IsOne (ReadsBoth first second)
+both_one first second f g input t u rest other (a, b, m, e, h, k) (c, d, n, q, i, l) =
+    let p = f input a c m n h i in
+    let o = g n b d rest other (subst (λ z. second z b rest) p.1 k) l in
+    (e ∙ (ap₂ joined p.0 o.0 ∙ sym q), o.1)
 
 pub set_one : (rule : Codec) (ps : List Presence) (reads : Reading Tree) → IsOne reads → (closing : Bool) → IsOne (ReadsSet rule ps reads closing)
 set_one rule ps reads one closing input t u rest other h k =

@@ -3,18 +3,18 @@ use Rattle.std.proofs.Common.{ℕ, ◌-◌, inl, inr, Bool, Option, Some, None, 
 use Rattle.rasn_types.specs.Tags.{form, IsTagBelow}
 use Rattle.rasn_types.specs.declared.types.codec.Codec.{Codec}
 use Rattle.rasn_types.specs.declared.types.tag.Tag.{Tag}
-use Rattle.rasn_types.specs.Shapes.{Tree, items, set_elements, absent, Shape, leaf, any, prefix, choice, option, seq, set, list, set_of, Parts, part, IsFirstOf, one_tag, presences}
+use Rattle.rasn_types.specs.Shapes.{Tree, items, set_elements, absent, Shape, leaf, any, prefix, choice, option, seq, set, list, set_of, open_choice, open_seq, Parts, part, IsFirstOf, one_tag, presences}
 use Rattle.rasn_types.specs.declared.types.constraints.Bound.{Bound}
 use Rattle.rasn_types.specs.Shapes.Parts.{none}
-use Rattle.rasn_types.specs.Readings.{Reading, ReadsSeq, ReadsChoice, ReadsSet}
-use Rattle.rasn_types.specs.Grammar.{Reads, parts_of, ReadsList, ReadsSetOf}
+use Rattle.rasn_types.specs.Readings.{Reading, IsFirstAmong, ReadsSeq, ReadsChoice, ReadsBoth, ReadsSet}
+use Rattle.rasn_types.specs.Grammar.{Reads, parts_of, ReadsAny, ReadsList, ReadsSetOf}
 use Rattle.rasn_types.specs.Lawful.{AreDistinguished, IsLawful, AreAlternatives, AreLawfulInOrder, AreLawfulByTag}
-use Rattle.rasn.proofs.OneReading.Joined.{IsOne, inside_one, many_one, perhaps_one, EachPart, ReadsOne, seq_one, IsFirstIn, AreApart, choice_one, set_one}
+use Rattle.rasn.proofs.OneReading.Joined.{IsOne, inside_one, many_one, perhaps_one, EachPart, ReadsOne, seq_one, AreApart, choice_one, open_choice_one, both_one, set_one}
 use Rattle.rasn.proofs.OneReading.Leaves.{leaf_one}
 use Rattle.rasn.proofs.OneReading.Any.{any_one, open_one}
 use Rattle.rasn.specs.Laws.{IsReadOnce, AreReadOnce, OneLeaf, OneOpen, OnePrefix, OneChoice, OneOption, OneSequence, OneSet, OneSequenceOf, OneSetOf}
 
-first_in : (rule : Codec) (ps : Parts) (depth : ℕ) (closing : Bool) (n : Tag) → IsFirstIn (parts_of rule ps depth closing) n → IsFirstOf ps n
+first_in : (rule : Codec) (ps : Parts) (depth : ℕ) (closing : Bool) (n : Tag) → IsFirstAmong (parts_of rule ps depth closing) n → IsFirstOf ps n
 unfolding Reads parts_of
 first_in rule none depth closing n h = h
 first_in rule (part presence s ps) depth closing n (inl h) = inl h
@@ -85,6 +85,19 @@ one_set_of rule tag s size one depth closing = λ input t u r o h k.
     inside_one (λ c. ReadsSetOf rule size (Reads rule s (depth - 2) c) c)
     (set_of_one rule size (λ c. Reads rule s (depth - 2) c) (λ c. one (depth - 2) c)) input t u r o h.1 k.1
 
+one_open_choice : (rule : Codec) (ps : Parts) → AreReadOnce rule ps → AreDistinguished ps → IsReadOnce rule (open_choice ps)
+unfolding Reads parts_of
+one_open_choice rule ps one told depth closing =
+    open_choice_one rule (parts_of rule ps depth closing) (ReadsAny rule)
+    (choice_one rule (parts_of rule ps depth closing) (parts_one rule ps one depth closing) (apart rule ps depth closing told) 0) (any_one rule)
+
+one_open_sequence : (rule : Codec) (tag : Tag) (ps : Parts) → AreReadOnce rule ps → IsReadOnce rule (open_seq tag ps)
+unfolding Reads parts_of
+one_open_sequence rule tag ps one depth closing = λ input t u r o h k.
+    inside_one (λ c. ReadsBoth (ReadsSeq rule (parts_of rule ps (depth - 1) c) c) (ReadsList None (ReadsAny rule) c))
+    (λ c. both_one (ReadsSeq rule (parts_of rule ps (depth - 1) c) c) (ReadsList None (ReadsAny rule) c)
+    (seq_one rule (parts_of rule ps (depth - 1) c) (parts_one rule ps one (depth - 1) c) c) (list_one None (λ d. ReadsAny rule) (λ d. any_one rule) c)) input t u r o h.1 k.1
+
 -- The parts of lawful shapes are lawful, and distinguished where they have to be.
 abbrev pub EachLawful : Parts → Type 0
 EachLawful none = Unit {0}
@@ -122,6 +135,8 @@ mutual
   reads_one (set tag ps) lawful rule = let l = by_tag_lawful ps lawful.1 in one_set rule tag ps (each_one ps l.0 rule) l.1
   reads_one (list tag s size) lawful rule = one_sequence_of rule tag s size (reads_one s lawful.2 rule)
   reads_one (set_of tag s size) lawful rule = one_set_of rule tag s size (reads_one s lawful.2 rule)
+  reads_one (open_choice ps) lawful rule = one_open_choice rule ps (each_one ps (alternatives_lawful ps lawful.0) rule) lawful.1
+  reads_one (open_seq tag ps) lawful rule = one_open_sequence rule tag ps (each_one ps (in_order_lawful ps lawful.1) rule)
 
   each_one : (ps : Parts) → EachLawful ps → (rule : Codec) → AreReadOnce rule ps
   each_one none lawful rule = tt

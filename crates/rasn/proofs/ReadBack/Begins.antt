@@ -1,12 +1,12 @@
 -- A value that is there begins with one of its shape's first tags, and doesn't ask whether contents end.
-use Rattle.std.proofs.Common.{◌≡◌, ℕ, suc, ◌⊎◌, inl, inr, List, Bool, true, false, Option, Some, None, refl, sym, subst}
+use Rattle.std.proofs.Common.{◌≡◌, ℕ, suc, ◌⊎◌, inl, inr, List, Bool, true, false, Option, Some, None, refl, sym, subst, length, ap, ◌∙◌}
 use Rattle.rasn_types.specs.Tags.{Form, form, loose}
 use Rattle.rasn_types.specs.declared.types.codec.Codec.{Codec}
 use Rattle.rasn_types.specs.declared.types.tag.Tag.{Tag}
 use Rattle.rasn_types.specs.Framing.{NextTag}
-use Rattle.rasn_types.specs.Shapes.{Tree, Kind, Shape, leaf, any, prefix, choice, option, seq, set, list, set_of, Parts, part, IsFirst, IsFirstOf, one_tag, IsAlwaysPresent, AreAlwaysPresent}
+use Rattle.rasn_types.specs.Shapes.{Tree, Kind, Shape, leaf, any, prefix, choice, option, seq, set, list, set_of, Parts, part, IsFirst, IsFirstOf, one_tag, IsAlwaysPresent, AreAlwaysPresent, chosen, open_choice, open_seq}
 use Rattle.rasn_types.specs.Shapes.Parts.{none}
-use Rattle.rasn_types.specs.Readings.{Reading, ReadsContents, definite_form, indefinite_form, ReadsChoice, IsLeftOut, IsPresent}
+use Rattle.rasn_types.specs.Readings.{Reading, ReadsContents, definite_form, indefinite_form, ReadsChoice, IsLeftOut, IsPresent, IsFirstAmong}
 use Rattle.rasn_types.specs.Contents.{ReadsString, primitive, segments, closed_segments, ReadsBitSegment, OctetSegment}
 use Rattle.rasn_types.specs.Grammar.{Reads, parts_of, Family, plain_family, bit_family, named_family, text_family, family, ReadsIn, ReadsOpen}
 use Rattle.rasn_types.specs.Lawful.{HasTag}
@@ -38,6 +38,12 @@ open_next rule tag input t rest (b, c, e, z, inr f) = frame_next f.1
 abbrev pub BeginsIn : Form → (Tag → Type 0) → List ℕ → Type 0
 BeginsIn spelling P input = (n : Tag) × NextTag spelling input n × P n
 
+some_begins : (rule : Codec) (ps : Parts) (depth : ℕ) (closing : Bool) (k : ℕ) (input : List ℕ) (t : Tree) (rest : List ℕ) → ReadsChoice rule k (parts_of rule ps depth closing) input t rest → BeginsIn (form rule) (IsFirstOf ps) input
+unfolding Reads parts_of
+some_begins rule none depth closing k input t rest h = absurd h
+some_begins rule (part presence s ps) depth closing k input t rest (inl h) = (h.2, h.3, inl h.4)
+some_begins rule (part presence s ps) depth closing k input t rest (inr h) = let r = some_begins rule ps depth closing (suc k) input t rest h in (r.0, r.1, inr r.2)
+
 -- A value that has a tag.
 pub begins : (s : Shape) → IsAlwaysPresent s → HasTag s → (rule : Codec) (depth : ℕ) (closing : Bool) (input : List ℕ) (t : Tree) (rest : List ℕ)
     → Reads rule s depth closing input t rest → BeginsIn (form rule) (IsFirst s) input
@@ -46,17 +52,15 @@ begins (leaf kind tag bounds) solid has rule depth closing input t rest h = (tag
 begins (any (Some tag)) solid has rule depth closing input t rest h = (tag, open_next rule tag input t rest h, refl)
 begins (any None) solid has rule depth closing input t rest h = absurd has
 begins (prefix tag s) solid has rule depth closing input t rest h = (tag, inside_next h.3, refl)
-begins (choice ps) solid has rule depth closing input t rest h = some_begins ps 0 h
-  where
-    some_begins : (ps : Parts) (k : ℕ) → ReadsChoice rule k (parts_of rule ps depth closing) input t rest → BeginsIn (form rule) (IsFirstOf ps) input
-    some_begins none k h = absurd h
-    some_begins (part presence s ps) k (inl h) = (h.2, h.3, inl h.4)
-    some_begins (part presence s ps) k (inr h) = let r = some_begins ps (suc k) h in (r.0, r.1, inr r.2)
+begins (choice ps) solid has rule depth closing input t rest h = some_begins rule ps depth closing 0 input t rest h
 begins (option tag s) solid has rule depth closing input t rest h = absurd solid
 begins (seq tag ps) solid has rule depth closing input t rest h = (tag, inside_next h.1, refl)
 begins (set tag ps) solid has rule depth closing input t rest h = (tag, inside_next h.1, refl)
 begins (list tag s size) solid has rule depth closing input t rest h = (tag, inside_next h.1, refl)
 begins (set_of tag s size) solid has rule depth closing input t rest h = (tag, inside_next h.1, refl)
+begins (open_choice ps) solid has rule depth closing input t rest (inl h) = let r = some_begins rule ps depth closing 0 input t rest h in (r.0, r.1, tt)
+begins (open_choice ps) solid has rule depth closing input t rest (inr h) = (h.2, h.3, tt)
+begins (open_seq tag ps) solid has rule depth closing input t rest h = (tag, inside_next h.1, refl)
 
 pub tagged : (s : Shape) → HasTag s ⊎ (s ≡ any None)
 tagged (any None) = inr refl
@@ -69,6 +73,8 @@ tagged (seq tag ps) = inl tt
 tagged (set tag ps) = inl tt
 tagged (list tag s size) = inl tt
 tagged (set_of tag s size) = inl tt
+tagged (open_choice ps) = inl tt
+tagged (open_seq tag ps) = inl tt
 
 -- An identifier follows, in a spelling of some form: open octets without a tag stay lenient.
 abbrev pub HasNextTag : List ℕ → Type 0
@@ -98,6 +104,18 @@ starts s solid rule depth closing input t rest h = go (tagged s)
     go (inl has) = inl (begins s solid has rule depth closing input t rest h)
     go (inr e) = inr (λ n. subst (λ x. IsFirst x n) (sym e) tt)
 
+-- The parts are as many in either case, and begin with the same tags.
+count_closing : (ps : Parts) (rule : Codec) (depth : ℕ) (c d : Bool) → length (parts_of rule ps depth c) ≡ length (parts_of rule ps depth d)
+unfolding Reads parts_of
+count_closing none rule depth c d = refl
+count_closing (part presence s ps) rule depth c d = ap suc (count_closing ps rule depth c d)
+
+first_closing : (ps : Parts) (rule : Codec) (depth : ℕ) (c d : Bool) (n : Tag) → IsFirstAmong (parts_of rule ps depth c) n → IsFirstAmong (parts_of rule ps depth d) n
+unfolding Reads parts_of
+first_closing none rule depth c d n h = h
+first_closing (part presence s ps) rule depth c d n (inl h) = inl h
+first_closing (part presence s ps) rule depth c d n (inr h) = inr (first_closing ps rule depth c d n h)
+
 mutual
   unfolding Reads parts_of
 
@@ -113,6 +131,10 @@ mutual
   solid_closing (set tag ps) solid rule depth c d input t rest h = h
   solid_closing (list tag s size) solid rule depth c d input t rest h = h
   solid_closing (set_of tag s size) solid rule depth c d input t rest h = h
+  solid_closing (open_choice ps) solid rule depth c d input t rest (inl h) = inl (some_closing ps solid 0 rule depth c d input t rest h)
+  solid_closing (open_choice ps) solid rule depth c d input t rest (inr (u, e, n, m, no, a)) =
+      inr (u, e ∙ ap (λ k. chosen k u) (count_closing ps rule depth c d), n, m, (λ f. no (first_closing ps rule depth d c n f)), a)
+  solid_closing (open_seq tag ps) solid rule depth c d input t rest h = h
 
   some_closing : (ps : Parts) → AreAlwaysPresent ps → (k : ℕ) (rule : Codec) (depth : ℕ) (c d : Bool) (input : List ℕ) (t : Tree) (rest : List ℕ)
       → ReadsChoice rule k (parts_of rule ps depth c) input t rest → ReadsChoice rule k (parts_of rule ps depth d) input t rest
