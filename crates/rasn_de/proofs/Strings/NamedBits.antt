@@ -1,5 +1,5 @@
 -- Named bits are read exactly where the grammar has them.
-use Rattle.std.proofs.Common.{◌≡◌, ◌≢◌, ◌+◌, ◌≤◌, ◌<◌, ℕ, zero, suc, inl, inr, Bool, true, false, List, [], ◌++◌, length, Result, Ok, Err, refl, sym, ap, ◌∙◌, subst, arith}
+use Rattle.std.proofs.Common.{◌≡◌, ◌≢◌, ◌+◌, ◌≤◌, ◌<◌, ◌⊎◌, ℕ, zero, suc, inl, inr, Bool, true, false, List, [], ◌++◌, length, Result, Ok, Err, refl, sym, ap, ◌∙◌, subst, arith}
 use Rattle.std.specs.Prelude.{IfErr}
 use Rattle.std.proofs.lemmas.List.{length-append, length-replicate, append-nil}
 use Rattle.rasn_types.specs.declared.types.tag.Tag.{Tag}
@@ -8,13 +8,14 @@ use Rattle.rasn_types.specs.declared.types.codec.Codec.TheVariants.{Ber, Cer, De
 use Rattle.rasn_types.specs.declared.types.constraints.Constraints.{Constraints}
 use Rattle.rasn_types.specs.declared.error.decode.DecodeError.{DecodeError}
 use Rattle.rasn_types.specs.Tags.{IsCanonical}
-use Rattle.rasn_types.specs.Shapes.{Tree, bits, leaf, bit_string, named_bits, AdmitsPadded}
+use Rattle.rasn_types.specs.Shapes.{Tree, bits, leaf, bit_string, named_bits, AdmitsPadded, constraint_of}
 use Rattle.rasn_types.specs.BitString.{significant, zeros}
 use Rattle.rasn_types.specs.NamedBits.{named_bits_tree}
 use Rattle.rasn_types.specs.Trees.{unconstrained}
 use Rattle.rasn_types.specs.Grammar.{Reads, ReadsLeaf, IsBounded}
 use Rattle.rasn_types.proofs.BitString.Significant.{significant_once, then_zeros}
 use Rattle.rasn_de.specs.declared.ber.de.parser.ParseError.{ParseError}
+use Rattle.rasn_de.specs.declared.ber.de.parser.ParseError.TheVariants.{TrailingZeroBits, SizeConstraintNotSatisfied}
 use Rattle.rasn_de.specs.BitString.{bits_tree, DecodesBitString}
 use Rattle.rasn_de.specs.NamedBits.{NamesBits, DecodesNamedBits}
 use Rattle.rasn_de.specs.Leaves.{is_ber}
@@ -42,6 +43,21 @@ all_significant bs e = let r = then_zeros bs in go r.0 r.1
     go : (n : ℕ) → bs ≡ significant bs ++ zeros n → significant bs ≡ bs
     go zero f = sym (f ∙ append-nil (significant bs))
     go (suc n) f = absurd (omega (arith, e, ap length f, length-append (significant bs) (zeros (suc n)), length-replicate (suc n) false))
+
+module _ (rule : Codec) (bounds : Constraints) (read : List Bool) (size len : ℕ) (s : size ≡ length (significant read)) (l : len ≡ length read) where
+  pub trailing_zeros : size ≢ len → is_ber rule ≡ false → NamesBits rule bounds read (Err TrailingZeroBits)
+  trailing_zeros n e = inl (canonical rule e, λ f. n (s ∙ (ap length f ∙ sym l)), refl)
+
+  -- Where there are trailing 0 bits, the rules allow them.
+  none_trailing : (size ≡ len) ⊎ (is_ber rule ≡ true) → IsCanonical rule → significant read ≡ read
+  none_trailing (inl e) c = all_significant read (sym s ∙ (e ∙ l))
+  none_trailing (inr e) c = basic rule e c
+
+  pub names_bits : (bs : List Bool) → bs ≡ significant read → (size ≡ len) ⊎ (is_ber rule ≡ true) → AdmitsPadded bounds.size size → NamesBits rule bounds read (Ok bs)
+  names_bits bs b h a = (none_trailing h, b, subst (AdmitsPadded bounds.size) s a)
+
+  pub names_none : (size ≡ len) ⊎ (is_ber rule ≡ true) → (AdmitsPadded bounds.size size → ⊥) → NamesBits rule bounds read (Err (SizeConstraintNotSatisfied size (constraint_of bounds.size)))
+  names_none h a = inr (none_trailing h, subst (λ n. AdmitsPadded bounds.size n → ⊥) s a, ap (λ n. SizeConstraintNotSatisfied n (constraint_of bounds.size)) s)
 
 -- ---- what the grammar says
 module _ (rule : Codec) (tag : Tag) (bounds : Constraints) (depth : ℕ) (closing : Bool) (input : List ℕ) where

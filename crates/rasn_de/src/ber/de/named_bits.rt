@@ -17,13 +17,14 @@ fn named(rules: Codec, constraints: &Constraints, bits: BitString) -> Result<Nam
     ensures { NamesBits rules constraints.now bits result }
 {
     let len = bits.len();
-    let named = NamedBits::new(bits);
-    let size = named.as_bitstr().len();
-    if size != len && !is_ber(rules) {
+    let kept = NamedBits::new(bits);
+    let size = kept.as_bitstr().len();
+    let is_basic = is_ber(rules);
+    if size != len && !is_basic {
         return Err(ParseError::TrailingZeroBits);
     }
     if constraints.admits_padded_size(size) {
-        return Ok(named);
+        return Ok(kept);
     }
     let expected = constraints.size_bounds();
     Err(ParseError::SizeConstraintNotSatisfied { size, expected })
