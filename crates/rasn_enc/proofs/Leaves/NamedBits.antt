@@ -5,8 +5,9 @@ use Rattle.rasn_types.specs.declared.types.tag.Tag.{Tag}
 use Rattle.rasn_types.specs.declared.types.codec.Codec.{Codec}
 use Rattle.rasn_types.specs.declared.types.constraints.Constraints.{Constraints}
 use Rattle.rasn_types.specs.declared.error.encode.EncodeError.{EncodeError}
+use Rattle.rasn_types.specs.declared.error.encode.EncodeErrorKind.TheVariants.{SizeConstraintNotSatisfied}
 use Rattle.rasn_types.specs.Tags.{in_universal}
-use Rattle.rasn_types.specs.Shapes.{Tree, bits, leaf, bit_string, named_bits, AdmitsPadded}
+use Rattle.rasn_types.specs.Shapes.{Tree, bits, leaf, bit_string, named_bits, AdmitsPadded, constraint_of}
 use Rattle.rasn_types.specs.BitString.{significant}
 use Rattle.rasn_types.specs.NamedBits.{named_bits_tree}
 use Rattle.rasn_types.specs.Trees.{unconstrained}
@@ -43,6 +44,13 @@ module _ (tag : Tag) (c : Constraints) (bs xs : List Bool) (v : View) (x : xs �
     | inl r ↦ absurd (r.unmet tt)
     | inr m ↦ inr (record { met = subst (λ (l : List Bool). AdmitsPadded c.size (length l)) x fits; memory = m.memory })
   ]) h
+
+  -- The bits don't fit.
+  pub named_bits_misfit : (rule : Codec) → (AdmitsPadded c.size (length xs) → ⊥) → FailsAtNamedBits c (significant bs) rule (record { kind = SizeConstraintNotSatisfied (length xs) (constraint_of c.size); codec = rule })
+  named_bits_misfit rule unmet = inl (record {
+    unmet = subst (λ (l : List Bool). AdmitsPadded c.size (length l) → ⊥) x unmet;
+    is = ap (λ (l : List Bool). record { kind = SizeConstraintNotSatisfied (length l) (constraint_of c.size); codec = rule }) x;
+  })
 
 -- Bits that don't fit have no octets.
 pub named_bits_refused : {R : Type 0} (result : Result R EncodeError) (tag : Tag) (c : Constraints) (bs : List Bool) (v : View)
