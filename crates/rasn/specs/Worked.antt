@@ -5,7 +5,7 @@ use Rattle.rasn_types.specs.declared.types.codec.Codec.{Codec}
 use Rattle.rasn_types.specs.declared.types.codec.Codec.TheVariants.{Ber, Cer, Der}
 use Rattle.rasn_types.specs.Framing.{CompleteEncoding, steps_in, NextTag}
 use Rattle.rasn_types.specs.Calendar.{Moment}
-use Rattle.rasn_types.specs.Shapes.{Tree, number, bits, numbers, instant, items, set_elements, chosen, absent, every, between, boolean, integer, object_identifier, bit_string, octet_string, generalized_time, Shape, any, prefix}
+use Rattle.rasn_types.specs.Shapes.{Tree, number, bits, numbers, instant, items, set_elements, chosen, absent, every, between, boolean, integer, object_identifier, bit_string, named_bits, octet_string, generalized_time, Shape, any, prefix}
 use Rattle.rasn_types.specs.Contents.{bits_of, joined_lists}
 use Rattle.rasn_types.specs.Grammar.{Reads, top}
 use Rattle.rasn_types.specs.Bytes.{Same, Bytes}
@@ -95,6 +95,7 @@ pub record WorkedStrict : Type 0 where
   pub padded_negative : IsLenient (plain (integer every) 2) (2 ∷ 2 ∷ 255 ∷ 128 ∷ []) (number (negsuc 127))
   pub padded_arc : IsLenient (plain object_identifier 6) (6 ∷ 3 ∷ 42 ∷ 128 ∷ 1 ∷ []) (numbers (1 ∷ 2 ∷ 1 ∷ []))
   pub set_bits : IsLenient (plain bit_string 3) (3 ∷ 2 ∷ 5 ∷ 255 ∷ []) (bits (true ∷ true ∷ true ∷ []))
+  pub trailing_zero : IsLenient (plain named_bits 3) (3 ∷ 2 ∷ 6 ∷ 128 ∷ []) (bits (true ∷ []))
   pub default_there : IsLenient seven (48 ∷ 3 ∷ 2 ∷ 1 ∷ 7 ∷ []) (items (number (pos 7) ∷ []))
   pub default_in_set : IsLenient seven_of_set (49 ∷ 3 ∷ 128 ∷ 1 ∷ 7 ∷ []) (items (number (pos 7) ∷ []))
   pub set_of_falls : IsLenient octets_in_set_of (49 ∷ 6 ∷ 4 ∷ 1 ∷ 2 ∷ 4 ∷ 1 ∷ 1 ∷ []) (set_elements (items (numbers (2 ∷ []) ∷ numbers (1 ∷ []) ∷ [])))

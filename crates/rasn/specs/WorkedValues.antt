@@ -6,7 +6,7 @@ use Rattle.rasn_types.specs.declared.types.codec.Codec.{Codec}
 use Rattle.rasn_types.specs.declared.types.codec.Codec.TheVariants.{Ber, Cer, Der}
 use Rattle.rasn_types.specs.Framing.{AreOctets}
 use Rattle.rasn_types.specs.Calendar.{Day}
-use Rattle.rasn_types.specs.Shapes.{Tree, number, bits, numbers, instant, on_day, items, set_elements, chosen, absent, integer, every, null, object_identifier, bit_string, octet_string, date, any, prefix, list}
+use Rattle.rasn_types.specs.Shapes.{Tree, number, bits, numbers, instant, on_day, items, set_elements, chosen, absent, integer, every, null, object_identifier, bit_string, named_bits, octet_string, date, any, prefix, list}
 use Rattle.rasn_types.specs.Trees.{signed_range}
 use Rattle.rasn_types.specs.Bytes.{Bytes}
 use Rattle.rasn_types.specs.Carried.{Carried}
@@ -34,6 +34,7 @@ pub record WorkedValues : Type 0 where
   pub three_arcs : IsCarriedAs Der (plain object_identifier 6) (numbers (2 ∷ 999 ∷ 1 ∷ [])) (6 ∷ 3 ∷ 136 ∷ 55 ∷ 1 ∷ [])
   pub eleven_bits : IsCarriedAs Der (plain bit_string 3) (bits (true ∷ true ∷ false ∷ true ∷ false ∷ true ∷ false ∷ true ∷ true ∷ false ∷ true ∷ []))
       (3 ∷ 3 ∷ 5 ∷ 213 ∷ 160 ∷ [])
+  pub first_name : IsCarriedAs Der (plain named_bits 3) (bits (true ∷ [])) (3 ∷ 2 ∷ 7 ∷ 128 ∷ [])
   pub last_day : IsCarriedAs Der (plain date 31) (on_day (on 2012 12 21)) (31 ∷ 31 ∷ 8 ∷ 50 ∷ 48 ∷ 49 ∷ 50 ∷ 49 ∷ 50 ∷ 50 ∷ 49 ∷ [])
   pub no_bool : IsCarriedAs Der perhaps_bool absent []
   pub chosen_times : IsCarriedAs Der validity valid valid_octets

@@ -8,11 +8,11 @@ pub use crate::parts::{
 };
 pub use crate::types::{
     Alphabet, Any, ApplicationTag, AsnType, BitStr, BitString, BmpString, Bound, Bounded, Class,
-    Codec, Constraints, Constructed, ContextTag, Date, Enumerated, Explicit, Field, FieldPresence,
-    Fields, FirstTags, FixedOctetString, GeneralString, GeneralizedTime, GraphicString, Ia5String,
-    Identifier, Implicit, Integer, IntegerType, LawfulEq, NumericString, ObjectIdentifier,
-    OctetString, Present, PrintableString, PrivateTag, SetOf, Tag, TeletexString, TryClone,
-    UtcTime, Utf8String, VisibleString,
+    Codec, Constraints, Constructed, ContextTag, Date, Enumerated, Explicit, Extensible, Field,
+    FieldPresence, Fields, FirstTags, FixedOctetString, GeneralString, GeneralizedTime,
+    GraphicString, Ia5String, Identifier, Implicit, Integer, IntegerType, LawfulEq, NamedBits,
+    NumericString, ObjectIdentifier, OctetString, Present, PrintableString, PrivateTag, SetOf, Tag,
+    TeletexString, TryClone, UtcTime, Utf8String, VisibleString,
 };
 pub use rasn_de::ber::de::Decoder;
 pub use rasn_de::de::{Decode, DecodeChoice, Error};

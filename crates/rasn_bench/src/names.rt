@@ -24,6 +24,7 @@ pub(crate) fn decode_error_name(kind: &DecodeErrorKind) -> &'static str
         DecodeErrorKind::IntegerOverflow { .. } => "IntegerOverflow",
         DecodeErrorKind::DiscriminantValueNotFound { .. } => "DiscriminantValueNotFound",
         DecodeErrorKind::InvalidBitString { .. } => "InvalidBitString",
+        DecodeErrorKind::TrailingZeroBits => "TrailingZeroBits",
         DecodeErrorKind::SizeConstraintNotSatisfied { .. } => "SizeConstraintNotSatisfied",
         DecodeErrorKind::ValueConstraintNotSatisfied { .. } => "ValueConstraintNotSatisfied",
         DecodeErrorKind::PermittedAlphabetError { .. } => "PermittedAlphabetError",

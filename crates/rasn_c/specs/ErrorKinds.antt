@@ -54,5 +54,6 @@ kind_number (kind.StringConversionFailed tag) = 16
 kind_number (kind.NoValidChoice name) = 17
 kind_number (kind.MissingField name) = 18
 kind_number (kind.DuplicateField name) = 19
+kind_number kind.TrailingZeroBits = 20
 kind_number (kind.CodecSpecific (codec.Ber inner)) = ber_kind_number inner
 kind_number (kind.CodecSpecific (codec.Der inner)) = der_kind_number inner

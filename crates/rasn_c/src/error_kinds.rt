@@ -28,6 +28,7 @@ pub(crate) fn kind_number(kind: &DecodeErrorKind) -> u32
         DecodeErrorKind::NoValidChoice { .. } => 17,
         DecodeErrorKind::MissingField { .. } => 18,
         DecodeErrorKind::DuplicateField { .. } => 19,
+        DecodeErrorKind::TrailingZeroBits => 20,
         DecodeErrorKind::CodecSpecific { inner } => match inner {
             CodecDecodeError::Ber(kind) => ber_kind_number(kind),
             CodecDecodeError::Der(kind) => der_kind_number(*kind),

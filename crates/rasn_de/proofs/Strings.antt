@@ -5,6 +5,7 @@ pub mod Ends
 pub mod OctetString
 pub mod BitString
 pub mod CowBits
+pub mod NamedBits
 pub mod UnusedBits
 pub mod CharacterString
 pub mod Checks

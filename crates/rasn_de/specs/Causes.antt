@@ -8,7 +8,7 @@ use Rattle.rasn_types.specs.declared.error.decode.CodecDecodeError.TheVariants a
 use Rattle.rasn_types.specs.declared.error.decode.BerDecodeErrorKind.{BerDecodeErrorKind}
 use Rattle.rasn_types.specs.declared.error.decode.BerDecodeErrorKind.TheVariants as ber
 use Rattle.rasn_de.specs.declared.ber.de.parser.ParseError.{ParseError}
-use Rattle.rasn_de.specs.declared.ber.de.parser.ParseError.TheVariants.{Incomplete, UnexpectedExtraData, UnexpectedEmptyInput, ExceedsMaxParseDepth, OutOfMemory, LengthExceedsPlatformWidth, InvalidBool, MismatchedLength, IntegerOverflow, SizeConstraintNotSatisfied, UnsupportedTagNumber, UnexpectedEndOfContents, MissingEndOfContents, IndefiniteLengthNotAllowed, ReservedLengthOctet, MismatchedTag, InvalidConstructedIdentifier, Der, DiscriminantValueNotFound, UnsupportedObjectIdentifierArc, InvalidBitString, PermittedAlphabetError, StringConversionFailed}
+use Rattle.rasn_de.specs.declared.ber.de.parser.ParseError.TheVariants.{Incomplete, UnexpectedExtraData, UnexpectedEmptyInput, ExceedsMaxParseDepth, OutOfMemory, LengthExceedsPlatformWidth, InvalidBool, MismatchedLength, IntegerOverflow, SizeConstraintNotSatisfied, UnsupportedTagNumber, UnexpectedEndOfContents, MissingEndOfContents, IndefiniteLengthNotAllowed, ReservedLengthOctet, MismatchedTag, InvalidConstructedIdentifier, Der, DiscriminantValueNotFound, UnsupportedObjectIdentifierArc, InvalidBitString, TrailingZeroBits, PermittedAlphabetError, StringConversionFailed}
 
 abbrev pub in_ber : BerDecodeErrorKind → DecodeErrorKind
 in_ber k = kind.CodecSpecific (codec.Ber k)
@@ -25,6 +25,7 @@ error_kind (InvalidBool value) = kind.InvalidBool value
 error_kind (MismatchedLength expected actual) = kind.MismatchedLength expected actual
 error_kind (IntegerOverflow width) = kind.IntegerOverflow width
 error_kind (InvalidBitString bits) = kind.InvalidBitString bits
+error_kind TrailingZeroBits = kind.TrailingZeroBits
 error_kind (SizeConstraintNotSatisfied size expected) = kind.SizeConstraintNotSatisfied (Some size) expected
 error_kind (PermittedAlphabetError octet position) = kind.PermittedAlphabetError octet position
 error_kind (StringConversionFailed tag) = kind.StringConversionFailed tag

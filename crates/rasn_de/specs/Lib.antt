@@ -23,6 +23,7 @@ pub mod Time
 pub mod Enumerated
 pub mod ObjectIdentifier
 pub mod BitString
+pub mod NamedBits
 pub mod PartTypes
 pub mod AlternativeTypes
 pub mod SetPartTypes

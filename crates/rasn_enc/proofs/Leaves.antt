@@ -1,5 +1,6 @@
 pub mod Primitive
 pub mod BitString
+pub mod NamedBits
 pub mod ObjectIdentifier
 pub mod CharacterString
 pub mod Time

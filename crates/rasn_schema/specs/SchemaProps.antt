@@ -8,7 +8,7 @@ use mathlib.Core.Path.{ap, subst}
 use native.Mathlib.Nat.{ℕ_set}
 use Rattle.rasn_types.specs.declared.types.tag.Tag.{Tag}
 use Rattle.rasn_types.specs.Tags.{eoc, IsTagBelow, rank}
-use Rattle.rasn_types.specs.Grammar.{Family, plain_family, bit_family, text_family, family}
+use Rattle.rasn_types.specs.Grammar.{Family, plain_family, bit_family, named_family, text_family, family}
 use Rattle.rasn_types.specs.Shapes.{Shape, leaf, any, prefix, choice, option, seq, set, list, set_of}
 use Rattle.rasn_types.specs.Lawful.{HasTag, IsBitFree}
 use Rattle.rasn_schema.specs.declared.types.Component.{Component}
@@ -59,6 +59,7 @@ has_tag_prop (set_of tag s size) = Unit-prop
 bit_free_prop : (f : Family) (tag : Tag) → IsProp (IsBitFree f tag)
 bit_free_prop plain_family tag = Unit-prop
 bit_free_prop bit_family tag = Bool-set _ _
+bit_free_prop named_family tag = Bool-set _ _
 bit_free_prop text_family tag = Bool-set _ _
 
 -- ---- of the rules

@@ -8,3 +8,4 @@ pub mod CharacterString
 pub mod SetOf
 pub mod Enumerated
 pub mod Dotted
+pub mod PaddedSize

@@ -1,5 +1,5 @@
 -- Octets that hold packed bits, the first bit of each octet highest.
-use Rattle.std.specs.Prelude.{◌≡◌, ℕ, ◌-◌, ◌*◌, ◌<◌, ◌≤◌, List, ◌++◌, length, map, take, drop, replicate, Bool, false}
+use Rattle.std.specs.Prelude.{◌≡◌, ℕ, ◌-◌, ◌*◌, ◌<◌, ◌≤◌, List, [], ◌∷◌, ◌++◌, length, map, take, drop, replicate, Bool, true, false}
 use Rattle.rasn_types.specs.Framing.{AreOctets}
 use Rattle.rasn_types.specs.Contents.{bits_of, joined_lists}
 
@@ -16,6 +16,17 @@ pub record Packs (bs : List Bool) (octets : List ℕ) : Type 0 where
   pub unused : ℕ
   pub few : unused < 8
   pub all : bits_in octets ≡ bs ++ zeros unused
+
+-- A bit and those after it, without a 0 bit that is the last.
+abbrev pub bit_before : Bool → List Bool → List Bool
+bit_before true bs = true ∷ bs
+bit_before false [] = []
+bit_before false (b ∷ bs) = false ∷ b ∷ bs
+
+-- The bits without the trailing 0 bits: those up to the last that is 1 (X.680 22.7).
+abbrev pub significant : List Bool → List Bool
+significant [] = []
+significant (b ∷ bs) = bit_before b (significant bs)
 
 -- A number of bits of the octets, from a position on.
 abbrev pub bits_from : ℕ → ℕ → List ℕ → List Bool

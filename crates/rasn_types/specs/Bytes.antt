@@ -11,7 +11,8 @@ use Rattle.rasn_types.specs.Shapes.{Tree, bits, numbers, instant, on_day, items,
 use Rattle.rasn_types.specs.Shapes.Parts.{none}
 pub use Rattle.rasn_types.specs.Contents.{AllFalse}
 use Rattle.rasn_types.specs.Contents.{IsShortest, Contents, BitSegment, joined_lists}
-use Rattle.rasn_types.specs.Grammar.{Family, plain_family, bit_family, text_family, family, IsBounded, Text}
+use Rattle.rasn_types.specs.BitString.{significant}
+use Rattle.rasn_types.specs.Grammar.{Family, plain_family, bit_family, named_family, text_family, family, IsBounded, Text}
 
 abbrev pub Writing : Type 0 → Type 1
 Writing X = X → List ℕ → Type 0
@@ -112,9 +113,11 @@ WritesText kind l t = Text Der kind l t
 abbrev pub WritesOctets : Writing (List ℕ)
 WritesOctets xs l = (l ≡ xs) × AreOctets l
 
+-- No rule writes trailing 0 bits of named bits.
 abbrev pub WritesIn : Family → Codec → Kind → Tag → Writing Tree
 WritesIn plain_family rule kind tag t b = (contents : List ℕ) × Written kind t contents × PrimitiveEncoding tag contents b
 WritesIn bit_family rule kind tag t b = (bs : List Bool) × (t ≡ bits bs) × WritesString rule WrittenBits 7992 (in_universal 3) tag bs b
+WritesIn named_family rule kind tag t b = (bs : List Bool) × (t ≡ bits bs) × (significant bs ≡ bs) × WritesString rule WrittenBits 7992 (in_universal 3) tag bs b
 WritesIn text_family rule kind tag t b = (octets : List ℕ) × WritesText kind octets t × WritesString rule WritesOctets 1000 (in_universal 4) tag octets b
 
 abbrev pub WritesChoice : ℕ → List Field → Writing Tree

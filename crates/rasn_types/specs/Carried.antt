@@ -6,7 +6,7 @@ use Rattle.rasn_types.specs.Calendar.{Day, Moment}
 use Rattle.rasn_types.specs.Time.{CarriedUtc, CarriedDay}
 use Rattle.rasn_types.specs.Shapes.{Tree, bits, numbers, instant, on_day, items, set_elements, chosen, absent, Kind, utc_time, generalized_time, date, Shape, leaf, any, prefix, choice, option, seq, set, list, set_of, Parts, part, Presence, required, addition, optional_by, default_by}
 use Rattle.rasn_types.specs.Shapes.Parts.{none}
-use Rattle.rasn_types.specs.Grammar.{Family, plain_family, bit_family, text_family, family}
+use Rattle.rasn_types.specs.Grammar.{Family, plain_family, bit_family, named_family, text_family, family}
 use Rattle.rasn_types.specs.Bytes.{Same, IsCer, WritesText, Bytes}
 
 abbrev pub EachOf : (Tree → Type 0) → List Tree → Type 0
@@ -33,6 +33,7 @@ IsCarriedTime kind t = Unit {0}
 abbrev pub LeafIsWithinLimits : Family → Codec → Kind → ℕ → Tree → Type 0
 LeafIsWithinLimits plain_family rule kind depth t = Unit {0}
 LeafIsWithinLimits bit_family rule kind depth t = (bs : List Bool) → t ≡ bits bs → (length bs < 2 ^ 64) × (IsCer rule → 7992 < length bs → 0 < depth)
+LeafIsWithinLimits named_family rule kind depth t = (bs : List Bool) → t ≡ bits bs → (length bs < 2 ^ 64) × (IsCer rule → 7992 < length bs → 0 < depth)
 LeafIsWithinLimits text_family rule kind depth t = IsCarriedTime kind t × ((octets : List ℕ) → WritesText kind octets t → IsCer rule → 1000 < length octets → 0 < depth)
 
 pub record IsOneEncoding (t : Tree) : Type 0 where

@@ -88,6 +88,7 @@ shown_decode_kind (kind.MismatchedLength expected actual) = Some (codes "length 
 shown_decode_kind (kind.IntegerOverflow max_width) = Some (codes "number is out of range for a type of " ++ (decimal max_width ++ codes " bits"))
 shown_decode_kind (kind.DiscriminantValueNotFound discriminant) = Some (codes "no enumeration item has the number " ++ signed_decimal discriminant)
 shown_decode_kind (kind.InvalidBitString bits) = Some (codes "invalid number of unused bits: " ++ decimal bits)
+shown_decode_kind kind.TrailingZeroBits = Some (codes "named bits end in a 0 bit")
 shown_decode_kind (kind.SizeConstraintNotSatisfied size expected) = shown_size size expected
 shown_decode_kind (kind.ValueConstraintNotSatisfied value expected) = shown_outside (codes "number ") (Some (shown_number value)) (number_bounds expected.value)
 shown_decode_kind (kind.PermittedAlphabetError octet position) = Some (codes "octet " ++ (two_digits octet ++ (codes " at position " ++ (decimal position ++ codes " is not in the permitted alphabet"))))

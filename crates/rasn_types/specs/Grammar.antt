@@ -1,14 +1,15 @@
 -- The grammar: which inputs begin with a value of a shape, which value that is, and what remains.
 use Rattle.std.specs.Prelude.{◌≡◌, ℕ, ◌+◌, ◌*◌, ◌-◌, ◌^◌, ◌<◌, ◌≤◌, ◌⊎◌, List, [], ◌∷◌, ◌++◌, length, Bool, true, false, ◌≤ℤ◌, chars, IsUtf8, Option, Some, None}
-use Rattle.rasn_types.specs.Tags.{tag_bit, form, IsStrict, Codec, Ber, Cer, Der, Tag, in_universal}
+use Rattle.rasn_types.specs.Tags.{tag_bit, form, IsStrict, IsCanonical, Codec, Ber, Cer, Der, Tag, in_universal}
 use Rattle.rasn_types.specs.Order.{IsLess, AreAscending}
 use Rattle.rasn_types.specs.Framing.{Frame, definite, indefinite, CompleteEncoding, CompleteEncodings}
 use Rattle.rasn_types.specs.Calendar.{Day, Stamp}
 use Rattle.rasn_types.specs.Time.{GeneralUtc, CanonicalUtc, GeneralGeneralized, CanonicalGeneralized, StrictGeneralized, DateText}
-use Rattle.rasn_types.specs.Shapes.{Tree, number, bits, numbers, instant, on_day, items, set_elements, absent, Kind, boolean, null, object_identifier, bit_string, octet_string, integer, enumerated, fixed, numeric, printable, visible, ia5, any_octets, bmp, utf8, utc_time, generalized_time, date, Bound, Constraints, Admits, Shape, leaf, any, prefix, choice, option, seq, set, list, set_of, Parts, part, IsFirst, one_tag, sought_in, presences}
+use Rattle.rasn_types.specs.Shapes.{Tree, number, bits, numbers, instant, on_day, items, set_elements, absent, Kind, boolean, null, object_identifier, bit_string, named_bits, octet_string, integer, enumerated, fixed, numeric, printable, visible, ia5, any_octets, bmp, utf8, utc_time, generalized_time, date, Bound, Constraints, Admits, AdmitsPadded, Shape, leaf, any, prefix, choice, option, seq, set, list, set_of, Parts, part, IsFirst, one_tag, sought_in, presences}
 use Rattle.rasn_types.specs.Shapes.Parts.{none}
 use Rattle.rasn_types.specs.declared.types.strings.alphabet.Alphabet.TheVariants.{Numeric, Printable, Visible, Ia5}
 use Rattle.rasn_types.specs.CharacterString.{AreAdmitted}
+use Rattle.rasn_types.specs.BitString.{significant}
 use Rattle.rasn_types.specs.Readings.{Reading, ReadsContents, ReadsMany, ReadsFrom, ReadsOptional, Part, ReadsSeq, ReadsChoice, ReadsSet}
 use Rattle.rasn_types.specs.Contents.{IsShortest, Contents, ReadsString, ReadsBitSegment, OctetSegment}
 
@@ -46,9 +47,9 @@ Text rule generalized_time l t = (s : Stamp) × (t ≡ instant s.moment) × Gene
 Text rule date l t = (d : Day) × (t ≡ on_day d) × DateText l d
 Text rule kind l t = ⊥
 
--- What a bound applies to: nothing, the value, or the size.
+-- What a bound applies to: nothing, the value, the size, or the size with some number of trailing 0 bits.
 pub data Measure : Type 0 where
-  unmeasured by_value by_size : Measure
+  unmeasured by_value by_size by_named_bits : Measure
 
 abbrev pub measure : Kind → Measure
 measure boolean = unmeasured
@@ -60,6 +61,7 @@ measure generalized_time = unmeasured
 measure date = unmeasured
 measure (integer range) = by_value
 measure bit_string = by_size
+measure named_bits = by_named_bits
 measure octet_string = by_size
 measure (fixed n) = by_size
 measure numeric = by_size
@@ -76,6 +78,7 @@ Fulfils unmeasured c t = Unit {0}
 Fulfils by_value c (number z) = Admits ◌≤ℤ◌ c.value z
 Fulfils by_size c (bits bs) = Admits ◌≤◌ c.size (length bs)
 Fulfils by_size c (numbers ns) = Admits ◌≤◌ c.size (length ns)
+Fulfils by_named_bits c (bits bs) = AdmitsPadded c.size (length bs)
 Fulfils m c t = ⊥
 
 abbrev pub IsBounded : Kind → Constraints → Tree → Type 0
@@ -83,13 +86,14 @@ IsBounded kind c t = Fulfils (measure kind) c t
 
 -- How contents are read: at once, or as bits or octets collected from segments.
 pub data Family : Type 0 where
-  plain_family bit_family text_family : Family
+  plain_family bit_family named_family text_family : Family
 
 abbrev pub family : Kind → Family
 family boolean = plain_family
 family null = plain_family
 family object_identifier = plain_family
 family bit_string = bit_family
+family named_bits = named_family
 family (integer range) = plain_family
 family (enumerated known) = plain_family
 family octet_string = text_family
@@ -105,13 +109,16 @@ family utc_time = text_family
 family generalized_time = text_family
 family date = text_family
 
--- The value of a leaf.
+-- The value of a leaf. Trailing 0 bits of named bits aren't part of the value, and canonical rules have none (11.2.2).
 abbrev pub ReadsIn : Family → Codec → Kind → Tag → ℕ → Reading Tree
 ReadsIn plain_family rule kind tag depth input t rest =
     (bit : Bool) × (contents : List ℕ) × Frame (form rule) input tag bit rest (definite contents) × Contents rule kind contents t
     × (IsStrict rule → (bit ≡ tag_bit tag) × IsShortest kind contents)
 ReadsIn bit_family rule kind tag depth input t rest =
     (bs : List Bool) × (t ≡ bits bs) × (length bs < 2 ^ 64) × ReadsString rule (ReadsBitSegment rule) (in_universal 3) depth tag input bs rest
+ReadsIn named_family rule kind tag depth input t rest =
+    (bs : List Bool) × (t ≡ bits (significant bs)) × (length bs < 2 ^ 64) × ReadsString rule (ReadsBitSegment rule) (in_universal 3) depth tag input bs rest
+    × (IsCanonical rule → significant bs ≡ bs)
 ReadsIn text_family rule kind tag depth input t rest =
     (octets : List ℕ) × ReadsString rule OctetSegment (in_universal 4) depth tag input octets rest × Text rule kind octets t
 

@@ -3,7 +3,7 @@ use Rattle.std.specs.Prelude.{◌≡◌, ◌⊎◌, ◌≢◌, false, Option, So
 use Rattle.rasn_types.specs.Tags.{tag_bit, Tag, eoc, IsTagBelow}
 use Rattle.rasn_types.specs.Shapes.{Shape, leaf, any, prefix, choice, option, seq, set, list, set_of, Parts, part, own, IsFirst, IsFirstOf, Key, own_tag, first_tags, Presence, required, addition, optional_by, default_by, IsAlwaysPresent}
 use Rattle.rasn_types.specs.Shapes.Parts.{none}
-use Rattle.rasn_types.specs.Grammar.{Family, plain_family, bit_family, text_family, family}
+use Rattle.rasn_types.specs.Grammar.{Family, plain_family, bit_family, named_family, text_family, family}
 
 abbrev pub AreDisjoint : (Tag → Type 0) → (Tag → Type 0) → Type 0
 AreDisjoint P Q = (n : Tag) → P n → Q n → ⊥
@@ -47,6 +47,7 @@ MayBeLeftOut (default_by key d) s ps = IsRecognized key s ps
 abbrev pub IsBitFree : Family → Tag → Type 0
 IsBitFree plain_family tag = Unit {0}
 IsBitFree bit_family tag = tag_bit tag ≡ false
+IsBitFree named_family tag = tag_bit tag ≡ false
 IsBitFree text_family tag = tag_bit tag ≡ false
 
 unfoldable mutual

@@ -4,7 +4,7 @@ use Rattle.std.specs.List.{list_all, list_any}
 use Rattle.rasn_types.specs.Tags.{tag_bit, Tag, rank, is_eoc}
 use Rattle.rasn_types.specs.Shapes.{Shape, leaf, any, prefix, choice, option, seq, set, list, set_of, Parts, part, own, Key, own_tag, first_tags, Presence, required, addition, optional_by, default_by}
 use Rattle.rasn_types.specs.Shapes.Parts.{none}
-use Rattle.rasn_types.specs.Grammar.{Family, plain_family, bit_family, text_family, family}
+use Rattle.rasn_types.specs.Grammar.{Family, plain_family, bit_family, named_family, text_family, family}
 
 abbrev pub is_same_tag : Tag → Tag → Bool
 is_same_tag s t = nat_eq (rank s.class) (rank t.class) && nat_eq s.value t.value
@@ -102,6 +102,7 @@ may_be_left_out (default_by key d) s ps = is_recognized key s ps
 abbrev pub is_bit_free : Family → Tag → Bool
 is_bit_free plain_family tag = true
 is_bit_free bit_family tag = not (tag_bit tag)
+is_bit_free named_family tag = not (tag_bit tag)
 is_bit_free text_family tag = not (tag_bit tag)
 
 abbrev mutual

@@ -35,3 +35,4 @@ pub mod ErrorText
 pub mod SmallOctets
 pub mod Inline
 pub mod CowBits
+pub mod NamedBits

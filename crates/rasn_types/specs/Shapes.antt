@@ -1,5 +1,5 @@
 -- Shapes of types and trees of values.
-use Rattle.std.specs.Prelude.{◌≡◌, ℕ, ◌⊎◌, List, [], ◌∷◌, Bool, true, ℤ, ◌≤ℤ◌, Option, Some, None, IfSome, if◌then◌else◌, IsPermutation}
+use Rattle.std.specs.Prelude.{◌≡◌, ℕ, ◌+◌, ◌≤◌, ◌⊎◌, List, [], ◌∷◌, Bool, true, ℤ, ◌≤ℤ◌, Option, Some, None, IfSome, if◌then◌else◌, IsPermutation}
 use Rattle.rasn_types.specs.Calendar.{Day, Moment}
 use Rattle.rasn_types.specs.Tags.{Tag, is_eoc}
 use Rattle.rasn_types.specs.declared.types.constraints.Bounded.{Bounded}
@@ -46,8 +46,9 @@ abbrev pub IsIn : Interval → ℤ → Type 0
 IsIn every z = Unit {0}
 IsIn (between low high) z = (low ≤ℤ z) × (z ≤ℤ high)
 
+-- `named_bits` is a BIT STRING whose bits have names: trailing 0 bits don't count (X.680 22.7).
 pub data Kind : Type 0 where
-  boolean null object_identifier bit_string octet_string : Kind
+  boolean null object_identifier bit_string named_bits octet_string : Kind
   integer : Interval → Kind
   enumerated : List ℤ → Kind
   fixed : ℕ → Kind
@@ -63,6 +64,10 @@ IsWithin le (Range start end) x = IfSome start (λ l. le l x) × IfSome end (λ 
 abbrev pub Admits : {X : Type 0} → (X → X → Type 0) → Option (Bound X) → X → Type 0
 Admits le None x = Unit {0}
 Admits le (Some bound) x = (bound.extensible ≡ true) ⊎ IsWithin le bound.constraint x
+
+-- The bound holds of a size, or of one that is larger: of bits with some number of trailing 0 bits.
+abbrev pub AdmitsPadded : Option (Bound ℕ) → ℕ → Type 0
+AdmitsPadded bound size = (zeros : ℕ) × Admits ◌≤◌ bound (size + zeros)
 
 -- The range of a bound, even if the bound is extensible.
 abbrev pub constraint_of : {X : Type 0} → Option (Bound X) → Bounded X

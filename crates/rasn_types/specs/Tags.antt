@@ -36,6 +36,12 @@ is_der Der = true
 abbrev pub IsStrict : Codec → Type 0
 IsStrict rule = T (is_der rule)
 
+-- The rules of X.690 11 hold: those that have one encoding for each value.
+abbrev pub IsCanonical : Codec → Type 0
+IsCanonical Ber = ⊥
+IsCanonical Cer = Unit {0}
+IsCanonical Der = Unit {0}
+
 abbrev pub rank : Class → ℕ
 rank Universal = 0
 rank Application = 1

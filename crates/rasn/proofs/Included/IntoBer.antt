@@ -9,7 +9,7 @@ use Rattle.rasn_types.specs.Shapes.{Tree, absent, Kind, boolean, null, object_id
 use Rattle.rasn_types.specs.declared.types.constraints.Bound.{Bound}
 use Rattle.rasn_types.specs.Readings.{Reading, ReadsContents, definite_form, indefinite_form, ReadsMany, IsLeftOut, IsPresent, ReadsOptional, IsNoDefault, ReadsPart, ReadsInOrder, AllMissing, presences_in, HasRequired, ReadsSeq, ReadsChoice, ReadsSet}
 use Rattle.rasn_types.specs.Contents.{ReadsString, primitive, segments, closed_segments, ReadsSegments, ReadsBitSegment, OctetSegment, Contents, IsBool}
-use Rattle.rasn_types.specs.Grammar.{Reads, parts_of, top, Family, plain_family, bit_family, text_family, family, ReadsIn, ReadsOpen, ReadsList, ReadsSetOf, Text}
+use Rattle.rasn_types.specs.Grammar.{Reads, parts_of, top, Family, plain_family, bit_family, named_family, text_family, family, ReadsIn, ReadsOpen, ReadsList, ReadsSetOf, Text}
 use Rattle.rasn_types.specs.Lawful.{IsLawful, AreAlternatives}
 use Rattle.rasn.proofs.Time.Texts.{utc_in, generalized_in}
 use Rattle.rasn.proofs.ReadBack.Begins.{solid_closing, wider}
@@ -112,6 +112,8 @@ mutual
 in_in : (which : Family) (rule : Codec) (kind : Kind) (tag : Tag) (depth : ℕ) → IsIn (ReadsIn which rule kind tag depth) (ReadsIn which Ber kind tag depth)
 in_in plain_family rule kind tag depth input t rest (b, c, f, h, z) = (b, c, frame_ber f, contents_in rule kind c t h, λ e. absurd e)
 in_in bit_family rule kind tag depth input t rest (bs, e, n, h) = (bs, e, n, str_in rule (ReadsBitSegment rule) (ReadsBitSegment Ber) (λ l xs s. (s.0, λ z. absurd z)) _ depth tag input bs rest h)
+in_in named_family rule kind tag depth input t rest (bs, e, n, h, z) =
+    (bs, e, n, str_in rule (ReadsBitSegment rule) (ReadsBitSegment Ber) (λ l xs s. (s.0, λ z. absurd z)) _ depth tag input bs rest h, λ z. absurd z)
 in_in text_family rule kind tag depth input t rest (l, h, k) = (l, str_in rule OctetSegment OctetSegment (λ c xs s. s) _ depth tag input l rest h, text_in rule kind l t k)
 
 open_in : (rule : Codec) (tag : Tag) → IsIn (ReadsOpen rule tag) (ReadsOpen Ber tag)

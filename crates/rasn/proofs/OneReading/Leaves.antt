@@ -8,7 +8,8 @@ use Rattle.rasn_types.specs.Framing.{Extent, definite, indefinite, Frame, number
 use Rattle.rasn_types.specs.Shapes.{Tree, number, bits, numbers, Kind, boolean, null, object_identifier, octet_string, integer, enumerated, fixed, numeric, printable, visible, ia5, any_octets, bmp, utf8, utc_time, generalized_time, date}
 use Rattle.rasn_types.specs.declared.types.constraints.Constraints.{Constraints}
 use Rattle.rasn_types.specs.Contents.{IsBool, Contents, bits_of, joined_lists, BitSegment, ReadsBitSegment, OctetSegment, ReadsString, primitive, segments, closed_segments, ReadsSegments}
-use Rattle.rasn_types.specs.Grammar.{Text, units, Family, plain_family, bit_family, text_family, family, ReadsIn, ReadsLeaf}
+use Rattle.rasn_types.specs.BitString.{significant}
+use Rattle.rasn_types.specs.Grammar.{Text, units, Family, plain_family, bit_family, named_family, text_family, family, ReadsIn, ReadsLeaf}
 use Rattle.rasn_types.proofs.Headers.Frames.{frame_one, split_one}
 use Rattle.rasn_de.proofs.Leaves.ObjectIdentifier.{identifier_one}
 use Rattle.rasn.proofs.Time.Texts.{utc_one, generalized_one, date_one}
@@ -123,6 +124,9 @@ reads_in_one plain_family rule kind tag depth input t u r s h k =
 reads_in_one bit_family rule kind tag depth input t u r s h k =
     let o = str_one rule (ReadsBitSegment rule) (λ l a b h k. segment_one l a b h.0 k.0) _ depth tag input h.0 k.0 r s h.3 k.3 in
     (h.1 ∙ (ap bits o.0 ∙ sym k.1), o.1)
+reads_in_one named_family rule kind tag depth input t u r s h k =
+    let o = str_one rule (ReadsBitSegment rule) (λ l a b h k. segment_one l a b h.0 k.0) _ depth tag input h.0 k.0 r s h.3 k.3 in
+    (h.1 ∙ (ap (λ (bs : List Bool). bits (significant bs)) o.0 ∙ sym k.1), o.1)
 reads_in_one text_family rule kind tag depth input t u r s h k =
     let o = str_one rule OctetSegment (λ l a b p q. p ∙ sym q) _ depth tag input h.0 k.0 r s h.1 k.1 in
     (text_one rule kind k.0 t u (subst (λ l. Text rule kind l t) o.0 h.2) k.2, o.1)

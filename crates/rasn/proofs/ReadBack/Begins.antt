@@ -8,7 +8,7 @@ use Rattle.rasn_types.specs.Shapes.{Tree, Kind, Shape, leaf, any, prefix, choice
 use Rattle.rasn_types.specs.Shapes.Parts.{none}
 use Rattle.rasn_types.specs.Readings.{Reading, ReadsContents, definite_form, indefinite_form, ReadsChoice, IsLeftOut, IsPresent}
 use Rattle.rasn_types.specs.Contents.{ReadsString, primitive, segments, closed_segments, ReadsBitSegment, OctetSegment}
-use Rattle.rasn_types.specs.Grammar.{Reads, parts_of, Family, plain_family, bit_family, text_family, family, ReadsIn, ReadsOpen}
+use Rattle.rasn_types.specs.Grammar.{Reads, parts_of, Family, plain_family, bit_family, named_family, text_family, family, ReadsIn, ReadsOpen}
 use Rattle.rasn_types.specs.Lawful.{HasTag}
 use Rattle.rasn_types.proofs.Headers.Frames.{frame_next, not_ended}
 use Rattle.rasn_types.proofs.Encoding.Complete.{whole_next}
@@ -28,6 +28,7 @@ in_next : (which : Family) (rule : Codec) (kind : Kind) (tag : Tag) (depth : ℕ
     → ReadsIn which rule kind tag depth input t rest → NextTag (form rule) input tag
 in_next plain_family rule kind tag depth input t rest h = frame_next h.2
 in_next bit_family rule kind tag depth input t rest h = str_next rule (ReadsBitSegment rule) _ depth tag input h.0 rest h.3
+in_next named_family rule kind tag depth input t rest h = str_next rule (ReadsBitSegment rule) _ depth tag input h.0 rest h.3
 in_next text_family rule kind tag depth input t rest h = str_next rule OctetSegment _ depth tag input h.0 rest h.1
 
 open_next : (rule : Codec) (tag : Tag) (input : List ℕ) (t : Tree) (rest : List ℕ) → ReadsOpen rule tag input t rest → NextTag (form rule) input tag

@@ -1,15 +1,15 @@
 -- A leaf that is written is read again.
-use Rattle.std.proofs.Common.{◌≡◌, ℕ, zero, suc, ◌<◌, ◌≢◌, inl, inr, List, [], ◌∷◌, ◌++◌, length, true, false, ℤ, refl, sym, subst, arith}
+use Rattle.std.proofs.Common.{◌≡◌, ℕ, zero, suc, ◌<◌, ◌≢◌, inl, inr, List, [], ◌∷◌, ◌++◌, length, true, false, ℤ, refl, sym, subst, arith, ap, ◌∙◌}
 use Rattle.rasn_types.specs.Tags.{tag_bit, eoc, form, IsStrict, in_universal}
 use Rattle.rasn_types.specs.declared.types.codec.Codec.{Codec}
 use Rattle.rasn_types.specs.declared.types.codec.Codec.TheVariants.{Ber, Cer, Der}
 use Rattle.rasn_types.specs.declared.types.tag.Tag.{Tag}
 use Rattle.rasn_types.specs.Framing.{Frame, definite}
-use Rattle.rasn_types.specs.Shapes.{Tree, Kind, boolean, null, object_identifier, integer, enumerated, octet_string, fixed, numeric, printable, visible, ia5, any_octets, bmp, utf8, utc_time, generalized_time, date}
+use Rattle.rasn_types.specs.Shapes.{Tree, Kind, boolean, null, object_identifier, integer, enumerated, octet_string, fixed, numeric, printable, visible, ia5, any_octets, bmp, utf8, utc_time, generalized_time, date, bits}
 use Rattle.rasn_types.specs.declared.types.constraints.Constraints.{Constraints}
 use Rattle.rasn_types.specs.Readings.{ReadsContents, definite_form, indefinite_form, ReadsMany}
 use Rattle.rasn_types.specs.Contents.{joined_lists, ReadsString, primitive, segments, closed_segments, ReadsBitSegment, OctetSegment, Contents, IsBool}
-use Rattle.rasn_types.specs.Grammar.{Family, plain_family, bit_family, text_family, family, ReadsIn, ReadsLeaf, Text, IsBounded}
+use Rattle.rasn_types.specs.Grammar.{Family, plain_family, bit_family, named_family, text_family, family, ReadsIn, ReadsLeaf, Text, IsBounded}
 use Rattle.rasn_types.specs.Bytes.{Writing, Same, PrimitiveEncoding, Each, IsCer, WritesString, WrittenBits, WritesText, WritesOctets, WritesIn}
 use Rattle.rasn_types.specs.Carried.{LeafIsWithinLimits, IsCarriedTime}
 use Rattle.rasn_types.specs.Lawful.{IsBitFree}
@@ -106,6 +106,13 @@ in_back : (which : Family) (rule : Codec) (kind : Kind) (tag : Tag) → tag ≢ 
 in_back plain_family rule kind tag one free depth t b within_limits (c, w, d) rest = (tag_bit tag, c, definite_back rest one d, contents_der rule kind c t w.is, λ z. (refl, w.shortest))
 in_back bit_family rule kind tag one free depth t b within_limits (bs, e, w) rest =
     (bs, e, (within_limits bs e).0, str_back rule WrittenBits (ReadsBitSegment rule) (λ xs l w. (w.is, λ z. w.zeros)) 7992 (in_universal 3) tag (no_eoc 3 (omega arith)) one refl free depth bs b (within_limits bs e).1 w rest)
+in_back named_family rule kind tag one free depth t b within_limits (bs, e, m, w) rest = (
+  bs,
+  e ∙ ap bits (sym m),
+  (within_limits bs e).0,
+  str_back rule WrittenBits (ReadsBitSegment rule) (λ xs l w. (w.is, λ z. w.zeros)) 7992 (in_universal 3) tag (no_eoc 3 (omega arith)) one refl free depth bs b (within_limits bs e).1 w rest,
+  λ z. m,
+)
 in_back text_family rule kind tag one free depth t b within_limits (l, x, w) rest = (
   l,
   str_back rule WritesOctets OctetSegment (λ xs l w. sym w.0) 1000 (in_universal 4) tag (no_eoc 4 (omega arith)) one refl free depth l b (within_limits.1 l x) w rest,

@@ -1,5 +1,5 @@
 -- What DER reads of a shape that passes the test meets all that a carried value must.
-use Rattle.std.proofs.Common.{◌≡◌, ◌≢◌, ◌^◌, ℕ, suc, ◌-◌, ◌<◌, ◌≤◌, inl, inr, List, [], ◌∷◌, ◌++◌, length, Bool, true, false, not, ◌&&◌, ◌||◌, Option, Some, None, refl, sym, ap, subst, arith}
+use Rattle.std.proofs.Common.{◌≡◌, ◌≢◌, ◌^◌, ℕ, suc, ◌-◌, ◌<◌, ◌≤◌, inl, inr, List, [], ◌∷◌, ◌++◌, length, Bool, true, false, not, ◌&&◌, ◌||◌, Option, Some, None, refl, sym, ap, subst, arith, ◌∙◌}
 use Rattle.std.proofs.lemmas.List.Sorted.{IsPermutation-refl}
 use Rattle.rasn_types.specs.declared.types.tag.Tag.{Tag}
 use Rattle.rasn_types.specs.declared.types.codec.Codec.TheVariants.{Der}
@@ -11,7 +11,8 @@ use Rattle.rasn_types.specs.declared.types.constraints.Bound.{Bound}
 use Rattle.rasn_types.specs.Shapes.Parts.{none}
 use Rattle.rasn_types.specs.Described.{has_required, has_addition}
 use Rattle.rasn_types.specs.Readings.{Reading, ReadsContents, definite_form, indefinite_form, ReadsMany, ReadsPart, ReadsInOrder, IsMissing, AllMissing, presences_in, HasRequired, ReadsSeq, ReadsSet, ReadsChoice, OneOf, ByPart}
-use Rattle.rasn_types.specs.Grammar.{Reads, parts_of, Family, plain_family, bit_family, text_family, family, ReadsIn, Text, ReadsList, ReadsSetOf}
+use Rattle.rasn_types.specs.BitString.{significant}
+use Rattle.rasn_types.specs.Grammar.{Reads, parts_of, Family, plain_family, bit_family, named_family, text_family, family, ReadsIn, Text, ReadsList, ReadsSetOf}
 use Rattle.rasn_types.specs.Carried.{EachOf, PartIsWithinLimits, IsCarriedTime, LeafIsWithinLimits, IsOneEncoding, IsWithinLimits, AreWithinLimits, ChosenIsWithinLimits}
 use Rattle.rasn_types.specs.Lawful.{IsLawful, AreLawfulByTag}
 use Rattle.rasn_types.proofs.Lawful.{lawful_decides}
@@ -96,6 +97,9 @@ time_met kind l t h = tt
 in_met : (which : Family) (kind : Kind) (tag : Tag) (depth : ℕ) (input : List ℕ) (t : Tree) (rest : List ℕ) → ReadsIn which Der kind tag depth input t rest → LeafIsWithinLimits which Der kind depth t
 in_met plain_family kind tag depth input t rest h = tt
 in_met bit_family kind tag depth input t rest (bs, e, n, h) = λ cs f. let g : bs ≡ cs = cc in (subst (λ (l : List Bool). length l < 2 ^ 64) g n, λ z. absurd z)
+in_met named_family kind tag depth input t rest (bs, e, n, h, z) = λ cs f.
+    let g : significant bs ≡ cs = cc in
+    (subst (λ (l : List Bool). length l < 2 ^ 64) (sym (z tt) ∙ g) n, λ z. absurd z)
 in_met text_family kind tag depth input t rest (l, h, w) = (time_met kind l t w, λ octets x z. absurd z)
 
 one_encoding_met : (t : Tree) (text : List ℕ) → t ≡ numbers text → CompleteEncoding Der text → IsOneEncoding t

@@ -4,9 +4,9 @@ use Rattle.rasn_types.specs.Tags.{der_form, in_universal}
 use Rattle.rasn_types.specs.declared.types.codec.Codec.TheVariants.{Der}
 use Rattle.rasn_types.specs.declared.types.tag.Tag.{Tag}
 use Rattle.rasn_types.specs.Framing.{Frame, with_length, without_length, definite, indefinite, AreOctets}
-use Rattle.rasn_types.specs.Shapes.{Tree, Kind, octet_string, fixed, numeric, printable, visible, ia5, any_octets, bmp, utf8, utc_time, generalized_time, date}
+use Rattle.rasn_types.specs.Shapes.{Tree, bits, Kind, octet_string, fixed, numeric, printable, visible, ia5, any_octets, bmp, utf8, utc_time, generalized_time, date}
 use Rattle.rasn_types.specs.Contents.{ReadsString, primitive, segments, closed_segments, ReadsBitSegment, OctetSegment}
-use Rattle.rasn_types.specs.Grammar.{Family, plain_family, bit_family, text_family, family, ReadsIn, Text}
+use Rattle.rasn_types.specs.Grammar.{Family, plain_family, bit_family, named_family, text_family, family, ReadsIn, Text}
 use Rattle.rasn_types.specs.Bytes.{DefiniteForm, WritesIn, WritesText}
 use Rattle.rasn_types.specs.Lawful.{IsBitFree}
 use Rattle.rasn_types.proofs.Headers.Digits.{front_octets}
@@ -72,6 +72,13 @@ in_told bit_family kind tag free depth input t rest o (bs, e, n, h) =
     let p = str_whole (ReadsBitSegment Der) (in_universal 3) depth tag input bs rest h in
     let w = framed o p.1 in
     (w.text, (bs, e, inl ((λ z. absurd z), p.0, record { is = p.2.0; zeros = p.2.1 tt; octets = w.octets }, subst (λ b. DefiniteForm tag b p.0 w.text) (sym free) w.is)), w.input_is)
+in_told named_family kind tag free depth input t rest o (bs, e, n, h, z) =
+    let p = str_whole (ReadsBitSegment Der) (in_universal 3) depth tag input bs rest h in
+    let w = framed o p.1 in (
+      w.text,
+      (bs, e ∙ ap bits (z tt), z tt, inl ((λ z. absurd z), p.0, record { is = p.2.0; zeros = p.2.1 tt; octets = w.octets }, subst (λ b. DefiniteForm tag b p.0 w.text) (sym free) w.is)),
+      w.input_is,
+    )
 in_told text_family kind tag free depth input t rest o (l, h, x) =
     let p = str_whole OctetSegment (in_universal 4) depth tag input l rest h in
     let w = framed o p.1 in

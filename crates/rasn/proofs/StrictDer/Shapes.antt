@@ -9,7 +9,7 @@ use Rattle.rasn_types.specs.declared.types.constraints.Bound.{Bound}
 use Rattle.rasn_types.specs.Shapes.Parts.{none}
 use Rattle.rasn_types.specs.Readings.{ReadsContents, definite_form, indefinite_form, Reading, ReadsChoice}
 use Rattle.rasn_types.specs.Contents.{Contents, joined_lists}
-use Rattle.rasn_types.specs.Grammar.{Reads, parts_of, Family, plain_family, bit_family, text_family, family, ReadsIn, Text}
+use Rattle.rasn_types.specs.Grammar.{Reads, parts_of, Family, plain_family, bit_family, named_family, text_family, family, ReadsIn, Text}
 use Rattle.rasn_types.specs.Bytes.{DefiniteForm, Each, PartsWritten, Bytes, fields_of}
 use Rattle.rasn_types.specs.Carried.{IsWithinLimits, AreWithinLimits, EachOf}
 use Rattle.rasn_types.specs.Lawful.{IsLawful, AreLawfulByTag}
@@ -132,6 +132,7 @@ text_there kind l t h e = h
 in_there : (which : Family) (kind : Kind) (tag : Tag) (depth : ℕ) (input : List ℕ) (t : Tree) (rest : List ℕ) → ReadsIn which Der kind tag depth input t rest → t ≢ absent
 in_there plain_family kind tag depth input t rest h e = contents_there kind h.1 t h.3 e
 in_there bit_family kind tag depth input t rest h e = let f = h.1 in cc
+in_there named_family kind tag depth input t rest h e = let f = h.1 in cc
 in_there text_family kind tag depth input t rest h e = text_there kind h.0 t h.2 e
 
 choice_there : (ps : Parts) (depth k : ℕ) (c : Bool) (input : List ℕ) (t : Tree) (rest : List ℕ) → ReadsChoice Der k (parts_of Der ps depth c) input t rest → t ≢ absent

@@ -17,7 +17,7 @@ use Rattle.rasn_types.specs.declared.ber.time.text.Clock.TheVariants.{Seconds}
 use Rattle.rasn_types.specs.declared.ber.time.text.Zone.TheVariants.{Utc}
 use Rattle.rasn_types.specs.TimeSpelling.{Spelling, parts}
 use Rattle.rasn_types.specs.Time.{GeneralGeneralized, CarriedDay, at_utc}
-use Rattle.rasn.proofs.Worked.StrictLeaves.{high_tag, high_tag_next, long_length, long_octets, built_bool, primitive_prefix, primitive_open, padded_integer, padded_negative, padded_arc, set_bits}
+use Rattle.rasn.proofs.Worked.StrictLeaves.{high_tag, high_tag_next, long_length, long_octets, built_bool, primitive_prefix, primitive_open, padded_integer, padded_negative, padded_arc, set_bits, trailing_zero}
 use Rattle.rasn.proofs.Worked.Fractions.{time_lawful, tenth_digit}
 use Rattle.rasn.proofs.Worked.StrictSets.{default_there, default_in_set, set_of_falls, set_out_of_order}
 
@@ -88,6 +88,7 @@ worked = record {
   padded_negative = padded_negative;
   padded_arc = padded_arc;
   set_bits = set_bits;
+  trailing_zero = trailing_zero;
   default_there = default_there;
   default_in_set = default_in_set;
   set_of_falls = set_of_falls;

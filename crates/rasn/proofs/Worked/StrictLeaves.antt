@@ -4,7 +4,7 @@ use Rattle.rasn_types.specs.Tags.{basic_form, der_form, loose_form, in_universal
 use Rattle.rasn_types.specs.declared.types.codec.Codec.TheVariants.{Ber, Der}
 use Rattle.rasn_types.specs.declared.types.tag.Class.TheVariants.{Context}
 use Rattle.rasn_types.specs.Framing.{number_in, AreOctets, SpellsIdentifier, Spells128, Frame, with_length, definite, IsShortestIdentifier, NextTag}
-use Rattle.rasn_types.specs.Shapes.{number, bits, numbers, any, prefix, every, boolean, integer, object_identifier, bit_string, octet_string}
+use Rattle.rasn_types.specs.Shapes.{number, bits, numbers, any, prefix, every, boolean, integer, object_identifier, bit_string, named_bits, octet_string}
 use Rattle.rasn_types.specs.Readings.{definite_form}
 use Rattle.rasn_types.specs.Contents.{primitive}
 use Rattle.rasn_types.specs.Grammar.{Reads, parts_of}
@@ -168,6 +168,45 @@ set_bits = lenient (plain bit_string 3) (no_eoc 3 (omega arith), refl) (3 ∷ 2 
   where
     few : (bs : List Bool) → bits three ≡ bits bs → length bs < 2 ^ 64
     few bs e = let f : length three ≡ length bs = cc in omega arith
+
+pub trailing_zero : IsLenient (plain named_bits 3) (3 ∷ 2 ∷ 6 ∷ 128 ∷ []) (bits (true ∷ []))
+unfolding Reads parts_of Bytes fields_of IsWithinLimits IsLawful
+trailing_zero = lenient (plain named_bits 3) (no_eoc 3 (omega arith), refl) (3 ∷ 2 ∷ 6 ∷ 128 ∷ []) (omega arith, (omega arith, (omega arith, (omega arith, tt)))) (bits (true ∷ [])) (
+  (
+    true ∷ false ∷ [],
+    refl,
+    omega arith,
+    bits_read Ber 3 (6 ∷ 128 ∷ []) [] (true ∷ false ∷ []) 128 (omega arith) (omega arith) (omega arith)
+        (record { octets = 128 ∷ []; unused = false ∷ false ∷ false ∷ false ∷ false ∷ false ∷ []; is = refl; few = omega arith; all = refl }, λ z. absurd z),
+    λ z. absurd z,
+  ),
+  (0, tt),
+)
+    (record {
+      octets = 3 ∷ 2 ∷ 7 ∷ 128 ∷ [];
+      is = (
+        (0, tt),
+        (
+          true ∷ [],
+          refl,
+          refl,
+          inl (
+            (λ z. absurd z),
+            7 ∷ 128 ∷ [],
+            record {
+              is = record { octets = 128 ∷ []; unused = false ∷ false ∷ false ∷ false ∷ false ∷ false ∷ false ∷ []; is = refl; few = omega arith; all = refl };
+              zeros = (refl, (refl, (refl, (refl, (refl, (refl, (refl, tt)))))));
+              octets = (omega arith, (omega arith, tt));
+            },
+            short_written 3 false (7 ∷ 128 ∷ []) (omega arith) (omega arith),
+          ),
+        ),
+      );
+      within_limits = λ bs e. (few bs e, λ z. absurd z);
+    }) (λ e. omega (arith, ap (λ l. number_in 256 l) e))
+  where
+    few : (bs : List Bool) → bits (true ∷ []) ≡ bits bs → length bs < 2 ^ 64
+    few bs e = let f : 1 ≡ length bs = cc in omega arith
 
 pub padded_negative : IsLenient (plain (integer every) 2) (2 ∷ 2 ∷ 255 ∷ 128 ∷ []) (number (negsuc 127))
 unfolding Reads parts_of Bytes fields_of IsWithinLimits

@@ -8,7 +8,7 @@ use Rattle.rasn_types.specs.declared.types.tag.Class.TheVariants.{Universal, Con
 use Rattle.rasn_types.specs.Framing.{AreOctets, Spells128}
 use Rattle.rasn_types.specs.Calendar.{Day, Moment}
 use Rattle.rasn_types.specs.Time.{CarriedDay, CarriedUtc, written_utc, written_generalized, written_date}
-use Rattle.rasn_types.specs.Shapes.{Tree, number, bits, numbers, instant, on_day, items, chosen, absent, integer, every, null, object_identifier, bit_string, octet_string, utc_time, generalized_time, date, Interval, IsIn, Shape, leaf, prefix, list}
+use Rattle.rasn_types.specs.Shapes.{Tree, number, bits, numbers, instant, on_day, items, chosen, absent, integer, every, null, object_identifier, bit_string, named_bits, octet_string, utc_time, generalized_time, date, Interval, IsIn, Shape, leaf, prefix, list}
 use Rattle.rasn_types.specs.Trees.{unconstrained, signed_range}
 use Rattle.rasn_types.specs.Contents.{Arcs, ShortArcs, IsShortest128, signed, joined_lists}
 use Rattle.rasn_types.specs.Bytes.{DefiniteForm, Bytes, fields_of}
@@ -134,6 +134,37 @@ eleven_bits = (
   where
     few : (bs : List Bool) → bits eleven ≡ bits bs → length bs < 2 ^ 64
     few bs e = let f : length eleven ≡ length bs = cc in omega arith
+
+first_name : IsCarriedAs Der (plain named_bits 3) (bits (true ∷ [])) (3 ∷ 2 ∷ 7 ∷ 128 ∷ [])
+unfolding Bytes fields_of IsWithinLimits
+first_name = (
+  record {
+    octets = 3 ∷ 2 ∷ 7 ∷ 128 ∷ [];
+    is = (
+      (0, tt),
+      (
+        true ∷ [],
+        refl,
+        refl,
+        inl (
+          (λ z. absurd z),
+          7 ∷ 128 ∷ [],
+          record {
+            is = record { octets = 128 ∷ []; unused = false ∷ false ∷ false ∷ false ∷ false ∷ false ∷ false ∷ []; is = refl; few = omega arith; all = refl };
+            zeros = (refl, (refl, (refl, (refl, (refl, (refl, (refl, tt)))))));
+            octets = (omega arith, (omega arith, tt));
+          },
+          short_written 3 false (7 ∷ 128 ∷ []) (omega arith) (omega arith),
+        ),
+      ),
+    );
+    within_limits = λ bs e. (few bs e, λ z. absurd z);
+  },
+  refl,
+)
+  where
+    few : (bs : List Bool) → bits (true ∷ []) ≡ bits bs → length bs < 2 ^ 64
+    few bs e = let f : 1 ≡ length bs = cc in omega arith
 
 day_of : (d e : Day) → on_day d ≡ on_day e → d ≡ e
 day_of d e p = cc
@@ -319,6 +350,7 @@ worked = record {
   nothing = nothing;
   three_arcs = three_arcs;
   eleven_bits = eleven_bits;
+  first_name = first_name;
   last_day = last_day;
   no_bool = no_bool;
   chosen_times = chosen_times;

@@ -8,7 +8,7 @@ use Rattle.rasn_types.specs.Shapes.{Tree, absent, Kind, Shape, leaf, any, prefix
 use Rattle.rasn_types.specs.Shapes.Parts.{none}
 use Rattle.rasn_types.specs.Readings.{Reading, ReadsContents, definite_form, indefinite_form, ReadsOptional, Part, IsNoDefault, ReadsPart, ReadsInOrder, ReadsChoice}
 use Rattle.rasn_types.specs.Contents.{ReadsString, ReadsBitSegment, OctetSegment}
-use Rattle.rasn_types.specs.Grammar.{Family, plain_family, bit_family, text_family, family, ReadsIn, Reads, parts_of}
+use Rattle.rasn_types.specs.Grammar.{Family, plain_family, bit_family, named_family, text_family, family, ReadsIn, Reads, parts_of}
 use Rattle.rasn_de.proofs.Headers.Fronts.{frame_shorter}
 
 no_frame : {A : Type 0} {spelling : Form} {tag : Tag} {bit : Bool} {rest : List ℕ} {x : Extent} → Frame spelling [] tag bit rest x → A
@@ -33,6 +33,7 @@ no_string rule S inner (suc d) tag xs rest (ReadsString.closed_segments c h f m)
 no_leaf : {A : Type 0} (f : Family) (rule : Codec) (kind : Kind) (tag : Tag) (depth : ℕ) (t : Tree) (rest : List ℕ) → ReadsIn f rule kind tag depth [] t rest → A
 no_leaf plain_family rule kind tag depth t rest (bit, c, f, k, m) = no_frame f
 no_leaf bit_family rule kind tag depth t rest (bs, e, n, s) = no_string rule (ReadsBitSegment rule) (in_universal 3) depth tag bs rest s
+no_leaf named_family rule kind tag depth t rest (bs, e, n, s, z) = no_string rule (ReadsBitSegment rule) (in_universal 3) depth tag bs rest s
 no_leaf text_family rule kind tag depth t rest (os, s, x) = no_string rule OctetSegment (in_universal 4) depth tag os rest s
 
 no_whole : {A : Type 0} (rule : Codec) → CompleteEncoding rule [] → A

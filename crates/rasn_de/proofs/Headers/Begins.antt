@@ -10,7 +10,7 @@ use Rattle.rasn_types.specs.Shapes.{Tree, Kind, Shape, leaf, any, prefix, choice
 use Rattle.rasn_types.specs.Shapes.Parts.{none}
 use Rattle.rasn_types.specs.Readings.{Reading, ReadsContents, definite_form, indefinite_form, ReadsChoice}
 use Rattle.rasn_types.specs.Contents.{ReadsString, ReadsBitSegment, OctetSegment}
-use Rattle.rasn_types.specs.Grammar.{Family, plain_family, bit_family, text_family, family, ReadsIn, Reads, parts_of}
+use Rattle.rasn_types.specs.Grammar.{Family, plain_family, bit_family, named_family, text_family, family, ReadsIn, Reads, parts_of}
 use Rattle.rasn_types.proofs.Headers.Frames.{begins_one}
 
 -- the octets begin with some identifier
@@ -36,6 +36,7 @@ module _ (input b rest : List ℕ) (is : input ≡ b ++ rest) where
   leaf_headed : (f : Family) (kind : Kind) (tag : Tag) (depth : ℕ) (t : Tree) → ReadsIn f Der kind tag depth input t rest → IsHeaded b
   leaf_headed plain_family kind tag depth t (bit, c, f, k, m) = (tag, framed (λ h. h) f)
   leaf_headed bit_family kind tag depth t (bs, e, n, s) = string (ReadsBitSegment Der) (in_universal 3) depth tag bs s
+  leaf_headed named_family kind tag depth t (bs, e, n, s, z) = string (ReadsBitSegment Der) (in_universal 3) depth tag bs s
   leaf_headed text_family kind tag depth t (os, s, x) = string OctetSegment (in_universal 4) depth tag os s
 
 headed_text : (text b rest : List ℕ) → CompleteEncoding Der text → text ++ rest ≡ b ++ rest → IsHeaded b

@@ -40,9 +40,11 @@ mod contents;
 mod cow_bits;
 mod default;
 mod enumerated;
+mod extensible;
 mod extension;
 mod fixed_octet_string;
 mod integer;
+mod named_bits;
 mod null;
 mod object_identifier;
 mod octet_string;
@@ -132,6 +134,7 @@ fn error_kind(fault: ParseError) -> DecodeErrorKind
         },
         ParseError::IntegerOverflow { max_width } => Kind::IntegerOverflow { max_width },
         ParseError::InvalidBitString { bits } => Kind::InvalidBitString { bits },
+        ParseError::TrailingZeroBits => Kind::TrailingZeroBits,
         ParseError::SizeConstraintNotSatisfied { size, expected } =>
             Kind::SizeConstraintNotSatisfied {
                 size: Some(size),

@@ -8,7 +8,7 @@ use Rattle.rasn_types.specs.Calendar.{Day, Moment}
 use Rattle.rasn_types.specs.Time.{written_date, written_generalized, written_utc}
 use Rattle.rasn_types.specs.Shapes.{Tree, number, bits, numbers, instant, on_day, Kind, boolean, null, object_identifier, integer, enumerated, octet_string, fixed, numeric, printable, visible, ia5, any_octets, bmp, utf8, utc_time, generalized_time, date}
 use Rattle.rasn_types.specs.Contents.{ShortArcs, signed, IsBool, IsObjectIdentifier, joined_lists, bits_of, is_set}
-use Rattle.rasn_types.specs.Grammar.{Family, plain_family, bit_family, text_family, units}
+use Rattle.rasn_types.specs.Grammar.{Family, plain_family, bit_family, named_family, text_family, units}
 use Rattle.rasn_types.specs.Bytes.{Writing, Each, DefiniteForm, IndefiniteForm, PrimitiveEncoding, ConstructedEncoding, AreCut, AllFalse, WritesString, WrittenBits, WritesText, WritesOctets, Written, WritesIn}
 use Rattle.rasn_types.proofs.Headers.Frames.{split_one}
 use Rattle.rasn_types.proofs.Headers.Digits.{id_shortest_one, length_shortest_one, short_arcs_one, arcs_of, arcs_one}
@@ -266,10 +266,15 @@ str_octets : (rule : Codec) (size : ℕ) (inner tag : Tag) (xs b : List ℕ) →
 str_octets rule size inner tag xs b (inl (s, c, (e, o), d)) = subst AreOctets e o
 str_octets rule size inner tag xs b (inr (c, n, ps, bs, e, cut, each, d)) = subst AreOctets (sym e) (pieces_octets inner ps bs each)
 
+bits_in_once : (rule : Codec) (tag : Tag) (t : Tree) (a b : List ℕ) (k l : List Bool) → t ≡ bits k → WritesString rule WrittenBits 7992 (in_universal 3) tag k a
+    → t ≡ bits l → WritesString rule WrittenBits 7992 (in_universal 3) tag l b → a ≡ b
+bits_in_once rule tag t a b k l e h f i =
+    str_once rule WrittenBits bits_once 7992 (in_universal 3) tag l a b (subst (λ z. WritesString rule WrittenBits 7992 (in_universal 3) tag z a) (bits_one k l (sym e ∙ f)) h) i
+
 pub in_once : (which : Family) (rule : Codec) (kind : Kind) (tag : Tag) → IsWrittenOnce (WritesIn which rule kind tag)
 in_once plain_family rule kind tag t a b (k, h, i) (l, j, m) = definite_one tag _ k l a b i m (contents_once kind t k l h j)
-in_once bit_family rule kind tag t a b (k, e, h) (l, f, i) =
-    str_once rule WrittenBits bits_once 7992 (in_universal 3) tag l a b (subst (λ z. WritesString rule WrittenBits 7992 (in_universal 3) tag z a) (bits_one k l (sym e ∙ f)) h) i
+in_once bit_family rule kind tag t a b (k, e, h) (l, f, i) = bits_in_once rule tag t a b k l e h f i
+in_once named_family rule kind tag t a b (k, e, m, h) (l, f, n, i) = bits_in_once rule tag t a b k l e h f i
 in_once text_family rule kind tag t a b (k, x, h) (l, y, i) =
     let e : k ≡ l = text_once kind t k l x y (str_octets rule 1000 (in_universal 4) tag k a h) (str_octets rule 1000 (in_universal 4) tag l b i) in
     str_once rule WritesOctets octets_once 1000 (in_universal 4) tag l a b (subst (λ z. WritesString rule WritesOctets 1000 (in_universal 4) tag z a) e h) i

@@ -4,7 +4,7 @@ use Rattle.std.proofs.lemmas.List.Sorted.{IsPermutation-sym}
 use Rattle.rasn_types.specs.Tags.{Codec, Der, Tag}
 use Rattle.rasn_types.specs.Shapes.{Tree, number, bits, numbers, instant, on_day, items, set_elements, chosen, absent, Kind, boolean, null, object_identifier, integer, enumerated, octet_string, fixed, numeric, printable, visible, ia5, any_octets, bmp, utf8, utc_time, generalized_time, date, Shape, leaf, any, prefix, choice, option, seq, set, list, set_of, Parts, part, Presence, required, optional, addition, optional_by, default_by}
 use Rattle.rasn_types.specs.Contents.{Contents, joined_lists}
-use Rattle.rasn_types.specs.Grammar.{Family, plain_family, bit_family, text_family, family}
+use Rattle.rasn_types.specs.Grammar.{Family, plain_family, bit_family, named_family, text_family, family}
 use Rattle.rasn_types.specs.Bytes.{Same, Each, ConstructedEncoding, WritesIn, WritesText, WritesPart, PartsWritten, WritesChoice, AreAscending, IsLess, Bytes, fields_of}
 use Rattle.rasn_types.proofs.SetOf.Same.{items_one, same_sym, same_trans, same_each, each_moved}
 use Rattle.rasn_types.proofs.Encoding.Determined.{numbers_one, cons_one, in_once}
@@ -48,6 +48,7 @@ text_flat kind l t h = absurd h
 pub in_flat : (which : Family) (rule : Codec) (kind : Kind) (tag : Tag) (t : Tree) (b : List ℕ) → WritesIn which rule kind tag t b → IsFlat t
 in_flat plain_family rule kind tag t b h = contents_flat Der kind h.0 t h.1.is
 in_flat bit_family rule kind tag t b h = flat_if t (bits h.0) h.1 tt
+in_flat named_family rule kind tag t b h = flat_if t (bits h.0) h.1 tt
 in_flat text_family rule kind tag t b h = text_flat kind h.0 t h.1
 
 pub flat_same : (t : Tree) → IsFlat t → Same t t

@@ -92,6 +92,8 @@ pub enum DecodeErrorKind {
     InvalidBitString {
         bits: u8,
     },
+    /// Named bits end in a 0 bit under canonical rules (X.690 11.2.2).
+    TrailingZeroBits,
     /// The size violates its constraint. It is in octets, characters, units, bits or elements,
     /// depending on the type.
     SizeConstraintNotSatisfied {

@@ -85,6 +85,7 @@ impl fmt::Display for DecodeErrorKind {
                 after(f, "no enumeration item has the number ", discriminant)
             }
             Kind::InvalidBitString { bits } => after(f, "invalid number of unused bits: ", bits),
+            Kind::TrailingZeroBits => f.write_str("named bits end in a 0 bit"),
             Kind::SizeConstraintNotSatisfied { size, expected } => write_size(f, *size, expected),
             Kind::ValueConstraintNotSatisfied { value, expected } => {
                 outside(f, "number ", value, expected)

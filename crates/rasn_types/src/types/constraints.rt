@@ -1,10 +1,10 @@
 //! Constraints on values and on sizes (X.680 51).
-ghost use Rattle.std.specs.Prelude.{◌≡◌, ◌^◌, ◌<◌, ◌≤◌, ◌≤ℤ◌, ◌<ℤ◌, length, ℤ, pos, neg_ℤ};
+ghost use Rattle.std.specs.Prelude.{◌≡◌, ◌^◌, ◌<◌, ◌≤◌, ◌≤ℤ◌, ◌<ℤ◌, ◌+◌, length, ℕ, ℤ, pos, neg_ℤ};
 ghost use Rattle.std.specs.Fmt.{DisplaysOnOk};
 ghost use Rattle.rasn_types.specs.Text.{shown_end};
 ghost use Rattle.rasn_types.specs.Truth.{IsWhether};
 ghost use Rattle.rasn_types.specs.Contents.{signed};
-ghost use Rattle.rasn_types.specs.Shapes.{Admits, IsIn, IsWithin, constraint_of};
+ghost use Rattle.rasn_types.specs.Shapes.{Admits, AdmitsPadded, IsIn, IsWithin, constraint_of};
 ghost use Rattle.rasn_types.specs.Trees.{signed_range};
 
 use crate::types::twos_complement::signed_i128;
@@ -87,6 +87,17 @@ impl Constraints {
         }
     }
 
+    /// Returns whether a size, or one that is larger, meets its constraint. It is the constraint of
+    /// named bits, which may have any number of trailing 0 bits (X.680 22.7, X.690 11.2.2).
+    pub fn admits_padded_size(&self, size: usize) -> bool
+        ensures { IsWhether result (AdmitsPadded self.now.size size) }
+    {
+        match self.size {
+            None => true,
+            Some(bound) => bound.extensible || is_padded_size_within(bound.constraint, size),
+        }
+    }
+
     /// Returns whether the whole number that octets represent in two's complement (X.690 8.3) meets
     /// its constraint. Every number does if there is no constraint or it is extensible.
     #[inline(always)]
@@ -124,6 +135,19 @@ fn is_size_within(bounded: Bounded<usize>, size: usize) -> bool
         Bounded::Range { start, end } => {
             start.is_none_or(|low| low <= size) && end.is_none_or(|high| size <= high)
         }
+    }
+}
+
+fn is_padded_size_within(bounded: Bounded<usize>, size: usize) -> bool
+    ensures { IsWhether result ((more : ℕ) × IsWithin ◌≤◌ bounded (size + more)) }
+{
+    match bounded {
+        Bounded::None => true,
+        Bounded::Single(only) => size <= only,
+        Bounded::Range { start, end } => match end {
+            None => true,
+            Some(high) => size <= high && start.unwrap_or(0) <= high,
+        },
     }
 }
 

@@ -1,7 +1,8 @@
 //! Types whose `==` is determined by what their values mean.
 use crate::types::{
-    AsnType, BitString, BmpString, Date, Explicit, FixedOctetString, GeneralizedTime, Implicit,
-    Integer, ObjectIdentifier, OctetString, RestrictedString, StringType, UtcTime,
+    AsnType, BitString, BmpString, Date, Enumerated, Explicit, Extensible, FixedOctetString,
+    GeneralizedTime, Implicit, Integer, NamedBits, ObjectIdentifier, OctetString, RestrictedString,
+    StringType, UtcTime,
 };
 
 /// A type whose values are equal exactly if they mean the same.
@@ -245,6 +246,30 @@ impl Present for BitString {
     ghost use Rattle.rasn_types.specs.Equality.{bits_not_absent};
 
     ghost present = { bits_not_absent };
+}
+
+impl<E: Enumerated> LawfulEq for Extensible<E> {
+    ghost use Rattle.rasn_types.specs.Equality.{signed_decided};
+
+    ghost decides = { signed_decided };
+}
+
+impl<E: Enumerated> Present for Extensible<E> {
+    ghost use Rattle.rasn_types.specs.Equality.{number_not_absent};
+
+    ghost present = { number_not_absent };
+}
+
+impl LawfulEq for NamedBits {
+    ghost use Rattle.rasn_types.specs.NamedBits.{named_bits_decided};
+
+    ghost decides = { named_bits_decided };
+}
+
+impl Present for NamedBits {
+    ghost use Rattle.rasn_types.specs.NamedBits.{named_bits_not_absent};
+
+    ghost present = { named_bits_not_absent };
 }
 
 impl LawfulEq for OctetString {

@@ -43,6 +43,7 @@ pub enum ParseError {
     InvalidBitString {
         bits: u8,
     },
+    TrailingZeroBits,
     SizeConstraintNotSatisfied {
         size: usize,
         expected: Bounded<usize>,

@@ -4,17 +4,17 @@ ghost use Rattle.std.specs.Prelude.{◌≡◌};
 ghost use Rattle.rasn_pki.specs.X509.Extensions.Usage.{is_named};
 
 use rasn::error::{DecodeError, EncodeError};
-use rasn::types::{AsnType, BitString, Constraints, Identifier, LawfulEq, Present, Tag};
+use rasn::types::{AsnType, Constraints, Identifier, LawfulEq, NamedBits, Present, Tag};
 use rasn::{Decode, Decoder, Encode, Encoder};
 
 /// BIT STRING { digitalSignature (0), nonRepudiation (1), keyEncipherment (2), dataEncipherment
 /// (3), keyAgreement (4), keyCertSign (5), cRLSign (6), encipherOnly (7), decipherOnly (8) }: the
-/// uses of the key. A missing bit is 0. Trailing zeros are kept as they are read, although DER has
-/// none in a list of named bits (X.690 11.2.2).
+/// uses of the key. A missing bit is 0. The bits have names, so DER has no trailing zeros
+/// (X.690 11.2.2).
 #[derive(Debug, PartialEq, Eq, Drop)]
 pub struct KeyUsage {
-    /// The bits, as they are read.
-    pub bits: BitString,
+    /// The bits up to the last that is 1.
+    pub bits: NamedBits,
 }
 
 impl KeyUsage {
@@ -22,10 +22,7 @@ impl KeyUsage {
     fn names(&self, place: usize) -> bool
         ensures { result ≡ is_named place self.now }
     {
-        match self.bits.get(place) {
-            Some(bit) => bit,
-            None => false,
-        }
+        self.bits.is_set(place)
     }
 
     /// Returns whether the key is for signatures on data other than certificates and revocation
@@ -116,15 +113,15 @@ impl AsnType for KeyUsage {
 }
 
 impl LawfulEq for KeyUsage {
-    ghost use Rattle.rasn_types.specs.Equality.{bits_decided};
+    ghost use Rattle.rasn_types.specs.NamedBits.{named_bits_decided};
 
-    ghost decides = { λ a b. bits_decided a.bits b.bits };
+    ghost decides = { λ a b. named_bits_decided a.bits b.bits };
 }
 
 impl Present for KeyUsage {
-    ghost use Rattle.rasn_types.specs.Equality.{bits_not_absent};
+    ghost use Rattle.rasn_types.specs.NamedBits.{named_bits_not_absent};
 
-    ghost present = { λ usage. bits_not_absent usage.bits };
+    ghost present = { λ usage. named_bits_not_absent usage.bits };
 }
 
 impl Decode for KeyUsage {
@@ -133,7 +130,7 @@ impl Decode for KeyUsage {
         tag: Tag,
         constraints: &Constraints,
     ) -> Result<KeyUsage, DecodeError> {
-        let bits = BitString::decode_with_tag_and_constraints(decoder, tag, constraints)?;
+        let bits = NamedBits::decode_with_tag_and_constraints(decoder, tag, constraints)?;
         Ok(KeyUsage { bits })
     }
 }

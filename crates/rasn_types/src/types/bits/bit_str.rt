@@ -4,7 +4,7 @@ ghost use Rattle.std.specs.Bool.{beq};
 ghost use Rattle.std.specs.Cmp.Lexicographic.{pointwise};
 ghost use Rattle.rasn_types.specs.Framing.{AreOctets};
 ghost use Rattle.rasn_types.specs.Options.{IsSomeExactlyIf};
-ghost use Rattle.rasn_types.specs.BitString.{bits_from, Pushes};
+ghost use Rattle.rasn_types.specs.BitString.{bits_from, significant, Pushes};
 
 use crate::types::bits::BitIter;
 use crate::types::bits::packing::{clear_last, octets_for, push_shifted, unused_by};
@@ -146,6 +146,20 @@ impl<'a> BitStr<'a> {
             len: self.len - place,
         };
         (front, back)
+    }
+
+    /// Returns the number of bits up to the last that is 1.
+    pub fn significant_len(&self) -> usize
+        ensures { result ≡ length (significant self.now) }
+    {
+        let mut len = self.len();
+        while len > 0 {
+            if self.bit(len - 1) {
+                return len;
+            }
+            len -= 1;
+        }
+        len
     }
 
     /// Returns the number of bits of the last octet that are unused if the bits are packed from the

@@ -1,0 +1,30 @@
+-- A BIT STRING whose bits have names, read from one whose bits have none.
+use Rattle.std.specs.Prelude.{◌≡◌, ◌≢◌, ◌⊎◌, Bool, List, length, Result, Ok, Err}
+use Rattle.rasn_types.specs.declared.types.tag.Tag.{Tag}
+use Rattle.rasn_types.specs.declared.types.codec.Codec.{Codec}
+use Rattle.rasn_types.specs.declared.types.constraints.Constraints.{Constraints}
+use Rattle.rasn_types.specs.declared.error.decode.DecodeError.{DecodeError}
+use Rattle.rasn_types.specs.Tags.{IsCanonical}
+use Rattle.rasn_types.specs.Shapes.{AdmitsPadded, constraint_of}
+use Rattle.rasn_types.specs.BitString.{significant}
+use Rattle.rasn_types.specs.Trees.{unconstrained}
+use Rattle.rasn_de.specs.declared.ber.de.parser.ParseError.{ParseError}
+use Rattle.rasn_de.specs.declared.ber.de.parser.ParseError.TheVariants.{TrailingZeroBits, SizeConstraintNotSatisfied}
+use Rattle.rasn_de.specs.BitString.{DecodesBitString}
+use Rattle.rasn_de.specs.State.{State}
+use Rattle.rasn_de.specs.Steps.{IsErrorOf}
+
+-- What bits that were read are as named bits. Canonical rules refuse trailing 0 bits (X.690 11.2.2), before the size is
+-- looked at.
+abbrev pub NamesBits : Codec → Constraints → List Bool → Result (List Bool) ParseError → Type 0
+NamesBits rule bounds read (Ok bs) = (IsCanonical rule → significant read ≡ read) × (bs ≡ significant read) × AdmitsPadded bounds.size (length (significant read))
+NamesBits rule bounds read (Err f) =
+    (IsCanonical rule × (significant read ≢ read) × (f ≡ TrailingZeroBits))
+    ⊎ ((IsCanonical rule → significant read ≡ read) × (AdmitsPadded bounds.size (length (significant read)) → ⊥) × (f ≡ SizeConstraintNotSatisfied (length (significant read)) (constraint_of bounds.size)))
+
+-- A call reads bits of any number, and returns what they are as named bits. If they are refused, the value is consumed.
+abbrev pub DecodesNamedBits : Tag → Constraints → State → Result (List Bool) DecodeError → State → Type 0
+DecodesNamedBits tag bounds old (Ok bs) new = (read : List Bool) × DecodesBitString tag unconstrained old (Ok read) new × NamesBits old.rule bounds read (Ok bs)
+DecodesNamedBits tag bounds old (Err e) new =
+    DecodesBitString tag unconstrained old (Err e) new
+    ⊎ ((read : List Bool) × (f : ParseError) × DecodesBitString tag unconstrained old (Ok read) new × NamesBits old.rule bounds read (Err f) × IsErrorOf f new e)
