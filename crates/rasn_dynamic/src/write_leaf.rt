@@ -48,7 +48,14 @@ pub fn encode_leaf(
         ),
         Value::Null => ().encode_with_tag_and_constraints(encoder, tag, constraints, name),
         Value::Integer(held) => encoder.encode_integer::<Integer>(tag, constraints, held, name),
-        Value::Bits(held) => encoder.encode_bit_string(tag, constraints, &held.as_bitstr(), name),
+        Value::Bits(held) => {
+            let bits = held.as_bitstr();
+            if matches!(kind, LeafKind::NamedBits) {
+                encoder.encode_named_bits(tag, constraints, &bits, name)
+            } else {
+                encoder.encode_bit_string(tag, constraints, &bits, name)
+            }
+        }
         Value::Octets(held) => {
             encoder.encode_octet_string(tag, constraints, held.as_slice(), name)
         }

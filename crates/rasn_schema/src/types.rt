@@ -17,6 +17,8 @@ pub enum LeafKind {
     ObjectIdentifier,
     /// A BIT STRING (X.690 8.6).
     BitString,
+    /// A BIT STRING whose bits have names: trailing 0 bits don't count (X.680 22.7).
+    NamedBits,
     /// An OCTET STRING (X.690 8.7).
     OctetString,
     /// An OCTET STRING of so many octets.
