@@ -23,11 +23,11 @@ returns-in-Ok c =
     (ap cow_bits c.into_significant.ensures ∙ significant_bits b)
     (subst (λ (x : CowBits). AreBorrowedIfPrimitive c.args.self.now.rule c.args.tag c.args.self.now.rest x) (sym c.into_significant.ensures) (borrowed_as c.args.self.now.rule c.args.tag c.args.self.now.rest b h.1))
 
-pub returns-in-Err : goal.returns-in-Err
-returns-in-Err c =
+pub returns : goal.returns
+returns c =
     let b = c.in_ok-bits.bits in
     let h = c.in_ok-bits.ensures.exact in
     let n = subst (λ (l : List Bool). AreNamedBits c.args.self.now.rule c.args.constraints.now l (Err c.in-Err.fault)) c.as_bitstr.ensures (rw c.codec-rules.ensures at c.in-Err.ensures) in
     significant_refused c.args.tag c.args.constraints.now c.args.self.now _ c.error.result
     (named_refused c.args.tag c.args.constraints.now c.args.self.now _ (cow_bits b) c.in_ok-bits.ensures.reads h.0 c.in-Err.fault c.error.result n c.error.ensures)
-    (λ p m. named_memory c.args.self.now.rule c.args.constraints.now (cow_bits b) c.in-Err.fault _ c.error.result n c.error.ensures m)
+    (λ p m. named_memory c.args.self.now.rule c.args.constraints.now (cow_bits b) c.in-Err.fault c.decode_bits.new.self c.error.result n c.error.ensures m)
