@@ -4,7 +4,7 @@ use crate::lexer::tokens;
 use crate::modules::Source;
 use crate::parser::Parser;
 use crate::position::Position;
-use crate::resolver::node::Unfolded;
+use crate::resolver::node::{Place, Unfolded};
 use crate::resolver::shape::Resolver;
 use crate::tree::{NamedNumber, Unread, Value};
 use rasn_types::types::{Bound, Bounded, Constraints};
@@ -57,16 +57,15 @@ fn eat_marker(parser: &mut Parser<'_, '_>) -> bool {
 impl<'modules, 'text> Resolver<'modules, 'text> {
     /// Returns the bounds of an INTEGER's values.
     pub(crate) fn value_bounds(
-        self,
+        &mut self,
         unfolded: &Unfolded<'text>,
         names: &[NamedNumber<'text>],
-        unchecked: &mut usize,
     ) -> Result<Constraints, Stop<'text>> {
         let mut range = None;
-        for (module, constraint) in unfolded.constraints.iter().rev() {
-            match self.constraint(*module, *constraint, names, unfolded.module, false)? {
+        for (place, constraint) in unfolded.constraints.iter().rev() {
+            match self.constraint(*place, *constraint, names, unfolded.place, false)? {
                 Some(found) => range = Some(found.within(range)),
-                None => *unchecked = unchecked.saturating_add(1),
+                None => self.count_unchecked(1),
             }
         }
         Ok(Constraints {
@@ -77,17 +76,16 @@ impl<'modules, 'text> Resolver<'modules, 'text> {
 
     /// Returns the bounds of sizes. One of them is before OF.
     pub(crate) fn size_bounds(
-        self,
+        &mut self,
         unfolded: &Unfolded<'text>,
         before_of: Option<Unread<'text>>,
-        unchecked: &mut usize,
     ) -> Result<Constraints, Stop<'text>> {
         let mut range = None;
         if let Some(constraint) = before_of {
-            range = self.size_within(unfolded.module, constraint, range, unchecked)?;
+            range = self.size_within(unfolded.place, constraint, range)?;
         }
-        for (module, constraint) in unfolded.constraints.iter().rev() {
-            range = self.size_within(*module, *constraint, range, unchecked)?;
+        for (place, constraint) in unfolded.constraints.iter().rev() {
+            range = self.size_within(*place, *constraint, range)?;
         }
         Ok(Constraints {
             value: None,
@@ -97,16 +95,15 @@ impl<'modules, 'text> Resolver<'modules, 'text> {
 
     /// Returns what a constraint leaves of sizes.
     fn size_within(
-        self,
-        module: usize,
+        &mut self,
+        place: Place,
         constraint: Unread<'text>,
         known: Option<Range>,
-        unchecked: &mut usize,
     ) -> Result<Option<Range>, Stop<'text>> {
-        match self.constraint(module, constraint, &[], module, true)? {
+        match self.constraint(place, constraint, &[], place, true)? {
             Some(found) => Ok(Some(found.within(known))),
             None => {
-                *unchecked = unchecked.saturating_add(1);
+                self.count_unchecked(1);
                 Ok(known)
             }
         }
@@ -114,11 +111,11 @@ impl<'modules, 'text> Resolver<'modules, 'text> {
 
     /// Returns the range of a constraint, if it is a single one.
     fn constraint(
-        self,
-        module: usize,
+        &mut self,
+        place: Place,
         constraint: Unread<'text>,
         names: &[NamedNumber<'text>],
-        home: usize,
+        home: Place,
         is_size: bool,
     ) -> Result<Option<Range>, Stop<'text>> {
         let items = tokens(self.alloc, constraint.text, constraint.position)?;
@@ -135,7 +132,7 @@ impl<'modules, 'text> Resolver<'modules, 'text> {
         if is_size && !(parser.eat("SIZE") && parser.eat("(")) {
             return Ok(None);
         }
-        match self.range(&mut parser, module, names, home)? {
+        match self.range(&mut parser, place, names, home)? {
             Some(range) => Ok(range.ended(&mut parser, is_size)),
             None => Ok(None),
         }
@@ -143,24 +140,24 @@ impl<'modules, 'text> Resolver<'modules, 'text> {
 
     /// Reads a value or a range of values (X.680 51.2, 51.4).
     fn range(
-        self,
+        &mut self,
         parser: &mut Parser<'_, 'text>,
-        module: usize,
+        place: Place,
         names: &[NamedNumber<'text>],
-        home: usize,
+        home: Place,
     ) -> Result<Option<Range>, Stop<'text>> {
         let position = parser.position();
         let Some(low) = read_end(parser, "MIN") else {
             return Ok(None);
         };
-        let low = self.bound(module, low, names, home, position)?;
+        let low = self.end_number(place, low, names, home, position)?;
         if !parser.eat("..") {
             return Ok(single(low));
         }
         let Some(high) = read_end(parser, "MAX") else {
             return Ok(None);
         };
-        let high = self.bound(module, high, names, home, position)?;
+        let high = self.end_number(place, high, names, home, position)?;
         Ok(Some(Range {
             low,
             high,
@@ -169,18 +166,18 @@ impl<'modules, 'text> Resolver<'modules, 'text> {
     }
 
     /// Returns the number at an end of a range.
-    fn bound(
-        self,
-        module: usize,
+    fn end_number(
+        &mut self,
+        place: Place,
         end: End<'text>,
         names: &[NamedNumber<'text>],
-        home: usize,
+        home: Place,
         position: Position,
     ) -> Result<Option<i128>, Stop<'text>> {
         match end {
             End::Open => Ok(None),
             End::At(value) => {
-                let number = self.modules.number(module, value, names, home, position)?;
+                let number = self.number(place, value, names, home, position)?;
                 Ok(Some(number))
             }
         }

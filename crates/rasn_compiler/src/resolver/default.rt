@@ -3,8 +3,9 @@ use crate::fault::{Problem, Stop};
 use crate::position::Position;
 use crate::resolver::digits::{Digits, read_digits};
 use crate::resolver::lookup::MAX_NAMES;
+use crate::resolver::node::Place;
 use crate::resolver::shape::Resolver;
-use crate::tree::{Assigned, Base, Builtin, TypeIndex, Value as Written};
+use crate::tree::{Assigned, Base, Builtin, Given, TypeIndex, Value as Written};
 use rasn_schema::{NamedNumber, Value, index_named};
 use rasn_types::types::{BitString, CowBits, Integer};
 use std::alloc::{AllocError, Global};
@@ -13,90 +14,97 @@ use std::borrow::{CowSlice, CowStr};
 impl<'modules, 'text> Resolver<'modules, 'text> {
     /// Returns the value of a component that is absent.
     pub(crate) fn default_value(
-        self,
-        module: usize,
+        &mut self,
+        place: Place,
         of: TypeIndex,
         written: Written<'text>,
     ) -> Result<Value<'static>, Stop<'text>> {
-        let position = self.modules.type_at(module, of.0)?.position;
-        let (at, end) = self.modules.end_of(module, of.0, position)?;
-        match &self.modules.type_at(at, end)?.base {
+        let modules = self.modules;
+        let position = modules.type_at(place.module, of.0)?.position;
+        let (at, end) = self.end_of(place, of.0, position)?;
+        match &modules.type_at(at.module, end)?.base {
             Base::Integer(names) => {
                 let names = names.as_slice();
-                let number = self.modules.number(module, written, names, at, position)?;
+                let number = self.number(place, written, names, at, position)?;
                 self.number_default(number)
             }
             Base::Enumerated(names) => {
                 let numbers = self.enumeration(at, names.as_slice(), position)?;
                 match number_of(numbers.as_slice(), written) {
                     Some(number) => self.number_default(number as i128),
-                    None => Err(self.unsupported(module, position)),
+                    None => Err(self.unsupported(place, position)),
                 }
             }
-            base => self.other_default(module, base, written, position),
+            base => self.other_default(place, base, written, position),
         }
     }
 
     /// Returns a number as a value.
-    fn number_default(self, number: i128) -> Result<Value<'static>, Stop<'text>> {
+    fn number_default(&self, number: i128) -> Result<Value<'static>, Stop<'text>> {
         Ok(Value::Integer(Integer::from_i128(self.alloc, number)?))
     }
 
     /// Returns the value of a component of another type.
     fn other_default(
-        self,
-        module: usize,
+        &mut self,
+        place: Place,
         base: &Base<'text>,
         written: Written<'text>,
         position: Position,
     ) -> Result<Value<'static>, Stop<'text>> {
-        let value = self.value_meant(module, written, position)?;
+        let value = self.value_meant(place, written, position)?;
         match plain_default(self.alloc, base, value)? {
             Some(value) => Ok(value),
-            None => Err(self.unsupported(module, position)),
+            None => Err(self.unsupported(place, position)),
         }
     }
 
     /// Returns the fault of a default value that a schema can't carry.
-    fn unsupported(self, module: usize, position: Position) -> Stop<'text> {
+    fn unsupported(&self, place: Place, position: Position) -> Stop<'text> {
         let problem = Problem::Unsupported("such a default value");
-        self.modules.fault(module, position, problem)
+        self.modules.fault(place.module, position, problem)
     }
 
     /// Returns the value that a name means.
     fn value_meant(
-        self,
-        module: usize,
+        &mut self,
+        place: Place,
         written: Written<'text>,
         position: Position,
     ) -> Result<Written<'text>, Stop<'text>> {
-        let mut at = module;
+        let mut at = place;
         let mut value = written;
         for _ in 0..MAX_NAMES {
-            let Written::Name {
-                module: outside,
-                name,
-            } = value
-            else {
+            let Written::Name { module, name } = value else {
                 return Ok(value);
             };
-            let (found, assignment) = self.modules.meaning(at, outside, name, position)?;
-            let Assigned::Value { value: next, .. } = assignment.assigned else {
-                return Err(
-                    self.modules
-                        .fault(module, position, Problem::Expected("a value")),
-                );
-            };
-            at = found;
-            value = next;
+            (at, value) = self.value_named(at, module, name, position)?;
         }
-        Err(
-            self.modules.fault(
-                module,
-                position,
-                Problem::Unsupported("a value of so many names"),
-            ),
-        )
+        let problem = Problem::Unsupported("a value of so many names");
+        Err(self.modules.fault(place.module, position, problem))
+    }
+
+    /// Returns what the name of a value means, with its place.
+    fn value_named(
+        &self,
+        place: Place,
+        outside: Option<&'text str>,
+        name: &'text str,
+        position: Position,
+    ) -> Result<(Place, Written<'text>), Stop<'text>> {
+        if outside.is_none() {
+            if let Some(bound) = self.bound(place, name) {
+                return match bound.given {
+                    Given::Value(value) => Ok((bound.place, value)),
+                    _ => Err(self.expected(place, position, "a value")),
+                };
+            }
+        }
+        let (module, assignment) = self.modules.meaning(place.module, outside, name, position)?;
+        match assignment.assigned {
+            Assigned::Value { value, .. } => Ok((Place::of(module), value)),
+            _ => Err(self.expected(place, position, "a value")),
+        }
     }
 }
 
