@@ -94,7 +94,8 @@ impl<'tokens, 'text> Parser<'tokens, 'text> {
         if self.eat("OPTIONAL") {
             Ok(Presence::Optional)
         } else if self.eat("DEFAULT") {
-            Ok(Presence::Default(self.value()?))
+            let position = self.position();
+            Ok(Presence::Default(self.value()?, position))
         } else {
             Ok(Presence::Required)
         }

@@ -25,6 +25,7 @@ mod schema_fault;
 mod scope;
 mod shape;
 mod unfold;
+mod value;
 
 use crate::fault::Stop;
 use crate::modules::Modules;

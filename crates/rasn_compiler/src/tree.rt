@@ -276,7 +276,8 @@ pub enum Component<'text> {
 pub enum Presence<'text> {
     Required,
     Optional,
-    Default(Value<'text>),
+    /// DEFAULT, with the place of the value.
+    Default(Value<'text>, Position),
 }
 
 /// A value (X.680 17.7).

@@ -1,7 +1,6 @@
 //! Constraints that a schema checks: a single range of values or of sizes (X.680 51.4, 51.5).
 use crate::fault::Stop;
 use crate::lexer::tokens;
-use crate::modules::Source;
 use crate::parser::Parser;
 use crate::position::Position;
 use crate::resolver::node::{Place, Unfolded};
@@ -28,6 +27,19 @@ impl Range {
                 is_extensible: false,
             },
             _ => self,
+        }
+    }
+
+    /// Returns the rule that the range breaks.
+    fn broken(self, is_size: bool) -> Option<&'static str> {
+        if is_size && self.low.unwrap_or(0) < 0 {
+            return Some("a size below 0 (X.680 51.5)");
+        }
+        match (self.low, self.high) {
+            (Some(low), Some(high)) if low > high => {
+                Some("a range whose end is before its start (X.680 51.4)")
+            }
+            _ => None,
         }
     }
 
@@ -119,23 +131,16 @@ impl<'modules, 'text> Resolver<'modules, 'text> {
         is_size: bool,
     ) -> Result<Option<Range>, Stop<'text>> {
         let items = tokens(self.alloc, constraint.text, constraint.position)?;
-        let mut parser = Parser {
-            alloc: self.alloc,
-            source: Source {
-                name: "",
-                text: constraint.text,
-            },
-            rest: items.as_slice(),
-            end: constraint.position,
-            types: Vec::new(self.alloc),
-        };
+        let mut parser = self.parser(place, constraint, items.as_slice());
         if is_size && !(parser.eat("SIZE") && parser.eat("(")) {
             return Ok(None);
         }
-        match self.range(&mut parser, place, names, home)? {
-            Some(range) => Ok(range.ended(&mut parser, is_size)),
-            None => Ok(None),
-        }
+        let position = parser.position();
+        let Some(range) = self.range(&mut parser, place, names, home)? else {
+            return Ok(None);
+        };
+        self.broken_if(place, position, range.broken(is_size))?;
+        Ok(range.ended(&mut parser, is_size))
     }
 
     /// Reads a value or a range of values (X.680 51.2, 51.4).
@@ -146,18 +151,19 @@ impl<'modules, 'text> Resolver<'modules, 'text> {
         names: &[NamedNumber<'text>],
         home: Place,
     ) -> Result<Option<Range>, Stop<'text>> {
-        let position = parser.position();
+        let start = parser.position();
         let Some(low) = read_end(parser, "MIN") else {
             return Ok(None);
         };
-        let low = self.end_number(place, low, names, home, position)?;
+        let low = self.end_number(place, low, names, home, start)?;
         if !parser.eat("..") {
             return Ok(single(low));
         }
+        let end = parser.position();
         let Some(high) = read_end(parser, "MAX") else {
             return Ok(None);
         };
-        let high = self.end_number(place, high, names, home, position)?;
+        let high = self.end_number(place, high, names, home, end)?;
         Ok(Some(Range {
             low,
             high,

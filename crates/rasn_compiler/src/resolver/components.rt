@@ -218,7 +218,10 @@ impl<'modules, 'text> Resolver<'modules, 'text> {
             Written::Required if is_addition => Ok(Presence::Optional),
             Written::Required => Ok(Presence::Required),
             Written::Optional => Ok(Presence::Optional),
-            Written::Default(value) => Ok(Presence::Default(self.default_value(place, of, value)?)),
+            Written::Default(value, position) => {
+                let value = self.default_value(place, of, value, position)?;
+                Ok(Presence::Default(value))
+            }
         }
     }
 }

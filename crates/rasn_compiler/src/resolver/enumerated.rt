@@ -46,6 +46,8 @@ impl<'modules, 'text> Resolver<'modules, 'text> {
         names: &[NamedNumber<'text>],
         position: Position,
     ) -> Result<Vec<Numbered>, Stop<'text>> {
+        self.check_names(place, names)?;
+        let mut used = BTreeSet::new(self.alloc);
         let mut numbers = Vec::new(self.alloc);
         for named in names {
             let (Some(name), Some(value)) = (named.name, named.number) else {
@@ -53,6 +55,11 @@ impl<'modules, 'text> Resolver<'modules, 'text> {
                 return Err(self.modules.fault(place.module, position, problem));
             };
             let number = self.enumerated_number(place, value, named.position)?;
+            if used.contains(&number) {
+                let rule = "two of the numbers are the same (X.680 19)";
+                self.broken_if(place, named.position, Some(rule))?;
+            }
+            used.insert(number)?;
             numbers.push(Numbered {
                 name: String::from_str(self.alloc, name)?,
                 number,
@@ -69,7 +76,9 @@ impl<'modules, 'text> Resolver<'modules, 'text> {
         names: &[NamedNumber<'text>],
         position: Position,
     ) -> Result<Vec<Numbered>, Stop<'text>> {
+        self.check_names(place, names)?;
         let root = root_length(names);
+        self.broken_if(place, position, misplaced_marker(names, root))?;
         let used = self.written_numbers(place, names.get(..root).unwrap_or(&[]))?;
         let mut found = Enumeration {
             numbers: Vec::new(self.alloc),
@@ -91,6 +100,21 @@ impl<'modules, 'text> Resolver<'modules, 'text> {
             return Err(self.modules.fault(place.module, position, problem));
         }
         Ok(numbers)
+    }
+
+    /// Refuses a name that is twice in a list (X.680 19, 20).
+    fn check_names(&self, place: Place, names: &[NamedNumber<'text>]) -> Result<(), Stop<'text>> {
+        let mut seen = BTreeSet::new(self.alloc);
+        for named in names {
+            if let Some(name) = named.name {
+                if seen.contains(&name) {
+                    let rule = "two names are the same (X.680 19, 20)";
+                    self.broken_if(place, named.position, Some(rule))?;
+                }
+                seen.insert(name)?;
+            }
+        }
+        Ok(())
     }
 
     /// Returns the numbers that are written in an enumeration.
@@ -136,6 +160,21 @@ impl<'modules, 'text> Resolver<'modules, 'text> {
             }
         }
     }
+}
+
+/// Returns the rule that the markers of an ENUMERATED break. So many names are before the first.
+fn misplaced_marker(names: &[NamedNumber<'_>], root: usize) -> Option<&'static str> {
+    if names.is_empty() {
+        return None;
+    }
+    if root == 0 {
+        return Some("an ENUMERATED that begins with the marker (X.680 20.1)");
+    }
+    let rest = names.get(root.saturating_add(1)..).unwrap_or(&[]);
+    if rest.iter().any(|named| named.name.is_none()) {
+        return Some("an ENUMERATED with two markers (X.680 20.1)");
+    }
+    None
 }
 
 /// Returns how many names are before the marker.

@@ -100,6 +100,18 @@ impl<'modules, 'text> Resolver<'modules, 'text> {
         Ok((inner, index))
     }
 
+    /// Returns the type of the values of INSTANCE OF a class (X.681 C).
+    pub(crate) fn instance_of(
+        &mut self,
+        place: Place,
+        class: &'text str,
+        position: Position,
+    ) -> Result<Next<'text>, Stop<'text>> {
+        let (at, index) = self.class_meant(place, None, class, &[], position)?;
+        self.class_of(at, index, position)?;
+        self.given_type("InstanceOf", "INSTANCE OF")
+    }
+
     /// Returns the type of the alternative of this name (X.680 30).
     pub(crate) fn selected(
         &mut self,
@@ -168,8 +180,8 @@ impl<'modules, 'text> Resolver<'modules, 'text> {
     /// Returns a type that is given to every module.
     pub(crate) fn given_type(
         &mut self,
-        name: &'static str,
-        shown: &'static str,
+        name: &'text str,
+        shown: &'text str,
     ) -> Result<Next<'text>, Stop<'text>> {
         let place = Place::of(self.modules.modules.len());
         let next = self.type_meant(place, None, name, &[], Position::START)?;

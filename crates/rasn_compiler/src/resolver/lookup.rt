@@ -1,7 +1,7 @@
 //! What names mean (X.680 13.12 to 13.16).
 use crate::fault::{Fault, Problem, Stop};
 use crate::given::is_given;
-use crate::modules::Modules;
+use crate::modules::{Modules, Source};
 use crate::position::Position;
 use crate::tree::{Assignment, Meaning, Module, Type};
 
@@ -25,6 +25,15 @@ impl<'text> Modules<'text> {
             position,
             problem,
         })
+    }
+
+    /// Returns the source of a part of a module's text.
+    pub(crate) fn source_of(&self, module: usize, text: &'text str) -> Source<'text> {
+        let name = match self.module_at(module) {
+            Some(found) => found.source,
+            None => "",
+        };
+        Source { name, text }
     }
 
     /// Returns a type of a module.

@@ -46,7 +46,7 @@ impl<'modules, 'text> Resolver<'modules, 'text> {
                 Ok(Some(next))
             }
             Base::Builtin(Builtin::External) => Ok(Some(self.given_type("External", "EXTERNAL")?)),
-            Base::InstanceOf(_) => Ok(Some(self.given_type("InstanceOf", "INSTANCE OF")?)),
+            Base::InstanceOf(class) => Ok(Some(self.instance_of(place, class, ty.position)?)),
             Base::Selection { name, of } => {
                 Ok(Some(self.selected(place, name, of.0, ty.position)?))
             }
@@ -57,7 +57,7 @@ impl<'modules, 'text> Resolver<'modules, 'text> {
         }
     }
 
-    /// Returns the type that a name means (X.680 16.3), or that a parameter of this name is given (X.683 9.6).
+    /// Returns the type that a name means (X.680 16.3), or that a parameter of this name is given (X.683 9).
     pub(crate) fn type_meant(
         &mut self,
         place: Place,

@@ -101,12 +101,12 @@ impl<'modules, 'text> Resolver<'modules, 'text> {
             if actuals.is_empty() {
                 return Ok(Place::of(module));
             }
-            let problem = Problem::Broken("what is given has no parameter (X.683 9.6)");
+            let problem = Problem::Broken("what is given has no parameter (X.683 9)");
             return Err(self.modules.fault(from.module, position, problem));
         };
         let names = parameter_names(self.alloc, parameters)?;
         if names.len() != actuals.len() {
-            let problem = Problem::Broken("each parameter has to be given (X.683 9.6)");
+            let problem = Problem::Broken("each parameter has to be given (X.683 9)");
             return Err(self.modules.fault(from.module, position, problem));
         }
         let bounds = self.bounds(from, names.as_slice(), actuals)?;
