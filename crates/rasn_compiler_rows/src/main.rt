@@ -38,7 +38,7 @@ fn print_module<'text>(
 ) -> io::Result<()> {
     for assignment in &module.assignments {
         let name = assignment.name;
-        if is_plain_type(assignment) {
+        if is_plain_type(assignment) && !read.is_class(module.name, name) {
             match read.schema(rt.alloc(), module.name, name) {
                 Ok(resolved) => {
                     let shown = show::shown(rt.alloc(), &resolved)?;

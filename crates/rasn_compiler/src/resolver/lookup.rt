@@ -3,7 +3,7 @@ use crate::fault::{Fault, Problem, Stop};
 use crate::given::is_given;
 use crate::modules::{Modules, Source};
 use crate::position::Position;
-use crate::tree::{Assignment, Meaning, Module, Type};
+use crate::tree::{Assigned, Assignment, Base, Meaning, Module, Type};
 
 /// How many names may lead to one another.
 pub(crate) const MAX_NAMES: usize = 256;
@@ -112,6 +112,47 @@ impl<'text> Modules<'text> {
                 let problem = Problem::Expected("a type of the name that was asked for");
                 Err(self.fault(index, found.position, problem))
             }
+        }
+    }
+}
+
+impl<'text> Modules<'text> {
+    /// Returns whether a name of a module is that of a class, also by way of other names (X.681 9.2).
+    pub fn is_class(&self, module: &str, name: &str) -> bool {
+        let Ok((index, known, position)) = self.type_named(module, name) else {
+            return false;
+        };
+        let mut at = index;
+        let mut outside = None;
+        let mut name = known;
+        for _ in 0..MAX_NAMES {
+            let Ok((found, assignment)) = self.meaning(at, outside, name, position) else {
+                return false;
+            };
+            match self.name_of(found, assignment.assigned) {
+                Some((module, next)) => {
+                    at = found;
+                    outside = module;
+                    name = next;
+                }
+                None => return matches!(assignment.assigned, Assigned::Class { .. }),
+            }
+        }
+        false
+    }
+
+    /// Returns the name that an assignment is another one for.
+    fn name_of(
+        &self,
+        module: usize,
+        assigned: Assigned<'text>,
+    ) -> Option<(Option<&'text str>, &'text str)> {
+        let Assigned::Type(of) = assigned else {
+            return None;
+        };
+        match &self.module_at(module)?.types.get(of.0)?.base {
+            Base::Reference { module, name, .. } => Some((*module, *name)),
+            _ => None,
         }
     }
 }
