@@ -42,7 +42,7 @@ impl<'tokens, 'text> Parser<'tokens, 'text> {
     /// Reads what follows `::=` and no type governs.
     fn type_or_class(&mut self) -> Result<Assigned<'text>, Stop<'text>> {
         if self.eat("CLASS") {
-            let fields = self.expect_braces()?;
+            let fields = self.class()?;
             let syntax = self.class_syntax()?;
             return Ok(Assigned::Class { fields, syntax });
         }
@@ -54,7 +54,7 @@ impl<'tokens, 'text> Parser<'tokens, 'text> {
     }
 
     /// Takes what is in braces, which have to be next.
-    fn expect_braces(&mut self) -> Result<Unread<'text>, Stop<'text>> {
+    pub(crate) fn expect_braces(&mut self) -> Result<Unread<'text>, Stop<'text>> {
         match self.braces()? {
             Some(inner) => Ok(inner),
             None => Err(self.refuse("{")),

@@ -35,15 +35,15 @@ impl<'tokens, 'text> Parser<'tokens, 'text> {
     /// Reads what is between two commas.
     #[cycle(types)]
     fn component(&mut self, depth: usize) -> Result<Component<'text>, Stop<'text>> {
+        let position = self.position();
         if self.eat("...") {
             self.exception()?;
-            return Ok(Component::Marker);
+            return Ok(Component::Marker(position));
         }
         if self.eat("COMPONENTS") {
             self.expect("OF")?;
             return Ok(Component::Of(self.read_type(depth)?));
         }
-        let position = self.position();
         let name = self.expect_kind(Kind::Lower, "a component")?;
         let of = self.read_type(depth)?;
         let presence = self.presence()?;
@@ -94,7 +94,8 @@ impl<'tokens, 'text> Parser<'tokens, 'text> {
         if self.eat("OPTIONAL") {
             Ok(Presence::Optional)
         } else if self.eat("DEFAULT") {
-            Ok(Presence::Default(self.value()?))
+            let position = self.position();
+            Ok(Presence::Default(self.value()?, position))
         } else {
             Ok(Presence::Required)
         }

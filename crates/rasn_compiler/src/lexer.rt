@@ -65,7 +65,7 @@ fn scan(text: &str, first: char) -> (Kind, usize) {
     match first {
         'A'..='Z' => upper(text),
         'a'..='z' => (Kind::Lower, word_length(text)),
-        '0'..='9' => (Kind::Number, number_length(text)),
+        '0'..='9' => number(text),
         '&' => field(text),
         '"' => string(text),
         '\'' => digits(text),
@@ -133,6 +133,15 @@ fn word_length(text: &str) -> usize {
     length
 }
 
+/// Reads a number. Only the number 0 begins with 0 (X.680 12.8).
+fn number(text: &str) -> (Kind, usize) {
+    let octets = number_length(text);
+    match text.as_bytes() {
+        [b'0', b'0'..=b'9', ..] => (Kind::Unknown, octets),
+        _ => (Kind::Number, octets),
+    }
+}
+
 /// Returns the octets of a number, with a fraction after a single dot (X.680 12.8, 12.9).
 fn number_length(text: &str) -> usize {
     let whole = digits_length(text);
@@ -176,10 +185,26 @@ fn digits(text: &str) -> (Kind, usize) {
         return (Kind::Unfinished, text.len());
     };
     let closed = count.saturating_add(2);
+    let whole = inner.get(..count).unwrap_or("");
     match text.as_bytes().get(closed) {
-        Some(b'B' | b'H') => (Kind::Digits, closed.saturating_add(1)),
+        Some(b'B') if whole.bytes().all(|octet| is_bit(octet)) => {
+            (Kind::Digits, closed.saturating_add(1))
+        }
+        Some(b'H') if whole.bytes().all(|octet| is_hexadecimal(octet)) => {
+            (Kind::Digits, closed.saturating_add(1))
+        }
         _ => (Kind::Unknown, closed),
     }
+}
+
+/// Returns whether an octet may be in a string of bits (X.680 12.10).
+fn is_bit(octet: u8) -> bool {
+    matches!(octet, b'0' | b'1') || octet.is_ascii_whitespace()
+}
+
+/// Returns whether an octet may be in a string of hexadecimal digits (X.680 12.12).
+fn is_hexadecimal(octet: u8) -> bool {
+    matches!(octet, b'0'..=b'9' | b'A'..=b'F') || octet.is_ascii_whitespace()
 }
 
 /// Returns the octets of a comment that two hyphens or the line's end ends (X.680 12.6.3).

@@ -2,8 +2,10 @@
 #![tactic(auto)]
 
 mod assignment;
+mod class;
 mod component;
 mod fault;
+mod given;
 mod imports;
 mod lexer;
 mod module;
@@ -25,6 +27,6 @@ pub use modules::{Modules, Source};
 pub use position::Position;
 pub use resolver::Resolved;
 pub use tree::{
-    Assigned, Assignment, Base, Builtin, Component, Import, ListOf, Module, NamedNumber, Presence,
-    Tag, TagClass, Tagging, Type, TypeIndex, Unread, Value,
+    Actual, Assigned, Assignment, Base, Builtin, Component, Field, Given, Import, ListOf, Module,
+    NamedNumber, Presence, Tag, TagClass, Tagging, Type, TypeIndex, Unread, Value,
 };

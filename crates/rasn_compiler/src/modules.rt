@@ -5,6 +5,7 @@ ghost use Rattle.rasn_types.specs.Truth.{IsWhether};
 ghost use Rattle.rasn_compiler.specs.Sources.{HasName, AreOf};
 
 use crate::fault::{Fault, Stop};
+use crate::given::given;
 use crate::lexer::tokens;
 use crate::parser::Parser;
 use crate::position::Position;
@@ -27,6 +28,8 @@ pub struct Modules<'text> {
     pub faults: Vec<Fault<'text>>,
     /// The index of the first module of each name.
     names: BTreeMap<String, usize>,
+    /// What every module may use.
+    given: Option<Module<'text>>,
 }
 
 impl<'text> Modules<'text> {
@@ -42,6 +45,7 @@ impl<'text> Modules<'text> {
             modules: Vec::new(alloc),
             faults: Vec::new(alloc),
             names: BTreeMap::new(alloc),
+            given: given(alloc)?,
         };
         for source in sources {
             read.read(alloc, *source)?;
@@ -104,6 +108,15 @@ impl<'text> Modules<'text> {
         }
         self.modules.push(added)?;
         Ok(())
+    }
+
+    /// Returns a module by its index. What every module may use has the index after the last.
+    pub(crate) fn module_at(&self, index: usize) -> Option<&Module<'text>> {
+        if index == self.modules.len() {
+            self.given.as_ref()
+        } else {
+            self.modules.get(index)
+        }
     }
 
     /// Returns the index of the first module with this name.

@@ -13,20 +13,26 @@ mod default;
 mod digits;
 mod emit;
 mod enumerated;
+mod field;
+mod included;
 mod leaf;
 mod lookup;
 mod node;
 mod number;
 mod order;
+mod reference;
 mod schema_fault;
+mod scope;
 mod shape;
 mod unfold;
+mod value;
 
 use crate::fault::Stop;
 use crate::modules::Modules;
 use emit::emit;
-use node::Use;
+use node::{Place, Use};
 use rasn_schema::{Schema, TypeId};
+use reference::Next;
 use shape::Resolver;
 use std::alloc::Global;
 
@@ -46,22 +52,25 @@ impl<'text> Modules<'text> {
     ///
     /// # Errors
     /// Returns the first fault that is found in what the type is made of, or that memory ran out.
-    pub fn schema(
-        &self,
-        alloc: Global,
-        module: &'text str,
-        name: &'text str,
-    ) -> Result<Resolved, Stop<'text>>
+    pub fn schema(&self, alloc: Global, module: &str, name: &str) -> Result<Resolved, Stop<'text>>
         ensures root { IfOk result (λ r. r.root.0 < length r.schema.types.items) }
         ensures named { IfOk result (λ r. (names : _) × (r.schema.names ≡ Some names) × IsNamed names.items name.now r.root) }
     {
-        let (at, index) = self.type_named(module, name)?;
-        let resolver = Resolver {
+        let (module, known, position) = self.type_named(module, name)?;
+        let mut resolver = Resolver {
             alloc,
             modules: self,
+            unchecked: 0,
+            scopes: Vec::new(alloc),
         };
-        let mut unchecked = 0;
-        let nodes = resolver.nodes(Use::of(at, index), name, &mut unchecked)?;
-        emit(alloc, self, nodes, name, unchecked)
+        let Next { place, index, .. } = resolver.type_meant(
+            Place::of(module),
+            None,
+            known,
+            &[],
+            position,
+        )?;
+        let nodes = resolver.nodes(Use::of(place, index), known)?;
+        emit(alloc, self, nodes, name, resolver.unchecked)
     }
 }

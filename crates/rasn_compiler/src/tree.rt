@@ -88,9 +88,9 @@ pub enum Assigned<'text> {
         of: TypeIndex,
         members: Unread<'text>,
     },
-    /// A class (X.681 9).
+    /// A class (X.681 9), as the index of its fields in the list of types.
     Class {
-        fields: Unread<'text>,
+        fields: TypeIndex,
         syntax: Option<Unread<'text>>,
     },
     /// A macro of X.208, or what one was used for.
@@ -151,11 +151,14 @@ pub enum Base<'text> {
         module: Option<&'text str>,
         name: &'text str,
         /// What it is given for its parameters (X.683 9).
-        actuals: Option<Unread<'text>>,
+        actuals: Vec<Actual<'text>>,
     },
+    /// The fields of a class (X.681 9), which isn't a type.
+    Class(Vec<Field<'text>>),
     /// `CLASS.&field` or `object.&Type`, or a field of such a field (X.681 14, 15).
     ClassField {
-        class: &'text str,
+        /// The class or the object, as a reference.
+        class: TypeIndex,
         path: Vec<&'text str>,
     },
     /// INSTANCE OF a class (X.681 C).
@@ -165,6 +168,34 @@ pub enum Base<'text> {
         name: &'text str,
         of: TypeIndex,
     },
+}
+
+/// What is given for a parameter (X.683 9.5).
+#[derive(Clone, Copy)]
+pub struct Actual<'text> {
+    /// Where it begins.
+    pub position: Position,
+    pub given: Given<'text>,
+}
+
+/// What a parameter can be (X.683 9.5).
+#[derive(Clone, Copy)]
+pub enum Given<'text> {
+    /// A type, or a class or a set that a name or a notation of types means.
+    Type(TypeIndex),
+    /// A value or an object.
+    Value(Value<'text>),
+    /// What is in braces: a set of values or of objects.
+    Members(Unread<'text>),
+}
+
+/// A field of a class (X.681 9.4).
+#[derive(Clone, Copy)]
+pub struct Field<'text> {
+    /// Its name, with the `&`.
+    pub name: &'text str,
+    /// The type of its values, or the class of its objects. None if it is a type, or has the type that another field is.
+    pub of: Option<TypeIndex>,
 }
 
 /// What SEQUENCE OF or SET OF says of its elements (X.680 26, 28).
@@ -236,8 +267,8 @@ pub enum Component<'text> {
     },
     /// COMPONENTS OF (X.680 25.5).
     Of(TypeIndex),
-    /// The marker `...`.
-    Marker,
+    /// The marker `...`, and its place.
+    Marker(Position),
 }
 
 /// Whether a component may be absent (X.680 25).
@@ -245,7 +276,8 @@ pub enum Component<'text> {
 pub enum Presence<'text> {
     Required,
     Optional,
-    Default(Value<'text>),
+    /// DEFAULT, with the place of the value.
+    Default(Value<'text>, Position),
 }
 
 /// A value (X.680 17.7).

@@ -2,8 +2,7 @@
 use crate::fault::Stop;
 use crate::parser::Parser;
 use crate::token::Kind;
-use crate::tree::{Base, Builtin, ListOf, NamedNumber, Type, TypeIndex, Unread};
-use std::alloc::AllocError;
+use crate::tree::{Actual, Base, Builtin, Given, ListOf, NamedNumber, Type, TypeIndex, Unread};
 
 impl<'tokens, 'text> Parser<'tokens, 'text> {
     /// Reads a type in which others may be nested so deep.
@@ -48,7 +47,59 @@ impl<'tokens, 'text> Parser<'tokens, 'text> {
             let of = self.read_type(depth)?;
             return Ok(Base::Selection { name, of });
         }
+        if self.peek() == Kind::Upper {
+            return self.reference(depth);
+        }
         self.simple_type()
+    }
+
+    /// Reads the name of a type with what it is given, or a class's field (X.680 16.3, X.681 14, X.683 9).
+    #[cycle(types)]
+    fn reference(&mut self, depth: usize) -> Result<Base<'text>, Stop<'text>> {
+        let position = self.position();
+        let (module, name) = self.reference_name();
+        if self.is(".") && self.peek_after(1) == Kind::Field {
+            return self.class_field(position, module, name);
+        }
+        let actuals = if self.eat("{") {
+            self.actuals(depth)?
+        } else {
+            Vec::new(self.alloc)
+        };
+        Ok(Base::Reference {
+            module,
+            name,
+            actuals,
+        })
+    }
+
+    /// Reads what is given for parameters, after the brace (X.683 9.5).
+    #[cycle(types)]
+    fn actuals(&mut self, depth: usize) -> Result<Vec<Actual<'text>>, Stop<'text>> {
+        let mut actuals = Vec::new(self.alloc);
+        for _ in 0..self.rest.len() {
+            let position = self.position();
+            let given = self.given(depth)?;
+            actuals.push(Actual { position, given })?;
+            if !self.eat(",") {
+                break;
+            }
+        }
+        self.expect("}")?;
+        Ok(actuals)
+    }
+
+    /// Reads what is given for a parameter.
+    #[cycle(types)]
+    fn given(&mut self, depth: usize) -> Result<Given<'text>, Stop<'text>> {
+        if self.is("{") {
+            return Ok(Given::Members(self.balanced()?));
+        }
+        if self.begins_type() {
+            Ok(Given::Type(self.read_type(depth)?))
+        } else {
+            Ok(Given::Value(self.value()?))
+        }
     }
 
     /// Reads the elements of SEQUENCE OF or SET OF, whose size may be before OF (X.680 26, 28).
@@ -95,11 +146,10 @@ impl<'tokens, 'text> Parser<'tokens, 'text> {
     /// Reads a type that holds no other.
     fn simple_type(&mut self) -> Result<Base<'text>, Stop<'text>> {
         match self.peek() {
-            Kind::Upper => self.reference(),
             Kind::Lower if self.is_after(1, ".") => {
-                let class = self.take();
-                let path = self.path()?;
-                Ok(Base::ClassField { class, path })
+                let position = self.position();
+                let object = self.take();
+                self.class_field(position, None, object)
             }
             Kind::Fixed => self.worded_type(),
             _ => Err(self.refuse("a type")),
@@ -161,40 +211,6 @@ impl<'tokens, 'text> Parser<'tokens, 'text> {
         }
         self.expect("BY")?;
         Ok(Base::AnyDefinedBy(self.expect_kind(Kind::Lower, "a component's name")?))
-    }
-
-    /// Reads the name of a type, or a class's field.
-    fn reference(&mut self) -> Result<Base<'text>, Stop<'text>> {
-        let mut module = None;
-        let mut name = self.take();
-        if self.is(".") && self.peek_after(1) == Kind::Upper {
-            self.skip(1);
-            module = Some(name);
-            name = self.take();
-        }
-        if self.is(".") && self.peek_after(1) == Kind::Field {
-            let path = self.path()?;
-            return Ok(Base::ClassField { class: name, path });
-        }
-        let actuals = self.braces()?;
-        Ok(Base::Reference {
-            module,
-            name,
-            actuals,
-        })
-    }
-
-    /// Takes the fields that dots precede (X.681 14).
-    pub(crate) fn path(&mut self) -> Result<Vec<&'text str>, AllocError> {
-        let mut path = Vec::new(self.alloc);
-        for _ in 0..self.rest.len() {
-            if !self.is(".") || self.peek_after(1) != Kind::Field {
-                break;
-            }
-            self.skip(1);
-            path.push(self.take())?;
-        }
-        Ok(path)
     }
 
     /// Reads names with numbers, if a brace is next (X.680 19.1, 20.1, 22.1).

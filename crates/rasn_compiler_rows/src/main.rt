@@ -3,7 +3,7 @@
 
 mod show;
 
-use rasn_compiler::{Assigned, Module, Modules, Source};
+use rasn_compiler::{Assigned, Assignment, Module, Modules, Source};
 use std::io;
 
 fn main(rt: HostRuntime) -> io::Result<()> {
@@ -22,6 +22,14 @@ fn main(rt: HostRuntime) -> io::Result<()> {
     Ok(())
 }
 
+/// Returns whether an assignment is one of a type without parameters.
+fn is_plain_type(assignment: &Assignment<'_>) -> bool {
+    match assignment.assigned {
+        Assigned::Type(_) => assignment.parameters.is_none(),
+        _ => false,
+    }
+}
+
 /// Prints the types of a module, a line for each.
 fn print_module<'text>(
     rt: &HostRuntime,
@@ -30,7 +38,7 @@ fn print_module<'text>(
 ) -> io::Result<()> {
     for assignment in &module.assignments {
         let name = assignment.name;
-        if let Assigned::Type(_) = assignment.assigned {
+        if is_plain_type(assignment) && !read.is_class(module.name, name) {
             match read.schema(rt.alloc(), module.name, name) {
                 Ok(resolved) => {
                     let shown = show::shown(rt.alloc(), &resolved)?;

@@ -45,7 +45,7 @@ fn print_module<'text>(
     let mut types = 0usize;
     let mut loaded = 0usize;
     for assignment in &module.assignments {
-        if is_plain_type(assignment) {
+        if is_plain_type(assignment) && !read.is_class(module.name, assignment.name) {
             types = types.saturating_add(1);
             if print_type(rt, read, module.name, assignment.name)? {
                 loaded = loaded.saturating_add(1);

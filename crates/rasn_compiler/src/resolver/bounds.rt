@@ -1,10 +1,9 @@
 //! Constraints that a schema checks: a single range of values or of sizes (X.680 51.4, 51.5).
 use crate::fault::Stop;
 use crate::lexer::tokens;
-use crate::modules::Source;
 use crate::parser::Parser;
 use crate::position::Position;
-use crate::resolver::node::Unfolded;
+use crate::resolver::node::{Place, Unfolded};
 use crate::resolver::shape::Resolver;
 use crate::tree::{NamedNumber, Unread, Value};
 use rasn_types::types::{Bound, Bounded, Constraints};
@@ -28,6 +27,19 @@ impl Range {
                 is_extensible: false,
             },
             _ => self,
+        }
+    }
+
+    /// Returns the rule that the range breaks.
+    fn broken(self, is_size: bool) -> Option<&'static str> {
+        if is_size && self.low.unwrap_or(0) < 0 {
+            return Some("a size below 0 (X.680 51.5)");
+        }
+        match (self.low, self.high) {
+            (Some(low), Some(high)) if low > high => {
+                Some("a range whose end is before its start (X.680 51.4)")
+            }
+            _ => None,
         }
     }
 
@@ -57,16 +69,15 @@ fn eat_marker(parser: &mut Parser<'_, '_>) -> bool {
 impl<'modules, 'text> Resolver<'modules, 'text> {
     /// Returns the bounds of an INTEGER's values.
     pub(crate) fn value_bounds(
-        self,
+        &mut self,
         unfolded: &Unfolded<'text>,
         names: &[NamedNumber<'text>],
-        unchecked: &mut usize,
     ) -> Result<Constraints, Stop<'text>> {
         let mut range = None;
-        for (module, constraint) in unfolded.constraints.iter().rev() {
-            match self.constraint(*module, *constraint, names, unfolded.module, false)? {
+        for (place, constraint) in unfolded.constraints.iter().rev() {
+            match self.constraint(*place, *constraint, names, unfolded.place, false)? {
                 Some(found) => range = Some(found.within(range)),
-                None => *unchecked = unchecked.saturating_add(1),
+                None => self.count_unchecked(1),
             }
         }
         Ok(Constraints {
@@ -77,17 +88,16 @@ impl<'modules, 'text> Resolver<'modules, 'text> {
 
     /// Returns the bounds of sizes. One of them is before OF.
     pub(crate) fn size_bounds(
-        self,
+        &mut self,
         unfolded: &Unfolded<'text>,
         before_of: Option<Unread<'text>>,
-        unchecked: &mut usize,
     ) -> Result<Constraints, Stop<'text>> {
         let mut range = None;
         if let Some(constraint) = before_of {
-            range = self.size_within(unfolded.module, constraint, range, unchecked)?;
+            range = self.size_within(unfolded.place, constraint, range)?;
         }
-        for (module, constraint) in unfolded.constraints.iter().rev() {
-            range = self.size_within(*module, *constraint, range, unchecked)?;
+        for (place, constraint) in unfolded.constraints.iter().rev() {
+            range = self.size_within(*place, *constraint, range)?;
         }
         Ok(Constraints {
             value: None,
@@ -97,16 +107,15 @@ impl<'modules, 'text> Resolver<'modules, 'text> {
 
     /// Returns what a constraint leaves of sizes.
     fn size_within(
-        self,
-        module: usize,
+        &mut self,
+        place: Place,
         constraint: Unread<'text>,
         known: Option<Range>,
-        unchecked: &mut usize,
     ) -> Result<Option<Range>, Stop<'text>> {
-        match self.constraint(module, constraint, &[], module, true)? {
+        match self.constraint(place, constraint, &[], place, true)? {
             Some(found) => Ok(Some(found.within(known))),
             None => {
-                *unchecked = unchecked.saturating_add(1);
+                self.count_unchecked(1);
                 Ok(known)
             }
         }
@@ -114,53 +123,47 @@ impl<'modules, 'text> Resolver<'modules, 'text> {
 
     /// Returns the range of a constraint, if it is a single one.
     fn constraint(
-        self,
-        module: usize,
+        &mut self,
+        place: Place,
         constraint: Unread<'text>,
         names: &[NamedNumber<'text>],
-        home: usize,
+        home: Place,
         is_size: bool,
     ) -> Result<Option<Range>, Stop<'text>> {
         let items = tokens(self.alloc, constraint.text, constraint.position)?;
-        let mut parser = Parser {
-            alloc: self.alloc,
-            source: Source {
-                name: "",
-                text: constraint.text,
-            },
-            rest: items.as_slice(),
-            end: constraint.position,
-            types: Vec::new(self.alloc),
-        };
+        let mut parser = self.parser(place, constraint, items.as_slice());
         if is_size && !(parser.eat("SIZE") && parser.eat("(")) {
             return Ok(None);
         }
-        match self.range(&mut parser, module, names, home)? {
-            Some(range) => Ok(range.ended(&mut parser, is_size)),
-            None => Ok(None),
-        }
+        let position = parser.position();
+        let Some(range) = self.range(&mut parser, place, names, home)? else {
+            return Ok(None);
+        };
+        self.broken_if(place, position, range.broken(is_size))?;
+        Ok(range.ended(&mut parser, is_size))
     }
 
     /// Reads a value or a range of values (X.680 51.2, 51.4).
     fn range(
-        self,
+        &mut self,
         parser: &mut Parser<'_, 'text>,
-        module: usize,
+        place: Place,
         names: &[NamedNumber<'text>],
-        home: usize,
+        home: Place,
     ) -> Result<Option<Range>, Stop<'text>> {
-        let position = parser.position();
+        let start = parser.position();
         let Some(low) = read_end(parser, "MIN") else {
             return Ok(None);
         };
-        let low = self.bound(module, low, names, home, position)?;
+        let low = self.end_number(place, low, names, home, start)?;
         if !parser.eat("..") {
             return Ok(single(low));
         }
+        let end = parser.position();
         let Some(high) = read_end(parser, "MAX") else {
             return Ok(None);
         };
-        let high = self.bound(module, high, names, home, position)?;
+        let high = self.end_number(place, high, names, home, end)?;
         Ok(Some(Range {
             low,
             high,
@@ -169,18 +172,18 @@ impl<'modules, 'text> Resolver<'modules, 'text> {
     }
 
     /// Returns the number at an end of a range.
-    fn bound(
-        self,
-        module: usize,
+    fn end_number(
+        &mut self,
+        place: Place,
         end: End<'text>,
         names: &[NamedNumber<'text>],
-        home: usize,
+        home: Place,
         position: Position,
     ) -> Result<Option<i128>, Stop<'text>> {
         match end {
             End::Open => Ok(None),
             End::At(value) => {
-                let number = self.modules.number(module, value, names, home, position)?;
+                let number = self.number(place, value, names, home, position)?;
                 Ok(Some(number))
             }
         }

@@ -39,10 +39,9 @@ impl<'text> Requests<'text> {
 impl<'modules, 'text> Resolver<'modules, 'text> {
     /// Resolves a type and those that it is made of. The first node is that of the type.
     pub(crate) fn nodes(
-        self,
+        &mut self,
         of: Use,
         name: &'text str,
-        unchecked: &mut usize,
     ) -> Result<Vec<Node<'text>>, Stop<'text>> {
         let mut requests = Requests {
             asked: Vec::new(self.alloc),
@@ -56,29 +55,28 @@ impl<'modules, 'text> Resolver<'modules, 'text> {
                 let Requests { nodes, .. } = requests;
                 return Ok(nodes);
             };
-            self.resolve(&mut requests, asked, unchecked)?;
+            self.resolve(&mut requests, asked)?;
             if requests.parts > MAX_PARTS {
                 break;
             }
         }
         Err(
             self.modules
-                .fault(of.module, Position::START, Problem::TooLarge),
+                .fault(of.place.module, Position::START, Problem::TooLarge),
         )
     }
 
     /// Resolves a type that was asked for.
     fn resolve(
-        self,
+        &mut self,
         requests: &mut Requests<'text>,
         asked: Asked<'text>,
-        unchecked: &mut usize,
     ) -> Result<(), Stop<'text>> {
         let position = self
             .modules
-            .type_at(asked.of.module, asked.of.index)?
+            .type_at(asked.of.place.module, asked.of.index)?
             .position;
-        let shape = self.shape(asked, unchecked)?;
+        let shape = self.shape(asked)?;
         requests.parts = requests.parts.saturating_add(shape.parts.len());
         let node = self.node(requests, asked, position, shape)?;
         requests.nodes.push(node)?;
@@ -87,18 +85,18 @@ impl<'modules, 'text> Resolver<'modules, 'text> {
 
     /// Returns the node of a type that is used so.
     fn request(
-        self,
+        &mut self,
         requests: &mut Requests<'text>,
         of: Use,
         name: &'text str,
     ) -> Result<usize, Stop<'text>> {
-        let asked = self.modules.asked(self.alloc, of, name)?;
+        let asked = self.asked(of, name)?;
         Ok(requests.node_of(asked)?)
     }
 
     /// Returns a node, and asks for the types that it is made of.
     fn node(
-        self,
+        &mut self,
         requests: &mut Requests<'text>,
         asked: Asked<'text>,
         position: Position,
@@ -119,7 +117,7 @@ impl<'modules, 'text> Resolver<'modules, 'text> {
             inner,
             name: asked.name,
             is_named: asked.is_named,
-            module: asked.of.module,
+            place: asked.of.place,
             position,
         })
     }

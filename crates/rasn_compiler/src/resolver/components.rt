@@ -1,30 +1,59 @@
 //! Components and alternatives (X.680 25, 27, 29).
 use crate::fault::{Problem, Stop};
-use crate::resolver::node::{Part, Use};
+use crate::position::Position;
+use crate::resolver::included::Listed;
+use crate::resolver::node::{Part, Place, Use};
 use crate::resolver::shape::Resolver;
 use crate::tree::{Component, Presence as Written, Tagging, TypeIndex};
 use rasn_schema::Presence;
 use rasn_types::types::Tag;
+use std::alloc::Global;
+use std::collections::BTreeSet;
 
-/// How many components were seen of a list.
-#[derive(Clone, Copy)]
-struct Seen {
+/// What a list of components or alternatives is that of.
+#[derive(Clone, Copy, PartialEq, Eq)]
+pub(crate) enum Within {
+    Sequence,
+    Set,
+    Choice,
+}
+
+/// How many components were seen of a list, and their names.
+#[derive(Drop)]
+struct Seen<'text> {
+    within: Within,
+    /// Whether they get automatic tags.
+    is_automatic: bool,
     /// How many the two roots have in all.
     roots: u32,
     root: u32,
     additions: u32,
     markers: usize,
+    names: BTreeSet<&'text str>,
 }
 
-impl Seen {
+impl<'text> Seen<'text> {
+    /// Begins a list with so many components in its two roots.
+    fn new(alloc: Global, within: Within, is_automatic: bool, roots: u32) -> Seen<'text> {
+        Seen {
+            within,
+            is_automatic,
+            roots,
+            root: 0,
+            additions: 0,
+            markers: 0,
+            names: BTreeSet::new(alloc),
+        }
+    }
+
     /// Returns whether an extension addition is next: between the markers, or after the only one (X.680 25.1).
     fn is_addition(&self) -> bool {
         self.markers == 1
     }
 
     /// Counts a component and returns its automatic tag: first the roots are counted, then the additions (X.680 25.7, 29.2).
-    fn count(&mut self) -> u32 {
-        if self.is_addition() {
+    fn count(&mut self) -> Option<u32> {
+        let number = if self.is_addition() {
             let number = self.roots.saturating_add(self.additions);
             self.additions = self.additions.saturating_add(1);
             number
@@ -32,6 +61,33 @@ impl Seen {
             let number = self.root;
             self.root = number.saturating_add(1);
             number
+        };
+        if self.is_automatic {
+            Some(number)
+        } else {
+            None
+        }
+    }
+
+    /// Returns the rule that a marker breaks here: two are allowed, and nothing follows the second of a CHOICE (X.680 25.1, 29.1).
+    fn after_marker(&self) -> Option<&'static str> {
+        if self.markers > 2 {
+            return Some("more than two markers (X.680 25.1, 29.1)");
+        }
+        None
+    }
+
+    /// Returns the rule that a component of this name breaks.
+    fn broken_by(&self, written: Written<'text>) -> Option<&'static str> {
+        if self.within != Within::Choice {
+            return None;
+        }
+        if self.markers > 1 {
+            return Some("an alternative after the second marker (X.680 29.1)");
+        }
+        match written {
+            Written::Required => None,
+            _ => Some("an alternative with OPTIONAL or DEFAULT (X.680 29.1)"),
         }
     }
 }
@@ -39,20 +95,18 @@ impl Seen {
 impl<'modules, 'text> Resolver<'modules, 'text> {
     /// Resolves the components of a SEQUENCE or a SET, or the alternatives of a CHOICE.
     pub(crate) fn components(
-        self,
-        module: usize,
+        &mut self,
+        place: Place,
         list: &[Component<'text>],
+        within: Within,
     ) -> Result<Vec<Part<'text>>, Stop<'text>> {
         let mut parts = Vec::new(self.alloc);
-        let is_automatic = self.is_automatic(module, list)?;
-        let mut seen = Seen {
-            roots: count_roots(list),
-            root: 0,
-            additions: 0,
-            markers: 0,
-        };
-        for component in list {
-            if let Some(part) = self.part(module, *component, is_automatic, &mut seen)? {
+        let is_automatic = self.is_automatic(place, list)?;
+        let listed = self.listed(place, list, within, is_automatic)?;
+        let roots = count_roots(listed.as_slice());
+        let mut seen = Seen::new(self.alloc, within, is_automatic, roots);
+        for listed in &listed {
+            if let Some(part) = self.part(*listed, &mut seen)? {
                 parts.push(part)?;
             }
         }
@@ -61,50 +115,90 @@ impl<'modules, 'text> Resolver<'modules, 'text> {
 
     /// Resolves a component or an alternative, if it isn't a marker.
     fn part(
-        self,
-        module: usize,
-        component: Component<'text>,
-        is_automatic: bool,
-        seen: &mut Seen,
+        &mut self,
+        listed: Listed<'text>,
+        seen: &mut Seen<'text>,
     ) -> Result<Option<Part<'text>>, Stop<'text>> {
-        match component {
+        let place = listed.place;
+        match listed.component {
             Component::Named {
                 position,
                 name,
                 of,
                 presence,
             } => {
+                self.check_component(place, position, name, presence, seen)?;
                 let is_addition = seen.is_addition();
-                let number = seen.count();
+                let automatic = seen.count();
                 Ok(Some(Part {
                     name,
                     position,
-                    of: part_use(module, of.0, is_automatic, number),
+                    of: Use {
+                        automatic,
+                        ..Use::of(place, of.0)
+                    },
                     node: 0,
-                    presence: self.presence(module, of, presence, is_addition)?,
+                    presence: self.presence(place, of, presence, is_addition)?,
                     first: Tag::EOC,
                 }))
             }
-            Component::Of(of) => {
-                let position = self.modules.type_at(module, of.0)?.position;
-                let problem = Problem::Unsupported("COMPONENTS OF");
-                Err(self.modules.fault(module, position, problem))
-            }
-            Component::Marker => {
+            Component::Marker(position) => {
                 seen.markers = seen.markers.saturating_add(1);
+                self.broken_if(place, position, seen.after_marker())?;
                 Ok(None)
             }
+            Component::Of(_) => Ok(None),
+        }
+    }
+
+    /// Refuses a component whose name another has, or that can't be in its list.
+    fn check_component(
+        &self,
+        place: Place,
+        position: Position,
+        name: &'text str,
+        written: Written<'text>,
+        seen: &mut Seen<'text>,
+    ) -> Result<(), Stop<'text>> {
+        self.broken_if(place, position, seen.broken_by(written))?;
+        if seen.names.contains(&name) {
+            let rule = "two components or alternatives have the same name (X.680 25, 27, 29)";
+            return self.broken_if(place, position, Some(rule));
+        }
+        seen.names.insert(name)?;
+        Ok(())
+    }
+
+    /// Returns a fault if a rule is broken.
+    pub(crate) fn broken_if(
+        &self,
+        place: Place,
+        position: Position,
+        rule: Option<&'static str>,
+    ) -> Result<(), Stop<'text>> {
+        match rule {
+            Some(rule) => {
+                Err(
+                    self.modules
+                        .fault(place.module, position, Problem::Broken(rule)),
+                )
+            }
+            None => Ok(()),
         }
     }
 
     /// Returns whether the components of a list get automatic tags: none of them has a tag that is written (X.680 25.7, 29.2).
-    fn is_automatic(&self, module: usize, list: &[Component<'text>]) -> Result<bool, Stop<'text>> {
-        if self.modules.tagging(module) != Tagging::Automatic {
+    pub(crate) fn is_automatic(
+        &self,
+        place: Place,
+        list: &[Component<'text>],
+    ) -> Result<bool, Stop<'text>> {
+        if self.modules.tagging(place.module) != Tagging::Automatic {
             return Ok(false);
         }
         for component in list {
             if let Component::Named { of, .. } = component {
-                if !self.modules.type_at(module, of.0)?.tags.is_empty() {
+                if !self.modules.type_at(place.module, of.0)?.tags.is_empty() {
                     return Ok(false);
                 }
             }
@@ -114,8 +208,8 @@ impl<'modules, 'text> Resolver<'modules, 'text> {
 
     /// Returns whether a component may be absent. An extension addition may, since values of an earlier version don't have it.
     fn presence(
-        self,
-        module: usize,
+        &mut self,
+        place: Place,
         of: TypeIndex,
         written: Written<'text>,
         is_addition: bool,
@@ -124,31 +218,21 @@ impl<'modules, 'text> Resolver<'modules, 'text> {
             Written::Required if is_addition => Ok(Presence::Optional),
             Written::Required => Ok(Presence::Required),
             Written::Optional => Ok(Presence::Optional),
-            Written::Default(value) => Ok(Presence::Default(self.default_value(
-                module, of, value,
-            )?)),
+            Written::Default(value, position) => {
+                let value = self.default_value(place, of, value, position)?;
+                Ok(Presence::Default(value))
+            }
         }
     }
 }
 
-/// Returns the use of a component's type, which may be within an automatic tag.
-fn part_use(module: usize, index: usize, is_automatic: bool, number: u32) -> Use {
-    let automatic = if is_automatic { Some(number) } else { None };
-    Use {
-        module,
-        index,
-        automatic,
-        peeled: 0,
-    }
-}
-
 /// Returns how many components are outside the extension additions.
-fn count_roots(list: &[Component<'_>]) -> u32 {
+fn count_roots(list: &[Listed<'_>]) -> u32 {
     let mut roots = 0u32;
     let mut markers = 0usize;
-    for component in list {
-        match component {
-            Component::Marker => markers = markers.saturating_add(1),
+    for listed in list {
+        match listed.component {
+            Component::Marker(_) => markers = markers.saturating_add(1),
             _ if markers != 1 => roots = roots.saturating_add(1),
             _ => {}
         }

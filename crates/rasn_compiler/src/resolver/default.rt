@@ -1,112 +1,206 @@
 //! Values after DEFAULT (X.680 25, 17.7).
 use crate::fault::{Problem, Stop};
 use crate::position::Position;
-use crate::resolver::digits::{Digits, read_digits};
+use crate::resolver::digits::{Bits, Digits, read_digits};
 use crate::resolver::lookup::MAX_NAMES;
+use crate::resolver::node::Place;
 use crate::resolver::shape::Resolver;
-use crate::tree::{Assigned, Base, Builtin, TypeIndex, Value as Written};
-use rasn_schema::{NamedNumber, Value, index_named};
+use crate::resolver::value::Spelled;
+use crate::tree::{Assigned, Base, Builtin, Given, NamedNumber, TypeIndex, Value as Written};
+use rasn_schema::{NamedNumber as Numbered, Value, index_named};
 use rasn_types::types::{BitString, CowBits, Integer};
 use std::alloc::{AllocError, Global};
 use std::borrow::{CowSlice, CowStr};
 
+/// How deep values may be nested.
+const MAX_VALUES: usize = 16;
+
 impl<'modules, 'text> Resolver<'modules, 'text> {
     /// Returns the value of a component that is absent.
     pub(crate) fn default_value(
-        self,
-        module: usize,
+        &mut self,
+        place: Place,
         of: TypeIndex,
-        written: Written<'text>,
+        value: Written<'text>,
+        position: Position,
     ) -> Result<Value<'static>, Stop<'text>> {
-        let position = self.modules.type_at(module, of.0)?.position;
-        let (at, end) = self.modules.end_of(module, of.0, position)?;
-        match &self.modules.type_at(at, end)?.base {
+        let spelled = Spelled {
+            place,
+            value,
+            position,
+        };
+        self.value_of(place, of.0, spelled, MAX_VALUES)
+    }
+
+    /// Returns a value of a type that isn't made of others.
+    pub(crate) fn simple_value(
+        &mut self,
+        at: Place,
+        base: &Base<'text>,
+        spelled: Spelled<'text>,
+    ) -> Result<Value<'static>, Stop<'text>> {
+        match base {
             Base::Integer(names) => {
-                let names = names.as_slice();
-                let number = self.modules.number(module, written, names, at, position)?;
+                let Spelled {
+                    place,
+                    value,
+                    position,
+                } = spelled;
+                let number = self.number(place, value, names.as_slice(), at, position)?;
                 self.number_default(number)
             }
-            Base::Enumerated(names) => {
-                let numbers = self.enumeration(at, names.as_slice(), position)?;
-                match number_of(numbers.as_slice(), written) {
-                    Some(number) => self.number_default(number as i128),
-                    None => Err(self.unsupported(module, position)),
-                }
-            }
-            base => self.other_default(module, base, written, position),
+            Base::Enumerated(names) => self.enumerated_default(at, names.as_slice(), spelled),
+            Base::BitString(names) => self.bits_default(at, base, names.as_slice(), spelled),
+            _ => self.other_default(base, spelled),
+        }
+    }
+
+    /// Returns a value of an ENUMERATED (X.680 20.8).
+    fn enumerated_default(
+        &mut self,
+        at: Place,
+        names: &[NamedNumber<'text>],
+        spelled: Spelled<'text>,
+    ) -> Result<Value<'static>, Stop<'text>> {
+        let numbers = self.enumeration(at, names, spelled.position)?;
+        if let Some(number) = number_of(numbers.as_slice(), spelled.value) {
+            return self.number_default(number as i128);
+        }
+        let meant = self.named_once(spelled)?;
+        match number_of(numbers.as_slice(), meant.value) {
+            Some(number) => self.number_default(number as i128),
+            None => Err(self.misfit(spelled)),
         }
     }
 
     /// Returns a number as a value.
-    fn number_default(self, number: i128) -> Result<Value<'static>, Stop<'text>> {
+    fn number_default(&self, number: i128) -> Result<Value<'static>, Stop<'text>> {
         Ok(Value::Integer(Integer::from_i128(self.alloc, number)?))
     }
 
-    /// Returns the value of a component of another type.
-    fn other_default(
-        self,
-        module: usize,
+    /// Returns a value of a BIT STRING, which may be a list of names of its bits (X.680 22.9).
+    fn bits_default(
+        &mut self,
+        at: Place,
         base: &Base<'text>,
-        written: Written<'text>,
-        position: Position,
+        names: &[NamedNumber<'text>],
+        spelled: Spelled<'text>,
     ) -> Result<Value<'static>, Stop<'text>> {
-        let value = self.value_meant(module, written, position)?;
-        match plain_default(self.alloc, base, value)? {
+        let meant = self.meant(spelled)?;
+        let Written::Unread(_) = meant.value else {
+            return self.other_default(base, meant);
+        };
+        let mut bits = Bits::new(self.alloc);
+        for bit in &self.listed_values(meant)? {
+            let number = self.number(bit.place, bit.value, names, at, bit.position)?;
+            if !bits.set(number)? {
+                return Err(self.unsupported(*bit));
+            }
+        }
+        match bits.into_string() {
+            Some(bits) => Ok(Value::Bits(CowBits::Owned(bits))),
+            None => Err(self.unsupported(spelled)),
+        }
+    }
+
+    /// Returns a value of another type.
+    fn other_default(
+        &mut self,
+        base: &Base<'text>,
+        spelled: Spelled<'text>,
+    ) -> Result<Value<'static>, Stop<'text>> {
+        let meant = self.meant(spelled)?;
+        match plain_default(self.alloc, base, meant.value)? {
             Some(value) => Ok(value),
-            None => Err(self.unsupported(module, position)),
+            None if is_misfit(base, meant.value) => Err(self.misfit(spelled)),
+            None => Err(self.unsupported(spelled)),
         }
     }
 
     /// Returns the fault of a default value that a schema can't carry.
-    fn unsupported(self, module: usize, position: Position) -> Stop<'text> {
+    pub(crate) fn unsupported(&self, spelled: Spelled<'text>) -> Stop<'text> {
         let problem = Problem::Unsupported("such a default value");
-        self.modules.fault(module, position, problem)
+        self.modules
+            .fault(spelled.place.module, spelled.position, problem)
+    }
+
+    /// Returns the fault of a value that isn't one of the type.
+    pub(crate) fn misfit(&self, spelled: Spelled<'text>) -> Stop<'text> {
+        let problem = Problem::Broken("the default isn't a value of the type (X.680 25)");
+        self.modules
+            .fault(spelled.place.module, spelled.position, problem)
     }
 
     /// Returns the value that a name means.
-    fn value_meant(
-        self,
-        module: usize,
-        written: Written<'text>,
-        position: Position,
-    ) -> Result<Written<'text>, Stop<'text>> {
-        let mut at = module;
-        let mut value = written;
+    pub(crate) fn meant(&self, spelled: Spelled<'text>) -> Result<Spelled<'text>, Stop<'text>> {
+        let mut found = spelled;
         for _ in 0..MAX_NAMES {
-            let Written::Name {
-                module: outside,
-                name,
-            } = value
-            else {
-                return Ok(value);
+            let Written::Name { .. } = found.value else {
+                return Ok(found);
             };
-            let (found, assignment) = self.modules.meaning(at, outside, name, position)?;
-            let Assigned::Value { value: next, .. } = assignment.assigned else {
-                return Err(
-                    self.modules
-                        .fault(module, position, Problem::Expected("a value")),
-                );
-            };
-            at = found;
-            value = next;
+            found = self.named_once(found)?;
         }
+        let problem = Problem::Unsupported("a value of so many names");
         Err(
-            self.modules.fault(
-                module,
-                position,
-                Problem::Unsupported("a value of so many names"),
-            ),
+            self.modules
+                .fault(spelled.place.module, spelled.position, problem),
         )
+    }
+
+    /// Returns what a value means if it is the name of another.
+    fn named_once(&self, spelled: Spelled<'text>) -> Result<Spelled<'text>, Stop<'text>> {
+        let Written::Name { module, name } = spelled.value else {
+            return Ok(spelled);
+        };
+        let (place, value) = self.value_named(spelled.place, module, name, spelled.position)?;
+        Ok(Spelled {
+            place,
+            value,
+            position: spelled.position,
+        })
+    }
+
+    /// Returns what the name of a value means, with its place.
+    fn value_named(
+        &self,
+        place: Place,
+        outside: Option<&'text str>,
+        name: &'text str,
+        position: Position,
+    ) -> Result<(Place, Written<'text>), Stop<'text>> {
+        if outside.is_none() {
+            if let Some(bound) = self.bound(place, name) {
+                return match bound.given {
+                    Given::Value(value) => Ok((bound.place, value)),
+                    _ => Err(self.expected(place, position, "a value")),
+                };
+            }
+        }
+        let (module, assignment) = self.modules.meaning(place.module, outside, name, position)?;
+        match assignment.assigned {
+            Assigned::Value { value, .. } => Ok((Place::of(module), value)),
+            _ => Err(self.expected(place, position, "a value")),
+        }
     }
 }
 
 /// Returns the number of the name that a value is.
-fn number_of(numbers: &[NamedNumber], value: Written<'_>) -> Option<isize> {
+fn number_of(numbers: &[Numbered], value: Written<'_>) -> Option<isize> {
     let Written::Name { module: None, name } = value else {
         return None;
     };
     let index = index_named(numbers, name)?;
     Some(numbers.get(index)?.number)
+}
+
+/// Returns whether a value can't be one of a type.
+fn is_misfit(base: &Base<'_>, value: Written<'_>) -> bool {
+    let is_unread = matches!(value, Written::Unread(_));
+    match base {
+        Base::Builtin(Builtin::Boolean | Builtin::Null | Builtin::OctetString)
+        | Base::BitString(_) => !is_unread,
+        _ => false,
+    }
 }
 
 /// Returns a value of a type, if it is of a kind that is supported.
@@ -127,36 +221,22 @@ fn plain_default(
         (Base::BitString(names), Written::Digits(digits)) => {
             let Digits { octets, bits } = read_digits(alloc, digits)?;
             match BitString::new(octets, bits) {
-                Some(bits) => Ok(Some(bits_default(bits, !names.is_empty()))),
+                Some(bits) => Ok(Some(bits_value(bits, !names.is_empty()))),
                 None => Ok(None),
             }
         }
         (Base::Builtin(builtin), Written::Text(text)) => text_default(alloc, *builtin, text),
-        (Base::SequenceOf(_), Written::Unread(inner)) if is_empty(inner.text) => {
-            Ok(Some(Value::Items(Vec::new(alloc))))
-        }
-        (Base::SetOf(_), Written::Unread(inner)) if is_empty(inner.text) => {
-            Ok(Some(Value::Elements(Vec::new(alloc))))
-        }
         _ => Ok(None),
     }
 }
 
 /// Returns bits as a value. If they have names, trailing 0 bits don't count (X.680 22.7).
-fn bits_default(bits: BitString, have_names: bool) -> Value<'static> {
+fn bits_value(bits: BitString, have_names: bool) -> Value<'static> {
     let bits = CowBits::Owned(bits);
     if have_names {
         Value::Bits(bits.into_significant())
     } else {
         Value::Bits(bits)
-    }
-}
-
-/// Returns whether a text is `{ }`.
-fn is_empty(text: &str) -> bool {
-    match text.strip_prefix('{') {
-        Some(inner) => inner.trim_start() == "}",
-        None => false,
     }
 }
 

@@ -1,5 +1,9 @@
 //! Bits and hexadecimal digits between apostrophes (X.680 12.10, 12.12).
+use rasn_types::types::BitString;
 use std::alloc::{AllocError, Global};
+
+/// No named bit of a default value has a higher number.
+const MAX_BIT: i128 = 65_535;
 
 /// Bits in octets, of which the last is filled up with zeros.
 #[derive(Drop)]
@@ -56,4 +60,46 @@ pub(crate) fn read_digits(alloc: Global, written: &str) -> Result<Digits, AllocE
         digits.push(octet, is_hexadecimal)?;
     }
     Ok(digits)
+}
+
+/// Bits of a string that are set by their numbers (X.680 22.9).
+#[derive(Drop)]
+pub(crate) struct Bits {
+    octets: Vec<u8>,
+    length: usize,
+}
+
+impl Bits {
+    pub(crate) fn new(alloc: Global) -> Bits {
+        Bits {
+            octets: Vec::new(alloc),
+            length: 0,
+        }
+    }
+
+    /// Sets a bit, and returns whether there can be one of this number.
+    pub(crate) fn set(&mut self, number: i128) -> Result<bool, AllocError> {
+        if number > MAX_BIT {
+            return Ok(false);
+        }
+        let Ok(number) = usize::try_from(number) else {
+            return Ok(false);
+        };
+        let octet = number / 8;
+        for _ in self.octets.len()..octet.saturating_add(1) {
+            self.octets.push(0)?;
+        }
+        let mask = 0x80u8 >> (number % 8);
+        if let Some(found) = self.octets.get_mut(octet) {
+            *found |= mask;
+        }
+        self.length = self.length.max(number.saturating_add(1));
+        Ok(true)
+    }
+
+    /// Returns the bits.
+    pub(crate) fn into_string(self) -> Option<BitString> {
+        let Bits { octets, length } = self;
+        BitString::new(octets, length)
+    }
 }

@@ -1,6 +1,7 @@
 //! Named numbers (X.680 19) and enumerations (X.680 20).
 use crate::fault::{Problem, Stop};
 use crate::position::Position;
+use crate::resolver::node::Place;
 use crate::resolver::shape::Resolver;
 use crate::tree::{NamedNumber, Value};
 use rasn_schema::NamedNumber as Numbered;
@@ -40,18 +41,25 @@ impl Enumeration {
 impl<'modules, 'text> Resolver<'modules, 'text> {
     /// Returns the names of an INTEGER's numbers (X.680 19).
     pub(crate) fn numbered(
-        self,
-        module: usize,
+        &mut self,
+        place: Place,
         names: &[NamedNumber<'text>],
         position: Position,
     ) -> Result<Vec<Numbered>, Stop<'text>> {
+        self.check_names(place, names)?;
+        let mut used = BTreeSet::new(self.alloc);
         let mut numbers = Vec::new(self.alloc);
         for named in names {
             let (Some(name), Some(value)) = (named.name, named.number) else {
                 let problem = Problem::Expected("a name with a number");
-                return Err(self.modules.fault(module, position, problem));
+                return Err(self.modules.fault(place.module, position, problem));
             };
-            let number = self.enumerated_number(module, value, named.position)?;
+            let number = self.enumerated_number(place, value, named.position)?;
+            if used.contains(&number) {
+                let rule = "two of the numbers are the same (X.680 19)";
+                self.broken_if(place, named.position, Some(rule))?;
+            }
+            used.insert(number)?;
             numbers.push(Numbered {
                 name: String::from_str(self.alloc, name)?,
                 number,
@@ -63,21 +71,24 @@ impl<'modules, 'text> Resolver<'modules, 'text> {
     /// Returns the names of an ENUMERATED with their numbers (X.680 20). A name without a number has the lowest that is free; after the marker, the lowest
     /// that is free and above those of the other additions.
     pub(crate) fn enumeration(
-        self,
-        module: usize,
+        &mut self,
+        place: Place,
         names: &[NamedNumber<'text>],
         position: Position,
     ) -> Result<Vec<Numbered>, Stop<'text>> {
+        self.check_names(place, names)?;
         let root = root_length(names);
+        self.broken_if(place, position, misplaced_marker(names, root))?;
+        let used = self.written_numbers(place, names.get(..root).unwrap_or(&[]))?;
         let mut found = Enumeration {
             numbers: Vec::new(self.alloc),
-            used: self.written_numbers(module, names.get(..root).unwrap_or(&[]))?,
+            used,
             free: 0,
         };
         for (index, named) in names.iter().enumerate() {
             match named.name {
                 Some(name) => {
-                    let written = self.written_number(module, *named)?;
+                    let written = self.written_number(place, *named)?;
                     found.add(self.alloc, name, written, index >= root)?;
                 }
                 None => found.free = 0,
@@ -86,20 +97,35 @@ impl<'modules, 'text> Resolver<'modules, 'text> {
         let Enumeration { numbers, .. } = found;
         if numbers.is_empty() {
             let problem = Problem::Broken("an ENUMERATED without names (X.680 20.1)");
-            return Err(self.modules.fault(module, position, problem));
+            return Err(self.modules.fault(place.module, position, problem));
         }
         Ok(numbers)
     }
 
+    /// Refuses a name that is twice in a list (X.680 19, 20).
+    fn check_names(&self, place: Place, names: &[NamedNumber<'text>]) -> Result<(), Stop<'text>> {
+        let mut seen = BTreeSet::new(self.alloc);
+        for named in names {
+            if let Some(name) = named.name {
+                if seen.contains(&name) {
+                    let rule = "two names are the same (X.680 19, 20)";
+                    self.broken_if(place, named.position, Some(rule))?;
+                }
+                seen.insert(name)?;
+            }
+        }
+        Ok(())
+    }
+
     /// Returns the numbers that are written in an enumeration.
     fn written_numbers(
-        self,
-        module: usize,
+        &mut self,
+        place: Place,
         names: &[NamedNumber<'text>],
     ) -> Result<BTreeSet<isize>, Stop<'text>> {
         let mut used = BTreeSet::new(self.alloc);
         for named in names {
-            if let Some(number) = self.written_number(module, *named)? {
+            if let Some(number) = self.written_number(place, *named)? {
                 used.insert(number)?;
             }
         }
@@ -108,29 +134,29 @@ impl<'modules, 'text> Resolver<'modules, 'text> {
 
     /// Returns the number that is written after a name.
     fn written_number(
-        self,
-        module: usize,
+        &mut self,
+        place: Place,
         named: NamedNumber<'text>,
     ) -> Result<Option<isize>, Stop<'text>> {
         match named.number {
-            Some(value) => Ok(Some(self.enumerated_number(module, value, named.position)?)),
+            Some(value) => Ok(Some(self.enumerated_number(place, value, named.position)?)),
             None => Ok(None),
         }
     }
 
     /// Returns a number that has a name.
     fn enumerated_number(
-        self,
-        module: usize,
+        &mut self,
+        place: Place,
         value: Value<'text>,
         position: Position,
     ) -> Result<isize, Stop<'text>> {
-        let number = self.modules.number(module, value, &[], module, position)?;
+        let number = self.number(place, value, &[], place, position)?;
         match isize::try_from(number) {
             Ok(number) => Ok(number),
             Err(_) => {
                 let problem = Problem::Unsupported("a named number outside 64 bits");
-                Err(self.modules.fault(module, position, problem))
+                Err(self.modules.fault(place.module, position, problem))
             }
         }
     }
@@ -150,6 +176,21 @@ pub(crate) fn are_repeated(alloc: Global, numbers: &[Numbered]) -> Result<bool, 
         }
     }
     Ok(false)
+}
+
+/// Returns the rule that the markers of an ENUMERATED break. So many names are before the first.
+fn misplaced_marker(names: &[NamedNumber<'_>], root: usize) -> Option<&'static str> {
+    if names.is_empty() {
+        return None;
+    }
+    if root == 0 {
+        return Some("an ENUMERATED that begins with the marker (X.680 20.1)");
+    }
+    let rest = names.get(root.saturating_add(1)..).unwrap_or(&[]);
+    if rest.iter().any(|named| named.name.is_none()) {
+        return Some("an ENUMERATED with two markers (X.680 20.1)");
+    }
+    None
 }
 
 /// Returns how many names are before the marker.

@@ -11,7 +11,6 @@ pub(crate) enum Plain {
     Unseen,
     /// Any value.
     Open,
-    Unsupported(&'static str),
 }
 
 /// Returns what a schema has for a type, and the number of its universal tag (X.680 table 1).
@@ -22,7 +21,7 @@ pub(crate) fn universal_type(builtin: Builtin) -> (Plain, u32) {
         Builtin::OctetString => (Plain::Leaf(LeafKind::OctetString), 4),
         Builtin::Null => (Plain::Leaf(LeafKind::Null), 5),
         Builtin::ObjectIdentifier => (Plain::Leaf(LeafKind::ObjectIdentifier), 6),
-        Builtin::External => (Plain::Unsupported("EXTERNAL"), 8),
+        Builtin::External => (Plain::Unseen, 8),
         Builtin::Real => (Plain::Unseen, 9),
         Builtin::EmbeddedPdv => (Plain::Unseen, 11),
         Builtin::RelativeObjectIdentifier => (Plain::Unseen, 13),

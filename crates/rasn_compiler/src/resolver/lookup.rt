@@ -1,8 +1,9 @@
 //! What names mean (X.680 13.12 to 13.16).
 use crate::fault::{Fault, Problem, Stop};
-use crate::modules::Modules;
+use crate::given::is_given;
+use crate::modules::{Modules, Source};
 use crate::position::Position;
-use crate::tree::{Assigned, Assignment, Meaning, Type};
+use crate::tree::{Assigned, Assignment, Base, Meaning, Module, Type};
 
 /// How many names may lead to one another.
 pub(crate) const MAX_NAMES: usize = 256;
@@ -15,7 +16,7 @@ impl<'text> Modules<'text> {
         position: Position,
         problem: Problem<'text>,
     ) -> Stop<'text> {
-        let source = match self.modules.get(module) {
+        let source = match self.module_at(module) {
             Some(found) => found.source,
             None => "",
         };
@@ -26,9 +27,18 @@ impl<'text> Modules<'text> {
         })
     }
 
+    /// Returns the source of a part of a module's text.
+    pub(crate) fn source_of(&self, module: usize, text: &'text str) -> Source<'text> {
+        let name = match self.module_at(module) {
+            Some(found) => found.source,
+            None => "",
+        };
+        Source { name, text }
+    }
+
     /// Returns a type of a module.
     pub(crate) fn type_at(&self, module: usize, index: usize) -> Result<&Type<'text>, Stop<'text>> {
-        if let Some(found) = self.modules.get(module) {
+        if let Some(found) = self.module_at(module) {
             if let Some(ty) = found.types.get(index) {
                 return Ok(ty);
             }
@@ -49,7 +59,7 @@ impl<'text> Modules<'text> {
             None => module,
         };
         for _ in 0..MAX_NAMES {
-            let Some(found) = self.modules.get(at) else {
+            let Some(found) = self.module_at(at) else {
                 break;
             };
             match found.meanings.get(name) {
@@ -62,6 +72,9 @@ impl<'text> Modules<'text> {
                         break;
                     };
                     at = self.loaded(module, import.module, position)?;
+                }
+                None if is_given(name) && outside.is_none() && at != self.modules.len() => {
+                    at = self.modules.len();
                 }
                 None => return Err(self.fault(module, position, Problem::Undefined(name))),
             }
@@ -82,42 +95,79 @@ impl<'text> Modules<'text> {
         }
     }
 
-    /// Returns the type that a name means, by its module and its index.
-    pub(crate) fn type_meant(
-        &self,
-        module: usize,
-        outside: Option<&'text str>,
-        name: &'text str,
-        position: Position,
-    ) -> Result<(usize, usize), Stop<'text>> {
-        let (found, assignment) = self.meaning(module, outside, name, position)?;
-        let problem = match assignment.assigned {
-            Assigned::Type(of) if assignment.parameters.is_none() => return Ok((found, of.0)),
-            Assigned::Type(_) => Problem::Unsupported("a parameterized type"),
-            Assigned::Macro => Problem::Unsupported("a macro"),
-            Assigned::Values { .. } => Problem::Unsupported("a set of values as a type"),
-            Assigned::Class { .. } | Assigned::Value { .. } => Problem::Expected("a type"),
-        };
-        Err(self.fault(module, position, problem))
-    }
-
-    /// Returns a type of a module, by its module's index and its own.
+    /// Returns a type of a module, and its name.
     pub(crate) fn type_named(
         &self,
-        module: &'text str,
-        name: &'text str,
-    ) -> Result<(usize, usize), Stop<'text>> {
-        let Some(index) = self.index_of(module) else {
-            return Err(Stop::Fault(Fault {
-                source: module,
-                position: Position::START,
-                problem: Problem::NotLoaded(module),
-            }));
+        module: &str,
+        name: &str,
+    ) -> Result<(usize, &'text str, Position), Stop<'text>> {
+        let index = self.index_of(module).unwrap_or(usize::MAX);
+        let Some(found) = self.modules.get(index) else {
+            let problem = Problem::Expected("the name of a module");
+            return Err(self.fault(index, Position::START, problem));
         };
-        let position = match self.modules.get(index) {
-            Some(found) => found.position,
-            None => Position::START,
+        match known_name(found, name) {
+            Some(known) => Ok((index, known, found.position)),
+            None => {
+                let problem = Problem::Expected("a type of the name that was asked for");
+                Err(self.fault(index, found.position, problem))
+            }
+        }
+    }
+}
+
+impl<'text> Modules<'text> {
+    /// Returns whether a name of a module is that of a class, also by way of other names (X.681 9.2).
+    pub fn is_class(&self, module: &str, name: &str) -> bool {
+        let Ok((index, known, position)) = self.type_named(module, name) else {
+            return false;
         };
-        self.type_meant(index, None, name, position)
+        let mut at = index;
+        let mut outside = None;
+        let mut name = known;
+        for _ in 0..MAX_NAMES {
+            let Ok((found, assignment)) = self.meaning(at, outside, name, position) else {
+                return false;
+            };
+            match self.name_of(found, assignment.assigned) {
+                Some((module, next)) => {
+                    at = found;
+                    outside = module;
+                    name = next;
+                }
+                None => return matches!(assignment.assigned, Assigned::Class { .. }),
+            }
+        }
+        false
+    }
+
+    /// Returns the name that an assignment is another one for.
+    fn name_of(
+        &self,
+        module: usize,
+        assigned: Assigned<'text>,
+    ) -> Option<(Option<&'text str>, &'text str)> {
+        let Assigned::Type(of) = assigned else {
+            return None;
+        };
+        match &self.module_at(module)?.types.get(of.0)?.base {
+            Base::Reference { module, name, .. } => Some((*module, *name)),
+            _ => None,
+        }
+    }
+}
+
+/// Returns the name as it is in the text of a module, if it means something there.
+fn known_name<'text>(module: &Module<'text>, name: &str) -> Option<&'text str> {
+    match module.meanings.get(name)? {
+        Meaning::Assigned(index) => Some(module.assignments.get(*index)?.name),
+        Meaning::Imported(index) => {
+            for symbol in &module.imports.get(*index)?.symbols {
+                if *symbol == name {
+                    return Some(*symbol);
+                }
+            }
+            None
+        }
     }
 }

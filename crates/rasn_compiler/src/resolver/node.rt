@@ -5,10 +5,25 @@ use rasn_schema::{Presence, Type};
 use rasn_types::types::Tag;
 use std::alloc::Global;
 
+/// Where names are looked up.
+#[derive(Clone, Copy, PartialEq, Eq, PartialOrd, Ord)]
+pub(crate) struct Place {
+    pub(crate) module: usize,
+    /// Which parameters are known (X.683 8.3): 0 if there are none.
+    pub(crate) scope: usize,
+}
+
+impl Place {
+    /// Returns the place of what has no parameters in a module.
+    pub(crate) fn of(module: usize) -> Place {
+        Place { module, scope: 0 }
+    }
+}
+
 /// A type as it is used: a type of a module within an automatic tag (X.680 25.7), without so many of its explicit tags.
 #[derive(Clone, Copy, PartialEq, Eq, PartialOrd, Ord)]
 pub(crate) struct Use {
-    pub(crate) module: usize,
+    pub(crate) place: Place,
     pub(crate) index: usize,
     pub(crate) automatic: Option<u32>,
     pub(crate) peeled: usize,
@@ -16,9 +31,9 @@ pub(crate) struct Use {
 
 impl Use {
     /// Returns the use of a type as it is written.
-    pub(crate) fn of(module: usize, index: usize) -> Use {
+    pub(crate) fn of(place: Place, index: usize) -> Use {
         Use {
-            module,
+            place,
             index,
             automatic: None,
             peeled: 0,
@@ -33,6 +48,8 @@ pub(crate) struct Tags {
     pub(crate) explicit: Vec<Tag>,
     /// The tag that replaces the next one (X.680 31.2.7).
     pub(crate) implicit: Option<Tag>,
+    /// Whether that tag is an automatic one, and nothing else is known.
+    pub(crate) is_automatic: bool,
 }
 
 /// A type whose references were followed.
@@ -46,10 +63,10 @@ pub(crate) struct Unfolded<'text> {
     pub(crate) name: Option<&'text str>,
     /// The tags on the way from there.
     pub(crate) tags: Tags,
-    /// The constraints on the way, each with its module, the outermost first.
-    pub(crate) constraints: Vec<(usize, Unread<'text>)>,
-    /// The module of the type at the end, which is no reference.
-    pub(crate) module: usize,
+    /// The constraints on the way, each with its place, the outermost first.
+    pub(crate) constraints: Vec<(Place, Unread<'text>)>,
+    /// The place of the type at the end, which is no reference.
+    pub(crate) place: Place,
     /// The index of that type.
     pub(crate) index: usize,
 }
@@ -99,7 +116,7 @@ pub(crate) struct Node<'text> {
     pub(crate) name: &'text str,
     /// Whether the name is the type's own, and not that of a component.
     pub(crate) is_named: bool,
-    pub(crate) module: usize,
+    pub(crate) place: Place,
     pub(crate) position: Position,
 }
 

@@ -1,55 +1,69 @@
 //! Whole numbers that are written or named (X.680 19).
 use crate::fault::{Problem, Stop};
-use crate::modules::Modules;
 use crate::position::Position;
 use crate::resolver::lookup::MAX_NAMES;
-use crate::tree::{Assigned, Base, NamedNumber, Value};
+use crate::resolver::node::Place;
+use crate::resolver::shape::Resolver;
+use crate::tree::{Assigned, Base, Given, NamedNumber, Value};
 
-impl<'text> Modules<'text> {
-    /// Returns the number that a value of an INTEGER or an ENUMERATED is. These names of numbers, of a type in the module `home`, come before the names of
+impl<'modules, 'text> Resolver<'modules, 'text> {
+    /// Returns the number that a value of an INTEGER or an ENUMERATED is. These names of numbers, of a type at the place `home`, come before the names of
     /// values (X.680 19.9).
     pub(crate) fn number(
-        &self,
-        module: usize,
+        &mut self,
+        place: Place,
         value: Value<'text>,
         names: &[NamedNumber<'text>],
-        home: usize,
+        home: Place,
         position: Position,
     ) -> Result<i128, Stop<'text>> {
         let (mut at, mut value) = match number_named(names, value) {
             Some(number) => (home, number),
-            None => (module, value),
+            None => (place, value),
         };
         for _ in 0..MAX_NAMES {
             match value {
                 Value::Number {
                     is_negative,
                     digits,
-                } => return self.digits(module, is_negative, digits, position),
-                Value::Name {
-                    module: outside,
-                    name,
-                } => {
-                    let (found, assignment) = self.meaning(at, outside, name, position)?;
-                    let Assigned::Value { of, value: next } = assignment.assigned else {
-                        return Err(self.fault(module, position, Problem::Expected("a number")));
-                    };
-                    (at, value) = self.governed(found, of.0, next, position)?;
+                } => return self.digits(place, is_negative, digits, position),
+                Value::Name { module, name } => {
+                    (at, value) = self.number_meant(at, module, name, position)?;
                 }
-                _ => return Err(self.fault(module, position, Problem::Expected("a number"))),
+                _ => return Err(self.expected(place, position, "a number")),
             }
         }
-        Err(self.fault(
-            module,
-            position,
-            Problem::Unsupported("a number of so many names"),
-        ))
+        let problem = Problem::Unsupported("a number of so many names");
+        Err(self.modules.fault(place.module, position, problem))
+    }
+
+    /// Returns what the name of a number means, with its place.
+    fn number_meant(
+        &mut self,
+        place: Place,
+        outside: Option<&'text str>,
+        name: &'text str,
+        position: Position,
+    ) -> Result<(Place, Value<'text>), Stop<'text>> {
+        if outside.is_none() {
+            if let Some(bound) = self.bound(place, name) {
+                return match bound.given {
+                    Given::Value(value) => Ok((bound.place, value)),
+                    _ => Err(self.expected(place, position, "a number")),
+                };
+            }
+        }
+        let (module, assignment) = self.modules.meaning(place.module, outside, name, position)?;
+        let Assigned::Value { of, value } = assignment.assigned else {
+            return Err(self.expected(place, position, "a number"));
+        };
+        self.governed(Place::of(module), of.0, value, position)
     }
 
     /// Returns the number of these digits.
     fn digits(
         &self,
-        module: usize,
+        place: Place,
         is_negative: bool,
         digits: &str,
         position: Position,
@@ -58,51 +72,27 @@ impl<'text> Modules<'text> {
         match parsed {
             Ok(number) if is_negative => Ok(number.saturating_neg()),
             Ok(number) => Ok(number),
-            Err(_) => Err(self.fault(module, position, Problem::Unsupported("such a number"))),
+            Err(_) => {
+                let problem = Problem::Unsupported("such a number");
+                Err(self.modules.fault(place.module, position, problem))
+            }
         }
     }
 
-    /// Returns the number of the name that a value of a type is, or the value, with the module that it is in.
+    /// Returns the number of the name that a value of a type is, or the value, with its place.
     fn governed(
-        &self,
-        module: usize,
+        &mut self,
+        place: Place,
         index: usize,
         value: Value<'text>,
         position: Position,
-    ) -> Result<(usize, Value<'text>), Stop<'text>> {
-        let (home, end) = self.end_of(module, index, position)?;
-        let ty = self.type_at(home, end)?;
+    ) -> Result<(Place, Value<'text>), Stop<'text>> {
+        let (home, end) = self.end_of(place, index, position)?;
+        let ty = self.modules.type_at(home.module, end)?;
         match number_named(names_of(&ty.base), value) {
             Some(number) => Ok((home, number)),
-            None => Ok((module, value)),
+            None => Ok((place, value)),
         }
-    }
-
-    /// Returns the type that a type's references lead to, which is no reference.
-    pub(crate) fn end_of(
-        &self,
-        module: usize,
-        index: usize,
-        position: Position,
-    ) -> Result<(usize, usize), Stop<'text>> {
-        let mut at = module;
-        let mut end = index;
-        for _ in 0..MAX_NAMES {
-            let Base::Reference {
-                module: outside,
-                name,
-                ..
-            } = &self.type_at(at, end)?.base
-            else {
-                return Ok((at, end));
-            };
-            (at, end) = self.type_meant(at, *outside, name, position)?;
-        }
-        Err(self.fault(
-            module,
-            position,
-            Problem::Unsupported("a type of so many names"),
-        ))
     }
 }
 

@@ -111,7 +111,7 @@ fn endless<'text>(modules: &Modules<'text>, nodes: &[Node<'text>], order: &Order
     for (index, node) in nodes.iter().enumerate() {
         if order.number(index).is_none() {
             let problem = Problem::Endless(node.name);
-            return modules.fault(node.module, node.position, problem);
+            return modules.fault(node.place.module, node.position, problem);
         }
     }
     modules.fault(0, Position::START, Problem::TooLarge)

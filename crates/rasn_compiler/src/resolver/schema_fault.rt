@@ -21,7 +21,7 @@ pub(crate) fn schema_fault<'text>(
     let (one, first) = part(node, index);
     let (two, second) = part(node, other);
     let position = second.or(first).unwrap_or(node.position);
-    modules.fault(node.module, position, problem(error, one, two))
+    modules.fault(node.place.module, position, problem(error, one, two))
 }
 
 /// Returns the name and the place of a part, or those of the type.

@@ -2,40 +2,47 @@
 use crate::fault::{Problem, Stop};
 use crate::modules::Modules;
 use crate::position::Position;
+use crate::resolver::components::Within;
 use crate::resolver::enumerated::{are_repeated, is_extensible};
 use crate::resolver::leaf::{Plain, universal, universal_type};
 use crate::resolver::node::{Asked, Shape, Unfolded, Use};
+use crate::resolver::scope::Scope;
 use crate::tree::{Base, Builtin, Component, ListOf, NamedNumber, Type as Written};
 use rasn_schema::{LeafKind, Type, TypeId};
 use rasn_types::types::{Constraints, Tag};
 use std::alloc::Global;
 
-/// The modules in which types are resolved. Functions count the constraints that a schema doesn't check in `unchecked`.
-#[derive(Clone, Copy)]
+/// The modules in which types are resolved.
+#[derive(Drop)]
 pub(crate) struct Resolver<'modules, 'text> {
     pub(crate) alloc: Global,
     pub(crate) modules: &'modules Modules<'text>,
+    /// How many constraints were found that a schema doesn't check.
+    pub(crate) unchecked: usize,
+    /// What parameters are given.
+    pub(crate) scopes: Vec<Scope<'text>>,
 }
 
 impl<'modules, 'text> Resolver<'modules, 'text> {
+    /// Counts constraints that a schema doesn't check.
+    pub(crate) fn count_unchecked(&mut self, count: usize) {
+        self.unchecked = self.unchecked.saturating_add(count);
+    }
+
     /// Resolves a type.
-    pub(crate) fn shape(
-        self,
-        asked: Asked<'text>,
-        unchecked: &mut usize,
-    ) -> Result<Shape<'text>, Stop<'text>> {
-        let unfolded = self.modules.unfold(self.alloc, asked.of)?;
-        let written = self.modules.type_at(unfolded.module, unfolded.index)?;
+    pub(crate) fn shape(&mut self, asked: Asked<'text>) -> Result<Shape<'text>, Stop<'text>> {
+        let unfolded = self.unfold(asked.of)?;
+        let written = self.modules.type_at(unfolded.place.module, unfolded.index)?;
         match prefix(&unfolded, asked.of.peeled, is_untagged(written)) {
             Some(tag) => Ok(self.tagged(tag, asked.of)),
-            None => self.inner(&unfolded, written, asked.name, unchecked),
+            None => self.inner(&unfolded, written, asked.name),
         }
     }
 
     /// Returns a type within an explicit tag (X.680 31.2.7).
-    fn tagged(self, tag: Tag, of: Use) -> Shape<'text> {
+    fn tagged(&self, tag: Tag, of: Use) -> Shape<'text> {
         let within = Use {
-            module: of.module,
+            place: of.place,
             index: of.index,
             automatic: of.automatic,
             peeled: of.peeled.saturating_add(1),
@@ -52,11 +59,10 @@ impl<'modules, 'text> Resolver<'modules, 'text> {
 
     /// Resolves a type within its explicit tags.
     fn inner(
-        self,
+        &mut self,
         unfolded: &Unfolded<'text>,
         written: &Written<'text>,
         name: &'text str,
-        unchecked: &mut usize,
     ) -> Result<Shape<'text>, Stop<'text>> {
         match &written.base {
             Base::Sequence(list) => {
@@ -64,7 +70,7 @@ impl<'modules, 'text> Resolver<'modules, 'text> {
                     tag: own_tag(unfolded, 16),
                     components: Vec::new(self.alloc),
                 };
-                self.made_of(unfolded, ty, list.as_slice(), unchecked)
+                self.made_of(unfolded, ty, list.as_slice(), Within::Sequence)
             }
             Base::Set(list) => {
                 let ty = Type::Set {
@@ -72,19 +78,19 @@ impl<'modules, 'text> Resolver<'modules, 'text> {
                     tag: own_tag(unfolded, 17),
                     components: Vec::new(self.alloc),
                 };
-                self.made_of(unfolded, ty, list.as_slice(), unchecked)
+                self.made_of(unfolded, ty, list.as_slice(), Within::Set)
             }
             Base::Choice(list) => {
                 let ty = Type::Choice {
                     name: String::from_str(self.alloc, name)?,
                     alternatives: Vec::new(self.alloc),
                 };
-                self.made_of(unfolded, ty, list.as_slice(), unchecked)
+                self.made_of(unfolded, ty, list.as_slice(), Within::Choice)
             }
-            Base::SequenceOf(list) => self.list_of(unfolded, *list, false, unchecked),
-            Base::SetOf(list) => self.list_of(unfolded, *list, true, unchecked),
+            Base::SequenceOf(list) => self.list_of(unfolded, *list, false),
+            Base::SetOf(list) => self.list_of(unfolded, *list, true),
             other => {
-                let ty = self.leaf(unfolded, other, written.position, unchecked)?;
+                let ty = self.leaf(unfolded, other, written.position)?;
                 Ok(Shape::alone(self.alloc, ty))
             }
         }
@@ -92,29 +98,28 @@ impl<'modules, 'text> Resolver<'modules, 'text> {
 
     /// Resolves a type that has components or alternatives.
     fn made_of(
-        self,
+        &mut self,
         unfolded: &Unfolded<'text>,
         ty: Type,
         list: &[Component<'text>],
-        unchecked: &mut usize,
+        within: Within,
     ) -> Result<Shape<'text>, Stop<'text>> {
-        *unchecked = unchecked.saturating_add(unfolded.constraints.len());
+        self.count_unchecked(unfolded.constraints.len());
         Ok(Shape {
             ty,
-            parts: self.components(unfolded.module, list)?,
+            parts: self.components(unfolded.place, list, within)?,
             inner: None,
         })
     }
 
     /// Resolves SEQUENCE OF or SET OF, with the bounds of its size (X.680 26, 28).
     fn list_of(
-        self,
+        &mut self,
         unfolded: &Unfolded<'text>,
         list: ListOf<'text>,
         is_set: bool,
-        unchecked: &mut usize,
     ) -> Result<Shape<'text>, Stop<'text>> {
-        let constraints = self.size_bounds(unfolded, list.size, unchecked)?;
+        let constraints = self.size_bounds(unfolded, list.size)?;
         let element = TypeId(0);
         let ty = if is_set {
             Type::SetOf {
@@ -132,63 +137,55 @@ impl<'modules, 'text> Resolver<'modules, 'text> {
         Ok(Shape {
             ty,
             parts: Vec::new(self.alloc),
-            inner: Some(Use::of(unfolded.module, list.element.0)),
+            inner: Some(Use::of(unfolded.place, list.element.0)),
         })
     }
 
     /// Resolves a type that is made of no others.
     fn leaf(
-        self,
+        &mut self,
         unfolded: &Unfolded<'text>,
         base: &Base<'text>,
         position: Position,
-        unchecked: &mut usize,
     ) -> Result<Type, Stop<'text>> {
         match base {
-            Base::Builtin(builtin) => self.builtin(unfolded, *builtin, position, unchecked),
-            Base::Integer(names) => self.integer(unfolded, names.as_slice(), position, unchecked),
-            Base::BitString(names) => {
-                self.bit_string(unfolded, names.as_slice(), position, unchecked)
-            }
-            Base::Enumerated(names) => {
-                *unchecked = unchecked.saturating_add(unfolded.constraints.len());
-                self.enumerated(unfolded, names.as_slice(), position)
-            }
+            Base::Builtin(builtin) => self.builtin(unfolded, *builtin),
+            Base::Integer(names) => self.integer(unfolded, names.as_slice(), position),
+            Base::BitString(names) => self.bit_string(unfolded, names.as_slice(), position),
+            Base::Enumerated(names) => self.enumerated(unfolded, names.as_slice(), position),
             other if is_open(other) => {
-                *unchecked = unchecked.saturating_add(unfolded.constraints.len());
+                self.count_unchecked(unfolded.constraints.len());
                 Ok(Type::Any { tag: Tag::EOC })
             }
-            other => {
-                let problem = Problem::Unsupported(unsupported(other));
-                Err(self.modules.fault(unfolded.module, position, problem))
+            _ => {
+                let problem = Problem::Unsupported("such a type");
+                Err(self.modules.fault(unfolded.place.module, position, problem))
             }
         }
     }
 
     /// Resolves an INTEGER (X.680 19).
     fn integer(
-        self,
+        &mut self,
         unfolded: &Unfolded<'text>,
         names: &[NamedNumber<'text>],
         position: Position,
-        unchecked: &mut usize,
     ) -> Result<Type, Stop<'text>> {
-        let constraints = self.value_bounds(unfolded, names, unchecked)?;
+        let constraints = self.value_bounds(unfolded, names)?;
         Ok(Type::Leaf {
             kind: LeafKind::Integer,
             tag: own_tag(unfolded, 2),
             constraints,
-            names: self.numbered(unfolded.module, names, position)?,
+            names: self.numbered(unfolded.place, names, position)?,
         })
     }
 
     /// Resolves a BIT STRING, whose bits may have names (X.680 22).
     fn bit_string(
-        self,
+        &mut self,
         unfolded: &Unfolded<'text>,
         names: &[NamedNumber<'text>],
         position: Position,
-        unchecked: &mut usize,
     ) -> Result<Type, Stop<'text>> {
         let kind = if names.is_empty() {
             LeafKind::BitString
@@ -198,27 +195,28 @@ impl<'modules, 'text> Resolver<'modules, 'text> {
         Ok(Type::Leaf {
             kind,
             tag: own_tag(unfolded, 3),
-            constraints: self.size_bounds(unfolded, None, unchecked)?,
-            names: self.numbered(unfolded.module, names, position)?,
+            constraints: self.size_bounds(unfolded, None)?,
+            names: self.numbered(unfolded.place, names, position)?,
         })
     }
 
     /// Resolves an ENUMERATED (X.680 20). One with a marker has any number of 64 bits, since a newer
     /// version may name others.
     fn enumerated(
-        self,
+        &mut self,
         unfolded: &Unfolded<'text>,
         names: &[NamedNumber<'text>],
         position: Position,
     ) -> Result<Type, Stop<'text>> {
+        self.count_unchecked(unfolded.constraints.len());
         let tag = own_tag(unfolded, 10);
-        let numbers = self.enumeration(unfolded.module, names, position)?;
+        let numbers = self.enumeration(unfolded.place, names, position)?;
         if !is_extensible(names) {
             return Ok(Type::Enumerated { tag, numbers });
         }
         if are_repeated(self.alloc, numbers.as_slice())? {
             let problem = Problem::Broken("two of the numbers are the same (X.680 20.3)");
-            return Err(self.modules.fault(unfolded.module, position, problem));
+            return Err(self.modules.fault(unfolded.place.module, position, problem));
         }
         Ok(Type::Leaf {
             kind: LeafKind::Signed64,
@@ -230,34 +228,28 @@ impl<'modules, 'text> Resolver<'modules, 'text> {
 
     /// Resolves a type that reserved words name.
     fn builtin(
-        self,
+        &mut self,
         unfolded: &Unfolded<'text>,
         builtin: Builtin,
-        position: Position,
-        unchecked: &mut usize,
     ) -> Result<Type, Stop<'text>> {
         let (kind, number) = universal_type(builtin);
         match kind {
             Plain::Leaf(kind) => {
-                let constraints = self.size_bounds(unfolded, None, unchecked)?;
+                let constraints = self.size_bounds(unfolded, None)?;
                 if builtin == Builtin::UniversalString {
-                    *unchecked = unchecked.saturating_add(1);
+                    self.count_unchecked(1);
                 }
                 Ok(plain_leaf(self.alloc, unfolded, kind, number, constraints))
             }
             Plain::Unseen => {
-                *unchecked = unchecked.saturating_add(1);
+                self.count_unchecked(1);
                 Ok(Type::Any {
                     tag: own_tag(unfolded, number),
                 })
             }
             Plain::Open => {
-                *unchecked = unchecked.saturating_add(unfolded.constraints.len());
+                self.count_unchecked(unfolded.constraints.len());
                 Ok(Type::Any { tag: Tag::EOC })
-            }
-            Plain::Unsupported(what) => {
-                let problem = Problem::Unsupported(what);
-                Err(self.modules.fault(unfolded.module, position, problem))
             }
         }
     }
@@ -282,34 +274,9 @@ fn is_untagged(written: &Written<'_>) -> bool {
     }
 }
 
-/// Returns whether a type is an open one: ANY DEFINED BY, or a class's field of types, whose name begins with a capital (X.681 7.2).
+/// Returns whether a type is an open one: ANY DEFINED BY, or what a class's field is if that has no type (X.681 14.2).
 fn is_open(base: &Base<'_>) -> bool {
-    match base {
-        Base::AnyDefinedBy(_) => true,
-        Base::ClassField { path, .. } => is_type_field(path.as_slice()),
-        _ => false,
-    }
-}
-
-/// Returns whether the last field of a path is one of types.
-fn is_type_field(path: &[&str]) -> bool {
-    match path.last() {
-        Some(field) => {
-            let first = field.as_bytes().get(1).copied();
-            first.unwrap_or(b'a').is_ascii_uppercase()
-        }
-        None => false,
-    }
-}
-
-/// Returns what a schema can't carry of a type.
-fn unsupported(base: &Base<'_>) -> &'static str {
-    match base {
-        Base::ClassField { .. } => "the type of a class's field",
-        Base::InstanceOf(_) => "INSTANCE OF",
-        Base::Selection { .. } => "a selection type",
-        _ => "such a type",
-    }
+    matches!(base, Base::AnyDefinedBy(_) | Base::ClassField { .. })
 }
 
 /// Returns the tag of a type: the implicit one, or its universal one.

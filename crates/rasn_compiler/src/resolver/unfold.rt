@@ -1,10 +1,11 @@
 //! References and tags that are followed (X.680 16.3, 31.2).
 use crate::fault::{Problem, Stop};
 use crate::modules::Modules;
-use crate::position::Position;
 use crate::resolver::lookup::MAX_NAMES;
-use crate::resolver::node::{Asked, Tags, Unfolded, Use};
-use crate::tree::{Base, Tag as WrittenTag, TagClass, Tagging, Type, Unread};
+use crate::resolver::node::{Asked, Place, Tags, Unfolded, Use};
+use crate::resolver::reference::Next;
+use crate::resolver::shape::Resolver;
+use crate::tree::{Tag as WrittenTag, TagClass, Tagging, Type, Unread};
 use rasn_types::types::{Class, Tag};
 use std::alloc::{AllocError, Global};
 
@@ -13,7 +14,26 @@ impl Tags {
         Tags {
             explicit: Vec::new(alloc),
             implicit: None,
+            is_automatic: false,
         }
+    }
+
+    /// Adds an automatic tag (X.680 25.7, 29.2).
+    fn add_automatic(&mut self, number: Option<u32>) -> Result<(), AllocError> {
+        if let Some(number) = number {
+            self.add(context(number), false)?;
+            self.is_automatic = true;
+        }
+        Ok(())
+    }
+
+    /// Makes the tag that would replace the next one a tag of its own.
+    fn close(&mut self) -> Result<(), AllocError> {
+        if let Some(tag) = self.implicit {
+            self.explicit.push(tag)?;
+            self.implicit = None;
+        }
+        Ok(())
     }
 
     /// Adds a tag within those that are known: an implicit one before it replaces it (X.680 31.2.7).
@@ -33,36 +53,39 @@ impl<'text> Unfolded<'text> {
     /// Adds the constraints of a type on the way.
     fn add_constraints(&mut self, constraints: &[Unread<'text>]) -> Result<(), AllocError> {
         for constraint in constraints {
-            self.constraints.push((self.module, *constraint))?;
+            self.constraints.push((self.place, *constraint))?;
         }
         Ok(())
     }
 
-    /// Goes on to the type of this name. It means the same if nothing is said on the way.
-    fn go_to(&mut self, alloc: Global, module: usize, index: usize, name: &'text str) {
-        self.module = module;
-        self.index = index;
-        self.name = Some(name);
+    /// Goes on to a type. It means the same if nothing is said on the way.
+    fn go_to(&mut self, alloc: Global, next: Next<'text>) -> Result<(), AllocError> {
+        self.place = next.place;
+        self.index = next.index;
+        self.name = next.name.or(self.name);
         if self.constraints.is_empty()
             && self.tags.implicit.is_none()
             && self.tags.explicit.len() == self.same.peeled
         {
-            self.same = Use::of(module, index);
-            self.same_name = Some(name);
+            self.same = Use {
+                automatic: next.automatic,
+                ..Use::of(next.place, next.index)
+            };
+            self.same_name = if next.place.scope == 0 {
+                next.name
+            } else {
+                None
+            };
             self.tags = Tags::new(alloc);
         }
+        self.tags.add_automatic(next.automatic)
     }
 }
 
-impl<'text> Modules<'text> {
+impl<'modules, 'text> Resolver<'modules, 'text> {
     /// Returns the type that a use means, and what it is called.
-    pub(crate) fn asked(
-        &self,
-        alloc: Global,
-        of: Use,
-        name: &'text str,
-    ) -> Result<Asked<'text>, Stop<'text>> {
-        let unfolded = self.unfold(alloc, of)?;
+    pub(crate) fn asked(&mut self, of: Use, name: &'text str) -> Result<Asked<'text>, Stop<'text>> {
+        let unfolded = self.unfold(of)?;
         Ok(Asked {
             of: unfolded.same,
             name: unfolded.same_name.or(unfolded.name).unwrap_or(name),
@@ -71,76 +94,70 @@ impl<'text> Modules<'text> {
     }
 
     /// Follows the references of a type to one that is none.
-    pub(crate) fn unfold(&self, alloc: Global, start: Use) -> Result<Unfolded<'text>, Stop<'text>> {
+    pub(crate) fn unfold(&mut self, start: Use) -> Result<Unfolded<'text>, Stop<'text>> {
         let mut found = Unfolded {
             same: start,
             same_name: None,
             name: None,
-            tags: Tags::new(alloc),
-            constraints: Vec::new(alloc),
-            module: start.module,
+            tags: Tags::new(self.alloc),
+            constraints: Vec::new(self.alloc),
+            place: start.place,
             index: start.index,
         };
-        if let Some(number) = start.automatic {
-            found.tags.add(context(number), false)?;
-        }
-        let position = self.type_at(start.module, start.index)?.position;
+        found.tags.add_automatic(start.automatic)?;
+        let position = self
+            .modules
+            .type_at(start.place.module, start.index)?
+            .position;
         for _ in 0..MAX_NAMES {
-            if !self.follow(alloc, &mut found)? {
+            if !self.follow(&mut found)? {
                 return Ok(found);
             }
         }
         let problem = Problem::Endless(found.name.unwrap_or(""));
-        Err(self.fault(start.module, position, problem))
+        Err(self.modules.fault(start.place.module, position, problem))
     }
 
     /// Follows a reference, and returns whether there was one.
-    fn follow(&self, alloc: Global, found: &mut Unfolded<'text>) -> Result<bool, Stop<'text>> {
-        let ty = self.type_at(found.module, found.index)?;
-        self.add_tags(found.module, ty, &mut found.tags)?;
+    fn follow(&mut self, found: &mut Unfolded<'text>) -> Result<bool, Stop<'text>> {
+        let ty = self.modules.type_at(found.place.module, found.index)?;
+        self.add_tags(found.place, ty, &mut found.tags)?;
         found.add_constraints(ty.constraints.as_slice())?;
-        let Base::Reference {
-            module: outside,
-            name,
-            ..
-        } = &ty.base
-        else {
-            return Ok(false);
-        };
-        let (module, index) = self.type_meant(found.module, *outside, name, ty.position)?;
-        found.go_to(alloc, module, index, name);
-        Ok(true)
+        match self.next(found.place, ty)? {
+            Some(next) => {
+                found.go_to(self.alloc, next)?;
+                Ok(true)
+            }
+            None => Ok(false),
+        }
     }
 
-    /// Adds the tags that are before a type.
+    /// Adds the tags that are before a type. One that is right before a parameter's name is explicit (X.680 31.2.7).
     fn add_tags(
-        &self,
-        module: usize,
+        &mut self,
+        place: Place,
         ty: &Type<'text>,
         tags: &mut Tags,
     ) -> Result<(), Stop<'text>> {
         for written in &ty.tags {
-            let tag = self.tag(module, *written)?;
+            let tag = self.tag(place, *written)?;
             let is_explicit = match written.tagging {
                 Some(tagging) => tagging == Tagging::Explicit,
-                None => self.tagging(module) == Tagging::Explicit,
+                None => self.modules.tagging(place.module) == Tagging::Explicit,
             };
             tags.add(tag, is_explicit)?;
+        }
+        let is_tagged = !ty.tags.is_empty() || tags.is_automatic;
+        tags.is_automatic = false;
+        if is_tagged && self.bound_type(place, &ty.base).is_some() {
+            tags.close()?;
         }
         Ok(())
     }
 
-    /// Returns what a tag without IMPLICIT or EXPLICIT is in a module.
-    pub(crate) fn tagging(&self, module: usize) -> Tagging {
-        match self.modules.get(module) {
-            Some(found) => found.tagging,
-            None => Tagging::Explicit,
-        }
-    }
-
     /// Returns a tag as it is written (X.680 31.2.1).
-    fn tag(&self, module: usize, written: WrittenTag<'text>) -> Result<Tag, Stop<'text>> {
-        let number = self.number(module, written.number, &[], module, written.position)?;
+    fn tag(&mut self, place: Place, written: WrittenTag<'text>) -> Result<Tag, Stop<'text>> {
+        let number = self.number(place, written.number, &[], place, written.position)?;
         let class = match written.class {
             TagClass::Universal => Class::Universal,
             TagClass::Application => Class::Application,
@@ -149,11 +166,23 @@ impl<'text> Modules<'text> {
         };
         match u32::try_from(number) {
             Ok(value) => Ok(Tag { class, value }),
-            Err(_) => Err(self.fault(
-                module,
-                written.position,
-                Problem::Unsupported("a tag's number outside 0..4294967295"),
-            )),
+            Err(_) => Err(
+                self.modules.fault(
+                    place.module,
+                    written.position,
+                    Problem::Unsupported("a tag's number outside 0..4294967295"),
+                ),
+            ),
+        }
+    }
+}
+
+impl Modules<'_> {
+    /// Returns what a tag without IMPLICIT or EXPLICIT is in a module.
+    pub(crate) fn tagging(&self, module: usize) -> Tagging {
+        match self.module_at(module) {
+            Some(found) => found.tagging,
+            None => Tagging::Explicit,
         }
     }
 }

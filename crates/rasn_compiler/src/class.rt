@@ -1,0 +1,132 @@
+//! Classes and their fields (X.681 9, 14).
+use crate::fault::Stop;
+use crate::parser::{MAX_DEPTH, Parser};
+use crate::position::Position;
+use crate::token::Kind;
+use crate::tree::{Base, Field, Type, TypeIndex};
+use std::alloc::AllocError;
+
+impl<'tokens, 'text> Parser<'tokens, 'text> {
+    /// Reads a class's fields, in braces (X.681 9.3).
+    pub(crate) fn class(&mut self) -> Result<TypeIndex, Stop<'text>> {
+        let position = self.position();
+        let mut fields = Vec::new(self.alloc);
+        self.expect("{")?;
+        for _ in 0..self.rest.len() {
+            fields.push(self.field()?)?;
+            if !self.eat(",") {
+                break;
+            }
+        }
+        self.expect("}")?;
+        Ok(self.push_type(position, Base::Class(fields))?)
+    }
+
+    /// Reads a field, with its type if it has one of its own (X.681 9.4).
+    fn field(&mut self) -> Result<Field<'text>, Stop<'text>> {
+        let name = self.expect_kind(Kind::Field, "a field")?;
+        let of = if self.is_field_of_no_type() {
+            None
+        } else {
+            Some(self.read_type(MAX_DEPTH)?)
+        };
+        self.skip_field()?;
+        Ok(Field { name, of })
+    }
+
+    /// Returns whether a field ends here, or has the type that another field is (X.681 9.5, 9.8, 9.10).
+    fn is_field_of_no_type(&self) -> bool {
+        self.peek() == Kind::Field
+            || self.is(",")
+            || self.is("}")
+            || self.is("OPTIONAL")
+            || self.is("DEFAULT")
+    }
+
+    /// Takes what follows a field's type, up to a comma or the closing brace.
+    fn skip_field(&mut self) -> Result<(), Stop<'text>> {
+        for _ in 0..self.rest.len() {
+            if self.is(",") || self.is("}") {
+                break;
+            }
+            if self.is("{") {
+                self.balanced()?;
+            } else {
+                self.skip(1);
+            }
+        }
+        Ok(())
+    }
+
+    /// Reads the name of a type or a class, with its module if that is written (X.680 14.6).
+    pub(crate) fn reference_name(&mut self) -> (Option<&'text str>, &'text str) {
+        let first = self.take();
+        if self.is(".") && self.peek_after(1) == Kind::Upper {
+            self.skip(1);
+            (Some(first), self.take())
+        } else {
+            (None, first)
+        }
+    }
+
+    /// Reads the fields after a class or an object (X.681 14, 15).
+    pub(crate) fn class_field(
+        &mut self,
+        position: Position,
+        module: Option<&'text str>,
+        name: &'text str,
+    ) -> Result<Base<'text>, Stop<'text>> {
+        let path = self.path()?;
+        let actuals = Vec::new(self.alloc);
+        let class = self.push_type(
+            position,
+            Base::Reference {
+                module,
+                name,
+                actuals,
+            },
+        )?;
+        Ok(Base::ClassField { class, path })
+    }
+
+    /// Takes the fields that dots precede (X.681 14).
+    pub(crate) fn path(&mut self) -> Result<Vec<&'text str>, AllocError> {
+        let mut path = Vec::new(self.alloc);
+        for _ in 0..self.rest.len() {
+            if !self.is(".") || self.peek_after(1) != Kind::Field {
+                break;
+            }
+            self.skip(1);
+            path.push(self.take())?;
+        }
+        Ok(path)
+    }
+
+    /// Adds a type without tags and constraints.
+    fn push_type(
+        &mut self,
+        position: Position,
+        base: Base<'text>,
+    ) -> Result<TypeIndex, AllocError> {
+        let index = TypeIndex(self.types.len());
+        self.types.push(Type {
+            position,
+            tags: Vec::new(self.alloc),
+            base,
+            constraints: Vec::new(self.alloc),
+        })?;
+        Ok(index)
+    }
+
+    /// Returns whether a type is next rather than a value.
+    pub(crate) fn begins_type(&self) -> bool {
+        match self.peek() {
+            Kind::Upper => !(self.is_after(1, ".") && self.peek_after(2) == Kind::Lower),
+            Kind::Lower => self.is_after(1, "<") || self.is_after(1, "."),
+            Kind::Fixed => {
+                self.is("[") || (self.is_reserved_word() && !self.is("TRUE") && !self.is("FALSE"))
+            }
+            _ => false,
+        }
+    }
+}

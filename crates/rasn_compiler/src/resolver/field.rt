@@ -1,0 +1,203 @@
+//! Fields of classes, and alternatives of a CHOICE that are selected (X.681 14, X.680 30).
+use crate::fault::{Problem, Stop};
+use crate::position::Position;
+use crate::resolver::included::automatic_number;
+use crate::resolver::lookup::MAX_NAMES;
+use crate::resolver::node::Place;
+use crate::resolver::reference::Next;
+use crate::resolver::shape::Resolver;
+use crate::tree::{Actual, Assigned, Base, Component, Field, Given, TypeIndex};
+
+impl<'modules, 'text> Resolver<'modules, 'text> {
+    /// Returns the type of a class's field, or None if any type may be there (X.681 14.2). The fields before the last are of objects.
+    pub(crate) fn field_type(
+        &mut self,
+        place: Place,
+        class: TypeIndex,
+        path: &[&'text str],
+        position: Position,
+    ) -> Result<Option<Next<'text>>, Stop<'text>> {
+        let mut at = place;
+        let mut of = Some(class);
+        for name in path {
+            let Some(class) = of else {
+                return Err(self.expected(place, position, "a field of objects"));
+            };
+            let (found, fields) = self.class_of(at, class.0, position)?;
+            let Some(field) = field_named(fields, name) else {
+                let problem = Problem::Undefined(name);
+                return Err(self.modules.fault(place.module, position, problem));
+            };
+            at = found;
+            of = field.of;
+        }
+        match of {
+            Some(of) => Ok(Some(Next::of(at, of.0))),
+            None => Ok(None),
+        }
+    }
+
+    /// Returns the fields of a class, following references to it (X.681 9.2).
+    fn class_of(
+        &mut self,
+        place: Place,
+        index: usize,
+        position: Position,
+    ) -> Result<(Place, &'modules [Field<'text>]), Stop<'text>> {
+        let modules = self.modules;
+        let mut at = place;
+        let mut index = index;
+        for _ in 0..MAX_NAMES {
+            match &modules.type_at(at.module, index)?.base {
+                Base::Class(fields) => return Ok((at, fields.as_slice())),
+                Base::Reference {
+                    module,
+                    name,
+                    actuals,
+                } => {
+                    (at, index) = self.class_meant(
+                        at,
+                        *module,
+                        name,
+                        actuals.as_slice(),
+                        position,
+                    )?;
+                }
+                _ => break,
+            }
+        }
+        Err(self.expected(place, position, "a class"))
+    }
+
+    /// Returns what the name of a class means, a class or a reference to one, or what a parameter of this name is given.
+    fn class_meant(
+        &mut self,
+        place: Place,
+        outside: Option<&'text str>,
+        name: &'text str,
+        actuals: &[Actual<'text>],
+        position: Position,
+    ) -> Result<(Place, usize), Stop<'text>> {
+        if outside.is_none() {
+            if let Some(bound) = self.bound(place, name) {
+                return match bound.given {
+                    Given::Type(index) => Ok((bound.place, index.0)),
+                    _ => Err(self.expected(place, position, "a class")),
+                };
+            }
+        }
+        let (module, assignment) = self.modules.meaning(place.module, outside, name, position)?;
+        let index = match assignment.assigned {
+            Assigned::Class { fields, .. } => fields.0,
+            Assigned::Type(of) => of.0,
+            Assigned::Value { .. } | Assigned::Values { .. } => {
+                let problem = Problem::Unsupported("the type of an object's field");
+                return Err(self.modules.fault(place.module, position, problem));
+            }
+            Assigned::Macro => return Err(self.expected(place, position, "a class")),
+        };
+        let inner = self.entered(place, module, &assignment, actuals, position)?;
+        Ok((inner, index))
+    }
+
+    /// Returns the type of the values of INSTANCE OF a class (X.681 C).
+    pub(crate) fn instance_of(
+        &mut self,
+        place: Place,
+        class: &'text str,
+        position: Position,
+    ) -> Result<Next<'text>, Stop<'text>> {
+        let (at, index) = self.class_meant(place, None, class, &[], position)?;
+        self.class_of(at, index, position)?;
+        self.given_type("InstanceOf", "INSTANCE OF")
+    }
+
+    /// Returns the type of the alternative of this name (X.680 30).
+    pub(crate) fn selected(
+        &mut self,
+        place: Place,
+        name: &'text str,
+        of: usize,
+        position: Position,
+    ) -> Result<Next<'text>, Stop<'text>> {
+        let (at, list) = self.choice_of(place, of, position)?;
+        let is_automatic = self.is_automatic(at, list)?;
+        for (index, component) in list.iter().enumerate() {
+            if let Component::Named {
+                name: found,
+                of,
+                ..
+            } = component
+            {
+                if *found == name {
+                    let automatic = if is_automatic {
+                        Some(automatic_number(list, index))
+                    } else {
+                        None
+                    };
+                    return Ok(Next {
+                        automatic,
+                        ..Next::of(at, of.0)
+                    });
+                }
+            }
+        }
+        let problem = Problem::Undefined(name);
+        Err(self.modules.fault(place.module, position, problem))
+    }
+
+    /// Returns the alternatives of a CHOICE, following references to it.
+    fn choice_of(
+        &mut self,
+        place: Place,
+        index: usize,
+        position: Position,
+    ) -> Result<(Place, &'modules [Component<'text>]), Stop<'text>> {
+        let modules = self.modules;
+        let mut next = Next::of(place, index);
+        for _ in 0..MAX_NAMES {
+            match &modules.type_at(next.place.module, next.index)?.base {
+                Base::Choice(list) => return Ok((next.place, list.as_slice())),
+                Base::Reference {
+                    module,
+                    name,
+                    actuals,
+                } => {
+                    next = self.type_meant(
+                        next.place,
+                        *module,
+                        name,
+                        actuals.as_slice(),
+                        position,
+                    )?;
+                }
+                _ => break,
+            }
+        }
+        Err(self.expected(place, position, "a CHOICE"))
+    }
+
+    /// Returns a type that is given to every module.
+    pub(crate) fn given_type(
+        &mut self,
+        name: &'text str,
+        shown: &'text str,
+    ) -> Result<Next<'text>, Stop<'text>> {
+        let place = Place::of(self.modules.modules.len());
+        let next = self.type_meant(place, None, name, &[], Position::START)?;
+        Ok(Next {
+            name: Some(shown),
+            ..next
+        })
+    }
+}
+
+/// Returns the field of this name.
+fn field_named<'text>(fields: &[Field<'text>], name: &str) -> Option<Field<'text>> {
+    for field in fields {
+        if field.name == name {
+            return Some(*field);
+        }
+    }
+    None
+}

@@ -1,0 +1,128 @@
+//! References that are followed (X.680 16.3, 30, X.681 14, C, X.683 9).
+use crate::fault::{Problem, Stop};
+use crate::position::Position;
+use crate::resolver::lookup::MAX_NAMES;
+use crate::resolver::node::Place;
+use crate::resolver::shape::Resolver;
+use crate::tree::{Actual, Assigned, Base, Builtin, Given, Type};
+
+/// What a type leads to.
+#[derive(Clone, Copy)]
+pub(crate) struct Next<'text> {
+    pub(crate) place: Place,
+    pub(crate) index: usize,
+    /// The automatic tag that it is within (X.680 29.2).
+    pub(crate) automatic: Option<u32>,
+    /// The name that it has, if it is an assignment's.
+    pub(crate) name: Option<&'text str>,
+}
+
+impl<'text> Next<'text> {
+    /// Returns a type that no tag is around and that has no name.
+    pub(crate) fn of(place: Place, index: usize) -> Next<'text> {
+        Next {
+            place,
+            index,
+            automatic: None,
+            name: None,
+        }
+    }
+}
+
+impl<'modules, 'text> Resolver<'modules, 'text> {
+    /// Returns the type that a type leads to, or None if it is no reference. An open type is none.
+    pub(crate) fn next(
+        &mut self,
+        place: Place,
+        ty: &'modules Type<'text>,
+    ) -> Result<Option<Next<'text>>, Stop<'text>> {
+        match &ty.base {
+            Base::Reference {
+                module,
+                name,
+                actuals,
+            } => {
+                let next = self.type_meant(place, *module, name, actuals.as_slice(), ty.position)?;
+                Ok(Some(next))
+            }
+            Base::Builtin(Builtin::External) => Ok(Some(self.given_type("External", "EXTERNAL")?)),
+            Base::InstanceOf(class) => Ok(Some(self.instance_of(place, class, ty.position)?)),
+            Base::Selection { name, of } => {
+                Ok(Some(self.selected(place, name, of.0, ty.position)?))
+            }
+            Base::ClassField { class, path } => {
+                self.field_type(place, *class, path.as_slice(), ty.position)
+            }
+            _ => Ok(None),
+        }
+    }
+
+    /// Returns the type that a name means (X.680 16.3), or that a parameter of this name is given (X.683 9).
+    pub(crate) fn type_meant(
+        &mut self,
+        place: Place,
+        outside: Option<&'text str>,
+        name: &'text str,
+        actuals: &[Actual<'text>],
+        position: Position,
+    ) -> Result<Next<'text>, Stop<'text>> {
+        if outside.is_none() {
+            if let Some(bound) = self.bound(place, name) {
+                return match bound.given {
+                    Given::Type(index) => Ok(Next::of(bound.place, index.0)),
+                    _ => Err(self.expected(place, position, "a type")),
+                };
+            }
+        }
+        let (module, assignment) = self.modules.meaning(place.module, outside, name, position)?;
+        let index = match assignment.assigned {
+            Assigned::Type(of) => of.0,
+            Assigned::Values { of, .. } => {
+                self.unchecked = self.unchecked.saturating_add(1);
+                of.0
+            }
+            Assigned::Macro => {
+                let problem = Problem::Unsupported("a macro");
+                return Err(self.modules.fault(place.module, position, problem));
+            }
+            Assigned::Class { .. } | Assigned::Value { .. } => {
+                return Err(self.expected(place, position, "a type"));
+            }
+        };
+        let inner = self.entered(place, module, &assignment, actuals, position)?;
+        Ok(Next {
+            name: Some(name),
+            ..Next::of(inner, index)
+        })
+    }
+
+    /// Returns a fault of something else that has to be at a place.
+    pub(crate) fn expected(
+        &self,
+        place: Place,
+        position: Position,
+        what: &'static str,
+    ) -> Stop<'text> {
+        self.modules
+            .fault(place.module, position, Problem::Expected(what))
+    }
+
+    /// Returns the type that a type's references lead to, which is no reference.
+    pub(crate) fn end_of(
+        &mut self,
+        place: Place,
+        index: usize,
+        position: Position,
+    ) -> Result<(Place, usize), Stop<'text>> {
+        let mut next = Next::of(place, index);
+        for _ in 0..MAX_NAMES {
+            let ty = self.modules.type_at(next.place.module, next.index)?;
+            match self.next(next.place, ty)? {
+                Some(found) => next = found,
+                None => return Ok((next.place, next.index)),
+            }
+        }
+        let problem = Problem::Unsupported("a type of so many names");
+        Err(self.modules.fault(place.module, position, problem))
+    }
+}

@@ -1,0 +1,244 @@
+//! Parameters and what they are given (X.683).
+use crate::fault::{Problem, Stop};
+use crate::lexer::tokens;
+use crate::position::Position;
+use crate::resolver::node::Place;
+use crate::resolver::shape::Resolver;
+use crate::token::Token;
+use crate::tree::{Actual, Assignment, Base, Given, Type, Unread};
+use std::alloc::{AllocError, Global};
+
+/// How many assignments may give parameters to one another.
+const MAX_DEPTH: usize = 64;
+
+/// How many uses of parameterized assignments a type may be made of.
+const MAX_SCOPES: usize = 4096;
+
+/// What a parameter is given.
+#[derive(Clone, Copy)]
+pub(crate) struct Bound<'text> {
+    /// The parameter's name.
+    name: &'text str,
+    /// Where what is given means something.
+    pub(crate) place: Place,
+    /// Where that begins.
+    position: Position,
+    pub(crate) given: Given<'text>,
+}
+
+impl Bound<'_> {
+    /// Returns whether two parameters are given the same.
+    fn is_same(&self, other: &Bound<'_>) -> bool {
+        self.place == other.place && self.position == other.position
+    }
+}
+
+/// What the parameters of an assignment are given where it is used (X.683 9).
+#[derive(Drop)]
+pub(crate) struct Scope<'text> {
+    /// The module of the assignment.
+    module: usize,
+    /// The place of the assignment's name.
+    position: Position,
+    bounds: Vec<Bound<'text>>,
+    /// How many scopes what is given is within, and this one.
+    depth: usize,
+}
+
+impl Scope<'_> {
+    /// Returns whether a scope is that of the same assignment with the same parameters.
+    fn is_same(&self, other: &Scope<'_>) -> bool {
+        self.module == other.module
+            && self.position == other.position
+            && are_same(self.bounds.as_slice(), other.bounds.as_slice())
+    }
+}
+
+/// Returns whether the parameters of an assignment are given the same.
+fn are_same(these: &[Bound<'_>], others: &[Bound<'_>]) -> bool {
+    for (one, other) in these.iter().zip(others) {
+        if !one.is_same(other) {
+            return false;
+        }
+    }
+    true
+}
+
+impl<'modules, 'text> Resolver<'modules, 'text> {
+    /// Returns what a name is given, if it is that of a parameter.
+    pub(crate) fn bound(&self, place: Place, name: &str) -> Option<Bound<'text>> {
+        let scope = self.scopes.get(place.scope.checked_sub(1)?)?;
+        for bound in &scope.bounds {
+            if bound.name == name {
+                return Some(*bound);
+            }
+        }
+        None
+    }
+
+    /// Returns what the name of a type is given, if it is that of a parameter.
+    pub(crate) fn bound_type(&self, place: Place, base: &Base<'text>) -> Option<Bound<'text>> {
+        match base {
+            Base::Reference {
+                module: None,
+                name,
+                ..
+            } => self.bound(place, name),
+            _ => None,
+        }
+    }
+
+    /// Returns the place of an assignment in a module, which is used at another place and is given this (X.683 9.4).
+    pub(crate) fn entered(
+        &mut self,
+        from: Place,
+        module: usize,
+        assignment: &Assignment<'text>,
+        actuals: &[Actual<'text>],
+        position: Position,
+    ) -> Result<Place, Stop<'text>> {
+        let Some(parameters) = assignment.parameters else {
+            if actuals.is_empty() {
+                return Ok(Place::of(module));
+            }
+            let problem = Problem::Broken("what is given has no parameter (X.683 9)");
+            return Err(self.modules.fault(from.module, position, problem));
+        };
+        let names = parameter_names(self.alloc, parameters)?;
+        if names.len() != actuals.len() {
+            let problem = Problem::Broken("each parameter has to be given (X.683 9)");
+            return Err(self.modules.fault(from.module, position, problem));
+        }
+        let bounds = self.bounds(from, names.as_slice(), actuals)?;
+        let depth = self.depth(bounds.as_slice());
+        if depth > MAX_DEPTH {
+            let problem = Problem::Endless(assignment.name);
+            return Err(self.modules.fault(from.module, position, problem));
+        }
+        let scope = Scope {
+            module,
+            position: assignment.position,
+            bounds,
+            depth,
+        };
+        self.scope(from, scope, position)
+    }
+
+    /// Returns the place of a scope, which is added if it isn't there.
+    fn scope(
+        &mut self,
+        from: Place,
+        scope: Scope<'text>,
+        position: Position,
+    ) -> Result<Place, Stop<'text>> {
+        let module = scope.module;
+        for (index, known) in self.scopes.iter().enumerate() {
+            if known.is_same(&scope) {
+                return Ok(Place {
+                    module,
+                    scope: index.saturating_add(1),
+                });
+            }
+        }
+        if self.scopes.len() >= MAX_SCOPES {
+            return Err(self.modules.fault(from.module, position, Problem::TooLarge));
+        }
+        self.scopes.push(scope)?;
+        Ok(Place {
+            module,
+            scope: self.scopes.len(),
+        })
+    }
+
+    /// Returns what each parameter is given.
+    fn bounds(
+        &self,
+        from: Place,
+        names: &[&'text str],
+        actuals: &[Actual<'text>],
+    ) -> Result<Vec<Bound<'text>>, Stop<'text>> {
+        let mut bounds = Vec::with_capacity(self.alloc, names.len())?;
+        for (name, actual) in names.iter().zip(actuals) {
+            bounds.push(self.given(from, name, *actual)?)?;
+        }
+        Ok(bounds)
+    }
+
+    /// Returns what a parameter is given. A set of values or of objects is the same as any other, since no type depends on it.
+    fn given(
+        &self,
+        from: Place,
+        name: &'text str,
+        actual: Actual<'text>,
+    ) -> Result<Bound<'text>, Stop<'text>> {
+        let known = match actual.given {
+            Given::Type(index) => {
+                let ty = self.modules.type_at(from.module, index.0)?;
+                if is_alone(ty) {
+                    self.bound_type(from, &ty.base)
+                } else {
+                    None
+                }
+            }
+            Given::Value(crate::tree::Value::Name { module: None, name }) => self.bound(from, name),
+            _ => None,
+        };
+        Ok(match known {
+            Some(known) => Bound { name, ..known },
+            None => Bound {
+                name,
+                place: from,
+                position: actual.position,
+                given: actual.given,
+            }
+            .plain(),
+        })
+    }
+
+    /// Returns how many scopes there are within one another if these parameters are given.
+    fn depth(&self, bounds: &[Bound<'text>]) -> usize {
+        let mut depth = 0usize;
+        for bound in bounds {
+            let index = bound.place.scope.wrapping_sub(1);
+            depth = depth.max(self.scopes.get(index).map_or(0, |scope| scope.depth));
+        }
+        depth.saturating_add(1)
+    }
+}
+
+impl<'text> Bound<'text> {
+    /// Returns what a parameter is given, without the place of a set.
+    fn plain(self) -> Bound<'text> {
+        match self.given {
+            Given::Members(_) => Bound {
+                place: Place::of(0),
+                position: Position::START,
+                ..self
+            },
+            _ => self,
+        }
+    }
+}
+
+/// Returns whether neither tags nor constraints are beside a type.
+fn is_alone(ty: &Type<'_>) -> bool {
+    ty.tags.is_empty() && ty.constraints.is_empty()
+}
+
+/// Returns the names of an assignment's parameters, each the last word before a comma (X.683 8.3).
+fn parameter_names<'text>(
+    alloc: Global,
+    parameters: Unread<'text>,
+) -> Result<Vec<&'text str>, AllocError> {
+    let items: Vec<Token<'text>> = tokens(alloc, parameters.text, parameters.position)?;
+    let mut names = Vec::new(alloc);
+    let mut last = "";
+    for item in &items {
+        if item.text == "," {
+            names.push(last)?;
+        }
+        last = item.text;
+    }
+    names.push(last)?;
+    Ok(names)
+}
