@@ -107,10 +107,6 @@ DecodesBorrowed see borrowed Told tag old (Ok s) new =
 DecodesBorrowed see borrowed Told tag old (Err e) new =
     AllocFailsCollecting CollectsOctets tag old e new ⊎ ((IsOutOfMemory e.kind → ⊥) × FailsAs (StringAt Told old.rule old.depth tag old.rest) old e new)
 
--- Whatever the encoding is, where nothing is made of the string.
-abbrev pub IsAnyEncoding : Codec → Tag → List ℕ → List ℕ → Type 0
-IsAnyEncoding rule tag l ns = Unit {0}
-
 abbrev pub DecodesOctetString : Tag → Constraints → State → Result (CowSlice ℕ Global) DecodeError → State → Type 0
 DecodesOctetString tag bounds = DecodesBorrowed cow_slice_items IsBorrowedIfPrimitive (BySize bounds.size) tag
 

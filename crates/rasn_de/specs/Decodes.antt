@@ -1,5 +1,5 @@
 -- What a call of a decoder returns.
-use Rattle.std.specs.Prelude.{◌≡◌, ℕ, List, Bool, Result, Ok, Err}
+use Rattle.std.specs.Prelude.{◌≡◌, ℕ, List, Bool}
 use Rattle.rasn_types.specs.declared.types.codec.Codec.{Codec}
 use Rattle.rasn_types.specs.Shapes.{Shape, Tree, items, Parts}
 use Rattle.rasn_types.specs.Readings.{Reading, ReadsInOrder}
@@ -29,11 +29,3 @@ ReadsParts parts rule depth closing input t rest = (ts : List Tree) × (t ≡ it
 
 abbrev pub DecodesParts : {T : Type 0} → Parts → (T → Tree) → Call T
 DecodesParts parts tree old result new = DecodesBy (ReadsParts parts) tree old result new
-
--- What such a call returns that makes nothing of what it reads.
-abbrev pub ChecksBy : {T : Type 0} → Call T → Call (Unit {0})
-ChecksBy {T} call old (Ok u) new = (v : T) × call old (Ok v) new
-ChecksBy {T} call old (Err e) new = call old (Err e) new
-
-abbrev pub Checks : Shape → Call (Unit {0})
-Checks shape = ChecksBy (Decodes shape (λ (t : Tree). t))

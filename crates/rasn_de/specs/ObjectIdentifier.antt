@@ -57,11 +57,6 @@ abbrev pub ParsesArcs : Codec → List ℕ → Result (List ℕ) ParseError → 
 ParsesArcs rule c (Ok arcs) = ReadsArcs rule c arcs
 ParsesArcs rule c (Err f) = ((f ≡ OutOfMemory) × HasFirstSubidentifier rule c) ⊎ FailsAtSubidentifier rule c f
 
--- What a function returns that makes nothing of the contents.
-abbrev pub ChecksArcs : Codec → List ℕ → Result (Unit {0}) ParseError → Type 0
-ChecksArcs rule c (Ok u) = (arcs : List ℕ) × ReadsArcs rule c arcs
-ChecksArcs rule c (Err f) = FailsAtSubidentifier rule c f
-
 -- What a decoder returns for contents that are read by rule. Its errors name the decoder's own rule, the first
 -- argument. An allocation can fail only after the first subidentifier.
 abbrev pub DecodesArcs : Codec → Codec → List ℕ → Result (List ℕ) DecodeError → Type 0

@@ -3,7 +3,6 @@ use Rattle.std.proofs.Common.{◌≡◌, ◌≢◌, ℕ, ◌+◌, ◌*◌, ◌-�
 use Rattle.std.specs.Prelude.{min, nat_eq}
 use Rattle.std.proofs.lemmas.Bool.Decides.{nat_tests}
 use Rattle.std.proofs.lemmas.List.{append-nil}
-use Rattle.rasn_types.specs.Errors.{IsOutOfMemory}
 use Rattle.rasn_types.specs.declared.types.tag.Tag.{Tag}
 use Rattle.rasn_types.specs.declared.types.codec.Codec.{Codec}
 use Rattle.rasn_types.specs.declared.types.codec.Codec.TheVariants.{Ber, Cer, Der}
@@ -247,13 +246,6 @@ pub object_unframed : (tag : Tag) (old new : State) (e : DecodeError) → FailsA
 object_unframed tag old new e r =
     let k = leaf_refused (ObjectIdentifierIn old.rule) tag old new e r in
     inr (leaf_plain (ObjectIdentifierIn old.rule) (object_plain old.rule) tag old new e k, k)
-
--- Memory doesn't run out where nothing is made of the contents.
-pub object_unframed_plain : (tag : Tag) (old new : State) (e : DecodeError) → FailsAs (λ r. definite_at old.rule tag old.rest ≡ r) old e new → IsOutOfMemory e.kind → ⊥
-object_unframed_plain tag old new e r = leaf_plain (ObjectIdentifierIn old.rule) (object_plain old.rule) tag old new e (leaf_refused (ObjectIdentifierIn old.rule) tag old new e r)
-
-pub stops_plain : (rule : Codec) (c : List ℕ) (f : ParseError) (s : State) (e : DecodeError) → FailsAtSubidentifier rule c f → IsErrorOf f s e → IsOutOfMemory e.kind → ⊥
-stops_plain rule c f s e t k m = kind_memory f (stops_memory rule c f t) (sym (ap (λ (x : DecodeError). x.kind) k) ∙ m)
 
 -- what a decoder answers of the contents that it took
 pub object_framed : (tag : Tag) (old new : State) (c : List ℕ) (result : Result (List ℕ) DecodeError) → definite_at old.rule tag old.rest ≡ Ok (c, new.rest) → new ≡ at old new.rest

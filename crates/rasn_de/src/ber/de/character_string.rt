@@ -5,9 +5,10 @@ ghost use Rattle.std.specs.String.{string_bytes};
 ghost use Rattle.rasn_types.specs.declared.types.strings.alphabet.Alphabet.TheVariants.{Numeric, Printable, Visible, Ia5, Every};
 ghost use Rattle.rasn_types.specs.CharacterString.{string_kind, units_of};
 ghost use Rattle.rasn_types.specs.Shapes.{leaf, numbers, numeric, printable, visible, ia5, any_octets, bmp, utf8};
-ghost use Rattle.rasn_de.specs.Decodes.{Checks, ChecksBy, Decodes};
+ghost use Rattle.rasn_de.specs.Decodes.{Decodes};
+ghost use Rattle.rasn_de.specs.Checks.{Checks, ChecksBy, IsAnyEncoding};
 ghost use Rattle.rasn_de.specs.OctetString.{cow_tree};
-ghost use Rattle.rasn_de.specs.CharacterString.{IsAnyEncoding, DecodesBorrowed, ByAlphabet, ByUnits, ByUtf8, DecodesString, DecodesRestricted, DecodesText, ChecksString, ParsesUtf8};
+ghost use Rattle.rasn_de.specs.CharacterString.{DecodesBorrowed, ByAlphabet, ByUnits, ByUtf8, DecodesString, DecodesRestricted, DecodesText, ChecksString, ParsesUtf8};
 
 use crate::ber::de::octet_string::owned;
 use crate::ber::de::parser::ParseError;

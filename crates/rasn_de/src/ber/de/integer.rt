@@ -3,7 +3,8 @@ ghost use Rattle.std.specs.Prelude.{◌≡◌, IfErr, ℤ};
 ghost use Rattle.rasn_types.specs.Shapes.{leaf, integer, number, every};
 ghost use Rattle.rasn_types.specs.Contents.{signed};
 ghost use Rattle.rasn_de.specs.Causes.{HasCause, out_of_bound};
-ghost use Rattle.rasn_de.specs.Decodes.{Decodes, Checks, ChecksBy};
+ghost use Rattle.rasn_de.specs.Decodes.{Decodes};
+ghost use Rattle.rasn_de.specs.Checks.{Checks, ChecksBy};
 ghost use Rattle.rasn_de.specs.Leaves.{DecodesNumber, AllocMayFail, ChecksIntegerContents};
 
 use crate::ber::de::Decoder;

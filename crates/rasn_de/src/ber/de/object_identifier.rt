@@ -4,7 +4,8 @@ ghost use Rattle.rasn_types.specs.Shapes.{leaf, object_identifier, numbers};
 ghost use Rattle.rasn_types.specs.Trees.{unconstrained};
 ghost use Rattle.rasn_types.specs.declared.types.codec.Codec.TheVariants.{Ber};
 ghost use Rattle.rasn_types.specs.Errors.{IsOutOfMemory};
-ghost use Rattle.rasn_de.specs.Decodes.{Decodes, Checks, ChecksBy};
+ghost use Rattle.rasn_de.specs.Decodes.{Decodes};
+ghost use Rattle.rasn_de.specs.Checks.{Checks, ChecksBy};
 ghost use Rattle.rasn_de.specs.ObjectIdentifier.{DecodesArcs, DecodesOnlyArcs, DecodesObjectIdentifier};
 
 use crate::ber::de::Decoder;

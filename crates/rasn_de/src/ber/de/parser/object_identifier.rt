@@ -1,7 +1,8 @@
 //! The contents of an OBJECT IDENTIFIER (X.690 8.19).
 ghost use Rattle.std.specs.Prelude.{◌≡◌, ◌∷◌, ◌++◌, [], OnOk, IfOk, IfErr};
 ghost use Rattle.rasn_de.specs.declared.ber.de.parser.ParseError.TheVariants.{OutOfMemory};
-ghost use Rattle.rasn_de.specs.ObjectIdentifier.{ParsesArcs, ChecksArcs, arc_at, first_two};
+ghost use Rattle.rasn_de.specs.ObjectIdentifier.{ParsesArcs, arc_at, first_two};
+ghost use Rattle.rasn_de.specs.Checks.{ChecksArcs};
 ghost use Rattle.rasn_de.specs.ParserViews.{ParsesAs, pair};
 
 use crate::ber::de::parser::{ParseError, is_padded, read_number128};

@@ -1,7 +1,7 @@
 use Rattle.std.proofs.Common.{List, ℕ}
 use Rattle.rasn_types.specs.CharacterString.{units_of}
 use Rattle.rasn_types.specs.Shapes.{numbers}
-use Rattle.rasn_de.specs.CharacterString.{IsAnyEncoding}
+use Rattle.rasn_de.specs.Checks.{IsAnyEncoding}
 use Rattle.rasn_de.proofs.Leaves.Returns.{residual}
 use Rattle.rasn_de.proofs.Strings.Checks.{by_units}
 use Rattle.rasn_de.proofs.Strings.CharacterString.{borrowed_refused, borrowed_ungathered, borrowed_given}

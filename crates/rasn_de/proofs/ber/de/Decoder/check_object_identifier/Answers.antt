@@ -1,6 +1,7 @@
 use Rattle.std.proofs.Common.{Ok, Err, inr}
 use Rattle.rasn_types.specs.Shapes.{numbers}
-use Rattle.rasn_de.proofs.Leaves.ObjectIdentifier.{object_unframed, object_framed, object_decodes, arcs_told, object_unframed_plain, stops_plain}
+use Rattle.rasn_de.proofs.Leaves.ObjectIdentifier.{object_unframed, object_framed, object_decodes, arcs_told}
+use Rattle.rasn_de.proofs.Leaves.Checked.{object_unframed_plain, stops_plain}
 use Rattle.rasn_de.proofs.Leaves.Returns.{residual}
 use Rattle.rasn_de.proofs.Leaves.Rules.{object_rules}
 use Rattle.rasn_de.proofs.ber.de.Decoder.check_object_identifier.Goals as goal
