@@ -2,7 +2,7 @@
 //! signatureAlgorithm AlgorithmIdentifier, signatureValue BIT STRING }` (RFC 5280, 4.1).
 use crate::{AlgorithmIdentifier, TbsCertificate};
 use rasn::error::{DecodeError, EncodeError};
-use rasn::parts::{End, Put, Required};
+use rasn::parts::{DecodeParts, End, Put, Required};
 use rasn::types::{AsnType, BitString, Constraints, Identifier, LawfulEq, Present, Tag};
 use rasn::{Decode, Decoder, Encode, Encoder};
 
@@ -53,7 +53,16 @@ impl Present for Certificate {
     ghost present = { λ _. parts_not_absent };
 }
 
+/// The parts of a certificate as they are read.
+type Parts = Required<TbsCertificate, Required<AlgorithmIdentifier, Required<BitString, End>>>;
+
 impl Decode for Certificate {
+    ghost use Rattle.std.specs.Prelude.{IfOk};
+    ghost use Rattle.rasn_de.specs.Beyond.{BeyondInside};
+    ghost use Rattle.rasn_de.specs.Constructed.{sequence_header};
+
+    ghost beyond = { λ tag old result _. IfOk result (λ c. BeyondInside ⟦<Parts as DecodeParts>⟧.beyond (sequence_header tag) old (record { 0 = c.tbs_certificate; 1 = record { 0 = c.signature_algorithm; 1 = record { 0 = c.signature_value; 1 = record {} } } })) };
+
     fn decode_with_tag_and_constraints(
         decoder: &mut Decoder<'_>,
         tag: Tag,
@@ -62,7 +71,7 @@ impl Decode for Certificate {
         let Required(
             tbs_certificate,
             Required(signature_algorithm, Required(signature_value, End)),
-        ) = decoder.read_sequence(tag)?;
+        ) = decoder.read_sequence::<Parts>(tag)?;
         Ok(Certificate {
             tbs_certificate,
             signature_algorithm,

@@ -1,16 +1,18 @@
 //! Reading and writing whole certificates. A valid certificate is refused only if an allocation
 //! fails.
-ghost use Rattle.std.specs.Prelude.{◌≡◌, true, IfOk, IfErr};
+ghost use Rattle.std.specs.Prelude.{◌≡◌, true, [], IfOk, IfErr};
 ghost use Rattle.rasn_types.specs.declared.types.codec.Codec.TheVariants.{Der};
+ghost use Rattle.rasn_types.specs.Tags.{in_universal};
 ghost use Rattle.rasn_types.specs.Bytes.{Bytes};
 ghost use Rattle.rasn_types.specs.Lawful.{IsLawful};
+ghost use Rattle.rasn_de.specs.Beyond.{got};
 ghost use Rattle.rasn.specs.Carries.{carries_all};
-ghost use Rattle.rasn.specs.Headline.{AnsweredAlone, IsCarriedAsWritten, Identifies, EncodingFails};
+ghost use Rattle.rasn.specs.Headline.{AnsweredAlone, BeyondFirst, IsCarriedAsWritten, Identifies, EncodingFails};
 ghost use Rattle.rasn_x509.specs.Signed.{certificate_shape, certificate_tree};
 
 use crate::Certificate;
-use rasn::der;
 use rasn::error::{DecodeError, EncodeError};
+use rasn::{Decode, der};
 use std::alloc::Global;
 
 /// Proves that the shape of a certificate is lawful, and that everything that DER reads of it is
@@ -28,6 +30,7 @@ pub fn has_lawful_shape()
 /// The errors of `der::decode`.
 pub fn read_certificate(alloc: Global, input: &[u8]) -> Result<Certificate, DecodeError>
     ensures exact { AnsweredAlone Der certificate_shape certificate_tree input.now result }
+    ensures beyond { IfOk result (λ c. BeyondFirst (got (⟦<Certificate as Decode>⟧.beyond (in_universal 16))) Der input.now c []) }
     ensures written { IsCarriedAsWritten certificate_shape certificate_tree input.now result }
     ensures rules { IfErr result (λ e. e.codec ≡ Der) }
 {

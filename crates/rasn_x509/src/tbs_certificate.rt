@@ -3,8 +3,8 @@
 use crate::{AlgorithmIdentifier, Extension, Name, SubjectPublicKeyInfo, Validity};
 use rasn::error::{DecodeError, EncodeError};
 use rasn::parts::{
-    DefaultValue, DefaultedExplicit, End, ExplicitDefault, Optional, Put, PutDefaultExplicit,
-    PutOptional, Required,
+    DecodeParts, DefaultValue, DefaultedExplicit, End, ExplicitDefault, Optional, Put,
+    PutDefaultExplicit, PutOptional, Required,
 };
 use rasn::types::{
     AsnType, BitString, Constraints, ContextTag, Explicit, Identifier, Implicit, Integer, LawfulEq,
@@ -98,16 +98,41 @@ impl ExplicitDefault for VersionOne {
     type Prefix = ContextTag<0>;
 }
 
+/// The parts after the algorithm of the signature.
+type Others = Required<
+    Name,
+    Required<Validity, Required<Name, Required<SubjectPublicKeyInfo, UniqueIds>>>,
+>;
+
+/// The parts that may be left out, at the end.
+type UniqueIds = Optional<
+    Implicit<ContextTag<1>, BitString>,
+    Optional<
+        Implicit<ContextTag<2>, BitString>,
+        Optional<Explicit<ContextTag<3>, Vec<Extension>>, End>,
+    >,
+>;
+
+/// The parts of a certificate as they are read.
+type Parts = DefaultedExplicit<
+    VersionOne,
+    Required<Integer, Required<AlgorithmIdentifier, Others>>,
+>;
+
 impl Decode for TbsCertificate {
+    ghost use Rattle.std.specs.Prelude.{IfOk};
+    ghost use Rattle.rasn_de.specs.Beyond.{BeyondInside};
+    ghost use Rattle.rasn_de.specs.Constructed.{sequence_header};
+
+    ghost beyond = { λ tag old result _. IfOk result (λ c. BeyondInside ⟦<Parts as DecodeParts>⟧.beyond (sequence_header tag) old (record { 0 = c.version; 1 = record { 0 = c.serial_number; 1 = record { 0 = c.signature; 1 = record { 0 = c.issuer; 1 = record { 0 = c.validity; 1 = record { 0 = c.subject; 1 = record { 0 = c.subject_public_key_info; 1 = record { 0 = c.issuer_unique_id; 1 = record { 0 = c.subject_unique_id; 1 = record { 0 = c.extensions; 1 = record {} } } } } } } } } } })) };
+
     fn decode_with_tag_and_constraints(
         decoder: &mut Decoder<'_>,
         tag: Tag,
         _constraints: &Constraints,
     ) -> Result<TbsCertificate, DecodeError> {
-        let DefaultedExplicit::<VersionOne, _>(
-            version,
-            Required(serial_number, Required(signature, rest)),
-        ) = decoder.read_sequence(tag)?;
+        let DefaultedExplicit(version, Required(serial_number, Required(signature, rest))) =
+            decoder.read_sequence::<Parts>(tag)?;
         let Required(issuer, Required(validity, Required(subject, rest))) = rest;
         let Required(subject_public_key_info, Optional(issuer_unique_id, rest)) = rest;
         let Optional(subject_unique_id, Optional(extensions, End)) = rest;
