@@ -61,7 +61,7 @@ impl<'modules, 'text> Resolver<'modules, 'text> {
         }
     }
 
-    /// Returns a value of a SEQUENCE (X.680 25). Of a SET only one without components is supported.
+    /// Returns a value of a SEQUENCE or a SET (X.680 25, 27).
     #[cycle(values)]
     fn members(
         &mut self,
@@ -73,10 +73,10 @@ impl<'modules, 'text> Resolver<'modules, 'text> {
     ) -> Result<Value<'static>, Stop<'text>> {
         let meant = self.meant(spelled)?;
         let members = self.member_values(meant)?;
+        let mut listed = self.listed(at, list, within, true)?;
         if within == Within::Set && !members.is_empty() {
-            return Err(self.unsupported(spelled));
+            listed = self.in_order(at, list, listed, spelled)?;
         }
-        let listed = self.listed(at, list, within, true)?;
         self.check_members(members.as_slice(), listed.as_slice())?;
         let mut values = Vec::new(self.alloc);
         for listed in &listed {
