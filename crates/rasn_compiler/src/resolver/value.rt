@@ -30,7 +30,7 @@ struct Member<'text> {
 }
 
 impl<'modules, 'text> Resolver<'modules, 'text> {
-    /// Returns a value of a type, in which others may be nested so deep.
+    /// Returns a value of a type, in which others may be nested so deep, and so many are left.
     #[cycle(values)]
     pub(crate) fn value_of(
         &mut self,
@@ -38,23 +38,24 @@ impl<'modules, 'text> Resolver<'modules, 'text> {
         index: usize,
         spelled: Spelled<'text>,
         depth: usize,
+        left: &mut usize,
     ) -> Result<Value<'static>, Stop<'text>> {
-        let depth = self.deeper(spelled, depth)?;
+        let depth = self.deeper(spelled, depth, left)?;
         let modules = self.modules;
         let (at, end) = self.end_of(of, index, spelled.position)?;
         let base = &modules.type_at(at.module, end)?.base;
         match base {
             Base::Sequence(list) => {
-                self.members(at, list.as_slice(), Within::Sequence, spelled, depth)
+                self.members(at, list.as_slice(), Within::Sequence, spelled, depth, left)
             }
-            Base::Set(list) => self.members(at, list.as_slice(), Within::Set, spelled, depth),
-            Base::Choice(list) => self.chosen(at, list.as_slice(), spelled, depth),
+            Base::Set(list) => self.members(at, list.as_slice(), Within::Set, spelled, depth, left),
+            Base::Choice(list) => self.chosen(at, list.as_slice(), spelled, depth, left),
             Base::SequenceOf(list) => {
-                let elements = self.elements(at, list.element, spelled, depth)?;
+                let elements = self.elements(at, list.element, spelled, depth, left)?;
                 Ok(Value::Items(elements))
             }
             Base::SetOf(list) => {
-                let elements = self.elements(at, list.element, spelled, depth)?;
+                let elements = self.elements(at, list.element, spelled, depth, left)?;
                 Ok(Value::Elements(elements))
             }
             _ => self.simple_value(at, base, spelled),
@@ -70,6 +71,7 @@ impl<'modules, 'text> Resolver<'modules, 'text> {
         within: Within,
         spelled: Spelled<'text>,
         depth: usize,
+        left: &mut usize,
     ) -> Result<Value<'static>, Stop<'text>> {
         let meant = self.meant(spelled)?;
         let members = self.member_values(meant)?;
@@ -78,11 +80,12 @@ impl<'modules, 'text> Resolver<'modules, 'text> {
             listed = self.in_order(at, list, listed, spelled)?;
         }
         self.check_members(members.as_slice(), listed.as_slice())?;
+        *left = left.saturating_sub(listed.len());
         let mut values = Vec::new(self.alloc);
         for listed in &listed {
             if let Component::Named { name, of, .. } = listed.component {
                 let value = match member_named(members.as_slice(), name) {
-                    Some(member) => self.value_of(listed.place, of.0, member.value, depth)?,
+                    Some(member) => self.value_of(listed.place, of.0, member.value, depth, left)?,
                     None => Value::Absent,
                 };
                 values.push(value)?;
@@ -99,6 +102,7 @@ impl<'modules, 'text> Resolver<'modules, 'text> {
         list: &[Component<'text>],
         spelled: Spelled<'text>,
         depth: usize,
+        left: &mut usize,
     ) -> Result<Value<'static>, Stop<'text>> {
         let meant = self.meant(spelled)?;
         let member = self.alternative_value(meant)?;
@@ -109,7 +113,7 @@ impl<'modules, 'text> Resolver<'modules, 'text> {
                     .fault(meant.place.module, member.position, problem),
             );
         };
-        let value = self.value_of(at, of.0, member.value, depth)?;
+        let value = self.value_of(at, of.0, member.value, depth, left)?;
         Ok(Value::Chosen(index, Box::new(self.alloc, value)?))
     }
 
@@ -121,21 +125,39 @@ impl<'modules, 'text> Resolver<'modules, 'text> {
         of: TypeIndex,
         spelled: Spelled<'text>,
         depth: usize,
+        left: &mut usize,
     ) -> Result<Vec<Value<'static>>, Stop<'text>> {
         let meant = self.meant(spelled)?;
         let mut values = Vec::new(self.alloc);
         for element in &self.listed_values(meant)? {
-            values.push(self.value_of(at, of.0, *element, depth)?)?;
+            values.push(self.value_of(at, of.0, *element, depth, left)?)?;
         }
         Ok(values)
     }
 }
 
 impl<'modules, 'text> Resolver<'modules, 'text> {
-    /// Returns how deep values may be nested in this one.
-    fn deeper(&self, spelled: Spelled<'text>, depth: usize) -> Result<usize, Stop<'text>>
+    /// Returns how deep values may be nested in this one, which is one of those that are left.
+    fn deeper(
+        &self,
+        spelled: Spelled<'text>,
+        depth: usize,
+        left: &mut usize,
+    ) -> Result<usize, Stop<'text>>
         ensures { IfOk result (λ d. d + 1 ≡ depth) }
     {
+        *left = left.saturating_sub(1);
+        if *left == 0 {
+            let Spelled {
+                place,
+                position,
+                ..
+            } = spelled;
+            return Err(
+                self.modules
+                    .fault(place.module, position, Problem::TooLarge),
+            );
+        }
         if depth == 0 {
             let Spelled {
                 place,
