@@ -10,7 +10,7 @@ use crate::resolver::included::Listed;
 use crate::resolver::node::Place;
 use crate::resolver::shape::Resolver;
 use crate::token::{Kind, Token};
-use crate::tree::{Base, Component, TypeIndex, Unread, Value as Written};
+use crate::tree::{Base, Component, Presence, TypeIndex, Unread, Value as Written};
 use rasn_schema::Value;
 
 /// A value as it is written, and where.
@@ -19,6 +19,20 @@ pub(crate) struct Spelled<'text> {
     pub(crate) place: Place,
     pub(crate) value: Written<'text>,
     pub(crate) position: Position,
+}
+
+impl<'text> Spelled<'text> {
+    /// Returns the value that a component has where it is absent, if there is one.
+    fn default(place: Place, presence: Presence<'text>) -> Option<Spelled<'text>> {
+        match presence {
+            Presence::Default(value, position) => Some(Spelled {
+                place,
+                value,
+                position,
+            }),
+            _ => None,
+        }
+    }
 }
 
 /// The value of a component (X.680 25).
@@ -76,16 +90,23 @@ impl<'modules, 'text> Resolver<'modules, 'text> {
         let meant = self.meant(spelled)?;
         let members = self.member_values(meant)?;
         let mut listed = self.listed(at, list, within, true)?;
-        if within == Within::Set && !members.is_empty() {
+        if within == Within::Set && (!members.is_empty() || has_default(listed.as_slice())) {
             listed = self.in_order(at, list, listed, spelled)?;
         }
         self.check_members(members.as_slice(), listed.as_slice())?;
         *left = left.saturating_sub(listed.len());
         let mut values = Vec::new(self.alloc);
         for listed in &listed {
-            if let Component::Named { name, of, .. } = listed.component {
-                let value = match member_named(members.as_slice(), name) {
-                    Some(member) => self.value_of(listed.place, of.0, member.value, depth, left)?,
+            if let Component::Named {
+                name,
+                of,
+                presence,
+                ..
+            } = listed.component
+            {
+                let member = member_named(members.as_slice(), name);
+                let value = match member.or(Spelled::default(listed.place, presence)) {
+                    Some(value) => self.value_of(listed.place, of.0, value, depth, left)?,
                     None => Value::Absent,
                 };
                 values.push(value)?;
@@ -292,13 +313,27 @@ impl<'tokens, 'text> Parser<'tokens, 'text> {
 }
 
 /// Returns the value of the component of this name.
-fn member_named<'text>(members: &[Member<'text>], name: &str) -> Option<Member<'text>> {
+fn member_named<'text>(members: &[Member<'text>], name: &str) -> Option<Spelled<'text>> {
     for member in members {
         if member.name == name {
-            return Some(*member);
+            return Some(member.value);
         }
     }
     None
+}
+
+/// Returns whether a component has a value where it is absent.
+fn has_default(listed: &[Listed<'_>]) -> bool {
+    for listed in listed {
+        if let Component::Named {
+            presence: Presence::Default(_, _),
+            ..
+        } = listed.component
+        {
+            return true;
+        }
+    }
+    false
 }
 
 /// Returns whether a component of a list has this name.
