@@ -23,6 +23,7 @@ mod order;
 mod reference;
 mod schema_fault;
 mod scope;
+mod set_order;
 mod shape;
 mod unfold;
 mod value;

@@ -13,7 +13,10 @@ use std::alloc::{AllocError, Global};
 use std::borrow::{CowSlice, CowStr};
 
 /// How deep values may be nested.
-const MAX_VALUES: usize = 16;
+const MAX_VALUE_DEPTH: usize = 16;
+
+/// How many values a default value may be made of.
+const MAX_VALUES: usize = 100_000;
 
 impl<'modules, 'text> Resolver<'modules, 'text> {
     /// Returns the value of a component that is absent.
@@ -29,7 +32,8 @@ impl<'modules, 'text> Resolver<'modules, 'text> {
             value,
             position,
         };
-        self.value_of(place, of.0, spelled, MAX_VALUES)
+        let mut left = MAX_VALUES;
+        self.value_of(place, of.0, spelled, MAX_VALUE_DEPTH, &mut left)
     }
 
     /// Returns a value of a type that isn't made of others.

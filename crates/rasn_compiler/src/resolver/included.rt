@@ -38,10 +38,7 @@ impl<'modules, 'text> Resolver<'modules, 'text> {
         for _ in 0..MAX_ROUNDS {
             match first_included(listed.as_slice()) {
                 None => return Ok(listed),
-                Some(_) if listed.len() <= MAX_LISTED => {
-                    listed = self.included(listed.as_slice(), within, is_automatic)?;
-                }
-                Some(_) => break,
+                Some(_) => listed = self.included(listed.as_slice(), within, is_automatic)?,
             }
         }
         let (at, of) = first_included(listed.as_slice()).unwrap_or((place, TypeIndex(0)));
@@ -90,6 +87,9 @@ impl<'modules, 'text> Resolver<'modules, 'text> {
         if !is_automatic && self.is_automatic(at, list)? {
             let problem = Problem::Unsupported("COMPONENTS OF a type with automatic tags");
             return Err(modules.fault(place.module, position, problem));
+        }
+        if found.len() > MAX_LISTED {
+            return Err(modules.fault(place.module, position, Problem::TooLarge));
         }
         push_roots(found, at, list)?;
         Ok(())

@@ -4,7 +4,7 @@ use crate::position::Position;
 use crate::resolver::lookup::MAX_NAMES;
 use crate::resolver::node::Place;
 use crate::resolver::shape::Resolver;
-use crate::tree::{Actual, Assigned, Base, Builtin, Given, Type};
+use crate::tree::{Actual, Assigned, Base, Builtin, Given, Type, Unread};
 
 /// What a type leads to.
 #[derive(Clone, Copy)]
@@ -15,6 +15,8 @@ pub(crate) struct Next<'text> {
     pub(crate) automatic: Option<u32>,
     /// The name that it has, if it is an assignment's.
     pub(crate) name: Option<&'text str>,
+    /// The set of its values, if the name is that of one (X.680 16.6).
+    pub(crate) members: Option<Unread<'text>>,
 }
 
 impl<'text> Next<'text> {
@@ -25,6 +27,7 @@ impl<'text> Next<'text> {
             index,
             automatic: None,
             name: None,
+            members: None,
         }
     }
 }
@@ -75,12 +78,9 @@ impl<'modules, 'text> Resolver<'modules, 'text> {
             }
         }
         let (module, assignment) = self.modules.meaning(place.module, outside, name, position)?;
-        let index = match assignment.assigned {
-            Assigned::Type(of) => of.0,
-            Assigned::Values { of, .. } => {
-                self.unchecked = self.unchecked.saturating_add(1);
-                of.0
-            }
+        let (of, members) = match assignment.assigned {
+            Assigned::Type(of) => (of, None),
+            Assigned::Values { of, members } => (of, Some(members)),
             Assigned::Macro => {
                 let problem = Problem::Unsupported("a macro");
                 return Err(self.modules.fault(place.module, position, problem));
@@ -92,7 +92,8 @@ impl<'modules, 'text> Resolver<'modules, 'text> {
         let inner = self.entered(place, module, &assignment, actuals, position)?;
         Ok(Next {
             name: Some(name),
-            ..Next::of(inner, index)
+            members,
+            ..Next::of(inner, of.0)
         })
     }
 

@@ -63,6 +63,9 @@ impl<'text> Unfolded<'text> {
         self.place = next.place;
         self.index = next.index;
         self.name = next.name.or(self.name);
+        if let Some(members) = next.members {
+            self.constraints.push((next.place, members))?;
+        }
         if self.constraints.is_empty()
             && self.tags.implicit.is_none()
             && self.tags.explicit.len() == self.same.peeled

@@ -10,7 +10,7 @@ use crate::resolver::included::Listed;
 use crate::resolver::node::Place;
 use crate::resolver::shape::Resolver;
 use crate::token::{Kind, Token};
-use crate::tree::{Base, Component, TypeIndex, Unread, Value as Written};
+use crate::tree::{Base, Component, Presence, TypeIndex, Unread, Value as Written};
 use rasn_schema::Value;
 
 /// A value as it is written, and where.
@@ -19,6 +19,20 @@ pub(crate) struct Spelled<'text> {
     pub(crate) place: Place,
     pub(crate) value: Written<'text>,
     pub(crate) position: Position,
+}
+
+impl<'text> Spelled<'text> {
+    /// Returns the value that a component has where it is absent, if there is one.
+    fn default(place: Place, presence: Presence<'text>) -> Option<Spelled<'text>> {
+        match presence {
+            Presence::Default(value, position) => Some(Spelled {
+                place,
+                value,
+                position,
+            }),
+            _ => None,
+        }
+    }
 }
 
 /// The value of a component (X.680 25).
@@ -30,7 +44,7 @@ struct Member<'text> {
 }
 
 impl<'modules, 'text> Resolver<'modules, 'text> {
-    /// Returns a value of a type, in which others may be nested so deep.
+    /// Returns a value of a type, in which others may be nested so deep, and so many are left.
     #[cycle(values)]
     pub(crate) fn value_of(
         &mut self,
@@ -38,30 +52,31 @@ impl<'modules, 'text> Resolver<'modules, 'text> {
         index: usize,
         spelled: Spelled<'text>,
         depth: usize,
+        left: &mut usize,
     ) -> Result<Value<'static>, Stop<'text>> {
-        let depth = self.deeper(spelled, depth)?;
+        let depth = self.deeper(spelled, depth, left)?;
         let modules = self.modules;
         let (at, end) = self.end_of(of, index, spelled.position)?;
         let base = &modules.type_at(at.module, end)?.base;
         match base {
             Base::Sequence(list) => {
-                self.members(at, list.as_slice(), Within::Sequence, spelled, depth)
+                self.members(at, list.as_slice(), Within::Sequence, spelled, depth, left)
             }
-            Base::Set(list) => self.members(at, list.as_slice(), Within::Set, spelled, depth),
-            Base::Choice(list) => self.chosen(at, list.as_slice(), spelled, depth),
+            Base::Set(list) => self.members(at, list.as_slice(), Within::Set, spelled, depth, left),
+            Base::Choice(list) => self.chosen(at, list.as_slice(), spelled, depth, left),
             Base::SequenceOf(list) => {
-                let elements = self.elements(at, list.element, spelled, depth)?;
+                let elements = self.elements(at, list.element, spelled, depth, left)?;
                 Ok(Value::Items(elements))
             }
             Base::SetOf(list) => {
-                let elements = self.elements(at, list.element, spelled, depth)?;
+                let elements = self.elements(at, list.element, spelled, depth, left)?;
                 Ok(Value::Elements(elements))
             }
             _ => self.simple_value(at, base, spelled),
         }
     }
 
-    /// Returns a value of a SEQUENCE (X.680 25). Of a SET only one without components is supported.
+    /// Returns a value of a SEQUENCE or a SET (X.680 25, 27).
     #[cycle(values)]
     fn members(
         &mut self,
@@ -70,19 +85,28 @@ impl<'modules, 'text> Resolver<'modules, 'text> {
         within: Within,
         spelled: Spelled<'text>,
         depth: usize,
+        left: &mut usize,
     ) -> Result<Value<'static>, Stop<'text>> {
         let meant = self.meant(spelled)?;
         let members = self.member_values(meant)?;
-        if within == Within::Set && !members.is_empty() {
-            return Err(self.unsupported(spelled));
+        let mut listed = self.listed(at, list, within, true)?;
+        if within == Within::Set && (!members.is_empty() || has_default(listed.as_slice())) {
+            listed = self.in_order(at, list, listed, spelled)?;
         }
-        let listed = self.listed(at, list, within, true)?;
         self.check_members(members.as_slice(), listed.as_slice())?;
+        *left = left.saturating_sub(listed.len());
         let mut values = Vec::new(self.alloc);
         for listed in &listed {
-            if let Component::Named { name, of, .. } = listed.component {
-                let value = match member_named(members.as_slice(), name) {
-                    Some(member) => self.value_of(listed.place, of.0, member.value, depth)?,
+            if let Component::Named {
+                name,
+                of,
+                presence,
+                ..
+            } = listed.component
+            {
+                let member = member_named(members.as_slice(), name);
+                let value = match member.or(Spelled::default(listed.place, presence)) {
+                    Some(value) => self.value_of(listed.place, of.0, value, depth, left)?,
                     None => Value::Absent,
                 };
                 values.push(value)?;
@@ -99,6 +123,7 @@ impl<'modules, 'text> Resolver<'modules, 'text> {
         list: &[Component<'text>],
         spelled: Spelled<'text>,
         depth: usize,
+        left: &mut usize,
     ) -> Result<Value<'static>, Stop<'text>> {
         let meant = self.meant(spelled)?;
         let member = self.alternative_value(meant)?;
@@ -109,7 +134,7 @@ impl<'modules, 'text> Resolver<'modules, 'text> {
                     .fault(meant.place.module, member.position, problem),
             );
         };
-        let value = self.value_of(at, of.0, member.value, depth)?;
+        let value = self.value_of(at, of.0, member.value, depth, left)?;
         Ok(Value::Chosen(index, Box::new(self.alloc, value)?))
     }
 
@@ -121,21 +146,39 @@ impl<'modules, 'text> Resolver<'modules, 'text> {
         of: TypeIndex,
         spelled: Spelled<'text>,
         depth: usize,
+        left: &mut usize,
     ) -> Result<Vec<Value<'static>>, Stop<'text>> {
         let meant = self.meant(spelled)?;
         let mut values = Vec::new(self.alloc);
         for element in &self.listed_values(meant)? {
-            values.push(self.value_of(at, of.0, *element, depth)?)?;
+            values.push(self.value_of(at, of.0, *element, depth, left)?)?;
         }
         Ok(values)
     }
 }
 
 impl<'modules, 'text> Resolver<'modules, 'text> {
-    /// Returns how deep values may be nested in this one.
-    fn deeper(&self, spelled: Spelled<'text>, depth: usize) -> Result<usize, Stop<'text>>
+    /// Returns how deep values may be nested in this one, which is one of those that are left.
+    fn deeper(
+        &self,
+        spelled: Spelled<'text>,
+        depth: usize,
+        left: &mut usize,
+    ) -> Result<usize, Stop<'text>>
         ensures { IfOk result (λ d. d + 1 ≡ depth) }
     {
+        *left = left.saturating_sub(1);
+        if *left == 0 {
+            let Spelled {
+                place,
+                position,
+                ..
+            } = spelled;
+            return Err(
+                self.modules
+                    .fault(place.module, position, Problem::TooLarge),
+            );
+        }
         if depth == 0 {
             let Spelled {
                 place,
@@ -270,13 +313,27 @@ impl<'tokens, 'text> Parser<'tokens, 'text> {
 }
 
 /// Returns the value of the component of this name.
-fn member_named<'text>(members: &[Member<'text>], name: &str) -> Option<Member<'text>> {
+fn member_named<'text>(members: &[Member<'text>], name: &str) -> Option<Spelled<'text>> {
     for member in members {
         if member.name == name {
-            return Some(*member);
+            return Some(member.value);
         }
     }
     None
+}
+
+/// Returns whether a component has a value where it is absent.
+fn has_default(listed: &[Listed<'_>]) -> bool {
+    for listed in listed {
+        if let Component::Named {
+            presence: Presence::Default(_, _),
+            ..
+        } = listed.component
+        {
+            return true;
+        }
+    }
+    false
 }
 
 /// Returns whether a component of a list has this name.
