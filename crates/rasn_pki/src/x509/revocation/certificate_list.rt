@@ -3,7 +3,7 @@
 use crate::x509::AlgorithmIdentifier;
 use crate::x509::revocation::TbsCertList;
 use rasn::error::{DecodeError, EncodeError};
-use rasn::parts::{End, Put, Required};
+use rasn::parts::{DecodeParts, End, Put, Required};
 use rasn::types::{AsnType, BitString, Constraints, Identifier, LawfulEq, Present, Tag};
 use rasn::{Decode, Decoder, Encode, Encoder};
 
@@ -54,14 +54,23 @@ impl Present for CertificateList {
     ghost present = { λ _. parts_not_absent };
 }
 
+/// The parts of a list as they are read.
+type Parts = Required<TbsCertList, Required<AlgorithmIdentifier, Required<BitString, End>>>;
+
 impl Decode for CertificateList {
+    ghost use Rattle.std.specs.Prelude.{IfOk};
+    ghost use Rattle.rasn_de.specs.Beyond.{BeyondInside};
+    ghost use Rattle.rasn_de.specs.Constructed.{sequence_header};
+
+    ghost beyond = { λ tag old result _. IfOk result (λ l. BeyondInside ⟦<Parts as DecodeParts>⟧.beyond (sequence_header tag) old (record { 0 = l.tbs_cert_list; 1 = record { 0 = l.signature_algorithm; 1 = record { 0 = l.signature_value; 1 = record {} } } })) };
+
     fn decode_with_tag_and_constraints(
         decoder: &mut Decoder<'_>,
         tag: Tag,
         _constraints: &Constraints,
     ) -> Result<CertificateList, DecodeError> {
         let Required(tbs_cert_list, Required(signature_algorithm, Required(signature_value, End))) =
-            decoder.read_sequence(tag)?;
+            decoder.read_sequence::<Parts>(tag)?;
         Ok(CertificateList {
             tbs_cert_list,
             signature_algorithm,

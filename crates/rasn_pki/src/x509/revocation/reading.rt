@@ -1,15 +1,17 @@
 //! Reading and writing whole revocation lists. A valid list is refused only if an allocation fails.
-ghost use Rattle.std.specs.Prelude.{◌≡◌, true, IfOk, IfErr};
+ghost use Rattle.std.specs.Prelude.{◌≡◌, true, [], IfOk, IfErr};
 ghost use Rattle.rasn_types.specs.declared.types.codec.Codec.TheVariants.{Der};
+ghost use Rattle.rasn_types.specs.Tags.{in_universal};
 ghost use Rattle.rasn_types.specs.Bytes.{Bytes};
 ghost use Rattle.rasn_types.specs.Lawful.{IsLawful};
+ghost use Rattle.rasn_de.specs.Beyond.{got};
 ghost use Rattle.rasn.specs.Carries.{carries_all};
-ghost use Rattle.rasn.specs.Headline.{AnsweredAlone, IsCarriedAsWritten, Identifies, EncodingFails};
+ghost use Rattle.rasn.specs.Headline.{AnsweredAlone, BeyondFirst, IsCarriedAsWritten, Identifies, EncodingFails};
 ghost use Rattle.rasn_pki.specs.X509.Revocation.Signed.{certificate_list_shape, certificate_list_tree};
 
 use crate::x509::revocation::CertificateList;
-use rasn::der;
 use rasn::error::{DecodeError, EncodeError};
+use rasn::{Decode, der};
 use std::alloc::Global;
 
 /// Proves that the shape of a revocation list is lawful, and that everything that DER reads of it
@@ -27,6 +29,7 @@ pub fn has_lawful_shape()
 /// The errors of `der::decode`.
 pub fn read_revocation_list(alloc: Global, input: &[u8]) -> Result<CertificateList, DecodeError>
     ensures exact { AnsweredAlone Der certificate_list_shape certificate_list_tree input.now result }
+    ensures beyond { IfOk result (λ l. BeyondFirst (got (⟦<CertificateList as Decode>⟧.beyond (in_universal 16))) Der input.now l []) }
     ensures written { IsCarriedAsWritten certificate_list_shape certificate_list_tree input.now result }
     ensures rules { IfErr result (λ e. e.codec ≡ Der) }
 {

@@ -2,7 +2,7 @@
 //! crlEntryExtensions Extensions OPTIONAL }` (RFC 5280, 5.1).
 use crate::x509::{Extension, Time};
 use rasn::error::{DecodeError, EncodeError};
-use rasn::parts::{End, Optional, Put, PutOptional, Required};
+use rasn::parts::{DecodeParts, End, Optional, Put, PutOptional, Required};
 use rasn::types::{AsnType, Constraints, Identifier, Integer, LawfulEq, Present, Tag};
 use rasn::{Decode, Decoder, Encode, Encoder};
 
@@ -52,7 +52,16 @@ impl Present for RevokedCertificate {
     ghost present = { λ _. parts_not_absent };
 }
 
+/// The parts of an entry as they are read.
+type Parts = Required<Integer, Required<Time, Optional<Vec<Extension>, End>>>;
+
 impl Decode for RevokedCertificate {
+    ghost use Rattle.std.specs.Prelude.{IfOk};
+    ghost use Rattle.rasn_de.specs.Beyond.{BeyondInside};
+    ghost use Rattle.rasn_de.specs.Constructed.{sequence_header};
+
+    ghost beyond = { λ tag old result _. IfOk result (λ r. BeyondInside ⟦<Parts as DecodeParts>⟧.beyond (sequence_header tag) old (record { 0 = r.user_certificate; 1 = record { 0 = r.revocation_date; 1 = record { 0 = r.crl_entry_extensions; 1 = record {} } } })) };
+
     fn decode_with_tag_and_constraints(
         decoder: &mut Decoder<'_>,
         tag: Tag,
@@ -61,7 +70,7 @@ impl Decode for RevokedCertificate {
         let Required(
             user_certificate,
             Required(revocation_date, Optional(crl_entry_extensions, End)),
-        ) = decoder.read_sequence(tag)?;
+        ) = decoder.read_sequence::<Parts>(tag)?;
         Ok(RevokedCertificate {
             user_certificate,
             revocation_date,

@@ -3,7 +3,9 @@
 use crate::x509::revocation::RevokedCertificate;
 use crate::x509::{AlgorithmIdentifier, Extension, Name, Time};
 use rasn::error::{DecodeError, EncodeError};
-use rasn::parts::{End, Optional, OptionalChoice, Put, PutOptional, PutOptionalChoice, Required};
+use rasn::parts::{
+    DecodeParts, End, Optional, OptionalChoice, Put, PutOptional, PutOptionalChoice, Required,
+};
 use rasn::types::{AsnType, Constraints, ContextTag, Explicit, Identifier, LawfulEq, Present, Tag};
 use rasn::{Decode, Decoder, Encode, Encoder};
 
@@ -64,15 +66,32 @@ impl Present for TbsCertList {
     ghost present = { λ _. parts_not_absent };
 }
 
+/// The parts after the name of the issuer.
+type Others = Required<
+    Time,
+    OptionalChoice<
+        Time,
+        Optional<Vec<RevokedCertificate>, Optional<Explicit<ContextTag<0>, Vec<Extension>>, End>>,
+    >,
+>;
+
+/// The parts of a list as they are read.
+type Parts = Optional<u8, Required<AlgorithmIdentifier, Required<Name, Others>>>;
+
 impl Decode for TbsCertList {
+    ghost use Rattle.std.specs.Prelude.{IfOk};
+    ghost use Rattle.rasn_de.specs.Beyond.{BeyondInside};
+    ghost use Rattle.rasn_de.specs.Constructed.{sequence_header};
+
+    ghost beyond = { λ tag old result _. IfOk result (λ l. BeyondInside ⟦<Parts as DecodeParts>⟧.beyond (sequence_header tag) old (record { 0 = l.version; 1 = record { 0 = l.signature; 1 = record { 0 = l.issuer; 1 = record { 0 = l.this_update; 1 = record { 0 = l.next_update; 1 = record { 0 = l.revoked_certificates; 1 = record { 0 = l.crl_extensions; 1 = record {} } } } } } } })) };
+
     fn decode_with_tag_and_constraints(
         decoder: &mut Decoder<'_>,
         tag: Tag,
         _constraints: &Constraints,
     ) -> Result<TbsCertList, DecodeError> {
-        let Optional(version, Required(signature, Required(issuer, rest))) = decoder.read_sequence(
-            tag,
-        )?;
+        let Optional(version, Required(signature, Required(issuer, rest))) =
+            decoder.read_sequence::<Parts>(tag)?;
         let Required(this_update, OptionalChoice(next_update, rest)) = rest;
         let Optional(revoked_certificates, Optional(crl_extensions, End)) = rest;
         Ok(TbsCertList {
