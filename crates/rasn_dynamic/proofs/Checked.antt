@@ -1,0 +1,30 @@
+-- What is read from the front of an input.
+use Rattle.std.proofs.Common.{◌≡◌, List, ℕ, [], inl, inr, Result, Ok, Err, subst}
+use Rattle.std.specs.Prelude.{MatchResult}
+use Rattle.rasn_types.specs.declared.types.codec.Codec.{Codec}
+use Rattle.rasn_types.specs.declared.error.decode.DecodeError.{DecodeError}
+use Rattle.rasn_types.specs.declared.error.decode.DecodeErrorKind.{DecodeErrorKind}
+use Rattle.rasn_types.specs.Shapes.{Shape, Tree}
+use Rattle.rasn_types.specs.Grammar.{Reads, top}
+use Rattle.rasn_de.specs.State.{State}
+use Rattle.rasn_de.specs.Outcomes.{Exact, Outcome, Got, refusal}
+use Rattle.rasn_de.specs.Decodes.{DecodesExactly}
+use Rattle.rasn.specs.Headline.{IsExtraData}
+use Rattle.rasn_dynamic.specs.Entry.{IsChecked}
+use Rattle.rasn_dynamic.specs.Faults.{start}
+use Rattle.rasn_dynamic.specs.Inside.{DecodesTree}
+
+module _ (rule : Codec) (s : Shape) (input : List ℕ) (old : State) (e : old ≡ start rule input) where
+  at_front : (o : Outcome) (new : State) → DecodesExactly (λ r. Reads r s) old o new → Exact (Reads rule s 128 (top rule)) input o
+  at_front o new h = subst (λ (z : State). Exact (Reads z.rule s z.depth z.closing) z.rest o) e h.exact
+
+  pub read_first : (t : Tree) (new : State) (rest : List ℕ) → new.rest ≡ rest → DecodesTree s old (Ok t) new → Exact (Reads rule s 128 (top rule)) input (Got t rest)
+  read_first t new rest r h = subst (λ l. Exact (Reads rule s 128 (top rule)) input (Got t l)) r (at_front (Got t new.rest) new h)
+
+  pub refused_first : (k : DecodeErrorKind) (new : State) → DecodesExactly (λ r. Reads r s) old (refusal k) new → Exact (Reads rule s 128 (top rule)) input (refusal k)
+  refused_first k new h = at_front (refusal k) new h
+
+  -- What follows the value is refused.
+  pub checked : (t : Tree) (new : State) (rest : List ℕ) → new.rest ≡ rest → DecodesTree s old (Ok t) new → (r : Result (Unit {0}) DecodeError) → MatchResult r (λ u. rest ≡ []) (IsExtraData rule rest) → IsChecked rule s input r
+  checked t new rest r h (Ok u) f = (t, subst (λ l. Exact (Reads rule s 128 (top rule)) input (Got t l)) f (read_first t new rest r h))
+  checked t new rest r h (Err x) f = inr (record { t = t; rest = rest; read = read_first t new rest r h; extra = f })
