@@ -34,6 +34,7 @@ use Rattle.rasn_schema.proofs.TypeShapes.{shape_below, own_is}
 use Rattle.rasn_schema.proofs.Lists.{split, nothing_left, read_at}
 use Rattle.rasn_schema.specs.declared.types.«Type».TheVariants.{Tagged}
 use Rattle.rasn_dynamic.specs.Inside.{DecodesTree, DecodesComponent}
+use Rattle.rasn_dynamic.specs.Making.{Making}
 use Rattle.rasn_dynamic.specs.Typed.{DecodesContents, DecodesType, CountsElements, element_count, elements}
 use Rattle.rasn_dynamic.specs.Calls.{held, names_of, nones, DecodesPresent}
 use Rattle.rasn_dynamic.proofs.Making.{made_as, made_fails_as, with_error, uncounted, counted_nothing, made_of_value, if_kept, items_made, elements_made, one_made, choice_made, choice_fits}
@@ -53,7 +54,7 @@ use Rattle.rasn_dynamic.proofs.reader.+decode.Goals as goal
 use Rattle.rasn_de.specs.SequenceOf.{DecodesSized}
 use Rattle.rasn_de.specs.Set.{not_read}
 use Rattle.rasn_de.proofs.Headers.Tags.{look_refused, look_follows}
-use Rattle.rasn_dynamic.specs.Faults.{IsFaultOf, IsFaultIn, IsOnly, IsAlternativeAt, IsComponentAt, IsMemberAt, ReadsEachPart, MembersStop, StopsInSequence, StopsInSet}
+use Rattle.rasn_dynamic.specs.Faults.{IsFaultOf, IsFaultIn, IsOnly, IsAlternativeAt, IsComponentAt, IsMemberAt, ReadsEachPart, MembersStop, StopsInSequence, StopsInSet, TellsOf}
 use Rattle.rasn_dynamic.proofs.Faults.{any_err, if_err_map, unnamed, one_taken, turns_long, marked, stepped, further, weaker, entered, opened, opened_short, told_map, tells, tells_err, alternative_there, element_there, forgotten, one_part_more, part_there, member_there, member_behind, turns_keep, at_err, named, not_named, unmoved, got_inside, found_itself, itself_leaf, present_stops, set_ends, itself_prefix, itself_sequence, itself_set, itself_list, itself_set_of, itself_choice, element_stops, set_element_stops, default_stops, unmade_stops, only_memory}
 
 -- ---- the type with a number
@@ -675,7 +676,27 @@ decode_present-returns-clause-reads g t c =
     (w.0, (λ k. w.1 refl), differs (key_of ((shape_of_type c.args.types.now c.args.below) c.args.component.now.type_id.0)) ((shape_of_type c.args.types.now c.args.below) c.args.component.now.type_id.0) c.args.component.now.presence c.in-Default.default c.in-Default.is _ _ w.0 w.2 (λ s. let h = c.means_same.ensures.equal (subst (λ z. Same z (tree_of c.in-Default.default)) (sym (w.1 refl)) s) in let f = c.if-means_same.false in cc))
 
 pub decode_present-returns-clause-fits : goal.decode_present-returns-clause-fits
-decode_present-returns-clause-fits g t c = λ k. c.in_ok-value.ensures.fits refl
+decode_present-returns-clause-fits g t c = λ k. c.in_ok-value.ensures.fits
+
+-- ---- a part that has to be compared
+
+pub decode_compared-decode_part-requires : goal.decode_compared-decode_part-requires
+decode_compared-decode_part-requires g t c = (search rules, (c.requires.lawful, c.in-None.ensures.reads.2))
+
+pub decode_compared-returns-in-None-clause-reads : goal.decode_compared-returns-in-None-clause-reads
+decode_compared-returns-in-None-clause-reads g t c =
+    let w = c.in-None.ensures.reads in
+    let s = shape_of_type c.args.types.now c.args.levels c.args.id.0 in
+    subst (λ k. Making k tree_of (DecodesTree s) c.args.decoder.now c.decode_part.result _) w.0 (subst (λ z. Making g.M.Made.KEEP tree_of (DecodesTree s) z c.decode_part.result _) w.1 c.decode_part.ensures.reads)
+
+pub decode_compared-returns-in-None-clause-fits : goal.decode_compared-returns-in-None-clause-fits
+decode_compared-returns-in-None-clause-fits g t c = c.decode_part.ensures.fits c.in-None.ensures.reads.0
+
+pub decode_compared-returns-in-None-clause-rules : goal.decode_compared-returns-in-None-clause-rules
+decode_compared-returns-in-None-clause-rules g t c = subst (λ (z : State). IfErr c.decode_part.result (λ e. e.codec ≡ z.rule)) c.in-None.ensures.reads.1 c.decode_part.ensures.rules
+
+pub decode_compared-returns-in-None-clause-told : goal.decode_compared-returns-in-None-clause-told
+decode_compared-returns-in-None-clause-told g t c = subst (λ (z : State). TellsOf (IsFaultIn c.args.types.now c.args.levels (IsOnly c.args.index c.args.id.0 z) z z) c.decode_part.result _) c.in-None.ensures.reads.1 c.decode_part.ensures.told
 
 -- ---- the components of a SEQUENCE
 
