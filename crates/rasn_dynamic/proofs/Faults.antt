@@ -243,12 +243,12 @@ pub told_map : {T : Type 0} (P Q : DecodeError → Fault → Type 0) → ((k : D
 told_map P Q h (Ok v) t x = x
 told_map P Q h (Err e) t x = λ f q. h e f (x f q)
 
--- Something is named, and it is a fault of this kind too.
 -- Nothing is named, so what is named is a fault.
 pub unnamed : {T : Type 0} (P : DecodeError → Fault → Type 0) (r : Result T DecodeError) (t : Option Fault) → t ≡ None → Told P r t
 unnamed P (Ok v) t e = e
 unnamed P (Err x) t e = λ f q. absurd cc
 
+-- Something is named, and it is a fault of this kind too.
 pub tells : {T : Type 0} (P Q : DecodeError → Fault → Type 0) → ((k : DecodeError) (f : Fault) → P k f → Q k f) → (r : Result T DecodeError) (t : Option Fault) → TellsOf P r t → Told Q r t
 tells P Q h (Ok v) t x = x
 tells P Q h (Err e) t (g, i, w) = λ f q. let same : g ≡ f = cc in subst (Q e) same (h e g w)

@@ -15,7 +15,7 @@ use Rattle.rasn.specs.declared.normal.NormaliseError.{NormaliseError}
 use Rattle.rasn_schema.specs.declared.types.«Type».{«Type»}
 use Rattle.rasn_schema.specs.Shapes.{shape_of_type}
 use Rattle.rasn_schema.specs.declared.value.Value.{Value}
-use Rattle.rasn_types.specs.Errors.{IsEncodeOutOfMemory}
+use Rattle.rasn_types.specs.Errors.{IsOutOfMemory, IsEncodeOutOfMemory}
 use Rattle.rasn_enc.specs.Encoding.{NoEncoding}
 use Rattle.rasn_schema.specs.Trees.{tree_of}
 use Rattle.rasn_schema.specs.Fitting.{Fits}
@@ -31,6 +31,13 @@ shape_of types id = shape_of_type types 18446744073709551615 id
 abbrev pub IsChecked : Codec → Shape → List ℕ → Result (Unit {0}) DecodeError → Type 0
 IsChecked rule s input (Ok u) = (t : Tree) × AnsweredAlone rule s (λ (z : Tree). z) input (Ok t)
 IsChecked rule s input (Err e) = AnsweredAlone rule s (λ (z : Tree). z) input (Err e)
+
+-- Both read the input, or both refuse it; or the one that refuses it ran out of memory.
+abbrev pub Agree : {T : Type 0} → Result (Unit {0}) DecodeError → Result T DecodeError → Type 0
+Agree (Ok u) (Ok v) = Unit {0}
+Agree (Ok u) (Err e) = IsOutOfMemory e.kind
+Agree (Err e) (Ok v) = IsOutOfMemory e.kind
+Agree (Err e) (Err d) = Unit {0}
 
 -- The grammar relates the octets to some value with this rest, and to nothing else; or to nothing.
 abbrev pub IsCheckedUpTo : Codec → Shape → List ℕ → Result (Bor (List ℕ)) DecodeError → Type 0

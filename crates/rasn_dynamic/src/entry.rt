@@ -1,5 +1,7 @@
 //! Reads, writes and checks one value.
-ghost use Rattle.std.specs.Prelude.{◌≡◌, [], OnOk, OnErr, IfOk, IfErr};
+ghost use Rattle.std.specs.Prelude.{◌≡◌, [], Result, OnOk, OnErr, IfOk, IfErr};
+ghost use Rattle.rasn_types.specs.declared.error.decode.DecodeError.{DecodeError};
+ghost use Rattle.rasn_schema.specs.declared.value.Value.{Value};
 ghost use Rattle.rasn_types.specs.Errors.{IsOutOfMemory};
 ghost use Rattle.rasn_types.specs.Framing.{AreOctets};
 ghost use Rattle.rasn_types.specs.Truth.{IsWhether};
@@ -8,7 +10,7 @@ ghost use Rattle.rasn.specs.Headline.{Answered, AnsweredAlone, IsAsWritten, Iden
 ghost use Rattle.rasn.specs.Normal.{IsNormal, IsNoNormal, IsIdentified, IsKept, IsUnchanged, IsAnswered};
 ghost use Rattle.rasn_enc.specs.Primitive.{IsAllocError};
 ghost use Rattle.rasn_schema.specs.Trees.{tree_of};
-ghost use Rattle.rasn_dynamic.specs.Entry.{IsEncoded, IsNotEncoded, FailsIfFits, NamesRules, IsReadBack, IsNormalOf, IsNoNormalOf, FitsType, IsChecked, shape_of};
+ghost use Rattle.rasn_dynamic.specs.Entry.{IsEncoded, IsNotEncoded, FailsIfFits, NamesRules, IsReadBack, IsNormalOf, IsNoNormalOf, FitsType, IsChecked, Agree, shape_of};
 
 use crate::made::{Nothing, Values};
 use crate::path::ValuePath;
@@ -79,6 +81,7 @@ pub fn check(
     input: &[u8],
 ) -> Result<(), DecodeError>
     ensures exact { IsChecked rule (shape_of schema.now.types.items id.0) input.now result }
+    ensures agrees { (r : Result Value DecodeError) → AnsweredAlone rule (shape_of schema.now.types.items id.0) tree_of input.now r → Agree result r }
     ensures rules { IfErr result (λ e. e.codec ≡ rule) }
 {
     let mut decoder = Decoder::new(alloc, input, DecoderOptions::of(rule));

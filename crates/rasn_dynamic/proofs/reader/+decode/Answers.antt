@@ -1039,11 +1039,11 @@ decode_set_component-returns-in_err-value-clause-told g t c =
 
 pub decode_found-returns-then-levels-eq0-clause-itself : goal.decode_found-returns-then-levels-eq0-clause-itself
 decode_found-returns-then-levels-eq0-clause-itself g t c =
-    λ nothing n ty l g. let z = c.if-levels-eq0.true in absurd (omega (arith, l, z))
+    λ nothing n ty l e. let z = c.if-levels-eq0.true in absurd (omega (arith, l, z))
 
 pub decode_found-returns-in-None-clause-itself : goal.decode_found-returns-in-None-clause-itself
 decode_found-returns-in-None-clause-itself g t c =
-    λ nothing n ty l g. let z = c.in-None.ensures in cc
+    λ nothing n ty l e. let z = c.in-None.ensures in cc
 
 pub decode_found-returns-in-Some-clause-itself : goal.decode_found-returns-in-Some-clause-itself
 decode_found-returns-in-Some-clause-itself g t c =
@@ -1273,9 +1273,10 @@ decode_set_component-returns-in_err-value-clause-itself g t c =
 
 pub decode_set_component-returns-then-remaining-left-clause-itself : goal.decode_set_component-returns-then-remaining-left-clause-itself
 decode_set_component-returns-then-remaining-left-clause-itself g t c =
+    let w = c.in_ok-value.ensures.reads in
     λ n. inr (inr (
       c.in-Some.number,
       c.in-Some.component.now,
       c.in-Some.ensures.0,
-      inr (c.in_ok-value.value, _, c.in_ok-value.ensures.reads.0, sym (ap length c.remaining.ensures.value) ∙ c.if-remaining-left.true ∙ ap length c.remaining-left.ensures.value),
+      inr (w.0, _, w.2.0, sym (ap length c.remaining.ensures.value) ∙ c.if-remaining-left.true ∙ ap length c.remaining-left.ensures.value),
     ))
