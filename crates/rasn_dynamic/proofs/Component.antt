@@ -1,5 +1,5 @@
 -- One more component of a SET is read.
-use Rattle.std.proofs.Common.{◌≡◌, ℕ, zero, suc, ◌<◌, inl, inr, List, [], ◌∷◌, length, Option, Some, None, Result, Ok, Err, refl, sym, ap, ◌∙◌, subst}
+use Rattle.std.proofs.Common.{◌≡◌, ℕ, zero, suc, ◌<◌, Bool, true, inl, inr, List, [], ◌∷◌, length, Option, Some, None, Result, Ok, Err, refl, sym, ap, ◌∙◌, subst}
 use Rattle.std.specs.Prelude.{slice_get}
 use Rattle.std.specs.Borrow.{Bor}
 use Rattle.std.specs.String.{string_bytes}
@@ -18,7 +18,7 @@ use Rattle.rasn_de.specs.Steps.{PeeksTag, IsErrorOf}
 use Rattle.rasn_de.specs.Outcomes.{Got, refusal, outcome}
 use Rattle.rasn_de.specs.Decodes.{DecodesExactly}
 use Rattle.rasn_de.specs.Choice.{IsOnlyAlternative}
-use Rattle.rasn_de.specs.SetPartTypes.{name_at, IsPlacedAt, DecodesNext}
+use Rattle.rasn_de.specs.SetPartTypes.{name_at, DecodesNext}
 use Rattle.rasn_de.proofs.Leaves.Outcomes.{Exact-none, Exact-refusal}
 use Rattle.rasn_de.proofs.Constructed.Steps.{rules_same}
 use Rattle.rasn_de.proofs.Constructed.Choice.{choice_decodes}
@@ -28,8 +28,9 @@ use Rattle.rasn_schema.specs.declared.types.Component.{Component}
 use Rattle.rasn_schema.specs.declared.value.Value.{Value}
 use Rattle.rasn_schema.specs.Trees.{tree_of}
 use Rattle.rasn_schema.specs.Shapes.{components_by, presence_in}
-use Rattle.rasn_dynamic.specs.Calls.{held, names_of, IsComponentFor, IsPut, IsDefaultOf, DecodesPresent}
-use Rattle.rasn_dynamic.proofs.Pieces.{only_part, by_tag_distinguished, put_placed, put_twice}
+use Rattle.rasn_dynamic.specs.Calls.{names_of, HoldsSlots, IsComponentFor, IsPut, IsDefaultOf, DecodesPresent, DecodesMember}
+use Rattle.rasn_dynamic.proofs.Parts.{shorter}
+use Rattle.rasn_dynamic.proofs.Pieces.{only_part, by_tag_distinguished, slots_placed, slots_filled}
 
 abbrev itself : Tree → Tree
 itself t = t
@@ -58,11 +59,11 @@ module _ (p : Presence) (s : Shape) (tag : Tag) (first : IsFirst s tag) (old : S
         (λ none t r h. none t r (only_read t r h).0) k.exact;
   }
 
-  one_present : (r : Result Value DecodeError) (new : State) → DecodesPresent p s old r new → DecodesExactly (OneAlternative p s) old (outcome tree_of r new.rest) new
+  one_present : (r : Result Tree DecodeError) (new : State) → DecodesPresent p s old r new → DecodesExactly (OneAlternative p s) old (outcome itself r new.rest) new
   one_present (Ok v) new (k, c) = record {
     stays = k.stays;
     end = k.end;
-    exact = (as_read old.rule old.depth old.closing old.rest tag n p s first (tree_of v) new.rest (k.exact.0, c), λ u r h. k.exact.1 u r (only_read u r h).0);
+    exact = (as_read old.rule old.depth old.closing old.rest tag n p s first v new.rest (k.exact.0, c), λ u r h. k.exact.1 u r (only_read u r h).0);
   }
   one_present (Err e) new (inl k) = one_refused e.kind new k
   one_present (Err e) new (inr (v, k, strict, d, w)) = record {
@@ -89,17 +90,25 @@ module _ (f : ℕ → Shape) (ps : List Component) (k : ℕ) (p : Component) (ta
   pub next_unread : (e : DecodeError) (before after : List (Option Tree)) → DecodesPresent (presence_in f p) (f p.type_id.0) old (Err e) new → DecodesNext (components_by f ps) (names_of ps) before old (Err e) new after
   next_unread e before after d = inl (alternative_refused (components_by f ps) k (presence_in f p) (f p.type_id.0) tag n only e.kind (one_present (presence_in f p) (f p.type_id.0) tag b.1 old n (Err e) new d))
 
-  module _ (v : Value) (d : DecodesPresent (presence_in f p) (f p.type_id.0) old (Ok v) new) where
-    pub got : DecodesExactly (λ rule. Reads rule (choice (components_by f ps))) old (Got (chosen k (tree_of v)) new.rest) new
-    got = alternative_got (components_by f ps) k (presence_in f p) (f p.type_id.0) tag n only (one_present (presence_in f p) (f p.type_id.0) tag b.1 old n (Ok v) new d)
+  module _ (t : Tree) (d : DecodesPresent (presence_in f p) (f p.type_id.0) old (Ok t) new) where
+    pub got : DecodesExactly (λ rule. Reads rule (choice (components_by f ps))) old (Got (chosen k t) new.rest) new
+    got = alternative_got (components_by f ps) k (presence_in f p) (f p.type_id.0) tag n only (one_present (presence_in f p) (f p.type_id.0) tag b.1 old n (Ok t) new d)
 
     pub next_idle : (before after : List (Option Tree)) (left : ℕ) → left ≡ length old.rest → length new.rest ≡ left → (e : DecodeError) → IsErrorOf (UnexpectedExtraData left) new e
         → DecodesNext (components_by f ps) (names_of ps) before old (Err e) new after
-    next_idle before after left g l e x = inr (chosen k (tree_of v), got, inl (l ∙ g, rules_same old new (UnexpectedExtraData (length old.rest)) e (call_keeps got) (subst (λ m. IsErrorOf (UnexpectedExtraData m) new e) g x)))
+    next_idle before after left g l e x = inr (chosen k t, got, inl (l ∙ g, rules_same old new (UnexpectedExtraData (length old.rest)) e (call_keeps got) (subst (λ m. IsErrorOf (UnexpectedExtraData m) new e) g x)))
 
-    pub next_put : (before : List (Option Value)) → k < length before → (left : ℕ) → left ≡ length old.rest → (length new.rest ≡ left → ⊥) → (r : Option (Bor (List ℕ))) (after : List (Option Value)) → IsPut k v (string_bytes p.name) before r after
-        → DecodesNext (components_by f ps) (names_of ps) (held before) old (Ok r) new (held after)
-    next_put before l left g m None after (e, a) =
-        (k, tree_of v, subst (λ z. IsPlacedAt (held before) k (tree_of v) (held z)) (sym a) (put_placed before k v l e), (got, λ q. m (q ∙ sym g)))
-    next_put before l left g m (Some told) after (e, a, t) =
-        (k, tree_of v, put_twice before k l e, ap held a, t ∙ name_here ps k p b.0, (got, λ q. m (q ∙ sym g)))
+    pub next_put : (keep : Bool) (v : Value) → (keep ≡ true → tree_of v ≡ t) → (before : List (Option Value)) (slots : List (Option Tree)) → HoldsSlots keep before slots → k < length before
+        → (left : ℕ) → left ≡ length old.rest → (length new.rest ≡ left → ⊥) → (r : Option (Bor (List ℕ))) (after : List (Option Value)) → IsPut k v (string_bytes p.name) before r after
+        → (others : List (Option Tree)) × HoldsSlots keep after others × DecodesNext (components_by f ps) (names_of ps) slots old (Ok r) new others
+    next_put keep v q before slots h l left g m None after (e, a) =
+        let o = slots_placed keep before slots k v t q h l e in
+        (o.0, subst (λ z. HoldsSlots keep z o.0) (sym a) o.1, (k, t, o.2, (got, λ w. m (w ∙ sym g))))
+    next_put keep v q before slots h l left g m (Some told) after (e, a, w) =
+        (slots, subst (λ z. HoldsSlots keep z slots) (sym a) h, (k, t, slots_filled keep before slots k h l e, refl, w ∙ name_here ps k p b.0, (got, λ x. m (x ∙ sym g))))
+
+-- Some of the octets are read.
+pub member_shorter : (keep : Bool) (ps : Parts) (names : List (List ℕ)) (before after : List (Option Value)) (slots : List (Option Tree)) (old new : State) (r : Option (Bor (List ℕ))) → HoldsSlots keep before slots
+    → DecodesMember keep ps names before old (Ok r) new after → length new.rest < length old.rest
+member_shorter keep ps names before after slots old new None h d = let w = d slots h in shorter old.rest new.rest w.2.3.0.end w.2.3.1
+member_shorter keep ps names before after slots old new (Some told) h d = let w = d slots h in shorter old.rest new.rest w.2.5.0.end w.2.5.1

@@ -20,7 +20,7 @@ use Rattle.rasn_de.proofs.Headers.Ends.{IsEnd-refl}
 use Rattle.rasn_de.proofs.Constructed.Opening.{kept}
 use Rattle.rasn_de.proofs.Constructed.Steps.{kept_after}
 use Rattle.rasn_de.proofs.OwnTypes.Parts.{OnePart, no_parts, part_refused, after_part_refused, part_got, call_keeps}
-use Rattle.rasn_schema.specs.declared.value.Value.{Value, Items}
+use Rattle.rasn_schema.specs.declared.value.Value.{Value}
 use Rattle.rasn_schema.specs.Trees.{tree_of}
 use Rattle.rasn_types.specs.declared.types.constraints.Constraints.{Constraints}
 use Rattle.rasn_schema.specs.declared.types.«Type».{«Type»}
@@ -33,9 +33,8 @@ use Rattle.rasn_dynamic.specs.Inside.{ReadsInside, ReadsSequence}
 use Rattle.rasn_de.specs.SetPartTypes.{MakesOfReadings, DecodesSetPartContents}
 use Rattle.rasn_de.proofs.Constructed.SetContents.{SetReads, set_collects}
 use Rattle.rasn_de.proofs.OwnTypes.SetPartTypes.{makes_set}
-use Rattle.rasn_dynamic.specs.Typed.{HoldsOthers, values_tree}
+use Rattle.rasn_dynamic.specs.Typed.{HoldsOthers}
 use Rattle.rasn_de.specs.PartTypes.{FailsAtOnePart, FailsAtPart}
-use Rattle.rasn_schema.proofs.Values.{tree_items}
 use Rattle.rasn_schema.proofs.Alternatives.{first_of_all}
 
 -- ---- nothing
@@ -105,28 +104,31 @@ pub inside_prefix : (tag : Tag) (s : Shape) (old new : State) (o : Outcome) → 
 unfolding ReadsInside
 inside_prefix tag s old new o k = k
 
-pub inside_seq : (tag : Tag) (ps : Parts) (old new : State) (e : DecodeError) → DecodesBy (ReadsSequence ps) values_tree old (Err e) new → DecodesBy (ReadsInside (seq tag ps)) tree_of old (Err e) new
+abbrev itself : Tree → Tree
+itself t = t
+
+pub inside_seq : (tag : Tag) (ps : Parts) (old new : State) (e : DecodeError) → DecodesBy (ReadsSequence ps) items old (Err e) new → DecodesBy (ReadsInside (seq tag ps)) itself old (Err e) new
 unfolding ReadsInside
 inside_seq tag ps old new e k = k
 
-pub inside_seq_got : (tag : Tag) (ps : Parts) (old new : State) (vs : Vec Value Global) → DecodesBy (ReadsSequence ps) values_tree old (Ok vs) new → DecodesBy (ReadsInside (seq tag ps)) tree_of old (Ok (Items vs)) new
+pub inside_seq_got : (tag : Tag) (ps : Parts) (old new : State) (ts : List Tree) → DecodesBy (ReadsSequence ps) items old (Ok ts) new → DecodesBy (ReadsInside (seq tag ps)) itself old (Ok (items ts)) new
 unfolding ReadsInside
-inside_seq_got tag ps old new vs k = subst (λ z. DecodesExactly (ReadsSequence ps) old (Got z new.rest) new) (sym (tree_items vs)) k
+inside_seq_got tag ps old new ts k = k
 
-set_reads : (ps : Parts) (names : List (List ℕ)) (old new : State) (r : Result (Vec Value Global) DecodeError) → DecodesSetPartContents ps values_tree names old r new → DecodesBy (SetReads ps) values_tree old r new
-set_reads ps names old new r k = set_collects ps (λ (t : Tree). t) values_tree old (λ (l : List Tree). l) (MakesOfReadings ps values_tree names old.rule) (makes_set ps values_tree names old.rule) r new k
+set_reads : (ps : Parts) (names : List (List ℕ)) (old new : State) (r : Result (List Tree) DecodeError) → DecodesSetPartContents ps items names old r new → DecodesBy (SetReads ps) items old r new
+set_reads ps names old new r k = set_collects ps itself items old (λ (l : List Tree). l) (MakesOfReadings ps items names old.rule) (makes_set ps items names old.rule) r new k
 
-pub inside_set : (tag : Tag) (ps : Parts) (names : List (List ℕ)) (old new : State) (e : DecodeError) → DecodesSetPartContents ps values_tree names old (Err e) new → DecodesBy (ReadsInside (set tag ps)) tree_of old (Err e) new
+pub inside_set : (tag : Tag) (ps : Parts) (names : List (List ℕ)) (old new : State) (e : DecodeError) → DecodesSetPartContents ps items names old (Err e) new → DecodesBy (ReadsInside (set tag ps)) itself old (Err e) new
 unfolding ReadsInside
 inside_set tag ps names old new e k = set_reads ps names old new (Err e) k
 
-pub inside_set_got : (tag : Tag) (ps : Parts) (names : List (List ℕ)) (old new : State) (vs : Vec Value Global) → DecodesSetPartContents ps values_tree names old (Ok vs) new → DecodesBy (ReadsInside (set tag ps)) tree_of old (Ok (Items vs)) new
+pub inside_set_got : (tag : Tag) (ps : Parts) (names : List (List ℕ)) (old new : State) (ts : List Tree) → DecodesSetPartContents ps items names old (Ok ts) new → DecodesBy (ReadsInside (set tag ps)) itself old (Ok (items ts)) new
 unfolding ReadsInside
-inside_set_got tag ps names old new vs k = subst (λ z. DecodesExactly (SetReads ps) old (Got z new.rest) new) (sym (tree_items vs)) (set_reads ps names old new (Ok vs) k)
+inside_set_got tag ps names old new ts k = set_reads ps names old new (Ok ts) k
 
 -- Memory runs out before anything is read.
-pub sequence_runs_out : (ps : Parts) (old : State) (e : DecodeError) → IsOutOfMemory e.kind → DecodesBy (ReadsSequence ps) values_tree old (Err e) old
-sequence_runs_out ps old e m = alloc_failed (ReadsSequence ps) values_tree old old e m refl (IsEnd-refl old.rest)
+pub sequence_runs_out : (ps : Parts) (old : State) (e : DecodeError) → IsOutOfMemory e.kind → DecodesBy (ReadsSequence ps) items old (Err e) old
+sequence_runs_out ps old e m = alloc_failed (ReadsSequence ps) items old old e m refl (IsEnd-refl old.rest)
 
 -- No type is left that holds others.
 pub none_holds : (ty : «Type») → ((tag : Tag) (k : TypeId) → ty ≡ Tagged tag k → ⊥) → ((tag : Tag) (ps : Vec Component Global) → ty ≡ Sequence tag ps → ⊥) → ((name : String Global) (tag : Tag) (ps : Vec Component Global) → ty ≡ Set name tag ps → ⊥)

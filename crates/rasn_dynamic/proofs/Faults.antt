@@ -12,7 +12,7 @@ use Rattle.rasn_de.specs.Headers.{Header}
 use Rattle.rasn_de.specs.Segments.{octets_inside}
 use Rattle.rasn_de.specs.State.{State, at, IsEnd, Call}
 use Rattle.rasn_de.specs.Outcomes.{Exact, refusal}
-use Rattle.rasn_de.specs.Decodes.{Decodes, DecodesBy}
+use Rattle.rasn_de.specs.Decodes.{Decodes}
 use Rattle.rasn_de.specs.SequenceOf.{DecodesInTurn, DecodesInTurnFrom, DecodesSized}
 use Rattle.rasn_de.specs.declared.ber.de.parser.Contents.{Contents}
 use Rattle.rasn_de.specs.declared.ber.de.constructed.ConstructedHeader.{ConstructedHeader}
@@ -27,7 +27,7 @@ use Rattle.rasn_schema.specs.declared.types.Alternative.{Alternative}
 use Rattle.rasn_schema.specs.declared.value.Value.{Value}
 use Rattle.rasn_schema.specs.Trees.{tree_of}
 use Rattle.rasn_schema.specs.Shapes.{shape_of_type, components_by, presence_in, presence_of}
-use Rattle.rasn_dynamic.specs.Inside.{ReadsComponent}
+use Rattle.rasn_dynamic.specs.Inside.{DecodesTree, DecodesComponent}
 use Rattle.rasn_types.specs.declared.types.tag.Tag.{Tag}
 use Rattle.rasn_types.specs.declared.types.constraints.Constraints.{Constraints}
 use Rattle.rasn_types.specs.declared.error.decode.DerDecodeErrorKind.TheVariants.{DefaultValuePresent}
@@ -35,7 +35,6 @@ use Rattle.rasn_types.specs.Errors.{IsOutOfMemory}
 use Rattle.rasn_de.specs.declared.ber.de.parser.ParseError.TheVariants.{UnexpectedExtraData, OutOfMemory, Der}
 use Rattle.rasn_de.specs.Steps.{IsErrorOf}
 use Rattle.rasn_de.proofs.Constructed.Steps.{rules_same}
-use Rattle.rasn_de.proofs.Constructed.Optional.{strict_before}
 use Rattle.rasn_de.proofs.OwnTypes.Parts.{call_keeps}
 use Rattle.rasn_schema.specs.declared.types.«Type».TheVariants.{Tagged, Choice, Sequence, Set, SequenceOf, SetOf}
 use Rattle.rasn_schema.specs.declared.types.Presence.TheVariants.{Default}
@@ -244,6 +243,11 @@ pub told_map : {T : Type 0} (P Q : DecodeError → Fault → Type 0) → ((k : D
 told_map P Q h (Ok v) t x = x
 told_map P Q h (Err e) t x = λ f q. h e f (x f q)
 
+-- Nothing is named, so what is named is a fault.
+pub unnamed : {T : Type 0} (P : DecodeError → Fault → Type 0) (r : Result T DecodeError) (t : Option Fault) → t ≡ None → Told P r t
+unnamed P (Ok v) t e = e
+unnamed P (Err x) t e = λ f q. absurd cc
+
 -- Something is named, and it is a fault of this kind too.
 pub tells : {T : Type 0} (P Q : DecodeError → Fault → Type 0) → ((k : DecodeError) (f : Fault) → P k f → Q k f) → (r : Result T DecodeError) (t : Option Fault) → TellsOf P r t → Told Q r t
 tells P Q h (Ok v) t x = x
@@ -255,23 +259,20 @@ tells_err P Q h e t (g, i, w) f q = let same : g ≡ f = cc in subst (Q e) same 
 pub alternative_there : (ks : List Alternative) (index : ℕ) (a : Alternative) (s : State) → Some a ≡ slice_get ks index → (k next : ℕ) (x : State) → IsOnly index a.type_id.0 s k next x → IsAlternativeAt ks s k next x
 alternative_there ks index a s h k next x (e, f, g) = (a, subst (λ z. Some a ≡ slice_get ks z) (sym e) h, f, g)
 
-pub element_there : (f : ℕ → Shape) (j : ℕ) (s here : State) (vs : List Value) (number : ℕ) → length vs ≡ number → DecodesInTurn (Decodes (f j) tree_of) s vs here → (Ended here.closing here.rest → ⊥)
+pub element_there : (f : ℕ → Shape) (j : ℕ) (s here : State) (ts : List Tree) (number : ℕ) → length ts ≡ number → DecodesInTurn (DecodesTree (f j)) s ts here → (Ended here.closing here.rest → ⊥)
     → (k next : ℕ) (x : State) → IsOnly number j here k next x → IsElementAt f j s k next x
-element_there f j s here vs number l p n k next x (a, b, g) =
-    (b, vs, l ∙ sym a, subst (λ z. DecodesInTurn (Decodes (f j) tree_of) s vs z) (sym g) p, subst (λ (z : State). Ended z.closing z.rest → ⊥) (sym g) n)
+element_there f j s here ts number l p n k next x (a, b, g) =
+    (b, ts, l ∙ sym a, subst (λ z. DecodesInTurn (DecodesTree (f j)) s ts z) (sym g) p, subst (λ (z : State). Ended z.closing z.rest → ⊥) (sym g) n)
 
 -- What was read from octets was read.
 pub forgotten : {D : Type 0} (read : Call D) (old : State) (vs : List D) (bs : List (List ℕ)) (here : State) → DecodesInTurnFrom read old vs bs here → DecodesInTurn read old vs here
 forgotten read old [] bs here (e, h) = h
 forgotten read old (v ∷ vs) bs here (b, more, next, e, q, n, d, l, p) = (next, n, d, l, forgotten read next vs more here p)
 
-pub one_part_more : (f : ℕ → Shape) (done : List Component) (p : Component) (s here mid : State) (v : Value) → ComponentsInTurn f done s here
-    → DecodesBy (ReadsComponent (presence_in f p) (f p.type_id.0)) tree_of here (Ok v) mid → ComponentsInTurn f (done ++ p ∷ []) s mid
-one_part_more f [] p s here mid v e d = (v, mid, subst (λ z. DecodesBy (ReadsComponent (presence_in f p) (f p.type_id.0)) tree_of z (Ok v) mid) e d, refl)
-one_part_more f (q ∷ qs) p s here mid v (w, next, a, b) d = (w, next, a, one_part_more f qs p next here mid v b d)
-
-pub as_long : (done : List Component) (p : Component) (vs us : List Value) (v : Value) → length done ≡ length vs → us ≡ vs ++ v ∷ [] → length (done ++ p ∷ []) ≡ length us
-as_long done p vs us v e f = length-append done (p ∷ []) ∙ ap (λ n. n + 1) e ∙ sym (length-append vs (v ∷ [])) ∙ sym (ap length f)
+pub one_part_more : (f : ℕ → Shape) (done : List Component) (p : Component) (s here mid : State) (t : Tree) → ComponentsInTurn f done s here
+    → DecodesComponent (presence_in f p) (f p.type_id.0) here (Ok t) mid → ComponentsInTurn f (done ++ p ∷ []) s mid
+one_part_more f [] p s here mid t e d = (t, mid, subst (λ z. DecodesComponent (presence_in f p) (f p.type_id.0) z (Ok t) mid) e d, refl)
+one_part_more f (q ∷ qs) p s here mid t (u, next, a, b) d = (u, next, a, one_part_more f qs p next here mid t b d)
 
 pub part_there : (f : ℕ → Shape) (ps done after : List Component) (p : Component) (s here : State) (number : ℕ) → ps ≡ done ++ p ∷ after → length done ≡ number → ComponentsInTurn f done s here
     → (k next : ℕ) (x : State) → IsOnly number p.type_id.0 here k next x → IsComponentAt f ps s k next x
@@ -280,14 +281,24 @@ part_there f ps done after p s here number e l t k next x (a, b, g) = (done, p, 
 pub member_there : (ps : List Component) (number : ℕ) (p : Component) (s : State) → Some p ≡ slice_get ps number → (k next : ℕ) (x : State) → IsOnly number p.type_id.0 s k next x → IsMember ps s k next x
 member_there ps number p s e k next x (a, b, g) = (p, subst (λ z. Some p ≡ slice_get ps z) (sym a) e, b, g)
 
-pub member_behind : (f : ℕ → Shape) (ps : List Component) (s here : State) (done : List Tree) (bs : List (List ℕ)) → DecodesInTurnFrom (Decodes (choice (components_by f ps)) (λ (t : Tree). t)) s done bs here
+pub member_behind : (f : ℕ → Shape) (ps : List Component) (s here : State) (done : List Tree) (bs : List (List ℕ)) → DecodesInTurnFrom (DecodesTree (choice (components_by f ps))) s done bs here
     → (k next : ℕ) (x : State) → IsMember ps here k next x → IsMemberAt f ps s k next x
-member_behind f ps s here done bs d k next x (p, e, b, g) = (p, e, b, done, bs, subst (λ z. DecodesInTurnFrom (Decodes (choice (components_by f ps)) (λ (t : Tree). t)) s done bs z) (sym g) d)
+member_behind f ps s here done bs d k next x (p, e, b, g) = (p, e, b, done, bs, subst (λ z. DecodesInTurnFrom (DecodesTree (choice (components_by f ps))) s done bs z) (sym g) d)
 
 -- Elements that are read one after the other leave an end of what there was.
 pub turns_keep : {D : Type 0} (s : Shape) (tree : D → Tree) (old : State) (vs : List D) (here : State) → DecodesInTurn (Decodes s tree) old vs here → (here ≡ at old here.rest) × IsEnd old.rest here.rest
 turns_keep s tree old [] here e = (e ∙ ap (λ (z : State). at old z.rest) (sym e), subst (λ (z : State). IsEnd old.rest z.rest) (sym e) (IsEnd-refl old.rest))
 turns_keep s tree old (v ∷ vs) here (next, n, d, l, p) = let k = turns_keep s tree next vs here p in (k.0 ∙ ap (λ (z : State). at z here.rest) d.stays, IsEnd-trans old.rest next.rest here.rest d.end k.1)
+
+-- What is read takes some of the octets.
+pub one_taken : (all octets rest : List ℕ) → all ≡ octets ++ rest → (length rest ≡ length all → ⊥) → 1 + length rest ≤ length all
+one_taken all [] rest e n = absurd (n (sym (ap length e)))
+one_taken all (x ∷ octets) rest e n = let l : length all ≡ suc (length octets) + length rest = ap length e ∙ length-append (x ∷ octets) rest in omega (arith, l)
+
+-- There are no more elements than octets.
+pub turns_long : {D : Type 0} (s : Shape) (tree : D → Tree) (old : State) (vs : List D) (here : State) → DecodesInTurn (Decodes s tree) old vs here → length vs + length here.rest ≤ length old.rest
+turns_long s tree old [] here e = let l : length here.rest ≡ length old.rest = ap (λ (z : State). length z.rest) e in omega (arith, l)
+turns_long s tree old (v ∷ vs) here (next, n, d, l, p) = omega (arith, turns_long s tree next vs here p, one_taken old.rest d.end.0 next.rest d.end.1 l)
 
 -- ---- a refusal
 
@@ -318,7 +329,7 @@ located types rule id input e t len m r (f, q, i) h =
 -- ---- a value that fails itself
 
 -- What is read inside is read in each way that this implies, where a value is read.
-pub got_inside : (read other : Call Value) → ((o : State) (v : Value) (n : State) → read o (Ok v) n → other o (Ok v) n) → (d : ConstructedHeader) (old : State) (v : Value) (new : State)
+pub got_inside : (read other : Call Tree) → ((o : State) (v : Tree) (n : State) → read o (Ok v) n → other o (Ok v) n) → (d : ConstructedHeader) (old : State) (v : Tree) (new : State)
     → DecodesInside read d old (Ok v) new → DecodesInside other d old (Ok v) new
 got_inside read other g d old v new (k, f) = (k, record { header = f.header; opened = f.opened; left = f.left; call = g _ _ _ f.call; closed = f.closed })
 
@@ -392,44 +403,42 @@ itself_leaf f ty s X h r = any_err (λ e. X → FailsItself f ty s e) (λ e x. h
 pub present_stops : (f : ℕ → Shape) (p : Component) (s : State) (X : Type 0) (r : Result Value DecodeError) → IfErr r (λ e. X → IsDefaultWritten f p s e) → IfErr r (λ e. X → StopsAtComponent f p s e)
 present_stops f p s X r h = if_err_map (λ e. X → IsDefaultWritten f p s e) (λ e. X → StopsAtComponent f p s e) (λ e a x. inr (inl (a x))) r h
 
-pub set_ends : {T : Type 0} (f : ℕ → Shape) (ps : List Component) (s here : State) (done : List Tree) (bs : List (List ℕ)) → DecodesInTurnFrom (Decodes (choice (components_by f ps)) (λ (t : Tree). t)) s done bs here → Ended here.closing here.rest
+pub set_ends : {T : Type 0} (f : ℕ → Shape) (ps : List Component) (s here : State) (done : List Tree) (bs : List (List ℕ)) → DecodesInTurnFrom (DecodesTree (choice (components_by f ps))) s done bs here → Ended here.closing here.rest
     → (X : Type 0) (r : Result T DecodeError) → IfErr r (λ e. X → StopsInSet f ps s e)
 set_ends f ps s here done bs d n X r = any_err (λ e. X → StopsInSet f ps s e) (λ e x. inr (done, bs, here, d, inl n)) r
 
 out_of_memory_told : (s : State) (x : DecodeError) → IsErrorOf OutOfMemory s x → IsOutOfMemory x.kind
 out_of_memory_told s x w = subst (λ (z : DecodeError). IsOutOfMemory z.kind) (sym w) refl
 
-module _ (f : ℕ → Shape) (id : ℕ) (old here new : State) (v : Value) (k : Decodes (f id) tree_of here (Ok v) new) (left : ℕ) (l : left ≡ length here.rest) (e : DecodeError)
+module _ (f : ℕ → Shape) (id : ℕ) (old here new : State) (t : Tree) (k : DecodesTree (f id) here (Ok t) new) (left : ℕ) (l : left ≡ length here.rest) (e : DecodeError)
     (w : ((length new.rest ≡ left) × IsErrorOf (UnexpectedExtraData left) new e) ⊎ IsErrorOf OutOfMemory new e) where
   kept_not : TakesNothing f id here ⊎ IsOutOfMemory e.kind
   kept_not = elim w [
-    | inl p ↦ inl (v, new, k, p.0 ∙ l)
+    | inl p ↦ inl (t, new, k, p.0 ∙ l)
     | inr m ↦ inr (out_of_memory_told new e m)
   ]
 
-  pub element_stops : (vs : List Value) → DecodesInTurn (Decodes (f id) tree_of) old vs here → StopsInElements f id old e
-  element_stops vs p = elim kept_not [
-    | inl n ↦ inr (vs, here, p, n)
+  pub element_stops : (ts : List Tree) → DecodesInTurn (DecodesTree (f id)) old ts here → StopsInElements f id old e
+  element_stops ts p = elim kept_not [
+    | inl n ↦ inr (ts, here, p, n)
     | inr m ↦ inl m
   ]
 
-  pub set_element_stops : (vs : List Value) (bs : List (List ℕ)) → DecodesInTurnFrom (Decodes (f id) tree_of) old vs bs here → StopsInOrder f id old e
-  set_element_stops vs bs p = elim kept_not [
-    | inl n ↦ inr (vs, bs, here, p, inl n)
+  pub set_element_stops : (ts : List Tree) (bs : List (List ℕ)) → DecodesInTurnFrom (DecodesTree (f id)) old ts bs here → StopsInOrder f id old e
+  set_element_stops ts bs p = elim kept_not [
+    | inl n ↦ inr (ts, bs, here, p, inl n)
     | inr m ↦ inl m
   ]
 
-pub default_stops : (f : ℕ → Shape) (p : Component) (d : Value) → p.presence ≡ Default d → (old new : State) (v : Value) → Decodes (f p.type_id.0) tree_of old (Ok v) new → IsStrict new.rule → Same (tree_of v) (tree_of d)
+pub default_stops : (f : ℕ → Shape) (p : Component) (d : Value) → p.presence ≡ Default d → (old new : State) (t : Tree) → DecodesTree (f p.type_id.0) old (Ok t) new → IsStrict old.rule → Same t (tree_of d)
     → (x : DecodeError) → IsErrorOf (Der DefaultValuePresent) new x → IsDefaultWritten f p old x
-default_stops f p d e old new v k st n x w =
+default_stops f p d e old new t k st n x w =
     let a = call_keeps k in
-    (v, new, k, strict_before old new a st, subst (λ z. IsDefaultOf (presence_of z) (tree_of v)) (sym e) n, rules_same old new (Der DefaultValuePresent) x a w)
+    (t, new, k, st, subst (λ z. IsDefaultOf (presence_of z) t) (sym e) n, rules_same old new (Der DefaultValuePresent) x a w)
 
-pub unmade_stops : (f : ℕ → Shape) (p : Component) (s : State) (X : Type 0) (r : Result Value DecodeError) → IsMade (presence_of p.presence) s r → IfErr r (λ e. X → StopsAtComponent f p s e)
-unmade_stops f p s X (Ok v) m = tt
-unmade_stops f p s X (Err e) m = λ x. inr (inr (out_of_memory_told s e m.1))
+pub unmade_stops : (keep : Bool) (f : ℕ → Shape) (p : Component) (s : State) (X : Type 0) (r : Result Value DecodeError) → IsMade keep (presence_of p.presence) s r → IfErr r (λ e. X → StopsAtComponent f p s e)
+unmade_stops keep f p s X (Ok v) m = tt
+unmade_stops keep f p s X (Err e) m = λ x. inr (inr (out_of_memory_told s e m.1))
 
-pub only_memory : (f : ℕ → Shape) (ps : List Component) (s : State) (X : Type 0) (r : Result (Vec Value Global) DecodeError) → IfErr r (λ e. ⊥ ⊎ IsOutOfMemory e.kind) → IfErr r (λ e. X → StopsInSequence f ps s e)
-only_memory f ps s X (Ok v) m = tt
-only_memory f ps s X (Err e) (inl a) = absurd a
-only_memory f ps s X (Err e) (inr m) = λ x. inl m
+pub only_memory : (f : ℕ → Shape) (ps : List Component) (s : State) (X : Type 0) (r : Result (Vec Value Global) DecodeError) → IfErr r (λ e. IsOutOfMemory e.kind) → IfErr r (λ e. X → StopsInSequence f ps s e)
+only_memory f ps s X r h = if_err_map (λ e. IsOutOfMemory e.kind) (λ e. X → StopsInSequence f ps s e) (λ e m x. inl m) r h

@@ -1,5 +1,5 @@
 -- What is read is a value of its type.
-use Rattle.std.proofs.Common.{◌≡◌, ℕ, zero, suc, ℤ, inl, inr, List, [], ◌∷◌, ◌++◌, length, Option, Some, None, Vec, Global, Result, Ok, Err, refl, sym, ap, ◌∙◌, subst, append_assoc, arith}
+use Rattle.std.proofs.Common.{◌≡◌, ℕ, zero, suc, ℤ, Bool, true, inl, inr, List, [], ◌∷◌, ◌++◌, length, Option, Some, None, Vec, Global, Result, Ok, Err, refl, sym, ap, ◌∙◌, subst, append_assoc, arith}
 use Rattle.std.specs.Prelude.{slice_get, slice_set, IfOk}
 use Rattle.std.specs.Borrow.{Bor}
 use Rattle.std.proofs.lemmas.List.{append-nil}
@@ -24,7 +24,6 @@ use Rattle.rasn_schema.specs.Fitting.{IsLeftOutAs}
 use Rattle.rasn_schema.specs.Fitting.{Fits, FitsBy, FitsFound, NumberFits, OctetsFit, FitsLeaf, AreItems, AreElements, ComponentFits, ComponentsFit, EachFits}
 use Rattle.rasn_dynamic.specs.Found.{OneFound, FoundFit}
 use Rattle.rasn_dynamic.specs.Calls.{nones, IsMade, IsPut, IsValueOf, AreSettled, Gathers, IsNumberIn, IsStringOf}
-use Rattle.rasn_dynamic.specs.Typed.{IsSized}
 use Rattle.rasn_de.specs.State.{State}
 
 pub fits_below : (types : List «Type») (levels below k : ℕ) (ty : «Type») (v : Value) → levels ≡ suc below → Some ty ≡ slice_get types k → FitsBy (λ j w. Fits types below j w) ty v → Fits types levels k v
@@ -87,10 +86,6 @@ are_items P vs h = subst P (sym (items_hidden-the_row-Value-0 vs)) h
 pub are_elements : (P : List Value → Type 0) (vs : Vec Value Global) → P vs.items → AreElements P (Elements vs)
 are_elements P vs h = subst P (sym (items_hidden-the_row-Value-0 vs)) h
 
-pub sized_fits : (P : Value → Type 0) (c : Constraints) (s : State) (v : Value) (r : Result Value DecodeError) → P v → IsSized c s v r → IfOk r P
-sized_fits P c s v (Ok w) h (a, e) = subst P (sym e) h
-sized_fits P c s v (Err x) h n = tt
-
 pub each_more : (P : Value → Type 0) (vs us : List Value) (v : Value) → us ≡ vs ++ v ∷ [] → EachFits P vs → P v → EachFits P us
 each_more P vs us v e h p = subst (EachFits P) (sym e) (go vs h)
   where
@@ -151,9 +146,9 @@ module _ (g : ℕ → Value → Type 0) where
   missing_fits : (p : Component) (v : Value) → IsMissing (presence_of p.presence) (tree_of v) → ComponentFits g p v
   missing_fits p v m = inl (left_out (presence_of p.presence) v m)
 
-  pub made_fits : (p : Component) (s : State) (r : Result Value DecodeError) → IsMade (presence_of p.presence) s r → IfOk r (λ v. ComponentFits g p v)
-  made_fits p s (Ok v) m = missing_fits p v m
-  made_fits p s (Err x) m = tt
+  pub made_fits : (keep : Bool) → keep ≡ true → (p : Component) (s : State) (r : Result Value DecodeError) → IsMade keep (presence_of p.presence) s r → IfOk r (λ v. ComponentFits g p v)
+  made_fits keep k p s (Ok v) m = missing_fits p v (m k)
+  made_fits keep k p s (Err x) m = tt
 
   -- ---- components of a SET
 
@@ -167,9 +162,10 @@ module _ (g : ℕ → Value → Type 0) where
   settled_fit (p ∷ ps) [] vs f h = absurd f
   settled_fit (p ∷ ps) (x ∷ found) vs f (v, us, e, m, h) = subst (ComponentsFit g (p ∷ ps)) (sym e) (one_fits p x v f.0 m, settled_fit ps found us f.1 h)
 
-  pub gathered_fit : (ps : List Component) (rule : Codec) (found : List (Option Value)) (r : Result (Vec Value Global) DecodeError) → FoundFit g ps found → Gathers ps rule found r → IfOk r (λ v. ComponentsFit g ps v.items)
-  gathered_fit ps rule found (Ok vs) f h = settled_fit ps found vs.items f h
-  gathered_fit ps rule found (Err e) f h = tt
+  pub gathered_fit : (keep : Bool) → keep ≡ true → (ps : List Component) (rule : Codec) (found : List (Option Value)) (r : Result (Vec Value Global) DecodeError) → FoundFit g ps found → Gathers keep ps rule found r
+      → IfOk r (λ v. ComponentsFit g ps v.items)
+  gathered_fit keep k ps rule found (Ok vs) f h = settled_fit ps found vs.items f (h.1 k)
+  gathered_fit keep k ps rule found (Err e) f h = tt
 
   none_fit : (ps : List Component) → FoundFit g ps (nones ps)
   none_fit [] = tt
@@ -184,6 +180,10 @@ module _ (g : ℕ → Value → Type 0) where
   found_length (p ∷ ps) [] f = absurd f
   found_length (p ∷ ps) (x ∷ found) f = ap suc (found_length ps found f.1)
 
+  pub all_left_fit : (ps : List Component) (r : Result (Vec Value Global) DecodeError) → IfOk r (λ v. AreSettled ps (nones ps) v.items) → IfOk r (λ v. ComponentsFit g ps v.items)
+  all_left_fit ps (Ok vs) h = settled_fit ps (nones ps) vs.items (none_fit ps) h
+  all_left_fit ps (Err e) h = tt
+
   found_put : (ps : List Component) (before : List (Option Value)) (k : ℕ) (p : Component) (v : Value) → FoundFit g ps before → Some p ≡ slice_get ps k → g p.type_id.0 v → FoundFit g ps (slice_set before k (Some v))
   found_put [] before k p v f e h = absurd cc
   found_put (q ∷ ps) [] k p v f e h = absurd f
@@ -193,3 +193,11 @@ module _ (g : ℕ → Value → Type 0) where
   pub put_fits : (ps : List Component) (before after : List (Option Value)) (k : ℕ) (p : Component) (v : Value) (name : List ℕ) (r : Option (Bor (List ℕ))) → FoundFit g ps before → Some p ≡ slice_get ps k → g p.type_id.0 v → IsPut k v name before r after → FoundFit g ps after
   put_fits ps before after k p v name None f e h (n, a) = subst (FoundFit g ps) (sym a) (found_put ps before k p v f e h)
   put_fits ps before after k p v name (Some told) f e h (n, a, t) = subst (FoundFit g ps) (sym a) f
+
+-- If values are kept, those that were found are of their types.
+pub found_kept : (keep : Bool) (g : ℕ → Value → Type 0) → keep ≡ true → (ps : List Component) (found : List (Option Value)) → FoundFit (λ k v. keep ≡ true → g k v) ps found → FoundFit g ps found
+found_kept keep g q [] [] f = tt
+found_kept keep g q [] (x ∷ found) f = absurd f
+found_kept keep g q (p ∷ ps) [] f = absurd f
+found_kept keep g q (p ∷ ps) (None ∷ found) f = (tt, found_kept keep g q ps found f.1)
+found_kept keep g q (p ∷ ps) (Some v ∷ found) f = (f.0 q, found_kept keep g q ps found f.1)

@@ -16,7 +16,9 @@ pub mod FixedOctets
 pub mod Numbers
 pub mod UnfitParts
 pub mod LeafWritten
+pub mod Making
 pub mod Faults
 pub mod Parts
 pub mod Worked
 pub mod Ways
+pub mod Checked

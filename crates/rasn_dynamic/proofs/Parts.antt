@@ -20,7 +20,6 @@ use Rattle.rasn_de.proofs.Headers.Ends.{IsEnd-refl, IsEnd-trans}
 use Rattle.rasn_schema.specs.declared.types.«Type».{«Type»}
 use Rattle.rasn_schema.specs.declared.types.«Type».TheVariants.{Leaf, Enumerated, Any, Tagged, Choice, Sequence, Set, SequenceOf, SetOf}
 use Rattle.rasn_schema.specs.declared.types.Component.{Component}
-use Rattle.rasn_schema.specs.Trees.{tree_of}
 use Rattle.rasn_schema.specs.Shapes.{shape_of_type, type_by, components_by, AreLawful}
 use Rattle.rasn_dynamic.specs.Faults.{octets_after, ComponentsInTurn, IsPart, EntersBy, Enters, Leads, start}
 use Rattle.rasn_dynamic.specs.Parts.{IsSeen, IsEntered, IsHeader, IsHeaderOf, LacksPart, IsReadHere, IsPartAt}
@@ -91,8 +90,8 @@ part_keeps f (Tagged tag id) s k next here (a, b, g) = same_keeps s here g
 part_keeps f (Choice name ks) s k next here (a, e, b, g) = same_keeps s here g
 part_keeps f (Sequence tag ps) s k next here (done, p, after, e, l, b, t) = components_keep f done s here t
 part_keeps f (Set name tag ps) s k next here (p, e, b, done, bs, d) = turns_keep (choice (components_by f ps.items)) (λ (t : Tree). t) s done here (forgotten (Decodes (choice (components_by f ps.items)) (λ (t : Tree). t)) s done bs here d)
-part_keeps f (SequenceOf tag id c) s k next here (b, vs, l, d, n) = turns_keep (f id.0) tree_of s vs here d
-part_keeps f (SetOf tag id c) s k next here (b, vs, l, d, n) = turns_keep (f id.0) tree_of s vs here d
+part_keeps f (SequenceOf tag id c) s k next here (b, ts, l, d, n) = turns_keep (f id.0) (λ (t : Tree). t) s ts here d
+part_keeps f (SetOf tag id c) s k next here (b, ts, l, d, n) = turns_keep (f id.0) (λ (t : Tree). t) s ts here d
 
 component_lawful : (f : ℕ → Shape) (done : List Component) (p : Component) (after : List Component) → AreLawful (components_by f (done ++ p ∷ after)) → IsLawful (f p.type_id.0)
 component_lawful f [] p after h = h.0

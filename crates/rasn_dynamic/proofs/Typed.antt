@@ -1,117 +1,129 @@
 -- What is read as rasn_de's calls read it is what the grammar relates.
-use Rattle.std.proofs.Common.{◌≡◌, ◌≢◌, ℕ, ◌≤◌, inl, inr, List, length, Vec, vec_len, Global, String, Result, Ok, Err, refl, sym, ap, ◌∙◌, subst}
+use Rattle.std.proofs.Common.{◌≡◌, ◌≢◌, ℕ, suc, ◌-◌, ◌≤◌, inl, inr, List, [], ◌∷◌, length, map, Vec, Global, String, Result, Ok, Err, refl, sym, ap, ◌∙◌, subst}
 use Rattle.rasn_types.specs.declared.types.tag.Tag.{Tag}
 use Rattle.rasn_types.specs.declared.types.constraints.Constraints.{Constraints}
 use Rattle.rasn_types.specs.declared.error.decode.DecodeError.{DecodeError}
 use Rattle.rasn_types.specs.Framing.{AreOctets}
 use Rattle.rasn_types.specs.Errors.{IsOutOfMemory}
-use Rattle.rasn_types.specs.Grammar.{Reads}
-use Rattle.rasn_types.specs.Shapes.{Shape, list, set_of, Admits, constraint_of}
+use Rattle.rasn_types.specs.Grammar.{Reads, ReadsList, ReadsSetOf}
+use Rattle.rasn_types.specs.Shapes.{Tree, items, Shape, list, set_of, Admits, constraint_of}
 use Rattle.rasn_de.specs.declared.ber.de.parser.ParseError.TheVariants.{SizeConstraintNotSatisfied}
 use Rattle.rasn_de.specs.State.{State, at, IsEnd, Call}
 use Rattle.rasn_de.specs.Steps.{IsErrorOf}
 use Rattle.rasn_de.specs.Outcomes.{Got}
 use Rattle.rasn_de.specs.Decodes.{Decodes, DecodesBy, DecodesExactly}
 use Rattle.rasn_de.specs.declared.ber.de.constructed.ConstructedHeader.{ConstructedHeader}
-use Rattle.rasn_de.specs.Constructed.{sequence_header, list_header, prefix_header, FailsInside, no_value, inside, not_closed, DecodesInside}
-use Rattle.rasn_de.specs.SequenceOf.{DecodesElements, DecodesElementsInOrder, DecodesSized}
+use Rattle.rasn_de.specs.Constructed.{sequence_header, list_header, prefix_header, contents_state, DecodesInside}
+use Rattle.rasn_de.specs.SequenceOf.{ReadsElements, ReadsSetElements, DecodesElements, DecodesElementsInOrder, DecodesSized}
 use Rattle.rasn_de.proofs.Leaves.Outcomes.{alloc_failed}
 use Rattle.rasn_de.proofs.Constructed.Opening.{kept}
 use Rattle.rasn_de.specs.SetPartTypes.{DecodesSetPartContents}
 use Rattle.rasn_de.proofs.Constructed.Steps.{rules_same, inside_by}
 use Rattle.rasn_de.proofs.Constructed.SetOfElements.{each_decodes, in_order_decodes, each_leaves, in_order_leaves}
-use Rattle.rasn_de.proofs.Constructed.SequenceOf.{sequence_of_decodes, set_of_decodes}
+use Rattle.rasn_de.proofs.Constructed.SequenceOf.{sized}
 use Rattle.rasn_schema.specs.declared.types.«Type».{«Type»}
 use Rattle.rasn_schema.specs.declared.types.«Type».TheVariants.{Leaf, Enumerated, Any, Tagged, Choice, Sequence, Set, SequenceOf, SetOf}
 use Rattle.rasn_schema.specs.declared.type_id.TypeId.{TypeId}
 use Rattle.rasn_schema.specs.declared.types.Component.{Component}
-use Rattle.rasn_schema.specs.declared.value.Value.{Value, Items, Elements, items_hidden-the_row-Value-0}
-use Rattle.rasn_schema.specs.Trees.{tree_of}
 use Rattle.rasn_schema.specs.Shapes.{type_by, components_by}
-use Rattle.rasn_schema.proofs.Values.{tree_items, tree_elements}
-use Rattle.rasn_dynamic.specs.Inside.{ReadsInside}
-use Rattle.rasn_dynamic.specs.Typed.{Makes, values_in, values_tree, DecodesComponents, element_count, IsSized, DecodesContents, DecodesType}
+use Rattle.rasn_dynamic.specs.Inside.{ReadsInside, DecodesTree}
+use Rattle.rasn_dynamic.specs.Making.{these}
+use Rattle.rasn_dynamic.specs.Typed.{Makes, elements, DecodesComponents, element_count, IsSized, HoldsOthers, HoldsElements, CountsElements, DecodesContents, DecodesType}
 use Rattle.rasn_dynamic.specs.Calls.{names_of}
 use Rattle.rasn_dynamic.proofs.Contents.{inside_prefix, inside_seq, inside_seq_got, inside_set, inside_set_got}
 use Rattle.rasn_dynamic.proofs.Inside.{inside_decodes}
 
--- ---- values that are made of what is read inside
-
-module _ {L M : Type 0} (make : L → Value) (read : Call L) (get : L → M) (other : Call M) (got : (o : State) (l : L) (n : State) → read o (Ok l) n → other o (Ok (get l)) n)
-    (stopped : (o : State) (e : DecodeError) (n : State) → read o (Err e) n → other o (Err e) n) (d : ConstructedHeader) (old : State) where
-  failed : (e : DecodeError) (rest : List ℕ) → FailsInside (Makes make read) d old e rest → FailsInside other d old e rest
-  failed e rest (no_value f h w) = no_value f h w
-  failed e rest (inside h o left c q) = inside h o left (stopped _ _ _ c) q
-  failed e rest (not_closed h o v left (l, m, c) f g w q) = not_closed h o (get l) left (got _ _ _ c) f g w q
-
-  refused_inside : (e : DecodeError) (new : State) → DecodesInside (Makes make read) d old (Err e) new → DecodesInside other d old (Err e) new
-  refused_inside e new (k, f) = (k, failed e new.rest f)
-
-  made_inside : (v : Value) (new : State) → DecodesInside (Makes make read) d old (Ok v) new → (l : L) × (v ≡ make l) × DecodesInside other d old (Ok (get l)) new
-  made_inside v new (k, f) = let c = f.call in (c.0, c.1, (k, record { header = f.header; opened = f.opened; left = f.left; call = got _ _ _ c.2; closed = f.closed }))
-
-module _ {L M : Type 0} (make : L → Value) (read : Call L) (get : L → M) (other : Call M) (got : (o : State) (l : L) (n : State) → read o (Ok l) n → other o (Ok (get l)) n)
-    (stopped : (o : State) (e : DecodeError) (n : State) → read o (Err e) n → other o (Err e) n) (size : M → ℕ) (same : (l : L) → element_count (make l) ≡ size (get l)) (tag : Tag) (c : Constraints) (old : State) where
-  counted : (v : Value) (l : L) → v ≡ make l → element_count v ≡ size (get l)
-  counted v l e = ap element_count e ∙ same l
-
-  sized_refused : (e : DecodeError) (new : State) → DecodesSized (Makes make read) element_count tag c old (Err e) new → DecodesSized other size tag c old (Err e) new
-  sized_refused e new (inl k) = inl (refused_inside make read get other got stopped (list_header tag) old e new k)
-  sized_refused e new (inr (v, k, n, w)) =
-      let m = made_inside make read get other got stopped (list_header tag) old v new k in
-      let q = counted v m.0 m.1 in
-      inr (get m.0, m.2, (λ a. n (subst (Admits ◌≤◌ c.size) (sym q) a)), subst (λ z. IsErrorOf (SizeConstraintNotSatisfied z (constraint_of c.size)) old e) q w)
-
-  sized_made : (v : Value) (new : State) → DecodesSized (Makes make read) element_count tag c old (Ok v) new → (l : L) × (v ≡ make l) × DecodesSized other size tag c old (Ok (get l)) new
-  sized_made v new (a, k) =
-      let m = made_inside make read get other got stopped (list_header tag) old v new k in
-      (m.0, m.1, (subst (Admits ◌≤◌ c.size) (counted v m.0 m.1) a, m.2))
-
 -- ---- the number of elements
 
-module _ (read : Call Value) (tag : Tag) (c : Constraints) (d : ConstructedHeader) (i : d ≡ list_header tag) (old new : State) where
-  listed : (r : Result Value DecodeError) → DecodesInside read d old r new → DecodesInside read (list_header tag) old r new
+module _ (read : Call Tree) (tag : Tag) (c : Constraints) (d : ConstructedHeader) (i : d ≡ list_header tag) (old new : State) where
+  listed : (r : Result Tree DecodeError) → DecodesInside read d old r new → DecodesInside read (list_header tag) old r new
   listed r k = subst (λ z. DecodesInside read z old r new) i k
 
   pub not_sized : (e : DecodeError) → DecodesInside read d old (Err e) new → DecodesSized read element_count tag c old (Err e) new
   not_sized e k = inl (listed (Err e) k)
 
-  pub sized_inside : (v : Value) → DecodesInside read d old (Ok v) new → (r : Result Value DecodeError) → IsSized c new v r → DecodesSized read element_count tag c old r new
-  sized_inside v k (Ok w) (a, e) = (subst (λ z. Admits ◌≤◌ c.size (element_count z)) (sym e) a, listed (Ok w) (subst (λ z. DecodesInside read d old (Ok z) new) (sym e) k))
-  sized_inside v k (Err x) (n, w) = inr (v, listed (Ok v) k, n, rules_same old new (SizeConstraintNotSatisfied (element_count v) (constraint_of c.size)) x k.0 w)
+  module _ (t : Tree) (k : DecodesInside read d old (Ok t) new) (n : ℕ) (g : n ≡ element_count t) where
+    pub is_sized : Admits ◌≤◌ c.size n → DecodesSized read element_count tag c old (Ok t) new
+    is_sized a = (subst (Admits ◌≤◌ c.size) g a, listed (Ok t) k)
+
+    pub missized : (x : DecodeError) → IsSized c new n (Err x) → DecodesSized read element_count tag c old (Err x) new
+    missized x (a, w) =
+        inr (
+          t,
+          listed (Ok t) k,
+          (λ b. a (subst (Admits ◌≤◌ c.size) (sym g) b)),
+          rules_same old new (SizeConstraintNotSatisfied (element_count t) (constraint_of c.size)) x k.0 (subst (λ z. IsErrorOf (SizeConstraintNotSatisfied z (constraint_of c.size)) new x) g w),
+        )
+
+pub holds_others : (ty : «Type») → HoldsElements ty → HoldsOthers ty
+holds_others (Leaf kind tag c names) h = absurd h
+holds_others (Enumerated tag ns) h = absurd h
+holds_others (Any tag) h = absurd h
+holds_others (Tagged tag k) h = tt
+holds_others (Choice name ks) h = absurd h
+holds_others (Sequence tag ps) h = tt
+holds_others (Set name tag ps) h = tt
+holds_others (SequenceOf tag k c) h = tt
+holds_others (SetOf tag k c) h = tt
+
+pub is_counted : (ty : «Type») (n : ℕ) (t : Tree) → HoldsElements ty → CountsElements ty n t → n ≡ element_count t
+is_counted (Leaf kind tag c names) n t h k = absurd h
+is_counted (Enumerated tag ns) n t h k = absurd h
+is_counted (Any tag) n t h k = absurd h
+is_counted (Tagged tag i) n t h k = absurd h
+is_counted (Choice name ks) n t h k = absurd h
+is_counted (Sequence tag ps) n t h k = absurd h
+is_counted (Set name tag ps) n t h k = absurd h
+is_counted (SequenceOf tag i c) n t h k = k
+is_counted (SetOf tag i c) n t h k = k
 
 -- ---- lists
 
-count_items : (vs : Vec Value Global) → element_count (Items vs) ≡ vec_len vs
-count_items vs = ap length (items_hidden-the_row-Value-0 vs) ∙ sym vs.ok.0
+abbrev itself : Tree → Tree
+itself t = t
 
-count_elements : (vs : Vec Value Global) → element_count (Elements vs) ≡ length vs.items
-count_elements vs = ap length (items_hidden-the_row-Value-0 vs)
+map_itself : (ts : List Tree) → map itself ts ≡ ts
+map_itself [] = refl
+map_itself (t ∷ ts) = ap (λ l. t ∷ l) (map_itself ts)
+
+pub count_items : (ts : List Tree) → element_count (items ts) ≡ length ts
+count_items [] = refl
+count_items (t ∷ ts) = ap suc (count_items ts)
+
+module _ (s : Shape) where
+  elements_read : (o : State) (r : Result Tree DecodeError) (n : State) → Makes items (DecodesElements (DecodesTree s) these) o r n → DecodesBy (ReadsElements s) itself o r n
+  elements_read o (Ok t) n (ts, e, h) =
+      subst (λ z. DecodesExactly (ReadsElements s) o (Got z n.rest) n) (ap items (map_itself ts) ∙ sym e) (each_decodes s itself these o (Ok ts) n h)
+  elements_read o (Err x) n h = each_decodes s itself these o (Err x) n h
+
+  set_elements_read : (o : State) (r : Result Tree DecodeError) (n : State) → Makes elements (DecodesElementsInOrder (DecodesTree s) these) o r n → DecodesBy (ReadsSetElements s) itself o r n
+  set_elements_read o (Ok t) n (ts, e, h) =
+      subst (λ z. DecodesExactly (ReadsSetElements s) o (Got z n.rest) n) (ap elements (map_itself ts) ∙ sym e) (in_order_decodes s itself these o (Ok ts) n h)
+  set_elements_read o (Err x) n h = in_order_decodes s itself these o (Err x) n h
 
 module _ (s : Shape) (tag : Tag) (c : Constraints) (old : State) (o : old.depth ≢ 0 → AreOctets old.rest) where
-  pub list_decodes : (r : Result Value DecodeError) (new : State) → DecodesSized (Makes Items (DecodesElements (Decodes s tree_of) values_in)) element_count tag c old r new → Decodes (list tag s c.size) tree_of old r new
-  list_decodes (Ok v) new k =
-      let read = DecodesElements (Decodes s tree_of) values_in in
-      let m = sized_made Items read (λ vs. vs) read (λ _ _ _ h. h) (λ _ _ _ h. h) (λ (vs : Vec Value Global). vec_len vs) count_items tag c old v new k in
-      subst (λ z. DecodesExactly (λ rule. Reads rule (list tag s c.size)) old (Got z new.rest) new) (sym (ap tree_of m.1 ∙ tree_items m.0)) (sequence_of_decodes s tree_of tag c old o (Ok m.0) new m.2)
-  list_decodes (Err e) new k =
-      let read = DecodesElements (Decodes s tree_of) values_in in
-      sequence_of_decodes s tree_of tag c old o (Err e) new (sized_refused Items read (λ vs. vs) read (λ _ _ _ h. h) (λ _ _ _ h. h) (λ (vs : Vec Value Global). vec_len vs) count_items tag c old e new k)
+  pub list_decodes : (r : Result Tree DecodeError) (new : State) → DecodesSized (Makes items (DecodesElements (DecodesTree s) these)) element_count tag c old r new → DecodesTree (list tag s c.size) old r new
+  unfolding Reads ReadsElements
+  list_decodes r new k =
+      let m = sized items (λ b. ReadsElements s old.rule (old.depth - 2) b) (λ b. ReadsList c.size (Reads old.rule s (old.depth - 2) b) b) c
+      (λ b i t q a w. (w.0, w.1, a w.0 w.1, w.2)) (λ b i t q w. ((w.0, w.1, w.3), w.0, w.1, w.2)) itself element_count
+      (λ t ts e. sym (ap element_count e ∙ count_items ts)) (Makes items (DecodesElements (DecodesTree s) these)) tag old o
+      (λ h q left w. (elements_read s (contents_state (list_header tag) old h) q left w).exact) r new k in
+      record { stays = m.0.stays; end = m.0.end; exact = m.1 }
 
-  pub set_of_elements_decodes : (r : Result Value DecodeError) (new : State) → DecodesSized (Makes Elements (DecodesElementsInOrder (Decodes s tree_of) values_in)) element_count tag c old r new → Decodes (set_of tag s c.size) tree_of old r new
-  set_of_elements_decodes (Ok v) new k =
-      let read = DecodesElementsInOrder (Decodes s tree_of) values_in in
-      let other = DecodesElementsInOrder (Decodes s tree_of) (λ (l : List Value). l) in
-      let m = sized_made Elements read values_in other (λ _ _ _ h. h) (λ _ _ _ h. h) (λ (l : List Value). length l) count_elements tag c old v new k in
-      subst (λ z. DecodesExactly (λ rule. Reads rule (set_of tag s c.size)) old (Got z new.rest) new) (sym (ap tree_of m.1 ∙ tree_elements m.0)) (set_of_decodes s tree_of tag c old o (Ok m.0.items) new m.2)
-  set_of_elements_decodes (Err e) new k =
-      let read = DecodesElementsInOrder (Decodes s tree_of) values_in in
-      let other = DecodesElementsInOrder (Decodes s tree_of) (λ (l : List Value). l) in
-      set_of_decodes s tree_of tag c old o (Err e) new (sized_refused Elements read values_in other (λ _ _ _ h. h) (λ _ _ _ h. h) (λ (l : List Value). length l) count_elements tag c old e new k)
+  pub set_of_elements_decodes : (r : Result Tree DecodeError) (new : State) → DecodesSized (Makes elements (DecodesElementsInOrder (DecodesTree s) these)) element_count tag c old r new
+      → DecodesTree (set_of tag s c.size) old r new
+  unfolding Reads ReadsSetElements
+  set_of_elements_decodes r new k =
+      let m = sized elements (λ b. ReadsSetElements s old.rule (old.depth - 2) b) (λ b. ReadsSetOf old.rule c.size (Reads old.rule s (old.depth - 2) b) b) c
+      (λ b i t q a w. (w.0, w.1, a w.0 w.1, w.2, w.3)) (λ b i t q w. ((w.0, w.1, w.3, w.4), w.0, w.1, w.2)) itself element_count
+      (λ t ts e. sym (ap element_count e ∙ count_items ts)) (Makes elements (DecodesElementsInOrder (DecodesTree s) these)) tag old o
+      (λ h q left w. (set_elements_read s (contents_state (list_header tag) old h) q left w).exact) r new k in
+      record { stays = m.0.stays; end = m.0.end; exact = m.1 }
 
 -- ---- types
 
-module _ (f : ℕ → Shape) (ty : «Type») (old : State) (r : Result Value DecodeError) (new : State) where
+module _ (f : ℕ → Shape) (ty : «Type») (old : State) (r : Result Tree DecodeError) (new : State) where
   -- What is read inside, if the type is this one and the header that one.
   abbrev Holds : «Type» → ConstructedHeader → Type 0
   Holds t d = DecodesInside (DecodesContents f t) d old r new
@@ -143,14 +155,14 @@ module _ (f : ℕ → Shape) (qs : List Component) (ps : Vec Component Global) (
   pub sequence_fails : (tag : Tag) (e : DecodeError) → DecodesComponents (components_by f qs) old (Err e) new → DecodesContents f (Sequence tag ps) old (Err e) new
   sequence_fails tag e h = subst (λ l. DecodesComponents (components_by f l) old (Err e) new) same h
 
-  pub sequence_made : (tag : Tag) (vs : Vec Value Global) → DecodesComponents (components_by f qs) old (Ok vs) new → DecodesContents f (Sequence tag ps) old (Ok (Items vs)) new
-  sequence_made tag vs h = (vs, refl, subst (λ l. DecodesComponents (components_by f l) old (Ok vs) new) same h)
+  pub sequence_made : (tag : Tag) (ts : List Tree) → DecodesComponents (components_by f qs) old (Ok ts) new → DecodesContents f (Sequence tag ps) old (Ok (items ts)) new
+  sequence_made tag ts h = (ts, refl, subst (λ l. DecodesComponents (components_by f l) old (Ok ts) new) same h)
 
-  pub set_fails : (name : String Global) (tag : Tag) (e : DecodeError) → DecodesSetPartContents (components_by f qs) values_tree (names_of qs) old (Err e) new → DecodesContents f (Set name tag ps) old (Err e) new
-  set_fails name tag e h = inl (subst (λ l. DecodesSetPartContents (components_by f l) values_tree (names_of l) old (Err e) new) same h)
+  pub set_fails : (name : String Global) (tag : Tag) (e : DecodeError) → DecodesSetPartContents (components_by f qs) items (names_of qs) old (Err e) new → DecodesContents f (Set name tag ps) old (Err e) new
+  set_fails name tag e h = inl (subst (λ l. DecodesSetPartContents (components_by f l) items (names_of l) old (Err e) new) same h)
 
-  pub set_made : (name : String Global) (tag : Tag) (vs : Vec Value Global) → DecodesSetPartContents (components_by f qs) values_tree (names_of qs) old (Ok vs) new → DecodesContents f (Set name tag ps) old (Ok (Items vs)) new
-  set_made name tag vs h = (vs, refl, subst (λ l. DecodesSetPartContents (components_by f l) values_tree (names_of l) old (Ok vs) new) same h)
+  pub set_made : (name : String Global) (tag : Tag) (ts : List Tree) → DecodesSetPartContents (components_by f qs) items (names_of qs) old (Ok ts) new → DecodesContents f (Set name tag ps) old (Ok (items ts)) new
+  set_made name tag ts h = (ts, refl, subst (λ l. DecodesSetPartContents (components_by f l) items (names_of l) old (Ok ts) new) same h)
 
 -- Memory runs out before anything is read.
 pub set_runs_out : (f : ℕ → Shape) (name : String Global) (tag : Tag) (ps : Vec Component Global) (old : State) (e : DecodeError) → IsOutOfMemory e.kind → DecodesContents f (Set name tag ps) old (Err e) old
@@ -158,31 +170,31 @@ set_runs_out f name tag ps old e m = inr (m, kept old)
 
 -- A value of a type that holds others is one that the grammar relates.
 module _ (f : ℕ → Shape) where
-  prefix_contents : (tag : Tag) (k : TypeId) (o : State) (r : Result Value DecodeError) (n : State) → DecodesContents f (Tagged tag k) o r n → DecodesBy (ReadsInside (type_by f (Tagged tag k))) tree_of o r n
+  prefix_contents : (tag : Tag) (k : TypeId) (o : State) (r : Result Tree DecodeError) (n : State) → DecodesContents f (Tagged tag k) o r n → DecodesBy (ReadsInside (type_by f (Tagged tag k))) itself o r n
   prefix_contents tag k o r n h = inside_prefix tag (f k.0) o n _ h
 
-  sequence_contents : (tag : Tag) (ps : Vec Component Global) (o : State) (r : Result Value DecodeError) (n : State) → DecodesContents f (Sequence tag ps) o r n → DecodesBy (ReadsInside (type_by f (Sequence tag ps))) tree_of o r n
-  sequence_contents tag ps o (Ok v) n (vs, e, h) =
-      subst (λ z. DecodesBy (ReadsInside (type_by f (Sequence tag ps))) tree_of o (Ok z) n) (sym e) (inside_seq_got tag (components_by f ps.items) o n vs h.0)
+  sequence_contents : (tag : Tag) (ps : Vec Component Global) (o : State) (r : Result Tree DecodeError) (n : State) → DecodesContents f (Sequence tag ps) o r n → DecodesBy (ReadsInside (type_by f (Sequence tag ps))) itself o r n
+  sequence_contents tag ps o (Ok t) n (ts, e, h) =
+      subst (λ z. DecodesBy (ReadsInside (type_by f (Sequence tag ps))) itself o (Ok z) n) (sym e) (inside_seq_got tag (components_by f ps.items) o n ts h.0)
   sequence_contents tag ps o (Err e) n h = inside_seq tag (components_by f ps.items) o n e h.0
 
-  set_contents : (name : String Global) (tag : Tag) (ps : Vec Component Global) (o : State) (r : Result Value DecodeError) (n : State) → DecodesContents f (Set name tag ps) o r n → DecodesBy (ReadsInside (type_by f (Set name tag ps))) tree_of o r n
-  set_contents name tag ps o (Ok v) n (vs, e, h) =
-      subst (λ z. DecodesBy (ReadsInside (type_by f (Set name tag ps))) tree_of o (Ok z) n) (sym e) (inside_set_got tag (components_by f ps.items) (names_of ps.items) o n vs h)
+  set_contents : (name : String Global) (tag : Tag) (ps : Vec Component Global) (o : State) (r : Result Tree DecodeError) (n : State) → DecodesContents f (Set name tag ps) o r n → DecodesBy (ReadsInside (type_by f (Set name tag ps))) itself o r n
+  set_contents name tag ps o (Ok t) n (ts, e, h) =
+      subst (λ z. DecodesBy (ReadsInside (type_by f (Set name tag ps))) itself o (Ok z) n) (sym e) (inside_set_got tag (components_by f ps.items) (names_of ps.items) o n ts h)
   set_contents name tag ps o (Err e) n (inl h) = inside_set tag (components_by f ps.items) (names_of ps.items) o n e h
-  set_contents name tag ps o (Err e) n (inr (m, k)) = alloc_failed (ReadsInside (type_by f (Set name tag ps))) tree_of o n e m k.stays k.end
+  set_contents name tag ps o (Err e) n (inr (m, k)) = alloc_failed (ReadsInside (type_by f (Set name tag ps))) itself o n e m k.stays k.end
 
   -- What is left of the contents ends them.
-  pub contents_end : (ty : «Type») (o : State) (v : Value) (n : State) → DecodesContents f ty o (Ok v) n → IsEnd o.rest n.rest
-  contents_end (Leaf kind tag c names) o v n h = absurd h
-  contents_end (Enumerated tag ns) o v n h = absurd h
-  contents_end (Any tag) o v n h = absurd h
-  contents_end (Tagged tag k) o v n h = h.end
-  contents_end (Choice name ks) o v n h = absurd h
-  contents_end (Sequence tag ps) o v n h = (sequence_contents tag ps o (Ok v) n h).end
-  contents_end (Set name tag ps) o v n h = (set_contents name tag ps o (Ok v) n h).end
-  contents_end (SequenceOf tag k c) o v n (vs, e, h) = each_leaves (f k.0) tree_of values_in o (Ok vs) n h
-  contents_end (SetOf tag k c) o v n (vs, e, h) = in_order_leaves (f k.0) tree_of values_in o (Ok vs) n h
+  pub contents_end : (ty : «Type») (o : State) (t : Tree) (n : State) → DecodesContents f ty o (Ok t) n → IsEnd o.rest n.rest
+  contents_end (Leaf kind tag c names) o t n h = absurd h
+  contents_end (Enumerated tag ns) o t n h = absurd h
+  contents_end (Any tag) o t n h = absurd h
+  contents_end (Tagged tag k) o t n h = h.end
+  contents_end (Choice name ks) o t n h = absurd h
+  contents_end (Sequence tag ps) o t n h = (sequence_contents tag ps o (Ok t) n h).end
+  contents_end (Set name tag ps) o t n h = (set_contents name tag ps o (Ok t) n h).end
+  contents_end (SequenceOf tag k c) o t n (ts, e, h) = each_leaves (f k.0) itself these o (Ok ts) n h
+  contents_end (SetOf tag k c) o t n (ts, e, h) = in_order_leaves (f k.0) itself these o (Ok ts) n h
 
   -- Only what is left of the contents changes.
   pub contents_stay : (ty : «Type») (o : State) (e : DecodeError) (n : State) → DecodesContents f ty o (Err e) n → n ≡ at o n.rest
@@ -193,20 +205,20 @@ module _ (f : ℕ → Shape) where
   contents_stay (Choice name ks) o e n h = absurd h
   contents_stay (Sequence tag ps) o e n h = (sequence_contents tag ps o (Err e) n h).stays
   contents_stay (Set name tag ps) o e n h = (set_contents name tag ps o (Err e) n h).stays
-  contents_stay (SequenceOf tag k c) o e n h = (each_decodes (f k.0) tree_of values_in o (Err e) n h).stays
-  contents_stay (SetOf tag k c) o e n h = (in_order_decodes (f k.0) tree_of values_in o (Err e) n h).stays
+  contents_stay (SequenceOf tag k c) o e n h = (each_decodes (f k.0) itself these o (Err e) n h).stays
+  contents_stay (SetOf tag k c) o e n h = (in_order_decodes (f k.0) itself these o (Err e) n h).stays
 
-  module _ (old : State) (o : old.depth ≢ 0 → AreOctets old.rest) (r : Result Value DecodeError) (new : State) where
-    prefixed : (tag : Tag) (k : TypeId) → DecodesType f (Tagged tag k) old r new → Decodes (type_by f (Tagged tag k)) tree_of old r new
+  module _ (old : State) (o : old.depth ≢ 0 → AreOctets old.rest) (r : Result Tree DecodeError) (new : State) where
+    prefixed : (tag : Tag) (k : TypeId) → DecodesType f (Tagged tag k) old r new → Decodes (type_by f (Tagged tag k)) itself old r new
     prefixed tag k h = inside_decodes old o r new (type_by f (Tagged tag k)) (prefix_header tag) refl (inside_by _ _ (prefix_header tag) old r new h (prefix_contents tag k))
 
-    in_sequence : (tag : Tag) (ps : Vec Component Global) → DecodesType f (Sequence tag ps) old r new → Decodes (type_by f (Sequence tag ps)) tree_of old r new
+    in_sequence : (tag : Tag) (ps : Vec Component Global) → DecodesType f (Sequence tag ps) old r new → Decodes (type_by f (Sequence tag ps)) itself old r new
     in_sequence tag ps h = inside_decodes old o r new (type_by f (Sequence tag ps)) (sequence_header tag) refl (inside_by _ _ (sequence_header tag) old r new h (sequence_contents tag ps))
 
-    in_set : (name : String Global) (tag : Tag) (ps : Vec Component Global) → DecodesType f (Set name tag ps) old r new → Decodes (type_by f (Set name tag ps)) tree_of old r new
+    in_set : (name : String Global) (tag : Tag) (ps : Vec Component Global) → DecodesType f (Set name tag ps) old r new → Decodes (type_by f (Set name tag ps)) itself old r new
     in_set name tag ps h = inside_decodes old o r new (type_by f (Set name tag ps)) (sequence_header tag) refl (inside_by _ _ (sequence_header tag) old r new h (set_contents name tag ps))
 
-    pub type_decodes : (ty : «Type») → DecodesType f ty old r new → Decodes (type_by f ty) tree_of old r new
+    pub type_decodes : (ty : «Type») → DecodesType f ty old r new → Decodes (type_by f ty) itself old r new
     type_decodes (Leaf kind tag c names) h = h
     type_decodes (Enumerated tag ns) h = h
     type_decodes (Any tag) h = h

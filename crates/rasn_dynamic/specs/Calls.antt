@@ -23,17 +23,17 @@ use Rattle.rasn_types.specs.Readings.{IsNoDefault, IsMissing}
 use Rattle.rasn_types.specs.declared.error.decode.DecodeError.{DecodeError}
 use Rattle.rasn_types.specs.declared.error.decode.DerDecodeErrorKind.TheVariants.{DefaultValuePresent}
 use Rattle.rasn_de.specs.declared.ber.de.parser.ParseError.TheVariants.{UnexpectedExtraData, SizeConstraintNotSatisfied, OutOfMemory, Der}
-use Rattle.rasn_de.specs.State.{State}
+use Rattle.rasn_de.specs.State.{State, Call}
 use Rattle.rasn_de.specs.Steps.{IsErrorOf}
-use Rattle.rasn_de.specs.Decodes.{Decodes}
 use Rattle.rasn_de.specs.NamedErrors.{IsNamedError, IsNoValidChoice, IsMissingField}
-use Rattle.rasn_de.specs.SetPartTypes.{held_tree, text, name_at, LacksSlot}
+use Rattle.rasn_de.specs.SetPartTypes.{held_tree, text, name_at, LacksSlot, DecodesNext}
 use Rattle.rasn_schema.specs.declared.types.Presence.{Presence as PartPresence}
 use Rattle.rasn_schema.specs.declared.types.Presence.TheVariants.{Required, Optional, Addition, Default}
 use Rattle.rasn_schema.specs.declared.types.Component.{Component}
 use Rattle.rasn_schema.specs.declared.value.Value.{Value, Integer as Number, Octets}
 use Rattle.rasn_schema.specs.Trees.{tree_of}
 use Rattle.rasn_schema.specs.Shapes.{presence_of, presences_in}
+use Rattle.rasn_dynamic.specs.Inside.{DecodesTree}
 
 -- A number in a range.
 abbrev pub IsNumberIn : Interval → Value → Type 0
@@ -59,10 +59,10 @@ abbrev pub FailsAtFixed : ℕ → Tag → Constraints → State → DecodeError 
 FailsAtFixed n tag c old e new = DecodesOctetString tag unconstrained old (Err e) new
     ⊎ ((octets : CowSlice ℕ Global) × DecodesOctetString tag unconstrained old (Ok octets) new × IsOfWrongSize n c (cow_slice_items octets) new e)
 
--- The value is appended, and some of the input was read; or nothing was read, or memory ran out.
-abbrev pub IsKept : ℕ → State → Value → List Value → Result (Unit {0}) DecodeError → List Value → Type 0
-IsKept left s v vs (Ok done) us = (us ≡ vs ++ v ∷ []) × (length s.rest ≢ left)
-IsKept left s v vs (Err e) us = ((length s.rest ≡ left) × IsErrorOf (UnexpectedExtraData left) s e) ⊎ IsErrorOf OutOfMemory s e
+-- The value is appended, if values are kept, and some of the input was read; or nothing was read, or memory ran out.
+abbrev pub IsKept : Bool → ℕ → State → Value → List Value → Result (Unit {0}) DecodeError → List Value → Type 0
+IsKept keep left s v vs (Ok done) us = (keep ≡ true → us ≡ vs ++ v ∷ []) × (length s.rest ≢ left)
+IsKept keep left s v vs (Err e) us = ((length s.rest ≡ left) × IsErrorOf (UnexpectedExtraData left) s e) ⊎ IsErrorOf OutOfMemory s e
 
 abbrev pub IsDefaultOf : Presence → Tree → Type 0
 IsDefaultOf required t = ⊥
@@ -71,10 +71,10 @@ IsDefaultOf addition t = ⊥
 IsDefaultOf (default_by key d) t = Same t d
 
 -- A component that is present is read by its shape; or it is its default, which must not be written (X.690 11.5).
-abbrev pub DecodesPresent : Presence → Shape → State → Result Value DecodeError → State → Type 0
-DecodesPresent p s old (Ok v) new = Decodes s tree_of old (Ok v) new × (IsStrict old.rule → IsNoDefault p (tree_of v))
-DecodesPresent p s old (Err e) new = Decodes s tree_of old (Err e) new
-    ⊎ ((v : Value) × Decodes s tree_of old (Ok v) new × IsStrict old.rule × IsDefaultOf p (tree_of v) × IsErrorOf (Der DefaultValuePresent) old e)
+abbrev pub DecodesPresent : Presence → Shape → Call Tree
+DecodesPresent p s old (Ok t) new = DecodesTree s old (Ok t) new × (IsStrict old.rule → IsNoDefault p t)
+DecodesPresent p s old (Err e) new = DecodesTree s old (Err e) new
+    ⊎ ((t : Tree) × DecodesTree s old (Ok t) new × IsStrict old.rule × IsDefaultOf p t × IsErrorOf (Der DefaultValuePresent) old e)
 
 -- If the next tag is no alternative's, the error has this name, and nothing is consumed.
 abbrev pub IsNoAlternative : Parts → List ℕ → State → DecodeError → State → Type 0
@@ -87,10 +87,10 @@ HasDefault (optional_by key) = ⊥
 HasDefault addition = ⊥
 HasDefault (default_by key d) = Unit {0}
 
--- The value that an absent component has; or memory runs out for the copy of its default.
-abbrev pub IsMade : Presence → State → Result Value DecodeError → Type 0
-IsMade p s (Ok v) = IsMissing p (tree_of v)
-IsMade p s (Err e) = HasDefault p × IsErrorOf OutOfMemory s e
+-- The value that an absent component has, if values are kept; or memory runs out for the copy of its default.
+abbrev pub IsMade : Bool → Presence → State → Result Value DecodeError → Type 0
+IsMade keep p s (Ok v) = keep ≡ true → IsMissing p (tree_of v)
+IsMade keep p s (Err e) = HasDefault p × IsErrorOf OutOfMemory s e
 
 -- whether some component is required
 abbrev pub is_required : PartPresence → Bool
@@ -131,14 +131,28 @@ IsPut k v name before (Some told) after = (get_or before k None ≢ None) × (af
 abbrev pub IsComponentFor : (ℕ → Shape) → List Component → Tag → ℕ → Component → Type 0
 IsComponentFor f ps tag k p = (Some p ≡ slice_get ps k) × IsFirst (f p.type_id.0) tag
 
+-- Of a component that was read there is a tree: that of the value, if values are kept.
+abbrev pub HoldsSlot : Bool → Option Value → Option Tree → Type 0
+HoldsSlot keep None slot = slot ≡ None
+HoldsSlot keep (Some v) slot = (t : Tree) × (slot ≡ Some t) × (keep ≡ true → tree_of v ≡ t)
+
+abbrev pub HoldsSlots : Bool → List (Option Value) → List (Option Tree) → Type 0
+HoldsSlots keep [] slots = slots ≡ []
+HoldsSlots keep (x ∷ found) slots = (slot : Option Tree) × (others : List (Option Tree)) × (slots ≡ slot ∷ others) × HoldsSlot keep x slot × HoldsSlots keep found others
+
+-- One more component is read, whatever the trees of those before it are.
+abbrev pub DecodesMember : Bool → Parts → List (List ℕ) → List (Option Value) → State → Result (Option (Bor (List ℕ))) DecodeError → State → List (Option Value) → Type 0
+DecodesMember keep ps names before old r new after = (slots : List (Option Tree)) → HoldsSlots keep before slots
+    → (others : List (Option Tree)) × HoldsSlots keep after others × DecodesNext ps names slots old r new others
+
 -- A component is what was read of it, or has the value that it has if it is absent.
 abbrev pub IsValueOf : Presence → Option Value → Value → Type 0
 IsValueOf p None v = IsMissing p (tree_of v)
 IsValueOf p (Some w) v = v ≡ w
 
-abbrev pub IsSettled : Presence → List ℕ → Codec → Option Value → Result Value DecodeError → Type 0
-IsSettled p name rule found (Ok v) = IsValueOf p found v
-IsSettled p name rule found (Err e) = IsOutOfMemory e.kind ⊎ ((p ≡ required) × (found ≡ None) × IsNamedError (IsMissingField name) rule e)
+abbrev pub IsSettled : Bool → Presence → List ℕ → Codec → Option Value → Result Value DecodeError → Type 0
+IsSettled keep p name rule found (Ok v) = (p ≡ required → found ≢ None) × (keep ≡ true → IsValueOf p found v)
+IsSettled keep p name rule found (Err e) = IsOutOfMemory e.kind ⊎ ((p ≡ required) × (found ≡ None) × IsNamedError (IsMissingField name) rule e)
 
 abbrev pub AreSettled : List Component → List (Option Value) → List Value → Type 0
 AreSettled [] [] vs = vs ≡ []
@@ -146,7 +160,11 @@ AreSettled [] (x ∷ found) vs = ⊥
 AreSettled (p ∷ ps) [] vs = ⊥
 AreSettled (p ∷ ps) (x ∷ found) vs = (v : Value) × (us : List Value) × (vs ≡ v ∷ us) × IsValueOf (presence_of p.presence) x v × AreSettled ps found us
 
--- All components, or the name of the first required one that is missing.
-abbrev pub Gathers : List Component → Codec → List (Option Value) → Result (Vec Value Global) DecodeError → Type 0
-Gathers ps rule found (Ok vs) = AreSettled ps found vs.items
-Gathers ps rule found (Err e) = IsOutOfMemory e.kind ⊎ ((k : ℕ) × LacksSlot (presences_in ps) (held found) k × IsNamedError (IsMissingField (name_at (names_of ps) k)) rule e)
+-- No required component is missing.
+abbrev pub LacksNone : List Component → List (Option Value) → Type 0
+LacksNone ps found = (k : ℕ) → LacksSlot (presences_in ps) (held found) k → ⊥
+
+-- All components, if values are kept; or the name of the first required one that is missing.
+abbrev pub Gathers : Bool → List Component → Codec → List (Option Value) → Result (Vec Value Global) DecodeError → Type 0
+Gathers keep ps rule found (Ok vs) = LacksNone ps found × (keep ≡ true → AreSettled ps found vs.items)
+Gathers keep ps rule found (Err e) = IsOutOfMemory e.kind ⊎ ((k : ℕ) × LacksSlot (presences_in ps) (held found) k × IsNamedError (IsMissingField (name_at (names_of ps) k)) rule e)

@@ -1,18 +1,21 @@
 -- What the entry points return.
-use Rattle.std.specs.Prelude.{◌≡◌, ◌⊎◌, ℕ, Bool, true, false, List, []}
+use Rattle.std.specs.Prelude.{◌≡◌, ◌⊎◌, ℕ, Bool, true, false, List, [], Result, Ok, Err}
+use Rattle.std.specs.Borrow.{Bor}
 use Rattle.rasn_types.specs.declared.types.codec.Codec.{Codec}
 use Rattle.rasn_types.specs.declared.types.codec.Codec.TheVariants.{Der}
 use Rattle.rasn_types.specs.declared.error.encode.EncodeError.{EncodeError}
 use Rattle.rasn_types.specs.Shapes.{Shape, Tree}
 use Rattle.rasn_types.specs.Grammar.{Reads, top}
 use Rattle.rasn_types.specs.Bytes.{Bytes, Same}
-use Rattle.rasn.specs.Headline.{EncodingFails}
+use Rattle.rasn_types.specs.declared.error.decode.DecodeError.{DecodeError}
+use Rattle.rasn_de.specs.Outcomes.{Exact, Got, refusal}
+use Rattle.rasn.specs.Headline.{AnsweredAlone, EncodingFails}
 use Rattle.rasn.specs.Normal.{Means, IsNormal, IsNoNormal}
 use Rattle.rasn.specs.declared.normal.NormaliseError.{NormaliseError}
 use Rattle.rasn_schema.specs.declared.types.«Type».{«Type»}
 use Rattle.rasn_schema.specs.Shapes.{shape_of_type}
 use Rattle.rasn_schema.specs.declared.value.Value.{Value}
-use Rattle.rasn_types.specs.Errors.{IsEncodeOutOfMemory}
+use Rattle.rasn_types.specs.Errors.{IsOutOfMemory, IsEncodeOutOfMemory}
 use Rattle.rasn_enc.specs.Encoding.{NoEncoding}
 use Rattle.rasn_schema.specs.Trees.{tree_of}
 use Rattle.rasn_schema.specs.Fitting.{Fits}
@@ -23,6 +26,23 @@ use Rattle.rasn_dynamic.specs.declared.entry.WriteError.TheVariants.{Unfit, Enco
 -- The shape of the type with a number, as deep as any message goes: reading stops at 128 values in one another.
 abbrev pub shape_of : List «Type» → ℕ → Shape
 shape_of types id = shape_of_type types 18446744073709551615 id
+
+-- The grammar relates all of the octets to some value, and to no other; or the error is one of those that `AnsweredAlone` has.
+abbrev pub IsChecked : Codec → Shape → List ℕ → Result (Unit {0}) DecodeError → Type 0
+IsChecked rule s input (Ok u) = (t : Tree) × AnsweredAlone rule s (λ (z : Tree). z) input (Ok t)
+IsChecked rule s input (Err e) = AnsweredAlone rule s (λ (z : Tree). z) input (Err e)
+
+-- Both read the input, or both refuse it; or the one that refuses it ran out of memory.
+abbrev pub Agree : {T : Type 0} → Result (Unit {0}) DecodeError → Result T DecodeError → Type 0
+Agree (Ok u) (Ok v) = Unit {0}
+Agree (Ok u) (Err e) = IsOutOfMemory e.kind
+Agree (Err e) (Ok v) = IsOutOfMemory e.kind
+Agree (Err e) (Err d) = Unit {0}
+
+-- The grammar relates the octets to some value with this rest, and to nothing else; or to nothing.
+abbrev pub IsCheckedUpTo : Codec → Shape → List ℕ → Result (Bor (List ℕ)) DecodeError → Type 0
+IsCheckedUpTo rule s input (Ok rest) = (t : Tree) × Exact (Reads rule s 128 (top rule)) input (Got t rest.now)
+IsCheckedUpTo rule s input (Err e) = Exact (Reads rule s 128 (top rule)) input (refusal e.kind)
 
 -- The value is one of the type.
 abbrev pub FitsType : List «Type» → ℕ → Value → Type 0

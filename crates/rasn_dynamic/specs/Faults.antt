@@ -14,7 +14,6 @@ use Rattle.rasn_de.specs.declared.ber.de.parser.ParseError.TheVariants.{Der}
 use Rattle.rasn_de.specs.State.{State, at, IsEnd, Call}
 use Rattle.rasn_de.specs.Steps.{IsErrorOf, PeeksTag}
 use Rattle.rasn_de.specs.Outcomes.{Exact, refusal}
-use Rattle.rasn_de.specs.Decodes.{Decodes, DecodesBy}
 use Rattle.rasn_de.specs.SequenceOf.{DecodesInTurn, DecodesInTurnFrom, IsOutOfOrder, DecodesSized}
 use Rattle.rasn_de.specs.Set.{FailsAtComponent}
 use Rattle.rasn_de.specs.declared.ber.de.constructed.ConstructedHeader.{ConstructedHeader}
@@ -24,11 +23,9 @@ use Rattle.rasn_schema.specs.declared.types.Component.{Component}
 use Rattle.rasn_schema.specs.declared.types.Alternative.{Alternative}
 use Rattle.rasn_schema.specs.declared.types.«Type».{«Type»}
 use Rattle.rasn_schema.specs.declared.types.«Type».TheVariants.{Leaf, Enumerated, Any, Tagged, Choice, Sequence, Set, SequenceOf, SetOf}
-use Rattle.rasn_schema.specs.declared.value.Value.{Value}
-use Rattle.rasn_schema.specs.Trees.{tree_of}
 use Rattle.rasn_schema.specs.Shapes.{shape_of_type, alternatives_by, components_by, presence_of, presence_in}
 use Rattle.rasn_schema.specs.FirstTags.{IsAlwaysThere}
-use Rattle.rasn_dynamic.specs.Inside.{ReadsComponent}
+use Rattle.rasn_dynamic.specs.Inside.{DecodesTree, DecodesComponent}
 use Rattle.rasn_dynamic.specs.Calls.{IsDefaultOf}
 use Rattle.rasn_dynamic.specs.Typed.{element_count, DecodesContents}
 use Rattle.rasn_dynamic.specs.declared.trace.Fault.{Fault}
@@ -76,12 +73,12 @@ IsAlternativeAt ks s k next here = (a : Alternative) × (Some a ≡ slice_get ks
 
 -- So many elements were read before it.
 abbrev pub IsElementAt : (ℕ → Shape) → ℕ → State → ℕ → ℕ → State → Type 0
-IsElementAt f id s k next here = (next ≡ id) × (vs : List Value) × (length vs ≡ k) × DecodesInTurn (Decodes (f id) tree_of) s vs here × (Ended here.closing here.rest → ⊥)
+IsElementAt f id s k next here = (next ≡ id) × (ts : List Tree) × (length ts ≡ k) × DecodesInTurn (DecodesTree (f id)) s ts here × (Ended here.closing here.rest → ⊥)
 
 -- These components were read, or are absent.
 abbrev pub ComponentsInTurn : (ℕ → Shape) → List Component → State → State → Type 0
 ComponentsInTurn f [] s here = here ≡ s
-ComponentsInTurn f (p ∷ ps) s here = (v : Value) × (next : State) × DecodesBy (ReadsComponent (presence_in f p) (f p.type_id.0)) tree_of s (Ok v) next × ComponentsInTurn f ps next here
+ComponentsInTurn f (p ∷ ps) s here = (t : Tree) × (next : State) × DecodesComponent (presence_in f p) (f p.type_id.0) s (Ok t) next × ComponentsInTurn f ps next here
 
 abbrev pub IsComponentAt : (ℕ → Shape) → List Component → State → ℕ → ℕ → State → Type 0
 IsComponentAt f ps s k next here = (done : List Component) × (p : Component) × (after : List Component) × (ps ≡ done ++ p ∷ after) × (length done ≡ k) × (next ≡ p.type_id.0) × ComponentsInTurn f done s here
@@ -92,7 +89,7 @@ IsMember ps s k next here = (p : Component) × (Some p ≡ slice_get ps k) × (n
 -- Other components of the SET were read before it.
 abbrev pub IsMemberAt : (ℕ → Shape) → List Component → State → ℕ → ℕ → State → Type 0
 IsMemberAt f ps s k next here = (p : Component) × (Some p ≡ slice_get ps k) × (next ≡ p.type_id.0)
-    × (done : List Tree) × (bs : List (List ℕ)) × DecodesInTurnFrom (Decodes (choice (components_by f ps)) (λ (t : Tree). t)) s done bs here
+    × (done : List Tree) × (bs : List (List ℕ)) × DecodesInTurnFrom (DecodesTree (choice (components_by f ps))) s done bs here
 
 abbrev pub IsPart : (ℕ → Shape) → «Type» → State → ℕ → ℕ → State → Type 0
 IsPart f (Leaf kind tag c names) s k next here = ⊥
@@ -110,11 +107,11 @@ IsPart f (SetOf tag id c) s k next here = IsElementAt f id.0 s k next here
 module _ (f : ℕ → Shape) where
   -- The component is read, but it is its default, which must not be written (X.690 11.5).
   abbrev pub IsDefaultWritten : Component → State → DecodeError → Type 0
-  IsDefaultWritten p s e = (v : Value) × (new : State) × Decodes (f p.type_id.0) tree_of s (Ok v) new × IsStrict s.rule × IsDefaultOf (presence_of p.presence) (tree_of v) × IsErrorOf (Der DefaultValuePresent) s e
+  IsDefaultWritten p s e = (t : Tree) × (new : State) × DecodesTree (f p.type_id.0) s (Ok t) new × IsStrict s.rule × IsDefaultOf (presence_of p.presence) t × IsErrorOf (Der DefaultValuePresent) s e
 
   -- A value of the type is read, but it takes none of the octets.
   abbrev pub TakesNothing : ℕ → State → Type 0
-  TakesNothing id s = (v : Value) × (new : State) × Decodes (f id) tree_of s (Ok v) new × (length new.rest ≡ length s.rest)
+  TakesNothing id s = (t : Tree) × (new : State) × DecodesTree (f id) s (Ok t) new × (length new.rest ≡ length s.rest)
 
   -- The next tag is that of no part.
   abbrev pub IsUnknown : Parts → State → Type 0
@@ -145,17 +142,17 @@ module _ (f : ℕ → Shape) where
 
   -- Components of a SET were read up to there, or all were: then one is missing, or is there twice; or an allocation fails.
   abbrev pub StopsInSet : List Component → State → DecodeError → Type 0
-  StopsInSet ps s e = IsOutOfMemory e.kind ⊎ ((done : List Tree) × (bs : List (List ℕ)) × (here : State) × DecodesInTurnFrom (Decodes (choice (components_by f ps)) (λ (t : Tree). t)) s done bs here
+  StopsInSet ps s e = IsOutOfMemory e.kind ⊎ ((done : List Tree) × (bs : List (List ℕ)) × (here : State) × DecodesInTurnFrom (DecodesTree (choice (components_by f ps))) s done bs here
       × (Ended here.closing here.rest ⊎ ((new : State) × FailsAtComponent (MembersStop ps) bs here e new)))
 
   -- Elements were read up to there, and the next one takes nothing; or memory runs out.
   abbrev pub StopsInElements : ℕ → State → DecodeError → Type 0
-  StopsInElements id s e = IsOutOfMemory e.kind ⊎ ((vs : List Value) × (here : State) × DecodesInTurn (Decodes (f id) tree_of) s vs here × TakesNothing id here)
+  StopsInElements id s e = IsOutOfMemory e.kind ⊎ ((ts : List Tree) × (here : State) × DecodesInTurn (DecodesTree (f id)) s ts here × TakesNothing id here)
 
   -- The same; or the next one's octets are less than those of an element before it (X.690 11.6).
   abbrev pub StopsInOrder : ℕ → State → DecodeError → Type 0
-  StopsInOrder id s e = IsOutOfMemory e.kind ⊎ ((vs : List Value) × (bs : List (List ℕ)) × (here : State) × DecodesInTurnFrom (Decodes (f id) tree_of) s vs bs here
-      × (TakesNothing id here ⊎ ((new : State) × IsOutOfOrder (Decodes (f id) tree_of) bs here e new)))
+  StopsInOrder id s e = IsOutOfMemory e.kind ⊎ ((ts : List Tree) × (bs : List (List ℕ)) × (here : State) × DecodesInTurnFrom (DecodesTree (f id)) s ts bs here
+      × (TakesNothing id here ⊎ ((new : State) × IsOutOfOrder (DecodesTree (f id)) bs here e new)))
 
   -- The contents of a value.
   abbrev pub StopsInside : «Type» → State → DecodeError → Type 0
@@ -170,8 +167,8 @@ module _ (f : ℕ → Shape) where
   StopsInside (SetOf tag id c) s e = StopsInOrder id.0 s e
 
   -- how contents are read, where no part of them is refused
-  abbrev pub ReadsEachPart : «Type» → Call Value
-  ReadsEachPart ty s (Ok v) new = DecodesContents f ty s (Ok v) new
+  abbrev pub ReadsEachPart : «Type» → Call Tree
+  ReadsEachPart ty s (Ok t) new = DecodesContents f ty s (Ok t) new
   ReadsEachPart ty s (Err e) new = StopsInside ty s e
 
   -- A value, with its header and its end, and the number of its elements.

@@ -4,6 +4,8 @@ use Rattle.rasn_types.specs.declared.types.codec.Codec.{Codec}
 use Rattle.rasn_types.specs.Shapes.{Tree, Shape, leaf, any, prefix, choice, option, seq, set, list, set_of, presences, Parts, Presence, sought_in}
 use Rattle.rasn_types.specs.Readings.{Reading, ReadsPart, ReadsSeq, ReadsChoice, ReadsSet}
 use Rattle.rasn_types.specs.Grammar.{Reads, parts_of}
+use Rattle.rasn_de.specs.State.{Call}
+use Rattle.rasn_de.specs.Decodes.{Decodes, DecodesBy}
 use Rattle.rasn_de.specs.declared.ber.de.constructed.ConstructedHeader.{ConstructedHeader}
 use Rattle.rasn_de.specs.Constructed.{sequence_header, prefix_header}
 
@@ -36,3 +38,12 @@ ReadsSequence ps rule depth closing = ReadsSeq rule (parts_of rule ps depth clos
 -- one of them
 abbrev pub ReadsComponent : Presence → Shape → Codec → ℕ → Bool → Reading Tree
 ReadsComponent p s rule depth closing = ReadsPart rule p (sought_in p s) (Reads rule s depth closing) closing
+
+-- ---- what is read, as a tree
+
+abbrev pub DecodesTree : Shape → Call Tree
+DecodesTree s = Decodes s (λ (t : Tree). t)
+
+-- a component of a SEQUENCE
+abbrev pub DecodesComponent : Presence → Shape → Call Tree
+DecodesComponent p s = DecodesBy (ReadsComponent p s) (λ (t : Tree). t)

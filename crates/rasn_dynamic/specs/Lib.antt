@@ -1,4 +1,5 @@
 pub mod Inside
+pub mod Making
 pub mod Typed
 pub mod Calls
 pub mod Written

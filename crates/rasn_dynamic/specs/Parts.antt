@@ -12,17 +12,16 @@ use Rattle.rasn_de.specs.State.{State}
 use Rattle.rasn_de.specs.declared.ber.de.constructed.ConstructedHeader.{ConstructedHeader}
 use Rattle.rasn_de.specs.Constructed.{sequence_header, list_header, prefix_header}
 use Rattle.rasn_de.specs.Outcomes.{Exact, Got}
-use Rattle.rasn_de.specs.Decodes.{Decodes, DecodesBy}
+use Rattle.rasn_de.specs.Decodes.{DecodesBy}
 use Rattle.rasn_de.specs.Optional.{NextIs}
 use Rattle.rasn_de.specs.SequenceOf.{DecodesInTurn, DecodesInTurnFrom}
 use Rattle.rasn_schema.specs.declared.types.«Type».{«Type»}
 use Rattle.rasn_schema.specs.declared.types.«Type».TheVariants.{Leaf, Enumerated, Any, Tagged, Choice, Sequence, Set, SequenceOf, SetOf}
 use Rattle.rasn_schema.specs.declared.types.Component.{Component}
 use Rattle.rasn_schema.specs.declared.types.Alternative.{Alternative}
-use Rattle.rasn_schema.specs.declared.value.Value.{Value}
-use Rattle.rasn_schema.specs.Trees.{tree_of}
 use Rattle.rasn_schema.specs.Shapes.{shape_of_type, components_by, presence_of, key_of}
 use Rattle.rasn_schema.specs.FirstTags.{IsAlwaysThere}
+use Rattle.rasn_dynamic.specs.Inside.{DecodesTree}
 use Rattle.rasn_dynamic.specs.Calls.{LeavesAllOut, DecodesPresent}
 use Rattle.rasn_dynamic.specs.Faults.{ComponentsInTurn, Enters, Leads, start}
 use Rattle.rasn_dynamic.specs.declared.part.Part.{Part}
@@ -40,14 +39,14 @@ IsSeen outer end inner new_end = (front : List ℕ) × (back : List ℕ) × (out
 
 -- Some value is read by R.
 abbrev pub PassesBy : (Codec → ℕ → Bool → Reading Tree) → State → State → Type 0
-PassesBy R old new = (v : Value) × DecodesBy R tree_of old (Ok v) new
+PassesBy R old new = (t : Tree) × DecodesBy R (λ (u : Tree). u) old (Ok t) new
 
 -- Some value is read by its shape, and takes some of the octets; one of a component that is present.
 abbrev pub PassesElement : Shape → State → State → Type 0
-PassesElement s old new = (v : Value) × Decodes s tree_of old (Ok v) new × (length new.rest ≢ length old.rest)
+PassesElement s old new = (t : Tree) × DecodesTree s old (Ok t) new × (length new.rest ≢ length old.rest)
 
 abbrev pub PassesPresent : Presence → Shape → State → State → Type 0
-PassesPresent p s old new = (v : Value) × DecodesPresent p s old (Ok v) new × (length new.rest ≢ length old.rest)
+PassesPresent p s old new = (t : Tree) × DecodesPresent p s old (Ok t) new × (length new.rest ≢ length old.rest)
 
 -- ---- no part k in what is read in the state s. f gives the shape of the type with a number.
 
@@ -66,11 +65,11 @@ LacksComponent f ps s k = LeavesAllOut ps s ⊎ ((length ps ≤ k)
 
 -- Other components of the SET are read up to the end.
 abbrev pub LacksMember : (ℕ → Shape) → List Component → State → ℕ → Type 0
-LacksMember f ps s k = (done : List Tree) × (bs : List (List ℕ)) × (here : State) × DecodesInTurnFrom (Decodes (choice (components_by f ps)) (λ (t : Tree). t)) s done bs here × NoneOf k done × Ended here.closing here.rest
+LacksMember f ps s k = (done : List Tree) × (bs : List (List ℕ)) × (here : State) × DecodesInTurnFrom (DecodesTree (choice (components_by f ps))) s done bs here × NoneOf k done × Ended here.closing here.rest
 
 -- There are no more elements.
 abbrev pub LacksElement : (ℕ → Shape) → ℕ → State → ℕ → Type 0
-LacksElement f id s k = (vs : List Value) × (here : State) × DecodesInTurn (Decodes (f id) tree_of) s vs here × Ended here.closing here.rest × (length vs ≤ k)
+LacksElement f id s k = (ts : List Tree) × (here : State) × DecodesInTurn (DecodesTree (f id)) s ts here × Ended here.closing here.rest × (length ts ≤ k)
 
 abbrev pub LacksPart : (ℕ → Shape) → «Type» → State → ℕ → Type 0
 LacksPart f (Leaf kind tag c names) s k = Unit {0}

@@ -1,42 +1,36 @@
 -- How a value of each type is read: as rasn_de's call for such a value reads it.
-use Rattle.std.specs.Prelude.{◌≡◌, ◌⊎◌, ℕ, ◌≤◌, List, length, Vec, Result, Ok, Err, IfErr}
-use Rattle.std.specs.Global.{Global}
+use Rattle.std.specs.Prelude.{◌≡◌, ◌⊎◌, ℕ, suc, ◌≤◌, List, Result, Ok, Err, IfErr}
 use Rattle.std.specs.String.{string_bytes}
 use Rattle.rasn_types.specs.declared.types.constraints.Constraints.{Constraints}
 use Rattle.rasn_types.specs.declared.error.decode.DecodeError.{DecodeError}
 use Rattle.rasn_types.specs.Errors.{IsOutOfMemory}
-use Rattle.rasn_types.specs.Trees.{list_tree}
-use Rattle.rasn_types.specs.Shapes.{Tree, Shape, choice, Parts, Admits, constraint_of}
+use Rattle.rasn_types.specs.Shapes.{Tree, items, joined, set_elements, Shape, choice, Parts, Admits, constraint_of}
 use Rattle.rasn_de.specs.declared.ber.de.parser.ParseError.TheVariants.{SizeConstraintNotSatisfied}
 use Rattle.rasn_de.specs.State.{State, Call}
 use Rattle.rasn_de.specs.Steps.{IsErrorOf}
-use Rattle.rasn_de.specs.Decodes.{Decodes, DecodesBy}
+use Rattle.rasn_de.specs.Decodes.{DecodesBy}
 use Rattle.rasn_de.specs.Constructed.{sequence_header, prefix_header, Keeps, DecodesInside}
 use Rattle.rasn_de.specs.SequenceOf.{DecodesElements, DecodesElementsInOrder, DecodesSized}
 use Rattle.rasn_de.specs.PartTypes.{FailsAtPart}
 use Rattle.rasn_de.specs.SetPartTypes.{DecodesSetPartContents}
 use Rattle.rasn_schema.specs.declared.types.«Type».{«Type»}
 use Rattle.rasn_schema.specs.declared.types.«Type».TheVariants.{Leaf, Enumerated, Any, Tagged, Choice, Sequence, Set, SequenceOf, SetOf}
-use Rattle.rasn_schema.specs.declared.value.Value.{Value, Items, Elements, Items', Elements', items-the_row-Value}
-use Rattle.rasn_schema.specs.Trees.{tree_of}
 use Rattle.rasn_schema.specs.Shapes.{type_by, alternatives_by, components_by}
-use Rattle.rasn_dynamic.specs.Inside.{ReadsSequence}
+use Rattle.rasn_dynamic.specs.Inside.{ReadsSequence, DecodesTree}
+use Rattle.rasn_dynamic.specs.Making.{these}
 use Rattle.rasn_dynamic.specs.Calls.{names_of, IsNoAlternative}
 
--- The value is made of what a call returns.
-abbrev pub Makes : {L : Type 0} → (L → Value) → Call L → Call Value
-Makes {L} make read old (Ok v) new = (l : L) × (v ≡ make l) × read old (Ok l) new
-Makes {L} make read old (Err e) new = read old (Err e) new
+-- The tree is made of those that a call reads.
+abbrev pub Makes : (List Tree → Tree) → Call (List Tree) → Call Tree
+Makes make read old (Ok t) new = (ts : List Tree) × (t ≡ make ts) × read old (Ok ts) new
+Makes make read old (Err e) new = read old (Err e) new
 
-abbrev pub values_in : Vec Value Global → List Value
-values_in vs = vs.items
-
-abbrev pub values_tree : Vec Value Global → Tree
-values_tree vs = list_tree tree_of vs.items
+abbrev pub elements : List Tree → Tree
+elements ts = set_elements (items ts)
 
 -- The components of a SEQUENCE are read in their order, up to the first that isn't read; or memory runs out.
-abbrev pub DecodesComponents : Parts → Call (Vec Value Global)
-DecodesComponents ps old r new = DecodesBy (ReadsSequence ps) values_tree old r new × IfErr r (λ e. FailsAtPart ps old e new ⊎ IsOutOfMemory e.kind)
+abbrev pub DecodesComponents : Parts → Call (List Tree)
+DecodesComponents ps old r new = DecodesBy (ReadsSequence ps) items old r new × IfErr r (λ e. FailsAtPart ps old e new ⊎ IsOutOfMemory e.kind)
 
 -- It is read so; or memory runs out before.
 abbrev pub MayRunOut : {D : Type 0} → Call D → Call D
@@ -44,15 +38,27 @@ MayRunOut {D} read old (Ok v) new = read old (Ok v) new
 MayRunOut {D} read old (Err e) new = read old (Err e) new ⊎ (IsOutOfMemory e.kind × Keeps old new)
 
 -- the number of elements of a list or a set
-abbrev pub element_count : Value → ℕ
-element_count (Items' _ row) = length (items-the_row-Value _ row)
-element_count (Elements' _ row) = length (items-the_row-Value _ row)
+abbrev pub element_count : Tree → ℕ
+element_count (joined t ts) = suc (element_count ts)
+element_count (set_elements ts) = element_count ts
 element_count _ = 0
 
--- The value, if the number of its elements is within the bound.
-abbrev pub IsSized : Constraints → State → Value → Result Value DecodeError → Type 0
-IsSized c s v (Ok w) = Admits ◌≤◌ c.size (element_count v) × (w ≡ v)
-IsSized c s v (Err e) = (Admits ◌≤◌ c.size (element_count v) → ⊥) × IsErrorOf (SizeConstraintNotSatisfied (element_count v) (constraint_of c.size)) s e
+-- The number of elements is within the bound.
+abbrev pub IsSized : Constraints → State → ℕ → Result (Unit {0}) DecodeError → Type 0
+IsSized c s n (Ok done) = Admits ◌≤◌ c.size n
+IsSized c s n (Err e) = (Admits ◌≤◌ c.size n → ⊥) × IsErrorOf (SizeConstraintNotSatisfied n (constraint_of c.size)) s e
+
+-- The values of the type hold elements.
+abbrev pub HoldsElements : «Type» → Type 0
+HoldsElements (SequenceOf tag k c) = Unit {0}
+HoldsElements (SetOf tag k c) = Unit {0}
+HoldsElements _ = ⊥
+
+-- Of a list or a set, so many elements were read.
+abbrev pub CountsElements : «Type» → ℕ → Tree → Type 0
+CountsElements (SequenceOf tag k c) n t = n ≡ element_count t
+CountsElements (SetOf tag k c) n t = n ≡ element_count t
+CountsElements _ n t = Unit {0}
 
 -- The values of the type hold other values, after a header of their own.
 abbrev pub HoldsOthers : «Type» → Type 0
@@ -69,25 +75,25 @@ HoldsOthers (SetOf tag k c) = Unit {0}
 -- f gives the shape of the type with a number.
 module _ (f : ℕ → Shape) where
   -- The contents of such a value, without a bound of the number of elements.
-  abbrev pub DecodesContents : «Type» → Call Value
+  abbrev pub DecodesContents : «Type» → Call Tree
   DecodesContents (Leaf kind tag c names) = λ old r new. ⊥
   DecodesContents (Enumerated tag ns) = λ old r new. ⊥
   DecodesContents (Any tag) = λ old r new. ⊥
-  DecodesContents (Tagged tag k) = Decodes (f k.0) tree_of
+  DecodesContents (Tagged tag k) = DecodesTree (f k.0)
   DecodesContents (Choice name ks) = λ old r new. ⊥
-  DecodesContents (Sequence tag ps) = Makes Items (DecodesComponents (components_by f ps.items))
-  DecodesContents (Set name tag ps) = Makes Items (MayRunOut (DecodesSetPartContents (components_by f ps.items) values_tree (names_of ps.items)))
-  DecodesContents (SequenceOf tag k c) = Makes Items (DecodesElements (Decodes (f k.0) tree_of) values_in)
-  DecodesContents (SetOf tag k c) = Makes Elements (DecodesElementsInOrder (Decodes (f k.0) tree_of) values_in)
+  DecodesContents (Sequence tag ps) = Makes items (DecodesComponents (components_by f ps.items))
+  DecodesContents (Set name tag ps) = Makes items (MayRunOut (DecodesSetPartContents (components_by f ps.items) items (names_of ps.items)))
+  DecodesContents (SequenceOf tag k c) = Makes items (DecodesElements (DecodesTree (f k.0)) these)
+  DecodesContents (SetOf tag k c) = Makes elements (DecodesElementsInOrder (DecodesTree (f k.0)) these)
 
   -- A value: its header and its contents, and then the number of its elements.
-  abbrev pub DecodesType : «Type» → Call Value
-  DecodesType (Leaf kind tag c names) = Decodes (type_by f (Leaf kind tag c names)) tree_of
-  DecodesType (Enumerated tag ns) = Decodes (type_by f (Enumerated tag ns)) tree_of
-  DecodesType (Any tag) = Decodes (type_by f (Any tag)) tree_of
+  abbrev pub DecodesType : «Type» → Call Tree
+  DecodesType (Leaf kind tag c names) = DecodesTree (type_by f (Leaf kind tag c names))
+  DecodesType (Enumerated tag ns) = DecodesTree (type_by f (Enumerated tag ns))
+  DecodesType (Any tag) = DecodesTree (type_by f (Any tag))
   DecodesType (Tagged tag k) = DecodesInside (DecodesContents (Tagged tag k)) (prefix_header tag)
   DecodesType (Choice name ks) = λ old r new.
-      Decodes (choice (alternatives_by f ks.items)) tree_of old r new × IfErr r (λ e. IsNoAlternative (alternatives_by f ks.items) (string_bytes name) old e new)
+      DecodesTree (choice (alternatives_by f ks.items)) old r new × IfErr r (λ e. IsNoAlternative (alternatives_by f ks.items) (string_bytes name) old e new)
   DecodesType (Sequence tag ps) = DecodesInside (DecodesContents (Sequence tag ps)) (sequence_header tag)
   DecodesType (Set name tag ps) = DecodesInside (DecodesContents (Set name tag ps)) (sequence_header tag)
   DecodesType (SequenceOf tag k c) = DecodesSized (DecodesContents (SequenceOf tag k c)) element_count tag c

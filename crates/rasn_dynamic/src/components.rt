@@ -8,6 +8,7 @@ ghost use Rattle.rasn_schema.specs.Shapes.{presence_of};
 ghost use Rattle.rasn_schema.specs.FirstTags.{IsAlwaysThere};
 ghost use Rattle.rasn_dynamic.specs.Calls.{LeavesAllOut, any_required, is_required, IsMade};
 
+use crate::made::Made;
 use crate::read_leaf::out_of_memory;
 use rasn_de::ber::de::Decoder;
 use rasn_schema::{Component, Presence, Value};
@@ -60,18 +61,21 @@ pub fn leaves_all_out(decoder: &Decoder<'_>, components: &[Component]) -> bool
     !decoder.may_be_closed() && decoder.remaining().is_empty() && !any_required(components)
 }
 
-/// Returns the value of a component that is absent.
+/// Returns the value of a component that is absent, where values are kept.
 ///
 /// # Errors
 /// `OutOfMemory` if a default can't be copied.
-pub fn missing<'input>(
+pub fn missing<'input, M: Made>(
     decoder: &Decoder<'input>,
     component: &Component,
 ) -> Result<Value<'input>, DecodeError>
     requires { is_required component.now.presence ≡ false }
-    ensures made { IsMade (presence_of component.now.presence) decoder.now result }
+    ensures made { IsMade M.KEEP (presence_of component.now.presence) decoder.now result }
     ensures rules { IfErr result (λ e. e.codec ≡ decoder.now.rule) }
 {
+    if !M::KEEP {
+        return Ok(Value::Absent);
+    }
     match &component.presence {
         Presence::Required => unreachable!(),
         Presence::Optional | Presence::Addition => Ok(Value::Absent),

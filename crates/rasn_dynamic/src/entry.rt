@@ -1,5 +1,7 @@
 //! Reads, writes and checks one value.
-ghost use Rattle.std.specs.Prelude.{◌≡◌, [], OnOk, OnErr, IfOk, IfErr};
+ghost use Rattle.std.specs.Prelude.{◌≡◌, [], Result, OnOk, OnErr, IfOk, IfErr};
+ghost use Rattle.rasn_types.specs.declared.error.decode.DecodeError.{DecodeError};
+ghost use Rattle.rasn_schema.specs.declared.value.Value.{Value};
 ghost use Rattle.rasn_types.specs.Errors.{IsOutOfMemory};
 ghost use Rattle.rasn_types.specs.Framing.{AreOctets};
 ghost use Rattle.rasn_types.specs.Truth.{IsWhether};
@@ -8,8 +10,9 @@ ghost use Rattle.rasn.specs.Headline.{Answered, AnsweredAlone, IsAsWritten, Iden
 ghost use Rattle.rasn.specs.Normal.{IsNormal, IsNoNormal, IsIdentified, IsKept, IsUnchanged, IsAnswered};
 ghost use Rattle.rasn_enc.specs.Primitive.{IsAllocError};
 ghost use Rattle.rasn_schema.specs.Trees.{tree_of};
-ghost use Rattle.rasn_dynamic.specs.Entry.{IsEncoded, IsNotEncoded, FailsIfFits, NamesRules, IsReadBack, IsNormalOf, IsNoNormalOf, FitsType, shape_of};
+ghost use Rattle.rasn_dynamic.specs.Entry.{IsEncoded, IsNotEncoded, FailsIfFits, NamesRules, IsReadBack, IsNormalOf, IsNoNormalOf, FitsType, IsChecked, Agree, shape_of};
 
+use crate::made::{Nothing, Values};
 use crate::path::ValuePath;
 use crate::reader::decode_at;
 use crate::unfit::append_unfit_path;
@@ -40,7 +43,7 @@ pub fn decode_with_remainder<'input>(
     ensures rules { IfErr result (λ e. e.codec ≡ rule) }
 {
     let mut decoder = Decoder::new(alloc, input, DecoderOptions::of(rule));
-    let value = decode_at(&mut decoder, &mut None, schema.types(), usize::MAX, id)?;
+    let value = decode_at::<Values>(&mut decoder, &mut None, schema.types(), usize::MAX, id)?;
     Ok((value, decoder.remaining()))
 }
 
@@ -63,6 +66,28 @@ pub fn decode<'input>(
     let (value, remainder) = decode_with_remainder(alloc, rule, schema, id, input)?;
     refuse_remainder(rule, remainder)?;
     Ok(value)
+}
+
+/// Returns whether all of the input is one value of the type, as `decode` reads it. No value is made, except of a component with a default
+/// under DER, which is compared with the default.
+///
+/// # Errors
+/// As [`decode`].
+pub fn check(
+    alloc: Global,
+    rule: Codec,
+    schema: &Schema,
+    id: TypeId,
+    input: &[u8],
+) -> Result<(), DecodeError>
+    ensures exact { IsChecked rule (shape_of schema.now.types.items id.0) input.now result }
+    ensures agrees { (r : Result Value DecodeError) → AnsweredAlone rule (shape_of schema.now.types.items id.0) tree_of input.now r → Agree result r }
+    ensures rules { IfErr result (λ e. e.codec ≡ rule) }
+{
+    let mut decoder = Decoder::new(alloc, input, DecoderOptions::of(rule));
+    let value = decode_at::<Nothing>(&mut decoder, &mut None, schema.types(), usize::MAX, id)?;
+    drop(value);
+    refuse_remainder(rule, decoder.remaining())
 }
 
 /// What is wrong with a value that can't be written.

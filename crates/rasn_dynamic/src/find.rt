@@ -8,7 +8,8 @@ ghost use Rattle.rasn_dynamic.specs.Faults.{IsAlternativeAt, IsComponentAt, IsMe
 ghost use Rattle.rasn_dynamic.specs.Parts.{IsSeen, LacksAlternative, IsAbsentHere, LacksComponent, LacksMember, LacksElement, LacksPart, IsEntered, LacksPartAt, LacksPath, IsReadHere, IsPartAt, IsHeaderOf, PassesBy, PassesPresent, PassesElement};
 
 use crate::components::{is_always_there, leaves_all_out};
-use crate::locate::decode_or_locate;
+use crate::locate::check_or_locate;
+use crate::made::Nothing;
 use crate::order::octets_before;
 use crate::part::{Part, header_of};
 use crate::reader::{decode_at, decode_component, decode_present, extra, is_next, no_value};
@@ -115,7 +116,7 @@ fn pass_component(
     ensures { OnOk result (PassesBy (ReadsComponent (presence_in (shape_of_type types.now below) component.now) (shape_of_type types.now below component.now.type_id.0)) decoder.old decoder.new) }
 {
     let mut trace = None;
-    match decode_component(decoder, &mut trace, types, below, component, 0) {
+    match decode_component::<Nothing>(decoder, &mut trace, types, below, component, 0) {
         Ok(value) => {
             drop(value);
             Ok(())
@@ -173,7 +174,7 @@ fn pass_member(
 {
     let left = decoder.remaining().len();
     let mut trace = None;
-    match decode_present(decoder, &mut trace, types, below, component, 0) {
+    match decode_present::<Nothing>(decoder, &mut trace, types, below, component, 0) {
         Ok(value) => {
             drop(value);
             check_taken(decoder, left)
@@ -218,7 +219,7 @@ fn pass_element(
 {
     let left = decoder.remaining().len();
     let mut trace = None;
-    match decode_at(decoder, &mut trace, types, below, element) {
+    match decode_at::<Nothing>(decoder, &mut trace, types, below, element) {
         Ok(value) => {
             drop(value);
             check_taken(decoder, left)
@@ -340,7 +341,7 @@ fn read_part<'input>(place: &mut Place<'input>, types: &[Type]) -> Result<Part<'
     let start = place.decoder.remaining();
     let (header_len, is_indefinite) = header_of(place.decoder.alloc(), start)?;
     let mut trace = None;
-    match decode_at(
+    match decode_at::<Nothing>(
         &mut place.decoder,
         &mut trace,
         types,
@@ -394,20 +395,17 @@ fn refuse(alloc: Global, rule: Codec, schema: &Schema, id: TypeId, input: &[u8])
     ensures located { IsOutOfMemory result.error.kind ⊎ IsLocated schema.now.types.items rule id.0 input.now result }
     ensures rules { result.error.codec ≡ rule }
 {
-    match decode_or_locate(alloc, rule, schema, id, input) {
-        Ok((value, _)) => {
-            drop(value);
-            Refusal {
-                error: DecodeError {
-                    kind: DecodeErrorKind::OutOfMemory,
-                    codec: rule,
-                },
-                offset: 0,
-                id,
-                steps: Vec::new(alloc),
-                is_cut: false,
-            }
-        }
+    match check_or_locate(alloc, rule, schema, id, input) {
+        Ok(_) => Refusal {
+            error: DecodeError {
+                kind: DecodeErrorKind::OutOfMemory,
+                codec: rule,
+            },
+            offset: 0,
+            id,
+            steps: Vec::new(alloc),
+            is_cut: false,
+        },
         Err(refusal) => refusal,
     }
 }
@@ -418,7 +416,7 @@ fn refuse(alloc: Global, rule: Codec, schema: &Schema, id: TypeId, input: &[u8])
 /// before it are read and not kept, and those after it aren't read.
 ///
 /// # Errors
-/// If a part before it, or the part itself, can't be read: as [`decode_or_locate`].
+/// If a part before it, or the part itself, can't be read: as [`check_or_locate`].
 pub fn find_part<'input>(
     alloc: Global,
     rule: Codec,

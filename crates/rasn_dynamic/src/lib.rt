@@ -8,6 +8,7 @@ mod entry;
 mod facts;
 mod find;
 mod locate;
+mod made;
 mod order;
 mod part;
 mod path;
@@ -22,11 +23,11 @@ mod write_leaf;
 mod writer;
 
 pub use entry::{
-    WriteError, decode, decode_with_remainder, encode, encode_buf, is_canonical, normalise,
+    WriteError, check, decode, decode_with_remainder, encode, encode_buf, is_canonical, normalise,
 };
 pub use facts::worked_places;
 pub use find::find_part;
-pub use locate::decode_or_locate;
+pub use locate::{check_or_locate, decode_or_locate};
 pub use part::Part;
 pub use path::ValuePath;
 pub use rasn::NormaliseError;

@@ -2,10 +2,11 @@
 ghost use Rattle.std.specs.Prelude.{◌≡◌, ◌≤◌, Some, IfOk, IfErr};
 ghost use Rattle.rasn.specs.Headline.{Answered};
 ghost use Rattle.rasn_schema.specs.Trees.{tree_of};
-ghost use Rattle.rasn_dynamic.specs.Entry.{FitsType, shape_of};
+ghost use Rattle.rasn_dynamic.specs.Entry.{FitsType, IsCheckedUpTo, shape_of};
 ghost use Rattle.rasn_dynamic.specs.Faults.{IsLocated, IsRefusalOf, unlocated};
 ghost use Rattle.rasn_dynamic.specs.declared.trace.Fault.{Fault};
 
+use crate::made::{Nothing, Values};
 use crate::reader::decode_at;
 use crate::refusal::Refusal;
 use crate::trace::Fault;
@@ -66,8 +67,34 @@ pub fn decode_or_locate<'input>(
 {
     let mut decoder = Decoder::new(alloc, input, DecoderOptions::of(rule));
     let mut trace = None;
-    match decode_at(&mut decoder, &mut trace, schema.types(), usize::MAX, id) {
+    match decode_at::<Values>(&mut decoder, &mut trace, schema.types(), usize::MAX, id) {
         Ok(value) => Ok((value, decoder.remaining())),
+        Err(error) => Err(refusal_of(alloc, error, trace, id, input.len())),
+    }
+}
+
+/// Returns what follows the value with which the input begins. No value is made, as by `check`.
+///
+/// # Errors
+/// As [`decode_or_locate`].
+pub fn check_or_locate<'input>(
+    alloc: Global,
+    rule: Codec,
+    schema: &Schema,
+    id: TypeId,
+    input: &'input [u8],
+) -> Result<&'input [u8], Refusal>
+    ensures exact { IsCheckedUpTo rule (shape_of schema.now.types.items id.0) input.now (unlocated result) }
+    ensures rules { IfErr result (λ r. r.error.codec ≡ rule) }
+    ensures located { IfErr result (IsLocated schema.now.types.items rule id.0 input.now) }
+{
+    let mut decoder = Decoder::new(alloc, input, DecoderOptions::of(rule));
+    let mut trace = None;
+    match decode_at::<Nothing>(&mut decoder, &mut trace, schema.types(), usize::MAX, id) {
+        Ok(value) => {
+            drop(value);
+            Ok(decoder.remaining())
+        }
         Err(error) => Err(refusal_of(alloc, error, trace, id, input.len())),
     }
 }

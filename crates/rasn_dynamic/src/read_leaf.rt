@@ -15,6 +15,7 @@ ghost use Rattle.rasn_schema.specs.declared.types.LeafKind.TheVariants.{FixedOct
 ghost use Rattle.rasn_dynamic.specs.Calls.{IsNumberIn, IsStringOf, FailsAtNumber, FailsAtFixed};
 ghost use Rattle.rasn_schema.specs.Fitting.{FitsLeaf, IsNumber, AreOctets};
 
+use crate::made::Made;
 use rasn_de::ber::de::Decoder;
 use rasn_de::de::Decode;
 use rasn_schema::{LeafKind, NamedNumber, Value};
@@ -37,18 +38,21 @@ pub(crate) fn out_of_memory(decoder: &Decoder<'_>) -> DecodeError
     }
 }
 
-/// Appends a value.
+/// Appends a value, where values are kept.
 #[inline(always)]
-pub(crate) fn push<'input>(
+pub(crate) fn push<'input, M: Made>(
     decoder: &Decoder<'input>,
     values: &mut Vec<Value<'input>>,
     value: Value<'input>,
 ) -> Result<(), DecodeError>
-    ensures ok { OnOk result (values.new.items ≡ values.old.items ++ value.entry ∷ []) }
+    ensures ok { M.KEEP ≡ true → OnOk result (values.new.items ≡ values.old.items ++ value.entry ∷ []) }
     ensures memory { IfErr result (IsErrorOf OutOfMemory decoder.now) }
     ensures kind { IfErr result (λ e. IsOutOfMemory e.kind) }
     ensures rules { IfErr result (λ e. e.codec ≡ decoder.now.rule) }
 {
+    if !M::KEEP {
+        return Ok(());
+    }
     match values.push(value) {
         Ok(()) => Ok(()),
         Err(_) => Err(out_of_memory(decoder)),

@@ -1,33 +1,34 @@
 //! Reads a value of a type.
-ghost use Rattle.std.specs.Prelude.{◌≡◌, ◌≢◌, ◌⊎◌, slice_get, None, Err, IfOk, IfErr};
+ghost use Rattle.std.specs.Prelude.{◌≡◌, ◌≢◌, ◌⊎◌, [], true, slice_get, None, Err, IfOk, IfErr};
 ghost use Rattle.std.specs.String.{string_bytes};
 ghost use Rattle.rasn_types.specs.Framing.{AreOctets};
 ghost use Rattle.rasn_types.specs.Errors.{IsOutOfMemory};
 ghost use Rattle.rasn_types.specs.Lawful.{IsLawful, AreLawfulByTag};
-ghost use Rattle.rasn_types.specs.Shapes.{choice, sought_by};
-ghost use Rattle.rasn_types.specs.Trees.{list_tree};
-ghost use Rattle.rasn_de.specs.Decodes.{Decodes, DecodesBy};
+ghost use Rattle.rasn_types.specs.Shapes.{items, choice, sought_by};
+ghost use Rattle.rasn_de.specs.Decodes.{DecodesBy};
 ghost use Rattle.rasn_de.specs.Constructed.{DecodesInside};
 ghost use Rattle.rasn_de.specs.SequenceOf.{DecodesElements, DecodesElementsInOrder, DecodesSized};
 ghost use Rattle.rasn_de.specs.Optional.{NextIs};
 ghost use Rattle.rasn_de.specs.PartTypes.{FailsAtPart, FailsAtOnePart};
-ghost use Rattle.rasn_de.specs.SetPartTypes.{DecodesNext, DecodesSetPartContents};
+ghost use Rattle.rasn_de.specs.SetPartTypes.{DecodesSetPartContents};
 ghost use Rattle.rasn_de.specs.Steps.{IsErrorOf};
 ghost use Rattle.rasn_de.specs.declared.ber.de.parser.ParseError.TheVariants.{UnexpectedExtraData, UnexpectedEmptyInput};
 ghost use Rattle.rasn_schema.specs.Trees.{tree_of};
 ghost use Rattle.rasn_schema.specs.Shapes.{shape_of_type, type_by, alternatives_by, components_by, key_of, presence_in, AreLawful};
-ghost use Rattle.rasn_dynamic.specs.Inside.{ReadsSequence, ReadsComponent};
-ghost use Rattle.rasn_dynamic.specs.Typed.{element_count, IsSized, HoldsOthers, DecodesContents, DecodesType};
-ghost use Rattle.rasn_dynamic.specs.Calls.{held, nones, names_of, IsKept, DecodesPresent, IsNoAlternative};
+ghost use Rattle.rasn_dynamic.specs.Inside.{ReadsSequence, DecodesTree, DecodesComponent};
+ghost use Rattle.rasn_dynamic.specs.Making.{Making, Counting, IsLength, trees_of, these};
+ghost use Rattle.rasn_dynamic.specs.Typed.{element_count, IsSized, HoldsOthers, HoldsElements, CountsElements, DecodesContents, DecodesType};
+ghost use Rattle.rasn_dynamic.specs.Calls.{nones, names_of, IsKept, DecodesPresent, DecodesMember, IsNoAlternative};
 ghost use Rattle.rasn_schema.specs.Fitting.{Fits, FitsBy, IsChosen, AlternativeFits, ComponentFits, ComponentsFit, EachFits};
 ghost use Rattle.rasn_dynamic.specs.Found.{FoundFit};
 ghost use Rattle.rasn_dynamic.specs.Faults.{IsFault, IsFaultIn, IsFaultOf, IsFaultInside, IsOnly, IsAlternativeAt, IsElementAt, IsComponentAt, IsMember, IsMemberAt, IsPart, Told, TellsOf, FailsAt, FailsItself, ReadsEachPart, StopsAtChoice, StopsInside, StopsInElements, StopsInOrder, StopsInSequence, StopsAtComponent, IsDefaultWritten, StopsInSet, StopsAtMember};
 ghost use Rattle.rasn_de.specs.Constructed.{list_header};
 
 use crate::components::{default_present, is_always_there, leaves_all_out, missing};
+use crate::made::Made;
 use crate::order::{is_less, octets_before, out_of_order};
 use crate::read_leaf::{decode_any_value, decode_leaf, decode_number, out_of_memory, push};
-use crate::set::{component_for, gather, no_components, put};
+use crate::set::{all_absent, component_for, gather, no_components, put};
 use crate::trace::{Fault, add_after, mark, octets_after, octets_left, step};
 use rasn_de::ber::de::{ConstructedHeader, Decoder};
 use rasn_de::de::Error;
@@ -58,48 +59,35 @@ pub fn extra(decoder: &Decoder<'_>, left: usize) -> DecodeError
     }
 }
 
-/// Appends a value, which must have taken some of the input.
+/// Appends a value, where values are kept. It must have taken some of the input.
 #[inline(always)]
-fn keep<'input>(
+fn keep<'input, M: Made>(
     decoder: &Decoder<'input>,
     left: usize,
     value: Value<'input>,
     values: &mut Vec<Value<'input>>,
 ) -> Result<(), DecodeError>
-    ensures kept { IsKept left decoder.now value.entry values.old.items result values.new.items }
+    ensures kept { IsKept M.KEEP left decoder.now value.entry values.old.items result values.new.items }
     ensures rules { IfErr result (λ e. e.codec ≡ decoder.now.rule) }
 {
     if decoder.remaining().len() == left {
         return Err(extra(decoder, left));
     }
-    push(decoder, values, value)
+    push::<M>(decoder, values, value)
 }
 
-/// Returns the number of elements of a list or a set.
+/// Returns an error if the number of elements isn't within the bound.
 #[inline(always)]
-fn element_count(value: &Value<'_>) -> usize
-    ensures { result ≡ element_count value.now }
-{
-    match value {
-        Value::Items(values) => values.len(),
-        Value::Elements(values) => values.len(),
-        _ => 0,
-    }
-}
-
-/// Returns the value, if the number of its elements is within the bound.
-#[inline(always)]
-fn sized<'input>(
-    decoder: &Decoder<'input>,
+fn check_size(
+    decoder: &Decoder<'_>,
     constraints: &Constraints,
-    value: Value<'input>,
-) -> Result<Value<'input>, DecodeError>
-    ensures sized { IsSized constraints.now decoder.now value.entry result }
+    count: usize,
+) -> Result<(), DecodeError>
+    ensures sized { IsSized constraints.now decoder.now count result }
     ensures rules { IfErr result (λ e. e.codec ≡ decoder.now.rule) }
 {
-    let count = element_count(&value);
     if constraints.admits_size(count) {
-        return Ok(value);
+        return Ok(());
     }
     Err(DecodeError {
         kind: DecodeErrorKind::SizeConstraintNotSatisfied {
@@ -110,11 +98,48 @@ fn sized<'input>(
     })
 }
 
+/// Returns the value of a CHOICE, where values are kept.
+fn choose<'input, M: Made>(
+    decoder: &Decoder<'input>,
+    number: usize,
+    value: Value<'input>,
+) -> Result<Value<'input>, DecodeError>
+    ensures ok { M.KEEP ≡ true → IfOk result (IsChosen (λ k v. (k ≡ number) × (v ≡ value.entry))) }
+    ensures kind { IfErr result (λ e. IsOutOfMemory e.kind) }
+    ensures rules { IfErr result (λ e. e.codec ≡ decoder.now.rule) }
+{
+    if !M::KEEP {
+        return Ok(Value::Absent);
+    }
+    match Box::new(decoder.alloc(), value) {
+        Ok(value) => Ok(Value::Chosen(number, value)),
+        Err(_) => Err(out_of_memory(decoder)),
+    }
+}
+
+/// Returns an empty list, with room for so many values where values are kept.
+fn list_for<'input, M: Made>(
+    decoder: &Decoder<'input>,
+    count: usize,
+) -> Result<Vec<Value<'input>>, DecodeError>
+    ensures ok { IfOk result (λ v. v.items ≡ []) }
+    ensures kind { IfErr result (λ e. IsOutOfMemory e.kind) }
+    ensures rules { IfErr result (λ e. e.codec ≡ decoder.now.rule) }
+{
+    if !M::KEEP {
+        return Ok(Vec::new(decoder.alloc()));
+    }
+    match Vec::with_capacity(decoder.alloc(), count) {
+        Ok(values) => Ok(values),
+        Err(_) => Err(out_of_memory(decoder)),
+    }
+}
+
 /// Reads a value of the type with this number. Types are followed `levels` deep. If it can't be read, names the innermost value that
 /// can't.
 #[cycle(decode)]
 #[inline(always)]
-pub fn decode_at<'input>(
+pub fn decode_at<'input, M: Made>(
     decoder: &mut Decoder<'input>,
     trace: &mut Option<Fault>,
     types: &[Type],
@@ -123,14 +148,14 @@ pub fn decode_at<'input>(
 ) -> Result<Value<'input>, DecodeError>
     requires lawful { IsLawful (shape_of_type types.now levels id.0) }
     requires clear { trace.old ≡ None }
-    ensures reads { Decodes (shape_of_type types.now levels id.0) tree_of decoder.old result decoder.new }
+    ensures reads { Making M.KEEP tree_of (DecodesTree (shape_of_type types.now levels id.0)) decoder.old result decoder.new }
     ensures nothing { IfErr result (λ e. None ≡ slice_get types.now id.0 → IsErrorOf UnexpectedEmptyInput decoder.old e × (decoder.new ≡ decoder.old)) }
-    ensures fits { IfOk result (λ v. Fits types.now levels id.0 v) }
+    ensures fits { M.KEEP ≡ true → IfOk result (λ v. Fits types.now levels id.0 v) }
     ensures rules { IfErr result (λ e. e.codec ≡ decoder.old.rule) }
     ensures told { TellsOf (IsFault types.now levels id.0 decoder.old) result trace.new }
 {
     let left = decoder.remaining().len();
-    match decode_found(decoder, trace, types, levels, id) {
+    match decode_found::<M>(decoder, trace, types, levels, id) {
         Ok(value) => Ok(value),
         Err(error) => {
             mark(decoder.alloc(), trace, id, left);
@@ -142,7 +167,7 @@ pub fn decode_at<'input>(
 /// Reads such a value as the part with this index of the value that holds it.
 #[cycle(decode)]
 #[inline(always)]
-fn decode_part<'input>(
+pub fn decode_part<'input, M: Made>(
     decoder: &mut Decoder<'input>,
     trace: &mut Option<Fault>,
     types: &[Type],
@@ -152,12 +177,12 @@ fn decode_part<'input>(
 ) -> Result<Value<'input>, DecodeError>
     requires lawful { IsLawful (shape_of_type types.now levels id.0) }
     requires clear { trace.old ≡ None }
-    ensures reads { Decodes (shape_of_type types.now levels id.0) tree_of decoder.old result decoder.new }
-    ensures fits { IfOk result (λ v. Fits types.now levels id.0 v) }
+    ensures reads { Making M.KEEP tree_of (DecodesTree (shape_of_type types.now levels id.0)) decoder.old result decoder.new }
+    ensures fits { M.KEEP ≡ true → IfOk result (λ v. Fits types.now levels id.0 v) }
     ensures rules { IfErr result (λ e. e.codec ≡ decoder.old.rule) }
     ensures told { TellsOf (IsFaultIn types.now levels (IsOnly index id.0 decoder.old) decoder.old decoder.old) result trace.new }
 {
-    match decode_at(decoder, trace, types, levels, id) {
+    match decode_at::<M>(decoder, trace, types, levels, id) {
         Ok(value) => Ok(value),
         Err(error) => {
             step(trace, index);
@@ -166,9 +191,33 @@ fn decode_part<'input>(
     }
 }
 
+/// Reads such a part and makes its value, even if the reader makes none.
+#[cycle(decode)]
+#[inline(always)]
+fn decode_compared<'input, M: Made>(
+    decoder: &mut Decoder<'input>,
+    trace: &mut Option<Fault>,
+    types: &[Type],
+    levels: usize,
+    id: TypeId,
+    index: usize,
+) -> Result<Value<'input>, DecodeError>
+    requires lawful { IsLawful (shape_of_type types.now levels id.0) }
+    requires clear { trace.old ≡ None }
+    ensures reads { Making true tree_of (DecodesTree (shape_of_type types.now levels id.0)) decoder.old result decoder.new }
+    ensures fits { IfOk result (λ v. Fits types.now levels id.0 v) }
+    ensures rules { IfErr result (λ e. e.codec ≡ decoder.old.rule) }
+    ensures told { TellsOf (IsFaultIn types.now levels (IsOnly index id.0 decoder.old) decoder.old decoder.old) result trace.new }
+{
+    match M::decode_value(decoder, trace, types, levels, id, index) {
+        Some(read) => read,
+        None => decode_part::<M>(decoder, trace, types, levels, id, index),
+    }
+}
+
 /// Reads a value of the type with this number. Names what can't be read inside it.
 #[cycle(decode)]
-fn decode_found<'input>(
+fn decode_found<'input, M: Made>(
     decoder: &mut Decoder<'input>,
     trace: &mut Option<Fault>,
     types: &[Type],
@@ -177,9 +226,9 @@ fn decode_found<'input>(
 ) -> Result<Value<'input>, DecodeError>
     requires lawful { IsLawful (shape_of_type types.now levels id.0) }
     requires clear { trace.old ≡ None }
-    ensures reads { Decodes (shape_of_type types.now levels id.0) tree_of decoder.old result decoder.new }
+    ensures reads { Making M.KEEP tree_of (DecodesTree (shape_of_type types.now levels id.0)) decoder.old result decoder.new }
     ensures nothing { IfErr result (λ e. None ≡ slice_get types.now id.0 → IsErrorOf UnexpectedEmptyInput decoder.old e × (decoder.new ≡ decoder.old)) }
-    ensures fits { IfOk result (λ v. Fits types.now levels id.0 v) }
+    ensures fits { M.KEEP ≡ true → IfOk result (λ v. Fits types.now levels id.0 v) }
     ensures rules { IfErr result (λ e. e.codec ≡ decoder.old.rule) }
     ensures told { Told (IsFault types.now levels id.0 decoder.old) result trace.new }
     ensures itself { IfErr result (λ e. trace.new ≡ None → FailsAt types.now levels id.0 decoder.old e) }
@@ -188,7 +237,7 @@ fn decode_found<'input>(
         return Err(no_value(decoder));
     }
     match type_at(types, id) {
-        Some(ty) => decode_type(decoder, trace, types, levels - 1, ty),
+        Some(ty) => decode_type::<M>(decoder, trace, types, levels - 1, ty),
         None => Err(no_value(decoder)),
     }
 }
@@ -196,7 +245,7 @@ fn decode_found<'input>(
 /// Reads a value of a type.
 #[cycle(decode)]
 #[inline(always)]
-fn decode_type<'input>(
+fn decode_type<'input, M: Made>(
     decoder: &mut Decoder<'input>,
     trace: &mut Option<Fault>,
     types: &[Type],
@@ -205,9 +254,9 @@ fn decode_type<'input>(
 ) -> Result<Value<'input>, DecodeError>
     requires lawful { IsLawful (type_by (shape_of_type types.now below) ty.now) }
     requires clear { trace.old ≡ None }
-    ensures exact { DecodesType (shape_of_type types.now below) ty.now decoder.old result decoder.new }
-    ensures reads { Decodes (type_by (shape_of_type types.now below) ty.now) tree_of decoder.old result decoder.new }
-    ensures fits { IfOk result (λ v. FitsBy (Fits types.now below) ty.now v) }
+    ensures exact { Making M.KEEP tree_of (DecodesType (shape_of_type types.now below) ty.now) decoder.old result decoder.new }
+    ensures reads { Making M.KEEP tree_of (DecodesTree (type_by (shape_of_type types.now below) ty.now)) decoder.old result decoder.new }
+    ensures fits { M.KEEP ≡ true → IfOk result (λ v. FitsBy (Fits types.now below) ty.now v) }
     ensures rules { IfErr result (λ e. e.codec ≡ decoder.old.rule) }
     ensures told { Told (IsFaultOf types.now below ty.now decoder.old) result trace.new }
     ensures itself { IfErr result (λ e. trace.new ≡ None → FailsItself (shape_of_type types.now below) ty.now decoder.old e) }
@@ -222,48 +271,51 @@ fn decode_type<'input>(
         Type::Enumerated { tag, numbers } => decode_number(decoder, *tag, numbers),
         Type::Any { tag } => decode_any_value(decoder, *tag),
         Type::Choice { name, alternatives } => {
-            decode_choice(decoder, trace, types, below, name.as_str(), alternatives)
+            decode_choice::<M>(decoder, trace, types, below, name.as_str(), alternatives)
         }
         Type::Tagged { tag, .. } => {
-            decode_inside(
+            decode_inside::<M>(
                 decoder,
                 trace,
                 types,
                 below,
                 ty,
                 ConstructedHeader::prefix(*tag),
+                &mut 0,
             )
         }
         Type::Sequence { tag, .. } => {
-            decode_inside(
+            decode_inside::<M>(
                 decoder,
                 trace,
                 types,
                 below,
                 ty,
                 ConstructedHeader::sequence(*tag),
+                &mut 0,
             )
         }
         Type::Set { tag, .. } => {
-            decode_inside(
+            decode_inside::<M>(
                 decoder,
                 trace,
                 types,
                 below,
                 ty,
                 ConstructedHeader::sequence(*tag),
+                &mut 0,
             )
         }
         Type::SequenceOf {
             tag,
             constraints,
             ..
-        } => decode_list(decoder, trace, types, below, ty, *tag, constraints),
+        } => decode_list::<M>(decoder, trace, types, below, ty, *tag, constraints),
         Type::SetOf {
             tag,
             constraints,
             ..
-        } => decode_list(decoder, trace, types, below, ty, *tag, constraints),
+        } => decode_list::<M>(decoder, trace, types, below, ty, *tag, constraints),
     }
 }
 
@@ -272,7 +324,7 @@ fn decode_type<'input>(
 /// # Errors
 /// `NoValidChoice` with the name of the CHOICE if the tag is no alternative's, which consumes nothing.
 #[cycle(decode)]
-fn decode_choice<'input>(
+fn decode_choice<'input, M: Made>(
     decoder: &mut Decoder<'input>,
     trace: &mut Option<Fault>,
     types: &[Type],
@@ -282,8 +334,8 @@ fn decode_choice<'input>(
 ) -> Result<Value<'input>, DecodeError>
     requires lawful { IsLawful (choice (alternatives_by (shape_of_type types.now below) alternatives.now)) }
     requires clear { trace.old ≡ None }
-    ensures reads { Decodes (choice (alternatives_by (shape_of_type types.now below) alternatives.now)) tree_of decoder.old result decoder.new }
-    ensures fits { IfOk result (λ v. IsChosen (AlternativeFits (Fits types.now below) alternatives.now) v) }
+    ensures reads { Making M.KEEP tree_of (DecodesTree (choice (alternatives_by (shape_of_type types.now below) alternatives.now))) decoder.old result decoder.new }
+    ensures fits { M.KEEP ≡ true → IfOk result (λ v. IsChosen (AlternativeFits (Fits types.now below) alternatives.now) v) }
     ensures unknown { IfErr result (λ e. IsNoAlternative (alternatives_by (shape_of_type types.now below) alternatives.now) name.now decoder.old e decoder.new) }
     ensures rules { IfErr result (λ e. e.codec ≡ decoder.old.rule) }
     ensures told { Told (IsFaultIn types.now below (IsAlternativeAt alternatives.now decoder.old) decoder.old decoder.old) result trace.new }
@@ -294,11 +346,8 @@ fn decode_choice<'input>(
         return Err(DecodeError::no_valid_choice(decoder.alloc(), name, decoder.codec()));
     };
     let id = alternatives[number].type_id;
-    let value = decode_part(decoder, trace, types, below, id, number)?;
-    match Box::new(decoder.alloc(), value) {
-        Ok(value) => Ok(Value::Chosen(number, value)),
-        Err(_) => Err(out_of_memory(decoder)),
-    }
+    let value = decode_part::<M>(decoder, trace, types, below, id, number)?;
+    choose::<M>(decoder, number, value)
 }
 
 /// Reads a SEQUENCE OF or a SET OF (X.690 8.10, 8.12).
@@ -306,7 +355,7 @@ fn decode_choice<'input>(
 /// # Errors
 /// `SizeConstraintNotSatisfied` if the number of elements isn't within the bound, which consumes the value.
 #[cycle(decode)]
-fn decode_list<'input>(
+fn decode_list<'input, M: Made>(
     decoder: &mut Decoder<'input>,
     trace: &mut Option<Fault>,
     types: &[Type],
@@ -316,42 +365,47 @@ fn decode_list<'input>(
     constraints: &Constraints,
 ) -> Result<Value<'input>, DecodeError>
     requires lawful { IsLawful (type_by (shape_of_type types.now below) ty.now) }
-    requires holds { HoldsOthers ty.now }
+    requires elements { HoldsElements ty.now }
     requires clear { trace.old ≡ None }
-    ensures exact { DecodesSized (DecodesContents (shape_of_type types.now below) ty.now) element_count tag constraints.now decoder.old result decoder.new }
+    ensures exact { Making M.KEEP tree_of (DecodesSized (DecodesContents (shape_of_type types.now below) ty.now) element_count tag constraints.now) decoder.old result decoder.new }
     ensures octets { decoder.old.depth ≢ 0 → AreOctets decoder.old.rest }
-    ensures fits { IfOk result (λ v. FitsBy (Fits types.now below) ty.now v) }
+    ensures fits { M.KEEP ≡ true → IfOk result (λ v. FitsBy (Fits types.now below) ty.now v) }
     ensures rules { IfErr result (λ e. e.codec ≡ decoder.old.rule) }
     ensures told { Told (IsFaultInside types.now below (list_header tag) ty.now decoder.old) result trace.new }
     ensures itself { IfErr result (λ e. trace.new ≡ None → DecodesSized (ReadsEachPart (shape_of_type types.now below) ty.now) element_count tag constraints.now decoder.old (Err e) decoder.new) }
 {
-    let value = decode_inside(
+    let mut count = 0;
+    let value = decode_inside::<M>(
         decoder,
         trace,
         types,
         below,
         ty,
         ConstructedHeader::list(tag),
+        &mut count,
     )?;
-    sized(decoder, constraints, value)
+    check_size(decoder, constraints, count)?;
+    Ok(value)
 }
 
 /// Reads a value that holds other values, and its header.
 #[cycle(decode)]
-fn decode_inside<'input>(
+fn decode_inside<'input, M: Made>(
     decoder: &mut Decoder<'input>,
     trace: &mut Option<Fault>,
     types: &[Type],
     below: usize,
     ty: &Type,
     header: ConstructedHeader,
+    count: &mut usize,
 ) -> Result<Value<'input>, DecodeError>
     requires lawful { IsLawful (type_by (shape_of_type types.now below) ty.now) }
     requires holds { HoldsOthers ty.now }
+    requires counts { count.old ≡ 0 }
     requires clear { trace.old ≡ None }
-    ensures exact { DecodesInside (DecodesContents (shape_of_type types.now below) ty.now) header decoder.old result decoder.new }
+    ensures exact { Counting M.KEEP tree_of (CountsElements ty.now) (DecodesInside (DecodesContents (shape_of_type types.now below) ty.now) header) decoder.old result decoder.new count.new }
     ensures octets { decoder.old.depth ≢ 0 → AreOctets decoder.old.rest }
-    ensures fits { IfOk result (λ v. FitsBy (Fits types.now below) ty.now v) }
+    ensures fits { M.KEEP ≡ true → IfOk result (λ v. FitsBy (Fits types.now below) ty.now v) }
     ensures rules { IfErr result (λ e. e.codec ≡ decoder.old.rule) }
     ensures told { Told (IsFaultInside types.now below header ty.now decoder.old) result trace.new }
     ensures itself { IfErr result (λ e. trace.new ≡ None → DecodesInside (ReadsEachPart (shape_of_type types.now below) ty.now) header decoder.old (Err e) decoder.new) }
@@ -359,7 +413,7 @@ fn decode_inside<'input>(
     // The octets that are left have a number of this type, so the sum in `add_after` has too.
     let _ = octets_left(decoder);
     let (mut inner, contents) = decoder.open(header)?;
-    let value = match decode_contents(&mut inner, trace, types, below, ty) {
+    let value = match decode_contents::<M>(&mut inner, trace, types, below, ty, count) {
         Ok(value) => value,
         Err(error) => {
             add_after(trace, octets_after(decoder, &inner));
@@ -372,34 +426,38 @@ fn decode_inside<'input>(
 
 /// Reads the contents of a value that holds other values.
 #[cycle(decode)]
-fn decode_contents<'input>(
+fn decode_contents<'input, M: Made>(
     decoder: &mut Decoder<'input>,
     trace: &mut Option<Fault>,
     types: &[Type],
     below: usize,
     ty: &Type,
+    count: &mut usize,
 ) -> Result<Value<'input>, DecodeError>
     requires lawful { IsLawful (type_by (shape_of_type types.now below) ty.now) }
     requires holds { HoldsOthers ty.now }
+    requires counts { count.old ≡ 0 }
     requires clear { trace.old ≡ None }
-    ensures exact { DecodesContents (shape_of_type types.now below) ty.now decoder.old result decoder.new }
-    ensures fits { IfOk result (λ v. FitsBy (Fits types.now below) ty.now v) }
+    ensures exact { Counting M.KEEP tree_of (CountsElements ty.now) (DecodesContents (shape_of_type types.now below) ty.now) decoder.old result decoder.new count.new }
+    ensures fits { M.KEEP ≡ true → IfOk result (λ v. FitsBy (Fits types.now below) ty.now v) }
     ensures rules { IfErr result (λ e. e.codec ≡ decoder.old.rule) }
     ensures told { Told (IsFaultIn types.now below (IsPart (shape_of_type types.now below) ty.now decoder.old) decoder.old decoder.old) result trace.new }
     ensures itself { IfErr result (λ e. trace.new ≡ None → StopsInside (shape_of_type types.now below) ty.now decoder.old e) }
 {
     match ty {
-        Type::Tagged { inner, .. } => decode_part(decoder, trace, types, below, *inner, 0),
+        Type::Tagged { inner, .. } => decode_part::<M>(decoder, trace, types, below, *inner, 0),
         Type::Sequence { components, .. } => {
-            let values = decode_sequence(decoder, trace, types, below, components)?;
+            let values = decode_sequence::<M>(decoder, trace, types, below, components)?;
             Ok(Value::Items(values))
         }
         Type::SequenceOf { element, .. } => {
-            let values = decode_elements(decoder, trace, types, below, *element)?;
+            let values = decode_elements::<M>(decoder, trace, types, below, *element, count)?;
             Ok(Value::Items(values))
         }
         Type::SetOf { element, .. } => {
-            let values = decode_elements_in_order(decoder, trace, types, below, *element)?;
+            let values = decode_elements_in_order::<M>(
+                decoder, trace, types, below, *element, count,
+            )?;
             Ok(Value::Elements(values))
         }
         Type::Set {
@@ -408,7 +466,7 @@ fn decode_contents<'input>(
             ..
         } => {
             let found = no_components(decoder, components)?;
-            let values = decode_set(
+            let values = decode_set::<M>(
                 decoder,
                 trace,
                 types,
@@ -425,53 +483,63 @@ fn decode_contents<'input>(
 
 /// Reads elements up to the end of the contents (X.690 8.10).
 #[cycle(decode)]
-fn decode_elements<'input>(
+fn decode_elements<'input, M: Made>(
     decoder: &mut Decoder<'input>,
     trace: &mut Option<Fault>,
     types: &[Type],
     below: usize,
     element: TypeId,
+    count: &mut usize,
 ) -> Result<Vec<Value<'input>>, DecodeError>
     requires lawful { IsLawful (shape_of_type types.now below element.0) }
+    requires counts { count.old ≡ 0 }
     requires clear { trace.old ≡ None }
-    ensures reads { DecodesElements (Decodes (shape_of_type types.now below element.0) tree_of) (λ v. v.items) decoder.old result decoder.new }
-    ensures fits { IfOk result (λ v. EachFits (Fits types.now below element.0) v.items) }
+    ensures reads { Counting M.KEEP trees_of IsLength (DecodesElements (DecodesTree (shape_of_type types.now below element.0)) these) decoder.old result decoder.new count.new }
+    ensures fits { M.KEEP ≡ true → IfOk result (λ v. EachFits (Fits types.now below element.0) v.items) }
     ensures rules { IfErr result (λ e. e.codec ≡ decoder.old.rule) }
     ensures told { Told (IsFaultIn types.now below (IsElementAt (shape_of_type types.now below) element.0 decoder.old) decoder.old decoder.old) result trace.new }
     ensures itself { IfErr result (λ e. trace.new ≡ None → StopsInElements (shape_of_type types.now below) element.0 decoder.old e) }
 {
     let mut values = Vec::new(decoder.alloc());
+    // Each element takes some of these octets, so their number has this type.
+    let _ = octets_left(decoder);
     while !decoder.has_ended() {
         let left = decoder.remaining().len();
-        let value = decode_part(decoder, trace, types, below, element, values.len())?;
-        keep(decoder, left, value, &mut values)?;
+        let value = decode_part::<M>(decoder, trace, types, below, element, *count)?;
+        keep::<M>(decoder, left, value, &mut values)?;
+        *count += 1;
     }
     Ok(values)
 }
 
 /// Reads elements up to the end of the contents. Under DER their octets have to be in ascending order (X.690 11.6).
 #[cycle(decode)]
-fn decode_elements_in_order<'input>(
+fn decode_elements_in_order<'input, M: Made>(
     decoder: &mut Decoder<'input>,
     trace: &mut Option<Fault>,
     types: &[Type],
     below: usize,
     element: TypeId,
+    count: &mut usize,
 ) -> Result<Vec<Value<'input>>, DecodeError>
     requires lawful { IsLawful (shape_of_type types.now below element.0) }
+    requires counts { count.old ≡ 0 }
     requires clear { trace.old ≡ None }
-    ensures reads { DecodesElementsInOrder (Decodes (shape_of_type types.now below element.0) tree_of) (λ v. v.items) decoder.old result decoder.new }
-    ensures fits { IfOk result (λ v. EachFits (Fits types.now below element.0) v.items) }
+    ensures reads { Counting M.KEEP trees_of IsLength (DecodesElementsInOrder (DecodesTree (shape_of_type types.now below element.0)) these) decoder.old result decoder.new count.new }
+    ensures fits { M.KEEP ≡ true → IfOk result (λ v. EachFits (Fits types.now below element.0) v.items) }
     ensures rules { IfErr result (λ e. e.codec ≡ decoder.old.rule) }
     ensures told { Told (IsFaultIn types.now below (IsElementAt (shape_of_type types.now below) element.0 decoder.old) decoder.old decoder.old) result trace.new }
     ensures itself { IfErr result (λ e. trace.new ≡ None → StopsInOrder (shape_of_type types.now below) element.0 decoder.old e) }
 {
     let mut values = Vec::new(decoder.alloc());
     let mut last: &[u8] = &[];
+    // Each element takes some of these octets, so their number has this type.
+    let _ = octets_left(decoder);
     while !decoder.has_ended() {
         let start = decoder.remaining();
-        let value = decode_part(decoder, trace, types, below, element, values.len())?;
-        keep(decoder, start.len(), value, &mut values)?;
+        let value = decode_part::<M>(decoder, trace, types, below, element, *count)?;
+        keep::<M>(decoder, start.len(), value, &mut values)?;
+        *count += 1;
         let octets = octets_before(start, decoder.remaining());
         if decoder.is_strict() && is_less(octets, last) {
             return Err(out_of_order(decoder));
@@ -483,7 +551,7 @@ fn decode_elements_in_order<'input>(
 
 /// Reads the components of a SEQUENCE, up to the end of the contents (X.690 8.9).
 #[cycle(decode)]
-fn decode_sequence<'input>(
+fn decode_sequence<'input, M: Made>(
     decoder: &mut Decoder<'input>,
     trace: &mut Option<Fault>,
     types: &[Type],
@@ -492,24 +560,22 @@ fn decode_sequence<'input>(
 ) -> Result<Vec<Value<'input>>, DecodeError>
     requires lawful { AreLawful (components_by (shape_of_type types.now below) components.now) }
     requires clear { trace.old ≡ None }
-    ensures reads { DecodesBy (ReadsSequence (components_by (shape_of_type types.now below) components.now)) (λ v. list_tree tree_of v.items) decoder.old result decoder.new }
+    ensures reads { Making M.KEEP trees_of (DecodesBy (ReadsSequence (components_by (shape_of_type types.now below) components.now)) items) decoder.old result decoder.new }
     ensures fails { IfErr result (λ e. FailsAtPart (components_by (shape_of_type types.now below) components.now) decoder.old e decoder.new ⊎ IsOutOfMemory e.kind) }
-    ensures fits { IfOk result (λ v. ComponentsFit (Fits types.now below) components.now v.items) }
+    ensures fits { M.KEEP ≡ true → IfOk result (λ v. ComponentsFit (Fits types.now below) components.now v.items) }
     ensures rules { IfErr result (λ e. e.codec ≡ decoder.old.rule) }
     ensures told { Told (IsFaultIn types.now below (IsComponentAt (shape_of_type types.now below) components.now decoder.old) decoder.old decoder.old) result trace.new }
     ensures itself { IfErr result (λ e. trace.new ≡ None → StopsInSequence (shape_of_type types.now below) components.now decoder.old e) }
 {
     if leaves_all_out(decoder, components) {
-        let found = no_components(decoder, components)?;
-        return gather(decoder, components, found);
+        return all_absent::<M>(decoder, components);
     }
-    let Ok(mut values) = Vec::with_capacity(decoder.alloc(), components.len()) else {
-        return Err(out_of_memory(decoder));
-    };
+    let mut values = list_for::<M>(decoder, components.len())?;
     let mut rest = components;
     while let [component, after @ ..] = rest {
-        let value = decode_component(decoder, trace, types, below, component, values.len())?;
-        push(decoder, &mut values, value)?;
+        let index = components.len() - rest.len();
+        let value = decode_component::<M>(decoder, trace, types, below, component, index)?;
+        push::<M>(decoder, &mut values, value)?;
         rest = after;
     }
     Ok(values)
@@ -539,7 +605,7 @@ pub(crate) fn is_next(
 
 /// Reads a component of a SEQUENCE, unless it is absent.
 #[cycle(decode)]
-pub fn decode_component<'input>(
+pub fn decode_component<'input, M: Made>(
     decoder: &mut Decoder<'input>,
     trace: &mut Option<Fault>,
     types: &[Type],
@@ -549,19 +615,19 @@ pub fn decode_component<'input>(
 ) -> Result<Value<'input>, DecodeError>
     requires lawful { IsLawful (shape_of_type types.now below component.now.type_id.0) }
     requires clear { trace.old ≡ None }
-    ensures reads { DecodesBy (ReadsComponent (presence_in (shape_of_type types.now below) component.now) (shape_of_type types.now below component.now.type_id.0)) tree_of decoder.old result decoder.new }
+    ensures reads { Making M.KEEP tree_of (DecodesComponent (presence_in (shape_of_type types.now below) component.now) (shape_of_type types.now below component.now.type_id.0)) decoder.old result decoder.new }
     ensures fails { IfErr result (λ e. FailsAtOnePart (presence_in (shape_of_type types.now below) component.now) (shape_of_type types.now below component.now.type_id.0) decoder.old e decoder.new) }
-    ensures fits { IfOk result (λ v. ComponentFits (Fits types.now below) component.now v) }
+    ensures fits { M.KEEP ≡ true → IfOk result (λ v. ComponentFits (Fits types.now below) component.now v) }
     ensures rules { IfErr result (λ e. e.codec ≡ decoder.old.rule) }
     ensures told { Told (IsFaultIn types.now below (IsOnly index component.now.type_id.0 decoder.old) decoder.old decoder.old) result trace.new }
     ensures itself { IfErr result (λ e. trace.new ≡ None → StopsAtComponent (shape_of_type types.now below) component.now decoder.old e) }
 {
     if is_always_there(component) {
-        return decode_present(decoder, trace, types, below, component, index);
+        return decode_present::<M>(decoder, trace, types, below, component, index);
     }
     match is_next(decoder, types, below, component.type_id) {
-        Ok(true) => decode_present(decoder, trace, types, below, component, index),
-        Ok(false) => missing(decoder, component),
+        Ok(true) => decode_present::<M>(decoder, trace, types, below, component, index),
+        Ok(false) => missing::<M>(decoder, component),
         Err(error) => Err(error),
     }
 }
@@ -569,7 +635,7 @@ pub fn decode_component<'input>(
 /// Reads a component that is present. Under DER it must not be its default (X.690 11.5).
 #[cycle(decode)]
 #[inline(always)]
-pub fn decode_present<'input>(
+pub fn decode_present<'input, M: Made>(
     decoder: &mut Decoder<'input>,
     trace: &mut Option<Fault>,
     types: &[Type],
@@ -579,19 +645,19 @@ pub fn decode_present<'input>(
 ) -> Result<Value<'input>, DecodeError>
     requires lawful { IsLawful (shape_of_type types.now below component.now.type_id.0) }
     requires clear { trace.old ≡ None }
-    ensures reads { DecodesPresent (presence_in (shape_of_type types.now below) component.now) (shape_of_type types.now below component.now.type_id.0) decoder.old result decoder.new }
-    ensures fits { IfOk result (λ v. Fits types.now below component.now.type_id.0 v) }
+    ensures reads { Making M.KEEP tree_of (DecodesPresent (presence_in (shape_of_type types.now below) component.now) (shape_of_type types.now below component.now.type_id.0)) decoder.old result decoder.new }
+    ensures fits { M.KEEP ≡ true → IfOk result (λ v. Fits types.now below component.now.type_id.0 v) }
     ensures rules { IfErr result (λ e. e.codec ≡ decoder.old.rule) }
     ensures told { Told (IsFaultIn types.now below (IsOnly index component.now.type_id.0 decoder.old) decoder.old decoder.old) result trace.new }
     ensures itself { IfErr result (λ e. trace.new ≡ None → IsDefaultWritten (shape_of_type types.now below) component.now decoder.old e) }
 {
     let Presence::Default(default) = &component.presence else {
-        return decode_part(decoder, trace, types, below, component.type_id, index);
+        return decode_part::<M>(decoder, trace, types, below, component.type_id, index);
     };
-    let value = decode_part(decoder, trace, types, below, component.type_id, index)?;
     if !decoder.is_strict() {
-        return Ok(value);
+        return decode_part::<M>(decoder, trace, types, below, component.type_id, index);
     }
+    let value = decode_compared::<M>(decoder, trace, types, below, component.type_id, index)?;
     if value.means_same(default) {
         return Err(default_present(decoder));
     }
@@ -604,7 +670,7 @@ pub fn decode_present<'input>(
 /// Those of the first component that isn't read, `NoValidChoice` with the name of the SET for a tag that is no component's. Once all are read, `DuplicateField` with the name of the first component that was
 /// read before, else `MissingField` with that of the first required one that is missing.
 #[cycle(decode)]
-fn decode_set<'input>(
+fn decode_set<'input, M: Made>(
     decoder: &mut Decoder<'input>,
     trace: &mut Option<Fault>,
     types: &[Type],
@@ -616,8 +682,8 @@ fn decode_set<'input>(
     requires lawful { AreLawfulByTag (components_by (shape_of_type types.now below) components.now) }
     requires none { found.items ≡ nones components.now }
     requires clear { trace.old ≡ None }
-    ensures exact { DecodesSetPartContents (components_by (shape_of_type types.now below) components.now) (λ v. list_tree tree_of v.items) (names_of components.now) decoder.old result decoder.new }
-    ensures fits { IfOk result (λ v. ComponentsFit (Fits types.now below) components.now v.items) }
+    ensures exact { Making M.KEEP trees_of (DecodesSetPartContents (components_by (shape_of_type types.now below) components.now) items (names_of components.now)) decoder.old result decoder.new }
+    ensures fits { M.KEEP ≡ true → IfOk result (λ v. ComponentsFit (Fits types.now below) components.now v.items) }
     ensures rules { IfErr result (λ e. e.codec ≡ decoder.old.rule) }
     ensures told { Told (IsFaultIn types.now below (IsMemberAt (shape_of_type types.now below) components.now decoder.old) decoder.old decoder.old) result trace.new }
     ensures itself { IfErr result (λ e. trace.new ≡ None → StopsInSet (shape_of_type types.now below) components.now decoder.old e) }
@@ -626,7 +692,7 @@ fn decode_set<'input>(
     let mut last = None;
     while !decoder.has_ended() {
         last = decoder.peek_tag_in_order(last)?;
-        let next = decode_set_component(
+        let next = decode_set_component::<M>(
             decoder, trace, types, below, name, components, &mut found,
         )?;
         twice = twice.or(next);
@@ -634,7 +700,7 @@ fn decode_set<'input>(
     if let Some(repeated) = twice {
         return Err(DecodeError::duplicate_field(decoder.alloc(), repeated, decoder.codec()));
     }
-    gather(decoder, components, found)
+    gather::<M>(decoder, components, found)
 }
 
 /// Reads one component of a SET, which must take some of the input, and puts it in its place. If that isn't empty, returns the
@@ -643,7 +709,7 @@ fn decode_set<'input>(
 /// # Errors
 /// `NoValidChoice` with the name of the SET if the next tag is no component's, which consumes nothing.
 #[cycle(decode)]
-fn decode_set_component<'input, 'names>(
+fn decode_set_component<'input, 'names, M: Made>(
     decoder: &mut Decoder<'input>,
     trace: &mut Option<Fault>,
     types: &[Type],
@@ -653,10 +719,10 @@ fn decode_set_component<'input, 'names>(
     found: &mut Vec<Option<Value<'input>>>,
 ) -> Result<Option<&'names str>, DecodeError>
     requires lawful { AreLawfulByTag (components_by (shape_of_type types.now below) components.now) }
-    requires found { FoundFit (Fits types.now below) components.now found.old.items }
+    requires found { FoundFit (λ k v. M.KEEP ≡ true → Fits types.now below k v) components.now found.old.items }
     requires clear { trace.old ≡ None }
-    ensures next { DecodesNext (components_by (shape_of_type types.now below) components.now) (names_of components.now) (held found.old.items) decoder.old result decoder.new (held found.new.items) }
-    ensures found { FoundFit (Fits types.now below) components.now found.new.items }
+    ensures next { DecodesMember M.KEEP (components_by (shape_of_type types.now below) components.now) (names_of components.now) found.old.items decoder.old result decoder.new found.new.items }
+    ensures found { FoundFit (λ k v. M.KEEP ≡ true → Fits types.now below k v) components.now found.new.items }
     ensures unknown { IfErr result (λ e. IsNoAlternative (components_by (shape_of_type types.now below) components.now) name.now decoder.old e decoder.new) }
     ensures rules { IfErr result (λ e. e.codec ≡ decoder.old.rule) }
     ensures told { Told (IsFaultIn types.now below (IsMember components.now decoder.old) decoder.old decoder.old) result trace.new }
@@ -667,7 +733,7 @@ fn decode_set_component<'input, 'names>(
     let Some((number, component)) = component_for(types, below, components, tag) else {
         return Err(DecodeError::no_valid_choice(decoder.alloc(), name, decoder.codec()));
     };
-    let value = decode_present(decoder, trace, types, below, component, number)?;
+    let value = decode_present::<M>(decoder, trace, types, below, component, number)?;
     if decoder.remaining().len() == left {
         return Err(extra(decoder, left));
     }

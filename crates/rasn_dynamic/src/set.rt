@@ -1,12 +1,13 @@
 //! The components of a SET that were read so far (X.690 8.11).
-ghost use Rattle.std.specs.Prelude.{◌≡◌, ◌<◌, length, MatchOption, IfOk, IfErr};
+ghost use Rattle.std.specs.Prelude.{◌≡◌, ◌<◌, length, true, false, MatchOption, IfOk, IfErr};
 ghost use Rattle.rasn_types.specs.Shapes.{IsFirstOf};
 ghost use Rattle.rasn_types.specs.Errors.{IsOutOfMemory};
 ghost use Rattle.rasn_schema.specs.Shapes.{shape_of_type, components_by, presence_of};
-ghost use Rattle.rasn_dynamic.specs.Calls.{nones, IsPut, IsComponentFor, IsSettled, Gathers};
+ghost use Rattle.rasn_dynamic.specs.Calls.{any_required, nones, IsPut, IsComponentFor, IsSettled, AreSettled, Gathers};
 ghost use Rattle.std.specs.String.{string_bytes};
 
 use crate::components::missing;
+use crate::made::Made;
 use crate::read_leaf::{out_of_memory, push};
 use rasn_de::ber::de::Decoder;
 use rasn_de::de::Error;
@@ -69,13 +70,13 @@ pub fn put<'input, 'names>(
     None
 }
 
-/// Returns the component that was read, or the value that it has if it is absent.
-fn settle<'input>(
+/// Returns the component that was read or, where values are kept, the value that it has if it is absent.
+fn settle<'input, M: Made>(
     decoder: &Decoder<'input>,
     component: &Component,
     found: Option<Value<'input>>,
 ) -> Result<Value<'input>, DecodeError>
-    ensures settled { IsSettled (presence_of component.now.presence) (string_bytes component.now.name) decoder.now.rule found.entry result }
+    ensures settled { IsSettled M.KEEP (presence_of component.now.presence) (string_bytes component.now.name) decoder.now.rule found.entry result }
     ensures rules { IfErr result (λ e. e.codec ≡ decoder.now.rule) }
 {
     if let Some(value) = found {
@@ -85,20 +86,20 @@ fn settle<'input>(
         let name = component.name.as_str();
         return Err(DecodeError::missing_field(decoder.alloc(), name, decoder.codec()));
     }
-    missing(decoder, component)
+    missing::<M>(decoder, component)
 }
 
-/// Returns all components, those that are absent with the values that they have then.
+/// Returns all components, those that are absent with the values that they have then, where values are kept.
 ///
 /// # Errors
 /// `MissingField` with the name of the first required component that is missing.
-pub fn gather<'input>(
+pub fn gather<'input, M: Made>(
     decoder: &Decoder<'input>,
     components: &[Component],
     found: Vec<Option<Value<'input>>>,
 ) -> Result<Vec<Value<'input>>, DecodeError>
     requires { length found.items ≡ length components.now }
-    ensures gathers { Gathers components.now decoder.now.rule found.entry.items result }
+    ensures gathers { Gathers M.KEEP components.now decoder.now.rule found.entry.items result }
     ensures rules { IfErr result (λ e. e.codec ≡ decoder.now.rule) }
 {
     let mut coming = found.into_iter();
@@ -108,9 +109,29 @@ pub fn gather<'input>(
         let Some(found) = coming.next() else {
             unreachable!();
         };
-        let value = settle(decoder, component, found)?;
-        push(decoder, &mut values, value)?;
+        let value = settle::<M>(decoder, component, found)?;
+        push::<M>(decoder, &mut values, value)?;
         rest = after;
     }
     Ok(values)
+}
+
+/// Returns the values of components that are all absent, where values are kept.
+///
+/// # Errors
+/// `OutOfMemory` if there is no room for them.
+pub fn all_absent<'input, M: Made>(
+    decoder: &Decoder<'input>,
+    components: &[Component],
+) -> Result<Vec<Value<'input>>, DecodeError>
+    requires { any_required components.now ≡ false }
+    ensures settled { M.KEEP ≡ true → IfOk result (λ v. AreSettled components.now (nones components.now) v.items) }
+    ensures memory { IfErr result (λ e. IsOutOfMemory e.kind) }
+    ensures rules { IfErr result (λ e. e.codec ≡ decoder.now.rule) }
+{
+    if !M::KEEP {
+        return Ok(Vec::new(decoder.alloc()));
+    }
+    let found = no_components(decoder, components)?;
+    gather::<M>(decoder, components, found)
 }

@@ -1,6 +1,6 @@
 //! Where an input is refused.
 
-use rasn_dynamic::{Refusal, decode_or_locate};
+use rasn_dynamic::{Refusal, check_or_locate, decode_or_locate};
 use rasn_schema::{LeafKind, Schema, TypeId};
 use rasn_schema_bench::{Definition, Occurrence, Part, types};
 use rasn_types::types::{Class, Codec, Constraints, Tag};
@@ -40,11 +40,13 @@ fn is_at(alloc: Global, refusal: &Refusal, schema: &Schema, id: TypeId, place: &
         && text.is_ok_and(|text| text.as_str().starts_with(*shown))
 }
 
-/// Returns whether octets are refused at this place.
+/// Returns whether octets are refused at this place, whether a value is made or not.
 fn is_refused_at(alloc: Global, id: TypeId, octets: &[u8], place: &Place) -> Option<bool> {
     let schema = Schema::new(types(alloc, TYPES).ok()?).ok()?;
     let refusal = decode_or_locate(alloc, Codec::Ber, &schema, id, octets).err()?;
-    Some(is_at(alloc, &refusal, &schema, id, place))
+    let checked = check_or_locate(alloc, Codec::Ber, &schema, id, octets).err()?;
+    let is_there = is_at(alloc, &refusal, &schema, id, place);
+    Some(is_there && is_at(alloc, &checked, &schema, id, place))
 }
 
 /// A type, octets, and where they are refused.

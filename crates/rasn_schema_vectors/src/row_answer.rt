@@ -4,7 +4,7 @@ use crate::line_types::{LINE_TYPES, type_id};
 use crate::row::{Row, Verb};
 use crate::row_types::{ROW_TYPES, WRONG_TYPES};
 use rasn_bench::ValueType;
-use rasn_dynamic::{decode, encode, is_canonical, normalise};
+use rasn_dynamic::{check, decode, encode, is_canonical, normalise};
 use rasn_schema::{Schema, TypeId, Value};
 use rasn_schema_bench::{CERTIFICATE, CERTIFICATE_TYPES, Definition, FILTER, FILTER_TYPES, types};
 use rasn_types::types::Hexadecimal;
@@ -85,10 +85,35 @@ fn answer_by(
             Ok(octets) => format!(in alloc; "= {}", Hexadecimal::new(&octets)),
             Err(error) => format!(in alloc; "! {error}"),
         },
-        _ => match decode(alloc, row.rule, schema, id, &row.octets) {
-            Ok(value) => answer_with(alloc, schema, id, row, &value),
-            Err(error) => format!(in alloc; "! {:?} {:?}", error.codec, error.kind),
-        },
+        _ => answer_checked(alloc, schema, id, row),
+    }
+}
+
+/// Returns the answer to a row whose octets are read and checked, with the same result.
+fn answer_checked(
+    alloc: Global,
+    schema: &Schema,
+    id: TypeId,
+    row: &Row<'_>,
+) -> Result<String, AllocError> {
+    let checked = match check(alloc, row.rule, schema, id, &row.octets) {
+        Ok(()) => String::new(alloc),
+        Err(error) => format!(in alloc; "! {:?} {:?}", error.codec, error.kind)?,
+    };
+    match decode(alloc, row.rule, schema, id, &row.octets) {
+        Ok(value) => {
+            if checked.is_empty() {
+                return answer_with(alloc, schema, id, row, &value);
+            }
+            format!(in alloc; "is read, but checked with {checked}")
+        }
+        Err(error) => {
+            let answer = format!(in alloc; "! {:?} {:?}", error.codec, error.kind)?;
+            if checked == answer {
+                return Ok(answer);
+            }
+            format!(in alloc; "{answer} is checked with {checked}")
+        }
     }
 }
 

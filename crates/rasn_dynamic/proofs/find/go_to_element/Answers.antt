@@ -1,8 +1,7 @@
 use Rattle.std.proofs.Common.{arith, ◌∷◌, [], ◌++◌, ◌+◌, length-append, refl, ap, ◌∙◌}
-use Rattle.rasn_de.specs.Decodes.{Decodes}
 use Rattle.rasn_de.proofs.Constructed.NextElement.{passes_more}
-use Rattle.rasn_schema.specs.Trees.{tree_of}
 use Rattle.rasn_schema.specs.Shapes.{shape_of_type}
+use Rattle.rasn_dynamic.specs.Inside.{DecodesTree}
 use Rattle.rasn_dynamic.proofs.Parts.{shorter}
 use Rattle.rasn_dynamic.proofs.find.go_to_element.Goals as goal
 
@@ -28,7 +27,7 @@ loop-element-preserved c =
       omega (arith, i.0, c.if-number-index.false),
       i.1 ++ w.0 ∷ [],
       length-append i.1 (w.0 ∷ []) ∙ ap (λ n. n + 1) i.2,
-      passes_more (Decodes (shape_of_type c.args.types.now c.args.below c.args.element.0) tree_of) c.loop-element.decoder _ w.0 c.loop-element-test.ensures w.1 w.2 c.args.decoder.now i.1 _ refl i.3,
+      passes_more (DecodesTree (shape_of_type c.args.types.now c.args.below c.args.element.0)) c.loop-element.decoder _ w.0 c.loop-element-test.ensures w.1 w.2 c.args.decoder.now i.1 _ refl i.3,
     )
 
 pub returns : goal.returns

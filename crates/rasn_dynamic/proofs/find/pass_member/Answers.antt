@@ -3,4 +3,4 @@ use Rattle.std.proofs.lemmas.Result.{on_ok_weaker}
 use Rattle.rasn_dynamic.proofs.find.pass_member.Goals as goal
 
 pub returns-in-Ok : goal.returns-in-Ok
-returns-in-Ok c = on_ok_weaker c.check_taken.result (λ n. (c.in-Ok.value, c.in-Ok.ensures.reads, λ e. n (e ∙ sym (ap length c.remaining-left.ensures.value)))) c.check_taken.ensures
+returns-in-Ok c = on_ok_weaker c.check_taken.result (λ n. (c.in-Ok.ensures.reads.0, c.in-Ok.ensures.reads.2, λ e. n (e ∙ sym (ap length c.remaining-left.ensures.value)))) c.check_taken.ensures

@@ -1,5 +1,4 @@
 use Rattle.std.proofs.Common.{arith, ◌++◌, length, refl, sym, ap, ◌∙◌, subst}
-use Rattle.rasn_schema.specs.Trees.{tree_of}
 use Rattle.rasn_dynamic.specs.Parts.{IsHeader}
 use Rattle.rasn_dynamic.proofs.find.read_part.Goals as goal
 
@@ -7,14 +6,14 @@ pub overflow_sub-result : goal.overflow_sub-result
 overflow_sub-result c = let e = ap length c.remaining-start.ensures.value in omega (arith, e, c.requires.seen)
 
 pub octets_before-requires : goal.octets_before-requires
-octets_before-requires c = rw (c.remaining-start.ensures.value, c.remaining.ensures.value) c.in-Ok.ensures.reads.end
+octets_before-requires c = rw (c.remaining-start.ensures.value, c.remaining.ensures.value) c.in-Ok.ensures.reads.2.end
 
 pub returns-in-Ok-clause-read : goal.returns-in-Ok-clause-read
 returns-in-Ok-clause-read c = record {
-  tree = tree_of c.in-Ok.value;
+  tree = c.in-Ok.ensures.reads.0;
   rest = _;
   is = sym c.remaining-start.ensures.value ∙ c.octets_before.ensures ∙ ap (λ l. c.octets_before.result.now ++ l) c.remaining.ensures.value;
-  reads = c.in-Ok.ensures.reads.exact;
+  reads = c.in-Ok.ensures.reads.2.exact;
   header = subst (λ l. IsHeader l c.in_ok-header_len.header_len c.in_ok-header_len.is_indefinite) c.remaining-start.ensures.value c.in_ok-header_len.ensures;
 }
 

@@ -1,0 +1,47 @@
+-- What is read from the front of an input.
+use Rattle.std.proofs.Common.{◌≡◌, List, ℕ, [], inl, inr, Result, Ok, Err, refl, sym, subst}
+use Rattle.std.specs.Prelude.{MatchResult}
+use Rattle.rasn_types.specs.declared.types.codec.Codec.{Codec}
+use Rattle.rasn_types.specs.declared.error.decode.DecodeError.{DecodeError}
+use Rattle.rasn_types.specs.declared.error.decode.DecodeErrorKind.{DecodeErrorKind}
+use Rattle.rasn_types.specs.declared.error.decode.DecodeErrorKind.TheVariants.{OutOfMemory}
+use Rattle.rasn_types.specs.Errors.{IsOutOfMemory}
+use Rattle.rasn_types.specs.Readings.{Reading}
+use Rattle.rasn_types.specs.Shapes.{Shape, Tree}
+use Rattle.rasn_types.specs.Grammar.{Reads, top}
+use Rattle.rasn_de.specs.State.{State}
+use Rattle.rasn_de.specs.Outcomes.{Exact, Outcome, Got, refusal}
+use Rattle.rasn_de.specs.Decodes.{DecodesExactly}
+use Rattle.rasn.specs.Headline.{IsExtraData, AnsweredAlone}
+use Rattle.rasn_dynamic.specs.Entry.{IsChecked, Agree}
+use Rattle.rasn_dynamic.specs.Faults.{start}
+use Rattle.rasn_dynamic.specs.Inside.{DecodesTree}
+
+module _ (rule : Codec) (s : Shape) (input : List ℕ) (old : State) (e : old ≡ start rule input) where
+  at_front : (o : Outcome) (new : State) → DecodesExactly (λ r. Reads r s) old o new → Exact (Reads rule s 128 (top rule)) input o
+  at_front o new h = subst (λ (z : State). Exact (Reads z.rule s z.depth z.closing) z.rest o) e h.exact
+
+  pub read_first : (t : Tree) (new : State) (rest : List ℕ) → new.rest ≡ rest → DecodesTree s old (Ok t) new → Exact (Reads rule s 128 (top rule)) input (Got t rest)
+  read_first t new rest r h = subst (λ l. Exact (Reads rule s 128 (top rule)) input (Got t l)) r (at_front (Got t new.rest) new h)
+
+  pub refused_first : (k : DecodeErrorKind) (new : State) → DecodesExactly (λ r. Reads r s) old (refusal k) new → Exact (Reads rule s 128 (top rule)) input (refusal k)
+  refused_first k new h = at_front (refusal k) new h
+
+  -- What follows the value is refused.
+  pub checked : (t : Tree) (new : State) (rest : List ℕ) → new.rest ≡ rest → DecodesTree s old (Ok t) new → (r : Result (Unit {0}) DecodeError) → MatchResult r (λ u. rest ≡ []) (IsExtraData rule rest) → IsChecked rule s input r
+  checked t new rest r h (Ok u) f = (t, subst (λ l. Exact (Reads rule s 128 (top rule)) input (Got t l)) f (read_first t new rest r h))
+  checked t new rest r h (Err x) f = inr (record { t = t; rest = rest; read = read_first t new rest r h; extra = f })
+
+memory_or_none : (k : DecodeErrorKind) (R : Reading Tree) (input : List ℕ) (t : Tree) (rest : List ℕ) → Exact R input (refusal k) → R input t rest → IsOutOfMemory k
+memory_or_none OutOfMemory R input t rest h r = refl
+memory_or_none _ R input t rest h r = absurd (h t rest r)
+
+-- What is checked is read.
+module _ {T : Type 0} (rule : Codec) (s : Shape) (tree : T → Tree) (input : List ℕ) where
+  pub agrees : (r : Result (Unit {0}) DecodeError) → IsChecked rule s input r → (q : Result T DecodeError) → AnsweredAlone rule s tree input q → Agree r q
+  agrees (Ok u) h (Ok v) k = tt
+  agrees (Ok u) (t, h) (Err e) (inl k) = memory_or_none e.kind (Reads rule s 128 (top rule)) input t [] k h.0
+  agrees (Ok u) (t, h) (Err e) (inr f) = absurd (f.extra.some (sym (f.read.1 t [] h.0).1))
+  agrees (Err e) (inl k) (Ok v) h = memory_or_none e.kind (Reads rule s 128 (top rule)) input (tree v) [] k h.0
+  agrees (Err e) (inr f) (Ok v) h = absurd (f.extra.some (sym (f.read.1 (tree v) [] h.0).1))
+  agrees (Err e) h (Err d) k = tt

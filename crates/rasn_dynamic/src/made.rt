@@ -1,0 +1,80 @@
+//! What a reader makes of what it reads.
+ghost use Rattle.std.specs.Prelude.{◌≡◌, Bool, true, false, None, MatchOption, IfSome, IfOk, IfErr};
+ghost use Rattle.rasn_types.specs.Lawful.{IsLawful};
+ghost use Rattle.rasn_schema.specs.Shapes.{shape_of_type};
+ghost use Rattle.rasn_schema.specs.Trees.{tree_of};
+ghost use Rattle.rasn_schema.specs.Fitting.{Fits};
+ghost use Rattle.rasn_dynamic.specs.Inside.{DecodesTree};
+ghost use Rattle.rasn_dynamic.specs.Making.{Making};
+ghost use Rattle.rasn_dynamic.specs.Faults.{IsFaultIn, IsOnly, TellsOf};
+
+use crate::reader::decode_part;
+use crate::trace::Fault;
+use rasn_de::ber::de::Decoder;
+use rasn_schema::{Type, TypeId, Value};
+use rasn_types::error::DecodeError;
+
+/// What a reader makes of what it reads.
+pub trait Made {
+    /// Whether it makes values.
+    const KEEP: bool;
+
+    ghost KEEP: { Bool };
+
+    /// Reads a part and makes its value, if the reader itself makes none.
+    fn decode_value<'input>(
+        decoder: &mut Decoder<'input>,
+        trace: &mut Option<Fault>,
+        types: &[Type],
+        levels: usize,
+        id: TypeId,
+        index: usize,
+    ) -> Option<Result<Value<'input>, DecodeError>>
+        requires lawful { IsLawful (shape_of_type types.now levels id.0) }
+        requires clear { trace.old ≡ None }
+        ensures reads { MatchOption result ((KEEP ≡ true) × (decoder.new ≡ decoder.old) × (trace.new ≡ None)) (λ r. Making true tree_of (DecodesTree (shape_of_type types.now levels id.0)) decoder.old r decoder.new) }
+        ensures fits { IfSome result (λ r. IfOk r (λ v. Fits types.now levels id.0 v)) }
+        ensures rules { IfSome result (λ r. IfErr r (λ e. e.codec ≡ decoder.old.rule)) }
+        ensures told { IfSome result (λ r. TellsOf (IsFaultIn types.now levels (IsOnly index id.0 decoder.old) decoder.old decoder.old) r trace.new) };
+}
+
+/// Values.
+pub struct Values;
+
+/// Nothing, except of a part that has to be compared.
+pub struct Nothing;
+
+impl Made for Values {
+    const KEEP: bool = true;
+
+    ghost KEEP = { true };
+
+    #[inline(always)]
+    fn decode_value<'input>(
+        _decoder: &mut Decoder<'input>,
+        _trace: &mut Option<Fault>,
+        _types: &[Type],
+        _levels: usize,
+        _id: TypeId,
+        _index: usize,
+    ) -> Option<Result<Value<'input>, DecodeError>> {
+        None
+    }
+}
+
+impl Made for Nothing {
+    const KEEP: bool = false;
+
+    ghost KEEP = { false };
+
+    fn decode_value<'input>(
+        decoder: &mut Decoder<'input>,
+        trace: &mut Option<Fault>,
+        types: &[Type],
+        levels: usize,
+        id: TypeId,
+        index: usize,
+    ) -> Option<Result<Value<'input>, DecodeError>> {
+        Some(decode_part::<Values>(decoder, trace, types, levels, id, index))
+    }
+}
