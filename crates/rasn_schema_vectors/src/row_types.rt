@@ -37,7 +37,11 @@ pub const ROW_TYPES: &[Definition] = &[
     Definition::Leaf(LeafKind::Unsigned32, CONTEXT_1),
     Definition::Sequence(Tag::SEQUENCE, BOUNDS),
     Definition::Named(LeafKind::NamedBits, Tag::BIT_STRING, USAGES),
-    Definition::Named(LeafKind::Signed64, Tag::ENUMERATED, &[("add", 0), ("delete", 1)]),
+    Definition::Named(
+        LeafKind::Signed64,
+        Tag::ENUMERATED,
+        &[("add", 0), ("delete", 1)],
+    ),
 ];
 
 const USAGES: &[(&str, isize)] = &[("digitalSignature", 0), ("keyCertSign", 5), ("cRLSign", 6)];

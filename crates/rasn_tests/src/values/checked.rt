@@ -19,7 +19,9 @@ fn checks_an_object_identifier(rt: HostRuntime) {
 // -129 has two octets (X.690 8.3); a BMPString has two octets for each character (8.23.8).
 #[test]
 fn checks_a_number_and_units(rt: HostRuntime) {
-    const OCTETS: &[u8] = &[0x02, 0x02, 0xFF, 0x7F, 0x1E, 0x02, 0x00, 0x41, 0x1E, 0x01, 0x00];
+    const OCTETS: &[u8] = &[
+        0x02, 0x02, 0xFF, 0x7F, 0x1E, 0x02, 0x00, 0x41, 0x1E, 0x01, 0x00,
+    ];
     const ODD: &str = "StringConversionFailed { tag: Tag { class: Universal, value: 30 } }";
     let mut decoder = decoder_of(rt.alloc(), OCTETS, Codec::Der);
     let number = decoder.check_integer(Tag::INTEGER, &Constraints::NONE);
