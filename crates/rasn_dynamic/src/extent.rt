@@ -125,7 +125,7 @@ pub fn go_outside(extents: &mut Extents<'_>, after: usize)
 
 /// Returns the list.
 pub fn list_of<'input>(extents: Extents<'input>) -> Option<Vec<Extent<'input>>>
-    ensures { result ≡ extents.list }
+    ensures { result ≡ extents.entry.list }
 {
     extents.list
 }
