@@ -47,7 +47,7 @@ first : (element : TypeId) → Leads (list_alone element) (0 ∷ []) 1 0 (start 
 unfolding Leads
 first element = (0, refl, _, refl, inside_one, (list_of the_element, one_opened, refl), element.0, inside_one, (refl, [], refl, refl, not_ended), refl, IsEnd-refl the_element, (refl, refl, refl))
 
-no_more : (read : Call Tree) (ts : List Tree) (inner here : State) → length ts ≡ 0 → DecodesInTurn read inner vs here → here ≡ inner
+no_more : (read : Call Tree) (ts : List Tree) (inner here : State) → length ts ≡ 0 → DecodesInTurn read inner ts here → here ≡ inner
 no_more read [] inner here e d = d
 no_more read (t ∷ ts) inner here e d = absurd (omega (arith, e))
 
