@@ -173,7 +173,7 @@ module _ (types : List «Type») where
   -- ---- contents
 
   -- what follows contents, as far as it is known
-  abbrev after : Extent → List ℕ → List ℕ
+  abbrev pub after : Extent → List ℕ → List ℕ
   after (definite c) rest = rest
   after indefinite rest = []
 
@@ -187,7 +187,7 @@ module _ (types : List «Type») where
       let p = constructed_header_parsed d s.rule s.depth s.rest h e in
       frame_within (form s.rule) s.rest h.rest (header_parsed (form s.rule) (expected_header d s.rule) s.rest h (o p.0) p.1).0
 
-  after_length : (x : Extent) (rest : List ℕ) → length (after x rest) ≡ octets_after (is_indefinite_extent x) (length rest)
+  pub after_length : (x : Extent) (rest : List ℕ) → length (after x rest) ≡ octets_after (is_indefinite_extent x) (length rest)
   after_length (definite c) rest = refl
   after_length indefinite rest = refl
 

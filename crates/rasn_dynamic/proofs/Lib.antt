@@ -22,3 +22,6 @@ pub mod Parts
 pub mod Worked
 pub mod Ways
 pub mod Checked
+pub mod Listed
+pub mod Placed
+pub mod WorkedParts

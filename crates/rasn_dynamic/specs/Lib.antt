@@ -9,5 +9,8 @@ pub mod Found
 pub mod Faults
 pub mod Paths
 pub mod Parts
+pub mod Listed
+pub mod Walk
 pub mod Worked
 pub mod Steps
+pub mod WorkedParts

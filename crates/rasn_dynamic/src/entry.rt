@@ -12,6 +12,7 @@ ghost use Rattle.rasn_enc.specs.Primitive.{IsAllocError};
 ghost use Rattle.rasn_schema.specs.Trees.{tree_of};
 ghost use Rattle.rasn_dynamic.specs.Entry.{IsEncoded, IsNotEncoded, FailsIfFits, NamesRules, IsReadBack, IsNormalOf, IsNoNormalOf, FitsType, IsChecked, Agree, shape_of};
 
+use crate::extent::no_list;
 use crate::made::{Nothing, Values};
 use crate::path::ValuePath;
 use crate::reader::decode_at;
@@ -43,7 +44,14 @@ pub fn decode_with_remainder<'input>(
     ensures rules { IfErr result (λ e. e.codec ≡ rule) }
 {
     let mut decoder = Decoder::new(alloc, input, DecoderOptions::of(rule));
-    let value = decode_at::<Values>(&mut decoder, &mut None, schema.types(), usize::MAX, id)?;
+    let value = decode_at::<Values>(
+        &mut decoder,
+        &mut None,
+        &mut no_list(),
+        schema.types(),
+        usize::MAX,
+        id,
+    )?;
     Ok((value, decoder.remaining()))
 }
 
@@ -85,7 +93,14 @@ pub fn check(
     ensures rules { IfErr result (λ e. e.codec ≡ rule) }
 {
     let mut decoder = Decoder::new(alloc, input, DecoderOptions::of(rule));
-    let value = decode_at::<Nothing>(&mut decoder, &mut None, schema.types(), usize::MAX, id)?;
+    let value = decode_at::<Nothing>(
+        &mut decoder,
+        &mut None,
+        &mut no_list(),
+        schema.types(),
+        usize::MAX,
+        id,
+    )?;
     drop(value);
     refuse_remainder(rule, decoder.remaining())
 }

@@ -8,6 +8,7 @@ ghost use Rattle.rasn_dynamic.specs.Faults.{IsAlternativeAt, IsComponentAt, IsMe
 ghost use Rattle.rasn_dynamic.specs.Parts.{IsSeen, LacksAlternative, IsAbsentHere, LacksComponent, LacksMember, LacksElement, LacksPart, IsEntered, LacksPartAt, LacksPath, IsReadHere, IsPartAt, IsHeaderOf, PassesBy, PassesPresent, PassesElement};
 
 use crate::components::{is_always_there, leaves_all_out};
+use crate::extent::no_list;
 use crate::locate::check_or_locate;
 use crate::made::Nothing;
 use crate::order::octets_before;
@@ -116,7 +117,15 @@ fn pass_component(
     ensures { OnOk result (PassesBy (ReadsComponent (presence_in (shape_of_type types.now below) component.now) (shape_of_type types.now below component.now.type_id.0)) decoder.old decoder.new) }
 {
     let mut trace = None;
-    match decode_component::<Nothing>(decoder, &mut trace, types, below, component, 0) {
+    match decode_component::<Nothing>(
+        decoder,
+        &mut trace,
+        &mut no_list(),
+        types,
+        below,
+        component,
+        0,
+    ) {
         Ok(value) => {
             drop(value);
             Ok(())
@@ -174,7 +183,15 @@ fn pass_member(
 {
     let left = decoder.remaining().len();
     let mut trace = None;
-    match decode_present::<Nothing>(decoder, &mut trace, types, below, component, 0) {
+    match decode_present::<Nothing>(
+        decoder,
+        &mut trace,
+        &mut no_list(),
+        types,
+        below,
+        component,
+        0,
+    ) {
         Ok(value) => {
             drop(value);
             check_taken(decoder, left)
@@ -219,7 +236,7 @@ fn pass_element(
 {
     let left = decoder.remaining().len();
     let mut trace = None;
-    match decode_at::<Nothing>(decoder, &mut trace, types, below, element) {
+    match decode_at::<Nothing>(decoder, &mut trace, &mut no_list(), types, below, element) {
         Ok(value) => {
             drop(value);
             check_taken(decoder, left)
@@ -344,6 +361,7 @@ fn read_part<'input>(place: &mut Place<'input>, types: &[Type]) -> Result<Part<'
     match decode_at::<Nothing>(
         &mut place.decoder,
         &mut trace,
+        &mut no_list(),
         types,
         place.levels,
         place.id,

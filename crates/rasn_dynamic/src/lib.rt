@@ -5,10 +5,12 @@
 
 mod components;
 mod entry;
+mod extent;
 mod facts;
 mod find;
 mod locate;
 mod made;
+mod message;
 mod order;
 mod part;
 mod path;
@@ -25,9 +27,11 @@ mod writer;
 pub use entry::{
     WriteError, check, decode, decode_with_remainder, encode, encode_buf, is_canonical, normalise,
 };
-pub use facts::worked_places;
+pub use extent::Extent;
+pub use facts::{worked_parts, worked_places};
 pub use find::find_part;
 pub use locate::{check_or_locate, decode_or_locate};
+pub use message::{MessageParts, parts_of};
 pub use part::Part;
 pub use path::ValuePath;
 pub use rasn::NormaliseError;

@@ -6,6 +6,7 @@ ghost use Rattle.rasn_dynamic.specs.Entry.{FitsType, IsCheckedUpTo, shape_of};
 ghost use Rattle.rasn_dynamic.specs.Faults.{IsLocated, IsRefusalOf, unlocated};
 ghost use Rattle.rasn_dynamic.specs.declared.trace.Fault.{Fault};
 
+use crate::extent::no_list;
 use crate::made::{Nothing, Values};
 use crate::reader::decode_at;
 use crate::refusal::Refusal;
@@ -17,7 +18,7 @@ use rasn_types::types::Codec;
 use std::alloc::Global;
 
 /// Returns the refusal of an input of so many octets.
-fn refusal_of(
+pub(crate) fn refusal_of(
     alloc: Global,
     error: DecodeError,
     trace: Option<Fault>,
@@ -67,7 +68,14 @@ pub fn decode_or_locate<'input>(
 {
     let mut decoder = Decoder::new(alloc, input, DecoderOptions::of(rule));
     let mut trace = None;
-    match decode_at::<Values>(&mut decoder, &mut trace, schema.types(), usize::MAX, id) {
+    match decode_at::<Values>(
+        &mut decoder,
+        &mut trace,
+        &mut no_list(),
+        schema.types(),
+        usize::MAX,
+        id,
+    ) {
         Ok(value) => Ok((value, decoder.remaining())),
         Err(error) => Err(refusal_of(alloc, error, trace, id, input.len())),
     }
@@ -90,7 +98,14 @@ pub fn check_or_locate<'input>(
 {
     let mut decoder = Decoder::new(alloc, input, DecoderOptions::of(rule));
     let mut trace = None;
-    match decode_at::<Nothing>(&mut decoder, &mut trace, schema.types(), usize::MAX, id) {
+    match decode_at::<Nothing>(
+        &mut decoder,
+        &mut trace,
+        &mut no_list(),
+        schema.types(),
+        usize::MAX,
+        id,
+    ) {
         Ok(value) => {
             drop(value);
             Ok(decoder.remaining())

@@ -7,7 +7,9 @@ ghost use Rattle.rasn_schema.specs.Fitting.{Fits};
 ghost use Rattle.rasn_dynamic.specs.Inside.{DecodesTree};
 ghost use Rattle.rasn_dynamic.specs.Making.{Making};
 ghost use Rattle.rasn_dynamic.specs.Faults.{IsFaultIn, IsOnly, TellsOf};
+ghost use Rattle.rasn_dynamic.specs.Listed.{Lists, Inside, PartListed};
 
+use crate::extent::Extents;
 use crate::reader::decode_part;
 use crate::trace::Fault;
 use rasn_de::ber::de::Decoder;
@@ -25,6 +27,7 @@ pub trait Made {
     fn decode_value<'input>(
         decoder: &mut Decoder<'input>,
         trace: &mut Option<Fault>,
+        extents: &mut Extents<'input>,
         types: &[Type],
         levels: usize,
         id: TypeId,
@@ -35,7 +38,8 @@ pub trait Made {
         ensures reads { MatchOption result ((KEEP ≡ true) × (decoder.new ≡ decoder.old) × (trace.new ≡ None)) (λ r. Making true tree_of (DecodesTree (shape_of_type types.now levels id.0)) decoder.old r decoder.new) }
         ensures fits { IfSome result (λ r. IfOk r (λ v. Fits types.now levels id.0 v)) }
         ensures rules { IfSome result (λ r. IfErr r (λ e. e.codec ≡ decoder.old.rule)) }
-        ensures told { IfSome result (λ r. TellsOf (IsFaultIn types.now levels (IsOnly index id.0 decoder.old) decoder.old decoder.old) r trace.new) };
+        ensures told { IfSome result (λ r. TellsOf (IsFaultIn types.now levels (IsOnly index id.0 decoder.old) decoder.old decoder.old) r trace.new) }
+        ensures listed { MatchOption result (extents.new ≡ extents.old) (λ r. IfOk r (λ v. Lists (λ b es. PartListed (shape_of_type types.now levels) levels (Inside types.now levels) id.0 index b decoder.old decoder.new es) extents.old extents.new)) };
 }
 
 /// Values.
@@ -53,6 +57,7 @@ impl Made for Values {
     fn decode_value<'input>(
         _decoder: &mut Decoder<'input>,
         _trace: &mut Option<Fault>,
+        _extents: &mut Extents<'input>,
         _types: &[Type],
         _levels: usize,
         _id: TypeId,
@@ -70,11 +75,12 @@ impl Made for Nothing {
     fn decode_value<'input>(
         decoder: &mut Decoder<'input>,
         trace: &mut Option<Fault>,
+        extents: &mut Extents<'input>,
         types: &[Type],
         levels: usize,
         id: TypeId,
         index: usize,
     ) -> Option<Result<Value<'input>, DecodeError>> {
-        Some(decode_part::<Values>(decoder, trace, types, levels, id, index))
+        Some(decode_part::<Values>(decoder, trace, extents, types, levels, id, index))
     }
 }

@@ -51,6 +51,11 @@ use Rattle.rasn_dynamic.proofs.Pieces.{got_below, first_of_part, part_lawful, no
 use Rattle.rasn_dynamic.proofs.Component.{next_unpeeked, next_unknown, next_unread, next_idle, next_put, member_shorter}
 use Rattle.rasn_dynamic.proofs.Parts.{shorter}
 use Rattle.rasn_dynamic.proofs.reader.+decode.Goals.{decode_elements_in_order-else-is_strict-via-then-is_strict+else-is_less, decode_elements_in_order-else-is_strict-via-else-is_strict}
+use Rattle.rasn_dynamic.specs.Listed.{Lists, Inside, PartListed, ComponentAt, MemberListed}
+use Rattle.rasn_de.specs.Constructed.{list_header}
+use Rattle.rasn_dynamic.specs.declared.extent.Extents.{Extents}
+use Rattle.std.specs.Prelude.{IfOk}
+use Rattle.rasn_dynamic.proofs.Listed.{if_any, lists_start, lists_more, part_listed, value_listed, none_listed, choice_listed, alternative_listed, holder_listed, inside_listed, tagged_listed, elements_listed, component_present, component_absent, component_more, components_left_out, components_listed, member_listed, members_listed, header_listed, contents_same, components_same, members_same}
 use Rattle.rasn_dynamic.proofs.reader.+decode.Goals as goal
 use Rattle.rasn_de.specs.SequenceOf.{DecodesSized}
 use Rattle.rasn_de.specs.Set.{not_read}
@@ -256,6 +261,7 @@ decode_elements-loop-element-preserved g t c =
       ),
       (λ k. each_more (Fits c.args.types.now c.args.below c.args.element.0) c.loop-element.values.items _ c.in_ok-value.value (c.in_ok-keep.ensures.kept.0 k) (c.loop-element.invariant.1 k) (c.in_ok-value.ensures.fits k)),
       c.in_ok-value.ensures.told,
+      lists_more (λ b k. PartListed (shape_of_type c.args.types.now c.args.below) c.args.below (Inside c.args.types.now c.args.below) c.args.element.0 k b) c.loop-element.count c.args.decoder.now c.loop-element.decoder _ _ _ _ c.loop-element.invariant.3 c.in_ok-value.ensures.listed,
     )
 
 pub decode_elements-returns-in_err-keep-clause-reads : goal.decode_elements-returns-in_err-keep-clause-reads
@@ -299,7 +305,7 @@ decode_elements-overflow_add-count g t c =
     omega (arith, l, n, m, c.octets_left.ensures, c.octets_left.type_inv)
 
 pub decode_elements-loop-element-init : goal.decode_elements-loop-element-init
-decode_elements-loop-element-init g t c = rw c.new-values.ensures.items (([], (λ k. refl), c.requires.counts, refl), (λ k. tt), c.requires.clear)
+decode_elements-loop-element-init g t c = rw c.new-values.ensures.items (([], (λ k. refl), c.requires.counts, refl), (λ k. tt), c.requires.clear, lists_start (λ b k. PartListed (shape_of_type c.args.types.now c.args.below) c.args.below (Inside c.args.types.now c.args.below) c.args.element.0 k b) _ c.args.decoder.now _ c.requires.counts)
 
 pub decode_elements-returns-clause-told : goal.decode_elements-returns-clause-told
 decode_elements-returns-clause-told g t c = c.loop-element.invariant.2
@@ -317,7 +323,7 @@ pub decode_elements-returns-in_err-keep-clause-rules : goal.decode_elements-retu
 decode_elements-returns-in_err-keep-clause-rules g t c = rw (residual _ c.from_residual-in_err-keep.ensures.1) (c.in_err-keep.ensures.rules ∙ same_rules c.in_ok-value.ensures.reads.2.stays ∙ turn_rules (shape_of_type c.args.types.now c.args.below c.args.element.0) (λ (z : Tree). z) _ _ _ c.loop-element.invariant.0.3)
 
 pub decode_elements_in_order-loop-last-init : goal.decode_elements_in_order-loop-last-init
-decode_elements_in_order-loop-last-init g t c = rw c.new-values.ensures.items (([], [], (λ k. refl), c.requires.counts, (refl, refl), (λ strict. tt), refl), (λ k. tt), c.requires.clear)
+decode_elements_in_order-loop-last-init g t c = rw c.new-values.ensures.items (([], [], (λ k. refl), c.requires.counts, (refl, refl), (λ strict. tt), refl), (λ k. tt), c.requires.clear, lists_start (λ b k. PartListed (shape_of_type c.args.types.now c.args.below) c.args.below (Inside c.args.types.now c.args.below) c.args.element.0 k b) _ c.args.decoder.now _ c.requires.counts)
 
 pub decode_elements_in_order-returns-clause-told : goal.decode_elements_in_order-returns-clause-told
 decode_elements_in_order-returns-clause-told g t c = c.loop-last.invariant.2
@@ -420,6 +426,7 @@ decode_elements_in_order-loop-last-preserved g t c =
       ),
       (λ q. each_more (Fits c.args.types.now c.args.below c.args.element.0) c.loop-last.values.items _ c.in_ok-value.value (c.in_ok-keep.ensures.kept.0 q) (c.loop-last.invariant.1 q) (c.in_ok-value.ensures.fits q)),
       c.in_ok-value.ensures.told,
+      lists_more (λ b k. PartListed (shape_of_type c.args.types.now c.args.below) c.args.below (Inside c.args.types.now c.args.below) c.args.element.0 k b) c.loop-last.count c.args.decoder.now c.loop-last.decoder _ _ _ _ c.loop-last.invariant.3 c.in_ok-value.ensures.listed,
     )
 
 pub decode_elements_in_order-returns-in_err-value-clause-rules : goal.decode_elements_in_order-returns-in_err-value-clause-rules
@@ -720,7 +727,7 @@ pub decode_sequence-returns-then-leaves_all_out-clause-fits : goal.decode_sequen
 decode_sequence-returns-then-leaves_all_out-clause-fits g t c = λ k. all_left_fit (Fits c.args.types.now c.args.below) c.args.components.now _ (c.all_absent.ensures.settled k)
 
 pub decode_sequence-loop-rest-init : goal.decode_sequence-loop-rest-init
-decode_sequence-loop-rest-init g t c = rw c.in_ok-values.ensures.ok (([], (λ k. refl), parts_start _ _), c.requires.lawful, (λ k us h. h), c.requires.clear, [], refl, refl)
+decode_sequence-loop-rest-init g t c = rw c.in_ok-values.ensures.ok (([], (λ k. refl), parts_start _ _), c.requires.lawful, (λ k us h. h), c.requires.clear, [], refl, refl, lists_start (λ b. ComponentAt (shape_of_type c.args.types.now c.args.below) c.args.below (Inside c.args.types.now c.args.below) c.args.components.now b) _ c.args.decoder.now _ refl)
 
 pub decode_sequence-overflow_sub-index : goal.decode_sequence-overflow_sub-index
 decode_sequence-overflow_sub-index g t c =
@@ -757,6 +764,10 @@ decode_sequence-loop-rest-preserved g t c =
       c.loop-rest.invariant.4 ++ c.component-item.result ∷ [],
       c.loop-rest.invariant.5 ∙ ap (λ l. c.loop-rest.invariant.4 ++ l) at ∙ sym (append_assoc c.loop-rest.invariant.4 (c.component-item.result ∷ []) _),
       one_part_more (shape_of_type c.args.types.now c.args.below) c.loop-rest.invariant.4 c.component-item.result c.args.decoder.now c.loop-rest.decoder _ w.0 c.loop-rest.invariant.6 w.2,
+      component_more (shape_of_type c.args.types.now c.args.below) c.args.below (Inside c.args.types.now c.args.below) c.args.components.now c.loop-rest.invariant.4 _ c.component-item.result (length c.args.components.now - length c.loop-rest.rest.now) c.args.decoder.now c.loop-rest.decoder _ _ _ _
+          (c.loop-rest.invariant.5 ∙ ap (λ z. c.loop-rest.invariant.4 ++ z) at)
+          (let len : length c.args.components.now ≡ length c.loop-rest.invariant.4 + length c.loop-rest.rest.now = ap length c.loop-rest.invariant.5 ∙ length-append c.loop-rest.invariant.4 c.loop-rest.rest.now in omega (arith, len))
+          c.loop-rest.invariant.7 c.in_ok-value.ensures.listed,
     )
 
 pub decode_sequence-returns-clause-reads : goal.decode_sequence-returns-clause-reads
@@ -802,6 +813,8 @@ decode_set-loop-last-init g t c = (
   ),
   nones_fit _ c.args.components.now _ c.requires.1.1.1.1.0,
   c.requires.1.1.1.1.1,
+  0,
+  lists_start (λ b k. MemberListed (shape_of_type c.args.types.now c.args.below) c.args.below (Inside c.args.types.now c.args.below) c.args.components.now b) 0 c.args.decoder.now _ refl,
 )
 
 pub decode_set-loop-last-smaller : goal.decode_set-loop-last-smaller
@@ -829,6 +842,8 @@ decode_set-loop-last-preserved g t c =
       (w.0, w.1, rw c.or-twice.ensures (next_passes (components_by (shape_of_type c.args.types.now c.args.below) c.args.components.now) _ c.args.decoder.now at.decoder at.last at.twice _ i.2 c.loop-last-test.ensures _ c.in_ok-last.ensures _ _ _ w.2)),
       c.in_ok-next.ensures.found,
       c.in_ok-next.ensures.told,
+      at.invariant.3 + 1,
+      lists_more (λ b k. MemberListed (shape_of_type c.args.types.now c.args.below) c.args.below (Inside c.args.types.now c.args.below) c.args.components.now b) at.invariant.3 c.args.decoder.now at.decoder _ _ _ _ at.invariant.4 c.in_ok-next.ensures.listed,
     )
 
 pub decode_set-returns-in-Some-clause-exact : goal.decode_set-returns-in-Some-clause-exact
@@ -1286,3 +1301,119 @@ decode_set_component-returns-then-remaining-left-clause-itself g t c =
       c.in-Some.ensures.0,
       inr (w.0, _, w.2.0, sym (ap length c.remaining.ensures.value) ∙ c.if-remaining-left.true ∙ ap length c.remaining-left.ensures.value),
     ))
+
+-- ---- the parts that are listed
+
+pub decode_part-returns-in-Ok-clause-listed : goal.decode_part-returns-in-Ok-clause-listed
+decode_part-returns-in-Ok-clause-listed g t c =
+    let w = c.in-Ok.ensures.reads in
+    part_listed c.args.types.now c.args.levels c.args.id c.args.index _ _ _ c.args.decoder.now _ _ _ _ _ w.0 c.remaining.ensures.value c.remaining-in-Ok.ensures.value c.note-place.ensures c.in-Ok.ensures.listed c.finish.ensures w.2
+
+pub decode_found-returns-in-Some-clause-listed : goal.decode_found-returns-in-Some-clause-listed
+decode_found-returns-in-Some-clause-listed g t c =
+    if_ok _ _ _ (λ v. value_listed c.args.types.now c.args.levels (c.args.levels - 1) c.args.id.0 c.in-Some.ty.now c.args.decoder.now _ _ (let n = c.if-levels-eq0.false in omega arith) (sym c.in-Some.ensures)) c.decode_type.ensures.listed
+
+pub decode_type-returns-in-Leaf-clause-listed : goal.decode_type-returns-in-Leaf-clause-listed
+decode_type-returns-in-Leaf-clause-listed g t c = if_any _ (none_listed (shape_of_type c.args.types.now c.args.below) c.args.below (Inside c.args.types.now c.args.below) c.args.ty.now c.args.decoder.now _ (rw c.in-Leaf.is tt))
+
+pub decode_type-returns-in-Enumerated-clause-listed : goal.decode_type-returns-in-Enumerated-clause-listed
+decode_type-returns-in-Enumerated-clause-listed g t c = if_any _ (none_listed (shape_of_type c.args.types.now c.args.below) c.args.below (Inside c.args.types.now c.args.below) c.args.ty.now c.args.decoder.now _ (rw c.in-Enumerated.is tt))
+
+pub decode_type-returns-in-Any-clause-listed : goal.decode_type-returns-in-Any-clause-listed
+decode_type-returns-in-Any-clause-listed g t c = if_any _ (none_listed (shape_of_type c.args.types.now c.args.below) c.args.below (Inside c.args.types.now c.args.below) c.args.ty.now c.args.decoder.now _ (rw c.in-Any.is tt))
+
+pub decode_type-returns-in-Choice-clause-listed : goal.decode_type-returns-in-Choice-clause-listed
+decode_type-returns-in-Choice-clause-listed g t c =
+    if_ok _ _ _ (λ v. choice_listed (shape_of_type c.args.types.now c.args.below) c.args.below (Inside c.args.types.now c.args.below) c.args.ty.now c.deref-in-Choice.result.now c.args.decoder.now _ _ (rw c.in-Choice.is c.deref-in-Choice.ensures.value)) c.decode_choice.ensures.listed
+
+pub decode_type-returns-in-Tagged-clause-listed : goal.decode_type-returns-in-Tagged-clause-listed
+decode_type-returns-in-Tagged-clause-listed g t c = if_ok _ _ _ (λ v. holder_listed (shape_of_type c.args.types.now c.args.below) c.args.below (Inside c.args.types.now c.args.below) c.args.ty.now c.prefix.result c.args.decoder.now _ _ (rw c.in-Tagged.is c.prefix.ensures)) c.decode_inside.ensures.listed
+
+pub decode_type-returns-in-Sequence-clause-listed : goal.decode_type-returns-in-Sequence-clause-listed
+decode_type-returns-in-Sequence-clause-listed g t c =
+    if_ok _ _ _ (λ v. holder_listed (shape_of_type c.args.types.now c.args.below) c.args.below (Inside c.args.types.now c.args.below) c.args.ty.now c.sequence.result c.args.decoder.now _ _ (rw c.in-Sequence.is c.sequence.ensures)) c.decode_inside-in-Sequence.ensures.listed
+
+pub decode_type-returns-in-Set-clause-listed : goal.decode_type-returns-in-Set-clause-listed
+decode_type-returns-in-Set-clause-listed g t c =
+    if_ok _ _ _ (λ v. holder_listed (shape_of_type c.args.types.now c.args.below) c.args.below (Inside c.args.types.now c.args.below) c.args.ty.now c.sequence-in-Set.result c.args.decoder.now _ _ (rw c.in-Set.is c.sequence-in-Set.ensures)) c.decode_inside-in-Set.ensures.listed
+
+pub decode_type-returns-in-SequenceOf-clause-listed : goal.decode_type-returns-in-SequenceOf-clause-listed
+decode_type-returns-in-SequenceOf-clause-listed g t c =
+    if_ok _ _ _ (λ v. holder_listed (shape_of_type c.args.types.now c.args.below) c.args.below (Inside c.args.types.now c.args.below) c.args.ty.now (list_header c.in-SequenceOf.tag) c.args.decoder.now _ _ (rw c.in-SequenceOf.is refl)) c.decode_list.ensures.listed
+
+pub decode_type-returns-in-SetOf-clause-listed : goal.decode_type-returns-in-SetOf-clause-listed
+decode_type-returns-in-SetOf-clause-listed g t c =
+    if_ok _ _ _ (λ v. holder_listed (shape_of_type c.args.types.now c.args.below) c.args.below (Inside c.args.types.now c.args.below) c.args.ty.now (list_header c.in-SetOf.tag) c.args.decoder.now _ _ (rw c.in-SetOf.is refl)) c.decode_list-in-SetOf.ensures.listed
+
+pub decode_choice-returns-clause-listed : goal.decode_choice-returns-clause-listed
+decode_choice-returns-clause-listed g t c =
+    let el = get_or c.args.alternatives.now c.in-Some.number c.index-alternatives-number.result in
+    let at : Some el ≡ slice_get c.args.alternatives.now c.in-Some.number = subst (λ (a : Alternative). Some a ≡ slice_get c.args.alternatives.now c.in-Some.number) c.index-alternatives-number.is
+    (read_at c.args.alternatives.now c.in-Some.number c.index-alternatives-number.result (slice_get_within c.args.alternatives.now c.in-Some.number c.in-Some.ensures.0 (sym c.in-Some.ensures.1)) c.index-alternatives-number.is) in
+    if_any _ (alternative_listed (shape_of_type c.args.types.now c.args.below) c.args.below (Inside c.args.types.now c.args.below) c.args.alternatives.now c.in-Some.number el c.args.decoder.now _ _ _ at c.in_ok-value.ensures.listed)
+
+pub decode_list-returns-clause-listed : goal.decode_list-returns-clause-listed
+decode_list-returns-clause-listed g t c =
+    header_listed (shape_of_type c.args.types.now c.args.below) c.args.below (Inside c.args.types.now c.args.below) c.list.result (list_header c.args.tag) c.args.ty.now c.args.decoder.now _ _ c.list.ensures c.in_ok-value.ensures.listed
+
+pub decode_inside-returns-clause-listed : goal.decode_inside-returns-clause-listed
+decode_inside-returns-clause-listed g t c =
+    inside_listed (shape_of_type c.args.types.now c.args.below) c.args.below (Inside c.args.types.now c.args.below) c.args.ty.now c.args.header c.args.decoder.now _ _ _ _ _ _ _ _ c.in_ok-inner.ensures.exact c.go_inside-after.ensures c.in-Ok.ensures.listed c.go_outside.ensures
+
+pub decode_contents-returns-in-Tagged-clause-listed : goal.decode_contents-returns-in-Tagged-clause-listed
+decode_contents-returns-in-Tagged-clause-listed g t c =
+    if_ok _ _ _ (λ v. tagged_listed (shape_of_type c.args.types.now c.args.below) c.args.below (Inside c.args.types.now c.args.below) c.args.ty.now c.in-Tagged.inner.0 c.args.decoder.now _ _ _ (rw c.in-Tagged.is refl)) c.decode_part.ensures.listed
+
+pub decode_contents-returns-in_ok-values-in-Sequence-clause-listed : goal.decode_contents-returns-in_ok-values-in-Sequence-clause-listed
+decode_contents-returns-in_ok-values-in-Sequence-clause-listed g t c =
+    contents_same (shape_of_type c.args.types.now c.args.below) c.args.below (Inside c.args.types.now c.args.below) c.args.ty.now _ c.args.decoder.now _ _ c.in-Sequence.is (components_same (shape_of_type c.args.types.now c.args.below) c.args.below (Inside c.args.types.now c.args.below) _ _ c.args.decoder.now _ _ c.deref.ensures.value c.in_ok-values-in-Sequence.ensures.listed)
+
+pub decode_contents-returns-in_ok-values-in-Set-clause-listed : goal.decode_contents-returns-in_ok-values-in-Set-clause-listed
+decode_contents-returns-in_ok-values-in-Set-clause-listed g t c =
+    contents_same (shape_of_type c.args.types.now c.args.below) c.args.below (Inside c.args.types.now c.args.below) c.args.ty.now _ c.args.decoder.now _ _ c.in-Set.is (members_same (shape_of_type c.args.types.now c.args.below) c.args.below (Inside c.args.types.now c.args.below) _ _ c.args.decoder.now _ _ c.deref-in-Set-2.ensures.value c.in_ok-values-in-Set.ensures.listed)
+
+pub decode_contents-returns-in_ok-values-in-SequenceOf-clause-listed : goal.decode_contents-returns-in_ok-values-in-SequenceOf-clause-listed
+decode_contents-returns-in_ok-values-in-SequenceOf-clause-listed g t c = contents_same (shape_of_type c.args.types.now c.args.below) c.args.below (Inside c.args.types.now c.args.below) c.args.ty.now _ c.args.decoder.now _ _ c.in-SequenceOf.is c.in_ok-values-in-SequenceOf.ensures.listed
+
+pub decode_contents-returns-in_ok-values-in-SetOf-clause-listed : goal.decode_contents-returns-in_ok-values-in-SetOf-clause-listed
+decode_contents-returns-in_ok-values-in-SetOf-clause-listed g t c = contents_same (shape_of_type c.args.types.now c.args.below) c.args.below (Inside c.args.types.now c.args.below) c.args.ty.now _ c.args.decoder.now _ _ c.in-SetOf.is c.in_ok-values-in-SetOf.ensures.listed
+
+pub decode_elements-returns-clause-listed : goal.decode_elements-returns-clause-listed
+decode_elements-returns-clause-listed g t c = elements_listed (shape_of_type c.args.types.now c.args.below) c.args.below (Inside c.args.types.now c.args.below) c.args.element.0 c.loop-element.count c.args.decoder.now c.loop-element.decoder _ _ c.loop-element-test.ensures c.loop-element.invariant.3
+
+pub decode_elements_in_order-returns-clause-listed : goal.decode_elements_in_order-returns-clause-listed
+decode_elements_in_order-returns-clause-listed g t c = elements_listed (shape_of_type c.args.types.now c.args.below) c.args.below (Inside c.args.types.now c.args.below) c.args.element.0 c.loop-last.count c.args.decoder.now c.loop-last.decoder _ _ c.loop-last-test.ensures c.loop-last.invariant.3
+
+pub decode_sequence-returns-then-leaves_all_out-clause-listed : goal.decode_sequence-returns-then-leaves_all_out-clause-listed
+decode_sequence-returns-then-leaves_all_out-clause-listed g t c = if_any _ (components_left_out (shape_of_type c.args.types.now c.args.below) c.args.below (Inside c.args.types.now c.args.below) c.args.components.now c.args.decoder.now _ c.if-leaves_all_out.ensures)
+
+pub decode_sequence-returns-clause-listed : goal.decode_sequence-returns-clause-listed
+decode_sequence-returns-clause-listed g t c =
+    components_listed (shape_of_type c.args.types.now c.args.below) c.args.below (Inside c.args.types.now c.args.below) c.args.components.now c.loop-rest.invariant.4 c.loop-rest.rest.now c.args.decoder.now c.loop-rest.decoder _ _ c.loop-rest.invariant.5 (nothing_left _ c.in_default.len_below) c.loop-rest.invariant.7
+
+pub decode_component-returns-then-is_always_there-clause-listed : goal.decode_component-returns-then-is_always_there-clause-listed
+decode_component-returns-then-is_always_there-clause-listed g t c = if_ok _ _ _ (λ v. component_present (shape_of_type c.args.types.now c.args.below) c.args.below (Inside c.args.types.now c.args.below) c.args.component.now c.args.index c.args.decoder.now _ _ _) c.decode_present.ensures.listed
+
+pub decode_component-returns-in-Ok-true-clause-listed : goal.decode_component-returns-in-Ok-true-clause-listed
+decode_component-returns-in-Ok-true-clause-listed g t c = if_ok _ _ _ (λ v. component_present (shape_of_type c.args.types.now c.args.below) c.args.below (Inside c.args.types.now c.args.below) c.args.component.now c.args.index c.args.decoder.now _ _ _) c.decode_present-in-Ok-true.ensures.listed
+
+pub decode_component-returns-in-Ok-false-clause-listed : goal.decode_component-returns-in-Ok-false-clause-listed
+decode_component-returns-in-Ok-false-clause-listed g t c =
+    let w = c.in-Ok-false.field-0-test in
+    let h : c.in-Ok-false.field-0 ≡ false = cc in
+    let s = shape_of_type c.args.types.now c.args.below c.args.component.now.type_id.0 in
+    if_any _ (component_absent (shape_of_type c.args.types.now c.args.below) c.args.below (Inside c.args.types.now c.args.below) c.args.component.now c.args.index c.args.decoder.now _
+    (c.if-is_always_there.ensures, subst (λ b. NextIs (sought_by (key_of s) s) c.args.decoder.now (Ok b)) h c.in-Ok-false.ensures))
+
+pub decode_set-returns-clause-listed : goal.decode_set-returns-clause-listed
+decode_set-returns-clause-listed g t c =
+    if_any _ (members_listed (shape_of_type c.args.types.now c.args.below) c.args.below (Inside c.args.types.now c.args.below) c.args.components.now c.loop-last.invariant.3 c.args.decoder.now c.loop-last.decoder _ _ c.loop-last-test.ensures c.loop-last.invariant.4)
+
+pub decode_set_component-returns-clause-listed : goal.decode_set_component-returns-clause-listed
+decode_set_component-returns-clause-listed g t c = member_listed (shape_of_type c.args.types.now c.args.below) c.args.below (Inside c.args.types.now c.args.below) c.args.components.now c.in-Some.number c.in-Some.component.now c.args.decoder.now _ _ _ c.in-Some.ensures.0 c.in_ok-value.ensures.listed
+
+pub decode_compared-returns-in-None-clause-listed : goal.decode_compared-returns-in-None-clause-listed
+decode_compared-returns-in-None-clause-listed g t c =
+    let w = c.in-None.ensures.reads in
+    let P : State → Extents → Type 0 = λ z o. IfOk c.decode_part.result (λ v. Lists (λ b es. PartListed (shape_of_type c.args.types.now c.args.levels) c.args.levels (Inside c.args.types.now c.args.levels) c.args.id.0 c.args.index b z c.decode_part.new.decoder es) o c.decode_part.new.extents) in
+    subst (λ o. P c.args.decoder.now o) c.in-None.ensures.listed (subst (λ z. P z c.decode_value.new.extents) w.1 c.decode_part.ensures.listed)

@@ -1,0 +1,131 @@
+//! The parts of a message, as they are read.
+ghost use Rattle.std.specs.Prelude.{◌≡◌, length};
+ghost use Rattle.rasn_dynamic.specs.Faults.{octets_after};
+ghost use Rattle.rasn_dynamic.specs.Listed.{IsEmpty, IsNoted, IsFinished, IsInside, IsOutside, IsCut};
+
+use crate::trace::octets_after;
+use rasn_de::ber::de::Decoder;
+use rasn_schema::TypeId;
+use std::alloc::Global;
+
+/// A part of a message as it was read: a value that is in it, or the message itself.
+#[derive(Debug, Drop)]
+pub struct Extent<'input> {
+    /// The number of its type.
+    pub id: TypeId,
+    /// Its index in the value that holds it.
+    pub index: usize,
+    /// How deep types are followed from it: in a part one less than in the value that holds it.
+    pub levels: usize,
+    /// How many octets there are from its start to the end of the message.
+    pub left: usize,
+    /// All of its octets; while it is read, those from its start on.
+    pub octets: &'input [u8],
+}
+
+/// The parts of a message that have been read, and where the reader is.
+#[derive(Drop)]
+pub struct Extents<'input> {
+    /// The parts in the order of their octets, each before those inside it. `None` if they aren't
+    /// listed, or if memory ran out.
+    pub list: Option<Vec<Extent<'input>>>,
+    /// How many octets of the message follow those that the decoder sees.
+    pub after: usize,
+}
+
+/// Returns what notes no parts.
+pub fn no_list<'input>() -> Extents<'input> {
+    Extents {
+        list: None,
+        after: 0,
+    }
+}
+
+/// Returns what notes the parts of a message from its start on.
+pub fn new_list<'input>(alloc: Global) -> Extents<'input>
+    ensures { IsEmpty result }
+{
+    Extents {
+        list: Some(Vec::new(alloc)),
+        after: 0,
+    }
+}
+
+/// Notes a part that is read next. Returns its place in the list. If memory runs out, there is no
+/// list from then on.
+pub fn note<'input>(
+    extents: &mut Extents<'input>,
+    id: TypeId,
+    index: usize,
+    levels: usize,
+    octets: &'input [u8],
+) -> usize
+    ensures { IsNoted id index levels octets.now extents.old result extents.new }
+{
+    let left = extents.after.saturating_add(octets.len());
+    let Some(list) = &mut extents.list else {
+        return 0;
+    };
+    let place = list.len();
+    let part = Extent {
+        id,
+        index,
+        levels,
+        left,
+        octets,
+    };
+    match list.push(part) {
+        Ok(()) => place,
+        Err(_) => {
+            extents.list = None;
+            0
+        }
+    }
+}
+
+/// Returns the octets before the rest, if they end with it.
+fn cut<'input>(octets: &'input [u8], rest: &[u8]) -> &'input [u8]
+    ensures { IsCut octets.now rest.now result.now }
+{
+    &octets[..octets.len().saturating_sub(rest.len())]
+}
+
+/// Ends the part at this place of the list: its octets are those before the rest.
+pub fn finish(extents: &mut Extents<'_>, place: usize, rest: &[u8])
+    ensures { IsFinished place rest.now extents.old extents.new }
+{
+    let Some(list) = &mut extents.list else {
+        return;
+    };
+    if place >= list.len() {
+        return;
+    }
+    let part = &mut list[place];
+    part.octets = cut(part.octets, rest);
+}
+
+/// Goes to the contents of a value, which this decoder reads. Returns how many octets follow those
+/// that the decoder outside sees.
+#[inline(always)]
+pub fn go_inside(extents: &mut Extents<'_>, decoder: &Decoder<'_>, inner: &Decoder<'_>) -> usize
+    ensures { IsInside (octets_after inner.now.closing (length decoder.now.rest)) extents.old result extents.new }
+{
+    let after = extents.after;
+    extents.after = after.saturating_add(octets_after(decoder, inner));
+    after
+}
+
+/// Goes back out of the contents of a value.
+#[inline(always)]
+pub fn go_outside(extents: &mut Extents<'_>, after: usize)
+    ensures { IsOutside after extents.old extents.new }
+{
+    extents.after = after;
+}
+
+/// Returns the list.
+pub fn list_of<'input>(extents: Extents<'input>) -> Option<Vec<Extent<'input>>>
+    ensures { result ≡ extents.entry.list }
+{
+    extents.list
+}

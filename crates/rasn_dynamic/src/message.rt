@@ -1,0 +1,144 @@
+//! Goes over the parts of a message.
+ghost use Rattle.std.specs.Prelude.{◌≡◌, ◌⊎◌, OnOk, OnErr, IfOk, IfErr};
+ghost use Rattle.rasn_types.specs.Errors.{IsOutOfMemory};
+ghost use Rattle.rasn_dynamic.specs.Faults.{IsLocated};
+ghost use Rattle.rasn_dynamic.specs.Walk.{ArePartsOf, IsNextOf, path_at_depth};
+
+use crate::extent::{Extent, finish, list_of, new_list, note};
+use crate::locate::refusal_of;
+use crate::made::Nothing;
+use crate::part::{Part, header_of};
+use crate::reader::decode_at;
+use crate::refusal::Refusal;
+use crate::trace::octets_left;
+use rasn_de::ber::de::{Decoder, DecoderOptions};
+use rasn_schema::{Schema, TypeId};
+use rasn_types::error::{DecodeError, DecodeErrorKind};
+use rasn_types::types::Codec;
+use std::alloc::{AllocError, Global};
+
+/// The parts of a message, and how many of them were gone over.
+#[derive(Drop)]
+pub struct MessageParts<'input> {
+    /// The parts in the order of their octets, each before those inside it.
+    pub list: Vec<Extent<'input>>,
+    /// The message and what follows it.
+    pub input: &'input [u8],
+    /// How many parts were gone over.
+    pub next: usize,
+    /// The path of the last of them, for `find_part`.
+    pub path: Vec<usize>,
+}
+
+/// Returns the refusal that memory ran out.
+fn out_of_memory(alloc: Global, rule: Codec, id: TypeId) -> Refusal
+    ensures kind { IsOutOfMemory result.error.kind }
+    ensures rules { result.error.codec ≡ rule }
+{
+    Refusal {
+        error: DecodeError {
+            kind: DecodeErrorKind::OutOfMemory,
+            codec: rule,
+        },
+        offset: 0,
+        id,
+        steps: Vec::new(alloc),
+        is_cut: false,
+    }
+}
+
+/// Reads the value with which the input begins, and returns its parts, itself among them. No value
+/// is made of it, as by `check`.
+///
+/// # Errors
+/// As [`check_or_locate`](crate::check_or_locate), or if memory for the list of parts runs out.
+pub fn parts_of<'input>(
+    alloc: Global,
+    rule: Codec,
+    schema: &Schema,
+    id: TypeId,
+    input: &'input [u8],
+) -> Result<MessageParts<'input>, Refusal>
+    ensures parts { IfOk result (ArePartsOf schema.now.types.items rule id.0 input.now) }
+    ensures located { IfErr result (λ r. IsOutOfMemory r.error.kind ⊎ IsLocated schema.now.types.items rule id.0 input.now r) }
+    ensures rules { IfErr result (λ r. r.error.codec ≡ rule) }
+{
+    let mut decoder = Decoder::new(alloc, input, DecoderOptions::of(rule));
+    // The octets have a number of this type, so the places in them have too.
+    let _ = octets_left(&decoder);
+    let mut trace = None;
+    let mut extents = new_list(alloc);
+    let place = note(&mut extents, id, 0, usize::MAX, input);
+    match decode_at::<Nothing>(
+        &mut decoder,
+        &mut trace,
+        &mut extents,
+        schema.types(),
+        usize::MAX,
+        id,
+    ) {
+        Ok(value) => {
+            drop(value);
+            finish(&mut extents, place, decoder.remaining());
+            match list_of(extents) {
+                Some(list) => Ok(MessageParts {
+                    list,
+                    input,
+                    next: 0,
+                    path: Vec::new(alloc),
+                }),
+                None => Err(out_of_memory(alloc, rule, id)),
+            }
+        }
+        Err(error) => Err(refusal_of(alloc, error, trace, id, input.len())),
+    }
+}
+
+/// Makes the path of a part of that of the part before it: the part is in so many others.
+fn go_along(path: &mut Vec<usize>, depth: usize, index: usize) -> Result<(), AllocError>
+    ensures { OnOk result (path.new.items ≡ path_at_depth depth path.old.items index) }
+{
+    if depth == 0 {
+        path.truncate(0);
+        return Ok(());
+    }
+    path.truncate(depth - 1);
+    match path.push(index) {
+        Ok(()) => Ok(()),
+        Err(_) => Err(AllocError),
+    }
+}
+
+impl<'input> MessageParts<'input> {
+    /// Goes to the next part and returns it, or `None` after the last one.
+    ///
+    /// # Errors
+    /// `OutOfMemory` if there is no memory for the path: then the part is not gone over. Else the
+    /// framing error of the part's octets, which the parts of a message don't have.
+    pub fn next(&mut self, alloc: Global) -> Result<Option<Part<'input>>, DecodeError>
+        ensures next { IfOk result (λ found. IsNextOf self.old found self.new) }
+        ensures kept { (self.new.list ≡ self.old.list) × (self.new.input.now ≡ self.old.input.now) }
+        ensures err { OnErr result (self.new.next ≡ self.old.next) }
+    {
+        let Some(extent) = self.list.get(self.next) else {
+            return Ok(None);
+        };
+        let (id, index, octets) = (extent.id, extent.index, extent.octets);
+        let (levels, left) = (extent.levels, extent.left);
+        let (header_len, is_indefinite) = header_of(alloc, octets)?;
+        if go_along(&mut self.path, usize::MAX - levels, index).is_err() {
+            return Err(DecodeError {
+                kind: DecodeErrorKind::OutOfMemory,
+                codec: Codec::Ber,
+            });
+        }
+        self.next += 1;
+        Ok(Some(Part {
+            id,
+            offset: self.input.len().saturating_sub(left),
+            header_len,
+            is_indefinite,
+            octets,
+        }))
+    }
+}
