@@ -1,5 +1,5 @@
 -- Values that hold no other values, written as values of their kind.
-use Rattle.std.proofs.Common.{◌≡◌, inl, inr, ℕ, ℤ, List, length, Result, OnOk, IfErr, refl, ap, subst}
+use Rattle.std.proofs.Common.{◌≡◌, ◌≢◌, inl, inr, ℕ, ℤ, Bool, List, length, Result, OnOk, IfErr, refl, ap, subst}
 use Rattle.std.proofs.lemmas.Result.{on_ok_weaker, IfErr-weaker}
 use Rattle.rasn_types.specs.CharacterString.{AreAdmitted}
 use Rattle.rasn_types.specs.Shapes.{Kind, Interval, IsIn, leaf, number, numbers, integer, enumerated, every, octet_string, fixed, numeric, printable, visible, ia5, any_octets}
@@ -18,11 +18,11 @@ use Rattle.rasn_enc.specs.Any.{FailsAtAny}
 use Rattle.rasn_enc.proofs.Leaves.CharacterString.{fixed_encoded, text_refused}
 use Rattle.rasn_enc.proofs.Leaves.Primitive.{integer_refused}
 use Rattle.rasn_schema.specs.declared.types.LeafKind.{LeafKind}
-use Rattle.rasn_schema.specs.declared.types.LeafKind.TheVariants.{OctetString, FixedOctetString, Integer, Signed32, Signed64, Unsigned32, Unsigned64, Numeric, Printable, Visible, Ia5, AnyOctets}
+use Rattle.rasn_schema.specs.declared.types.LeafKind.TheVariants.{BitString, NamedBits, OctetString, FixedOctetString, Integer, Signed32, Signed64, Unsigned32, Unsigned64, Numeric, Printable, Visible, Ia5, AnyOctets}
 use Rattle.rasn_schema.specs.declared.value.Value.{Value, Integer as Whole, Octets}
 use Rattle.rasn_schema.specs.Trees.{tree_of}
 use Rattle.rasn_schema.specs.Shapes.{kind_of}
-use Rattle.rasn_schema.specs.Fitting.{NumberFits, OctetsFit, IsNumber, AreOctets}
+use Rattle.rasn_schema.specs.Fitting.{NumberFits, OctetsFit, BitsFit, IsNumber, AreOctets}
 use Rattle.rasn_dynamic.specs.Written.{Encodes}
 
 -- The kind and the value are these.
@@ -30,6 +30,12 @@ pub leaf_as : (kind k : LeafKind) (v u : Value) (tag : Tag) (c : Constraints) (o
     → OnOk r (AppendsEncoding (leaf (kind_of k) tag c) (tree_of u) old new) → IfErr r (EncodeFails (leaf (kind_of k) tag c) (tree_of u) old)
     → Encodes (leaf (kind_of kind) tag c) (tree_of v) old r new
 leaf_as kind k v u tag c old new r e f ok refused = rw (e, f) (record { ok = ok; refused = refused })
+
+-- Bits without names are those of a BIT STRING.
+pub plain_bits : (kind : LeafKind) (bs : List Bool) → BitsFit kind bs → (kind ≢ NamedBits) → kind ≡ BitString
+plain_bits BitString bs f n = refl
+plain_bits NamedBits bs f n = absurd (n refl)
+plain_bits _ bs f n = absurd f
 
 -- ---- strings
 

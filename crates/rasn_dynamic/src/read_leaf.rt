@@ -177,6 +177,7 @@ pub fn decode_leaf<'input>(
             ObjectIdentifier::decode_with_tag_and_constraints(decoder, tag, bounds)?,
         )),
         LeafKind::BitString => Ok(Value::Bits(decoder.decode_bits(tag, bounds)?)),
+        LeafKind::NamedBits => Ok(Value::Bits(decoder.decode_significant_bits(tag, bounds)?)),
         LeafKind::OctetString => Ok(Value::Octets(decoder.decode_octet_string(tag, bounds)?)),
         LeafKind::FixedOctetString(len) => decode_fixed_octets(decoder, len, tag, bounds),
         LeafKind::Integer => Ok(Value::Integer(Integer::decode_with_tag_and_constraints(

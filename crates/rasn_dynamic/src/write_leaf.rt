@@ -1,17 +1,17 @@
 //! Writes values that hold no other values.
-ghost use Rattle.std.specs.Prelude.{◌≡◌};
-ghost use Rattle.rasn_types.specs.Shapes.{leaf, any, looked_for, enumerated};
+ghost use Rattle.std.specs.Prelude.{◌≡◌, OnErr, IfErr};
+ghost use Rattle.rasn_types.specs.Shapes.{bits, leaf, any, looked_for, enumerated};
 ghost use Rattle.rasn_types.specs.Trees.{unconstrained};
 ghost use Rattle.rasn_schema.specs.Trees.{tree_of};
 ghost use Rattle.rasn_schema.specs.Shapes.{kind_of, numbers_of};
-ghost use Rattle.rasn_schema.specs.Fitting.{FitsLeaf, IsNumber, AreOctets};
-ghost use Rattle.rasn_dynamic.specs.Written.{EncodesIf};
+ghost use Rattle.rasn_schema.specs.Fitting.{BitsFit, FitsLeaf, IsNumber, AreOctets};
+ghost use Rattle.rasn_dynamic.specs.Written.{Encodes, EncodesIf};
 
 use rasn_enc::ber::enc::Encoder;
 use rasn_enc::enc::Encode;
 use rasn_schema::{LeafKind, NamedNumber, Value, is_listed, leaf_fits};
 use rasn_types::error::{EncodeError, EncodeErrorKind};
-use rasn_types::types::{Constraints, Identifier, Integer, Tag};
+use rasn_types::types::{BitStr, Constraints, Identifier, Integer, Tag};
 
 /// Returns an error for a value of another form than its type's. No public call returns it: `encode` asks `fits` after an error, and
 /// returns `Unfit` then.
@@ -21,6 +21,31 @@ pub fn other_form(encoder: &Encoder) -> EncodeError
     EncodeError {
         kind: EncodeErrorKind::RealNotSupported,
         codec: encoder.codec(),
+    }
+}
+
+/// Writes a BIT STRING, whose bits may have names.
+#[inline(always)]
+fn encode_bits(
+    encoder: &mut Encoder,
+    kind: LeafKind,
+    tag: Tag,
+    constraints: &Constraints,
+    value: &BitStr<'_>,
+) -> Result<(), EncodeError>
+    requires { BitsFit kind value.now }
+    ensures does { Encodes (leaf (kind_of kind) tag constraints.now) (bits value.now) encoder.old result encoder.new }
+    ensures err { OnErr result (encoder.new ≡ encoder.old) }
+    ensures rules { IfErr result (λ e. e.codec ≡ encoder.old.rule) }
+{
+    match kind {
+        LeafKind::NamedBits => encoder.encode_named_bits(
+            tag,
+            constraints,
+            value,
+            Identifier::EMPTY,
+        ),
+        _ => encoder.encode_bit_string(tag, constraints, value, Identifier::EMPTY),
     }
 }
 
@@ -48,7 +73,7 @@ pub fn encode_leaf(
         ),
         Value::Null => ().encode_with_tag_and_constraints(encoder, tag, constraints, name),
         Value::Integer(held) => encoder.encode_integer::<Integer>(tag, constraints, held, name),
-        Value::Bits(held) => encoder.encode_bit_string(tag, constraints, &held.as_bitstr(), name),
+        Value::Bits(held) => encode_bits(encoder, kind, tag, constraints, &held.as_bitstr()),
         Value::Octets(held) => {
             encoder.encode_octet_string(tag, constraints, held.as_slice(), name)
         }

@@ -9,10 +9,10 @@ use crate::writing::{write, write_value};
 use rasn::de::Decode;
 use rasn::enc::Encode;
 use rasn::types::{
-    Any, BitString, BmpString, Bound, Bounded, Constraints, ContextTag, Date, Explicit,
+    Any, BitString, BmpString, Bound, Bounded, Constraints, ContextTag, Date, Explicit, Extensible,
     FixedOctetString, GeneralString, GeneralizedTime, GraphicString, Ia5String, Implicit, Integer,
-    NumericString, ObjectIdentifier, OctetString, PrintableString, SetOf, TeletexString, UtcTime,
-    Utf8String, VisibleString,
+    NamedBits, NumericString, ObjectIdentifier, OctetString, PrintableString, SetOf, TeletexString,
+    UtcTime, Utf8String, VisibleString,
 };
 use rasn_bench::{
     AlgorithmIdentifier, AttributeTypeAndValue, Both, Colour, Event, Foo, Grouped, Pair, Reason,
@@ -97,6 +97,7 @@ pub fn answer_to(alloc: Global, row: &Row<'_>) -> Result<String, AllocError> {
 fn of_string(alloc: Global, row: &Row<'_>) -> Result<String, AllocError> {
     match row.name {
         "bits" => both::<BitString>(alloc, row),
+        "namedbits" => both::<NamedBits>(alloc, row),
         "octets" => both::<OctetString>(alloc, row),
         "octet1" => both::<FixedOctetString<1>>(alloc, row),
         "utf8" => both::<Utf8String>(alloc, row),
@@ -131,6 +132,7 @@ fn of_time(alloc: Global, row: &Row<'_>) -> Result<String, AllocError> {
         "validity" => both::<Validity>(alloc, row),
         "colour" => both::<Colour>(alloc, row),
         "reason" => both::<Reason>(alloc, row),
+        "extensible(colour)" => both::<Extensible<Colour>>(alloc, row),
         _ => of_list(alloc, row),
     }
 }
@@ -233,6 +235,7 @@ fn of_bounds(alloc: Global, row: &Row<'_>) -> Result<String, AllocError> {
         "size2(octets)" => bound::<OctetString>(alloc, row, &sized(2)),
         "size2(utf8)" => bound::<Utf8String>(alloc, row, &sized(2)),
         "size4(bits)" => bound::<BitString>(alloc, row, &sized(4)),
+        "size4(namedbits)" => bound::<NamedBits>(alloc, row, &sized(4)),
         "size5(octet1)" => bound::<FixedOctetString<1>>(alloc, row, &sized(5)),
         "integer(-5..255)" => bound::<Integer>(alloc, row, &within(-5, 255)),
         "u8(0..100)" => bound::<u8>(alloc, row, &within(0, 100)),

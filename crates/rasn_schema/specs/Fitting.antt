@@ -1,13 +1,15 @@
 -- Which values are values of a type.
-use Rattle.std.specs.Prelude.{◌≡◌, ◌⊎◌, ℕ, zero, suc, ℤ, List, [], ◌∷◌, length, Contains, Option, Some, None, slice_get}
+use Rattle.std.specs.Prelude.{◌≡◌, ◌⊎◌, ℕ, zero, suc, ℤ, Bool, List, [], ◌∷◌, length, Contains, Option, Some, None, slice_get}
 use Rattle.std.specs.Cow.{cow_slice_items}
 use Rattle.rasn_types.specs.Shapes.{IsIn, Tree, Same, Presence, required, addition, optional_by, default_by, absent}
 use Rattle.rasn_types.specs.Trees.{signed_range, unsigned_range}
 use Rattle.rasn_schema.specs.declared.types.Alternative.{Alternative}
 use Rattle.rasn_types.specs.declared.types.strings.alphabet.Alphabet.TheVariants.{Numeric as NumericAlphabet, Printable as PrintableAlphabet, Visible as VisibleAlphabet, Ia5 as Ia5Alphabet}
 use Rattle.rasn_types.specs.CharacterString.{AreAdmitted}
+use Rattle.rasn_types.specs.BitString.{significant}
+use Rattle.rasn_types.specs.CowBits.{cow_bits}
 use Rattle.rasn_schema.specs.declared.types.LeafKind.{LeafKind}
-use Rattle.rasn_schema.specs.declared.types.LeafKind.TheVariants.{Boolean as BooleanKind, Null as NullKind, ObjectIdentifier, BitString, OctetString, FixedOctetString, Integer, Signed32, Signed64, Unsigned32, Unsigned64, Numeric, Printable, Visible, Ia5, AnyOctets, Bmp, Utf8, UtcTime, GeneralizedTime, Date}
+use Rattle.rasn_schema.specs.declared.types.LeafKind.TheVariants.{Boolean as BooleanKind, Null as NullKind, ObjectIdentifier, BitString, NamedBits, OctetString, FixedOctetString, Integer, Signed32, Signed64, Unsigned32, Unsigned64, Numeric, Printable, Visible, Ia5, AnyOctets, Bmp, Utf8, UtcTime, GeneralizedTime, Date}
 use Rattle.rasn_schema.specs.declared.types.Component.{Component}
 use Rattle.rasn_schema.specs.declared.types.«Type».{«Type»}
 use Rattle.rasn_schema.specs.declared.types.«Type».TheVariants.{Leaf, Enumerated, Any, Tagged, Choice, Sequence, Set, SequenceOf, SetOf}
@@ -35,11 +37,17 @@ OctetsFit Ia5 o = AreAdmitted Ia5Alphabet o
 OctetsFit AnyOctets o = Unit {0}
 OctetsFit _ o = ⊥
 
+-- Named bits have no trailing 0 bits.
+abbrev pub BitsFit : LeafKind → List Bool → Type 0
+BitsFit BitString bs = Unit {0}
+BitsFit NamedBits bs = significant bs ≡ bs
+BitsFit _ bs = ⊥
+
 abbrev pub FitsLeaf : LeafKind → Value → Type 0
 FitsLeaf kind (Boolean b) = kind ≡ BooleanKind
 FitsLeaf kind Null = kind ≡ NullKind
 FitsLeaf kind (Number n) = NumberFits kind n
-FitsLeaf kind (Bits b) = kind ≡ BitString
+FitsLeaf kind (Bits b) = BitsFit kind (cow_bits b)
 FitsLeaf kind (Octets o) = OctetsFit kind (cow_slice_items o)
 FitsLeaf kind (Text s) = kind ≡ Utf8
 FitsLeaf kind (Units u) = kind ≡ Bmp

@@ -3,16 +3,18 @@ ghost use Rattle.std.specs.Prelude.{◌≡◌, ◌⊎◌, Contains};
 ghost use Rattle.rasn_schema.specs.declared.types.LeafKind.TheVariants.{UtcTime, GeneralizedTime};
 ghost use Rattle.rasn_types.specs.Shapes.{IsIn, between};
 ghost use Rattle.rasn_types.specs.CharacterString.{AreAdmitted};
+ghost use Rattle.rasn_types.specs.BitString.{significant};
+ghost use Rattle.rasn_types.specs.CowBits.{cow_bits};
 ghost use Rattle.rasn_types.specs.Truth.{IsWhether};
 ghost use Rattle.rasn_schema.specs.Shapes.{numbers_of};
-ghost use Rattle.rasn_schema.specs.Fitting.{IsNumber, NumberFits, OctetsFit, FitsLeaf, AreOctets, AlternativeFits, IsChosen, ComponentFits, ComponentsFit, AreItems, EachFits, FitsBy, Fits};
+ghost use Rattle.rasn_schema.specs.Fitting.{IsNumber, NumberFits, OctetsFit, BitsFit, FitsLeaf, AreOctets, AlternativeFits, IsChosen, ComponentFits, ComponentsFit, AreItems, EachFits, FitsBy, Fits};
 
 use crate::fit::{elements_of, is_left_out, items_of};
 use crate::schema::Schema;
 use crate::type_id::TypeId;
 use crate::types::{Alternative, Component, LeafKind, NamedNumber, Type, type_at};
 use crate::value::Value;
-use rasn_types::types::{Alphabet, Integer};
+use rasn_types::types::{Alphabet, CowBits, Integer};
 
 /// Returns whether the number is one of those from `low` to `high`.
 fn is_between(number: &Integer, low: i128, high: i128) -> bool
@@ -61,6 +63,25 @@ fn octets_fit(kind: LeafKind, octets: &[u8]) -> bool
     }
 }
 
+/// Returns whether the bits have no trailing 0 bits.
+fn are_significant(bits: &CowBits<'_>) -> bool
+    ensures { IsWhether result (significant (cow_bits bits.now) ≡ cow_bits bits.now) }
+{
+    let bits = bits.as_bitstr();
+    bits.significant_len() == bits.len()
+}
+
+/// Returns whether the bits are a value of this kind.
+fn bits_fit(kind: LeafKind, bits: &CowBits<'_>) -> bool
+    ensures { IsWhether result (BitsFit kind (cow_bits bits.now)) }
+{
+    match kind {
+        LeafKind::BitString => true,
+        LeafKind::NamedBits => are_significant(bits),
+        _ => false,
+    }
+}
+
 /// Returns whether the value, which holds no other values, is one of this kind.
 #[inline(always)]
 pub fn leaf_fits(kind: LeafKind, value: &Value<'_>) -> bool
@@ -70,7 +91,7 @@ pub fn leaf_fits(kind: LeafKind, value: &Value<'_>) -> bool
         Value::Boolean(_) => matches!(kind, LeafKind::Boolean),
         Value::Null => matches!(kind, LeafKind::Null),
         Value::Integer(number) => number_fits(kind, number),
-        Value::Bits(_) => matches!(kind, LeafKind::BitString),
+        Value::Bits(bits) => bits_fit(kind, bits),
         Value::Octets(octets) => octets_fit(kind, octets.as_slice()),
         Value::Text(_) => matches!(kind, LeafKind::Utf8),
         Value::Units(_) => matches!(kind, LeafKind::Bmp),

@@ -5,7 +5,7 @@ use crate::schema::Schema;
 use crate::types::{LeafKind, NamedNumber, Type};
 use crate::value::Value;
 use crate::view::{View, part_type, untagged};
-use rasn_types::types::{BmpString, Hexadecimal, Integer};
+use rasn_types::types::{BitStr, BmpString, Hexadecimal, Integer};
 use std::fmt;
 
 /// Writes a character of a text in quotes, a quote twice (X.680 12.14).
@@ -72,6 +72,57 @@ fn write_number<W: fmt::Write>(
     }
 }
 
+/// Returns the name of a bit, if it has one.
+fn bit_name(names: &[NamedNumber], place: usize) -> Option<&str> {
+    match isize::try_from(place) {
+        Ok(place) => name_of_number(names, place),
+        Err(_) => None,
+    }
+}
+
+/// Returns the names of the bits of a BIT STRING, if each bit that is 1 has one.
+fn names_of_bits<'types>(
+    bits: &BitStr<'_>,
+    ty: Option<&'types Type>,
+) -> Option<&'types [NamedNumber]> {
+    let Some(
+        Type::Leaf {
+            kind: LeafKind::NamedBits,
+            names,
+            ..
+        },
+    ) = ty
+    else {
+        return None;
+    };
+    for (place, bit) in bits.iter().enumerate() {
+        if bit && bit_name(names.as_slice(), place).is_none() {
+            return None;
+        }
+    }
+    Some(names.as_slice())
+}
+
+/// Writes bits, or the names of those that are 1 if each of these has one (X.680 22.9).
+fn write_bits<W: fmt::Write>(
+    f: &mut fmt::Formatter<W>,
+    bits: &BitStr<'_>,
+    ty: Option<&Type>,
+) -> fmt::Result {
+    let Some(names) = names_of_bits(bits, ty) else {
+        return write!(f, "{bits}");
+    };
+    let mut first = true;
+    for (place, bit) in bits.iter().enumerate() {
+        if bit {
+            f.write_str(if first { "{ " } else { ", " })?;
+            first = false;
+            f.write_str(bit_name(names, place).unwrap_or(""))?;
+        }
+    }
+    f.write_str(if first { "{ }" } else { " }" })
+}
+
 /// Returns whether the octets of such a value are ASCII characters.
 fn is_text(ty: Option<&Type>) -> bool {
     match ty {
@@ -129,7 +180,7 @@ fn write_value<W: fmt::Write>(
         Value::Boolean(truth) => f.write_str(if *truth { "TRUE" } else { "FALSE" }),
         Value::Null => f.write_str("NULL"),
         Value::Integer(integer) => write_number(f, integer, ty),
-        Value::Bits(bits) => write!(f, "{}", bits.as_bitstr()),
+        Value::Bits(bits) => write_bits(f, &bits.as_bitstr(), ty),
         Value::Octets(octets) => write_octets(f, octets.as_slice(), ty),
         Value::Text(text) => write_text(f, text.as_str()),
         Value::Units(units) => write_units(f, units),

@@ -17,6 +17,8 @@ pub enum LeafKind {
     ObjectIdentifier,
     /// A BIT STRING (X.690 8.6).
     BitString,
+    /// A BIT STRING whose bits have names: trailing 0 bits don't count (X.680 22.7).
+    NamedBits,
     /// An OCTET STRING (X.690 8.7).
     OctetString,
     /// An OCTET STRING of so many octets.
@@ -56,8 +58,9 @@ pub enum LeafKind {
 /// A type. Other types that it is made of are named by their numbers in the schema.
 #[derive(Drop)]
 pub enum Type {
-    /// A type whose values hold no other values. The names are those of an INTEGER's numbers or of
-    /// the bits of a BIT STRING (X.680 19.3, 22.3).
+    /// A type whose values hold no other values. The names are those of an INTEGER's numbers, of
+    /// those of an ENUMERATED with an extension marker, which is a number of 64 bits with the tag of
+    /// ENUMERATED, or of the bits of a BIT STRING (X.680 19.3, 20.1, 22.3).
     Leaf {
         kind: LeafKind,
         tag: Tag,

@@ -19,7 +19,7 @@ pub enum Value<'input> {
     Null,
     /// The number of an INTEGER or an ENUMERATED.
     Integer(Integer),
-    /// The bits of a BIT STRING.
+    /// The bits of a BIT STRING. If they have names, there are no trailing 0 bits.
     Bits(CowBits<'input>),
     /// The octets of an OCTET STRING, of a string whose characters are octets, or of an open type.
     Octets(CowSlice<'input, u8>),

@@ -51,6 +51,9 @@ fn types_named(name: &str) -> Option<(&'static [Definition], TypeId)> {
         "set2" => Some((ROW_TYPES, TypeId(22))),
         "pair2" => Some((ROW_TYPES, TypeId(23))),
         "bounds" => Some((ROW_TYPES, TypeId(26))),
+        "any-bits" => Some((ROW_TYPES, TypeId(14))),
+        "usage" => Some((ROW_TYPES, TypeId(27))),
+        "operation" => Some((ROW_TYPES, TypeId(28))),
         _ => Some((LINE_TYPES, type_id(ValueType::of_name(name)?))),
     }
 }

@@ -28,7 +28,7 @@ pub const ROW_TYPES: &[Definition] = &[
     Definition::Leaf(LeafKind::ObjectIdentifier, Tag::OBJECT_IDENTIFIER),
     Definition::SetOf(Tag::SET, 0, Constraints::NONE),
     Definition::Sequence(Tag::SEQUENCE, EACH_KIND),
-    // 20 to 26
+    // 20 to 28
     Definition::Leaf(LeafKind::Signed64, Tag::INTEGER),
     Definition::Choice("Answer", &[("flag", 0), ("number", 20)]),
     Definition::Set("Set2", Tag::SET, FLAG_AND_NUMBER),
@@ -36,7 +36,11 @@ pub const ROW_TYPES: &[Definition] = &[
     Definition::Leaf(LeafKind::Signed32, CONTEXT_0),
     Definition::Leaf(LeafKind::Unsigned32, CONTEXT_1),
     Definition::Sequence(Tag::SEQUENCE, BOUNDS),
+    Definition::Named(LeafKind::NamedBits, Tag::BIT_STRING, USAGES),
+    Definition::Named(LeafKind::Signed64, Tag::ENUMERATED, &[("add", 0), ("delete", 1)]),
 ];
+
+const USAGES: &[(&str, isize)] = &[("digitalSignature", 0), ("keyCertSign", 5), ("cRLSign", 6)];
 
 const BOUNDS: &[Part] = &[
     ("low", Occurrence::Number(-2147483648), 24),

@@ -1,6 +1,5 @@
 -- A size that a bound admits with larger ones.
 use Rattle.std.proofs.Common.{◌≡◌, ℕ, ◌+◌, ◌-◌, ◌<◌, ◌≤◌, ◌⊎◌, inl, inr, Bool, true, false, Option, Some, None, sym, subst, arith}
-use Rattle.std.specs.Prelude.{IfSome}
 use Rattle.std.specs.Option.{unwrap_or}
 use Rattle.rasn_types.specs.Truth.{IsWhether}
 use Rattle.rasn_types.specs.Shapes.{IsWithin}

@@ -124,10 +124,10 @@ fn plain_default(
             let Digits { octets, .. } = read_digits(alloc, digits)?;
             Ok(Some(Value::Octets(CowSlice::Owned(octets))))
         }
-        (Base::BitString(_), Written::Digits(digits)) => {
+        (Base::BitString(names), Written::Digits(digits)) => {
             let Digits { octets, bits } = read_digits(alloc, digits)?;
             match BitString::new(octets, bits) {
-                Some(bits) => Ok(Some(Value::Bits(CowBits::Owned(bits)))),
+                Some(bits) => Ok(Some(bits_default(bits, !names.is_empty()))),
                 None => Ok(None),
             }
         }
@@ -139,6 +139,16 @@ fn plain_default(
             Ok(Some(Value::Elements(Vec::new(alloc))))
         }
         _ => Ok(None),
+    }
+}
+
+/// Returns bits as a value. If they have names, trailing 0 bits don't count (X.680 22.7).
+fn bits_default(bits: BitString, have_names: bool) -> Value<'static> {
+    let bits = CowBits::Owned(bits);
+    if have_names {
+        Value::Bits(bits.into_significant())
+    } else {
+        Value::Bits(bits)
     }
 }
 

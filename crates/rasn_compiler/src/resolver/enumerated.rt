@@ -136,6 +136,22 @@ impl<'modules, 'text> Resolver<'modules, 'text> {
     }
 }
 
+/// Returns whether an enumeration has a marker (X.680 20.1).
+pub(crate) fn is_extensible(names: &[NamedNumber<'_>]) -> bool {
+    root_length(names) < names.len()
+}
+
+/// Returns whether two names have the same number.
+pub(crate) fn are_repeated(alloc: Global, numbers: &[Numbered]) -> Result<bool, AllocError> {
+    let mut seen = BTreeSet::new(alloc);
+    for named in numbers {
+        if !seen.insert(named.number)? {
+            return Ok(true);
+        }
+    }
+    Ok(false)
+}
+
 /// Returns how many names are before the marker.
 fn root_length(names: &[NamedNumber<'_>]) -> usize {
     for (index, named) in names.iter().enumerate() {

@@ -2,6 +2,7 @@
 use crate::fault::{Problem, Stop};
 use crate::modules::Modules;
 use crate::position::Position;
+use crate::resolver::enumerated::{are_repeated, is_extensible};
 use crate::resolver::leaf::{Plain, universal, universal_type};
 use crate::resolver::node::{Asked, Shape, Unfolded, Use};
 use crate::tree::{Base, Builtin, Component, ListOf, NamedNumber, Type as Written};
@@ -146,16 +147,12 @@ impl<'modules, 'text> Resolver<'modules, 'text> {
         match base {
             Base::Builtin(builtin) => self.builtin(unfolded, *builtin, position, unchecked),
             Base::Integer(names) => self.integer(unfolded, names.as_slice(), position, unchecked),
-            Base::BitString(names) if names.is_empty() => {
-                let constraints = self.size_bounds(unfolded, None, unchecked)?;
-                Ok(plain_leaf(self.alloc, unfolded, LeafKind::BitString, 3, constraints))
+            Base::BitString(names) => {
+                self.bit_string(unfolded, names.as_slice(), position, unchecked)
             }
             Base::Enumerated(names) => {
                 *unchecked = unchecked.saturating_add(unfolded.constraints.len());
-                Ok(Type::Enumerated {
-                    tag: own_tag(unfolded, 10),
-                    numbers: self.enumeration(unfolded.module, names.as_slice(), position)?,
-                })
+                self.enumerated(unfolded, names.as_slice(), position)
             }
             other if is_open(other) => {
                 *unchecked = unchecked.saturating_add(unfolded.constraints.len());
@@ -182,6 +179,52 @@ impl<'modules, 'text> Resolver<'modules, 'text> {
             tag: own_tag(unfolded, 2),
             constraints,
             names: self.numbered(unfolded.module, names, position)?,
+        })
+    }
+
+    /// Resolves a BIT STRING, whose bits may have names (X.680 22).
+    fn bit_string(
+        self,
+        unfolded: &Unfolded<'text>,
+        names: &[NamedNumber<'text>],
+        position: Position,
+        unchecked: &mut usize,
+    ) -> Result<Type, Stop<'text>> {
+        let kind = if names.is_empty() {
+            LeafKind::BitString
+        } else {
+            LeafKind::NamedBits
+        };
+        Ok(Type::Leaf {
+            kind,
+            tag: own_tag(unfolded, 3),
+            constraints: self.size_bounds(unfolded, None, unchecked)?,
+            names: self.numbered(unfolded.module, names, position)?,
+        })
+    }
+
+    /// Resolves an ENUMERATED (X.680 20). One with a marker has any number of 64 bits, since a newer
+    /// version may name others.
+    fn enumerated(
+        self,
+        unfolded: &Unfolded<'text>,
+        names: &[NamedNumber<'text>],
+        position: Position,
+    ) -> Result<Type, Stop<'text>> {
+        let tag = own_tag(unfolded, 10);
+        let numbers = self.enumeration(unfolded.module, names, position)?;
+        if !is_extensible(names) {
+            return Ok(Type::Enumerated { tag, numbers });
+        }
+        if are_repeated(self.alloc, numbers.as_slice())? {
+            let problem = Problem::Broken("two of the numbers are the same (X.680 20.3)");
+            return Err(self.modules.fault(unfolded.module, position, problem));
+        }
+        Ok(Type::Leaf {
+            kind: LeafKind::Signed64,
+            tag,
+            constraints: Constraints::NONE,
+            names: numbers,
         })
     }
 
@@ -262,7 +305,6 @@ fn is_type_field(path: &[&str]) -> bool {
 /// Returns what a schema can't carry of a type.
 fn unsupported(base: &Base<'_>) -> &'static str {
     match base {
-        Base::BitString(_) => "a BIT STRING with named bits",
         Base::ClassField { .. } => "the type of a class's field",
         Base::InstanceOf(_) => "INSTANCE OF",
         Base::Selection { .. } => "a selection type",

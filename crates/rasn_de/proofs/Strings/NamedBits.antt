@@ -1,29 +1,35 @@
 -- Named bits are read exactly where the grammar has them.
 use Rattle.std.proofs.Common.{◌≡◌, ◌≢◌, ◌+◌, ◌≤◌, ◌<◌, ◌⊎◌, ℕ, zero, suc, inl, inr, Bool, true, false, List, [], ◌++◌, length, Result, Ok, Err, refl, sym, ap, ◌∙◌, subst, arith}
-use Rattle.std.specs.Prelude.{IfErr}
-use Rattle.std.proofs.lemmas.List.{length-append, length-replicate, append-nil}
+use Rattle.std.specs.Prelude.{IfOk, IfErr}
 use Rattle.rasn_types.specs.declared.types.tag.Tag.{Tag}
 use Rattle.rasn_types.specs.declared.types.codec.Codec.{Codec}
 use Rattle.rasn_types.specs.declared.types.codec.Codec.TheVariants.{Ber, Cer, Der}
 use Rattle.rasn_types.specs.declared.types.constraints.Constraints.{Constraints}
+use Rattle.rasn_types.specs.declared.types.bits.cow_bits.CowBits.{CowBits}
+use Rattle.rasn_types.specs.declared.types.bits.cow_bits.CowBits.TheVariants.{Borrowed, Owned}
 use Rattle.rasn_types.specs.declared.error.decode.DecodeError.{DecodeError}
+use Rattle.rasn_types.specs.CowBits.{cow_bits, cow_bits_tree, significant_cow}
+use Rattle.rasn_types.specs.Errors.{IsOutOfMemory}
 use Rattle.rasn_types.specs.Tags.{IsCanonical}
 use Rattle.rasn_types.specs.Shapes.{Tree, bits, leaf, bit_string, named_bits, AdmitsPadded, constraint_of}
-use Rattle.rasn_types.specs.BitString.{significant, zeros}
+use Rattle.rasn_types.specs.BitString.{significant}
 use Rattle.rasn_types.specs.NamedBits.{named_bits_tree}
 use Rattle.rasn_types.specs.Trees.{unconstrained}
 use Rattle.rasn_types.specs.Grammar.{Reads, ReadsLeaf, IsBounded}
-use Rattle.rasn_types.proofs.BitString.Significant.{significant_once, then_zeros}
+use Rattle.rasn_types.proofs.BitString.Significant.{significant_once, all_significant}
 use Rattle.rasn_de.specs.declared.ber.de.parser.ParseError.{ParseError}
-use Rattle.rasn_de.specs.declared.ber.de.parser.ParseError.TheVariants.{TrailingZeroBits, SizeConstraintNotSatisfied}
-use Rattle.rasn_de.specs.BitString.{bits_tree, DecodesBitString}
-use Rattle.rasn_de.specs.NamedBits.{NamesBits, DecodesNamedBits}
+use Rattle.rasn_de.specs.declared.ber.de.parser.ParseError.TheVariants.{OutOfMemory, TrailingZeroBits, SizeConstraintNotSatisfied}
+use Rattle.rasn_de.specs.BitString.{bits_tree, DecodesBitString, DecodesCowBits, AreBorrowedIfPrimitive}
+use Rattle.rasn_de.specs.NamedBits.{AreNamedBits, DecodesNamedBits, DecodesSignificantBits}
+use Rattle.rasn_de.specs.OctetString.{IsPrimitive, IsConstructed}
+use Rattle.rasn_de.specs.Outcomes.{Exact, Got}
 use Rattle.rasn_de.specs.Leaves.{is_ber}
 use Rattle.rasn_de.specs.State.{State}
 use Rattle.rasn_de.specs.Steps.{IsErrorOf}
 use Rattle.rasn_de.specs.Decodes.{Decodes}
 use Rattle.rasn_de.proofs.Leaves.Outcomes.{Exact-none, Exact-refusal}
 use Rattle.rasn_de.proofs.Leaves.Rules.{bits_rules}
+use Rattle.rasn_de.proofs.Headers.NextTag.{kind_memory}
 
 -- ---- the rules, and bits that have no trailing 0 bits
 pub canonical : (rule : Codec) → is_ber rule ≡ false → IsCanonical rule
@@ -36,16 +42,8 @@ basic Ber e h = absurd h
 basic Cer e h = cc
 basic Der e h = cc
 
--- As many bits are left as there were: none is left out.
-pub all_significant : (bs : List Bool) → length (significant bs) ≡ length bs → significant bs ≡ bs
-all_significant bs e = let r = then_zeros bs in go r.0 r.1
-  where
-    go : (n : ℕ) → bs ≡ significant bs ++ zeros n → significant bs ≡ bs
-    go zero f = sym (f ∙ append-nil (significant bs))
-    go (suc n) f = absurd (omega (arith, e, ap length f, length-append (significant bs) (zeros (suc n)), length-replicate (suc n) false))
-
 module _ (rule : Codec) (bounds : Constraints) (read : List Bool) (size len : ℕ) (s : size ≡ length (significant read)) (l : len ≡ length read) where
-  pub trailing_zeros : size ≢ len → is_ber rule ≡ false → NamesBits rule bounds read (Err TrailingZeroBits)
+  pub trailing_zeros : size ≢ len → is_ber rule ≡ false → AreNamedBits rule bounds read (Err TrailingZeroBits)
   trailing_zeros n e = inl (canonical rule e, λ f. n (s ∙ (ap length f ∙ sym l)), refl)
 
   -- Where there are trailing 0 bits, the rules allow them.
@@ -53,11 +51,11 @@ module _ (rule : Codec) (bounds : Constraints) (read : List Bool) (size len : �
   none_trailing (inl e) c = all_significant read (sym s ∙ (e ∙ l))
   none_trailing (inr e) c = basic rule e c
 
-  pub names_bits : (bs : List Bool) → bs ≡ significant read → (size ≡ len) ⊎ (is_ber rule ≡ true) → AdmitsPadded bounds.size size → NamesBits rule bounds read (Ok bs)
-  names_bits bs b h a = (none_trailing h, b, subst (AdmitsPadded bounds.size) s a)
+  pub named_all : (size ≡ len) ⊎ (is_ber rule ≡ true) → AdmitsPadded bounds.size size → AreNamedBits rule bounds read (Ok tt)
+  named_all h a = (none_trailing h, subst (AdmitsPadded bounds.size) s a)
 
-  pub names_none : (size ≡ len) ⊎ (is_ber rule ≡ true) → (AdmitsPadded bounds.size size → ⊥) → NamesBits rule bounds read (Err (SizeConstraintNotSatisfied size (constraint_of bounds.size)))
-  names_none h a = inr (none_trailing h, subst (λ n. AdmitsPadded bounds.size n → ⊥) s a, ap (λ n. SizeConstraintNotSatisfied n (constraint_of bounds.size)) s)
+  pub named_none : (size ≡ len) ⊎ (is_ber rule ≡ true) → (AdmitsPadded bounds.size size → ⊥) → AreNamedBits rule bounds read (Err (SizeConstraintNotSatisfied size (constraint_of bounds.size)))
+  named_none h a = inr (none_trailing h, subst (λ n. AdmitsPadded bounds.size n → ⊥) s a, ap (λ n. SizeConstraintNotSatisfied n (constraint_of bounds.size)) s)
 
 -- ---- what the grammar says
 module _ (rule : Codec) (tag : Tag) (bounds : Constraints) (depth : ℕ) (closing : Bool) (input : List ℕ) where
@@ -85,6 +83,18 @@ Says tag bounds old result new = record {
   rules : IfErr result (λ e. e.codec ≡ old.rule);
 }
 
+abbrev pub SaysSignificant : Tag → Constraints → State → Result CowBits DecodeError → State → Type 0
+SaysSignificant tag bounds old result new = record {
+  reads : Decodes (leaf named_bits tag bounds) cow_bits_tree old result new;
+  significant : IfOk result (λ b. significant (cow_bits b) ≡ cow_bits b);
+  exact : DecodesSignificantBits tag bounds old result new;
+  rules : IfErr result (λ e. e.codec ≡ old.rule);
+}
+
+-- Bits that are borrowed are refused as others are.
+pub significant_refused : (tag : Tag) (bounds : Constraints) (old new : State) (e : DecodeError) → Says tag bounds old (Err e) new → (IsPrimitive old.rule tag old.rest → IsOutOfMemory e.kind → ⊥) → SaysSignificant tag bounds old (Err e) new
+significant_refused tag bounds old new e h m = record { reads = h.reads; significant = tt; exact = (h.exact, m); rules = h.rules }
+
 module _ (tag : Tag) (bounds : Constraints) (old new : State) where
   -- bits that aren't read
   pub named_unread : (e : DecodeError) → Decodes (leaf bit_string tag unconstrained) bits_tree old (Err e) new → DecodesBitString tag unconstrained old (Err e) new → Says tag bounds old (Err e) new
@@ -107,26 +117,32 @@ module _ (tag : Tag) (bounds : Constraints) (old new : State) where
         let e = k.0 in
         (cc, k.1)
 
-    pub named_found : (bs : List Bool) → NamesBits old.rule bounds read (Ok bs) → Says tag bounds old (Ok bs) new
-    named_found bs (z, e, b) =
-        let tree_is : named_bits_tree bs ≡ bits (significant read) = ap named_bits_tree e ∙ ap bits (significant_once read) in
-        record {
-          reads = record {
-            stays = d.stays;
-            end = d.end;
-            exact = rw tree_is (
-              reads_named old.rule tag bounds old.depth old.closing old.rest read new.rest d.exact.0 z b,
-              λ u s r.
-                  let w = is_named old.rule tag bounds old.depth old.closing old.rest u s r in
-                  let k = only_read w.0 s w.1 in
-                  (w.2 ∙ ap (λ (l : List Bool). bits (significant l)) k.0, k.1),
-            );
-          };
-          exact = (read, h, (z, e, b));
-          rules = tt;
-        }
+    module _ (z : IsCanonical old.rule → significant read ≡ read) (b : AdmitsPadded bounds.size (length (significant read))) where
+      found : (t : Tree) → t ≡ bits (significant read) → Exact (Reads old.rule (leaf named_bits tag bounds) old.depth old.closing) old.rest (Got t new.rest)
+      found t e = rw e (
+        reads_named old.rule tag bounds old.depth old.closing old.rest read new.rest d.exact.0 z b,
+        λ u s r.
+            let w = is_named old.rule tag bounds old.depth old.closing old.rest u s r in
+            let k = only_read w.0 s w.1 in
+            (w.2 ∙ ap (λ (l : List Bool). bits (significant l)) k.0, k.1),
+      )
 
-    pub named_refused : (f : ParseError) (e : DecodeError) → NamesBits old.rule bounds read (Err f) → IsErrorOf f new e → Says tag bounds old (Err e) new
+      pub named_found : (bs : List Bool) → bs ≡ significant read → Says tag bounds old (Ok bs) new
+      named_found bs e = record {
+        reads = record { stays = d.stays; end = d.end; exact = found (named_bits_tree bs) (ap named_bits_tree e ∙ ap bits (significant_once read)) };
+        exact = (read, h, (z, b), e);
+        rules = tt;
+      }
+
+      pub significant_found : (c : CowBits) → cow_bits c ≡ significant read → AreBorrowedIfPrimitive old.rule tag old.rest c → SaysSignificant tag bounds old (Ok c) new
+      significant_found c e k = record {
+        reads = record { stays = d.stays; end = d.end; exact = found (cow_bits_tree c) (ap bits e) };
+        significant = ap significant e ∙ (significant_once read ∙ sym e);
+        exact = ((read, h, (z, b), e), k);
+        rules = tt;
+      }
+
+    pub named_refused : (f : ParseError) (e : DecodeError) → AreNamedBits old.rule bounds read (Err f) → IsErrorOf f new e → Says tag bounds old (Err e) new
     named_refused f e refused k = record {
       reads = record {
         stays = d.stays;
@@ -142,3 +158,20 @@ module _ (tag : Tag) (bounds : Constraints) (old new : State) where
       where
         none : (IsCanonical old.rule → significant read ≡ read) → AdmitsPadded bounds.size (length (significant read)) → ⊥
         none z b = elim refused [ inl x ↦ x.1 (z x.0) | inr x ↦ x.1 b ]
+
+-- ---- bits that are borrowed
+pub significant_bits : (b : CowBits) → cow_bits (significant_cow b) ≡ significant (cow_bits b)
+significant_bits (Borrowed bs) = refl
+significant_bits (Owned bs) = refl
+
+pub borrowed_as : (rule : Codec) (tag : Tag) (l : List ℕ) (b : CowBits) → AreBorrowedIfPrimitive rule tag l b → AreBorrowedIfPrimitive rule tag l (significant_cow b)
+borrowed_as rule tag l (Borrowed bs) h = h
+borrowed_as rule tag l (Owned bs) h = h
+
+-- The faults of named bits aren't that memory ran out.
+pub named_plain : (rule : Codec) (bounds : Constraints) (read : List Bool) (f : ParseError) → AreNamedBits rule bounds read (Err f) → f ≢ OutOfMemory
+named_plain rule bounds read f (inl (c, n, e)) g = cc
+named_plain rule bounds read f (inr (c, n, e)) g = cc
+
+pub named_memory : (rule : Codec) (bounds : Constraints) (read : List Bool) (f : ParseError) (s : State) (e : DecodeError) → AreNamedBits rule bounds read (Err f) → IsErrorOf f s e → IsOutOfMemory e.kind → ⊥
+named_memory rule bounds read f s e h k m = kind_memory f (named_plain rule bounds read f h) (sym (ap (λ (x : DecodeError). x.kind) k) ∙ m)

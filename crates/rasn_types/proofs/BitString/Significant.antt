@@ -1,7 +1,7 @@
 -- Bits without their trailing 0 bits.
-use Rattle.std.proofs.Common.{◌≡◌, ◌≢◌, ℕ, zero, suc, ◌+◌, ◌*◌, ◌<◌, ◌≤◌, Bool, true, false, List, [], ◌∷◌, ◌++◌, length, take, drop, get_or, refl, sym, ap, ◌∙◌, subst, arith}
-use Rattle.std.proofs.lemmas.List.{length-append, take-append-le}
-use Rattle.rasn_types.specs.BitString.{bits_in, bits_from, zeros, Packs, bit_before, significant}
+use Rattle.std.proofs.Common.{◌≡◌, ℕ, zero, suc, ◌*◌, ◌<◌, ◌≤◌, Bool, true, false, List, [], ◌∷◌, ◌++◌, length, take, drop, get_or, refl, sym, ap, ◌∙◌, arith}
+use Rattle.std.proofs.lemmas.List.{length-append, length-replicate, append-nil, take-append-le}
+use Rattle.rasn_types.specs.BitString.{bits_from, zeros, Packs, bit_before, significant}
 use Rattle.rasn_types.proofs.BitString.Bits.{length-bits_in}
 
 before_once : (b : Bool) (l : List Bool) → significant l ≡ l → significant (bit_before b l) ≡ bit_before b l
@@ -41,6 +41,14 @@ then_zeros (b ∷ bs) = let r = then_zeros bs in before_zeros b (significant bs)
 
 pub significant_le : (bs : List Bool) → length (significant bs) ≤ length bs
 significant_le bs = let r = then_zeros bs in omega (arith, ap length r.1, length-append (significant bs) (zeros r.0))
+
+-- As many bits are left as there were: none is left out.
+pub all_significant : (bs : List Bool) → length (significant bs) ≡ length bs → significant bs ≡ bs
+all_significant bs e = let r = then_zeros bs in go r.0 r.1
+  where
+    go : (n : ℕ) → bs ≡ significant bs ++ zeros n → significant bs ≡ bs
+    go zero f = sym (f ∙ append-nil (significant bs))
+    go (suc n) f = absurd (omega (arith, e, ap length f, length-append (significant bs) (zeros (suc n)), length-replicate (suc n) false))
 
 front_of : (l k : List Bool) → take (length l) (l ++ k) ≡ l
 front_of [] k = refl

@@ -1,8 +1,10 @@
 //! BIT STRING whose bits have names (X.680 22.7).
-ghost use Rattle.std.specs.Prelude.{◌≡◌, IfErr};
+ghost use Rattle.std.specs.Prelude.{◌≡◌, IfOk, IfErr};
+ghost use Rattle.rasn_types.specs.BitString.{significant};
+ghost use Rattle.rasn_types.specs.CowBits.{cow_bits, cow_bits_tree};
 ghost use Rattle.rasn_types.specs.Shapes.{leaf, named_bits};
 ghost use Rattle.rasn_types.specs.NamedBits.{named_bits_tree};
-ghost use Rattle.rasn_de.specs.NamedBits.{NamesBits, DecodesNamedBits};
+ghost use Rattle.rasn_de.specs.NamedBits.{AreNamedBits, DecodesNamedBits, DecodesSignificantBits};
 ghost use Rattle.rasn_de.specs.Decodes.{Decodes};
 
 use crate::ber::de::Decoder;
@@ -10,21 +12,20 @@ use crate::ber::de::parser::ParseError;
 use crate::ber::rules::is_ber;
 use crate::de::Decode;
 use rasn_types::error::DecodeError;
-use rasn_types::types::{BitString, Codec, Constraints, NamedBits, Tag};
+use rasn_types::types::{BitStr, Codec, Constraints, CowBits, NamedBits, Tag};
 
-/// Returns what bits that were read are as named bits.
-fn named(rules: Codec, constraints: &Constraints, bits: BitString) -> Result<NamedBits, ParseError>
-    ensures { NamesBits rules constraints.now bits result }
+/// Checks that bits that were read may be named bits.
+fn check_named(rules: Codec, constraints: &Constraints, bits: &BitStr<'_>) -> Result<(), ParseError>
+    ensures { AreNamedBits rules constraints.now bits.now result }
 {
     let len = bits.len();
-    let kept = NamedBits::new(bits);
-    let size = kept.as_bitstr().len();
+    let size = bits.significant_len();
     let is_basic = is_ber(rules);
     if size != len && !is_basic {
         return Err(ParseError::TrailingZeroBits);
     }
     if constraints.admits_padded_size(size) {
-        return Ok(kept);
+        return Ok(());
     }
     let expected = constraints.size_bounds();
     Err(ParseError::SizeConstraintNotSatisfied { size, expected })
@@ -49,8 +50,32 @@ impl<'input> Decoder<'input> {
     {
         let rules = self.codec();
         let bits = self.decode_bit_string(tag, &Constraints::NONE)?;
-        match named(rules, constraints, bits) {
-            Ok(bits) => Ok(bits),
+        match check_named(rules, constraints, &bits.as_bitstr()) {
+            Ok(()) => Ok(NamedBits::new(bits)),
+            Err(fault) => Err(self.error(fault)),
+        }
+    }
+
+    /// Reads a BIT STRING whose bits have names, as
+    /// [`decode_named_bits`](Decoder::decode_named_bits) does: its bits up to the last that is 1.
+    /// They are borrowed exactly where the encoding is primitive.
+    ///
+    /// # Errors
+    /// Those of `decode_named_bits`; `OutOfMemory` only while segments are gathered.
+    pub fn decode_significant_bits(
+        &mut self,
+        tag: Tag,
+        constraints: &Constraints,
+    ) -> Result<CowBits<'input>, DecodeError>
+        ensures reads { Decodes (leaf named_bits tag constraints.now) cow_bits_tree self.old result self.new }
+        ensures significant { IfOk result (λ b. significant (cow_bits b) ≡ cow_bits b) }
+        ensures exact { DecodesSignificantBits tag constraints.now self.old result self.new }
+        ensures rules { IfErr result (λ e. e.codec ≡ self.old.rule) }
+    {
+        let rules = self.codec();
+        let bits = self.decode_bits(tag, &Constraints::NONE)?;
+        match check_named(rules, constraints, &bits.as_bitstr()) {
+            Ok(()) => Ok(bits.into_significant()),
             Err(fault) => Err(self.error(fault)),
         }
     }

@@ -1,14 +1,16 @@
 use Rattle.std.proofs.Common.{◌≡◌, ◌∙◌, true≢false, refl, sym, inl, inr, chars, subst}
-use Rattle.rasn_types.specs.Shapes.{utf8, bit_string, bits}
+use Rattle.rasn_types.specs.Shapes.{utf8}
 use Rattle.rasn_enc.proofs.Leaves.CharacterString.{text_refused}
-use Rattle.rasn_enc.proofs.Leaves.Primitive.{size_refused}
-use Rattle.rasn_schema.specs.declared.types.LeafKind.TheVariants.{Boolean, Null, BitString, Bmp, ObjectIdentifier, Date, Utf8, UtcTime, GeneralizedTime}
+use Rattle.rasn_schema.specs.declared.types.LeafKind.TheVariants.{Boolean, Null, Bmp, ObjectIdentifier, Date, Utf8, UtcTime, GeneralizedTime}
 use Rattle.rasn_schema.specs.declared.value.Value.{Instant}
 use Rattle.rasn_schema.specs.Fitting.{FitsLeaf}
 use Rattle.rasn_dynamic.proofs.OnlyFitting.{form_refused, fitted}
 use Rattle.rasn_dynamic.proofs.LeafWritten.{leaf_as, string_encoded, string_refused, number_encoded, number_refused}
 use Rattle.rasn_dynamic.proofs.write_leaf.encode_leaf.Goals as goal
 use Rattle.rasn_dynamic.proofs.write_leaf.encode_leaf.Goals.{in-UtcTime, in_default}
+
+pub encode_bits-requires : goal.encode_bits-requires
+encode_bits-requires c = rw c.as_bitstr.ensures (subst (FitsLeaf c.args.kind) c.in-Bits.is c.if-not-leaf_fits.ensures)
 
 pub returns-then-not-leaf_fits : goal.returns-then-not-leaf_fits
 returns-then-not-leaf_fits c = form_refused _ c.if-not-leaf_fits.ensures refl c.other_form.ensures
@@ -45,11 +47,7 @@ returns-in-Null c =
 
 pub returns-in-Bits : goal.returns-in-Bits
 returns-in-Bits c =
-    let fits : c.args.kind ≡ BitString = subst (FitsLeaf c.args.kind) c.in-Bits.is c.if-not-leaf_fits.ensures in
-    fitted _ c.if-not-leaf_fits.ensures (rw (c.in-Bits.is, fits, ← c.as_bitstr.ensures) (record {
-      ok = c.encode_bit_string.ensures.ok;
-      refused = size_refused _ bit_string c.args.tag c.args.constraints.now (bits c.as_bitstr.result) _ _ (λ b. b) c.encode_bit_string.ensures.fails;
-    })) c.encode_bit_string.ensures.err c.encode_bit_string.ensures.rules
+    fitted _ c.if-not-leaf_fits.ensures (rw (c.in-Bits.is, ← c.as_bitstr.ensures) c.encode_bits.ensures.does) c.encode_bits.ensures.err c.encode_bits.ensures.rules
 
 pub returns-in-Units : goal.returns-in-Units
 returns-in-Units c =

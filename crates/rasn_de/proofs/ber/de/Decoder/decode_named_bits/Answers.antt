@@ -1,3 +1,6 @@
+use Rattle.std.proofs.Common.{Ok, Err, subst}
+use Rattle.std.specs.Prelude.{List, Bool}
+use Rattle.rasn_de.specs.NamedBits.{AreNamedBits}
 use Rattle.rasn_de.proofs.Strings.NamedBits.{named_unread, named_found, named_refused}
 use Rattle.rasn_de.proofs.Leaves.Returns.{residual}
 use Rattle.rasn_de.proofs.ber.de.Decoder.decode_named_bits.Goals as goal
@@ -8,8 +11,10 @@ returns-in_err-bits c =
 
 pub returns-in-Ok : goal.returns-in-Ok
 returns-in-Ok c =
-    named_found c.args.tag c.args.constraints.now c.args.self.now _ c.in_ok-bits.bits c.in_ok-bits.ensures.reads c.in_ok-bits.ensures.exact c.in-Ok.bits (rw c.codec-rules.ensures at c.in-Ok.ensures)
+    let n = subst (λ (l : List Bool). AreNamedBits c.args.self.now.rule c.args.constraints.now l (Ok tt)) c.as_bitstr.ensures (rw c.codec-rules.ensures at c.in-Ok.ensures) in
+    named_found c.args.tag c.args.constraints.now c.args.self.now _ c.in_ok-bits.bits c.in_ok-bits.ensures.reads c.in_ok-bits.ensures.exact n.0 n.1 c.new.result c.new.ensures
 
 pub returns-in-Err : goal.returns-in-Err
 returns-in-Err c =
-    named_refused c.args.tag c.args.constraints.now c.args.self.now _ c.in_ok-bits.bits c.in_ok-bits.ensures.reads c.in_ok-bits.ensures.exact c.in-Err.fault c.error.result (rw c.codec-rules.ensures at c.in-Err.ensures) c.error.ensures
+    let n = subst (λ (l : List Bool). AreNamedBits c.args.self.now.rule c.args.constraints.now l (Err c.in-Err.fault)) c.as_bitstr.ensures (rw c.codec-rules.ensures at c.in-Err.ensures) in
+    named_refused c.args.tag c.args.constraints.now c.args.self.now _ c.in_ok-bits.bits c.in_ok-bits.ensures.reads c.in_ok-bits.ensures.exact c.in-Err.fault c.error.result n c.error.ensures
