@@ -10,11 +10,15 @@ use Rattle.rasn_types.specs.Shapes.{numbers, any, unknown}
 use Rattle.rasn_types.specs.Trees.{list_tree}
 use Rattle.rasn_types.specs.Grammar.{Reads}
 use Rattle.rasn_types.proofs.Encoding.Complete.{steps_twice}
+use Rattle.rasn_de.specs.declared.ber.de.parser.ParseError.TheVariants.{OutOfMemory}
 use Rattle.rasn_de.specs.State.{State}
+use Rattle.rasn_de.specs.Steps.{IsErrorOf}
+use Rattle.rasn_de.specs.Causes.{error_kind}
+use Rattle.rasn_de.proofs.Leaves.Errors.{rule_is}
 use Rattle.rasn_de.specs.Outcomes.{outcome}
 use Rattle.rasn_de.specs.Decodes.{Decodes}
 use Rattle.rasn_de.specs.Any.{OpenAt, DecodesOpenType}
-use Rattle.rasn_de.specs.SequenceOf.{ReadsElements, DecodesInTurn, FailsAtElement, DecodesElements}
+use Rattle.rasn_de.specs.SequenceOf.{ReadsElements, DecodesElement, DecodesInTurn, FailsAtElement, DecodesElements}
 use Rattle.rasn_de.specs.Unknown.{DecodesUnknown}
 use Rattle.rasn_de.proofs.Any.Reads.{open_decodes}
 use Rattle.rasn_de.proofs.Constructed.Reads.{Exact-same}
@@ -26,6 +30,13 @@ pub open_shorter : (old new : State) (a : Any) → DecodesOpenType eoc old (Ok a
 open_shorter old new a (((text, e, w, is), one), s) =
     let n : length old.rest ≡ length text + length new.rest = ap length is ∙ length-append text new.rest in
     omega (arith, n, steps_twice w)
+
+-- One more value is read.
+pub pushed : (old new : State) (vs all : List Any) (v : Any) → DecodesOpenType eoc old (Ok v) new → all ≡ vs ++ (v ∷ []) → DecodesElement (DecodesOpenType eoc) old vs (Ok tt) new all
+pushed old new vs all v r e = (v, e, r, λ n. absurd (omega (arith, open_shorter old new v r, n)))
+
+pub not_pushed : (old new : State) (vs all : List Any) (v : Any) (e : DecodeError) → DecodesOpenType eoc old (Ok v) new → IsErrorOf OutOfMemory new e → DecodesElement (DecodesOpenType eoc) old vs (Err e) new all
+not_pushed old new vs all v e r is = inr (v, r, inr (subst (λ (z : Codec). e ≡ record { kind = error_kind OutOfMemory; codec = z }) (rule_is old new r.1) is))
 
 in_turn : (old : State) (vs : List Any) (here : State) → DecodesInTurn (DecodesOpenType eoc) old vs here → DecodesInTurn (Decodes (any None) numbers) old vs here
 in_turn old [] here e = e

@@ -37,6 +37,13 @@ impl PartialEq for Unknown {
     }
 }
 
+impl Eq for Unknown {
+    ghost use Rattle.std.specs.Cmp.{on_equiv};
+    ghost use Rattle.std.specs.Cmp.Lexicographic.{lists_equiv, nat_list_eq_equiv};
+
+    ghost laws = { on_equiv (λ u. u.values.items) (lists_equiv nat_list_eq_equiv) };
+}
+
 impl AsnType for Unknown {
     ghost use Rattle.std.specs.Prelude.{refl};
     ghost use Rattle.rasn_types.specs.Shapes.{unknown, numbers};

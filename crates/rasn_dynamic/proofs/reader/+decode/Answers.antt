@@ -31,6 +31,7 @@ use Rattle.rasn_schema.specs.Shapes.{shape_of_type, type_by, alternatives_by, co
 use Rattle.rasn_schema.proofs.Presences.{always_by}
 use Rattle.rasn_schema.proofs.TypeShapes.{shape_below, own_is}
 use Rattle.rasn_schema.proofs.Lists.{split, nothing_left, read_at}
+use Rattle.rasn_schema.proofs.LawfulTypes.{is_present}
 use Rattle.rasn_dynamic.specs.Typed.{DecodesContents, element_count, values_tree}
 use Rattle.rasn_dynamic.specs.Calls.{held, names_of, nones}
 use Rattle.rasn_schema.specs.Fitting.{Fits, FitsBy, ComponentsFit, EachFits}
@@ -147,7 +148,7 @@ pub decode_contents-decode_part-requires : goal.decode_contents-decode_part-requ
 decode_contents-decode_part-requires t c = (search rules, (prefix_lawful _ _ (subst (λ n. IsLawful (type_by (shape_of_type c.args.types.now c.args.below) n)) c.in-Tagged.is c.requires.lawful), c.requires.clear))
 
 pub decode_contents-decode_sequence-requires : goal.decode_contents-decode_sequence-requires
-decode_contents-decode_sequence-requires t c = (search rules, (rw c.deref.ensures.value (lawful_parts (shape_of_type c.args.types.now c.args.below) _ (seq_lawful _ _ (subst (λ n. IsLawful (type_by (shape_of_type c.args.types.now c.args.below) n)) c.in-Sequence.is c.requires.lawful))), c.requires.clear))
+decode_contents-decode_sequence-requires t c = (search rules, (rw c.deref.ensures.value (lawful_parts (shape_of_type c.args.types.now c.args.below) (is_present c.args.types.now c.args.below) _ (seq_lawful _ _ (subst (λ n. IsLawful (type_by (shape_of_type c.args.types.now c.args.below) n)) c.in-Sequence.is c.requires.lawful))), c.requires.clear))
 
 pub decode_contents-returns-in_ok-values-in-Sequence-clause-exact : goal.decode_contents-returns-in_ok-values-in-Sequence-clause-exact
 decode_contents-returns-in_ok-values-in-Sequence-clause-exact t c = rw c.in-Sequence.is (sequence_made (shape_of_type c.args.types.now c.args.below) _ c.in-Sequence.components c.deref.ensures.value _ _ c.in-Sequence.tag c.in_ok-values-in-Sequence.values (c.in_ok-values-in-Sequence.ensures.reads, tt))

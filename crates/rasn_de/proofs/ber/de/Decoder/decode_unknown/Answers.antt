@@ -1,4 +1,4 @@
-use Rattle.std.proofs.Common.{Ok, Err, ◌∙◌}
+use Rattle.std.proofs.Common.{rules, Ok, Err, ◌∙◌}
 use Rattle.rasn_types.specs.Tags.{eoc}
 use Rattle.rasn_de.specs.Any.{DecodesOpenType}
 use Rattle.rasn_de.proofs.Any.Unknown.{unknown_decodes, turn_is_by_rules, open_shorter}
@@ -17,6 +17,9 @@ returns-in_err-push_unknown-clause-reads c =
 pub returns-in_err-push_unknown-clause-rules : goal.returns-in_err-push_unknown-clause-rules
 returns-in_err-push_unknown-clause-rules c =
     rw (residual _ c.from_residual.ensures.1) (c.in_err-push_unknown.ensures.rules ∙ turn_is_by_rules _ _ _ c.loop-self.invariant)
+
+pub returns-clause-reads : goal.returns-clause-reads
+returns-clause-reads c = unknown_decodes c.args.self.now (Ok (record { values = c.loop-self.values })) c.loop-self.self (search rules)
 
 pub loop-self-preserved : goal.loop-self-preserved
 loop-self-preserved c =
