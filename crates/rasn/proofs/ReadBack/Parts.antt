@@ -238,7 +238,7 @@ last_back rule depth back ts bs (t, us, e, within_limits, f) (t', us', b, cs, e'
     go : (u : Tree) × Same t u × ((closing : Bool) (tail : List ℕ) → IsTail closing tail
         → Reads rule unknown depth closing (b ++ tail) u tail × (Ended closing (b ++ tail) ⊎ IsUnknownNext (part required unknown none) (t ∷ []) (b ++ tail)))
         → (us : List Tree) × PartsBack rule depth (part required unknown none) ts bs us
-    go (u, (same, all)) = (
+    go (u, same, all) = (
       u ∷ [],
       (
         subst (λ l. Each Same l (u ∷ [])) (sym ts_are) (u, [], refl, same, refl),

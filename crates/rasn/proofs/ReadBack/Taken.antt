@@ -1,6 +1,6 @@
 -- Where there are no unknown values, none is taken for a part.
 use Rattle.std.proofs.Common.{◌≡◌, ◌||◌, ℕ, Bool, true, false, List, [], ◌∷◌, inl, inr, refl, sym, ap, subst, ◌∙◌, true≢false}
-use Rattle.rasn_types.specs.Tags.{Codec}
+use Rattle.rasn_types.specs.declared.types.codec.Codec.{Codec}
 use Rattle.rasn_types.specs.Shapes.{Tree, Shape, seq, unknown, Parts, part}
 use Rattle.rasn_types.specs.Shapes.Parts.{none}
 use Rattle.rasn_types.specs.LawfulTest.{is_unknown}

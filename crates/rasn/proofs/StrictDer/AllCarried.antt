@@ -295,13 +295,14 @@ begins_read : (ps : Parts) (depth : ℕ) → AreLawfulInOrder ps → EachMet dep
     → ReadsInOrder Der (parts_of Der ps depth closing) closing input ts rest → BeginsUnknown ps ts o → BeginsWith closing input o
 unfolding Reads parts_of
 begins_read none depth lawful k closing input ts rest o h b = absurd b
-begins_read (part presence s ps) depth lawful k closing input ts rest o (t, us, middle, e, h, hs) b = go (subst (λ l. BeginsUnknown (part presence s ps) l o) e b)
+begins_read (part presence s ps) depth lawful k closing input ts rest o (t, us, middle, e, h, hs) b =
+    go (λ d. begins_read ps depth (lawful_after presence s ps lawful) k.1 closing middle us rest o hs d) (subst (λ l. BeginsUnknown (part presence s ps) l o) e b)
   where
-    go : BeginsUnknown (part presence s ps) (t ∷ us) o → BeginsWith closing input o
-    go (inl (f, vs, g)) = ends_begin depth presence s (sought_in presence s) closing input t vs o middle (is_last presence s ps lawful f) f g h
-    go (inr (d, more)) =
+    go : (BeginsUnknown ps us o → BeginsWith closing middle o) → BeginsUnknown (part presence s ps) (t ∷ us) o → BeginsWith closing input o
+    go later (inl (f, vs, g)) = ends_begin depth presence s (sought_in presence s) closing input t vs o middle (is_last presence s ps lawful f) f g h
+    go later (inr (d, more)) =
         let left = unwritten_left s depth presence k.0 (sought_in presence s) closing closing input t middle h d in
-        subst (λ i. BeginsWith closing i o) left.1 (begins_read ps depth (lawful_after presence s ps lawful) k.1 closing middle us rest o hs more)
+        subst (λ i. BeginsWith closing i o) left.1 (later more)
 
 -- What is read in order is taken for no part that isn't written.
 in_order_taken : (ps : Parts) (depth : ℕ) → AreLawfulInOrder ps → EachMet depth ps → (closing : Bool) (input : List ℕ) (ts : List Tree) (rest : List ℕ)
@@ -321,11 +322,12 @@ in_order_taken (part presence s ps) depth lawful k closing input ts rest (t, us,
 missing_known : (ps : Parts) (depth : ℕ) (c : Bool) → AreLawfulInOrder ps → (ts : List Tree) (o : List ℕ) → AllMissing (presences_in (parts_of Der ps depth c)) ts → BeginsUnknown ps ts o → ⊥
 unfolding Reads parts_of
 missing_known none depth c lawful ts o h b = b
-missing_known (part presence s ps) depth c lawful ts o (t, us, e, h, hs) b = go (subst (λ l. BeginsUnknown (part presence s ps) l o) e b)
+missing_known (part presence s ps) depth c lawful ts o (t, us, e, h, hs) b =
+    go (λ d. missing_known ps depth c (lawful_after presence s ps lawful) us o hs d) (subst (λ l. BeginsUnknown (part presence s ps) l o) e b)
   where
-    go : BeginsUnknown (part presence s ps) (t ∷ us) o → ⊥
-    go (inl (f, vs, g)) = subst (λ p. IsMissing p t) (is_last presence s ps lawful f) h
-    go (inr (d, more)) = missing_known ps depth c (lawful_after presence s ps lawful) us o hs more
+    go : (BeginsUnknown ps us o → ⊥) → BeginsUnknown (part presence s ps) (t ∷ us) o → ⊥
+    go later (inl (f, vs, g)) = subst (λ p. IsMissing p t) (is_last presence s ps lawful f) h
+    go later (inr (d, more)) = later more
 
 missing_taken : (ps : Parts) (depth : ℕ) (c : Bool) → AreLawfulInOrder ps → (ts : List Tree) → AllMissing (presences_in (parts_of Der ps depth c)) ts → NoneTaken Der ps ts
 unfolding Reads parts_of

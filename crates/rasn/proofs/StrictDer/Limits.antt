@@ -174,13 +174,13 @@ unwritten_like (default_by key d) t u same h = same_trans t u d same h
 begins_like : (ps : Parts) (ts us : List Tree) (o : List ℕ) → Each Same ts us → BeginsUnknown ps us o → BeginsUnknown ps ts o
 begins_like none ts us o same h = absurd h
 begins_like (part presence s ps) [] us o same h = absurd (subst (λ l. BeginsUnknown (part presence s ps) l o) same h)
-begins_like (part presence s ps) (t ∷ ts) us o (v, vs, e, same, more) h = go (subst (λ l. BeginsUnknown (part presence s ps) l o) e h)
+begins_like (part presence s ps) (t ∷ ts) us o (v, vs, e, same, more) h = go (λ b. begins_like ps ts vs o more b) (subst (λ l. BeginsUnknown (part presence s ps) l o) e h)
   where
-    go : BeginsUnknown (part presence s ps) (v ∷ vs) o → BeginsUnknown (part presence s ps) (t ∷ ts) o
-    go (inl (f, w, g)) =
+    go : (BeginsUnknown ps vs o → BeginsUnknown ps ts o) → BeginsUnknown (part presence s ps) (v ∷ vs) o → BeginsUnknown (part presence s ps) (t ∷ ts) o
+    go rest (inl (f, w, g)) =
         let r : Same (joined (numbers o) w) t = subst (λ z. Same z t) g (same_sym t v same) in
         inl (f, r.1, r.2 ∙ ap (λ z. joined z r.1) r.3)
-    go (inr (d, b)) = inr (unwritten_like presence t v same d, begins_like ps ts vs o more b)
+    go rest (inr (d, b)) = inr (unwritten_like presence t v same d, rest b)
 
 taken_like : (ps : Parts) (ts us : List Tree) → Each Same ts us → NoneTaken Der ps ts → NoneTaken Der ps us
 taken_like none ts us same h = tt

@@ -1,11 +1,11 @@
 -- SET and SET OF with their octets.
-use Rattle.std.proofs.Common.{◌≡◌, ℕ, ◌<◌, inl, inr, List, [], ◌∷◌, ◌++◌, pos, rules, true, false, ◌*◌, ◌+◌, refl, sym, ◌∙◌, subst, ap₂, arith}
+use Rattle.std.proofs.Common.{◌≡◌, ℕ, ◌<◌, inl, inr, List, [], ◌∷◌, ◌++◌, None, pos, rules, true, false, ◌*◌, ◌+◌, refl, sym, ◌∙◌, subst, ap₂, arith}
 use Rattle.rasn_types.specs.Tags.{in_universal, loose_form, IsTagBelow}
 use Rattle.rasn_types.specs.declared.types.codec.Codec.{Codec}
 use Rattle.rasn_types.specs.declared.types.codec.Codec.TheVariants.{Der}
 use Rattle.rasn_types.specs.declared.types.tag.Tag.{Tag}
 use Rattle.rasn_types.specs.declared.types.tag.Class.TheVariants.{Universal, Application, Context}
-use Rattle.rasn_types.specs.Shapes.{number, numbers, items, set_elements, IsIn, integer, every, object_identifier, set, part, required}
+use Rattle.rasn_types.specs.Shapes.{number, numbers, items, set_elements, IsIn, integer, every, object_identifier, any, set, part, required}
 use Rattle.rasn_types.specs.Shapes.Parts.{none}
 use Rattle.rasn_types.specs.Contents.{signed}
 use Rattle.rasn_types.specs.Trees.{unsigned_range}

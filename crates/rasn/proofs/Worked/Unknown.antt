@@ -38,7 +38,7 @@ second_read : ReadsAny Der (5 ∷ 0 ∷ []) (numbers (5 ∷ 0 ∷ [])) []
 second_read = (5 ∷ 0 ∷ [], refl, whole _ false [] (short {spelling = loose_form} 5 false [] [] (omega arith) (omega arith) (omega arith)), refl)
 
 apart : contextual 1 ≢ contextual 0
-apart e = let f : 1 ≡ 0 = ap (λ (t : Tag). t.value) e in omega arith
+apart e = omega (arith, ap (λ (t : Tag). t.value) e)
 
 -- The INTEGER isn't there before [1].
 number_left_out : (rest : List ℕ) → IsLeftOut der_form (one_tag (Some (contextual 0))) false (129 ∷ 1 ∷ 7 ∷ rest)
