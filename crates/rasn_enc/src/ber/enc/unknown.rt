@@ -44,7 +44,10 @@ impl Encoder {
         ensures ok { OnOk result (AreUntaggedInSet values.now self.now → ⊥) }
         ensures fails { IfErr result (λ e. AreUntaggedInSet values.now self.now × IsUntaggedInSetError self.now.rule e) }
     {
-        if self.keeps_tags() && values.iter().any(|value| !value.as_bytes().is_empty()) {
+        if !self.keeps_tags() {
+            return Ok(());
+        }
+        if some_have_octets(values) {
             return Err(any_in_set(self.codec()));
         }
         Ok(())
@@ -63,6 +66,13 @@ impl Encoder {
         }
         Ok(())
     }
+}
+
+/// Returns whether some of the values have octets.
+fn some_have_octets(values: &[Any]) -> bool
+    ensures { result ≡ have_octets values.now }
+{
+    values.iter().any(|value| !value.as_bytes().is_empty())
 }
 
 impl Encode for Unknown {
