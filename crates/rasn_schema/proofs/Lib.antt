@@ -14,6 +14,7 @@ pub mod Presences
 pub mod Depth
 pub mod Clash
 pub mod Fitted
+pub mod Significant
 pub mod ListsOf
 pub mod Untagged
 pub mod Parts
