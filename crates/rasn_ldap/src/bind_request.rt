@@ -83,7 +83,10 @@ impl Encode for BindRequest {
             tag,
             Put(
                 &self.version,
-                Put(&self.name, Put(&self.authentication, Put(&self.unknown, End))),
+                Put(
+                    &self.name,
+                    Put(&self.authentication, Put(&self.unknown, End)),
+                ),
             ),
         )
     }

@@ -3,7 +3,10 @@
 use crate::{LdapString, ResultCode};
 use rasn::error::{DecodeError, EncodeError};
 use rasn::parts::{End, Optional, Put, PutOptional, Required};
-use rasn::types::{AsnType, Class, Constraints, ContextTag, Identifier, Implicit, LawfulEq, OctetString, Present, Tag, Unknown};
+use rasn::types::{
+    AsnType, Class, Constraints, ContextTag, Identifier, Implicit, LawfulEq, OctetString, Present,
+    Tag, Unknown,
+};
 use rasn::{Decode, Decoder, Encode, Encoder};
 
 /// \[APPLICATION 1\] SEQUENCE { COMPONENTS OF LDAPResult,

@@ -53,7 +53,8 @@ impl Decode for Change {
         tag: Tag,
         _constraints: &Constraints,
     ) -> Result<Change, DecodeError> {
-        let Required(operation, Required(modification, Required(unknown, End))) = decoder.read_sequence(tag)?;
+        let Required(operation, Required(modification, Required(unknown, End))) =
+            decoder.read_sequence(tag)?;
         Ok(Change {
             operation,
             modification,
@@ -70,7 +71,13 @@ impl Encode for Change {
         _constraints: &Constraints,
         _identifier: Identifier,
     ) -> Result<(), EncodeError> {
-        encoder.write_sequence(tag, Put(&self.operation, Put(&self.modification, Put(&self.unknown, End))))
+        encoder.write_sequence(
+            tag,
+            Put(
+                &self.operation,
+                Put(&self.modification, Put(&self.unknown, End)),
+            ),
+        )
     }
 
     fn is_present(&self) -> bool {

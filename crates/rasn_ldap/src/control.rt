@@ -76,7 +76,10 @@ impl Decode for Control {
     ) -> Result<Control, DecodeError> {
         let Required(
             control_type,
-            Defaulted::<NotCritical, _>(criticality, Optional(control_value, Required(unknown, End))),
+            Defaulted::<NotCritical, _>(
+                criticality,
+                Optional(control_value, Required(unknown, End)),
+            ),
         ) = decoder.read_sequence(tag)?;
         Ok(Control {
             control_type,

@@ -2,7 +2,10 @@
 //! requestValue [1] OCTET STRING OPTIONAL }` (RFC 4511, 4.12).
 use rasn::error::{DecodeError, EncodeError};
 use rasn::parts::{End, Optional, Put, PutOptional, Required};
-use rasn::types::{AsnType, Class, Constraints, ContextTag, Identifier, Implicit, LawfulEq, OctetString, Present, Tag, Unknown, Utf8String};
+use rasn::types::{
+    AsnType, Class, Constraints, ContextTag, Identifier, Implicit, LawfulEq, OctetString, Present,
+    Tag, Unknown, Utf8String,
+};
 use rasn::{Decode, Decoder, Encode, Encoder};
 
 /// \[APPLICATION 23\] SEQUENCE { requestName \[0\] LDAPOID,
@@ -57,7 +60,8 @@ impl Decode for ExtendedRequest {
         tag: Tag,
         _constraints: &Constraints,
     ) -> Result<ExtendedRequest, DecodeError> {
-        let Required(request_name, Optional(request_value, Required(unknown, End))) = decoder.read_sequence(tag)?;
+        let Required(request_name, Optional(request_value, Required(unknown, End))) =
+            decoder.read_sequence(tag)?;
         Ok(ExtendedRequest {
             request_name,
             request_value,
@@ -76,7 +80,10 @@ impl Encode for ExtendedRequest {
     ) -> Result<(), EncodeError> {
         encoder.write_sequence(
             tag,
-            Put(&self.request_name, PutOptional(&self.request_value, Put(&self.unknown, End))),
+            Put(
+                &self.request_name,
+                PutOptional(&self.request_value, Put(&self.unknown, End)),
+            ),
         )
     }
 

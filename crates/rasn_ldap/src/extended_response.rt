@@ -3,7 +3,10 @@
 use crate::{LdapString, ResultCode};
 use rasn::error::{DecodeError, EncodeError};
 use rasn::parts::{End, Optional, Put, PutOptional, Required};
-use rasn::types::{AsnType, Class, Constraints, ContextTag, Identifier, Implicit, LawfulEq, OctetString, Present, Tag, Unknown, Utf8String};
+use rasn::types::{
+    AsnType, Class, Constraints, ContextTag, Identifier, Implicit, LawfulEq, OctetString, Present,
+    Tag, Unknown, Utf8String,
+};
 use rasn::{Decode, Decoder, Encode, Encoder};
 
 /// \[APPLICATION 24\] SEQUENCE { COMPONENTS OF LDAPResult, responseName \[10\] LDAPOID OPTIONAL,
@@ -64,7 +67,10 @@ impl Decode for ExtendedResponse {
     ) -> Result<ExtendedResponse, DecodeError> {
         let Required(result_code, Required(matched_dn, Required(diagnostic_message, rest))) =
             decoder.read_sequence(tag)?;
-        let Optional(referral, Optional(response_name, Optional(response_value, Required(unknown, End)))) = rest;
+        let Optional(
+            referral,
+            Optional(response_name, Optional(response_value, Required(unknown, End))),
+        ) = rest;
         Ok(ExtendedResponse {
             result_code,
             matched_dn,
@@ -87,7 +93,10 @@ impl Encode for ExtendedResponse {
     ) -> Result<(), EncodeError> {
         let referral = PutOptional(
             &self.referral,
-            PutOptional(&self.response_name, PutOptional(&self.response_value, Put(&self.unknown, End))),
+            PutOptional(
+                &self.response_name,
+                PutOptional(&self.response_value, Put(&self.unknown, End)),
+            ),
         );
         encoder.write_sequence(
             tag,

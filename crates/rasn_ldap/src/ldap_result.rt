@@ -3,7 +3,9 @@
 use crate::{LdapString, ResultCode};
 use rasn::error::{DecodeError, EncodeError};
 use rasn::parts::{End, Optional, Put, PutOptional, Required};
-use rasn::types::{AsnType, Constraints, ContextTag, Identifier, Implicit, LawfulEq, Present, Tag, Unknown};
+use rasn::types::{
+    AsnType, Constraints, ContextTag, Identifier, Implicit, LawfulEq, Present, Tag, Unknown,
+};
 use rasn::{Decode, Decoder, Encode, Encoder};
 
 /// SEQUENCE { resultCode ENUMERATED, matchedDN LDAPDN, diagnosticMessage LDAPString,

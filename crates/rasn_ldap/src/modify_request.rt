@@ -58,8 +58,14 @@ impl Decode for ModifyRequest {
         tag: Tag,
         _constraints: &Constraints,
     ) -> Result<ModifyRequest, DecodeError> {
-        let Required(object, Required(changes, Required(unknown, End))) = decoder.read_sequence(tag)?;
-        Ok(ModifyRequest { object, changes, unknown })
+        let Required(object, Required(changes, Required(unknown, End))) = decoder.read_sequence(
+            tag,
+        )?;
+        Ok(ModifyRequest {
+            object,
+            changes,
+            unknown,
+        })
     }
 }
 
@@ -71,7 +77,10 @@ impl Encode for ModifyRequest {
         _constraints: &Constraints,
         _identifier: Identifier,
     ) -> Result<(), EncodeError> {
-        encoder.write_sequence(tag, Put(&self.object, Put(&self.changes, Put(&self.unknown, End))))
+        encoder.write_sequence(
+            tag,
+            Put(&self.object, Put(&self.changes, Put(&self.unknown, End))),
+        )
     }
 
     fn is_present(&self) -> bool {

@@ -55,7 +55,9 @@ impl Decode for PartialAttribute {
         tag: Tag,
         _constraints: &Constraints,
     ) -> Result<PartialAttribute, DecodeError> {
-        let Required(description, Required(values, Required(unknown, End))) = decoder.read_sequence(tag)?;
+        let Required(description, Required(values, Required(unknown, End))) = decoder.read_sequence(
+            tag,
+        )?;
         Ok(PartialAttribute {
             description,
             values,
@@ -72,7 +74,13 @@ impl Encode for PartialAttribute {
         _constraints: &Constraints,
         _identifier: Identifier,
     ) -> Result<(), EncodeError> {
-        encoder.write_sequence(tag, Put(&self.description, Put(&self.values, Put(&self.unknown, End))))
+        encoder.write_sequence(
+            tag,
+            Put(
+                &self.description,
+                Put(&self.values, Put(&self.unknown, End)),
+            ),
+        )
     }
 
     fn is_present(&self) -> bool {

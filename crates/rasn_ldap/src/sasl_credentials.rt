@@ -55,7 +55,8 @@ impl Decode for SaslCredentials {
         tag: Tag,
         _constraints: &Constraints,
     ) -> Result<SaslCredentials, DecodeError> {
-        let Required(mechanism, Optional(credentials, Required(unknown, End))) = decoder.read_sequence(tag)?;
+        let Required(mechanism, Optional(credentials, Required(unknown, End))) =
+            decoder.read_sequence(tag)?;
         Ok(SaslCredentials {
             mechanism,
             credentials,
@@ -74,7 +75,10 @@ impl Encode for SaslCredentials {
     ) -> Result<(), EncodeError> {
         encoder.write_sequence(
             tag,
-            Put(&self.mechanism, PutOptional(&self.credentials, Put(&self.unknown, End))),
+            Put(
+                &self.mechanism,
+                PutOptional(&self.credentials, Put(&self.unknown, End)),
+            ),
         )
     }
 

@@ -58,7 +58,8 @@ impl Decode for SearchResultEntry {
         tag: Tag,
         _constraints: &Constraints,
     ) -> Result<SearchResultEntry, DecodeError> {
-        let Required(object_name, Required(attributes, Required(unknown, End))) = decoder.read_sequence(tag)?;
+        let Required(object_name, Required(attributes, Required(unknown, End))) =
+            decoder.read_sequence(tag)?;
         Ok(SearchResultEntry {
             object_name,
             attributes,
@@ -75,7 +76,13 @@ impl Encode for SearchResultEntry {
         _constraints: &Constraints,
         _identifier: Identifier,
     ) -> Result<(), EncodeError> {
-        encoder.write_sequence(tag, Put(&self.object_name, Put(&self.attributes, Put(&self.unknown, End))))
+        encoder.write_sequence(
+            tag,
+            Put(
+                &self.object_name,
+                Put(&self.attributes, Put(&self.unknown, End)),
+            ),
+        )
     }
 
     fn is_present(&self) -> bool {

@@ -8,7 +8,10 @@ mod signed;
 mod snmp;
 
 use crate::place::{Found, Located, Walk};
-use rasn::types::{Any, AsnType, BitString, Explicit, GeneralizedTime, Implicit, Integer, ObjectIdentifier, OctetString, SetOf, Unknown, UtcTime, Utf8String};
+use rasn::types::{
+    Any, AsnType, BitString, Explicit, GeneralizedTime, Implicit, Integer, ObjectIdentifier,
+    OctetString, SetOf, Unknown, UtcTime, Utf8String,
+};
 
 impl Located for u8 {}
 
