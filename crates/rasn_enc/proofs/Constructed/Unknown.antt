@@ -1,5 +1,6 @@
 -- Unknown values are written as their octets, one value after the other.
-use Rattle.std.proofs.Common.{◌≡◌, ◌≢◌, ◌≤◌, ◌-◌, ◌||◌, ℕ, suc, List, [], ◌∷◌, ◌++◌, length, map, take, drop, get_or, arith, refl, sym, ap, ap₂, ◌∙◌, subst, Option, Some, None, nat_eq, not, T, Bool, true, false, Result, Ok, Err, OnOk, IfErr, inl, inr, ◌⊎◌}
+use Rattle.std.proofs.Common.{◌≡◌, ◌≢◌, ◌≤◌, ◌-◌, ◌||◌, ℕ, suc, List, [], ◌∷◌, ◌++◌, length, map, take, drop, get_or, arith, rules, refl, sym, ap, ap₂, ◌∙◌, subst, Option, Some, None, nat_eq, not, T, Bool, true, false, Result, Ok, Err, OnOk, IfErr, inl, inr, ◌⊎◌}
+use Rattle.std.proofs.lemmas.Bool.Decides.{nat_tests}
 use Rattle.std.proofs.lemmas.List.{append_assoc, append-nil, take_rest}
 use Rattle.std.proofs.lemmas.Result.{on_ok_weaker, IfErr-weaker}
 use Rattle.rasn_types.specs.Shapes.{Tree, numbers, items, unknown}
@@ -40,11 +41,18 @@ values_more values rest after x v u w k e a = record {
 pub values_end : (values : List (List ℕ)) (v w : View) → ValuesSoFar values [] v w → w ≡ appended v (joined_lists values) []
 values_end values v w k = k.appended ∙ ap (λ l. appended v (joined_lists l) []) (sym (k.is ∙ append-nil k.front))
 
+is_longer : (x : ℕ) (l : List ℕ) (b : Bool) → b ≡ nat_eq (length (x ∷ l)) 0 → b ≡ false
+is_longer x l true e = let n : length (x ∷ l) ≡ 0 = search (rules, nat_tests) in absurd (omega (arith, n))
+is_longer x l false e = refl
+
+has_octets : (x : ℕ) (l : List ℕ) (values : List (List ℕ)) → T (have_octets ((x ∷ l) ∷ values))
+has_octets x l values = subst (λ b. T (not b || have_octets values)) (sym (is_longer x l _ refl)) tt
+
 -- Where no value has octets, there are none.
 no_octets : (values : List (List ℕ)) → (T (have_octets values) → ⊥) → joined_lists values ≡ []
 no_octets [] n = refl
 no_octets ([] ∷ values) n = no_octets values n
-no_octets ((x ∷ l) ∷ values) n = absurd (n tt)
+no_octets ((x ∷ l) ∷ values) n = absurd (n (has_octets x l values))
 
 some_octets : (values : List (List ℕ)) → T (have_octets values) → joined_lists values ≢ []
 some_octets [] h e = h
