@@ -22,7 +22,7 @@ use Rattle.rasn_de.proofs.Constructed.Steps.{rules_same, inside_by}
 use Rattle.rasn_de.proofs.Constructed.SetOfElements.{each_decodes, in_order_decodes, each_leaves, in_order_leaves}
 use Rattle.rasn_de.proofs.Constructed.SequenceOf.{sequence_of_decodes, set_of_decodes}
 use Rattle.rasn_schema.specs.declared.types.«Type».{«Type»}
-use Rattle.rasn_schema.specs.declared.types.«Type».TheVariants.{Leaf, Enumerated, Any, Tagged, Choice, Sequence, Set, SequenceOf, SetOf}
+use Rattle.rasn_schema.specs.declared.types.«Type».TheVariants.{Leaf, Enumerated, Any, Tagged, Choice, Sequence, Set, SequenceOf, SetOf, Unknown}
 use Rattle.rasn_schema.specs.declared.type_id.TypeId.{TypeId}
 use Rattle.rasn_schema.specs.declared.types.Component.{Component}
 use Rattle.rasn_schema.specs.declared.value.Value.{Value, Items, Elements, items_hidden-the_row-Value-0}
@@ -177,6 +177,7 @@ module _ (f : ℕ → Shape) where
   contents_end (Leaf kind tag c names) o v n h = absurd h
   contents_end (Enumerated tag ns) o v n h = absurd h
   contents_end (Any tag) o v n h = absurd h
+  contents_end Unknown o v n h = absurd h
   contents_end (Tagged tag k) o v n h = h.end
   contents_end (Choice name ks) o v n h = absurd h
   contents_end (Sequence tag ps) o v n h = (sequence_contents tag ps o (Ok v) n h).end
@@ -189,6 +190,7 @@ module _ (f : ℕ → Shape) where
   contents_stay (Leaf kind tag c names) o e n h = absurd h
   contents_stay (Enumerated tag ns) o e n h = absurd h
   contents_stay (Any tag) o e n h = absurd h
+  contents_stay Unknown o e n h = absurd h
   contents_stay (Tagged tag k) o e n h = h.stays
   contents_stay (Choice name ks) o e n h = absurd h
   contents_stay (Sequence tag ps) o e n h = (sequence_contents tag ps o (Err e) n h).stays
@@ -210,6 +212,7 @@ module _ (f : ℕ → Shape) where
     type_decodes (Leaf kind tag c names) h = h
     type_decodes (Enumerated tag ns) h = h
     type_decodes (Any tag) h = h
+    type_decodes Unknown h = h
     type_decodes (Tagged tag k) h = prefixed tag k h
     type_decodes (Choice name ks) h = h.0
     type_decodes (Sequence tag ps) h = in_sequence tag ps h

@@ -16,7 +16,7 @@ use Rattle.rasn_de.specs.SequenceOf.{DecodesElements, DecodesElementsInOrder, De
 use Rattle.rasn_de.specs.PartTypes.{FailsAtPart}
 use Rattle.rasn_de.specs.SetPartTypes.{DecodesSetPartContents}
 use Rattle.rasn_schema.specs.declared.types.«Type».{«Type»}
-use Rattle.rasn_schema.specs.declared.types.«Type».TheVariants.{Leaf, Enumerated, Any, Tagged, Choice, Sequence, Set, SequenceOf, SetOf}
+use Rattle.rasn_schema.specs.declared.types.«Type».TheVariants.{Leaf, Enumerated, Any, Tagged, Choice, Sequence, Set, SequenceOf, SetOf, Unknown}
 use Rattle.rasn_schema.specs.declared.value.Value.{Value, Items, Elements, Items', Elements', items-the_row-Value}
 use Rattle.rasn_schema.specs.Trees.{tree_of}
 use Rattle.rasn_schema.specs.Shapes.{type_by, alternatives_by, components_by}
@@ -59,6 +59,7 @@ abbrev pub HoldsOthers : «Type» → Type 0
 HoldsOthers (Leaf kind tag c names) = ⊥
 HoldsOthers (Enumerated tag ns) = ⊥
 HoldsOthers (Any tag) = ⊥
+HoldsOthers Unknown = ⊥
 HoldsOthers (Tagged tag k) = Unit {0}
 HoldsOthers (Choice name ks) = ⊥
 HoldsOthers (Sequence tag ps) = Unit {0}
@@ -73,6 +74,7 @@ module _ (f : ℕ → Shape) where
   DecodesContents (Leaf kind tag c names) = λ old r new. ⊥
   DecodesContents (Enumerated tag ns) = λ old r new. ⊥
   DecodesContents (Any tag) = λ old r new. ⊥
+  DecodesContents Unknown = λ old r new. ⊥
   DecodesContents (Tagged tag k) = Decodes (f k.0) tree_of
   DecodesContents (Choice name ks) = λ old r new. ⊥
   DecodesContents (Sequence tag ps) = Makes Items (DecodesComponents (components_by f ps.items))
@@ -85,6 +87,7 @@ module _ (f : ℕ → Shape) where
   DecodesType (Leaf kind tag c names) = Decodes (type_by f (Leaf kind tag c names)) tree_of
   DecodesType (Enumerated tag ns) = Decodes (type_by f (Enumerated tag ns)) tree_of
   DecodesType (Any tag) = Decodes (type_by f (Any tag)) tree_of
+  DecodesType Unknown = Decodes (type_by f Unknown) tree_of
   DecodesType (Tagged tag k) = DecodesInside (DecodesContents (Tagged tag k)) (prefix_header tag)
   DecodesType (Choice name ks) = λ old r new.
       Decodes (choice (alternatives_by f ks.items)) tree_of old r new × IfErr r (λ e. IsNoAlternative (alternatives_by f ks.items) (string_bytes name) old e new)

@@ -3,7 +3,7 @@ ghost use Rattle.std.specs.Prelude.{◌≡◌, true, ◌++◌, ◌∷◌, [], On
 ghost use Rattle.rasn_types.specs.Errors.{IsOutOfMemory};
 ghost use Rattle.rasn_types.specs.Numbered.{fit_isize};
 ghost use Rattle.rasn_types.specs.CharacterString.{string_kind};
-ghost use Rattle.rasn_types.specs.Shapes.{leaf, any, looked_for, fixed, integer, enumerated, utc_time};
+ghost use Rattle.rasn_types.specs.Shapes.{leaf, any, unknown, looked_for, fixed, integer, enumerated, utc_time};
 ghost use Rattle.rasn_types.specs.Trees.{unconstrained};
 ghost use Rattle.rasn_types.specs.Truth.{IsWhether};
 ghost use Rattle.rasn_de.specs.Decodes.{Decodes};
@@ -13,7 +13,7 @@ ghost use Rattle.rasn_schema.specs.Trees.{tree_of};
 ghost use Rattle.rasn_schema.specs.Shapes.{kind_of, numbers_of};
 ghost use Rattle.rasn_schema.specs.declared.types.LeafKind.TheVariants.{FixedOctetString as FixedKind, UtcTime as UtcTimeKind};
 ghost use Rattle.rasn_dynamic.specs.Calls.{IsNumberIn, IsStringOf, FailsAtNumber, FailsAtFixed};
-ghost use Rattle.rasn_schema.specs.Fitting.{FitsLeaf, IsNumber, AreOctets};
+ghost use Rattle.rasn_schema.specs.Fitting.{FitsLeaf, IsNumber, AreOctets, AreItems, EachFits};
 
 use rasn_de::ber::de::Decoder;
 use rasn_de::de::Decode;
@@ -284,4 +284,24 @@ pub fn decode_any_value<'input>(
 {
     let octets = decoder.decode_open(tag)?;
     Ok(Value::Octets(CowSlice::Borrowed(octets)))
+}
+
+/// Reads all values up to the end of the contents, each as one complete encoding (X.680 25).
+///
+/// # Errors
+/// The error of the first value that can't be read: the values before it are consumed. Otherwise
+/// only `OutOfMemory`.
+pub fn decode_unknown_values<'input>(
+    decoder: &mut Decoder<'input>,
+) -> Result<Value<'input>, DecodeError>
+    ensures reads { Decodes unknown tree_of decoder.old result decoder.new }
+    ensures fits { IfOk result (AreItems (EachFits AreOctets)) }
+    ensures rules { IfErr result (λ e. e.codec ≡ decoder.old.rule) }
+{
+    let mut values = Vec::new(decoder.alloc());
+    while !decoder.has_ended() {
+        let value = decode_any_value(decoder, Tag::EOC)?;
+        push(decoder, &mut values, value)?;
+    }
+    Ok(Value::Items(values))
 }

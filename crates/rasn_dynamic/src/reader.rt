@@ -3,7 +3,7 @@ ghost use Rattle.std.specs.Prelude.{◌≡◌, ◌≢◌, ◌⊎◌, slice_get, 
 ghost use Rattle.std.specs.String.{string_bytes};
 ghost use Rattle.rasn_types.specs.Framing.{AreOctets};
 ghost use Rattle.rasn_types.specs.Errors.{IsOutOfMemory};
-ghost use Rattle.rasn_types.specs.Lawful.{IsLawful, AreLawfulByTag};
+ghost use Rattle.rasn_types.specs.Lawful.{AreLawfulByTag};
 ghost use Rattle.rasn_types.specs.Shapes.{choice, sought_by};
 ghost use Rattle.rasn_types.specs.Trees.{list_tree};
 ghost use Rattle.rasn_de.specs.Decodes.{Decodes, DecodesBy};
@@ -15,7 +15,7 @@ ghost use Rattle.rasn_de.specs.SetPartTypes.{DecodesNext, DecodesSetPartContents
 ghost use Rattle.rasn_de.specs.Steps.{IsErrorOf};
 ghost use Rattle.rasn_de.specs.declared.ber.de.parser.ParseError.TheVariants.{UnexpectedExtraData, UnexpectedEmptyInput};
 ghost use Rattle.rasn_schema.specs.Trees.{tree_of};
-ghost use Rattle.rasn_schema.specs.Shapes.{shape_of_type, type_by, alternatives_by, components_by, key_of, presence_in, AreLawful};
+ghost use Rattle.rasn_schema.specs.Shapes.{shape_of_type, type_by, alternatives_by, components_by, key_of, presence_in, IsReadable, AreReadable};
 ghost use Rattle.rasn_dynamic.specs.Inside.{ReadsSequence, ReadsComponent};
 ghost use Rattle.rasn_dynamic.specs.Typed.{element_count, IsSized, HoldsOthers, DecodesContents, DecodesType};
 ghost use Rattle.rasn_dynamic.specs.Calls.{held, nones, names_of, IsKept, DecodesPresent, IsNoAlternative};
@@ -26,7 +26,9 @@ ghost use Rattle.rasn_de.specs.Constructed.{list_header};
 
 use crate::components::{default_present, is_always_there, leaves_all_out, missing};
 use crate::order::{is_less, octets_before, out_of_order};
-use crate::read_leaf::{decode_any_value, decode_leaf, decode_number, out_of_memory, push};
+use crate::read_leaf::{
+    decode_any_value, decode_leaf, decode_number, decode_unknown_values, out_of_memory, push,
+};
 use crate::set::{component_for, gather, no_components, put};
 use crate::trace::{Fault, add_after, mark, octets_after, octets_left, step};
 use rasn_de::ber::de::{ConstructedHeader, Decoder};
@@ -121,7 +123,7 @@ pub fn decode_at<'input>(
     levels: usize,
     id: TypeId,
 ) -> Result<Value<'input>, DecodeError>
-    requires lawful { IsLawful (shape_of_type types.now levels id.0) }
+    requires lawful { IsReadable (shape_of_type types.now levels id.0) }
     requires clear { trace.old ≡ None }
     ensures reads { Decodes (shape_of_type types.now levels id.0) tree_of decoder.old result decoder.new }
     ensures nothing { IfErr result (λ e. None ≡ slice_get types.now id.0 → IsErrorOf UnexpectedEmptyInput decoder.old e × (decoder.new ≡ decoder.old)) }
@@ -150,7 +152,7 @@ fn decode_part<'input>(
     id: TypeId,
     index: usize,
 ) -> Result<Value<'input>, DecodeError>
-    requires lawful { IsLawful (shape_of_type types.now levels id.0) }
+    requires lawful { IsReadable (shape_of_type types.now levels id.0) }
     requires clear { trace.old ≡ None }
     ensures reads { Decodes (shape_of_type types.now levels id.0) tree_of decoder.old result decoder.new }
     ensures fits { IfOk result (λ v. Fits types.now levels id.0 v) }
@@ -175,7 +177,7 @@ fn decode_found<'input>(
     levels: usize,
     id: TypeId,
 ) -> Result<Value<'input>, DecodeError>
-    requires lawful { IsLawful (shape_of_type types.now levels id.0) }
+    requires lawful { IsReadable (shape_of_type types.now levels id.0) }
     requires clear { trace.old ≡ None }
     ensures reads { Decodes (shape_of_type types.now levels id.0) tree_of decoder.old result decoder.new }
     ensures nothing { IfErr result (λ e. None ≡ slice_get types.now id.0 → IsErrorOf UnexpectedEmptyInput decoder.old e × (decoder.new ≡ decoder.old)) }
@@ -203,7 +205,7 @@ fn decode_type<'input>(
     below: usize,
     ty: &Type,
 ) -> Result<Value<'input>, DecodeError>
-    requires lawful { IsLawful (type_by (shape_of_type types.now below) ty.now) }
+    requires lawful { IsReadable (type_by (shape_of_type types.now below) ty.now) }
     requires clear { trace.old ≡ None }
     ensures exact { DecodesType (shape_of_type types.now below) ty.now decoder.old result decoder.new }
     ensures reads { Decodes (type_by (shape_of_type types.now below) ty.now) tree_of decoder.old result decoder.new }
@@ -221,6 +223,7 @@ fn decode_type<'input>(
         } => decode_leaf(decoder, *kind, *tag, constraints),
         Type::Enumerated { tag, numbers } => decode_number(decoder, *tag, numbers),
         Type::Any { tag } => decode_any_value(decoder, *tag),
+        Type::Unknown => decode_unknown_values(decoder),
         Type::Choice { name, alternatives } => {
             decode_choice(decoder, trace, types, below, name.as_str(), alternatives)
         }
@@ -280,7 +283,7 @@ fn decode_choice<'input>(
     name: &str,
     alternatives: &[Alternative],
 ) -> Result<Value<'input>, DecodeError>
-    requires lawful { IsLawful (choice (alternatives_by (shape_of_type types.now below) alternatives.now)) }
+    requires lawful { IsReadable (choice (alternatives_by (shape_of_type types.now below) alternatives.now)) }
     requires clear { trace.old ≡ None }
     ensures reads { Decodes (choice (alternatives_by (shape_of_type types.now below) alternatives.now)) tree_of decoder.old result decoder.new }
     ensures fits { IfOk result (λ v. IsChosen (AlternativeFits (Fits types.now below) alternatives.now) v) }
@@ -315,7 +318,7 @@ fn decode_list<'input>(
     tag: Tag,
     constraints: &Constraints,
 ) -> Result<Value<'input>, DecodeError>
-    requires lawful { IsLawful (type_by (shape_of_type types.now below) ty.now) }
+    requires lawful { IsReadable (type_by (shape_of_type types.now below) ty.now) }
     requires holds { HoldsOthers ty.now }
     requires clear { trace.old ≡ None }
     ensures exact { DecodesSized (DecodesContents (shape_of_type types.now below) ty.now) element_count tag constraints.now decoder.old result decoder.new }
@@ -346,7 +349,7 @@ fn decode_inside<'input>(
     ty: &Type,
     header: ConstructedHeader,
 ) -> Result<Value<'input>, DecodeError>
-    requires lawful { IsLawful (type_by (shape_of_type types.now below) ty.now) }
+    requires lawful { IsReadable (type_by (shape_of_type types.now below) ty.now) }
     requires holds { HoldsOthers ty.now }
     requires clear { trace.old ≡ None }
     ensures exact { DecodesInside (DecodesContents (shape_of_type types.now below) ty.now) header decoder.old result decoder.new }
@@ -379,7 +382,7 @@ fn decode_contents<'input>(
     below: usize,
     ty: &Type,
 ) -> Result<Value<'input>, DecodeError>
-    requires lawful { IsLawful (type_by (shape_of_type types.now below) ty.now) }
+    requires lawful { IsReadable (type_by (shape_of_type types.now below) ty.now) }
     requires holds { HoldsOthers ty.now }
     requires clear { trace.old ≡ None }
     ensures exact { DecodesContents (shape_of_type types.now below) ty.now decoder.old result decoder.new }
@@ -432,7 +435,7 @@ fn decode_elements<'input>(
     below: usize,
     element: TypeId,
 ) -> Result<Vec<Value<'input>>, DecodeError>
-    requires lawful { IsLawful (shape_of_type types.now below element.0) }
+    requires lawful { IsReadable (shape_of_type types.now below element.0) }
     requires clear { trace.old ≡ None }
     ensures reads { DecodesElements (Decodes (shape_of_type types.now below element.0) tree_of) (λ v. v.items) decoder.old result decoder.new }
     ensures fits { IfOk result (λ v. EachFits (Fits types.now below element.0) v.items) }
@@ -458,7 +461,7 @@ fn decode_elements_in_order<'input>(
     below: usize,
     element: TypeId,
 ) -> Result<Vec<Value<'input>>, DecodeError>
-    requires lawful { IsLawful (shape_of_type types.now below element.0) }
+    requires lawful { IsReadable (shape_of_type types.now below element.0) }
     requires clear { trace.old ≡ None }
     ensures reads { DecodesElementsInOrder (Decodes (shape_of_type types.now below element.0) tree_of) (λ v. v.items) decoder.old result decoder.new }
     ensures fits { IfOk result (λ v. EachFits (Fits types.now below element.0) v.items) }
@@ -490,7 +493,7 @@ fn decode_sequence<'input>(
     below: usize,
     components: &[Component],
 ) -> Result<Vec<Value<'input>>, DecodeError>
-    requires lawful { AreLawful (components_by (shape_of_type types.now below) components.now) }
+    requires lawful { AreReadable (components_by (shape_of_type types.now below) components.now) }
     requires clear { trace.old ≡ None }
     ensures reads { DecodesBy (ReadsSequence (components_by (shape_of_type types.now below) components.now)) (λ v. list_tree tree_of v.items) decoder.old result decoder.new }
     ensures fails { IfErr result (λ e. FailsAtPart (components_by (shape_of_type types.now below) components.now) decoder.old e decoder.new ⊎ IsOutOfMemory e.kind) }
@@ -524,7 +527,7 @@ pub(crate) fn is_next(
     levels: usize,
     id: TypeId,
 ) -> Result<bool, DecodeError>
-    requires { IsLawful (shape_of_type types.now levels id.0) }
+    requires { IsReadable (shape_of_type types.now levels id.0) }
     ensures { NextIs (sought_by (key_of (shape_of_type types.now levels id.0)) (shape_of_type types.now levels id.0)) decoder.now result }
 {
     if !is_choice_at(types, levels, id) {
@@ -547,7 +550,7 @@ pub fn decode_component<'input>(
     component: &Component,
     index: usize,
 ) -> Result<Value<'input>, DecodeError>
-    requires lawful { IsLawful (shape_of_type types.now below component.now.type_id.0) }
+    requires lawful { IsReadable (shape_of_type types.now below component.now.type_id.0) }
     requires clear { trace.old ≡ None }
     ensures reads { DecodesBy (ReadsComponent (presence_in (shape_of_type types.now below) component.now) (shape_of_type types.now below component.now.type_id.0)) tree_of decoder.old result decoder.new }
     ensures fails { IfErr result (λ e. FailsAtOnePart (presence_in (shape_of_type types.now below) component.now) (shape_of_type types.now below component.now.type_id.0) decoder.old e decoder.new) }
@@ -577,7 +580,7 @@ pub fn decode_present<'input>(
     component: &Component,
     index: usize,
 ) -> Result<Value<'input>, DecodeError>
-    requires lawful { IsLawful (shape_of_type types.now below component.now.type_id.0) }
+    requires lawful { IsReadable (shape_of_type types.now below component.now.type_id.0) }
     requires clear { trace.old ≡ None }
     ensures reads { DecodesPresent (presence_in (shape_of_type types.now below) component.now) (shape_of_type types.now below component.now.type_id.0) decoder.old result decoder.new }
     ensures fits { IfOk result (λ v. Fits types.now below component.now.type_id.0 v) }

@@ -7,7 +7,6 @@ use Rattle.rasn_de.specs.NamedErrors.{IsNamedError, IsDuplicateField}
 use Rattle.rasn_de.specs.SetPartTypes.{text}
 use Rattle.rasn_de.proofs.OwnTypes.SetPartTypes.{ReadTo, read_rules, none_read, untold, next_fails, next_passes, all_once, one_twice}
 use Rattle.rasn_schema.proofs.Alternatives.{first_of_all}
-use Rattle.rasn_types.specs.Lawful.{IsLawful}
 use Rattle.rasn_types.specs.Tags.{IsStrict}
 use Rattle.rasn_types.specs.Order.{IsLess}
 use Rattle.rasn_types.specs.declared.error.decode.DerDecodeErrorKind.TheVariants.{SetOfOutOfOrder}
@@ -27,11 +26,10 @@ use Rattle.rasn_de.proofs.Constructed.Optional.{strict_before, strict_after}
 use Rattle.rasn_de.proofs.OwnTypes.Parts.{call_keeps}
 use Rattle.rasn_schema.specs.declared.types.Alternative.{Alternative}
 use Rattle.rasn_schema.specs.Trees.{tree_of}
-use Rattle.rasn_schema.specs.Shapes.{shape_of_type, type_by, alternatives_by, components_by, key_of, presence_in, AreLawful}
+use Rattle.rasn_schema.specs.Shapes.{shape_of_type, type_by, alternatives_by, components_by, key_of, presence_in, AreReadable, IsReadable}
 use Rattle.rasn_schema.proofs.Presences.{always_by}
 use Rattle.rasn_schema.proofs.TypeShapes.{shape_below, own_is}
 use Rattle.rasn_schema.proofs.Lists.{split, nothing_left, read_at}
-use Rattle.rasn_schema.proofs.LawfulTypes.{is_present}
 use Rattle.rasn_dynamic.specs.Typed.{DecodesContents, element_count, values_tree}
 use Rattle.rasn_dynamic.specs.Calls.{held, names_of, nones}
 use Rattle.rasn_schema.specs.Fitting.{Fits, FitsBy, ComponentsFit, EachFits}
@@ -58,7 +56,7 @@ pub decode_found-returns-then-levels-eq0-clause-reads : goal.decode_found-return
 decode_found-returns-then-levels-eq0-clause-reads t c = refused_at_zero _ _ _ _ _ c.if-levels-eq0.true
 
 pub decode_found-decode_type-requires : goal.decode_found-decode_type-requires
-decode_found-decode_type-requires t c = (search rules, (subst IsLawful (shape_below c.args.types.now c.args.levels (c.args.levels - 1) c.args.id.0 c.in-Some.ty.now (let n = c.if-levels-eq0.false in omega arith) c.in-Some.ensures) c.requires.lawful, c.requires.clear))
+decode_found-decode_type-requires t c = (search rules, (subst IsReadable (shape_below c.args.types.now c.args.levels (c.args.levels - 1) c.args.id.0 c.in-Some.ty.now (let n = c.if-levels-eq0.false in omega arith) c.in-Some.ensures) c.requires.lawful, c.requires.clear))
 
 pub decode_found-returns-in-Some-clause-reads : goal.decode_found-returns-in-Some-clause-reads
 decode_found-returns-in-Some-clause-reads t c = rw (shape_below c.args.types.now c.args.levels (c.args.levels - 1) c.args.id.0 c.in-Some.ty.now (let n = c.if-levels-eq0.false in omega arith) c.in-Some.ensures) c.decode_type.ensures.reads
@@ -145,10 +143,10 @@ decode_choice-returns-clause-unknown t c = λ tag n others.
 -- ---- contents
 
 pub decode_contents-decode_part-requires : goal.decode_contents-decode_part-requires
-decode_contents-decode_part-requires t c = (search rules, (prefix_lawful _ _ (subst (λ n. IsLawful (type_by (shape_of_type c.args.types.now c.args.below) n)) c.in-Tagged.is c.requires.lawful), c.requires.clear))
+decode_contents-decode_part-requires t c = (search rules, (prefix_lawful _ _ (subst (λ n. IsReadable (type_by (shape_of_type c.args.types.now c.args.below) n)) c.in-Tagged.is c.requires.lawful), c.requires.clear))
 
 pub decode_contents-decode_sequence-requires : goal.decode_contents-decode_sequence-requires
-decode_contents-decode_sequence-requires t c = (search rules, (rw c.deref.ensures.value (lawful_parts (shape_of_type c.args.types.now c.args.below) (is_present c.args.types.now c.args.below) _ (seq_lawful _ _ (subst (λ n. IsLawful (type_by (shape_of_type c.args.types.now c.args.below) n)) c.in-Sequence.is c.requires.lawful))), c.requires.clear))
+decode_contents-decode_sequence-requires t c = (search rules, (rw c.deref.ensures.value (lawful_parts (shape_of_type c.args.types.now c.args.below) _ (seq_lawful _ _ (subst (λ n. IsReadable (type_by (shape_of_type c.args.types.now c.args.below) n)) c.in-Sequence.is c.requires.lawful))), c.requires.clear))
 
 pub decode_contents-returns-in_ok-values-in-Sequence-clause-exact : goal.decode_contents-returns-in_ok-values-in-Sequence-clause-exact
 decode_contents-returns-in_ok-values-in-Sequence-clause-exact t c = rw c.in-Sequence.is (sequence_made (shape_of_type c.args.types.now c.args.below) _ c.in-Sequence.components c.deref.ensures.value _ _ c.in-Sequence.tag c.in_ok-values-in-Sequence.values (c.in_ok-values-in-Sequence.ensures.reads, tt))
@@ -157,7 +155,7 @@ pub decode_contents-returns-in_err-values-in-Sequence-clause-exact : goal.decode
 decode_contents-returns-in_err-values-in-Sequence-clause-exact t c = rw (residual _ c.from_residual.ensures.1, c.in-Sequence.is) (sequence_fails (shape_of_type c.args.types.now c.args.below) _ c.in-Sequence.components c.deref.ensures.value _ _ c.in-Sequence.tag _ (c.in_err-values-in-Sequence.ensures.reads, c.in_err-values-in-Sequence.ensures.fails))
 
 pub decode_contents-decode_elements-requires : goal.decode_contents-decode_elements-requires
-decode_contents-decode_elements-requires t c = (search rules, (list_lawful _ _ c.in-SequenceOf.constraints.size (subst (λ n. IsLawful (type_by (shape_of_type c.args.types.now c.args.below) n)) c.in-SequenceOf.is c.requires.lawful), c.requires.clear))
+decode_contents-decode_elements-requires t c = (search rules, (list_lawful _ _ c.in-SequenceOf.constraints.size (subst (λ n. IsReadable (type_by (shape_of_type c.args.types.now c.args.below) n)) c.in-SequenceOf.is c.requires.lawful), c.requires.clear))
 
 pub decode_contents-returns-in_ok-values-in-SequenceOf-clause-fits : goal.decode_contents-returns-in_ok-values-in-SequenceOf-clause-fits
 decode_contents-returns-in_ok-values-in-SequenceOf-clause-fits t c = rw c.in-SequenceOf.is (are_items (EachFits (Fits c.args.types.now c.args.below c.in-SequenceOf.element.0)) c.in_ok-values-in-SequenceOf.values c.in_ok-values-in-SequenceOf.ensures.fits)
@@ -179,7 +177,7 @@ decode_contents-returns-in_ok-values-in-Sequence-clause-fits t c =
     rw c.in-Sequence.is (are_items (ComponentsFit (Fits c.args.types.now c.args.below) c.in-Sequence.components.items) c.in_ok-values-in-Sequence.values (rw (← c.deref.ensures.value) c.in_ok-values-in-Sequence.ensures.fits))
 
 pub decode_contents-decode_elements_in_order-requires : goal.decode_contents-decode_elements_in_order-requires
-decode_contents-decode_elements_in_order-requires t c = (search rules, (set_of_lawful _ _ c.in-SetOf.constraints.size (subst (λ n. IsLawful (type_by (shape_of_type c.args.types.now c.args.below) n)) c.in-SetOf.is c.requires.lawful), c.requires.clear))
+decode_contents-decode_elements_in_order-requires t c = (search rules, (set_of_lawful _ _ c.in-SetOf.constraints.size (subst (λ n. IsReadable (type_by (shape_of_type c.args.types.now c.args.below) n)) c.in-SetOf.is c.requires.lawful), c.requires.clear))
 
 pub decode_contents-returns-in_ok-values-in-SetOf-clause-fits : goal.decode_contents-returns-in_ok-values-in-SetOf-clause-fits
 decode_contents-returns-in_ok-values-in-SetOf-clause-fits t c = rw c.in-SetOf.is (are_elements (EachFits (Fits c.args.types.now c.args.below c.in-SetOf.element.0)) c.in_ok-values-in-SetOf.values c.in_ok-values-in-SetOf.ensures.fits)
@@ -194,7 +192,7 @@ pub decode_contents-decode_set-requires : goal.decode_contents-decode_set-requir
 decode_contents-decode_set-requires t c = (
   search rules,
   (
-    rw c.deref-in-Set-2.ensures.value (set_lawful _ _ (subst (λ n. IsLawful (type_by (shape_of_type c.args.types.now c.args.below) n)) c.in-Set.is c.requires.lawful)),
+    rw c.deref-in-Set-2.ensures.value (set_lawful _ _ (subst (λ n. IsReadable (type_by (shape_of_type c.args.types.now c.args.below) n)) c.in-Set.is c.requires.lawful)),
     (c.in_ok-found-in-Set.ensures.ok ∙ ap nones (c.deref-in-Set.ensures.value ∙ sym c.deref-in-Set-2.ensures.value), c.requires.clear),
   ),
 )
@@ -491,7 +489,7 @@ decode_sequence-loop-rest-preserved t c =
     let e = ap (components_by (shape_of_type c.args.types.now c.args.below)) at in (
       parts_more _ _ _ (presence_in (shape_of_type c.args.types.now c.args.below) c.component-item.result) ((shape_of_type c.args.types.now c.args.below) c.component-item.result.type_id.0) _ _ _ c.loop-rest.invariant.0 e (tree_of c.in_ok-value.value) _ _
           (ap (map tree_of) c.in_ok-push.ensures.ok ∙ one_more c.loop-rest.values.items c.in_ok-value.value) c.in_ok-value.ensures.reads,
-      (subst AreLawful e c.loop-rest.invariant.1).1,
+      (subst AreReadable e c.loop-rest.invariant.1).1,
       fit_more (Fits c.args.types.now c.args.below) _ _ _ c.component-item.result c.loop-rest.values.items _ c.in_ok-value.value c.loop-rest.invariant.2 at c.in_ok-push.ensures.ok c.in_ok-value.ensures.fits,
       c.in_ok-value.ensures.told,
       c.loop-rest.invariant.4 ++ c.component-item.result ∷ [],

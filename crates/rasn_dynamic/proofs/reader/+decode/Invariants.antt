@@ -8,7 +8,7 @@ use Rattle.rasn_de.specs.Decodes.{Decodes}
 use Rattle.rasn_de.specs.SequenceOf.{DecodesInTurn, DecodesInTurnFrom}
 use Rattle.rasn_de.proofs.OwnTypes.SetPartTypes.{ReadTo}
 use Rattle.rasn_schema.specs.Trees.{tree_of}
-use Rattle.rasn_schema.specs.Shapes.{shape_of_type, components_by, AreLawful}
+use Rattle.rasn_schema.specs.Shapes.{shape_of_type, components_by, AreReadable}
 use Rattle.rasn_dynamic.specs.Calls.{held, names_of}
 use Rattle.rasn_schema.specs.Fitting.{Fits, EachFits}
 use Rattle.rasn_dynamic.specs.Found.{FoundFit}
@@ -76,7 +76,7 @@ decreases-decode_elements_in_order-loop-last l = length l.decoder.rest
 
 abbrev pub invariant-decode_sequence-loop-rest : goal.invariant-decode_sequence-loop-rest
 invariant-decode_sequence-loop-rest l = PartsSoFar (components_by (shape_of_type l.types l.below) l.components) (components_by (shape_of_type l.types l.below) l.rest) (map tree_of l.values.items) l.fn.decoder l.decoder
-    × AreLawful (components_by (shape_of_type l.types l.below) l.rest) × FitSoFar (Fits l.types l.below) l.components l.rest l.values.items × (l.trace ≡ None)
+    × AreReadable (components_by (shape_of_type l.types l.below) l.rest) × FitSoFar (Fits l.types l.below) l.components l.rest l.values.items × (l.trace ≡ None)
     × (done : List Component) × (l.components ≡ done ++ l.rest) × (length done ≡ length l.values.items) × ComponentsInTurn (shape_of_type l.types l.below) done l.fn.decoder l.decoder
 
 abbrev pub decreases-decode_sequence-loop-rest : goal.decreases-decode_sequence-loop-rest
