@@ -8,3 +8,4 @@ pub mod Errors
 pub mod Memory
 pub mod Returns
 pub mod Rules
+pub mod Checked

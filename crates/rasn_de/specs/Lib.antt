@@ -9,6 +9,7 @@ pub mod Optional
 pub mod Outcomes
 pub mod Prefix
 pub mod Decodes
+pub mod Checks
 pub mod Causes
 pub mod Choice
 pub mod NamedErrors

@@ -1,13 +1,14 @@
 //! Character strings (X.690 8.23).
-ghost use Rattle.std.specs.Prelude.{chars, ◌≡◌, [], IfOk, IfErr, IsOk};
+ghost use Rattle.std.specs.Prelude.{chars, ◌≡◌, ℕ, List, [], IfOk, IfErr, IsOk};
 ghost use Rattle.std.specs.Cow.{cow_str_bytes, IsOwnedStr};
 ghost use Rattle.std.specs.String.{string_bytes};
 ghost use Rattle.rasn_types.specs.declared.types.strings.alphabet.Alphabet.TheVariants.{Numeric, Printable, Visible, Ia5, Every};
 ghost use Rattle.rasn_types.specs.CharacterString.{string_kind, units_of};
 ghost use Rattle.rasn_types.specs.Shapes.{leaf, numbers, numeric, printable, visible, ia5, any_octets, bmp, utf8};
 ghost use Rattle.rasn_de.specs.Decodes.{Decodes};
+ghost use Rattle.rasn_de.specs.Checks.{Checks, ChecksBy, IsAnyEncoding};
 ghost use Rattle.rasn_de.specs.OctetString.{cow_tree};
-ghost use Rattle.rasn_de.specs.CharacterString.{ByAlphabet, ByUnits, ByUtf8, DecodesString, DecodesRestricted, DecodesText, ChecksString, ParsesUtf8};
+ghost use Rattle.rasn_de.specs.CharacterString.{DecodesBorrowed, ByAlphabet, ByUnits, ByUtf8, DecodesString, DecodesRestricted, DecodesText, ChecksString, ParsesUtf8};
 
 use crate::ber::de::octet_string::owned;
 use crate::ber::de::parser::ParseError;
@@ -253,6 +254,26 @@ impl<'input> Decoder<'input> {
         match owned(self.alloc(), octets) {
             Ok(octets) => Ok(BmpString::from_paired(octets)),
             Err(_) => Err(self.error(ParseError::OutOfMemory)),
+        }
+    }
+
+    /// Reads a BMPString, and makes nothing of it. Nothing is allocated for a primitive one.
+    ///
+    /// # Errors
+    /// As `decode_bmp_string`, except `OutOfMemory` for a copy.
+    pub fn check_bmp_string(
+        &mut self,
+        tag: Tag,
+        constraints: &Constraints,
+    ) -> Result<(), DecodeError>
+        ensures reads { Checks (leaf bmp tag constraints.now) self.old result self.new }
+        ensures exact { ChecksBy (DecodesBorrowed (λ (l : List ℕ). l) IsAnyEncoding (ByUnits constraints.now.size) tag) self.old result self.new }
+        ensures rules { IfErr result (λ e. e.codec ≡ self.old.rule) }
+    {
+        let units = self.octets(tag)?;
+        match check_units(constraints, units.as_slice()) {
+            Ok(()) => Ok(()),
+            Err(fault) => Err(self.error(fault)),
         }
     }
 

@@ -1,9 +1,10 @@
 //! INTEGER (X.690 8.3).
-ghost use Rattle.std.specs.Prelude.{◌≡◌, IfErr};
-ghost use Rattle.rasn_types.specs.Shapes.{leaf, integer, number};
+ghost use Rattle.std.specs.Prelude.{◌≡◌, IfErr, ℤ};
+ghost use Rattle.rasn_types.specs.Shapes.{leaf, integer, number, every};
 ghost use Rattle.rasn_types.specs.Contents.{signed};
 ghost use Rattle.rasn_de.specs.Causes.{HasCause, out_of_bound};
 ghost use Rattle.rasn_de.specs.Decodes.{Decodes};
+ghost use Rattle.rasn_de.specs.Checks.{Checks, ChecksBy};
 ghost use Rattle.rasn_de.specs.Leaves.{DecodesNumber, AllocMayFail, ChecksIntegerContents};
 
 use crate::ber::de::Decoder;
@@ -64,6 +65,28 @@ impl<'input> Decoder<'input> {
             })),
             Err(_) => Err(self.error(ParseError::OutOfMemory)),
         }
+    }
+
+    /// Reads an INTEGER that is within its bound, and makes nothing of it. Nothing is allocated,
+    /// except for an error.
+    ///
+    /// # Errors
+    /// As `decode_integer` for an `Integer`, except `OutOfMemory` for the number.
+    pub fn check_integer(&mut self, tag: Tag, constraints: &Constraints) -> Result<(), DecodeError>
+        ensures reads { Checks (leaf (integer every) tag constraints.now) self.old result self.new }
+        ensures exact { ChecksBy (DecodesNumber (λ (z : ℤ). z) (λ z. ⊥) 0 every tag constraints.now) self.old result self.new }
+        ensures memory { AllocMayFail (λ z. ⊥) 0 every tag constraints.now self.old result self.new }
+        ensures rules { IfErr result (λ e. e.codec ≡ self.old.rule) }
+    {
+        let rules = self.codec();
+        let octets = self.contents(tag)?;
+        if let Err(fault) = check_number(rules, octets) {
+            return Err(self.error(fault));
+        }
+        if constraints.admits_number(octets) {
+            return Ok(());
+        }
+        Err(self.out_of_bound(octets, constraints.value_bounds()))
     }
 
     /// Returns the error for a number out of its bound, which contains both. If an allocation for

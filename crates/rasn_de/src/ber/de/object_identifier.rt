@@ -3,11 +3,13 @@ ghost use Rattle.std.specs.Prelude.{Err, ◌≡◌, IfErr};
 ghost use Rattle.rasn_types.specs.Shapes.{leaf, object_identifier, numbers};
 ghost use Rattle.rasn_types.specs.Trees.{unconstrained};
 ghost use Rattle.rasn_types.specs.declared.types.codec.Codec.TheVariants.{Ber};
+ghost use Rattle.rasn_types.specs.Errors.{IsOutOfMemory};
 ghost use Rattle.rasn_de.specs.Decodes.{Decodes};
+ghost use Rattle.rasn_de.specs.Checks.{Checks, ChecksBy};
 ghost use Rattle.rasn_de.specs.ObjectIdentifier.{DecodesArcs, DecodesOnlyArcs, DecodesObjectIdentifier};
 
 use crate::ber::de::Decoder;
-use crate::ber::de::parser::object_identifier::read_object_identifier;
+use crate::ber::de::parser::object_identifier::{check_object_identifier, read_object_identifier};
 use crate::de::Decode;
 use rasn_types::error::DecodeError;
 use rasn_types::types::{Codec, Constraints, ObjectIdentifier, Tag};
@@ -28,6 +30,24 @@ impl<'input> Decoder<'input> {
         let rules = self.codec();
         let contents = self.contents(tag)?;
         self.object_identifier(rules, contents)
+    }
+
+    /// Reads an OBJECT IDENTIFIER, and makes nothing of it. Nothing is allocated.
+    ///
+    /// # Errors
+    /// As `decode_object_identifier`, except `OutOfMemory`.
+    pub fn check_object_identifier(&mut self, tag: Tag) -> Result<(), DecodeError>
+        ensures reads { Checks (leaf object_identifier tag unconstrained) self.old result self.new }
+        ensures exact { ChecksBy (DecodesObjectIdentifier tag) self.old result self.new }
+        ensures memory { IfErr result (λ e. IsOutOfMemory e.kind → ⊥) }
+        ensures rules { IfErr result (λ e. e.codec ≡ self.old.rule) }
+    {
+        let rules = self.codec();
+        let contents = self.contents(tag)?;
+        match check_object_identifier(rules, contents) {
+            Ok(()) => Ok(()),
+            Err(fault) => Err(self.error(fault)),
+        }
     }
 
     /// Returns the object identifier that contents octets encode under these rules.

@@ -2,6 +2,7 @@
 ghost use Rattle.std.specs.Prelude.{◌≡◌, ◌∷◌, ◌++◌, [], OnOk, IfOk, IfErr};
 ghost use Rattle.rasn_de.specs.declared.ber.de.parser.ParseError.TheVariants.{OutOfMemory};
 ghost use Rattle.rasn_de.specs.ObjectIdentifier.{ParsesArcs, arc_at, first_two};
+ghost use Rattle.rasn_de.specs.Checks.{ChecksArcs};
 ghost use Rattle.rasn_de.specs.ParserViews.{ParsesAs, pair};
 
 use crate::ber::de::parser::{ParseError, is_padded, read_number128};
@@ -70,4 +71,16 @@ pub fn read_object_identifier(
         rest = after;
     }
     Ok(ObjectIdentifier::new(arcs).unwrap())
+}
+
+/// Returns an error if contents octets encode no object identifier. Nothing is allocated.
+pub fn check_object_identifier(rules: Codec, contents: &[u8]) -> Result<(), ParseError>
+    ensures { ChecksArcs rules contents.now result }
+{
+    let (_, mut rest) = read_arc(rules, contents)?;
+    while !rest.is_empty() {
+        let (_, after) = read_arc(rules, rest)?;
+        rest = after;
+    }
+    Ok(())
 }
