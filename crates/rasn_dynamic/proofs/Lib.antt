@@ -22,3 +22,4 @@ pub mod Parts
 pub mod Worked
 pub mod Ways
 pub mod Checked
+pub mod CheckedLeaves

@@ -18,6 +18,7 @@ use rasn_types::error::DecodeError;
 pub trait Made {
     /// Whether it makes values.
     const KEEP: bool;
+
     ghost KEEP: { Bool };
 
     /// Reads a part and makes its value, if the reader itself makes none.
@@ -45,6 +46,7 @@ pub struct Nothing;
 
 impl Made for Values {
     const KEEP: bool = true;
+
     ghost KEEP = { true };
 
     #[inline(always)]
@@ -62,6 +64,7 @@ impl Made for Values {
 
 impl Made for Nothing {
     const KEEP: bool = false;
+
     ghost KEEP = { false };
 
     fn decode_value<'input>(

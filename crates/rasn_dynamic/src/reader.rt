@@ -27,7 +27,7 @@ ghost use Rattle.rasn_de.specs.Constructed.{list_header};
 use crate::components::{default_present, is_always_there, leaves_all_out, missing};
 use crate::made::Made;
 use crate::order::{is_less, octets_before, out_of_order};
-use crate::read_leaf::{decode_any_value, decode_leaf, decode_number, out_of_memory, push};
+use crate::read_leaf::{decode_any_value, decode_number, leaf_value, out_of_memory, push};
 use crate::set::{all_absent, component_for, gather, no_components, put};
 use crate::trace::{Fault, add_after, mark, octets_after, octets_left, step};
 use rasn_de::ber::de::{ConstructedHeader, Decoder};
@@ -267,7 +267,7 @@ fn decode_type<'input, M: Made>(
             tag,
             constraints,
             ..
-        } => decode_leaf(decoder, *kind, *tag, constraints),
+        } => leaf_value::<M>(decoder, *kind, *tag, constraints),
         Type::Enumerated { tag, numbers } => decode_number(decoder, *tag, numbers),
         Type::Any { tag } => decode_any_value(decoder, *tag),
         Type::Choice { name, alternatives } => {

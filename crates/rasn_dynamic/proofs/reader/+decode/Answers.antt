@@ -510,7 +510,7 @@ pub decode_type-returns-in-Enumerated-clause-fits : goal.decode_type-returns-in-
 decode_type-returns-in-Enumerated-clause-fits g t c = λ k. rw c.in-Enumerated.is c.decode_number.ensures.fits
 
 pub decode_type-returns-in-Leaf-clause-fits : goal.decode_type-returns-in-Leaf-clause-fits
-decode_type-returns-in-Leaf-clause-fits g t c = λ k. rw c.in-Leaf.is c.decode_leaf.ensures.fits
+decode_type-returns-in-Leaf-clause-fits g t c = λ k. rw c.in-Leaf.is (c.leaf_value.ensures.fits k)
 
 pub decode_type-returns-in-Choice-clause-reads : goal.decode_type-returns-in-Choice-clause-reads
 decode_type-returns-in-Choice-clause-reads g t c = rw (c.in-Choice.is, ← c.deref-in-Choice.ensures.value) c.decode_choice.ensures.reads
@@ -527,10 +527,10 @@ decode_type-returns-in-Enumerated-clause-reads g t c =
     rw (c.in-Enumerated.is, ← c.deref.ensures.value) (made_of_value _ _ c.args.decoder.now c.decode_number.result _ c.decode_number.ensures.reads)
 
 pub decode_type-returns-in-Leaf-clause-exact : goal.decode_type-returns-in-Leaf-clause-exact
-decode_type-returns-in-Leaf-clause-exact g t c = rw c.in-Leaf.is (made_of_value _ _ c.args.decoder.now c.decode_leaf.result _ c.decode_leaf.ensures.reads)
+decode_type-returns-in-Leaf-clause-exact g t c = rw c.in-Leaf.is c.leaf_value.ensures.reads
 
 pub decode_type-returns-in-Leaf-clause-reads : goal.decode_type-returns-in-Leaf-clause-reads
-decode_type-returns-in-Leaf-clause-reads g t c = rw c.in-Leaf.is (made_of_value _ _ c.args.decoder.now c.decode_leaf.result _ c.decode_leaf.ensures.reads)
+decode_type-returns-in-Leaf-clause-reads g t c = rw c.in-Leaf.is c.leaf_value.ensures.reads
 
 pub decode_inside-returns-in-Err-clause-rules : goal.decode_inside-returns-in-Err-clause-rules
 decode_inside-returns-in-Err-clause-rules g t c = (c.in-Err.ensures.rules ∙ same_rules c.in_ok-inner.ensures.exact.2)
