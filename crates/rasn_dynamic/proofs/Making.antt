@@ -1,17 +1,24 @@
 -- What is made of what is read.
-use Rattle.std.proofs.Common.{◌≡◌, ℕ, Bool, true, List, [], ◌∷◌, ◌++◌, length, map, Vec, Global, Result, Ok, Err, refl, sym, ap, ap₂, ◌∙◌, subst}
+use Rattle.std.proofs.Common.{◌≡◌, ℕ, Bool, true, List, [], ◌∷◌, ◌++◌, length, map, Vec, Global, String, Result, Ok, Err, refl, sym, ap, ap₂, ◌∙◌, subst}
 use Rattle.std.specs.Prelude.{IfOk, IfErr}
 use Rattle.rasn_types.specs.declared.error.decode.DecodeError.{DecodeError}
 use Rattle.rasn_types.specs.Errors.{IsOutOfMemory}
-use Rattle.rasn_types.specs.Shapes.{Tree, chosen, items, set_elements, Shape}
+use Rattle.std.specs.String.{string_bytes}
+use Rattle.rasn_types.specs.Shapes.{Tree, chosen, items, set_elements, Shape, choice}
 use Rattle.rasn_de.specs.State.{State, Call}
 use Rattle.rasn_de.specs.Decodes.{Decodes}
 use Rattle.rasn_schema.specs.declared.value.Value.{Value, Items, Elements, Boolean, Null, Integer, Bits, Octets, Text, Units, Arcs, Instant, Day, Absent, Items', Elements', Chosen'}
+use Rattle.rasn_schema.specs.declared.types.Alternative.{Alternative}
+use Rattle.rasn_schema.specs.declared.types.«Type».{«Type»}
+use Rattle.rasn_schema.specs.declared.types.«Type».TheVariants.{Choice}
+use Rattle.rasn_schema.specs.Shapes.{alternatives_by}
 use Rattle.rasn_schema.specs.Trees.{tree_of}
 use Rattle.rasn_schema.specs.Fitting.{IsChosen}
 use Rattle.rasn_schema.proofs.Values.{tree_items, tree_elements}
 use Rattle.rasn_dynamic.specs.Inside.{DecodesTree}
 use Rattle.rasn_dynamic.specs.Making.{Making, Counting, trees_of}
+use Rattle.rasn_dynamic.specs.Calls.{IsNoAlternative}
+use Rattle.rasn_dynamic.specs.Typed.{DecodesType}
 use Rattle.rasn_dynamic.proofs.Contents.{one_more}
 
 -- What is read as one call reads it is read as another does.
@@ -26,11 +33,18 @@ pub made_fails_as : {T D : Type 0} (keep : Bool) (view : T → D) (read : Call D
 made_fails_as keep view read old (Ok v) new f h = tt
 made_fails_as keep view read old (Err x) new f h = f (Err x) h
 
--- What is said of an error is said beside it.
-pub with_error : {T D : Type 0} (keep : Bool) (view : T → D) (read : Call D) (old : State) (r : Result T DecodeError) (new : State) {Q : State → DecodeError → State → Type 0} → Making keep view read old r new → IfErr r (λ e. Q old e new)
-    → Making keep view (λ o q n. read o q n × IfErr q (λ e. Q o e n)) old r new
-with_error keep view read old (Ok v) new (d, e, h) q = (d, e, (h, tt))
-with_error keep view read old (Err x) new h q = (h, q)
+-- What is read of a CHOICE, and why no alternative is.
+pub choice_exact : (f : ℕ → Shape) (ty : «Type») (keep : Bool) (old : State) (r : Result Value DecodeError) (new : State) (name : String Global) (ks : Vec Alternative Global) (qs : List Alternative) (text : List ℕ)
+    → ty ≡ Choice name ks → qs ≡ ks.items → text ≡ string_bytes name → Making keep tree_of (DecodesTree (choice (alternatives_by f qs))) old r new → IfErr r (λ e. IsNoAlternative (alternatives_by f qs) text old e new)
+    → Making keep tree_of (DecodesType f ty) old r new
+choice_exact f ty keep old r new name ks qs text i j n h q =
+    subst (λ z. Making keep tree_of (DecodesType f z) old r new) (sym i)
+    (both r (subst (λ l. Making keep tree_of (DecodesTree (choice (alternatives_by f l))) old r new) j h) (subst (λ l. IfErr r (λ e. IsNoAlternative (alternatives_by f l) (string_bytes name) old e new)) j (subst (λ t. IfErr r (λ e. IsNoAlternative (alternatives_by f qs) t old e new)) n q)))
+  where
+    both : (r : Result Value DecodeError) → Making keep tree_of (DecodesTree (choice (alternatives_by f ks.items))) old r new → IfErr r (λ e. IsNoAlternative (alternatives_by f ks.items) (string_bytes name) old e new)
+        → Making keep tree_of (DecodesType f (Choice name ks)) old r new
+    both (Ok v) (d, e, h) q = (d, e, (h, tt))
+    both (Err x) h q = (h, q)
 
 -- How many there are is forgotten.
 pub uncounted : {T D : Type 0} (keep : Bool) (view : T → D) (counts : ℕ → D → Type 0) (read other : Call D) (old : State) (r : Result T DecodeError) (new : State) (n : ℕ) → ((q : Result D DecodeError) → read old q new → other old q new)

@@ -3,14 +3,12 @@ use Rattle.std.proofs.Common.{◌≡◌, ℕ, List, [], ◌∷◌, length, lengt
 use Rattle.rasn_types.specs.declared.types.codec.Codec.TheVariants.{Ber, Der}
 use Rattle.rasn_types.specs.Tags.{in_universal, form}
 use Rattle.rasn_types.specs.Framing.{Ended, definite, indefinite}
-use Rattle.rasn_types.specs.Shapes.{Shape}
+use Rattle.rasn_types.specs.Shapes.{Shape, Tree}
 use Rattle.rasn_types.proofs.Headers.Frames.{frame_one}
 use Rattle.rasn_de.specs.Headers.{Header}
 use Rattle.rasn_de.specs.State.{State, Call}
 use Rattle.rasn_de.specs.Constructed.{list_header, constructed_header_at, contents_state}
-use Rattle.rasn_de.specs.Decodes.{Decodes}
 use Rattle.rasn_de.specs.SequenceOf.{DecodesInTurn}
-use Rattle.rasn_schema.specs.Trees.{tree_of}
 use Rattle.rasn_de.proofs.Headers.Ends.{IsEnd-refl}
 use Rattle.rasn_de.proofs.Headers.Frames.{header_spelled}
 use Rattle.rasn_de.proofs.Constructed.Contents.{constructed_header_spelled}
@@ -18,7 +16,7 @@ use Rattle.rasn.proofs.ReadBack.Headers.{short, without}
 use Rattle.rasn_types.specs.Trees.{unconstrained}
 use Rattle.rasn_schema.specs.declared.type_id.TypeId.{TypeId}
 use Rattle.rasn_schema.specs.declared.types.«Type».TheVariants.{SequenceOf}
-use Rattle.rasn_schema.specs.declared.value.Value.{Value}
+use Rattle.rasn_dynamic.specs.Inside.{DecodesTree}
 use Rattle.rasn_schema.specs.Shapes.{shape_of_type}
 use Rattle.rasn_dynamic.specs.Faults.{IsWithin, IsPart, Enters, Leads, start}
 use Rattle.rasn_dynamic.specs.Parts.{IsHeader, LacksElement}
@@ -49,9 +47,9 @@ first : (element : TypeId) → Leads (list_alone element) (0 ∷ []) 1 0 (start 
 unfolding Leads
 first element = (0, refl, _, refl, inside_one, (list_of the_element, one_opened, refl), element.0, inside_one, (refl, [], refl, refl, not_ended), refl, IsEnd-refl the_element, (refl, refl, refl))
 
-no_more : (read : Call Value) (vs : List Value) (inner here : State) → length vs ≡ 0 → DecodesInTurn read inner vs here → here ≡ inner
+no_more : (read : Call Tree) (ts : List Tree) (inner here : State) → length ts ≡ 0 → DecodesInTurn read inner ts here → here ≡ inner
 no_more read [] inner here e d = d
-no_more read (v ∷ vs) inner here e d = absurd (omega (arith, e))
+no_more read (t ∷ ts) inner here e d = absurd (omega (arith, e))
 
 opened_so : (h : Header) → constructed_header_at (list_header (in_universal 16)) Ber 128 no_element ≡ Ok h → list_of [] ≡ h
 opened_so h o = let both = sym none_opened ∙ o in cc
@@ -61,9 +59,9 @@ unfolding Leads
 none_first element below end last (n, l, ty, g, inner, e, next, here, part, stays, back, rest) =
     let same : ty ≡ SequenceOf (in_universal 16) element unconstrained = cc in
     let (h, opened, entered) = subst (λ z. Enters z (start Ber no_element) inner) same e in
-    let (type, vs, count, turn, more) = subst (λ z. IsPart (shape_of_type (list_alone element) n) z inner 0 next here) same part in
+    let (type, ts, count, turn, more) = subst (λ z. IsPart (shape_of_type (list_alone element) n) z inner 0 next here) same part in
     let header = opened_so h opened in
-    let is : here ≡ contents_state (list_header (in_universal 16)) (start Ber no_element) h = no_more (Decodes (shape_of_type (list_alone element) n element.0) tree_of) vs inner here count turn ∙ entered in
+    let is : here ≡ contents_state (list_header (in_universal 16)) (start Ber no_element) h = no_more (DecodesTree (shape_of_type (list_alone element) n element.0)) ts inner here count turn ∙ entered in
     more (subst (λ (z : State). Ended z.closing z.rest) (sym is) (subst (λ (z : Header). Ended (contents_state (list_header (in_universal 16)) (start Ber no_element) z).closing (contents_state (list_header (in_universal 16)) (start Ber no_element) z).rest) header (inl refl)))
 
 no_type : (below end : ℕ) (last : State) → Leads [] (0 ∷ []) 1 0 (start Ber one_element) below end last → ⊥
@@ -71,9 +69,9 @@ unfolding Leads
 no_type below end last (n, l, ty, g, inner, e, next, here, part, stays, back, rest) = cc
 
 has_element : (f : ℕ → Shape) (id : ℕ) → LacksElement f id inside_one 0 → ⊥
-has_element f id (vs, here, turn, ended, count) =
-    let none : length vs ≡ 0 = omega (arith, count) in
-    not_ended (subst (λ (z : State). Ended z.closing z.rest) (no_more (Decodes (f id) tree_of) vs inside_one here none turn) ended)
+has_element f id (ts, here, turn, ended, count) =
+    let none : length ts ≡ 0 = omega (arith, count) in
+    not_ended (subst (λ (z : State). Ended z.closing z.rest) (no_more (DecodesTree (f id)) ts inside_one here none turn) ended)
 
 not_inside : (left : ℕ) → IsWithin (1 ∷ []) (2 ∷ []) left → ⊥
 not_inside left ([], back, e, n) = let a : ◌≡◌ {A = ℕ} 1 2 = cc in omega (arith, a)

@@ -1,11 +1,11 @@
 use Rattle.std.proofs.Common.{rules, arith, append_assoc, length-append, ◌≡◌, ◌+◌, ◌-◌, [], ◌∷◌, ◌++◌, length, true, false, Some, None, Ok, Err, refl, sym, ap, ◌∙◌, subst, inl, inr}
-use Rattle.std.specs.Prelude.{get_or, slice_get, IfErr}
+use Rattle.std.specs.Prelude.{get_or, slice_get, IfOk, IfErr}
 use Rattle.std.proofs.lemmas.Option.{slice_get_within}
 use Rattle.rasn_types.specs.Shapes.{Tree, Same, items, choice, IsFirstOf, own_tag, sought_by}
 use Rattle.rasn_types.proofs.Headers.Frames.{next_one}
 use Rattle.rasn_de.specs.NamedErrors.{IsNamedError, IsDuplicateField}
 use Rattle.rasn_de.specs.SetPartTypes.{text, DecodesSetPartContents}
-use Rattle.rasn_de.specs.Constructed.{DecodesInside}
+use Rattle.rasn_de.specs.Constructed.{DecodesInside, list_header}
 use Rattle.rasn_de.proofs.Leaves.Outcomes.{alloc_failed}
 use Rattle.rasn_de.proofs.OwnTypes.SetPartTypes.{ReadTo, read_rules, none_read, untold, next_fails, next_passes, all_once, one_twice}
 use Rattle.rasn_schema.proofs.Alternatives.{first_of_all}
@@ -27,8 +27,9 @@ use Rattle.rasn_de.proofs.Constructed.Steps.{step_none, step_refused, step_end, 
 use Rattle.rasn_de.proofs.Constructed.Optional.{strict_before, strict_after}
 use Rattle.rasn_de.proofs.OwnTypes.Parts.{call_keeps}
 use Rattle.rasn_schema.specs.declared.types.Alternative.{Alternative}
+use Rattle.rasn_schema.specs.declared.value.Value.{Value}
 use Rattle.rasn_schema.specs.Trees.{tree_of}
-use Rattle.rasn_schema.specs.Shapes.{shape_of_type, type_by, alternatives_by, components_by, key_of, presence_in, AreLawful}
+use Rattle.rasn_schema.specs.Shapes.{numbers_of, shape_of_type, type_by, alternatives_by, components_by, key_of, presence_in, AreLawful}
 use Rattle.rasn_schema.proofs.Presences.{always_by}
 use Rattle.rasn_schema.proofs.TypeShapes.{shape_below, own_is}
 use Rattle.rasn_schema.proofs.Lists.{split, nothing_left, read_at}
@@ -37,8 +38,8 @@ use Rattle.rasn_dynamic.specs.Inside.{DecodesTree, DecodesComponent}
 use Rattle.rasn_dynamic.specs.Making.{Making}
 use Rattle.rasn_dynamic.specs.Typed.{DecodesContents, DecodesType, CountsElements, element_count, elements}
 use Rattle.rasn_dynamic.specs.Calls.{held, names_of, nones, DecodesPresent}
-use Rattle.rasn_dynamic.proofs.Making.{made_as, made_fails_as, with_error, uncounted, counted_nothing, made_of_value, if_kept, items_made, elements_made, one_made, choice_made, choice_fits}
-use Rattle.rasn_schema.specs.Fitting.{Fits, FitsBy, ComponentsFit, EachFits}
+use Rattle.rasn_dynamic.proofs.Making.{made_as, made_fails_as, choice_exact, uncounted, counted_nothing, made_of_value, if_kept, items_made, elements_made, one_made, choice_made, choice_fits}
+use Rattle.rasn_schema.specs.Fitting.{Fits, FitsBy, IsNumber, ComponentsFit, EachFits}
 use Rattle.rasn_dynamic.proofs.FitsRead.{if_ok, fits_below, are_items, are_elements, each_more, fit_more, fit_end, made_fits, gathered_fit, all_left_fit, nones_fit, found_length, found_kept, put_fits}
 use Rattle.rasn_dynamic.proofs.Nothing.{refused_at_zero, refused_not_there, found_here}
 use Rattle.rasn_dynamic.proofs.Chosen.{no_tag, lawful_at, first_at, chosen_got, chosen_refused}
@@ -54,7 +55,7 @@ use Rattle.rasn_dynamic.proofs.reader.+decode.Goals as goal
 use Rattle.rasn_de.specs.SequenceOf.{DecodesSized}
 use Rattle.rasn_de.specs.Set.{not_read}
 use Rattle.rasn_de.proofs.Headers.Tags.{look_refused, look_follows}
-use Rattle.rasn_dynamic.specs.Faults.{IsFaultOf, IsFaultIn, IsOnly, IsAlternativeAt, IsComponentAt, IsMemberAt, ReadsEachPart, MembersStop, StopsInSequence, StopsInSet, TellsOf}
+use Rattle.rasn_dynamic.specs.Faults.{IsFaultOf, IsFaultIn, IsFaultInside, IsOnly, IsAlternativeAt, IsComponentAt, IsMemberAt, ReadsEachPart, MembersStop, StopsInSequence, StopsInSet, TellsOf}
 use Rattle.rasn_dynamic.proofs.Faults.{any_err, if_err_map, unnamed, one_taken, turns_long, marked, stepped, further, weaker, entered, opened, opened_short, told_map, tells, tells_err, alternative_there, element_there, forgotten, one_part_more, part_there, member_there, member_behind, turns_keep, at_err, named, not_named, unmoved, got_inside, found_itself, itself_leaf, present_stops, set_ends, itself_prefix, itself_sequence, itself_set, itself_list, itself_set_of, itself_choice, element_stops, set_element_stops, default_stops, unmade_stops, only_memory}
 
 -- ---- the type with a number
@@ -63,7 +64,7 @@ pub decode_found-returns-then-levels-eq0-clause-reads : goal.decode_found-return
 decode_found-returns-then-levels-eq0-clause-reads g t c = refused_at_zero _ _ _ _ _ c.if-levels-eq0.true
 
 pub decode_found-decode_type-requires : goal.decode_found-decode_type-requires
-decode_found-decode_type-requires g t c = (search rules, (subst IsLawful (shape_below c.args.types.now c.args.levels (c.args.levels - 1) c.args.id.0 c.in-Some.ty.now (let n = c.if-levels-eq0.false in omega arith) c.in-Some.ensures) c.requires.lawful, c.requires.clear))
+decode_found-decode_type-requires g t c = λ κs o. (search rules, (search rules, (subst IsLawful (shape_below c.args.types.now c.args.levels (c.args.levels - 1) c.args.id.0 c.in-Some.ty.now (let n = c.if-levels-eq0.false in omega arith) c.in-Some.ensures) c.requires.lawful, c.requires.clear)))
 
 pub decode_found-returns-in-Some-clause-reads : goal.decode_found-returns-in-Some-clause-reads
 decode_found-returns-in-Some-clause-reads g t c = rw (shape_below c.args.types.now c.args.levels (c.args.levels - 1) c.args.id.0 c.in-Some.ty.now (let n = c.if-levels-eq0.false in omega arith) c.in-Some.ensures) c.decode_type.ensures.reads
@@ -112,7 +113,7 @@ decode_choice-decode_part-requires g t c =
     let el = get_or c.args.alternatives.now c.in-Some.number c.index-alternatives-number.result in
     let at : Some el ≡ slice_get c.args.alternatives.now c.in-Some.number = subst (λ (a : Alternative). Some a ≡ slice_get c.args.alternatives.now c.in-Some.number) c.index-alternatives-number.is
     (read_at c.args.alternatives.now c.in-Some.number c.index-alternatives-number.result (slice_get_within c.args.alternatives.now c.in-Some.number c.in-Some.ensures.0 (sym c.in-Some.ensures.1)) c.index-alternatives-number.is) in
-    (search rules, (lawful_at (shape_of_type c.args.types.now c.args.below) c.args.alternatives.now c.in-Some.number el c.requires.1.1.0 at, c.requires.1.1.1))
+    λ κs o. (search rules, (search rules, (lawful_at (shape_of_type c.args.types.now c.args.below) c.args.alternatives.now c.in-Some.number el c.requires.1.1.1.0 at, c.requires.1.1.1.1)))
 
 pub decode_choice-returns-in_err-value-clause-reads : goal.decode_choice-returns-in_err-value-clause-reads
 decode_choice-returns-in_err-value-clause-reads g t c =
@@ -120,7 +121,7 @@ decode_choice-returns-in_err-value-clause-reads g t c =
     let at : Some el ≡ slice_get c.args.alternatives.now c.in-Some.number = subst (λ (a : Alternative). Some a ≡ slice_get c.args.alternatives.now c.in-Some.number) c.index-alternatives-number.is
     (read_at c.args.alternatives.now c.in-Some.number c.index-alternatives-number.result (slice_get_within c.args.alternatives.now c.in-Some.number c.in-Some.ensures.0 (sym c.in-Some.ensures.1)) c.index-alternatives-number.is) in
     rw (residual _ c.from_residual-in_err-value.ensures.1)
-    (chosen_refused (shape_of_type c.args.types.now c.args.below) c.args.alternatives.now c.in-Some.number el c.in_ok-tag.tag c.requires.1.1.0 at
+    (chosen_refused (shape_of_type c.args.types.now c.args.below) c.args.alternatives.now c.in-Some.number el c.in_ok-tag.tag c.requires.1.1.1.0 at
     (first_at (shape_of_type c.args.types.now c.args.below) c.args.alternatives.now c.in-Some.number c.in-Some.ensures.0 _ c.in_ok-tag.tag c.in-Some.ensures.1 at c.in-Some.ensures.2) _ _ c.in_ok-tag.ensures.next _ c.in_err-value.ensures.reads)
 
 pub decode_choice-returns-in_err-value-clause-unknown : goal.decode_choice-returns-in_err-value-clause-unknown
@@ -152,17 +153,17 @@ decode_choice-returns-clause-reads g t c =
     (read_at c.args.alternatives.now c.in-Some.number c.index-alternatives-number.result (slice_get_within c.args.alternatives.now c.in-Some.number c.in-Some.ensures.0 (sym c.in-Some.ensures.1)) c.index-alternatives-number.is) in
     let w = c.in_ok-value.ensures.reads in
     choice_made _ c.in-Some.number c.in_ok-value.value (DecodesTree (choice (alternatives_by (shape_of_type c.args.types.now c.args.below) c.args.alternatives.now))) c.args.decoder.now w.0 c.choose.result _ w.1 c.choose.ensures.ok c.choose.ensures.kind
-    (chosen_got (shape_of_type c.args.types.now c.args.below) c.args.alternatives.now c.in-Some.number el c.in_ok-tag.tag c.requires.1.1.0 at
+    (chosen_got (shape_of_type c.args.types.now c.args.below) c.args.alternatives.now c.in-Some.number el c.in_ok-tag.tag c.requires.1.1.1.0 at
     (first_at (shape_of_type c.args.types.now c.args.below) c.args.alternatives.now c.in-Some.number c.in-Some.ensures.0 _ c.in_ok-tag.tag c.in-Some.ensures.1 at c.in-Some.ensures.2) _ _ c.in_ok-tag.ensures.next w.0 w.2)
     (λ e m. alloc_failed _ (λ (z : Tree). z) c.args.decoder.now _ e m w.2.stays w.2.end)
 
 -- ---- contents
 
 pub decode_contents-decode_part-requires : goal.decode_contents-decode_part-requires
-decode_contents-decode_part-requires g t c = (search rules, (prefix_lawful _ _ (subst (λ n. IsLawful (type_by (shape_of_type c.args.types.now c.args.below) n)) c.in-Tagged.is c.requires.lawful), c.requires.clear))
+decode_contents-decode_part-requires g t c = λ κs o. (search rules, (search rules, (prefix_lawful _ _ (subst (λ n. IsLawful (type_by (shape_of_type c.args.types.now c.args.below) n)) c.in-Tagged.is c.requires.lawful), c.requires.clear)))
 
 pub decode_contents-decode_sequence-requires : goal.decode_contents-decode_sequence-requires
-decode_contents-decode_sequence-requires g t c = (search rules, (rw c.deref.ensures.value (lawful_parts (shape_of_type c.args.types.now c.args.below) _ (seq_lawful _ _ (subst (λ n. IsLawful (type_by (shape_of_type c.args.types.now c.args.below) n)) c.in-Sequence.is c.requires.lawful))), c.requires.clear))
+decode_contents-decode_sequence-requires g t c = λ κs o. (search rules, (search rules, (rw c.deref.ensures.value (lawful_parts (shape_of_type c.args.types.now c.args.below) _ (seq_lawful _ _ (subst (λ n. IsLawful (type_by (shape_of_type c.args.types.now c.args.below) n)) c.in-Sequence.is c.requires.lawful))), c.requires.clear)))
 
 pub decode_contents-returns-in_ok-values-in-Sequence-clause-exact : goal.decode_contents-returns-in_ok-values-in-Sequence-clause-exact
 decode_contents-returns-in_ok-values-in-Sequence-clause-exact g t c =
@@ -173,7 +174,7 @@ pub decode_contents-returns-in_err-values-in-Sequence-clause-exact : goal.decode
 decode_contents-returns-in_err-values-in-Sequence-clause-exact g t c = rw (residual _ c.from_residual.ensures.1, c.in-Sequence.is) (sequence_fails (shape_of_type c.args.types.now c.args.below) _ c.in-Sequence.components c.deref.ensures.value _ _ c.in-Sequence.tag _ (c.in_err-values-in-Sequence.ensures.reads, c.in_err-values-in-Sequence.ensures.fails))
 
 pub decode_contents-decode_elements-requires : goal.decode_contents-decode_elements-requires
-decode_contents-decode_elements-requires g t c = (search rules, (list_lawful _ _ c.in-SequenceOf.constraints.size (subst (λ n. IsLawful (type_by (shape_of_type c.args.types.now c.args.below) n)) c.in-SequenceOf.is c.requires.lawful), (c.requires.counts, c.requires.clear)))
+decode_contents-decode_elements-requires g t c = λ κs o. (search rules, (search rules, (list_lawful _ _ c.in-SequenceOf.constraints.size (subst (λ n. IsLawful (type_by (shape_of_type c.args.types.now c.args.below) n)) c.in-SequenceOf.is c.requires.lawful), (c.requires.counts, c.requires.clear))))
 
 pub decode_contents-returns-in_ok-values-in-SequenceOf-clause-fits : goal.decode_contents-returns-in_ok-values-in-SequenceOf-clause-fits
 decode_contents-returns-in_ok-values-in-SequenceOf-clause-fits g t c = λ k. rw c.in-SequenceOf.is (are_items (EachFits (Fits c.args.types.now c.args.below c.in-SequenceOf.element.0)) c.in_ok-values-in-SequenceOf.values (c.in_ok-values-in-SequenceOf.ensures.fits k))
@@ -197,7 +198,7 @@ decode_contents-returns-in_ok-values-in-Sequence-clause-fits g t c = λ k.
     rw c.in-Sequence.is (are_items (ComponentsFit (Fits c.args.types.now c.args.below) c.in-Sequence.components.items) c.in_ok-values-in-Sequence.values (rw (← c.deref.ensures.value) (c.in_ok-values-in-Sequence.ensures.fits k)))
 
 pub decode_contents-decode_elements_in_order-requires : goal.decode_contents-decode_elements_in_order-requires
-decode_contents-decode_elements_in_order-requires g t c = (search rules, (set_of_lawful _ _ c.in-SetOf.constraints.size (subst (λ n. IsLawful (type_by (shape_of_type c.args.types.now c.args.below) n)) c.in-SetOf.is c.requires.lawful), (c.requires.counts, c.requires.clear)))
+decode_contents-decode_elements_in_order-requires g t c = λ κs o. (search rules, (search rules, (set_of_lawful _ _ c.in-SetOf.constraints.size (subst (λ n. IsLawful (type_by (shape_of_type c.args.types.now c.args.below) n)) c.in-SetOf.is c.requires.lawful), (c.requires.counts, c.requires.clear))))
 
 pub decode_contents-returns-in_ok-values-in-SetOf-clause-fits : goal.decode_contents-returns-in_ok-values-in-SetOf-clause-fits
 decode_contents-returns-in_ok-values-in-SetOf-clause-fits g t c = λ k. rw c.in-SetOf.is (are_elements (EachFits (Fits c.args.types.now c.args.below c.in-SetOf.element.0)) c.in_ok-values-in-SetOf.values (c.in_ok-values-in-SetOf.ensures.fits k))
@@ -211,11 +212,14 @@ pub decode_contents-returns-in_err-values-in-SetOf-clause-exact : goal.decode_co
 decode_contents-returns-in_err-values-in-SetOf-clause-exact g t c = rw (residual _ c.from_residual-in_err-values-in-SetOf.ensures.1, c.in-SetOf.is) c.in_err-values-in-SetOf.ensures.reads
 
 pub decode_contents-decode_set-requires : goal.decode_contents-decode_set-requires
-decode_contents-decode_set-requires g t c = (
+decode_contents-decode_set-requires g t c = λ κs o. (
   search rules,
   (
-    rw c.deref-in-Set-2.ensures.value (set_lawful _ _ (subst (λ n. IsLawful (type_by (shape_of_type c.args.types.now c.args.below) n)) c.in-Set.is c.requires.lawful)),
-    (c.in_ok-found-in-Set.ensures.ok ∙ ap nones (c.deref-in-Set.ensures.value ∙ sym c.deref-in-Set-2.ensures.value), c.requires.clear),
+    search rules,
+    (
+      rw c.deref-in-Set-2.ensures.value (set_lawful _ _ (subst (λ n. IsLawful (type_by (shape_of_type c.args.types.now c.args.below) n)) c.in-Set.is c.requires.lawful)),
+      (c.in_ok-found-in-Set.ensures.ok ∙ ap nones (c.deref-in-Set.ensures.value ∙ sym c.deref-in-Set-2.ensures.value), c.requires.clear),
+    ),
   ),
 )
 
@@ -463,7 +467,7 @@ pub decode_list-returns-in_err-value-clause-exact : goal.decode_list-returns-in_
 decode_list-returns-in_err-value-clause-exact g t c = rw (residual _ c.from_residual.ensures.1) (not_sized (DecodesContents (shape_of_type c.args.types.now c.args.below) c.args.ty.now) c.args.tag c.args.constraints.now c.list.result c.list.ensures c.args.decoder.now _ _ c.in_err-value.ensures.exact)
 
 pub decode_list-decode_inside-requires : goal.decode_list-decode_inside-requires
-decode_list-decode_inside-requires g t c = (search rules, (c.requires.lawful, (holds_others c.args.ty.now c.requires.elements, (refl, c.requires.clear))))
+decode_list-decode_inside-requires g t c = λ κs o. (search rules, (search rules, (c.requires.lawful, (holds_others c.args.ty.now c.requires.elements, (refl, c.requires.clear)))))
 
 pub decode_list-returns-clause-exact : goal.decode_list-returns-clause-exact
 decode_list-returns-clause-exact g t c =
@@ -478,7 +482,9 @@ decode_list-returns-in_err-check_size-clause-itself g t c =
     (got_inside (DecodesContents (shape_of_type c.args.types.now c.args.below) c.args.ty.now) (ReadsEachPart (shape_of_type c.args.types.now c.args.below) c.args.ty.now) (λ o v n h. h) c.list.result c.args.decoder.now w.0 _ w.3) _ (is_counted c.args.ty.now _ w.0 c.requires.elements w.2) _ c.in_err-check_size.ensures.sized)
 
 pub decode_list-returns-in_err-check_size-clause-told : goal.decode_list-returns-in_err-check_size-clause-told
-decode_list-returns-in_err-check_size-clause-told g t c = rw (residual _ c.from_residual-in_err-check_size.ensures.1) (unnamed _ (Err c.in_err-check_size.field-0.0) _ c.in_ok-value.ensures.told)
+decode_list-returns-in_err-check_size-clause-told g t c =
+    rw (residual _ c.from_residual-in_err-check_size.ensures.1)
+    (unnamed {T = Value} (IsFaultInside c.args.types.now c.args.below (list_header c.args.tag) c.args.ty.now c.args.decoder.now) (Err c.in_err-check_size.field-0.0) _ c.in_ok-value.ensures.told)
 
 pub decode_list-returns-in_err-check_size-clause-rules : goal.decode_list-returns-in_err-check_size-clause-rules
 decode_list-returns-in_err-check_size-clause-rules g t c = rw (residual _ c.from_residual-in_err-check_size.ensures.1) (c.in_err-check_size.ensures.rules ∙ same_rules c.in_ok-value.ensures.exact.3.0.stays)
@@ -497,8 +503,7 @@ decode_type-returns-in-Any-clause-exact g t c = rw c.in-Any.is (made_of_value _ 
 
 pub decode_type-returns-in-Choice-clause-exact : goal.decode_type-returns-in-Choice-clause-exact
 decode_type-returns-in-Choice-clause-exact g t c =
-    rw (c.in-Choice.is, ← c.deref-in-Choice.ensures.value, ← c.as_str.ensures.value)
-    (with_error _ tree_of (DecodesTree (choice (alternatives_by (shape_of_type c.args.types.now c.args.below) c.deref-in-Choice.result.now))) c.args.decoder.now c.decode_choice.result _ c.decode_choice.ensures.reads c.decode_choice.ensures.unknown)
+    choice_exact (shape_of_type c.args.types.now c.args.below) c.args.ty.now _ c.args.decoder.now c.decode_choice.result _ c.in-Choice.name c.in-Choice.alternatives c.deref-in-Choice.result.now c.as_str.result.now c.in-Choice.is c.deref-in-Choice.ensures.value c.as_str.ensures.value c.decode_choice.ensures.reads c.decode_choice.ensures.unknown
 
 pub decode_type-returns-in-Choice-clause-fits : goal.decode_type-returns-in-Choice-clause-fits
 decode_type-returns-in-Choice-clause-fits g t c = λ k. rw (c.in-Choice.is, ← c.deref-in-Choice.ensures.value) (c.decode_choice.ensures.fits k)
@@ -507,7 +512,8 @@ pub decode_type-returns-in-Any-clause-fits : goal.decode_type-returns-in-Any-cla
 decode_type-returns-in-Any-clause-fits g t c = λ k. rw c.in-Any.is c.decode_any_value.ensures.fits
 
 pub decode_type-returns-in-Enumerated-clause-fits : goal.decode_type-returns-in-Enumerated-clause-fits
-decode_type-returns-in-Enumerated-clause-fits g t c = λ k. rw c.in-Enumerated.is c.decode_number.ensures.fits
+decode_type-returns-in-Enumerated-clause-fits g t c = λ k.
+    rw c.in-Enumerated.is (subst (λ l. IfOk c.decode_number.result (λ v. IsNumber (numbers_of l) v)) c.deref.ensures.value c.decode_number.ensures.fits)
 
 pub decode_type-returns-in-Leaf-clause-fits : goal.decode_type-returns-in-Leaf-clause-fits
 decode_type-returns-in-Leaf-clause-fits g t c = λ k. rw c.in-Leaf.is (c.leaf_value.ensures.fits k)
@@ -580,24 +586,24 @@ pub decode_type-returns-in-SequenceOf-clause-reads : goal.decode_type-returns-in
 decode_type-returns-in-SequenceOf-clause-reads g t c =
     made_as _ tree_of (DecodesType (shape_of_type c.args.types.now c.args.below) c.args.ty.now) (DecodesTree (type_by (shape_of_type c.args.types.now c.args.below) c.args.ty.now)) c.args.decoder.now _ _
     (λ q h. type_decodes (shape_of_type c.args.types.now c.args.below) c.args.decoder.now c.decode_list.ensures.octets q _ c.args.ty.now h)
-    (made_as _ tree_of (DecodesSized (DecodesContents (shape_of_type c.args.types.now c.args.below) c.args.ty.now) element_count _ _) (DecodesType (shape_of_type c.args.types.now c.args.below) c.args.ty.now) c.args.decoder.now _ _
+    (made_as _ tree_of (DecodesSized (DecodesContents (shape_of_type c.args.types.now c.args.below) c.args.ty.now) element_count c.in-SequenceOf.tag c.in-SequenceOf.constraints) (DecodesType (shape_of_type c.args.types.now c.args.below) c.args.ty.now) c.args.decoder.now _ _
     (λ q h. by_list (shape_of_type c.args.types.now c.args.below) c.args.ty.now c.args.decoder.now q _ c.in-SequenceOf.tag c.in-SequenceOf.element c.in-SequenceOf.constraints c.in-SequenceOf.is h) c.decode_list.ensures.exact)
 
 pub decode_type-returns-in-SequenceOf-clause-exact : goal.decode_type-returns-in-SequenceOf-clause-exact
 decode_type-returns-in-SequenceOf-clause-exact g t c =
-    made_as _ tree_of (DecodesSized (DecodesContents (shape_of_type c.args.types.now c.args.below) c.args.ty.now) element_count _ _) (DecodesType (shape_of_type c.args.types.now c.args.below) c.args.ty.now) c.args.decoder.now _ _
+    made_as _ tree_of (DecodesSized (DecodesContents (shape_of_type c.args.types.now c.args.below) c.args.ty.now) element_count c.in-SequenceOf.tag c.in-SequenceOf.constraints) (DecodesType (shape_of_type c.args.types.now c.args.below) c.args.ty.now) c.args.decoder.now _ _
     (λ q h. by_list (shape_of_type c.args.types.now c.args.below) c.args.ty.now c.args.decoder.now q _ c.in-SequenceOf.tag c.in-SequenceOf.element c.in-SequenceOf.constraints c.in-SequenceOf.is h) c.decode_list.ensures.exact
 
 pub decode_type-returns-in-SetOf-clause-reads : goal.decode_type-returns-in-SetOf-clause-reads
 decode_type-returns-in-SetOf-clause-reads g t c =
     made_as _ tree_of (DecodesType (shape_of_type c.args.types.now c.args.below) c.args.ty.now) (DecodesTree (type_by (shape_of_type c.args.types.now c.args.below) c.args.ty.now)) c.args.decoder.now _ _
     (λ q h. type_decodes (shape_of_type c.args.types.now c.args.below) c.args.decoder.now c.decode_list-in-SetOf.ensures.octets q _ c.args.ty.now h)
-    (made_as _ tree_of (DecodesSized (DecodesContents (shape_of_type c.args.types.now c.args.below) c.args.ty.now) element_count _ _) (DecodesType (shape_of_type c.args.types.now c.args.below) c.args.ty.now) c.args.decoder.now _ _
+    (made_as _ tree_of (DecodesSized (DecodesContents (shape_of_type c.args.types.now c.args.below) c.args.ty.now) element_count c.in-SetOf.tag c.in-SetOf.constraints) (DecodesType (shape_of_type c.args.types.now c.args.below) c.args.ty.now) c.args.decoder.now _ _
     (λ q h. by_set_of (shape_of_type c.args.types.now c.args.below) c.args.ty.now c.args.decoder.now q _ c.in-SetOf.tag c.in-SetOf.element c.in-SetOf.constraints c.in-SetOf.is h) c.decode_list-in-SetOf.ensures.exact)
 
 pub decode_type-returns-in-SetOf-clause-exact : goal.decode_type-returns-in-SetOf-clause-exact
 decode_type-returns-in-SetOf-clause-exact g t c =
-    made_as _ tree_of (DecodesSized (DecodesContents (shape_of_type c.args.types.now c.args.below) c.args.ty.now) element_count _ _) (DecodesType (shape_of_type c.args.types.now c.args.below) c.args.ty.now) c.args.decoder.now _ _
+    made_as _ tree_of (DecodesSized (DecodesContents (shape_of_type c.args.types.now c.args.below) c.args.ty.now) element_count c.in-SetOf.tag c.in-SetOf.constraints) (DecodesType (shape_of_type c.args.types.now c.args.below) c.args.ty.now) c.args.decoder.now _ _
     (λ q h. by_set_of (shape_of_type c.args.types.now c.args.below) c.args.ty.now c.args.decoder.now q _ c.in-SetOf.tag c.in-SetOf.element c.in-SetOf.constraints c.in-SetOf.is h) c.decode_list-in-SetOf.ensures.exact
 
 -- ---- components
@@ -681,13 +687,13 @@ decode_present-returns-clause-fits g t c = λ k. c.in_ok-value.ensures.fits
 -- ---- a part that has to be compared
 
 pub decode_compared-decode_part-requires : goal.decode_compared-decode_part-requires
-decode_compared-decode_part-requires g t c = (search rules, (c.requires.lawful, c.in-None.ensures.reads.2))
+decode_compared-decode_part-requires g t c = λ κs o. (search rules, (search rules, (c.requires.lawful, c.in-None.ensures.reads.2)))
 
 pub decode_compared-returns-in-None-clause-reads : goal.decode_compared-returns-in-None-clause-reads
 decode_compared-returns-in-None-clause-reads g t c =
     let w = c.in-None.ensures.reads in
     let s = shape_of_type c.args.types.now c.args.levels c.args.id.0 in
-    subst (λ k. Making k tree_of (DecodesTree s) c.args.decoder.now c.decode_part.result _) w.0 (subst (λ z. Making g.M.Made.KEEP tree_of (DecodesTree s) z c.decode_part.result _) w.1 c.decode_part.ensures.reads)
+    subst (λ k. Making k tree_of (DecodesTree s) c.args.decoder.now c.decode_part.result c.decode_part.new.decoder) w.0 (subst (λ z. Making g.M.Made.KEEP tree_of (DecodesTree s) z c.decode_part.result c.decode_part.new.decoder) w.1 c.decode_part.ensures.reads)
 
 pub decode_compared-returns-in-None-clause-fits : goal.decode_compared-returns-in-None-clause-fits
 decode_compared-returns-in-None-clause-fits g t c = c.decode_part.ensures.fits c.in-None.ensures.reads.0
@@ -696,7 +702,7 @@ pub decode_compared-returns-in-None-clause-rules : goal.decode_compared-returns-
 decode_compared-returns-in-None-clause-rules g t c = subst (λ (z : State). IfErr c.decode_part.result (λ e. e.codec ≡ z.rule)) c.in-None.ensures.reads.1 c.decode_part.ensures.rules
 
 pub decode_compared-returns-in-None-clause-told : goal.decode_compared-returns-in-None-clause-told
-decode_compared-returns-in-None-clause-told g t c = subst (λ (z : State). TellsOf (IsFaultIn c.args.types.now c.args.levels (IsOnly c.args.index c.args.id.0 z) z z) c.decode_part.result _) c.in-None.ensures.reads.1 c.decode_part.ensures.told
+decode_compared-returns-in-None-clause-told g t c = subst (λ (z : State). TellsOf (IsFaultIn c.args.types.now c.args.levels (IsOnly c.args.index c.args.id.0 z) z z) c.decode_part.result c.decode_part.new.trace) c.in-None.ensures.reads.1 c.decode_part.ensures.told
 
 -- ---- the components of a SEQUENCE
 
@@ -791,11 +797,11 @@ pub decode_set-loop-last-init : goal.decode_set-loop-last-init
 decode_set-loop-last-init g t c = (
   (
     held (nones c.args.components.now),
-    nones_held _ c.args.components.now _ c.requires.1.1.1.0,
+    nones_held _ c.args.components.now _ c.requires.1.1.1.1.0,
     none_read (components_by (shape_of_type c.args.types.now c.args.below) c.args.components.now) (names_of c.args.components.now) _ _ (nones_come (shape_of_type c.args.types.now c.args.below) c.args.components.now (nones c.args.components.now) refl),
   ),
-  nones_fit _ c.args.components.now _ c.requires.1.1.1.0,
-  c.requires.1.1.1.1,
+  nones_fit _ c.args.components.now _ c.requires.1.1.1.1.0,
+  c.requires.1.1.1.1.1,
 )
 
 pub decode_set-loop-last-smaller : goal.decode_set-loop-last-smaller
@@ -876,12 +882,12 @@ decode_set_component-returns-in_default-clause-next g t c =
     λ slots h. (slots, h, next_unknown (components_by (shape_of_type c.args.types.now c.args.below) c.args.components.now) (names_of c.args.components.now) slots slots _ c.in_ok-tag.tag c.in_ok-tag.ensures.next c.in_default.ensures c.no_valid_choice.result)
 
 pub decode_set_component-decode_present-requires : goal.decode_set_component-decode_present-requires
-decode_set_component-decode_present-requires g t c = (search rules, (part_lawful (shape_of_type c.args.types.now c.args.below) c.args.components.now c.in-Some.number c.in-Some.component.now c.requires.1.1.0 c.in-Some.ensures.0, c.requires.1.1.1.1))
+decode_set_component-decode_present-requires g t c = λ κs o. (search rules, (search rules, (part_lawful (shape_of_type c.args.types.now c.args.below) c.args.components.now c.in-Some.number c.in-Some.component.now c.requires.1.1.1.0 c.in-Some.ensures.0, c.requires.1.1.1.1.1)))
 
 pub decode_set_component-returns-in_err-value-clause-next : goal.decode_set_component-returns-in_err-value-clause-next
 decode_set_component-returns-in_err-value-clause-next g t c =
     rw (residual _ c.from_residual-in_err-value.ensures.1)
-    (λ slots h. (slots, h, next_unread (shape_of_type c.args.types.now c.args.below) c.args.components.now c.in-Some.number c.in-Some.component.now c.in_ok-tag.tag c.requires.1.1.0 c.in-Some.ensures _ _ c.in_ok-tag.ensures.next c.in_err-value.field-0.0 slots slots c.in_err-value.ensures.reads))
+    (λ slots h. (slots, h, next_unread (shape_of_type c.args.types.now c.args.below) c.args.components.now c.in-Some.number c.in-Some.component.now c.in_ok-tag.tag c.requires.1.1.1.0 c.in-Some.ensures _ _ c.in_ok-tag.ensures.next c.in_err-value.field-0.0 slots slots c.in_err-value.ensures.reads))
 
 pub decode_set_component-returns-then-remaining-left-clause-next : goal.decode_set_component-returns-then-remaining-left-clause-next
 decode_set_component-returns-then-remaining-left-clause-next g t c =
@@ -889,23 +895,23 @@ decode_set_component-returns-then-remaining-left-clause-next g t c =
     λ slots h. (
       slots,
       h,
-      next_idle (shape_of_type c.args.types.now c.args.below) c.args.components.now c.in-Some.number c.in-Some.component.now c.in_ok-tag.tag c.requires.1.1.0 c.in-Some.ensures _ _ c.in_ok-tag.ensures.next w.0 w.2
+      next_idle (shape_of_type c.args.types.now c.args.below) c.args.components.now c.in-Some.number c.in-Some.component.now c.in_ok-tag.tag c.requires.1.1.1.0 c.in-Some.ensures _ _ c.in_ok-tag.ensures.next w.0 w.2
           slots slots _ (ap length c.remaining-left.ensures.value) (sym (ap length c.remaining.ensures.value) ∙ c.if-remaining-left.true) c.extra.result c.extra.ensures,
     )
 
 pub decode_set_component-put-requires : goal.decode_set_component-put-requires
-decode_set_component-put-requires g t c = rw (found_length _ c.args.components.now _ c.requires.1.1.1.0) (got_below c.args.components.now c.in-Some.number c.in-Some.component.now c.in-Some.ensures.0)
+decode_set_component-put-requires g t c = rw (found_length _ c.args.components.now _ c.requires.1.1.1.1.0) (got_below c.args.components.now c.in-Some.number c.in-Some.component.now c.in-Some.ensures.0)
 
 pub decode_set_component-returns-clause-next : goal.decode_set_component-returns-clause-next
 decode_set_component-returns-clause-next g t c =
     let w = c.in_ok-value.ensures.reads in
-    λ slots h. next_put (shape_of_type c.args.types.now c.args.below) c.args.components.now c.in-Some.number c.in-Some.component.now c.in_ok-tag.tag c.requires.1.1.0 c.in-Some.ensures _ _ c.in_ok-tag.ensures.next w.0 w.2
-    _ c.in_ok-value.value w.1 c.args.found.now.items slots h (rw (found_length _ c.args.components.now _ c.requires.1.1.1.0) (got_below c.args.components.now c.in-Some.number c.in-Some.component.now c.in-Some.ensures.0)) _ (ap length c.remaining-left.ensures.value)
+    λ slots h. next_put (shape_of_type c.args.types.now c.args.below) c.args.components.now c.in-Some.number c.in-Some.component.now c.in_ok-tag.tag c.requires.1.1.1.0 c.in-Some.ensures _ _ c.in_ok-tag.ensures.next w.0 w.2
+    _ c.in_ok-value.value w.1 c.args.found.now.items slots h (rw (found_length _ c.args.components.now _ c.requires.1.1.1.1.0) (got_below c.args.components.now c.in-Some.number c.in-Some.component.now c.in-Some.ensures.0)) _ (ap length c.remaining-left.ensures.value)
     (λ e. c.if-remaining-left.false (ap length c.remaining.ensures.value ∙ e)) _ _ (rw (← c.as_str.ensures.value) c.put.ensures)
 
 pub decode_set_component-returns-clause-found : goal.decode_set_component-returns-clause-found
 decode_set_component-returns-clause-found g t c =
-    put_fits _ c.args.components.now c.args.found.now.items _ c.in-Some.number c.in-Some.component.now c.in_ok-value.value _ _ c.requires.1.1.1.0 c.in-Some.ensures.0 c.in_ok-value.ensures.fits c.put.ensures
+    put_fits _ c.args.components.now c.args.found.now.items _ c.in-Some.number c.in-Some.component.now c.in_ok-value.value _ _ c.requires.1.1.1.1.0 c.in-Some.ensures.0 c.in_ok-value.ensures.fits c.put.ensures
 
 pub decode_set_component-returns-in_err-tag-clause-rules : goal.decode_set_component-returns-in_err-tag-clause-rules
 decode_set_component-returns-in_err-tag-clause-rules g t c = rw (residual _ c.from_residual.ensures.1) (peek_rules c.args.decoder.now _ c.in_err-tag.ensures.exact)
