@@ -25,3 +25,5 @@ pub mod Checked
 pub mod Listed
 pub mod Placed
 pub mod WorkedParts
+pub mod CheckedLeaves
+pub mod LeadsTo

@@ -19,8 +19,8 @@ use Rattle.rasn_schema.specs.declared.types.Alternative.{Alternative}
 use Rattle.rasn_schema.specs.declared.types.«Type».{«Type»}
 use Rattle.rasn_schema.specs.declared.types.«Type».TheVariants.{Leaf, Enumerated, Any, Tagged, Choice, Sequence, Set, SequenceOf, SetOf}
 use Rattle.rasn_schema.specs.Shapes.{shape_of_type}
-use Rattle.rasn_dynamic.specs.declared.extent.Extent.{Extent}
-use Rattle.rasn_dynamic.specs.declared.extent.Extents.{Extents}
+use Rattle.rasn_dynamic.specs.declared.span.Span.{Span}
+use Rattle.rasn_dynamic.specs.declared.span.Spans.{Spans}
 use Rattle.rasn_dynamic.specs.Inside.{DecodesTree}
 use Rattle.rasn_dynamic.specs.Calls.{LeavesAllOut}
 use Rattle.rasn_dynamic.specs.Faults.{octets_after}
@@ -33,14 +33,14 @@ if_any (Ok v) p = p
 if_any (Err e) p = tt
 
 -- Nothing is appended.
-pub lists_same : (R : ℕ → List Extent → Type 0) (o : Extents) → R o.after [] → Lists R o o
+pub lists_same : (R : ℕ → List Span → Type 0) (o : Spans) → R o.after [] → Lists R o o
 lists_same R o r = record { same_after = refl; more = λ m q. (m, [], q, sym (append-nil m.items), r) }
 
-pub lists_map : (R Q : ℕ → List Extent → Type 0) (o n : Extents) → ((b : ℕ) (es : List Extent) → R b es → Q b es) → Lists R o n → Lists Q o n
+pub lists_map : (R Q : ℕ → List Span → Type 0) (o n : Spans) → ((b : ℕ) (es : List Span) → R b es → Q b es) → Lists R o n → Lists Q o n
 lists_map R Q o n h l = record { same_after = l.same_after; more = λ m q. let w = l.more m q in (w.0, w.1, w.2, w.3, h o.after w.1 w.4) }
 
 -- What is appended twice.
-pub lists_join : (R Q S : ℕ → List Extent → Type 0) (o m n : Extents) → ((b : ℕ) (es fs : List Extent) → R b es → Q b fs → S b (es ++ fs)) → Lists R o m → Lists Q m n → Lists S o n
+pub lists_join : (R Q S : ℕ → List Span → Type 0) (o m n : Spans) → ((b : ℕ) (es fs : List Span) → R b es → Q b fs → S b (es ++ fs)) → Lists R o m → Lists Q m n → Lists S o n
 lists_join R Q S o m n h x y = record {
   same_after = y.same_after ∙ x.same_after;
   more = λ v q.
@@ -50,7 +50,7 @@ lists_join R Q S o m n h x y = record {
 }
 
 -- Inside a value, and out of it again.
-pub lists_inside : (R : ℕ → List Extent → Type 0) (o i j n : Extents) (k b : ℕ) → IsInside k o b i → Lists R i j → IsOutside b j n → Lists (λ c es. R (capped c k) es) o n
+pub lists_inside : (R : ℕ → List Span → Type 0) (o i j n : Spans) (k b : ℕ) → IsInside k o b i → Lists R i j → IsOutside b j n → Lists (λ c es. R (capped c k) es) o n
 lists_inside R o i j n k b a l z = record {
   same_after = z.0 ∙ a.0;
   more = λ v q.
@@ -60,14 +60,14 @@ lists_inside R o i j n k b a l z = record {
 
 -- ---- one after the other
 
-module _ (step : ℕ → ℕ → State → State → List Extent → Type 0) where
-  pub lists_start : (n : ℕ) (s : State) (o : Extents) → n ≡ 0 → Lists (λ b es. InTurn (step b) n s s es) o o
+module _ (step : ℕ → ℕ → State → State → List Span → Type 0) where
+  pub lists_start : (n : ℕ) (s : State) (o : Spans) → n ≡ 0 → Lists (λ b es. InTurn (step b) n s s es) o o
   lists_start n s o e = subst (λ k. Lists (λ b es. InTurn (step b) k s s es) o o) (sym e) (lists_same (λ b es. InTurn (step b) zero s s es) o (refl, refl))
 
-  in_turn_more : (b n : ℕ) (s here last : State) (es mine : List Extent) → InTurn (step b) n s here es → step b n here last mine → InTurn (step b) (n + 1) s last (es ++ mine)
+  in_turn_more : (b n : ℕ) (s here last : State) (es mine : List Span) → InTurn (step b) n s here es → step b n here last mine → InTurn (step b) (n + 1) s last (es ++ mine)
   in_turn_more b n s here last es mine t m = subst (λ k. InTurn (step b) k s last (es ++ mine)) (sym (add-one n)) (es, mine, here, refl, t, m)
 
-  pub lists_more : (n : ℕ) (s here last : State) (o m v : Extents)
+  pub lists_more : (n : ℕ) (s here last : State) (o m v : Spans)
       → Lists (λ b es. InTurn (step b) n s here es) o m → Lists (λ b es. step b n here last es) m v → Lists (λ b es. InTurn (step b) (n + 1) s last es) o v
   lists_more n s here last o m v x y = lists_join (λ b es. InTurn (step b) n s here es) (λ b es. step b n here last es) (λ b es. InTurn (step b) (n + 1) s last es) o m v
       (λ b es mine. in_turn_more b n s here last es mine) x y
@@ -78,20 +78,20 @@ pub same_list : {X : Type 0} (a b : X) → Some a ≡ Some b → a ≡ b
 same_list a b e = cc
 
 -- One part of the list is ended.
-pub is_finished : (place : ℕ) (rest : List ℕ) (list : List Extent) (x : Extent) (before : Bor (List ℕ)) → x ≡ get_or list place x → IsCut x.octets.now rest before.now
-    → (front : List Extent) (e : Extent) (more : List Extent) → list ≡ front ++ e ∷ more → length front ≡ place
-    → (f : Extent) × (slice_set list place (record { id = x.id; index = x.index; levels = x.levels; left = x.left; octets = before }) ≡ front ++ f ∷ more) × (f.id ≡ e.id) × (f.index ≡ e.index) × (f.levels ≡ e.levels) × (f.left ≡ e.left)
+pub is_finished : (place : ℕ) (rest : List ℕ) (list : List Span) (x : Span) (before : Bor (List ℕ)) → x ≡ get_or list place x → IsCut x.octets.now rest before.now
+    → (front : List Span) (e : Span) (more : List Span) → list ≡ front ++ e ∷ more → length front ≡ place
+    → (f : Span) × (slice_set list place (record { id = x.id; index = x.index; levels = x.levels; left = x.left; octets = before }) ≡ front ++ f ∷ more) × (f.id ≡ e.id) × (f.index ≡ e.index) × (f.levels ≡ e.levels) × (f.left ≡ e.left)
     × IsCut e.octets.now rest f.octets.now
 is_finished place rest list x before v h front e more is at =
-    let f : Extent = record { id = x.id; index = x.index; levels = x.levels; left = x.left; octets = before } in
+    let f : Span = record { id = x.id; index = x.index; levels = x.levels; left = x.left; octets = before } in
     let y : x ≡ e = v ∙ ap (λ z. get_or z place x) is ∙ subst (λ k. get_or (front ++ e ∷ more) k x ≡ e) at (get_or-append_seam front e more x) in (
       f,
       ap (λ z. slice_set z place f) is ∙ subst (λ k. slice_set (front ++ e ∷ more) k f ≡ front ++ f ∷ more) at (set-append_seam front e more f),
-      ap (λ (z : Extent). z.id) y,
-      ap (λ (z : Extent). z.index) y,
-      ap (λ (z : Extent). z.levels) y,
-      ap (λ (z : Extent). z.left) y,
-      subst (λ (z : Extent). IsCut z.octets.now rest before.now) y h,
+      ap (λ (z : Span). z.id) y,
+      ap (λ (z : Span). z.index) y,
+      ap (λ (z : Span). z.levels) y,
+      ap (λ (z : Span). z.left) y,
+      subst (λ (z : Span). IsCut z.octets.now rest before.now) y h,
     )
 
 -- The component after others has their number as its index.
@@ -103,7 +103,7 @@ at_seam xs y ys =
 -- ---- what is read
 
 -- A part is noted, read and finished.
-pub part_listed : (types : List «Type») (levels : ℕ) (id : TypeId) (k place : ℕ) (octets rest : List ℕ) (s next : State) (o a b n : Extents) (t : Tree)
+pub part_listed : (types : List «Type») (levels : ℕ) (id : TypeId) (k place : ℕ) (octets rest : List ℕ) (s next : State) (o a b n : Spans) (t : Tree)
     → octets ≡ s.rest → rest ≡ next.rest → IsNoted id k levels octets o place a → Lists (λ c es. PartsInside types levels id.0 c s es) a b → IsFinished place rest b n
     → DecodesTree (shape_of_type types levels id.0) s (Ok t) next → Lists (λ c es. PartListed (shape_of_type types levels) levels (Inside types levels) id.0 k c s next es) o n
 part_listed types levels id k place octets rest s next o a b n t p r noted l finished d = record {
@@ -138,7 +138,7 @@ part_listed types levels id k place octets rest s next o a b n t p r noted l fin
 }
 
 -- The type with the number is found.
-pub value_listed : (types : List «Type») (levels below id : ℕ) (ty : «Type») (s : State) (o n : Extents) → levels ≡ below + 1 → slice_get types id ≡ Some ty
+pub value_listed : (types : List «Type») (levels below id : ℕ) (ty : «Type») (s : State) (o n : Spans) → levels ≡ below + 1 → slice_get types id ≡ Some ty
     → Lists (λ b es. ValueListed (shape_of_type types below) below (Inside types below) ty b s es) o n → Lists (λ b es. PartsInside types levels id b s es) o n
 unfolding PartsInside
 value_listed types levels below id ty s o n e at l = subst (λ k. Lists (λ b es. PartsInside types k id b s es) o n) (sym (e ∙ add-one below))
@@ -167,7 +167,7 @@ abbrev pub HoldsOne : «Type» → ℕ → Type 0
 HoldsOne (Tagged tag id) k = k ≡ id.0
 HoldsOne _ k = ⊥
 
-module _ (f : ℕ → Shape) (levels : ℕ) (P : ℕ → ℕ → State → List Extent → Type 0) where
+module _ (f : ℕ → Shape) (levels : ℕ) (P : ℕ → ℕ → State → List Span → Type 0) where
   none_inside : (ty : «Type») (b : ℕ) (s : State) → HoldsNone ty → ValueListed f levels P ty b s []
   none_inside (Leaf kind tag c names) b s h = (b, s, (refl, refl), refl)
   none_inside (Enumerated tag ns) b s h = (b, s, (refl, refl), refl)
@@ -179,7 +179,7 @@ module _ (f : ℕ → Shape) (levels : ℕ) (P : ℕ → ℕ → State → List 
   none_inside (SequenceOf tag id c) b s h = absurd h
   none_inside (SetOf tag id c) b s h = absurd h
 
-  pub none_listed : (ty : «Type») (s : State) (o : Extents) → HoldsNone ty → Lists (λ b es. ValueListed f levels P ty b s es) o o
+  pub none_listed : (ty : «Type») (s : State) (o : Spans) → HoldsNone ty → Lists (λ b es. ValueListed f levels P ty b s es) o o
   none_listed ty s o h = lists_same (λ b es. ValueListed f levels P ty b s es) o (none_inside ty o.after s h)
 
   into : (ty : «Type») (d : ConstructedHeader) (b : ℕ) (s : State) (c : ℕ) (inner : State) → HasHeader ty d → GoesInside d b s c inner → GoesInto ty b s c inner
@@ -193,11 +193,11 @@ module _ (f : ℕ → Shape) (levels : ℕ) (P : ℕ → ℕ → State → List 
   into (SequenceOf tag id k) d b s c inner h g = subst (λ x. GoesInside x b s c inner) h g
   into (SetOf tag id k) d b s c inner h g = subst (λ x. GoesInside x b s c inner) h g
 
-  pub holder_listed : (ty : «Type») (d : ConstructedHeader) (s : State) (o n : Extents) → HasHeader ty d
+  pub holder_listed : (ty : «Type») (d : ConstructedHeader) (s : State) (o n : Spans) → HasHeader ty d
       → Lists (λ b es. InsideListed f levels P d ty b s es) o n → Lists (λ b es. ValueListed f levels P ty b s es) o n
   holder_listed ty d s o n h l = lists_map (λ b es. InsideListed f levels P d ty b s es) (λ b es. ValueListed f levels P ty b s es) o n (λ b es q. (q.0, q.1, into ty d b s q.0 q.1 h q.2, q.3)) l
 
-  alternatives_of : (ty : «Type») (l : List Alternative) (b : ℕ) (s : State) (es : List Extent) → HoldsAlternatives ty l → AlternativeListed f levels P l b s es → ValueListed f levels P ty b s es
+  alternatives_of : (ty : «Type») (l : List Alternative) (b : ℕ) (s : State) (es : List Span) → HoldsAlternatives ty l → AlternativeListed f levels P l b s es → ValueListed f levels P ty b s es
   alternatives_of (Leaf kind tag c names) l b s es h q = absurd h
   alternatives_of (Enumerated tag ns) l b s es h q = absurd h
   alternatives_of (Any tag) l b s es h q = absurd h
@@ -208,16 +208,16 @@ module _ (f : ℕ → Shape) (levels : ℕ) (P : ℕ → ℕ → State → List 
   alternatives_of (SequenceOf tag id c) l b s es h q = absurd h
   alternatives_of (SetOf tag id c) l b s es h q = absurd h
 
-  pub choice_listed : (ty : «Type») (l : List Alternative) (s : State) (o n : Extents) → HoldsAlternatives ty l
+  pub choice_listed : (ty : «Type») (l : List Alternative) (s : State) (o n : Spans) → HoldsAlternatives ty l
       → Lists (λ b es. AlternativeListed f levels P l b s es) o n → Lists (λ b es. ValueListed f levels P ty b s es) o n
   choice_listed ty l s o n h x = lists_map (λ b es. AlternativeListed f levels P l b s es) (λ b es. ValueListed f levels P ty b s es) o n (λ b es q. alternatives_of ty l b s es h q) x
 
-  pub alternative_listed : (ks : List Alternative) (k : ℕ) (a : Alternative) (s last : State) (o n : Extents) → Some a ≡ slice_get ks k
+  pub alternative_listed : (ks : List Alternative) (k : ℕ) (a : Alternative) (s last : State) (o n : Spans) → Some a ≡ slice_get ks k
       → Lists (λ b es. PartListed f levels P a.type_id.0 k b s last es) o n → Lists (λ b es. AlternativeListed f levels P ks b s es) o n
   alternative_listed ks k a s last o n at l = lists_map (λ b es. PartListed f levels P a.type_id.0 k b s last es) (λ b es. AlternativeListed f levels P ks b s es) o n (λ b es q. (k, a, at, last, q)) l
 
   -- The contents are those after the header that was opened.
-  pub inside_listed : (ty : «Type») (d : ConstructedHeader) (s opened inner : State) (contents : Contents) (z : ℕ) (o i j n : Extents)
+  pub inside_listed : (ty : «Type») (d : ConstructedHeader) (s opened inner : State) (contents : Contents) (z : ℕ) (o i j n : Spans)
       → ConsumesOpening d s (Ok (inner, contents)) opened → IsInside (octets_after inner.closing (length opened.rest)) o z i → Lists (λ b es. ContentsListed f levels P ty b inner es) i j → IsOutside z j n
       → Lists (λ b es. InsideListed f levels P d ty b s es) o n
   inside_listed ty d s opened inner contents z o i j n h a l out =
@@ -226,7 +226,7 @@ module _ (f : ℕ → Shape) (levels : ℕ) (P : ℕ → ℕ → State → List 
       (λ b es q. (capped b k, inner, (h.0, h.1, h.2, ap (λ (v : State). capped b (octets_after inner.closing (length v.rest))) h.4), q))
       (lists_inside (λ c es. ContentsListed f levels P ty c inner es) o i j n k z a l out)
 
-  one_of : (ty : «Type») (id b : ℕ) (s last : State) (es : List Extent) → HoldsOne ty id → PartListed f levels P id 0 b s last es → ContentsListed f levels P ty b s es
+  one_of : (ty : «Type») (id b : ℕ) (s last : State) (es : List Span) → HoldsOne ty id → PartListed f levels P id 0 b s last es → ContentsListed f levels P ty b s es
   one_of (Leaf kind tag c names) id b s last es h q = absurd h
   one_of (Enumerated tag ns) id b s last es h q = absurd h
   one_of (Any tag) id b s last es h q = absurd h
@@ -237,38 +237,38 @@ module _ (f : ℕ → Shape) (levels : ℕ) (P : ℕ → ℕ → State → List 
   one_of (SequenceOf tag k c) id b s last es h q = absurd h
   one_of (SetOf tag k c) id b s last es h q = absurd h
 
-  pub tagged_listed : (ty : «Type») (id : ℕ) (s last : State) (o n : Extents) → HoldsOne ty id
+  pub tagged_listed : (ty : «Type») (id : ℕ) (s last : State) (o n : Spans) → HoldsOne ty id
       → Lists (λ b es. PartListed f levels P id 0 b s last es) o n → Lists (λ b es. ContentsListed f levels P ty b s es) o n
   tagged_listed ty id s last o n h l = lists_map (λ b es. PartListed f levels P id 0 b s last es) (λ b es. ContentsListed f levels P ty b s es) o n (λ b es q. one_of ty id b s last es h q) l
 
-  pub header_listed : (d e : ConstructedHeader) (ty : «Type») (s : State) (o n : Extents) → d ≡ e → Lists (λ b es. InsideListed f levels P d ty b s es) o n → Lists (λ b es. InsideListed f levels P e ty b s es) o n
+  pub header_listed : (d e : ConstructedHeader) (ty : «Type») (s : State) (o n : Spans) → d ≡ e → Lists (λ b es. InsideListed f levels P d ty b s es) o n → Lists (λ b es. InsideListed f levels P e ty b s es) o n
   header_listed d e ty s o n q l = subst (λ x. Lists (λ b es. InsideListed f levels P x ty b s es) o n) q l
 
-  pub contents_same : (ty y : «Type») (s : State) (o n : Extents) → ty ≡ y → Lists (λ b es. ContentsListed f levels P y b s es) o n → Lists (λ b es. ContentsListed f levels P ty b s es) o n
+  pub contents_same : (ty y : «Type») (s : State) (o n : Spans) → ty ≡ y → Lists (λ b es. ContentsListed f levels P y b s es) o n → Lists (λ b es. ContentsListed f levels P ty b s es) o n
   contents_same ty y s o n q l = subst (λ x. Lists (λ b es. ContentsListed f levels P x b s es) o n) (sym q) l
 
-  pub components_same : (l k : List Component) (s : State) (o n : Extents) → l ≡ k → Lists (λ b es. ComponentsListed f levels P l b s es) o n → Lists (λ b es. ComponentsListed f levels P k b s es) o n
+  pub components_same : (l k : List Component) (s : State) (o n : Spans) → l ≡ k → Lists (λ b es. ComponentsListed f levels P l b s es) o n → Lists (λ b es. ComponentsListed f levels P k b s es) o n
   components_same l k s o n q x = subst (λ z. Lists (λ b es. ComponentsListed f levels P z b s es) o n) q x
 
-  pub members_same : (l k : List Component) (s : State) (o n : Extents) → l ≡ k → Lists (λ b es. MembersListed f levels P l b s es) o n → Lists (λ b es. MembersListed f levels P k b s es) o n
+  pub members_same : (l k : List Component) (s : State) (o n : Spans) → l ≡ k → Lists (λ b es. MembersListed f levels P l b s es) o n → Lists (λ b es. MembersListed f levels P k b s es) o n
   members_same l k s o n q x = subst (λ z. Lists (λ b es. MembersListed f levels P z b s es) o n) q x
 
   -- ---- elements
 
-  pub elements_listed : (id n : ℕ) (s last : State) (o v : Extents) → Ended last.closing last.rest
+  pub elements_listed : (id n : ℕ) (s last : State) (o v : Spans) → Ended last.closing last.rest
       → Lists (λ b es. InTurn (λ k. PartListed f levels P id k b) n s last es) o v → Lists (λ b es. ElementsListed f levels P id b s es) o v
   elements_listed id n s last o v h l = lists_map (λ b es. InTurn (λ k. PartListed f levels P id k b) n s last es) (λ b es. ElementsListed f levels P id b s es) o v (λ b es q. (n, last, q, h)) l
 
   -- ---- components
 
-  pub component_present : (p : Component) (k : ℕ) (s next : State) (o n : Extents)
+  pub component_present : (p : Component) (k : ℕ) (s next : State) (o n : Spans)
       → Lists (λ b es. PartListed f levels P p.type_id.0 k b s next es) o n → Lists (λ b es. ComponentListed f levels P p k b s next es) o n
   component_present p k s next o n l = lists_map (λ b es. PartListed f levels P p.type_id.0 k b s next es) (λ b es. ComponentListed f levels P p k b s next es) o n (λ b es q. inr q) l
 
-  pub component_absent : (p : Component) (k : ℕ) (s : State) (o : Extents) → IsAbsentHere f p s → Lists (λ b es. ComponentListed f levels P p k b s s es) o o
+  pub component_absent : (p : Component) (k : ℕ) (s : State) (o : Spans) → IsAbsentHere f p s → Lists (λ b es. ComponentListed f levels P p k b s s es) o o
   component_absent p k s o h = lists_same (λ b es. ComponentListed f levels P p k b s s es) o (inl (h, refl, refl))
 
-  pub component_more : (ps done after : List Component) (p : Component) (index : ℕ) (s here last : State) (o m v : Extents) → ps ≡ done ++ p ∷ after → length done ≡ index
+  pub component_more : (ps done after : List Component) (p : Component) (index : ℕ) (s here last : State) (o m v : Spans) → ps ≡ done ++ p ∷ after → length done ≡ index
       → Lists (λ b es. InTurn (ComponentAt f levels P ps b) (length done) s here es) o m → Lists (λ b es. ComponentListed f levels P p index b here last es) m v
       → Lists (λ b es. InTurn (ComponentAt f levels P ps b) (length (done ++ p ∷ [])) s last es) o v
   component_more ps done after p index s here last o m v e i x y =
@@ -279,20 +279,20 @@ module _ (f : ℕ → Shape) (levels : ℕ) (P : ℕ → ℕ → State → List 
       subst (λ k. Lists (λ b es. InTurn (ComponentAt f levels P ps b) k s last es) o v) (sym (length-append done (p ∷ [])))
       (lists_more (λ b. ComponentAt f levels P ps b) (length done) s here last o m v x one)
 
-  pub components_left_out : (ps : List Component) (s : State) (o : Extents) → LeavesAllOut ps s → Lists (λ b es. ComponentsListed f levels P ps b s es) o o
+  pub components_left_out : (ps : List Component) (s : State) (o : Spans) → LeavesAllOut ps s → Lists (λ b es. ComponentsListed f levels P ps b s es) o o
   components_left_out ps s o h = lists_same (λ b es. ComponentsListed f levels P ps b s es) o (inl (h, refl))
 
-  pub components_listed : (ps done rest : List Component) (s last : State) (o v : Extents) → ps ≡ done ++ rest → rest ≡ []
+  pub components_listed : (ps done rest : List Component) (s last : State) (o v : Spans) → ps ≡ done ++ rest → rest ≡ []
       → Lists (λ b es. InTurn (ComponentAt f levels P ps b) (length done) s last es) o v → Lists (λ b es. ComponentsListed f levels P ps b s es) o v
   components_listed ps done rest s last o v e r l =
       let same : ps ≡ done = e ∙ ap (λ x. done ++ x) r ∙ append-nil done in
       lists_map (λ b es. InTurn (ComponentAt f levels P ps b) (length done) s last es) (λ b es. ComponentsListed f levels P ps b s es) o v
       (λ b es q. inr (last, subst (λ x. InTurn (ComponentAt f levels P ps b) (length x) s last es) (sym same) q)) l
 
-  pub member_listed : (ps : List Component) (k : ℕ) (p : Component) (s next : State) (o n : Extents) → Some p ≡ slice_get ps k
+  pub member_listed : (ps : List Component) (k : ℕ) (p : Component) (s next : State) (o n : Spans) → Some p ≡ slice_get ps k
       → Lists (λ b es. PartListed f levels P p.type_id.0 k b s next es) o n → Lists (λ b es. MemberListed f levels P ps b s next es) o n
   member_listed ps k p s next o n at l = lists_map (λ b es. PartListed f levels P p.type_id.0 k b s next es) (λ b es. MemberListed f levels P ps b s next es) o n (λ b es q. (k, p, at, q)) l
 
-  pub members_listed : (ps : List Component) (n : ℕ) (s last : State) (o v : Extents) → Ended last.closing last.rest
+  pub members_listed : (ps : List Component) (n : ℕ) (s last : State) (o v : Spans) → Ended last.closing last.rest
       → Lists (λ b es. InTurn (λ k. MemberListed f levels P ps b) n s last es) o v → Lists (λ b es. MembersListed f levels P ps b s es) o v
   members_listed ps n s last o v h l = lists_map (λ b es. InTurn (λ k. MemberListed f levels P ps b) n s last es) (λ b es. MembersListed f levels P ps b s es) o v (λ b es q. (n, last, q, h)) l

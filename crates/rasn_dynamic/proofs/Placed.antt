@@ -16,11 +16,11 @@ use Rattle.rasn_de.specs.Constructed.{sequence_header, list_header, prefix_heade
 use Rattle.rasn_schema.specs.declared.types.«Type».{«Type»}
 use Rattle.rasn_schema.specs.declared.types.«Type».TheVariants.{Leaf, Enumerated, Any, Tagged, Choice, Sequence, Set, SequenceOf, SetOf}
 use Rattle.rasn_schema.specs.Shapes.{shape_of_type}
-use Rattle.rasn_dynamic.specs.declared.extent.Extent.{Extent}
+use Rattle.rasn_dynamic.specs.declared.span.Span.{Span}
 use Rattle.rasn_dynamic.specs.Faults.{octets_after, start}
 use Rattle.rasn_dynamic.specs.Listed.{Lists, IsEmpty, capped, GoesInside, GoesInto, InTurn, PartListed, ComponentAt, MemberListed, ContentsListed, ValueListed, PartsInside, Inside}
 use Rattle.rasn_dynamic.specs.Walk.{IsPlaced, ArePartsOf}
-use Rattle.rasn_dynamic.specs.declared.extent.Extents.{Extents}
+use Rattle.rasn_dynamic.specs.declared.span.Spans.{Spans}
 use Rattle.rasn_dynamic.specs.declared.message.MessageParts.{MessageParts}
 use Rattle.rasn_dynamic.proofs.Faults.{after, after_length, contents_within}
 use Rattle.rasn_dynamic.proofs.Listed.{same_list}
@@ -79,7 +79,7 @@ module _ (input : List ℕ) (short : length input < 2 ^ 64) (o : AreOctets input
   into_seen (SequenceOf tag id k) b s c inner seen g = inside_seen (list_header tag) b s c inner seen g
   into_seen (SetOf tag id k) b s c inner seen g = inside_seen (list_header tag) b s c inner seen g
 
-  one_placed : (e : Extent) (rest whole : List ℕ) (b : ℕ) → IsSeenTo input whole b → whole ≡ e.octets.now ++ rest → e.left ≡ capped b (length whole) → IsPlaced input e
+  one_placed : (e : Span) (rest whole : List ℕ) (b : ℕ) → IsSeenTo input whole b → whole ≡ e.octets.now ++ rest → e.left ≡ capped b (length whole) → IsPlaced input e
   one_placed e rest whole b (front, back, q, n) w k =
       let x = append_assoc e.octets.now rest back in
       let size : length (e.octets.now ++ (rest ++ back)) ≡ length whole + length back = ap length (sym x ∙ ap (λ z. z ++ back) (sym w)) ∙ length-append whole back in
@@ -87,28 +87,28 @@ module _ (input : List ℕ) (short : length input < 2 ^ 64) (o : AreOctets input
       (front, rest ++ back, q ∙ ap (λ z. front ++ (z ++ back)) w ∙ ap (λ z. front ++ z) x, (let y = k ∙ exact b (length whole) fits in omega (arith, size, n, y)))
 
   -- P places each part inside a value that is seen, if below says so.
-  module _ (f : ℕ → Shape) (levels : ℕ) (P : ℕ → ℕ → State → List Extent → Type 0)
-      (below : (id b : ℕ) (s : State) (es : List Extent) → IsSeenTo input s.rest b → P id b s es → All (IsPlaced input) es) where
-    pub part_placed : (id k b : ℕ) (s next : State) (es : List Extent) → IsSeenTo input s.rest b → PartListed f levels P id k b s next es → All (IsPlaced input) es × IsSeenTo input next.rest b
+  module _ (f : ℕ → Shape) (levels : ℕ) (P : ℕ → ℕ → State → List Span → Type 0)
+      (below : (id b : ℕ) (s : State) (es : List Span) → IsSeenTo input s.rest b → P id b s es → All (IsPlaced input) es) where
+    pub part_placed : (id k b : ℕ) (s next : State) (es : List Span) → IsSeenTo input s.rest b → PartListed f levels P id k b s next es → All (IsPlaced input) es × IsSeenTo input next.rest b
     part_placed id k b s next es seen p = (
       subst (All (IsPlaced input)) (sym p.is)
           (All-cons (IsPlaced input) p.part p.inside (one_placed p.part next.rest s.rest b seen p.octets p.left) (below id b s p.inside seen p.parts)),
       seen_rest input s.rest p.part.octets.now next.rest b seen p.octets,
     )
 
-    turns_placed : (step : ℕ → State → State → List Extent → Type 0) (b : ℕ)
-        → ((k : ℕ) (s next : State) (es : List Extent) → IsSeenTo input s.rest b → step k s next es → All (IsPlaced input) es × IsSeenTo input next.rest b)
-        → (n : ℕ) (s last : State) (es : List Extent) → IsSeenTo input s.rest b → InTurn step n s last es → All (IsPlaced input) es × IsSeenTo input last.rest b
+    turns_placed : (step : ℕ → State → State → List Span → Type 0) (b : ℕ)
+        → ((k : ℕ) (s next : State) (es : List Span) → IsSeenTo input s.rest b → step k s next es → All (IsPlaced input) es × IsSeenTo input next.rest b)
+        → (n : ℕ) (s last : State) (es : List Span) → IsSeenTo input s.rest b → InTurn step n s last es → All (IsPlaced input) es × IsSeenTo input last.rest b
     turns_placed step b each zero s last es seen (e, q) = (subst (All (IsPlaced input)) (sym q) (λ k d h. absurd (omega (arith, h))), subst (λ (z : State). IsSeenTo input z.rest b) (sym e) seen)
     turns_placed step b each (suc n) s last es seen (before, mine, here, e, t, m) =
         let x = turns_placed step b each n s here before seen t in
         let y = each n here last mine x.1 m in
         (subst (All (IsPlaced input)) (sym e) (All-append (IsPlaced input) before mine x.0 y.0), y.1)
 
-    none_placed : (es : List Extent) → es ≡ [] → All (IsPlaced input) es
+    none_placed : (es : List Span) → es ≡ [] → All (IsPlaced input) es
     none_placed es e = subst (All (IsPlaced input)) (sym e) (λ k d h. absurd (omega (arith, h)))
 
-    contents_placed : (ty : «Type») (b : ℕ) (s : State) (es : List Extent) → IsSeenTo input s.rest b → ContentsListed f levels P ty b s es → All (IsPlaced input) es
+    contents_placed : (ty : «Type») (b : ℕ) (s : State) (es : List Span) → IsSeenTo input s.rest b → ContentsListed f levels P ty b s es → All (IsPlaced input) es
     contents_placed (Leaf kind tag c names) b s es seen q = none_placed es q
     contents_placed (Enumerated tag ns) b s es seen q = none_placed es q
     contents_placed (Any tag) b s es seen q = none_placed es q
@@ -123,28 +123,28 @@ module _ (input : List ℕ) (short : length input < 2 ^ 64) (o : AreOctets input
     contents_placed (SequenceOf tag id c) b s es seen (n, last, q, h) = (turns_placed (λ k. PartListed f levels P id.0 k b) b (λ k z next mine. part_placed id.0 k b z next mine) n s last es seen q).0
     contents_placed (SetOf tag id c) b s es seen (n, last, q, h) = (turns_placed (λ k. PartListed f levels P id.0 k b) b (λ k z next mine. part_placed id.0 k b z next mine) n s last es seen q).0
 
-    value_placed : (ty : «Type») (b : ℕ) (s : State) (es : List Extent) → IsSeenTo input s.rest b → ValueListed f levels P ty b s es → All (IsPlaced input) es
+    value_placed : (ty : «Type») (b : ℕ) (s : State) (es : List Span) → IsSeenTo input s.rest b → ValueListed f levels P ty b s es → All (IsPlaced input) es
     value_placed ty b s es seen (c, inner, g, q) = contents_placed ty c inner es (into_seen ty b s c inner seen g) q
 
-  inside_placed : (types : List «Type») (n id b : ℕ) (s : State) (es : List Extent) → IsSeenTo input s.rest b → PartsInside types n id b s es → All (IsPlaced input) es
+  inside_placed : (types : List «Type») (n id b : ℕ) (s : State) (es : List Span) → IsSeenTo input s.rest b → PartsInside types n id b s es → All (IsPlaced input) es
   unfolding PartsInside
   inside_placed types zero id b s es seen q = absurd q
   inside_placed types (suc n) id b s es seen (ty, at, q) = value_placed (shape_of_type types n) n (Inside types n) (λ k c z more. inside_placed types n k c z more) ty b s es seen q
 
   -- Those of a whole message.
-  pub all_placed : (types : List «Type») (n id k : ℕ) (s next : State) (es : List Extent) → s.rest ≡ input → PartListed (shape_of_type types n) n (Inside types n) id k 0 s next es → All (IsPlaced input) es
+  pub all_placed : (types : List «Type») (n id k : ℕ) (s next : State) (es : List Span) → s.rest ≡ input → PartListed (shape_of_type types n) n (Inside types n) id k 0 s next es → All (IsPlaced input) es
   all_placed types n id k s next es e q = (part_placed (shape_of_type types n) n (Inside types n) (λ j c z more. inside_placed types n j c z more) id k 0 s next es ([], [], sym (append-nil s.rest ∙ e), refl) q).0
 
 -- ---- what the call returns
 
 -- The parts that were listed are those of the message.
-pub are_parts : (types : List «Type») (rule : Codec) (id : TypeId) (input : List ℕ) (s last : State) (o n : Extents) (ps : MessageParts) → s ≡ start rule input → IsEmpty o
+pub are_parts : (types : List «Type») (rule : Codec) (id : TypeId) (input : List ℕ) (s last : State) (o n : Spans) (ps : MessageParts) → s ≡ start rule input → IsEmpty o
     → Lists (λ b es. PartListed (shape_of_type types 18446744073709551615) 18446744073709551615 (Inside types 18446744073709551615) id.0 0 b s last es) o n → n.list ≡ Some ps.list
     → ps.input.now ≡ input → ps.next ≡ 0 → ps.path.items ≡ [] → length input < 2 ^ 64 → AreOctets input → ArePartsOf types rule id.0 input ps
 are_parts types rule id input s last o n ps e empty l q i x p short octets =
     let w = l.more ps.list q in
     let same : w.0 ≡ empty.1 = same_list w.0 empty.1 (sym w.2 ∙ empty.2) in
-    let all : ps.list.items ≡ w.1 = w.3 ∙ ap (λ z. z ++ w.1) (ap (λ (v : Vec Extent Global). v.items) same ∙ empty.3) in
+    let all : ps.list.items ≡ w.1 = w.3 ∙ ap (λ z. z ++ w.1) (ap (λ (v : Vec Span Global). v.items) same ∙ empty.3) in
     let listed = subst (λ es. PartListed (shape_of_type types 18446744073709551615) 18446744073709551615 (Inside types 18446744073709551615) id.0 0 0 (start rule input) last es) (sym all)
     (subst (λ z. PartListed (shape_of_type types 18446744073709551615) 18446744073709551615 (Inside types 18446744073709551615) id.0 0 0 z last w.1) e
     (subst (λ b. PartListed (shape_of_type types 18446744073709551615) 18446744073709551615 (Inside types 18446744073709551615) id.0 0 b s last w.1) empty.0 w.4)) in

@@ -4,13 +4,13 @@ use Rattle.std.specs.Prelude.{slice_get}
 use Rattle.std.proofs.lemmas.List.{append_cancel_right}
 use Rattle.rasn_de.specs.State.{State}
 use Rattle.rasn_schema.specs.declared.types.«Type».{«Type»}
-use Rattle.rasn_dynamic.specs.declared.extent.Extent.{Extent}
+use Rattle.rasn_dynamic.specs.declared.span.Span.{Span}
 use Rattle.rasn_types.specs.declared.types.codec.Codec.TheVariants.{Der}
 use Rattle.rasn_dynamic.specs.Faults.{start}
 use Rattle.rasn_dynamic.specs.Listed.{PartsInside}
 use Rattle.rasn_dynamic.specs.WorkedParts.{WorkedParts}
 
-missing : (levels id b : ℕ) (s : State) (es : List Extent) → PartsInside [] levels id b s es → ⊥
+missing : (levels id b : ℕ) (s : State) (es : List Span) → PartsInside [] levels id b s es → ⊥
 unfolding PartsInside
 missing zero id b s es h = h
 missing (suc n) id b s es (ty, at, h) = let none : slice_get [] id ≡ Some ty = at in cc

@@ -14,3 +14,4 @@ pub mod Walk
 pub mod Worked
 pub mod Steps
 pub mod WorkedParts
+pub mod LeadsTo

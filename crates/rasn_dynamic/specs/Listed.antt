@@ -13,8 +13,8 @@ use Rattle.rasn_schema.specs.declared.types.Alternative.{Alternative}
 use Rattle.rasn_schema.specs.declared.types.«Type».{«Type»}
 use Rattle.rasn_schema.specs.declared.types.«Type».TheVariants.{Leaf, Enumerated, Any, Tagged, Choice, Sequence, Set, SequenceOf, SetOf}
 use Rattle.rasn_schema.specs.Shapes.{shape_of_type}
-use Rattle.rasn_dynamic.specs.declared.extent.Extent.{Extent}
-use Rattle.rasn_dynamic.specs.declared.extent.Extents.{Extents}
+use Rattle.rasn_dynamic.specs.declared.span.Span.{Span}
+use Rattle.rasn_dynamic.specs.declared.span.Spans.{Spans}
 use Rattle.rasn_dynamic.specs.Inside.{DecodesTree}
 use Rattle.rasn_dynamic.specs.Calls.{LeavesAllOut}
 use Rattle.rasn_dynamic.specs.Faults.{octets_after}
@@ -41,16 +41,16 @@ GoesInto (SequenceOf tag id c) b s a inner = GoesInside (list_header tag) b s a 
 GoesInto (SetOf tag id c) b s a inner = GoesInside (list_header tag) b s a inner
 
 -- n parts, one after the other: of the one with k before it, step k says which parts it is with those inside it.
-abbrev pub InTurn : (ℕ → State → State → List Extent → Type 0) → ℕ → State → State → List Extent → Type 0
+abbrev pub InTurn : (ℕ → State → State → List Span → Type 0) → ℕ → State → State → List Span → Type 0
 InTurn step zero s last es = (last ≡ s) × (es ≡ [])
-InTurn step (suc n) s last es = (before : List Extent) × (mine : List Extent) × (here : State) × (es ≡ before ++ mine) × InTurn step n s here before × step n here last mine
+InTurn step (suc n) s last es = (before : List Span) × (mine : List Span) × (here : State) × (es ≡ before ++ mine) × InTurn step n s here before × step n here last mine
 
 -- f gives the shape of the type with a number. P id b s es: of a value of the type that is read in the state s, if b octets of the message follow what is seen, these are the parts inside.
-module _ (f : ℕ → Shape) (levels : ℕ) (P : ℕ → ℕ → State → List Extent → Type 0) where
+module _ (f : ℕ → Shape) (levels : ℕ) (P : ℕ → ℕ → State → List Span → Type 0) where
   -- The part with the index k is read by its shape from its octets, up to the state next, and after it are the parts inside it.
-  pub record PartListed (id k b : ℕ) (s next : State) (es : List Extent) : Type 0 where
-    pub part : Extent
-    pub inside : List Extent
+  pub record PartListed (id k b : ℕ) (s next : State) (es : List Span) : Type 0 where
+    pub part : Span
+    pub inside : List Span
     pub is : es ≡ part ∷ inside
     pub id_is : part.id.0 ≡ id
     pub index : part.index ≡ k
@@ -62,33 +62,33 @@ module _ (f : ℕ → Shape) (levels : ℕ) (P : ℕ → ℕ → State → List 
     pub parts : P id b s inside
 
   -- A component of a SEQUENCE, unless it is absent.
-  abbrev pub ComponentListed : Component → ℕ → ℕ → State → State → List Extent → Type 0
+  abbrev pub ComponentListed : Component → ℕ → ℕ → State → State → List Span → Type 0
   ComponentListed p k b s next es = (IsAbsentHere f p s × (next ≡ s) × (es ≡ [])) ⊎ PartListed p.type_id.0 k b s next es
 
-  abbrev pub ComponentAt : List Component → ℕ → ℕ → State → State → List Extent → Type 0
+  abbrev pub ComponentAt : List Component → ℕ → ℕ → State → State → List Span → Type 0
   ComponentAt ps b k s next es = (p : Component) × (Some p ≡ slice_get ps k) × ComponentListed p k b s next es
 
   -- Those of a SEQUENCE in their order, where all are left out, or each is read or absent.
-  abbrev pub ComponentsListed : List Component → ℕ → State → List Extent → Type 0
+  abbrev pub ComponentsListed : List Component → ℕ → State → List Span → Type 0
   ComponentsListed ps b s es = (LeavesAllOut ps s × (es ≡ [])) ⊎ ((last : State) × InTurn (ComponentAt ps b) (length ps) s last es)
 
   -- A component of a SET; and those of a SET, in any order, up to the end.
-  abbrev pub MemberListed : List Component → ℕ → State → State → List Extent → Type 0
+  abbrev pub MemberListed : List Component → ℕ → State → State → List Span → Type 0
   MemberListed ps b s next es = (k : ℕ) × (p : Component) × (Some p ≡ slice_get ps k) × PartListed p.type_id.0 k b s next es
 
-  abbrev pub MembersListed : List Component → ℕ → State → List Extent → Type 0
+  abbrev pub MembersListed : List Component → ℕ → State → List Span → Type 0
   MembersListed ps b s es = (n : ℕ) × (last : State) × InTurn (λ k. MemberListed ps b) n s last es × Ended last.closing last.rest
 
   -- Elements, up to the end.
-  abbrev pub ElementsListed : ℕ → ℕ → State → List Extent → Type 0
+  abbrev pub ElementsListed : ℕ → ℕ → State → List Span → Type 0
   ElementsListed id b s es = (n : ℕ) × (last : State) × InTurn (λ k. PartListed id k b) n s last es × Ended last.closing last.rest
 
   -- The alternative of a CHOICE.
-  abbrev pub AlternativeListed : List Alternative → ℕ → State → List Extent → Type 0
+  abbrev pub AlternativeListed : List Alternative → ℕ → State → List Span → Type 0
   AlternativeListed ks b s es = (k : ℕ) × (a : Alternative) × (Some a ≡ slice_get ks k) × (last : State) × PartListed a.type_id.0 k b s last es
 
   -- What is in the contents of a value of the type.
-  abbrev pub ContentsListed : «Type» → ℕ → State → List Extent → Type 0
+  abbrev pub ContentsListed : «Type» → ℕ → State → List Span → Type 0
   ContentsListed (Leaf kind tag c names) b s es = es ≡ []
   ContentsListed (Enumerated tag ns) b s es = es ≡ []
   ContentsListed (Any tag) b s es = es ≡ []
@@ -100,36 +100,36 @@ module _ (f : ℕ → Shape) (levels : ℕ) (P : ℕ → ℕ → State → List 
   ContentsListed (SetOf tag id c) b s es = ElementsListed id.0 b s es
 
   -- The same after a header; and of a value of the type.
-  abbrev pub InsideListed : ConstructedHeader → «Type» → ℕ → State → List Extent → Type 0
+  abbrev pub InsideListed : ConstructedHeader → «Type» → ℕ → State → List Span → Type 0
   InsideListed d ty b s es = (c : ℕ) × (inner : State) × GoesInside d b s c inner × ContentsListed ty c inner es
 
-  abbrev pub ValueListed : «Type» → ℕ → State → List Extent → Type 0
+  abbrev pub ValueListed : «Type» → ℕ → State → List Span → Type 0
   ValueListed ty b s es = (c : ℕ) × (inner : State) × GoesInto ty b s c inner × ContentsListed ty c inner es
 
 -- Of a value of the type with the number that is read in the state s, these are the parts inside, and no others. Types are followed so many levels deep.
-unfoldable pub PartsInside : List «Type» → ℕ → ℕ → ℕ → State → List Extent → Type 0
+unfoldable pub PartsInside : List «Type» → ℕ → ℕ → ℕ → State → List Span → Type 0
 PartsInside types zero id b s es = ⊥
 PartsInside types (suc n) id b s es = (ty : «Type») × (slice_get types id ≡ Some ty) × ValueListed (shape_of_type types n) n (λ k c z more. PartsInside types n k c z more) ty b s es
 
 -- The same, as they are of a value at a level of types.
-abbrev pub Inside : List «Type» → ℕ → ℕ → ℕ → State → List Extent → Type 0
+abbrev pub Inside : List «Type» → ℕ → ℕ → ℕ → State → List Span → Type 0
 Inside types n = λ k c z more. PartsInside types n k c z more
 
 -- ---- what the reader does with the list
 
 -- If there is a list afterwards, there was one before, and these parts were appended: R b es, if b octets of the message follow what the decoder sees.
-pub record Lists (R : ℕ → List Extent → Type 0) (old new : Extents) : Type 0 where
+pub record Lists (R : ℕ → List Span → Type 0) (old new : Spans) : Type 0 where
   pub same_after : new.after ≡ old.after
-  pub more : (m : Vec Extent Global) → new.list ≡ Some m → (l : Vec Extent Global) × (es : List Extent) × (old.list ≡ Some l) × (m.items ≡ l.items ++ es) × R old.after es
+  pub more : (m : Vec Span Global) → new.list ≡ Some m → (l : Vec Span Global) × (es : List Span) × (old.list ≡ Some l) × (m.items ≡ l.items ++ es) × R old.after es
 
 -- Nothing is noted yet, and nothing follows.
-abbrev pub IsEmpty : Extents → Type 0
-IsEmpty o = (o.after ≡ 0) × (l : Vec Extent Global) × (o.list ≡ Some l) × (l.items ≡ [])
+abbrev pub IsEmpty : Spans → Type 0
+IsEmpty o = (o.after ≡ 0) × (l : Vec Span Global) × (o.list ≡ Some l) × (l.items ≡ [])
 
 -- A part that begins with these octets is the last of the list, at this place.
-abbrev pub IsNoted : TypeId → ℕ → ℕ → List ℕ → Extents → ℕ → Extents → Type 0
+abbrev pub IsNoted : TypeId → ℕ → ℕ → List ℕ → Spans → ℕ → Spans → Type 0
 IsNoted id k levels octets old place new = (new.after ≡ old.after)
-    × ((m : Vec Extent Global) → new.list ≡ Some m → (l : Vec Extent Global) × (old.list ≡ Some l) × (place ≡ length l.items) × (e : Extent) × (m.items ≡ l.items ++ e ∷ [])
+    × ((m : Vec Span Global) → new.list ≡ Some m → (l : Vec Span Global) × (old.list ≡ Some l) × (place ≡ length l.items) × (e : Span) × (m.items ≡ l.items ++ e ∷ [])
     × (e.id ≡ id) × (e.index ≡ k) × (e.levels ≡ levels) × (e.left ≡ capped old.after (length octets)) × (e.octets.now ≡ octets))
 
 -- If the octets end with the rest, these are before it.
@@ -137,16 +137,16 @@ abbrev pub IsCut : List ℕ → List ℕ → List ℕ → Type 0
 IsCut octets rest before = (front : List ℕ) → octets ≡ front ++ rest → before ≡ front
 
 -- The part at this place has the octets before the rest. The others are as they were.
-abbrev pub IsFinished : ℕ → List ℕ → Extents → Extents → Type 0
+abbrev pub IsFinished : ℕ → List ℕ → Spans → Spans → Type 0
 IsFinished place rest old new = (new.after ≡ old.after)
-    × ((m : Vec Extent Global) → new.list ≡ Some m → (l : Vec Extent Global) × (old.list ≡ Some l)
-    × ((front : List Extent) (e : Extent) (more : List Extent) → l.items ≡ front ++ e ∷ more → length front ≡ place
-    → (f : Extent) × (m.items ≡ front ++ f ∷ more) × (f.id ≡ e.id) × (f.index ≡ e.index) × (f.levels ≡ e.levels) × (f.left ≡ e.left) × IsCut e.octets.now rest f.octets.now))
+    × ((m : Vec Span Global) → new.list ≡ Some m → (l : Vec Span Global) × (old.list ≡ Some l)
+    × ((front : List Span) (e : Span) (more : List Span) → l.items ≡ front ++ e ∷ more → length front ≡ place
+    → (f : Span) × (m.items ≡ front ++ f ∷ more) × (f.id ≡ e.id) × (f.index ≡ e.index) × (f.levels ≡ e.levels) × (f.left ≡ e.left) × IsCut e.octets.now rest f.octets.now))
 
 -- So many octets more follow what the decoder sees, where b did before.
-abbrev pub IsInside : ℕ → Extents → ℕ → Extents → Type 0
+abbrev pub IsInside : ℕ → Spans → ℕ → Spans → Type 0
 IsInside n old b new = (b ≡ old.after) × (new.after ≡ capped old.after n) × (new.list ≡ old.list)
 
 -- So many octets follow it again.
-abbrev pub IsOutside : ℕ → Extents → Extents → Type 0
+abbrev pub IsOutside : ℕ → Spans → Spans → Type 0
 IsOutside b old new = (new.after ≡ b) × (new.list ≡ old.list)

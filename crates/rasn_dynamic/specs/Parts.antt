@@ -31,6 +31,15 @@ abbrev pub IsHeader : List ℕ → ℕ → Bool → Type 0
 IsHeader octets n false = (tag : Tag) × (bit : Bool) × (contents : List ℕ) × (rest : List ℕ) × Frame (form Ber) octets tag bit rest (definite contents) × (n + (length contents + length rest) ≡ length octets)
 IsHeader octets n true = (tag : Tag) × (bit : Bool) × (rest : List ℕ) × Frame (form Ber) octets tag bit rest indefinite × (n + length rest ≡ length octets)
 
+-- how many octets end it (8.1.5)
+abbrev pub end_len : Bool → ℕ
+end_len false = 0
+end_len true = 2
+
+-- These are its contents octets (8.1.4): what follows the header, without end-of-contents octets.
+abbrev pub AreContents : Part → List ℕ → Type 0
+AreContents p contents = (header : List ℕ) × (end : List ℕ) × (p.octets.now ≡ header ++ (contents ++ end)) × (length header ≡ p.header_len) × (length end ≡ end_len p.is_indefinite)
+
 -- The inner octets are among the outer ones. If these end at the one offset of a message, those end at the other.
 abbrev pub IsSeen : List ℕ → ℕ → List ℕ → ℕ → Type 0
 IsSeen outer end inner new_end = (front : List ℕ) × (back : List ℕ) × (outer ≡ front ++ (inner ++ back)) × (new_end + length back ≡ end)

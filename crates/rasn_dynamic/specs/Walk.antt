@@ -5,7 +5,7 @@ use Rattle.rasn_types.specs.declared.types.codec.Codec.{Codec}
 use Rattle.rasn_de.specs.State.{State}
 use Rattle.rasn_schema.specs.declared.types.«Type».{«Type»}
 use Rattle.rasn_schema.specs.Shapes.{shape_of_type}
-use Rattle.rasn_dynamic.specs.declared.extent.Extent.{Extent}
+use Rattle.rasn_dynamic.specs.declared.span.Span.{Span}
 use Rattle.rasn_dynamic.specs.declared.part.Part.{Part}
 use Rattle.rasn_dynamic.specs.declared.message.MessageParts.{MessageParts}
 use Rattle.rasn_dynamic.specs.Faults.{start}
@@ -13,7 +13,7 @@ use Rattle.rasn_dynamic.specs.Parts.{IsHeader}
 use Rattle.rasn_dynamic.specs.Listed.{PartListed, Inside}
 
 -- Its octets are in the input, where so many are left from its start to the end.
-abbrev pub IsPlaced : List ℕ → Extent → Type 0
+abbrev pub IsPlaced : List ℕ → Span → Type 0
 IsPlaced input e = (front : List ℕ) × (back : List ℕ) × (input ≡ front ++ (e.octets.now ++ back)) × (length (e.octets.now ++ back) ≡ e.left)
 
 -- The parts of the value of the type with which the input begins, none of which was gone over: itself and those inside it, in the order of their octets, each where it says.
@@ -26,7 +26,7 @@ pub record ArePartsOf (types : List «Type») (rule : Codec) (id : ℕ) (input :
   pub path : ps.path.items ≡ []
 
 -- the number of values that a part is in
-abbrev pub depth_of : Extent → ℕ
+abbrev pub depth_of : Span → ℕ
 depth_of e = (2 ^ 64 - 1) - e.levels
 
 abbrev pub path_at_depth : ℕ → List ℕ → ℕ → List ℕ
@@ -34,11 +34,11 @@ path_at_depth zero path k = []
 path_at_depth (suc d) path k = take d path ++ k ∷ []
 
 -- the path of a part, after that of the part before it
-abbrev pub path_after : List ℕ → Extent → List ℕ
+abbrev pub path_after : List ℕ → Span → List ℕ
 path_after path e = path_at_depth (depth_of e) path e.index
 
 -- The next part of the list, with its path; or there is none.
 abbrev pub IsNextOf : MessageParts → Option Part → MessageParts → Type 0
 IsNextOf old None new = (length old.list.items ≤ old.next) × (new.next ≡ old.next) × (new.path ≡ old.path)
-IsNextOf old (Some p) new = (e : Extent) × (Some e ≡ slice_get old.list.items old.next) × (p.id ≡ e.id) × (p.octets.now ≡ e.octets.now) × (p.offset ≡ length old.input.now - e.left)
+IsNextOf old (Some p) new = (e : Span) × (Some e ≡ slice_get old.list.items old.next) × (p.id ≡ e.id) × (p.octets.now ≡ e.octets.now) × (p.offset ≡ length old.input.now - e.left)
     × IsHeader e.octets.now p.header_len p.is_indefinite × (new.next ≡ old.next + 1) × (new.path.items ≡ path_after old.path.items e)

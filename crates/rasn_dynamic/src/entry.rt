@@ -12,10 +12,10 @@ ghost use Rattle.rasn_enc.specs.Primitive.{IsAllocError};
 ghost use Rattle.rasn_schema.specs.Trees.{tree_of};
 ghost use Rattle.rasn_dynamic.specs.Entry.{IsEncoded, IsNotEncoded, FailsIfFits, NamesRules, IsReadBack, IsNormalOf, IsNoNormalOf, FitsType, IsChecked, Agree, shape_of};
 
-use crate::extent::no_list;
 use crate::made::{Nothing, Values};
 use crate::path::ValuePath;
 use crate::reader::decode_at;
+use crate::span::no_list;
 use crate::unfit::append_unfit_path;
 use crate::writer::encode_at;
 use rasn::{NormaliseError, refuse_remainder};

@@ -8,7 +8,6 @@ ghost use Rattle.rasn_dynamic.specs.Faults.{IsAlternativeAt, IsComponentAt, IsMe
 ghost use Rattle.rasn_dynamic.specs.Parts.{IsSeen, LacksAlternative, IsAbsentHere, LacksComponent, LacksMember, LacksElement, LacksPart, IsEntered, LacksPartAt, LacksPath, IsReadHere, IsPartAt, IsHeaderOf, PassesBy, PassesPresent, PassesElement};
 
 use crate::components::{is_always_there, leaves_all_out};
-use crate::extent::no_list;
 use crate::locate::check_or_locate;
 use crate::made::Nothing;
 use crate::order::octets_before;
@@ -16,6 +15,7 @@ use crate::part::{Part, header_of};
 use crate::reader::{decode_at, decode_component, decode_present, extra, is_next, no_value};
 use crate::refusal::Refusal;
 use crate::set::component_for;
+use crate::span::no_list;
 use crate::trace::octets_after;
 use rasn_de::ber::de::{ConstructedHeader, Decoder, DecoderOptions};
 use rasn_schema::{Alternative, Component, Schema, Type, TypeId, alternative_for, type_at};

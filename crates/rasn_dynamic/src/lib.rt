@@ -5,9 +5,9 @@
 
 mod components;
 mod entry;
-mod extent;
 mod facts;
 mod find;
+mod leads_to;
 mod locate;
 mod made;
 mod message;
@@ -18,6 +18,7 @@ mod read_leaf;
 mod reader;
 mod refusal;
 mod set;
+mod span;
 mod steps;
 mod trace;
 mod unfit;
@@ -27,9 +28,9 @@ mod writer;
 pub use entry::{
     WriteError, check, decode, decode_with_remainder, encode, encode_buf, is_canonical, normalise,
 };
-pub use extent::Extent;
 pub use facts::{worked_parts, worked_places};
 pub use find::find_part;
+pub use leads_to::component_at;
 pub use locate::{check_or_locate, decode_or_locate};
 pub use message::{MessageParts, parts_of};
 pub use part::Part;
@@ -37,4 +38,5 @@ pub use path::ValuePath;
 pub use rasn::NormaliseError;
 pub use rasn_schema::fits;
 pub use refusal::{NamedRefusal, Refusal};
+pub use span::Span;
 pub use steps::{Step, path_named};

@@ -6,10 +6,10 @@ ghost use Rattle.rasn_dynamic.specs.Entry.{FitsType, IsCheckedUpTo, shape_of};
 ghost use Rattle.rasn_dynamic.specs.Faults.{IsLocated, IsRefusalOf, unlocated};
 ghost use Rattle.rasn_dynamic.specs.declared.trace.Fault.{Fault};
 
-use crate::extent::no_list;
 use crate::made::{Nothing, Values};
 use crate::reader::decode_at;
 use crate::refusal::Refusal;
+use crate::span::no_list;
 use crate::trace::Fault;
 use rasn_de::ber::de::{Decoder, DecoderOptions};
 use rasn_schema::{Schema, TypeId, Value};

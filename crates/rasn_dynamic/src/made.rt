@@ -9,8 +9,8 @@ ghost use Rattle.rasn_dynamic.specs.Making.{Making};
 ghost use Rattle.rasn_dynamic.specs.Faults.{IsFaultIn, IsOnly, TellsOf};
 ghost use Rattle.rasn_dynamic.specs.Listed.{Lists, Inside, PartListed};
 
-use crate::extent::Extents;
 use crate::reader::decode_part;
+use crate::span::Spans;
 use crate::trace::Fault;
 use rasn_de::ber::de::Decoder;
 use rasn_schema::{Type, TypeId, Value};
@@ -27,7 +27,7 @@ pub trait Made {
     fn decode_value<'input>(
         decoder: &mut Decoder<'input>,
         trace: &mut Option<Fault>,
-        extents: &mut Extents<'input>,
+        spans: &mut Spans<'input>,
         types: &[Type],
         levels: usize,
         id: TypeId,
@@ -39,7 +39,7 @@ pub trait Made {
         ensures fits { IfSome result (λ r. IfOk r (λ v. Fits types.now levels id.0 v)) }
         ensures rules { IfSome result (λ r. IfErr r (λ e. e.codec ≡ decoder.old.rule)) }
         ensures told { IfSome result (λ r. TellsOf (IsFaultIn types.now levels (IsOnly index id.0 decoder.old) decoder.old decoder.old) r trace.new) }
-        ensures listed { MatchOption result (extents.new ≡ extents.old) (λ r. IfOk r (λ v. Lists (λ b es. PartListed (shape_of_type types.now levels) levels (Inside types.now levels) id.0 index b decoder.old decoder.new es) extents.old extents.new)) };
+        ensures listed { MatchOption result (spans.new ≡ spans.old) (λ r. IfOk r (λ v. Lists (λ b es. PartListed (shape_of_type types.now levels) levels (Inside types.now levels) id.0 index b decoder.old decoder.new es) spans.old spans.new)) };
 }
 
 /// Values.
@@ -57,7 +57,7 @@ impl Made for Values {
     fn decode_value<'input>(
         _decoder: &mut Decoder<'input>,
         _trace: &mut Option<Fault>,
-        _extents: &mut Extents<'input>,
+        _spans: &mut Spans<'input>,
         _types: &[Type],
         _levels: usize,
         _id: TypeId,
@@ -75,12 +75,12 @@ impl Made for Nothing {
     fn decode_value<'input>(
         decoder: &mut Decoder<'input>,
         trace: &mut Option<Fault>,
-        extents: &mut Extents<'input>,
+        spans: &mut Spans<'input>,
         types: &[Type],
         levels: usize,
         id: TypeId,
         index: usize,
     ) -> Option<Result<Value<'input>, DecodeError>> {
-        Some(decode_part::<Values>(decoder, trace, extents, types, levels, id, index))
+        Some(decode_part::<Values>(decoder, trace, spans, types, levels, id, index))
     }
 }

@@ -4,12 +4,12 @@ ghost use Rattle.rasn_types.specs.Errors.{IsOutOfMemory};
 ghost use Rattle.rasn_dynamic.specs.Faults.{IsLocated};
 ghost use Rattle.rasn_dynamic.specs.Walk.{ArePartsOf, IsNextOf, path_at_depth};
 
-use crate::extent::{Extent, finish, list_of, new_list, note};
 use crate::locate::refusal_of;
 use crate::made::Nothing;
 use crate::part::{Part, header_of};
 use crate::reader::decode_at;
 use crate::refusal::Refusal;
+use crate::span::{Span, finish, list_of, new_list, note};
 use crate::trace::octets_left;
 use rasn_de::ber::de::{Decoder, DecoderOptions};
 use rasn_schema::{Schema, TypeId};
@@ -21,7 +21,7 @@ use std::alloc::{AllocError, Global};
 #[derive(Drop)]
 pub struct MessageParts<'input> {
     /// The parts in the order of their octets, each before those inside it.
-    pub list: Vec<Extent<'input>>,
+    pub list: Vec<Span<'input>>,
     /// The message and what follows it.
     pub input: &'input [u8],
     /// How many parts were gone over.
@@ -67,20 +67,20 @@ pub fn parts_of<'input>(
     // The octets have a number of this type, so the places in them have too.
     let _ = octets_left(&decoder);
     let mut trace = None;
-    let mut extents = new_list(alloc);
-    let place = note(&mut extents, id, 0, usize::MAX, input);
+    let mut spans = new_list(alloc);
+    let place = note(&mut spans, id, 0, usize::MAX, input);
     match decode_at::<Nothing>(
         &mut decoder,
         &mut trace,
-        &mut extents,
+        &mut spans,
         schema.types(),
         usize::MAX,
         id,
     ) {
         Ok(value) => {
             drop(value);
-            finish(&mut extents, place, decoder.remaining());
-            match list_of(extents) {
+            finish(&mut spans, place, decoder.remaining());
+            match list_of(spans) {
                 Some(list) => Ok(MessageParts {
                     list,
                     input,
@@ -120,11 +120,11 @@ impl<'input> MessageParts<'input> {
         ensures kept { (self.new.list ≡ self.old.list) × (self.new.input.now ≡ self.old.input.now) }
         ensures err { OnErr result (self.new.next ≡ self.old.next) }
     {
-        let Some(extent) = self.list.get(self.next) else {
+        let Some(span) = self.list.get(self.next) else {
             return Ok(None);
         };
-        let (id, index, octets) = (extent.id, extent.index, extent.octets);
-        let (levels, left) = (extent.levels, extent.left);
+        let (id, index, octets) = (span.id, span.index, span.octets);
+        let (levels, left) = (span.levels, span.left);
         let (header_len, is_indefinite) = header_of(alloc, octets)?;
         if go_along(&mut self.path, usize::MAX - levels, index).is_err() {
             return Err(DecodeError {

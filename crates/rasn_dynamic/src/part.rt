@@ -1,6 +1,6 @@
 //! A part of a message.
-ghost use Rattle.std.specs.Prelude.{IfOk};
-ghost use Rattle.rasn_dynamic.specs.Parts.{IsHeader};
+ghost use Rattle.std.specs.Prelude.{◌≡◌, ◌+◌, ◌≤◌, length, IfOk};
+ghost use Rattle.rasn_dynamic.specs.Parts.{IsHeader, end_len, AreContents};
 
 use crate::trace::octets_after;
 use rasn_de::ber::de::{ConstructedHeader, Decoder, DecoderOptions};
@@ -22,6 +22,30 @@ pub struct Part<'input> {
     pub is_indefinite: bool,
     /// All of its octets: the header, the contents, and end-of-contents octets if they end it.
     pub octets: &'input [u8],
+}
+
+/// How many end-of-contents octets there are (X.690 8.1.5).
+fn end_len(is_indefinite: bool) -> usize
+    ensures { result ≡ end_len is_indefinite }
+{
+    if is_indefinite { 2 } else { 0 }
+}
+
+impl<'input> Part<'input> {
+    /// Returns its contents octets (X.690 8.1.4): what follows the header, without end-of-contents
+    /// octets.
+    pub fn contents(&self) -> &'input [u8]
+        ensures { self.now.header_len + end_len self.now.is_indefinite ≤ length self.now.octets.now → AreContents self.now result.now }
+    {
+        let Some((_, after)) = self.octets.split_at_checked(self.header_len) else {
+            return &[];
+        };
+        let len = after.len().saturating_sub(end_len(self.is_indefinite));
+        match after.split_at_checked(len) {
+            Some((contents, _)) => contents,
+            None => &[],
+        }
+    }
 }
 
 /// Returns the number of identifier and length octets of the encoding with which the octets begin,

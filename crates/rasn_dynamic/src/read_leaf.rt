@@ -7,7 +7,10 @@ ghost use Rattle.rasn_types.specs.Shapes.{leaf, any, looked_for, fixed, integer,
 ghost use Rattle.rasn_types.specs.Trees.{unconstrained};
 ghost use Rattle.rasn_types.specs.Truth.{IsWhether};
 ghost use Rattle.rasn_de.specs.Decodes.{Decodes};
+ghost use Rattle.rasn_de.specs.Checks.{Checks};
 ghost use Rattle.rasn_de.specs.Steps.{IsErrorOf};
+ghost use Rattle.rasn_dynamic.specs.Inside.{DecodesTree};
+ghost use Rattle.rasn_dynamic.specs.Making.{Making};
 ghost use Rattle.rasn_de.specs.declared.ber.de.parser.ParseError.TheVariants.{OutOfMemory, SizeConstraintNotSatisfied};
 ghost use Rattle.rasn_schema.specs.Trees.{tree_of};
 ghost use Rattle.rasn_schema.specs.Shapes.{kind_of, numbers_of};
@@ -159,7 +162,7 @@ fn decode_utc_time<'input>(
 }
 
 /// Reads a value that holds no other values.
-pub fn decode_leaf<'input>(
+fn decode_leaf<'input>(
     decoder: &mut Decoder<'input>,
     kind: LeafKind,
     tag: Tag,
@@ -205,6 +208,55 @@ pub fn decode_leaf<'input>(
         LeafKind::Date => Ok(Value::Day(Date::decode_with_tag_and_constraints(
             decoder, tag, bounds,
         )?)),
+    }
+}
+
+/// Checks a value that holds no other values. Nothing is allocated, except for a string in segments.
+///
+/// # Errors
+/// As [`decode_leaf`], except `OutOfMemory` for the value.
+fn check_leaf(
+    decoder: &mut Decoder<'_>,
+    kind: LeafKind,
+    tag: Tag,
+    bounds: &Constraints,
+) -> Result<(), DecodeError>
+    ensures reads { Checks (leaf (kind_of kind) tag bounds.now) decoder.old result decoder.new }
+    ensures rules { IfErr result (λ e. e.codec ≡ decoder.old.rule) }
+{
+    match kind {
+        LeafKind::ObjectIdentifier => decoder.check_object_identifier(tag),
+        LeafKind::Integer => decoder.check_integer(tag, bounds),
+        LeafKind::Bmp => decoder.check_bmp_string(tag, bounds),
+        _ => match decode_leaf(decoder, kind, tag, bounds) {
+            Ok(value) => {
+                drop(value);
+                Ok(())
+            }
+            Err(error) => Err(error),
+        },
+    }
+}
+
+/// Reads a value that holds no other values, where values are kept; else checks it.
+#[tactic(auto, using(crate::proofs::Making::made_of_value))]
+#[inline(always)]
+pub fn leaf_value<'input, M: Made>(
+    decoder: &mut Decoder<'input>,
+    kind: LeafKind,
+    tag: Tag,
+    bounds: &Constraints,
+) -> Result<Value<'input>, DecodeError>
+    ensures reads { Making M.KEEP tree_of (DecodesTree (leaf (kind_of kind) tag bounds.now)) decoder.old result decoder.new }
+    ensures fits { M.KEEP ≡ true → IfOk result (λ v. FitsLeaf kind v) }
+    ensures rules { IfErr result (λ e. e.codec ≡ decoder.old.rule) }
+{
+    if M::KEEP {
+        return decode_leaf(decoder, kind, tag, bounds);
+    }
+    match check_leaf(decoder, kind, tag, bounds) {
+        Ok(()) => Ok(Value::Absent),
+        Err(error) => Err(error),
     }
 }
 

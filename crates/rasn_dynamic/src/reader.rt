@@ -26,11 +26,11 @@ ghost use Rattle.rasn_dynamic.specs.Listed.{Lists, Inside, PartsInside, PartList
 ghost use Rattle.rasn_de.specs.Constructed.{list_header};
 
 use crate::components::{default_present, is_always_there, leaves_all_out, missing};
-use crate::extent::{Extents, finish, go_inside, go_outside, note};
 use crate::made::Made;
 use crate::order::{is_less, octets_before, out_of_order};
-use crate::read_leaf::{decode_any_value, decode_leaf, decode_number, out_of_memory, push};
+use crate::read_leaf::{decode_any_value, decode_number, leaf_value, out_of_memory, push};
 use crate::set::{all_absent, component_for, gather, no_components, put};
+use crate::span::{Spans, finish, go_inside, go_outside, note};
 use crate::trace::{Fault, add_after, mark, octets_after, octets_left, step};
 use rasn_de::ber::de::{ConstructedHeader, Decoder};
 use rasn_de::de::Error;
@@ -144,7 +144,7 @@ fn list_for<'input, M: Made>(
 pub fn decode_at<'input, M: Made>(
     decoder: &mut Decoder<'input>,
     trace: &mut Option<Fault>,
-    extents: &mut Extents<'input>,
+    spans: &mut Spans<'input>,
     types: &[Type],
     levels: usize,
     id: TypeId,
@@ -156,10 +156,10 @@ pub fn decode_at<'input, M: Made>(
     ensures fits { M.KEEP ≡ true → IfOk result (λ v. Fits types.now levels id.0 v) }
     ensures rules { IfErr result (λ e. e.codec ≡ decoder.old.rule) }
     ensures told { TellsOf (IsFault types.now levels id.0 decoder.old) result trace.new }
-    ensures listed { IfOk result (λ v. Lists (λ b es. PartsInside types.now levels id.0 b decoder.old es) extents.old extents.new) }
+    ensures listed { IfOk result (λ v. Lists (λ b es. PartsInside types.now levels id.0 b decoder.old es) spans.old spans.new) }
 {
     let left = decoder.remaining().len();
-    match decode_found::<M>(decoder, trace, extents, types, levels, id) {
+    match decode_found::<M>(decoder, trace, spans, types, levels, id) {
         Ok(value) => Ok(value),
         Err(error) => {
             mark(decoder.alloc(), trace, id, left);
@@ -174,7 +174,7 @@ pub fn decode_at<'input, M: Made>(
 pub fn decode_part<'input, M: Made>(
     decoder: &mut Decoder<'input>,
     trace: &mut Option<Fault>,
-    extents: &mut Extents<'input>,
+    spans: &mut Spans<'input>,
     types: &[Type],
     levels: usize,
     id: TypeId,
@@ -186,12 +186,12 @@ pub fn decode_part<'input, M: Made>(
     ensures fits { M.KEEP ≡ true → IfOk result (λ v. Fits types.now levels id.0 v) }
     ensures rules { IfErr result (λ e. e.codec ≡ decoder.old.rule) }
     ensures told { TellsOf (IsFaultIn types.now levels (IsOnly index id.0 decoder.old) decoder.old decoder.old) result trace.new }
-    ensures listed { IfOk result (λ v. Lists (λ b es. PartListed (shape_of_type types.now levels) levels (Inside types.now levels) id.0 index b decoder.old decoder.new es) extents.old extents.new) }
+    ensures listed { IfOk result (λ v. Lists (λ b es. PartListed (shape_of_type types.now levels) levels (Inside types.now levels) id.0 index b decoder.old decoder.new es) spans.old spans.new) }
 {
-    let place = note(extents, id, index, levels, decoder.remaining());
-    match decode_at::<M>(decoder, trace, extents, types, levels, id) {
+    let place = note(spans, id, index, levels, decoder.remaining());
+    match decode_at::<M>(decoder, trace, spans, types, levels, id) {
         Ok(value) => {
-            finish(extents, place, decoder.remaining());
+            finish(spans, place, decoder.remaining());
             Ok(value)
         }
         Err(error) => {
@@ -207,7 +207,7 @@ pub fn decode_part<'input, M: Made>(
 fn decode_compared<'input, M: Made>(
     decoder: &mut Decoder<'input>,
     trace: &mut Option<Fault>,
-    extents: &mut Extents<'input>,
+    spans: &mut Spans<'input>,
     types: &[Type],
     levels: usize,
     id: TypeId,
@@ -219,11 +219,11 @@ fn decode_compared<'input, M: Made>(
     ensures fits { IfOk result (λ v. Fits types.now levels id.0 v) }
     ensures rules { IfErr result (λ e. e.codec ≡ decoder.old.rule) }
     ensures told { TellsOf (IsFaultIn types.now levels (IsOnly index id.0 decoder.old) decoder.old decoder.old) result trace.new }
-    ensures listed { IfOk result (λ v. Lists (λ b es. PartListed (shape_of_type types.now levels) levels (Inside types.now levels) id.0 index b decoder.old decoder.new es) extents.old extents.new) }
+    ensures listed { IfOk result (λ v. Lists (λ b es. PartListed (shape_of_type types.now levels) levels (Inside types.now levels) id.0 index b decoder.old decoder.new es) spans.old spans.new) }
 {
-    match M::decode_value(decoder, trace, extents, types, levels, id, index) {
+    match M::decode_value(decoder, trace, spans, types, levels, id, index) {
         Some(read) => read,
-        None => decode_part::<M>(decoder, trace, extents, types, levels, id, index),
+        None => decode_part::<M>(decoder, trace, spans, types, levels, id, index),
     }
 }
 
@@ -232,7 +232,7 @@ fn decode_compared<'input, M: Made>(
 fn decode_found<'input, M: Made>(
     decoder: &mut Decoder<'input>,
     trace: &mut Option<Fault>,
-    extents: &mut Extents<'input>,
+    spans: &mut Spans<'input>,
     types: &[Type],
     levels: usize,
     id: TypeId,
@@ -245,13 +245,13 @@ fn decode_found<'input, M: Made>(
     ensures rules { IfErr result (λ e. e.codec ≡ decoder.old.rule) }
     ensures told { Told (IsFault types.now levels id.0 decoder.old) result trace.new }
     ensures itself { IfErr result (λ e. trace.new ≡ None → FailsAt types.now levels id.0 decoder.old e) }
-    ensures listed { IfOk result (λ v. Lists (λ b es. PartsInside types.now levels id.0 b decoder.old es) extents.old extents.new) }
+    ensures listed { IfOk result (λ v. Lists (λ b es. PartsInside types.now levels id.0 b decoder.old es) spans.old spans.new) }
 {
     if levels == 0 {
         return Err(no_value(decoder));
     }
     match type_at(types, id) {
-        Some(ty) => decode_type::<M>(decoder, trace, extents, types, levels - 1, ty),
+        Some(ty) => decode_type::<M>(decoder, trace, spans, types, levels - 1, ty),
         None => Err(no_value(decoder)),
     }
 }
@@ -262,7 +262,7 @@ fn decode_found<'input, M: Made>(
 fn decode_type<'input, M: Made>(
     decoder: &mut Decoder<'input>,
     trace: &mut Option<Fault>,
-    extents: &mut Extents<'input>,
+    spans: &mut Spans<'input>,
     types: &[Type],
     below: usize,
     ty: &Type,
@@ -275,7 +275,7 @@ fn decode_type<'input, M: Made>(
     ensures rules { IfErr result (λ e. e.codec ≡ decoder.old.rule) }
     ensures told { Told (IsFaultOf types.now below ty.now decoder.old) result trace.new }
     ensures itself { IfErr result (λ e. trace.new ≡ None → FailsItself (shape_of_type types.now below) ty.now decoder.old e) }
-    ensures listed { IfOk result (λ v. Lists (λ b es. ValueListed (shape_of_type types.now below) below (Inside types.now below) ty.now b decoder.old es) extents.old extents.new) }
+    ensures listed { IfOk result (λ v. Lists (λ b es. ValueListed (shape_of_type types.now below) below (Inside types.now below) ty.now b decoder.old es) spans.old spans.new) }
 {
     match ty {
         Type::Leaf {
@@ -283,14 +283,14 @@ fn decode_type<'input, M: Made>(
             tag,
             constraints,
             ..
-        } => decode_leaf(decoder, *kind, *tag, constraints),
+        } => leaf_value::<M>(decoder, *kind, *tag, constraints),
         Type::Enumerated { tag, numbers } => decode_number(decoder, *tag, numbers),
         Type::Any { tag } => decode_any_value(decoder, *tag),
         Type::Choice { name, alternatives } => {
             decode_choice::<M>(
                 decoder,
                 trace,
-                extents,
+                spans,
                 types,
                 below,
                 name.as_str(),
@@ -301,7 +301,7 @@ fn decode_type<'input, M: Made>(
             decode_inside::<M>(
                 decoder,
                 trace,
-                extents,
+                spans,
                 types,
                 below,
                 ty,
@@ -313,7 +313,7 @@ fn decode_type<'input, M: Made>(
             decode_inside::<M>(
                 decoder,
                 trace,
-                extents,
+                spans,
                 types,
                 below,
                 ty,
@@ -325,7 +325,7 @@ fn decode_type<'input, M: Made>(
             decode_inside::<M>(
                 decoder,
                 trace,
-                extents,
+                spans,
                 types,
                 below,
                 ty,
@@ -337,12 +337,12 @@ fn decode_type<'input, M: Made>(
             tag,
             constraints,
             ..
-        } => decode_list::<M>(decoder, trace, extents, types, below, ty, *tag, constraints),
+        } => decode_list::<M>(decoder, trace, spans, types, below, ty, *tag, constraints),
         Type::SetOf {
             tag,
             constraints,
             ..
-        } => decode_list::<M>(decoder, trace, extents, types, below, ty, *tag, constraints),
+        } => decode_list::<M>(decoder, trace, spans, types, below, ty, *tag, constraints),
     }
 }
 
@@ -354,7 +354,7 @@ fn decode_type<'input, M: Made>(
 fn decode_choice<'input, M: Made>(
     decoder: &mut Decoder<'input>,
     trace: &mut Option<Fault>,
-    extents: &mut Extents<'input>,
+    spans: &mut Spans<'input>,
     types: &[Type],
     below: usize,
     name: &str,
@@ -368,14 +368,14 @@ fn decode_choice<'input, M: Made>(
     ensures rules { IfErr result (λ e. e.codec ≡ decoder.old.rule) }
     ensures told { Told (IsFaultIn types.now below (IsAlternativeAt alternatives.now decoder.old) decoder.old decoder.old) result trace.new }
     ensures itself { IfErr result (λ e. trace.new ≡ None → StopsAtChoice (shape_of_type types.now below) alternatives.now decoder.old e) }
-    ensures listed { IfOk result (λ v. Lists (λ b es. AlternativeListed (shape_of_type types.now below) below (Inside types.now below) alternatives.now b decoder.old es) extents.old extents.new) }
+    ensures listed { IfOk result (λ v. Lists (λ b es. AlternativeListed (shape_of_type types.now below) below (Inside types.now below) alternatives.now b decoder.old es) spans.old spans.new) }
 {
     let tag = decoder.peek_tag()?;
     let Some(number) = alternative_for(types, below, alternatives, tag) else {
         return Err(DecodeError::no_valid_choice(decoder.alloc(), name, decoder.codec()));
     };
     let id = alternatives[number].type_id;
-    let value = decode_part::<M>(decoder, trace, extents, types, below, id, number)?;
+    let value = decode_part::<M>(decoder, trace, spans, types, below, id, number)?;
     choose::<M>(decoder, number, value)
 }
 
@@ -387,7 +387,7 @@ fn decode_choice<'input, M: Made>(
 fn decode_list<'input, M: Made>(
     decoder: &mut Decoder<'input>,
     trace: &mut Option<Fault>,
-    extents: &mut Extents<'input>,
+    spans: &mut Spans<'input>,
     types: &[Type],
     below: usize,
     ty: &Type,
@@ -403,13 +403,13 @@ fn decode_list<'input, M: Made>(
     ensures rules { IfErr result (λ e. e.codec ≡ decoder.old.rule) }
     ensures told { Told (IsFaultInside types.now below (list_header tag) ty.now decoder.old) result trace.new }
     ensures itself { IfErr result (λ e. trace.new ≡ None → DecodesSized (ReadsEachPart (shape_of_type types.now below) ty.now) element_count tag constraints.now decoder.old (Err e) decoder.new) }
-    ensures listed { IfOk result (λ v. Lists (λ b es. InsideListed (shape_of_type types.now below) below (Inside types.now below) (list_header tag) ty.now b decoder.old es) extents.old extents.new) }
+    ensures listed { IfOk result (λ v. Lists (λ b es. InsideListed (shape_of_type types.now below) below (Inside types.now below) (list_header tag) ty.now b decoder.old es) spans.old spans.new) }
 {
     let mut count = 0;
     let value = decode_inside::<M>(
         decoder,
         trace,
-        extents,
+        spans,
         types,
         below,
         ty,
@@ -425,7 +425,7 @@ fn decode_list<'input, M: Made>(
 fn decode_inside<'input, M: Made>(
     decoder: &mut Decoder<'input>,
     trace: &mut Option<Fault>,
-    extents: &mut Extents<'input>,
+    spans: &mut Spans<'input>,
     types: &[Type],
     below: usize,
     ty: &Type,
@@ -442,13 +442,13 @@ fn decode_inside<'input, M: Made>(
     ensures rules { IfErr result (λ e. e.codec ≡ decoder.old.rule) }
     ensures told { Told (IsFaultInside types.now below header ty.now decoder.old) result trace.new }
     ensures itself { IfErr result (λ e. trace.new ≡ None → DecodesInside (ReadsEachPart (shape_of_type types.now below) ty.now) header decoder.old (Err e) decoder.new) }
-    ensures listed { IfOk result (λ v. Lists (λ b es. InsideListed (shape_of_type types.now below) below (Inside types.now below) header ty.now b decoder.old es) extents.old extents.new) }
+    ensures listed { IfOk result (λ v. Lists (λ b es. InsideListed (shape_of_type types.now below) below (Inside types.now below) header ty.now b decoder.old es) spans.old spans.new) }
 {
     // The octets that are left have a number of this type, so the sum in `add_after` has too.
     let _ = octets_left(decoder);
     let (mut inner, contents) = decoder.open(header)?;
-    let after = go_inside(extents, decoder, &inner);
-    let value = match decode_contents::<M>(&mut inner, trace, extents, types, below, ty, count) {
+    let after = go_inside(spans, decoder, &inner);
+    let value = match decode_contents::<M>(&mut inner, trace, spans, types, below, ty, count) {
         Ok(value) => value,
         Err(error) => {
             add_after(trace, octets_after(decoder, &inner));
@@ -456,7 +456,7 @@ fn decode_inside<'input, M: Made>(
         }
     };
     decoder.close(contents, inner.remaining())?;
-    go_outside(extents, after);
+    go_outside(spans, after);
     Ok(value)
 }
 
@@ -465,7 +465,7 @@ fn decode_inside<'input, M: Made>(
 fn decode_contents<'input, M: Made>(
     decoder: &mut Decoder<'input>,
     trace: &mut Option<Fault>,
-    extents: &mut Extents<'input>,
+    spans: &mut Spans<'input>,
     types: &[Type],
     below: usize,
     ty: &Type,
@@ -480,25 +480,25 @@ fn decode_contents<'input, M: Made>(
     ensures rules { IfErr result (λ e. e.codec ≡ decoder.old.rule) }
     ensures told { Told (IsFaultIn types.now below (IsPart (shape_of_type types.now below) ty.now decoder.old) decoder.old decoder.old) result trace.new }
     ensures itself { IfErr result (λ e. trace.new ≡ None → StopsInside (shape_of_type types.now below) ty.now decoder.old e) }
-    ensures listed { IfOk result (λ v. Lists (λ b es. ContentsListed (shape_of_type types.now below) below (Inside types.now below) ty.now b decoder.old es) extents.old extents.new) }
+    ensures listed { IfOk result (λ v. Lists (λ b es. ContentsListed (shape_of_type types.now below) below (Inside types.now below) ty.now b decoder.old es) spans.old spans.new) }
 {
     match ty {
         Type::Tagged { inner, .. } => decode_part::<M>(
-            decoder, trace, extents, types, below, *inner, 0,
+            decoder, trace, spans, types, below, *inner, 0,
         ),
         Type::Sequence { components, .. } => {
-            let values = decode_sequence::<M>(decoder, trace, extents, types, below, components)?;
+            let values = decode_sequence::<M>(decoder, trace, spans, types, below, components)?;
             Ok(Value::Items(values))
         }
         Type::SequenceOf { element, .. } => {
             let values = decode_elements::<M>(
-                decoder, trace, extents, types, below, *element, count,
+                decoder, trace, spans, types, below, *element, count,
             )?;
             Ok(Value::Items(values))
         }
         Type::SetOf { element, .. } => {
             let values = decode_elements_in_order::<M>(
-                decoder, trace, extents, types, below, *element, count,
+                decoder, trace, spans, types, below, *element, count,
             )?;
             Ok(Value::Elements(values))
         }
@@ -511,7 +511,7 @@ fn decode_contents<'input, M: Made>(
             let values = decode_set::<M>(
                 decoder,
                 trace,
-                extents,
+                spans,
                 types,
                 below,
                 name.as_str(),
@@ -529,7 +529,7 @@ fn decode_contents<'input, M: Made>(
 fn decode_elements<'input, M: Made>(
     decoder: &mut Decoder<'input>,
     trace: &mut Option<Fault>,
-    extents: &mut Extents<'input>,
+    spans: &mut Spans<'input>,
     types: &[Type],
     below: usize,
     element: TypeId,
@@ -543,14 +543,14 @@ fn decode_elements<'input, M: Made>(
     ensures rules { IfErr result (λ e. e.codec ≡ decoder.old.rule) }
     ensures told { Told (IsFaultIn types.now below (IsElementAt (shape_of_type types.now below) element.0 decoder.old) decoder.old decoder.old) result trace.new }
     ensures itself { IfErr result (λ e. trace.new ≡ None → StopsInElements (shape_of_type types.now below) element.0 decoder.old e) }
-    ensures listed { IfOk result (λ v. Lists (λ b es. ElementsListed (shape_of_type types.now below) below (Inside types.now below) element.0 b decoder.old es) extents.old extents.new) }
+    ensures listed { IfOk result (λ v. Lists (λ b es. ElementsListed (shape_of_type types.now below) below (Inside types.now below) element.0 b decoder.old es) spans.old spans.new) }
 {
     let mut values = Vec::new(decoder.alloc());
     // Each element takes some of these octets, so their number has this type.
     let _ = octets_left(decoder);
     while !decoder.has_ended() {
         let left = decoder.remaining().len();
-        let value = decode_part::<M>(decoder, trace, extents, types, below, element, *count)?;
+        let value = decode_part::<M>(decoder, trace, spans, types, below, element, *count)?;
         keep::<M>(decoder, left, value, &mut values)?;
         *count += 1;
     }
@@ -562,7 +562,7 @@ fn decode_elements<'input, M: Made>(
 fn decode_elements_in_order<'input, M: Made>(
     decoder: &mut Decoder<'input>,
     trace: &mut Option<Fault>,
-    extents: &mut Extents<'input>,
+    spans: &mut Spans<'input>,
     types: &[Type],
     below: usize,
     element: TypeId,
@@ -576,7 +576,7 @@ fn decode_elements_in_order<'input, M: Made>(
     ensures rules { IfErr result (λ e. e.codec ≡ decoder.old.rule) }
     ensures told { Told (IsFaultIn types.now below (IsElementAt (shape_of_type types.now below) element.0 decoder.old) decoder.old decoder.old) result trace.new }
     ensures itself { IfErr result (λ e. trace.new ≡ None → StopsInOrder (shape_of_type types.now below) element.0 decoder.old e) }
-    ensures listed { IfOk result (λ v. Lists (λ b es. ElementsListed (shape_of_type types.now below) below (Inside types.now below) element.0 b decoder.old es) extents.old extents.new) }
+    ensures listed { IfOk result (λ v. Lists (λ b es. ElementsListed (shape_of_type types.now below) below (Inside types.now below) element.0 b decoder.old es) spans.old spans.new) }
 {
     let mut values = Vec::new(decoder.alloc());
     let mut last: &[u8] = &[];
@@ -584,7 +584,7 @@ fn decode_elements_in_order<'input, M: Made>(
     let _ = octets_left(decoder);
     while !decoder.has_ended() {
         let start = decoder.remaining();
-        let value = decode_part::<M>(decoder, trace, extents, types, below, element, *count)?;
+        let value = decode_part::<M>(decoder, trace, spans, types, below, element, *count)?;
         keep::<M>(decoder, start.len(), value, &mut values)?;
         *count += 1;
         let octets = octets_before(start, decoder.remaining());
@@ -601,7 +601,7 @@ fn decode_elements_in_order<'input, M: Made>(
 fn decode_sequence<'input, M: Made>(
     decoder: &mut Decoder<'input>,
     trace: &mut Option<Fault>,
-    extents: &mut Extents<'input>,
+    spans: &mut Spans<'input>,
     types: &[Type],
     below: usize,
     components: &[Component],
@@ -614,7 +614,7 @@ fn decode_sequence<'input, M: Made>(
     ensures rules { IfErr result (λ e. e.codec ≡ decoder.old.rule) }
     ensures told { Told (IsFaultIn types.now below (IsComponentAt (shape_of_type types.now below) components.now decoder.old) decoder.old decoder.old) result trace.new }
     ensures itself { IfErr result (λ e. trace.new ≡ None → StopsInSequence (shape_of_type types.now below) components.now decoder.old e) }
-    ensures listed { IfOk result (λ v. Lists (λ b es. ComponentsListed (shape_of_type types.now below) below (Inside types.now below) components.now b decoder.old es) extents.old extents.new) }
+    ensures listed { IfOk result (λ v. Lists (λ b es. ComponentsListed (shape_of_type types.now below) below (Inside types.now below) components.now b decoder.old es) spans.old spans.new) }
 {
     if leaves_all_out(decoder, components) {
         return all_absent::<M>(decoder, components);
@@ -623,7 +623,7 @@ fn decode_sequence<'input, M: Made>(
     let mut rest = components;
     while let [component, after @ ..] = rest {
         let index = components.len() - rest.len();
-        let value = decode_component::<M>(decoder, trace, extents, types, below, component, index)?;
+        let value = decode_component::<M>(decoder, trace, spans, types, below, component, index)?;
         push::<M>(decoder, &mut values, value)?;
         rest = after;
     }
@@ -657,7 +657,7 @@ pub(crate) fn is_next(
 pub fn decode_component<'input, M: Made>(
     decoder: &mut Decoder<'input>,
     trace: &mut Option<Fault>,
-    extents: &mut Extents<'input>,
+    spans: &mut Spans<'input>,
     types: &[Type],
     below: usize,
     component: &Component,
@@ -671,13 +671,13 @@ pub fn decode_component<'input, M: Made>(
     ensures rules { IfErr result (λ e. e.codec ≡ decoder.old.rule) }
     ensures told { Told (IsFaultIn types.now below (IsOnly index component.now.type_id.0 decoder.old) decoder.old decoder.old) result trace.new }
     ensures itself { IfErr result (λ e. trace.new ≡ None → StopsAtComponent (shape_of_type types.now below) component.now decoder.old e) }
-    ensures listed { IfOk result (λ v. Lists (λ b es. ComponentListed (shape_of_type types.now below) below (Inside types.now below) component.now index b decoder.old decoder.new es) extents.old extents.new) }
+    ensures listed { IfOk result (λ v. Lists (λ b es. ComponentListed (shape_of_type types.now below) below (Inside types.now below) component.now index b decoder.old decoder.new es) spans.old spans.new) }
 {
     if is_always_there(component) {
-        return decode_present::<M>(decoder, trace, extents, types, below, component, index);
+        return decode_present::<M>(decoder, trace, spans, types, below, component, index);
     }
     match is_next(decoder, types, below, component.type_id) {
-        Ok(true) => decode_present::<M>(decoder, trace, extents, types, below, component, index),
+        Ok(true) => decode_present::<M>(decoder, trace, spans, types, below, component, index),
         Ok(false) => missing::<M>(decoder, component),
         Err(error) => Err(error),
     }
@@ -689,7 +689,7 @@ pub fn decode_component<'input, M: Made>(
 pub fn decode_present<'input, M: Made>(
     decoder: &mut Decoder<'input>,
     trace: &mut Option<Fault>,
-    extents: &mut Extents<'input>,
+    spans: &mut Spans<'input>,
     types: &[Type],
     below: usize,
     component: &Component,
@@ -702,13 +702,13 @@ pub fn decode_present<'input, M: Made>(
     ensures rules { IfErr result (λ e. e.codec ≡ decoder.old.rule) }
     ensures told { Told (IsFaultIn types.now below (IsOnly index component.now.type_id.0 decoder.old) decoder.old decoder.old) result trace.new }
     ensures itself { IfErr result (λ e. trace.new ≡ None → IsDefaultWritten (shape_of_type types.now below) component.now decoder.old e) }
-    ensures listed { IfOk result (λ v. Lists (λ b es. PartListed (shape_of_type types.now below) below (Inside types.now below) component.now.type_id.0 index b decoder.old decoder.new es) extents.old extents.new) }
+    ensures listed { IfOk result (λ v. Lists (λ b es. PartListed (shape_of_type types.now below) below (Inside types.now below) component.now.type_id.0 index b decoder.old decoder.new es) spans.old spans.new) }
 {
     let Presence::Default(default) = &component.presence else {
         return decode_part::<M>(
             decoder,
             trace,
-            extents,
+            spans,
             types,
             below,
             component.type_id,
@@ -719,7 +719,7 @@ pub fn decode_present<'input, M: Made>(
         return decode_part::<M>(
             decoder,
             trace,
-            extents,
+            spans,
             types,
             below,
             component.type_id,
@@ -729,7 +729,7 @@ pub fn decode_present<'input, M: Made>(
     let value = decode_compared::<M>(
         decoder,
         trace,
-        extents,
+        spans,
         types,
         below,
         component.type_id,
@@ -750,7 +750,7 @@ pub fn decode_present<'input, M: Made>(
 fn decode_set<'input, M: Made>(
     decoder: &mut Decoder<'input>,
     trace: &mut Option<Fault>,
-    extents: &mut Extents<'input>,
+    spans: &mut Spans<'input>,
     types: &[Type],
     below: usize,
     name: &str,
@@ -765,14 +765,14 @@ fn decode_set<'input, M: Made>(
     ensures rules { IfErr result (λ e. e.codec ≡ decoder.old.rule) }
     ensures told { Told (IsFaultIn types.now below (IsMemberAt (shape_of_type types.now below) components.now decoder.old) decoder.old decoder.old) result trace.new }
     ensures itself { IfErr result (λ e. trace.new ≡ None → StopsInSet (shape_of_type types.now below) components.now decoder.old e) }
-    ensures listed { IfOk result (λ v. Lists (λ b es. MembersListed (shape_of_type types.now below) below (Inside types.now below) components.now b decoder.old es) extents.old extents.new) }
+    ensures listed { IfOk result (λ v. Lists (λ b es. MembersListed (shape_of_type types.now below) below (Inside types.now below) components.now b decoder.old es) spans.old spans.new) }
 {
     let mut twice = None;
     let mut last = None;
     while !decoder.has_ended() {
         last = decoder.peek_tag_in_order(last)?;
         let next = decode_set_component::<M>(
-            decoder, trace, extents, types, below, name, components, &mut found,
+            decoder, trace, spans, types, below, name, components, &mut found,
         )?;
         twice = twice.or(next);
     }
@@ -791,7 +791,7 @@ fn decode_set<'input, M: Made>(
 fn decode_set_component<'input, 'names, M: Made>(
     decoder: &mut Decoder<'input>,
     trace: &mut Option<Fault>,
-    extents: &mut Extents<'input>,
+    spans: &mut Spans<'input>,
     types: &[Type],
     below: usize,
     name: &str,
@@ -807,14 +807,14 @@ fn decode_set_component<'input, 'names, M: Made>(
     ensures rules { IfErr result (λ e. e.codec ≡ decoder.old.rule) }
     ensures told { Told (IsFaultIn types.now below (IsMember components.now decoder.old) decoder.old decoder.old) result trace.new }
     ensures itself { IfErr result (λ e. trace.new ≡ None → StopsAtMember (shape_of_type types.now below) components.now decoder.old e) }
-    ensures listed { IfOk result (λ v. Lists (λ b es. MemberListed (shape_of_type types.now below) below (Inside types.now below) components.now b decoder.old decoder.new es) extents.old extents.new) }
+    ensures listed { IfOk result (λ v. Lists (λ b es. MemberListed (shape_of_type types.now below) below (Inside types.now below) components.now b decoder.old decoder.new es) spans.old spans.new) }
 {
     let left = decoder.remaining().len();
     let tag = decoder.peek_tag()?;
     let Some((number, component)) = component_for(types, below, components, tag) else {
         return Err(DecodeError::no_valid_choice(decoder.alloc(), name, decoder.codec()));
     };
-    let value = decode_present::<M>(decoder, trace, extents, types, below, component, number)?;
+    let value = decode_present::<M>(decoder, trace, spans, types, below, component, number)?;
     if decoder.remaining().len() == left {
         return Err(extra(decoder, left));
     }

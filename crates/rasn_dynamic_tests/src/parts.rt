@@ -1,7 +1,7 @@
 //! Parts of messages, by their paths.
 
 use crate::faults::TYPES;
-use rasn_dynamic::{Part, Step, find_part, path_named};
+use rasn_dynamic::{Part, Step, component_at, find_part, parts_of, path_named};
 use rasn_schema::{Schema, TypeId};
 use rasn_schema_bench::types;
 use rasn_types::types::Codec;
@@ -72,6 +72,36 @@ fn parts_are_found(rt: HostRuntime) {
     }
 }
 
+/// Returns how many parts a message has, if each is the one that is found at its path.
+fn parts_found(alloc: Global, id: usize, octets: &[u8]) -> Option<usize> {
+    let schema = Schema::new(types(alloc, TYPES).ok()?).ok()?;
+    let mut parts = parts_of(alloc, Codec::Ber, &schema, TypeId(id), octets).ok()?;
+    for count in 0..octets.len() {
+        let Some(part) = parts.next(alloc).ok()? else {
+            return Some(count);
+        };
+        let found = find_part(alloc, Codec::Ber, &schema, TypeId(id), octets, &parts.path).ok()??;
+        let is_same = found.offset == part.offset
+            && found.id == part.id
+            && found.header_len == part.header_len
+            && found.is_indefinite == part.is_indefinite
+            && found.octets == part.octets;
+        if !is_same {
+            return None;
+        }
+    }
+    None
+}
+
+// The parts are counted in the octets by hand.
+#[test]
+fn parts_are_gone_over(rt: HostRuntime) {
+    assert!(rt; parts_found(rt.alloc(), 3, OPEN_LIST) == Some(7));
+    assert!(rt; parts_found(rt.alloc(), 5, &[1, 1, 0]) == Some(2));
+    assert!(rt; parts_found(rt.alloc(), 5, &[0xA0, 2, 0x30, 0]) == Some(3));
+    assert!(rt; parts_found(rt.alloc(), 5, &[0x30, 8, 0x30, 6, 1, 1, 0, 2, 1, 1]) == Some(5));
+}
+
 /// Returns whether the names lead along this path, or nowhere.
 fn leads(alloc: Global, id: usize, steps: &[Step<'_>], expected: Option<&[usize]>) -> Option<bool> {
     let schema = Schema::new(types(alloc, TYPES).ok()?).ok()?;
@@ -92,4 +122,23 @@ fn names_lead_along_paths(rt: HostRuntime) {
     assert!(rt; leads(rt.alloc(), 5, &[Step::Name("flags")], None) == Some(true));
     assert!(rt; leads(rt.alloc(), 2, &[Step::Index(0)], None) == Some(true));
     assert!(rt; leads(rt.alloc(), 2, &[], Some(&[])) == Some(true));
+}
+
+/// Returns whether a path leads to the component with this name, or to none.
+fn leads_to(alloc: Global, id: usize, path: &[usize], name: Option<&str>) -> Option<bool> {
+    let schema = Schema::new(types(alloc, TYPES).ok()?).ok()?;
+    match (component_at(&schema, TypeId(id), path), name) {
+        (Some(component), Some(name)) => Some(component.name == name),
+        (None, None) => Some(true),
+        _ => Some(false),
+    }
+}
+
+#[test]
+fn paths_lead_to_components(rt: HostRuntime) {
+    assert!(rt; leads_to(rt.alloc(), 2, &[0], Some("flag")) == Some(true));
+    assert!(rt; leads_to(rt.alloc(), 5, &[2, 0, 4, 1], Some("number")) == Some(true));
+    assert!(rt; leads_to(rt.alloc(), 5, &[2, 0, 4], None) == Some(true));
+    assert!(rt; leads_to(rt.alloc(), 2, &[2], None) == Some(true));
+    assert!(rt; leads_to(rt.alloc(), 2, &[], None) == Some(true));
 }

@@ -31,4 +31,4 @@ returns-in-Some-clause-parts c =
     let short : length c.args.input.now < 2 ^ 64 = (let n = ap length whole in omega (arith, n, c.octets_left.ensures, c.octets_left.type_inv)) in
     let listed = part_listed c.types.result.now 18446744073709551615 c.args.id 0 _ _ _ c.new-decoder.result _ _ _ _ _ w.0 (sym whole) c.remaining.ensures.value c.note-place.ensures c.in-Ok.ensures.listed c.finish.ensures w.2 in
     rw (← c.types.ensures.types)
-    (are_parts c.types.result.now c.args.rule c.args.id c.args.input.now c.new-decoder.result _ _ _ _ e c.new_list-extents.ensures listed (sym c.list_of.ensures ∙ c.in-Some.is) refl refl c.new.ensures.items short (are_octets c.args.input.now c.type_inv.input))
+    (are_parts c.types.result.now c.args.rule c.args.id c.args.input.now c.new-decoder.result _ _ _ _ e c.new_list-spans.ensures listed (sym c.list_of.ensures ∙ c.in-Some.is) refl refl c.new.ensures.items short (are_octets c.args.input.now c.type_inv.input))

@@ -53,7 +53,7 @@ use Rattle.rasn_dynamic.proofs.Parts.{shorter}
 use Rattle.rasn_dynamic.proofs.reader.+decode.Goals.{decode_elements_in_order-else-is_strict-via-then-is_strict+else-is_less, decode_elements_in_order-else-is_strict-via-else-is_strict}
 use Rattle.rasn_dynamic.specs.Listed.{Lists, Inside, PartListed, ComponentAt, MemberListed}
 use Rattle.rasn_de.specs.Constructed.{list_header}
-use Rattle.rasn_dynamic.specs.declared.extent.Extents.{Extents}
+use Rattle.rasn_dynamic.specs.declared.span.Spans.{Spans}
 use Rattle.std.specs.Prelude.{IfOk}
 use Rattle.rasn_dynamic.proofs.Listed.{if_any, lists_start, lists_more, part_listed, value_listed, none_listed, choice_listed, alternative_listed, holder_listed, inside_listed, tagged_listed, elements_listed, component_present, component_absent, component_more, components_left_out, components_listed, member_listed, members_listed, header_listed, contents_same, components_same, members_same}
 use Rattle.rasn_dynamic.proofs.reader.+decode.Goals as goal
@@ -523,7 +523,7 @@ decode_type-returns-in-Enumerated-clause-fits g t c = λ k.
     rw c.in-Enumerated.is (subst (λ l. IfOk c.decode_number.result (λ v. IsNumber (numbers_of l) v)) c.deref.ensures.value c.decode_number.ensures.fits)
 
 pub decode_type-returns-in-Leaf-clause-fits : goal.decode_type-returns-in-Leaf-clause-fits
-decode_type-returns-in-Leaf-clause-fits g t c = λ k. rw c.in-Leaf.is c.decode_leaf.ensures.fits
+decode_type-returns-in-Leaf-clause-fits g t c = λ k. rw c.in-Leaf.is (c.leaf_value.ensures.fits k)
 
 pub decode_type-returns-in-Choice-clause-reads : goal.decode_type-returns-in-Choice-clause-reads
 decode_type-returns-in-Choice-clause-reads g t c = rw (c.in-Choice.is, ← c.deref-in-Choice.ensures.value) c.decode_choice.ensures.reads
@@ -540,10 +540,10 @@ decode_type-returns-in-Enumerated-clause-reads g t c =
     rw (c.in-Enumerated.is, ← c.deref.ensures.value) (made_of_value _ _ c.args.decoder.now c.decode_number.result _ c.decode_number.ensures.reads)
 
 pub decode_type-returns-in-Leaf-clause-exact : goal.decode_type-returns-in-Leaf-clause-exact
-decode_type-returns-in-Leaf-clause-exact g t c = rw c.in-Leaf.is (made_of_value _ _ c.args.decoder.now c.decode_leaf.result _ c.decode_leaf.ensures.reads)
+decode_type-returns-in-Leaf-clause-exact g t c = rw c.in-Leaf.is c.leaf_value.ensures.reads
 
 pub decode_type-returns-in-Leaf-clause-reads : goal.decode_type-returns-in-Leaf-clause-reads
-decode_type-returns-in-Leaf-clause-reads g t c = rw c.in-Leaf.is (made_of_value _ _ c.args.decoder.now c.decode_leaf.result _ c.decode_leaf.ensures.reads)
+decode_type-returns-in-Leaf-clause-reads g t c = rw c.in-Leaf.is c.leaf_value.ensures.reads
 
 pub decode_inside-returns-in-Err-clause-rules : goal.decode_inside-returns-in-Err-clause-rules
 decode_inside-returns-in-Err-clause-rules g t c = (c.in-Err.ensures.rules ∙ same_rules c.in_ok-inner.ensures.exact.2)
@@ -1415,5 +1415,5 @@ decode_set_component-returns-clause-listed g t c = member_listed (shape_of_type 
 pub decode_compared-returns-in-None-clause-listed : goal.decode_compared-returns-in-None-clause-listed
 decode_compared-returns-in-None-clause-listed g t c =
     let w = c.in-None.ensures.reads in
-    let P : State → Extents → Type 0 = λ z o. IfOk c.decode_part.result (λ v. Lists (λ b es. PartListed (shape_of_type c.args.types.now c.args.levels) c.args.levels (Inside c.args.types.now c.args.levels) c.args.id.0 c.args.index b z c.decode_part.new.decoder es) o c.decode_part.new.extents) in
-    subst (λ o. P c.args.decoder.now o) c.in-None.ensures.listed (subst (λ z. P z c.decode_value.new.extents) w.1 c.decode_part.ensures.listed)
+    let P : State → Spans → Type 0 = λ z o. IfOk c.decode_part.result (λ v. Lists (λ b es. PartListed (shape_of_type c.args.types.now c.args.levels) c.args.levels (Inside c.args.types.now c.args.levels) c.args.id.0 c.args.index b z c.decode_part.new.decoder es) o c.decode_part.new.spans) in
+    subst (λ o. P c.args.decoder.now o) c.in-None.ensures.listed (subst (λ z. P z c.decode_value.new.spans) w.1 c.decode_part.ensures.listed)

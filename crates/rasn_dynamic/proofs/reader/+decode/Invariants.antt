@@ -69,7 +69,7 @@ decreases-decode_set_component g l = 16 * l.below + 7
 abbrev pub invariant-decode_elements-loop-element : goal.invariant-decode_elements-loop-element
 invariant-decode_elements-loop-element g l = ((ts : List Tree) × (g.M.Made.KEEP ≡ true → map tree_of l.values.items ≡ ts) × (l.count ≡ length ts) × DecodesInTurn (DecodesTree (shape_of_type l.types l.below l.element.0)) l.fn.decoder ts l.decoder)
     × (g.M.Made.KEEP ≡ true → EachFits (Fits l.types l.below l.element.0) l.values.items) × (l.trace ≡ None)
-    × Lists (λ b es. InTurn (λ k. PartListed (shape_of_type l.types l.below) l.below (Inside l.types l.below) l.element.0 k b) l.count l.fn.decoder l.decoder es) l.fn.extents l.extents
+    × Lists (λ b es. InTurn (λ k. PartListed (shape_of_type l.types l.below) l.below (Inside l.types l.below) l.element.0 k b) l.count l.fn.decoder l.decoder es) l.fn.spans l.spans
 
 abbrev pub decreases-decode_elements-loop-element : goal.decreases-decode_elements-loop-element
 decreases-decode_elements-loop-element g l = length l.decoder.rest
@@ -78,7 +78,7 @@ abbrev pub invariant-decode_elements_in_order-loop-last : goal.invariant-decode_
 invariant-decode_elements_in_order-loop-last g l = ((ts : List Tree) × (bs : List (List ℕ)) × (g.M.Made.KEEP ≡ true → map tree_of l.values.items ≡ ts) × (l.count ≡ length ts)
     × DecodesInTurnFrom (DecodesTree (shape_of_type l.types l.below l.element.0)) l.fn.decoder ts bs l.decoder × (IsStrict l.fn.decoder.rule → AreAscending IsLess bs) × EndsBy bs l.last)
     × (g.M.Made.KEEP ≡ true → EachFits (Fits l.types l.below l.element.0) l.values.items) × (l.trace ≡ None)
-    × Lists (λ b es. InTurn (λ k. PartListed (shape_of_type l.types l.below) l.below (Inside l.types l.below) l.element.0 k b) l.count l.fn.decoder l.decoder es) l.fn.extents l.extents
+    × Lists (λ b es. InTurn (λ k. PartListed (shape_of_type l.types l.below) l.below (Inside l.types l.below) l.element.0 k b) l.count l.fn.decoder l.decoder es) l.fn.spans l.spans
 
 abbrev pub decreases-decode_elements_in_order-loop-last : goal.decreases-decode_elements_in_order-loop-last
 decreases-decode_elements_in_order-loop-last g l = length l.decoder.rest
@@ -88,7 +88,7 @@ invariant-decode_sequence-loop-rest g l = ((ts : List Tree) × (g.M.Made.KEEP �
     × PartsSoFar (components_by (shape_of_type l.types l.below) l.components) (components_by (shape_of_type l.types l.below) l.rest) ts l.fn.decoder l.decoder)
     × AreLawful (components_by (shape_of_type l.types l.below) l.rest) × (g.M.Made.KEEP ≡ true → FitSoFar (Fits l.types l.below) l.components l.rest l.values.items) × (l.trace ≡ None)
     × (done : List Component) × (l.components ≡ done ++ l.rest) × ComponentsInTurn (shape_of_type l.types l.below) done l.fn.decoder l.decoder
-    × Lists (λ b es. InTurn (ComponentAt (shape_of_type l.types l.below) l.below (Inside l.types l.below) l.components b) (length done) l.fn.decoder l.decoder es) l.fn.extents l.extents
+    × Lists (λ b es. InTurn (ComponentAt (shape_of_type l.types l.below) l.below (Inside l.types l.below) l.components b) (length done) l.fn.decoder l.decoder es) l.fn.spans l.spans
 
 abbrev pub decreases-decode_sequence-loop-rest : goal.decreases-decode_sequence-loop-rest
 decreases-decode_sequence-loop-rest g l = length l.rest
@@ -97,7 +97,7 @@ abbrev pub invariant-decode_set-loop-last : goal.invariant-decode_set-loop-last
 invariant-decode_set-loop-last g l = ((slots : List (Option Tree)) × HoldsSlots g.M.Made.KEEP l.found.items slots
     × ReadTo (components_by (shape_of_type l.types l.below) l.components) (names_of l.components) l.fn.decoder l.decoder l.last l.twice slots)
     × FoundFit (λ k v. g.M.Made.KEEP ≡ true → Fits l.types l.below k v) l.components l.found.items × (l.trace ≡ None)
-    × (n : ℕ) × Lists (λ b es. InTurn (λ k. MemberListed (shape_of_type l.types l.below) l.below (Inside l.types l.below) l.components b) n l.fn.decoder l.decoder es) l.fn.extents l.extents
+    × (n : ℕ) × Lists (λ b es. InTurn (λ k. MemberListed (shape_of_type l.types l.below) l.below (Inside l.types l.below) l.components b) n l.fn.decoder l.decoder es) l.fn.spans l.spans
 
 abbrev pub decreases-decode_set-loop-last : goal.decreases-decode_set-loop-last
 decreases-decode_set-loop-last g l = length l.decoder.rest

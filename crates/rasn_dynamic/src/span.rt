@@ -10,7 +10,7 @@ use std::alloc::Global;
 
 /// A part of a message as it was read: a value that is in it, or the message itself.
 #[derive(Debug, Drop)]
-pub struct Extent<'input> {
+pub struct Span<'input> {
     /// The number of its type.
     pub id: TypeId,
     /// Its index in the value that holds it.
@@ -25,27 +25,27 @@ pub struct Extent<'input> {
 
 /// The parts of a message that have been read, and where the reader is.
 #[derive(Drop)]
-pub struct Extents<'input> {
+pub struct Spans<'input> {
     /// The parts in the order of their octets, each before those inside it. `None` if they aren't
     /// listed, or if memory ran out.
-    pub list: Option<Vec<Extent<'input>>>,
+    pub list: Option<Vec<Span<'input>>>,
     /// How many octets of the message follow those that the decoder sees.
     pub after: usize,
 }
 
 /// Returns what notes no parts.
-pub fn no_list<'input>() -> Extents<'input> {
-    Extents {
+pub fn no_list<'input>() -> Spans<'input> {
+    Spans {
         list: None,
         after: 0,
     }
 }
 
 /// Returns what notes the parts of a message from its start on.
-pub fn new_list<'input>(alloc: Global) -> Extents<'input>
+pub fn new_list<'input>(alloc: Global) -> Spans<'input>
     ensures { IsEmpty result }
 {
-    Extents {
+    Spans {
         list: Some(Vec::new(alloc)),
         after: 0,
     }
@@ -54,20 +54,20 @@ pub fn new_list<'input>(alloc: Global) -> Extents<'input>
 /// Notes a part that is read next. Returns its place in the list. If memory runs out, there is no
 /// list from then on.
 pub fn note<'input>(
-    extents: &mut Extents<'input>,
+    spans: &mut Spans<'input>,
     id: TypeId,
     index: usize,
     levels: usize,
     octets: &'input [u8],
 ) -> usize
-    ensures { IsNoted id index levels octets.now extents.old result extents.new }
+    ensures { IsNoted id index levels octets.now spans.old result spans.new }
 {
-    let left = extents.after.saturating_add(octets.len());
-    let Some(list) = &mut extents.list else {
+    let left = spans.after.saturating_add(octets.len());
+    let Some(list) = &mut spans.list else {
         return 0;
     };
     let place = list.len();
-    let part = Extent {
+    let part = Span {
         id,
         index,
         levels,
@@ -77,7 +77,7 @@ pub fn note<'input>(
     match list.push(part) {
         Ok(()) => place,
         Err(_) => {
-            extents.list = None;
+            spans.list = None;
             0
         }
     }
@@ -91,10 +91,10 @@ fn cut<'input>(octets: &'input [u8], rest: &[u8]) -> &'input [u8]
 }
 
 /// Ends the part at this place of the list: its octets are those before the rest.
-pub fn finish(extents: &mut Extents<'_>, place: usize, rest: &[u8])
-    ensures { IsFinished place rest.now extents.old extents.new }
+pub fn finish(spans: &mut Spans<'_>, place: usize, rest: &[u8])
+    ensures { IsFinished place rest.now spans.old spans.new }
 {
-    let Some(list) = &mut extents.list else {
+    let Some(list) = &mut spans.list else {
         return;
     };
     if place >= list.len() {
@@ -107,25 +107,25 @@ pub fn finish(extents: &mut Extents<'_>, place: usize, rest: &[u8])
 /// Goes to the contents of a value, which this decoder reads. Returns how many octets follow those
 /// that the decoder outside sees.
 #[inline(always)]
-pub fn go_inside(extents: &mut Extents<'_>, decoder: &Decoder<'_>, inner: &Decoder<'_>) -> usize
-    ensures { IsInside (octets_after inner.now.closing (length decoder.now.rest)) extents.old result extents.new }
+pub fn go_inside(spans: &mut Spans<'_>, decoder: &Decoder<'_>, inner: &Decoder<'_>) -> usize
+    ensures { IsInside (octets_after inner.now.closing (length decoder.now.rest)) spans.old result spans.new }
 {
-    let after = extents.after;
-    extents.after = after.saturating_add(octets_after(decoder, inner));
+    let after = spans.after;
+    spans.after = after.saturating_add(octets_after(decoder, inner));
     after
 }
 
 /// Goes back out of the contents of a value.
 #[inline(always)]
-pub fn go_outside(extents: &mut Extents<'_>, after: usize)
-    ensures { IsOutside after extents.old extents.new }
+pub fn go_outside(spans: &mut Spans<'_>, after: usize)
+    ensures { IsOutside after spans.old spans.new }
 {
-    extents.after = after;
+    spans.after = after;
 }
 
 /// Returns the list.
-pub fn list_of<'input>(extents: Extents<'input>) -> Option<Vec<Extent<'input>>>
-    ensures { result ≡ extents.entry.list }
+pub fn list_of<'input>(spans: Spans<'input>) -> Option<Vec<Span<'input>>>
+    ensures { result ≡ spans.entry.list }
 {
-    extents.list
+    spans.list
 }
