@@ -4,6 +4,7 @@ pub mod Set
 pub mod Constructed
 pub mod Headers
 pub mod Parts
+pub mod Taken
 pub mod Leaves
 pub mod Written
 pub mod Der

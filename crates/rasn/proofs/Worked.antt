@@ -16,3 +16,4 @@ pub mod StrictLeaves
 pub mod StrictSets
 pub mod Strings
 pub mod Values
+pub mod Unknown

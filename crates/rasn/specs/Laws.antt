@@ -6,7 +6,7 @@ use Rattle.rasn_types.specs.declared.types.tag.Tag.{Tag}
 use Rattle.rasn_types.specs.declared.types.constraints.Bound.{Bound}
 use Rattle.rasn_types.specs.declared.types.constraints.Constraints.{Constraints}
 use Rattle.rasn_types.specs.Framing.{CompleteEncoding, steps_in, AreOctets}
-use Rattle.rasn_types.specs.Shapes.{Tree, Kind, Shape, leaf, any, prefix, choice, option, seq, set, list, set_of, Parts, part, Presence, default_by, IsAlwaysPresent}
+use Rattle.rasn_types.specs.Shapes.{Tree, Kind, Shape, leaf, any, prefix, choice, option, seq, set, list, set_of, unknown, Parts, part, Presence, default_by, IsAlwaysPresent}
 use Rattle.rasn_types.specs.Shapes.Parts.{none}
 use Rattle.rasn_types.specs.Grammar.{Reads, top}
 use Rattle.rasn_types.specs.Bytes.{Same, Bytes}
@@ -56,6 +56,9 @@ OneSequenceOf = (rule : Codec) (tag : Tag) (s : Shape) (size : Option (Bound ℕ
 abbrev pub OneSetOf : Type 0
 OneSetOf = (rule : Codec) (tag : Tag) (s : Shape) (size : Option (Bound ℕ)) → IsReadOnce rule s → IsReadOnce rule (set_of tag s size)
 
+abbrev pub OneUnknown : Type 0
+OneUnknown = (rule : Codec) → IsReadOnce rule unknown
+
 abbrev pub OneReading : Type 0
 OneReading = (s : Shape) → IsLawful s → (rule : Codec) (depth : ℕ) (closing : Bool) (input : List ℕ) (t u : Tree) (rest other : List ℕ)
     → Reads rule s depth closing input t rest → Reads rule s depth closing input u other → (t ≡ u) × (rest ≡ other)
@@ -91,6 +94,7 @@ abbrev mutual
   HasOwnDefaults (set tag ps) = HaveOwnDefaults ps
   HasOwnDefaults (list tag s size) = HasOwnDefaults s
   HasOwnDefaults (set_of tag s size) = HasOwnDefaults s
+  HasOwnDefaults unknown = Unit {0}
 
   pub HaveOwnDefaults : Parts → Type 0
   HaveOwnDefaults none = Unit {0}

@@ -3,7 +3,7 @@ use Rattle.std.specs.Prelude.{◌≡◌, ℕ, [], ◌∷◌, pos, Some, None, tr
 use Rattle.rasn_types.specs.Tags.{in_universal}
 use Rattle.rasn_types.specs.declared.types.tag.Tag.{Tag}
 use Rattle.rasn_types.specs.declared.types.tag.Class.TheVariants.{Application, Context}
-use Rattle.rasn_types.specs.Shapes.{number, set_elements, items, absent, every, Kind, boolean, object_identifier, bit_string, octet_string, integer, ia5, utc_time, generalized_time, Shape, Parts, leaf, any, prefix, choice, option, seq, set, list, set_of, part, required, optional, addition, default, optional_choice, default_choice}
+use Rattle.rasn_types.specs.Shapes.{number, set_elements, items, absent, every, Kind, boolean, object_identifier, bit_string, octet_string, integer, ia5, utc_time, generalized_time, Shape, Parts, leaf, any, prefix, choice, option, seq, set, list, set_of, unknown, part, required, optional, addition, default, optional_choice, default_choice}
 use Rattle.rasn_types.specs.Shapes.Parts.{none}
 use Rattle.rasn_types.specs.Trees.{unconstrained, unsigned_range}
 use Rattle.rasn_types.specs.declared.types.codec.Codec.TheVariants.{Der}
@@ -178,6 +178,10 @@ abbrev pub default_choice_between : Shape
 default_choice_between = seq (in_universal 16) (part required truth (part (default_choice (items [])) either_time
     (part optional (plain octet_string 4) (part required whole_number none))))
 
+-- SEQUENCE { BOOLEAN, [0] INTEGER OPTIONAL, ... }
+abbrev pub extensible : Shape
+extensible = seq (in_universal 16) (part required truth (part optional (tagged (integer every) 0) (part required unknown none)))
+
 -- A default that is no value's tree: the elements of a SET OF have to be a list.
 abbrev pub no_value : Shape
 no_value = seq (in_universal 16) (part (default (set_elements (number (pos 0)))) (set_of (in_universal 17) whole_number None) none)
@@ -215,6 +219,13 @@ pub record LawfulShapes : Type 0 where
   pub addition_in_set : IsLawful (set (in_universal 17) (part addition (prefix (contextual 0) whole_number) none)) → ⊥
   pub string_as_sequence : IsLawful (plain octet_string 16) → ⊥
   pub value_of_no_tag : IsLawful (plain (integer every) 0) → ⊥
+  pub unknown_at_the_end : IsLawful extensible
+  pub unknown_before_a_part : IsLawful (seq (in_universal 16) (part required unknown (part required truth none))) → ⊥
+  pub unknown_left_out : IsLawful (seq (in_universal 16) (part required truth (part optional unknown none))) → ⊥
+  pub open_before_unknown : IsLawful (seq (in_universal 16) (part optional (any None) (part required unknown none))) → ⊥
+  pub unknown_in_set : IsLawful (set (in_universal 17) (part required unknown none)) → ⊥
+  pub unknown_elements : IsLawful (list (in_universal 16) unknown None) → ⊥
+  pub unknown_alone : IsLawful unknown → ⊥
 
 -- Shapes that pass the test `carries_all`, and shapes that don't; a default that is the same as itself, and one that
 -- isn't; a value that DER reads and that isn't carried.
@@ -222,6 +233,7 @@ pub record CarriedShapes : Type 0 where
   pub whole_certificate : carries_all certificate ≡ true
   pub default_alone : carries_all seven ≡ true
   pub addition_behind_a_part : carries_all extended ≡ true
+  pub unknown_values : carries_all extensible ≡ true
   pub tagged_open : carries_all (any (Some (contextual 1))) ≡ false
   pub addition_alone : carries_all added_alone ≡ false
   pub default_of_no_value : carries_all no_value ≡ false

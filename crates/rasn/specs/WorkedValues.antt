@@ -1,6 +1,6 @@
 -- Values with their octets, worked out by hand: values that are carried, and values that aren't written or aren't
 -- carried.
-use Rattle.std.specs.Prelude.{◌≡◌, ℕ, ◌<◌, List, [], ◌∷◌, ◌++◌, length, true, false, pos, negsuc, Some, None}
+use Rattle.std.specs.Prelude.{◌≡◌, ℕ, ◌<◌, List, [], ◌∷◌, ◌++◌, length, map, true, false, pos, negsuc, Some, None}
 use Rattle.rasn_types.specs.Tags.{in_universal}
 use Rattle.rasn_types.specs.declared.types.codec.Codec.{Codec}
 use Rattle.rasn_types.specs.declared.types.codec.Codec.TheVariants.{Ber, Cer, Der}
@@ -11,7 +11,7 @@ use Rattle.rasn_types.specs.Trees.{signed_range}
 use Rattle.rasn_types.specs.Bytes.{Bytes}
 use Rattle.rasn_types.specs.Carried.{Carried}
 use Rattle.rasn.specs.Worked.{IsCarriedAs, IsRefusedBy, IsReadAs, one_two_three, three_two_one, rising_octets}
-use Rattle.rasn.specs.WorkedShapes.{plain, contextual, perhaps_bool, validity, three_of_set, turned_round, octets_in_set_of, algorithm, relative_name, extended, mixed}
+use Rattle.rasn.specs.WorkedShapes.{plain, contextual, perhaps_bool, validity, three_of_set, turned_round, octets_in_set_of, algorithm, relative_name, extended, extensible, mixed}
 
 abbrev pub on : ℕ → ℕ → ℕ → Day
 on y m d = record { year = pos y; month = m; day = d }
@@ -65,3 +65,17 @@ pub record WorkedOpens : Type 0 where
   pub absent_not_carried : (rule : Codec) → Carried rule extended (items (number (pos 1) ∷ absent ∷ [])) → ⊥
   pub two_segments : (front : List ℕ) (last : ℕ) → length front ≡ 1000 → AreOctets front → last < 256
       → IsCarriedAs Cer (plain octet_string 4) (numbers (front ++ (last ∷ []))) (36 ∷ 128 ∷ 4 ∷ 130 ∷ 3 ∷ 232 ∷ (front ++ (4 ∷ 1 ∷ last ∷ 0 ∷ 0 ∷ [])))
+
+-- The tree of a value of `extensible` with BOOLEAN TRUE, without the INTEGER, and with unknown values of these octets.
+abbrev pub with_unknown : List (List ℕ) → Tree
+with_unknown values = items (number (pos 1) ∷ absent ∷ items (map numbers values) ∷ [])
+
+-- Unknown values are read up to the end, and written as they were read. A value whose tag is that of the INTEGER isn't
+-- unknown: it is written, but isn't read back as an unknown value.
+pub record WorkedUnknown : Type 0 where
+  pub nothing_unknown : IsReadAs Der extensible (48 ∷ 3 ∷ 1 ∷ 1 ∷ 255 ∷ []) (with_unknown []) []
+  pub one_unknown : IsReadAs Der extensible (48 ∷ 6 ∷ 1 ∷ 1 ∷ 255 ∷ 129 ∷ 1 ∷ 7 ∷ []) (with_unknown ((129 ∷ 1 ∷ 7 ∷ []) ∷ [])) []
+  pub two_unknown : IsReadAs Der extensible (48 ∷ 8 ∷ 1 ∷ 1 ∷ 255 ∷ 129 ∷ 1 ∷ 7 ∷ 5 ∷ 0 ∷ []) (with_unknown ((129 ∷ 1 ∷ 7 ∷ []) ∷ (5 ∷ 0 ∷ []) ∷ [])) []
+  pub one_carried : IsCarriedAs Der extensible (with_unknown ((129 ∷ 1 ∷ 7 ∷ []) ∷ [])) (48 ∷ 6 ∷ 1 ∷ 1 ∷ 255 ∷ 129 ∷ 1 ∷ 7 ∷ [])
+  pub known_written : Bytes Der extensible (with_unknown ((128 ∷ 1 ∷ 7 ∷ []) ∷ [])) (48 ∷ 6 ∷ 1 ∷ 1 ∷ 255 ∷ 128 ∷ 1 ∷ 7 ∷ [])
+  pub known_not_carried : Carried Der extensible (with_unknown ((128 ∷ 1 ∷ 7 ∷ []) ∷ [])) → ⊥

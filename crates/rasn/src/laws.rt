@@ -3,13 +3,13 @@
 //! those of docs/GLOSSARY.md.
 #![tactic(auto, using(crate::proofs::AllLaws::laws))]
 
-ghost use Rattle.rasn.specs.Laws.{OneLeaf, OneOpen, OnePrefix, OneChoice, OneOption, OneSequence, OneSet, OneSequenceOf, OneSetOf};
+ghost use Rattle.rasn.specs.Laws.{OneLeaf, OneOpen, OnePrefix, OneChoice, OneOption, OneSequence, OneSet, OneSequenceOf, OneSetOf, OneUnknown};
 ghost use Rattle.rasn.specs.Worked.{Worked, WorkedStrict};
 ghost use Rattle.rasn.specs.WorkedShapes.{DescribedParts, LawfulShapes, CarriedShapes};
 ghost use Rattle.rasn.specs.WorkedDepths.{WorkedDepths};
 ghost use Rattle.rasn.specs.WorkedHeaders.{WorkedHeaders};
 ghost use Rattle.rasn.specs.WorkedClauses.{WorkedClauses};
-ghost use Rattle.rasn.specs.WorkedValues.{WorkedValues, WorkedSets, WorkedOpens};
+ghost use Rattle.rasn.specs.WorkedValues.{WorkedValues, WorkedSets, WorkedOpens, WorkedUnknown};
 ghost use Rattle.rasn.specs.Laws.{OneReading, Included, ReadAgain, Canonical, WrittenOnce, StrictDer, OnlyCarried, AllCarried, StaysCarried, LawfulTested, OneEncoding, EncodingSteps};
 
 /// Proves that an input is read as at most one value of a leaf type, with at most one rest.
@@ -57,6 +57,11 @@ pub fn one_sequence_of()
 /// Proves that a SET OF is read in at most one way if its elements are.
 pub fn one_set_of()
     ensures { OneSetOf }
+{}
+
+/// Proves that unknown values, up to the end of the contents, are read in at most one way.
+pub fn one_unknown()
+    ensures { OneUnknown }
 {}
 
 /// Proves that an input is read as at most one value of a lawful shape, with at most one rest.
@@ -184,6 +189,11 @@ pub fn worked_sets()
 /// carried, and examples of some that aren't.
 pub fn worked_opens()
     ensures { WorkedOpens }
+{}
+
+/// Proves facts about unknown values at the end of a SEQUENCE that were worked out by hand.
+pub fn worked_unknown()
+    ensures { WorkedUnknown }
 {}
 
 /// Proves examples and counterexamples of small clauses, such as those for offsets from UTC and for

@@ -12,7 +12,7 @@ pub use crate::types::{
     FieldPresence, Fields, FirstTags, FixedOctetString, GeneralString, GeneralizedTime,
     GraphicString, Ia5String, Identifier, Implicit, Integer, IntegerType, LawfulEq, NamedBits,
     NumericString, ObjectIdentifier, OctetString, Present, PrintableString, PrivateTag, SetOf, Tag,
-    TeletexString, TryClone, UtcTime, Utf8String, VisibleString,
+    TeletexString, TryClone, Unknown, UtcTime, Utf8String, VisibleString,
 };
 pub use rasn_de::ber::de::Decoder;
 pub use rasn_de::de::{Decode, DecodeChoice, Error};

@@ -9,5 +9,5 @@ pub use rasn_types::types::{
     Ia5Type, Identifier, Implicit, Integer, IntegerType, LONGEST_NUMBER, LawfulEq, NamedBits,
     NumericString, NumericType, ObjectIdentifier, OctetString, Present, PrintableString,
     PrintableType, PrivateTag, RealType, RestrictedString, SetOf, StringType, Tag, TeletexString,
-    TeletexType, TryClone, Units, UtcTime, Utf8String, VisibleString, VisibleType,
+    TeletexType, TryClone, Units, Unknown, UtcTime, Utf8String, VisibleString, VisibleType,
 };

@@ -1,3 +1,4 @@
 pub mod Skipping
 pub mod Reads
 pub mod Nothing
+pub mod Unknown

@@ -28,4 +28,5 @@ pub mod NamedBits
 pub mod PartTypes
 pub mod AlternativeTypes
 pub mod SetPartTypes
+pub mod Unknown
 pub mod Beyond

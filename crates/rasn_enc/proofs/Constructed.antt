@@ -4,4 +4,5 @@ pub mod Order
 pub mod SetOf
 pub mod Prefix
 pub mod Any
+pub mod Unknown
 pub mod Optional

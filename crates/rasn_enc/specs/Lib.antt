@@ -15,5 +15,6 @@ pub mod Extension
 pub mod Choice
 pub mod ObjectIdentifier
 pub mod Any
+pub mod Unknown
 pub mod Buffer
 pub mod AlternativeTypes

@@ -1,5 +1,5 @@
 -- Lawful types.
-use Rattle.std.proofs.Common.{◌≡◌, ◌≢◌, ℕ, zero, suc, Bool, true, false, List, [], ◌∷◌, Option, Some, None, refl, sym, ◌∙◌, subst, true≢false}
+use Rattle.std.proofs.Common.{◌≡◌, ◌≢◌, inr, ℕ, zero, suc, Bool, true, false, List, [], ◌∷◌, Option, Some, None, refl, sym, ◌∙◌, subst, true≢false}
 use Rattle.std.specs.Prelude.{slice_get}
 use Rattle.rasn_types.specs.declared.types.tag.Tag.{Tag}
 use Rattle.rasn_types.specs.Tags.{eoc, is_eoc, IsTagBelow}
@@ -122,13 +122,9 @@ module _ (f : ℕ → Shape) where
   abbrev pub OneInOrder : Component → List Component → Type 0
   OneInOrder p ps = IsAlwaysPresent (f p.type_id.0) × IsLawful (f p.type_id.0) × MayBeLeftOut (presence_by (key_of (f p.type_id.0)) p.presence) (f p.type_id.0) (components_by f ps)
 
-  pub cut_in_order : (p : Component) (ps : List Component) → InOrder (p ∷ ps) → OneInOrder p ps × InOrder ps
-  unfolding IsLawful
-  cut_in_order p ps h = ((h.0, h.1, h.2), h.3)
-
   pub put_in_order : (p : Component) (ps : List Component) → OneInOrder p ps → InOrder ps → InOrder (p ∷ ps)
   unfolding IsLawful
-  put_in_order p ps o h = (o.0, o.1, o.2, h)
+  put_in_order p ps o h = inr (o.0, o.1, o.2, h)
 
   pub none_in_order : InOrder []
   unfolding IsLawful

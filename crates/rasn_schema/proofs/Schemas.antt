@@ -5,7 +5,7 @@ use Rattle.std.proofs.lemmas.Option.{slice_get_within}
 use Rattle.rasn_types.specs.declared.types.tag.Tag.{Tag}
 use Rattle.rasn_types.specs.Tags.{eoc, is_eoc, IsTagBelow}
 use Rattle.rasn_types.specs.Shapes.Parts.{none}
-use Rattle.rasn_types.specs.Shapes.{Shape, leaf, any, prefix, choice, option, seq, set, list, set_of, part, own, looked_for, IsTagOf, IsFirst, IsFirstOf, Key, own_tag, first_tags, Presence, required, addition, optional_by, default_by}
+use Rattle.rasn_types.specs.Shapes.{Shape, leaf, any, prefix, choice, option, seq, set, list, set_of, unknown, part, own, looked_for, IsTagOf, IsFirst, IsFirstOf, Key, own_tag, first_tags, Presence, required, addition, optional_by, default_by}
 use Rattle.rasn_types.specs.Lawful.{IsLawful, HasTag, IsFirstBehind, MayBeLeftOut, IsDistinguished, IsRecognized, AreLawfulInOrder, AreLawfulByTag}
 use Rattle.rasn_schema.specs.declared.types.«Type».{«Type»}
 use Rattle.rasn_schema.specs.declared.types.«Type».TheVariants.{Leaf, Enumerated, Any, Tagged, Choice, Sequence, Set, SequenceOf, SetOf}
@@ -236,6 +236,7 @@ module _ (types : List «Type») (i : ℕ) (w : IsSchema types) (lawful : (k : �
   choice_own (set tag ps) e = cc
   choice_own (list tag s c) e = cc
   choice_own (set_of tag s c) e = cc
+  choice_own unknown e = cc
 
   module _ (p : Component) (ps : List Component) (t : AreToldInOrder (own_at types) (begin_at types) (p ∷ ps)) (a : IsAlwaysThere (presence_of p.presence) → ⊥) where
     -- The next component may follow.

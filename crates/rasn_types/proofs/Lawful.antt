@@ -4,11 +4,11 @@ use Rattle.std.specs.Bool.{Decides}
 use Rattle.std.specs.List.{list_all, list_any}
 use Rattle.std.proofs.lemmas.Bool.Decides.{Decides-eqb, Decides-ltb, Decides-and, Decides-or, Decides-not, Decides-like, not_from_Decides}
 use Rattle.rasn_types.specs.Tags.{Class, Universal, Application, Context, Private, Tag, tag_bit, rank, eoc, is_universal, is_eoc, IsTagBelow}
-use Rattle.rasn_types.specs.Shapes.{Shape, leaf, any, prefix, choice, option, seq, set, list, set_of, Parts, part, own, IsFirst, IsFirstOf, IsAlwaysPresent, AreAlwaysPresent, Key, own_tag, first_tags, Presence, required, addition, optional_by, default_by}
+use Rattle.rasn_types.specs.Shapes.{Shape, leaf, any, prefix, choice, option, seq, set, list, set_of, unknown, Parts, part, own, IsFirst, IsFirstOf, IsAlwaysPresent, AreAlwaysPresent, Key, own_tag, first_tags, Presence, required, addition, optional_by, default_by}
 use Rattle.rasn_types.specs.Shapes.Parts.{none}
 use Rattle.rasn_types.specs.Grammar.{Family, plain_family, bit_family, named_family, text_family, family}
-use Rattle.rasn_types.specs.Lawful.{AreDisjoint, AreDistinguished, IsFirstBehind, IsDistinguished, IsRecognized, MayBeLeftOut, IsBitFree, HasTag, IsLawful, AreAlternatives, AreLawfulInOrder, AreLawfulByTag}
-use Rattle.rasn_types.specs.LawfulTest.{is_same_tag, is_other_tag, is_tag_below, Firsts, either_first, firsts, firsts_of, firsts_behind, is_first, holds_between, are_distinguished, is_none, is_distinguished, is_every, is_recognized, may_be_left_out, is_bit_free, has_tag, is_always_present, are_always_present, is_required, is_addition, is_same_own, is_lawful, are_alternatives, are_lawful_in_order, are_lawful_by_tag}
+use Rattle.rasn_types.specs.Lawful.{AreDisjoint, AreDistinguished, IsFirstBehind, IsDistinguished, IsRecognized, MayBeLeftOut, IsBitFree, HasTag, EndsUnknown, IsLawful, AreAlternatives, AreLawfulInOrder, AreLawfulByTag}
+use Rattle.rasn_types.specs.LawfulTest.{is_same_tag, is_other_tag, is_tag_below, Firsts, either_first, firsts, firsts_of, firsts_behind, is_first, holds_between, are_distinguished, is_none, is_distinguished, is_every, is_recognized, may_be_left_out, is_bit_free, has_tag, is_unknown, ends_unknown, is_always_present, are_always_present, is_required, is_addition, is_same_own, is_lawful, are_alternatives, are_lawful_in_order, are_lawful_by_tag}
 
 -- ---- constant tests
 
@@ -112,6 +112,7 @@ mutual
   firsts_tell (set tag ps) = tells_one tag
   firsts_tell (list tag s size) = tells_one tag
   firsts_tell (set_of tag s size) = tells_one tag
+  firsts_tell unknown = λ n. (λ h. h, λ h. h)
 
   all_tell : (ps : Parts) → DescribesFirsts (firsts_of ps) (IsFirstOf ps)
   all_tell none = λ n. (λ h. h, λ h. h)
@@ -204,6 +205,7 @@ tagged (seq tag ps) = decides_yes
 tagged (set tag ps) = decides_yes
 tagged (list tag s size) = decides_yes
 tagged (set_of tag s size) = decides_yes
+tagged unknown = decides_no (λ h. h)
 
 -- A number above those of the tags.
 abbrev above : List Tag → ℕ
@@ -267,6 +269,7 @@ mutual
   solid (set tag ps) = decides_yes
   solid (list tag s size) = decides_yes
   solid (set_of tag s size) = decides_yes
+  solid unknown = decides_no (λ h. h)
 
   all_solid : (ps : Parts) → Decides (are_always_present ps) (AreAlwaysPresent ps)
   all_solid none = decides_yes
@@ -277,6 +280,21 @@ is_root required = (λ e. refl, λ e. refl)
 is_root addition = decides_no (λ e. cc)
 is_root (optional_by key) = decides_no (λ e. cc)
 is_root (default_by key d) = decides_no (λ e. cc)
+
+unknown_told : (s : Shape) → Decides (is_unknown s) (s ≡ unknown)
+unknown_told (leaf kind tag bounds) = decides_no (λ e. cc)
+unknown_told (any tag) = decides_no (λ e. cc)
+unknown_told (prefix tag s) = decides_no (λ e. cc)
+unknown_told (choice ps) = decides_no (λ e. cc)
+unknown_told (option tag s) = decides_no (λ e. cc)
+unknown_told (seq tag ps) = decides_no (λ e. cc)
+unknown_told (set tag ps) = decides_no (λ e. cc)
+unknown_told (list tag s size) = decides_no (λ e. cc)
+unknown_told (set_of tag s size) = decides_no (λ e. cc)
+unknown_told unknown = (λ e. refl, λ e. refl)
+
+ends : (presence : Presence) (s : Shape) (ps : Parts) → Decides (ends_unknown presence s ps) (EndsUnknown presence s ps)
+ends presence s ps = both _ _ _ (is_root presence) (unknown_told s) (no_parts ps)
 
 no_addition : (presence : Presence) → Decides (not (is_addition presence)) (presence ≢ addition)
 no_addition required = (λ e f. cc, λ h. refl)
@@ -309,6 +327,7 @@ mutual
   lawful_decides (set tag ps) = Decides-and _ _ (no_value tag) (by_tag ps)
   lawful_decides (list tag s size) = both _ _ _ (no_value tag) (solid s) (lawful_decides s)
   lawful_decides (set_of tag s size) = both _ _ _ (no_value tag) (solid s) (lawful_decides s)
+  lawful_decides unknown = decides_no (λ h. h)
 
   alternatives : (ps : Parts) → Decides (are_alternatives ps) (AreAlternatives ps)
   alternatives none = decides_yes
@@ -317,8 +336,9 @@ mutual
 
   in_order : (ps : Parts) → Decides (are_lawful_in_order ps) (AreLawfulInOrder ps)
   in_order none = decides_yes
-  in_order (part presence s ps) = Decides-like (are_lawful_in_order (part presence s ps)) (λ h. (h.0, h.1, h.2.0, h.2.1)) (λ h. (h.0, h.1, (h.2, h.3)))
-      (both _ _ _ (solid s) (lawful_decides s) (Decides-and _ _ (left_out presence s ps) (in_order ps)))
+  in_order (part presence s ps) = Decides-or _ _ (ends presence s ps) (Decides-like (is_always_present s && (is_lawful s && (may_be_left_out presence s ps && are_lawful_in_order ps)))
+      (λ h. (h.0, h.1, h.2.0, h.2.1)) (λ h. (h.0, h.1, (h.2, h.3)))
+      (both _ _ _ (solid s) (lawful_decides s) (Decides-and _ _ (left_out presence s ps) (in_order ps))))
 
   by_tag : (ps : Parts) → Decides (are_lawful_by_tag ps) (AreLawfulByTag ps)
   by_tag none = decides_yes

@@ -7,7 +7,7 @@ use Rattle.rasn_types.specs.Calendar.{Day, IsDay, Moment, IsMoment}
 use Rattle.rasn_types.specs.Time.{written_date, written_generalized, written_utc}
 pub use Rattle.rasn_types.specs.Order.{Each, IsLess, AreAscending}
 pub use Rattle.rasn_types.specs.Shapes.{Same}
-use Rattle.rasn_types.specs.Shapes.{Tree, bits, numbers, instant, on_day, items, set_elements, chosen, absent, Kind, utc_time, generalized_time, date, Bound, Admits, Shape, leaf, any, prefix, choice, option, seq, set, list, set_of, Parts, part, Presence, required, addition, optional_by, default_by}
+use Rattle.rasn_types.specs.Shapes.{Tree, bits, numbers, instant, on_day, items, set_elements, chosen, absent, Kind, utc_time, generalized_time, date, Bound, Admits, Shape, leaf, any, prefix, choice, option, seq, set, list, set_of, unknown, Parts, part, Presence, required, addition, optional_by, default_by}
 use Rattle.rasn_types.specs.Shapes.Parts.{none}
 pub use Rattle.rasn_types.specs.Contents.{AllFalse}
 use Rattle.rasn_types.specs.Contents.{IsShortest, Contents, BitSegment, joined_lists}
@@ -139,7 +139,11 @@ abbrev pub WritesSetOf : Codec → Tag → Option (Bound ℕ) → Writing Tree �
 WritesSetOf rule tag size writes t b = (ts : List Tree) × (bs : List (List ℕ)) × (t ≡ set_elements (items ts)) × Admits ◌≤◌ size (length ts)
     × Each writes ts bs × AreAscending IsLess bs × ConstructedEncoding rule tag (joined_lists bs) b
 
--- The tree is written as an untagged open type.
+-- Values whose octets are kept, one after another.
+abbrev pub WritesUnknown : Writing Tree
+WritesUnknown t b = (us : List Tree) × (bs : List (List ℕ)) × (t ≡ items us) × Each (λ u c. u ≡ numbers c) us bs × (b ≡ joined_lists bs)
+
+-- The tree is written as untagged open types.
 unfoldable mutual
   pub IsUntaggedOpen : Shape → Tree → Type 0
   IsUntaggedOpen (leaf kind tag bounds) t = ⊥
@@ -152,6 +156,7 @@ unfoldable mutual
   IsUntaggedOpen (set tag ps) t = ⊥
   IsUntaggedOpen (list tag s size) t = ⊥
   IsUntaggedOpen (set_of tag s size) t = ⊥
+  IsUntaggedOpen unknown t = Unit {0}
 
   pub IsUntaggedOpenIn : ℕ → Parts → Tree → Type 0
   IsUntaggedOpenIn k none t = ⊥
@@ -171,6 +176,7 @@ unfoldable mutual
   Bytes rule (set tag ps) = WritesSet rule tag (fields_of rule ps)
   Bytes rule (list tag s size) = WritesList rule tag size (Bytes rule s)
   Bytes rule (set_of tag s size) = WritesSetOf rule tag size (Bytes rule s)
+  Bytes rule unknown = WritesUnknown
 
   pub fields_of : Codec → Parts → List Field
   fields_of rule none = []

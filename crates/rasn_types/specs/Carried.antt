@@ -1,11 +1,12 @@
 -- The values that are read back after they are written: those that are carried.
-use Rattle.std.specs.Prelude.{◌≡◌, ℕ, suc, ◌-◌, ◌^◌, ◌<◌, ◌⊎◌, ◌≢◌, List, [], ◌∷◌, length, Bool}
-use Rattle.rasn_types.specs.Tags.{loose_form, Codec, Tag}
+use Rattle.std.specs.Prelude.{◌≡◌, ℕ, suc, ◌-◌, ◌^◌, ◌<◌, ◌⊎◌, ◌≢◌, List, [], ◌∷◌, length, Bool, false}
+use Rattle.rasn_types.specs.Tags.{loose_form, form, Codec, Tag}
 use Rattle.rasn_types.specs.Framing.{Frame, definite}
 use Rattle.rasn_types.specs.Calendar.{Day, Moment}
 use Rattle.rasn_types.specs.Time.{CarriedUtc, CarriedDay}
-use Rattle.rasn_types.specs.Shapes.{Tree, bits, numbers, instant, on_day, items, set_elements, chosen, absent, Kind, utc_time, generalized_time, date, Shape, leaf, any, prefix, choice, option, seq, set, list, set_of, Parts, part, Presence, required, addition, optional_by, default_by}
+use Rattle.rasn_types.specs.Shapes.{Tree, bits, numbers, instant, on_day, items, joined, set_elements, chosen, absent, Kind, utc_time, generalized_time, date, Shape, leaf, any, prefix, choice, option, seq, set, list, set_of, unknown, Parts, part, Presence, required, addition, optional_by, default_by, sought_in}
 use Rattle.rasn_types.specs.Shapes.Parts.{none}
+use Rattle.rasn_types.specs.Readings.{IsLeftOut}
 use Rattle.rasn_types.specs.Grammar.{Family, plain_family, bit_family, named_family, text_family, family}
 use Rattle.rasn_types.specs.Bytes.{Same, IsCer, WritesText, Bytes}
 
@@ -44,8 +45,26 @@ pub record IsOneEncoding (t : Tree) : Type 0 where
   pub contents : List ℕ
   pub frame : Frame loose_form octets tag bit [] (definite contents)
 
--- The limits of a carried value: the depth, counted down from 128, suffices, and open types, times and additions are
--- within their limits.
+-- The tree isn't written.
+abbrev pub IsUnwritten : Presence → Tree → Type 0
+IsUnwritten required t = ⊥
+IsUnwritten (optional_by key) t = t ≡ absent
+IsUnwritten addition t = t ≡ absent
+IsUnwritten (default_by key d) t = Same t d
+
+-- What is written first of these parts is an unknown value, of these octets.
+abbrev pub BeginsUnknown : Parts → List Tree → List ℕ → Type 0
+BeginsUnknown (part presence s ps) (t ∷ ts) b = ((s ≡ unknown) × (us : Tree) × (t ≡ joined (numbers b) us)) ⊎ (IsUnwritten presence t × BeginsUnknown ps ts b)
+BeginsUnknown ps ts b = ⊥
+
+-- No part that isn't written is taken for present where an unknown value is what is written next.
+abbrev pub NoneTaken : Codec → Parts → List Tree → Type 0
+NoneTaken rule (part presence s ps) (t ∷ ts) =
+    (IsUnwritten presence t → (b : List ℕ) → BeginsUnknown ps ts b → IsLeftOut (form rule) (sought_in presence s) false b) × NoneTaken rule ps ts
+NoneTaken rule ps ts = Unit {0}
+
+-- The limits of a carried value: the depth, counted down from 128, suffices, open types, times and additions are within
+-- their limits, and no unknown value is taken for a part.
 unfoldable mutual
   pub IsWithinLimits : Codec → Shape → ℕ → Tree → Type 0
   IsWithinLimits rule (leaf kind tag bounds) depth t = LeafIsWithinLimits (family kind) rule kind depth t
@@ -53,10 +72,11 @@ unfoldable mutual
   IsWithinLimits rule (prefix tag s) depth t = (0 < depth) × IsWithinLimits rule s (depth - 1) t
   IsWithinLimits rule (choice ps) depth t = ChosenIsWithinLimits rule 0 ps depth t
   IsWithinLimits rule (option tag s) depth t = (t ≡ absent) ⊎ IsWithinLimits rule s depth t
-  IsWithinLimits rule (seq tag ps) depth t = (0 < depth) × (ts : List Tree) × (t ≡ items ts) × AreWithinLimits rule ps (depth - 1) ts
+  IsWithinLimits rule (seq tag ps) depth t = (0 < depth) × (ts : List Tree) × (t ≡ items ts) × AreWithinLimits rule ps (depth - 1) ts × NoneTaken rule ps ts
   IsWithinLimits rule (set tag ps) depth t = (0 < depth) × (ts : List Tree) × (t ≡ items ts) × AreWithinLimits rule ps (depth - 1) ts
   IsWithinLimits rule (list tag s size) depth t = (0 < depth) × (ts : List Tree) × (t ≡ items ts) × EachOf (IsWithinLimits rule s (depth - 2)) ts
   IsWithinLimits rule (set_of tag s size) depth t = (0 < depth) × (ts : List Tree) × (t ≡ set_elements (items ts)) × EachOf (IsWithinLimits rule s (depth - 2)) ts
+  IsWithinLimits rule unknown depth t = (us : List Tree) × (t ≡ items us) × EachOf IsOneEncoding us
 
   pub AreWithinLimits : Codec → Parts → ℕ → List Tree → Type 0
   AreWithinLimits rule none depth ts = ts ≡ []

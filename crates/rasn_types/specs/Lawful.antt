@@ -1,7 +1,7 @@
 -- Lawful shapes.
 use Rattle.std.specs.Prelude.{◌≡◌, ◌⊎◌, ◌≢◌, false, Option, Some, None}
 use Rattle.rasn_types.specs.Tags.{tag_bit, Tag, eoc, IsTagBelow}
-use Rattle.rasn_types.specs.Shapes.{Shape, leaf, any, prefix, choice, option, seq, set, list, set_of, Parts, part, own, IsFirst, IsFirstOf, Key, own_tag, first_tags, Presence, required, addition, optional_by, default_by, IsAlwaysPresent}
+use Rattle.rasn_types.specs.Shapes.{Shape, leaf, any, prefix, choice, option, seq, set, list, set_of, unknown, Parts, part, own, IsFirst, IsFirstOf, Key, own_tag, first_tags, Presence, required, addition, optional_by, default_by, IsAlwaysPresent}
 use Rattle.rasn_types.specs.Shapes.Parts.{none}
 use Rattle.rasn_types.specs.Grammar.{Family, plain_family, bit_family, named_family, text_family, family}
 
@@ -21,9 +21,10 @@ IsFirstBehind (part addition s ps) n = IsFirst s n
 IsFirstBehind (part (optional_by key) s ps) n = IsFirst s n ⊎ IsFirstBehind ps n
 IsFirstBehind (part (default_by key d) s ps) n = IsFirst s n ⊎ IsFirstBehind ps n
 
--- The shape isn't an open type without a tag.
+-- The shape is no open type without a tag, and no unknown values.
 abbrev pub HasTag : Shape → Type 0
 HasTag (any None) = ⊥
+HasTag unknown = ⊥
 HasTag s = Unit {0}
 
 -- The own tag of a part that may be left out distinguishes it from what follows. A part without an own tag is the last.
@@ -50,6 +51,10 @@ IsBitFree bit_family tag = tag_bit tag ≡ false
 IsBitFree named_family tag = tag_bit tag ≡ false
 IsBitFree text_family tag = tag_bit tag ≡ false
 
+-- Unknown values are the last part of a SEQUENCE.
+abbrev pub EndsUnknown : Presence → Shape → Parts → Type 0
+EndsUnknown presence s ps = (presence ≡ required) × (s ≡ unknown) × (ps ≡ none)
+
 unfoldable mutual
   pub IsLawful : Shape → Type 0
   IsLawful (leaf kind tag bounds) = (tag ≢ eoc) × IsBitFree (family kind) tag
@@ -62,6 +67,7 @@ unfoldable mutual
   IsLawful (set tag ps) = (tag ≢ eoc) × AreLawfulByTag ps
   IsLawful (list tag s size) = (tag ≢ eoc) × IsAlwaysPresent s × IsLawful s
   IsLawful (set_of tag s size) = (tag ≢ eoc) × IsAlwaysPresent s × IsLawful s
+  IsLawful unknown = ⊥
 
   pub AreAlternatives : Parts → Type 0
   AreAlternatives none = Unit {0}
@@ -69,7 +75,7 @@ unfoldable mutual
 
   pub AreLawfulInOrder : Parts → Type 0
   AreLawfulInOrder none = Unit {0}
-  AreLawfulInOrder (part presence s ps) = IsAlwaysPresent s × IsLawful s × MayBeLeftOut presence s ps × AreLawfulInOrder ps
+  AreLawfulInOrder (part presence s ps) = EndsUnknown presence s ps ⊎ (IsAlwaysPresent s × IsLawful s × MayBeLeftOut presence s ps × AreLawfulInOrder ps)
 
   -- The parts are in ascending order of tags, in ranges that don't overlap.
   pub AreLawfulByTag : Parts → Type 0

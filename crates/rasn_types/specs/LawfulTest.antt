@@ -2,7 +2,7 @@
 use Rattle.std.specs.Prelude.{Bool, true, false, not, ◌&&◌, ◌||◌, nat_eq, nat_lt, List, [], ◌∷◌, ◌++◌, Option, Some, None}
 use Rattle.std.specs.List.{list_all, list_any}
 use Rattle.rasn_types.specs.Tags.{tag_bit, Tag, rank, is_eoc}
-use Rattle.rasn_types.specs.Shapes.{Shape, leaf, any, prefix, choice, option, seq, set, list, set_of, Parts, part, own, Key, own_tag, first_tags, Presence, required, addition, optional_by, default_by}
+use Rattle.rasn_types.specs.Shapes.{Shape, leaf, any, prefix, choice, option, seq, set, list, set_of, unknown, Parts, part, own, Key, own_tag, first_tags, Presence, required, addition, optional_by, default_by}
 use Rattle.rasn_types.specs.Shapes.Parts.{none}
 use Rattle.rasn_types.specs.Grammar.{Family, plain_family, bit_family, named_family, text_family, family}
 
@@ -35,6 +35,7 @@ abbrev mutual
   firsts (set tag ps) = Some (tag ∷ [])
   firsts (list tag s size) = Some (tag ∷ [])
   firsts (set_of tag s size) = Some (tag ∷ [])
+  firsts unknown = Some []
 
   pub firsts_of : Parts → Firsts
   firsts_of none = Some []
@@ -80,6 +81,11 @@ has_tag (seq tag ps) = true
 has_tag (set tag ps) = true
 has_tag (list tag s size) = true
 has_tag (set_of tag s size) = true
+has_tag unknown = false
+
+abbrev pub is_unknown : Shape → Bool
+is_unknown unknown = true
+is_unknown s = false
 
 abbrev pub is_distinguished : Option Tag → Parts → Bool
 is_distinguished (Some tag) ps = not (is_first (firsts_behind ps) tag)
@@ -116,6 +122,7 @@ abbrev mutual
   is_always_present (set tag ps) = true
   is_always_present (list tag s size) = true
   is_always_present (set_of tag s size) = true
+  is_always_present unknown = false
 
   pub are_always_present : Parts → Bool
   are_always_present none = true
@@ -126,6 +133,9 @@ is_required required = true
 is_required addition = false
 is_required (optional_by key) = false
 is_required (default_by key d) = false
+
+abbrev pub ends_unknown : Presence → Shape → Parts → Bool
+ends_unknown presence s ps = is_required presence && (is_unknown s && is_none ps)
 
 abbrev pub is_addition : Presence → Bool
 is_addition required = false
@@ -151,6 +161,7 @@ abbrev mutual
   is_lawful (set tag ps) = not (is_eoc tag) && are_lawful_by_tag ps
   is_lawful (list tag s size) = not (is_eoc tag) && (is_always_present s && is_lawful s)
   is_lawful (set_of tag s size) = not (is_eoc tag) && (is_always_present s && is_lawful s)
+  is_lawful unknown = false
 
   pub are_alternatives : Parts → Bool
   are_alternatives none = true
@@ -158,7 +169,7 @@ abbrev mutual
 
   pub are_lawful_in_order : Parts → Bool
   are_lawful_in_order none = true
-  are_lawful_in_order (part presence s ps) = is_always_present s && (is_lawful s && (may_be_left_out presence s ps && are_lawful_in_order ps))
+  are_lawful_in_order (part presence s ps) = ends_unknown presence s ps || (is_always_present s && (is_lawful s && (may_be_left_out presence s ps && are_lawful_in_order ps)))
 
   pub are_lawful_by_tag : Parts → Bool
   are_lawful_by_tag none = true

@@ -97,7 +97,8 @@ optional_choice = optional_by first_tags
 abbrev pub default_choice : Tree → Presence
 default_choice d = default_by first_tags d
 
--- `any None` is an open type without a tag. The tag of `option` is the one that is looked for.
+-- `any None` is an open type without a tag. The tag of `option` is the one that is looked for. `unknown` is any number
+-- of values up to the end of the contents: those that a SEQUENCE with an extension marker doesn't name (X.680 25).
 mutual
   pub data Shape : Type 0 where
     leaf : Kind → Tag → Constraints → Shape
@@ -109,6 +110,7 @@ mutual
     set : Tag → Parts → Shape
     list : Tag → Shape → Option (Bound ℕ) → Shape
     set_of : Tag → Shape → Option (Bound ℕ) → Shape
+    unknown : Shape
 
   -- The parts of a SEQUENCE or a SET, or the alternatives of a CHOICE, which are all required.
   pub data Parts : Type 0 where
@@ -130,12 +132,14 @@ own (seq tag parts) = Some tag
 own (set tag parts) = Some tag
 own (list tag s size) = Some tag
 own (set_of tag s size) = Some tag
+own unknown = None
 
 abbrev pub IsTagOf : Option Tag → Tag → Type 0
 IsTagOf None n = Unit {0}
 IsTagOf (Some tag) n = n ≡ tag
 
--- The tags that values of the shape may begin with.
+-- The tags that values of the shape may begin with. Unknown values have none of their own: what precedes them isn't told
+-- from them by a tag.
 abbrev mutual
   pub IsFirst : Shape → Tag → Type 0
   IsFirst (leaf kind tag bounds) n = n ≡ tag
@@ -147,6 +151,7 @@ abbrev mutual
   IsFirst (set tag parts) n = n ≡ tag
   IsFirst (list tag s size) n = n ≡ tag
   IsFirst (set_of tag s size) n = n ≡ tag
+  IsFirst unknown n = ⊥
 
   pub IsFirstOf : Parts → Tag → Type 0
   IsFirstOf none n = ⊥
@@ -183,8 +188,9 @@ tagged_as t c (seq tag parts) = seq t parts
 tagged_as t c (set tag parts) = set t parts
 tagged_as t c (list tag s size) = list t s c.size
 tagged_as t c (set_of tag s size) = set_of t s c.size
+tagged_as t c unknown = unknown
 
--- No value of the shape is absent.
+-- Each value of the shape has octets. There may be no unknown values.
 abbrev mutual
   pub IsAlwaysPresent : Shape → Type 0
   IsAlwaysPresent (leaf kind tag bounds) = Unit {0}
@@ -196,6 +202,7 @@ abbrev mutual
   IsAlwaysPresent (set tag parts) = Unit {0}
   IsAlwaysPresent (list tag s size) = Unit {0}
   IsAlwaysPresent (set_of tag s size) = Unit {0}
+  IsAlwaysPresent unknown = ⊥
 
   pub AreAlwaysPresent : Parts → Type 0
   AreAlwaysPresent none = Unit {0}

@@ -1,6 +1,6 @@
 -- Retagging a shape twice.
 use Rattle.std.proofs.Common.{◌≡◌, refl, ap}
-use Rattle.rasn_types.specs.Shapes.{Shape, leaf, any, prefix, choice, option, seq, set, list, set_of, tagged_as, looked_for}
+use Rattle.rasn_types.specs.Shapes.{Shape, leaf, any, prefix, choice, option, seq, set, list, set_of, unknown, tagged_as, looked_for}
 use Rattle.rasn_types.specs.declared.types.tag.Tag.{Tag}
 use Rattle.rasn_types.specs.declared.types.constraints.Constraints.{Constraints}
 
@@ -15,3 +15,4 @@ tagged_again t c u d (seq tag parts) = refl
 tagged_again t c u d (set tag parts) = refl
 tagged_again t c u d (list tag s size) = refl
 tagged_again t c u d (set_of tag s size) = refl
+tagged_again t c u d unknown = refl

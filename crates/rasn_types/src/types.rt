@@ -30,6 +30,7 @@ mod tag_types;
 mod time_text;
 mod try_clone;
 mod twos_complement;
+mod unknown;
 mod utc_time;
 
 pub use crate::hexadecimal::Hexadecimal;
@@ -63,4 +64,5 @@ pub use strings::{
 pub use tag::{Class, Tag};
 pub use tag_types::{ApplicationTag, ContextTag, PrivateTag};
 pub use try_clone::TryClone;
+pub use unknown::Unknown;
 pub use utc_time::UtcTime;

@@ -5,11 +5,11 @@ use Rattle.rasn_types.specs.declared.types.codec.Codec.{Codec}
 use Rattle.rasn_types.specs.declared.types.codec.Codec.TheVariants.{Ber, Cer, Der}
 use Rattle.rasn_types.specs.declared.types.tag.Tag.{Tag}
 use Rattle.rasn_types.specs.Framing.{Frame, with_length, without_length, Extent, NextTag, CompleteEncoding, plain, closed, CompleteEncodings, none, one_more}
-use Rattle.rasn_types.specs.Shapes.{Tree, absent, Kind, boolean, null, object_identifier, integer, enumerated, octet_string, fixed, numeric, printable, visible, ia5, any_octets, bmp, utf8, utc_time, generalized_time, date, Shape, leaf, any, prefix, choice, option, seq, set, list, set_of, Parts, part, own, presences, Presence, required, addition, optional_by, default_by, Sought, one_tag, any_of, sought_in, IsAlwaysPresent, AreAlwaysPresent}
+use Rattle.rasn_types.specs.Shapes.{Tree, absent, Kind, boolean, null, object_identifier, integer, enumerated, octet_string, fixed, numeric, printable, visible, ia5, any_octets, bmp, utf8, utc_time, generalized_time, date, Shape, leaf, any, prefix, choice, option, seq, set, list, set_of, unknown, Parts, part, own, presences, Presence, required, addition, optional_by, default_by, Sought, one_tag, any_of, sought_in, IsAlwaysPresent, AreAlwaysPresent}
 use Rattle.rasn_types.specs.declared.types.constraints.Bound.{Bound}
 use Rattle.rasn_types.specs.Readings.{Reading, ReadsContents, definite_form, indefinite_form, ReadsMany, IsLeftOut, IsPresent, ReadsOptional, IsNoDefault, ReadsPart, ReadsInOrder, AllMissing, presences_in, HasRequired, ReadsSeq, ReadsChoice, ReadsSet}
 use Rattle.rasn_types.specs.Contents.{ReadsString, primitive, segments, closed_segments, ReadsSegments, ReadsBitSegment, OctetSegment, Contents, IsBool}
-use Rattle.rasn_types.specs.Grammar.{Reads, parts_of, top, Family, plain_family, bit_family, named_family, text_family, family, ReadsIn, ReadsOpen, ReadsList, ReadsSetOf, Text}
+use Rattle.rasn_types.specs.Grammar.{Reads, parts_of, top, Family, plain_family, bit_family, named_family, text_family, family, ReadsIn, ReadsOpen, ReadsAny, ReadsList, ReadsSetOf, Text}
 use Rattle.rasn_types.specs.Lawful.{IsLawful, AreAlternatives}
 use Rattle.rasn.proofs.Time.Texts.{utc_in, generalized_in}
 use Rattle.rasn.proofs.ReadBack.Begins.{solid_closing, wider}
@@ -120,6 +120,9 @@ open_in : (rule : Codec) (tag : Tag) → IsIn (ReadsOpen rule tag) (ReadsOpen Be
 open_in rule tag input t rest (b, c, e, z, inl f) = (b, c, e, (λ s. absurd s), inl (frame_ber f))
 open_in rule tag input t rest (b, c, e, z, inr (d, f, w, g)) = (b, c, e, (λ s. absurd s), inr (d, frame_ber f, wholes_ber w, g))
 
+any_in : (rule : Codec) → IsIn (ReadsAny rule) (ReadsAny Ber)
+any_in rule input t rest h = (h.0, h.1, whole_ber h.2, h.3)
+
 -- Each part's readings are among BER's.
 abbrev pub EachIn : Codec → ℕ → Bool → Parts → Type 0
 EachIn rule depth closing Parts.none = Unit {0}
@@ -186,7 +189,7 @@ mutual
   pub reads_in : (s : Shape) (rule : Codec) (depth : ℕ) (closing : Bool) → IsIn (Reads rule s depth closing) (Reads Ber s depth closing)
   reads_in (leaf kind tag bounds) rule depth closing = λ input t rest h. (in_in (family kind) rule kind tag depth input t rest h.0, h.1)
   reads_in (any (Some tag)) rule depth closing = open_in rule tag
-  reads_in (any None) rule depth closing = λ input t rest h. (h.0, h.1, whole_ber h.2, h.3)
+  reads_in (any None) rule depth closing = any_in rule
   reads_in (prefix tag s) rule depth closing = λ input t rest h.
       (h.0, h.1, (λ z. absurd z), inside_in (λ c. Reads rule s (depth - 1) c) (λ c. Reads Ber s (depth - 1) c) (λ c. reads_in s rule (depth - 1) c) input t rest h.3)
   reads_in (choice ps) rule depth closing = choice_in ps rule depth closing (parts_in ps rule depth closing) 0
@@ -211,6 +214,7 @@ mutual
     inside_in (λ c. ReadsSetOf rule size (Reads rule s (depth - 2) c) c) (λ c. ReadsSetOf Ber size (Reads Ber s (depth - 2) c) c)
         (λ c. set_of_in rule size (Reads rule s (depth - 2) c) (Reads Ber s (depth - 2) c) (reads_in s rule (depth - 2) c) c) input t rest h.1,
   )
+  reads_in unknown rule depth closing = list_in None (ReadsAny rule) (ReadsAny Ber) (any_in rule) closing
 
   parts_in : (ps : Parts) (rule : Codec) (depth : ℕ) (c : Bool) → EachIn rule depth c ps
   parts_in Parts.none rule depth c = tt
@@ -238,6 +242,7 @@ solid_of (seq tag ps) lawful = inl tt
 solid_of (set tag ps) lawful = inl tt
 solid_of (list tag s size) lawful = inl tt
 solid_of (set_of tag s size) lawful = inl tt
+solid_of unknown lawful = absurd lawful
 
 -- What a rule reads at its top, BER reads at its top.
 pub included : (s : Shape) → IsLawful s → (rule : Codec) (depth : ℕ) (input : List ℕ) (t : Tree) (rest : List ℕ)

@@ -1,18 +1,18 @@
 -- A lawful shape is read in one way.
-use Rattle.std.proofs.Common.{ℕ, ◌-◌, inl, inr, Bool, Option, Some, None, sym, ap, ◌∙◌, arith}
+use Rattle.std.proofs.Common.{◌≡◌, ℕ, ◌-◌, ◌⊎◌, inl, inr, Bool, Option, Some, None, sym, ap, ◌∙◌, subst, arith}
 use Rattle.rasn_types.specs.Tags.{form, IsTagBelow}
 use Rattle.rasn_types.specs.declared.types.codec.Codec.{Codec}
 use Rattle.rasn_types.specs.declared.types.tag.Tag.{Tag}
-use Rattle.rasn_types.specs.Shapes.{Tree, items, set_elements, absent, Shape, leaf, any, prefix, choice, option, seq, set, list, set_of, Parts, part, IsFirstOf, one_tag, presences}
+use Rattle.rasn_types.specs.Shapes.{Tree, items, set_elements, absent, Shape, leaf, any, prefix, choice, option, seq, set, list, set_of, unknown, Parts, part, IsFirstOf, one_tag, presences}
 use Rattle.rasn_types.specs.declared.types.constraints.Bound.{Bound}
 use Rattle.rasn_types.specs.Shapes.Parts.{none}
 use Rattle.rasn_types.specs.Readings.{Reading, ReadsSeq, ReadsChoice, ReadsSet}
-use Rattle.rasn_types.specs.Grammar.{Reads, parts_of, ReadsList, ReadsSetOf}
+use Rattle.rasn_types.specs.Grammar.{Reads, parts_of, ReadsAny, ReadsList, ReadsSetOf}
 use Rattle.rasn_types.specs.Lawful.{AreDistinguished, IsLawful, AreAlternatives, AreLawfulInOrder, AreLawfulByTag}
 use Rattle.rasn.proofs.OneReading.Joined.{IsOne, inside_one, many_one, perhaps_one, EachPart, ReadsOne, seq_one, IsFirstIn, AreApart, choice_one, set_one}
 use Rattle.rasn.proofs.OneReading.Leaves.{leaf_one}
 use Rattle.rasn.proofs.OneReading.Any.{any_one, open_one}
-use Rattle.rasn.specs.Laws.{IsReadOnce, AreReadOnce, OneLeaf, OneOpen, OnePrefix, OneChoice, OneOption, OneSequence, OneSet, OneSequenceOf, OneSetOf}
+use Rattle.rasn.specs.Laws.{IsReadOnce, AreReadOnce, OneLeaf, OneOpen, OnePrefix, OneChoice, OneOption, OneSequence, OneSet, OneSequenceOf, OneSetOf, OneUnknown}
 
 first_in : (rule : Codec) (ps : Parts) (depth : ℕ) (closing : Bool) (n : Tag) → IsFirstIn (parts_of rule ps depth closing) n → IsFirstOf ps n
 unfolding Reads parts_of
@@ -85,20 +85,25 @@ one_set_of rule tag s size one depth closing = λ input t u r o h k.
     inside_one (λ c. ReadsSetOf rule size (Reads rule s (depth - 2) c) c)
     (set_of_one rule size (λ c. Reads rule s (depth - 2) c) (λ c. one (depth - 2) c)) input t u r o h.1 k.1
 
--- The parts of lawful shapes are lawful, and distinguished where they have to be.
+pub one_unknown : OneUnknown
+unfolding Reads parts_of
+one_unknown rule depth closing = list_one None (λ c. ReadsAny rule) (λ c. any_one rule) closing
+
+-- The parts of lawful shapes are lawful or unknown values, and distinguished where they have to be.
 abbrev pub EachLawful : Parts → Type 0
 EachLawful none = Unit {0}
-EachLawful (part presence s ps) = IsLawful s × EachLawful ps
+EachLawful (part presence s ps) = (IsLawful s ⊎ (s ≡ unknown)) × EachLawful ps
 
 alternatives_lawful : (ps : Parts) → AreAlternatives ps → EachLawful ps
 unfolding IsLawful
 alternatives_lawful none h = tt
-alternatives_lawful (part presence s ps) h = (h.3, alternatives_lawful ps h.4)
+alternatives_lawful (part presence s ps) h = (inl h.3, alternatives_lawful ps h.4)
 
 in_order_lawful : (ps : Parts) → AreLawfulInOrder ps → EachLawful ps
 unfolding IsLawful
 in_order_lawful none h = tt
-in_order_lawful (part presence s ps) h = (h.1, in_order_lawful ps h.3)
+in_order_lawful (part presence s ps) (inl h) = (inr h.1, subst EachLawful (sym h.2) tt)
+in_order_lawful (part presence s ps) (inr h) = (inl h.1, in_order_lawful ps h.3)
 
 not_below_itself : (n : Tag) → IsTagBelow n n → ⊥
 not_below_itself n (inl h) = omega arith
@@ -107,7 +112,7 @@ not_below_itself n (inr h) = omega (arith, h.1)
 by_tag_lawful : (ps : Parts) → AreLawfulByTag ps → EachLawful ps × AreDistinguished ps
 unfolding IsLawful
 by_tag_lawful none h = (tt, tt)
-by_tag_lawful (part presence s ps) h = let r = by_tag_lawful ps h.5 in ((h.3, r.0), (λ n p q. not_below_itself n (h.4 n n p q), r.1))
+by_tag_lawful (part presence s ps) h = let r = by_tag_lawful ps h.5 in ((inl h.3, r.0), (λ n p q. not_below_itself n (h.4 n n p q), r.1))
 
 mutual
   unfolding IsLawful
@@ -122,7 +127,9 @@ mutual
   reads_one (set tag ps) lawful rule = let l = by_tag_lawful ps lawful.1 in one_set rule tag ps (each_one ps l.0 rule) l.1
   reads_one (list tag s size) lawful rule = one_sequence_of rule tag s size (reads_one s lawful.2 rule)
   reads_one (set_of tag s size) lawful rule = one_set_of rule tag s size (reads_one s lawful.2 rule)
+  reads_one unknown lawful rule = absurd lawful
 
   each_one : (ps : Parts) → EachLawful ps → (rule : Codec) → AreReadOnce rule ps
   each_one none lawful rule = tt
-  each_one (part presence s ps) lawful rule = (reads_one s lawful.0 rule, each_one ps lawful.1 rule)
+  each_one (part presence s ps) (inl lawful, rest) rule = (reads_one s lawful rule, each_one ps rest rule)
+  each_one (part presence s ps) (inr e, rest) rule = (subst (IsReadOnce rule) (sym e) (one_unknown rule), each_one ps rest rule)

@@ -4,7 +4,7 @@ use Rattle.rasn_types.specs.Tags.{Form, form, loose}
 use Rattle.rasn_types.specs.declared.types.codec.Codec.{Codec}
 use Rattle.rasn_types.specs.declared.types.tag.Tag.{Tag}
 use Rattle.rasn_types.specs.Framing.{NextTag}
-use Rattle.rasn_types.specs.Shapes.{Tree, Kind, Shape, leaf, any, prefix, choice, option, seq, set, list, set_of, Parts, part, IsFirst, IsFirstOf, one_tag, IsAlwaysPresent, AreAlwaysPresent}
+use Rattle.rasn_types.specs.Shapes.{Tree, Kind, Shape, leaf, any, prefix, choice, option, seq, set, list, set_of, unknown, Parts, part, IsFirst, IsFirstOf, one_tag, IsAlwaysPresent, AreAlwaysPresent}
 use Rattle.rasn_types.specs.Shapes.Parts.{none}
 use Rattle.rasn_types.specs.Readings.{Reading, ReadsContents, definite_form, indefinite_form, ReadsChoice, IsLeftOut, IsPresent}
 use Rattle.rasn_types.specs.Contents.{ReadsString, primitive, segments, closed_segments, ReadsBitSegment, OctetSegment}
@@ -57,18 +57,20 @@ begins (seq tag ps) solid has rule depth closing input t rest h = (tag, inside_n
 begins (set tag ps) solid has rule depth closing input t rest h = (tag, inside_next h.1, refl)
 begins (list tag s size) solid has rule depth closing input t rest h = (tag, inside_next h.1, refl)
 begins (set_of tag s size) solid has rule depth closing input t rest h = (tag, inside_next h.1, refl)
+begins unknown solid has rule depth closing input t rest h = absurd solid
 
-pub tagged : (s : Shape) → HasTag s ⊎ (s ≡ any None)
-tagged (any None) = inr refl
-tagged (any (Some tag)) = inl tt
-tagged (leaf kind tag bounds) = inl tt
-tagged (prefix tag s) = inl tt
-tagged (choice ps) = inl tt
-tagged (option tag s) = inl tt
-tagged (seq tag ps) = inl tt
-tagged (set tag ps) = inl tt
-tagged (list tag s size) = inl tt
-tagged (set_of tag s size) = inl tt
+pub tagged : (s : Shape) → IsAlwaysPresent s → HasTag s ⊎ (s ≡ any None)
+tagged (any None) solid = inr refl
+tagged (any (Some tag)) solid = inl tt
+tagged (leaf kind tag bounds) solid = inl tt
+tagged (prefix tag s) solid = inl tt
+tagged (choice ps) solid = inl tt
+tagged (option tag s) solid = inl tt
+tagged (seq tag ps) solid = inl tt
+tagged (set tag ps) solid = inl tt
+tagged (list tag s size) solid = inl tt
+tagged (set_of tag s size) solid = inl tt
+tagged unknown solid = absurd solid
 
 -- An identifier follows, in a spelling of some form: open octets without a tag stay lenient.
 abbrev pub HasNextTag : List ℕ → Type 0
@@ -80,7 +82,7 @@ any_is_next rule depth closing input t rest h = let n = whole_next rest h.2 in (
 
 pub has_next_tag : (s : Shape) → IsAlwaysPresent s → (rule : Codec) (depth : ℕ) (closing : Bool) (input : List ℕ) (t : Tree) (rest : List ℕ)
     → Reads rule s depth closing input t rest → HasNextTag input
-has_next_tag s solid rule depth closing input t rest h = go (tagged s)
+has_next_tag s solid rule depth closing input t rest h = go (tagged s solid)
   where
     go : HasTag s ⊎ (s ≡ any None) → HasNextTag input
     go (inl has) = let b = begins s solid has rule depth closing input t rest h in (form rule, b.0, b.1)
@@ -92,7 +94,7 @@ Starts spelling P input = BeginsIn spelling P input ⊎ ((n : Tag) → P n)
 
 pub starts : (s : Shape) → IsAlwaysPresent s → (rule : Codec) (depth : ℕ) (closing : Bool) (input : List ℕ) (t : Tree) (rest : List ℕ)
     → Reads rule s depth closing input t rest → Starts (form rule) (IsFirst s) input
-starts s solid rule depth closing input t rest h = go (tagged s)
+starts s solid rule depth closing input t rest h = go (tagged s solid)
   where
     go : HasTag s ⊎ (s ≡ any None) → Starts (form rule) (IsFirst s) input
     go (inl has) = inl (begins s solid has rule depth closing input t rest h)
@@ -113,6 +115,7 @@ mutual
   solid_closing (set tag ps) solid rule depth c d input t rest h = h
   solid_closing (list tag s size) solid rule depth c d input t rest h = h
   solid_closing (set_of tag s size) solid rule depth c d input t rest h = h
+  solid_closing unknown solid rule depth c d input t rest h = absurd solid
 
   some_closing : (ps : Parts) → AreAlwaysPresent ps → (k : ℕ) (rule : Codec) (depth : ℕ) (c d : Bool) (input : List ℕ) (t : Tree) (rest : List ℕ)
       → ReadsChoice rule k (parts_of rule ps depth c) input t rest → ReadsChoice rule k (parts_of rule ps depth d) input t rest

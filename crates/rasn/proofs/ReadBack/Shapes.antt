@@ -1,26 +1,26 @@
 -- What is written of a carried tree is read back.
-use Rattle.std.proofs.Common.{◌≡◌, ℕ, ◌-◌, ◌≤◌, ◌⊎◌, ◌≢◌, inl, inr, List, [], ◌∷◌, ◌++◌, Bool, true, false, Option, Some, None, refl, sym, ◌∙◌, subst, append-nil}
+use Rattle.std.proofs.Common.{◌≡◌, ℕ, ◌-◌, ◌≤◌, ◌⊎◌, ◌≢◌, inl, inr, List, [], ◌∷◌, ◌++◌, Bool, true, false, Option, Some, None, refl, sym, ◌∙◌, subst, append-nil, append_assoc, ap}
 use Rattle.std.proofs.lemmas.List.Sorted.{IsPermutation-refl}
 use Rattle.rasn_types.specs.Tags.{Form, form, eoc, loose_form, loose}
 use Rattle.rasn_types.specs.declared.types.codec.Codec.{Codec}
 use Rattle.rasn_types.specs.declared.types.codec.Codec.TheVariants.{Ber, Cer, Der}
 use Rattle.rasn_types.specs.declared.types.tag.Tag.{Tag}
-use Rattle.rasn_types.specs.Framing.{Frame, with_length, definite, CompleteEncoding, plain, CompleteEncodings, none, one_more}
-use Rattle.rasn_types.specs.Shapes.{Tree, numbers, items, set_elements, absent, Admits, Shape, leaf, any, prefix, choice, option, seq, set, list, set_of, Parts, part, own, one_tag, presences, IsAlwaysPresent}
+use Rattle.rasn_types.specs.Framing.{Frame, with_length, definite, Ended, CompleteEncoding, plain, CompleteEncodings, none, one_more}
+use Rattle.rasn_types.specs.Shapes.{Tree, numbers, items, joined, set_elements, absent, Admits, Shape, leaf, any, prefix, choice, option, seq, set, list, set_of, unknown, Parts, part, own, one_tag, Presence, required, presences, IsAlwaysPresent}
 use Rattle.rasn_types.specs.declared.types.constraints.Bound.{Bound}
 use Rattle.rasn_types.specs.Readings.{IsLeftOut, IsPresent, Reading, ReadsMany, ReadsFrom, ReadsSeq, ReadsSet}
 use Rattle.rasn_types.specs.Contents.{joined_lists}
-use Rattle.rasn_types.specs.Grammar.{Reads, parts_of, ReadsOpen, ReadsList, ReadsSetOf}
+use Rattle.rasn_types.specs.Grammar.{Reads, parts_of, ReadsOpen, ReadsAny, ReadsList, ReadsSetOf}
 use Rattle.rasn_types.specs.Bytes.{Same, ConstructedEncoding, Each, Bytes, fields_of}
-use Rattle.rasn_types.specs.Carried.{IsWithinLimits, AreWithinLimits, EachOf, Carried}
+use Rattle.rasn_types.specs.Carried.{IsOneEncoding, NoneTaken, IsWithinLimits, AreWithinLimits, EachOf, Carried}
 use Rattle.rasn_types.specs.Lawful.{IsLawful, AreAlternatives, AreLawfulInOrder, AreLawfulByTag}
 use Rattle.rasn_types.proofs.Headers.Frames.{frame_next, not_ended}
 use Rattle.rasn.proofs.Included.IntoBer.{IsOptional, IsIn, many_in, solid_of}
 use Rattle.rasn.proofs.ReadBack.Begins.{has_next_tag}
-use Rattle.rasn.proofs.ReadBack.Constructed.{IsReadAs, definite_back, closed_back, cons_back, EachReadBack, many_back}
+use Rattle.rasn.proofs.ReadBack.Constructed.{IsTail, tail_ended, IsReadAs, definite_back, closed_back, cons_back, EachReadBack, many_back}
 use Rattle.rasn_types.proofs.SetOf.Same.{items_one, each_same, each_length}
 use Rattle.rasn.proofs.ReadBack.Leaves.{leaf_back}
-use Rattle.rasn.proofs.ReadBack.Parts.{EachTagged, AllRequired, is_there, IsBack, EachBack, seq_back, choice_back}
+use Rattle.rasn.proofs.ReadBack.Parts.{EachTagged, AllRequired, is_there, IsBack, EachBack, UnknownBack, IsUnknownNext, EachBackInOrder, seq_back, choice_back}
 use Rattle.rasn.proofs.ReadBack.Set.{Component, set_back}
 
 whole_frame : (rule : Codec) {input rest c : List ℕ} {s : Tag} {b : Bool} → Frame loose_form input s b rest (definite c) → Frame (loose rule) input s b rest (definite c)
@@ -144,11 +144,47 @@ prefix_back rule tag one s solid depth back t b (deep, m) (inner, w, c) =
     let r = back t inner m w in
     (r.0, r.1, λ rest closing. (deep, true, (λ z. refl), cons_back rule tag one inner b c (λ c. Reads rule s (depth - 1) c) r.0 (λ closing tail z. r.2 tail closing) rest))
 
-in_seq_back : (rule : Codec) (tag : Tag) → tag ≢ eoc → (ps : Parts) (depth : ℕ) → AreLawfulInOrder ps → EachBack rule (depth - 1) ps → IsBack rule (seq tag ps) depth
+-- Unknown values, each of which is one encoding.
+some_octets : (t : Tree) (m : IsOneEncoding t) → m.octets ≢ []
+some_octets t m e = empty_frame loose_form m.tag m.bit m.contents (subst (λ l. Frame loose_form l m.tag m.bit [] (definite m.contents)) e m.frame)
+
+unknown_next : (t : Tree) (us : List Tree) (ls : List (List ℕ)) → t ≡ items us → Each (λ u c. u ≡ numbers c) us ls → EachOf IsOneEncoding us → (closing : Bool) (tail : List ℕ) → IsTail closing tail
+    → Ended closing (joined_lists ls ++ tail) ⊎ IsUnknownNext (part required unknown Parts.none) (t ∷ []) (joined_lists ls ++ tail)
+unknown_next t [] ls e h m closing tail z = inl (subst (λ l. Ended closing (joined_lists l ++ tail)) (sym h) (tail_ended closing tail z))
+unknown_next t (u ∷ us) ls e (b, cs, f, g, h) (m, ms) closing tail z =
+    let k : m.octets ≡ b = let i = m.is in cc in
+    inr (
+      b,
+      joined_lists cs ++ tail,
+      inl (refl, items us, e ∙ ap (λ x. joined x (items us)) g),
+      ap (λ l. joined_lists l ++ tail) f ∙ append_assoc b (joined_lists cs) tail,
+      λ n. some_octets u m (k ∙ n),
+    )
+
+unknown_back : (rule : Codec) (depth : ℕ) → UnknownBack rule depth
 unfolding Reads parts_of Bytes fields_of IsWithinLimits
-in_seq_back rule tag one ps depth lawful back t b (deep, us, e, ms) (ts, bs, f, ws, c) =
+unknown_back rule depth t b (us, e, ms) (ts, ls, f, ws, g) = go (elements rule (any None) tt depth (any_back rule depth) ts us ls (sym e ∙ f) ms ws)
+  where
+    each_within : EachOf IsOneEncoding ts
+    each_within = subst (EachOf IsOneEncoding) (items_one us ts (sym e ∙ f)) ms
+
+    go : Elements rule (any None) depth ts ls
+        → (u : Tree) × Same t u × ((closing : Bool) (tail : List ℕ) → IsTail closing tail
+        → Reads rule unknown depth closing (b ++ tail) u tail × (Ended closing (b ++ tail) ⊎ IsUnknownNext (part required unknown Parts.none) (t ∷ []) (b ++ tail)))
+    go (vs, alike, r, from) = (
+      items vs,
+      subst (λ x. Same x (items vs)) (sym f) (each_same ts vs alike),
+      λ closing tail z. (
+        subst (λ i. ReadsList None (ReadsAny rule) closing (i ++ tail) (items vs) tail) (sym g) (vs, refl, tt, r closing tail z),
+        subst (λ i. Ended closing (i ++ tail) ⊎ IsUnknownNext (part required unknown Parts.none) (t ∷ []) (i ++ tail)) (sym g) (unknown_next t ts ls f ws each_within closing tail z),
+      ),
+    )
+
+in_seq_back : (rule : Codec) (tag : Tag) → tag ≢ eoc → (ps : Parts) (depth : ℕ) → AreLawfulInOrder ps → EachBackInOrder rule (depth - 1) ps → IsBack rule (seq tag ps) depth
+unfolding Reads parts_of Bytes fields_of IsWithinLimits
+in_seq_back rule tag one ps depth lawful back t b (deep, us, e, ms, taken) (ts, bs, f, ws, c) =
     let g : us ≡ ts = items_one us ts (sym e ∙ f) in
-    let r = seq_back rule (depth - 1) ps lawful back ts bs (subst (AreWithinLimits rule ps (depth - 1)) g ms) ws in (
+    let r = seq_back rule (depth - 1) (unknown_back rule (depth - 1)) ps lawful back ts bs (subst (AreWithinLimits rule ps (depth - 1)) g ms) (subst (NoneTaken rule ps) g taken) ws in (
       r.0,
       subst (λ x. Same x r.0) (sym f) r.1,
       λ rest closing. (
@@ -179,10 +215,16 @@ unfolding IsLawful
 alternatives_good Parts.none h = tt
 alternatives_good (part presence s ps) h = (h.2, h.3, alternatives_good ps h.4)
 
-pub in_order_good : (ps : Parts) → AreLawfulInOrder ps → EachGood ps
+-- The parts of a SEQUENCE are so, or unknown values.
+abbrev pub EachGoodInOrder : Parts → Type 0
+EachGoodInOrder Parts.none = Unit {0}
+EachGoodInOrder (part presence s ps) = ((IsAlwaysPresent s × IsLawful s) ⊎ (s ≡ unknown)) × EachGoodInOrder ps
+
+pub in_order_good : (ps : Parts) → AreLawfulInOrder ps → EachGoodInOrder ps
 unfolding IsLawful
 in_order_good Parts.none h = tt
-in_order_good (part presence s ps) h = (h.0, h.1, in_order_good ps h.3)
+in_order_good (part presence s ps) (inl h) = (inr h.1, subst EachGoodInOrder (sym h.2) tt)
+in_order_good (part presence s ps) (inr h) = (inl (h.0, h.1), in_order_good ps h.3)
 
 pub by_tag_good : (ps : Parts) → AreLawfulByTag ps → EachGood ps
 unfolding IsLawful
@@ -215,10 +257,16 @@ mutual
   back (prefix tag s) solid lawful rule depth = prefix_back rule tag lawful.0 s lawful.1 depth (back s lawful.1 lawful.2 rule (depth - 1))
   back (choice ps) solid lawful rule depth = λ t b m w. choice_back rule depth ps (alternatives_tagged ps lawful.0) (alternatives_required ps lawful.0) (each_back ps (alternatives_good ps lawful.0) rule depth) 0 t b m w
   back (option tag s) solid lawful rule depth = absurd solid
-  back (seq tag ps) solid lawful rule depth = in_seq_back rule tag lawful.0 ps depth lawful.1 (each_back ps (in_order_good ps lawful.1) rule (depth - 1))
+  back (seq tag ps) solid lawful rule depth = in_seq_back rule tag lawful.0 ps depth lawful.1 (each_back_in_order ps (in_order_good ps lawful.1) rule (depth - 1))
   back (set tag ps) solid lawful rule depth = in_set_back rule tag lawful.0 ps depth (by_tag_tagged ps lawful.1) (each_back ps (by_tag_good ps lawful.1) rule (depth - 1))
   back (list tag s size) solid lawful rule depth = list_back rule tag lawful.0 s size lawful.1 depth (back s lawful.1 lawful.2 rule (depth - 2))
   back (set_of tag s size) solid lawful rule depth = set_of_back rule tag lawful.0 s size lawful.1 depth (back s lawful.1 lawful.2 rule (depth - 2))
+  back unknown solid lawful rule depth = absurd solid
+
+  each_back_in_order : (ps : Parts) → EachGoodInOrder ps → (rule : Codec) (depth : ℕ) → EachBackInOrder rule depth ps
+  each_back_in_order Parts.none good rule depth = tt
+  each_back_in_order (part presence s ps) (inl (solid, lawful), good) rule depth = (inl (solid, back s solid lawful rule depth), each_back_in_order ps good rule depth)
+  each_back_in_order (part presence s ps) (inr e, good) rule depth = (inr e, each_back_in_order ps good rule depth)
 
   each_back : (ps : Parts) → EachGood ps → (rule : Codec) (depth : ℕ) → EachBack rule depth ps
   each_back Parts.none good rule depth = tt

@@ -1,27 +1,29 @@
 -- What DER reads of a shape that passes the test meets all that a carried value must.
-use Rattle.std.proofs.Common.{◌≡◌, ◌≢◌, ◌^◌, ℕ, suc, ◌-◌, ◌<◌, ◌≤◌, inl, inr, List, [], ◌∷◌, ◌++◌, length, Bool, true, false, not, ◌&&◌, ◌||◌, Option, Some, None, refl, sym, ap, subst, arith, ◌∙◌}
+use Rattle.std.proofs.Common.{◌≡◌, ◌≢◌, ◌^◌, ℕ, suc, ◌-◌, ◌<◌, ◌≤◌, inl, inr, List, [], ◌∷◌, ◌++◌, length, Bool, true, false, not, ◌&&◌, ◌||◌, Option, Some, None, refl, sym, ap, subst, arith, ◌∙◌, append_assoc}
 use Rattle.std.proofs.lemmas.List.Sorted.{IsPermutation-refl}
 use Rattle.rasn_types.specs.declared.types.tag.Tag.{Tag}
 use Rattle.rasn_types.specs.declared.types.codec.Codec.TheVariants.{Der}
-use Rattle.rasn_types.specs.Framing.{without_length, CompleteEncoding}
+use Rattle.rasn_types.specs.Tags.{der_form}
+use Rattle.rasn_types.specs.Framing.{Frame, without_length, NextTag, Ended, CompleteEncoding}
 use Rattle.rasn_types.specs.Calendar.{Moment}
 use Rattle.rasn_types.specs.Time.{CarriedUtc, CarriedDay}
-use Rattle.rasn_types.specs.Shapes.{presences, Tree, number, bits, numbers, instant, on_day, done, joined, items, set_elements, chosen, absent, Same, Kind, utc_time, generalized_time, date, Shape, leaf, any, prefix, choice, option, seq, set, list, set_of, Parts, part, own, Presence, required, addition, optional_by, default_by, Sought, sought_in}
+use Rattle.rasn_types.specs.Shapes.{presences, Tree, number, bits, numbers, instant, on_day, done, joined, items, set_elements, chosen, absent, Same, Kind, utc_time, generalized_time, date, Shape, leaf, any, prefix, choice, option, seq, set, list, set_of, unknown, Parts, part, own, Presence, required, addition, optional_by, default_by, Sought, one_tag, any_of, sought_in}
 use Rattle.rasn_types.specs.declared.types.constraints.Bound.{Bound}
 use Rattle.rasn_types.specs.Shapes.Parts.{none}
 use Rattle.rasn_types.specs.Described.{has_required, has_addition}
-use Rattle.rasn_types.specs.Readings.{Reading, ReadsContents, definite_form, indefinite_form, ReadsMany, ReadsPart, ReadsInOrder, IsMissing, AllMissing, presences_in, HasRequired, ReadsSeq, ReadsSet, ReadsChoice, OneOf, ByPart}
+use Rattle.rasn_types.specs.Readings.{Reading, ReadsContents, definite_form, indefinite_form, ReadsMany, IsLeftOut, ReadsPart, ReadsInOrder, IsMissing, AllMissing, presences_in, HasRequired, ReadsSeq, ReadsSet, ReadsChoice, OneOf, ByPart}
 use Rattle.rasn_types.specs.BitString.{significant}
-use Rattle.rasn_types.specs.Grammar.{Reads, parts_of, Family, plain_family, bit_family, named_family, text_family, family, ReadsIn, Text, ReadsList, ReadsSetOf}
-use Rattle.rasn_types.specs.Carried.{EachOf, PartIsWithinLimits, IsCarriedTime, LeafIsWithinLimits, IsOneEncoding, IsWithinLimits, AreWithinLimits, ChosenIsWithinLimits}
-use Rattle.rasn_types.specs.Lawful.{IsLawful, AreLawfulByTag}
+use Rattle.rasn_types.specs.Grammar.{Reads, parts_of, Family, plain_family, bit_family, named_family, text_family, family, ReadsIn, Text, ReadsAny, ReadsList, ReadsSetOf}
+use Rattle.rasn_types.specs.Carried.{EachOf, PartIsWithinLimits, IsCarriedTime, LeafIsWithinLimits, IsOneEncoding, IsUnwritten, BeginsUnknown, NoneTaken, IsWithinLimits, AreWithinLimits, ChosenIsWithinLimits}
+use Rattle.rasn_types.specs.Lawful.{IsLawful, EndsUnknown, AreLawfulInOrder, AreLawfulByTag}
 use Rattle.rasn_types.proofs.Lawful.{lawful_decides}
+use Rattle.rasn_types.proofs.Headers.Frames.{id_one, frame_next}
 use Rattle.rasn_types.proofs.Time.Spellings.{both_true}
 use Rattle.rasn.specs.Carries.{is_list, is_same_as_itself, is_own_default, carries_all, all_carry}
 use Rattle.rasn.specs.Laws.{LawfulTested, AllCarried, IsOwnDefault, HasOwnDefaults, HaveOwnDefaults}
-use Rattle.rasn.proofs.ReadBack.Shapes.{EachGood, alternatives_good, in_order_good, by_tag_good}
+use Rattle.rasn.proofs.ReadBack.Shapes.{EachGood, alternatives_good, EachGoodInOrder, in_order_good, by_tag_good}
 use Rattle.rasn.proofs.ReadBack.Parts.{other_index}
-use Rattle.rasn.proofs.StrictDer.Shapes.{there}
+use Rattle.rasn.proofs.StrictDer.Shapes.{there, unknown_there}
 use Rattle.rasn.proofs.StrictDer.Leaves.{no_open}
 use Rattle.rasn.proofs.StrictDer.Carried.{only_carried}
 use Rattle.rasn.proofs.StrictDer.Parts.{IsNeverAbsent}
@@ -80,6 +82,7 @@ mutual
   own_defaults (set tag ps) e = all_own ps e
   own_defaults (list tag s size) e = own_defaults s e
   own_defaults (set_of tag s size) e = own_defaults s e
+  own_defaults unknown e = tt
 
   all_own : (ps : Parts) → all_carry ps ≡ true → HaveOwnDefaults ps
   all_own none e = tt
@@ -223,6 +226,116 @@ unfolding AreLawfulByTag
 by_tag_has_none none h = tt
 by_tag_has_none (part presence s ps) h = (h.0, by_tag_has_none ps h.5)
 
+-- ---- unknown values
+
+-- What is next before octets is next before their first encoding.
+next_alone : (o more : List ℕ) (n : Tag) → CompleteEncoding Der o → NextTag der_form (o ++ more) n → NextTag der_form o n
+next_alone o more n (CompleteEncoding.plain tag bit contents f) next =
+    let k = frame_next f in
+    let i = id_one next.begins.id k.begins.id next.begins.more (k.begins.more ++ more) n tag next.begins.bit k.begins.bit next.begins.spells k.begins.spells
+    (sym next.begins.is ∙ (ap (λ z. z ++ more) k.begins.is ∙ append_assoc k.begins.id k.begins.more more)) in
+    record {
+      begins = record { id = next.begins.id; bit = next.begins.bit; more = k.begins.more; spells = next.begins.spells; is = k.begins.is ∙ ap (λ z. z ++ k.begins.more) (sym i.octets) };
+      is_one = next.is_one;
+      shortest = next.shortest;
+    }
+next_alone o more n (CompleteEncoding.closed tag bit body nested (without_length id p q r f) w g) next = absurd r
+
+left_out_alone : (tags : Sought) (closing : Bool) (input o more : List ℕ) → input ≡ o ++ more → CompleteEncoding Der o → (Ended closing input → ⊥) → IsLeftOut der_form tags closing input → IsLeftOut der_form tags false o
+left_out_alone (one_tag None) closing input o more e w n h = absurd (n h)
+left_out_alone (one_tag (Some tag)) closing input o more e w n (inl h) = absurd (n h)
+left_out_alone (one_tag (Some tag)) closing input o more e w n (inr (t, next, d)) = inr (t, next_alone o more t w (subst (λ i. NextTag der_form i t) e next), d)
+left_out_alone (any_of P) closing input o more e w n (inl h) = absurd (n h)
+left_out_alone (any_of P) closing input o more e w n (inr (t, next, d)) = inr (t, next_alone o more t w (subst (λ i. NextTag der_form i t) e next), d)
+
+-- A part that is read and isn't written is left out.
+unwritten_left : (s : Shape) (depth : ℕ) (presence : Presence) → Met presence s depth → (tags : Sought) (c closing : Bool) (input : List ℕ) (t : Tree) (rest : List ℕ)
+    → ReadsPart Der presence tags (Reads Der s depth c) closing input t rest → IsUnwritten presence t → IsLeftOut der_form tags closing input × (rest ≡ input)
+unwritten_left s depth required k tags c closing input t rest h e = absurd e
+unwritten_left s depth addition k tags c closing input t rest h e = absurd (k.there c input t rest h e)
+unwritten_left s depth (optional_by key) k tags c closing input t rest (inl (p, q, r)) e = (p, r)
+unwritten_left s depth (optional_by key) k tags c closing input t rest (inr (p, h)) e = absurd (k.there c input t rest h e)
+unwritten_left s depth (default_by key d) k tags c closing input t rest (inl (p, q, r)) e = (p, r)
+unwritten_left s depth (default_by key d) k tags c closing input t rest (inr (p, (h, n))) e = absurd (n tt e)
+
+-- The input begins with one encoding.
+abbrev BeginsWith : Bool → List ℕ → List ℕ → Type 0
+BeginsWith closing input o = (more : List ℕ) × (input ≡ o ++ more) × CompleteEncoding Der o × (Ended closing input → ⊥)
+
+first_unknown : (depth : ℕ) (closing : Bool) (input : List ℕ) (t us : Tree) (o rest : List ℕ) → t ≡ joined (numbers o) us → Reads Der unknown depth closing input t rest → BeginsWith closing input o
+unfolding Reads
+first_unknown depth closing input t us o rest e (vs, f, z, h) = go vs (sym f ∙ e) h
+  where
+    go : (vs : List Tree) → items vs ≡ joined (numbers o) us → ReadsMany (ReadsAny Der) closing input vs rest → BeginsWith closing input o
+    go [] g k = cc
+    go (v ∷ vs) g (n, middle, (text, i, w, j), k) =
+        let p : v ≡ numbers o = cc in
+        let q : numbers text ≡ numbers o = sym i ∙ p in
+        let r : text ≡ o = cc in
+        (middle, j ∙ ap (λ l. l ++ middle) r, subst (CompleteEncoding Der) r w, n)
+
+ends_begin : (depth : ℕ) (presence : Presence) (s : Shape) (tags : Sought) (closing : Bool) (input : List ℕ) (t us : Tree) (o rest : List ℕ) → presence ≡ required → s ≡ unknown → t ≡ joined (numbers o) us
+    → ReadsPart Der presence tags (Reads Der s depth closing) closing input t rest → BeginsWith closing input o
+ends_begin depth presence s tags closing input t us o rest e f g h =
+    first_unknown depth closing input t us o rest g
+    (subst (λ x. Reads Der x depth closing input t rest) f (subst (λ p. ReadsPart Der p tags (Reads Der s depth closing) closing input t rest) e h))
+
+-- A lawful part that is unknown values is the last, and required.
+is_last : (presence : Presence) (s : Shape) (ps : Parts) → AreLawfulInOrder (part presence s ps) → s ≡ unknown → presence ≡ required
+unfolding IsLawful AreLawfulInOrder
+is_last presence s ps (inl h) e = h.0
+is_last presence s ps (inr h) e = absurd (subst IsLawful e h.1)
+
+lawful_after : (presence : Presence) (s : Shape) (ps : Parts) → AreLawfulInOrder (part presence s ps) → AreLawfulInOrder ps
+unfolding AreLawfulInOrder
+lawful_after presence s ps (inl h) = subst AreLawfulInOrder (sym h.2) tt
+lawful_after presence s ps (inr h) = h.3
+
+begins_read : (ps : Parts) (depth : ℕ) → AreLawfulInOrder ps → EachMet depth ps → (closing : Bool) (input : List ℕ) (ts : List Tree) (rest o : List ℕ)
+    → ReadsInOrder Der (parts_of Der ps depth closing) closing input ts rest → BeginsUnknown ps ts o → BeginsWith closing input o
+unfolding Reads parts_of
+begins_read none depth lawful k closing input ts rest o h b = absurd b
+begins_read (part presence s ps) depth lawful k closing input ts rest o (t, us, middle, e, h, hs) b =
+    go (λ d. begins_read ps depth (lawful_after presence s ps lawful) k.1 closing middle us rest o hs d) (subst (λ l. BeginsUnknown (part presence s ps) l o) e b)
+  where
+    go : (BeginsUnknown ps us o → BeginsWith closing middle o) → BeginsUnknown (part presence s ps) (t ∷ us) o → BeginsWith closing input o
+    go later (inl (f, vs, g)) = ends_begin depth presence s (sought_in presence s) closing input t vs o middle (is_last presence s ps lawful f) f g h
+    go later (inr (d, more)) =
+        let left = unwritten_left s depth presence k.0 (sought_in presence s) closing closing input t middle h d in
+        subst (λ i. BeginsWith closing i o) left.1 (later more)
+
+-- What is read in order is taken for no part that isn't written.
+in_order_taken : (ps : Parts) (depth : ℕ) → AreLawfulInOrder ps → EachMet depth ps → (closing : Bool) (input : List ℕ) (ts : List Tree) (rest : List ℕ)
+    → ReadsInOrder Der (parts_of Der ps depth closing) closing input ts rest → NoneTaken Der ps ts
+unfolding Reads parts_of
+in_order_taken none depth lawful k closing input ts rest h = tt
+in_order_taken (part presence s ps) depth lawful k closing input ts rest (t, us, middle, e, h, hs) =
+    subst (NoneTaken Der (part presence s ps)) (sym e) (first, in_order_taken ps depth (lawful_after presence s ps lawful) k.1 closing middle us rest hs)
+  where
+    first : IsUnwritten presence t → (o : List ℕ) → BeginsUnknown ps us o → IsLeftOut der_form (sought_in presence s) false o
+    first d o b =
+        let left = unwritten_left s depth presence k.0 (sought_in presence s) closing closing input t middle h d in
+        let w = begins_read ps depth (lawful_after presence s ps lawful) k.1 closing middle us rest o hs b in
+        left_out_alone (sought_in presence s) closing middle o w.0 w.1 w.2 w.3 (subst (IsLeftOut der_form (sought_in presence s) closing) (sym left.1) left.0)
+
+-- Where all parts are missing, there are no unknown values.
+missing_known : (ps : Parts) (depth : ℕ) (c : Bool) → AreLawfulInOrder ps → (ts : List Tree) (o : List ℕ) → AllMissing (presences_in (parts_of Der ps depth c)) ts → BeginsUnknown ps ts o → ⊥
+unfolding Reads parts_of
+missing_known none depth c lawful ts o h b = b
+missing_known (part presence s ps) depth c lawful ts o (t, us, e, h, hs) b =
+    go (λ d. missing_known ps depth c (lawful_after presence s ps lawful) us o hs d) (subst (λ l. BeginsUnknown (part presence s ps) l o) e b)
+  where
+    go : (BeginsUnknown ps us o → ⊥) → BeginsUnknown (part presence s ps) (t ∷ us) o → ⊥
+    go later (inl (f, vs, g)) = subst (λ p. IsMissing p t) (is_last presence s ps lawful f) h
+    go later (inr (d, more)) = later more
+
+missing_taken : (ps : Parts) (depth : ℕ) (c : Bool) → AreLawfulInOrder ps → (ts : List Tree) → AllMissing (presences_in (parts_of Der ps depth c)) ts → NoneTaken Der ps ts
+unfolding Reads parts_of
+missing_taken none depth c lawful ts h = tt
+missing_taken (part presence s ps) depth c lawful ts (t, us, e, h, hs) =
+    let after = lawful_after presence s ps lawful in
+    subst (NoneTaken Der (part presence s ps)) (sym e) ((λ d o b. absurd (missing_known ps depth c after us o hs b)), missing_taken ps depth c after us hs)
+
 -- ---- values that hold others
 
 inside_met : {X : Type 0} {P : Type 0} (tag : Tag) (bit : Bool) (inner : Bool → Reading X) (input : List ℕ) (x : X) (rest : List ℕ)
@@ -230,18 +343,18 @@ inside_met : {X : Type 0} {P : Type 0} (tag : Tag) (bit : Bool) (inner : Bool �
 inside_met tag bit inner input x rest met (definite_form contents f h) = met contents h
 inside_met tag bit inner input x rest met (indefinite_form body f h) = absurd (no_open f)
 
-in_seq_met : (tag : Tag) (ps : Parts) (depth : ℕ) → EachMet (depth - 1) ps → (has_required ps || not (has_addition ps)) ≡ true → IsMet (seq tag ps) depth
+in_seq_met : (tag : Tag) (ps : Parts) (depth : ℕ) → AreLawfulInOrder ps → EachMet (depth - 1) ps → (has_required ps || not (has_addition ps)) ≡ true → IsMet (seq tag ps) depth
 unfolding Reads parts_of IsWithinLimits
-in_seq_met tag ps depth met e closing input t rest (deep, h) = let r = inside_met tag true _ input t rest within h in (deep, r.0, r.1, r.2)
+in_seq_met tag ps depth lawful met e closing input t rest (deep, h) = let r = inside_met tag true _ input t rest within h in (deep, r.0, r.1, r.2, r.3)
   where
     bare : (a b : Bool) → has_required ps ≡ a → has_addition ps ≡ b → (a || not b) ≡ true → (HasRequired (parts_of Der ps (depth - 1) false) → ⊥) → HasNoAddition ps
     bare true b p q r n = absurd (n (some_required ps (depth - 1) false p))
     bare false true p q r n = absurd (cc)
     bare false false p q r n = no_addition ps q
 
-    within : (contents : List ℕ) → ReadsSeq Der (parts_of Der ps (depth - 1) false) false contents t [] → (ts : List Tree) × (t ≡ items ts) × AreWithinLimits Der ps (depth - 1) ts
-    within contents (ts, f, inl r) = (ts, f, all_missing_met ps (depth - 1) met (bare (has_required ps) (has_addition ps) refl refl e r.0.0) false ts r.1)
-    within contents (ts, f, inr r) = (ts, f, in_order_met ps (depth - 1) met false false contents ts [] r.1)
+    within : (contents : List ℕ) → ReadsSeq Der (parts_of Der ps (depth - 1) false) false contents t [] → (ts : List Tree) × (t ≡ items ts) × AreWithinLimits Der ps (depth - 1) ts × NoneTaken Der ps ts
+    within contents (ts, f, inl r) = (ts, f, all_missing_met ps (depth - 1) met (bare (has_required ps) (has_addition ps) refl refl e r.0.0) false ts r.1, missing_taken ps (depth - 1) false lawful ts r.1)
+    within contents (ts, f, inr r) = (ts, f, in_order_met ps (depth - 1) met false false contents ts [] r.1, in_order_taken ps (depth - 1) lawful met false contents ts [] r.1)
 
 in_set_met : (tag : Tag) (ps : Parts) (depth : ℕ) → EachMet (depth - 1) ps → HasNoAddition ps → IsMet (set tag ps) depth
 unfolding Reads parts_of IsWithinLimits
@@ -270,6 +383,10 @@ in_set_of_met tag s size depth met closing input t rest (deep, h) = let r = insi
     within : (contents : List ℕ) → ReadsSetOf Der size (Reads Der s (depth - 2) false) false contents t [] → (ts : List Tree) × (t ≡ set_elements (items ts)) × EachOf (IsWithinLimits Der s (depth - 2)) ts
     within contents r = (r.0, r.1, many_met (IsWithinLimits Der s (depth - 2)) (Reads Der s (depth - 2) false) (λ i x l k. met false i x l k) false contents r.0 [] r.3)
 
+unknown_met : (depth : ℕ) → IsMet unknown depth
+unfolding Reads parts_of IsWithinLimits
+unknown_met depth closing input t rest (us, e, z, h) = (us, e, many_met IsOneEncoding (ReadsAny Der) (λ i u r k. one_encoding_met u k.0 k.1 k.2) closing input us rest h)
+
 mutual
   unfolding Reads parts_of IsWithinLimits IsLawful
 
@@ -286,10 +403,22 @@ mutual
   ]
   all_met (seq tag ps) lawful e depth =
       let p = both_true (has_required ps || not (has_addition ps)) (all_carry ps) e in
-      in_seq_met tag ps depth (each_met ps (in_order_good ps lawful.1) p.1 (depth - 1)) p.0
+      in_seq_met tag ps depth lawful.1 (each_met_in_order ps (in_order_good ps lawful.1) p.1 (depth - 1)) p.0
   all_met (set tag ps) lawful e depth = in_set_met tag ps depth (each_met ps (by_tag_good ps lawful.1) e (depth - 1)) (by_tag_has_none ps lawful.1)
   all_met (list tag s size) lawful e depth = in_list_met tag s size depth (all_met s lawful.2 e (depth - 2))
   all_met (set_of tag s size) lawful e depth = in_set_of_met tag s size depth (all_met s lawful.2 e (depth - 2))
+  all_met unknown lawful e depth = absurd lawful
+
+  each_met_in_order : (ps : Parts) → EachGoodInOrder ps → all_carry ps ≡ true → (depth : ℕ) → EachMet depth ps
+  each_met_in_order none good e depth = tt
+  each_met_in_order (part presence s ps) (inl (solid, lawful), good) e depth =
+      let p = three (is_own_default presence) (carries_all s) (all_carry ps) e in
+      (record { met = all_met s lawful p.1 depth; there = there s solid lawful depth; own_default = own_default presence p.0 }, each_met_in_order ps good p.2 depth)
+  each_met_in_order (part presence s ps) (inr f, good) e depth =
+      let p = three (is_own_default presence) (carries_all s) (all_carry ps) e in (
+        subst (λ x. Met presence x depth) (sym f) (record { met = unknown_met depth; there = unknown_there depth; own_default = own_default presence p.0 }),
+        each_met_in_order ps good p.2 depth,
+      )
 
   each_met : (ps : Parts) → EachGood ps → all_carry ps ≡ true → (depth : ℕ) → EachMet depth ps
   each_met none good e depth = tt

@@ -5,7 +5,7 @@ use Rattle.rasn_types.specs.Tags.{loose_form, IsTagBelow}
 use Rattle.rasn_types.specs.declared.types.codec.Codec.TheVariants.{Der}
 use Rattle.rasn_types.specs.declared.types.tag.Tag.{Tag}
 use Rattle.rasn_types.specs.Framing.{AreOctets, SpellsAnyIdentifier, Begins, Frame, definite}
-use Rattle.rasn_types.specs.Shapes.{Tree, items, set_elements, chosen, Admits, Shape, leaf, any, prefix, choice, option, seq, set, list, set_of, Parts, part, own, IsFirst, IsFirstOf, Presence, presences, required, addition, optional_by, default_by, Sought, sought_in, IsAlwaysPresent}
+use Rattle.rasn_types.specs.Shapes.{Tree, items, set_elements, chosen, Admits, Shape, leaf, any, prefix, choice, option, seq, set, list, set_of, unknown, Parts, part, own, IsFirst, IsFirstOf, Presence, presences, required, addition, optional_by, default_by, Sought, sought_in, IsAlwaysPresent}
 use Rattle.rasn_types.specs.declared.types.constraints.Bound.{Bound}
 use Rattle.rasn_types.specs.Shapes.Parts.{none}
 use Rattle.rasn_types.specs.Readings.{Reading, ReadsContents, definite_form, indefinite_form, ReadsMany, ReadsFrom, IsNoDefault, ReadsPart, ReadsInOrder, IsMissing, AllMissing, presences_in, ReadsChoice, NoneOf, OneOf, ByPart}
@@ -17,9 +17,9 @@ use Rattle.rasn_types.specs.Carried.{EachOf}
 use Rattle.rasn_types.specs.Lawful.{HasTag, IsLawful, AreAlternatives, AreLawfulByTag}
 use Rattle.rasn_types.proofs.Headers.Frames.{frame_next, not_ended}
 use Rattle.rasn_types.proofs.SetOf.Same.{items_one}
-use Rattle.rasn.proofs.ReadBack.Shapes.{EachGood, alternatives_good, in_order_good, by_tag_good}
+use Rattle.rasn.proofs.ReadBack.Shapes.{EachGood, alternatives_good, EachGoodInOrder, in_order_good, by_tag_good}
 use Rattle.rasn.proofs.LawsHold.Written.{one_reading, read_again}
-use Rattle.rasn.proofs.StrictDer.Shapes.{there, set_elements_one}
+use Rattle.rasn.proofs.StrictDer.Shapes.{there, unknown_there, set_elements_one}
 use Rattle.rasn.proofs.StrictDer.Leaves.{tail_octets, framed, no_open, in_told}
 use Rattle.rasn.proofs.StrictDer.Parts.{IsNeverAbsent, nothing, other_read}
 use Rattle.rasn.proofs.StrictDer.Set.{Components, first_is_next, behind, by_part_less, fewer}
@@ -220,7 +220,7 @@ open_made tag depth closing input t rest o (bit, c, e, z, inl f) m =
 
 in_seq_made : (tag : Tag) (ps : Parts) (depth : ℕ) → EachMade (depth - 1) ps → IsMade (seq tag ps) depth
 unfolding Reads parts_of Bytes fields_of Owes
-in_seq_made tag ps depth k closing input t rest o (deep, h) (deep', us, f, m) =
+in_seq_made tag ps depth k closing input t rest o (deep, h) (deep', us, f, m, taken) =
     let r = enclosed_made tag true refl _ (λ c. (ts : List Tree) × (bs : List (List ℕ)) × (t ≡ items ts) × PartsWritten (fields_of Der ps) ts bs × (c ≡ joined_lists bs)) input t rest o
     (λ contents p r.
     let vs = r.0 in
@@ -282,6 +282,21 @@ prefix_made tag s depth made closing input t rest o (deep, bit, z, h) (deep', m)
     (λ contents p r. let q = made false contents t [] p r m in (q.0, q.1, q.2)) h in
     (r.2, (r.0, r.1, r.3), r.4)
 
+-- Unknown values.
+any_made : (depth : ℕ) → IsMade (any None) depth
+unfolding Reads parts_of Bytes fields_of Owes
+any_made depth closing input t rest o h m = (h.0, h.1, h.3)
+
+unknown_made : (depth : ℕ) → IsMade unknown depth
+unfolding Reads parts_of Bytes fields_of Owes
+unknown_made depth closing input t rest o (vs, e, z, h) (us, f, m) =
+    let y : us ≡ vs = items_one us vs (sym f ∙ e) in
+    let q = many_made (any None) depth (any_made depth) closing closing input vs rest o h (subst (EachOf (Owes (any None) depth)) y m) in
+    (joined_lists q.0, (vs, q.0, e, q.1, refl), q.2)
+
+unknown_is_made : (depth : ℕ) → Made unknown depth
+unknown_is_made depth = record { made = unknown_made depth; there = unknown_there depth; not_untagged = λ has t. absurd has }
+
 -- What is written of a lawful shape that has a tag isn't bare.
 mutual
   unfolding IsUntaggedOpen IsLawful
@@ -297,6 +312,7 @@ mutual
   not_untagged (set tag ps) lawful solid has t h = h
   not_untagged (list tag s size) lawful solid has t h = h
   not_untagged (set_of tag s size) lawful solid has t h = h
+  not_untagged unknown lawful solid has t h = solid
 
   none_untagged : (ps : Parts) → AreAlternatives ps → (k : ℕ) (t : Tree) → IsUntaggedOpenIn k ps t → ⊥
   none_untagged none lawful k t h = h
@@ -309,16 +325,23 @@ mutual
   pub all_made : (s : Shape) → IsLawful s → (depth : ℕ) → IsMade s depth
   all_made (leaf kind tag bounds) lawful depth = λ closing input t rest o h m.
       let r = in_told (family kind) kind tag lawful.1 depth input t rest o h.0 in (r.0, (h.1, r.1), r.2)
-  all_made (any None) lawful depth = λ closing input t rest o h m. (h.0, h.1, h.3)
+  all_made (any None) lawful depth = any_made depth
   all_made (any (Some tag)) lawful depth = open_made tag depth
   all_made (prefix tag s) lawful depth = prefix_made tag s depth (all_made s lawful.2 (depth - 1))
   all_made (choice ps) lawful depth = λ closing input t rest o h m. choice_made ps depth (each_made ps (alternatives_good ps lawful.0) depth) 0 closing input t rest o h m
   all_made (option tag s) lawful depth =
       option_made tag s depth (record { made = all_made s lawful.2 depth; there = there s lawful.1 lawful.2 depth; not_untagged = λ has t. not_untagged s lawful.2 lawful.1 has t })
-  all_made (seq tag ps) lawful depth = in_seq_made tag ps depth (each_made ps (in_order_good ps lawful.1) (depth - 1))
+  all_made (seq tag ps) lawful depth = in_seq_made tag ps depth (each_made_in_order ps (in_order_good ps lawful.1) (depth - 1))
   all_made (set tag ps) lawful depth = in_set_made tag ps depth lawful.1 (each_made ps (by_tag_good ps lawful.1) (depth - 1))
   all_made (list tag s size) lawful depth = in_list_made tag s size depth (all_made s lawful.2 (depth - 2))
   all_made (set_of tag s size) lawful depth = in_set_of_made tag s size depth (all_made s lawful.2 (depth - 2))
+  all_made unknown lawful depth = absurd lawful
+
+  each_made_in_order : (ps : Parts) → EachGoodInOrder ps → (depth : ℕ) → EachMade depth ps
+  each_made_in_order none good depth = tt
+  each_made_in_order (part presence s ps) (inl (solid, lawful), good) depth =
+      (record { made = all_made s lawful depth; there = there s solid lawful depth; not_untagged = λ has t. not_untagged s lawful solid has t }, each_made_in_order ps good depth)
+  each_made_in_order (part presence s ps) (inr e, good) depth = (subst (λ x. Made x depth) (sym e) (unknown_is_made depth), each_made_in_order ps good depth)
 
   each_made : (ps : Parts) → EachGood ps → (depth : ℕ) → EachMade depth ps
   each_made none good depth = tt

@@ -1,11 +1,11 @@
 -- What a tree that DER reads needs to be written: it is within the depth, and a default is the same as the value that it replaces.
-use Rattle.std.proofs.Common.{◌≡◌, ℕ, suc, ◌-◌, ◌<◌, ◌⊎◌, ◌≢◌, inl, inr, List, [], ◌∷◌, refl, sym, ◌∙◌, subst, arith, Some, None}
+use Rattle.std.proofs.Common.{◌≡◌, ℕ, suc, ◌-◌, ◌<◌, ◌⊎◌, ◌≢◌, inl, inr, List, [], ◌∷◌, refl, sym, ap, ◌∙◌, subst, arith, Some, None}
 use Rattle.rasn_types.specs.declared.types.codec.Codec.TheVariants.{Der}
-use Rattle.rasn_types.specs.Shapes.{Tree, joined, items, set_elements, chosen, absent, Shape, leaf, any, prefix, choice, option, seq, set, list, set_of, Parts, part, Presence, required, optional, addition, optional_by, default_by}
+use Rattle.rasn_types.specs.Shapes.{Tree, numbers, joined, items, set_elements, chosen, absent, Shape, leaf, any, prefix, choice, option, seq, set, list, set_of, unknown, Parts, part, Presence, required, optional, addition, optional_by, default_by}
 use Rattle.rasn_types.specs.Shapes.Parts.{none}
 use Rattle.rasn_types.specs.Grammar.{family}
 use Rattle.rasn_types.specs.Bytes.{Same, Each, WritesPart, PartsWritten, WritesChoice, Bytes, fields_of}
-use Rattle.rasn_types.specs.Carried.{PartIsWithinLimits, EachOf, LeafIsWithinLimits, IsOneEncoding, IsWithinLimits, AreWithinLimits, ChosenIsWithinLimits}
+use Rattle.rasn_types.specs.Carried.{PartIsWithinLimits, EachOf, LeafIsWithinLimits, IsOneEncoding, IsUnwritten, BeginsUnknown, NoneTaken, IsWithinLimits, AreWithinLimits, ChosenIsWithinLimits}
 use Rattle.rasn_types.proofs.SetOf.Same.{items_one, same_sym, same_trans, each_moved}
 use Rattle.rasn_types.proofs.Encoding.SameOctets.{in_flat, flat_one, other_written}
 use Rattle.rasn.proofs.ReadBack.Parts.{other_index}
@@ -24,10 +24,11 @@ unfoldable mutual
   Owes (prefix tag s) depth t = (0 < depth) × Owes s (depth - 1) t
   Owes (choice ps) depth t = OwesChoice 0 ps depth t
   Owes (option tag s) depth t = (t ≡ absent) ⊎ Owes s depth t
-  Owes (seq tag ps) depth t = (0 < depth) × (ts : List Tree) × (t ≡ items ts) × OwesParts ps (depth - 1) ts
+  Owes (seq tag ps) depth t = (0 < depth) × (ts : List Tree) × (t ≡ items ts) × OwesParts ps (depth - 1) ts × NoneTaken Der ps ts
   Owes (set tag ps) depth t = (0 < depth) × (ts : List Tree) × (t ≡ items ts) × OwesParts ps (depth - 1) ts
   Owes (list tag s size) depth t = (0 < depth) × (ts : List Tree) × (t ≡ items ts) × EachOf (Owes s (depth - 2)) ts
   Owes (set_of tag s size) depth t = (0 < depth) × (ts : List Tree) × (t ≡ set_elements (items ts)) × EachOf (Owes s (depth - 2)) ts
+  Owes unknown depth t = (us : List Tree) × (t ≡ items us) × EachOf IsOneEncoding us
 
   pub OwesParts : Parts → ℕ → List Tree → Type 0
   OwesParts none depth ts = ts ≡ []
@@ -68,10 +69,11 @@ mutual
   owed_meets (choice ps) depth t h = choice_meets ps depth 0 t h
   owed_meets (option tag s) depth t (inl e) = inl e
   owed_meets (option tag s) depth t (inr h) = inr (owed_meets s depth t h)
-  owed_meets (seq tag ps) depth t h = (h.0, h.1, h.2, parts_meet ps (depth - 1) h.1 h.3)
+  owed_meets (seq tag ps) depth t h = (h.0, h.1, h.2, parts_meet ps (depth - 1) h.1 h.3, h.4)
   owed_meets (set tag ps) depth t h = (h.0, h.1, h.2, parts_meet ps (depth - 1) h.1 h.3)
   owed_meets (list tag s size) depth t h = (h.0, h.1, h.2, each_of (owed_meets s (depth - 2)) h.1 h.3)
   owed_meets (set_of tag s size) depth t h = (h.0, h.1, h.2, each_of (owed_meets s (depth - 2)) h.1 h.3)
+  owed_meets unknown depth t h = h
 
   parts_meet : (ps : Parts) (depth : ℕ) (ts : List Tree) → OwesParts ps depth ts → AreWithinLimits Der ps depth ts
   parts_meet none depth ts h = h
@@ -102,10 +104,11 @@ mutual
   meets_owed (choice ps) own depth t h = choice_owes ps own depth 0 t h
   meets_owed (option tag s) own depth t (inl e) = inl e
   meets_owed (option tag s) own depth t (inr h) = inr (meets_owed s own depth t h)
-  meets_owed (seq tag ps) own depth t h = (h.0, h.1, h.2, parts_owe ps own (depth - 1) h.1 h.3)
+  meets_owed (seq tag ps) own depth t h = (h.0, h.1, h.2, parts_owe ps own (depth - 1) h.1 h.3, h.4)
   meets_owed (set tag ps) own depth t h = (h.0, h.1, h.2, parts_owe ps own (depth - 1) h.1 h.3)
   meets_owed (list tag s size) own depth t h = (h.0, h.1, h.2, each_of (meets_owed s own (depth - 2)) h.1 h.3)
   meets_owed (set_of tag s size) own depth t h = (h.0, h.1, h.2, each_of (meets_owed s own (depth - 2)) h.1 h.3)
+  meets_owed unknown own depth t h = h
 
   parts_owe : (ps : Parts) → HaveOwnDefaults ps → (depth : ℕ) (ts : List Tree) → AreWithinLimits Der ps depth ts → OwesParts ps depth ts
   parts_owe none own depth ts h = h
@@ -157,19 +160,52 @@ elements_like s depth like [] us bs same w m = subst (EachOf (Owes s depth)) (sy
 elements_like s depth like (t ∷ ts) us bs (u, vs, e, a, same) (b, cs, f, w, ws) (m, ms) =
     subst (EachOf (Owes s depth)) (sym e) (like t u b a w m, elements_like s depth like ts vs cs same ws ms)
 
+any_like : (depth : ℕ) → OwesLike (any None) depth
+unfolding Owes IsWithinLimits Bytes fields_of
+any_like depth t u b same w m = subst IsOneEncoding (w ∙ sym (subst (λ z. Same z u) w same)) m
+
+-- Where no part is taken for present in a tree, none is in a tree that is the same.
+unwritten_like : (presence : Presence) (t u : Tree) → Same t u → IsUnwritten presence u → IsUnwritten presence t
+unwritten_like required t u same h = h
+unwritten_like (optional_by key) t u same h = same_sym t absent (subst (Same t) h same)
+unwritten_like addition t u same h = same_sym t absent (subst (Same t) h same)
+unwritten_like (default_by key d) t u same h = same_trans t u d same h
+
+begins_like : (ps : Parts) (ts us : List Tree) (o : List ℕ) → Each Same ts us → BeginsUnknown ps us o → BeginsUnknown ps ts o
+begins_like none ts us o same h = absurd h
+begins_like (part presence s ps) [] us o same h = absurd (subst (λ l. BeginsUnknown (part presence s ps) l o) same h)
+begins_like (part presence s ps) (t ∷ ts) us o (v, vs, e, same, more) h = go (λ b. begins_like ps ts vs o more b) (subst (λ l. BeginsUnknown (part presence s ps) l o) e h)
+  where
+    go : (BeginsUnknown ps vs o → BeginsUnknown ps ts o) → BeginsUnknown (part presence s ps) (v ∷ vs) o → BeginsUnknown (part presence s ps) (t ∷ ts) o
+    go rest (inl (f, w, g)) =
+        let r : Same (joined (numbers o) w) t = subst (λ z. Same z t) g (same_sym t v same) in
+        inl (f, r.1, r.2 ∙ ap (λ z. joined z r.1) r.3)
+    go rest (inr (d, b)) = inr (unwritten_like presence t v same d, rest b)
+
+taken_like : (ps : Parts) (ts us : List Tree) → Each Same ts us → NoneTaken Der ps ts → NoneTaken Der ps us
+taken_like none ts us same h = tt
+taken_like (part presence s ps) [] us same h = subst (NoneTaken Der (part presence s ps)) (sym same) tt
+taken_like (part presence s ps) (t ∷ ts) us (v, vs, e, same, more) h =
+    subst (NoneTaken Der (part presence s ps)) (sym e) ((λ d o b. h.0 (unwritten_like presence t v same d) o (begins_like ps ts vs o more b)), taken_like ps ts vs more h.1)
+
 mutual
   unfolding Owes IsWithinLimits Bytes fields_of
 
   pub owes_like : (s : Shape) (depth : ℕ) → OwesLike s depth
   owes_like (leaf kind tag bounds) depth t u b same w m = subst (LeafIsWithinLimits (family kind) Der kind depth) (sym (flat_one t u (in_flat (family kind) Der kind tag t b w.1) same)) m
-  owes_like (any None) depth t u b same w m = subst IsOneEncoding (w ∙ sym (subst (λ z. Same z u) w same)) m
+  owes_like (any None) depth t u b same w m = any_like depth t u b same w m
   owes_like (any (Some tag)) depth t u b same w m = subst IsOneEncoding (w.1 ∙ sym (subst (λ z. Same z u) w.1 same)) m
   owes_like (prefix tag s) depth t u b same w m = (m.0, owes_like s (depth - 1) t u w.0 same w.1 m.1)
   owes_like (choice ps) depth t u b same w m = choice_like ps depth 0 t u b same w m
   owes_like (option tag s) depth t u b same w m = part_like optional s depth (owes_like s depth) t u b same w m
-  owes_like (seq tag ps) depth t u b same (ts, bs, e, w, c) (deep, us, f, m) =
-      let r = items_alike ts u (subst (λ z. Same z u) e same) in
-      (deep, r.0, r.1, parts_like ps (depth - 1) ts r.0 bs r.2 w (subst (AreWithinLimits Der ps (depth - 1)) (items_of t u ts us e f) m))
+  owes_like (seq tag ps) depth t u b same (ts, bs, e, w, c) (deep, us, f, m, taken) =
+      let r = items_alike ts u (subst (λ z. Same z u) e same) in (
+        deep,
+        r.0,
+        r.1,
+        parts_like ps (depth - 1) ts r.0 bs r.2 w (subst (AreWithinLimits Der ps (depth - 1)) (items_of t u ts us e f) m),
+        taken_like ps ts r.0 r.2 (subst (NoneTaken Der ps) (items_of t u ts us e f) taken),
+      )
   owes_like (set tag ps) depth t u b same (ts, bs, tags, e, w, q, n, o, c) (deep, us, f, m) =
       let r = items_alike ts u (subst (λ z. Same z u) e same) in
       (deep, r.0, r.1, parts_like ps (depth - 1) ts r.0 bs r.2 w (subst (AreWithinLimits Der ps (depth - 1)) (items_of t u ts us e f) m))
@@ -189,6 +225,9 @@ mutual
           let a : EachOf (Owes s (depth - 2)) vs = subst (EachOf (Owes s (depth - 2))) (sym k) (like r.0 bs r.2 w (subst (EachOf (IsWithinLimits Der s (depth - 2))) j m)) in
           let q = each_moved (λ x y. Owes s (depth - 2) x) vs vs ws (to_each (Owes s (depth - 2)) vs a) p in
           (deep, ws, g, of_each (Owes s (depth - 2)) ws q.0 q.1)
+  owes_like unknown depth t u b same (ts, bs, e, w, c) (us, f, m) =
+      let r = items_alike ts u (subst (λ z. Same z u) e same) in
+      (r.0, r.1, elements_like (any None) depth (any_like depth) ts r.0 bs r.2 w (subst (EachOf IsOneEncoding) (items_of t u ts us e f) m))
 
   parts_like : (ps : Parts) (depth : ℕ) (ts us : List Tree) (bs : List (List ℕ)) → Each Same ts us → PartsWritten (fields_of Der ps) ts bs → AreWithinLimits Der ps depth ts → OwesParts ps depth us
   parts_like none depth ts us bs same (e, f) m = no_more ts us e same

@@ -11,9 +11,9 @@ use Rattle.rasn_types.specs.Contents.{joined_lists}
 use Rattle.rasn_types.specs.Grammar.{Reads, parts_of}
 use Rattle.rasn_types.specs.Bytes.{Same, WritesPart, PartsWritten, WritesChoice, Bytes, fields_of}
 use Rattle.rasn_types.specs.Carried.{PartIsWithinLimits, EachOf, IsWithinLimits, AreWithinLimits, ChosenIsWithinLimits}
-use Rattle.rasn_types.proofs.SetOf.Same.{same_sym, same_trans}
 use Rattle.rasn_types.proofs.Encoding.SameOctets.{other_written}
-use Rattle.rasn.proofs.ReadBack.Parts.{IsBack, other_index}
+use Rattle.rasn_types.proofs.Encoding.SameAsItself.{written_same}
+use Rattle.rasn.proofs.ReadBack.Parts.{other_index}
 use Rattle.rasn.proofs.StrictDer.Leaves.{tail_octets}
 
 -- What is read of the shape, in octets, are those that are written of the tree, which is carried.
@@ -28,28 +28,24 @@ IsNeverAbsent s depth = (closing : Bool) (input : List ℕ) (t : Tree) (rest : L
 pub record Told (s : Shape) (depth : ℕ) : Type 0 where
   pub told : IsTold s depth
   pub there : IsNeverAbsent s depth
-  pub back : IsBack Der s depth
 
 abbrev pub EachTold : ℕ → Parts → Type 0
 EachTold depth none = Unit {0}
 EachTold depth (part presence s ps) = Told s depth × EachTold depth ps
 
 -- A default that is written isn't the same as itself, which no written tree is.
-default_left : (s : Shape) (depth : ℕ) → IsBack Der s depth → (d t : Tree) (b : List ℕ) → t ≡ d → WritesPart (default d) (Bytes Der s) t b
-    → PartIsWithinLimits (default d) (IsWithinLimits Der s depth) t → b ≡ []
-default_left s depth back d t b e (inl (f, g)) m = g
-default_left s depth back d t b e (inr (f, w)) (inl m) = absurd (f m)
-default_left s depth back d t b e (inr (f, w)) (inr m) =
-    let r = back t b m w in absurd (f (subst (Same t) e (same_trans t r.0 t r.1 (same_sym t r.0 r.1))))
+default_left : (s : Shape) (d t : Tree) (b : List ℕ) → t ≡ d → WritesPart (default d) (Bytes Der s) t b → b ≡ []
+default_left s d t b e (inl (f, g)) = g
+default_left s d t b e (inr (f, w)) = absurd (f (subst (Same t) e (written_same s Der t b w)))
 
 -- A part that is missing isn't written.
-pub missing_told : (s : Shape) (depth : ℕ) → IsBack Der s depth → (presence : Presence) (t : Tree) (b : List ℕ) → IsMissing presence t
+pub missing_told : (s : Shape) (depth : ℕ) (presence : Presence) (t : Tree) (b : List ℕ) → IsMissing presence t
     → WritesPart presence (Bytes Der s) t b → PartIsWithinLimits presence (IsWithinLimits Der s depth) t → b ≡ []
-missing_told s depth back required t b e w m = absurd e
-missing_told s depth back (optional_by key) t b e (inl w) m = w.1
-missing_told s depth back (optional_by key) t b e (inr w) m = absurd (w.0 e)
-missing_told s depth back addition t b e w m = absurd (m.0 e)
-missing_told s depth back (default_by key d) t b e w m = default_left s depth back d t b e w m
+missing_told s depth required t b e w m = absurd e
+missing_told s depth (optional_by key) t b e (inl w) m = w.1
+missing_told s depth (optional_by key) t b e (inr w) m = absurd (w.0 e)
+missing_told s depth addition t b e w m = absurd (m.0 e)
+missing_told s depth (default_by key d) t b e w m = default_left s d t b e w
 
 -- A part that is present is written.
 pub next_told : (s : Shape) (depth : ℕ) → Told s depth → (presence : Presence) (closing : Bool) (input : List ℕ) (t : Tree) (rest b : List ℕ) → AreOctets input
@@ -71,9 +67,9 @@ part_told : (s : Shape) (depth : ℕ) → Told s depth → (presence : Presence)
     → ReadsPart Der presence tags (Reads Der s depth c) closing input t rest → WritesPart presence (Bytes Der s) t b → PartIsWithinLimits presence (IsWithinLimits Der s depth) t → input ≡ b ++ rest
 part_told s depth k required tags c closing input t rest b o h w m = next_told s depth k required c input t rest b o h tt w m
 part_told s depth k addition tags c closing input t rest b o h w m = next_told s depth k addition c input t rest b o h tt w m
-part_told s depth k (optional_by key) tags c closing input t rest b o (inl (p, q, r)) w m = nothing input rest b (missing_told s depth k.back (optional_by key) t b q w m) r
+part_told s depth k (optional_by key) tags c closing input t rest b o (inl (p, q, r)) w m = nothing input rest b (missing_told s depth (optional_by key) t b q w m) r
 part_told s depth k (optional_by key) tags c closing input t rest b o (inr (p, h)) w m = next_told s depth k (optional_by key) c input t rest b o h tt w m
-part_told s depth k (default_by key d) tags c closing input t rest b o (inl (p, q, r)) w m = nothing input rest b (missing_told s depth k.back (default_by key d) t b q w m) r
+part_told s depth k (default_by key d) tags c closing input t rest b o (inl (p, q, r)) w m = nothing input rest b (missing_told s depth (default_by key d) t b q w m) r
 part_told s depth k (default_by key d) tags c closing input t rest b o (inr (p, (h, n))) w m = next_told s depth k (default_by key d) c input t rest b o h (n tt) w m
 
 pub in_order_told : (ps : Parts) (depth : ℕ) → EachTold depth ps → (c closing : Bool) (input : List ℕ) (ts : List Tree) (rest : List ℕ) (bs : List (List ℕ)) → AreOctets input
@@ -101,7 +97,7 @@ all_missing_told (part presence s ps) depth k c ts bs (t, us, e, h, hs) (t', us'
     let q : us' ≡ us = let x : t' ∷ us' ≡ t ∷ us = sym e' ∙ e in cc in
     let p' : t'' ≡ t = let x : t'' ∷ us'' ≡ t ∷ us = sym e'' ∙ e in cc in
     let q' : us'' ≡ us = let x : t'' ∷ us'' ≡ t ∷ us = sym e'' ∙ e in cc in
-    let a : b ≡ [] = missing_told s depth k.0.back presence t b h (subst (λ x. WritesPart presence (Bytes Der s) x b) p w) (subst (PartIsWithinLimits presence (IsWithinLimits Der s depth)) p' m) in
+    let a : b ≡ [] = missing_told s depth presence t b h (subst (λ x. WritesPart presence (Bytes Der s) x b) p w) (subst (PartIsWithinLimits presence (IsWithinLimits Der s depth)) p' m) in
     let r : joined_lists cs ≡ [] = all_missing_told ps depth k.1 c us cs hs (subst (λ x. PartsWritten (fields_of Der ps) x cs) q ws) (subst (AreWithinLimits Der ps depth) q' ms) in
     ap joined_lists f ∙ (ap₂ ◌++◌ a r)
 

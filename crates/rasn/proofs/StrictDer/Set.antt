@@ -161,5 +161,5 @@ set_told (part presence s ps) depth lawful told k c input rs rest os ts bs o h (
         is_next_first presence s ps depth told lawful.4 more k c input rs rest os t us b cs o h y by order write writes meet within_limits ∙ sym joined
     go more (inr (y, z)) =
         let r = more (suc k) c input rs rest os us cs o (behind presence s ps depth k c lawful.4 input rs rest os h y) by order writes within_limits in
-        let a : b ≡ [] = missing_told s depth told.0.back presence t b z write meet in
+        let a : b ≡ [] = missing_told s depth presence t b z write meet in
         r ∙ (ap (λ l. l ++ (joined_lists cs ++ rest)) (sym a) ∙ sym joined)

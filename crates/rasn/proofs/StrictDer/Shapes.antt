@@ -4,7 +4,7 @@ use Rattle.rasn_types.specs.Tags.{loose_form}
 use Rattle.rasn_types.specs.declared.types.codec.Codec.TheVariants.{Der}
 use Rattle.rasn_types.specs.declared.types.tag.Tag.{Tag}
 use Rattle.rasn_types.specs.Framing.{AreOctets, Frame, definite}
-use Rattle.rasn_types.specs.Shapes.{Tree, items, set_elements, absent, Kind, boolean, null, object_identifier, integer, enumerated, octet_string, fixed, numeric, printable, visible, ia5, any_octets, bmp, utf8, utc_time, generalized_time, date, Shape, leaf, any, prefix, choice, option, seq, set, list, set_of, Parts, part, IsAlwaysPresent}
+use Rattle.rasn_types.specs.Shapes.{Tree, items, set_elements, absent, Kind, boolean, null, object_identifier, integer, enumerated, octet_string, fixed, numeric, printable, visible, ia5, any_octets, bmp, utf8, utc_time, generalized_time, date, Shape, leaf, any, prefix, choice, option, seq, set, list, set_of, unknown, Parts, part, IsAlwaysPresent}
 use Rattle.rasn_types.specs.declared.types.constraints.Bound.{Bound}
 use Rattle.rasn_types.specs.Shapes.Parts.{none}
 use Rattle.rasn_types.specs.Readings.{ReadsContents, definite_form, indefinite_form, Reading, ReadsChoice}
@@ -16,7 +16,7 @@ use Rattle.rasn_types.specs.Lawful.{IsLawful, AreLawfulByTag}
 use Rattle.rasn_types.proofs.Headers.Frames.{frame_next, not_ended}
 use Rattle.rasn_types.proofs.SetOf.Same.{items_one}
 use Rattle.rasn_types.proofs.Encoding.Determined.{definite_one, numbers_one}
-use Rattle.rasn.proofs.ReadBack.Shapes.{back, EachGood, alternatives_good, in_order_good, by_tag_good}
+use Rattle.rasn.proofs.ReadBack.Shapes.{EachGood, alternatives_good, EachGoodInOrder, in_order_good, by_tag_good}
 use Rattle.rasn.proofs.StrictDer.Leaves.{framed, no_open, leaf_told}
 use Rattle.rasn.proofs.StrictDer.Parts.{IsTold, IsNeverAbsent, Told, EachTold, in_order_told, all_missing_told, choice_decided, many_told}
 use Rattle.rasn.proofs.StrictDer.Set.{set_told}
@@ -60,7 +60,7 @@ option_decided tag s depth k closing input t rest b o (inr (p, h)) (inr (e, w)) 
 
 in_seq_told : (tag : Tag) (ps : Parts) (depth : ℕ) → EachTold (depth - 1) ps → IsTold (seq tag ps) depth
 unfolding Reads parts_of Bytes fields_of IsWithinLimits
-in_seq_told tag ps depth k closing input t rest b o (deep, h) (ts, bs, e, w, d) (deep', us, f, m) =
+in_seq_told tag ps depth k closing input t rest b o (deep, h) (ts, bs, e, w, d) (deep', us, f, m, taken) =
     enclosed tag true refl _ input t rest (joined_lists bs) b o d (λ contents p r.
     let vs = r.0 in
     let x : ts ≡ vs = items_one ts vs (sym e ∙ r.1) in
@@ -163,6 +163,20 @@ there (seq tag ps) solid lawful depth closing input t rest h = within (λ x. x �
 there (set tag ps) solid lawful depth closing input t rest h = within (λ x. x ≢ absent) tag true _ input t rest (λ c i r k. items_there k.1 t k.2) h.1
 there (list tag s size) solid lawful depth closing input t rest h = within (λ x. x ≢ absent) tag true _ input t rest (λ c i r k. items_there k.0 t k.1) h.1
 there (set_of tag s size) solid lawful depth closing input t rest h = within (λ x. x ≢ absent) tag true _ input t rest (λ c i r k e. let f = k.1 in cc) h.1
+there unknown solid lawful depth closing input t rest h = absurd solid
+
+-- Unknown values.
+pub unknown_there : (depth : ℕ) → IsNeverAbsent unknown depth
+unfolding Reads parts_of
+unknown_there depth closing input t rest h = items_there h.0 t h.1
+
+unknown_told : (depth : ℕ) → IsTold unknown depth
+unfolding Reads parts_of Bytes fields_of IsWithinLimits
+unknown_told depth closing input t rest b o (vs, e, z, h) (ts, bs, f, w, g) (us, i, m) =
+    let x : ts ≡ vs = items_one ts vs (sym f ∙ e) in
+    let y : us ≡ vs = items_one us vs (sym i ∙ e) in
+    many_told (any None) depth (any_told depth) closing closing input vs rest bs o h (subst (λ l. Each (Bytes Der (any None)) l bs) x w) (subst (EachOf (IsWithinLimits Der (any None) depth)) y m)
+    ∙ ap (λ l. l ++ rest) (sym g)
 
 mutual
   unfolding Reads parts_of Bytes fields_of IsWithinLimits IsLawful
@@ -173,13 +187,21 @@ mutual
   all_told (any (Some tag)) lawful depth = open_told tag depth
   all_told (prefix tag s) lawful depth = prefix_told tag s depth (all_told s lawful.2 (depth - 1))
   all_told (choice ps) lawful depth = λ closing input t rest b o h w m. choice_decided ps depth (each_told ps (alternatives_good ps lawful.0) depth) 0 closing input t rest b o h w m
-  all_told (option tag s) lawful depth = option_decided tag s depth (record { told = all_told s lawful.2 depth; there = there s lawful.1 lawful.2 depth; back = back s lawful.1 lawful.2 Der depth })
-  all_told (seq tag ps) lawful depth = in_seq_told tag ps depth (each_told ps (in_order_good ps lawful.1) (depth - 1))
+  all_told (option tag s) lawful depth = option_decided tag s depth (record { told = all_told s lawful.2 depth; there = there s lawful.1 lawful.2 depth })
+  all_told (seq tag ps) lawful depth = in_seq_told tag ps depth (each_told_in_order ps (in_order_good ps lawful.1) (depth - 1))
   all_told (set tag ps) lawful depth = in_set_told tag ps depth lawful.1 (each_told ps (by_tag_good ps lawful.1) (depth - 1))
   all_told (list tag s size) lawful depth = in_list_told tag s size depth (all_told s lawful.2 (depth - 2))
   all_told (set_of tag s size) lawful depth = in_set_of_told tag s size depth (all_told s lawful.2 (depth - 2))
+  all_told unknown lawful depth = absurd lawful
+
+  each_told_in_order : (ps : Parts) → EachGoodInOrder ps → (depth : ℕ) → EachTold depth ps
+  each_told_in_order none good depth = tt
+  each_told_in_order (part presence s ps) (inl (solid, lawful), good) depth =
+      (record { told = all_told s lawful depth; there = there s solid lawful depth }, each_told_in_order ps good depth)
+  each_told_in_order (part presence s ps) (inr e, good) depth =
+      (subst (λ x. Told x depth) (sym e) (record { told = unknown_told depth; there = unknown_there depth }), each_told_in_order ps good depth)
 
   each_told : (ps : Parts) → EachGood ps → (depth : ℕ) → EachTold depth ps
   each_told none good depth = tt
   each_told (part presence s ps) good depth =
-      (record { told = all_told s good.1 depth; there = there s good.0 good.1 depth; back = back s good.0 good.1 Der depth }, each_told ps good.2 depth)
+      (record { told = all_told s good.1 depth; there = there s good.0 good.1 depth }, each_told ps good.2 depth)

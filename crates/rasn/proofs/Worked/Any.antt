@@ -18,6 +18,7 @@ use Rattle.rasn.specs.Worked.{IsCarriedAs, IsReadAs, IsRefusedBy}
 use Rattle.rasn.specs.WorkedShapes.{plain, contextual, algorithm, extended}
 use Rattle.rasn.specs.WorkedValues.{WorkedOpens}
 use Rattle.rasn.proofs.ReadBack.Headers.{short, short_written, closed_written, spelled, context_apart, context_frame}
+use Rattle.rasn.proofs.ReadBack.Taken.{parts_in, none_taken}
 use Rattle.rasn.proofs.Worked.Cuts.{long_written}
 use Rattle.rasn.proofs.Worked.Values.{identifier_written, one_arc, bytes_of, five_in_prefix}
 
@@ -68,6 +69,7 @@ identified = (
       numbers (1 ∷ 2 ∷ 840 ∷ 113549 ∷ 1 ∷ 1 ∷ 1 ∷ []) ∷ numbers (5 ∷ 0 ∷ []) ∷ [],
       refl,
       (_, _, refl, tt, (_, _, refl, inr null_encoding, refl)),
+      none_taken Der (parts_in algorithm) (numbers (1 ∷ 2 ∷ 840 ∷ 113549 ∷ 1 ∷ 1 ∷ 1 ∷ []) ∷ numbers (5 ∷ 0 ∷ []) ∷ []) refl,
     );
   },
   refl,
@@ -142,7 +144,13 @@ addition_there = (
       (_, _, _, _, refl, refl, true_written, (_, _, _, _, refl, refl, inr ((λ e. cc), bytes_of Der _ _ _ five_in_prefix), (refl, refl))),
       short_written 16 true (1 ∷ 1 ∷ 255 ∷ 160 ∷ 3 ∷ 2 ∷ 1 ∷ 5 ∷ []) (omega arith) (omega arith),
     );
-    within_limits = (omega arith, number (pos 1) ∷ number (pos 5) ∷ [], refl, (_, _, refl, tt, (_, _, refl, ((λ e. cc), (omega arith, tt)), refl)));
+    within_limits = (
+      omega arith,
+      number (pos 1) ∷ number (pos 5) ∷ [],
+      refl,
+      (_, _, refl, tt, (_, _, refl, ((λ e. cc), (omega arith, tt)), refl)),
+      none_taken Der (parts_in extended) (number (pos 1) ∷ number (pos 5) ∷ []) refl,
+    );
   },
   refl,
 )

@@ -13,6 +13,7 @@ use Rattle.rasn_types.proofs.Headers.Frames.{frame_next}
 use Rattle.rasn_types.proofs.SetOf.Same.{items_one}
 use Rattle.rasn_types.proofs.Encoding.SameOctets.{once}
 use Rattle.rasn.specs.Worked.{IsCarriedAs, IsReadAs, plain, seven, octets_in_set_of, named, smith}
+use Rattle.rasn.proofs.ReadBack.Taken.{parts_in, none_taken}
 use Rattle.rasn.proofs.ReadBack.Headers.{short, without, going, short_written, closed_written, plain_read, octets_read}
 use Rattle.rasn_types.specs.Shapes.Parts.{none as no_parts}
 
@@ -224,6 +225,7 @@ smith_meets rule = (
   numbers (83 ∷ 109 ∷ 105 ∷ 116 ∷ 104 ∷ []) ∷ number (pos 1) ∷ [],
   refl,
   (numbers (83 ∷ 109 ∷ 105 ∷ 116 ∷ 104 ∷ []), number (pos 1) ∷ [], refl, (tt, λ l e z k. omega arith), (number (pos 1), [], refl, tt, refl)),
+  none_taken rule (parts_in named) (numbers (83 ∷ 109 ∷ 105 ∷ 116 ∷ 104 ∷ []) ∷ number (pos 1) ∷ []) refl,
 )
 
 pub smith_in_ber : IsCarriedAs Ber named smith (48 ∷ 10 ∷ 22 ∷ 5 ∷ 83 ∷ 109 ∷ 105 ∷ 116 ∷ 104 ∷ 1 ∷ 1 ∷ 255 ∷ [])

@@ -1,11 +1,11 @@
 -- SET and SET OF with their octets.
-use Rattle.std.proofs.Common.{◌≡◌, ℕ, ◌<◌, inl, inr, List, [], ◌∷◌, ◌++◌, pos, rules, true, false, ◌*◌, ◌+◌, refl, sym, ◌∙◌, subst, ap₂, arith}
+use Rattle.std.proofs.Common.{◌≡◌, ℕ, ◌<◌, inl, inr, List, [], ◌∷◌, ◌++◌, None, pos, rules, true, false, ◌*◌, ◌+◌, refl, sym, ◌∙◌, subst, ap₂, arith}
 use Rattle.rasn_types.specs.Tags.{in_universal, loose_form, IsTagBelow}
 use Rattle.rasn_types.specs.declared.types.codec.Codec.{Codec}
 use Rattle.rasn_types.specs.declared.types.codec.Codec.TheVariants.{Der}
 use Rattle.rasn_types.specs.declared.types.tag.Tag.{Tag}
 use Rattle.rasn_types.specs.declared.types.tag.Class.TheVariants.{Universal, Application, Context}
-use Rattle.rasn_types.specs.Shapes.{number, numbers, items, set_elements, IsIn, integer, every, object_identifier, set, part, required}
+use Rattle.rasn_types.specs.Shapes.{number, numbers, items, set_elements, IsIn, integer, every, object_identifier, any, set, part, required}
 use Rattle.rasn_types.specs.Shapes.Parts.{none}
 use Rattle.rasn_types.specs.Contents.{signed}
 use Rattle.rasn_types.specs.Trees.{unsigned_range}
@@ -17,6 +17,7 @@ use Rattle.rasn_types.proofs.Encoding.SameOctets.{once}
 use Rattle.rasn.specs.WorkedShapes.{plain, contextual, tagged, small, three_of_set, turned_round, octets_in_set_of, relative_name, mixed}
 use Rattle.rasn.specs.WorkedValues.{WorkedSets}
 use Rattle.rasn.specs.Worked.{IsCarriedAs, one_two_three, three_two_one, rising_octets}
+use Rattle.rasn.proofs.ReadBack.Taken.{parts_in, none_taken}
 use Rattle.rasn.proofs.ReadBack.Headers.{short, short_written, tag_begins, tag_written}
 use Rattle.rasn.proofs.Worked.Values.{integer_written, octets_written, identifier_written, one_arc, bytes_of, list_of_nine}
 
@@ -315,6 +316,7 @@ one_name = (
               refl,
             ),
           ),
+          none_taken Der (part required (plain object_identifier 6) (part required (any None) none)) (numbers (2 ∷ 5 ∷ 4 ∷ 3 ∷ []) ∷ numbers (12 ∷ 2 ∷ 65 ∷ 66 ∷ []) ∷ []) refl,
         ),
         tt,
       ),

@@ -63,6 +63,13 @@ shapes = record {
   addition_in_set = unlawful _ refl;
   string_as_sequence = unlawful _ refl;
   value_of_no_tag = unlawful _ refl;
+  unknown_at_the_end = lawful _ refl;
+  unknown_before_a_part = unlawful _ refl;
+  unknown_left_out = unlawful _ refl;
+  open_before_unknown = unlawful _ refl;
+  unknown_in_set = unlawful _ refl;
+  unknown_elements = unlawful _ refl;
+  unknown_alone = unlawful _ refl;
 }
 
 -- Set elements that are no list aren't the same as themselves.
@@ -87,7 +94,7 @@ unfolding IsWithinLimits
 nothing_carried c = none c.within_limits
   where
     none : IsWithinLimits Der added_alone 128 (items (absent ∷ [])) → ⊥
-    none (deep, ts, e, (t, us, f, m, ms)) =
+    none (deep, ts, e, (t, us, f, m, ms), taken) =
         let g : ts ≡ absent ∷ [] = items_one ts (absent ∷ []) (sym e) in
         m.0 (cc)
 
@@ -96,6 +103,7 @@ carried = record {
   whole_certificate = refl;
   default_alone = refl;
   addition_behind_a_part = refl;
+  unknown_values = refl;
   tagged_open = refl;
   addition_alone = refl;
   default_of_no_value = refl;

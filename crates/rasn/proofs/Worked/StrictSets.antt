@@ -15,6 +15,7 @@ use Rattle.rasn_types.specs.Lawful.{IsLawful}
 use Rattle.rasn_types.proofs.Headers.Frames.{frame_next}
 use Rattle.rasn_types.proofs.SetOf.Same.{items_one}
 use Rattle.rasn.specs.Worked.{IsRefusedBy, IsLenient, plain, seven, octets_in_set_of, contextual}
+use Rattle.rasn.proofs.ReadBack.Taken.{parts_in, none_taken}
 use Rattle.rasn.proofs.ReadBack.Headers.{no_eoc, short, going, short_written, context_frame, context_apart}
 use Rattle.rasn.proofs.Worked.Lenient.{lenient}
 use Rattle.rasn.proofs.StrictDer.Leaves.{framed, no_open, tail_octets}
@@ -34,7 +35,7 @@ default_there = lenient seven seven_lawful (48 ∷ 3 ∷ 2 ∷ 1 ∷ 7 ∷ []) (
     (default_spelled Ber (λ z. z)) (record {
       octets = 48 ∷ 0 ∷ [];
       is = default_not_written;
-      within_limits = (omega arith, number (pos 7) ∷ [], refl, (number (pos 7), [], refl, inl refl, refl));
+      within_limits = (omega arith, number (pos 7) ∷ [], refl, (number (pos 7), [], refl, inl refl, refl), none_taken Der (parts_in seven) (number (pos 7) ∷ []) refl);
     }) (λ e. cc)
 
 one_octet_carried : (depth o : ℕ) → IsWithinLimits Der (plain octet_string 4) depth (numbers (o ∷ []))

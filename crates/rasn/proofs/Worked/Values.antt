@@ -16,6 +16,7 @@ use Rattle.rasn_types.specs.Carried.{IsWithinLimits}
 use Rattle.rasn.specs.WorkedShapes.{plain, contextual, perhaps_bool, validity}
 use Rattle.rasn.specs.Worked.{IsCarriedAs}
 use Rattle.rasn.specs.WorkedValues.{WorkedValues, on, valid, valid_octets}
+use Rattle.rasn.proofs.ReadBack.Taken.{parts_in, none_taken}
 use Rattle.rasn.proofs.ReadBack.Headers.{short_written, tag_written}
 
 pub bytes_of : (rule : Codec) (s : Shape) (t : Tree) (b : List ℕ) → IsCarriedAs rule s t b → Bytes rule s t b
@@ -310,6 +311,7 @@ chosen_times = (
           refl,
         ),
       ),
+      none_taken Der (parts_in validity) (chosen 0 (instant from) ∷ chosen 1 (instant until) ∷ []) refl,
     );
   },
   refl,

@@ -4,11 +4,11 @@ use Rattle.rasn_types.specs.declared.types.tag.Tag.{Tag}
 use Rattle.rasn_types.specs.declared.types.codec.Codec.{Codec}
 use Rattle.rasn_types.specs.Tags.{Form, form, IsStrict, in_universal}
 use Rattle.rasn_types.specs.Framing.{Extent, Frame, NextTag, SpellsAnyIdentifier, CompleteEncoding, plain, closed}
-use Rattle.rasn_types.specs.Shapes.{Tree, absent, Kind, Shape, leaf, any, prefix, choice, option, seq, set, list, set_of, Parts, part, Presence, required, addition, optional_by, default_by, Sought, one_tag, any_of, sought_by, sought_in}
+use Rattle.rasn_types.specs.Shapes.{Tree, absent, Kind, Shape, leaf, any, prefix, choice, option, seq, set, list, set_of, unknown, Parts, part, Presence, required, addition, optional_by, default_by, Sought, one_tag, any_of, sought_by, sought_in}
 use Rattle.rasn_types.specs.Shapes.Parts.{none}
-use Rattle.rasn_types.specs.Readings.{Reading, ReadsContents, definite_form, indefinite_form, ReadsOptional, Part, IsNoDefault, ReadsPart, ReadsInOrder, ReadsChoice}
+use Rattle.rasn_types.specs.Readings.{Reading, ReadsContents, definite_form, indefinite_form, ReadsMany, ReadsOptional, Part, IsNoDefault, ReadsPart, ReadsInOrder, ReadsChoice}
 use Rattle.rasn_types.specs.Contents.{ReadsString, ReadsBitSegment, OctetSegment}
-use Rattle.rasn_types.specs.Grammar.{Family, plain_family, bit_family, named_family, text_family, family, ReadsIn, Reads, parts_of}
+use Rattle.rasn_types.specs.Grammar.{Family, plain_family, bit_family, named_family, text_family, family, ReadsIn, ReadsAny, Reads, parts_of}
 use Rattle.rasn_de.proofs.Headers.Fronts.{frame_shorter}
 
 no_frame : {A : Type 0} {spelling : Form} {tag : Tag} {bit : Bool} {rest : List ℕ} {x : Extent} → Frame spelling [] tag bit rest x → A
@@ -68,6 +68,11 @@ shape_nothing rule (seq tag ps) depth closing t rest (d, r) = no_inside rule tag
 shape_nothing rule (set tag ps) depth closing t rest (d, r) = no_inside rule tag true _ t rest r
 shape_nothing rule (list tag s size) depth closing t rest (d, r) = no_inside rule tag true _ t rest r
 shape_nothing rule (set_of tag s size) depth closing t rest (d, r) = no_inside rule tag true _ t rest r
+shape_nothing rule unknown depth closing t rest (ts, e, w, r) = none_after ts r
+  where
+    none_after : (ts : List Tree) → ReadsMany (ReadsAny rule) closing [] ts rest → rest ≡ []
+    none_after [] (d, f) = f
+    none_after (t ∷ ts) (d, middle, (text, g, w, f), r) = no_text rule text middle w f
 
 part_nothing : (p : Presence) (rule : Codec) (s : Shape) (depth : ℕ) (closing : Bool) (t : Tree) (rest : List ℕ) → ReadsPart rule p (sought_in p s) (Reads rule s depth closing) closing [] t rest → rest ≡ []
 part_nothing required rule s depth closing t rest r = shape_nothing rule s depth closing t rest r

@@ -1,16 +1,16 @@
 -- What a strict read takes, where it takes something, begins with an identifier.
-use Rattle.std.proofs.Common.{◌≡◌, ◌≢◌, inl, inr, ℕ, suc, Bool, true, List, [], ◌++◌, Some, None, sym, ap, ◌∙◌, subst, append_assoc}
+use Rattle.std.proofs.Common.{◌≡◌, ◌≢◌, inl, inr, ℕ, suc, Bool, true, List, [], ◌∷◌, ◌++◌, Some, None, refl, sym, ap, ◌∙◌, subst, append_assoc}
 use Rattle.std.proofs.lemmas.List.{append-nil, append_cancel_right}
 use Rattle.rasn_types.specs.declared.types.tag.Tag.{Tag}
 use Rattle.rasn_types.specs.declared.types.codec.Codec.{Codec}
 use Rattle.rasn_types.specs.declared.types.codec.Codec.TheVariants.{Ber, Cer, Der}
 use Rattle.rasn_types.specs.Tags.{Form, IsStrict, in_universal}
 use Rattle.rasn_types.specs.Framing.{Extent, HasIndefinite, Frame, with_length, without_length, Begins, CompleteEncoding, plain, closed}
-use Rattle.rasn_types.specs.Shapes.{Tree, Kind, Shape, leaf, any, prefix, choice, option, seq, set, list, set_of, Parts, part}
+use Rattle.rasn_types.specs.Shapes.{Tree, Kind, Shape, leaf, any, prefix, choice, option, seq, set, list, set_of, unknown, Parts, part}
 use Rattle.rasn_types.specs.Shapes.Parts.{none}
-use Rattle.rasn_types.specs.Readings.{Reading, ReadsContents, definite_form, indefinite_form, ReadsChoice}
+use Rattle.rasn_types.specs.Readings.{Reading, ReadsContents, definite_form, indefinite_form, ReadsMany, ReadsChoice}
 use Rattle.rasn_types.specs.Contents.{ReadsString, ReadsBitSegment, OctetSegment}
-use Rattle.rasn_types.specs.Grammar.{Family, plain_family, bit_family, named_family, text_family, family, ReadsIn, Reads, parts_of}
+use Rattle.rasn_types.specs.Grammar.{Family, plain_family, bit_family, named_family, text_family, family, ReadsIn, ReadsAny, Reads, parts_of}
 use Rattle.rasn_types.proofs.Headers.Frames.{begins_one}
 
 -- the octets begin with some identifier
@@ -45,8 +45,30 @@ headed_text text b rest (plain tag bit contents f) e =
     (tag, subst (λ z. Begins z tag) q (framed text text [] (sym (append-nil text)) (λ h. h) f))
 headed_text text b rest (closed tag bit body inner (without_length id s p h g) i k) e = absurd h
 
+pub begins_more : (b rest : List ℕ) (tag : Tag) → Begins b tag → Begins (b ++ rest) tag
+begins_more b rest tag h = record { id = h.id; bit = h.bit; more = h.more ++ rest; spells = h.spells; is = ap (λ z. z ++ rest) h.is ∙ append_assoc h.id h.more rest }
+
 empty_piece : (b rest : List ℕ) → rest ≡ b ++ rest → b ≡ []
 empty_piece b rest e = sym (append_cancel_right [] b rest e)
+
+many_headed : (closing : Bool) (input : List ℕ) (ts : List Tree) (rest b : List ℕ) → input ≡ b ++ rest → b ≢ [] → ReadsMany (ReadsAny Der) closing input ts rest → IsHeaded b
+many_headed closing input [] rest b e n (d, f) = absurd (n (empty_piece b rest (f ∙ e)))
+many_headed closing input (t ∷ ts) rest b e n (d, middle, (text, g, w, f), r) =
+    let q = rest_after closing middle ts rest r in
+    let h = text_headed text w in
+    (h.0, pieced text q.0 b rest h.0 h.1 (append_assoc text q.0 rest ∙ (ap (λ l. text ++ l) (sym q.1) ∙ (sym f ∙ e))))
+  where
+    rest_after : (closing : Bool) (input : List ℕ) (ts : List Tree) (rest : List ℕ) → ReadsMany (ReadsAny Der) closing input ts rest → (a : List ℕ) × (input ≡ a ++ rest)
+    rest_after closing input [] rest (d, f) = ([], sym f)
+    rest_after closing input (t ∷ ts) rest (d, middle, (text, g, w, f), r) =
+        let q = rest_after closing middle ts rest r in
+        (text ++ q.0, f ∙ (ap (λ l. text ++ l) q.1 ∙ sym (append_assoc text q.0 rest)))
+
+    text_headed : (text : List ℕ) → CompleteEncoding Der text → IsHeaded text
+    text_headed text w = headed_text text text [] w refl
+
+    pieced : (text a b rest : List ℕ) (tag : Tag) → Begins text tag → (text ++ a) ++ rest ≡ b ++ rest → Begins b tag
+    pieced text a b rest tag h e = subst (λ z. Begins z tag) (append_cancel_right (text ++ a) b rest e) (begins_more text a tag h)
 
 mutual
   unfolding Reads parts_of
@@ -64,15 +86,13 @@ mutual
   headed (set tag ps) depth closing input t rest b e n (d, r) = nested input b rest e tag true _ t r
   headed (list tag s size) depth closing input t rest b e n (d, r) = nested input b rest e tag true _ t r
   headed (set_of tag s size) depth closing input t rest b e n (d, r) = nested input b rest e tag true _ t r
+  headed unknown depth closing input t rest b e n (ts, f, w, r) = many_headed closing input ts rest b e n r
 
   headed_choice : (ps : Parts) (k depth : ℕ) (closing : Bool) (input : List ℕ) (t : Tree) (rest b : List ℕ) → input ≡ b ++ rest → b ≢ []
       → ReadsChoice Der k (parts_of Der ps depth closing) input t rest → IsHeaded b
   headed_choice none k depth closing input t rest b e n r = absurd r
   headed_choice (part presence s ps) k depth closing input t rest b e n (inl (u, f, next, m, g, r, z)) = headed s depth closing input u rest b e n r
   headed_choice (part presence s ps) k depth closing input t rest b e n (inr r) = headed_choice ps (suc k) depth closing input t rest b e n r
-
-pub begins_more : (b rest : List ℕ) (tag : Tag) → Begins b tag → Begins (b ++ rest) tag
-begins_more b rest tag h = record { id = h.id; bit = h.bit; more = h.more ++ rest; spells = h.spells; is = ap (λ z. z ++ rest) h.is ∙ append_assoc h.id h.more rest }
 
 -- So it begins with the tag that was next.
 pub strict_begins : (rule : Codec) → IsStrict rule → (s : Shape) (depth : ℕ) (closing : Bool) (input : List ℕ) (t : Tree) (rest b : List ℕ) → input ≡ b ++ rest → b ≢ []

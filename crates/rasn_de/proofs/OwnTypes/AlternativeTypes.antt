@@ -6,7 +6,7 @@ use Rattle.rasn_types.specs.declared.error.decode.DecodeErrorKind.{DecodeErrorKi
 use Rattle.rasn_types.specs.Tags.{form}
 use Rattle.rasn_types.specs.Framing.{NextTag}
 use Rattle.rasn_types.specs.Truth.{IsWhether}
-use Rattle.rasn_types.specs.Shapes.{Tree, chosen, Shape, leaf, any, prefix, choice, option, seq, set, list, set_of, Parts, part, Presence, required, own, IsFirst, IsFirstOf}
+use Rattle.rasn_types.specs.Shapes.{Tree, chosen, Shape, leaf, any, prefix, choice, option, seq, set, list, set_of, unknown, Parts, part, Presence, required, own, IsFirst, IsFirstOf}
 use Rattle.rasn_types.specs.Shapes.Parts.{none}
 use Rattle.rasn_types.specs.Grammar.{Reads, parts_of}
 use Rattle.rasn_types.proofs.Headers.Frames.{next_one}
@@ -37,6 +37,7 @@ first_own (seq tag parts) t n e h = h ∙ cc
 first_own (set tag parts) t n e h = h ∙ cc
 first_own (list tag s size) t n e h = h ∙ cc
 first_own (set_of tag s size) t n e h = h ∙ cc
+first_own unknown t n e h = cc
 
 own_first : (s : Shape) (t : Tag) → own s ≡ Some t → IsFirst s t
 own_first (leaf kind tag bounds) t e = cc
@@ -49,6 +50,7 @@ own_first (seq tag parts) t e = cc
 own_first (set tag parts) t e = cc
 own_first (list tag s size) t e = cc
 own_first (set_of tag s size) t e = cc
+own_first unknown t e = cc
 
 other_not : (o : Option Tag) (s : Shape) (t : Tag) → own s ≡ o → is_other o t ≡ true → IsFirst s t → ⊥
 other_not None s t e h f = cc

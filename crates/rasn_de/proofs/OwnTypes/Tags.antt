@@ -5,7 +5,7 @@ use lib.Dec.{eqb}
 use Rattle.rasn_types.specs.contracts.types.tag.Class.{the_type as the_class}
 use Rattle.rasn_types.specs.declared.types.tag.Tag.{Tag}
 use Rattle.rasn_types.specs.Truth.{IsWhether}
-use Rattle.rasn_types.specs.Shapes.{Shape, leaf, any, prefix, choice, option, seq, set, list, set_of, Parts, part, Presence, IsTagOf, IsFirst, IsFirstOf}
+use Rattle.rasn_types.specs.Shapes.{Shape, leaf, any, prefix, choice, option, seq, set, list, set_of, unknown, Parts, part, Presence, IsTagOf, IsFirst, IsFirstOf}
 use Rattle.rasn_types.specs.Shapes.Parts.{none}
 use Rattle.rasn_types.proofs.Time.Spellings.{both_true}
 use Rattle.rasn_de.specs.Headers.{same_tag}
@@ -28,6 +28,7 @@ abbrev mutual
   begins (set tag parts) n = same_tag n tag
   begins (list tag s size) n = same_tag n tag
   begins (set_of tag s size) n = same_tag n tag
+  begins unknown n = false
 
   pub some_begins : Parts → Tag → Bool
   some_begins none n = false
@@ -63,6 +64,7 @@ mutual
   begins_is (set tag parts) n e = same_tag_is n tag e
   begins_is (list tag s size) n e = same_tag_is n tag e
   begins_is (set_of tag s size) n e = same_tag_is n tag e
+  begins_is unknown n e = cc
 
   some_begins_is : (ps : Parts) (n : Tag) → some_begins ps n ≡ true → IsFirstOf ps n
   some_begins_is none n e = cc
@@ -79,6 +81,7 @@ mutual
   first_begins (set tag parts) n e = same_tag_self n tag e
   first_begins (list tag s size) n e = same_tag_self n tag e
   first_begins (set_of tag s size) n e = same_tag_self n tag e
+  first_begins unknown n e = absurd e
 
   first_of_begins : (ps : Parts) (n : Tag) → IsFirstOf ps n → some_begins ps n ≡ true
   first_of_begins none n e = absurd e

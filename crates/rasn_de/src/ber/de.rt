@@ -59,6 +59,7 @@ mod set;
 mod set_of;
 pub mod set_parts;
 mod time;
+mod unknown;
 
 pub use config::DecoderOptions;
 pub use constructed::ConstructedHeader;

@@ -12,7 +12,7 @@ use Rattle.rasn_enc.specs.Primitive.{Appends}
 use Rattle.rasn_enc.specs.Segments.{IsSegment, AppendsSegments, AppendsSegmented}
 use Rattle.rasn_enc.proofs.Leaves.Primitive.{definite_begins, cons_begins}
 
-joined_one : {X : Type 0} (xs : List (List X)) (x : List X) → joined_lists (xs ++ x ∷ []) ≡ joined_lists xs ++ x
+pub joined_one : {X : Type 0} (xs : List (List X)) (x : List X) → joined_lists (xs ++ x ∷ []) ≡ joined_lists xs ++ x
 joined_one [] x = append-nil x
 joined_one (y ∷ xs) x = ap (λ l. y ++ l) (joined_one xs x) ∙ sym (append_assoc y (joined_lists xs) x)
 

@@ -60,7 +60,7 @@ pub appended-nil : (v : View) → v ≡ appended v [] []
 unfolding view_with
 appended-nil v = ap₂ (view_with v) (sym (append-nil v.last.octets)) (tags-nil v.last.tags)
 
-appended-more : (v : View) (a b : List ℕ) (s t : List Tag) → appended (appended v a s) b t ≡ appended v (a ++ b) (s ++ t)
+pub appended-more : (v : View) (a b : List ℕ) (s t : List Tag) → appended (appended v a s) b t ≡ appended v (a ++ b) (s ++ t)
 unfolding view_with
 appended-more v a b s t = ap₂ (view_with v) (append_assoc v.last.octets a b) (tags-more v.last.tags s t)
 

@@ -36,6 +36,7 @@ mod sequence_of;
 mod set;
 mod set_of;
 mod time;
+mod unknown;
 mod writer;
 
 pub use config::EncoderOptions;

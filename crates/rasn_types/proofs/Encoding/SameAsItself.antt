@@ -2,7 +2,7 @@
 use Rattle.std.proofs.Common.{◌≡◌, ℕ, suc, inl, inr, List, [], ◌∷◌, refl, sym, subst, Some, None}
 use Rattle.std.proofs.lemmas.List.Sorted.{IsPermutation-refl}
 use Rattle.rasn_types.specs.Tags.{Codec}
-use Rattle.rasn_types.specs.Shapes.{Tree, items, absent, Shape, leaf, any, prefix, choice, option, seq, set, list, set_of, Parts, part, Presence, required, addition, optional_by, default_by}
+use Rattle.rasn_types.specs.Shapes.{Tree, numbers, items, absent, Shape, leaf, any, prefix, choice, option, seq, set, list, set_of, unknown, Parts, part, Presence, required, addition, optional_by, default_by}
 use Rattle.rasn_types.specs.Grammar.{family}
 use Rattle.rasn_types.specs.Bytes.{Writing, Same, Each, WritesPart, PartsWritten, WritesChoice, Bytes, fields_of}
 use Rattle.rasn_types.proofs.SetOf.Same.{same_sym, same_trans}
@@ -48,6 +48,8 @@ mutual
   written_same (list tag s size) rule t b (ts, bs, e, m, w, c) = subst (λ z. Same z z) (sym e) (items_same ts (elements_same (Bytes rule s) (written_same s rule) ts bs w))
   written_same (set_of tag s size) rule t b (ts, bs, e, m, w, o, c) =
       subst (λ z. Same z z) (sym e) (ts, ts, refl, IsPermutation-refl ts, items_same ts (elements_same (Bytes rule s) (written_same s rule) ts bs w))
+  written_same unknown rule t b (us, bs, e, w, f) =
+      subst (λ z. Same z z) (sym e) (items_same us (elements_same (λ u c. u ≡ numbers c) (λ u c g. subst (λ z. Same z z) (sym g) refl) us bs w))
 
   parts_same : (ps : Parts) (rule : Codec) (ts : List Tree) (bs : List (List ℕ)) → PartsWritten (fields_of rule ps) ts bs → AreSame ts
   parts_same Parts.none rule ts bs h = subst AreSame (sym h.0) tt

@@ -2,7 +2,7 @@
 use Rattle.std.proofs.Common.{◌≡◌, ℕ, suc, ◌<◌, ◌⊎◌, ◌≢◌, inl, inr, List, [], ◌∷◌, refl, sym, ap, ap₂, ◌∙◌, subst, arith, IsPermutation, Some, None}
 use Rattle.std.proofs.lemmas.List.Sorted.{IsPermutation-sym}
 use Rattle.rasn_types.specs.Tags.{Codec, Der, Tag}
-use Rattle.rasn_types.specs.Shapes.{Tree, number, bits, numbers, instant, on_day, items, set_elements, chosen, absent, Kind, boolean, null, object_identifier, integer, enumerated, octet_string, fixed, numeric, printable, visible, ia5, any_octets, bmp, utf8, utc_time, generalized_time, date, Shape, leaf, any, prefix, choice, option, seq, set, list, set_of, Parts, part, Presence, required, optional, addition, optional_by, default_by}
+use Rattle.rasn_types.specs.Shapes.{Tree, number, bits, numbers, instant, on_day, items, set_elements, chosen, absent, Kind, boolean, null, object_identifier, integer, enumerated, octet_string, fixed, numeric, printable, visible, ia5, any_octets, bmp, utf8, utc_time, generalized_time, date, Shape, leaf, any, prefix, choice, option, seq, set, list, set_of, unknown, Parts, part, Presence, required, optional, addition, optional_by, default_by}
 use Rattle.rasn_types.specs.Contents.{Contents, joined_lists}
 use Rattle.rasn_types.specs.Grammar.{Family, plain_family, bit_family, named_family, text_family, family}
 use Rattle.rasn_types.specs.Bytes.{Same, Each, ConstructedEncoding, WritesIn, WritesText, WritesPart, PartsWritten, WritesChoice, AreAscending, IsLess, Bytes, fields_of}
@@ -168,6 +168,10 @@ open_once rule tag t u a b same (k, e, h) (l, f, i) =
     go (inr x) (inl y) z = absurd (x.0 (z ∙ y.0))
     go (inr x) (inr y) z = cons_one rule tag k l a b x.1 y.1 z
 
+kept_once : (ts us : List Tree) (ls bs : List (List ℕ)) → Each Same ts us → Each (λ u c. u ≡ numbers c) ts ls → Each (λ u c. u ≡ numbers c) us bs → ls ≡ bs
+unfolding Bytes
+kept_once ts us ls bs same w x = elements_once Der (any None) (λ t u a b same h k. let g : u ≡ numbers a = subst (λ z. Same z u) h same in numbers_one a b (sym g ∙ k)) ts us ls bs same w x
+
 mutual
   unfolding Bytes fields_of
 
@@ -188,6 +192,8 @@ mutual
   once (set_of tag s size) rule t u a b same (ts, ls, e, n, w, o, c) (us, bs, f, m, x, q, d) =
       cons_one rule tag (joined_lists ls) (joined_lists bs) a b c d
       (ap joined_lists (set_of_once rule s (once s rule) ts us ls bs (subst (λ z. Same z (set_elements (items us))) e (subst (Same t) f same)) w x o q))
+  once unknown rule t u a b same (ts, ls, e, w, f) (us, bs, g, x, h) =
+      f ∙ (ap joined_lists (kept_once ts us ls bs (same_lists t u ts us e g same) w x) ∙ sym h)
 
   pub each_is_once : (ps : Parts) (rule : Codec) → EachOnce rule ps
   each_is_once Parts.none rule = tt

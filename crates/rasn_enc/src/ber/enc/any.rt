@@ -79,7 +79,7 @@ impl Encoder {
     }
 }
 
-fn any_in_set(codec: Codec) -> EncodeError
+pub(super) fn any_in_set(codec: Codec) -> EncodeError
     ensures { IsUntaggedInSetError codec result }
 {
     EncodeError {

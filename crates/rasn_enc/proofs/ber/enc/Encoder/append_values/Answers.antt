@@ -1,0 +1,7 @@
+use Rattle.std.proofs.Common.{[], ap, ◌∙◌}
+use Rattle.rasn_enc.specs.View.{appended}
+use Rattle.rasn_enc.proofs.Constructed.Unknown.{first_of, values_more, values_end}
+use Rattle.rasn_enc.proofs.ber.enc.Encoder.append_values.Goals as goal
+
+pub loop-rest-preserved : goal.loop-rest-preserved
+loop-rest-preserved c = values_more _ _ _ _ _ _ _ c.loop-rest.invariant (first_of c.loop-rest.rest.now _ c.in-len1-up.len_at_least c.value-item.is) (c.in_ok-append_encoded.ensures.ok ∙ ap (λ l. appended c.loop-rest.self l []) c.as_bytes.ensures)
