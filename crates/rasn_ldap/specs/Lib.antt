@@ -1,4 +1,5 @@
 pub mod Tags
+pub mod Unknown
 pub mod Text
 pub mod Within
 pub mod Code

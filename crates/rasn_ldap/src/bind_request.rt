@@ -3,7 +3,7 @@
 use crate::{AuthenticationChoice, IntegerWithin, LdapString};
 use rasn::error::{DecodeError, EncodeError};
 use rasn::parts::{End, Put, Required};
-use rasn::types::{AsnType, Class, Constraints, Identifier, LawfulEq, Present, Tag};
+use rasn::types::{AsnType, Class, Constraints, Identifier, LawfulEq, Present, Tag, Unknown};
 use rasn::{Decode, Decoder, Encode, Encoder};
 
 /// \[APPLICATION 0\] SEQUENCE { version INTEGER (1..127), name LDAPDN,
@@ -13,6 +13,8 @@ pub struct BindRequest {
     pub version: IntegerWithin<1, 127>,
     pub name: LdapString,
     pub authentication: AuthenticationChoice,
+    /// The components of newer versions.
+    pub unknown: Unknown,
 }
 
 impl AsnType for BindRequest {
@@ -58,12 +60,13 @@ impl Decode for BindRequest {
         tag: Tag,
         _constraints: &Constraints,
     ) -> Result<BindRequest, DecodeError> {
-        let Required(version, Required(name, Required(authentication, End))) =
+        let Required(version, Required(name, Required(authentication, Required(unknown, End)))) =
             decoder.read_sequence(tag)?;
         Ok(BindRequest {
             version,
             name,
             authentication,
+            unknown,
         })
     }
 }
@@ -80,7 +83,10 @@ impl Encode for BindRequest {
             tag,
             Put(
                 &self.version,
-                Put(&self.name, Put(&self.authentication, End)),
+                Put(
+                    &self.name,
+                    Put(&self.authentication, Put(&self.unknown, End)),
+                ),
             ),
         )
     }

@@ -5,7 +5,7 @@ use rasn::error::{DecodeError, EncodeError};
 use rasn::parts::{End, Optional, Put, PutOptional, Required};
 use rasn::types::{
     AsnType, Class, Constraints, ContextTag, Identifier, Implicit, LawfulEq, OctetString, Present,
-    Tag,
+    Tag, Unknown,
 };
 use rasn::{Decode, Decoder, Encode, Encoder};
 
@@ -18,6 +18,8 @@ pub struct BindResponse {
     pub diagnostic_message: LdapString,
     pub referral: Option<Implicit<ContextTag<3>, Vec<LdapString>>>,
     pub server_sasl_credentials: Option<Implicit<ContextTag<7>, OctetString>>,
+    /// The components of newer versions.
+    pub unknown: Unknown,
 }
 
 impl AsnType for BindResponse {
@@ -64,13 +66,14 @@ impl Decode for BindResponse {
     ) -> Result<BindResponse, DecodeError> {
         let Required(result_code, Required(matched_dn, Required(diagnostic_message, rest))) =
             decoder.read_sequence(tag)?;
-        let Optional(referral, Optional(server_sasl_credentials, End)) = rest;
+        let Optional(referral, Optional(server_sasl_credentials, Required(unknown, End))) = rest;
         Ok(BindResponse {
             result_code,
             matched_dn,
             diagnostic_message,
             referral,
             server_sasl_credentials,
+            unknown,
         })
     }
 }
@@ -85,7 +88,7 @@ impl Encode for BindResponse {
     ) -> Result<(), EncodeError> {
         let referral = PutOptional(
             &self.referral,
-            PutOptional(&self.server_sasl_credentials, End),
+            PutOptional(&self.server_sasl_credentials, Put(&self.unknown, End)),
         );
         encoder.write_sequence(
             tag,

@@ -2,7 +2,7 @@
 use crate::{ChangeOperation, PartialAttribute};
 use rasn::error::{DecodeError, EncodeError};
 use rasn::parts::{End, Put, Required};
-use rasn::types::{AsnType, Constraints, Identifier, LawfulEq, Present, Tag};
+use rasn::types::{AsnType, Constraints, Identifier, LawfulEq, Present, Tag, Unknown};
 use rasn::{Decode, Decoder, Encode, Encoder};
 
 /// SEQUENCE { operation ENUMERATED, modification PartialAttribute }: one change of an entry.
@@ -10,6 +10,8 @@ use rasn::{Decode, Decoder, Encode, Encoder};
 pub struct Change {
     pub operation: ChangeOperation,
     pub modification: PartialAttribute,
+    /// The components of newer versions.
+    pub unknown: Unknown,
 }
 
 impl AsnType for Change {
@@ -51,10 +53,12 @@ impl Decode for Change {
         tag: Tag,
         _constraints: &Constraints,
     ) -> Result<Change, DecodeError> {
-        let Required(operation, Required(modification, End)) = decoder.read_sequence(tag)?;
+        let Required(operation, Required(modification, Required(unknown, End))) =
+            decoder.read_sequence(tag)?;
         Ok(Change {
             operation,
             modification,
+            unknown,
         })
     }
 }
@@ -67,7 +71,13 @@ impl Encode for Change {
         _constraints: &Constraints,
         _identifier: Identifier,
     ) -> Result<(), EncodeError> {
-        encoder.write_sequence(tag, Put(&self.operation, Put(&self.modification, End)))
+        encoder.write_sequence(
+            tag,
+            Put(
+                &self.operation,
+                Put(&self.modification, Put(&self.unknown, End)),
+            ),
+        )
     }
 
     fn is_present(&self) -> bool {

@@ -3,7 +3,7 @@
 use crate::LdapString;
 use rasn::error::{DecodeError, EncodeError};
 use rasn::parts::{DefaultValue, Defaulted, End, Optional, Put, PutDefault, PutOptional, Required};
-use rasn::types::{AsnType, Constraints, Identifier, LawfulEq, OctetString, Present, Tag};
+use rasn::types::{AsnType, Constraints, Identifier, LawfulEq, OctetString, Present, Tag, Unknown};
 use rasn::{Decode, Decoder, Encode, Encoder};
 use std::alloc::{AllocError, Global};
 
@@ -14,6 +14,8 @@ pub struct Control {
     pub control_type: LdapString,
     pub criticality: bool,
     pub control_value: Option<OctetString>,
+    /// The components of newer versions.
+    pub unknown: Unknown,
 }
 
 impl AsnType for Control {
@@ -74,12 +76,16 @@ impl Decode for Control {
     ) -> Result<Control, DecodeError> {
         let Required(
             control_type,
-            Defaulted::<NotCritical, _>(criticality, Optional(control_value, End)),
+            Defaulted::<NotCritical, _>(
+                criticality,
+                Optional(control_value, Required(unknown, End)),
+            ),
         ) = decoder.read_sequence(tag)?;
         Ok(Control {
             control_type,
             criticality,
             control_value,
+            unknown,
         })
     }
 }
@@ -98,7 +104,7 @@ impl Encode for Control {
                 &self.control_type,
                 PutDefault::<NotCritical, _>(
                     &self.criticality,
-                    PutOptional(&self.control_value, End),
+                    PutOptional(&self.control_value, Put(&self.unknown, End)),
                 ),
             ),
         )

@@ -4,7 +4,7 @@ use rasn::error::{DecodeError, EncodeError};
 use rasn::parts::{End, Optional, Put, PutOptional, Required};
 use rasn::types::{
     AsnType, Class, Constraints, ContextTag, Identifier, Implicit, LawfulEq, OctetString, Present,
-    Tag, Utf8String,
+    Tag, Unknown, Utf8String,
 };
 use rasn::{Decode, Decoder, Encode, Encoder};
 
@@ -14,6 +14,8 @@ use rasn::{Decode, Decoder, Encode, Encoder};
 pub struct ExtendedRequest {
     pub request_name: Implicit<ContextTag<0>, Utf8String>,
     pub request_value: Option<Implicit<ContextTag<1>, OctetString>>,
+    /// The components of newer versions.
+    pub unknown: Unknown,
 }
 
 impl AsnType for ExtendedRequest {
@@ -58,10 +60,12 @@ impl Decode for ExtendedRequest {
         tag: Tag,
         _constraints: &Constraints,
     ) -> Result<ExtendedRequest, DecodeError> {
-        let Required(request_name, Optional(request_value, End)) = decoder.read_sequence(tag)?;
+        let Required(request_name, Optional(request_value, Required(unknown, End))) =
+            decoder.read_sequence(tag)?;
         Ok(ExtendedRequest {
             request_name,
             request_value,
+            unknown,
         })
     }
 }
@@ -76,7 +80,10 @@ impl Encode for ExtendedRequest {
     ) -> Result<(), EncodeError> {
         encoder.write_sequence(
             tag,
-            Put(&self.request_name, PutOptional(&self.request_value, End)),
+            Put(
+                &self.request_name,
+                PutOptional(&self.request_value, Put(&self.unknown, End)),
+            ),
         )
     }
 

@@ -5,7 +5,7 @@ use rasn::error::{DecodeError, EncodeError};
 use rasn::parts::{End, Optional, Put, PutOptional, Required};
 use rasn::types::{
     AsnType, Class, Constraints, ContextTag, Identifier, Implicit, LawfulEq, OctetString, Present,
-    Tag, Utf8String,
+    Tag, Unknown, Utf8String,
 };
 use rasn::{Decode, Decoder, Encode, Encoder};
 
@@ -19,6 +19,8 @@ pub struct ExtendedResponse {
     pub referral: Option<Implicit<ContextTag<3>, Vec<LdapString>>>,
     pub response_name: Option<Implicit<ContextTag<10>, Utf8String>>,
     pub response_value: Option<Implicit<ContextTag<11>, OctetString>>,
+    /// The components of newer versions.
+    pub unknown: Unknown,
 }
 
 impl AsnType for ExtendedResponse {
@@ -65,7 +67,10 @@ impl Decode for ExtendedResponse {
     ) -> Result<ExtendedResponse, DecodeError> {
         let Required(result_code, Required(matched_dn, Required(diagnostic_message, rest))) =
             decoder.read_sequence(tag)?;
-        let Optional(referral, Optional(response_name, Optional(response_value, End))) = rest;
+        let Optional(
+            referral,
+            Optional(response_name, Optional(response_value, Required(unknown, End))),
+        ) = rest;
         Ok(ExtendedResponse {
             result_code,
             matched_dn,
@@ -73,6 +78,7 @@ impl Decode for ExtendedResponse {
             referral,
             response_name,
             response_value,
+            unknown,
         })
     }
 }
@@ -87,7 +93,10 @@ impl Encode for ExtendedResponse {
     ) -> Result<(), EncodeError> {
         let referral = PutOptional(
             &self.referral,
-            PutOptional(&self.response_name, PutOptional(&self.response_value, End)),
+            PutOptional(
+                &self.response_name,
+                PutOptional(&self.response_value, Put(&self.unknown, End)),
+            ),
         );
         encoder.write_sequence(
             tag,

@@ -3,7 +3,9 @@
 use crate::{Control, MaxInt, ProtocolOp};
 use rasn::error::{DecodeError, EncodeError};
 use rasn::parts::{End, Optional, Put, PutOptional, Required};
-use rasn::types::{AsnType, Constraints, ContextTag, Identifier, Implicit, LawfulEq, Present, Tag};
+use rasn::types::{
+    AsnType, Constraints, ContextTag, Identifier, Implicit, LawfulEq, Present, Tag, Unknown,
+};
 use rasn::{Decode, Decoder, Encode, Encoder};
 
 /// SEQUENCE { messageID INTEGER (0..maxInt), protocolOp CHOICE,
@@ -13,6 +15,8 @@ pub struct LdapMessage {
     pub message_id: MaxInt,
     pub protocol_op: ProtocolOp,
     pub controls: Option<Implicit<ContextTag<0>, Vec<Control>>>,
+    /// The components of newer versions.
+    pub unknown: Unknown,
 }
 
 impl AsnType for LdapMessage {
@@ -55,12 +59,15 @@ impl Decode for LdapMessage {
         tag: Tag,
         _constraints: &Constraints,
     ) -> Result<LdapMessage, DecodeError> {
-        let Required(message_id, Required(protocol_op, Optional(controls, End))) =
-            decoder.read_sequence(tag)?;
+        let Required(
+            message_id,
+            Required(protocol_op, Optional(controls, Required(unknown, End))),
+        ) = decoder.read_sequence(tag)?;
         Ok(LdapMessage {
             message_id,
             protocol_op,
             controls,
+            unknown,
         })
     }
 }
@@ -77,7 +84,10 @@ impl Encode for LdapMessage {
             tag,
             Put(
                 &self.message_id,
-                Put(&self.protocol_op, PutOptional(&self.controls, End)),
+                Put(
+                    &self.protocol_op,
+                    PutOptional(&self.controls, Put(&self.unknown, End)),
+                ),
             ),
         )
     }

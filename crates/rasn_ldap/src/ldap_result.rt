@@ -3,7 +3,9 @@
 use crate::{LdapString, ResultCode};
 use rasn::error::{DecodeError, EncodeError};
 use rasn::parts::{End, Optional, Put, PutOptional, Required};
-use rasn::types::{AsnType, Constraints, ContextTag, Identifier, Implicit, LawfulEq, Present, Tag};
+use rasn::types::{
+    AsnType, Constraints, ContextTag, Identifier, Implicit, LawfulEq, Present, Tag, Unknown,
+};
 use rasn::{Decode, Decoder, Encode, Encoder};
 
 /// SEQUENCE { resultCode ENUMERATED, matchedDN LDAPDN, diagnosticMessage LDAPString,
@@ -14,6 +16,8 @@ pub struct LdapResult {
     pub matched_dn: LdapString,
     pub diagnostic_message: LdapString,
     pub referral: Option<Implicit<ContextTag<3>, Vec<LdapString>>>,
+    /// The components of newer versions.
+    pub unknown: Unknown,
 }
 
 impl AsnType for LdapResult {
@@ -57,12 +61,13 @@ impl Decode for LdapResult {
     ) -> Result<LdapResult, DecodeError> {
         let Required(result_code, Required(matched_dn, Required(diagnostic_message, rest))) =
             decoder.read_sequence(tag)?;
-        let Optional(referral, End) = rest;
+        let Optional(referral, Required(unknown, End)) = rest;
         Ok(LdapResult {
             result_code,
             matched_dn,
             diagnostic_message,
             referral,
+            unknown,
         })
     }
 }
@@ -75,7 +80,7 @@ impl Encode for LdapResult {
         _constraints: &Constraints,
         _identifier: Identifier,
     ) -> Result<(), EncodeError> {
-        let referral = PutOptional(&self.referral, End);
+        let referral = PutOptional(&self.referral, Put(&self.unknown, End));
         encoder.write_sequence(
             tag,
             Put(

@@ -3,7 +3,7 @@
 use crate::{Change, LdapString};
 use rasn::error::{DecodeError, EncodeError};
 use rasn::parts::{End, Put, Required};
-use rasn::types::{AsnType, Class, Constraints, Identifier, LawfulEq, Present, Tag};
+use rasn::types::{AsnType, Class, Constraints, Identifier, LawfulEq, Present, Tag, Unknown};
 use rasn::{Decode, Decoder, Encode, Encoder};
 
 /// \[APPLICATION 6\] SEQUENCE { object LDAPDN, changes SEQUENCE OF SEQUENCE { operation ENUMERATED,
@@ -12,6 +12,8 @@ use rasn::{Decode, Decoder, Encode, Encoder};
 pub struct ModifyRequest {
     pub object: LdapString,
     pub changes: Vec<Change>,
+    /// The components of newer versions.
+    pub unknown: Unknown,
 }
 
 impl AsnType for ModifyRequest {
@@ -56,8 +58,14 @@ impl Decode for ModifyRequest {
         tag: Tag,
         _constraints: &Constraints,
     ) -> Result<ModifyRequest, DecodeError> {
-        let Required(object, Required(changes, End)) = decoder.read_sequence(tag)?;
-        Ok(ModifyRequest { object, changes })
+        let Required(object, Required(changes, Required(unknown, End))) = decoder.read_sequence(
+            tag,
+        )?;
+        Ok(ModifyRequest {
+            object,
+            changes,
+            unknown,
+        })
     }
 }
 
@@ -69,7 +77,10 @@ impl Encode for ModifyRequest {
         _constraints: &Constraints,
         _identifier: Identifier,
     ) -> Result<(), EncodeError> {
-        encoder.write_sequence(tag, Put(&self.object, Put(&self.changes, End)))
+        encoder.write_sequence(
+            tag,
+            Put(&self.object, Put(&self.changes, Put(&self.unknown, End))),
+        )
     }
 
     fn is_present(&self) -> bool {

@@ -3,7 +3,7 @@
 use crate::{AttributeValues, LdapString};
 use rasn::error::{DecodeError, EncodeError};
 use rasn::parts::{End, Put, Required};
-use rasn::types::{AsnType, Constraints, Identifier, LawfulEq, Present, Tag};
+use rasn::types::{AsnType, Constraints, Identifier, LawfulEq, Present, Tag, Unknown};
 use rasn::{Decode, Decoder, Encode, Encoder};
 
 /// SEQUENCE { type AttributeDescription, vals SET OF AttributeValue }: an attribute and its values,
@@ -12,6 +12,8 @@ use rasn::{Decode, Decoder, Encode, Encoder};
 pub struct PartialAttribute {
     pub description: LdapString,
     pub values: AttributeValues,
+    /// The components of newer versions.
+    pub unknown: Unknown,
 }
 
 impl AsnType for PartialAttribute {
@@ -53,10 +55,13 @@ impl Decode for PartialAttribute {
         tag: Tag,
         _constraints: &Constraints,
     ) -> Result<PartialAttribute, DecodeError> {
-        let Required(description, Required(values, End)) = decoder.read_sequence(tag)?;
+        let Required(description, Required(values, Required(unknown, End))) = decoder.read_sequence(
+            tag,
+        )?;
         Ok(PartialAttribute {
             description,
             values,
+            unknown,
         })
     }
 }
@@ -69,7 +74,13 @@ impl Encode for PartialAttribute {
         _constraints: &Constraints,
         _identifier: Identifier,
     ) -> Result<(), EncodeError> {
-        encoder.write_sequence(tag, Put(&self.description, Put(&self.values, End)))
+        encoder.write_sequence(
+            tag,
+            Put(
+                &self.description,
+                Put(&self.values, Put(&self.unknown, End)),
+            ),
+        )
     }
 
     fn is_present(&self) -> bool {

@@ -3,7 +3,7 @@
 use crate::LdapString;
 use rasn::error::{DecodeError, EncodeError};
 use rasn::parts::{End, Optional, Put, PutOptional, Required};
-use rasn::types::{AsnType, Constraints, Identifier, LawfulEq, OctetString, Present, Tag};
+use rasn::types::{AsnType, Constraints, Identifier, LawfulEq, OctetString, Present, Tag, Unknown};
 use rasn::{Decode, Decoder, Encode, Encoder};
 
 /// SEQUENCE { mechanism LDAPString, credentials OCTET STRING OPTIONAL }: one step of a SASL
@@ -12,6 +12,8 @@ use rasn::{Decode, Decoder, Encode, Encoder};
 pub struct SaslCredentials {
     pub mechanism: LdapString,
     pub credentials: Option<OctetString>,
+    /// The components of newer versions.
+    pub unknown: Unknown,
 }
 
 impl AsnType for SaslCredentials {
@@ -53,10 +55,12 @@ impl Decode for SaslCredentials {
         tag: Tag,
         _constraints: &Constraints,
     ) -> Result<SaslCredentials, DecodeError> {
-        let Required(mechanism, Optional(credentials, End)) = decoder.read_sequence(tag)?;
+        let Required(mechanism, Optional(credentials, Required(unknown, End))) =
+            decoder.read_sequence(tag)?;
         Ok(SaslCredentials {
             mechanism,
             credentials,
+            unknown,
         })
     }
 }
@@ -71,7 +75,10 @@ impl Encode for SaslCredentials {
     ) -> Result<(), EncodeError> {
         encoder.write_sequence(
             tag,
-            Put(&self.mechanism, PutOptional(&self.credentials, End)),
+            Put(
+                &self.mechanism,
+                PutOptional(&self.credentials, Put(&self.unknown, End)),
+            ),
         )
     }
 

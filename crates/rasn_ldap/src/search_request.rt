@@ -3,7 +3,7 @@
 use crate::{DerefAliases, LdapString, MaxInt, SearchScope};
 use rasn::error::{DecodeError, EncodeError};
 use rasn::parts::{End, Put, Required};
-use rasn::types::{Any, AsnType, Class, Constraints, Identifier, LawfulEq, Present, Tag};
+use rasn::types::{Any, AsnType, Class, Constraints, Identifier, LawfulEq, Present, Tag, Unknown};
 use rasn::{Decode, Decoder, Encode, Encoder};
 
 /// \[APPLICATION 3\] SEQUENCE { baseObject LDAPDN, scope ENUMERATED, derefAliases ENUMERATED,
@@ -19,6 +19,8 @@ pub struct SearchRequest {
     pub types_only: bool,
     pub filter: Any,
     pub attributes: Vec<LdapString>,
+    /// The components of newer versions.
+    pub unknown: Unknown,
 }
 
 impl AsnType for SearchRequest {
@@ -67,7 +69,7 @@ impl Decode for SearchRequest {
         let Required(base_object, Required(scope, Required(deref_aliases, rest))) =
             decoder.read_sequence(tag)?;
         let Required(size_limit, Required(time_limit, Required(types_only, rest))) = rest;
-        let Required(filter, Required(attributes, End)) = rest;
+        let Required(filter, Required(attributes, Required(unknown, End))) = rest;
         Ok(SearchRequest {
             base_object,
             scope,
@@ -77,6 +79,7 @@ impl Decode for SearchRequest {
             types_only,
             filter,
             attributes,
+            unknown,
         })
     }
 }
@@ -89,7 +92,7 @@ impl Encode for SearchRequest {
         _constraints: &Constraints,
         _identifier: Identifier,
     ) -> Result<(), EncodeError> {
-        let filter = Put(&self.filter, Put(&self.attributes, End));
+        let filter = Put(&self.filter, Put(&self.attributes, Put(&self.unknown, End)));
         let size_limit = Put(
             &self.size_limit,
             Put(&self.time_limit, Put(&self.types_only, filter)),

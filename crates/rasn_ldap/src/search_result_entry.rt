@@ -3,7 +3,7 @@
 use crate::{LdapString, PartialAttribute};
 use rasn::error::{DecodeError, EncodeError};
 use rasn::parts::{End, Put, Required};
-use rasn::types::{AsnType, Class, Constraints, Identifier, LawfulEq, Present, Tag};
+use rasn::types::{AsnType, Class, Constraints, Identifier, LawfulEq, Present, Tag, Unknown};
 use rasn::{Decode, Decoder, Encode, Encoder};
 
 /// \[APPLICATION 4\] SEQUENCE { objectName LDAPDN, attributes SEQUENCE OF PartialAttribute }: an
@@ -12,6 +12,8 @@ use rasn::{Decode, Decoder, Encode, Encoder};
 pub struct SearchResultEntry {
     pub object_name: LdapString,
     pub attributes: Vec<PartialAttribute>,
+    /// The components of newer versions.
+    pub unknown: Unknown,
 }
 
 impl AsnType for SearchResultEntry {
@@ -56,10 +58,12 @@ impl Decode for SearchResultEntry {
         tag: Tag,
         _constraints: &Constraints,
     ) -> Result<SearchResultEntry, DecodeError> {
-        let Required(object_name, Required(attributes, End)) = decoder.read_sequence(tag)?;
+        let Required(object_name, Required(attributes, Required(unknown, End))) =
+            decoder.read_sequence(tag)?;
         Ok(SearchResultEntry {
             object_name,
             attributes,
+            unknown,
         })
     }
 }
@@ -72,7 +76,13 @@ impl Encode for SearchResultEntry {
         _constraints: &Constraints,
         _identifier: Identifier,
     ) -> Result<(), EncodeError> {
-        encoder.write_sequence(tag, Put(&self.object_name, Put(&self.attributes, End)))
+        encoder.write_sequence(
+            tag,
+            Put(
+                &self.object_name,
+                Put(&self.attributes, Put(&self.unknown, End)),
+            ),
+        )
     }
 
     fn is_present(&self) -> bool {
