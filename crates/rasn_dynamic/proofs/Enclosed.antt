@@ -6,7 +6,7 @@ use Rattle.rasn_types.specs.declared.types.codec.Codec.{Codec}
 use Rattle.rasn_types.specs.declared.types.tag.Tag.{Tag}
 use Rattle.rasn_types.specs.declared.error.encode.EncodeError.{EncodeError}
 use Rattle.rasn_types.specs.Errors.{IsEncodeOutOfMemory}
-use Rattle.rasn_types.specs.Shapes.{Tree, Shape, leaf, any, prefix, choice, option, seq, set, list, set_of}
+use Rattle.rasn_types.specs.Shapes.{Tree, Shape, leaf, any, prefix, choice, option, seq, set, list, set_of, unknown}
 use Rattle.rasn_types.specs.Contents.{joined_lists}
 use Rattle.rasn_types.specs.Bytes.{Bytes, IsUntaggedOpen, ConstructedEncoding}
 use Rattle.rasn_enc.specs.View.{View, IsBelow, opened}
@@ -27,6 +27,7 @@ module _ (rule : Codec) (t : Tree) (u : Tag) (keeps : Bool) where
   bytes_of (set tag ps) (e, k) c o (ts, bs, tags, f, p, n, h, a, j) d = (ts, bs, tags, f, p, n, h, a, subst (λ z. ConstructedEncoding rule z (joined_lists bs) o) e (subst (λ z. ConstructedEncoding rule u z o) j d))
   bytes_of (list tag s size) (e, k) c o (ts, bs, f, m, p, j) d = (ts, bs, f, m, p, subst (λ z. ConstructedEncoding rule z (joined_lists bs) o) e (subst (λ z. ConstructedEncoding rule u z o) j d))
   bytes_of (set_of tag s size) (e, k) c o (ts, bs, f, m, p, a, j) d = (ts, bs, f, m, p, a, subst (λ z. ConstructedEncoding rule z (joined_lists bs) o) e (subst (λ z. ConstructedEncoding rule u z o) j d))
+  bytes_of unknown i c o w d = absurd i
 
   inside_of : (s : Shape) → IsEnclosed s u keeps → (o : List ℕ) → Bytes rule s t o → (c : List ℕ) × WritesInside rule s t c
   unfolding Bytes WritesInside
@@ -39,6 +40,7 @@ module _ (rule : Codec) (t : Tree) (u : Tag) (keeps : Bool) where
   inside_of (set tag ps) i o (ts, bs, tags, f, p, n, h, a, d) = (joined_lists bs, (ts, bs, tags, f, p, n, h, a, refl))
   inside_of (list tag s size) i o (ts, bs, f, m, p, d) = (joined_lists bs, (ts, bs, f, m, p, refl))
   inside_of (set_of tag s size) i o (ts, bs, f, m, p, a, d) = (joined_lists bs, (ts, bs, f, m, p, a, refl))
+  inside_of unknown i o b = absurd i
 
   not_untagged : (s : Shape) → IsEnclosed s u keeps → IsUntaggedOpen s t → ⊥
   unfolding IsUntaggedOpen
@@ -51,6 +53,7 @@ module _ (rule : Codec) (t : Tree) (u : Tag) (keeps : Bool) where
   not_untagged (set tag ps) i b = b
   not_untagged (list tag s size) i b = b
   not_untagged (set_of tag s size) i b = b
+  not_untagged unknown i b = i
 
 -- v before the value was opened, w after its contents were written with the result q.
 module _ {F : Type 0} (s : Shape) (t : Tree) (tag : Tag) (keeps : Bool) (i : IsEnclosed s tag keeps) (v a w : View) (o : a ≡ opened v keeps) (q : Result (Unit {0}) EncodeError) (k : EncodesInsideIf F s t a q w) where

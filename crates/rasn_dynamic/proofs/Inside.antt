@@ -3,7 +3,7 @@ use Rattle.std.proofs.Common.{◌≡◌, ◌≢◌, ℕ, ◌-◌, ◌⊎◌, inl
 use Rattle.rasn_types.specs.declared.types.tag.Tag.{Tag}
 use Rattle.rasn_types.specs.declared.error.decode.DecodeError.{DecodeError}
 use Rattle.rasn_types.specs.Framing.{AreOctets}
-use Rattle.rasn_types.specs.Shapes.{Tree, Shape, leaf, any, prefix, choice, option, seq, set, list, set_of, Parts}
+use Rattle.rasn_types.specs.Shapes.{Tree, Shape, leaf, any, prefix, choice, option, seq, set, list, set_of, unknown, Parts}
 use Rattle.rasn_types.specs.Readings.{Reading}
 use Rattle.rasn_types.specs.Grammar.{Reads}
 use Rattle.rasn_de.specs.Headers.{Header}
@@ -60,3 +60,4 @@ module _ (old : State) (o : old.depth ≢ 0 → AreOctets old.rest) (r : Result 
   inside_decodes (set tag ps) d h k = as_set tag ps (subst (Call (set tag ps)) h k)
   inside_decodes (list tag s size) d h k = absurd h
   inside_decodes (set_of tag s size) d h k = absurd h
+  inside_decodes unknown d h k = absurd h

@@ -6,7 +6,7 @@ use Rattle.rasn_types.specs.declared.types.tag.Tag.{Tag}
 use Rattle.rasn_types.specs.declared.types.codec.Codec.TheVariants.{Ber}
 use Rattle.rasn_types.specs.Tags.{form}
 use Rattle.rasn_types.specs.Framing.{AreOctets, Extent, definite, indefinite, Frame}
-use Rattle.rasn_types.specs.Shapes.{Shape, Tree, chosen, choice}
+use Rattle.rasn_types.specs.Shapes.{Shape, Tree, chosen, choice, IsAlwaysPresent}
 use Rattle.rasn_types.specs.Readings.{NoneOf}
 use Rattle.rasn_types.specs.Lawful.{IsLawful}
 use Rattle.rasn_de.specs.State.{State, at, IsEnd}
@@ -98,18 +98,18 @@ component_lawful f [] p after h = h.0
 component_lawful f (q ∷ qs) p after h = component_lawful f qs p after h.1
 
 -- The shape of a part is lawful.
-pub lawful_part : (f : ℕ → Shape) (ty : «Type») → IsLawful (type_by f ty) → (s : State) (k next : ℕ) (here : State) → IsPart f ty s k next here → IsLawful (f next)
-lawful_part f (Leaf kind tag c names) h s k next here i = absurd i
-lawful_part f (Enumerated tag ns) h s k next here i = absurd i
-lawful_part f (Any tag) h s k next here i = absurd i
-lawful_part f (Tagged tag id) h s k next here (a, b, g) = subst (λ z. IsLawful (f z)) (sym b) (prefix_lawful tag (f id.0) h)
-lawful_part f (Choice name ks) h s k next here (a, e, b, g) = subst (λ z. IsLawful (f z)) (sym b) (lawful_at f ks.items k a h e)
-lawful_part f (Sequence tag ps) h s k next here (done, p, after, e, l, b, t) =
-    let all = lawful_parts f (components_by f ps.items) (seq_lawful tag (components_by f ps.items) h) in
+pub lawful_part : (f : ℕ → Shape) → ((k : ℕ) → IsAlwaysPresent (f k)) → (ty : «Type») → IsLawful (type_by f ty) → (s : State) (k next : ℕ) (here : State) → IsPart f ty s k next here → IsLawful (f next)
+lawful_part f present (Leaf kind tag c names) h s k next here i = absurd i
+lawful_part f present (Enumerated tag ns) h s k next here i = absurd i
+lawful_part f present (Any tag) h s k next here i = absurd i
+lawful_part f present (Tagged tag id) h s k next here (a, b, g) = subst (λ z. IsLawful (f z)) (sym b) (prefix_lawful tag (f id.0) h)
+lawful_part f present (Choice name ks) h s k next here (a, e, b, g) = subst (λ z. IsLawful (f z)) (sym b) (lawful_at f ks.items k a h e)
+lawful_part f present (Sequence tag ps) h s k next here (done, p, after, e, l, b, t) =
+    let all = lawful_parts f present ps.items (seq_lawful tag (components_by f ps.items) h) in
     subst (λ z. IsLawful (f z)) (sym b) (component_lawful f done p after (subst (λ z. AreLawful (components_by f z)) e all))
-lawful_part f (Set name tag ps) h s k next here (p, e, b, done, bs, d) = subst (λ z. IsLawful (f z)) (sym b) (part_lawful f ps.items k p (set_lawful tag (components_by f ps.items) h) e)
-lawful_part f (SequenceOf tag id c) h s k next here (b, vs, l, d, n) = subst (λ z. IsLawful (f z)) (sym b) (list_lawful tag (f id.0) c.size h)
-lawful_part f (SetOf tag id c) h s k next here (b, vs, l, d, n) = subst (λ z. IsLawful (f z)) (sym b) (set_of_lawful tag (f id.0) c.size h)
+lawful_part f present (Set name tag ps) h s k next here (p, e, b, done, bs, d) = subst (λ z. IsLawful (f z)) (sym b) (part_lawful f ps.items k p (set_lawful tag (components_by f ps.items) h) e)
+lawful_part f present (SequenceOf tag id c) h s k next here (b, vs, l, d, n) = subst (λ z. IsLawful (f z)) (sym b) (list_lawful tag (f id.0) c.size h)
+lawful_part f present (SetOf tag id c) h s k next here (b, vs, l, d, n) = subst (λ z. IsLawful (f z)) (sym b) (set_of_lawful tag (f id.0) c.size h)
 
 -- What has a part holds others.
 pub entered_for : (f : ℕ → Shape) (ty : «Type») (s inner : State) (k next : ℕ) (here : State) → IsEntered ty s inner → IsPart f ty inner k next here → Enters ty s inner

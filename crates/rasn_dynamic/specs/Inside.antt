@@ -1,7 +1,7 @@
 -- The contents of a value that holds others, and its header. Lists and sets of elements are in Typed.antt, since their size is asked after their end.
 use Rattle.std.specs.Prelude.{◌≡◌, ℕ, Bool}
 use Rattle.rasn_types.specs.declared.types.codec.Codec.{Codec}
-use Rattle.rasn_types.specs.Shapes.{Tree, Shape, leaf, any, prefix, choice, option, seq, set, list, set_of, presences, Parts, Presence, sought_in}
+use Rattle.rasn_types.specs.Shapes.{Tree, Shape, leaf, any, prefix, choice, option, seq, set, list, set_of, unknown, presences, Parts, Presence, sought_in}
 use Rattle.rasn_types.specs.Readings.{Reading, ReadsPart, ReadsSeq, ReadsChoice, ReadsSet}
 use Rattle.rasn_types.specs.Grammar.{Reads, parts_of}
 use Rattle.rasn_de.specs.State.{Call}
@@ -19,6 +19,7 @@ ReadsInside (seq tag ps) rule depth closing = ReadsSeq rule (parts_of rule ps de
 ReadsInside (set tag ps) rule depth closing = ReadsSet rule (presences ps) (ReadsChoice rule 0 (parts_of rule ps depth closing)) closing
 ReadsInside (list tag s size) rule depth closing = λ input t rest. ⊥
 ReadsInside (set_of tag s size) rule depth closing = λ input t rest. ⊥
+ReadsInside unknown rule depth closing = λ input t rest. ⊥
 
 abbrev pub IsHeaderOf : Shape → ConstructedHeader → Type 0
 IsHeaderOf (leaf kind tag bounds) d = ⊥
@@ -30,6 +31,7 @@ IsHeaderOf (seq tag ps) d = d ≡ sequence_header tag
 IsHeaderOf (set tag ps) d = d ≡ sequence_header tag
 IsHeaderOf (list tag s size) d = ⊥
 IsHeaderOf (set_of tag s size) d = ⊥
+IsHeaderOf unknown d = ⊥
 
 -- the components of a SEQUENCE
 abbrev pub ReadsSequence : Parts → Codec → ℕ → Bool → Reading Tree

@@ -6,7 +6,7 @@ use Rattle.rasn_types.specs.declared.error.encode.EncodeError.{EncodeError}
 use Rattle.rasn_types.specs.Errors.{IsEncodeOutOfMemory}
 use Rattle.rasn_types.specs.Tags.{IsTagBelow}
 use Rattle.rasn_types.specs.Contents.{joined_lists}
-use Rattle.rasn_types.specs.Shapes.{Tree, items, set_elements, Presence, required, Shape, leaf, any, prefix, choice, option, seq, set, list, set_of, Parts, Admits}
+use Rattle.rasn_types.specs.Shapes.{Tree, items, set_elements, Presence, required, Shape, leaf, any, prefix, choice, option, seq, set, list, set_of, unknown, Parts, Admits}
 use Rattle.rasn_types.specs.Bytes.{Bytes, fields_of, PartsWritten, NoneUntaggedOpen, TagsOf, Each, AreAscending, IsLess}
 use Rattle.rasn_enc.specs.View.{View, LeavesOthers}
 use Rattle.rasn_enc.specs.Encoding.{AppendsPart, EncodePartFails}
@@ -23,6 +23,7 @@ WritesInside rule (seq tag ps) t c = (ts : List Tree) × (bs : List (List ℕ)) 
 WritesInside rule (set tag ps) t c = (ts : List Tree) × (bs : List (List ℕ)) × (tags : List Tag) × (t ≡ items ts) × PartsWritten (fields_of rule ps) ts bs
     × NoneUntaggedOpen (fields_of rule ps) ts bs × TagsOf bs tags × AreAscending IsTagBelow tags × (c ≡ joined_lists bs)
 WritesInside rule (list tag s size) t c = (ts : List Tree) × (bs : List (List ℕ)) × (t ≡ items ts) × Admits ◌≤◌ size (length ts) × Each (Bytes rule s) ts bs × (c ≡ joined_lists bs)
+WritesInside rule unknown t c = ⊥
 WritesInside rule (set_of tag s size) t c = (ts : List Tree) × (bs : List (List ℕ)) × (t ≡ set_elements (items ts)) × Admits ◌≤◌ size (length ts) × Each (Bytes rule s) ts bs
     × AreAscending IsLess bs × (c ≡ joined_lists bs)
 
@@ -37,6 +38,7 @@ IsEnclosed (seq tag ps) u keeps = (u ≡ tag) × (keeps ≡ false)
 IsEnclosed (set tag ps) u keeps = (u ≡ tag) × (keeps ≡ true)
 IsEnclosed (list tag s size) u keeps = (u ≡ tag) × (keeps ≡ false)
 IsEnclosed (set_of tag s size) u keeps = (u ≡ tag) × (keeps ≡ false)
+IsEnclosed unknown u keeps = ⊥
 
 -- The shape of a value that holds others, whose contents are written between its header and its end.
 abbrev pub HoldsOthers : Shape → Type 0
@@ -49,6 +51,7 @@ HoldsOthers (seq tag ps) = Unit {0}
 HoldsOthers (set tag ps) = Unit {0}
 HoldsOthers (list tag s size) = Unit {0}
 HoldsOthers (set_of tag s size) = Unit {0}
+HoldsOthers unknown = ⊥
 
 -- What a call that writes a component returns, and the encoder's state after it.
 pub record EncodesPart (p : Presence) (s : Shape) (t : Tree) (v : View) (r : Result (Unit {0}) EncodeError) (w : View) : Type 0 where

@@ -2,6 +2,7 @@ use Rattle.std.proofs.Common.{refl, ap, subst}
 use Rattle.rasn_types.specs.Lawful.{IsLawful}
 use Rattle.rasn_schema.specs.declared.type_id.TypeId.{TypeId}
 use Rattle.rasn_schema.specs.Shapes.{shape_of_type, type_by}
+use Rattle.rasn_schema.proofs.LawfulTypes.{is_present}
 use Rattle.rasn_dynamic.proofs.Contents.{list_lawful, set_of_lawful, seq_lawful, set_lawful, none_holds}
 use Rattle.rasn_dynamic.proofs.InOrder.{lawful_parts}
 use Rattle.rasn_dynamic.proofs.Parts.{option_weaker, no_parts}
@@ -9,7 +10,7 @@ use Rattle.rasn_dynamic.proofs.find.go_inside.Goals as goal
 
 pub go_to_component-requires : goal.go_to_component-requires
 go_to_component-requires c = record {
-  lawful = rw c.deref-in-Sequence.ensures.value (lawful_parts (shape_of_type c.args.types.now c.args.below) _ (seq_lawful _ _ (subst (λ n. IsLawful (type_by (shape_of_type c.args.types.now c.args.below) n)) c.in-Sequence.is c.requires.lawful)));
+  lawful = rw c.deref-in-Sequence.ensures.value (lawful_parts (shape_of_type c.args.types.now c.args.below) (is_present c.args.types.now c.args.below) _ (seq_lawful _ _ (subst (λ n. IsLawful (type_by (shape_of_type c.args.types.now c.args.below) n)) c.in-Sequence.is c.requires.lawful)));
 }
 
 pub go_to_member-requires : goal.go_to_member-requires

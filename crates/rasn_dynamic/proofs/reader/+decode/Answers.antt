@@ -41,6 +41,7 @@ use Rattle.rasn_dynamic.specs.Calls.{held, names_of, nones, DecodesPresent}
 use Rattle.rasn_dynamic.proofs.Making.{made_as, made_fails_as, choice_exact, uncounted, counted_nothing, made_of_value, if_kept, items_made, elements_made, one_made, choice_made, choice_fits}
 use Rattle.rasn_schema.specs.Fitting.{Fits, FitsBy, IsNumber, ComponentsFit, EachFits}
 use Rattle.rasn_dynamic.proofs.FitsRead.{if_ok, fits_below, are_items, are_elements, each_more, fit_more, fit_end, made_fits, gathered_fit, all_left_fit, nones_fit, found_length, found_kept, put_fits}
+use Rattle.rasn_schema.proofs.LawfulTypes.{is_present}
 use Rattle.rasn_dynamic.proofs.Nothing.{refused_at_zero, refused_not_there, found_here}
 use Rattle.rasn_dynamic.proofs.Chosen.{no_tag, lawful_at, first_at, chosen_got, chosen_refused}
 use Rattle.rasn_dynamic.proofs.InOrder.{lawful_parts, all_left_read, in_turn}
@@ -168,7 +169,7 @@ pub decode_contents-decode_part-requires : goal.decode_contents-decode_part-requ
 decode_contents-decode_part-requires g t c = λ κs o. (search rules, (search rules, (prefix_lawful _ _ (subst (λ n. IsLawful (type_by (shape_of_type c.args.types.now c.args.below) n)) c.in-Tagged.is c.requires.lawful), c.requires.clear)))
 
 pub decode_contents-decode_sequence-requires : goal.decode_contents-decode_sequence-requires
-decode_contents-decode_sequence-requires g t c = λ κs o. (search rules, (search rules, (rw c.deref.ensures.value (lawful_parts (shape_of_type c.args.types.now c.args.below) _ (seq_lawful _ _ (subst (λ n. IsLawful (type_by (shape_of_type c.args.types.now c.args.below) n)) c.in-Sequence.is c.requires.lawful))), c.requires.clear)))
+decode_contents-decode_sequence-requires g t c = λ κs o. (search rules, (search rules, (rw c.deref.ensures.value (lawful_parts (shape_of_type c.args.types.now c.args.below) (is_present c.args.types.now c.args.below) _ (seq_lawful _ _ (subst (λ n. IsLawful (type_by (shape_of_type c.args.types.now c.args.below) n)) c.in-Sequence.is c.requires.lawful))), c.requires.clear)))
 
 pub decode_contents-returns-in_ok-values-in-Sequence-clause-exact : goal.decode_contents-returns-in_ok-values-in-Sequence-clause-exact
 decode_contents-returns-in_ok-values-in-Sequence-clause-exact g t c =
