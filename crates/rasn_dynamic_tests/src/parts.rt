@@ -128,7 +128,7 @@ fn names_lead_along_paths(rt: HostRuntime) {
 fn leads_to(alloc: Global, id: usize, path: &[usize], name: Option<&str>) -> Option<bool> {
     let schema = Schema::new(types(alloc, TYPES).ok()?).ok()?;
     match (component_at(&schema, TypeId(id), path), name) {
-        (Some(component), Some(name)) => Some(component.name == name),
+        (Some(component), Some(name)) => Some(component.name.as_str() == name),
         (None, None) => Some(true),
         _ => Some(false),
     }
