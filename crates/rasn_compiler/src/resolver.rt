@@ -14,9 +14,11 @@ mod digits;
 mod emit;
 mod enumerated;
 mod field;
+mod identifier;
 mod included;
 mod leaf;
 mod lookup;
+mod meant;
 mod node;
 mod number;
 mod order;
@@ -34,6 +36,7 @@ use emit::emit;
 use node::{Place, Use};
 use rasn_schema::{Schema, TypeId};
 use reference::Next;
+use scope::Scopes;
 use shape::Resolver;
 use std::alloc::Global;
 
@@ -62,7 +65,7 @@ impl<'text> Modules<'text> {
             alloc,
             modules: self,
             unchecked: 0,
-            scopes: Vec::new(alloc),
+            scopes: Scopes::new(alloc),
         };
         let Next { place, index, .. } = resolver.type_meant(
             Place::of(module),

@@ -147,6 +147,15 @@ fn write_octets<W: fmt::Write>(
     }
 }
 
+/// Writes the arcs of an OBJECT IDENTIFIER in braces (X.680 32.3).
+fn write_arcs<W: fmt::Write>(f: &mut fmt::Formatter<W>, arcs: &[u32]) -> fmt::Result {
+    f.write_char('{')?;
+    for arc in arcs {
+        write!(f, " {arc}")?;
+    }
+    f.write_str(" }")
+}
+
 /// Returns the name of the component with this index.
 fn part_name<'types>(ty: Option<&'types Type>, index: usize) -> Option<&'types str> {
     match ty? {
@@ -184,7 +193,7 @@ fn write_value<W: fmt::Write>(
         Value::Octets(octets) => write_octets(f, octets.as_slice(), ty),
         Value::Text(text) => write_text(f, text.as_str()),
         Value::Units(units) => write_units(f, units),
-        Value::Arcs(arcs) => write!(f, "{arcs}"),
+        Value::Arcs(arcs) => write_arcs(f, arcs.arcs()),
         Value::Instant(time) => write!(f, "\"{time}\""),
         Value::Day(date) => write!(f, "\"{date}\""),
         Value::Items(values) => write_values(f, values.as_slice(), schema, ty),

@@ -3,10 +3,10 @@ use crate::fault::{Problem, Stop};
 use crate::modules::Modules;
 use crate::position::Position;
 use crate::resolver::components::Within;
-use crate::resolver::enumerated::{are_repeated, is_extensible};
+use crate::resolver::enumerated::Enumeration;
 use crate::resolver::leaf::{Plain, universal, universal_type};
 use crate::resolver::node::{Asked, Shape, Unfolded, Use};
-use crate::resolver::scope::Scope;
+use crate::resolver::scope::Scopes;
 use crate::tree::{Base, Builtin, Component, ListOf, NamedNumber, Type as Written};
 use rasn_schema::{LeafKind, Type, TypeId};
 use rasn_types::types::{Constraints, Tag};
@@ -20,7 +20,7 @@ pub(crate) struct Resolver<'modules, 'text> {
     /// How many constraints were found that a schema doesn't check.
     pub(crate) unchecked: usize,
     /// What parameters are given.
-    pub(crate) scopes: Vec<Scope<'text>>,
+    pub(crate) scopes: Scopes<'text>,
 }
 
 impl<'modules, 'text> Resolver<'modules, 'text> {
@@ -210,13 +210,12 @@ impl<'modules, 'text> Resolver<'modules, 'text> {
     ) -> Result<Type, Stop<'text>> {
         self.count_unchecked(unfolded.constraints.len());
         let tag = own_tag(unfolded, 10);
-        let numbers = self.enumeration(unfolded.place, names, position)?;
-        if !is_extensible(names) {
+        let Enumeration {
+            numbers,
+            is_extensible,
+        } = self.enumeration(unfolded.place, names, position)?;
+        if !is_extensible {
             return Ok(Type::Enumerated { tag, numbers });
-        }
-        if are_repeated(self.alloc, numbers.as_slice())? {
-            let problem = Problem::Broken("two of the numbers are the same (X.680 20.3)");
-            return Err(self.modules.fault(unfolded.place.module, position, problem));
         }
         Ok(Type::Leaf {
             kind: LeafKind::Signed64,
