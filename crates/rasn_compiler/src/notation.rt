@@ -140,57 +140,22 @@ impl Notation<'_> {
         let Some(name) = self.names.get(&id.0) else {
             return Ok(());
         };
+        let Some(ty) = type_at(self.schema.types(), id) else {
+            return Ok(());
+        };
         f.write_str(name.as_str())?;
         f.write_str(" ::= ")?;
-        self.write_type(f, id)?;
+        self.write_type(f, ty)?;
         f.write_str("\n")
     }
 
-    /// Writes the name of a type, or the type if it has none.
-    fn write_use<W: fmt::Write>(&self, f: &mut fmt::Formatter<W>, id: TypeId) -> fmt::Result {
-        match self.names.get(&id.0) {
-            Some(name) => f.write_str(name.as_str()),
-            None => self.write_type(f, id),
-        }
-    }
-
-    /// Writes a type with its explicit tags, up to the first type within them that has a name
-    /// (X.680 31.2).
-    fn write_type<W: fmt::Write>(&self, f: &mut fmt::Formatter<W>, id: TypeId) -> fmt::Result {
-        let types = self.schema.types();
-        let mut id = id;
-        for _ in 0..types.len() {
-            let Some(Type::Tagged { tag, inner }) = type_at(types, id) else {
-                break;
-            };
-            write_tag(f, *tag)?;
-            f.write_str(" EXPLICIT ")?;
-            id = *inner;
-            if let Some(name) = self.names.get(&id.0) {
-                return f.write_str(name.as_str());
-            }
-        }
-        match type_at(types, id) {
-            Some(ty) => self.write_untagged(f, ty),
-            None => Ok(()),
-        }
-    }
-
-    /// Writes a type that has no explicit tag.
-    fn write_untagged<W: fmt::Write>(&self, f: &mut fmt::Formatter<W>, ty: &Type) -> fmt::Result {
+    /// Writes a type of an assignment.
+    fn write_type<W: fmt::Write>(&self, f: &mut fmt::Formatter<W>, ty: &Type) -> fmt::Result {
         match ty {
-            Type::Leaf {
-                kind,
-                tag,
-                constraints,
-                names,
-            } => write_leaf(f, *kind, *tag, constraints, names.as_slice()),
-            Type::Enumerated { tag, numbers } => {
-                write_own(f, *tag, 10, "ENUMERATED")?;
-                write_numbers(f, numbers.as_slice(), "")
+            Type::Tagged { tag, inner } => {
+                write_explicit(f, *tag)?;
+                self.write_use(f, *inner)
             }
-            Type::Any { tag } => write_any(f, *tag),
-            Type::Tagged { .. } => Ok(()),
             Type::Choice { alternatives, .. } => self.write_alternatives(f, alternatives),
             Type::Sequence { tag, components } => {
                 write_own(f, *tag, 16, "SEQUENCE")?;
@@ -220,7 +185,29 @@ impl Notation<'_> {
                 write_own(f, *tag, 17, "SET")?;
                 self.write_element(f, constraints, *element)
             }
+            other => write_plain(f, other),
         }
+    }
+
+    /// Writes the name of a type. One without a name is written with its explicit tags, up to the
+    /// first type within them that has one (X.680 31.2).
+    fn write_use<W: fmt::Write>(&self, f: &mut fmt::Formatter<W>, id: TypeId) -> fmt::Result {
+        let types = self.schema.types();
+        let mut id = id;
+        for _ in 0..types.len() {
+            if let Some(name) = self.names.get(&id.0) {
+                return f.write_str(name.as_str());
+            }
+            match type_at(types, id) {
+                Some(Type::Tagged { tag, inner }) => {
+                    write_explicit(f, *tag)?;
+                    id = *inner;
+                }
+                Some(ty) => return write_plain(f, ty),
+                None => break,
+            }
+        }
+        Ok(())
     }
 
     /// Writes the bounds of a list's size, and the type of its elements (X.680 26, 28).
@@ -304,6 +291,30 @@ fn write_tag<W: fmt::Write>(f: &mut fmt::Formatter<W>, tag: Tag) -> fmt::Result 
     };
     let number = tag.value;
     write!(f, "[{class}{number}]")
+}
+
+/// Writes an explicit tag (X.680 31.2).
+fn write_explicit<W: fmt::Write>(f: &mut fmt::Formatter<W>, tag: Tag) -> fmt::Result {
+    write_tag(f, tag)?;
+    f.write_str(" EXPLICIT ")
+}
+
+/// Writes a type that is made of no others.
+fn write_plain<W: fmt::Write>(f: &mut fmt::Formatter<W>, ty: &Type) -> fmt::Result {
+    match ty {
+        Type::Leaf {
+            kind,
+            tag,
+            constraints,
+            names,
+        } => write_leaf(f, *kind, *tag, constraints, names.as_slice()),
+        Type::Enumerated { tag, numbers } => {
+            write_own(f, *tag, 10, "ENUMERATED")?;
+            write_numbers(f, numbers.as_slice(), "")
+        }
+        Type::Any { tag } => write_any(f, *tag),
+        _ => Ok(()),
+    }
 }
 
 /// Writes a type's own tag, unless it is the universal one of this number, and the words of the

@@ -1,7 +1,8 @@
 //! Reads files of modules, all at once, and messages by their types: `rasn-modules FILE..`. Prints
 //! each fault of a text, each type that has no schema with its first fault, each type whose schema
 //! isn't read again from the module that it is shown as, and for each module how many types it has,
-//! how many of them have a schema, and how many schemas are read again; then each row of standard
+//! how many of them have a schema, and how many schemas are read again; whether two types are those
+//! of the tables of `rasn_schema_bench`; then each row of standard
 //! input with its result.
 #![tactic(auto)]
 
@@ -12,6 +13,10 @@ mod same;
 use crate::rows::print_rows;
 use crate::same::are_same;
 use rasn_compiler::{Assigned, Assignment, Module, Modules, Resolved, Source};
+use rasn_schema::{Schema, TypeId};
+use rasn_schema_bench::{
+    CERTIFICATE, CERTIFICATE_TYPES, Definition, FILTER, FILTER_TYPES, types,
+};
 use std::alloc::{AllocError, Global};
 use std::{env, fs, io};
 
@@ -36,6 +41,15 @@ fn main(rt: HostRuntime) -> io::Result<()> {
     for module in &read.modules {
         print_module(&rt, &read, module)?;
     }
+    print_table(
+        &rt,
+        &read,
+        "Certificates",
+        "Certificate",
+        CERTIFICATE_TYPES,
+        CERTIFICATE,
+    )?;
+    print_table(&rt, &read, "LDAP", "Filter", FILTER_TYPES, FILTER)?;
     print_rows(&rt, &read)
 }
 
@@ -116,8 +130,41 @@ fn difference(
         return Ok(Some(format!(in alloc; "{fault}")?));
     }
     match read.schema(alloc, "Schema", name) {
-        Ok(again) if are_same(alloc, resolved, &again)? => Ok(None),
+        Ok(again)
+            if are_same(
+                alloc,
+                &resolved.schema,
+                resolved.root,
+                &again.schema,
+                again.root,
+            )? =>
+        {
+            Ok(None)
+        }
         Ok(_) => Ok(Some(String::from_str(alloc, "other types")?)),
         Err(stop) => Ok(Some(format!(in alloc; "{stop}")?)),
+    }
+}
+
+/// Prints whether a type of a module, if it is there, is that of a table of constants.
+fn print_table(
+    rt: &HostRuntime,
+    read: &Modules<'_>,
+    module: &str,
+    name: &str,
+    table: &[Definition],
+    root: TypeId,
+) -> io::Result<()> {
+    let alloc = rt.alloc();
+    let Ok(resolved) = read.schema(alloc, module, name) else {
+        return Ok(());
+    };
+    let Ok(schema) = Schema::new(types(alloc, table)?) else {
+        return println!(rt; "table\t{module}.{name}\tno schema");
+    };
+    if are_same(alloc, &resolved.schema, resolved.root, &schema, root)? {
+        println!(rt; "table\t{module}.{name}\tthe same")
+    } else {
+        println!(rt; "table\t{module}.{name}\tanother")
     }
 }

@@ -1,6 +1,5 @@
 //! Whether two schemas have the same types.
 
-use rasn_compiler::Resolved;
 use rasn_schema::{
     Alternative, Component, LeafKind, NamedNumber, Presence, Schema, Type, TypeId, type_at,
 };
@@ -71,20 +70,26 @@ impl Pairs {
     }
 }
 
-/// Returns whether the types of two schemas are the same: what they are made of, the names of
+/// Returns whether types of two schemas are the same: what they are made of, the names of
 /// components, alternatives and numbers, and defaults. The names and the numbers of types may be
 /// others, and one type may be the same as several.
-pub fn are_same(alloc: Global, one: &Resolved, other: &Resolved) -> Result<bool, AllocError> {
+pub fn are_same(
+    alloc: Global,
+    one: &Schema,
+    left: TypeId,
+    other: &Schema,
+    right: TypeId,
+) -> Result<bool, AllocError> {
     let mut pairs = Pairs {
         list: Vec::new(alloc),
         known: BTreeSet::new(alloc),
     };
-    pairs.add(one.root, other.root)?;
+    pairs.add(left, right)?;
     for next in 0..usize::MAX {
         let Some((left, right)) = pairs.list.get(next).copied() else {
             break;
         };
-        if !compare(alloc, &one.schema, left, &other.schema, right, &mut pairs)? {
+        if !compare(alloc, one, left, other, right, &mut pairs)? {
             return Ok(false);
         }
     }

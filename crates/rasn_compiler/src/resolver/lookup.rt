@@ -104,7 +104,7 @@ impl<'text> Modules<'text> {
         module: &str,
         name: &str,
     ) -> Result<(usize, &'text str, Position), Stop<'text>>
-        ensures { IfOk result (λ found. HasModule self.now.modules.items module.now) }
+        ensures { IfOk result (λ found. HasModule self.now.modules.items «module».now) }
     {
         let problem = Problem::Expected("the name of a module");
         let Some(index) = self.index_of(module) else {
@@ -127,7 +127,7 @@ impl<'text> Modules<'text> {
     /// Returns whether a name of a module is that of a class, also by way of other names (X.681
     /// 9.2). A module that wasn't read has none.
     pub fn is_class(&self, module: &str, name: &str) -> bool
-        ensures { IsTrue result → HasModule self.now.modules.items module.now }
+        ensures { IsTrue result → HasModule self.now.modules.items «module».now }
     {
         let Ok((index, known, position)) = self.type_named(module, name) else {
             return false;
