@@ -21,6 +21,7 @@ mod lookup;
 mod meant;
 mod node;
 mod number;
+mod open_value;
 mod order;
 mod reference;
 mod schema_fault;

@@ -5,7 +5,7 @@ use crate::resolver::digits::{Bits, Digits, read_digits};
 use crate::resolver::enumerated::Enumeration;
 use crate::resolver::lookup::MAX_NAMES;
 use crate::resolver::node::Place;
-use crate::resolver::shape::Resolver;
+use crate::resolver::shape::{Resolver, is_open};
 use crate::resolver::value::Spelled;
 use crate::tree::{Base, Builtin, NamedNumber, TypeIndex, Value as Written};
 use rasn_schema::{NamedNumber as Numbered, Value, index_named};
@@ -57,6 +57,7 @@ impl<'modules, 'text> Resolver<'modules, 'text> {
             Base::Enumerated(names) => self.enumerated_default(at, names.as_slice(), spelled),
             Base::BitString(names) => self.bits_default(at, base, names.as_slice(), spelled),
             Base::Builtin(Builtin::ObjectIdentifier) => self.identifier_default(spelled),
+            other if is_open(other) => self.open_default(spelled),
             _ => self.other_default(base, spelled),
         }
     }

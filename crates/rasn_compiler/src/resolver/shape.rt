@@ -267,15 +267,18 @@ fn prefix(unfolded: &Unfolded<'_>, peeled: usize, is_untagged: bool) -> Option<T
 /// Returns whether a type has no tag of its own.
 fn is_untagged(written: &Written<'_>) -> bool {
     match &written.base {
-        Base::Choice(_) | Base::AnyDefinedBy(_) | Base::ClassField { .. } => true,
-        Base::Builtin(builtin) => *builtin == Builtin::Any,
-        _ => false,
+        Base::Choice(_) => true,
+        base => is_open(base),
     }
 }
 
-/// Returns whether a type is an open one: ANY DEFINED BY, or what a class's field is if that has no type (X.681 14.2).
-fn is_open(base: &Base<'_>) -> bool {
-    matches!(base, Base::AnyDefinedBy(_) | Base::ClassField { .. })
+/// Returns whether a type is an open one: ANY, ANY DEFINED BY, or what a class's field is if that
+/// has no type (X.681 14.2).
+pub(crate) fn is_open(base: &Base<'_>) -> bool {
+    matches!(
+        base,
+        Base::AnyDefinedBy(_) | Base::ClassField { .. } | Base::Builtin(Builtin::Any)
+    )
 }
 
 /// Returns the tag of a type: the implicit one, or its universal one.
