@@ -14,9 +14,7 @@ use crate::rows::print_rows;
 use crate::same::are_same;
 use rasn_compiler::{Assigned, Assignment, Module, Modules, Resolved, Source};
 use rasn_schema::{Schema, TypeId};
-use rasn_schema_bench::{
-    CERTIFICATE, CERTIFICATE_TYPES, Definition, FILTER, FILTER_TYPES, types,
-};
+use rasn_schema_bench::{CERTIFICATE, CERTIFICATE_TYPES, Definition, FILTER, FILTER_TYPES, types};
 use std::alloc::{AllocError, Global};
 use std::{env, fs, io};
 
@@ -129,21 +127,20 @@ fn difference(
     if let Some(fault) = read.faults.first() {
         return Ok(Some(format!(in alloc; "{fault}")?));
     }
-    match read.schema(alloc, "Schema", name) {
-        Ok(again)
-            if are_same(
-                alloc,
-                &resolved.schema,
-                resolved.root,
-                &again.schema,
-                again.root,
-            )? =>
-        {
-            Ok(None)
-        }
-        Ok(_) => Ok(Some(String::from_str(alloc, "other types")?)),
-        Err(stop) => Ok(Some(format!(in alloc; "{stop}")?)),
+    let again = match read.schema(alloc, "Schema", name) {
+        Ok(again) => again,
+        Err(stop) => return Ok(Some(format!(in alloc; "{stop}")?)),
+    };
+    if are_same(
+        alloc,
+        &resolved.schema,
+        resolved.root,
+        &again.schema,
+        again.root,
+    )? {
+        return Ok(None);
     }
+    Ok(Some(String::from_str(alloc, "other types")?))
 }
 
 /// Prints whether a type of a module, if it is there, is that of a table of constants.
