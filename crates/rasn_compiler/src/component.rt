@@ -1,8 +1,27 @@
 //! Components of SEQUENCE, SET and CHOICE (X.680 25, 27, 29).
-use crate::fault::Stop;
+use crate::fault::{Problem, Stop};
 use crate::parser::Parser;
 use crate::token::Kind;
 use crate::tree::{Component, Presence};
+
+/// The version brackets that were seen in a list (X.680 25.1).
+#[derive(Clone, Copy)]
+struct Groups {
+    is_open: bool,
+    /// How many markers were seen.
+    markers: usize,
+    /// The number of the last ones that have one.
+    version: u64,
+}
+
+impl Groups {
+    /// Counts the last of the components that were read, if it is a marker.
+    fn count(&mut self, read: &[Component<'_>]) {
+        if let Some(Component::Marker(_)) = read.last() {
+            self.markers = self.markers.saturating_add(1);
+        }
+    }
+}
 
 impl<'tokens, 'text> Parser<'tokens, 'text> {
     /// Reads components in braces, with the marker and version brackets among them.
@@ -16,16 +35,21 @@ impl<'tokens, 'text> Parser<'tokens, 'text> {
         if self.eat("}") {
             return Ok(found);
         }
-        let mut is_in_group = false;
+        let mut groups = Groups {
+            is_open: false,
+            markers: 0,
+            version: 0,
+        };
         for _ in 0..self.rest.len() {
-            is_in_group = self.group_start(is_in_group)?;
+            self.group_start(&mut groups)?;
             found.push(self.component(depth)?)?;
-            is_in_group = self.group_end(is_in_group)?;
+            groups.count(found.as_slice());
+            self.group_end(&mut groups)?;
             if !self.eat(",") {
                 break;
             }
         }
-        if is_in_group {
+        if groups.is_open {
             return Err(self.refuse(", or ]]"));
         }
         self.expect_closed()?;
@@ -66,27 +90,47 @@ impl<'tokens, 'text> Parser<'tokens, 'text> {
         }
     }
 
-    /// Takes version brackets, with their number, if they open here (X.680 25.1). Returns whether some are open.
-    fn group_start(&mut self, is_open: bool) -> Result<bool, Stop<'text>> {
-        if is_open || !self.is("[") || !self.is_after(1, "[") {
-            return Ok(is_open);
+    /// Takes version brackets, with their number, if they open here. They are between the markers,
+    /// or after the only one (X.680 25.1, 29.1).
+    fn group_start(&mut self, groups: &mut Groups) -> Result<(), Stop<'text>> {
+        if groups.is_open || !self.is("[") || !self.is_after(1, "[") {
+            return Ok(());
+        }
+        if groups.markers != 1 {
+            let rule = "version brackets outside the extension additions (X.680 25.1, 29.1)";
+            return Err(self.refuse_at(self.position(), Problem::Broken(rule)));
         }
         self.skip(2);
+        groups.is_open = true;
         if self.peek() == Kind::Number {
-            self.skip(1);
-            self.expect(":")?;
+            groups.version = self.version(groups.version)?;
         }
-        Ok(true)
+        Ok(())
     }
 
-    /// Takes version brackets, if they close here. Returns whether some are open.
-    fn group_end(&mut self, is_open: bool) -> Result<bool, Stop<'text>> {
-        if !is_open || !self.is("]") {
-            return Ok(is_open);
+    /// Takes the number of version brackets, which is above that of those before them, and the
+    /// colon (X.680 25, 29).
+    fn version(&mut self, before: u64) -> Result<u64, Stop<'text>> {
+        let position = self.position();
+        let Ok(version) = self.take().parse::<u64>() else {
+            return Err(self.refuse_at(position, Problem::Expected("the number of a version")));
+        };
+        if version <= before {
+            let rule = "the number of a version isn't above that of the last one (X.680 25, 29)";
+            return Err(self.refuse_at(position, Problem::Broken(rule)));
         }
-        self.skip(1);
-        self.expect("]")?;
-        Ok(false)
+        self.expect(":")?;
+        Ok(version)
+    }
+
+    /// Takes version brackets, if they close here.
+    fn group_end(&mut self, groups: &mut Groups) -> Result<(), Stop<'text>> {
+        if groups.is_open && self.is("]") {
+            self.skip(1);
+            self.expect("]")?;
+            groups.is_open = false;
+        }
+        Ok(())
     }
 
     /// Reads OPTIONAL or DEFAULT.

@@ -52,7 +52,8 @@ impl<'text> Iterator for Items<'text> {
     }
 }
 
-/// Returns so many octets of a text, at least one, and what follows them. Within a character the text is left whole.
+/// Returns so many octets of a text, at least one, and what follows them. Within a character the
+/// text is left whole.
 fn cut(text: &str, octets: usize) -> (&str, &str)
     requires { 0 < length text.now }
     ensures { length result.1.now < length text.now }
@@ -60,11 +61,11 @@ fn cut(text: &str, octets: usize) -> (&str, &str)
     text.split_at_checked(octets.max(1)).unwrap_or((text, ""))
 }
 
-/// Returns the kind of the item that a text begins with, and its octets. The first character is given.
+/// Returns the kind of the item that a text begins with, and its octets. The first character is
+/// given.
 fn scan(text: &str, first: char) -> (Kind, usize) {
     match first {
-        'A'..='Z' => upper(text),
-        'a'..='z' => (Kind::Lower, word_length(text)),
+        'A'..='Z' | 'a'..='z' => word(text, first),
         '0'..='9' => number(text),
         '&' => field(text),
         '"' => string(text),
@@ -79,7 +80,8 @@ fn scan(text: &str, first: char) -> (Kind, usize) {
     }
 }
 
-/// Returns whether a character is white space (X.680 12.1.6), or the mark that a text may begin with.
+/// Returns whether a character is white space (X.680 12.1.6), or the mark that a text may begin
+/// with.
 fn is_blank(character: char) -> bool {
     character.is_whitespace() || character == '\u{feff}'
 }
@@ -90,7 +92,8 @@ fn blank_length(text: &str) -> usize {
         .unwrap_or(text.len())
 }
 
-/// Returns the kind of a single character. `[[` and `]]` are read as two of one, since `]]` can also end two tags.
+/// Returns the kind of a single character. `[[` and `]]` are read as two of one, since `]]` can
+/// also end two tags.
 fn mark(character: char) -> Kind {
     match character {
         '.' | ',' | ';' | ':' | '|' | '^' | '@' | '!' | '<' | '>' | '-' => Kind::Fixed,
@@ -99,24 +102,48 @@ fn mark(character: char) -> Kind {
     }
 }
 
-/// Reads a word that begins with a capital.
-fn upper(text: &str) -> (Kind, usize) {
+/// Reads a word, of which the first letter is given. One with a low line is no name (X.680 12.2,
+/// 12.3).
+fn word(text: &str, first: char) -> (Kind, usize) {
     let octets = word_length(text);
     let word = text.get(..octets).unwrap_or("");
-    if is_reserved(word) {
+    if has_low_line(word) {
+        (Kind::Unknown, octets)
+    } else if is_reserved(word) {
         (Kind::Fixed, octets)
-    } else {
+    } else if first.is_ascii_uppercase() {
         (Kind::Upper, octets)
+    } else {
+        (Kind::Lower, octets)
+    }
+}
+
+fn has_low_line(word: &str) -> bool {
+    word.bytes().any(|octet| octet == b'_')
+}
+
+/// Returns whether a text is a name that a type may have (X.680 12.2).
+pub(crate) fn is_type_name(text: &str) -> bool {
+    match text.chars().next() {
+        Some(first) => word_length(text) == text.len() && word(text, first).0 == Kind::Upper,
+        None => false,
     }
 }
 
 /// Reads a field's name, with its `&` (X.681 7).
 fn field(text: &str) -> (Kind, usize) {
     let name = text.strip_prefix('&').unwrap_or("");
-    (Kind::Field, word_length(name).saturating_add(1))
+    let octets = word_length(name);
+    let kind = if has_low_line(name.get(..octets).unwrap_or("")) {
+        Kind::Unknown
+    } else {
+        Kind::Field
+    };
+    (kind, octets.saturating_add(1))
 }
 
-/// Returns the octets of a word: letters, digits, and hyphens that are neither doubled nor last (X.680 12.2, 12.3).
+/// Returns the octets of a word: letters, digits, low lines, and hyphens that are neither doubled
+/// nor last (X.680 12.2, 12.3).
 fn word_length(text: &str) -> usize {
     let mut length = 0usize;
     let mut after_hyphen = false;

@@ -11,6 +11,7 @@ mod lexer;
 mod module;
 mod modules;
 mod names;
+mod notation;
 mod parser;
 mod position;
 mod recovery;
@@ -24,6 +25,7 @@ mod words;
 
 pub use fault::{Fault, Problem, Stop};
 pub use modules::{Modules, Source};
+pub use notation::Notation;
 pub use position::Position;
 pub use resolver::Resolved;
 pub use tree::{

@@ -1,13 +1,13 @@
 //! Modules (X.680 13).
 ghost use Rattle.std.specs.Prelude.{◌≡◌, ◌<◌, length, IfOk, OnOk};
 
-use crate::fault::{Fault, Stop};
+use crate::fault::{Fault, Problem, Stop};
 use crate::parser::Parser;
 use crate::position::Position;
 use crate::token::Kind;
 use crate::tree::{Assignment, Import, Meaning, Module, Tagging, Unread};
 use std::alloc::{AllocError, Global};
-use std::collections::BTreeMap;
+use std::collections::{BTreeMap, BTreeSet};
 use std::mem;
 
 /// What is before a module's imports (X.680 13.1).
@@ -18,6 +18,13 @@ struct Head<'text> {
     identifier: Option<Unread<'text>>,
     tagging: Tagging,
     is_extensible: bool,
+}
+
+/// The assignments of a module that were read, and their names.
+#[derive(Drop)]
+struct Assignments<'text> {
+    list: Vec<Assignment<'text>>,
+    names: BTreeSet<&'text str>,
 }
 
 impl<'tokens, 'text> Parser<'tokens, 'text> {
@@ -107,26 +114,29 @@ impl<'tokens, 'text> Parser<'tokens, 'text> {
         &mut self,
         faults: &mut Vec<Fault<'text>>,
     ) -> Result<Vec<Assignment<'text>>, Stop<'text>> {
-        let mut assignments = Vec::new(self.alloc);
+        let mut found = Assignments {
+            list: Vec::new(self.alloc),
+            names: BTreeSet::new(self.alloc),
+        };
         for _ in 0..self.rest.len() {
             if self.eat("END") {
-                return Ok(assignments);
+                return Ok(found.list);
             }
             if self.rest.is_empty() {
                 break;
             }
-            self.next_assignment(&mut assignments, faults)?;
+            self.next_assignment(&mut found, faults)?;
         }
         if let Stop::Fault(fault) = self.refuse("END") {
             faults.push(fault)?;
         }
-        Ok(assignments)
+        Ok(found.list)
     }
 
     /// Reads an assignment, or its fault, and goes on after it. At least one item is taken.
     fn next_assignment(
         &mut self,
-        assignments: &mut Vec<Assignment<'text>>,
+        found: &mut Assignments<'text>,
         faults: &mut Vec<Fault<'text>>,
     ) -> Result<(), AllocError>
         requires { 0 < length self.old.rest.now }
@@ -134,7 +144,7 @@ impl<'tokens, 'text> Parser<'tokens, 'text> {
     {
         let start = self.rest;
         match self.assignment() {
-            Ok(assignment) => assignments.push(assignment)?,
+            Ok(assignment) => self.add(assignment, found, faults)?,
             Err(Stop::OutOfMemory) => return Err(AllocError),
             Err(Stop::Fault(fault)) => {
                 faults.push(fault)?;
@@ -147,9 +157,29 @@ impl<'tokens, 'text> Parser<'tokens, 'text> {
         self.make_progress(start);
         Ok(())
     }
+
+    /// Adds an assignment, or the fault of one to a name that has another (X.680 16).
+    fn add(
+        &self,
+        assignment: Assignment<'text>,
+        found: &mut Assignments<'text>,
+        faults: &mut Vec<Fault<'text>>,
+    ) -> Result<(), AllocError> {
+        if found.names.insert(assignment.name)? {
+            found.list.push(assignment)?;
+        } else {
+            faults.push(Fault {
+                source: self.source.name,
+                position: assignment.position,
+                problem: Problem::Broken("two assignments to the same name (X.680 16)"),
+            })?;
+        }
+        Ok(())
+    }
 }
 
-/// Returns what each name of a module means. Of several assignments to a name, the first counts; an own one counts before one that is imported.
+/// Returns what each name of a module means. An assignment counts before one of the same name that
+/// is imported.
 fn meanings(
     alloc: Global,
     imports: &[Import<'_>],

@@ -30,7 +30,7 @@ fn is_plain_type(assignment: &Assignment<'_>) -> bool {
     }
 }
 
-/// Prints the types of a module, a line for each.
+/// Prints the types of a module, a line for each. Those of the module `Shown` are printed as modules.
 fn print_module<'text>(
     rt: &HostRuntime,
     read: &Modules<'text>,
@@ -40,6 +40,10 @@ fn print_module<'text>(
         let name = assignment.name;
         if is_plain_type(assignment) && !read.is_class(module.name, name) {
             match read.schema(rt.alloc(), module.name, name) {
+                Ok(resolved) if module.name == "Shown" => {
+                    let notation = resolved.notation(rt.alloc())?;
+                    print!(rt; "{notation}")?;
+                }
                 Ok(resolved) => {
                     let shown = show::shown(rt.alloc(), &resolved)?;
                     println!(rt; "{name}: {shown}")?;

@@ -1,14 +1,21 @@
 //! Reads files of modules, all at once, and messages by their types: `rasn-modules FILE..`. Prints
-//! each fault of a text, each type that has no schema with its first fault, and for each module how
-//! many types it has and how many of them have a schema; then each row of standard input with its
-//! result.
+//! each fault of a text, each type that has no schema with its first fault, each type whose schema
+//! isn't read again from the module that it is shown as, and for each module how many types it has,
+//! how many of them have a schema, and how many schemas are read again; whether two types are those
+//! of the tables of `rasn_schema_bench`; then each row of standard
+//! input with its result.
 #![tactic(auto)]
 
 mod octets;
 mod rows;
+mod same;
 
 use crate::rows::print_rows;
-use rasn_compiler::{Assigned, Assignment, Module, Modules, Source};
+use crate::same::are_same;
+use rasn_compiler::{Assigned, Assignment, Module, Modules, Resolved, Source};
+use rasn_schema::{Schema, TypeId};
+use rasn_schema_bench::{CERTIFICATE, CERTIFICATE_TYPES, Definition, FILTER, FILTER_TYPES, types};
+use std::alloc::{AllocError, Global};
 use std::{env, fs, io};
 
 fn main(rt: HostRuntime) -> io::Result<()> {
@@ -32,29 +39,45 @@ fn main(rt: HostRuntime) -> io::Result<()> {
     for module in &read.modules {
         print_module(&rt, &read, module)?;
     }
+    print_table(
+        &rt,
+        &read,
+        "Certificates",
+        "Certificate",
+        CERTIFICATE_TYPES,
+        CERTIFICATE,
+    )?;
+    print_table(&rt, &read, "LDAP", "Filter", FILTER_TYPES, FILTER)?;
     print_rows(&rt, &read)
 }
 
-/// Prints which types of a module have no schema, and how many have one. Types with parameters aren't
-/// counted.
+/// Prints which types of a module have no schema, and how many have one. Types with parameters
+/// aren't counted.
 fn print_module<'text>(
     rt: &HostRuntime,
     read: &Modules<'text>,
     module: &Module<'text>,
 ) -> io::Result<()> {
     let mut types = 0usize;
-    let mut loaded = 0usize;
+    let mut counts = Counts { loaded: 0, same: 0 };
     for assignment in &module.assignments {
         if is_plain_type(assignment) && !read.is_class(module.name, assignment.name) {
             types = types.saturating_add(1);
-            if print_type(rt, read, module.name, assignment.name)? {
-                loaded = loaded.saturating_add(1);
-            }
+            print_type(rt, read, module.name, assignment.name, &mut counts)?;
         }
     }
     let source = module.source;
     let name = module.name;
-    println!(rt; "module\t{source}\t{name}\t{types}\t{loaded}")
+    let Counts { loaded, same } = counts;
+    println!(rt; "module\t{source}\t{name}\t{types}\t{loaded}\t{same}")
+}
+
+/// How many types of a module have a schema, and how many of these schemas are read again from the
+/// module that they are shown as.
+#[derive(Clone, Copy)]
+struct Counts {
+    loaded: usize,
+    same: usize,
 }
 
 /// Returns whether an assignment is one of a type without parameters.
@@ -65,16 +88,80 @@ fn is_plain_type(assignment: &Assignment<'_>) -> bool {
     }
 }
 
-/// Returns whether a type has a schema, and prints why if it has none.
+/// Counts a type, and prints why it has no schema, or why that isn't read again from the module
+/// that it is shown as.
 fn print_type<'text>(
     rt: &HostRuntime,
     read: &Modules<'text>,
     module: &'text str,
     name: &'text str,
-) -> io::Result<bool> {
-    if let Err(stop) = read.schema(rt.alloc(), module, name) {
-        println!(rt; "type\t{module}.{name}\t{stop}")?;
-        return Ok(false);
+    counts: &mut Counts,
+) -> io::Result<()> {
+    let resolved = match read.schema(rt.alloc(), module, name) {
+        Ok(resolved) => resolved,
+        Err(stop) => return println!(rt; "type\t{module}.{name}\t{stop}"),
+    };
+    counts.loaded = counts.loaded.saturating_add(1);
+    match difference(rt.alloc(), &resolved, name)? {
+        Some(difference) => println!(rt; "shown\t{module}.{name}\t{difference}"),
+        None => {
+            counts.same = counts.same.saturating_add(1);
+            Ok(())
+        }
     }
-    Ok(true)
+}
+
+/// Returns why the module that a schema is shown as doesn't have the same types, if it hasn't.
+fn difference(
+    alloc: Global,
+    resolved: &Resolved,
+    name: &str,
+) -> Result<Option<String>, AllocError> {
+    let notation = resolved.notation(alloc)?;
+    let text = format!(in alloc; "{notation}")?;
+    let sources = [Source {
+        name: "shown",
+        text: text.as_str(),
+    }];
+    let read = Modules::parse(alloc, &sources)?;
+    if let Some(fault) = read.faults.first() {
+        return Ok(Some(format!(in alloc; "{fault}")?));
+    }
+    let again = match read.schema(alloc, "Schema", name) {
+        Ok(again) => again,
+        Err(stop) => return Ok(Some(format!(in alloc; "{stop}")?)),
+    };
+    if are_same(
+        alloc,
+        &resolved.schema,
+        resolved.root,
+        &again.schema,
+        again.root,
+    )? {
+        return Ok(None);
+    }
+    Ok(Some(String::from_str(alloc, "other types")?))
+}
+
+/// Prints whether a type of a module, if it is there, is that of a table of constants.
+fn print_table(
+    rt: &HostRuntime,
+    read: &Modules<'_>,
+    module: &str,
+    name: &str,
+    table: &[Definition],
+    root: TypeId,
+) -> io::Result<()> {
+    let alloc = rt.alloc();
+    let Ok(resolved) = read.schema(alloc, module, name) else {
+        return Ok(());
+    };
+    let Ok(schema) = Schema::new(types(alloc, table)?) else {
+        return println!(rt; "table\t{module}.{name}\tno schema");
+    };
+    if are_same(alloc, &resolved.schema, resolved.root, &schema, root)? {
+        println!(rt; "table\t{module}.{name}\tthe same")
+    } else {
+        println!(rt; "table\t{module}.{name}\tanother")
+    }
 }

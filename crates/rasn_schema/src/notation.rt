@@ -5,7 +5,7 @@ use crate::schema::Schema;
 use crate::types::{LeafKind, NamedNumber, Type};
 use crate::value::Value;
 use crate::view::{View, part_type, untagged};
-use rasn_types::types::{BitStr, BmpString, Hexadecimal, Integer};
+use rasn_types::types::{BitStr, BmpString, Hexadecimal, Integer, Tag};
 use std::fmt;
 
 /// Writes a character of a text in quotes, a quote twice (X.680 12.14).
@@ -134,7 +134,16 @@ fn is_text(ty: Option<&Type>) -> bool {
     }
 }
 
-/// Writes octets in hexadecimal, or as characters if the type says so.
+/// Returns whether octets are a NULL that is the value of an open type (X.690 8.8).
+fn is_open_null(octets: &[u8], ty: Option<&Type>) -> bool {
+    match (ty, octets) {
+        (Some(Type::Any { tag }), [5, 0]) => *tag == Tag::EOC,
+        _ => false,
+    }
+}
+
+/// Writes octets in hexadecimal, or as characters if the type says so. A NULL as the value of an
+/// open type is written as such (X.681 14.6).
 fn write_octets<W: fmt::Write>(
     f: &mut fmt::Formatter<W>,
     octets: &[u8],
@@ -142,9 +151,20 @@ fn write_octets<W: fmt::Write>(
 ) -> fmt::Result {
     if is_text(ty) {
         write_characters(f, octets)
+    } else if is_open_null(octets, ty) {
+        f.write_str("NULL : NULL")
     } else {
         write!(f, "'{}'H", Hexadecimal::new(octets))
     }
+}
+
+/// Writes the arcs of an OBJECT IDENTIFIER in braces (X.680 32.3).
+fn write_arcs<W: fmt::Write>(f: &mut fmt::Formatter<W>, arcs: &[u32]) -> fmt::Result {
+    f.write_char('{')?;
+    for arc in arcs {
+        write!(f, " {arc}")?;
+    }
+    f.write_str(" }")
 }
 
 /// Returns the name of the component with this index.
@@ -184,7 +204,7 @@ fn write_value<W: fmt::Write>(
         Value::Octets(octets) => write_octets(f, octets.as_slice(), ty),
         Value::Text(text) => write_text(f, text.as_str()),
         Value::Units(units) => write_units(f, units),
-        Value::Arcs(arcs) => write!(f, "{arcs}"),
+        Value::Arcs(arcs) => write_arcs(f, arcs.arcs()),
         Value::Instant(time) => write!(f, "\"{time}\""),
         Value::Day(date) => write!(f, "\"{date}\""),
         Value::Items(values) => write_values(f, values.as_slice(), schema, ty),

@@ -2,11 +2,12 @@
 use crate::fault::{Problem, Stop};
 use crate::position::Position;
 use crate::resolver::digits::{Bits, Digits, read_digits};
+use crate::resolver::enumerated::Enumeration;
 use crate::resolver::lookup::MAX_NAMES;
 use crate::resolver::node::Place;
-use crate::resolver::shape::Resolver;
+use crate::resolver::shape::{Resolver, is_open};
 use crate::resolver::value::Spelled;
-use crate::tree::{Assigned, Base, Builtin, Given, NamedNumber, TypeIndex, Value as Written};
+use crate::tree::{Base, Builtin, NamedNumber, TypeIndex, Value as Written};
 use rasn_schema::{NamedNumber as Numbered, Value, index_named};
 use rasn_types::types::{BitString, CowBits, Integer};
 use std::alloc::{AllocError, Global};
@@ -55,6 +56,8 @@ impl<'modules, 'text> Resolver<'modules, 'text> {
             }
             Base::Enumerated(names) => self.enumerated_default(at, names.as_slice(), spelled),
             Base::BitString(names) => self.bits_default(at, base, names.as_slice(), spelled),
+            Base::Builtin(Builtin::ObjectIdentifier) => self.identifier_default(spelled),
+            other if is_open(other) => self.open_default(spelled),
             _ => self.other_default(base, spelled),
         }
     }
@@ -66,7 +69,7 @@ impl<'modules, 'text> Resolver<'modules, 'text> {
         names: &[NamedNumber<'text>],
         spelled: Spelled<'text>,
     ) -> Result<Value<'static>, Stop<'text>> {
-        let numbers = self.enumeration(at, names, spelled.position)?;
+        let Enumeration { numbers, .. } = self.enumeration(at, names, spelled.position)?;
         if let Some(number) = number_of(numbers.as_slice(), spelled.value) {
             return self.number_default(number as i128);
         }
@@ -156,35 +159,17 @@ impl<'modules, 'text> Resolver<'modules, 'text> {
         let Written::Name { module, name } = spelled.value else {
             return Ok(spelled);
         };
-        let (place, value) = self.value_named(spelled.place, module, name, spelled.position)?;
-        Ok(Spelled {
+        let Spelled {
             place,
-            value,
-            position: spelled.position,
+            position,
+            ..
+        } = spelled;
+        let named = self.value_meant(place, module, name, position, "a value")?;
+        Ok(Spelled {
+            place: named.place,
+            value: named.value,
+            position,
         })
-    }
-
-    /// Returns what the name of a value means, with its place.
-    fn value_named(
-        &self,
-        place: Place,
-        outside: Option<&'text str>,
-        name: &'text str,
-        position: Position,
-    ) -> Result<(Place, Written<'text>), Stop<'text>> {
-        if outside.is_none() {
-            if let Some(bound) = self.bound(place, name) {
-                return match bound.given {
-                    Given::Value(value) => Ok((bound.place, value)),
-                    _ => Err(self.expected(place, position, "a value")),
-                };
-            }
-        }
-        let (module, assignment) = self.modules.meaning(place.module, outside, name, position)?;
-        match assignment.assigned {
-            Assigned::Value { value, .. } => Ok((Place::of(module), value)),
-            _ => Err(self.expected(place, position, "a value")),
-        }
     }
 }
 

@@ -8,9 +8,17 @@ use rasn_schema::NamedNumber as Numbered;
 use std::alloc::{AllocError, Global};
 use std::collections::BTreeSet;
 
+/// The names of an ENUMERATED, with their numbers.
+#[derive(Drop)]
+pub(crate) struct Enumeration {
+    pub(crate) numbers: Vec<Numbered>,
+    /// Whether there is a marker among them (X.680 20.1).
+    pub(crate) is_extensible: bool,
+}
+
 /// The numbers of an ENUMERATED that are known so far.
 #[derive(Drop)]
-struct Enumeration {
+struct Numbering {
     numbers: Vec<Numbered>,
     /// The numbers that no other name gets.
     used: BTreeSet<isize>,
@@ -18,23 +26,24 @@ struct Enumeration {
     free: isize,
 }
 
-impl Enumeration {
-    /// Adds a name with the number that is written after it, or with the lowest that is free.
+impl Numbering {
+    /// Adds a name with a number of its own. Returns whether no other has it.
     fn add(
         &mut self,
         alloc: Global,
         name: &str,
         written: Option<isize>,
         is_addition: bool,
-    ) -> Result<(), AllocError> {
+    ) -> Result<bool, AllocError> {
         let number = written.unwrap_or(next_free(&self.used, self.free));
+        let mut is_new = true;
         if is_addition || written.is_none() {
-            self.used.insert(number)?;
+            is_new = self.used.insert(number)?;
             self.free = self.free.max(number.saturating_add(1));
         }
         let name = String::from_str(alloc, name)?;
         self.numbers.push(Numbered { name, number })?;
-        Ok(())
+        Ok(is_new)
     }
 }
 
@@ -68,19 +77,20 @@ impl<'modules, 'text> Resolver<'modules, 'text> {
         Ok(numbers)
     }
 
-    /// Returns the names of an ENUMERATED with their numbers (X.680 20). A name without a number has the lowest that is free; after the marker, the lowest
-    /// that is free and above those of the other additions.
+    /// Returns the names of an ENUMERATED with their numbers (X.680 20). A name without a number
+    /// has the lowest that is free; after the marker, the lowest that is free and above those of
+    /// the other additions.
     pub(crate) fn enumeration(
         &mut self,
         place: Place,
         names: &[NamedNumber<'text>],
         position: Position,
-    ) -> Result<Vec<Numbered>, Stop<'text>> {
+    ) -> Result<Enumeration, Stop<'text>> {
         self.check_names(place, names)?;
         let root = root_length(names);
-        self.broken_if(place, position, misplaced_marker(names, root))?;
+        self.broken_if(place, position, misplaced(names, root))?;
         let used = self.written_numbers(place, names.get(..root).unwrap_or(&[]))?;
-        let mut found = Enumeration {
+        let mut found = Numbering {
             numbers: Vec::new(self.alloc),
             used,
             free: 0,
@@ -89,17 +99,31 @@ impl<'modules, 'text> Resolver<'modules, 'text> {
             match named.name {
                 Some(name) => {
                     let written = self.written_number(place, *named)?;
-                    found.add(self.alloc, name, written, index >= root)?;
+                    let is_new = found.add(self.alloc, name, written, index >= root)?;
+                    self.repeated_if(place, named.position, !is_new)?;
                 }
                 None => found.free = 0,
             }
         }
-        let Enumeration { numbers, .. } = found;
-        if numbers.is_empty() {
-            let problem = Problem::Broken("an ENUMERATED without names (X.680 20.1)");
-            return Err(self.modules.fault(place.module, position, problem));
+        let Numbering { numbers, .. } = found;
+        Ok(Enumeration {
+            numbers,
+            is_extensible: root < names.len(),
+        })
+    }
+
+    /// Refuses a number that another name has (X.680 20.3).
+    fn repeated_if(
+        &self,
+        place: Place,
+        position: Position,
+        is_repeated: bool,
+    ) -> Result<(), Stop<'text>> {
+        if is_repeated {
+            let rule = "two of the numbers are the same (X.680 20.3)";
+            return self.broken_if(place, position, Some(rule));
         }
-        Ok(numbers)
+        Ok(())
     }
 
     /// Refuses a name that is twice in a list (X.680 19, 20).
@@ -117,7 +141,7 @@ impl<'modules, 'text> Resolver<'modules, 'text> {
         Ok(())
     }
 
-    /// Returns the numbers that are written in an enumeration.
+    /// Returns the numbers that are written in an enumeration, which have to be distinct.
     fn written_numbers(
         &mut self,
         place: Place,
@@ -126,7 +150,8 @@ impl<'modules, 'text> Resolver<'modules, 'text> {
         let mut used = BTreeSet::new(self.alloc);
         for named in names {
             if let Some(number) = self.written_number(place, *named)? {
-                used.insert(number)?;
+                let is_new = used.insert(number)?;
+                self.repeated_if(place, named.position, !is_new)?;
             }
         }
         Ok(used)
@@ -162,26 +187,11 @@ impl<'modules, 'text> Resolver<'modules, 'text> {
     }
 }
 
-/// Returns whether an enumeration has a marker (X.680 20.1).
-pub(crate) fn is_extensible(names: &[NamedNumber<'_>]) -> bool {
-    root_length(names) < names.len()
-}
-
-/// Returns whether two names have the same number.
-pub(crate) fn are_repeated(alloc: Global, numbers: &[Numbered]) -> Result<bool, AllocError> {
-    let mut seen = BTreeSet::new(alloc);
-    for named in numbers {
-        if !seen.insert(named.number)? {
-            return Ok(true);
-        }
-    }
-    Ok(false)
-}
-
-/// Returns the rule that the markers of an ENUMERATED break. So many names are before the first.
-fn misplaced_marker(names: &[NamedNumber<'_>], root: usize) -> Option<&'static str> {
+/// Returns the rule that an ENUMERATED breaks by having no name, or none before the first marker,
+/// or two markers. So many names are before the first marker.
+fn misplaced(names: &[NamedNumber<'_>], root: usize) -> Option<&'static str> {
     if names.is_empty() {
-        return None;
+        return Some("an ENUMERATED without names (X.680 20.1)");
     }
     if root == 0 {
         return Some("an ENUMERATED that begins with the marker (X.680 20.1)");

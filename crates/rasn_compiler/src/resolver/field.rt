@@ -3,6 +3,7 @@ use crate::fault::{Problem, Stop};
 use crate::position::Position;
 use crate::resolver::included::automatic_number;
 use crate::resolver::lookup::MAX_NAMES;
+use crate::resolver::meant::Meant;
 use crate::resolver::node::Place;
 use crate::resolver::reference::Next;
 use crate::resolver::shape::Resolver;
@@ -78,15 +79,11 @@ impl<'modules, 'text> Resolver<'modules, 'text> {
         actuals: &[Actual<'text>],
         position: Position,
     ) -> Result<(Place, usize), Stop<'text>> {
-        if outside.is_none() {
-            if let Some(bound) = self.bound(place, name) {
-                return match bound.given {
-                    Given::Type(index) => Ok((bound.place, index.0)),
-                    _ => Err(self.expected(place, position, "a class")),
-                };
-            }
-        }
-        let (module, assignment) = self.modules.meaning(place.module, outside, name, position)?;
+        let (module, assignment) = match self.meaning(place, outside, name, position)? {
+            Meant::Given(at, Given::Type(index)) => return Ok((at, index.0)),
+            Meant::Given(_, _) => return Err(self.expected(place, position, "a class")),
+            Meant::Assigned(module, assignment) => (module, assignment),
+        };
         let index = match assignment.assigned {
             Assigned::Class { fields, .. } => fields.0,
             Assigned::Type(of) => of.0,

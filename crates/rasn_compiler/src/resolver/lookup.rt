@@ -1,4 +1,7 @@
 //! What names mean (X.680 13.12 to 13.16).
+ghost use Rattle.std.specs.Prelude.{IfOk, IsTrue};
+ghost use Rattle.rasn_compiler.specs.Sources.{HasModule};
+
 use crate::fault::{Fault, Problem, Stop};
 use crate::given::is_given;
 use crate::modules::{Modules, Source};
@@ -100,10 +103,14 @@ impl<'text> Modules<'text> {
         &self,
         module: &str,
         name: &str,
-    ) -> Result<(usize, &'text str, Position), Stop<'text>> {
-        let index = self.index_of(module).unwrap_or(usize::MAX);
+    ) -> Result<(usize, &'text str, Position), Stop<'text>>
+        ensures { IfOk result (λ found. HasModule self.now.modules.items «module».now) }
+    {
+        let problem = Problem::Expected("the name of a module");
+        let Some(index) = self.index_of(module) else {
+            return Err(self.fault(usize::MAX, Position::START, problem));
+        };
         let Some(found) = self.modules.get(index) else {
-            let problem = Problem::Expected("the name of a module");
             return Err(self.fault(index, Position::START, problem));
         };
         match known_name(found, name) {
@@ -117,8 +124,11 @@ impl<'text> Modules<'text> {
 }
 
 impl<'text> Modules<'text> {
-    /// Returns whether a name of a module is that of a class, also by way of other names (X.681 9.2).
-    pub fn is_class(&self, module: &str, name: &str) -> bool {
+    /// Returns whether a name of a module is that of a class, also by way of other names (X.681
+    /// 9.2). A module that wasn't read has none.
+    pub fn is_class(&self, module: &str, name: &str) -> bool
+        ensures { IsTrue result → HasModule self.now.modules.items «module».now }
+    {
         let Ok((index, known, position)) = self.type_named(module, name) else {
             return false;
         };

@@ -4,7 +4,7 @@ use crate::position::Position;
 use crate::resolver::lookup::MAX_NAMES;
 use crate::resolver::node::Place;
 use crate::resolver::shape::Resolver;
-use crate::tree::{Assigned, Base, Given, NamedNumber, Value};
+use crate::tree::{Base, NamedNumber, Value};
 
 impl<'modules, 'text> Resolver<'modules, 'text> {
     /// Returns the number that a value of an INTEGER or an ENUMERATED is. These names of numbers, of a type at the place `home`, come before the names of
@@ -45,19 +45,11 @@ impl<'modules, 'text> Resolver<'modules, 'text> {
         name: &'text str,
         position: Position,
     ) -> Result<(Place, Value<'text>), Stop<'text>> {
-        if outside.is_none() {
-            if let Some(bound) = self.bound(place, name) {
-                return match bound.given {
-                    Given::Value(value) => Ok((bound.place, value)),
-                    _ => Err(self.expected(place, position, "a number")),
-                };
-            }
+        let named = self.value_meant(place, outside, name, position, "a number")?;
+        match named.of {
+            Some(of) => self.governed(named.place, of.0, named.value, position),
+            None => Ok((named.place, named.value)),
         }
-        let (module, assignment) = self.modules.meaning(place.module, outside, name, position)?;
-        let Assigned::Value { of, value } = assignment.assigned else {
-            return Err(self.expected(place, position, "a number"));
-        };
-        self.governed(Place::of(module), of.0, value, position)
     }
 
     /// Returns the number of these digits.

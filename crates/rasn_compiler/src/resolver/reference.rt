@@ -2,6 +2,7 @@
 use crate::fault::{Problem, Stop};
 use crate::position::Position;
 use crate::resolver::lookup::MAX_NAMES;
+use crate::resolver::meant::Meant;
 use crate::resolver::node::Place;
 use crate::resolver::shape::Resolver;
 use crate::tree::{Actual, Assigned, Base, Builtin, Given, Type, Unread};
@@ -69,15 +70,11 @@ impl<'modules, 'text> Resolver<'modules, 'text> {
         actuals: &[Actual<'text>],
         position: Position,
     ) -> Result<Next<'text>, Stop<'text>> {
-        if outside.is_none() {
-            if let Some(bound) = self.bound(place, name) {
-                return match bound.given {
-                    Given::Type(index) => Ok(Next::of(bound.place, index.0)),
-                    _ => Err(self.expected(place, position, "a type")),
-                };
-            }
-        }
-        let (module, assignment) = self.modules.meaning(place.module, outside, name, position)?;
+        let (module, assignment) = match self.meaning(place, outside, name, position)? {
+            Meant::Given(at, Given::Type(index)) => return Ok(Next::of(at, index.0)),
+            Meant::Given(_, _) => return Err(self.expected(place, position, "a type")),
+            Meant::Assigned(module, assignment) => (module, assignment),
+        };
         let (of, members) = match assignment.assigned {
             Assigned::Type(of) => (of, None),
             Assigned::Values { of, members } => (of, Some(members)),

@@ -3,7 +3,7 @@ use crate::fault::{Problem, Stop};
 use crate::modules::Modules;
 use crate::position::Position;
 use crate::resolver::components::Within;
-use crate::resolver::enumerated::{are_repeated, is_extensible};
+use crate::resolver::enumerated::Enumeration;
 use crate::resolver::leaf::{Plain, universal, universal_type};
 use crate::resolver::node::{Asked, Shape, Unfolded, Use};
 use crate::resolver::scope::Scope;
@@ -210,13 +210,12 @@ impl<'modules, 'text> Resolver<'modules, 'text> {
     ) -> Result<Type, Stop<'text>> {
         self.count_unchecked(unfolded.constraints.len());
         let tag = own_tag(unfolded, 10);
-        let numbers = self.enumeration(unfolded.place, names, position)?;
-        if !is_extensible(names) {
+        let Enumeration {
+            numbers,
+            is_extensible,
+        } = self.enumeration(unfolded.place, names, position)?;
+        if !is_extensible {
             return Ok(Type::Enumerated { tag, numbers });
-        }
-        if are_repeated(self.alloc, numbers.as_slice())? {
-            let problem = Problem::Broken("two of the numbers are the same (X.680 20.3)");
-            return Err(self.modules.fault(unfolded.place.module, position, problem));
         }
         Ok(Type::Leaf {
             kind: LeafKind::Signed64,
@@ -268,15 +267,18 @@ fn prefix(unfolded: &Unfolded<'_>, peeled: usize, is_untagged: bool) -> Option<T
 /// Returns whether a type has no tag of its own.
 fn is_untagged(written: &Written<'_>) -> bool {
     match &written.base {
-        Base::Choice(_) | Base::AnyDefinedBy(_) | Base::ClassField { .. } => true,
-        Base::Builtin(builtin) => *builtin == Builtin::Any,
-        _ => false,
+        Base::Choice(_) => true,
+        base => is_open(base),
     }
 }
 
-/// Returns whether a type is an open one: ANY DEFINED BY, or what a class's field is if that has no type (X.681 14.2).
-fn is_open(base: &Base<'_>) -> bool {
-    matches!(base, Base::AnyDefinedBy(_) | Base::ClassField { .. })
+/// Returns whether a type is an open one: ANY, ANY DEFINED BY, or what a class's field is if that
+/// has no type (X.681 14.2).
+pub(crate) fn is_open(base: &Base<'_>) -> bool {
+    matches!(
+        base,
+        Base::AnyDefinedBy(_) | Base::ClassField { .. } | Base::Builtin(Builtin::Any)
+    )
 }
 
 /// Returns the tag of a type: the implicit one, or its universal one.

@@ -207,7 +207,7 @@ impl<'modules, 'text> Resolver<'modules, 'text> {
     }
 
     /// Returns what of a value isn't read yet.
-    fn unread(&self, spelled: Spelled<'text>) -> Result<Unread<'text>, Stop<'text>> {
+    pub(crate) fn unread(&self, spelled: Spelled<'text>) -> Result<Unread<'text>, Stop<'text>> {
         match spelled.value {
             Written::Unread(unread) => Ok(unread),
             _ => Err(self.misfit(spelled)),
@@ -291,7 +291,7 @@ impl<'modules, 'text> Resolver<'modules, 'text> {
 
 impl<'tokens, 'text> Parser<'tokens, 'text> {
     /// Reads a value that is at a place.
-    fn spelled(&mut self, place: Place) -> Result<Spelled<'text>, Stop<'text>> {
+    pub(crate) fn spelled(&mut self, place: Place) -> Result<Spelled<'text>, Stop<'text>> {
         let position = self.position();
         Ok(Spelled {
             place,
