@@ -112,7 +112,7 @@ fn compare(
     let Some(right) = type_at(other.types(), right) else {
         return Ok(false);
     };
-    if head(left) != head(right) || !are_same_numbers(numbers(left), numbers(right)) {
+    if head_of(left) != head_of(right) || !are_same_numbers(numbers(left), numbers(right)) {
         return Ok(false);
     }
     let ones = parts(alloc, left)?;
@@ -121,7 +121,7 @@ fn compare(
 }
 
 /// Returns what a type is.
-fn head(ty: &Type) -> Head {
+fn head_of(ty: &Type) -> Head {
     let none = Constraints::NONE;
     let (form, constraints) = match ty {
         Type::Leaf {
