@@ -6,6 +6,7 @@ mod graded;
 mod levelled;
 mod padding;
 mod profile;
+mod renewed;
 
 pub use counted::Counted;
 pub use eight::Eight;
@@ -13,3 +14,4 @@ pub use graded::Graded;
 pub use levelled::Levelled;
 pub use padding::Padding;
 pub use profile::Profile;
+pub use renewed::Renewed;
