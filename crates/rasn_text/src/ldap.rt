@@ -13,7 +13,7 @@ use crate::ldap::result::{list_result, list_uris};
 use crate::ldap::search::list_search_request;
 use crate::listing::{Listed, Listing};
 use crate::octets::{octets_text, quoted_text};
-use rasn::types::OctetString;
+use rasn::types::{OctetString, Unknown};
 use rasn_ldap::{Control, LdapMessage, ProtocolOp};
 use std::alloc::AllocError;
 
@@ -27,6 +27,7 @@ impl Listed for LdapMessage {
         if let Some(controls) = &self.controls {
             list_controls(listing, controls)?;
         }
+        list_unknown(listing, &self.unknown)?;
         listing.close();
         Ok(())
     }
@@ -84,7 +85,16 @@ fn list_control(listing: &mut Listing, control: &Control) -> Result<(), AllocErr
     if let Some(value) = &control.control_value {
         list_octets(listing, "value", value)?;
     }
+    list_unknown(listing, &control.unknown)?;
     listing.close();
+    Ok(())
+}
+
+/// Lists the components of a newer version (RFC 4511, 4), in hexadecimal.
+fn list_unknown(listing: &mut Listing, unknown: &Unknown) -> Result<(), AllocError> {
+    for value in &unknown.values {
+        listing.line("unknown", value)?;
+    }
     Ok(())
 }
 

@@ -10,7 +10,7 @@ mod snmp;
 use crate::place::{Found, Located, Walk};
 use rasn::types::{
     Any, AsnType, BitString, Explicit, GeneralizedTime, Implicit, Integer, ObjectIdentifier,
-    OctetString, SetOf, UtcTime, Utf8String,
+    OctetString, SetOf, Unknown, UtcTime, Utf8String,
 };
 
 impl Located for u8 {}
@@ -32,6 +32,8 @@ impl Located for BitString {}
 impl Located for Utf8String {}
 
 impl Located for Any {}
+
+impl Located for Unknown {}
 
 impl Located for UtcTime {}
 

@@ -5,7 +5,7 @@ use crate::asserts::{
     assert_written_as,
 };
 use rasn::error::EncodeError;
-use rasn::types::Codec;
+use rasn::types::{Codec, Unknown};
 use rasn_ldap::{
     ChangeOperation, DerefAliases, LdapMessage, MaxInt, ProtocolOp, ResultCode, SearchRequest,
     SearchScope, read_message, write_message,
@@ -101,6 +101,36 @@ fn named_numbers_are_read(rt: HostRuntime) {
     assert_has(&rt, answer, is_replaced_first);
 }
 
+/// Returns whether the message has one component that RFC 4511 doesn't name: NULL.
+fn has_unknown_null(message: &LdapMessage) -> bool {
+    match message.unknown.values.first() {
+        Some(value) => message.unknown.values.len() == 1 && value.as_bytes() == [5, 0].as_slice(),
+        None => false,
+    }
+}
+
+// All SEQUENCEs of LDAP are extensible (RFC 4511, 4): UNBIND, the success of a bind and a control,
+// each with one more component, which is written as it was read.
+#[test]
+fn unknown_components_are_kept(rt: HostRuntime) {
+    const NEWER: &[u8] = &[0x30, 0x07, 0x02, 0x01, 0x03, 0x42, 0x00, 0x05, 0x00];
+    const ROWS: &[&[u8]] = &[
+        NEWER,
+        &[
+            0x30, 0x0F, 0x02, 0x01, 0x01, 0x61, 0x0A, 0x0A, 0x01, 0x00, 0x04, 0x00, 0x04, 0x00,
+            0x89, 0x01, 0x07,
+        ],
+        &[
+            0x30, 0x0F, 0x02, 0x01, 0x03, 0x42, 0x00, 0xA0, 0x08, 0x30, 0x06, 0x04, 0x01, 0x31,
+            0x82, 0x01, 0x05,
+        ],
+    ];
+    let alloc = rt.alloc();
+    assert_written_back(&rt, alloc, ROWS);
+    let answer = ahead_of(&rt, read_message(alloc, NEWER), &[]);
+    assert_has(&rt, answer, has_unknown_null);
+}
+
 // Two messages in one input.
 #[test]
 fn what_follows_a_message_is_left(rt: HostRuntime) {
@@ -163,8 +193,8 @@ fn other_forms_are_written_as_ldap_asks(rt: HostRuntime) {
 }
 
 // UNBIND, truncated, as a SET, with an operation 17 that the standard doesn't have (4.1.1), with
-// the message numbers 2^31 and -1 (4.1.1), and with octets after its parts; then a name that isn't
-// UTF-8 (4.1.2), and a version 0 (4.2).
+// the message numbers 2^31 and -1 (4.1.1); then a name that isn't UTF-8 (4.1.2), and a version 0
+// (4.2).
 #[test]
 fn spoilt_messages_are_refused(rt: HostRuntime) {
     const ROWS: &[Answer<'static>] = &[
@@ -196,11 +226,6 @@ fn spoilt_messages_are_refused(rt: HostRuntime) {
             "IntegerOverflow { max_width: 32 }",
         ),
         (
-            &[0x30, 0x07, 0x02, 0x01, 0x03, 0x42, 0x00, 0x05, 0x00],
-            Codec::Ber,
-            "UnexpectedExtraData { length: 2 }",
-        ),
-        (
             &[
                 0x30, 0x0D, 0x02, 0x01, 0x01, 0x60, 0x08, 0x02, 0x01, 0x03, 0x04, 0x01, 0xFF, 0x80,
                 0x00,
@@ -225,6 +250,7 @@ fn written_unbind(alloc: Global, number: u32) -> Result<Vec<u8>, EncodeError> {
         message_id: MaxInt { number },
         protocol_op: ProtocolOp::UnbindRequest,
         controls: None,
+        unknown: Unknown::new(alloc),
     };
     write_message(alloc, &message)
 }

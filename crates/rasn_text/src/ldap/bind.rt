@@ -1,7 +1,7 @@
 //! Binds as text (RFC 4511, 4.2).
 
 use crate::ldap::result::list_parts;
-use crate::ldap::{list_octets, list_string};
+use crate::ldap::{list_octets, list_string, list_unknown};
 use crate::listing::Listing;
 use rasn_ldap::{AuthenticationChoice, BindRequest, BindResponse, SaslCredentials};
 use std::alloc::AllocError;
@@ -14,9 +14,10 @@ pub(crate) fn list_bind_request(
     listing.line("version", &request.version.number)?;
     list_string(listing, "name", request.name.as_str())?;
     match &request.authentication {
-        AuthenticationChoice::Simple(password) => list_octets(listing, "simple", password),
-        AuthenticationChoice::Sasl(credentials) => list_sasl(listing, credentials),
+        AuthenticationChoice::Simple(password) => list_octets(listing, "simple", password)?,
+        AuthenticationChoice::Sasl(credentials) => list_sasl(listing, credentials)?,
     }
+    list_unknown(listing, &request.unknown)
 }
 
 /// Lists SASL credentials.
@@ -26,6 +27,7 @@ fn list_sasl(listing: &mut Listing, sasl: &SaslCredentials) -> Result<(), AllocE
     if let Some(credentials) = &sasl.credentials {
         list_octets(listing, "credentials", credentials)?;
     }
+    list_unknown(listing, &sasl.unknown)?;
     listing.close();
     Ok(())
 }
@@ -45,5 +47,5 @@ pub(crate) fn list_bind_response(
     if let Some(credentials) = &response.server_sasl_credentials {
         list_octets(listing, "server sasl credentials", credentials)?;
     }
-    Ok(())
+    list_unknown(listing, &response.unknown)
 }

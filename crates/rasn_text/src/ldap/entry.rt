@@ -1,6 +1,6 @@
 //! Entries and their changes as text (RFC 4511, 4.5.2 and 4.6).
 
-use crate::ldap::{list_octets, list_string};
+use crate::ldap::{list_octets, list_string, list_unknown};
 use crate::listing::{Listing, NamedNumber};
 use rasn::types::OctetString;
 use rasn_ldap::{Change, ChangeOperation, ModifyRequest, PartialAttribute, SearchResultEntry};
@@ -26,7 +26,7 @@ pub(crate) fn list_entry(
         listing.close();
     }
     listing.close();
-    Ok(())
+    list_unknown(listing, &entry.unknown)
 }
 
 /// Lists a modify request.
@@ -40,7 +40,7 @@ pub(crate) fn list_modify_request(
         list_change(listing, change)?;
     }
     listing.close();
-    Ok(())
+    list_unknown(listing, &request.unknown)
 }
 
 /// Lists a change.
@@ -48,6 +48,7 @@ fn list_change(listing: &mut Listing, change: &Change) -> Result<(), AllocError>
     listing.open("change")?;
     listing.numbered("operation", change.operation.number, OPERATIONS)?;
     list_attribute(listing, &change.modification)?;
+    list_unknown(listing, &change.unknown)?;
     listing.close();
     Ok(())
 }
@@ -59,5 +60,5 @@ fn list_attribute(listing: &mut Listing, attribute: &PartialAttribute) -> Result
     for value in values {
         list_octets(listing, "value", value)?;
     }
-    Ok(())
+    list_unknown(listing, &attribute.unknown)
 }

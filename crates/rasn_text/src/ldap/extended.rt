@@ -1,7 +1,7 @@
 //! Extended operations as text (RFC 4511, 4.12).
 
 use crate::ldap::result::list_parts;
-use crate::ldap::{list_octets, list_string};
+use crate::ldap::{list_octets, list_string, list_unknown};
 use crate::listing::Listing;
 use rasn_ldap::{ExtendedRequest, ExtendedResponse};
 use std::alloc::AllocError;
@@ -15,7 +15,7 @@ pub(crate) fn list_extended_request(
     if let Some(value) = &request.request_value {
         list_octets(listing, "request value", value)?;
     }
-    Ok(())
+    list_unknown(listing, &request.unknown)
 }
 
 /// Lists an extended response.
@@ -36,5 +36,5 @@ pub(crate) fn list_extended_response(
     if let Some(value) = &response.response_value {
         list_octets(listing, "response value", value)?;
     }
-    Ok(())
+    list_unknown(listing, &response.unknown)
 }

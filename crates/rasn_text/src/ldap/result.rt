@@ -1,6 +1,6 @@
 //! Results as text (RFC 4511, 4.1.9).
 
-use crate::ldap::list_string;
+use crate::ldap::{list_string, list_unknown};
 use crate::listing::{Listing, NamedNumber};
 use rasn::types::{ContextTag, Implicit};
 use rasn_ldap::{LdapResult, LdapString, ResultCode};
@@ -120,7 +120,8 @@ pub(crate) fn list_result(listing: &mut Listing, answer: &LdapResult) -> Result<
         &answer.matched_dn,
         &answer.diagnostic_message,
         &answer.referral,
-    )
+    )?;
+    list_unknown(listing, &answer.unknown)
 }
 
 /// Lists the parts that all responses with a result share.

@@ -1,6 +1,6 @@
 //! Searches as text (RFC 4511, 4.5.1).
 
-use crate::ldap::{list_string, list_truth};
+use crate::ldap::{list_string, list_truth, list_unknown};
 use crate::listing::{Listing, NamedNumber};
 use rasn_ldap::{DerefAliases, SearchRequest, SearchScope};
 use std::alloc::AllocError;
@@ -35,7 +35,7 @@ pub(crate) fn list_search_request(
     for attribute in &request.attributes {
         list_string(listing, "attribute", attribute.as_str())?;
     }
-    Ok(())
+    list_unknown(listing, &request.unknown)
 }
 
 /// Lists the rule by which the search follows aliases.

@@ -1,7 +1,7 @@
 //! The parts of LDAP messages (RFC 4511, 4).
 
 use crate::place::{Found, Located, Walk};
-use rasn::types::{Any, ContextTag, Implicit, OctetString, Utf8String};
+use rasn::types::{Any, ContextTag, Implicit, OctetString, Unknown, Utf8String};
 use rasn_ldap::{
     AttributeValues, AuthenticationChoice, BindRequest, BindResponse, Change, ChangeOperation,
     Control, DerefAliases, ExtendedRequest, ExtendedResponse, IntegerWithin, LdapMessage,
@@ -25,7 +25,8 @@ impl Located for ChangeOperation {}
 impl Located for SaslCredentials {
     fn parts(walk: &mut Walk<'_>) -> Result<(), Found> {
         walk.part::<LdapString>("mechanism")?;
-        walk.part::<Option<OctetString>>("credentials")
+        walk.part::<Option<OctetString>>("credentials")?;
+        walk.part::<Unknown>("unknown")
     }
 }
 
@@ -39,7 +40,8 @@ impl Located for BindRequest {
     fn parts(walk: &mut Walk<'_>) -> Result<(), Found> {
         walk.part::<IntegerWithin<1, 127>>("version")?;
         walk.part::<LdapString>("name")?;
-        walk.part::<AuthenticationChoice>("authentication")
+        walk.part::<AuthenticationChoice>("authentication")?;
+        walk.part::<Unknown>("unknown")
     }
 }
 
@@ -53,14 +55,16 @@ fn result_parts(walk: &mut Walk<'_>) -> Result<(), Found> {
 
 impl Located for LdapResult {
     fn parts(walk: &mut Walk<'_>) -> Result<(), Found> {
-        result_parts(walk)
+        result_parts(walk)?;
+        walk.part::<Unknown>("unknown")
     }
 }
 
 impl Located for BindResponse {
     fn parts(walk: &mut Walk<'_>) -> Result<(), Found> {
         result_parts(walk)?;
-        walk.part::<Option<Implicit<ContextTag<7>, OctetString>>>("serverSaslCreds")
+        walk.part::<Option<Implicit<ContextTag<7>, OctetString>>>("serverSaslCreds")?;
+        walk.part::<Unknown>("unknown")
     }
 }
 
@@ -73,42 +77,48 @@ impl Located for SearchRequest {
         walk.part::<MaxInt>("timeLimit")?;
         walk.part::<bool>("typesOnly")?;
         walk.part::<Any>("filter")?;
-        walk.part::<Vec<LdapString>>("attributes")
+        walk.part::<Vec<LdapString>>("attributes")?;
+        walk.part::<Unknown>("unknown")
     }
 }
 
 impl Located for PartialAttribute {
     fn parts(walk: &mut Walk<'_>) -> Result<(), Found> {
         walk.part::<LdapString>("type")?;
-        walk.part::<AttributeValues>("vals")
+        walk.part::<AttributeValues>("vals")?;
+        walk.part::<Unknown>("unknown")
     }
 }
 
 impl Located for SearchResultEntry {
     fn parts(walk: &mut Walk<'_>) -> Result<(), Found> {
         walk.part::<LdapString>("objectName")?;
-        walk.part::<Vec<PartialAttribute>>("attributes")
+        walk.part::<Vec<PartialAttribute>>("attributes")?;
+        walk.part::<Unknown>("unknown")
     }
 }
 
 impl Located for Change {
     fn parts(walk: &mut Walk<'_>) -> Result<(), Found> {
         walk.part::<ChangeOperation>("operation")?;
-        walk.part::<PartialAttribute>("modification")
+        walk.part::<PartialAttribute>("modification")?;
+        walk.part::<Unknown>("unknown")
     }
 }
 
 impl Located for ModifyRequest {
     fn parts(walk: &mut Walk<'_>) -> Result<(), Found> {
         walk.part::<LdapString>("object")?;
-        walk.part::<Vec<Change>>("changes")
+        walk.part::<Vec<Change>>("changes")?;
+        walk.part::<Unknown>("unknown")
     }
 }
 
 impl Located for ExtendedRequest {
     fn parts(walk: &mut Walk<'_>) -> Result<(), Found> {
         walk.part::<Implicit<ContextTag<0>, Utf8String>>("requestName")?;
-        walk.part::<Option<Implicit<ContextTag<1>, OctetString>>>("requestValue")
+        walk.part::<Option<Implicit<ContextTag<1>, OctetString>>>("requestValue")?;
+        walk.part::<Unknown>("unknown")
     }
 }
 
@@ -116,7 +126,8 @@ impl Located for ExtendedResponse {
     fn parts(walk: &mut Walk<'_>) -> Result<(), Found> {
         result_parts(walk)?;
         walk.part::<Option<Implicit<ContextTag<10>, Utf8String>>>("responseName")?;
-        walk.part::<Option<Implicit<ContextTag<11>, OctetString>>>("responseValue")
+        walk.part::<Option<Implicit<ContextTag<11>, OctetString>>>("responseValue")?;
+        walk.part::<Unknown>("unknown")
     }
 }
 
@@ -139,7 +150,8 @@ impl Located for Control {
     fn parts(walk: &mut Walk<'_>) -> Result<(), Found> {
         walk.part::<LdapString>("controlType")?;
         walk.default_part::<NotCritical>("criticality")?;
-        walk.part::<Option<OctetString>>("controlValue")
+        walk.part::<Option<OctetString>>("controlValue")?;
+        walk.part::<Unknown>("unknown")
     }
 }
 
@@ -147,6 +159,7 @@ impl Located for LdapMessage {
     fn parts(walk: &mut Walk<'_>) -> Result<(), Found> {
         walk.part::<MaxInt>("messageID")?;
         walk.part::<ProtocolOp>("protocolOp")?;
-        walk.part::<Option<Implicit<ContextTag<0>, Vec<Control>>>>("controls")
+        walk.part::<Option<Implicit<ContextTag<0>, Vec<Control>>>>("controls")?;
+        walk.part::<Unknown>("unknown")
     }
 }
