@@ -5,3 +5,5 @@ pub mod Pending
 pub mod Order
 pub mod Contents
 pub mod Worked
+pub mod Judged
+pub mod Unread
