@@ -19,9 +19,6 @@ use Rattle.rasn_lint.specs.WellFormed.{IsWellFormed}
 
 -- One part more, and no more.
 module _ (is_read : Bool) (opens : OpenTypes) (types : List «Type») (len : ℕ) (parts : List Extent) where
-  Goal : List Departure → Type 0
-  Goal ds = AreJudged is_read opens types len [] [] parts ds
-
   pub one_more : (trail : List Step) (path : List ℕ) (e : Extent) (es : List Extent) (list ds : List Departure)
       → ((more : List Departure) → AreJudged is_read opens types len trail path (e ∷ es) more → AreJudged is_read opens types len [] [] parts (list ++ more))
       → AreOfPart is_read opens types len trail (path_after path e) e ds → (more : List Departure)
@@ -34,11 +31,11 @@ module _ (is_read : Bool) (opens : OpenTypes) (types : List «Type») (len : ℕ
       → AreJudged is_read opens types len [] [] parts list
   no_more trail path list f = subst (λ z. AreJudged is_read opens types len [] [] parts z) (append-nil list) (f [] refl)
 
-open_one : {tag : Tag} {o a b : List ℕ} → HasOpen tag o a → HasOpen tag o b → a ≡ b
-open_one {a = a} {b = b} (r, x) (s, y) = let h : numbers b ≡ numbers a = (x.1 (numbers b) s y.0).0 in cc
+open_one : (tag : Tag) (o a b : List ℕ) → HasOpen tag o a → HasOpen tag o b → a ≡ b
+open_one tag o a b (r, x) (s, y) = let h : numbers b ≡ numbers a = (x.1 (numbers b) s y.0).0 in cc
 
 -- There is no departure inside a part exactly if the octets of its open type are well formed.
-Formed : Option «Type» → Extent → Type 0
+abbrev Formed : Option «Type» → Extent → Type 0
 Formed o e = (tag : Tag) (inside : List ℕ) → o ≡ Some (Any tag) → HasOpen tag e.octets.now inside → IsWellFormed inside
 
 
@@ -46,7 +43,7 @@ formed_if : (o : Option «Type») (path : List ℕ) (e : Extent) (ds : List Depa
 formed_if None path e ds h = (λ q tag inside p. cc, λ f. h)
 formed_if (Some (Any tag)) path e ds (inl (inside, has, iff, all)) = (λ q t i p g.
   let s : t ≡ tag = cc in
-  let k : inside ≡ i = open_one has (subst (λ u. HasOpen u e.octets.now i) s g) in
+  let k : inside ≡ i = open_one tag e.octets.now inside i has (subst (λ u. HasOpen u e.octets.now i) s g) in
   subst IsWellFormed k (iff.0 q), λ f. iff.1 (f tag inside refl has))
 formed_if (Some (Any tag)) path e ds (inr (none, q)) = (λ z t i p g.
   let s : t ≡ tag = cc in
@@ -61,8 +58,8 @@ formed_if (Some (SequenceOf tag id c)) path e ds h = (λ q t inside p. cc, λ f.
 formed_if (Some (SetOf tag id c)) path e ds h = (λ q t inside p. cc, λ f. h)
 
 -- Two lists without elements are one.
-both_empty : {A : Type 0} {a b c : List A} → a ≡ b ++ c → b ≡ [] → c ≡ [] → a ≡ []
-both_empty p q r = p ∙ (ap (λ z. z ++ _) q ∙ r)
+both_empty : {A : Type 0} (a b c : List A) → a ≡ b ++ c → b ≡ [] → c ≡ [] → a ≡ []
+both_empty a b c p q r = p ∙ (ap (λ z. z ++ c) q ∙ r)
 
 first_empty : {A : Type 0} (b c : List A) → b ++ c ≡ [] → b ≡ []
 first_empty [] c p = refl
@@ -73,13 +70,13 @@ module _ (types : List «Type») (len : ℕ) where
   pub none_typed : (trail : List Step) (path : List ℕ) (es : List Extent) (ds : List Departure) → AreJudged true Unexamined types len trail path es ds → ds ≡ []
   none_typed trail path [] ds h = h
   none_typed trail path (e ∷ es) ds (mine, others, p, m, h) =
-      both_empty p (both_empty m.are m.by_type m.by_octets) (none_typed (trail_after trail e) (path_after path e) es others h)
+      both_empty ds mine others p (both_empty mine m.typed m.inside m.are m.by_type m.by_octets) (none_typed (trail_after trail e) (path_after path e) es others h)
 
   pub none_if_formed : (trail : List Step) (path : List ℕ) (es : List Extent) (ds : List Departure) → AreJudged true Examined types len trail path es ds
       → AllByRecursion (HasFormed types) es → ds ≡ []
   none_if_formed trail path [] ds h a = h
   none_if_formed trail path (e ∷ es) ds (mine, others, p, m, h) a =
-      both_empty p (both_empty m.are m.by_type ((formed_if (slice_get types e.id.0) (path_after path e) e m.inside m.by_octets).1 a.0))
+      both_empty ds mine others p (both_empty mine m.typed m.inside m.are m.by_type ((formed_if (slice_get types e.id.0) (path_after path e) e m.inside m.by_octets).1 a.0))
       (none_if_formed (trail_after trail e) (path_after path e) es others h a.1)
 
   pub formed_if_none : (trail : List Step) (path : List ℕ) (es : List Extent) (ds : List Departure) → AreJudged true Examined types len trail path es ds

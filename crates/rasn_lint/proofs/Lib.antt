@@ -7,3 +7,6 @@ pub mod Contents
 pub mod Worked
 pub mod Judged
 pub mod Unread
+pub mod Reader
+pub mod Noted
+pub mod Clean

@@ -5,7 +5,8 @@ use Rattle.rasn_types.specs.declared.types.tag.Tag.{Tag}
 use Rattle.rasn_types.specs.declared.error.decode.DecodeError.{DecodeError}
 use Rattle.rasn_types.specs.declared.error.decode.DerDecodeErrorKind.{DerDecodeErrorKind}
 use Rattle.rasn_types.specs.declared.error.decode.DerDecodeErrorKind.TheVariants.{ConstructedBitMismatch, ConstructedEncodingNotAllowed, NonMinimalLength}
-use Rattle.rasn_types.specs.Tags.{tag_bit, is_eoc, in_universal}
+use Rattle.rasn_types.specs.Framing.{NextTag}
+use Rattle.rasn_types.specs.Tags.{tag_bit, is_eoc, in_universal, der_form}
 use Rattle.rasn_de.specs.declared.ber.de.parser.ParseError.{ParseError}
 use Rattle.rasn_de.specs.declared.ber.de.parser.ParseError.TheVariants.{Der as DerFault, IndefiniteLengthNotAllowed}
 use Rattle.rasn_de.specs.Causes.{error_kind}
@@ -61,8 +62,8 @@ IsLengthFaultAfter tag octets None = (refused : Option DecodeError) × ReadsHead
 
 -- The same of octets whose identifier may have any form: one that DER doesn't read is replaced by that of a SEQUENCE.
 abbrev pub IsLengthFault : List ℕ → Option DecodeError → Type 0
-IsLengthFault octets f = ((t : Tag) × PeeksTag (start octets) (Ok t) × IsLengthFaultAfter t octets f)
-    ⊎ ((e : DecodeError) × PeeksTag (start octets) (Err e) × IsLengthFaultAfter (in_universal 16) (48 ∷ after_identifier octets) f)
+IsLengthFault octets f = ((t : Tag) × NextTag der_form octets t × IsLengthFaultAfter t octets f)
+    ⊎ (((t : Tag) → NextTag der_form octets t → ⊥) × IsLengthFaultAfter (in_universal 16) (48 ∷ after_identifier octets) f)
 
 abbrev pub is_constructed : List ℕ → Bool
 is_constructed [] = false

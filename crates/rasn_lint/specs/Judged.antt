@@ -1,6 +1,6 @@
 -- What departs of the parts of a message.
 use Rattle.std.specs.Prelude.{◌≡◌, ◌≢◌, ◌⊎◌, ◌↔◌, ◌-◌, ℕ, List, [], ◌∷◌, ◌++◌, Bool, true, false, Option, Some, None, Result, Ok, Err, slice_get}
-use Rattle.std.specs.List.{All}
+use Rattle.std.specs.List.{AllByRecursion}
 use Rattle.std.specs.Borrow.{Bor}
 use Rattle.rasn_types.specs.declared.types.codec.Codec.TheVariants.{Ber}
 use Rattle.rasn_types.specs.declared.types.tag.Tag.{Tag}
@@ -105,11 +105,11 @@ IsInside e path d = (d.refusal.id ≡ e.id) × (d.refusal.steps.items ≡ path) 
 
 -- Some are appended.
 abbrev pub GrowsInside : Extent → List ℕ → List Departure → List Departure → Type 0
-GrowsInside e path old new = (ds : List Departure) × (new ≡ old ++ ds) × All (IsInside e path) ds
+GrowsInside e path old new = (ds : List Departure) × (new ≡ old ++ ds) × AllByRecursion (IsInside e path) ds
 
 -- There are none exactly if the octets of the open type are well formed.
 abbrev pub AreInside : Tag → List ℕ → Extent → List Departure → Type 0
-AreInside tag path e ds = (inside : List ℕ) × HasOpen tag e.octets.now inside × ((ds ≡ []) ↔ IsWellFormed inside) × All (IsInside e path) ds
+AreInside tag path e ds = (inside : List ℕ) × HasOpen tag e.octets.now inside × ((ds ≡ []) ↔ IsWellFormed inside) × AllByRecursion (IsInside e path) ds
 
 -- The same of a part of any type; of one that isn't open, and where BER finds no octets, there are none.
 abbrev pub AreOpenDepartures : List ℕ → Extent → Option «Type» → List Departure → Type 0

@@ -14,8 +14,8 @@ use Rattle.rasn_schema.specs.declared.types.«Type».{«Type»}
 use Rattle.rasn_schema.specs.declared.types.«Type».TheVariants.{Leaf, Enumerated, Any, Tagged, Choice, Sequence, Set, SequenceOf, SetOf}
 use Rattle.rasn_dynamic.specs.Entry.{shape_of, IsChecked}
 use Rattle.rasn_lint.specs.Header.{is_string, is_constructed}
-use Rattle.rasn_lint.specs.declared.contents.Segments.{Segments}
-use Rattle.rasn_lint.specs.declared.contents.Segments.TheVariants.{Whole, OfOctets, OfBits}
+use Rattle.rasn_lint.specs.declared.leaf.Segments.{Segments}
+use Rattle.rasn_lint.specs.declared.leaf.Segments.TheVariants.{Whole, OfOctets, OfBits}
 
 -- how the contents of a constructed value are encoded
 abbrev pub segments_in : LeafKind → Segments

@@ -1,5 +1,5 @@
 -- What is returned of a message.
-use Rattle.std.specs.Prelude.{◌≡◌, ◌≢◌, ◌⊎◌, ◌↔◌, ℕ, List, [], ◌∷◌, ◌++◌, length, Bool, true, false, Option, Some, None, slice_get}
+use Rattle.std.specs.Prelude.{◌≡◌, ◌≢◌, ◌⊎◌, ◌↔◌, ◌-◌, ℕ, List, [], ◌∷◌, ◌++◌, length, Bool, true, false, Option, Some, None, slice_get}
 use Rattle.std.specs.List.{AllByRecursion}
 use Rattle.rasn_types.specs.declared.types.codec.Codec.TheVariants.{Ber, Der}
 use Rattle.rasn_types.specs.declared.types.tag.Tag.{Tag}
@@ -39,6 +39,11 @@ abbrev pub AreAll : OpenTypes → List «Type» → ℕ → List ℕ → List Ex
 AreAll opens types id input parts ds = (IsDer types id input × AreJudged true opens types (length input) [] [] parts ds)
     ⊎ ((IsDer types id input → ⊥) × ((AreJudged false opens types (length input) [] [] parts ds × (ds ≢ []))
     ⊎ (AreJudged false opens types (length input) [] [] parts [] × (d : Departure) × (ds ≡ d ∷ []) × (d.inner ≡ None))))
+
+-- how many octets follow the first of the parts, which is the whole value
+abbrev pub len_after : List Extent → List ℕ → ℕ
+len_after [] input = length input
+len_after (e ∷ es) input = length input - length e.octets.now
 
 -- The list of a message, whose parts are those of one reading by BER.
 pub record IsLint (opens : OpenTypes) (types : List «Type») (id : ℕ) (input : List ℕ) (ds : List Departure) : Type 0 where

@@ -1,9 +1,9 @@
 //! Every departure of a message from DER, by its type.
-ghost use Rattle.std.specs.Prelude.{◌≡◌, ◌++◌, [], IfOk, IfErr, OnOk, List, MatchOption};
+ghost use Rattle.std.specs.Prelude.{◌≡◌, ◌++◌, ◌∷◌, [], None, IfOk, IfErr, OnOk, List, MatchOption};
 ghost use Rattle.rasn_types.specs.Framing.{AreOctets};
 ghost use Rattle.rasn_lint.specs.declared.departure.Departure.{Departure};
 ghost use Rattle.rasn_lint.specs.Judged.{AreOfPart, AreJudged, AreOpenDepartures};
-ghost use Rattle.rasn_lint.specs.Lint.{IsDer, IsLint, IsNoLint};
+ghost use Rattle.rasn_lint.specs.Lint.{IsDer, AreAll, IsLint, IsNoLint, len_after};
 ghost use Rattle.rasn_lint.specs.Trail.{trail_after};
 ghost use Rattle.rasn_dynamic.specs.Walk.{path_after};
 
@@ -41,19 +41,13 @@ pub enum LintError {
     OutOfMemory,
 }
 
-impl From<AllocError> for LintError {
-    fn from(_error: AllocError) -> LintError {
-        LintError::OutOfMemory
-    }
-}
-
 /// Returns where and why DER doesn't read the octets as a value of the type, if it doesn't.
 fn der_refusal(
     alloc: Global,
     schema: &Schema,
     id: TypeId,
     octets: &[u8],
-) -> Result<Option<Refusal>, LintError>
+) -> Result<Option<Refusal>, AllocError>
     ensures { IfOk result (λ found. MatchOption found (IsDer schema.now.types.items id.0 octets.now) (λ r. IsDer schema.now.types.items id.0 octets.now → ⊥)) }
 {
     match check_or_locate(alloc, Codec::Der, schema, id, octets) {
@@ -69,7 +63,7 @@ fn der_refusal(
             is_cut: false,
         })),
         Err(refusal) => if refusal.error.is_out_of_memory() {
-            Err(LintError::OutOfMemory)
+            Err(AllocError)
         } else {
             Ok(Some(refusal))
         },
@@ -97,7 +91,7 @@ fn judge_part(
     opens: OpenTypes,
     trail: &[Step<'_>],
     way: Way<'_, '_>,
-) -> Result<(), LintError>
+) -> Result<(), AllocError>
     ensures { OnOk result ((ds : List Departure) × (list.new.items ≡ list.old.items ++ ds)
         × AreOfPart is_read opens schema.now.types.items way.entry.len trail.now way.entry.path.now way.entry.part.now ds) }
 {
@@ -110,10 +104,7 @@ fn judge_part(
     }
     match opens {
         OpenTypes::Unexamined => Ok(()),
-        OpenTypes::Examined => {
-            note_open(alloc, list, ty, way)?;
-            Ok(())
-        }
+        OpenTypes::Examined => note_open(alloc, list, ty, way),
     }
 }
 
@@ -125,7 +116,7 @@ fn judge_parts(
     opens: OpenTypes,
     len: usize,
     parts: &[Extent<'_>],
-) -> Result<Vec<Departure>, LintError>
+) -> Result<Vec<Departure>, AllocError>
     ensures { IfOk result (λ list. AreJudged is_read opens schema.now.types.items len [] [] parts.now list.items) }
 {
     let mut list = Vec::new(alloc);
@@ -146,8 +137,33 @@ fn judge_parts(
     Ok(list)
 }
 
+/// Returns the departures of a message with these parts.
+fn judge_message(
+    alloc: Global,
+    schema: &Schema,
+    id: TypeId,
+    octets: &[u8],
+    opens: OpenTypes,
+    parts: &[Extent<'_>],
+) -> Result<Vec<Departure>, AllocError>
+    ensures { IfOk result (λ list. AreAll opens schema.now.types.items id.0 octets.now parts.now list.items) }
+{
+    let Some(refusal) = der_refusal(alloc, schema, id, octets)? else {
+        let list = judge_parts(alloc, schema, true, opens, octets.len(), parts)?;
+        return Ok(list);
+    };
+    let mut list = judge_parts(alloc, schema, false, opens, octets.len(), parts)?;
+    if list.is_empty() {
+        push_refusal(&mut list, refusal)?;
+        return Ok(list);
+    }
+    Ok(list)
+}
+
 /// Returns the number of octets after the first of the parts, which is the whole value.
-fn octets_after(parts: &[Extent<'_>], octets: &[u8]) -> usize {
+fn len_after(parts: &[Extent<'_>], octets: &[u8]) -> usize
+    ensures { result ≡ len_after parts.now octets.now }
+{
     match parts {
         [whole, ..] => octets.len().saturating_sub(whole.octets.len()),
         [] => octets.len(),
@@ -187,16 +203,12 @@ pub fn lint(
         Ok(parts) => parts,
         Err(refusal) => return Err(LintError::Refused(refusal)),
     };
-    let remainder = octets_after(parts.list.as_slice(), octets);
+    let remainder = len_after(parts.list.as_slice(), octets);
     if remainder > 0 {
         return Err(LintError::Remainder(remainder));
     }
-    let refusal = der_refusal(alloc, schema, id, octets)?;
-    let is_read = refusal.is_none();
-    let len = octets.len();
-    let mut list = judge_parts(alloc, schema, is_read, opens, len, parts.list.as_slice())?;
-    if let Some(refusal) = refusal && list.is_empty() {
-        push_refusal(&mut list, refusal)?;
+    match judge_message(alloc, schema, id, octets, opens, parts.list.as_slice()) {
+        Ok(list) => Ok(list),
+        Err(_) => Err(LintError::OutOfMemory),
     }
-    Ok(list)
 }

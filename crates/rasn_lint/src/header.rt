@@ -114,13 +114,11 @@ fn with_short_identifier(alloc: Global, octets: &[u8]) -> Result<Vec<u8>, AllocE
 pub fn length_fault(alloc: Global, octets: &[u8]) -> Result<Option<DecodeError>, AllocError>
     ensures { IfOk result (IsLengthFault octets.now) }
 {
-    match decoder_of(alloc, octets).peek_tag() {
-        Ok(tag) => Ok(length_fault_after(alloc, tag, octets)),
-        Err(_) => {
-            let copy = with_short_identifier(alloc, octets)?;
-            Ok(length_fault_after(alloc, Tag::SEQUENCE, &copy))
-        }
-    }
+    let Ok(tag) = decoder_of(alloc, octets).peek_tag() else {
+        let copy = with_short_identifier(alloc, octets)?;
+        return Ok(length_fault_after(alloc, Tag::SEQUENCE, &copy));
+    };
+    Ok(length_fault_after(alloc, tag, octets))
 }
 
 /// Returns whether an encoding has the constructed bit (X.690 8.1.2.5).

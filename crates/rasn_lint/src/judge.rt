@@ -4,8 +4,7 @@ ghost use Rattle.rasn_lint.specs.Judged.{AreNoted, IsAnyFault, IsOpenFault, AreF
 ghost use Rattle.rasn_lint.specs.Header.{has_own_header};
 ghost use Rattle.rasn_lint.specs.declared.departure.Departure.{Departure};
 
-use crate::by_schema::LintError;
-use crate::contents::contents_fault;
+use crate::leaf::contents_fault;
 use crate::departure::{Aspect, Departure};
 use crate::der::encoding::decoder_of;
 use crate::header::{form_fault, has_own_header, is_constructed, length_fault, tag_fault};
@@ -72,7 +71,7 @@ pub fn faults_of(
     trail: &[Step<'_>],
     part: &Extent<'_>,
     ty: &Type,
-) -> Result<Faults, LintError>
+) -> Result<Faults, AllocError>
     ensures { IfOk result (AreFaultsOf schema.now.types.items trail.now part.now ty.now) }
 {
     let octets = part.octets;
@@ -135,5 +134,6 @@ pub fn note_faults(
     note(alloc, list, way, Aspect::Header, faults.tag)?;
     note(alloc, list, way, Aspect::Header, faults.form)?;
     note(alloc, list, way, Aspect::Header, faults.length)?;
-    note(alloc, list, way, Aspect::Contents, faults.contents)
+    note(alloc, list, way, Aspect::Contents, faults.contents)?;
+    Ok(())
 }

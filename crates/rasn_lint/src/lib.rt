@@ -3,11 +3,11 @@
 #![tactic(auto)]
 
 mod by_schema;
-mod contents;
 mod departure;
 pub mod der;
 mod header;
 mod judge;
+mod leaf;
 mod open;
 mod place;
 mod trail;

@@ -1,11 +1,11 @@
 //! What departs inside an open type, where no type is known.
 ghost use Rattle.std.specs.Prelude.{◌≡◌, ◌<◌, ◌++◌, ◌↔◌, [], ℕ, List, length, OnOk, MatchOption, IsSome, Some};
-ghost use Rattle.std.specs.List.{All};
+ghost use Rattle.std.specs.List.{AllByRecursion};
 ghost use Rattle.rasn_lint.specs.Judged.{IsInside, GrowsInside, HasOpen, AreOpenDepartures};
 ghost use Rattle.rasn_lint.specs.WellFormed.{IsWellFormed};
 ghost use Rattle.rasn_lint.specs.declared.departure.Departure.{Departure};
 
-use crate::contents::write_octets;
+use crate::leaf::write_octets;
 use crate::departure::{Aspect, Departure};
 use crate::der::contents::allows_contents;
 use crate::der::is_well_formed;
@@ -14,7 +14,7 @@ use crate::der::universal::{ContentsRule, rule_of};
 use crate::header::{is_constructed, length_fault, tag_fault};
 use crate::judge::Way;
 use crate::place::der_error;
-use rasn_de::ber::de::{ConstructedHeader, Decoder, DecoderOptions};
+use rasn_de::ber::de::{Decoder, DecoderOptions};
 use rasn_dynamic::Refusal;
 use rasn_schema::Type;
 use rasn_types::error::{
@@ -25,7 +25,7 @@ use std::alloc::{AllocError, Global};
 
 /// A part that is a value of an open type.
 #[derive(Clone, Copy)]
-struct Open<'a, 'input> {
+struct Outer<'a, 'input> {
     /// The way to the part.
     way: Way<'a, 'input>,
     /// Where the octets of the open type end, in octets from the start of the message.
@@ -73,14 +73,14 @@ fn contents_of(alloc: Global, encoding: &[u8]) -> Option<(Tag, &[u8])> {
 fn note(
     alloc: Global,
     list: &mut Vec<Departure>,
-    open: Open<'_, '_>,
+    outer: Outer<'_, '_>,
     path: &[usize],
     left: usize,
     aspect: Aspect,
     fault: Option<DecodeError>,
 ) -> Result<(), AllocError>
-    ensures { OnOk result (GrowsInside open.entry.way.part.now open.entry.way.path.now list.old.items list.new.items) }
-    ensures more { OnOk result (IsSome fault.entry → length list.old.items < length list.new.items) }
+    ensures grows { OnOk result (GrowsInside outer.entry.way.part.now outer.entry.way.path.now list.old.items list.new.items) }
+    ensures more { OnOk result (IsSome fault → length list.old.items < length list.new.items) }
 {
     let Some(error) = fault else {
         return Ok(());
@@ -88,9 +88,9 @@ fn note(
     list.push(Departure {
         refusal: Refusal {
             error,
-            offset: open.end.saturating_sub(left),
-            id: open.way.part.id,
-            steps: Vec::from_slice(alloc, open.way.path)?,
+            offset: outer.end.saturating_sub(left),
+            id: outer.way.part.id,
+            steps: Vec::from_slice(alloc, outer.way.path)?,
             is_cut: false,
         },
         aspect,
@@ -201,31 +201,30 @@ fn contents_fault(
     read_error(alloc, rule, tag, contents)
 }
 
-/// Appends what departs of an encoding itself. Returns its tag and its contents if they are
-/// encodings.
+/// Appends what departs of an encoding itself. Returns its contents if they are encodings.
 fn judge_encoding<'input>(
     alloc: Global,
     list: &mut Vec<Departure>,
-    open: Open<'_, '_>,
+    outer: Outer<'_, '_>,
     path: &[usize],
     left: usize,
     encoding: &'input [u8],
-) -> Result<Option<(Tag, &'input [u8])>, AllocError>
-    ensures { OnOk result (GrowsInside open.entry.way.part.now open.entry.way.path.now list.old.items list.new.items) }
+) -> Result<Option<&'input [u8]>, AllocError>
+    ensures { OnOk result (GrowsInside outer.entry.way.part.now outer.entry.way.path.now list.old.items list.new.items) }
 {
     let Some((tag, contents)) = contents_of(alloc, encoding) else {
         let error = unreadable(alloc, encoding);
-        note(alloc, list, open, path, left, Aspect::Header, Some(error))?;
+        note(alloc, list, outer, path, left, Aspect::Header, Some(error))?;
         return Ok(None);
     };
     let rule = rule_of(tag);
     let bit = is_constructed(encoding);
-    note(alloc, list, open, path, left, Aspect::Header, tag_fault(alloc, encoding))?;
-    note(alloc, list, open, path, left, Aspect::Header, form_fault(rule, bit))?;
-    note(alloc, list, open, path, left, Aspect::Header, length_fault(alloc, encoding)?)?;
+    note(alloc, list, outer, path, left, Aspect::Header, tag_fault(alloc, encoding))?;
+    note(alloc, list, outer, path, left, Aspect::Header, form_fault(rule, bit))?;
+    note(alloc, list, outer, path, left, Aspect::Header, length_fault(alloc, encoding)?)?;
     let fault = contents_fault(alloc, rule, tag, bit, contents)?;
-    note(alloc, list, open, path, left, Aspect::Contents, fault)?;
-    if bit { Ok(Some((tag, contents))) } else { Ok(None) }
+    note(alloc, list, outer, path, left, Aspect::Contents, fault)?;
+    if bit { Ok(Some(contents)) } else { Ok(None) }
 }
 
 /// Goes to an encoding with this index, in so many others.
@@ -239,11 +238,13 @@ fn go_to(path: &mut Vec<usize>, depth: usize, index: usize) -> Result<(), AllocE
     Ok(())
 }
 
-/// Returns the number of end-of-contents octets of a constructed encoding.
-fn end_len(alloc: Global, encoding: &[u8], tag: Tag) -> usize {
+/// Returns the number of end-of-contents octets of an encoding: one of indefinite length takes steps
+/// to be skipped.
+fn end_len(alloc: Global, encoding: &[u8]) -> usize {
     let mut decoder = Decoder::new(alloc, encoding, DecoderOptions::ber());
-    match decoder.open(ConstructedHeader::prefix(tag)) {
-        Ok((inner, _)) => if inner.may_be_closed() { 2 } else { 0 },
+    match decoder.skip_value() {
+        Ok(0) => 0,
+        Ok(_) => 2,
         Err(_) => 0,
     }
 }
@@ -275,21 +276,21 @@ fn keep<'input>(
 fn look<'input>(
     alloc: Global,
     list: &mut Vec<Departure>,
-    open: Open<'_, '_>,
+    outer: Outer<'_, '_>,
     path: &mut Vec<usize>,
     pending: &mut Vec<Pending<'input>>,
     next: Pending<'input>,
 ) -> Result<(), AllocError>
-    ensures { OnOk result (GrowsInside open.entry.way.part.now open.entry.way.path.now list.old.items list.new.items) }
+    ensures { OnOk result (GrowsInside outer.entry.way.part.now outer.entry.way.path.now list.old.items list.new.items) }
 {
     go_to(path, next.depth, next.index)?;
     if next.depth == 0 && next.index > 0 {
         let error = extra(next.octets);
-        return note(alloc, list, open, path, next.left, Aspect::Contents, Some(error));
+        return note(alloc, list, outer, path, next.left, Aspect::Contents, Some(error));
     }
     let Some((encoding, rest)) = first_encoding(alloc, next.octets) else {
         let error = unreadable(alloc, next.octets);
-        return note(alloc, list, open, path, next.left, Aspect::Header, Some(error));
+        return note(alloc, list, outer, path, next.left, Aspect::Header, Some(error));
     };
     let after = Pending {
         octets: rest,
@@ -301,11 +302,11 @@ fn look<'input>(
     if is_well_formed(alloc, encoding)? {
         return Ok(());
     }
-    let inner = judge_encoding(alloc, list, open, path, next.left, encoding)?;
-    let Some((tag, contents)) = inner else {
+    let inner = judge_encoding(alloc, list, outer, path, next.left, encoding)?;
+    let Some(contents) = inner else {
         return Ok(());
     };
-    let after_contents = end_len(alloc, encoding, tag).saturating_add(next.left);
+    let after_contents = end_len(alloc, encoding).saturating_add(next.left);
     let inside = Pending {
         octets: contents,
         index: 0,
@@ -320,10 +321,10 @@ fn look<'input>(
 fn look_inside(
     alloc: Global,
     list: &mut Vec<Departure>,
-    open: Open<'_, '_>,
+    outer: Outer<'_, '_>,
     octets: &[u8],
 ) -> Result<(), AllocError>
-    ensures { OnOk result (GrowsInside open.entry.way.part.now open.entry.way.path.now list.old.items list.new.items) }
+    ensures { OnOk result (GrowsInside outer.entry.way.part.now outer.entry.way.path.now list.old.items list.new.items) }
 {
     let mut path = Vec::new(alloc);
     let mut pending = Vec::new(alloc);
@@ -338,7 +339,7 @@ fn look_inside(
         let Some(next) = pending.pop() else {
             break;
         };
-        look(alloc, list, open, &mut path, &mut pending, next)?;
+        look(alloc, list, outer, &mut path, &mut pending, next)?;
     }
     Ok(())
 }
@@ -356,7 +357,7 @@ fn octets_inside(alloc: Global, tag: Tag, octets: &[u8]) -> Option<&[u8]>
 
 /// Returns the number of octets after those of an open type, in its own octets.
 fn len_after(alloc: Global, tag: Tag, octets: &[u8]) -> usize {
-    if tag == Tag::EOC { 0 } else { end_len(alloc, octets, tag) }
+    if tag == Tag::EOC { 0 } else { end_len(alloc, octets) }
 }
 
 /// Appends the departures inside a value of an open type with this tag: there are none exactly if
@@ -368,22 +369,22 @@ fn note_inside(
     tag: Tag,
     octets: &[u8],
 ) -> Result<(), AllocError>
-    ensures { OnOk result ((ds : List Departure) × (list.new.items ≡ list.old.items ++ ds) × ((ds ≡ []) ↔ IsWellFormed octets.now) × All (IsInside way.entry.part.now way.entry.path.now) ds) }
+    ensures { OnOk result ((ds : List Departure) × (list.new.items ≡ list.old.items ++ ds) × ((ds ≡ []) ↔ IsWellFormed octets.now) × AllByRecursion (IsInside way.entry.part.now way.entry.path.now) ds) }
 {
     if is_well_formed(alloc, octets)? {
         return Ok(());
     }
     let part = way.part;
     let part_end = way.len.saturating_sub(part.left).saturating_add(part.octets.len());
-    let open = Open {
+    let outer = Outer {
         way,
         end: part_end.saturating_sub(len_after(alloc, tag, part.octets)),
     };
     let before = list.len();
-    look_inside(alloc, list, open, octets)?;
+    look_inside(alloc, list, outer, octets)?;
     if list.len() == before {
         let error = unreadable(alloc, octets);
-        note(alloc, list, open, &[], octets.len(), Aspect::Contents, Some(error))?;
+        note(alloc, list, outer, &[], octets.len(), Aspect::Contents, Some(error))?;
     }
     Ok(())
 }

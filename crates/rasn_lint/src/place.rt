@@ -5,10 +5,10 @@ ghost use Rattle.rasn_types.specs.declared.types.codec.Codec.TheVariants.{Ber};
 ghost use Rattle.rasn_types.specs.declared.types.tag.Tag.{Tag};
 ghost use Rattle.rasn_types.specs.Truth.{IsWhether};
 ghost use Rattle.rasn_de.specs.ParserViews.{peeked_tag};
+ghost use Rattle.rasn_dynamic.specs.Faults.{start};
 ghost use Rattle.rasn_lint.specs.Trail.{holder_in, before_in};
 ghost use Rattle.rasn_lint.specs.Place.{der_error, order_of, default_in, default_at, default_of, order_if, default_if, type_of, HasLowerTag, IsOrderFault, IsDefaultFault};
 
-use crate::by_schema::LintError;
 use crate::der::order::{is_less, is_tag_below};
 use crate::trail::{Step, before, holder_of};
 use rasn_de::ber::de::{Decoder, DecoderOptions};
@@ -16,7 +16,7 @@ use rasn_dynamic::{Extent, decode};
 use rasn_schema::{Component, Presence, Schema, Type, TypeId, Value, type_at};
 use rasn_types::error::{CodecDecodeError, DecodeError, DecodeErrorKind, DerDecodeErrorKind};
 use rasn_types::types::{Codec, Tag};
-use std::alloc::Global;
+use std::alloc::{AllocError, Global};
 
 /// The order of what a value holds.
 #[derive(Clone, Copy)]
@@ -41,14 +41,21 @@ pub fn der_error(kind: DerDecodeErrorKind) -> DecodeError
     }
 }
 
+/// Returns a decoder of the octets by BER.
+fn reader_of(alloc: Global, octets: &[u8]) -> Decoder<'_>
+    ensures { result ≡ start Ber octets.now }
+{
+    Decoder::new(alloc, octets, DecoderOptions::ber())
+}
+
 /// Returns the tag with which an encoding begins.
 fn tag_of(alloc: Global, octets: &[u8]) -> Option<Tag>
     ensures { MatchOption result ((t : Tag) → peeked_tag (form Ber) octets.now ≡ Ok t → ⊥) (λ t. peeked_tag (form Ber) octets.now ≡ Ok t) }
 {
-    match Decoder::new(alloc, octets, DecoderOptions::ber()).peek_tag() {
-        Ok(tag) => Some(tag),
-        Err(_) => None,
-    }
+    let Ok(tag) = reader_of(alloc, octets).peek_tag() else {
+        return None;
+    };
+    Some(tag)
 }
 
 /// Returns whether octets begin with a tag below the one that others begin with (X.680 8.6).
@@ -163,7 +170,7 @@ fn default_fault_of(
     id: TypeId,
     octets: &[u8],
     default: &Value<'_>,
-) -> Result<Option<DecodeError>, LintError>
+) -> Result<Option<DecodeError>, AllocError>
     ensures { IfOk result (IsDefaultFault schema.now.types.items id.0 octets.now (Some default.now)) }
 {
     match decode(alloc, Codec::Ber, schema, id, octets) {
@@ -173,7 +180,7 @@ fn default_fault_of(
             Ok(None)
         },
         Err(error) => if error.is_out_of_memory() {
-            Err(LintError::OutOfMemory)
+            Err(AllocError)
         } else {
             Ok(None)
         },
@@ -186,7 +193,7 @@ pub fn default_fault(
     schema: &Schema,
     trail: &[Step<'_>],
     part: &Extent<'_>,
-) -> Result<Option<DecodeError>, LintError>
+) -> Result<Option<DecodeError>, AllocError>
     ensures { IfOk result (IsDefaultFault schema.now.types.items part.now.id.0 part.now.octets.now (default_if (type_of schema.now.types.items (holder_in trail.now part.now)) part.now.index)) }
 {
     let Some(ty) = type_of(schema.types(), holder_of(trail, part)) else {

@@ -8,7 +8,6 @@ ghost use Rattle.rasn_types.specs.Shapes.{leaf, numbers, bits, Tree, octet_strin
 ghost use Rattle.rasn_types.specs.Trees.{unconstrained};
 ghost use Rattle.rasn_lint.specs.Leaf.{segments_of, segments_in, Finds, IsMended, IsMendedFault, IsContentsFault};
 
-use crate::by_schema::LintError;
 use crate::header::{is_constructed, is_string};
 use rasn_de::ber::de::{Decoder, DecoderOptions};
 use rasn_dynamic::check;
@@ -16,7 +15,7 @@ use rasn_enc::ber::enc::{Encoder, EncoderOptions};
 use rasn_schema::{LeafKind, Schema, Type, TypeId};
 use rasn_types::error::{DecodeError, EncodeError};
 use rasn_types::types::{BitStr, Codec, Constraints, Identifier, Tag};
-use std::alloc::Global;
+use std::alloc::{AllocError, Global};
 
 /// How the contents of a value are encoded.
 #[derive(Clone, Copy)]
@@ -39,11 +38,11 @@ pub fn write_octets(alloc: Global, tag: Tag, octets: &[u8]) -> Result<Vec<u8>, E
 }
 
 /// Returns the DER encoding of bits, with this tag.
-fn write_bits(alloc: Global, tag: Tag, bits: &BitStr<'_>) -> Result<Vec<u8>, EncodeError>
-    ensures { IfOk result (λ v. Bytes Der (leaf bit_string tag unconstrained) (bits bits.now) v.items) }
+fn write_bits(alloc: Global, tag: Tag, value: &BitStr<'_>) -> Result<Vec<u8>, EncodeError>
+    ensures { IfOk result (λ v. Bytes Der (leaf bit_string tag unconstrained) (bits value.now) v.items) }
 {
     let mut encoder = Encoder::new(alloc, EncoderOptions::der())?;
-    encoder.encode_bit_string(tag, &Constraints::NONE, bits, Identifier::EMPTY)?;
+    encoder.encode_bit_string(tag, &Constraints::NONE, value, Identifier::EMPTY)?;
     encoder.output()
 }
 
@@ -74,21 +73,21 @@ fn segments_of(kind: LeafKind, octets: &[u8]) -> Segments
 }
 
 /// Returns the octets that were written.
-fn kept(written: Result<Vec<u8>, EncodeError>) -> Result<Option<Vec<u8>>, LintError>
+fn kept(written: Result<Vec<u8>, EncodeError>) -> Result<Option<Vec<u8>>, AllocError>
     ensures { IfOk result (λ found. (v : Vec ℕ Global) × (written ≡ Ok v) × (found ≡ Some v)) }
 {
     match written {
         Ok(octets) => Ok(Some(octets)),
-        Err(_) => Err(LintError::OutOfMemory),
+        Err(_) => Err(AllocError),
     }
 }
 
 /// Returns that there are no contents, or that memory ran out.
-fn unread(error: &DecodeError) -> Result<Option<Vec<u8>>, LintError>
+fn unread(error: &DecodeError) -> Result<Option<Vec<u8>>, AllocError>
     ensures { IfOk result (λ found. (found ≡ None) × (IsOutOfMemory error.now.kind → ⊥)) }
 {
     if error.is_out_of_memory() {
-        Err(LintError::OutOfMemory)
+        Err(AllocError)
     } else {
         Ok(None)
     }
@@ -100,7 +99,7 @@ fn mended(
     segments: Segments,
     tag: Tag,
     octets: &[u8],
-) -> Result<Option<Vec<u8>>, LintError>
+) -> Result<Option<Vec<u8>>, AllocError>
     ensures { IfOk result (λ found. MatchOption found ((t : Tree) (rest : List ℕ) → Finds segments tag octets.now t rest → ⊥) (λ v. IsMended segments tag octets.now v.items)) }
 {
     let mut decoder = Decoder::new(alloc, octets, DecoderOptions::ber());
@@ -128,7 +127,7 @@ fn mended_fault(
     segments: Segments,
     tag: Tag,
     octets: &[u8],
-) -> Result<Option<DecodeError>, LintError>
+) -> Result<Option<DecodeError>, AllocError>
     ensures { IfOk result (IsMendedFault schema.now.types.items id.0 segments tag octets.now) }
 {
     let Some(octets) = mended(alloc, segments, tag, octets)? else {
@@ -137,7 +136,7 @@ fn mended_fault(
     match check(alloc, Codec::Der, schema, id, &octets) {
         Ok(()) => Ok(None),
         Err(error) => if error.is_out_of_memory() {
-            Err(LintError::OutOfMemory)
+            Err(AllocError)
         } else {
             Ok(Some(error))
         },
@@ -152,7 +151,7 @@ pub fn contents_fault(
     id: TypeId,
     ty: &Type,
     octets: &[u8],
-) -> Result<Option<DecodeError>, LintError>
+) -> Result<Option<DecodeError>, AllocError>
     ensures { IfOk result (IsContentsFault schema.now.types.items id.0 ty.now octets.now) }
 {
     match ty {
