@@ -38,16 +38,21 @@ open_one tag o a b (r, x) (s, y) = let h : numbers b ≡ numbers a = (x.1 (numbe
 abbrev Formed : Option «Type» → Extent → Type 0
 Formed o e = (tag : Tag) (inside : List ℕ) → o ≡ Some (Any tag) → HasOpen tag e.octets.now inside → IsWellFormed inside
 
-
 formed_if : (o : Option «Type») (path : List ℕ) (e : Extent) (ds : List Departure) → AreOpenDepartures path e o ds → (ds ≡ []) ↔ Formed o e
 formed_if None path e ds h = (λ q tag inside p. cc, λ f. h)
-formed_if (Some (Any tag)) path e ds (inl (inside, has, iff, all)) = (λ q t i p g.
-  let s : t ≡ tag = cc in
-  let k : inside ≡ i = open_one tag e.octets.now inside i has (subst (λ u. HasOpen u e.octets.now i) s g) in
-  subst IsWellFormed k (iff.0 q), λ f. iff.1 (f tag inside refl has))
-formed_if (Some (Any tag)) path e ds (inr (none, q)) = (λ z t i p g.
-  let s : t ≡ tag = cc in
-  absurd (none i (subst (λ u. HasOpen u e.octets.now i) s g)), λ f. q)
+formed_if (Some (Any tag)) path e ds (inl (inside, has, iff, all)) = (
+  λ q t i p g.
+      let s : t ≡ tag = cc in
+      let k : inside ≡ i = open_one tag e.octets.now inside i has (subst (λ u. HasOpen u e.octets.now i) s g) in
+      subst IsWellFormed k (iff.0 q),
+  λ f. iff.1 (f tag inside refl has),
+)
+formed_if (Some (Any tag)) path e ds (inr (none, q)) = (
+  λ z t i p g.
+      let s : t ≡ tag = cc in
+      absurd (none i (subst (λ u. HasOpen u e.octets.now i) s g)),
+  λ f. q,
+)
 formed_if (Some (Leaf kind tag c names)) path e ds h = (λ q t inside p. cc, λ f. h)
 formed_if (Some (Enumerated tag ns)) path e ds h = (λ q t inside p. cc, λ f. h)
 formed_if (Some (Tagged tag id)) path e ds h = (λ q t inside p. cc, λ f. h)

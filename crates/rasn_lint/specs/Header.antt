@@ -21,7 +21,8 @@ use Rattle.rasn_schema.specs.declared.types.«Type».TheVariants.{Leaf, Enumerat
 use Rattle.rasn_lint.specs.Encoding.{start}
 use Rattle.rasn_lint.specs.Place.{der_error}
 
--- whether a value of the type has a header of its own: one of a CHOICE has that of its alternative, and in an open type headers may have any form
+-- whether a value of the type has a header of its own: one of a CHOICE has that of its alternative, and in an open type
+-- headers may have any form
 abbrev pub has_own_header : «Type» → Bool
 has_own_header (Leaf kind tag c names) = true
 has_own_header (Enumerated tag ns) = true

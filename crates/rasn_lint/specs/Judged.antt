@@ -118,7 +118,8 @@ AreOpenDepartures path e ty ds = ds ≡ []
 
 -- ---- all parts
 
--- The departures of a part by its type, unless DER reads the message, and then those inside it, if open types are looked into.
+-- The departures of a part by its type, unless DER reads the message, and then those inside it, if open types are
+-- looked into.
 abbrev pub TypedUnless : Bool → List «Type» → ℕ → List Step → List ℕ → Extent → List Departure → Type 0
 TypedUnless true types len trail path e ds = ds ≡ []
 TypedUnless false types len trail path e ds = AreDepartures types len trail path e (slice_get types e.id.0) ds

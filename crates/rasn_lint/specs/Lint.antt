@@ -29,12 +29,14 @@ IsDer types id input = (t : Tree) × Reads Der (shape_of types id) 128 (top Der)
 abbrev pub HasFormed : List «Type» → Extent → Type 0
 HasFormed types e = (tag : Tag) (inside : List ℕ) → slice_get types e.id.0 ≡ Some (Any tag) → HasOpen tag e.octets.now inside → IsWellFormed inside
 
--- Nothing is to be mended: DER reads the message and, if open types are looked into, the octets of each are well formed.
+-- Nothing is to be mended: DER reads the message and, if open types are looked into, the octets of each are well
+-- formed.
 abbrev pub IsClean : OpenTypes → List «Type» → ℕ → List ℕ → List Extent → Type 0
 IsClean Unexamined types id input parts = IsDer types id input
 IsClean Examined types id input parts = IsDer types id input × AllByRecursion (HasFormed types) parts
 
--- The departures of the parts, by their types if DER doesn't read the message; if it doesn't although no part departs, that it doesn't, with the place that its reader has.
+-- The departures of the parts, by their types if DER doesn't read the message; if it doesn't although no part departs,
+-- that it doesn't, with the place that its reader has.
 abbrev pub AreAll : OpenTypes → List «Type» → ℕ → List ℕ → List Extent → List Departure → Type 0
 AreAll opens types id input parts ds = (IsDer types id input × AreJudged true opens types (length input) [] [] parts ds)
     ⊎ ((IsDer types id input → ⊥) × ((AreJudged false opens types (length input) [] [] parts ds × (ds ≢ []))

@@ -15,7 +15,8 @@ abbrev pub step_before : ℕ → List Step → Option Step
 step_before zero trail = None
 step_before (suc d) trail = slice_get trail d
 
--- If the trail leads to the part before this one in the message: the part that holds this one, and the one before it there.
+-- If the trail leads to the part before this one in the message: the part that holds this one, and the one before it
+-- there.
 abbrev pub holder_in : List Step → Extent → Option Step
 holder_in trail e = step_before (depth_of e) trail
 

@@ -130,7 +130,15 @@ fn judge_parts(
             path: path.as_slice(),
             len,
         };
-        judge_part(alloc, &mut list, schema, is_read, opens, trail.as_slice(), way)?;
+        judge_part(
+            alloc,
+            &mut list,
+            schema,
+            is_read,
+            opens,
+            trail.as_slice(),
+            way,
+        )?;
         extend_trail(&mut trail, part)?;
         rest = after;
     }

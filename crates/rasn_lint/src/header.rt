@@ -152,7 +152,11 @@ pub fn is_string(kind: LeafKind) -> bool
 fn bit_fault(kind: DerDecodeErrorKind, wanted: bool, bit: bool) -> Option<DecodeError>
     ensures { IsBitFault kind wanted bit result }
 {
-    if bit == wanted { None } else { Some(der_error(kind)) }
+    if bit == wanted {
+        None
+    } else {
+        Some(der_error(kind))
+    }
 }
 
 /// Returns the error of the constructed bit of a value that holds no others.
@@ -160,9 +164,17 @@ fn leaf_form_fault(is_string: bool, tag: Tag, bit: bool) -> Option<DecodeError>
     ensures { IsLeafFormFault is_string tag bit result }
 {
     if is_string {
-        bit_fault(DerDecodeErrorKind::ConstructedEncodingNotAllowed, false, bit)
+        bit_fault(
+            DerDecodeErrorKind::ConstructedEncodingNotAllowed,
+            false,
+            bit,
+        )
     } else {
-        bit_fault(DerDecodeErrorKind::ConstructedBitMismatch, is_always_constructed(tag), bit)
+        bit_fault(
+            DerDecodeErrorKind::ConstructedBitMismatch,
+            is_always_constructed(tag),
+            bit,
+        )
     }
 }
 

@@ -4,10 +4,10 @@ ghost use Rattle.rasn_lint.specs.Judged.{AreNoted, IsAnyFault, IsOpenFault, AreF
 ghost use Rattle.rasn_lint.specs.Header.{has_own_header};
 ghost use Rattle.rasn_lint.specs.declared.departure.Departure.{Departure};
 
-use crate::leaf::contents_fault;
 use crate::departure::{Aspect, Departure};
 use crate::der::encoding::decoder_of;
 use crate::header::{form_fault, has_own_header, is_constructed, length_fault, tag_fault};
+use crate::leaf::contents_fault;
 use crate::place::{default_fault, order_fault};
 use crate::trail::Step;
 use rasn_dynamic::{Extent, Refusal};

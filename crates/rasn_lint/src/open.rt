@@ -5,7 +5,6 @@ ghost use Rattle.rasn_lint.specs.Judged.{IsInside, GrowsInside, HasOpen, AreOpen
 ghost use Rattle.rasn_lint.specs.WellFormed.{IsWellFormed};
 ghost use Rattle.rasn_lint.specs.declared.departure.Departure.{Departure};
 
-use crate::leaf::write_octets;
 use crate::departure::{Aspect, Departure};
 use crate::der::contents::allows_contents;
 use crate::der::is_well_formed;
@@ -13,6 +12,7 @@ use crate::der::order::is_in_order;
 use crate::der::universal::{ContentsRule, rule_of};
 use crate::header::{is_constructed, length_fault, tag_fault};
 use crate::judge::Way;
+use crate::leaf::write_octets;
 use crate::place::der_error;
 use rasn_de::ber::de::{Decoder, DecoderOptions};
 use rasn_dynamic::Refusal;
@@ -219,9 +219,33 @@ fn judge_encoding<'input>(
     };
     let rule = rule_of(tag);
     let bit = is_constructed(encoding);
-    note(alloc, list, outer, path, left, Aspect::Header, tag_fault(alloc, encoding))?;
-    note(alloc, list, outer, path, left, Aspect::Header, form_fault(rule, bit))?;
-    note(alloc, list, outer, path, left, Aspect::Header, length_fault(alloc, encoding)?)?;
+    note(
+        alloc,
+        list,
+        outer,
+        path,
+        left,
+        Aspect::Header,
+        tag_fault(alloc, encoding),
+    )?;
+    note(
+        alloc,
+        list,
+        outer,
+        path,
+        left,
+        Aspect::Header,
+        form_fault(rule, bit),
+    )?;
+    note(
+        alloc,
+        list,
+        outer,
+        path,
+        left,
+        Aspect::Header,
+        length_fault(alloc, encoding)?,
+    )?;
     let fault = contents_fault(alloc, rule, tag, bit, contents)?;
     note(alloc, list, outer, path, left, Aspect::Contents, fault)?;
     if bit { Ok(Some(contents)) } else { Ok(None) }
@@ -286,11 +310,27 @@ fn look<'input>(
     go_to(path, next.depth, next.index)?;
     if next.depth == 0 && next.index > 0 {
         let error = extra(next.octets);
-        return note(alloc, list, outer, path, next.left, Aspect::Contents, Some(error));
+        return note(
+            alloc,
+            list,
+            outer,
+            path,
+            next.left,
+            Aspect::Contents,
+            Some(error),
+        );
     }
     let Some((encoding, rest)) = first_encoding(alloc, next.octets) else {
         let error = unreadable(alloc, next.octets);
-        return note(alloc, list, outer, path, next.left, Aspect::Header, Some(error));
+        return note(
+            alloc,
+            list,
+            outer,
+            path,
+            next.left,
+            Aspect::Header,
+            Some(error),
+        );
     };
     let after = Pending {
         octets: rest,
@@ -311,7 +351,9 @@ fn look<'input>(
         octets: contents,
         index: 0,
         depth: next.depth.saturating_add(1),
-        left: after_contents.saturating_sub(encoding.len()).saturating_add(contents.len()),
+        left: after_contents
+            .saturating_sub(encoding.len())
+            .saturating_add(contents.len()),
     };
     keep(pending, inside)
 }
@@ -357,7 +399,11 @@ fn octets_inside(alloc: Global, tag: Tag, octets: &[u8]) -> Option<&[u8]>
 
 /// Returns the number of octets after those of an open type, in its own octets.
 fn len_after(alloc: Global, tag: Tag, octets: &[u8]) -> usize {
-    if tag == Tag::EOC { 0 } else { end_len(alloc, octets) }
+    if tag == Tag::EOC {
+        0
+    } else {
+        end_len(alloc, octets)
+    }
 }
 
 /// Appends the departures inside a value of an open type with this tag: there are none exactly if
@@ -375,7 +421,10 @@ fn note_inside(
         return Ok(());
     }
     let part = way.part;
-    let part_end = way.len.saturating_sub(part.left).saturating_add(part.octets.len());
+    let part_end = way
+        .len
+        .saturating_sub(part.left)
+        .saturating_add(part.octets.len());
     let outer = Outer {
         way,
         end: part_end.saturating_sub(len_after(alloc, tag, part.octets)),
@@ -384,7 +433,15 @@ fn note_inside(
     look_inside(alloc, list, outer, octets)?;
     if list.len() == before {
         let error = unreadable(alloc, octets);
-        note(alloc, list, outer, &[], octets.len(), Aspect::Contents, Some(error))?;
+        note(
+            alloc,
+            list,
+            outer,
+            &[],
+            octets.len(),
+            Aspect::Contents,
+            Some(error),
+        )?;
     }
     Ok(())
 }

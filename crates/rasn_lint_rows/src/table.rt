@@ -19,7 +19,10 @@ const WITH_DEFAULT: &[Part] = &[
     ("flag", Occurrence::False, 0),
 ];
 
-const TAGGED: &[Part] = &[("first", Occurrence::Required, 13), ("second", Occurrence::Required, 14)];
+const TAGGED: &[Part] = &[
+    ("first", Occurrence::Required, 13),
+    ("second", Occurrence::Required, 14),
+];
 
 const SEVEN: &[Part] = &[
     ("flag", Occurrence::Required, 0),
