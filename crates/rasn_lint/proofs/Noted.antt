@@ -1,11 +1,14 @@
 -- Departures that are appended.
-use Rattle.std.proofs.Common.{◌≡◌, ℕ, List, [], ◌∷◌, ◌++◌, refl, ap, ◌∙◌, append_assoc, append-nil, sym, subst}
+use Rattle.std.proofs.Common.{◌≡◌, ℕ, Bool, List, [], ◌∷◌, ◌++◌, refl, ap, ◌∙◌, append_assoc, append-nil, sym, subst}
 use Rattle.std.specs.List.{AllByRecursion}
 use Rattle.rasn_dynamic.specs.declared.extent.Extent.{Extent}
 use Rattle.rasn_lint.specs.declared.departure.Departure.{Departure}
 use Rattle.rasn_lint.specs.declared.departure.Aspect.TheVariants.{Header, Contents, Place}
 use Rattle.rasn_lint.specs.declared.judge.Faults.{Faults}
-use Rattle.rasn_lint.specs.Judged.{AreNoted, AreListed, IsInside, GrowsInside}
+use Rattle.rasn_schema.specs.declared.types.«Type».{«Type»}
+use Rattle.rasn_lint.specs.declared.by_schema.OpenTypes.{OpenTypes}
+use Rattle.rasn_lint.specs.declared.trail.Step.{Step}
+use Rattle.rasn_lint.specs.Judged.{AreNoted, AreListed, IsInside, GrowsInside, TypedUnless, OpenIf, AreOfPart}
 
 folded : {A : Type 0} (l m z a b : List A) → l ≡ m ++ a → z ≡ l ++ b → z ≡ m ++ (a ++ b)
 folded l m z a b p q = q ∙ (ap (λ y. y ++ b) p ∙ append_assoc m a b)
@@ -54,3 +57,20 @@ grows_none e path l = ([], sym (append-nil l), tt)
 
 pub grows_more : (e : Extent) (path : List ℕ) (a b c : List Departure) → GrowsInside e path a b → GrowsInside e path b c → GrowsInside e path a c
 grows_more e path a b c (xs, p, h) (ys, q, k) = (xs ++ ys, folded b a c xs ys p q, all_append (IsInside e path) xs ys h k)
+
+-- What is appended of a part by its type, and then inside it.
+pub both_parts : (is_read : Bool) (opens : OpenTypes) (types : List «Type») (len : ℕ) (trail : List Step) (path : List ℕ) (e : Extent) (l0 l1 l2 : List Departure)
+    → ((ds : List Departure) × (l1 ≡ l0 ++ ds) × TypedUnless is_read types len trail path e ds)
+    → ((ds : List Departure) × (l2 ≡ l1 ++ ds) × OpenIf opens types path e ds)
+    → (ds : List Departure) × (l2 ≡ l0 ++ ds) × AreOfPart is_read opens types len trail path e ds
+both_parts is_read opens types len trail path e l0 l1 l2 (a, p, h) (b, q, k) = (
+  a ++ b,
+  folded l1 l0 l2 a b p q,
+  record {
+    typed = a;
+    inside = b;
+    are = refl;
+    by_type = h;
+    by_octets = k;
+  },
+)

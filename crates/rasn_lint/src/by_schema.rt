@@ -2,7 +2,7 @@
 ghost use Rattle.std.specs.Prelude.{◌≡◌, ◌++◌, ◌∷◌, [], None, IfOk, IfErr, OnOk, List, MatchOption};
 ghost use Rattle.rasn_types.specs.Framing.{AreOctets};
 ghost use Rattle.rasn_lint.specs.declared.departure.Departure.{Departure};
-ghost use Rattle.rasn_lint.specs.Judged.{AreOfPart, AreJudged, AreOpenDepartures};
+ghost use Rattle.rasn_lint.specs.Judged.{TypedUnless, OpenIf, AreOfPart, AreJudged};
 ghost use Rattle.rasn_lint.specs.Lint.{IsDer, AreAll, IsLint, IsNoLint, len_after};
 ghost use Rattle.rasn_lint.specs.Trail.{trail_after};
 ghost use Rattle.rasn_dynamic.specs.Walk.{path_after};
@@ -82,6 +82,51 @@ fn push_refusal(list: &mut Vec<Departure>, refusal: Refusal) -> Result<(), Alloc
     Ok(())
 }
 
+/// Appends the departures of a part by its type, unless DER reads the message. The trail leads to
+/// the part before it.
+fn note_typed(
+    alloc: Global,
+    list: &mut Vec<Departure>,
+    schema: &Schema,
+    is_read: bool,
+    trail: &[Step<'_>],
+    way: Way<'_, '_>,
+) -> Result<(), AllocError>
+    ensures { OnOk result ((ds : List Departure) × (list.new.items ≡ list.old.items ++ ds)
+        × TypedUnless is_read schema.now.types.items way.entry.len trail.now way.entry.path.now way.entry.part.now ds) }
+{
+    if is_read {
+        return Ok(());
+    }
+    let Some(ty) = type_at(schema.types(), way.part.id) else {
+        return Ok(());
+    };
+    let faults = faults_of(alloc, schema, trail, way.part, ty)?;
+    note_faults(alloc, list, way, faults)?;
+    Ok(())
+}
+
+/// Appends the departures inside a part, if open types are looked into.
+fn note_examined(
+    alloc: Global,
+    list: &mut Vec<Departure>,
+    schema: &Schema,
+    opens: OpenTypes,
+    way: Way<'_, '_>,
+) -> Result<(), AllocError>
+    ensures { OnOk result ((ds : List Departure) × (list.new.items ≡ list.old.items ++ ds)
+        × OpenIf opens schema.now.types.items way.entry.path.now way.entry.part.now ds) }
+{
+    let OpenTypes::Examined = opens else {
+        return Ok(());
+    };
+    let Some(ty) = type_at(schema.types(), way.part.id) else {
+        return Ok(());
+    };
+    note_open(alloc, list, ty, way)?;
+    Ok(())
+}
+
 /// Appends the departures of a part. The trail leads to the part before it.
 fn judge_part(
     alloc: Global,
@@ -95,20 +140,13 @@ fn judge_part(
     ensures { OnOk result ((ds : List Departure) × (list.new.items ≡ list.old.items ++ ds)
         × AreOfPart is_read opens schema.now.types.items way.entry.len trail.now way.entry.path.now way.entry.part.now ds) }
 {
-    let Some(ty) = type_at(schema.types(), way.part.id) else {
-        return Ok(());
-    };
-    if !is_read {
-        let faults = faults_of(alloc, schema, trail, way.part, ty)?;
-        note_faults(alloc, list, way, faults)?;
-    }
-    match opens {
-        OpenTypes::Unexamined => Ok(()),
-        OpenTypes::Examined => note_open(alloc, list, ty, way),
-    }
+    note_typed(alloc, list, schema, is_read, trail, way)?;
+    note_examined(alloc, list, schema, opens, way)?;
+    Ok(())
 }
 
 /// Returns the departures of parts of a message of so many octets.
+#[tactic(auto, using(crate::proofs::Judged::one_more, crate::proofs::Judged::no_more))]
 fn judge_parts(
     alloc: Global,
     schema: &Schema,
@@ -197,6 +235,7 @@ fn len_after(parts: &[Extent<'_>], octets: &[u8]) -> usize
 /// - `Refused` if BER doesn't read a value at the start of the octets, with the place.
 /// - `Remainder` with the number of octets that follow it, if some do.
 /// - `OutOfMemory`.
+#[tactic(auto, using(crate::proofs::Clean::clean, crate::proofs::Clean::followed))]
 pub fn lint(
     alloc: Global,
     schema: &Schema,

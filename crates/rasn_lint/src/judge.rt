@@ -129,11 +129,18 @@ pub fn note_faults(
 ) -> Result<(), AllocError>
     ensures { OnOk result ((ds : List Departure) × (list.new.items ≡ list.old.items ++ ds) × AreListed way.entry.len way.entry.part.now way.entry.path.now faults ds) }
 {
-    note(alloc, list, way, Aspect::Place, faults.order)?;
-    note(alloc, list, way, Aspect::Place, faults.default)?;
-    note(alloc, list, way, Aspect::Header, faults.tag)?;
-    note(alloc, list, way, Aspect::Header, faults.form)?;
-    note(alloc, list, way, Aspect::Header, faults.length)?;
-    note(alloc, list, way, Aspect::Contents, faults.contents)?;
+    // The errors are handed on before one of the calls may end this one.
+    let order = note(alloc, list, way, Aspect::Place, faults.order);
+    let default = note(alloc, list, way, Aspect::Place, faults.default);
+    let tag = note(alloc, list, way, Aspect::Header, faults.tag);
+    let form = note(alloc, list, way, Aspect::Header, faults.form);
+    let length = note(alloc, list, way, Aspect::Header, faults.length);
+    let contents = note(alloc, list, way, Aspect::Contents, faults.contents);
+    order?;
+    default?;
+    tag?;
+    form?;
+    length?;
+    contents?;
     Ok(())
 }
