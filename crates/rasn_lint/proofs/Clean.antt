@@ -5,7 +5,7 @@ use Rattle.rasn_types.specs.declared.types.codec.Codec.TheVariants.{Ber}
 use Rattle.rasn_types.specs.Shapes.{Tree}
 use Rattle.rasn_types.specs.Grammar.{Reads, top}
 use Rattle.rasn_schema.specs.declared.types.«Type».{«Type»}
-use Rattle.rasn_dynamic.specs.declared.extent.Extent.{Extent}
+use Rattle.rasn_dynamic.specs.declared.span.Span.{Span}
 use Rattle.rasn_dynamic.specs.declared.message.MessageParts.{MessageParts}
 use Rattle.rasn_dynamic.specs.Entry.{shape_of}
 use Rattle.rasn_dynamic.specs.Faults.{start}
@@ -18,7 +18,7 @@ use Rattle.rasn_lint.specs.declared.departure.Departure.{Departure}
 use Rattle.rasn_lint.specs.Lint.{IsDer, IsClean, AreAll, IsNoLint, len_after}
 use Rattle.rasn_lint.proofs.Judged.{none_typed, none_if_formed, formed_if_none}
 
-module _ (types : List «Type») (id : ℕ) (input : List ℕ) (parts : List Extent) where
+module _ (types : List «Type») (id : ℕ) (input : List ℕ) (parts : List Span) where
   reads : (opens : OpenTypes) → IsClean opens types id input parts → IsDer types id input
   reads Unexamined k = k
   reads Examined k = k.0

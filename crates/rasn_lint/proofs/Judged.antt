@@ -6,7 +6,7 @@ use Rattle.rasn_types.specs.declared.types.tag.Tag.{Tag}
 use Rattle.rasn_types.specs.Shapes.{numbers}
 use Rattle.rasn_schema.specs.declared.types.«Type».{«Type»}
 use Rattle.rasn_schema.specs.declared.types.«Type».TheVariants.{Leaf, Enumerated, Any, Tagged, Choice, Sequence, Set, SequenceOf, SetOf}
-use Rattle.rasn_dynamic.specs.declared.extent.Extent.{Extent}
+use Rattle.rasn_dynamic.specs.declared.span.Span.{Span}
 use Rattle.rasn_dynamic.specs.Walk.{path_after}
 use Rattle.rasn_lint.specs.declared.by_schema.OpenTypes.{OpenTypes}
 use Rattle.rasn_lint.specs.declared.by_schema.OpenTypes.TheVariants.{Unexamined, Examined}
@@ -18,8 +18,8 @@ use Rattle.rasn_lint.specs.Lint.{HasFormed}
 use Rattle.rasn_lint.specs.WellFormed.{IsWellFormed}
 
 -- One part more, and no more.
-module _ (is_read : Bool) (opens : OpenTypes) (types : List «Type») (len : ℕ) (parts : List Extent) where
-  pub one_more : (trail : List Step) (path : List ℕ) (e : Extent) (es : List Extent) (list ds : List Departure)
+module _ (is_read : Bool) (opens : OpenTypes) (types : List «Type») (len : ℕ) (parts : List Span) where
+  pub one_more : (trail : List Step) (path : List ℕ) (e : Span) (es : List Span) (list ds : List Departure)
       → ((more : List Departure) → AreJudged is_read opens types len trail path (e ∷ es) more → AreJudged is_read opens types len [] [] parts (list ++ more))
       → AreOfPart is_read opens types len trail (path_after path e) e ds → (more : List Departure)
       → AreJudged is_read opens types len (trail_after trail e) (path_after path e) es more → AreJudged is_read opens types len [] [] parts ((list ++ ds) ++ more)
@@ -35,10 +35,10 @@ open_one : (tag : Tag) (o a b : List ℕ) → HasOpen tag o a → HasOpen tag o 
 open_one tag o a b (r, x) (s, y) = let h : numbers b ≡ numbers a = (x.1 (numbers b) s y.0).0 in cc
 
 -- There is no departure inside a part exactly if the octets of its open type are well formed.
-abbrev Formed : Option «Type» → Extent → Type 0
+abbrev Formed : Option «Type» → Span → Type 0
 Formed o e = (tag : Tag) (inside : List ℕ) → o ≡ Some (Any tag) → HasOpen tag e.octets.now inside → IsWellFormed inside
 
-formed_if : (o : Option «Type») (path : List ℕ) (e : Extent) (ds : List Departure) → AreOpenDepartures path e o ds → (ds ≡ []) ↔ Formed o e
+formed_if : (o : Option «Type») (path : List ℕ) (e : Span) (ds : List Departure) → AreOpenDepartures path e o ds → (ds ≡ []) ↔ Formed o e
 formed_if None path e ds h = (λ q tag inside p. cc, λ f. h)
 formed_if (Some (Any tag)) path e ds (inl (inside, has, iff, all)) = (
   λ q t i p g.
@@ -72,19 +72,19 @@ first_empty (x ∷ b) c p = cc
 
 -- Of a message that DER reads there are only departures inside open types.
 module _ (types : List «Type») (len : ℕ) where
-  pub none_typed : (trail : List Step) (path : List ℕ) (es : List Extent) (ds : List Departure) → AreJudged true Unexamined types len trail path es ds → ds ≡ []
+  pub none_typed : (trail : List Step) (path : List ℕ) (es : List Span) (ds : List Departure) → AreJudged true Unexamined types len trail path es ds → ds ≡ []
   none_typed trail path [] ds h = h
   none_typed trail path (e ∷ es) ds (mine, others, p, m, h) =
       both_empty ds mine others p (both_empty mine m.typed m.inside m.are m.by_type m.by_octets) (none_typed (trail_after trail e) (path_after path e) es others h)
 
-  pub none_if_formed : (trail : List Step) (path : List ℕ) (es : List Extent) (ds : List Departure) → AreJudged true Examined types len trail path es ds
+  pub none_if_formed : (trail : List Step) (path : List ℕ) (es : List Span) (ds : List Departure) → AreJudged true Examined types len trail path es ds
       → AllByRecursion (HasFormed types) es → ds ≡ []
   none_if_formed trail path [] ds h a = h
   none_if_formed trail path (e ∷ es) ds (mine, others, p, m, h) a =
       both_empty ds mine others p (both_empty mine m.typed m.inside m.are m.by_type ((formed_if (slice_get types e.id.0) (path_after path e) e m.inside m.by_octets).1 a.0))
       (none_if_formed (trail_after trail e) (path_after path e) es others h a.1)
 
-  pub formed_if_none : (trail : List Step) (path : List ℕ) (es : List Extent) (ds : List Departure) → AreJudged true Examined types len trail path es ds
+  pub formed_if_none : (trail : List Step) (path : List ℕ) (es : List Span) (ds : List Departure) → AreJudged true Examined types len trail path es ds
       → ds ≡ [] → AllByRecursion (HasFormed types) es
   formed_if_none trail path [] ds h q = tt
   formed_if_none trail path (e ∷ es) ds (mine, others, p, m, h) q =

@@ -1,7 +1,7 @@
 -- Departures that are appended.
 use Rattle.std.proofs.Common.{◌≡◌, ℕ, Bool, List, [], ◌∷◌, ◌++◌, refl, ap, ◌∙◌, append_assoc, append-nil, sym, subst}
 use Rattle.std.specs.List.{AllByRecursion}
-use Rattle.rasn_dynamic.specs.declared.extent.Extent.{Extent}
+use Rattle.rasn_dynamic.specs.declared.span.Span.{Span}
 use Rattle.rasn_lint.specs.declared.departure.Departure.{Departure}
 use Rattle.rasn_lint.specs.declared.departure.Aspect.TheVariants.{Header, Contents, Place}
 use Rattle.rasn_lint.specs.declared.judge.Faults.{Faults}
@@ -14,7 +14,7 @@ folded : {A : Type 0} (l m z a b : List A) → l ≡ m ++ a → z ≡ l ++ b →
 folded l m z a b p q = q ∙ (ap (λ y. y ++ b) p ∙ append_assoc m a b)
 
 -- What is appended of a part: six times one departure or none.
-pub listed : (len : ℕ) (e : Extent) (path : List ℕ) (f : Faults) (l0 l1 l2 l3 l4 l5 l6 : List Departure)
+pub listed : (len : ℕ) (e : Span) (path : List ℕ) (f : Faults) (l0 l1 l2 l3 l4 l5 l6 : List Departure)
     → ((ds : List Departure) × (l1 ≡ l0 ++ ds) × AreNoted len e path Place f.order ds)
     → ((ds : List Departure) × (l2 ≡ l1 ++ ds) × AreNoted len e path Place f.default ds)
     → ((ds : List Departure) × (l3 ≡ l2 ++ ds) × AreNoted len e path Header f.tag ds)
@@ -52,14 +52,14 @@ all_append P [] ys h k = k
 all_append P (x ∷ xs) ys h k = (h.0, all_append P xs ys h.1 k)
 
 -- What is appended inside a part: nothing, or more.
-pub grows_none : (e : Extent) (path : List ℕ) (l : List Departure) → GrowsInside e path l l
+pub grows_none : (e : Span) (path : List ℕ) (l : List Departure) → GrowsInside e path l l
 grows_none e path l = ([], sym (append-nil l), tt)
 
-pub grows_more : (e : Extent) (path : List ℕ) (a b c : List Departure) → GrowsInside e path a b → GrowsInside e path b c → GrowsInside e path a c
+pub grows_more : (e : Span) (path : List ℕ) (a b c : List Departure) → GrowsInside e path a b → GrowsInside e path b c → GrowsInside e path a c
 grows_more e path a b c (xs, p, h) (ys, q, k) = (xs ++ ys, folded b a c xs ys p q, all_append (IsInside e path) xs ys h k)
 
 -- What is appended of a part by its type, and then inside it.
-pub both_parts : (is_read : Bool) (opens : OpenTypes) (types : List «Type») (len : ℕ) (trail : List Step) (path : List ℕ) (e : Extent) (l0 l1 l2 : List Departure)
+pub both_parts : (is_read : Bool) (opens : OpenTypes) (types : List «Type») (len : ℕ) (trail : List Step) (path : List ℕ) (e : Span) (l0 l1 l2 : List Departure)
     → ((ds : List Departure) × (l1 ≡ l0 ++ ds) × TypedUnless is_read types len trail path e ds)
     → ((ds : List Departure) × (l2 ≡ l1 ++ ds) × OpenIf opens types path e ds)
     → (ds : List Departure) × (l2 ≡ l0 ++ ds) × AreOfPart is_read opens types len trail path e ds

@@ -11,7 +11,7 @@ use Rattle.rasn_types.specs.declared.error.decode.DecodeError.{DecodeError}
 use Rattle.rasn_types.specs.Tags.{eoc}
 use Rattle.rasn_schema.specs.declared.types.«Type».{«Type»}
 use Rattle.rasn_schema.specs.declared.types.«Type».TheVariants.{Leaf, Enumerated, Any, Tagged, Choice, Sequence, Set, SequenceOf, SetOf}
-use Rattle.rasn_dynamic.specs.declared.extent.Extent.{Extent}
+use Rattle.rasn_dynamic.specs.declared.span.Span.{Span}
 use Rattle.rasn_dynamic.specs.Walk.{path_after}
 use Rattle.rasn_lint.specs.declared.departure.Departure.{Departure}
 use Rattle.rasn_lint.specs.declared.departure.Aspect.{Aspect}
@@ -28,7 +28,7 @@ use Rattle.rasn_lint.specs.declared.by_schema.OpenTypes.{OpenTypes}
 use Rattle.rasn_lint.specs.declared.by_schema.OpenTypes.TheVariants.{Unexamined, Examined}
 
 -- The departure is one of the part with this path, in a message of so many octets.
-pub record IsDepartureOf (len : ℕ) (e : Extent) (path : List ℕ) (aspect : Aspect) (error : DecodeError) (d : Departure) : Type 0 where
+pub record IsDepartureOf (len : ℕ) (e : Span) (path : List ℕ) (aspect : Aspect) (error : DecodeError) (d : Departure) : Type 0 where
   pub error_is : d.refusal.error ≡ error
   pub offset : d.refusal.offset ≡ len - e.left
   pub id : d.refusal.id ≡ e.id
@@ -38,7 +38,7 @@ pub record IsDepartureOf (len : ℕ) (e : Extent) (path : List ℕ) (aspect : As
   pub inner : d.inner ≡ None
 
 -- One departure if there is an error, else none.
-abbrev pub AreNoted : ℕ → Extent → List ℕ → Aspect → Option DecodeError → List Departure → Type 0
+abbrev pub AreNoted : ℕ → Span → List ℕ → Aspect → Option DecodeError → List Departure → Type 0
 AreNoted len e path aspect None ds = ds ≡ []
 AreNoted len e path aspect (Some error) ds = (d : Departure) × (ds ≡ d ∷ []) × IsDepartureOf len e path aspect error d
 
@@ -67,14 +67,14 @@ AreHeaderFaults true ty octets f = IsTagFault octets f.tag × IsFormFault ty (is
 AreHeaderFaults false ty octets f = (f.tag ≡ None) × (f.form ≡ None) × IsOpenFault ty octets f.length
 
 -- The errors of a part: in its place, in its header, and in its contents.
-pub record AreFaultsOf (types : List «Type») (trail : List Step) (e : Extent) (ty : «Type») (f : Faults) : Type 0 where
+pub record AreFaultsOf (types : List «Type») (trail : List Step) (e : Span) (ty : «Type») (f : Faults) : Type 0 where
   pub order : IsOrderFault (order_if (type_of types (holder_in trail e))) e.octets.now (before_in trail e) f.order
   pub default : IsDefaultFault types e.id.0 e.octets.now (default_if (type_of types (holder_in trail e)) e.index) f.default
   pub header : AreHeaderFaults (has_own_header ty) ty e.octets.now f
   pub contents : IsContentsFault types e.id.0 ty e.octets.now f.contents
 
 -- The departures of a part, in this order.
-pub record AreListed (len : ℕ) (e : Extent) (path : List ℕ) (f : Faults) (ds : List Departure) : Type 0 where
+pub record AreListed (len : ℕ) (e : Span) (path : List ℕ) (f : Faults) (ds : List Departure) : Type 0 where
   pub order : List Departure
   pub default : List Departure
   pub tag : List Departure
@@ -89,7 +89,7 @@ pub record AreListed (len : ℕ) (e : Extent) (path : List ℕ) (f : Faults) (ds
   pub by_length : AreNoted len e path Header f.length length
   pub in_contents : AreNoted len e path Contents f.contents contents
 
-abbrev pub AreDepartures : List «Type» → ℕ → List Step → List ℕ → Extent → Option «Type» → List Departure → Type 0
+abbrev pub AreDepartures : List «Type» → ℕ → List Step → List ℕ → Span → Option «Type» → List Departure → Type 0
 AreDepartures types len trail path e None ds = ds ≡ []
 AreDepartures types len trail path e (Some ty) ds = (f : Faults) × AreFaultsOf types trail e ty f × AreListed len e path f ds
 
@@ -100,19 +100,19 @@ abbrev pub HasOpen : Tag → List ℕ → List ℕ → Type 0
 HasOpen tag octets inside = (rest : List ℕ) × OpenAt Ber (looked_for tag) octets (Ok (inside, rest))
 
 -- Departures inside a part: each names the part.
-abbrev pub IsInside : Extent → List ℕ → Departure → Type 0
+abbrev pub IsInside : Span → List ℕ → Departure → Type 0
 IsInside e path d = (d.refusal.id ≡ e.id) × (d.refusal.steps.items ≡ path) × (d.inner ≢ None)
 
 -- Some are appended.
-abbrev pub GrowsInside : Extent → List ℕ → List Departure → List Departure → Type 0
+abbrev pub GrowsInside : Span → List ℕ → List Departure → List Departure → Type 0
 GrowsInside e path old new = (ds : List Departure) × (new ≡ old ++ ds) × AllByRecursion (IsInside e path) ds
 
 -- There are none exactly if the octets of the open type are well formed.
-abbrev pub AreInside : Tag → List ℕ → Extent → List Departure → Type 0
+abbrev pub AreInside : Tag → List ℕ → Span → List Departure → Type 0
 AreInside tag path e ds = (inside : List ℕ) × HasOpen tag e.octets.now inside × ((ds ≡ []) ↔ IsWellFormed inside) × AllByRecursion (IsInside e path) ds
 
 -- The same of a part of any type; of one that isn't open, and where BER finds no octets, there are none.
-abbrev pub AreOpenDepartures : List ℕ → Extent → Option «Type» → List Departure → Type 0
+abbrev pub AreOpenDepartures : List ℕ → Span → Option «Type» → List Departure → Type 0
 AreOpenDepartures path e (Some (Any tag)) ds = AreInside tag path e ds ⊎ (((inside : List ℕ) → HasOpen tag e.octets.now inside → ⊥) × (ds ≡ []))
 AreOpenDepartures path e ty ds = ds ≡ []
 
@@ -120,15 +120,15 @@ AreOpenDepartures path e ty ds = ds ≡ []
 
 -- The departures of a part by its type, unless DER reads the message, and then those inside it, if open types are
 -- looked into.
-abbrev pub TypedUnless : Bool → List «Type» → ℕ → List Step → List ℕ → Extent → List Departure → Type 0
+abbrev pub TypedUnless : Bool → List «Type» → ℕ → List Step → List ℕ → Span → List Departure → Type 0
 TypedUnless true types len trail path e ds = ds ≡ []
 TypedUnless false types len trail path e ds = AreDepartures types len trail path e (slice_get types e.id.0) ds
 
-abbrev pub OpenIf : OpenTypes → List «Type» → List ℕ → Extent → List Departure → Type 0
+abbrev pub OpenIf : OpenTypes → List «Type» → List ℕ → Span → List Departure → Type 0
 OpenIf Unexamined types path e ds = ds ≡ []
 OpenIf Examined types path e ds = AreOpenDepartures path e (slice_get types e.id.0) ds
 
-pub record AreOfPart (is_read : Bool) (opens : OpenTypes) (types : List «Type») (len : ℕ) (trail : List Step) (path : List ℕ) (e : Extent) (ds : List Departure) : Type 0 where
+pub record AreOfPart (is_read : Bool) (opens : OpenTypes) (types : List «Type») (len : ℕ) (trail : List Step) (path : List ℕ) (e : Span) (ds : List Departure) : Type 0 where
   pub typed : List Departure
   pub inside : List Departure
   pub are : ds ≡ typed ++ inside
@@ -136,7 +136,7 @@ pub record AreOfPart (is_read : Bool) (opens : OpenTypes) (types : List «Type»
   pub by_octets : OpenIf opens types path e inside
 
 -- Those of parts, one after the other, where the trail and the path lead to the part before them.
-abbrev pub AreJudged : Bool → OpenTypes → List «Type» → ℕ → List Step → List ℕ → List Extent → List Departure → Type 0
+abbrev pub AreJudged : Bool → OpenTypes → List «Type» → ℕ → List Step → List ℕ → List Span → List Departure → Type 0
 AreJudged is_read opens types len trail path [] ds = ds ≡ []
 AreJudged is_read opens types len trail path (e ∷ es) ds = (mine : List Departure) × (others : List Departure) × (ds ≡ mine ++ others)
     × AreOfPart is_read opens types len trail (path_after path e) e mine × AreJudged is_read opens types len (trail_after trail e) (path_after path e) es others

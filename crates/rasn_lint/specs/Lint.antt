@@ -8,7 +8,7 @@ use Rattle.rasn_types.specs.Shapes.{Tree}
 use Rattle.rasn_types.specs.Grammar.{Reads, top}
 use Rattle.rasn_schema.specs.declared.types.«Type».{«Type»}
 use Rattle.rasn_schema.specs.declared.types.«Type».TheVariants.{Any}
-use Rattle.rasn_dynamic.specs.declared.extent.Extent.{Extent}
+use Rattle.rasn_dynamic.specs.declared.span.Span.{Span}
 use Rattle.rasn_dynamic.specs.declared.message.MessageParts.{MessageParts}
 use Rattle.rasn_dynamic.specs.Entry.{shape_of}
 use Rattle.rasn_dynamic.specs.Faults.{IsLocated}
@@ -26,24 +26,24 @@ abbrev pub IsDer : List «Type» → ℕ → List ℕ → Type 0
 IsDer types id input = (t : Tree) × Reads Der (shape_of types id) 128 (top Der) input t []
 
 -- If the part is a value of an open type, its octets are well formed.
-abbrev pub HasFormed : List «Type» → Extent → Type 0
+abbrev pub HasFormed : List «Type» → Span → Type 0
 HasFormed types e = (tag : Tag) (inside : List ℕ) → slice_get types e.id.0 ≡ Some (Any tag) → HasOpen tag e.octets.now inside → IsWellFormed inside
 
 -- Nothing is to be mended: DER reads the message and, if open types are looked into, the octets of each are well
 -- formed.
-abbrev pub IsClean : OpenTypes → List «Type» → ℕ → List ℕ → List Extent → Type 0
+abbrev pub IsClean : OpenTypes → List «Type» → ℕ → List ℕ → List Span → Type 0
 IsClean Unexamined types id input parts = IsDer types id input
 IsClean Examined types id input parts = IsDer types id input × AllByRecursion (HasFormed types) parts
 
 -- The departures of the parts, by their types if DER doesn't read the message; if it doesn't although no part departs,
 -- that it doesn't, with the place that its reader has.
-abbrev pub AreAll : OpenTypes → List «Type» → ℕ → List ℕ → List Extent → List Departure → Type 0
+abbrev pub AreAll : OpenTypes → List «Type» → ℕ → List ℕ → List Span → List Departure → Type 0
 AreAll opens types id input parts ds = (IsDer types id input × AreJudged true opens types (length input) [] [] parts ds)
     ⊎ ((IsDer types id input → ⊥) × ((AreJudged false opens types (length input) [] [] parts ds × (ds ≢ []))
     ⊎ (AreJudged false opens types (length input) [] [] parts [] × (d : Departure) × (ds ≡ d ∷ []) × (d.inner ≡ None))))
 
 -- how many octets follow the first of the parts, which is the whole value
-abbrev pub len_after : List Extent → List ℕ → ℕ
+abbrev pub len_after : List Span → List ℕ → ℕ
 len_after [] input = length input
 len_after (e ∷ es) input = length input - length e.octets.now
 

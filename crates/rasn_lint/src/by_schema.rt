@@ -11,7 +11,7 @@ use crate::departure::{Aspect, Departure};
 use crate::judge::{Way, faults_of, note_faults};
 use crate::open::note_open;
 use crate::trail::{Step, extend_path, extend_trail};
-use rasn_dynamic::{Extent, Refusal, check_or_locate, parts_of};
+use rasn_dynamic::{Refusal, Span, check_or_locate, parts_of};
 use rasn_schema::{Schema, TypeId, type_at};
 use rasn_types::error::{DecodeError, DecodeErrorKind};
 use rasn_types::types::Codec;
@@ -153,7 +153,7 @@ fn judge_parts(
     is_read: bool,
     opens: OpenTypes,
     len: usize,
-    parts: &[Extent<'_>],
+    parts: &[Span<'_>],
 ) -> Result<Vec<Departure>, AllocError>
     ensures { IfOk result (λ list. AreJudged is_read opens schema.now.types.items len [] [] parts.now list.items) }
 {
@@ -190,7 +190,7 @@ fn judge_message(
     id: TypeId,
     octets: &[u8],
     opens: OpenTypes,
-    parts: &[Extent<'_>],
+    parts: &[Span<'_>],
 ) -> Result<Vec<Departure>, AllocError>
     ensures { IfOk result (λ list. AreAll opens schema.now.types.items id.0 octets.now parts.now list.items) }
 {
@@ -207,7 +207,7 @@ fn judge_message(
 }
 
 /// Returns the number of octets after the first of the parts, which is the whole value.
-fn len_after(parts: &[Extent<'_>], octets: &[u8]) -> usize
+fn len_after(parts: &[Span<'_>], octets: &[u8]) -> usize
     ensures { result ≡ len_after parts.now octets.now }
 {
     match parts {

@@ -10,7 +10,7 @@ use crate::header::{form_fault, has_own_header, is_constructed, length_fault, ta
 use crate::leaf::contents_fault;
 use crate::place::{default_fault, order_fault};
 use crate::trail::Step;
-use rasn_dynamic::{Extent, Refusal};
+use rasn_dynamic::{Refusal, Span};
 use rasn_schema::{Schema, Type};
 use rasn_types::error::DecodeError;
 use rasn_types::types::Tag;
@@ -37,7 +37,7 @@ pub struct Faults {
 #[derive(Clone, Copy)]
 pub struct Way<'a, 'input> {
     /// The part.
-    pub part: &'a Extent<'input>,
+    pub part: &'a Span<'input>,
     /// The index of each part on the way to it.
     pub path: &'a [usize],
     /// The number of octets of the message.
@@ -69,7 +69,7 @@ pub fn faults_of(
     alloc: Global,
     schema: &Schema,
     trail: &[Step<'_>],
-    part: &Extent<'_>,
+    part: &Span<'_>,
     ty: &Type,
 ) -> Result<Faults, AllocError>
     ensures { IfOk result (AreFaultsOf schema.now.types.items trail.now part.now ty.now) }

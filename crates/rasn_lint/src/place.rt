@@ -12,7 +12,7 @@ ghost use Rattle.rasn_lint.specs.Place.{der_error, order_of, default_in, default
 use crate::der::order::{is_less, is_tag_below};
 use crate::trail::{Step, before, holder_of};
 use rasn_de::ber::de::{Decoder, DecoderOptions};
-use rasn_dynamic::{Extent, decode};
+use rasn_dynamic::{Span, decode};
 use rasn_schema::{Component, Presence, Schema, Type, TypeId, Value, type_at};
 use rasn_types::error::{CodecDecodeError, DecodeError, DecodeErrorKind, DerDecodeErrorKind};
 use rasn_types::types::{Codec, Tag};
@@ -121,7 +121,7 @@ pub fn order_fault(
     alloc: Global,
     types: &[Type],
     trail: &[Step<'_>],
-    part: &Extent<'_>,
+    part: &Span<'_>,
 ) -> Option<DecodeError>
     ensures { IsOrderFault (order_if (type_of types.now (holder_in trail.now part.now))) part.now.octets.now (before_in trail.now part.now) result }
 {
@@ -192,7 +192,7 @@ pub fn default_fault(
     alloc: Global,
     schema: &Schema,
     trail: &[Step<'_>],
-    part: &Extent<'_>,
+    part: &Span<'_>,
 ) -> Result<Option<DecodeError>, AllocError>
     ensures { IfOk result (IsDefaultFault schema.now.types.items part.now.id.0 part.now.octets.now (default_if (type_of schema.now.types.items (holder_in trail.now part.now)) part.now.index)) }
 {

@@ -3,7 +3,7 @@ ghost use Rattle.std.specs.Prelude.{◌≡◌, OnOk, slice_get};
 ghost use Rattle.rasn_dynamic.specs.Walk.{depth_of, path_after};
 ghost use Rattle.rasn_lint.specs.Trail.{trail_after, step_before, holder_in, before_in};
 
-use rasn_dynamic::Extent;
+use rasn_dynamic::Span;
 use rasn_schema::TypeId;
 use std::alloc::AllocError;
 
@@ -19,7 +19,7 @@ pub struct Step<'input> {
 }
 
 /// Returns in how many others a part is.
-fn depth_of(part: &Extent<'_>) -> usize
+fn depth_of(part: &Span<'_>) -> usize
     ensures { result ≡ depth_of part.now }
 {
     usize::MAX - part.levels
@@ -28,7 +28,7 @@ fn depth_of(part: &Extent<'_>) -> usize
 /// Goes on to a part: the trail leads to it then.
 pub fn extend_trail<'input>(
     trail: &mut Vec<Step<'input>>,
-    part: &Extent<'input>,
+    part: &Span<'input>,
 ) -> Result<(), AllocError>
     ensures { OnOk result (trail.new.items ≡ trail_after trail.old.items part.now) }
 {
@@ -42,7 +42,7 @@ pub fn extend_trail<'input>(
 }
 
 /// Goes on to a part: the path is the index of each part on the way to it then.
-pub fn extend_path(path: &mut Vec<usize>, part: &Extent<'_>) -> Result<(), AllocError>
+pub fn extend_path(path: &mut Vec<usize>, part: &Span<'_>) -> Result<(), AllocError>
     ensures { OnOk result (path.new.items ≡ path_after path.old.items part.now) }
 {
     let depth = depth_of(part);
@@ -62,7 +62,7 @@ fn step_at<'input>(trail: &[Step<'input>], place: usize) -> Option<Step<'input>>
 }
 
 /// Returns the part that holds this one, where the trail leads to the part before it.
-pub fn holder_of<'input>(trail: &[Step<'input>], part: &Extent<'input>) -> Option<Step<'input>>
+pub fn holder_of<'input>(trail: &[Step<'input>], part: &Span<'input>) -> Option<Step<'input>>
     ensures { result ≡ holder_in trail.now part.now }
 {
     let depth = depth_of(part);
@@ -73,7 +73,7 @@ pub fn holder_of<'input>(trail: &[Step<'input>], part: &Extent<'input>) -> Optio
 }
 
 /// Returns the part before this one in the part that holds both.
-pub fn before<'input>(trail: &[Step<'input>], part: &Extent<'input>) -> Option<Step<'input>>
+pub fn before<'input>(trail: &[Step<'input>], part: &Span<'input>) -> Option<Step<'input>>
     ensures { result ≡ before_in trail.now part.now }
 {
     step_at(trail, depth_of(part))
