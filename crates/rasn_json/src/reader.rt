@@ -1,0 +1,236 @@
+//! Values of JSON.
+ghost use Rattle.std.specs.Prelude.{◌≡◌, [], ◌∷◌, ◌++◌, IfOk, OnOk};
+ghost use Rattle.rasn_schema.specs.Trees.{tree_of};
+ghost use Rattle.rasn_schema.specs.Shapes.{presence_of};
+ghost use Rattle.rasn_schema.specs.Fitting.{AlternativeFits, AreItems, ComponentFits, ComponentsFit, EachFits, Fits, FitsBy, IsChosen, IsLeftOutAs};
+
+use crate::error::{JsonError, JsonErrorKind, or_memory};
+use crate::found::{copied, other_form};
+use crate::members::{check_members, member_named, missing_member};
+use crate::number::enumerated_value;
+use crate::read_leaf::{check_size, leaf_value, open_value};
+use json::Value as Json;
+use rasn_schema::{
+    Alternative, Component, Presence, Type, TypeId, Value, index_named, type_at,
+};
+use std::alloc::Global;
+
+/// Returns the value of the type with this number that a JSON value is. Types are followed `levels`
+/// deep.
+#[cycle(read)]
+pub fn value_at<'any>(
+    alloc: Global,
+    types: &[Type],
+    levels: usize,
+    id: TypeId,
+    json: &Json<'_>,
+) -> Result<Value<'any>, JsonError>
+    ensures { IfOk result (λ v. Fits types.now levels id.0 v) }
+{
+    if levels == 0 {
+        return Err(no_type(alloc, id));
+    }
+    match type_at(types, id) {
+        Some(ty) => value_of(alloc, types, levels - 1, ty, json),
+        None => Err(no_type(alloc, id)),
+    }
+}
+
+fn no_type(alloc: Global, id: TypeId) -> JsonError {
+    JsonError::new(alloc, JsonErrorKind::NoType { id })
+}
+
+/// Returns the value of a type that a JSON value is.
+#[cycle(read)]
+fn value_of<'any>(
+    alloc: Global,
+    types: &[Type],
+    below: usize,
+    ty: &Type,
+    json: &Json<'_>,
+) -> Result<Value<'any>, JsonError>
+    ensures { IfOk result (λ v. FitsBy (Fits types.now below) ty.now v) }
+{
+    match ty {
+        Type::Leaf {
+            kind,
+            constraints,
+            names,
+            ..
+        } => leaf_value(alloc, *kind, constraints, names, json),
+        Type::Enumerated { numbers, .. } => enumerated_value(alloc, numbers, json),
+        Type::Any { .. } => open_value(alloc, json),
+        Type::Tagged { inner, .. } => value_at(alloc, types, below, *inner, json),
+        Type::Choice { alternatives, .. } => chosen_value(alloc, types, below, alternatives, json),
+        Type::Sequence { components, .. } => object_value(alloc, types, below, components, json),
+        Type::Set { components, .. } => object_value(alloc, types, below, components, json),
+        Type::SequenceOf {
+            element,
+            constraints,
+            ..
+        } => {
+            let items = items_of(alloc, json)?;
+            check_size(alloc, constraints, items.len())?;
+            Ok(Value::Items(element_values(alloc, types, below, *element, items)?))
+        }
+        Type::SetOf {
+            element,
+            constraints,
+            ..
+        } => {
+            let items = items_of(alloc, json)?;
+            check_size(alloc, constraints, items.len())?;
+            Ok(Value::Elements(element_values(alloc, types, below, *element, items)?))
+        }
+    }
+}
+
+/// Returns the items of an array.
+fn items_of<'json, 'text>(
+    alloc: Global,
+    json: &'json Json<'text>,
+) -> Result<&'json [Json<'text>], JsonError> {
+    match json {
+        Json::Array(items) => Ok(items.as_slice()),
+        _ => Err(other_form(alloc, "an array", json)),
+    }
+}
+
+/// Returns the value of a CHOICE: an object whose one member is the alternative.
+#[cycle(read)]
+fn chosen_value<'any>(
+    alloc: Global,
+    types: &[Type],
+    below: usize,
+    alternatives: &[Alternative],
+    json: &Json<'_>,
+) -> Result<Value<'any>, JsonError>
+    ensures { IfOk result (λ v. IsChosen (AlternativeFits (Fits types.now below) alternatives.now) v) }
+{
+    let Json::Object(members) = json else {
+        return Err(other_form(alloc, "an object", json));
+    };
+    let [(name, member)] = members.as_slice() else {
+        let members = members.len();
+        return Err(JsonError::new(alloc, JsonErrorKind::NotOneMember { members }));
+    };
+    let Some(index) = index_named(alternatives, name) else {
+        let name = copied(alloc, name)?;
+        return Err(JsonError::new(alloc, JsonErrorKind::UnknownAlternative { name }));
+    };
+    match value_at(alloc, types, below, alternatives[index].type_id, member) {
+        Ok(value) => match Box::new(alloc, value) {
+            Ok(value) => Ok(Value::Chosen(index, value)),
+            Err(_) => Err(JsonError::memory(alloc)),
+        },
+        Err(error) => Err(error.in_member(alloc, name)),
+    }
+}
+
+/// Returns the value of a SEQUENCE or a SET: an object whose members are the components, in any
+/// order.
+#[cycle(read)]
+fn object_value<'any>(
+    alloc: Global,
+    types: &[Type],
+    below: usize,
+    components: &[Component],
+    json: &Json<'_>,
+) -> Result<Value<'any>, JsonError>
+    ensures { IfOk result (λ v. AreItems (ComponentsFit (Fits types.now below) components.now) v) }
+{
+    let Json::Object(members) = json else {
+        return Err(other_form(alloc, "an object", json));
+    };
+    let members = members.as_slice();
+    check_members(alloc, members, |name| index_named(components, name).is_some())?;
+    Ok(Value::Items(component_values(alloc, types, below, components, members)?))
+}
+
+/// Appends a value.
+fn append<'any>(
+    alloc: Global,
+    values: &mut Vec<Value<'any>>,
+    value: Value<'any>,
+) -> Result<(), JsonError>
+    ensures { OnOk result (values.new.items ≡ values.old.items ++ value.entry ∷ []) }
+{
+    match values.push(value) {
+        Ok(()) => Ok(()),
+        Err(_) => Err(JsonError::memory(alloc)),
+    }
+}
+
+/// Returns the values of components.
+#[cycle(read)]
+fn component_values<'any, 'text>(
+    alloc: Global,
+    types: &[Type],
+    below: usize,
+    components: &[Component],
+    members: &[(&'text str, Json<'text>)],
+) -> Result<Vec<Value<'any>>, JsonError>
+    ensures { IfOk result (λ vs. ComponentsFit (Fits types.now below) components.now vs.items) }
+{
+    let mut values = Vec::new(alloc);
+    let mut rest = components;
+    while let [component, after @ ..] = rest {
+        let value = component_value(alloc, types, below, component, members)?;
+        append(alloc, &mut values, value)?;
+        rest = after;
+    }
+    Ok(values)
+}
+
+/// Returns the value of a component, which is absent or its default if there is no member for it.
+#[cycle(read)]
+fn component_value<'any, 'text>(
+    alloc: Global,
+    types: &[Type],
+    below: usize,
+    component: &Component,
+    members: &[(&'text str, Json<'text>)],
+) -> Result<Value<'any>, JsonError>
+    ensures { IfOk result (λ v. ComponentFits (Fits types.now below) component.now v) }
+{
+    let name = component.name.as_str();
+    let Some(json) = member_named(members, name) else {
+        return absent_value(alloc, component);
+    };
+    match value_at(alloc, types, below, component.type_id, json) {
+        Ok(value) => Ok(value),
+        Err(error) => Err(error.in_member(alloc, name)),
+    }
+}
+
+/// Returns the value of a component without a member.
+fn absent_value<'any>(alloc: Global, component: &Component) -> Result<Value<'any>, JsonError>
+    ensures { IfOk result (λ v. IsLeftOutAs (presence_of component.now.presence) (tree_of v)) }
+{
+    match &component.presence {
+        Presence::Required => Err(missing_member(alloc, component.name.as_str())),
+        Presence::Optional | Presence::Addition => Ok(Value::Absent),
+        Presence::Default(default) => or_memory(alloc, default.try_clone(alloc)),
+    }
+}
+
+/// Returns the values of elements.
+#[cycle(read)]
+fn element_values<'any>(
+    alloc: Global,
+    types: &[Type],
+    below: usize,
+    element: TypeId,
+    items: &[Json<'_>],
+) -> Result<Vec<Value<'any>>, JsonError>
+    ensures { IfOk result (λ vs. EachFits (Fits types.now below element.0) vs.items) }
+{
+    let mut values = Vec::new(alloc);
+    for (index, item) in items.iter().enumerate() {
+        match value_at(alloc, types, below, element, item) {
+            Ok(value) => append(alloc, &mut values, value)?,
+            Err(error) => return Err(error.in_element(alloc, index)),
+        }
+    }
+    Ok(values)
+}
