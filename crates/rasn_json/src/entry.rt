@@ -61,7 +61,15 @@ fn compact(
     let mut out = Compact {
         out: Writer::new(Vec::new(alloc)),
     };
-    put_at(&mut out, alloc, schema.types(), usize::MAX, MAX_NESTING, id, value)?;
+    put_at(
+        &mut out,
+        alloc,
+        schema.types(),
+        usize::MAX,
+        MAX_NESTING,
+        id,
+        value,
+    )?;
     Ok(text_of(out.out.into_inner()))
 }
 
@@ -76,7 +84,15 @@ fn indented(
     ensures text { IfOk result (λ text. string_bytes text ≡ pretty (tokens (string_bytes text))) }
 {
     let mut out = Pretty::new(alloc);
-    put_at(&mut out, alloc, schema.types(), usize::MAX, MAX_NESTING, id, value)?;
+    put_at(
+        &mut out,
+        alloc,
+        schema.types(),
+        usize::MAX,
+        MAX_NESTING,
+        id,
+        value,
+    )?;
     Ok(text_of(out.into_inner()))
 }
 

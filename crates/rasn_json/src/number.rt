@@ -11,7 +11,7 @@ use crate::decimal::integer_of;
 use crate::error::{JsonError, JsonErrorKind, or_memory};
 use crate::found::{copied, other_form, string_of};
 use json::Value as Json;
-use rasn_schema::{LeafKind, NamedNumber, Value, index_named, leaf_fits, name_of_number};
+use rasn_schema::{LeafKind, NamedNumber, Value, index_named, leaf_fits};
 use rasn_types::types::{Bounded, Constraints, Integer};
 use std::alloc::Global;
 
@@ -78,11 +78,7 @@ pub fn integer_value<'any>(
 }
 
 /// Returns the number with this name.
-fn number_named(
-    alloc: Global,
-    numbers: &[NamedNumber],
-    name: &str,
-) -> Result<Integer, JsonError>
+fn number_named(alloc: Global, numbers: &[NamedNumber], name: &str) -> Result<Integer, JsonError>
     ensures { IfOk result (λ n. Contains (numbers_of numbers.now) n) }
 {
     match index_named(numbers, name) {
@@ -129,12 +125,25 @@ pub fn extensible_value<'any>(
     Err(out_of_range(alloc, range_of(LeafKind::Signed64)))
 }
 
-/// Returns the name of a number, if it has one.
+/// Returns whether this is the number.
+fn has_number(named: &NamedNumber, number: &Integer) -> bool
+    ensures { IsWhether result (named.now.number ≡ number.now) }
+{
+    let listed = named.number as i128;
+    match number.to_i128() {
+        Some(number) => number == listed,
+        None => false,
+    }
+}
+
+/// Returns the first name of a number, if it has one.
 pub fn name_of<'types>(numbers: &'types [NamedNumber], number: &Integer) -> Option<&'types str>
     ensures { MatchOption result (IsUnnamed numbers.now number.now) (λ name. NameJson numbers.now number.now (string name.now)) }
 {
-    match isize::try_from(number.to_i128()?) {
-        Ok(number) => name_of_number(numbers, number),
-        Err(_) => None,
+    for named in numbers {
+        if has_number(named, number) {
+            return Some(named.name.as_str());
+        }
     }
+    None
 }

@@ -94,11 +94,7 @@ fn wrong_size(alloc: Global, size: usize, expected: Bounded<usize>) -> JsonError
 }
 
 /// Checks the size of a value: of octets, characters or elements.
-pub fn check_size(
-    alloc: Global,
-    constraints: &Constraints,
-    size: usize,
-) -> Result<(), JsonError> {
+pub fn check_size(alloc: Global, constraints: &Constraints, size: usize) -> Result<(), JsonError> {
     if constraints.admits_size(size) {
         return Ok(());
     }

@@ -10,9 +10,7 @@ use crate::members::{check_members, member_named, missing_member};
 use crate::number::enumerated_value;
 use crate::read_leaf::{check_size, leaf_value, open_value};
 use json::Value as Json;
-use rasn_schema::{
-    Alternative, Component, Presence, Type, TypeId, Value, index_named, type_at,
-};
+use rasn_schema::{Alternative, Component, Presence, Type, TypeId, Value, index_named, type_at};
 use std::alloc::Global;
 
 /// Returns the value of the type with this number that a JSON value is. Types are followed `levels`
@@ -143,7 +141,11 @@ fn object_value<'any>(
         return Err(other_form(alloc, "an object", json));
     };
     let members = members.as_slice();
-    check_members(alloc, members, |name| index_named(components, name).is_some())?;
+    check_members(
+        alloc,
+        members,
+        |name| index_named(components, name).is_some(),
+    )?;
     Ok(Value::Items(component_values(alloc, types, below, components, members)?))
 }
 

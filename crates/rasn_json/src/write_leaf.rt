@@ -31,10 +31,7 @@ pub fn put<T: Tokens>(out: &mut T, alloc: Global, token: Token<'_>) -> Result<()
 }
 
 /// Returns a text, or an error if memory ran out or the value has none.
-fn some_text(
-    alloc: Global,
-    text: Result<Option<String>, AllocError>,
-) -> Result<String, JsonError>
+fn some_text(alloc: Global, text: Result<Option<String>, AllocError>) -> Result<String, JsonError>
     ensures { IfOk result (λ s. text ≡ Ok (Some s)) }
 {
     match text {
@@ -195,7 +192,8 @@ fn put_octets<T: Tokens>(
     ensures { OnOk result (Appends (OctetsJson kind octets.now) (T.Tokens.written out.old) (T.Tokens.written out.new)) }
 {
     match kind {
-        LeafKind::OctetString | LeafKind::FixedOctetString(_) => put_digits(out, alloc, octets),
+        LeafKind::OctetString => put_digits(out, alloc, octets),
+        LeafKind::FixedOctetString(_) => put_digits(out, alloc, octets),
         _ => {
             let text = or_memory(alloc, text_of(alloc, octets))?;
             put(out, alloc, Token::String(text.as_str()))
@@ -212,11 +210,7 @@ fn put_units<T: Tokens>(out: &mut T, alloc: Global, units: &BmpString) -> Result
 }
 
 /// Appends the arcs of an OBJECT IDENTIFIER.
-fn put_arcs<T: Tokens>(
-    out: &mut T,
-    alloc: Global,
-    arcs: &ObjectIdentifier,
-) -> Result<(), JsonError>
+fn put_arcs<T: Tokens>(out: &mut T, alloc: Global, arcs: &ObjectIdentifier) -> Result<(), JsonError>
     ensures { OnOk result (Appends (λ j. j ≡ string (dotted arcs.now)) (T.Tokens.written out.old) (T.Tokens.written out.new)) }
 {
     let text = or_memory(alloc, format!(in alloc; "{arcs}"))?;

@@ -202,7 +202,16 @@ fn put_component<T: Tokens>(
         return Ok(());
     }
     let name = component.name.as_str();
-    put_member(out, alloc, types, below, depth, name, component.type_id, value)
+    put_member(
+        out,
+        alloc,
+        types,
+        below,
+        depth,
+        name,
+        component.type_id,
+        value,
+    )
 }
 
 /// Appends elements as an array.

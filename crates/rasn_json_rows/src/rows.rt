@@ -156,7 +156,14 @@ fn printed(
     let Some(octets) = octets_of(alloc, row.text)? else {
         return String::from_str(alloc, "has no octets");
     };
-    match json(alloc, row.rules, &resolved.schema, resolved.root, &octets, layout) {
+    match json(
+        alloc,
+        row.rules,
+        &resolved.schema,
+        resolved.root,
+        &octets,
+        layout,
+    ) {
         Ok(text) => format!(in alloc; "= {text}"),
         Err(error) => format!(in alloc; "! {error}"),
     }
@@ -175,11 +182,7 @@ fn again(alloc: Global, resolved: &Resolved, row: &Row<'_>) -> Result<String, Al
 }
 
 /// Returns whether a value is read from its JSON again.
-fn compared(
-    alloc: Global,
-    resolved: &Resolved,
-    value: &Value<'_>,
-) -> Result<String, AllocError> {
+fn compared(alloc: Global, resolved: &Resolved, value: &Value<'_>) -> Result<String, AllocError> {
     let schema = &resolved.schema;
     let mut size = 0;
     for layout in [Layout::Compact, Layout::Indented] {
