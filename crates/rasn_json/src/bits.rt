@@ -3,7 +3,7 @@ use crate::decimal::integer_of;
 use crate::digits::octets_in;
 use crate::error::{JsonError, JsonErrorKind, or_memory};
 use crate::found::other_form;
-use crate::members::{check_members, present};
+use crate::members::{check_member, present};
 use json::Value as Json;
 use rasn_types::types::{BitString, Bounded, Constraints};
 use std::alloc::Global;
@@ -47,7 +47,7 @@ fn counted_bits(alloc: Global, json: &Json<'_>) -> Result<BitString, JsonError> 
         return Err(other_form(alloc, "an object", json));
     };
     let members = members.as_slice();
-    check_members(alloc, members, |name| name == "value" || name == "length")?;
+    check_names(alloc, members)?;
     let value = present(alloc, members, "value")?;
     let length = present(alloc, members, "length")?;
     let octets = match octets_in(alloc, value) {
@@ -58,6 +58,18 @@ fn counted_bits(alloc: Global, json: &Json<'_>) -> Result<BitString, JsonError> 
         Ok(len) => bits_in(alloc, octets, len),
         Err(error) => Err(error.in_member(alloc, "length")),
     }
+}
+
+/// Checks that each member is one of the two, and none of them twice.
+fn check_names<'text>(
+    alloc: Global,
+    members: &[(&'text str, Json<'text>)],
+) -> Result<(), JsonError> {
+    for (position, member) in members.iter().enumerate() {
+        let is_known = member.0 == "value" || member.0 == "length";
+        check_member(alloc, member.0, is_known, &members[..position])?;
+    }
+    Ok(())
 }
 
 /// Returns a JSON number as a size.

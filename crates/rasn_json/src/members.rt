@@ -29,24 +29,18 @@ pub fn present<'json, 'text>(
     }
 }
 
-/// Checks that the name of each member is known, and that no two have the same.
-pub fn check_members<'text, F: Fn(&str) -> bool>(
+/// Checks that the name of a member is known, and that none before it has the same.
+pub fn check_member<'text>(
     alloc: Global,
-    members: &[(&'text str, Json<'text>)],
-    is_known: F,
-) -> Result<(), JsonError>
-where
-    F: Drop,
-    requires { F.IsAlwaysCallable is_known }
-{
-    for (position, member) in members.iter().enumerate() {
-        let name = member.0;
-        if !is_known(name) {
-            return Err(unknown_member(alloc, name));
-        }
-        if member_named(&members[..position], name).is_some() {
-            return Err(repeated_member(alloc, name));
-        }
+    name: &str,
+    is_known: bool,
+    before: &[(&'text str, Json<'text>)],
+) -> Result<(), JsonError> {
+    if !is_known {
+        return Err(unknown_member(alloc, name));
+    }
+    if member_named(before, name).is_some() {
+        return Err(repeated_member(alloc, name));
     }
     Ok(())
 }

@@ -6,11 +6,12 @@ ghost use Rattle.rasn_schema.specs.Fitting.{AlternativeFits, AreItems, Component
 
 use crate::error::{JsonError, JsonErrorKind, or_memory};
 use crate::found::{copied, other_form};
-use crate::members::{check_members, member_named, missing_member};
+use crate::members::{check_member, member_named, missing_member};
 use crate::number::enumerated_value;
 use crate::read_leaf::{check_size, leaf_value, open_value};
 use json::Value as Json;
 use rasn_schema::{Alternative, Component, Presence, Type, TypeId, Value, index_named, type_at};
+use rasn_types::types::Constraints;
 use std::alloc::Global;
 
 /// Returns the value of the type with this number that a JSON value is. Types are followed `levels`
@@ -66,32 +67,32 @@ fn value_of<'any>(
             element,
             constraints,
             ..
-        } => {
-            let items = items_of(alloc, json)?;
-            check_size(alloc, constraints, items.len())?;
-            Ok(Value::Items(element_values(alloc, types, below, *element, items)?))
-        }
+        } => Ok(Value::Items(array_values(alloc, types, below, *element, constraints, json)?)),
         Type::SetOf {
             element,
             constraints,
             ..
-        } => {
-            let items = items_of(alloc, json)?;
-            check_size(alloc, constraints, items.len())?;
-            Ok(Value::Elements(element_values(alloc, types, below, *element, items)?))
-        }
+        } => Ok(Value::Elements(array_values(alloc, types, below, *element, constraints, json)?)),
     }
 }
 
-/// Returns the items of an array.
-fn items_of<'json, 'text>(
+/// Returns the values of an array, whose size the constraint admits.
+#[cycle(read)]
+fn array_values<'any>(
     alloc: Global,
-    json: &'json Json<'text>,
-) -> Result<&'json [Json<'text>], JsonError> {
-    match json {
-        Json::Array(items) => Ok(items.as_slice()),
-        _ => Err(other_form(alloc, "an array", json)),
-    }
+    types: &[Type],
+    below: usize,
+    element: TypeId,
+    constraints: &Constraints,
+    json: &Json<'_>,
+) -> Result<Vec<Value<'any>>, JsonError>
+    ensures { IfOk result (λ vs. EachFits (Fits types.now below element.0) vs.items) }
+{
+    let Json::Array(items) = json else {
+        return Err(other_form(alloc, "an array", json));
+    };
+    check_size(alloc, constraints, items.len())?;
+    element_values(alloc, types, below, element, items.as_slice())
 }
 
 /// Returns the value of a CHOICE: an object whose one member is the alternative.
@@ -141,12 +142,21 @@ fn object_value<'any>(
         return Err(other_form(alloc, "an object", json));
     };
     let members = members.as_slice();
-    check_members(
-        alloc,
-        members,
-        |name| index_named(components, name).is_some(),
-    )?;
+    check_names(alloc, components, members)?;
     Ok(Value::Items(component_values(alloc, types, below, components, members)?))
+}
+
+/// Checks that each member is a component, and none of them twice.
+fn check_names<'text>(
+    alloc: Global,
+    components: &[Component],
+    members: &[(&'text str, Json<'text>)],
+) -> Result<(), JsonError> {
+    for (position, member) in members.iter().enumerate() {
+        let is_known = index_named(components, member.0).is_some();
+        check_member(alloc, member.0, is_known, &members[..position])?;
+    }
+    Ok(())
 }
 
 /// Appends a value.

@@ -9,6 +9,9 @@ decreases-value_at l = 8 * l.levels
 abbrev pub decreases-value_of : goal.decreases-value_of
 decreases-value_of l = 8 * l.below + 7
 
+abbrev pub decreases-array_values : goal.decreases-array_values
+decreases-array_values l = 8 * l.below + 6
+
 abbrev pub decreases-chosen_value : goal.decreases-chosen_value
 decreases-chosen_value l = 8 * l.below + 6
 

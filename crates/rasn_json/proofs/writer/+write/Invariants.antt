@@ -1,6 +1,6 @@
 use Rattle.std.proofs.Common.{◌≡◌, ◌+◌, ◌*◌, length}
 use Rattle.rasn_json.specs.Json.{JsonAt}
-use Rattle.rasn_json.proofs.Tokens.{ObjectSoFar, ArraySoFar}
+use Rattle.rasn_json.proofs.Appended.{ObjectSoFar, ArraySoFar}
 use Rattle.rasn_json.proofs.writer.+write.Given as goal
 
 abbrev pub decreases-put_at : goal.decreases-put_at
