@@ -62,7 +62,7 @@ module _ (g : ℕ → Value → Json → Type 0) where
 
     pub object_more : AppendsComponent g p v here new → ObjectSoFar g all after vs others old new
     object_more (inl (o, s)) = (k.0, s ∙ k.1, λ ms h. k.2 ms (joined ms (inl (o, h))))
-    object_more (inr (n, j, s, h)) = (
+    object_more (inr (n, (j, s, h))) = (
       k.0 ++ key (string_bytes p.name) ∷ json_tokens j,
       s ∙ (ap (λ l. l ++ key (string_bytes p.name) ∷ json_tokens j) k.1 ∙ append_assoc old (begin_object ∷ k.0) (key (string_bytes p.name) ∷ json_tokens j)),
       λ ms m. let x = k.2 (member (string_bytes p.name) j ms) (joined (member (string_bytes p.name) j ms) (inr (n, j, ms, refl, h, m))) in

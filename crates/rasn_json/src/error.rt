@@ -1,4 +1,6 @@
 //! What is wrong with JSON, or with a value that has none.
+ghost use Rattle.std.specs.Prelude.{◌≡◌, Ok, IsErr, MatchResult};
+
 use rasn_schema::TypeId;
 use rasn_types::types::Bounded;
 use std::alloc::{AllocError, Global};
@@ -193,7 +195,9 @@ fn write_steps<W: fmt::Write>(f: &mut fmt::Formatter<W>, steps: &[JsonStep]) -> 
 }
 
 /// Returns a result whose error is that memory ran out.
-pub(crate) fn or_memory<T>(alloc: Global, outcome: Result<T, AllocError>) -> Result<T, JsonError> {
+pub(crate) fn or_memory<T>(alloc: Global, outcome: Result<T, AllocError>) -> Result<T, JsonError>
+    ensures { MatchResult outcome (λ v. result ≡ Ok v) (λ _. IsErr result) }
+{
     match outcome {
         Ok(value) => Ok(value),
         Err(_) => Err(JsonError::memory(alloc)),
