@@ -95,6 +95,13 @@ pub enum SchemaError {
         index: usize,
         other: usize,
     },
+    /// A part is unknown values, which only the last component of a SEQUENCE may be, where it is
+    /// required (X.680 25).
+    #[error("type {id}: part {index} is unknown values, and isn't the last component of a SEQUENCE, or isn't required (X.680 25)")]
+    MisplacedUnknown {
+        id: TypeId,
+        index: usize,
+    },
     /// The default of a component isn't a value of the component's type (X.680 25).
     #[error("type {id}: the default of component {index} isn't a value of its type (X.680 25)")]
     UnfitDefault {

@@ -111,6 +111,10 @@ pub enum Type {
         element: TypeId,
         constraints: Constraints,
     },
+    /// Values that the type of an extensible SEQUENCE doesn't name, up to the end of its contents
+    /// (X.680 25). Only its last component may be such, which is required. The value is a list of
+    /// the octets of each.
+    Unknown,
 }
 
 /// A number with a name: of an ENUMERATED or an INTEGER, or of a bit (X.680 19, 20, 22).
@@ -171,6 +175,7 @@ impl Type {
             Type::Set { tag, .. } => *tag,
             Type::SequenceOf { tag, .. } => *tag,
             Type::SetOf { tag, .. } => *tag,
+            Type::Unknown => Tag::EOC,
         }
     }
 }
