@@ -16,7 +16,7 @@ use Rattle.rasn_de.specs.Decodes.{DecodesBy}
 use Rattle.rasn_de.specs.Optional.{NextIs}
 use Rattle.rasn_de.specs.SequenceOf.{DecodesInTurn, DecodesInTurnFrom}
 use Rattle.rasn_schema.specs.declared.types.«Type».{«Type»}
-use Rattle.rasn_schema.specs.declared.types.«Type».TheVariants.{Leaf, Enumerated, Any, Tagged, Choice, Sequence, Set, SequenceOf, SetOf}
+use Rattle.rasn_schema.specs.declared.types.«Type».TheVariants.{Leaf, Enumerated, Any, Tagged, Choice, Sequence, Set, SequenceOf, SetOf, Unknown}
 use Rattle.rasn_schema.specs.declared.types.Component.{Component}
 use Rattle.rasn_schema.specs.declared.types.Alternative.{Alternative}
 use Rattle.rasn_schema.specs.Shapes.{shape_of_type, components_by, presence_of, key_of}
@@ -75,6 +75,7 @@ abbrev pub LacksPart : (ℕ → Shape) → «Type» → State → ℕ → Type 0
 LacksPart f (Leaf kind tag c names) s k = Unit {0}
 LacksPart f (Enumerated tag ns) s k = Unit {0}
 LacksPart f (Any tag) s k = Unit {0}
+LacksPart f Unknown s k = Unit {0}
 LacksPart f (Tagged tag id) s k = k ≢ 0
 LacksPart f (Choice name ks) s k = LacksAlternative f ks.items s k
 LacksPart f (Sequence tag ps) s k = LacksComponent f ps.items s k
@@ -87,6 +88,7 @@ abbrev pub IsEntered : «Type» → State → State → Type 0
 IsEntered (Leaf kind tag c names) s inner = inner ≡ s
 IsEntered (Enumerated tag ns) s inner = inner ≡ s
 IsEntered (Any tag) s inner = inner ≡ s
+IsEntered Unknown s inner = inner ≡ s
 IsEntered (Tagged tag id) s inner = Enters (Tagged tag id) s inner
 IsEntered (Choice name ks) s inner = Enters (Choice name ks) s inner
 IsEntered (Sequence tag ps) s inner = Enters (Sequence tag ps) s inner
@@ -99,6 +101,7 @@ abbrev pub IsHeaderOf : «Type» → Option ConstructedHeader → Type 0
 IsHeaderOf (Leaf kind tag c names) d = d ≡ None
 IsHeaderOf (Enumerated tag ns) d = d ≡ None
 IsHeaderOf (Any tag) d = d ≡ None
+IsHeaderOf Unknown d = d ≡ None
 IsHeaderOf (Tagged tag id) d = d ≡ Some (prefix_header tag)
 IsHeaderOf (Choice name ks) d = d ≡ None
 IsHeaderOf (Sequence tag ps) d = d ≡ Some (sequence_header tag)
