@@ -49,7 +49,9 @@ pub struct Resolved {
 }
 
 impl<'text> Modules<'text> {
-    /// Returns a schema of a type of a module (X.680 16.2), in which the type has its name.
+    /// Returns a schema of a type of a module (X.680 16.2), in which the type has its name. A SEQUENCE
+    /// with an extension marker, whose additions are at its end, has unknown values as its last
+    /// component: what a newer version of the module has there is kept (X.680 25).
     ///
     /// # Errors
     /// Returns the first fault that is found in what the type is made of, or that memory ran out.
@@ -57,10 +59,41 @@ impl<'text> Modules<'text> {
         ensures root { IfOk result (λ r. r.root.0 < length r.schema.types.items) }
         ensures named { IfOk result (λ r. (names : _) × (r.schema.names ≡ Some names) × IsNamed names.items name.now r.root) }
     {
+        self.resolved(alloc, module, name, true)
+    }
+
+    /// Returns the same, without unknown values: what a newer version of the module has is refused.
+    ///
+    /// # Errors
+    /// Returns the first fault that is found in what the type is made of, or that memory ran out.
+    pub fn closed_schema(
+        &self,
+        alloc: Global,
+        module: &str,
+        name: &str,
+    ) -> Result<Resolved, Stop<'text>>
+        ensures root { IfOk result (λ r. r.root.0 < length r.schema.types.items) }
+        ensures named { IfOk result (λ r. (names : _) × (r.schema.names ≡ Some names) × IsNamed names.items name.now r.root) }
+    {
+        self.resolved(alloc, module, name, false)
+    }
+
+    /// Returns a schema, with unknown values or without.
+    fn resolved(
+        &self,
+        alloc: Global,
+        module: &str,
+        name: &str,
+        keeps_unknown: bool,
+    ) -> Result<Resolved, Stop<'text>>
+        ensures root { IfOk result (λ r. r.root.0 < length r.schema.types.items) }
+        ensures named { IfOk result (λ r. (names : _) × (r.schema.names ≡ Some names) × IsNamed names.items name.now r.root) }
+    {
         let (module, known, position) = self.type_named(module, name)?;
         let mut resolver = Resolver {
             alloc,
             modules: self,
+            keeps_unknown,
             unchecked: 0,
             scopes: Vec::new(alloc),
         };

@@ -2,7 +2,7 @@
 use crate::fault::{Problem, Stop};
 use crate::modules::Modules;
 use crate::position::Position;
-use crate::resolver::components::Within;
+use crate::resolver::components::{Components, Within};
 use crate::resolver::enumerated::{are_repeated, is_extensible};
 use crate::resolver::leaf::{Plain, universal, universal_type};
 use crate::resolver::node::{Asked, Shape, Unfolded, Use};
@@ -17,6 +17,8 @@ use std::alloc::Global;
 pub(crate) struct Resolver<'modules, 'text> {
     pub(crate) alloc: Global,
     pub(crate) modules: &'modules Modules<'text>,
+    /// Whether a SEQUENCE with an extension marker has unknown values after its components.
+    pub(crate) keeps_unknown: bool,
     /// How many constraints were found that a schema doesn't check.
     pub(crate) unchecked: usize,
     /// What parameters are given.
@@ -53,6 +55,7 @@ impl<'modules, 'text> Resolver<'modules, 'text> {
                 inner: TypeId(0),
             },
             parts: Vec::new(self.alloc),
+            is_extensible: false,
             inner: Some(within),
         }
     }
@@ -105,9 +108,14 @@ impl<'modules, 'text> Resolver<'modules, 'text> {
         within: Within,
     ) -> Result<Shape<'text>, Stop<'text>> {
         self.count_unchecked(unfolded.constraints.len());
+        let Components {
+            parts,
+            is_extensible,
+        } = self.components(unfolded.place, list, within)?;
         Ok(Shape {
             ty,
-            parts: self.components(unfolded.place, list, within)?,
+            parts,
+            is_extensible,
             inner: None,
         })
     }
@@ -137,6 +145,7 @@ impl<'modules, 'text> Resolver<'modules, 'text> {
         Ok(Shape {
             ty,
             parts: Vec::new(self.alloc),
+            is_extensible: false,
             inner: Some(Use::of(unfolded.place, list.element.0)),
         })
     }

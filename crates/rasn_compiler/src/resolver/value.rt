@@ -112,6 +112,9 @@ impl<'modules, 'text> Resolver<'modules, 'text> {
                 values.push(value)?;
             }
         }
+        if self.has_unknown(at, listed.as_slice(), within) {
+            values.push(Value::Items(Vec::new(self.alloc)))?;
+        }
         Ok(Value::Items(values))
     }
 
