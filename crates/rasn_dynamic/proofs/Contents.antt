@@ -148,27 +148,27 @@ none_holds (SetOf tag k c) a b d e g h = g tag k c refl
 
 pub prefix_lawful : (tag : Tag) (s : Shape) → IsReadable (prefix tag s) → IsReadable s
 unfolding IsLawful
-prefix_lawful tag s (inl (a, n, p, l)) = inl (p, l)
+prefix_lawful tag s (inl h) = inl (h.1.1, h.1.2)
 prefix_lawful tag s (inr e) = cc
 
 pub list_lawful : (tag : Tag) (s : Shape) (size : Option (Bound ℕ)) → IsReadable (list tag s size) → IsReadable s
 unfolding IsLawful
-list_lawful tag s size (inl (a, n, p, l)) = inl (p, l)
+list_lawful tag s size (inl h) = inl (h.1.1, h.1.2)
 list_lawful tag s size (inr e) = cc
 
 pub set_of_lawful : (tag : Tag) (s : Shape) (size : Option (Bound ℕ)) → IsReadable (set_of tag s size) → IsReadable s
 unfolding IsLawful
-set_of_lawful tag s size (inl (a, n, p, l)) = inl (p, l)
+set_of_lawful tag s size (inl h) = inl (h.1.1, h.1.2)
 set_of_lawful tag s size (inr e) = cc
 
 pub seq_lawful : (tag : Tag) (ps : Parts) → IsReadable (seq tag ps) → AreLawfulInOrder ps
 unfolding IsLawful
-seq_lawful tag ps (inl (a, n, l)) = l
+seq_lawful tag ps (inl h) = h.1.1
 seq_lawful tag ps (inr e) = cc
 
 pub set_lawful : (tag : Tag) (ps : Parts) → IsReadable (set tag ps) → AreLawfulByTag ps
 unfolding IsLawful
-set_lawful tag ps (inl (a, n, l)) = l
+set_lawful tag ps (inl h) = h.1.1
 set_lawful tag ps (inr e) = cc
 
 pub choice_lawful : (ps : Parts) → IsReadable (choice ps) → IsLawful (choice ps)

@@ -1,5 +1,6 @@
 -- Unknown values, as they are read and as they are copied to be written.
-use Rattle.std.proofs.Common.{◌≡◌, ◌<◌, ◌*◌, ◌+◌, ◌≤◌, ℕ, Bool, true, List, [], ◌∷◌, ◌++◌, map, length, None, Vec, Global, Result, Ok, Err, inl, inr, refl, sym, ap, ◌∙◌, subst, arith, append_assoc, length-append}
+use Rattle.std.proofs.Common.{◌≡◌, ◌<◌, ◌*◌, ◌+◌, ◌≤◌, ℕ, Bool, true, List, [], ◌∷◌, ◌++◌, map, length, Option, Some, None, Vec, Global, Result, Ok, Err, inl, inr, refl, sym, ap, ◌∙◌, subst, arith, append_assoc, length-append}
+use Rattle.std.specs.Prelude.{MatchOption}
 use Rattle.std.proofs.lemmas.List.{append-nil, map-append, map-id}
 use Rattle.rasn_types.specs.Framing.{steps_in}
 use Rattle.rasn_types.specs.Shapes.{Tree, items, numbers, any, unknown}
@@ -81,3 +82,11 @@ pub copied_end : (all rest : List Value) (copies : List (List ℕ)) → CopiedSo
 copied_end all rest copies k e =
     let q : all ≡ k.done = k.is ∙ ap (λ l. k.done ++ l) e ∙ append-nil k.done in
     (subst (EachFits AreOctets) (sym q) k.octets, k.same ∙ ap (map tree_of) (sym q))
+
+-- What is said of an option that is some value, and of one that is none.
+pub some_told : {X : Type 0} (A : Type 0) (P : X → Type 0) (o : Option X) (x : X) → MatchOption o A P → o ≡ Some x → P x
+some_told A P o x h e = subst (λ z. MatchOption z A P) e h
+
+pub none_told : {X A : Type 0} (P : X → Type 0) (o : Option X) → MatchOption o A P → ((x : X) → o ≡ Some x → ⊥) → A
+none_told P None h n = h
+none_told P (Some x) h n = absurd (n x refl)
