@@ -2,7 +2,7 @@
 use std::fmt;
 
 /// A line and a column, both counted from 1, columns by characters.
-#[derive(Clone, Copy, Debug, PartialEq, Eq)]
+#[derive(Clone, Copy, Debug, PartialEq, Eq, PartialOrd, Ord)]
 pub struct Position {
     pub line: u32,
     pub column: u32,

@@ -37,6 +37,7 @@ use emit::emit;
 use node::{Place, Use};
 use rasn_schema::{Schema, TypeId};
 use reference::Next;
+use scope::Scopes;
 use shape::Resolver;
 use std::alloc::Global;
 
@@ -65,7 +66,7 @@ impl<'text> Modules<'text> {
             alloc,
             modules: self,
             unchecked: 0,
-            scopes: Vec::new(alloc),
+            scopes: Scopes::new(alloc),
         };
         let Next { place, index, .. } = resolver.type_meant(
             Place::of(module),

@@ -7,12 +7,20 @@ use crate::resolver::shape::Resolver;
 use crate::token::Token;
 use crate::tree::{Actual, Assignment, Base, Given, Type, Unread};
 use std::alloc::{AllocError, Global};
+use std::collections::BTreeMap;
 
 /// How many assignments may give parameters to one another.
 const MAX_DEPTH: usize = 64;
 
 /// How many uses of parameterized assignments a type may be made of.
 const MAX_SCOPES: usize = 4096;
+
+/// Where something begins, and where names are looked up there.
+#[derive(Clone, Copy, PartialEq, Eq, PartialOrd, Ord)]
+struct Spot {
+    place: Place,
+    position: Position,
+}
 
 /// What a parameter is given.
 #[derive(Clone, Copy)]
@@ -26,49 +34,47 @@ pub(crate) struct Bound<'text> {
     pub(crate) given: Given<'text>,
 }
 
-impl Bound<'_> {
-    /// Returns whether two parameters are given the same.
-    fn is_same(&self, other: &Bound<'_>) -> bool {
-        self.place == other.place && self.position == other.position
-    }
-}
-
 /// What the parameters of an assignment are given where it is used (X.683 9).
 #[derive(Drop)]
 pub(crate) struct Scope<'text> {
-    /// The module of the assignment.
-    module: usize,
-    /// The place of the assignment's name.
-    position: Position,
     bounds: Vec<Bound<'text>>,
     /// How many scopes what is given is within, and this one.
     depth: usize,
 }
 
-impl Scope<'_> {
-    /// Returns whether a scope is that of the same assignment with the same parameters.
-    fn is_same(&self, other: &Scope<'_>) -> bool {
-        self.module == other.module
-            && self.position == other.position
-            && are_same(self.bounds.as_slice(), other.bounds.as_slice())
-    }
+/// Uses of parameterized assignments, each once.
+#[derive(Drop)]
+pub(crate) struct Scopes<'text> {
+    list: Vec<Scope<'text>>,
+    /// The index of each: the place of the assignment's name, and of what each parameter is given.
+    indices: BTreeMap<Vec<Spot>, usize>,
 }
 
-/// Returns whether the parameters of an assignment are given the same.
-fn are_same(these: &[Bound<'_>], others: &[Bound<'_>]) -> bool {
-    for (one, other) in these.iter().zip(others) {
-        if !one.is_same(other) {
-            return false;
+impl<'text> Scopes<'text> {
+    pub(crate) fn new(alloc: Global) -> Scopes<'text> {
+        Scopes {
+            list: Vec::new(alloc),
+            indices: BTreeMap::new(alloc),
         }
     }
-    true
+
+    /// Returns the scope of a place, unless what is there has no parameters.
+    fn at(&self, place: Place) -> Option<&Scope<'text>> {
+        self.list.get(place.scope.checked_sub(1)?)
+    }
+
+    /// Adds a scope, which isn't there, and returns its number.
+    fn add(&mut self, scope: Scope<'text>, spots: Vec<Spot>) -> Result<usize, AllocError> {
+        self.indices.insert(spots, self.list.len())?;
+        self.list.push(scope)?;
+        Ok(self.list.len())
+    }
 }
 
 impl<'modules, 'text> Resolver<'modules, 'text> {
     /// Returns what a name is given, if it is that of a parameter.
     pub(crate) fn bound(&self, place: Place, name: &str) -> Option<Bound<'text>> {
-        let scope = self.scopes.get(place.scope.checked_sub(1)?)?;
-        for bound in &scope.bounds {
+        for bound in &self.scopes.at(place)?.bounds {
             if bound.name == name {
                 return Some(*bound);
             }
@@ -88,7 +94,8 @@ impl<'modules, 'text> Resolver<'modules, 'text> {
         }
     }
 
-    /// Returns the place of an assignment in a module, which is used at another place and is given this (X.683 9.4).
+    /// Returns the place of an assignment in a module, which is used at another place and is given
+    /// this (X.683 9.4).
     pub(crate) fn entered(
         &mut self,
         from: Place,
@@ -115,38 +122,35 @@ impl<'modules, 'text> Resolver<'modules, 'text> {
             let problem = Problem::Endless(assignment.name);
             return Err(self.modules.fault(from.module, position, problem));
         }
-        let scope = Scope {
-            module,
+        let start = Spot {
+            place: Place::of(module),
             position: assignment.position,
-            bounds,
-            depth,
         };
-        self.scope(from, scope, position)
+        self.scope(from, start, Scope { bounds, depth }, position)
     }
 
-    /// Returns the place of a scope, which is added if it isn't there.
+    /// Returns the place of a scope of an assignment, which is added if it isn't there.
     fn scope(
         &mut self,
         from: Place,
+        assignment: Spot,
         scope: Scope<'text>,
         position: Position,
     ) -> Result<Place, Stop<'text>> {
-        let module = scope.module;
-        for (index, known) in self.scopes.iter().enumerate() {
-            if known.is_same(&scope) {
-                return Ok(Place {
-                    module,
-                    scope: index.saturating_add(1),
-                });
-            }
+        let module = assignment.place.module;
+        let spots = spots(self.alloc, assignment, scope.bounds.as_slice())?;
+        if let Some(index) = self.scopes.indices.get(&spots) {
+            return Ok(Place {
+                module,
+                scope: index.saturating_add(1),
+            });
         }
-        if self.scopes.len() >= MAX_SCOPES {
+        if self.scopes.list.len() >= MAX_SCOPES {
             return Err(self.modules.fault(from.module, position, Problem::TooLarge));
         }
-        self.scopes.push(scope)?;
         Ok(Place {
             module,
-            scope: self.scopes.len(),
+            scope: self.scopes.add(scope, spots)?,
         })
     }
 
@@ -164,7 +168,8 @@ impl<'modules, 'text> Resolver<'modules, 'text> {
         Ok(bounds)
     }
 
-    /// Returns what a parameter is given. A set of values or of objects is the same as any other, since no type depends on it.
+    /// Returns what a parameter is given. A set of values or of objects is the same as any other,
+    /// since no type depends on it.
     fn given(
         &self,
         from: Place,
@@ -199,8 +204,7 @@ impl<'modules, 'text> Resolver<'modules, 'text> {
     fn depth(&self, bounds: &[Bound<'text>]) -> usize {
         let mut depth = 0usize;
         for bound in bounds {
-            let index = bound.place.scope.wrapping_sub(1);
-            depth = depth.max(self.scopes.get(index).map_or(0, |scope| scope.depth));
+            depth = depth.max(self.scopes.at(bound.place).map_or(0, |scope| scope.depth));
         }
         depth.saturating_add(1)
     }
@@ -218,6 +222,19 @@ impl<'text> Bound<'text> {
             _ => self,
         }
     }
+}
+
+/// Returns the place of an assignment's name, and of what each parameter is given.
+fn spots(alloc: Global, assignment: Spot, bounds: &[Bound<'_>]) -> Result<Vec<Spot>, AllocError> {
+    let mut spots = Vec::new(alloc);
+    spots.push(assignment)?;
+    for bound in bounds {
+        spots.push(Spot {
+            place: bound.place,
+            position: bound.position,
+        })?;
+    }
+    Ok(spots)
 }
 
 /// Returns whether neither tags nor constraints are beside a type.

@@ -6,7 +6,7 @@ use crate::resolver::components::Within;
 use crate::resolver::enumerated::Enumeration;
 use crate::resolver::leaf::{Plain, universal, universal_type};
 use crate::resolver::node::{Asked, Shape, Unfolded, Use};
-use crate::resolver::scope::Scope;
+use crate::resolver::scope::Scopes;
 use crate::tree::{Base, Builtin, Component, ListOf, NamedNumber, Type as Written};
 use rasn_schema::{LeafKind, Type, TypeId};
 use rasn_types::types::{Constraints, Tag};
@@ -20,7 +20,7 @@ pub(crate) struct Resolver<'modules, 'text> {
     /// How many constraints were found that a schema doesn't check.
     pub(crate) unchecked: usize,
     /// What parameters are given.
-    pub(crate) scopes: Vec<Scope<'text>>,
+    pub(crate) scopes: Scopes<'text>,
 }
 
 impl<'modules, 'text> Resolver<'modules, 'text> {
