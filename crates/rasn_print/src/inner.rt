@@ -1,6 +1,6 @@
 //! What is inside open types, under DER.
 
-use crate::dump::{Entry, entries};
+use crate::dump::{DumpError, Entry, entries};
 use crate::known::Known;
 use crate::reading::{ReadError, refused};
 use rasn_de::ber::de::{ConstructedHeader, Decoder, DecoderOptions};
@@ -101,7 +101,11 @@ fn fault_in(
         }
     }
     match (found, fault) {
-        (_, Some(fault)) => Ok((fault.offset, fault.error)),
+        (_, Some(fault)) => {
+            let DumpError { offset, error } = fault;
+            let DecodeError { kind, .. } = error;
+            Ok((offset, of_kind(kind)))
+        }
         (Some(entry), None) => Ok((entry.offset, fault_of(alloc, known, entry))),
         (None, None) => Ok((0, of_kind(DecodeErrorKind::UnexpectedEmptyInput))),
     }

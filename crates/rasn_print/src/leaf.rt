@@ -33,7 +33,7 @@ pub(crate) fn leaf_text(
     }
 }
 
-/// Returns a number in decimal, with its name if it has one: `2 (v3)`. One of more than 32 bits is
+/// Returns a number in decimal, with its name if it has one: `2 (v3)`. One of more than four octets is
 /// also in hexadecimal, and one of more than 128 bits is so alone, with the number of its bits.
 pub(crate) fn number_text(
     alloc: Global,
@@ -49,11 +49,20 @@ pub(crate) fn number_text(
             return format!(in alloc; "{small} ({name})");
         }
     }
-    if octets.len() <= 4 {
+    let octets = magnitude(octets);
+    if small < 0 || octets.len() <= 4 {
         return format!(in alloc; "{small}");
     }
     let shown = Hexadecimal::new(octets);
     format!(in alloc; "{small} (0x{shown})")
+}
+
+/// Returns the octets of a number without a leading zero octet.
+fn magnitude(octets: &[u8]) -> &[u8] {
+    match octets {
+        [0, more @ ..] if !more.is_empty() => more,
+        all => all,
+    }
 }
 
 /// Returns a number of more than 128 bits in hexadecimal, with the number of its bits.
@@ -62,10 +71,7 @@ fn large_text(alloc: Global, is_negative: bool, octets: &[u8]) -> Result<String,
         let shown = Hexadecimal::new(octets);
         return format!(in alloc; "0x{shown} (negative, in two's complement)");
     }
-    let octets = match octets {
-        [0, more @ ..] => more,
-        all => all,
-    };
+    let octets = magnitude(octets);
     let shown = Hexadecimal::new(octets);
     let bits = bit_count(octets);
     format!(in alloc; "0x{shown} ({bits} bits)")

@@ -1,5 +1,5 @@
 //! PEM, the textual encoding of octets (RFC 7468).
-ghost use Rattle.std.specs.Prelude.{◌≡◌, ◌≢◌, ◌∷◌, ◌++◌, IfOk, OnOk, MatchOption, map};
+ghost use Rattle.std.specs.Prelude.{◌≡◌, ◌≢◌, ◌<◌, ◌≤◌, ◌∷◌, ◌++◌, IfOk, IfSome, OnOk, MatchOption, length, map};
 ghost use Rattle.std.specs.List.{All, filter};
 ghost use Rattle.rasn_types.specs.Truth.{IsWhether};
 ghost use Rattle.rasn_print.specs.Pem.{AreLines, IsBoundary, IsNoBoundary, IsContents, AreBlocks, AreBlocksOf, IsDecoded, end, is_space, is_symbol};
@@ -94,7 +94,8 @@ fn lines_of<'text>(alloc: Global, octets: &'text [u8]) -> Result<Vec<&'text [u8]
 
 /// Returns what is before the first line feed, and what is after it.
 fn first_line(octets: &[u8]) -> Option<(&[u8], &[u8])>
-    ensures { MatchOption result (All (λ c. c ≢ 10) octets.now) (λ r. (octets.now ≡ r.0.now ++ 10 ∷ r.1.now) × All (λ c. c ≢ 10) r.0.now) }
+    ensures parts { MatchOption result (All (λ c. c ≢ 10) octets.now) (λ r. (octets.now ≡ r.0.now ++ 10 ∷ r.1.now) × All (λ c. c ≢ 10) r.0.now) }
+    ensures fewer { IfSome result (λ r. length r.1.now < length octets.now) }
 {
     for (place, octet) in octets.iter().enumerate() {
         if *octet == b'\n' {
@@ -121,7 +122,8 @@ fn contents_of<'lines, 'text>(
     label: &[u8],
     lines: &'lines [&'text [u8]],
 ) -> Result<(Result<Vec<u8>, PemError>, &'lines [&'text [u8]]), AllocError>
-    ensures { IfOk result (λ r. IsContents label.now (map (λ l. l.now) lines.now) r.0 (map (λ l. l.now) r.1.now)) }
+    ensures contents { IfOk result (λ r. IsContents label.now (map (λ l. l.now) lines.now) r.0 (map (λ l. l.now) r.1.now)) }
+    ensures fewer { IfOk result (λ r. length r.1.now ≤ length lines.now) }
 {
     let mut symbols = Vec::new(alloc);
     let mut rest = lines;

@@ -170,7 +170,7 @@ impl Printer<'_> {
             value,
         };
         if alternatives.len() == 1 {
-            return self.print(below.saturating_sub(1), place, &chosen);
+            return self.print(below, place, &chosen);
         }
         let outer = place.title;
         let name = alternative.name.as_str();
@@ -179,7 +179,7 @@ impl Printer<'_> {
             title: title.as_str(),
             ..place
         };
-        self.print(below.saturating_sub(1), place, &chosen)
+        self.print(below, place, &chosen)
     }
 
     /// Appends the lines of a SEQUENCE or a SET. An identifier that is its first component is in the
@@ -214,7 +214,7 @@ impl Printer<'_> {
                 type_id: component.type_id,
                 value,
             };
-            self.print(below.saturating_sub(1), part, &view)?;
+            self.print(below, part, &view)?;
         }
         Ok(())
     }
@@ -248,7 +248,7 @@ impl Printer<'_> {
                 type_id: element,
                 value,
             };
-            self.print(below.saturating_sub(1), part, &view)?;
+            self.print(below, part, &view)?;
         }
         Ok(())
     }
@@ -278,7 +278,7 @@ impl Printer<'_> {
                         hint: None,
                         ..place
                     };
-                    return self.print(below.saturating_sub(1), place, &known.schema.view(id, &value));
+                    return self.print(below, place, &known.schema.view(id, &value));
                 }
                 Err(error) => fault = Some(error),
             }

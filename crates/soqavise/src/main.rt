@@ -1,24 +1,11 @@
 //! Shows, checks and converts messages of any type of ASN.1.
 #![tactic(auto)]
 
-mod catalog;
-mod command_line;
-mod fault;
-mod input;
-mod messages;
-mod session;
-mod standards;
-mod types;
-mod work;
-
-use crate::catalog::{known_of, modules_of, print_types};
-use crate::command_line::{Call, Work, call_of, command};
-use crate::fault::Fault;
-use crate::session::Session;
-use crate::types::type_named;
-use crate::work::Tools;
 use rasn_compiler::{Modules, Source};
-use rasn_print::Known;
+use rasn_print::{
+    Call, Fault, Known, Session, Tools, Work, call_of, command, known_of, modules_of, print_types,
+    type_named,
+};
 use std::fs::{self, File};
 use std::io::{BufReader, BufWriter, ErrorKind, Read, Write};
 use std::process::ExitCode;
@@ -105,9 +92,7 @@ fn run_work(
     let alloc = rt.alloc();
     let mut output = BufWriter::new(alloc, rt.stdout()).map_err(Fault::of_write)?;
     if call.work == Work::Types {
-        for module in &read.modules {
-            print_types(alloc, read, module, &mut output)?;
-        }
+        print_types(alloc, read, &mut output)?;
         output.flush().map_err(Fault::of_write)?;
         return Ok(0);
     }

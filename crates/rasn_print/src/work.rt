@@ -7,7 +7,10 @@ use base64::engine::general_purpose::STANDARD;
 use rasn::NormaliseError;
 use rasn_compiler::{Modules, Resolved, Stop};
 use rasn_dynamic::normalise;
-use rasn_print::{Known, ReadError, check, check_inner, offsets_text, show};
+use crate::inner::check_inner;
+use crate::known::Known;
+use crate::offsets::offsets_text;
+use crate::reading::{ReadError, check, show};
 use rasn_types::types::{Codec, Hexadecimal};
 use std::alloc::{AllocError, Global};
 
@@ -41,7 +44,7 @@ pub enum Answer {
 
 /// Returns what is printed for a message: of the type that is asked for, or that its label names, or
 /// of the first of the messages of standards that it is.
-pub fn answer(tools: &Tools<'_>, input: &Input<'_>) -> Result<Answer, AllocError> {
+pub fn answer_to(tools: &Tools<'_>, input: &Input<'_>) -> Result<Answer, AllocError> {
     if let Some(name) = tools.call.type_name {
         return match type_named(tools.read, name) {
             Some(named) => answer_as(tools, &named, input),

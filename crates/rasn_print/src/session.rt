@@ -3,8 +3,9 @@
 use crate::command_line::{InputForm, Work};
 use crate::fault::Fault;
 use crate::input::{form_of, from_hexadecimal, from_line};
-use crate::work::{Answer, Input, Tools, answer};
-use rasn_print::{Block, blocks, dump_text};
+use crate::work::{Answer, Input, Tools, answer_to};
+use crate::dump::dump_text;
+use crate::pem::{Block, blocks};
 use std::io::{BufRead, Write};
 use std::str;
 
@@ -105,7 +106,7 @@ impl<W: Write + Drop, E: Write + Drop> Session<'_, W, E> {
         if self.tools.call.work == Work::Dump {
             return self.dump(name, input.octets);
         }
-        match answer(&self.tools, input)? {
+        match answer_to(&self.tools, input)? {
             Answer::Done(octets) => self.write(&octets),
             Answer::Refused(text) => self.refuse(name, text.as_str()),
         }
@@ -148,7 +149,7 @@ impl<W: Write + Drop, E: Write + Drop> Session<'_, W, E> {
             label: None,
             is_text: true,
         };
-        match answer(&self.tools, &input)? {
+        match answer_to(&self.tools, &input)? {
             Answer::Done(text) if text.is_empty() => self.write(b"ok\n"),
             Answer::Done(text) => self.write(&text),
             Answer::Refused(text) => {

@@ -3,9 +3,12 @@
 use crate::fault::Fault;
 use crate::standards::STANDARDS;
 use rasn_compiler::{Assigned, Assignment, Module, Modules, Resolved, Source, Stop};
-use rasn_print::{CONTENTS, Known};
+use crate::known::{CONTENTS, Known};
 use std::alloc::{AllocError, Global};
 use std::io::Write;
+
+/// The name of the text of what is in open types.
+const CONTENTS_NAME: &str = "contents";
 
 /// Returns the modules of these texts, of this repository, and of what is in open types.
 pub fn modules_of<'text>(
@@ -17,7 +20,7 @@ pub fn modules_of<'text>(
         sources.push(Source { name, text })?;
     }
     sources.push(Source {
-        name: "contents.asn1",
+        name: CONTENTS_NAME,
         text: CONTENTS,
     })?;
     Modules::parse(alloc, sources.as_slice())
@@ -35,9 +38,22 @@ pub fn known_of(alloc: Global, read: &Modules<'_>) -> Result<Option<Known>, Allo
     }
 }
 
-/// Prints the types of a module that are known: how many constraints of each aren't checked, or why it
-/// isn't known.
+/// Prints the types that are known: how many constraints of each aren't checked, or why it isn't known.
 pub fn print_types<W: Write>(
+    alloc: Global,
+    read: &Modules<'_>,
+    output: &mut W,
+) -> Result<(), Fault> {
+    for module in &read.modules {
+        if module.source != CONTENTS_NAME {
+            print_types_of(alloc, read, module, output)?;
+        }
+    }
+    Ok(())
+}
+
+/// Prints the types of a module.
+fn print_types_of<W: Write>(
     alloc: Global,
     read: &Modules<'_>,
     module: &Module<'_>,
@@ -73,7 +89,7 @@ fn type_line(
         Ok(resolved) if resolved.unchecked == 0 => format!(in alloc; "{module}.{name}\n"),
         Ok(resolved) => {
             let count = resolved.unchecked;
-            format!(in alloc; "{module}.{name}: {count} constraints aren't checked\n")
+            format!(in alloc; "{module}.{name}: constraints that aren't checked: {count}\n")
         }
         Err(Stop::OutOfMemory) => Err(AllocError),
         Err(stop) => format!(in alloc; "{module}.{name}: {stop}\n"),

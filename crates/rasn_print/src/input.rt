@@ -4,7 +4,7 @@ use crate::command_line::InputForm;
 use base64::DecodeAllocError;
 use base64::engine::general_purpose::STANDARD;
 use hex::FromHexError;
-use rasn_print::blocks;
+use crate::pem::blocks;
 use std::alloc::{AllocError, Global};
 
 /// Returns the form of octets: PEM if a line begins a block, hexadecimal if there is nothing else but
