@@ -1,2 +1,3 @@
 mod Readings
-mod Blocks
+mod PemBlocks
+mod PemContents

@@ -1,8 +1,8 @@
 -- Blocks of PEM in a text (RFC 7468).
-use Rattle.std.specs.Prelude.{◌≡◌, ◌≢◌, ℕ, Bool, not, ◌||◌, ◌==◌, List, [], ◌∷◌, ◌++◌, codes, Vec, Result, Ok, Err, map}
+use Rattle.std.specs.Prelude.{◌≡◌, ◌≢◌, ◌-◌, ℕ, length, take, Bool, not, ◌||◌, ◌==◌, List, [], ◌∷◌, ◌++◌, codes, Vec, Option, Some, None, Result, Ok, Err}
 use Rattle.std.specs.Global.{Global}
-use Rattle.std.specs.List.{All, filter, flat_map}
-use Rattle.core.specs.Str.{IsTrimAsciiEnd}
+use Rattle.std.specs.List.{All, filter, flat_map, suffix_len}
+use Rattle.std.specs.Char.{is_ascii_whitespace}
 use Rattle.base64.specs.Engines.{standard}
 use Rattle.base64.specs.GeneralPurpose.{encode_of}
 use Rattle.rasn_types.specs.Framing.{AreOctets}
@@ -34,9 +34,13 @@ pub record AreLines (text : List ℕ) (lines : List (List ℕ)) : Type 0 where
   pub text_is : text ≡ flat_map (λ l. l ++ 10 ∷ []) front ++ last
   pub none_has : All (All (λ c. c ≢ 10)) lines
 
+-- a line without white space at its end
+abbrev pub trimmed : List ℕ → List ℕ
+trimmed line = take (length line - suffix_len is_ascii_whitespace line) line
+
 -- The line is such words, a label and dashes, except for white space at its end.
 abbrev pub IsBoundary : List ℕ → List ℕ → List ℕ → Type 0
-IsBoundary words label line = IsTrimAsciiEnd line (words ++ (label ++ dashes))
+IsBoundary words label line = trimmed line ≡ words ++ (label ++ dashes)
 
 abbrev pub IsNoBoundary : List ℕ → List ℕ → Type 0
 IsNoBoundary words line = (label : List ℕ) → IsBoundary words label line → ⊥
@@ -59,6 +63,11 @@ IsContents label lines (Ok octets) after = (body : List (List ℕ)) × IsEnded l
 IsContents label lines (Err (Base64 e)) after = (body : List (List ℕ)) × IsEnded label lines body after × ((octets : List ℕ) → AreOctets octets → Encode body octets → ⊥)
 IsContents label lines (Err End) after = (body : List (List ℕ)) × (lines ≡ body ++ after) × All IsInside body
     × ((last : List ℕ) (more : List (List ℕ)) → after ≡ last ∷ more → (IsInside last → ⊥) × (IsBoundary end label last → ⊥))
+
+-- The block that begins in a line, with the lines after it; or the line begins none.
+abbrev pub IsNextBlock : List ℕ → List (List ℕ) → Option Block → List (List ℕ) → Type 0
+IsNextBlock line more None after = IsNoBoundary begin line × (after ≡ more)
+IsNextBlock line more (Some b) after = IsBoundary begin b.label.now line × IsContents b.label.now more b.contents after
 
 -- The blocks that begin in the lines, in their order: each with what is in it.
 abbrev pub AreBlocks : List (List ℕ) → List Block → Type 0

@@ -1,7 +1,7 @@
 //! The types that are known.
 
 use crate::fault::Fault;
-use crate::standards::STANDARDS;
+use crate::standards::standards;
 use rasn_compiler::{Assigned, Assignment, Module, Modules, Resolved, Source, Stop};
 use crate::known::{CONTENTS, Known};
 use std::alloc::{AllocError, Global};
@@ -16,7 +16,7 @@ pub fn modules_of<'text>(
     texts: &[Source<'text>],
 ) -> Result<Modules<'text>, AllocError> {
     let mut sources = Vec::from_slice(alloc, texts)?;
-    for (name, text) in STANDARDS {
+    for (name, text) in standards() {
         sources.push(Source { name, text })?;
     }
     sources.push(Source {

@@ -302,13 +302,36 @@ pub(crate) fn primitive_text(
     known: &Known,
     entry: &Entry<'_>,
 ) -> Result<String, AllocError> {
-    match decode(alloc, Codec::Ber, &known.schema, known.universal, entry.octets) {
-        Ok(Value::Chosen(_, value)) => leaf_text(alloc, LeafKind::OctetString, &[], &value),
-        Err(error) if error.is_out_of_memory() => Err(AllocError),
-        _ => match entry.octets.get(entry.header_len..) {
+    match universal_text(alloc, known, entry.octets)? {
+        Some(text) => Ok(text),
+        None => match entry.octets.get(entry.header_len..) {
             Some(contents) => octets_text(alloc, contents),
             None => String::from_str(alloc, ""),
         },
+    }
+}
+
+/// Returns the value of an encoding with a universal tag as text.
+fn universal_text(
+    alloc: Global,
+    known: &Known,
+    octets: &[u8],
+) -> Result<Option<String>, AllocError> {
+    match decode(alloc, Codec::Ber, &known.schema, known.universal, octets) {
+        Ok(value) => chosen_text(alloc, &value),
+        Err(error) if error.is_out_of_memory() => Err(AllocError),
+        Err(_) => Ok(None),
+    }
+}
+
+/// Returns the value of an alternative as text.
+fn chosen_text(alloc: Global, value: &Value<'_>) -> Result<Option<String>, AllocError> {
+    match value {
+        Value::Chosen(_, inner) => {
+            let text = leaf_text(alloc, LeafKind::OctetString, &[], inner)?;
+            Ok(Some(text))
+        }
+        _ => Ok(None),
     }
 }
 

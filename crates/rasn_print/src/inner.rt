@@ -87,27 +87,36 @@ fn fault_in(
     octets: &[u8],
 ) -> Result<(usize, DecodeError), AllocError> {
     let (list, fault) = entries(alloc, octets);
-    let mut found: Option<&Entry<'_>> = None;
-    for entry in &list {
-        let is_inside = match found {
-            Some(outer) => entry.depth > outer.depth,
-            None => true,
-        };
-        if !is_inside {
+    if let Some(fault) = fault {
+        let DumpError { offset, error } = fault;
+        let DecodeError { kind, .. } = error;
+        return Ok((offset, of_kind(kind)));
+    }
+    match innermost(alloc, list.as_slice())? {
+        Some(entry) => Ok((entry.offset, fault_of(alloc, known, entry))),
+        None => Ok((0, of_kind(DecodeErrorKind::UnexpectedEmptyInput))),
+    }
+}
+
+/// Returns the first encoding that doesn't follow DER while those inside it do.
+fn innermost<'list, 'input>(
+    alloc: Global,
+    list: &'list [Entry<'input>],
+) -> Result<Option<&'list Entry<'input>>, AllocError> {
+    let mut found = None;
+    let mut depth = 0;
+    for (index, entry) in list.iter().enumerate() {
+        if found.is_some() && entry.depth <= depth {
             break;
         }
         if !is_well_formed(alloc, entry.octets)? {
-            found = Some(entry);
+            found = Some(index);
+            depth = entry.depth;
         }
     }
-    match (found, fault) {
-        (_, Some(fault)) => {
-            let DumpError { offset, error } = fault;
-            let DecodeError { kind, .. } = error;
-            Ok((offset, of_kind(kind)))
-        }
-        (Some(entry), None) => Ok((entry.offset, fault_of(alloc, known, entry))),
-        (None, None) => Ok((0, of_kind(DecodeErrorKind::UnexpectedEmptyInput))),
+    match found {
+        Some(index) => Ok(list.get(index)),
+        None => Ok(None),
     }
 }
 

@@ -78,15 +78,16 @@ fn push_attribute(
     let Value::Items(parts) = attribute else {
         return Ok(false);
     };
-    match parts.as_slice() {
-        [Value::Arcs(kind), Value::Octets(octets)] => {
-            push_type(text, kind)?;
-            text.push('=')?;
-            push_value(text, alloc, known, octets.as_slice())?;
-            Ok(true)
-        }
-        _ => Ok(false),
-    }
+    let [kind, value] = parts.as_slice() else {
+        return Ok(false);
+    };
+    let (Value::Arcs(kind), Value::Octets(octets)) = (kind, value) else {
+        return Ok(false);
+    };
+    push_type(text, kind)?;
+    text.push('=')?;
+    push_value(text, alloc, known, octets.as_slice())?;
+    Ok(true)
 }
 
 /// Appends the type of an attribute, by its short name if it has one.
@@ -120,10 +121,17 @@ fn string_of(alloc: Global, known: &Known, octets: &[u8]) -> Result<Option<Strin
         return Ok(None);
     }
     match decode(alloc, Codec::Ber, &known.schema, known.universal, octets) {
-        Ok(Value::Chosen(_, value)) => characters(alloc, &value),
-        Ok(_) => Ok(None),
+        Ok(value) => chosen_characters(alloc, &value),
         Err(error) if error.is_out_of_memory() => Err(AllocError),
         Err(_) => Ok(None),
+    }
+}
+
+/// Returns the characters of the alternative that is chosen.
+fn chosen_characters(alloc: Global, value: &Value<'_>) -> Result<Option<String>, AllocError> {
+    match value {
+        Value::Chosen(_, inner) => characters(alloc, inner),
+        _ => Ok(None),
     }
 }
 

@@ -1,8 +1,8 @@
 //! PEM, the textual encoding of octets (RFC 7468).
-ghost use Rattle.std.specs.Prelude.{◌≡◌, ◌≢◌, ◌<◌, ◌≤◌, ◌∷◌, ◌++◌, IfOk, IfSome, OnOk, MatchOption, length, map};
+ghost use Rattle.std.specs.Prelude.{◌≡◌, ◌≢◌, ◌<◌, ◌≤◌, ◌∷◌, ◌++◌, IfOk, IfSome, OnOk, MatchOption, length, map, option_to_list};
 ghost use Rattle.std.specs.List.{All, filter};
 ghost use Rattle.rasn_types.specs.Truth.{IsWhether};
-ghost use Rattle.rasn_print.specs.Pem.{AreLines, IsBoundary, IsNoBoundary, IsContents, AreBlocks, AreBlocksOf, IsDecoded, end, is_space, is_symbol};
+ghost use Rattle.rasn_print.specs.Pem.{AreLines, IsBoundary, IsNoBoundary, IsContents, AreBlocks, AreBlocksOf, IsDecoded, IsNextBlock, end, is_space, is_symbol};
 
 use base64::DecodeAllocError;
 use base64::engine::general_purpose::STANDARD;
@@ -53,29 +53,61 @@ pub fn blocks<'text>(alloc: Global, octets: &'text [u8]) -> Result<Vec<Block<'te
 }
 
 /// Returns the blocks that begin in these lines.
-fn blocks_in<'text>(
+fn blocks_in<'lines, 'text>(
     alloc: Global,
-    lines: &[&'text [u8]],
+    lines: &'lines [&'text [u8]],
 ) -> Result<Vec<Block<'text>>, AllocError>
     ensures { IfOk result (λ bs. AreBlocks (map (λ l. l.now) lines.now) bs.items) }
 {
     let mut blocks = Vec::new(alloc);
-    let mut rest = lines;
-    while let [line, after @ ..] = rest {
-        match label_after(line, BEGIN) {
-            None => rest = after,
-            Some(label) => {
-                let (contents, more) = contents_of(alloc, label, after)?;
-                blocks.push(Block {
-                    label,
-                    line: lines.len().saturating_sub(after.len()),
-                    contents,
-                })?;
-                rest = more;
-            }
-        }
+    let mut place = 0;
+    while place < lines.len() {
+        let number = place + 1;
+        let (block, more) = block_at(alloc, number, lines[place], &lines[number..])?;
+        push_block(&mut blocks, block)?;
+        place = lines.len() - more.len();
     }
     Ok(blocks)
+}
+
+/// Appends a block, if there is one.
+fn push_block<'text>(
+    blocks: &mut Vec<Block<'text>>,
+    block: Option<Block<'text>>,
+) -> Result<(), AllocError>
+    ensures { OnOk result (blocks.new.items ≡ blocks.old.items ++ option_to_list block.entry) }
+{
+    match block {
+        Some(block) => match blocks.push(block) {
+            Ok(()) => Ok(()),
+            Err(_) => Err(AllocError),
+        },
+        None => Ok(()),
+    }
+}
+
+/// Returns the block that begins in the line with this number, if one does, and the lines after it.
+fn block_at<'lines, 'text>(
+    alloc: Global,
+    number: usize,
+    line: &'text [u8],
+    after: &'lines [&'text [u8]],
+) -> Result<(Option<Block<'text>>, &'lines [&'text [u8]]), AllocError>
+    ensures block { IfOk result (λ r. IsNextBlock line.now (map (λ l. l.now) after.now) r.0 (map (λ l. l.now) r.1.now)) }
+    ensures fewer { IfOk result (λ r. length r.1.now ≤ length after.now) }
+{
+    match label_after(line, BEGIN) {
+        None => Ok((None, after)),
+        Some(label) => {
+            let (contents, more) = contents_of(alloc, label, after)?;
+            let block = Block {
+                label,
+                line: number,
+                contents,
+            };
+            Ok((Some(block), more))
+        }
+    }
 }
 
 /// Returns the lines of a text.
@@ -132,7 +164,7 @@ fn contents_of<'lines, 'text>(
             if is_last(line, label) {
                 return Ok((decoded(alloc, &symbols)?, after));
             }
-            break;
+            return Ok((Err(PemError::End), rest));
         }
         push_symbols(&mut symbols, line)?;
         rest = after;

@@ -1,5 +1,5 @@
 //! Octets that are one whole value of a type.
-ghost use Rattle.std.specs.Prelude.{◌≡◌, ◌-◌, length, MatchResult};
+ghost use Rattle.std.specs.Prelude.{◌≡◌, ◌-◌, [], length, MatchResult};
 ghost use Rattle.rasn.specs.Headline.{IsExtraData};
 ghost use Rattle.rasn_print.specs.Reading.{IsMessage, IsRefused, IsToldOf};
 

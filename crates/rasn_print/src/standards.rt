@@ -1,7 +1,12 @@
 //! The texts of the modules of this repository: `.ci/standards` writes this file from `modules/`.
 
+/// Returns the name of each module's file, and its text.
+pub fn standards() -> &'static [(&'static str, &'static str)] {
+    STANDARDS
+}
+
 /// The name of each module's file, and its text.
-pub const STANDARDS: &[(&str, &str)] = &[
+const STANDARDS: &[(&str, &str)] = &[
     (
         "attribute_certificates.asn1",
         "-- Attribute certificates (RFC 5755 4, and version 1 as RFC 5652 12 has it), laid out from the sections

@@ -4,7 +4,6 @@ use crate::command_line::{Call, Work};
 use crate::messages::{MESSAGES, rules_of, type_of_label};
 use crate::types::{NamedType, type_named};
 use base64::engine::general_purpose::STANDARD;
-use rasn::NormaliseError;
 use rasn_compiler::{Modules, Resolved, Stop};
 use rasn_dynamic::normalise;
 use crate::inner::check_inner;
@@ -184,10 +183,8 @@ fn normalised(
     let alloc = tools.alloc;
     match normalise(alloc, rule, &resolved.schema, resolved.root, input.octets) {
         Ok(octets) => Ok(Answer::Done(in_form(alloc, input, octets)?)),
-        Err(error) => match error {
-            NormaliseError::Decode(error) if error.is_out_of_memory() => Err(AllocError),
-            error => Ok(Answer::Refused(format!(in alloc; "{error}")?)),
-        },
+        Err(error) if error.is_out_of_memory() => Err(AllocError),
+        Err(error) => Ok(Answer::Refused(format!(in alloc; "{error}")?)),
     }
 }
 
