@@ -3,7 +3,6 @@ use Rattle.std.proofs.Common.{◌≡◌, ◌≢◌, ◌++◌, ◌∷◌, [], ℕ
 use Rattle.std.specs.Global.{Global}
 use Rattle.std.specs.List.{All, filter, flat_map}
 use Rattle.std.proofs.lemmas.List.{append_assoc, flat_map_more}
-
 use Rattle.std.proofs.lemmas.List.Elements.{filter-append, All-append}
 use Rattle.rasn_print.specs.declared.pem.PemError.{PemError}
 use Rattle.rasn_print.specs.declared.pem.PemError.TheVariants.{End, Base64}

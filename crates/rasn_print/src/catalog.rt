@@ -38,7 +38,8 @@ pub fn known_of(alloc: Global, read: &Modules<'_>) -> Result<Option<Known>, Allo
     }
 }
 
-/// Prints the types that are known: how many constraints of each aren't checked, or why it isn't known.
+/// Prints the types that are known: how many constraints of each aren't checked, or why it isn't
+/// known.
 pub fn print_types<W: Write>(
     alloc: Global,
     read: &Modules<'_>,

@@ -24,7 +24,8 @@ pub struct Entry<'input> {
     pub is_constructed: bool,
     /// Whether its length is indefinite (X.690 8.1.3.6).
     pub is_indefinite: bool,
-    /// All of its octets; if its length is indefinite, those up to where the encoding around it ends.
+    /// All of its octets; if its length is indefinite, those up to where the encoding around it
+    /// ends.
     pub octets: &'input [u8],
 }
 
@@ -137,8 +138,8 @@ impl<'input> Walk<'input> {
         }
     }
 
-    /// Goes over end-of-contents octets or a header, and the contents if they are primitive. Returns
-    /// false at the end of the input.
+    /// Goes over end-of-contents octets or a header, and the contents if they are primitive.
+    /// Returns false at the end of the input.
     fn step(&mut self) -> Result<bool, DumpError> {
         self.leave();
         let around = self.innermost();
@@ -245,9 +246,9 @@ fn header_of(alloc: Global, octets: &[u8]) -> Result<Header<'_>, DecodeError> {
     })
 }
 
-/// Returns the octets of BER as lines: where each encoding begins, how many octets its header and its
-/// contents have, its tag, and the value if it is one of a universal type that holds no others. What
-/// follows a fault isn't there.
+/// Returns the octets of BER as lines: where each encoding begins, how many octets its header and
+/// its contents have, its tag, and the value if it is one of a universal type that holds no others.
+/// What follows a fault isn't there.
 pub fn dump_text(
     alloc: Global,
     known: &Known,

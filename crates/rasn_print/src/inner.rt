@@ -14,7 +14,8 @@ use std::alloc::{AllocError, Global};
 /// Checks that the octets of each open type of a message follow DER at every depth.
 ///
 /// # Errors
-/// `Refused` with the place of the innermost encoding that doesn't, or of the message if it is none.
+/// `Refused` with the place of the innermost encoding that doesn't, or of the message if it is
+/// none.
 pub fn check_inner(
     alloc: Global,
     known: &Known,

@@ -7,8 +7,8 @@ use hex::FromHexError;
 use crate::pem::blocks;
 use std::alloc::{AllocError, Global};
 
-/// Returns the form of octets: PEM if a line begins a block, hexadecimal if there is nothing else but
-/// digits and white space.
+/// Returns the form of octets: PEM if a line begins a block, hexadecimal if there is nothing else
+/// but digits and white space.
 pub fn form_of(
     alloc: Global,
     asked: Option<InputForm>,

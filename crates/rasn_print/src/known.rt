@@ -2,9 +2,10 @@
 
 use rasn_schema::{Alternative, Schema, Type, TypeId, index_named, type_at};
 
-/// A module that has the types of what is in open types (`Open`), in OCTET STRINGs (`Octets`) and in
-/// BIT STRINGs (`Bits`) beside an identifier: each alternative has the identifier's name. `Universal`
-/// has the types of values with universal tags. It imports from the modules of this repository.
+/// A module that has the types of what is in open types (`Open`), in OCTET STRINGs (`Octets`) and
+/// in BIT STRINGs (`Bits`) beside an identifier: each alternative has the identifier's name.
+/// `Universal` has the types of values with universal tags. It imports from the modules of this
+/// repository.
 pub const CONTENTS: &str = "\
 Contents DEFINITIONS EXPLICIT TAGS ::= BEGIN
 

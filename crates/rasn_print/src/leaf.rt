@@ -33,8 +33,8 @@ pub(crate) fn leaf_text(
     }
 }
 
-/// Returns a number in decimal, with its name if it has one: `2 (v3)`. One of more than four octets is
-/// also in hexadecimal, and one of more than 128 bits is so alone, with the number of its bits.
+/// Returns a number in decimal, with its name if it has one: `2 (v3)`. One of more than four octets
+/// is also in hexadecimal, and one of more than 128 bits is so alone, with the number of its bits.
 pub(crate) fn number_text(
     alloc: Global,
     names: &[NamedNumber],
@@ -131,7 +131,8 @@ pub(crate) fn push_word<T: fmt::Display>(text: &mut String, word: &T) -> Result<
     write!(text, "{word}")
 }
 
-/// Returns the bits in hexadecimal, with the number of unused bits of the last octet unless it is 0.
+/// Returns the bits in hexadecimal, with the number of unused bits of the last octet unless it is
+/// 0.
 fn bits_text(alloc: Global, bits: &BitStr<'_>) -> Result<String, AllocError> {
     let mut octets = Vec::new(alloc);
     bits.append_to(&mut octets)?;

@@ -1,6 +1,6 @@
-//! The work of the program `soqavise`: values of any type as indented text with the names of a schema,
-//! octets of BER without a type, where octets aren't a message, and the forms in which messages are
-//! handed over: octets, PEM and hexadecimal digits.
+//! The work of the program `soqavise`: values of any type as indented text with the names of a
+//! schema, octets of BER without a type, where octets aren't a message, and the forms in which
+//! messages are handed over: octets, PEM and hexadecimal digits.
 #![tactic(auto)]
 
 mod catalog;

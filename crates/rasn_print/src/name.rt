@@ -98,8 +98,8 @@ fn push_type(text: &mut String, kind: &ObjectIdentifier) -> Result<(), AllocErro
     }
 }
 
-/// Appends the characters of an attribute's value, or its octets in hexadecimal after `#` if it is no
-/// string (RFC 4514 2.4).
+/// Appends the characters of an attribute's value, or its octets in hexadecimal after `#` if it is
+/// no string (RFC 4514 2.4).
 fn push_value(
     text: &mut String,
     alloc: Global,
@@ -135,8 +135,9 @@ fn chosen_characters(alloc: Global, value: &Value<'_>) -> Result<Option<String>,
     }
 }
 
-/// Returns whether the octets begin with the identifier of a string type whose characters are known:
-/// UTF8String, NumericString, PrintableString, TeletexString, IA5String, VisibleString or BMPString.
+/// Returns whether the octets begin with the identifier of a string type whose characters are
+/// known: UTF8String, NumericString, PrintableString, TeletexString, IA5String, VisibleString or
+/// BMPString.
 fn is_string(octets: &[u8]) -> bool {
     matches!(
         octets.first(),
@@ -144,8 +145,8 @@ fn is_string(octets: &[u8]) -> bool {
     )
 }
 
-/// Returns the characters of a string; `None` of a TeletexString that isn't ASCII, since few programs
-/// use the other octets as T.61 defines them.
+/// Returns the characters of a string; `None` of a TeletexString that isn't ASCII, since few
+/// programs use the other octets as T.61 defines them.
 fn characters(alloc: Global, value: &Value<'_>) -> Result<Option<String>, AllocError> {
     match value {
         Value::Text(text) => Ok(Some(String::from_str(alloc, text.as_str())?)),

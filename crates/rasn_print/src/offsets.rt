@@ -8,8 +8,8 @@ use rasn_schema::{Alternative, Component, LeafKind, NamedNumber, Schema, Type, T
 use rasn_types::types::Codec;
 use std::alloc::{AllocError, Global};
 
-/// Returns the parts of the message with which the octets begin as lines: where each begins, how many
-/// octets its header and its contents have, its name, and its value if it holds no others.
+/// Returns the parts of the message with which the octets begin as lines: where each begins, how
+/// many octets its header and its contents have, its name, and its value if it holds no others.
 ///
 /// # Errors
 /// As [`check`](crate::check), but what follows the message isn't refused.

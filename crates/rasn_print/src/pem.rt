@@ -137,8 +137,8 @@ fn first_line(octets: &[u8]) -> Option<(&[u8], &[u8])>
     None
 }
 
-/// Returns the label between these words and the dashes, if the line has nothing else but white space
-/// at its end.
+/// Returns the label between these words and the dashes, if the line has nothing else but white
+/// space at its end.
 fn label_after<'text>(line: &'text [u8], words: &[u8]) -> Option<&'text [u8]>
     ensures { MatchOption result (IsNoBoundary words.now line.now) (λ label. IsBoundary words.now label.now line.now) }
 {
@@ -147,8 +147,8 @@ fn label_after<'text>(line: &'text [u8], words: &[u8]) -> Option<&'text [u8]>
     behind.strip_suffix(DASHES)
 }
 
-/// Returns the octets that the lines up to the last one of a block encode, and the lines after it. If
-/// the block has no last line, those from the next line of dashes on follow it.
+/// Returns the octets that the lines up to the last one of a block encode, and the lines after it.
+/// If the block has no last line, those from the next line of dashes on follow it.
 fn contents_of<'lines, 'text>(
     alloc: Global,
     label: &[u8],

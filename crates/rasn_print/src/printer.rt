@@ -148,8 +148,8 @@ impl Printer<'_> {
         self.line(place, text.as_str())
     }
 
-    /// Appends the lines of an alternative. Its name follows the title after a point, unless it is the
-    /// only one.
+    /// Appends the lines of an alternative. Its name follows the title after a point, unless it is
+    /// the only one.
     #[cycle(print)]
     fn print_chosen(
         &mut self,
@@ -182,8 +182,8 @@ impl Printer<'_> {
         self.print(below, place, &chosen)
     }
 
-    /// Appends the lines of a SEQUENCE or a SET. An identifier that is its first component is in the
-    /// line of the title.
+    /// Appends the lines of a SEQUENCE or a SET. An identifier that is its first component is in
+    /// the line of the title.
     #[cycle(print)]
     fn print_components(
         &mut self,

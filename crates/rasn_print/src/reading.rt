@@ -76,8 +76,8 @@ pub fn check(
     }
 }
 
-/// Returns the value that all of the octets encode under the rules, as lines, the first of which has
-/// this title.
+/// Returns the value that all of the octets encode under the rules, as lines, the first of which
+/// has this title.
 ///
 /// # Errors
 /// `Refused` exactly if there is none, `OutOfMemory` if an allocation fails.

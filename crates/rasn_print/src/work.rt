@@ -41,8 +41,8 @@ pub enum Answer {
     Refused(String),
 }
 
-/// Returns what is printed for a message: of the type that is asked for, or that its label names, or
-/// of the first of the messages of standards that it is.
+/// Returns what is printed for a message: of the type that is asked for, or that its label names,
+/// or of the first of the messages of standards that it is.
 pub fn answer_to(tools: &Tools<'_>, input: &Input<'_>) -> Result<Answer, AllocError> {
     if let Some(name) = tools.call.type_name {
         return match type_named(tools.read, name) {
@@ -188,8 +188,8 @@ fn normalised(
     }
 }
 
-/// Returns octets in the form of an input: as a block of PEM, a line of hexadecimal digits, or as they
-/// are.
+/// Returns octets in the form of an input: as a block of PEM, a line of hexadecimal digits, or as
+/// they are.
 fn in_form(alloc: Global, input: &Input<'_>, octets: Vec<u8>) -> Result<Vec<u8>, AllocError> {
     if let Some(label) = input.label {
         return Ok(pem_text(alloc, label, &octets)?.into_bytes());

@@ -1,5 +1,5 @@
-//! Rows of calls of `soqavise`, each with what it prints: the words of the call, and the octets of its
-//! input in hexadecimal as the last word, or its text in quotation marks.
+//! Rows of calls of `soqavise`, each with what it prints: the words of the call, and the octets of
+//! its input in hexadecimal as the last word, or its text in quotation marks.
 #![tactic(auto)]
 
 use rasn_compiler::Modules;
