@@ -1,9 +1,9 @@
 //! The types that are known.
 
 use crate::fault::Fault;
+use crate::known::{CONTENTS, Known};
 use crate::standards::standards;
 use rasn_compiler::{Assigned, Assignment, Module, Modules, Resolved, Source, Stop};
-use crate::known::{CONTENTS, Known};
 use std::alloc::{AllocError, Global};
 use std::io::Write;
 
@@ -63,9 +63,7 @@ fn print_types_of<W: Write>(
     for assignment in &module.assignments {
         if is_plain_type(assignment) && !read.is_class(module.name, assignment.name) {
             let line = type_line(alloc, read, module.name, assignment.name)?;
-            output
-                .write_all(line.as_bytes())
-                .map_err(Fault::of_write)?;
+            output.write_all(line.as_bytes()).map_err(Fault::of_write)?;
         }
     }
     Ok(())

@@ -60,18 +60,19 @@ pub fn command<'a>(alloc: Global) -> Result<Command<'a>, AllocError> {
                 .after_help("Example: soqavise show cert.pem"),
         )?
         .subcommand(
-            messages(alloc, "check", "Prints nothing, or where a message is refused and why")?
-                .arg(flag(
-                    alloc,
-                    "outer",
-                    "Leaves out what is inside open types",
-                ))?
-                .after_help("Example: soqavise check --type Certificate *.der"),
+            messages(
+                alloc,
+                "check",
+                "Prints nothing, or where a message is refused and why",
+            )?
+            .arg(flag(alloc, "outer", "Leaves out what is inside open types"))?
+            .after_help("Example: soqavise check --type Certificate *.der"),
         )?
-        .subcommand(
-            messages(alloc, "normalise", "Writes messages of BER or CER as DER")?
-                .after_help("Example: soqavise normalise --type LDAPMessage message.ber"),
-        )?
+        .subcommand(messages(
+            alloc,
+            "normalise",
+            "Writes messages of BER or CER as DER",
+        )?.after_help("Example: soqavise normalise --type LDAPMessage message.ber"))?
         .subcommand(
             Command::new(alloc, "types")
                 .about("Prints the types that are known, and what of them isn't checked")
@@ -88,11 +89,7 @@ pub fn command<'a>(alloc: Global) -> Result<Command<'a>, AllocError> {
 }
 
 /// Returns a command on messages.
-fn messages<'a>(
-    alloc: Global,
-    name: &'a str,
-    about: &'a str,
-) -> Result<Command<'a>, AllocError> {
+fn messages<'a>(alloc: Global, name: &'a str, about: &'a str) -> Result<Command<'a>, AllocError> {
     Command::new(alloc, name)
         .about(about)
         .arg(modules(alloc))?

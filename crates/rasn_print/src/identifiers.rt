@@ -28,7 +28,10 @@ const IDENTIFIERS: &[Named] = &[
     (&[1, 2, 840, 113549, 1, 7, 6], "id-encryptedData"),
     (&[1, 2, 840, 113549, 1, 9, 16, 1, 2], "id-ct-authData"),
     (&[1, 2, 840, 113549, 1, 9, 16, 1, 4], "id-ct-TSTInfo"),
-    (&[1, 2, 840, 113549, 1, 9, 16, 1, 23], "id-ct-authEnvelopedData"),
+    (
+        &[1, 2, 840, 113549, 1, 9, 16, 1, 23],
+        "id-ct-authEnvelopedData",
+    ),
     // Attributes of PKCS #9 (RFC 2985).
     (&[1, 2, 840, 113549, 1, 9, 1], "emailAddress"),
     (&[1, 2, 840, 113549, 1, 9, 2], "unstructuredName"),
@@ -148,10 +151,7 @@ fn name_of(arcs: &[u32], names: &[Named]) -> Option<&'static str> {
 
 /// Returns the arcs of an object identifier, with its name before them if it is well known:
 /// `sha256WithRSAEncryption (1.2.840.113549.1.1.11)`.
-pub fn identifier_text(
-    alloc: Global,
-    identifier: &ObjectIdentifier,
-) -> Result<String, AllocError> {
+pub fn identifier_text(alloc: Global, identifier: &ObjectIdentifier) -> Result<String, AllocError> {
     match identifier_name(identifier.arcs()) {
         Some(name) => format!(in alloc; "{name} ({identifier})"),
         None => format!(in alloc; "{identifier}"),

@@ -143,7 +143,13 @@ fn fault_of(alloc: Global, known: &Known, entry: &Entry<'_>) -> DecodeError {
             inner: CodecDecodeError::Der(DerDecodeErrorKind::SetOfOutOfOrder),
         });
     }
-    match check_value(alloc, Codec::Der, &known.schema, known.universal, entry.octets) {
+    match check_value(
+        alloc,
+        Codec::Der,
+        &known.schema,
+        known.universal,
+        entry.octets,
+    ) {
         Err(error) => error,
         Ok(()) => of_kind(DecodeErrorKind::StringConversionFailed { tag: entry.tag }),
     }

@@ -144,9 +144,7 @@ impl Known {
             Form::Bits => self.bits,
         };
         match type_at(self.schema.types(), list)? {
-            Type::Choice { alternatives, .. } => {
-                self.inner_type(alternatives.as_slice(), name)
-            }
+            Type::Choice { alternatives, .. } => { self.inner_type(alternatives.as_slice(), name) }
             _ => None,
         }
     }

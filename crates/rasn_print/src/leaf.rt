@@ -4,8 +4,7 @@ use crate::identifiers::identifier_text;
 use rasn_schema::{LeafKind, NamedNumber, Value, name_of_number};
 use rasn_types::types::{BitStr, BmpString, Hexadecimal, Integer};
 use std::alloc::{AllocError, Global};
-use std::fmt;
-use std::str;
+use std::{fmt, str};
 
 /// Returns a value that holds no others as text. The names are those of numbers or of bits.
 pub(crate) fn leaf_text(

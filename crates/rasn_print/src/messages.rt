@@ -9,17 +9,37 @@ type Message = (&'static [&'static str], &'static str, &'static str);
 /// The messages, in the order in which their types are tried. The labels are those of RFC 7468, and
 /// others that programs write.
 pub const MESSAGES: &[Message] = &[
-    (&["CERTIFICATE", "X509 CERTIFICATE", "X.509 CERTIFICATE"], "Certificates", "Certificate"),
+    (
+        &["CERTIFICATE", "X509 CERTIFICATE", "X.509 CERTIFICATE"],
+        "Certificates",
+        "Certificate",
+    ),
     (&["X509 CRL", "CRL"], "Revocation", "CertificateList"),
-    (&["CERTIFICATE REQUEST", "NEW CERTIFICATE REQUEST"], "Requests", "CertificationRequest"),
-    (&["CMS", "PKCS7", "PKCS #7 SIGNED DATA"], "CMS", "ContentInfo"),
+    (
+        &["CERTIFICATE REQUEST", "NEW CERTIFICATE REQUEST"],
+        "Requests",
+        "CertificationRequest",
+    ),
+    (
+        &["CMS", "PKCS7", "PKCS #7 SIGNED DATA"],
+        "CMS",
+        "ContentInfo",
+    ),
     (&["PRIVATE KEY"], "Keys", "OneAsymmetricKey"),
-    (&["ENCRYPTED PRIVATE KEY"], "Keys", "EncryptedPrivateKeyInfo"),
+    (
+        &["ENCRYPTED PRIVATE KEY"],
+        "Keys",
+        "EncryptedPrivateKeyInfo",
+    ),
     (&["PUBLIC KEY"], "Certificates", "SubjectPublicKeyInfo"),
     (&["RSA PRIVATE KEY"], "Keys", "RSAPrivateKey"),
     (&["RSA PUBLIC KEY"], "Keys", "RSAPublicKey"),
     (&["EC PRIVATE KEY"], "Keys", "ECPrivateKey"),
-    (&["ATTRIBUTE CERTIFICATE"], "AttributeCertificates", "AttributeCertificate"),
+    (
+        &["ATTRIBUTE CERTIFICATE"],
+        "AttributeCertificates",
+        "AttributeCertificate",
+    ),
     (&["PKCS12"], "PKCS12", "PFX"),
     (&["OCSP REQUEST"], "OCSP", "OCSPRequest"),
     (&["OCSP RESPONSE"], "OCSP", "OCSPResponse"),

@@ -1,11 +1,11 @@
 //! Goes over the messages of inputs.
 
 use crate::command_line::{InputForm, Work};
+use crate::dump::dump_text;
 use crate::fault::Fault;
 use crate::input::{form_of, from_hexadecimal, from_line};
-use crate::work::{Answer, Input, Tools, answer_to};
-use crate::dump::dump_text;
 use crate::pem::{Block, blocks};
+use crate::work::{Answer, Input, Tools, answer_to};
 use std::io::{BufRead, Write};
 use std::str;
 

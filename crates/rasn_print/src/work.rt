@@ -1,15 +1,15 @@
 //! What is done with each message.
 
 use crate::command_line::{Call, Work};
+use crate::inner::check_inner;
+use crate::known::Known;
 use crate::messages::{MESSAGES, rules_of, type_of_label};
+use crate::offsets::offsets_text;
+use crate::reading::{ReadError, check, show};
 use crate::types::{NamedType, type_named};
 use base64::engine::general_purpose::STANDARD;
 use rasn_compiler::{Modules, Resolved, Stop};
 use rasn_dynamic::normalise;
-use crate::inner::check_inner;
-use crate::known::Known;
-use crate::offsets::offsets_text;
-use crate::reading::{ReadError, check, show};
 use rasn_types::types::{Codec, Hexadecimal};
 use std::alloc::{AllocError, Global};
 
@@ -75,9 +75,7 @@ fn answer_by_trial(tools: &Tools<'_>, input: &Input<'_>) -> Result<Answer, Alloc
         }
         tried.push_str(name)?;
     }
-    Ok(Answer::Refused(
-        format!(in tools.alloc; "none of the messages that are known: {tried}")?,
-    ))
+    Ok(Answer::Refused(format!(in tools.alloc; "none of the messages that are known: {tried}")?))
 }
 
 /// Returns what is printed for a message of this type.
