@@ -1,11 +1,13 @@
 -- Blocks of PEM, one after the other.
-use Rattle.std.proofs.Common.{◌≡◌, ◌≢◌, ◌++◌, ◌∷◌, ◌-◌, ◌≤◌, [], ℕ, List, Option, Some, None, ap, drop, length, refl, subst, sym, ◌∙◌, arith}
+use Rattle.std.proofs.Common.{◌≡◌, ◌≢◌, ◌++◌, ◌∷◌, [], ℕ, Bool, true, false, List, Option, Some, None, Bor, MatchBool, MatchOption, ap, drop, length, refl, subst, sym, take, ◌∙◌, arith}
 use Rattle.std.specs.List.{All}
 use Rattle.std.specs.Prelude.{option_to_list}
-use Rattle.std.proofs.lemmas.List.{append_assoc, append-nil}
-use Rattle.std.proofs.Math.Seq.{drop-append_seam}
+use Rattle.std.proofs.lemmas.List.Elements.{All-nil, All-cons}
+use Rattle.std.proofs.lemmas.List.{append_assoc, append-nil, length-append}
+use Rattle.std.proofs.Math.Seq.{drop-append_seam, take-append_seam}
+use Rattle.rasn_types.specs.Truth.{IsWhether}
 use Rattle.rasn_print.specs.declared.pem.Block.{Block}
-use Rattle.rasn_print.specs.Pem.{begin, dashes, trimmed, IsBoundary, IsNoBoundary, IsContents, IsNextBlock, AreBlocks}
+use Rattle.rasn_print.specs.Pem.{begin, dashes, end, trimmed, IsBoundary, IsNoBoundary, IsContents, IsNextBlock, AreBlocks}
 
 -- ---- what begins and ends a block
 
@@ -16,25 +18,36 @@ pub boundary : (words label line text behind : List ℕ) → text ≡ trimmed li
 boundary words label line text behind e f g = sym e ∙ (f ∙ ap (λ z. words ++ z) g)
 
 pub other_words : (words line text : List ℕ) → text ≡ trimmed line → ((rest : List ℕ) → text ≢ words ++ rest) → IsNoBoundary words line
-other_words words line text e no label is = no (label ++ dashes) (e ∙ is)
+other_words words line text e other label is = other (label ++ dashes) (e ∙ is)
 
 pub no_dashes : (words line text behind : List ℕ) → text ≡ trimmed line → text ≡ words ++ behind → ((front : List ℕ) → behind ≢ front ++ dashes) → IsNoBoundary words line
-no_dashes words line text behind e f no label is = no label (cancel words behind (label ++ dashes) (sym f ∙ (e ∙ is)))
+no_dashes words line text behind e f other label is = other label (cancel words behind (label ++ dashes) (sym f ∙ (e ∙ is)))
+
+pub label_of : (words line text behind : List ℕ) (r : Option (Bor (List ℕ))) → text ≡ trimmed line → text ≡ words ++ behind
+    → MatchOption r ((front : List ℕ) → behind ≢ front ++ dashes) (λ x. behind ≡ x.now ++ dashes) → MatchOption r (IsNoBoundary words line) (λ label. IsBoundary words label.now line)
+label_of words line text behind None e f q = no_dashes words line text behind e f q
+label_of words line text behind (Some x) e f q = boundary words x.now line text behind e f q
 
 -- The label of a line is the only one.
-pub same_label : (words line one other : List ℕ) → IsBoundary words one line → IsBoundary words other line → one ++ dashes ≡ other ++ dashes
-same_label words line one other a b = cancel words (one ++ dashes) (other ++ dashes) (sym a ∙ b)
+cancel_back : (x y z : List ℕ) → x ++ z ≡ y ++ z → x ≡ y
+cancel_back x y z e =
+    let l : length x ≡ length y = omega (arith, sym (length-append x z) ∙ (ap length e ∙ length-append y z)) in
+    sym (take-append_seam x z) ∙ (ap (take (length x)) e ∙ (ap (λ n. take n (y ++ z)) l ∙ take-append_seam y z))
+
+pub whether_last : (line last label : List ℕ) (b : Bool) → IsBoundary end last line → MatchBool b (last ≡ label) (last ≢ label) → IsWhether b (IsBoundary end label line)
+whether_last line last label true bound is = subst (λ z. IsBoundary end z line) is bound
+whether_last line last label false bound other = λ is. other (cancel_back last label dashes (cancel end (last ++ dashes) (label ++ dashes) (sym bound ∙ is)))
 
 -- ---- blocks
 
 -- A line that begins no block is skipped.
 skip : (l : List ℕ) (ls : List (List ℕ)) (bs : List Block) → IsNoBoundary begin l → AreBlocks ls bs → AreBlocks (l ∷ ls) bs
-skip l ls [] n all = (n, all)
-skip l ls (b ∷ bs) n (before, first, more, after, is, none, bound, contents, rest) = (l ∷ before, first, more, after, ap (λ z. l ∷ z) is, (n, none), bound, contents, rest)
+skip l ls [] n all = All-cons (IsNoBoundary begin) l ls n all
+skip l ls (b ∷ bs) n (before, first, more, after, is, none, bound, contents, rest) = (l ∷ before, first, more, after, ap (λ z. l ∷ z) is, All-cons (IsNoBoundary begin) l before n none, bound, contents, rest)
 
 -- A line that begins one is its first.
 block : (l : List ℕ) (more after : List (List ℕ)) (b : Block) (bs : List Block) → IsBoundary begin b.label.now l → IsContents b.label.now more b.contents after → AreBlocks after bs → AreBlocks (l ∷ more) (b ∷ bs)
-block l more after b bs bound contents rest = ([], l, more, after, refl, tt, bound, contents, rest)
+block l more after b bs bound contents rest = ([], l, more, after, refl, All-nil (IsNoBoundary begin), bound, contents, rest)
 
 pub onward : (lines : List (List ℕ)) (blocks : List Block) (line : List ℕ) (following remaining : List (List ℕ)) (found : Option Block)
     → ((bs : List Block) → AreBlocks (line ∷ following) bs → AreBlocks lines (blocks ++ bs)) → IsNextBlock line following found remaining

@@ -143,8 +143,10 @@ fn label_after<'text>(line: &'text [u8], words: &[u8]) -> Option<&'text [u8]>
     ensures { MatchOption result (IsNoBoundary words.now line.now) (λ label. IsBoundary words.now label.now line.now) }
 {
     let text = line.trim_ascii_end();
-    let behind = text.strip_prefix(words)?;
-    behind.strip_suffix(DASHES)
+    match text.strip_prefix(words) {
+        Some(behind) => behind.strip_suffix(DASHES),
+        None => None,
+    }
 }
 
 /// Returns the octets that the lines up to the last one of a block encode, and the lines after it.
