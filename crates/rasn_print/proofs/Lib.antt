@@ -1,3 +1,2 @@
-mod Readings
 mod PemBlocks
 mod PemContents

@@ -1,5 +1,5 @@
 -- The lines of a text, and those of a block.
-use Rattle.std.proofs.Common.{◌≡◌, ◌≢◌, ◌++◌, ◌∷◌, [], ℕ, List, Vec, Result, Ok, Err, absurd, ap, refl, subst, sym, ◌∙◌}
+use Rattle.std.proofs.Common.{◌≡◌, ◌≢◌, ◌++◌, ◌∷◌, [], ℕ, List, Vec, Result, Ok, Err, ap, refl, subst, sym, ◌∙◌}
 use Rattle.std.specs.Global.{Global}
 use Rattle.std.specs.List.{All, filter, flat_map}
 use Rattle.std.proofs.lemmas.List.{append_assoc, flat_map_more}
@@ -44,7 +44,7 @@ ended label symbols lines body after (Err End) d s e = absurd d
 
 -- ---- results
 
-IsGood : {A B : Type 0} → Result A B → Type 0
+abbrev IsGood : {A B : Type 0} → Result A B → Type 0
 IsGood (Ok a) = Unit {0}
 IsGood (Err b) = ⊥
 

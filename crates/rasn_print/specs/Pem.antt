@@ -4,8 +4,7 @@ use Rattle.std.specs.Global.{Global}
 use Rattle.std.specs.List.{All, filter, flat_map, suffix_len}
 use Rattle.std.specs.Char.{is_ascii_whitespace}
 use Rattle.base64.specs.Engines.{standard}
-use Rattle.base64.specs.GeneralPurpose.{encode_of}
-use Rattle.rasn_types.specs.Framing.{AreOctets}
+use Rattle.base64.specs.GeneralPurpose.{IsBytes, encode_of}
 use Rattle.rasn_print.specs.declared.pem.Block.{Block}
 use Rattle.rasn_print.specs.declared.pem.PemError.{PemError}
 use Rattle.rasn_print.specs.declared.pem.PemError.TheVariants.{End, Base64}
@@ -60,7 +59,7 @@ IsEnded label lines body after = (last : List ℕ) × (lines ≡ body ++ last �
 
 abbrev pub IsContents : List ℕ → List (List ℕ) → Result (Vec ℕ Global) PemError → List (List ℕ) → Type 0
 IsContents label lines (Ok octets) after = (body : List (List ℕ)) × IsEnded label lines body after × Encode body octets.items
-IsContents label lines (Err (Base64 e)) after = (body : List (List ℕ)) × IsEnded label lines body after × ((octets : List ℕ) → AreOctets octets → Encode body octets → ⊥)
+IsContents label lines (Err (Base64 e)) after = (body : List (List ℕ)) × IsEnded label lines body after × ((octets : List ℕ) → IsBytes octets → Encode body octets → ⊥)
 IsContents label lines (Err End) after = (body : List (List ℕ)) × (lines ≡ body ++ after) × All IsInside body
     × ((last : List ℕ) (more : List (List ℕ)) → after ≡ last ∷ more → (IsInside last → ⊥) × (IsBoundary end label last → ⊥))
 
@@ -82,5 +81,5 @@ AreBlocksOf text bs = (lines : List (List ℕ)) × AreLines text lines × AreBlo
 -- The symbols are the base64 of the octets, or of none.
 abbrev pub IsDecoded : List ℕ → Result (Vec ℕ Global) PemError → Type 0
 IsDecoded symbols (Ok octets) = symbols ≡ encode_of standard octets.items
-IsDecoded symbols (Err (Base64 e)) = (octets : List ℕ) → AreOctets octets → symbols ≢ encode_of standard octets
+IsDecoded symbols (Err (Base64 e)) = (octets : List ℕ) → IsBytes octets → symbols ≢ encode_of standard octets
 IsDecoded symbols (Err End) = ⊥
