@@ -1,12 +1,15 @@
 -- Blocks of PEM, one after the other.
-use Rattle.std.proofs.Common.{◌≡◌, ◌≢◌, ◌++◌, ◌∷◌, [], ℕ, Bool, true, false, List, Option, Some, None, Bor, MatchBool, MatchOption, ap, drop, length, refl, subst, sym, take, ◌∙◌, arith}
+use Rattle.std.proofs.Common.{◌≡◌, ◌≢◌, ◌++◌, ◌∷◌, [], ℕ, Bool, true, false, List, Option, Some, None, Bor, MatchBool, MatchOption, Result, Ok, Err, Vec, ap, drop, get_or, length, map, refl, subst, sym, take, ◌+◌, ◌-◌, ◌<◌, ◌≤◌, ◌∙◌, arith}
 use Rattle.std.specs.List.{All}
 use Rattle.std.specs.Prelude.{option_to_list}
 use Rattle.std.proofs.lemmas.List.Elements.{All-nil, All-cons}
-use Rattle.std.proofs.lemmas.List.{append_assoc, append-nil, length-append}
+use Rattle.std.proofs.lemmas.List.{append_assoc, append-nil, drop_all, drop_at, drop_more, drop-map, length-append, length-drop, length-map, take-append-drop, take_all}
 use Rattle.std.proofs.Math.Seq.{drop-append_seam, take-append_seam}
 use Rattle.rasn_types.specs.Truth.{IsWhether}
+use Rattle.std.specs.Global.{Global}
 use Rattle.rasn_print.specs.declared.pem.Block.{Block}
+use Rattle.rasn_print.specs.declared.pem.PemError.{PemError}
+use Rattle.rasn_print.specs.declared.pem.PemError.TheVariants.{End, Base64}
 use Rattle.rasn_print.specs.Pem.{begin, dashes, end, trimmed, IsBoundary, IsNoBoundary, IsContents, IsNextBlock, AreBlocks}
 
 -- ---- what begins and ends a block
@@ -54,3 +57,42 @@ pub onward : (lines : List (List ℕ)) (blocks : List Block) (line : List ℕ) (
     → (bs : List Block) → AreBlocks remaining bs → AreBlocks lines ((blocks ++ option_to_list found) ++ bs)
 onward lines blocks line following remaining None h n bs a = subst (λ z. AreBlocks lines (z ++ bs)) (sym (append-nil blocks)) (h bs (skip line following bs n.0 (subst (λ z. AreBlocks z bs) n.1 a)))
 onward lines blocks line following remaining (Some b) h n bs a = subst (λ z. AreBlocks lines z) (sym (append_assoc blocks (b ∷ []) bs)) (h (b ∷ bs) (block line following remaining b bs n.0 n.1 a))
+
+-- The lines after a block are the last of those after its first.
+after_contents : (label : List ℕ) (lines after : List (List ℕ)) (r : Result (Vec ℕ Global) PemError) → IsContents label lines r after → (front : List (List ℕ)) × (lines ≡ front ++ after)
+after_contents label lines after (Ok octets) (body, (last, is, inside, bound), encode) = (body ++ last ∷ [], is ∙ sym (append_assoc body (last ∷ []) after))
+after_contents label lines after (Err (Base64 e)) (body, (last, is, inside, bound), none) = (body ++ last ∷ [], is ∙ sym (append_assoc body (last ∷ []) after))
+after_contents label lines after (Err End) (body, is, inside, over) = (body, is)
+
+after_next : (line : List ℕ) (following remaining : List (List ℕ)) (found : Option Block) → IsNextBlock line following found remaining → (front : List (List ℕ)) × (following ≡ front ++ remaining)
+after_next line following remaining None n = ([], sym n.1)
+after_next line following remaining (Some b) n = after_contents b.label.now following remaining b.contents n.1
+
+-- The lines that are left are those from where they begin.
+left_over : (lines front remaining : List (List ℕ)) (n : ℕ) → lines ≡ front ++ remaining → n ≡ length lines - length remaining → drop n lines ≡ remaining
+left_over lines front remaining n e is = rw e (drop_at front remaining n (omega (arith, is, ap length e, length-append front remaining)))
+
+-- What is found in the lines that are left goes on what was found before.
+pub found_at : (lines more : List (Bor (List ℕ))) (place : ℕ) (line : List ℕ) (following : List (List ℕ)) (blocks grown : List Block) (found : Option Block) → drop place (map (λ x. x.now) lines) ≡ line ∷ following
+    → ((bs : List Block) → AreBlocks (drop place (map (λ x. x.now) lines)) bs → AreBlocks (map (λ x. x.now) lines) (blocks ++ bs))
+    → IsNextBlock line following found (map (λ x. x.now) more) → grown ≡ blocks ++ option_to_list found
+    → (length lines - length more ≤ length lines) × ((bs : List Block) → AreBlocks (drop (length lines - length more) (map (λ x. x.now) lines)) bs → AreBlocks (map (λ x. x.now) lines) (grown ++ bs))
+found_at lines more place line following blocks grown found e h next g =
+    let all : List (List ℕ) = map (λ x. x.now) lines in
+    let rest : List (List ℕ) = map (λ x. x.now) more in
+    let (front, is) = after_next line following rest found next in
+    let whole : all ≡ (take place all ++ line ∷ front) ++ rest = sym (take-append-drop place all) ∙ (ap (λ z. take place all ++ z) (e ∙ ap (λ z. line ∷ z) is) ∙ sym (append_assoc (take place all) (line ∷ front) rest)) in
+    let begins : drop (length lines - length more) all ≡ rest = left_over all (take place all ++ line ∷ front) rest (length lines - length more) whole (omega (arith, length-map lines (λ x. x.now), length-map more (λ x. x.now))) in
+    (omega arith, λ bs a. rw g (onward all blocks line following rest found (λ b z. h b (rw e z)) next bs (subst (λ z. AreBlocks z bs) begins a)))
+
+-- A line, and those after it.
+pub line_and_rest : (lines : List (Bor (List ℕ))) (place : ℕ) (d : Bor (List ℕ)) → place < length lines
+    → drop place (map (λ x. x.now) lines) ≡ (get_or lines place d).now ∷ map (λ x. x.now) (take (length lines - (place + 1)) (drop (place + 1) lines))
+line_and_rest lines place d h =
+    let f : List (Bor (List ℕ)) → List (List ℕ) = λ z. map (λ x. x.now) z in
+    drop-map (λ x. x.now) place lines ∙ (ap f (drop_more lines place d h) ∙ ap (λ z. (get_or lines place d).now ∷ f z) (sym (take_all (length lines - (place + 1)) (drop (place + 1) lines) (omega (arith, length-drop (place + 1) lines)))))
+
+-- Where no line is left, all blocks are found.
+pub all_found : (lines : List (List ℕ)) (place : ℕ) (blocks : List Block) → length lines ≤ place
+    → ((bs : List Block) → AreBlocks (drop place lines) bs → AreBlocks lines (blocks ++ bs)) → AreBlocks lines blocks
+all_found lines place blocks past h = subst (λ z. AreBlocks lines z) (append-nil blocks) (h [] (rw (drop_all place lines past) (All-nil (IsNoBoundary begin))))
