@@ -119,10 +119,17 @@ fn difference(
 ) -> Result<Option<String>, AllocError> {
     let notation = resolved.notation(alloc)?;
     let text = format!(in alloc; "{notation}")?;
-    let sources = [Source {
-        name: "shown",
-        text: text.as_str(),
-    }];
+    difference_from(alloc, resolved, name, text.as_str())
+}
+
+/// Returns why the text of a module doesn't have the same types as the schema, if it hasn't.
+fn difference_from<'text>(
+    alloc: Global,
+    resolved: &Resolved,
+    name: &'text str,
+    text: &'text str,
+) -> Result<Option<String>, AllocError> {
+    let sources = [Source { name, text }];
     let read = Modules::parse(alloc, &sources)?;
     if let Some(fault) = read.faults.first() {
         return Ok(Some(format!(in alloc; "{fault}")?));

@@ -169,21 +169,24 @@ fn parts<'schema>(alloc: Global, ty: &'schema Type) -> Result<Vec<Part<'schema>>
     match ty {
         Type::Tagged { inner: id, .. }
         | Type::SequenceOf { element: id, .. }
-        | Type::SetOf { element: id, .. } => {
-            let mut parts = Vec::new(alloc);
-            parts.push(Part {
-                name: "",
-                presence: None,
-                id: *id,
-            })?;
-            Ok(parts)
-        }
+        | Type::SetOf { element: id, .. } => part_of(alloc, "", *id),
         Type::Choice { alternatives, .. } => alternatives_of(alloc, alternatives),
         Type::Sequence { components, .. } | Type::Set { components, .. } => {
             components_of(alloc, components)
         }
         _ => Ok(Vec::new(alloc)),
     }
+}
+
+/// Returns the one type that a type is made of.
+fn part_of(alloc: Global, name: &str, id: TypeId) -> Result<Vec<Part<'_>>, AllocError> {
+    let mut parts = Vec::new(alloc);
+    parts.push(Part {
+        name,
+        presence: None,
+        id,
+    })?;
+    Ok(parts)
 }
 
 /// Returns the alternatives of a CHOICE.
