@@ -1,0 +1,192 @@
+//! The command line.
+
+use clap::builder::ValueParser;
+use clap::{Arg, ArgAction, ArgMatches, Command};
+use rasn_types::types::Codec;
+use std::alloc::{AllocError, Global};
+
+/// What is done with messages.
+#[derive(Clone, Copy, Debug, PartialEq, Eq)]
+pub enum Work {
+    Show,
+    Check,
+    Normalise,
+    Types,
+    Dump,
+}
+
+/// The form in which messages are handed over.
+#[derive(Clone, Copy, Debug, PartialEq, Eq)]
+pub enum InputForm {
+    Der,
+    Pem,
+    Hex,
+}
+
+/// What the command line asks for.
+#[derive(Clone, Copy)]
+pub struct Call<'a> {
+    pub work: Work,
+    /// The files of messages; none for standard input.
+    pub files: &'a [&'a str],
+    /// The files of modules.
+    pub modules: &'a [&'a str],
+    /// The type, perhaps with its module before it.
+    pub type_name: Option<&'a str>,
+    pub rules: Option<Codec>,
+    pub input: Option<InputForm>,
+    /// Whether open types aren't looked into.
+    pub is_outer: bool,
+    /// Whether where each part begins is shown.
+    pub has_offsets: bool,
+    /// Whether each line is a message.
+    pub has_lines: bool,
+}
+
+/// Returns the program's command.
+pub fn command<'a>(alloc: Global) -> Result<Command<'a>, AllocError> {
+    Command::new(alloc, "soqavise")
+        .bin_name("soqavise")?
+        .version("0.1.0")
+        .about("Shows, checks and converts messages of ASN.1 in BER, CER and DER")
+        .subcommand_required(true)
+        .subcommand(
+            messages(alloc, "show", "Prints messages as text with names")?
+                .arg(flag(
+                    alloc,
+                    "offsets",
+                    "Prints where each part begins, and its lengths",
+                ))?
+                .after_help("Example: soqavise show cert.pem"),
+        )?
+        .subcommand(
+            messages(
+                alloc,
+                "check",
+                "Prints nothing, or where a message is refused and why",
+            )?
+            .arg(flag(alloc, "outer", "Leaves out what is inside open types"))?
+            .after_help("Example: soqavise check --type Certificate *.der"),
+        )?
+        .subcommand(messages(
+            alloc,
+            "normalise",
+            "Writes messages of BER or CER as DER",
+        )?.after_help("Example: soqavise normalise --type LDAPMessage message.ber"))?
+        .subcommand(
+            Command::new(alloc, "types")
+                .about("Prints the types that are known, and what of them isn't checked")
+                .arg(modules(alloc))?
+                .after_help("Example: soqavise types --module My.asn1"),
+        )?
+        .subcommand(
+            Command::new(alloc, "dump")
+                .about("Prints headers, lengths and strings of any BER, without a type")
+                .arg(input(alloc))?
+                .arg(files(alloc))?
+                .after_help("Example: soqavise dump message.ber"),
+        )
+}
+
+/// Returns a command on messages.
+fn messages<'a>(alloc: Global, name: &'a str, about: &'a str) -> Result<Command<'a>, AllocError> {
+    Command::new(alloc, name)
+        .about(about)
+        .arg(modules(alloc))?
+        .arg(
+            Arg::new(alloc, "type")
+                .long("type")
+                .value_name("[MODULE.]TYPE")
+                .help("The type of the messages"),
+        )?
+        .arg(
+            Arg::new(alloc, "rules")
+                .long("rules")
+                .value_name("RULES")
+                .value_parser(ValueParser::from(["ber", "cer", "der"].as_slice()))
+                .help("The encoding rules by which messages are read"),
+        )?
+        .arg(flag(
+            alloc,
+            "lines",
+            "Reads a message from each line, in hexadecimal or base64",
+        ))?
+        .arg(input(alloc))?
+        .arg(files(alloc))
+}
+
+fn modules<'a>(alloc: Global) -> Arg<'a> {
+    Arg::new(alloc, "module")
+        .long("module")
+        .value_name("FILE")
+        .action(ArgAction::Append)
+        .help("Reads modules of ASN.1 from this file, too")
+}
+
+fn input<'a>(alloc: Global) -> Arg<'a> {
+    Arg::new(alloc, "input")
+        .long("input")
+        .value_name("FORM")
+        .value_parser(ValueParser::from(["der", "pem", "hex"].as_slice()))
+        .help("The form of the input, which is found out otherwise")
+}
+
+fn files<'a>(alloc: Global) -> Arg<'a> {
+    Arg::new(alloc, "file")
+        .value_name("FILE")
+        .num_args(0..)
+        .help("The files of messages; standard input without one")
+}
+
+fn flag<'a>(alloc: Global, name: &'a str, help: &'a str) -> Arg<'a> {
+    Arg::new(alloc, name)
+        .long(name)
+        .action(ArgAction::SetTrue)
+        .help(help)
+}
+
+/// Returns what the command line asks for.
+pub fn call_of<'a>(matches: &'a ArgMatches<'a>) -> Option<Call<'a>> {
+    let (name, inner) = matches.subcommand()?;
+    Some(Call {
+        work: work_of(name)?,
+        files: inner.get_strs("file").unwrap_or(&[]),
+        modules: inner.get_strs("module").unwrap_or(&[]),
+        type_name: inner.get_str("type"),
+        rules: rules_of(inner.get_str("rules")),
+        input: form_of(inner.get_str("input")),
+        is_outer: inner.get_flag("outer"),
+        has_offsets: inner.get_flag("offsets"),
+        has_lines: inner.get_flag("lines"),
+    })
+}
+
+/// Returns the work that a subcommand asks for.
+fn work_of(name: &str) -> Option<Work> {
+    match name {
+        "show" => Some(Work::Show),
+        "check" => Some(Work::Check),
+        "normalise" => Some(Work::Normalise),
+        "types" => Some(Work::Types),
+        "dump" => Some(Work::Dump),
+        _ => None,
+    }
+}
+
+fn rules_of(name: Option<&str>) -> Option<Codec> {
+    match name? {
+        "ber" => Some(Codec::Ber),
+        "cer" => Some(Codec::Cer),
+        "der" => Some(Codec::Der),
+        _ => None,
+    }
+}
+
+fn form_of(name: Option<&str>) -> Option<InputForm> {
+    match name? {
+        "der" => Some(InputForm::Der),
+        "pem" => Some(InputForm::Pem),
+        "hex" => Some(InputForm::Hex),
+        _ => None,
+    }
+}

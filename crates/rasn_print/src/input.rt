@@ -1,0 +1,60 @@
+//! The form of an input.
+
+use crate::command_line::InputForm;
+use crate::pem::blocks;
+use base64::DecodeAllocError;
+use base64::engine::general_purpose::STANDARD;
+use hex::FromHexError;
+use std::alloc::{AllocError, Global};
+
+/// Returns the form of octets: PEM if a line begins a block, hexadecimal if there is nothing else
+/// but digits and white space.
+pub fn form_of(
+    alloc: Global,
+    asked: Option<InputForm>,
+    octets: &[u8],
+) -> Result<InputForm, AllocError> {
+    if let Some(form) = asked {
+        return Ok(form);
+    }
+    if !blocks(alloc, octets)?.is_empty() {
+        return Ok(InputForm::Pem);
+    }
+    if octets.iter().all(|octet| is_digit_or_space(*octet)) {
+        return Ok(InputForm::Hex);
+    }
+    Ok(InputForm::Der)
+}
+
+/// Returns whether this is a hexadecimal digit or white space.
+fn is_digit_or_space(octet: u8) -> bool {
+    octet.is_ascii_hexdigit() || octet.is_ascii_whitespace()
+}
+
+/// Returns the octets that hexadecimal digits denote, between which white space may be; `None` if
+/// there is something else.
+pub fn from_hexadecimal(alloc: Global, text: &[u8]) -> Result<Option<Vec<u8>>, AllocError> {
+    let mut digits = Vec::new(alloc);
+    for octet in text {
+        if !octet.is_ascii_whitespace() {
+            digits.push(*octet)?;
+        }
+    }
+    match hex::decode(alloc, &digits) {
+        Ok(octets) => Ok(Some(octets)),
+        Err(FromHexError::OutOfMemory) => Err(AllocError),
+        Err(_) => Ok(None),
+    }
+}
+
+/// Returns the octets that a line denotes, in hexadecimal or else in base64.
+pub fn from_line(alloc: Global, line: &str) -> Result<Option<Vec<u8>>, AllocError> {
+    if let Some(octets) = from_hexadecimal(alloc, line.as_bytes())? {
+        return Ok(Some(octets));
+    }
+    match STANDARD.decode(alloc, line.trim().as_bytes()) {
+        Ok(octets) => Ok(Some(octets)),
+        Err(DecodeAllocError::OutOfMemory) => Err(AllocError),
+        Err(_) => Ok(None),
+    }
+}

@@ -1,0 +1,38 @@
+//! The work of the program `soqavise`: values of any type as indented text with the names of a
+//! schema, octets of BER without a type, where octets aren't a message, and the forms in which
+//! messages are handed over: octets, PEM and hexadecimal digits.
+#![tactic(auto)]
+
+mod catalog;
+mod command_line;
+mod dump;
+mod fault;
+mod identifiers;
+mod inner;
+mod input;
+mod known;
+mod leaf;
+mod messages;
+mod name;
+mod offsets;
+mod pem;
+mod printer;
+mod reading;
+mod session;
+mod standards;
+mod types;
+mod work;
+
+pub use catalog::{known_of, modules_of, print_types};
+pub use command_line::{Call, InputForm, Work, call_of, command};
+pub use dump::{DumpError, Entry, dump_text, entries};
+pub use fault::Fault;
+pub use inner::check_inner;
+pub use known::{CONTENTS, Known};
+pub use offsets::offsets_text;
+pub use pem::{Block, PemError, blocks};
+pub use printer::value_text;
+pub use reading::{ReadError, check, show};
+pub use session::Session;
+pub use types::{NamedType, type_named};
+pub use work::{Answer, Input, Tools, answer_to};

@@ -1,0 +1,80 @@
+//! The messages whose types need not be named.
+
+use crate::types::NamedType;
+use rasn_types::types::Codec;
+
+/// The labels of PEM that name a message, and the module and the name of its type.
+type Message = (&'static [&'static str], &'static str, &'static str);
+
+/// The messages, in the order in which their types are tried. The labels are those of RFC 7468, and
+/// others that programs write.
+pub const MESSAGES: &[Message] = &[
+    (
+        &["CERTIFICATE", "X509 CERTIFICATE", "X.509 CERTIFICATE"],
+        "Certificates",
+        "Certificate",
+    ),
+    (&["X509 CRL", "CRL"], "Revocation", "CertificateList"),
+    (
+        &["CERTIFICATE REQUEST", "NEW CERTIFICATE REQUEST"],
+        "Requests",
+        "CertificationRequest",
+    ),
+    (
+        &["CMS", "PKCS7", "PKCS #7 SIGNED DATA"],
+        "CMS",
+        "ContentInfo",
+    ),
+    (&["PRIVATE KEY"], "Keys", "OneAsymmetricKey"),
+    (
+        &["ENCRYPTED PRIVATE KEY"],
+        "Keys",
+        "EncryptedPrivateKeyInfo",
+    ),
+    (&["PUBLIC KEY"], "Certificates", "SubjectPublicKeyInfo"),
+    (&["RSA PRIVATE KEY"], "Keys", "RSAPrivateKey"),
+    (&["RSA PUBLIC KEY"], "Keys", "RSAPublicKey"),
+    (&["EC PRIVATE KEY"], "Keys", "ECPrivateKey"),
+    (
+        &["ATTRIBUTE CERTIFICATE"],
+        "AttributeCertificates",
+        "AttributeCertificate",
+    ),
+    (&["PKCS12"], "PKCS12", "PFX"),
+    (&["OCSP REQUEST"], "OCSP", "OCSPRequest"),
+    (&["OCSP RESPONSE"], "OCSP", "OCSPResponse"),
+    (&[], "TimeStamps", "TimeStampReq"),
+    (&[], "TimeStamps", "TimeStampResp"),
+    (&[], "LDAP", "LDAPMessage"),
+    (&[], "SNMP", "Message"),
+    (&[], "SNMP", "SNMPv3Message"),
+    (&[], "Kerberos", "AS-REQ"),
+    (&[], "Kerberos", "AS-REP"),
+    (&[], "Kerberos", "TGS-REQ"),
+    (&[], "Kerberos", "TGS-REP"),
+    (&[], "Kerberos", "AP-REQ"),
+    (&[], "Kerberos", "AP-REP"),
+    (&[], "Kerberos", "KRB-ERROR"),
+    (&[], "CMP", "PKIMessage"),
+];
+
+/// Returns the type of the message that a label of PEM names.
+pub fn type_of_label(label: &str) -> Option<NamedType<'static>> {
+    for (labels, module, name) in MESSAGES {
+        for known in *labels {
+            if *known == label {
+                return Some(NamedType { module, name });
+            }
+        }
+    }
+    None
+}
+
+/// Returns the rules by which the standard of a module has its messages: BER for CMS (RFC 5652 2),
+/// PKCS #12 (RFC 7292 4), LDAP (RFC 4511 5.1) and SNMP (RFC 3417 8), otherwise DER.
+pub fn rules_of(module: &str) -> Codec {
+    match module {
+        "CMS" | "PKCS12" | "LDAP" | "SNMP" => Codec::Ber,
+        _ => Codec::Der,
+    }
+}

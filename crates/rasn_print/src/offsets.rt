@@ -1,0 +1,143 @@
+//! The parts of a message with their places.
+
+use crate::dump::push_indent;
+use crate::leaf::{hexadecimal_text, leaf_text};
+use crate::reading::{ReadError, refused};
+use rasn_dynamic::{MessageParts, Part, decode, parts_of};
+use rasn_schema::{Alternative, Component, LeafKind, NamedNumber, Schema, Type, TypeId, type_at};
+use rasn_types::types::Codec;
+use std::alloc::{AllocError, Global};
+
+/// Returns the parts of the message with which the octets begin as lines: where each begins, how
+/// many octets its header and its contents have, its name, and its value if it holds no others.
+///
+/// # Errors
+/// As [`check`](crate::check), but what follows the message isn't refused.
+pub fn offsets_text(
+    alloc: Global,
+    rule: Codec,
+    schema: &Schema,
+    id: TypeId,
+    title: &str,
+    octets: &[u8],
+) -> Result<String, ReadError> {
+    let mut parts = match parts_of(alloc, rule, schema, id, octets) {
+        Ok(parts) => parts,
+        Err(refusal) => return Err(refused(refusal)),
+    };
+    match text_of(alloc, rule, schema, title, &mut parts) {
+        Ok(text) => Ok(text),
+        Err(_) => Err(ReadError::OutOfMemory),
+    }
+}
+
+/// Returns the lines of all parts.
+fn text_of(
+    alloc: Global,
+    rule: Codec,
+    schema: &Schema,
+    title: &str,
+    parts: &mut MessageParts<'_>,
+) -> Result<String, AllocError> {
+    let mut text = String::new(alloc);
+    let mut around = Vec::new(alloc);
+    for _ in 0..parts.list.len() {
+        match parts.next(alloc) {
+            Ok(Some(part)) => {
+                let path = parts.path.as_slice();
+                around.truncate(path.len());
+                push_header(&mut text, &part, path.len())?;
+                push_name(&mut text, schema, around.as_slice(), path, title)?;
+                push_value(&mut text, alloc, rule, schema, &part)?;
+                around.push(part.id)?;
+            }
+            Ok(None) => break,
+            Err(_) => return Err(AllocError),
+        }
+    }
+    Ok(text)
+}
+
+/// Appends where a part begins and its lengths.
+fn push_header(text: &mut String, part: &Part<'_>, depth: usize) -> Result<(), AllocError> {
+    let offset = part.offset;
+    let header = part.header_len;
+    write!(text, "{offset:>6} {header:>2}+")?;
+    if part.is_indefinite {
+        text.push_str("indef ")?;
+    } else {
+        let len = part.octets.len().saturating_sub(header);
+        write!(text, "{len:<6}")?;
+    }
+    push_indent(text, depth)
+}
+
+/// Appends the name of the part with this path: of the message itself the title, of an element its
+/// index in brackets, and of what is in an explicit tag `value`.
+fn push_name(
+    text: &mut String,
+    schema: &Schema,
+    around: &[TypeId],
+    path: &[usize],
+    title: &str,
+) -> Result<(), AllocError> {
+    let (Some(outer), Some(index)) = (around.last(), path.last()) else {
+        return text.push_str(title);
+    };
+    let name = match type_at(schema.types(), *outer) {
+        Some(Type::Sequence { components, .. }) => component_name(components.as_slice(), *index),
+        Some(Type::Set { components, .. }) => component_name(components.as_slice(), *index),
+        Some(Type::Choice { alternatives, .. }) => {
+            alternative_name(alternatives.as_slice(), *index)
+        }
+        Some(Type::SequenceOf { .. } | Type::SetOf { .. }) => return write!(text, "[{index}]"),
+        _ => None,
+    };
+    text.push_str(name.unwrap_or("value"))
+}
+
+fn component_name(components: &[Component], index: usize) -> Option<&str> {
+    Some(components.get(index)?.name.as_str())
+}
+
+fn alternative_name(alternatives: &[Alternative], index: usize) -> Option<&str> {
+    Some(alternatives.get(index)?.name.as_str())
+}
+
+/// Appends the value of a part that holds no others, and ends the line.
+fn push_value(
+    text: &mut String,
+    alloc: Global,
+    rule: Codec,
+    schema: &Schema,
+    part: &Part<'_>,
+) -> Result<(), AllocError> {
+    let shown = match type_at(schema.types(), part.id) {
+        Some(Type::Leaf { kind, names, .. }) => {
+            part_text(alloc, rule, schema, part, *kind, names.as_slice())?
+        }
+        Some(Type::Enumerated { numbers, .. }) => {
+            let kind = LeafKind::Integer;
+            part_text(alloc, rule, schema, part, kind, numbers.as_slice())?
+        }
+        Some(Type::Any { .. }) => hexadecimal_text(alloc, part.octets)?,
+        _ => return text.push('\n'),
+    };
+    writeln!(text, ": {shown}")
+}
+
+/// Returns the value of a part as text.
+fn part_text(
+    alloc: Global,
+    rule: Codec,
+    schema: &Schema,
+    part: &Part<'_>,
+    kind: LeafKind,
+    names: &[NamedNumber],
+) -> Result<String, AllocError> {
+    match decode(alloc, rule, schema, part.id, part.octets) {
+        Ok(value) => leaf_text(alloc, kind, names, &value),
+        Err(error) if error.is_out_of_memory() => Err(AllocError),
+        Err(_) => hexadecimal_text(alloc, part.octets),
+    }
+}

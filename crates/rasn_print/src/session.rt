@@ -1,0 +1,162 @@
+//! Goes over the messages of inputs.
+
+use crate::command_line::{InputForm, Work};
+use crate::dump::dump_text;
+use crate::fault::Fault;
+use crate::input::{form_of, from_hexadecimal, from_line};
+use crate::pem::{Block, blocks};
+use crate::work::{Answer, Input, Tools, answer_to};
+use std::io::{BufRead, Write};
+use std::str;
+
+/// Prints what is to be said of messages.
+#[derive(Drop)]
+pub struct Session<'a, W: Write + Drop, E: Write + Drop> {
+    pub tools: Tools<'a>,
+    pub output: W,
+    pub refusals: E,
+    /// Whether a message was refused.
+    pub is_refused: bool,
+}
+
+impl<W: Write + Drop, E: Write + Drop> Session<'_, W, E> {
+    /// Writes octets.
+    fn write(&mut self, octets: &[u8]) -> Result<(), Fault> {
+        self.output.write_all(octets).map_err(Fault::of_write)
+    }
+
+    /// Writes why a message of the input with this name is refused.
+    fn refuse(&mut self, name: &str, text: &str) -> Result<(), Fault> {
+        self.is_refused = true;
+        let alloc = self.tools.alloc;
+        let line = format!(in alloc; "{name}: {text}\n")?;
+        self.refusals
+            .write_all(line.as_bytes())
+            .map_err(Fault::of_write)
+    }
+
+    /// Flushes what was written.
+    pub fn flush(&mut self) -> Result<(), Fault> {
+        self.output.flush().map_err(Fault::of_write)
+    }
+
+    /// Works on the messages of an input.
+    pub fn input(&mut self, name: &str, octets: &[u8]) -> Result<(), Fault> {
+        let alloc = self.tools.alloc;
+        match form_of(alloc, self.tools.call.input, octets)? {
+            InputForm::Pem => self.pem(name, octets),
+            InputForm::Hex => match from_hexadecimal(alloc, octets)? {
+                Some(octets) => self.message(
+                    name,
+                    &Input {
+                        octets: octets.as_slice(),
+                        label: None,
+                        is_text: true,
+                    },
+                ),
+                None => self.refuse(name, "not hexadecimal digits"),
+            },
+            InputForm::Der => self.message(
+                name,
+                &Input {
+                    octets,
+                    label: None,
+                    is_text: false,
+                },
+            ),
+        }
+    }
+
+    /// Works on the blocks of PEM of an input.
+    fn pem(&mut self, name: &str, octets: &[u8]) -> Result<(), Fault> {
+        let list = blocks(self.tools.alloc, octets)?;
+        if list.is_empty() {
+            return self.refuse(name, "no line -----BEGIN LABEL-----");
+        }
+        for block in &list {
+            self.block(name, block)?;
+        }
+        Ok(())
+    }
+
+    /// Works on a block of PEM.
+    fn block(&mut self, name: &str, block: &Block<'_>) -> Result<(), Fault> {
+        let alloc = self.tools.alloc;
+        let label = str::from_utf8(block.label).unwrap_or("?");
+        let line = block.line;
+        let name = format!(in alloc; "{name}: {label} in line {line}")?;
+        match &block.contents {
+            Ok(octets) => self.message(
+                name.as_str(),
+                &Input {
+                    octets,
+                    label: Some(label),
+                    is_text: false,
+                },
+            ),
+            Err(error) => {
+                let text = format!(in alloc; "{error}")?;
+                self.refuse(name.as_str(), text.as_str())
+            }
+        }
+    }
+
+    /// Works on a message.
+    fn message(&mut self, name: &str, input: &Input<'_>) -> Result<(), Fault> {
+        if self.tools.call.work == Work::Dump {
+            return self.dump(name, input.octets);
+        }
+        match answer_to(&self.tools, input)? {
+            Answer::Done(octets) => self.write(&octets),
+            Answer::Refused(text) => self.refuse(name, text.as_str()),
+        }
+    }
+
+    /// Prints the encodings of octets.
+    fn dump(&mut self, name: &str, octets: &[u8]) -> Result<(), Fault> {
+        let alloc = self.tools.alloc;
+        let (text, fault) = dump_text(alloc, self.tools.known, octets)?;
+        self.write(text.as_bytes())?;
+        if let Some(fault) = fault {
+            let offset = fault.offset;
+            let error = &fault.error;
+            let text = format!(in alloc; "byte {offset}: {error}")?;
+            return self.refuse(name, text.as_str());
+        }
+        Ok(())
+    }
+
+    /// Works on each line of an input, and prints a line for it.
+    pub fn lines<R: BufRead + Drop>(&mut self, name: &str, reader: R) -> Result<(), Fault> {
+        for line in reader.lines(self.tools.alloc) {
+            match line {
+                Ok(line) => self.line(&line)?,
+                Err(_) => return self.refuse(name, "cannot read"),
+            }
+        }
+        Ok(())
+    }
+
+    /// Works on a line: prints its answer, `ok` if that is empty, or why it is refused.
+    fn line(&mut self, line: &str) -> Result<(), Fault> {
+        let alloc = self.tools.alloc;
+        let Some(octets) = from_line(alloc, line)? else {
+            self.is_refused = true;
+            return self.write(b"neither hexadecimal nor base64\n");
+        };
+        let input = Input {
+            octets: octets.as_slice(),
+            label: None,
+            is_text: true,
+        };
+        match answer_to(&self.tools, &input)? {
+            Answer::Done(text) if text.is_empty() => self.write(b"ok\n"),
+            Answer::Done(text) => self.write(&text),
+            Answer::Refused(text) => {
+                self.is_refused = true;
+                let text = format!(in alloc; "{text}\n")?;
+                self.write(text.as_bytes())
+            }
+        }
+    }
+}

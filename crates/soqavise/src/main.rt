@@ -1,0 +1,177 @@
+//! Shows, checks and converts messages of any type of ASN.1.
+#![tactic(auto)]
+
+use rasn_compiler::{Modules, Source};
+use rasn_print::{
+    Call, Fault, Known, Session, Tools, Work, call_of, command, known_of, modules_of, print_types,
+    type_named,
+};
+use std::fs::{self, File};
+use std::io::{BufReader, BufWriter, ErrorKind, Read, Write};
+use std::process::ExitCode;
+use std::{env, io};
+
+/// The exit status of a program that refuses a message.
+const REFUSED: u8 = 1;
+
+/// The exit status of a program that is called wrongly, or can't read or write.
+const USAGE: u8 = 2;
+
+fn main(rt: HostRuntime) -> ExitCode {
+    match run(&rt) {
+        Ok(status) => ExitCode::from(status),
+        Err(Fault::Closed) => ExitCode::SUCCESS,
+        Err(Fault::Write) => failed(&rt, "cannot write"),
+        Err(Fault::Memory) => failed(&rt, "out of memory"),
+    }
+}
+
+/// Prints why the program stops.
+fn failed(rt: &HostRuntime, text: &str) -> ExitCode {
+    let _ = eprintln!(rt; "soqavise: {text}");
+    ExitCode::from(USAGE)
+}
+
+/// Runs the program for its arguments. Returns its exit status.
+fn run(rt: &HostRuntime) -> Result<u8, Fault> {
+    let alloc = rt.alloc();
+    let mut words = Vec::new(alloc);
+    for word in env::args(rt).map_err(Fault::of_write)? {
+        words.push(word)?;
+    }
+    let matches = match command(alloc)?.try_get_matches_from(words.as_slice()) {
+        Ok(matches) => matches,
+        Err(error) => {
+            error.print(rt).map_err(Fault::of_write)?;
+            return Ok(if error.exit_code() == 0 { 0 } else { USAGE });
+        }
+    };
+    match call_of(&matches) {
+        Some(call) => run_call(rt, &call),
+        None => Ok(USAGE),
+    }
+}
+
+/// Runs a call of the program.
+fn run_call(rt: &HostRuntime, call: &Call<'_>) -> Result<u8, Fault> {
+    let alloc = rt.alloc();
+    let mut texts = Vec::new(alloc);
+    for name in call.modules {
+        match fs::read_to_string(rt, *name) {
+            Ok(text) => texts.push((*name, text))?,
+            Err(error) => return unreadable(rt, name, &error),
+        }
+    }
+    let mut sources = Vec::new(alloc);
+    for (name, text) in &texts {
+        sources.push(Source {
+            name,
+            text: text.as_str(),
+        })?;
+    }
+    let read = modules_of(alloc, sources.as_slice())?;
+    if !read.faults.is_empty() {
+        for fault in &read.faults {
+            eprintln!(rt; "{fault}").map_err(Fault::of_write)?;
+        }
+        return Ok(USAGE);
+    }
+    match known_of(alloc, &read)? {
+        Some(known) => run_work(rt, call, &read, &known),
+        None => Ok(USAGE),
+    }
+}
+
+/// Runs the work of a call with these modules.
+fn run_work(
+    rt: &HostRuntime,
+    call: &Call<'_>,
+    read: &Modules<'_>,
+    known: &Known,
+) -> Result<u8, Fault> {
+    let alloc = rt.alloc();
+    let mut output = BufWriter::new(alloc, rt.stdout()).map_err(Fault::of_write)?;
+    if call.work == Work::Types {
+        print_types(alloc, read, &mut output)?;
+        output.flush().map_err(Fault::of_write)?;
+        return Ok(0);
+    }
+    if let Some(name) = call.type_name {
+        if type_named(read, name).is_none() {
+            eprintln!(rt; "soqavise: no type {name} is known").map_err(Fault::of_write)?;
+            return Ok(USAGE);
+        }
+    }
+    let mut session = Session {
+        tools: Tools {
+            alloc,
+            call,
+            read,
+            known,
+        },
+        output,
+        refusals: rt.stderr(),
+        is_refused: false,
+    };
+    let status = inputs(rt, call.files, &mut session)?;
+    session.flush()?;
+    if status == 0 && session.is_refused {
+        return Ok(REFUSED);
+    }
+    Ok(status)
+}
+
+/// Works on each file, or on standard input. Returns the exit status of files that can't be read.
+fn inputs<W: Write + Drop, E: Write + Drop>(
+    rt: &HostRuntime,
+    files: &[&str],
+    session: &mut Session<'_, W, E>,
+) -> Result<u8, Fault> {
+    if files.is_empty() {
+        return source(rt, "standard input", rt.stdin(), session);
+    }
+    let mut status = 0;
+    for name in files {
+        let answer = match File::open(rt, *name) {
+            Ok(file) => source(rt, name, file, session)?,
+            Err(error) => unreadable(rt, name, &error)?,
+        };
+        if answer != 0 {
+            status = answer;
+        }
+    }
+    Ok(status)
+}
+
+/// Works on what a reader has.
+fn source<R: Read + Drop, W: Write + Drop, E: Write + Drop>(
+    rt: &HostRuntime,
+    name: &str,
+    reader: R,
+    session: &mut Session<'_, W, E>,
+) -> Result<u8, Fault> {
+    let alloc = rt.alloc();
+    if session.tools.call.has_lines {
+        let reader = BufReader::new(alloc, reader).map_err(Fault::of_write)?;
+        session.lines(name, reader)?;
+        return Ok(0);
+    }
+    let mut reader = reader;
+    let mut octets = Vec::new(alloc);
+    match reader.read_to_end(&mut octets) {
+        Ok(_) => {
+            session.input(name, &octets)?;
+            Ok(0)
+        }
+        Err(error) => unreadable(rt, name, &error),
+    }
+}
+
+/// Prints that a file can't be read.
+fn unreadable(rt: &HostRuntime, name: &str, error: &io::Error) -> Result<u8, Fault> {
+    if error.kind() == ErrorKind::OutOfMemory {
+        return Err(Fault::Memory);
+    }
+    eprintln!(rt; "{name}: cannot read: {error}").map_err(Fault::of_write)?;
+    Ok(USAGE)
+}
