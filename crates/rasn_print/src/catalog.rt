@@ -1,40 +1,76 @@
 //! The types that are known.
 
+use crate::command_line::Call;
 use crate::fault::Fault;
-use crate::known::{CONTENTS, Known};
+use crate::known::Known;
 use crate::standards::standards;
+use crate::types::{MessageType, message_type, type_named};
 use rasn_compiler::{Assigned, Assignment, Module, Modules, Resolved, Source, Stop};
 use std::alloc::{AllocError, Global};
 use std::io::Write;
 
-/// The name of the text of what is in open types.
-const CONTENTS_NAME: &str = "contents";
+/// The name of the module of what is in open types.
+const CONTENTS: &str = "Contents";
 
-/// Returns the modules of these texts, of this repository, and of what is in open types.
-pub fn modules_of<'text>(
-    alloc: Global,
-    texts: &[Source<'text>],
-) -> Result<Modules<'text>, AllocError> {
+/// Returns the modules of these texts and of this repository.
+///
+/// # Errors
+/// `Call` with the faults of these texts.
+pub fn modules_of<'text>(alloc: Global, texts: &[Source<'text>]) -> Result<Modules<'text>, Fault> {
     let mut sources = Vec::from_slice(alloc, texts)?;
     for (name, text) in standards() {
         sources.push(Source { name, text })?;
     }
-    sources.push(Source {
-        name: CONTENTS_NAME,
-        text: CONTENTS,
-    })?;
-    Modules::parse(alloc, sources.as_slice())
+    let read = Modules::parse(alloc, sources.as_slice())?;
+    let mut faults = String::new(alloc);
+    for fault in &read.faults {
+        writeln!(faults, "{fault}")?;
+    }
+    if faults.is_empty() {
+        Ok(read)
+    } else {
+        Err(Fault::Call(faults))
+    }
 }
 
 /// Returns the types of what is in open types.
-pub fn known_of(alloc: Global, read: &Modules<'_>) -> Result<Option<Known>, AllocError> {
-    match read.schema(alloc, "Contents", "Contents") {
+///
+/// # Errors
+/// `Call` if the modules lack one.
+pub fn known_of(alloc: Global, read: &Modules<'_>) -> Result<Known, Fault> {
+    match read.schema(alloc, CONTENTS, "Contents") {
         Ok(resolved) => {
             let Resolved { schema, .. } = resolved;
-            Ok(Known::new(schema))
+            match Known::new(schema) {
+                Some(known) => Ok(known),
+                None => Err(Fault::of_call(alloc, &"no types of what is in open types")),
+            }
         }
-        Err(Stop::OutOfMemory) => Err(AllocError),
-        Err(_) => Ok(None),
+        Err(Stop::OutOfMemory) => Err(Fault::Memory),
+        Err(stop) => Err(Fault::of_call(alloc, &stop)),
+    }
+}
+
+/// Returns the type that a call asks for, if it names one.
+///
+/// # Errors
+/// `Call` if it isn't known, or has no schema.
+pub fn wanted_type<'text>(
+    alloc: Global,
+    read: &Modules<'text>,
+    call: &Call<'_>,
+) -> Result<Option<MessageType<'text>>, Fault> {
+    let Some(name) = call.type_name else {
+        return Ok(None);
+    };
+    let Some(named) = type_named(read, name) else {
+        let text = format!(in alloc; "no type {name} is known")?;
+        return Err(Fault::of_call(alloc, &text));
+    };
+    match message_type(alloc, read, named, call.rules) {
+        Ok(wanted) => Ok(Some(wanted)),
+        Err(Stop::OutOfMemory) => Err(Fault::Memory),
+        Err(stop) => Err(Fault::of_call(alloc, &stop)),
     }
 }
 
@@ -46,7 +82,7 @@ pub fn print_types<W: Write>(
     output: &mut W,
 ) -> Result<(), Fault> {
     for module in &read.modules {
-        if module.source != CONTENTS_NAME {
+        if module.name != CONTENTS {
             print_types_of(alloc, read, module, output)?;
         }
     }

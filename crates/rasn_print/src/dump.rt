@@ -3,8 +3,7 @@
 use crate::known::Known;
 use crate::leaf::{leaf_text, octets_text};
 use rasn_de::ber::de::{ConstructedHeader, Decoder, DecoderOptions};
-use rasn_dynamic::decode;
-use rasn_schema::{LeafKind, Value};
+use rasn_schema::LeafKind;
 use rasn_types::error::{DecodeError, DecodeErrorKind};
 use rasn_types::types::{Class, Codec, Tag};
 use std::alloc::{AllocError, Global};
@@ -69,12 +68,15 @@ struct Walk<'input> {
     entries: Vec<Entry<'input>>,
 }
 
+/// The encodings of octets, and where no more can be read.
+type Entries<'input> = (Vec<Entry<'input>>, Option<DumpError>);
+
 /// Returns the encodings that the octets are, each before those inside it, or those up to the first
 /// one whose header can't be read, and why.
-pub fn entries<'input>(
-    alloc: Global,
-    octets: &'input [u8],
-) -> (Vec<Entry<'input>>, Option<DumpError>) {
+///
+/// # Errors
+/// If an allocation fails.
+pub fn entries<'input>(alloc: Global, octets: &'input [u8]) -> Result<Entries<'input>, AllocError> {
     let mut walk = Walk {
         alloc,
         octets,
@@ -97,8 +99,13 @@ pub fn entries<'input>(
     if fault.is_none() {
         fault = walk.missing_end();
     }
-    let Walk { entries, .. } = walk;
-    (entries, fault)
+    match fault {
+        Some(fault) if fault.error.is_out_of_memory() => Err(AllocError),
+        fault => {
+            let Walk { entries, .. } = walk;
+            Ok((entries, fault))
+        }
+    }
 }
 
 impl<'input> Walk<'input> {
@@ -254,7 +261,7 @@ pub fn dump_text(
     known: &Known,
     octets: &[u8],
 ) -> Result<(String, Option<DumpError>), AllocError> {
-    let (list, fault) = entries(alloc, octets);
+    let (list, fault) = entries(alloc, octets)?;
     let mut text = String::new(alloc);
     for entry in &list {
         let offset = entry.offset;
@@ -303,36 +310,12 @@ pub(crate) fn primitive_text(
     known: &Known,
     entry: &Entry<'_>,
 ) -> Result<String, AllocError> {
-    match universal_text(alloc, known, entry.octets)? {
-        Some(text) => Ok(text),
+    match known.universal_value(alloc, entry.octets)? {
+        Some(value) => leaf_text(alloc, LeafKind::OctetString, &[], &value),
         None => match entry.octets.get(entry.header_len..) {
             Some(contents) => octets_text(alloc, contents),
             None => String::from_str(alloc, ""),
         },
-    }
-}
-
-/// Returns the value of an encoding with a universal tag as text.
-fn universal_text(
-    alloc: Global,
-    known: &Known,
-    octets: &[u8],
-) -> Result<Option<String>, AllocError> {
-    match decode(alloc, Codec::Ber, &known.schema, known.universal, octets) {
-        Ok(value) => chosen_text(alloc, &value),
-        Err(error) if error.is_out_of_memory() => Err(AllocError),
-        Err(_) => Ok(None),
-    }
-}
-
-/// Returns the value of an alternative as text.
-fn chosen_text(alloc: Global, value: &Value<'_>) -> Result<Option<String>, AllocError> {
-    match value {
-        Value::Chosen(_, inner) => {
-            let text = leaf_text(alloc, LeafKind::OctetString, &[], inner)?;
-            Ok(Some(text))
-        }
-        _ => Ok(None),
     }
 }
 

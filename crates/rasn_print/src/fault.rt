@@ -1,11 +1,14 @@
 //! Why the program stops.
 
-use std::alloc::{AllocError, AllocFailed};
+use std::alloc::{AllocError, AllocFailed, Global};
+use std::fmt;
 use std::io::{self, ErrorKind};
 
 /// The reason why the program stops.
-#[derive(Clone, Copy, Debug, PartialEq, Eq)]
+#[derive(Debug, Drop)]
 pub enum Fault {
+    /// The call is wrong, or a file of it can't be read: what is printed then.
+    Call(String),
     /// The output can't be written.
     Write,
     /// The reader of the output has gone.
@@ -27,6 +30,14 @@ impl<T: Drop> From<AllocFailed<T>> for Fault {
 }
 
 impl Fault {
+    /// Returns the fault of a wrong call.
+    pub(crate) fn of_call<T: fmt::Display>(alloc: Global, text: &T) -> Fault {
+        match format!(in alloc; "soqavise: {text}\n") {
+            Ok(text) => Fault::Call(text),
+            Err(_) => Fault::Memory,
+        }
+    }
+
     /// Returns the fault of a failed write.
     pub fn of_write(error: io::Error) -> Fault {
         match error.kind() {

@@ -63,7 +63,7 @@ fn refusal_at(alloc: Global, known: &Known, part: &Part<'_>, path: &[usize]) -> 
     let Ok(steps) = Vec::from_slice(alloc, path) else {
         return ReadError::OutOfMemory;
     };
-    ReadError::Refused(Refusal {
+    refused(Refusal {
         error,
         offset: part.offset.saturating_add(offset),
         id: part.id,
@@ -87,7 +87,7 @@ fn fault_in(
     known: &Known,
     octets: &[u8],
 ) -> Result<(usize, DecodeError), AllocError> {
-    let (list, fault) = entries(alloc, octets);
+    let (list, fault) = entries(alloc, octets)?;
     if let Some(fault) = fault {
         let DumpError { offset, error } = fault;
         let DecodeError { kind, .. } = error;

@@ -1,104 +1,9 @@
 //! Types of what is in open types and in strings whose octets are an encoding.
 
-use rasn_schema::{Alternative, Schema, Type, TypeId, index_named, type_at};
-
-/// A module that has the types of what is in open types (`Open`), in OCTET STRINGs (`Octets`) and
-/// in BIT STRINGs (`Bits`) beside an identifier: each alternative has the identifier's name.
-/// `Universal` has the types of values with universal tags. It imports from the modules of this
-/// repository.
-pub const CONTENTS: &str = "\
-Contents DEFINITIONS EXPLICIT TAGS ::= BEGIN
-
-IMPORTS
-    Extensions FROM Certificates
-    AuthorityInfoAccessSyntax, AuthorityKeyIdentifier, BaseCRLNumber, BasicConstraints,
-    CRLDistributionPoints, CRLNumber, CRLReason, CertificateIssuer, CertificatePolicies,
-    ExtKeyUsageSyntax, FreshestCRL, HoldInstructionCode, InhibitAnyPolicy, InvalidityDate,
-    IssuerAltName, IssuingDistributionPoint, KeyUsage, NameConstraints, PolicyConstraints,
-    PolicyMappings, PrivateKeyUsagePeriod, SubjectAltName, SubjectDirectoryAttributes,
-    SubjectInfoAccessSyntax, SubjectKeyIdentifier, UserNotice FROM CertificateExtensions
-    AuthenticatedData, AuthEnvelopedData, DigestedData, EncryptedData, EnvelopedData, SignedData
-    FROM CMS
-    BasicOCSPResponse FROM OCSP
-    TSTInfo FROM TimeStamps
-    Dss-Parms, DomainParameters, ECPrivateKey, RSAPrivateKey, RSAPublicKey FROM Keys;
-
-Contents ::= SEQUENCE {
-    universal   Universal,
-    open        Open,
-    octets      Octets,
-    bits        Bits
-}
-
-Universal ::= CHOICE {
-    boolean             BOOLEAN,
-    integer             INTEGER,
-    bits                BIT STRING,
-    octets              OCTET STRING,
-    null                NULL,
-    identifier          OBJECT IDENTIFIER,
-    utf8String          UTF8String,
-    numericString       NumericString,
-    printableString     PrintableString,
-    teletexString       TeletexString,
-    ia5String           IA5String,
-    utcTime             UTCTime,
-    generalizedTime     GeneralizedTime,
-    visibleString       VisibleString,
-    bmpString           BMPString
-}
-
-Open ::= CHOICE {
-    extensionRequest                [0] Extensions,
-    id-signedData                   [1] SignedData,
-    id-envelopedData                [2] EnvelopedData,
-    id-digestedData                 [3] DigestedData,
-    id-encryptedData                [4] EncryptedData,
-    id-ct-authData                  [5] AuthenticatedData,
-    id-ct-authEnvelopedData         [6] AuthEnvelopedData,
-    id-qt-unotice                   [7] UserNotice,
-    id-dsa                          [8] Dss-Parms,
-    dhpublicnumber                  [9] DomainParameters
-}
-
-Octets ::= CHOICE {
-    subjectDirectoryAttributes      [0] SubjectDirectoryAttributes,
-    subjectKeyIdentifier            [1] SubjectKeyIdentifier,
-    keyUsage                        [2] KeyUsage,
-    privateKeyUsagePeriod           [3] PrivateKeyUsagePeriod,
-    subjectAltName                  [4] SubjectAltName,
-    issuerAltName                   [5] IssuerAltName,
-    basicConstraints                [6] BasicConstraints,
-    cRLNumber                       [7] CRLNumber,
-    reasonCode                      [8] CRLReason,
-    instructionCode                 [9] HoldInstructionCode,
-    invalidityDate                  [10] InvalidityDate,
-    deltaCRLIndicator               [11] BaseCRLNumber,
-    issuingDistributionPoint        [12] IssuingDistributionPoint,
-    certificateIssuer               [13] CertificateIssuer,
-    nameConstraints                 [14] NameConstraints,
-    cRLDistributionPoints           [15] CRLDistributionPoints,
-    certificatePolicies             [16] CertificatePolicies,
-    policyMappings                  [17] PolicyMappings,
-    authorityKeyIdentifier          [18] AuthorityKeyIdentifier,
-    policyConstraints               [19] PolicyConstraints,
-    extKeyUsage                     [20] ExtKeyUsageSyntax,
-    freshestCRL                     [21] FreshestCRL,
-    inhibitAnyPolicy                [22] InhibitAnyPolicy,
-    authorityInfoAccess             [23] AuthorityInfoAccessSyntax,
-    subjectInfoAccess               [24] SubjectInfoAccessSyntax,
-    id-pkix-ocsp-basic              [25] BasicOCSPResponse,
-    id-ct-TSTInfo                   [26] TSTInfo,
-    rsaEncryption                   [27] RSAPrivateKey,
-    id-ecPublicKey                  [28] ECPrivateKey
-}
-
-Bits ::= CHOICE {
-    rsaEncryption                   [0] RSAPublicKey
-}
-
-END
-";
+use rasn_dynamic::decode;
+use rasn_schema::{Alternative, Schema, Type, TypeId, Value, index_named, type_at};
+use rasn_types::types::Codec;
+use std::alloc::{AllocError, Global};
 
 /// Where octets are whose type an identifier beside them says.
 #[derive(Clone, Copy, Debug, PartialEq, Eq)]
@@ -108,7 +13,7 @@ pub(crate) enum Form {
     Bits,
 }
 
-/// The types of the module [`CONTENTS`].
+/// The types of the module Contents (`contents.asn1`).
 #[derive(Drop)]
 pub struct Known {
     /// The schema of the type `Contents`.
@@ -134,6 +39,20 @@ impl Known {
             octets,
             bits,
         })
+    }
+
+    /// Returns the value whose encoding in BER these octets are, if it has a universal tag.
+    pub(crate) fn universal_value<'input>(
+        &self,
+        alloc: Global,
+        octets: &'input [u8],
+    ) -> Result<Option<Value<'input>>, AllocError> {
+        match decode(alloc, Codec::Ber, &self.schema, self.universal, octets) {
+            Ok(Value::Chosen(_, value)) => Ok(Some(Box::into_inner(value))),
+            Ok(_) => Ok(None),
+            Err(error) if error.is_out_of_memory() => Err(AllocError),
+            Err(_) => Ok(None),
+        }
     }
 
     /// Returns the type of octets in this form beside the identifier with this name.

@@ -3,71 +3,58 @@
 use crate::types::NamedType;
 use rasn_types::types::Codec;
 
-/// The labels of PEM that name a message, and the module and the name of its type.
-type Message = (&'static [&'static str], &'static str, &'static str);
-
-/// The messages, in the order in which their types are tried. The labels are those of RFC 7468, and
-/// others that programs write.
-pub const MESSAGES: &[Message] = &[
-    (
-        &["CERTIFICATE", "X509 CERTIFICATE", "X.509 CERTIFICATE"],
-        "Certificates",
-        "Certificate",
-    ),
-    (&["X509 CRL", "CRL"], "Revocation", "CertificateList"),
-    (
-        &["CERTIFICATE REQUEST", "NEW CERTIFICATE REQUEST"],
-        "Requests",
-        "CertificationRequest",
-    ),
-    (
-        &["CMS", "PKCS7", "PKCS #7 SIGNED DATA"],
-        "CMS",
-        "ContentInfo",
-    ),
-    (&["PRIVATE KEY"], "Keys", "OneAsymmetricKey"),
-    (
-        &["ENCRYPTED PRIVATE KEY"],
-        "Keys",
-        "EncryptedPrivateKeyInfo",
-    ),
-    (&["PUBLIC KEY"], "Certificates", "SubjectPublicKeyInfo"),
-    (&["RSA PRIVATE KEY"], "Keys", "RSAPrivateKey"),
-    (&["RSA PUBLIC KEY"], "Keys", "RSAPublicKey"),
-    (&["EC PRIVATE KEY"], "Keys", "ECPrivateKey"),
-    (
-        &["ATTRIBUTE CERTIFICATE"],
-        "AttributeCertificates",
-        "AttributeCertificate",
-    ),
-    (&["PKCS12"], "PKCS12", "PFX"),
-    (&["OCSP REQUEST"], "OCSP", "OCSPRequest"),
-    (&["OCSP RESPONSE"], "OCSP", "OCSPResponse"),
-    (&[], "TimeStamps", "TimeStampReq"),
-    (&[], "TimeStamps", "TimeStampResp"),
-    (&[], "LDAP", "LDAPMessage"),
-    (&[], "SNMP", "Message"),
-    (&[], "SNMP", "SNMPv3Message"),
-    (&[], "Kerberos", "AS-REQ"),
-    (&[], "Kerberos", "AS-REP"),
-    (&[], "Kerberos", "TGS-REQ"),
-    (&[], "Kerberos", "TGS-REP"),
-    (&[], "Kerberos", "AP-REQ"),
-    (&[], "Kerberos", "AP-REP"),
-    (&[], "Kerberos", "KRB-ERROR"),
-    (&[], "CMP", "PKIMessage"),
+/// The modules and the types of the messages, in the order in which they are tried.
+pub const MESSAGES: &[(&str, &str)] = &[
+    ("Certificates", "Certificate"),
+    ("Revocation", "CertificateList"),
+    ("Requests", "CertificationRequest"),
+    ("CMS", "ContentInfo"),
+    ("Keys", "OneAsymmetricKey"),
+    ("Keys", "EncryptedPrivateKeyInfo"),
+    ("Certificates", "SubjectPublicKeyInfo"),
+    ("Keys", "RSAPrivateKey"),
+    ("Keys", "RSAPublicKey"),
+    ("Keys", "ECPrivateKey"),
+    ("AttributeCertificates", "AttributeCertificate"),
+    ("PKCS12", "PFX"),
+    ("OCSP", "OCSPRequest"),
+    ("OCSP", "OCSPResponse"),
+    ("TimeStamps", "TimeStampReq"),
+    ("TimeStamps", "TimeStampResp"),
+    ("LDAP", "LDAPMessage"),
+    ("SNMP", "Message"),
+    ("SNMP", "SNMPv3Message"),
+    ("Kerberos", "AS-REQ"),
+    ("Kerberos", "AS-REP"),
+    ("Kerberos", "TGS-REQ"),
+    ("Kerberos", "TGS-REP"),
+    ("Kerberos", "AP-REQ"),
+    ("Kerberos", "AP-REP"),
+    ("Kerberos", "KRB-ERROR"),
+    ("CMP", "PKIMessage"),
 ];
 
-/// Returns the type of the message that a label of PEM names.
+/// Returns the type of the message that a label of PEM names: a label of RFC 7468, or another one
+/// that programs write.
 pub fn type_of_label(label: &str) -> Option<NamedType<'static>> {
-    for (labels, module, name) in MESSAGES {
-        for known in *labels {
-            if *known == label {
-                return Some(NamedType { module, name });
-            }
-        }
-    }
-    None
+    let (module, name) = match label {
+        "CERTIFICATE" | "X509 CERTIFICATE" | "X.509 CERTIFICATE" => ("Certificates", "Certificate"),
+        "X509 CRL" | "CRL" => ("Revocation", "CertificateList"),
+        "CERTIFICATE REQUEST" | "NEW CERTIFICATE REQUEST" => ("Requests", "CertificationRequest"),
+        "CMS" | "PKCS7" | "PKCS #7 SIGNED DATA" => ("CMS", "ContentInfo"),
+        "PRIVATE KEY" => ("Keys", "OneAsymmetricKey"),
+        "ENCRYPTED PRIVATE KEY" => ("Keys", "EncryptedPrivateKeyInfo"),
+        "PUBLIC KEY" => ("Certificates", "SubjectPublicKeyInfo"),
+        "RSA PRIVATE KEY" => ("Keys", "RSAPrivateKey"),
+        "RSA PUBLIC KEY" => ("Keys", "RSAPublicKey"),
+        "EC PRIVATE KEY" => ("Keys", "ECPrivateKey"),
+        "ATTRIBUTE CERTIFICATE" => ("AttributeCertificates", "AttributeCertificate"),
+        "PKCS12" => ("PKCS12", "PFX"),
+        "OCSP REQUEST" => ("OCSP", "OCSPRequest"),
+        "OCSP RESPONSE" => ("OCSP", "OCSPResponse"),
+        _ => return None,
+    };
+    Some(NamedType { module, name })
 }
 
 /// Returns the rules by which the standard of a module has its messages: BER for CMS (RFC 5652 2),

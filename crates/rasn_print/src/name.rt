@@ -3,9 +3,8 @@
 use crate::identifiers::attribute_name;
 use crate::known::Known;
 use crate::leaf::characters_of;
-use rasn_dynamic::decode;
 use rasn_schema::Value;
-use rasn_types::types::{Codec, Hexadecimal, ObjectIdentifier};
+use rasn_types::types::{Hexadecimal, ObjectIdentifier};
 use std::alloc::{AllocError, Global};
 use std::str;
 
@@ -120,18 +119,9 @@ fn string_of(alloc: Global, known: &Known, octets: &[u8]) -> Result<Option<Strin
     if !is_string(octets) {
         return Ok(None);
     }
-    match decode(alloc, Codec::Ber, &known.schema, known.universal, octets) {
-        Ok(value) => chosen_characters(alloc, &value),
-        Err(error) if error.is_out_of_memory() => Err(AllocError),
-        Err(_) => Ok(None),
-    }
-}
-
-/// Returns the characters of the alternative that is chosen.
-fn chosen_characters(alloc: Global, value: &Value<'_>) -> Result<Option<String>, AllocError> {
-    match value {
-        Value::Chosen(_, inner) => characters(alloc, inner),
-        _ => Ok(None),
+    match known.universal_value(alloc, octets)? {
+        Some(value) => characters(alloc, &value),
+        None => Ok(None),
     }
 }
 

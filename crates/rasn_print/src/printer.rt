@@ -310,7 +310,7 @@ impl Printer<'_> {
 
     /// Appends the lines of an encoding of a type that isn't known.
     fn print_encoding(&mut self, place: Place<'_>, octets: &[u8]) -> Result<(), AllocError> {
-        let (list, fault) = entries(self.alloc, octets);
+        let (list, fault) = entries(self.alloc, octets)?;
         if fault.is_some() {
             let shown = hexadecimal_text(self.alloc, octets)?;
             return self.line(place, shown.as_str());

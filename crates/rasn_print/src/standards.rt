@@ -1,4 +1,5 @@
-//! The texts of the modules of this repository: `.ci/standards` writes this file from `modules/`.
+//! The texts of the modules of this repository: `.ci/standards` writes this file from
+//! `modules/` and `contents.asn1`.
 
 /// Returns the name of each module's file, and its text.
 pub fn standards() -> &'static [(&'static str, &'static str)] {
@@ -2479,6 +2480,105 @@ Accuracy ::= SEQUENCE {
     seconds                         INTEGER OPTIONAL,
     millis                          [0] INTEGER (1..999) OPTIONAL,
     micros                          [1] INTEGER (1..999) OPTIONAL
+}
+
+END
+",
+    ),
+    (
+        "contents.asn1",
+        "-- Types of what is in open types (`Open`), in OCTET STRINGs (`Octets`) and in BIT STRINGs (`Bits`) beside an
+-- identifier: each alternative has the name that identifiers.rt gives to it. `Universal` has the types of values
+-- with universal tags.
+
+Contents DEFINITIONS EXPLICIT TAGS ::= BEGIN
+
+IMPORTS
+    Extensions FROM Certificates
+    AuthorityInfoAccessSyntax, AuthorityKeyIdentifier, BaseCRLNumber, BasicConstraints,
+    CRLDistributionPoints, CRLNumber, CRLReason, CertificateIssuer, CertificatePolicies,
+    ExtKeyUsageSyntax, FreshestCRL, HoldInstructionCode, InhibitAnyPolicy, InvalidityDate,
+    IssuerAltName, IssuingDistributionPoint, KeyUsage, NameConstraints, PolicyConstraints,
+    PolicyMappings, PrivateKeyUsagePeriod, SubjectAltName, SubjectDirectoryAttributes,
+    SubjectInfoAccessSyntax, SubjectKeyIdentifier, UserNotice FROM CertificateExtensions
+    AuthenticatedData, AuthEnvelopedData, DigestedData, EncryptedData, EnvelopedData, SignedData
+    FROM CMS
+    BasicOCSPResponse FROM OCSP
+    TSTInfo FROM TimeStamps
+    Dss-Parms, DomainParameters, ECPrivateKey, RSAPrivateKey, RSAPublicKey FROM Keys;
+
+Contents ::= SEQUENCE {
+    universal   Universal,
+    open        Open,
+    octets      Octets,
+    bits        Bits
+}
+
+Universal ::= CHOICE {
+    boolean             BOOLEAN,
+    integer             INTEGER,
+    bits                BIT STRING,
+    octets              OCTET STRING,
+    null                NULL,
+    identifier          OBJECT IDENTIFIER,
+    utf8String          UTF8String,
+    numericString       NumericString,
+    printableString     PrintableString,
+    teletexString       TeletexString,
+    ia5String           IA5String,
+    utcTime             UTCTime,
+    generalizedTime     GeneralizedTime,
+    visibleString       VisibleString,
+    bmpString           BMPString
+}
+
+Open ::= CHOICE {
+    extensionRequest                [0] Extensions,
+    id-signedData                   [1] SignedData,
+    id-envelopedData                [2] EnvelopedData,
+    id-digestedData                 [3] DigestedData,
+    id-encryptedData                [4] EncryptedData,
+    id-ct-authData                  [5] AuthenticatedData,
+    id-ct-authEnvelopedData         [6] AuthEnvelopedData,
+    id-qt-unotice                   [7] UserNotice,
+    id-dsa                          [8] Dss-Parms,
+    dhpublicnumber                  [9] DomainParameters
+}
+
+Octets ::= CHOICE {
+    subjectDirectoryAttributes      [0] SubjectDirectoryAttributes,
+    subjectKeyIdentifier            [1] SubjectKeyIdentifier,
+    keyUsage                        [2] KeyUsage,
+    privateKeyUsagePeriod           [3] PrivateKeyUsagePeriod,
+    subjectAltName                  [4] SubjectAltName,
+    issuerAltName                   [5] IssuerAltName,
+    basicConstraints                [6] BasicConstraints,
+    cRLNumber                       [7] CRLNumber,
+    reasonCode                      [8] CRLReason,
+    instructionCode                 [9] HoldInstructionCode,
+    invalidityDate                  [10] InvalidityDate,
+    deltaCRLIndicator               [11] BaseCRLNumber,
+    issuingDistributionPoint        [12] IssuingDistributionPoint,
+    certificateIssuer               [13] CertificateIssuer,
+    nameConstraints                 [14] NameConstraints,
+    cRLDistributionPoints           [15] CRLDistributionPoints,
+    certificatePolicies             [16] CertificatePolicies,
+    policyMappings                  [17] PolicyMappings,
+    authorityKeyIdentifier          [18] AuthorityKeyIdentifier,
+    policyConstraints               [19] PolicyConstraints,
+    extKeyUsage                     [20] ExtKeyUsageSyntax,
+    freshestCRL                     [21] FreshestCRL,
+    inhibitAnyPolicy                [22] InhibitAnyPolicy,
+    authorityInfoAccess             [23] AuthorityInfoAccessSyntax,
+    subjectInfoAccess               [24] SubjectInfoAccessSyntax,
+    id-pkix-ocsp-basic              [25] BasicOCSPResponse,
+    id-ct-TSTInfo                   [26] TSTInfo,
+    rsaEncryption                   [27] RSAPrivateKey,
+    id-ecPublicKey                  [28] ECPrivateKey
+}
+
+Bits ::= CHOICE {
+    rsaEncryption                   [0] RSAPublicKey
 }
 
 END

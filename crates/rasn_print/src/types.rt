@@ -1,13 +1,45 @@
 //! Types of modules by their names.
 
-use rasn_compiler::{Assigned, Module, Modules, Stop};
-use std::fmt;
+use crate::messages::rules_of;
+use rasn_compiler::{Assigned, Module, Modules, Resolved, Stop};
+use rasn_schema::{Schema, TypeId};
+use rasn_types::types::Codec;
+use std::alloc::Global;
 
 /// A type of a module.
 #[derive(Clone, Copy)]
 pub struct NamedType<'text> {
     pub module: &'text str,
     pub name: &'text str,
+}
+
+/// The type of a message: its schema, and the rules by which it is read.
+#[derive(Drop)]
+pub struct MessageType<'text> {
+    pub name: &'text str,
+    pub rule: Codec,
+    pub schema: Schema,
+    pub root: TypeId,
+}
+
+/// Returns a type with these rules, or with those of its standard.
+///
+/// # Errors
+/// As [`Modules::schema`].
+pub fn message_type<'text>(
+    alloc: Global,
+    read: &Modules<'text>,
+    named: NamedType<'text>,
+    rules: Option<Codec>,
+) -> Result<MessageType<'text>, Stop<'text>> {
+    let NamedType { module, name } = named;
+    let Resolved { schema, root, .. } = read.schema(alloc, module, name)?;
+    Ok(MessageType {
+        name,
+        rule: rules.unwrap_or(rules_of(module)),
+        schema,
+        root,
+    })
 }
 
 /// Returns the type that a name means: `MODULE.TYPE`, or the first type of this name.

@@ -3,12 +3,12 @@
 use crate::command_line::{Call, Work};
 use crate::inner::check_inner;
 use crate::known::Known;
-use crate::messages::{MESSAGES, rules_of, type_of_label};
+use crate::messages::{MESSAGES, type_of_label};
 use crate::offsets::offsets_text;
 use crate::reading::{ReadError, check, show};
-use crate::types::{NamedType, type_named};
+use crate::types::{MessageType, NamedType, message_type};
 use base64::engine::general_purpose::STANDARD;
-use rasn_compiler::{Modules, Resolved, Stop};
+use rasn_compiler::{Modules, Stop};
 use rasn_dynamic::normalise;
 use rasn_types::types::{Codec, Hexadecimal};
 use std::alloc::{AllocError, Global};
@@ -20,6 +20,8 @@ pub struct Tools<'a> {
     pub call: &'a Call<'a>,
     pub read: &'a Modules<'a>,
     pub known: &'a Known,
+    /// The type that is asked for.
+    pub wanted: Option<&'a MessageType<'a>>,
 }
 
 /// In which form a message was handed over, and its octets.
@@ -44,30 +46,22 @@ pub enum Answer {
 /// Returns what is printed for a message: of the type that is asked for, or that its label names,
 /// or of the first of the messages of standards that it is.
 pub fn answer_to(tools: &Tools<'_>, input: &Input<'_>) -> Result<Answer, AllocError> {
-    if let Some(name) = tools.call.type_name {
-        return match type_named(tools.read, name) {
-            Some(named) => answer_as(tools, &named, input),
-            None => refusal(tools.alloc, "is of no type that is known"),
-        };
+    if let Some(wanted) = tools.wanted {
+        return answer_by(tools, wanted, input);
     }
     if let Some(label) = input.label {
         if let Some(named) = type_of_label(label) {
-            return answer_as(tools, &named, input);
+            return answer_as(tools, named, input);
         }
     }
     answer_by_trial(tools, input)
 }
 
-fn refusal(alloc: Global, text: &str) -> Result<Answer, AllocError> {
-    Ok(Answer::Refused(String::from_str(alloc, text)?))
-}
-
 /// Returns what is printed for a message of the first type that it is of.
 fn answer_by_trial(tools: &Tools<'_>, input: &Input<'_>) -> Result<Answer, AllocError> {
     let mut tried = String::new(tools.alloc);
-    for (_, module, name) in MESSAGES {
-        let named = NamedType { module, name };
-        if let Answer::Done(octets) = answer_as(tools, &named, input)? {
+    for (module, name) in MESSAGES {
+        if let Answer::Done(octets) = answer_as(tools, NamedType { module, name }, input)? {
             return Ok(Answer::Done(octets));
         }
         if !tried.is_empty() {
@@ -78,108 +72,83 @@ fn answer_by_trial(tools: &Tools<'_>, input: &Input<'_>) -> Result<Answer, Alloc
     Ok(Answer::Refused(format!(in tools.alloc; "none of the messages that are known: {tried}")?))
 }
 
-/// Returns what is printed for a message of this type.
+/// Returns what is printed for a message of this type of the modules.
 fn answer_as(
     tools: &Tools<'_>,
-    named: &NamedType<'_>,
+    named: NamedType<'static>,
     input: &Input<'_>,
 ) -> Result<Answer, AllocError> {
     let alloc = tools.alloc;
-    match tools.read.schema(alloc, named.module, named.name) {
-        Ok(resolved) => answer_by(tools, named, &resolved, input),
+    match message_type(alloc, tools.read, named, tools.call.rules) {
+        Ok(found) => answer_by(tools, &found, input),
         Err(Stop::OutOfMemory) => Err(AllocError),
-        Err(stop) => {
-            let name = named.name;
-            Ok(Answer::Refused(format!(in alloc; "{name}: {stop}")?))
-        }
+        Err(stop) => Ok(Answer::Refused(format!(in alloc; "{stop}")?)),
     }
 }
 
-/// Returns what is printed for a message of the type that this schema has.
+/// Returns what is printed for a message of this type.
 fn answer_by(
     tools: &Tools<'_>,
-    named: &NamedType<'_>,
-    resolved: &Resolved,
+    wanted: &MessageType<'_>,
     input: &Input<'_>,
 ) -> Result<Answer, AllocError> {
-    let rule = match tools.call.rules {
-        Some(rule) => rule,
-        None => rules_of(named.module),
-    };
-    let result = match tools.call.work {
-        Work::Normalise => return normalised(tools, rule, resolved, input),
-        Work::Show if tools.call.has_offsets => {
-            offsets(tools, named, rule, resolved, input.octets)
-        }
-        Work::Show => shown(tools, named, rule, resolved, input.octets),
-        _ => checked(tools, rule, resolved, input.octets),
-    };
-    match result {
+    if tools.call.work == Work::Normalise {
+        return normalised(tools.alloc, wanted, input);
+    }
+    match text_of(tools, wanted, input.octets) {
         Ok(text) => Ok(Answer::Done(text.into_bytes())),
         Err(ReadError::OutOfMemory) => Err(AllocError),
         Err(ReadError::Refused(refusal)) => {
-            let shown = refusal.with_names(&resolved.schema, resolved.root);
+            let shown = refusal.with_names(&wanted.schema, wanted.root);
             Ok(Answer::Refused(format!(in tools.alloc; "{shown}")?))
         }
     }
 }
 
-/// Returns the text of a message.
-fn shown(
+/// Returns a message as text or the parts of it, or no text if it is only checked.
+fn text_of(
     tools: &Tools<'_>,
-    named: &NamedType<'_>,
-    rule: Codec,
-    resolved: &Resolved,
+    wanted: &MessageType<'_>,
     octets: &[u8],
 ) -> Result<String, ReadError> {
-    show(
-        tools.alloc,
-        tools.known,
-        rule,
-        &resolved.schema,
-        resolved.root,
-        named.name,
-        octets,
-    )
-}
-
-/// Returns the parts of a message with their places.
-fn offsets(
-    tools: &Tools<'_>,
-    named: &NamedType<'_>,
-    rule: Codec,
-    resolved: &Resolved,
-    octets: &[u8],
-) -> Result<String, ReadError> {
-    let Resolved { schema, root, .. } = resolved;
-    check(tools.alloc, rule, schema, *root, octets)?;
-    offsets_text(tools.alloc, rule, schema, *root, named.name, octets)
-}
-
-/// Returns no text of a message that isn't refused.
-fn checked(
-    tools: &Tools<'_>,
-    rule: Codec,
-    resolved: &Resolved,
-    octets: &[u8],
-) -> Result<String, ReadError> {
-    let Resolved { schema, root, .. } = resolved;
-    check(tools.alloc, rule, schema, *root, octets)?;
-    if rule == Codec::Der && !tools.call.is_outer {
-        check_inner(tools.alloc, tools.known, schema, *root, octets)?;
+    let Tools {
+        alloc,
+        call,
+        known,
+        ..
+    } = *tools;
+    let (rule, schema, root) = (wanted.rule, &wanted.schema, wanted.root);
+    match call.work {
+        Work::Show if !call.has_offsets => {
+            show(alloc, known, rule, schema, root, wanted.name, octets)
+        }
+        Work::Show => {
+            check(alloc, rule, schema, root, octets)?;
+            offsets_text(alloc, rule, schema, root, wanted.name, octets)
+        }
+        _ => {
+            check(alloc, rule, schema, root, octets)?;
+            if rule == Codec::Der && !call.is_outer {
+                check_inner(alloc, known, schema, root, octets)?;
+            }
+            Ok(String::new(alloc))
+        }
     }
-    Ok(String::new(tools.alloc))
 }
 
 /// Returns the DER octets of a message, in the form in which it was handed over.
 fn normalised(
-    tools: &Tools<'_>,
-    rule: Codec,
-    resolved: &Resolved,
+    alloc: Global,
+    wanted: &MessageType<'_>,
     input: &Input<'_>,
 ) -> Result<Answer, AllocError> {
-    let alloc = tools.alloc;
-    match normalise(alloc, rule, &resolved.schema, resolved.root, input.octets) {
+    match normalise(
+        alloc,
+        wanted.rule,
+        &wanted.schema,
+        wanted.root,
+        input.octets,
+    ) {
         Ok(octets) => Ok(Answer::Done(in_form(alloc, input, octets)?)),
         Err(error) if error.is_out_of_memory() => Err(AllocError),
         Err(error) => Ok(Answer::Refused(format!(in alloc; "{error}")?)),

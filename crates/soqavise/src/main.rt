@@ -1,10 +1,10 @@
 //! Shows, checks and converts messages of any type of ASN.1.
 #![tactic(auto)]
 
-use rasn_compiler::{Modules, Source};
+use rasn_compiler::Source;
 use rasn_print::{
-    Call, Fault, Known, Session, Tools, Work, call_of, command, known_of, modules_of, print_types,
-    type_named,
+    Call, Fault, Session, Tools, Work, call_of, command, known_of, modules_of, print_types,
+    wanted_type,
 };
 use std::fs::{self, File};
 use std::io::{BufReader, BufWriter, ErrorKind, Read, Write};
@@ -21,14 +21,15 @@ fn main(rt: HostRuntime) -> ExitCode {
     match run(&rt) {
         Ok(status) => ExitCode::from(status),
         Err(Fault::Closed) => ExitCode::SUCCESS,
-        Err(Fault::Write) => failed(&rt, "cannot write"),
-        Err(Fault::Memory) => failed(&rt, "out of memory"),
+        Err(Fault::Call(text)) => failed(&rt, text.as_str()),
+        Err(Fault::Write) => failed(&rt, "soqavise: cannot write\n"),
+        Err(Fault::Memory) => failed(&rt, "soqavise: out of memory\n"),
     }
 }
 
 /// Prints why the program stops.
 fn failed(rt: &HostRuntime, text: &str) -> ExitCode {
-    let _ = eprintln!(rt; "soqavise: {text}");
+    let _ = eprint!(rt; "{text}");
     ExitCode::from(USAGE)
 }
 
@@ -70,50 +71,34 @@ fn run_call(rt: &HostRuntime, call: &Call<'_>) -> Result<u8, Fault> {
         })?;
     }
     let read = modules_of(alloc, sources.as_slice())?;
-    if !read.faults.is_empty() {
-        for fault in &read.faults {
-            eprintln!(rt; "{fault}").map_err(Fault::of_write)?;
-        }
-        return Ok(USAGE);
-    }
-    match known_of(alloc, &read)? {
-        Some(known) => run_work(rt, call, &read, &known),
-        None => Ok(USAGE),
-    }
+    let known = known_of(alloc, &read)?;
+    let wanted = wanted_type(alloc, &read, call)?;
+    let tools = Tools {
+        alloc,
+        call,
+        read: &read,
+        known: &known,
+        wanted: wanted.as_ref(),
+    };
+    run_work(rt, tools)
 }
 
 /// Runs the work of a call with these modules.
-fn run_work(
-    rt: &HostRuntime,
-    call: &Call<'_>,
-    read: &Modules<'_>,
-    known: &Known,
-) -> Result<u8, Fault> {
-    let alloc = rt.alloc();
+fn run_work(rt: &HostRuntime, tools: Tools<'_>) -> Result<u8, Fault> {
+    let alloc = tools.alloc;
     let mut output = BufWriter::new(alloc, rt.stdout()).map_err(Fault::of_write)?;
-    if call.work == Work::Types {
-        print_types(alloc, read, &mut output)?;
+    if tools.call.work == Work::Types {
+        print_types(alloc, tools.read, &mut output)?;
         output.flush().map_err(Fault::of_write)?;
         return Ok(0);
     }
-    if let Some(name) = call.type_name {
-        if type_named(read, name).is_none() {
-            eprintln!(rt; "soqavise: no type {name} is known").map_err(Fault::of_write)?;
-            return Ok(USAGE);
-        }
-    }
     let mut session = Session {
-        tools: Tools {
-            alloc,
-            call,
-            read,
-            known,
-        },
+        tools,
         output,
         refusals: rt.stderr(),
         is_refused: false,
     };
-    let status = inputs(rt, call.files, &mut session)?;
+    let status = inputs(rt, tools.call.files, &mut session)?;
     session.flush()?;
     if status == 0 && session.is_refused {
         return Ok(REFUSED);

@@ -3,42 +3,51 @@
 #![tactic(auto)]
 
 use rasn_compiler::Modules;
-use rasn_print::{Call, Fault, Known, Session, Tools, call_of, command, known_of, modules_of};
+use rasn_print::{
+    Fault, Known, Session, Tools, call_of, command, known_of, modules_of, wanted_type,
+};
 use std::alloc::{AllocError, Global};
-use std::io::{self, BufRead, BufReader, BufWriter, Write};
+use std::io::{BufRead, BufReader, BufWriter, Write};
+use std::process::ExitCode;
 use std::str;
 
-fn main(rt: HostRuntime) -> io::Result<()> {
-    let alloc = rt.alloc();
-    let read = modules_of(alloc, &[])?;
-    let Some(known) = known_of(alloc, &read)? else {
-        return println!(rt; "no types");
-    };
-    let input = BufReader::new(alloc, rt.stdin())?;
-    let mut output = BufWriter::new(alloc, rt.stdout())?;
-    for line in input.lines(alloc) {
-        let line = line?;
-        writeln!(output, "{line}")?;
-        if !line.is_empty() && !line.starts_with('#') {
-            let answer = answer_of(alloc, &read, &known, &line)?;
-            writeln!(output, "{answer}")?;
-        }
+fn main(rt: HostRuntime) -> ExitCode {
+    match run_rows(&rt) {
+        Ok(()) => ExitCode::SUCCESS,
+        Err(_) => ExitCode::FAILURE,
     }
-    output.flush()
 }
 
-/// Returns what the call of a line prints, and `refused` if its exit status is 1.
+/// Prints each row, and what its call prints.
+fn run_rows(rt: &HostRuntime) -> Result<(), Fault> {
+    let alloc = rt.alloc();
+    let read = modules_of(alloc, &[])?;
+    let known = known_of(alloc, &read)?;
+    let input = BufReader::new(alloc, rt.stdin()).map_err(Fault::of_write)?;
+    let mut output = BufWriter::new(alloc, rt.stdout()).map_err(Fault::of_write)?;
+    for line in input.lines(alloc) {
+        let line = line.map_err(Fault::of_write)?;
+        writeln!(output, "{line}").map_err(Fault::of_write)?;
+        if !line.is_empty() && !line.starts_with('#') {
+            let answer = answer_of(alloc, &read, &known, &line)?;
+            writeln!(output, "{answer}").map_err(Fault::of_write)?;
+        }
+    }
+    output.flush().map_err(Fault::of_write)
+}
+
+/// Returns what the call of a line prints, and `status 1` if that is its exit status.
 fn answer_of(
     alloc: Global,
     read: &Modules<'_>,
     known: &Known,
     line: &str,
-) -> Result<String, AllocError> {
+) -> Result<String, Fault> {
     let (call, input) = match line.split_once('"') {
         Some((call, text)) => (call.trim_ascii_end(), unquoted(alloc, text)?),
         None => match line.rsplit_once(' ') {
             Some((call, digits)) => (call, String::from_str(alloc, digits)?),
-            None => return String::from_str(alloc, "is no row"),
+            None => return Ok(String::from_str(alloc, "is no row")?),
         },
     };
     let mut words = Vec::new(alloc);
@@ -48,12 +57,20 @@ fn answer_of(
     }
     let matches = match command(alloc)?.try_get_matches_from(words.as_slice()) {
         Ok(matches) => matches,
-        Err(error) => return format!(in alloc; "{error}"),
+        Err(error) => return Ok(format!(in alloc; "{error}")?),
     };
-    match call_of(&matches) {
-        Some(call) => run(alloc, &call, read, known, input.as_bytes()),
-        None => String::from_str(alloc, "is no call"),
-    }
+    let Some(call) = call_of(&matches) else {
+        return Ok(String::from_str(alloc, "is no call")?);
+    };
+    let wanted = wanted_type(alloc, read, &call)?;
+    let tools = Tools {
+        alloc,
+        call: &call,
+        read,
+        known,
+        wanted: wanted.as_ref(),
+    };
+    run(tools, input.as_bytes())
 }
 
 /// Returns a text in which `\n` is a line feed, up to the quotation mark after it.
@@ -67,36 +84,23 @@ fn unquoted(alloc: Global, text: &str) -> Result<String, AllocError> {
 }
 
 /// Returns what a call prints for an input.
-fn run(
-    alloc: Global,
-    call: &Call<'_>,
-    read: &Modules<'_>,
-    known: &Known,
-    input: &[u8],
-) -> Result<String, AllocError> {
+fn run(tools: Tools<'_>, input: &[u8]) -> Result<String, Fault> {
+    let alloc = tools.alloc;
     let mut session = Session {
-        tools: Tools {
-            alloc,
-            call,
-            read,
-            known,
-        },
+        tools,
         output: Vec::new(alloc),
         refusals: Vec::new(alloc),
         is_refused: false,
     };
-    let result = session.input("input", input);
+    session.input("input", input)?;
     let Session {
         output,
         refusals,
         is_refused,
         ..
     } = session;
-    if result == Err(Fault::Memory) {
-        return Err(AllocError);
-    }
     let shown = str::from_utf8(&output).unwrap_or("other octets");
     let refused = str::from_utf8(&refusals).unwrap_or("other octets");
     let status = if is_refused { "status 1\n" } else { "" };
-    format!(in alloc; "{shown}{refused}{status}")
+    Ok(format!(in alloc; "{shown}{refused}{status}")?)
 }
