@@ -23,14 +23,3 @@ pub fn assert_facts(rt: &impl Abort, facts: &[bool]) {
         assert!(rt; *fact, "{place}");
     }
 }
-
-/// Returns the octets with the one at this index replaced.
-pub fn spoilt(rt: &impl Abort, alloc: Global, octets: &[u8], at: usize, octet: u8) -> Vec<u8> {
-    let Ok(mut copy) = Vec::from_slice(alloc, octets) else {
-        rt.abort()
-    };
-    if let Some(place) = copy.get_mut(at) {
-        *place = octet;
-    }
-    copy
-}

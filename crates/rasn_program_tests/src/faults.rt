@@ -7,9 +7,9 @@ use std::io::{self, BufRead, BufReader, Error, ErrorKind, Read, Write};
 
 /// A reader that returns some octets and then fails.
 #[derive(Drop)]
-pub(crate) struct Failing<'octets> {
-    pub(crate) before: &'octets [u8],
-    pub(crate) kind: ErrorKind,
+struct Failing<'octets> {
+    before: &'octets [u8],
+    kind: ErrorKind,
 }
 
 impl Read for Failing<'_> {
@@ -23,7 +23,7 @@ impl Read for Failing<'_> {
 
 /// A writer that accepts no octets.
 #[derive(Drop)]
-pub(crate) struct Full;
+struct Full;
 
 impl Write for Full {
     fn write(&mut self, _buffer: &[u8]) -> io::Result<usize> {
@@ -76,7 +76,7 @@ fn failing_writers_are_faults(rt: HostRuntime) {
 }
 
 /// Returns the words as arguments of the program.
-pub(crate) fn arguments(alloc: Global, words: &[&str]) -> Result<Vec<String>, AllocError> {
+fn arguments(alloc: Global, words: &[&str]) -> Result<Vec<String>, AllocError> {
     let mut arguments = Vec::new(alloc);
     for word in words {
         arguments.push(String::from_str(alloc, word)?)?;

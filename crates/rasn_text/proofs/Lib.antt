@@ -1,3 +1,0 @@
-mod Messages
-mod Blocks
-mod Calls

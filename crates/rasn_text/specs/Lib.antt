@@ -1,4 +1,0 @@
-pub mod Kinds
-pub mod Arguments
-pub mod Reading
-pub mod Pem
