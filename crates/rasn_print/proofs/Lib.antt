@@ -1,2 +1,3 @@
 mod PemBlocks
 mod PemContents
+mod LookedInto

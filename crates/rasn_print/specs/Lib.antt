@@ -1,2 +1,3 @@
 pub mod Reading
 pub mod Pem
+pub mod Inner

@@ -3,7 +3,7 @@
 use crate::known::Known;
 use crate::leaf::{leaf_text, octets_text};
 use rasn_de::ber::de::{ConstructedHeader, Decoder, DecoderOptions};
-use rasn_schema::LeafKind;
+use rasn_schema::{LeafKind, Value};
 use rasn_types::error::{DecodeError, DecodeErrorKind};
 use rasn_types::types::{Class, Codec, Tag};
 use std::alloc::{AllocError, Global};
@@ -311,8 +311,8 @@ pub(crate) fn primitive_text(
     entry: &Entry<'_>,
 ) -> Result<String, AllocError> {
     match known.universal_value(alloc, entry.octets)? {
-        Some(value) => leaf_text(alloc, LeafKind::OctetString, &[], &value),
-        None => match entry.octets.get(entry.header_len..) {
+        Some(Value::Chosen(_, value)) => leaf_text(alloc, LeafKind::OctetString, &[], &value),
+        _ => match entry.octets.get(entry.header_len..) {
             Some(contents) => octets_text(alloc, contents),
             None => String::from_str(alloc, ""),
         },

@@ -1,4 +1,9 @@
 //! What is inside open types, under DER.
+ghost use Rattle.std.specs.Prelude.{◌≡◌, MatchResult};
+ghost use Rattle.rasn_types.specs.Truth.{IsWhether};
+ghost use Rattle.rasn_dynamic.specs.Walk.{IsNextOf};
+ghost use Rattle.rasn_print.specs.Inner.{IsAny, IsOpen, IsWellFormedInside, IsInPart, IsIllFormedPart, AreWellFormedInside, IsRefusedInside};
+ghost use Rattle.rasn_print.specs.declared.reading.ReadError.TheVariants.{OutOfMemory};
 
 use crate::dump::{DumpError, Entry, entries};
 use crate::known::Known;
@@ -11,52 +16,68 @@ use rasn_types::error::{CodecDecodeError, DecodeError, DecodeErrorKind, DerDecod
 use rasn_types::types::{Codec, Tag};
 use std::alloc::{AllocError, Global};
 
-/// Checks that the octets of each open type of a message follow DER at every depth.
+/// Checks that the octets of each open type of a message follow DER at every depth (X.690 10, 11).
 ///
 /// # Errors
 /// `Refused` with the place of the innermost encoding that doesn't, or of the message if it is
-/// none.
+/// none; `OutOfMemory` if an allocation fails.
 pub fn check_inner(
     alloc: Global,
     known: &Known,
     schema: &Schema,
     id: TypeId,
     octets: &[u8],
-) -> Result<(), ReadError> {
+) -> Result<(), ReadError>
+    ensures { MatchResult result (λ _. AreWellFormedInside schema.now.types.items id.0 octets.now) (IsRefusedInside schema.now.types.items id.0 octets.now) }
+{
     let mut parts = match parts_of(alloc, Codec::Der, schema, id, octets) {
         Ok(parts) => parts,
         Err(refusal) => return Err(refused(refusal)),
     };
-    for _ in 0..parts.list.len() {
-        check_next(alloc, known, schema, &mut parts)?;
+    while let Some(part) = next_part(alloc, &mut parts)? {
+        check_part(alloc, known, schema, &part, parts.path.as_slice())?;
     }
     Ok(())
 }
 
-/// Checks the octets of the next part, if it is of an open type.
-fn check_next(
+/// Goes to the next part of a message.
+fn next_part<'input>(
+    alloc: Global,
+    parts: &mut MessageParts<'input>,
+) -> Result<Option<Part<'input>>, ReadError>
+    ensures next { MatchResult result (λ found. IsNextOf parts.old found parts.new) (λ e. e ≡ OutOfMemory) }
+    ensures kept { (parts.new.list ≡ parts.old.list) × (parts.new.input.now ≡ parts.old.input.now) }
+{
+    match parts.next(alloc) {
+        Ok(found) => Ok(found),
+        Err(_) => Err(ReadError::OutOfMemory),
+    }
+}
+
+/// Checks the octets of a part, if it is of an open type.
+fn check_part(
     alloc: Global,
     known: &Known,
     schema: &Schema,
-    parts: &mut MessageParts<'_>,
-) -> Result<(), ReadError> {
-    let part = match parts.next(alloc) {
-        Ok(Some(part)) => part,
-        Ok(None) => return Ok(()),
-        Err(_) => return Err(ReadError::OutOfMemory),
-    };
+    part: &Part<'_>,
+    path: &[usize],
+) -> Result<(), ReadError>
+    ensures { MatchResult result (λ _. IsWellFormedInside schema.now.types.items part.now.id.0 part.now.octets.now) (IsIllFormedPart schema.now.types.items part.now) }
+{
     if !is_open(schema, part.id) {
         return Ok(());
     }
     match is_well_formed(alloc, part.octets) {
         Ok(true) => Ok(()),
-        Ok(false) => Err(refusal_at(alloc, known, &part, parts.path.as_slice())),
+        Ok(false) => Err(refusal_at(alloc, known, part, path)),
         Err(_) => Err(ReadError::OutOfMemory),
     }
 }
 
 /// Returns the refusal of a part that doesn't follow DER.
-fn refusal_at(alloc: Global, known: &Known, part: &Part<'_>, path: &[usize]) -> ReadError {
+fn refusal_at(alloc: Global, known: &Known, part: &Part<'_>, path: &[usize]) -> ReadError
+    ensures { IsInPart part.now result }
+{
     let Ok((offset, error)) = fault_in(alloc, known, part.octets) else {
         return ReadError::OutOfMemory;
     };
@@ -72,12 +93,21 @@ fn refusal_at(alloc: Global, known: &Known, part: &Part<'_>, path: &[usize]) -> 
     })
 }
 
-/// Returns whether this is an open type.
-fn is_open(schema: &Schema, id: TypeId) -> bool {
+/// Returns whether this is the number of an open type.
+fn is_open(schema: &Schema, id: TypeId) -> bool
+    ensures { IsWhether result (IsOpen schema.now.types.items id.0) }
+{
     match type_at(schema.types(), id) {
-        Some(Type::Any { .. }) => true,
-        _ => false,
+        Some(ty) => is_any(ty),
+        None => false,
     }
+}
+
+/// Returns whether this is an open type.
+fn is_any(ty: &Type) -> bool
+    ensures { IsWhether result (IsAny ty.now) }
+{
+    matches!(ty, Type::Any { .. })
 }
 
 /// Returns where the first of the innermost encodings begins that don't follow DER, and why it

@@ -41,15 +41,14 @@ impl Known {
         })
     }
 
-    /// Returns the value whose encoding in BER these octets are, if it has a universal tag.
+    /// Returns the value of the type `Universal` whose encoding in BER these octets are.
     pub(crate) fn universal_value<'input>(
         &self,
         alloc: Global,
         octets: &'input [u8],
     ) -> Result<Option<Value<'input>>, AllocError> {
         match decode(alloc, Codec::Ber, &self.schema, self.universal, octets) {
-            Ok(Value::Chosen(_, value)) => Ok(Some(Box::into_inner(value))),
-            Ok(_) => Ok(None),
+            Ok(value) => Ok(Some(value)),
             Err(error) if error.is_out_of_memory() => Err(AllocError),
             Err(_) => Ok(None),
         }

@@ -120,8 +120,8 @@ fn string_of(alloc: Global, known: &Known, octets: &[u8]) -> Result<Option<Strin
         return Ok(None);
     }
     match known.universal_value(alloc, octets)? {
-        Some(value) => characters(alloc, &value),
-        None => Ok(None),
+        Some(Value::Chosen(_, value)) => characters(alloc, &value),
+        _ => Ok(None),
     }
 }
 

@@ -1,0 +1,28 @@
+# Completions of soqavise for bash: source this file.
+_soqavise() {
+    local word=${COMP_WORDS[COMP_CWORD]} before=${COMP_WORDS[COMP_CWORD - 1]} options='--help'
+    case ${COMP_WORDS[1]} in
+        show) options+=' --offsets' ;;
+        check) options+=' --outer' ;;
+    esac
+    case ${COMP_WORDS[1]} in
+        show | check | normalise) options+=' --module --type --rules --lines --input' ;;
+        types) options+=' --module' ;;
+        dump) options+=' --input' ;;
+    esac
+    case $before in
+        --rules) mapfile -t COMPREPLY < <(compgen -W 'ber cer der' -- "$word") ;;
+        --input) mapfile -t COMPREPLY < <(compgen -W 'der pem hex' -- "$word") ;;
+        --type) mapfile -t COMPREPLY < <(compgen -W "$(soqavise types | sed 's/[:].*//; s/^[^.]*[.]//')" -- "$word") ;;
+        *)
+            if ((COMP_CWORD == 1)); then
+                mapfile -t COMPREPLY < <(compgen -W 'show check normalise types dump help' -- "$word")
+            elif [[ $word == -* ]]; then
+                mapfile -t COMPREPLY < <(compgen -W "$options" -- "$word")
+            else
+                mapfile -t COMPREPLY < <(compgen -f -- "$word")
+            fi
+            ;;
+    esac
+}
+complete -F _soqavise soqavise
