@@ -3,7 +3,7 @@
 use crate::command_line::Call;
 use crate::fault::Fault;
 use crate::known::Known;
-use crate::standards::standards;
+use crate::standards::{COUNT, standard};
 use crate::types::{MessageType, message_type, type_named};
 use rasn_compiler::{Assigned, Assignment, Module, Modules, Resolved, Source, Stop};
 use std::alloc::{AllocError, Global};
@@ -18,8 +18,10 @@ const CONTENTS: &str = "Contents";
 /// `Call` with the faults of these texts.
 pub fn modules_of<'text>(alloc: Global, texts: &[Source<'text>]) -> Result<Modules<'text>, Fault> {
     let mut sources = Vec::from_slice(alloc, texts)?;
-    for (name, text) in standards() {
-        sources.push(Source { name, text })?;
+    for number in 0..COUNT {
+        if let Some((name, text)) = standard(number) {
+            sources.push(Source { name, text })?;
+        }
     }
     let read = Modules::parse(alloc, sources.as_slice())?;
     let mut faults = String::new(alloc);

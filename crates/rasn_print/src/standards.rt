@@ -1,16 +1,33 @@
 //! The texts of the modules of this repository: `.ci/standards` writes this file from
 //! `modules/` and `contents.asn1`.
 
-/// Returns the name of each module's file, and its text.
-pub fn standards() -> &'static [(&'static str, &'static str)] {
-    STANDARDS
+/// How many modules there are.
+pub const COUNT: usize = 15;
+
+/// Returns the name of the file of the module with this number, and its text.
+pub fn standard(number: usize) -> Option<(&'static str, &'static str)> {
+    match number {
+        0 => Some(("attribute_certificates.asn1", attribute_certificates())),
+        1 => Some(("certificates.asn1", certificates())),
+        2 => Some(("cmp.asn1", cmp())),
+        3 => Some(("cms.asn1", cms())),
+        4 => Some(("extensions.asn1", extensions())),
+        5 => Some(("kerberos.asn1", kerberos())),
+        6 => Some(("keys.asn1", keys())),
+        7 => Some(("ldap.asn1", ldap())),
+        8 => Some(("ocsp.asn1", ocsp())),
+        9 => Some(("pkcs12.asn1", pkcs12())),
+        10 => Some(("requests.asn1", requests())),
+        11 => Some(("revocation.asn1", revocation())),
+        12 => Some(("snmp.asn1", snmp())),
+        13 => Some(("timestamps.asn1", timestamps())),
+        14 => Some(("contents.asn1", contents())),
+        _ => None,
+    }
 }
 
-/// The name of each module's file, and its text.
-const STANDARDS: &[(&str, &str)] = &[
-    (
-        "attribute_certificates.asn1",
-        "-- Attribute certificates (RFC 5755 4, and version 1 as RFC 5652 12 has it), laid out from the sections
+fn attribute_certificates() -> &'static str {
+    "-- Attribute certificates (RFC 5755 4, and version 1 as RFC 5652 12 has it), laid out from the sections
 -- of the standards.
 
 AttributeCertificates DEFINITIONS IMPLICIT TAGS ::= BEGIN
@@ -145,11 +162,11 @@ AttributeCertificateInfoV1 ::= SEQUENCE {
 }
 
 END
-",
-    ),
-    (
-        "certificates.asn1",
-        "-- Certificates (RFC 5280 4.1), laid out from the sections of the standard.
+"
+}
+
+fn certificates() -> &'static str {
+    "-- Certificates (RFC 5280 4.1), laid out from the sections of the standard.
 -- The names of attributes and extensions, and what these hold, aren't here: they are open types and octets of a certificate.
 
 Certificates DEFINITIONS EXPLICIT TAGS ::= BEGIN
@@ -231,11 +248,11 @@ Extension ::= SEQUENCE {
 }
 
 END
-",
-    ),
-    (
-        "cmp.asn1",
-        "-- Certificate management (CMP, RFC 4210 5) and its requests (CRMF, RFC 4211), laid out from the
+"
+}
+
+fn cmp() -> &'static str {
+    "-- Certificate management (CMP, RFC 4210 5) and its requests (CRMF, RFC 4211), laid out from the
 -- sections of the standards.
 
 CRMF DEFINITIONS IMPLICIT TAGS ::= BEGIN
@@ -596,11 +613,11 @@ PollRepContent ::= SEQUENCE OF SEQUENCE {
 }
 
 END
-",
-    ),
-    (
-        "cms.asn1",
-        "-- Cryptographic messages (CMS, RFC 5652, and RFC 5083 for authenticated encryption), laid out from the
+"
+}
+
+fn cms() -> &'static str {
+    "-- Cryptographic messages (CMS, RFC 5652, and RFC 5083 for authenticated encryption), laid out from the
 -- sections of the standards.
 
 CMS DEFINITIONS IMPLICIT TAGS ::= BEGIN
@@ -914,11 +931,11 @@ SigningTime ::= Time
 Countersignature ::= SignerInfo
 
 END
-",
-    ),
-    (
-        "extensions.asn1",
-        "-- Extensions of certificates and of revocation lists (RFC 5280 4.2, 5.2, 5.3), and the addresses of
+"
+}
+
+fn extensions() -> &'static str {
+    "-- Extensions of certificates and of revocation lists (RFC 5280 4.2, 5.2, 5.3), and the addresses of
 -- X.400 in names (A.1), laid out from the sections of the standard. Each type is what an extension's
 -- octets hold.
 
@@ -1207,11 +1224,11 @@ ExtensionAttribute ::= SEQUENCE {
 }
 
 END
-",
-    ),
-    (
-        "kerberos.asn1",
-        "-- Messages of Kerberos (RFC 4120 5), laid out from the sections of the standard.
+"
+}
+
+fn kerberos() -> &'static str {
+    "-- Messages of Kerberos (RFC 4120 5), laid out from the sections of the standard.
 
 Kerberos DEFINITIONS EXPLICIT TAGS ::= BEGIN
 
@@ -1546,11 +1563,11 @@ TYPED-DATA ::= SEQUENCE SIZE (1..MAX) OF SEQUENCE {
 }
 
 END
-",
-    ),
-    (
-        "keys.asn1",
-        "-- Keys and signatures: RSA (PKCS #1, RFC 8017 A.1), private keys (PKCS #8, RFC 5958 2 and 3), elliptic
+"
+}
+
+fn keys() -> &'static str {
+    "-- Keys and signatures: RSA (PKCS #1, RFC 8017 A.1), private keys (PKCS #8, RFC 5958 2 and 3), elliptic
 -- curves (SEC 1 C, RFC 5915 3, RFC 3279 2.2.3), DSA and Diffie-Hellman (RFC 3279 2.3), laid out from
 -- the sections of the standards.
 
@@ -1690,11 +1707,11 @@ ValidationParms ::= SEQUENCE {
 }
 
 END
-",
-    ),
-    (
-        "ldap.asn1",
-        "-- Messages of LDAP (RFC 4511 4), laid out from the sections of the standard. Each type that the
+"
+}
+
+fn ldap() -> &'static str {
+    "-- Messages of LDAP (RFC 4511 4), laid out from the sections of the standard. Each type that the
 -- standard extends has its marker.
 
 LDAP DEFINITIONS IMPLICIT TAGS EXTENSIBILITY IMPLIED ::= BEGIN
@@ -1972,11 +1989,11 @@ IntermediateResponse ::= [APPLICATION 25] SEQUENCE {
 }
 
 END
-",
-    ),
-    (
-        "ocsp.asn1",
-        "-- Online certificate status (RFC 6960 4), laid out from the sections of the standard.
+"
+}
+
+fn ocsp() -> &'static str {
+    "-- Online certificate status (RFC 6960 4), laid out from the sections of the standard.
 
 OCSP DEFINITIONS EXPLICIT TAGS ::= BEGIN
 
@@ -2106,11 +2123,11 @@ PreferredSignatureAlgorithm ::= SEQUENCE {
 }
 
 END
-",
-    ),
-    (
-        "pkcs12.asn1",
-        "-- Personal information exchange (PKCS #12, RFC 7292 4), laid out from the sections of the standard.
+"
+}
+
+fn pkcs12() -> &'static str {
+    "-- Personal information exchange (PKCS #12, RFC 7292 4), laid out from the sections of the standard.
 
 PKCS12 DEFINITIONS IMPLICIT TAGS ::= BEGIN
 
@@ -2175,11 +2192,11 @@ SecretBag ::= SEQUENCE {
 }
 
 END
-",
-    ),
-    (
-        "requests.asn1",
-        "-- Certification requests (PKCS #10, RFC 2986 4), laid out from the sections of the standard.
+"
+}
+
+fn requests() -> &'static str {
+    "-- Certification requests (PKCS #10, RFC 2986 4), laid out from the sections of the standard.
 
 Requests DEFINITIONS IMPLICIT TAGS ::= BEGIN
 
@@ -2210,11 +2227,11 @@ Attribute ::= SEQUENCE {
 }
 
 END
-",
-    ),
-    (
-        "revocation.asn1",
-        "-- Certificate revocation lists (RFC 5280 5.1), laid out from the sections of the standard.
+"
+}
+
+fn revocation() -> &'static str {
+    "-- Certificate revocation lists (RFC 5280 5.1), laid out from the sections of the standard.
 
 Revocation DEFINITIONS EXPLICIT TAGS ::= BEGIN
 
@@ -2248,11 +2265,11 @@ RevokedCertificate ::= SEQUENCE {
 }
 
 END
-",
-    ),
-    (
-        "snmp.asn1",
-        "-- Messages of SNMP: versions 1 (RFC 1157 4) and 2c (RFC 1901 3) with the operations of RFC 3416 3,
+"
+}
+
+fn snmp() -> &'static str {
+    "-- Messages of SNMP: versions 1 (RFC 1157 4) and 2c (RFC 1901 3) with the operations of RFC 3416 3,
 -- version 3 (RFC 3412 6) with the user-based security model (RFC 3414 2.4), laid out from the sections
 -- of the standards. A request-id has 32 bits, as RFC 2578 7.1.1 says of Integer32.
 
@@ -2404,11 +2421,11 @@ UsmSecurityParameters ::= SEQUENCE {
 }
 
 END
-",
-    ),
-    (
-        "timestamps.asn1",
-        "-- Time stamps (RFC 3161 2.4), laid out from the sections of the standard.
+"
+}
+
+fn timestamps() -> &'static str {
+    "-- Time stamps (RFC 3161 2.4), laid out from the sections of the standard.
 
 TimeStamps DEFINITIONS IMPLICIT TAGS ::= BEGIN
 
@@ -2483,11 +2500,11 @@ Accuracy ::= SEQUENCE {
 }
 
 END
-",
-    ),
-    (
-        "contents.asn1",
-        "-- Types of what is in open types (`Open`), in OCTET STRINGs (`Octets`) and in BIT STRINGs (`Bits`) beside an
+"
+}
+
+fn contents() -> &'static str {
+    "-- Types of what is in open types (`Open`), in OCTET STRINGs (`Octets`) and in BIT STRINGs (`Bits`) beside an
 -- identifier: each alternative has the name that identifiers.rt gives to it. `Universal` has the types of values
 -- with universal tags.
 
@@ -2582,6 +2599,5 @@ Bits ::= CHOICE {
 }
 
 END
-",
-    ),
-];
+"
+}
