@@ -5,3 +5,8 @@ pub mod Pending
 pub mod Order
 pub mod Contents
 pub mod Worked
+pub mod Judged
+pub mod Unread
+pub mod Reader
+pub mod Noted
+pub mod Clean

@@ -4,3 +4,9 @@ pub mod Order
 pub mod WellFormed
 pub mod Encoding
 pub mod Pending
+pub mod Trail
+pub mod Place
+pub mod Header
+pub mod Leaf
+pub mod Judged
+pub mod Lint

@@ -55,7 +55,7 @@ fn encoding_of<'input>(
 }
 
 /// Returns a decoder of the octets by DER.
-fn decoder_of(alloc: Global, octets: &[u8]) -> Decoder<'_>
+pub fn decoder_of(alloc: Global, octets: &[u8]) -> Decoder<'_>
     ensures { result ≡ start octets.now }
 {
     Decoder::new(alloc, octets, DecoderOptions::der())

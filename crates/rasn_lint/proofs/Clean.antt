@@ -1,0 +1,40 @@
+-- When a message has no departures, and what follows it.
+use Rattle.std.proofs.Common.{◌≡◌, ◌≢◌, ◌⊎◌, ◌<◌, ◌+◌, ◌-◌, inl, inr, ℕ, List, [], ◌∷◌, ◌++◌, length, Ok, Bool, true, false, refl, sym, ap, ◌∙◌, subst, arith, length-append}
+use Rattle.std.specs.Prelude.{◌↔◌}
+use Rattle.rasn_types.specs.declared.types.codec.Codec.TheVariants.{Ber}
+use Rattle.rasn_types.specs.Shapes.{Tree}
+use Rattle.rasn_types.specs.Grammar.{Reads, top}
+use Rattle.rasn_schema.specs.declared.types.«Type».{«Type»}
+use Rattle.rasn_dynamic.specs.declared.span.Span.{Span}
+use Rattle.rasn_dynamic.specs.declared.message.MessageParts.{MessageParts}
+use Rattle.rasn_dynamic.specs.Entry.{shape_of}
+use Rattle.rasn_dynamic.specs.Faults.{start}
+use Rattle.rasn_dynamic.specs.Walk.{ArePartsOf}
+use Rattle.rasn_dynamic.proofs.Checked.{read_first}
+use Rattle.rasn_lint.specs.declared.by_schema.LintError.TheVariants.{Remainder}
+use Rattle.rasn_lint.specs.declared.by_schema.OpenTypes.{OpenTypes}
+use Rattle.rasn_lint.specs.declared.by_schema.OpenTypes.TheVariants.{Unexamined, Examined}
+use Rattle.rasn_lint.specs.declared.departure.Departure.{Departure}
+use Rattle.rasn_lint.specs.Lint.{IsDer, IsClean, AreAll, IsNoLint, len_after}
+use Rattle.rasn_lint.proofs.Judged.{none_typed, none_if_formed, formed_if_none}
+
+module _ (types : List «Type») (id : ℕ) (input : List ℕ) (parts : List Span) where
+  reads : (opens : OpenTypes) → IsClean opens types id input parts → IsDer types id input
+  reads Unexamined k = k
+  reads Examined k = k.0
+
+  pub clean : (opens : OpenTypes) (ds : List Departure) → AreAll opens types id input parts ds → (ds ≡ []) ↔ IsClean opens types id input parts
+  clean Unexamined ds (inl (d, j)) = (λ q. d, λ k. none_typed types (length input) [] [] parts ds j)
+  clean Examined ds (inl (d, j)) = (λ q. (d, formed_if_none types (length input) [] [] parts ds j q), λ k. none_if_formed types (length input) [] [] parts ds j k.1)
+  clean opens ds (inr (n, inl (j, some))) = (λ q. absurd (some q), λ k. absurd (n (reads opens k)))
+  clean opens ds (inr (n, inr (j, d, p, i))) = (λ q. let x : d ∷ [] ≡ [] = sym p ∙ q in cc, λ k. absurd (n (reads opens k)))
+
+-- The octets after the first part follow the value.
+pub followed : (types : List «Type») (id : ℕ) (input : List ℕ) (ps : MessageParts) (n : ℕ) → ArePartsOf types Ber id input ps → n ≡ len_after ps.list.items input → 0 < n → IsNoLint types id input (Remainder n)
+followed types id input ps n a e p =
+    let l = a.listed in
+    let cut : n ≡ length input - length l.part.octets.now = e ∙ ap (λ z. len_after z input) l.is in
+    let size : length input ≡ length l.part.octets.now + length a.last.rest = ap length l.octets ∙ length-append l.part.octets.now a.last.rest in
+    let rest : length a.last.rest ≡ n = omega (arith, cut, size) in
+    let read = read_first Ber (shape_of types id) input (start Ber input) refl l.tree a.last a.last.rest refl l.reads in
+    (l.tree, a.last.rest, read.0, rest, λ q. let z = ap length q in omega (arith, z, rest, p))
