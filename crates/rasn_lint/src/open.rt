@@ -336,7 +336,7 @@ fn look<'input>(
         octets: rest,
         index: next.index.saturating_add(1),
         depth: next.depth,
-        left: rest.len(),
+        left: next.left.saturating_sub(encoding.len()),
     };
     keep(pending, after)?;
     if is_well_formed(alloc, encoding)? {
