@@ -19,15 +19,15 @@ use Rattle.rasn_lint.specs.Lint.{IsDer, IsClean, AreAll, IsNoLint, len_after}
 use Rattle.rasn_lint.proofs.Judged.{none_typed, none_if_formed, formed_if_none}
 
 module _ (types : List «Type») (id : ℕ) (input : List ℕ) (parts : List Span) where
-  reads : (opens : OpenTypes) → IsClean opens types id input parts → IsDer types id input
-  reads Unexamined k = k
-  reads Examined k = k.0
+  pub is_der : (opens : OpenTypes) → IsClean opens types id input parts → IsDer types id input
+  is_der Unexamined k = k
+  is_der Examined k = k.0
 
   pub clean : (opens : OpenTypes) (ds : List Departure) → AreAll opens types id input parts ds → (ds ≡ []) ↔ IsClean opens types id input parts
   clean Unexamined ds (inl (d, j)) = (λ q. d, λ k. none_typed types (length input) [] [] parts ds j)
   clean Examined ds (inl (d, j)) = (λ q. (d, formed_if_none types (length input) [] [] parts ds j q), λ k. none_if_formed types (length input) [] [] parts ds j k.1)
-  clean opens ds (inr (n, inl (j, some))) = (λ q. absurd (some q), λ k. absurd (n (reads opens k)))
-  clean opens ds (inr (n, inr (j, d, p, i))) = (λ q. let x : d ∷ [] ≡ [] = sym p ∙ q in cc, λ k. absurd (n (reads opens k)))
+  clean opens ds (inr (n, inl (j, some))) = (λ q. absurd (some q), λ k. absurd (n (is_der opens k)))
+  clean opens ds (inr (n, inr (j, d, p, i))) = (λ q. let x : d ∷ [] ≡ [] = sym p ∙ q in cc, λ k. absurd (n (is_der opens k)))
 
 -- The octets after the first part follow the value.
 pub followed : (types : List «Type») (id : ℕ) (input : List ℕ) (ps : MessageParts) (n : ℕ) → ArePartsOf types Ber id input ps → n ≡ len_after ps.list.items input → 0 < n → IsNoLint types id input (Remainder n)

@@ -38,29 +38,29 @@ open_one tag o a b (r, x) (s, y) = let h : numbers b ≡ numbers a = (x.1 (numbe
 abbrev Formed : Option «Type» → Span → Type 0
 Formed o e = (tag : Tag) (inside : List ℕ) → o ≡ Some (Any tag) → HasOpen tag e.octets.now inside → IsWellFormed inside
 
-formed_if : (o : Option «Type») (path : List ℕ) (e : Span) (ds : List Departure) → AreOpenDepartures path e o ds → (ds ≡ []) ↔ Formed o e
-formed_if None path e ds h = (λ q tag inside p. cc, λ f. h)
-formed_if (Some (Any tag)) path e ds (inl (inside, has, iff, all)) = (
+formed_if : (o : Option «Type») (len : ℕ) (path : List ℕ) (e : Span) (ds : List Departure) → AreOpenDepartures len path e o ds → (ds ≡ []) ↔ Formed o e
+formed_if None len path e ds h = (λ q tag inside p. cc, λ f. h)
+formed_if (Some (Any tag)) len path e ds (inl (inside, has, iff, all)) = (
   λ q t i p g.
       let s : t ≡ tag = cc in
       let k : inside ≡ i = open_one tag e.octets.now inside i has (subst (λ u. HasOpen u e.octets.now i) s g) in
       subst IsWellFormed k (iff.0 q),
   λ f. iff.1 (f tag inside refl has),
 )
-formed_if (Some (Any tag)) path e ds (inr (none, q)) = (
+formed_if (Some (Any tag)) len path e ds (inr (none, q)) = (
   λ z t i p g.
       let s : t ≡ tag = cc in
       absurd (none i (subst (λ u. HasOpen u e.octets.now i) s g)),
   λ f. q,
 )
-formed_if (Some (Leaf kind tag c names)) path e ds h = (λ q t inside p. cc, λ f. h)
-formed_if (Some (Enumerated tag ns)) path e ds h = (λ q t inside p. cc, λ f. h)
-formed_if (Some (Tagged tag id)) path e ds h = (λ q t inside p. cc, λ f. h)
-formed_if (Some (Choice name ks)) path e ds h = (λ q t inside p. cc, λ f. h)
-formed_if (Some (Sequence tag ps)) path e ds h = (λ q t inside p. cc, λ f. h)
-formed_if (Some (Set name tag ps)) path e ds h = (λ q t inside p. cc, λ f. h)
-formed_if (Some (SequenceOf tag id c)) path e ds h = (λ q t inside p. cc, λ f. h)
-formed_if (Some (SetOf tag id c)) path e ds h = (λ q t inside p. cc, λ f. h)
+formed_if (Some (Leaf kind tag c names)) len path e ds h = (λ q t inside p. cc, λ f. h)
+formed_if (Some (Enumerated tag ns)) len path e ds h = (λ q t inside p. cc, λ f. h)
+formed_if (Some (Tagged tag id)) len path e ds h = (λ q t inside p. cc, λ f. h)
+formed_if (Some (Choice name ks)) len path e ds h = (λ q t inside p. cc, λ f. h)
+formed_if (Some (Sequence tag ps)) len path e ds h = (λ q t inside p. cc, λ f. h)
+formed_if (Some (Set name tag ps)) len path e ds h = (λ q t inside p. cc, λ f. h)
+formed_if (Some (SequenceOf tag id c)) len path e ds h = (λ q t inside p. cc, λ f. h)
+formed_if (Some (SetOf tag id c)) len path e ds h = (λ q t inside p. cc, λ f. h)
 
 -- Two lists without elements are one.
 both_empty : {A : Type 0} (a b c : List A) → a ≡ b ++ c → b ≡ [] → c ≡ [] → a ≡ []
@@ -81,7 +81,7 @@ module _ (types : List «Type») (len : ℕ) where
       → AllByRecursion (HasFormed types) es → ds ≡ []
   none_if_formed trail path [] ds h a = h
   none_if_formed trail path (e ∷ es) ds (mine, others, p, m, h) a =
-      both_empty ds mine others p (both_empty mine m.typed m.inside m.are m.by_type ((formed_if (slice_get types e.id.0) (path_after path e) e m.inside m.by_octets).1 a.0))
+      both_empty ds mine others p (both_empty mine m.typed m.inside m.are m.by_type ((formed_if (slice_get types e.id.0) len (path_after path e) e m.inside m.by_octets).1 a.0))
       (none_if_formed (trail_after trail e) (path_after path e) es others h a.1)
 
   pub formed_if_none : (trail : List Step) (path : List ℕ) (es : List Span) (ds : List Departure) → AreJudged true Examined types len trail path es ds
@@ -92,4 +92,4 @@ module _ (types : List «Type») (len : ℕ) where
       let none : mine ≡ [] = first_empty mine others both in
       let left : others ≡ [] = sym (ap (λ z. z ++ others) none) ∙ both in
       let inside : m.inside ≡ [] = sym (ap (λ z. z ++ m.inside) m.by_type) ∙ (sym m.are ∙ none) in
-      ((formed_if (slice_get types e.id.0) (path_after path e) e m.inside m.by_octets).0 inside, formed_if_none (trail_after trail e) (path_after path e) es others h left)
+      ((formed_if (slice_get types e.id.0) len (path_after path e) e m.inside m.by_octets).0 inside, formed_if_none (trail_after trail e) (path_after path e) es others h left)

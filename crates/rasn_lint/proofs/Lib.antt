@@ -9,4 +9,7 @@ pub mod Judged
 pub mod Unread
 pub mod Reader
 pub mod Noted
+pub mod Open
 pub mod Clean
+pub mod Laws
+pub mod WorkedDepartures

@@ -1,7 +1,8 @@
 -- What departs of the parts of a message.
-use Rattle.std.specs.Prelude.{◌≡◌, ◌≢◌, ◌⊎◌, ◌↔◌, ◌-◌, ℕ, List, [], ◌∷◌, ◌++◌, Bool, true, false, Option, Some, None, Result, Ok, Err, slice_get}
+use Rattle.std.specs.Prelude.{◌≡◌, ◌≢◌, ◌⊎◌, ◌↔◌, ◌-◌, ℕ, List, [], ◌∷◌, ◌++◌, Vec, Bool, true, false, Option, Some, None, Result, Ok, Err, slice_get}
 use Rattle.std.specs.List.{AllByRecursion}
 use Rattle.std.specs.Borrow.{Bor}
+use Rattle.std.specs.Global.{Global}
 use Rattle.rasn_types.specs.declared.types.codec.Codec.TheVariants.{Ber}
 use Rattle.rasn_types.specs.declared.types.tag.Tag.{Tag}
 use Rattle.rasn_types.specs.Shapes.{looked_for}
@@ -17,30 +18,64 @@ use Rattle.rasn_lint.specs.declared.departure.Departure.{Departure}
 use Rattle.rasn_lint.specs.declared.departure.Aspect.{Aspect}
 use Rattle.rasn_lint.specs.declared.departure.Aspect.TheVariants.{Header, Contents, Place}
 use Rattle.rasn_lint.specs.declared.judge.Faults.{Faults}
+use Rattle.rasn_lint.specs.declared.judge.Site.{Site}
 use Rattle.rasn_lint.specs.declared.trail.Step.{Step}
 use Rattle.rasn_lint.specs.Trail.{trail_after, holder_in, before_in}
 use Rattle.rasn_lint.specs.Place.{order_if, default_if, type_of, IsOrderFault, IsDefaultFault}
 use Rattle.rasn_lint.specs.Header.{has_own_header, is_constructed, IsTagFault, IsFormFault, IsLengthFault}
 use Rattle.rasn_lint.specs.Leaf.{IsContentsFault}
 use Rattle.rasn_lint.specs.Encoding.{start}
+use Rattle.rasn_lint.specs.Open.{IsInside}
 use Rattle.rasn_lint.specs.WellFormed.{IsWellFormed}
 use Rattle.rasn_lint.specs.declared.by_schema.OpenTypes.{OpenTypes}
 use Rattle.rasn_lint.specs.declared.by_schema.OpenTypes.TheVariants.{Unexamined, Examined}
 
--- The departure is one of the part with this path, in a message of so many octets.
-pub record IsDepartureOf (len : ℕ) (e : Span) (path : List ℕ) (aspect : Aspect) (error : DecodeError) (d : Departure) : Type 0 where
+-- ---- departures at a site
+
+-- The path is the same.
+abbrev pub IsCopied : Option (Bor (List ℕ)) → Option (Vec ℕ Global) → Type 0
+IsCopied None copy = copy ≡ None
+IsCopied (Some path) copy = (v : Vec ℕ Global) × (copy ≡ Some v) × (v.items ≡ path.now)
+
+-- The site of the part with this path, or of an encoding inside it, in a message of so many octets, of which so many are
+-- left from its start.
+pub record IsSiteAt (len left : ℕ) (e : Span) (path : List ℕ) (inner : Option (Bor (List ℕ))) (site : Site) : Type 0 where
+  pub offset : site.offset ≡ len - left
+  pub id : site.id ≡ e.id
+  pub path_is : site.path.now ≡ path
+  pub inner_is : site.inner ≡ inner
+
+pub record IsDepartureAt (site : Site) (aspect : Aspect) (error : DecodeError) (d : Departure) : Type 0 where
   pub error_is : d.refusal.error ≡ error
-  pub offset : d.refusal.offset ≡ len - e.left
-  pub id : d.refusal.id ≡ e.id
-  pub steps : d.refusal.steps.items ≡ path
+  pub offset : d.refusal.offset ≡ site.offset
+  pub id : d.refusal.id ≡ site.id
+  pub steps : d.refusal.steps.items ≡ site.path.now
   pub whole : d.refusal.is_cut ≡ false
   pub aspect_is : d.aspect ≡ aspect
-  pub inner : d.inner ≡ None
+  pub inner : IsCopied site.inner d.inner
 
 -- One departure if there is an error, else none.
-abbrev pub AreNoted : ℕ → Span → List ℕ → Aspect → Option DecodeError → List Departure → Type 0
-AreNoted len e path aspect None ds = ds ≡ []
-AreNoted len e path aspect (Some error) ds = (d : Departure) × (ds ≡ d ∷ []) × IsDepartureOf len e path aspect error d
+abbrev pub AreNoted : Site → Aspect → Option DecodeError → List Departure → Type 0
+AreNoted site aspect None ds = ds ≡ []
+AreNoted site aspect (Some error) ds = (d : Departure) × (ds ≡ d ∷ []) × IsDepartureAt site aspect error d
+
+-- Those of these errors, in this order.
+pub record AreListed (site : Site) (f : Faults) (ds : List Departure) : Type 0 where
+  pub order : List Departure
+  pub default : List Departure
+  pub tag : List Departure
+  pub form : List Departure
+  pub length : List Departure
+  pub contents : List Departure
+  pub are : ds ≡ order ++ (default ++ (tag ++ (form ++ (length ++ contents))))
+  pub in_order : AreNoted site Place f.order order
+  pub by_default : AreNoted site Place f.default default
+  pub by_tag : AreNoted site Header f.tag tag
+  pub by_form : AreNoted site Header f.form form
+  pub by_length : AreNoted site Header f.length length
+  pub in_contents : AreNoted site Contents f.contents contents
+
+-- ---- those of a part
 
 -- There is an error exactly if DER refuses a value of an open type, and it is the reader's.
 abbrev pub IsRefusedBy : {T : Type 0} → Result T DecodeError → Option DecodeError → Type 0
@@ -73,25 +108,9 @@ pub record AreFaultsOf (types : List «Type») (trail : List Step) (e : Span) (t
   pub header : AreHeaderFaults (has_own_header ty) ty e.octets.now f
   pub contents : IsContentsFault types e.id.0 ty e.octets.now f.contents
 
--- The departures of a part, in this order.
-pub record AreListed (len : ℕ) (e : Span) (path : List ℕ) (f : Faults) (ds : List Departure) : Type 0 where
-  pub order : List Departure
-  pub default : List Departure
-  pub tag : List Departure
-  pub form : List Departure
-  pub length : List Departure
-  pub contents : List Departure
-  pub are : ds ≡ order ++ (default ++ (tag ++ (form ++ (length ++ contents))))
-  pub in_order : AreNoted len e path Place f.order order
-  pub by_default : AreNoted len e path Place f.default default
-  pub by_tag : AreNoted len e path Header f.tag tag
-  pub by_form : AreNoted len e path Header f.form form
-  pub by_length : AreNoted len e path Header f.length length
-  pub in_contents : AreNoted len e path Contents f.contents contents
-
 abbrev pub AreDepartures : List «Type» → ℕ → List Step → List ℕ → Span → Option «Type» → List Departure → Type 0
 AreDepartures types len trail path e None ds = ds ≡ []
-AreDepartures types len trail path e (Some ty) ds = (f : Faults) × AreFaultsOf types trail e ty f × AreListed len e path f ds
+AreDepartures types len trail path e (Some ty) ds = (f : Faults) × (site : Site) × AreFaultsOf types trail e ty f × IsSiteAt len e.left e path None site × AreListed site f ds
 
 -- ---- open types
 
@@ -99,22 +118,14 @@ AreDepartures types len trail path e (Some ty) ds = (f : Faults) × AreFaultsOf 
 abbrev pub HasOpen : Tag → List ℕ → List ℕ → Type 0
 HasOpen tag octets inside = (rest : List ℕ) × OpenAt Ber (looked_for tag) octets (Ok (inside, rest))
 
--- Departures inside a part: each names the part.
-abbrev pub IsInside : Span → List ℕ → Departure → Type 0
-IsInside e path d = (d.refusal.id ≡ e.id) × (d.refusal.steps.items ≡ path) × (d.inner ≢ None)
-
--- Some are appended.
-abbrev pub GrowsInside : Span → List ℕ → List Departure → List Departure → Type 0
-GrowsInside e path old new = (ds : List Departure) × (new ≡ old ++ ds) × AllByRecursion (IsInside e path) ds
-
 -- There are none exactly if the octets of the open type are well formed.
-abbrev pub AreInside : Tag → List ℕ → Span → List Departure → Type 0
-AreInside tag path e ds = (inside : List ℕ) × HasOpen tag e.octets.now inside × ((ds ≡ []) ↔ IsWellFormed inside) × AllByRecursion (IsInside e path) ds
+abbrev pub AreInside : Tag → ℕ → List ℕ → Span → List Departure → Type 0
+AreInside tag len path e ds = (inside : List ℕ) × HasOpen tag e.octets.now inside × ((ds ≡ []) ↔ IsWellFormed inside) × AllByRecursion (IsInside len e path) ds
 
 -- The same of a part of any type; of one that isn't open, and where BER finds no octets, there are none.
-abbrev pub AreOpenDepartures : List ℕ → Span → Option «Type» → List Departure → Type 0
-AreOpenDepartures path e (Some (Any tag)) ds = AreInside tag path e ds ⊎ (((inside : List ℕ) → HasOpen tag e.octets.now inside → ⊥) × (ds ≡ []))
-AreOpenDepartures path e ty ds = ds ≡ []
+abbrev pub AreOpenDepartures : ℕ → List ℕ → Span → Option «Type» → List Departure → Type 0
+AreOpenDepartures len path e (Some (Any tag)) ds = AreInside tag len path e ds ⊎ (((inside : List ℕ) → HasOpen tag e.octets.now inside → ⊥) × (ds ≡ []))
+AreOpenDepartures len path e ty ds = ds ≡ []
 
 -- ---- all parts
 
@@ -124,16 +135,16 @@ abbrev pub TypedUnless : Bool → List «Type» → ℕ → List Step → List �
 TypedUnless true types len trail path e ds = ds ≡ []
 TypedUnless false types len trail path e ds = AreDepartures types len trail path e (slice_get types e.id.0) ds
 
-abbrev pub OpenIf : OpenTypes → List «Type» → List ℕ → Span → List Departure → Type 0
-OpenIf Unexamined types path e ds = ds ≡ []
-OpenIf Examined types path e ds = AreOpenDepartures path e (slice_get types e.id.0) ds
+abbrev pub OpenIf : OpenTypes → List «Type» → ℕ → List ℕ → Span → List Departure → Type 0
+OpenIf Unexamined types len path e ds = ds ≡ []
+OpenIf Examined types len path e ds = AreOpenDepartures len path e (slice_get types e.id.0) ds
 
 pub record AreOfPart (is_read : Bool) (opens : OpenTypes) (types : List «Type») (len : ℕ) (trail : List Step) (path : List ℕ) (e : Span) (ds : List Departure) : Type 0 where
   pub typed : List Departure
   pub inside : List Departure
   pub are : ds ≡ typed ++ inside
   pub by_type : TypedUnless is_read types len trail path e typed
-  pub by_octets : OpenIf opens types path e inside
+  pub by_octets : OpenIf opens types len path e inside
 
 -- Those of parts, one after the other, where the trail and the path lead to the part before them.
 abbrev pub AreJudged : Bool → OpenTypes → List «Type» → ℕ → List Step → List ℕ → List Span → List Departure → Type 0

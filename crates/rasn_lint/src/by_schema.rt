@@ -8,7 +8,7 @@ ghost use Rattle.rasn_lint.specs.Trail.{trail_after};
 ghost use Rattle.rasn_dynamic.specs.Walk.{path_after};
 
 use crate::departure::{Aspect, Departure};
-use crate::judge::{Way, faults_of, note_faults};
+use crate::judge::{Way, faults_of, note_faults, site_at};
 use crate::open::note_open;
 use crate::trail::{Step, extend_path, extend_trail};
 use rasn_dynamic::{Refusal, Span, check_or_locate, parts_of};
@@ -34,7 +34,7 @@ pub enum LintError {
     #[error("{0}")]
     Refused(Refusal),
     /// So many octets follow the value.
-    #[error("{0} octets follow the value")]
+    #[error("octets after the value: {0}")]
     Remainder(usize),
     /// Memory ran out.
     #[error("out of memory")]
@@ -102,7 +102,8 @@ fn note_typed(
         return Ok(());
     };
     let faults = faults_of(alloc, schema, trail, way.part, ty)?;
-    note_faults(alloc, list, way, faults)?;
+    let site = site_at(way, way.part.left, None);
+    note_faults(alloc, list, site, faults)?;
     Ok(())
 }
 
@@ -115,7 +116,7 @@ fn note_examined(
     way: Way<'_, '_>,
 ) -> Result<(), AllocError>
     ensures { OnOk result ((ds : List Departure) × (list.new.items ≡ list.old.items ++ ds)
-        × OpenIf opens schema.now.types.items way.entry.path.now way.entry.part.now ds) }
+        × OpenIf opens schema.now.types.items way.entry.len way.entry.path.now way.entry.part.now ds) }
 {
     let OpenTypes::Examined = opens else {
         return Ok(());

@@ -1,6 +1,6 @@
 //! What departs of one part.
 ghost use Rattle.std.specs.Prelude.{◌≡◌, ◌++◌, OnOk, IfOk, List};
-ghost use Rattle.rasn_lint.specs.Judged.{AreNoted, IsAnyFault, IsOpenFault, AreFaultsOf, AreListed};
+ghost use Rattle.rasn_lint.specs.Judged.{IsSiteAt, IsCopied, AreNoted, IsAnyFault, IsOpenFault, AreFaultsOf, AreListed};
 ghost use Rattle.rasn_lint.specs.Header.{has_own_header};
 ghost use Rattle.rasn_lint.specs.declared.departure.Departure.{Departure};
 
@@ -11,7 +11,7 @@ use crate::leaf::contents_fault;
 use crate::place::{default_fault, order_fault};
 use crate::trail::Step;
 use rasn_dynamic::{Refusal, Span};
-use rasn_schema::{Schema, Type};
+use rasn_schema::{Schema, Type, TypeId};
 use rasn_types::error::DecodeError;
 use rasn_types::types::Tag;
 use std::alloc::{AllocError, Global};
@@ -42,6 +42,32 @@ pub struct Way<'a, 'input> {
     pub path: &'a [usize],
     /// The number of octets of the message.
     pub len: usize,
+}
+
+/// Where something departs.
+#[derive(Clone, Copy)]
+pub struct Site<'a> {
+    /// The place, in octets from the start of the message.
+    pub offset: usize,
+    /// The number of the type of the part.
+    pub id: TypeId,
+    /// The index of each part on the way to it.
+    pub path: &'a [usize],
+    /// In an open type, the index of each encoding on the way to the one that departs.
+    pub inner: Option<&'a [usize]>,
+}
+
+/// Returns the site of a part, or of an encoding inside it, from whose start so many octets are left
+/// to the end of the message.
+pub fn site_at<'a>(way: Way<'a, '_>, left: usize, inner: Option<&'a [usize]>) -> Site<'a>
+    ensures { IsSiteAt way.entry.len left way.entry.part.now way.entry.path.now inner.entry result }
+{
+    Site {
+        offset: way.len.saturating_sub(left),
+        id: way.part.id,
+        path: way.path,
+        inner,
+    }
 }
 
 /// Returns the error with which DER refuses a value of an open type of any tag.
@@ -93,49 +119,61 @@ pub fn faults_of(
     Ok(faults)
 }
 
-/// Appends the departure of a part, if there is an error.
-fn note(
+/// Returns the same path, in memory of its own.
+fn copied(alloc: Global, path: Option<&[usize]>) -> Result<Option<Vec<usize>>, AllocError>
+    ensures { IfOk result (IsCopied path.entry) }
+{
+    match path {
+        Some(path) => Ok(Some(Vec::from_slice(alloc, path)?)),
+        None => Ok(None),
+    }
+}
+
+/// Appends the departure at a site, if there is an error.
+pub fn note(
     alloc: Global,
     list: &mut Vec<Departure>,
-    way: Way<'_, '_>,
+    site: Site<'_>,
     aspect: Aspect,
     fault: Option<DecodeError>,
 ) -> Result<(), AllocError>
-    ensures { OnOk result ((ds : List Departure) × (list.new.items ≡ list.old.items ++ ds) × AreNoted way.entry.len way.entry.part.now way.entry.path.now aspect fault ds) }
+    ensures { OnOk result ((ds : List Departure) × (list.new.items ≡ list.old.items ++ ds) × AreNoted site.entry aspect fault ds) }
 {
     let Some(error) = fault else {
         return Ok(());
     };
+    let steps = Vec::from_slice(alloc, site.path)?;
+    let inner = copied(alloc, site.inner)?;
     list.push(Departure {
         refusal: Refusal {
             error,
-            offset: way.len.saturating_sub(way.part.left),
-            id: way.part.id,
-            steps: Vec::from_slice(alloc, way.path)?,
+            offset: site.offset,
+            id: site.id,
+            steps,
             is_cut: false,
         },
         aspect,
-        inner: None,
+        inner,
     })?;
     Ok(())
 }
 
-/// Appends the departures of a part.
+/// Appends the departures at a site.
 pub fn note_faults(
     alloc: Global,
     list: &mut Vec<Departure>,
-    way: Way<'_, '_>,
+    site: Site<'_>,
     faults: Faults,
 ) -> Result<(), AllocError>
-    ensures { OnOk result ((ds : List Departure) × (list.new.items ≡ list.old.items ++ ds) × AreListed way.entry.len way.entry.part.now way.entry.path.now faults ds) }
+    ensures { OnOk result ((ds : List Departure) × (list.new.items ≡ list.old.items ++ ds) × AreListed site.entry faults ds) }
 {
     // The errors are handed on before one of the calls may end this one.
-    let order = note(alloc, list, way, Aspect::Place, faults.order);
-    let default = note(alloc, list, way, Aspect::Place, faults.default);
-    let tag = note(alloc, list, way, Aspect::Header, faults.tag);
-    let form = note(alloc, list, way, Aspect::Header, faults.form);
-    let length = note(alloc, list, way, Aspect::Header, faults.length);
-    let contents = note(alloc, list, way, Aspect::Contents, faults.contents);
+    let order = note(alloc, list, site, Aspect::Place, faults.order);
+    let default = note(alloc, list, site, Aspect::Place, faults.default);
+    let tag = note(alloc, list, site, Aspect::Header, faults.tag);
+    let form = note(alloc, list, site, Aspect::Header, faults.form);
+    let length = note(alloc, list, site, Aspect::Header, faults.length);
+    let contents = note(alloc, list, site, Aspect::Contents, faults.contents);
     order?;
     default?;
     tag?;

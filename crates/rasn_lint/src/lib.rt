@@ -7,10 +7,12 @@ mod departure;
 pub mod der;
 mod header;
 mod judge;
+pub mod laws;
 mod leaf;
 mod open;
 mod place;
 mod trail;
+mod untyped;
 
 pub use by_schema::{LintError, OpenTypes, lint};
 pub use departure::{Aspect, Departure, NamedDeparture};

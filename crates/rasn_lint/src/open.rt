@@ -1,35 +1,31 @@
 //! What departs inside an open type, where no type is known.
-ghost use Rattle.std.specs.Prelude.{◌≡◌, ◌<◌, ◌++◌, ◌↔◌, [], ℕ, List, length, OnOk, MatchOption, IsSome, Some};
+ghost use Rattle.std.specs.Prelude.{◌≡◌, ◌++◌, ◌↔◌, [], ℕ, List, OnOk, MatchOption, Some};
 ghost use Rattle.std.specs.List.{AllByRecursion};
-ghost use Rattle.rasn_lint.specs.Judged.{IsInside, GrowsInside, HasOpen, AreOpenDepartures};
+ghost use Rattle.rasn_types.specs.Shapes.{looked_for};
+ghost use Rattle.rasn_lint.specs.Judged.{HasOpen, AreOpenDepartures};
+ghost use Rattle.rasn_lint.specs.Open.{IsEndLen, IsEndOf, IsAfterHeader, IsFoundIn, AllFound, IsInside, GrowsInside};
 ghost use Rattle.rasn_lint.specs.WellFormed.{IsWellFormed};
 ghost use Rattle.rasn_lint.specs.declared.departure.Departure.{Departure};
 
 use crate::departure::{Aspect, Departure};
-use crate::der::contents::allows_contents;
+use crate::der::encoding::octets_before;
 use crate::der::is_well_formed;
-use crate::der::order::is_in_order;
-use crate::der::universal::{ContentsRule, rule_of};
-use crate::header::{is_constructed, length_fault, tag_fault};
-use crate::judge::Way;
-use crate::leaf::write_octets;
-use crate::place::der_error;
-use rasn_de::ber::de::{Decoder, DecoderOptions};
-use rasn_dynamic::Refusal;
+use crate::header::is_constructed;
+use crate::judge::{Way, note, note_faults, site_at};
+use crate::place::reader_of;
+use crate::trail::go_along;
+use crate::untyped::{extra, faults_of, unreadable};
+use rasn_dynamic::Span;
 use rasn_schema::Type;
-use rasn_types::error::{
-    BerDecodeErrorKind, CodecDecodeError, DecodeError, DecodeErrorKind, DerDecodeErrorKind, Needed,
-};
-use rasn_types::types::{Codec, Constraints, Tag};
+use rasn_types::types::Tag;
 use std::alloc::{AllocError, Global};
 
-/// A part that is a value of an open type.
+/// The contents octets of an encoding.
 #[derive(Clone, Copy)]
-struct Outer<'a, 'input> {
-    /// The way to the part.
-    way: Way<'a, 'input>,
-    /// Where the octets of the open type end, in octets from the start of the message.
-    end: usize,
+struct Contents<'input> {
+    octets: &'input [u8],
+    /// How many octets are before them in the encoding.
+    header_len: usize,
 }
 
 /// Encodings that are still to be looked at, one after the other.
@@ -40,365 +36,27 @@ struct Pending<'input> {
     index: usize,
     /// In how many encodings they are.
     depth: usize,
-    /// The number of octets from their start to the end of the open type.
+    /// How many octets there are from their start to the end of the message.
     left: usize,
 }
 
-/// Returns the first of these encodings as BER reads it, and what follows it.
-fn first_encoding(alloc: Global, octets: &[u8]) -> Option<(&[u8], &[u8])> {
-    let mut decoder = Decoder::new(alloc, octets, DecoderOptions::ber());
-    match decoder.skip_value() {
-        Ok(_) => {
-            let rest = decoder.remaining();
-            Some((&octets[..octets.len() - rest.len()], rest))
-        }
-        Err(_) => None,
-    }
-}
-
-/// Returns the tag and the contents of an encoding as BER reads it.
-fn contents_of(alloc: Global, encoding: &[u8]) -> Option<(Tag, &[u8])> {
-    let mut decoder = Decoder::new(alloc, encoding, DecoderOptions::ber());
-    match decoder.peek_tag() {
-        Ok(tag) => match decoder.decode_open(tag) {
-            Ok(contents) => Some((tag, contents)),
-            Err(_) => None,
-        },
-        Err(_) => None,
-    }
-}
-
-/// Appends the departure of the encoding to which the path leads, if there is an error. So many
-/// octets are left from its start to the end of the open type.
-fn note(
-    alloc: Global,
-    list: &mut Vec<Departure>,
-    outer: Outer<'_, '_>,
-    path: &[usize],
-    left: usize,
-    aspect: Aspect,
-    fault: Option<DecodeError>,
-) -> Result<(), AllocError>
-    ensures grows { OnOk result (GrowsInside outer.entry.way.part.now outer.entry.way.path.now list.old.items list.new.items) }
-    ensures more { OnOk result (IsSome fault → length list.old.items < length list.new.items) }
+/// Returns the number of end-of-contents octets of an encoding (X.690 8.1.5): one of indefinite
+/// length takes steps to be skipped.
+fn end_len(alloc: Global, octets: &[u8]) -> usize
+    ensures { IsEndLen octets.now result }
 {
-    let Some(error) = fault else {
-        return Ok(());
-    };
-    list.push(Departure {
-        refusal: Refusal {
-            error,
-            offset: outer.end.saturating_sub(left),
-            id: outer.way.part.id,
-            steps: Vec::from_slice(alloc, outer.way.path)?,
-            is_cut: false,
-        },
-        aspect,
-        inner: Some(Vec::from_slice(alloc, path)?),
-    })?;
-    Ok(())
-}
-
-/// Returns the error of an encoding that BER doesn't read.
-fn unreadable(alloc: Global, octets: &[u8]) -> DecodeError {
-    let mut decoder = Decoder::new(alloc, octets, DecoderOptions::der());
-    match decoder.skip_value() {
-        Ok(_) => der_error(DerDecodeErrorKind::ConstructedBitMismatch),
-        Err(error) => error,
-    }
-}
-
-/// Returns the error of an encoding that is primitive or constructed although its universal type
-/// isn't.
-fn form_fault(rule: ContentsRule, bit: bool) -> Option<DecodeError> {
-    let kind = match rule {
-        ContentsRule::Unknown => return None,
-        ContentsRule::Values | ContentsRule::Set => {
-            return if bit {
-                None
-            } else {
-                Some(DecodeError {
-                    kind: DecodeErrorKind::CodecSpecific {
-                        inner: CodecDecodeError::Ber(
-                            BerDecodeErrorKind::InvalidConstructedIdentifier,
-                        ),
-                    },
-                    codec: Codec::Der,
-                })
-            };
-        }
-        ContentsRule::Boolean
-        | ContentsRule::Integer
-        | ContentsRule::Null
-        | ContentsRule::Subidentifiers => DerDecodeErrorKind::ConstructedBitMismatch,
-        _ => DerDecodeErrorKind::ConstructedEncodingNotAllowed,
-    };
-    if bit { Some(der_error(kind)) } else { None }
-}
-
-/// Returns the error of subidentifiers.
-fn arcs_error(contents: &[u8]) -> DecodeError {
-    match contents {
-        [.., 0..=0x7F] => der_error(DerDecodeErrorKind::NonMinimalArc),
-        _ => DecodeError {
-            kind: DecodeErrorKind::Incomplete {
-                needed: Needed::Size(1),
-            },
-            codec: Codec::Der,
-        },
-    }
-}
-
-/// Returns the error that the reader of DER has for the contents octets of a universal type.
-fn read_error(
-    alloc: Global,
-    rule: ContentsRule,
-    tag: Tag,
-    contents: &[u8],
-) -> Result<Option<DecodeError>, AllocError> {
-    let Ok(octets) = write_octets(alloc, tag, contents) else {
-        return Err(AllocError);
-    };
-    let none = &Constraints::NONE;
-    let mut decoder = Decoder::new(alloc, &octets, DecoderOptions::der());
-    Ok(match rule {
-        ContentsRule::Boolean => decoder.decode_bool(tag).err(),
-        ContentsRule::Integer => decoder.check_integer(tag, none).err(),
-        ContentsRule::BitString => decoder.decode_bits(tag, none).err(),
-        ContentsRule::Null => decoder.decode_null(tag).err(),
-        ContentsRule::Subidentifiers => Some(arcs_error(contents)),
-        ContentsRule::Utf8 => decoder.decode_utf8_text(tag, none).err(),
-        ContentsRule::Characters(alphabet) => {
-            decoder.decode_restricted_string(alphabet, tag, none).err()
-        }
-        ContentsRule::Units => decoder.decode_bmp_string(tag, none).err(),
-        ContentsRule::UtcTime => decoder.decode_utc_time(tag).err(),
-        ContentsRule::GeneralizedTime => decoder.decode_generalized_time(tag).err(),
-        ContentsRule::Date => decoder.decode_date(tag).err(),
-        _ => None,
-    })
-}
-
-/// Returns the error of contents that DER doesn't allow for a universal tag.
-fn contents_fault(
-    alloc: Global,
-    rule: ContentsRule,
-    tag: Tag,
-    bit: bool,
-    contents: &[u8],
-) -> Result<Option<DecodeError>, AllocError> {
-    if bit {
-        return match rule {
-            ContentsRule::Set if !is_in_order(alloc, contents) => {
-                Ok(Some(der_error(DerDecodeErrorKind::SetOfOutOfOrder)))
-            }
-            _ => Ok(None),
-        };
-    }
-    if allows_contents(rule, contents) {
-        return Ok(None);
-    }
-    read_error(alloc, rule, tag, contents)
-}
-
-/// Appends what departs of an encoding itself. Returns its contents if they are encodings.
-fn judge_encoding<'input>(
-    alloc: Global,
-    list: &mut Vec<Departure>,
-    outer: Outer<'_, '_>,
-    path: &[usize],
-    left: usize,
-    encoding: &'input [u8],
-) -> Result<Option<&'input [u8]>, AllocError>
-    ensures { OnOk result (GrowsInside outer.entry.way.part.now outer.entry.way.path.now list.old.items list.new.items) }
-{
-    let Some((tag, contents)) = contents_of(alloc, encoding) else {
-        let error = unreadable(alloc, encoding);
-        note(alloc, list, outer, path, left, Aspect::Header, Some(error))?;
-        return Ok(None);
-    };
-    let rule = rule_of(tag);
-    let bit = is_constructed(encoding);
-    note(
-        alloc,
-        list,
-        outer,
-        path,
-        left,
-        Aspect::Header,
-        tag_fault(alloc, encoding),
-    )?;
-    note(
-        alloc,
-        list,
-        outer,
-        path,
-        left,
-        Aspect::Header,
-        form_fault(rule, bit),
-    )?;
-    note(
-        alloc,
-        list,
-        outer,
-        path,
-        left,
-        Aspect::Header,
-        length_fault(alloc, encoding)?,
-    )?;
-    let fault = contents_fault(alloc, rule, tag, bit, contents)?;
-    note(alloc, list, outer, path, left, Aspect::Contents, fault)?;
-    if bit { Ok(Some(contents)) } else { Ok(None) }
-}
-
-/// Goes to an encoding with this index, in so many others.
-fn go_to(path: &mut Vec<usize>, depth: usize, index: usize) -> Result<(), AllocError> {
-    if depth == 0 {
-        path.truncate(0);
-        return Ok(());
-    }
-    path.truncate(depth - 1);
-    path.push(index)?;
-    Ok(())
-}
-
-/// Returns the number of end-of-contents octets of an encoding: one of indefinite length takes steps
-/// to be skipped.
-fn end_len(alloc: Global, encoding: &[u8]) -> usize {
-    let mut decoder = Decoder::new(alloc, encoding, DecoderOptions::ber());
-    match decoder.skip_value() {
+    match reader_of(alloc, octets).skip_value() {
         Ok(0) => 0,
         Ok(_) => 2,
         Err(_) => 0,
     }
 }
 
-/// Returns the error of an encoding that follows the one of the open type.
-fn extra(octets: &[u8]) -> DecodeError {
-    DecodeError {
-        kind: DecodeErrorKind::UnexpectedExtraData {
-            length: octets.len(),
-        },
-        codec: Codec::Der,
-    }
-}
-
-/// Keeps encodings that are looked at later, unless there are none.
-fn keep<'input>(
-    pending: &mut Vec<Pending<'input>>,
-    encodings: Pending<'input>,
-) -> Result<(), AllocError> {
-    if encodings.octets.is_empty() {
-        return Ok(());
-    }
-    pending.push(encodings)?;
-    Ok(())
-}
-
-/// Appends what departs of the first of these encodings, and keeps those after it and those inside
-/// it.
-fn look<'input>(
-    alloc: Global,
-    list: &mut Vec<Departure>,
-    outer: Outer<'_, '_>,
-    path: &mut Vec<usize>,
-    pending: &mut Vec<Pending<'input>>,
-    next: Pending<'input>,
-) -> Result<(), AllocError>
-    ensures { OnOk result (GrowsInside outer.entry.way.part.now outer.entry.way.path.now list.old.items list.new.items) }
+/// Returns the same of a value of an open type with this tag: without a tag, its octets are those of
+/// the encoding that it holds.
+fn end_of(alloc: Global, tag: Tag, octets: &[u8]) -> usize
+    ensures { IsEndOf (looked_for tag) octets.now result }
 {
-    go_to(path, next.depth, next.index)?;
-    if next.depth == 0 && next.index > 0 {
-        let error = extra(next.octets);
-        return note(
-            alloc,
-            list,
-            outer,
-            path,
-            next.left,
-            Aspect::Contents,
-            Some(error),
-        );
-    }
-    let Some((encoding, rest)) = first_encoding(alloc, next.octets) else {
-        let error = unreadable(alloc, next.octets);
-        return note(
-            alloc,
-            list,
-            outer,
-            path,
-            next.left,
-            Aspect::Header,
-            Some(error),
-        );
-    };
-    let after = Pending {
-        octets: rest,
-        index: next.index.saturating_add(1),
-        depth: next.depth,
-        left: next.left.saturating_sub(encoding.len()),
-    };
-    keep(pending, after)?;
-    if is_well_formed(alloc, encoding)? {
-        return Ok(());
-    }
-    let inner = judge_encoding(alloc, list, outer, path, next.left, encoding)?;
-    let Some(contents) = inner else {
-        return Ok(());
-    };
-    let after_contents = end_len(alloc, encoding).saturating_add(next.left);
-    let inside = Pending {
-        octets: contents,
-        index: 0,
-        depth: next.depth.saturating_add(1),
-        left: after_contents
-            .saturating_sub(encoding.len())
-            .saturating_add(contents.len()),
-    };
-    keep(pending, inside)
-}
-
-/// Appends what departs inside an open type with these octets, of each encoding that isn't well
-/// formed itself.
-fn look_inside(
-    alloc: Global,
-    list: &mut Vec<Departure>,
-    outer: Outer<'_, '_>,
-    octets: &[u8],
-) -> Result<(), AllocError>
-    ensures { OnOk result (GrowsInside outer.entry.way.part.now outer.entry.way.path.now list.old.items list.new.items) }
-{
-    let mut path = Vec::new(alloc);
-    let mut pending = Vec::new(alloc);
-    pending.push(Pending {
-        octets,
-        index: 0,
-        depth: 0,
-        left: octets.len(),
-    })?;
-    // Each encoding has an octet of its own.
-    for _ in octets {
-        let Some(next) = pending.pop() else {
-            break;
-        };
-        look(alloc, list, outer, &mut path, &mut pending, next)?;
-    }
-    Ok(())
-}
-
-/// Returns the octets of a value of an open type with this tag, as BER finds them.
-fn octets_inside(alloc: Global, tag: Tag, octets: &[u8]) -> Option<&[u8]>
-    ensures { MatchOption result ((inside : List ℕ) → HasOpen tag octets.now inside → ⊥) (λ inside. HasOpen tag octets.now inside.now) }
-{
-    let mut decoder = Decoder::new(alloc, octets, DecoderOptions::ber());
-    match decoder.decode_open(tag) {
-        Ok(inside) => Some(inside),
-        Err(_) => None,
-    }
-}
-
-/// Returns the number of octets after those of an open type, in its own octets.
-fn len_after(alloc: Global, tag: Tag, octets: &[u8]) -> usize {
     if tag == Tag::EOC {
         0
     } else {
@@ -406,60 +64,203 @@ fn len_after(alloc: Global, tag: Tag, octets: &[u8]) -> usize {
     }
 }
 
-/// Appends the departures inside a value of an open type with this tag: there are none exactly if
-/// its octets are well formed.
-fn note_inside(
+/// Returns the octets of a value of an open type with this tag, as BER finds them.
+fn contents_at(alloc: Global, tag: Tag, octets: &[u8]) -> Option<Contents<'_>>
+    ensures { MatchOption result ((inside : List ℕ) → HasOpen tag octets.now inside → ⊥) (λ found. HasOpen tag octets.now found.octets.now × IsAfterHeader octets.now found) }
+{
+    let mut decoder = reader_of(alloc, octets);
+    let Ok(contents) = decoder.decode_open(tag) else {
+        return None;
+    };
+    let header_len = octets
+        .len()
+        .saturating_sub(contents.len())
+        .saturating_sub(decoder.remaining().len())
+        .saturating_sub(end_of(alloc, tag, octets));
+    Some(Contents {
+        octets: contents,
+        header_len,
+    })
+}
+
+/// Returns the tag of an encoding, and its contents.
+fn contents_of(alloc: Global, encoding: &[u8]) -> Option<(Tag, Contents<'_>)>
+    ensures { MatchOption result (Unit {0}) (λ found. IsAfterHeader encoding.now found.1) }
+{
+    let Ok(tag) = reader_of(alloc, encoding).peek_tag() else {
+        return None;
+    };
+    Some((tag, contents_at(alloc, tag, encoding)?))
+}
+
+/// Returns the first of these encodings as BER reads it, and what follows it.
+fn first_encoding(alloc: Global, octets: &[u8]) -> Option<(&[u8], &[u8])>
+    ensures { MatchOption result (Unit {0}) (λ found. octets.now ≡ found.0.now ++ found.1.now) }
+{
+    let mut decoder = reader_of(alloc, octets);
+    match decoder.skip_value() {
+        Ok(_) => Some((octets_before(octets, decoder.remaining()), decoder.remaining())),
+        Err(_) => None,
+    }
+}
+
+/// Keeps encodings of a part that are looked at later, unless there are none.
+fn keep<'input>(
+    pending: &mut Vec<Pending<'input>>,
+    part: &Span<'_>,
+    encodings: Pending<'input>,
+) -> Result<(), AllocError>
+    requires here { IsFoundIn part.now encodings.octets.now encodings.left }
+    requires all { AllFound part.now pending.old.items }
+    ensures { OnOk result (AllFound part.now pending.new.items) }
+{
+    if encodings.octets.is_empty() {
+        return Ok(());
+    }
+    pending.push(encodings)?;
+    Ok(())
+}
+
+/// Appends what departs of an encoding of a part, which begins where the given ones do, and keeps
+/// what is inside it.
+fn look_into<'input>(
     alloc: Global,
     list: &mut Vec<Departure>,
     way: Way<'_, '_>,
-    tag: Tag,
-    octets: &[u8],
+    path: &[usize],
+    pending: &mut Vec<Pending<'input>>,
+    next: Pending<'input>,
+    encoding: &'input [u8],
 ) -> Result<(), AllocError>
-    ensures { OnOk result ((ds : List Departure) × (list.new.items ≡ list.old.items ++ ds) × ((ds ≡ []) ↔ IsWellFormed octets.now) × AllByRecursion (IsInside way.entry.part.now way.entry.path.now) ds) }
+    requires here { IsFoundIn way.part.now encoding.now next.left }
+    requires all { AllFound way.part.now pending.old.items }
+    ensures grows { OnOk result (GrowsInside way.entry.len way.entry.part.now way.entry.path.now list.old.items list.new.items) }
+    ensures all { OnOk result (AllFound way.entry.part.now pending.new.items) }
 {
-    if is_well_formed(alloc, octets)? {
+    let site = site_at(way, next.left, Some(path));
+    let Some((tag, contents)) = contents_of(alloc, encoding) else {
+        let error = unreadable(alloc, encoding);
+        return note(alloc, list, site, Aspect::Header, Some(error));
+    };
+    let faults = faults_of(alloc, tag, contents.octets, encoding)?;
+    note_faults(alloc, list, site, faults)?;
+    if !is_constructed(encoding) {
         return Ok(());
     }
-    let part = way.part;
-    let part_end = way
-        .len
-        .saturating_sub(part.left)
-        .saturating_add(part.octets.len());
-    let outer = Outer {
-        way,
-        end: part_end.saturating_sub(len_after(alloc, tag, part.octets)),
+    let inside = Pending {
+        octets: contents.octets,
+        index: 0,
+        depth: next.depth.saturating_add(1),
+        left: next.left.saturating_sub(contents.header_len),
     };
-    let before = list.len();
-    look_inside(alloc, list, outer, octets)?;
-    if list.len() == before {
-        let error = unreadable(alloc, octets);
-        note(
-            alloc,
-            list,
-            outer,
-            &[],
-            octets.len(),
-            Aspect::Contents,
-            Some(error),
-        )?;
+    keep(pending, way.part, inside)
+}
+
+/// Appends what departs of the first of these encodings of a part, unless it is well formed, and
+/// keeps those inside it and those after it.
+fn look<'input>(
+    alloc: Global,
+    list: &mut Vec<Departure>,
+    way: Way<'_, '_>,
+    path: &[usize],
+    pending: &mut Vec<Pending<'input>>,
+    next: Pending<'input>,
+) -> Result<(), AllocError>
+    requires here { IsFoundIn way.part.now next.octets.now next.left }
+    requires all { AllFound way.part.now pending.old.items }
+    ensures grows { OnOk result (GrowsInside way.entry.len way.entry.part.now way.entry.path.now list.old.items list.new.items) }
+    ensures all { OnOk result (AllFound way.entry.part.now pending.new.items) }
+{
+    let site = site_at(way, next.left, Some(path));
+    if next.depth == 0 && next.index > 0 {
+        return note(alloc, list, site, Aspect::Contents, Some(extra(next.octets)));
+    }
+    let Some((encoding, rest)) = first_encoding(alloc, next.octets) else {
+        let error = unreadable(alloc, next.octets);
+        return note(alloc, list, site, Aspect::Header, Some(error));
+    };
+    let after = Pending {
+        octets: rest,
+        index: next.index.saturating_add(1),
+        depth: next.depth,
+        left: next.left.saturating_sub(encoding.len()),
+    };
+    keep(pending, way.part, after)?;
+    if is_well_formed(alloc, encoding)? {
+        return Ok(());
+    }
+    look_into(alloc, list, way, path, pending, next, encoding)
+}
+
+/// Appends what departs of these encodings of a part, and inside them.
+fn look_along(
+    alloc: Global,
+    list: &mut Vec<Departure>,
+    way: Way<'_, '_>,
+    encodings: Pending<'_>,
+) -> Result<(), AllocError>
+    requires { IsFoundIn way.part.now encodings.octets.now encodings.left }
+    ensures { OnOk result (GrowsInside way.entry.len way.entry.part.now way.entry.path.now list.old.items list.new.items) }
+{
+    let mut path = Vec::new(alloc);
+    let mut pending = Vec::new(alloc);
+    pending.push(encodings)?;
+    // Each encoding has an octet of its own.
+    for _ in encodings.octets {
+        let Some(next) = pending.pop() else {
+            break;
+        };
+        go_along(&mut path, next.depth, next.index)?;
+        look(alloc, list, way, &path, &mut pending, next)?;
     }
     Ok(())
 }
 
-/// Appends the departures inside a part, if it is a value of an open type.
+/// Appends what departs inside a value of an open type with these contents: nothing exactly if they
+/// are well formed.
+fn note_inside(
+    alloc: Global,
+    list: &mut Vec<Departure>,
+    way: Way<'_, '_>,
+    contents: Contents<'_>,
+) -> Result<(), AllocError>
+    requires { IsAfterHeader way.part.now.octets.now contents }
+    ensures { OnOk result ((ds : List Departure) × (list.new.items ≡ list.old.items ++ ds) × ((ds ≡ []) ↔ IsWellFormed contents.entry.octets.now)
+        × AllByRecursion (IsInside way.entry.len way.entry.part.now way.entry.path.now) ds) }
+{
+    if is_well_formed(alloc, contents.octets)? {
+        return Ok(());
+    }
+    let encodings = Pending {
+        octets: contents.octets,
+        index: 0,
+        depth: 0,
+        left: way.part.left.saturating_sub(contents.header_len),
+    };
+    let before = list.len();
+    look_along(alloc, list, way, encodings)?;
+    if list.len() == before {
+        let site = site_at(way, encodings.left, Some(&[]));
+        let error = unreadable(alloc, contents.octets);
+        note(alloc, list, site, Aspect::Contents, Some(error))?;
+    }
+    Ok(())
+}
+
+/// Appends what departs inside a part, if it is a value of an open type.
 pub fn note_open(
     alloc: Global,
     list: &mut Vec<Departure>,
     ty: &Type,
     way: Way<'_, '_>,
 ) -> Result<(), AllocError>
-    ensures { OnOk result ((ds : List Departure) × (list.new.items ≡ list.old.items ++ ds) × AreOpenDepartures way.entry.path.now way.entry.part.now (Some ty.now) ds) }
+    ensures { OnOk result ((ds : List Departure) × (list.new.items ≡ list.old.items ++ ds) × AreOpenDepartures way.entry.len way.entry.path.now way.entry.part.now (Some ty.now) ds) }
 {
     let Type::Any { tag } = ty else {
         return Ok(());
     };
-    match octets_inside(alloc, *tag, way.part.octets) {
-        Some(inside) => note_inside(alloc, list, way, *tag, inside),
+    match contents_at(alloc, *tag, way.part.octets) {
+        Some(contents) => note_inside(alloc, list, way, contents),
         None => Ok(()),
     }
 }

@@ -42,7 +42,7 @@ pub fn der_error(kind: DerDecodeErrorKind) -> DecodeError
 }
 
 /// Returns a decoder of the octets by BER.
-fn reader_of(alloc: Global, octets: &[u8]) -> Decoder<'_>
+pub fn reader_of(alloc: Global, octets: &[u8]) -> Decoder<'_>
     ensures { result ≡ start Ber octets.now }
 {
     Decoder::new(alloc, octets, DecoderOptions::ber())

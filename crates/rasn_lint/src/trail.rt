@@ -1,6 +1,6 @@
 //! The parts on the way to a part.
 ghost use Rattle.std.specs.Prelude.{◌≡◌, OnOk, slice_get};
-ghost use Rattle.rasn_dynamic.specs.Walk.{depth_of, path_after};
+ghost use Rattle.rasn_dynamic.specs.Walk.{depth_of, path_at_depth, path_after};
 ghost use Rattle.rasn_lint.specs.Trail.{trail_after, step_before, holder_in, before_in};
 
 use rasn_dynamic::Span;
@@ -41,18 +41,24 @@ pub fn extend_trail<'input>(
     Ok(())
 }
 
-/// Goes on to a part: the path is the index of each part on the way to it then.
-pub fn extend_path(path: &mut Vec<usize>, part: &Span<'_>) -> Result<(), AllocError>
-    ensures { OnOk result (path.new.items ≡ path_after path.old.items part.now) }
+/// Makes the path of the one before a path to what is in so many others, with this index.
+pub fn go_along(path: &mut Vec<usize>, depth: usize, index: usize) -> Result<(), AllocError>
+    ensures { OnOk result (path.new.items ≡ path_at_depth depth path.old.items index) }
 {
-    let depth = depth_of(part);
     if depth == 0 {
         path.truncate(0);
         return Ok(());
     }
     path.truncate(depth - 1);
-    path.push(part.index)?;
+    path.push(index)?;
     Ok(())
+}
+
+/// Goes on to a part: the path is the index of each part on the way to it then.
+pub fn extend_path(path: &mut Vec<usize>, part: &Span<'_>) -> Result<(), AllocError>
+    ensures { OnOk result (path.new.items ≡ path_after path.old.items part.now) }
+{
+    go_along(path, depth_of(part), part.index)
 }
 
 fn step_at<'input>(trail: &[Step<'input>], place: usize) -> Option<Step<'input>>

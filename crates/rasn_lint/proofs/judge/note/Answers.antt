@@ -10,12 +10,12 @@ returns c = rw c.in-Some.is (
     refl,
     record {
       error_is = refl;
-      offset = c.saturating_sub.ensures;
+      offset = refl;
       id = refl;
-      steps = c.in_ok-from_slice.ensures.items;
+      steps = c.in_ok-steps.ensures.items;
       whole = refl;
       aspect_is = refl;
-      inner = refl;
+      inner = c.in_ok-inner.ensures;
     },
   ),
 )
