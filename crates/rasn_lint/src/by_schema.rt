@@ -1,19 +1,18 @@
 //! Every departure of a message from DER, by its type.
 ghost use Rattle.std.specs.Prelude.{◌≡◌, ◌++◌, ◌∷◌, [], None, IfOk, IfErr, OnOk, List, MatchOption};
-ghost use Rattle.rasn_types.specs.Framing.{AreOctets};
 ghost use Rattle.rasn_lint.specs.declared.departure.Departure.{Departure};
 ghost use Rattle.rasn_lint.specs.Judged.{TypedUnless, OpenIf, AreOfPart, AreJudged};
-ghost use Rattle.rasn_lint.specs.Lint.{IsDer, AreAll, IsLint, IsNoLint, len_after};
+ghost use Rattle.rasn_lint.specs.Lint.{IsDer, IsAtFault, AreAll, IsLint, IsNoLint, len_after};
 ghost use Rattle.rasn_lint.specs.Trail.{trail_after};
 ghost use Rattle.rasn_dynamic.specs.Walk.{path_after};
 
-use crate::departure::{Aspect, Departure};
+use crate::departure::{Departure, aspect_of};
 use crate::judge::{Way, faults_of, note_faults, site_at};
 use crate::open::note_open;
 use crate::trail::{Step, extend_path, extend_trail};
+use rasn::refuse_remainder;
 use rasn_dynamic::{Refusal, Span, check_or_locate, parts_of};
 use rasn_schema::{Schema, TypeId, type_at};
-use rasn_types::error::{DecodeError, DecodeErrorKind};
 use rasn_types::types::Codec;
 use std::alloc::{AllocError, Global};
 use thiserror::Error;
@@ -42,26 +41,25 @@ pub enum LintError {
 }
 
 /// Returns where and why DER doesn't read the octets as a value of the type, if it doesn't.
-fn der_refusal(
+pub fn der_refusal(
     alloc: Global,
     schema: &Schema,
     id: TypeId,
     octets: &[u8],
 ) -> Result<Option<Refusal>, AllocError>
-    ensures { IfOk result (λ found. MatchOption found (IsDer schema.now.types.items id.0 octets.now) (λ r. IsDer schema.now.types.items id.0 octets.now → ⊥)) }
+    ensures { IfOk result (λ found. MatchOption found (IsDer schema.now.types.items id.0 octets.now) (λ r. (IsDer schema.now.types.items id.0 octets.now → ⊥) × IsAtFault schema.now.types.items id.0 octets.now r)) }
 {
     match check_or_locate(alloc, Codec::Der, schema, id, octets) {
-        Ok([]) => Ok(None),
-        Ok(rest) => Ok(Some(Refusal {
-            error: DecodeError {
-                kind: DecodeErrorKind::UnexpectedExtraData { length: rest.len() },
-                codec: Codec::Der,
-            },
-            offset: 0,
-            id,
-            steps: Vec::new(alloc),
-            is_cut: false,
-        })),
+        Ok(rest) => match refuse_remainder(Codec::Der, rest) {
+            Ok(()) => Ok(None),
+            Err(error) => Ok(Some(Refusal {
+                error,
+                offset: octets.len().saturating_sub(rest.len()),
+                id,
+                steps: Vec::new(alloc),
+                is_cut: false,
+            })),
+        },
         Err(refusal) => if refusal.error.is_out_of_memory() {
             Err(AllocError)
         } else {
@@ -70,15 +68,24 @@ fn der_refusal(
     }
 }
 
-/// Appends what the reader of DER refuses.
-fn push_refusal(list: &mut Vec<Departure>, refusal: Refusal) -> Result<(), AllocError>
-    ensures { OnOk result ((d : Departure) × (list.new.items ≡ list.old.items ++ d ∷ []) × (d.inner ≡ None)) }
+/// Returns a refusal of the reader as a departure.
+pub fn departure_of(refusal: Refusal) -> Departure
+    ensures refusal { result.refusal ≡ refusal }
+    ensures inner { result.inner ≡ None }
 {
-    list.push(Departure {
+    let aspect = aspect_of(&refusal.error.kind);
+    Departure {
         refusal,
-        aspect: Aspect::Contents,
+        aspect,
         inner: None,
-    })?;
+    }
+}
+
+/// Appends a refusal of the reader.
+fn push_refusal(list: &mut Vec<Departure>, refusal: Refusal) -> Result<(), AllocError>
+    ensures { OnOk result ((d : Departure) × (list.new.items ≡ list.old.items ++ d ∷ []) × (d.refusal ≡ refusal) × (d.inner ≡ None)) }
+{
+    list.push(departure_of(refusal))?;
     Ok(())
 }
 
@@ -148,7 +155,7 @@ fn judge_part(
 
 /// Returns the departures of parts of a message of so many octets.
 #[tactic(auto, using(crate::proofs::Judged::one_more, crate::proofs::Judged::no_more))]
-fn judge_parts(
+pub fn judge_parts(
     alloc: Global,
     schema: &Schema,
     is_read: bool,

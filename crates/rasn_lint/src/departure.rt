@@ -92,6 +92,34 @@ fn write_rule<W: fmt::Write>(f: &mut fmt::Formatter<W>, departure: &Departure) -
     write!(f, ", {})", section_of(&departure.refusal.error.kind))
 }
 
+/// Returns what of an encoding an error of the reader of DER is about.
+pub fn aspect_of(kind: &DecodeErrorKind) -> Aspect {
+    match kind {
+        DecodeErrorKind::CodecSpecific { inner } => match inner {
+            CodecDecodeError::Der(kind) => der_aspect_of(*kind),
+            CodecDecodeError::Ber(BerDecodeErrorKind::IndefiniteLengthNotAllowed) => Aspect::Header,
+            CodecDecodeError::Ber(_) => Aspect::Contents,
+        },
+        _ => Aspect::Contents,
+    }
+}
+
+/// Returns what of an encoding an error kind of DER is about.
+fn der_aspect_of(kind: DerDecodeErrorKind) -> Aspect {
+    match kind {
+        DerDecodeErrorKind::ConstructedEncodingNotAllowed
+        | DerDecodeErrorKind::NonMinimalTagNumber
+        | DerDecodeErrorKind::ConstructedBitMismatch
+        | DerDecodeErrorKind::NonMinimalLength => Aspect::Header,
+        DerDecodeErrorKind::NonMinimalInteger
+        | DerDecodeErrorKind::NonMinimalArc
+        | DerDecodeErrorKind::NonzeroUnusedBits => Aspect::Contents,
+        DerDecodeErrorKind::DefaultValuePresent
+        | DerDecodeErrorKind::SetComponentsOutOfOrder
+        | DerDecodeErrorKind::SetOfOutOfOrder => Aspect::Place,
+    }
+}
+
 /// Returns the section of X.690 that an error kind is about.
 fn section_of(kind: &DecodeErrorKind) -> &'static str {
     match kind {

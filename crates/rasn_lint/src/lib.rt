@@ -5,6 +5,7 @@
 mod by_schema;
 mod departure;
 pub mod der;
+mod first;
 mod header;
 mod judge;
 pub mod laws;
@@ -16,3 +17,4 @@ mod untyped;
 
 pub use by_schema::{LintError, OpenTypes, lint};
 pub use departure::{Aspect, Departure, NamedDeparture};
+pub use first::check;

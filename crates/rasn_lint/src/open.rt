@@ -99,7 +99,10 @@ fn first_encoding(alloc: Global, octets: &[u8]) -> Option<(&[u8], &[u8])>
 {
     let mut decoder = reader_of(alloc, octets);
     match decoder.skip_value() {
-        Ok(_) => Some((octets_before(octets, decoder.remaining()), decoder.remaining())),
+        Ok(_) => Some((
+            octets_before(octets, decoder.remaining()),
+            decoder.remaining(),
+        )),
         Err(_) => None,
     }
 }
@@ -173,7 +176,13 @@ fn look<'input>(
 {
     let site = site_at(way, next.left, Some(path));
     if next.depth == 0 && next.index > 0 {
-        return note(alloc, list, site, Aspect::Contents, Some(extra(next.octets)));
+        return note(
+            alloc,
+            list,
+            site,
+            Aspect::Contents,
+            Some(extra(next.octets)),
+        );
     }
     let Some((encoding, rest)) = first_encoding(alloc, next.octets) else {
         let error = unreadable(alloc, next.octets);

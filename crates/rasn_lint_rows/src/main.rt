@@ -1,11 +1,11 @@
 //! Lists the departures of messages from DER. Each line of standard input is a type of the table,
-//! whether open types are looked into, and octets in hexadecimal; it is printed with its result.
+//! what is asked, and octets in hexadecimal; it is printed with its result.
 #![tactic(auto)]
 
 mod table;
 
 use crate::table::{NAMES, TYPES};
-use rasn_lint::{Departure, OpenTypes, lint};
+use rasn_lint::{Departure, OpenTypes, check, lint};
 use rasn_schema::{Schema, TypeId};
 use rasn_schema_bench::{CERTIFICATE, CERTIFICATE_TYPES, Definition, types};
 use std::alloc::{AllocError, Global};
@@ -33,16 +33,27 @@ fn print_row<W: Write>(alloc: Global, line: &str, output: &mut W) -> io::Result<
         return Ok(());
     }
     match words_of(line) {
-        Some((named, open, digits)) => print_departures(alloc, named, open, digits, output),
+        Some((named, question, digits)) => print_answer(alloc, named, question, digits, output),
         None => writeln!(output, "  is no row"),
     }
 }
 
-/// Returns the words of a line: a type, whether open types are looked into, and digits.
-fn words_of(line: &str) -> Option<(Named, OpenTypes, &str)> {
+/// What is asked of a message.
+#[derive(Clone, Copy)]
+enum Question {
+    /// Every departure by its type.
+    Typed,
+    /// Every departure, also inside open types.
+    Open,
+    /// The first departure, also inside open types.
+    First,
+}
+
+/// Returns the words of a line: a type, what is asked, and digits.
+fn words_of(line: &str) -> Option<(Named, Question, &str)> {
     let (name, rest) = line.split_once(' ')?;
-    let (open, digits) = rest.split_once(' ')?;
-    Some((type_named(name)?, open_types(open)?, digits))
+    let (question, digits) = rest.split_once(' ')?;
+    Some((type_named(name)?, question_named(question)?, digits))
 }
 
 /// Returns the type with this name.
@@ -58,11 +69,12 @@ fn type_named(name: &str) -> Option<Named> {
     None
 }
 
-/// Returns whether open types are looked into.
-fn open_types(word: &str) -> Option<OpenTypes> {
+/// Returns what a word asks.
+fn question_named(word: &str) -> Option<Question> {
     match word {
-        "open" => Some(OpenTypes::Examined),
-        "typed" => Some(OpenTypes::Unexamined),
+        "typed" => Some(Question::Typed),
+        "open" => Some(Question::Open),
+        "first" => Some(Question::First),
         _ => None,
     }
 }
@@ -76,11 +88,11 @@ fn joined(alloc: Global, text: &str) -> Result<String, AllocError> {
     Ok(digits)
 }
 
-/// Prints each departure of octets, and their number.
-fn print_departures<W: Write>(
+/// Prints what is asked of the octets.
+fn print_answer<W: Write>(
     alloc: Global,
     named: Named,
-    open: OpenTypes,
+    question: Question,
     digits: &str,
     output: &mut W,
 ) -> io::Result<()> {
@@ -93,9 +105,43 @@ fn print_departures<W: Write>(
     let Ok(octets) = hex::decode(alloc, digits.as_bytes()) else {
         return writeln!(output, "  has no octets");
     };
-    match lint(alloc, &schema, id, &octets, open) {
-        Ok(list) => print_list(&schema, id, list.as_slice(), output),
+    match question {
+        Question::Typed => {
+            print_departures(alloc, &schema, id, &octets, OpenTypes::Unexamined, output)
+        }
+        Question::Open => {
+            print_departures(alloc, &schema, id, &octets, OpenTypes::Examined, output)
+        }
+        Question::First => print_first(alloc, &schema, id, &octets, output),
+    }
+}
+
+/// Prints each departure of octets.
+fn print_departures<W: Write>(
+    alloc: Global,
+    schema: &Schema,
+    id: TypeId,
+    octets: &[u8],
+    opens: OpenTypes,
+    output: &mut W,
+) -> io::Result<()> {
+    match lint(alloc, schema, id, octets, opens) {
+        Ok(list) => print_list(schema, id, list.as_slice(), output),
         Err(error) => writeln!(output, "  ! {error}"),
+    }
+}
+
+/// Prints the first departure of octets.
+fn print_first<W: Write>(
+    alloc: Global,
+    schema: &Schema,
+    id: TypeId,
+    octets: &[u8],
+    output: &mut W,
+) -> io::Result<()> {
+    match check(alloc, schema, id, octets, OpenTypes::Examined) {
+        Ok(()) => writeln!(output, "  none"),
+        Err(departure) => writeln!(output, "  {}", departure.with_names(schema, id)),
     }
 }
 
