@@ -1,6 +1,8 @@
 -- When a message has no departures, and what follows it.
 use Rattle.std.proofs.Common.{◌≡◌, ◌≢◌, ◌⊎◌, ◌<◌, ◌+◌, ◌-◌, inl, inr, ℕ, List, [], ◌∷◌, ◌++◌, length, Ok, Bool, true, false, refl, sym, ap, ◌∙◌, subst, arith, length-append}
 use Rattle.std.specs.Prelude.{◌↔◌}
+use Rattle.std.specs.List.Sorted.{IsNonDecreasingBy, IsPermutation}
+use Rattle.std.proofs.lemmas.List.Sorted.{length_permutation}
 use Rattle.rasn_types.specs.declared.types.codec.Codec.TheVariants.{Ber}
 use Rattle.rasn_types.specs.Shapes.{Tree}
 use Rattle.rasn_types.specs.Grammar.{Reads, top}
@@ -15,8 +17,12 @@ use Rattle.rasn_lint.specs.declared.by_schema.LintError.TheVariants.{Remainder}
 use Rattle.rasn_lint.specs.declared.by_schema.OpenTypes.{OpenTypes}
 use Rattle.rasn_lint.specs.declared.by_schema.OpenTypes.TheVariants.{Unexamined, Examined}
 use Rattle.rasn_lint.specs.declared.departure.Departure.{Departure}
-use Rattle.rasn_lint.specs.Lint.{IsDer, IsClean, AreAll, IsNoLint, len_after}
+use Rattle.rasn_lint.specs.Lint.{IsDer, IsClean, AreAll, offset_of, IsLint, IsNoLint, len_after}
 use Rattle.rasn_lint.proofs.Judged.{none_typed, none_if_formed, formed_if_none}
+
+none_of : {A : Type 0} (l : List A) → length l ≡ 0 → l ≡ []
+none_of [] e = refl
+none_of (x ∷ l) e = absurd (omega (arith, e))
 
 module _ (types : List «Type») (id : ℕ) (input : List ℕ) (parts : List Span) where
   pub is_der : (opens : OpenTypes) → IsClean opens types id input parts → IsDer types id input
@@ -28,6 +34,25 @@ module _ (types : List «Type») (id : ℕ) (input : List ℕ) (parts : List Spa
   clean Examined ds (inl (d, j)) = (λ q. (d, formed_if_none types (length input) [] [] parts ds j q), λ k. none_if_formed types (length input) [] [] parts ds j k.1)
   clean opens ds (inr (n, inl (j, some))) = (λ q. absurd (some q), λ k. absurd (n (is_der opens k)))
   clean opens ds (inr (n, inr (j, d, p, i))) = (λ q. let x : d ∷ [] ≡ [] = sym p ∙ q in cc, λ k. absurd (n (is_der opens k)))
+
+  -- What was found, in the order of its places.
+  pub listed : (opens : OpenTypes) (ps : MessageParts) (found ds : List Departure) → ps.list.items ≡ parts → ArePartsOf types Ber id input ps → AreAll opens types id input ps.list.items found → IsPermutation found ds → IsNonDecreasingBy offset_of ds
+      → IsLint opens types id input ds
+  listed opens ps found ds e a all same order =
+      let c = clean opens found (subst (λ l. AreAll opens types id input l found) e all) in
+      let k = length_permutation found ds same in
+      record {
+        parts = ps;
+        are_parts = a;
+        found = found;
+        all = all;
+        same = same;
+        in_order = order;
+        clean = (
+          λ q. subst (λ l. IsClean opens types id input l) (sym e) (c.0 (none_of found (sym k ∙ ap length q))),
+          λ h. none_of ds (k ∙ ap length (c.1 (subst (λ l. IsClean opens types id input l) e h))),
+        );
+      }
 
 -- The octets after the first part follow the value.
 pub followed : (types : List «Type») (id : ℕ) (input : List ℕ) (ps : MessageParts) (n : ℕ) → ArePartsOf types Ber id input ps → n ≡ len_after ps.list.items input → 0 < n → IsNoLint types id input (Remainder n)

@@ -1,6 +1,7 @@
 -- What is returned of a message.
 use Rattle.std.specs.Prelude.{◌≡◌, ◌≢◌, ◌⊎◌, ◌↔◌, ◌-◌, ℕ, List, [], ◌∷◌, ◌++◌, length, Bool, true, false, Option, Some, None, Result, Ok, Err, slice_get}
 use Rattle.std.specs.List.{AllByRecursion}
+use Rattle.std.specs.List.Sorted.{IsNonDecreasingBy, IsPermutation}
 use Rattle.rasn_types.specs.declared.types.codec.Codec.TheVariants.{Ber, Der}
 use Rattle.rasn_types.specs.declared.types.tag.Tag.{Tag}
 use Rattle.rasn_types.specs.Errors.{IsOutOfMemory}
@@ -58,11 +59,18 @@ abbrev pub len_after : List Span → List ℕ → ℕ
 len_after [] input = length input
 len_after (e ∷ es) input = length input - length e.octets.now
 
--- The list of a message, whose parts are those of one reading by BER.
+-- where a departure is in the message
+abbrev pub offset_of : Departure → ℕ
+offset_of d = d.refusal.offset
+
+-- The list of a message, whose parts are those of one reading by BER: what was found, in the order of its places.
 pub record IsLint (opens : OpenTypes) (types : List «Type») (id : ℕ) (input : List ℕ) (ds : List Departure) : Type 0 where
   pub parts : MessageParts
   pub are_parts : ArePartsOf types Ber id input parts
-  pub all : AreAll opens types id input parts.list.items ds
+  pub found : List Departure
+  pub all : AreAll opens types id input parts.list.items found
+  pub same : IsPermutation found ds
+  pub in_order : IsNonDecreasingBy offset_of ds
   pub clean : (ds ≡ []) ↔ IsClean opens types id input parts.list.items
 
 -- BER doesn't read the message, or memory ran out; or octets follow the value that BER reads.

@@ -1,8 +1,9 @@
 //! Every departure of a message from DER, by its type.
 ghost use Rattle.std.specs.Prelude.{◌≡◌, ◌++◌, ◌∷◌, [], None, IfOk, IfErr, OnOk, List, MatchOption};
+ghost use Rattle.std.specs.List.Sorted.{IsNonDecreasingBy, IsPermutation};
 ghost use Rattle.rasn_lint.specs.declared.departure.Departure.{Departure};
 ghost use Rattle.rasn_lint.specs.Judged.{TypedUnless, OpenIf, AreOfPart, AreJudged};
-ghost use Rattle.rasn_lint.specs.Lint.{IsDer, IsAtFault, AreAll, IsLint, IsNoLint, len_after};
+ghost use Rattle.rasn_lint.specs.Lint.{IsDer, IsAtFault, AreAll, offset_of, IsLint, IsNoLint, len_after};
 ghost use Rattle.rasn_lint.specs.Trail.{trail_after};
 ghost use Rattle.rasn_dynamic.specs.Walk.{path_after};
 
@@ -214,6 +215,15 @@ fn judge_message(
     Ok(list)
 }
 
+/// Returns the departures in the order of their places. Those of one place keep theirs.
+fn in_order(list: Vec<Departure>) -> Result<Vec<Departure>, AllocError>
+    ensures { IfOk result (λ sorted. IsPermutation list.items sorted.items × IsNonDecreasingBy offset_of sorted.items) }
+{
+    let mut list = list;
+    list.sort_by_key(|departure| departure.refusal.offset)?;
+    Ok(list)
+}
+
 /// Returns the number of octets after the first of the parts, which is the whole value.
 fn len_after(parts: &[Span<'_>], octets: &[u8]) -> usize
     ensures { result ≡ len_after parts.now octets.now }
@@ -243,7 +253,7 @@ fn len_after(parts: &[Span<'_>], octets: &[u8]) -> usize
 /// - `Refused` if BER doesn't read a value at the start of the octets, with the place.
 /// - `Remainder` with the number of octets that follow it, if some do.
 /// - `OutOfMemory`.
-#[tactic(auto, using(crate::proofs::Clean::clean, crate::proofs::Clean::followed))]
+#[tactic(auto, using(crate::proofs::Clean::listed, crate::proofs::Clean::followed))]
 pub fn lint(
     alloc: Global,
     schema: &Schema,
@@ -262,7 +272,10 @@ pub fn lint(
     if remainder > 0 {
         return Err(LintError::Remainder(remainder));
     }
-    match judge_message(alloc, schema, id, octets, opens, parts.list.as_slice()) {
+    let Ok(list) = judge_message(alloc, schema, id, octets, opens, parts.list.as_slice()) else {
+        return Err(LintError::OutOfMemory);
+    };
+    match in_order(list) {
         Ok(list) => Ok(list),
         Err(_) => Err(LintError::OutOfMemory),
     }

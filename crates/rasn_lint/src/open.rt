@@ -215,7 +215,7 @@ fn look_along(
     let mut pending = Vec::new(alloc);
     pending.push(encodings)?;
     // Each encoding has an octet of its own.
-    for _ in encodings.octets {
+    'encodings: for _ in encodings.octets {
         let Some(next) = pending.pop() else {
             break;
         };
