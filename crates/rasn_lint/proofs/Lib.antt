@@ -9,7 +9,8 @@ pub mod Judged
 pub mod Unread
 pub mod Reader
 pub mod Noted
-pub mod Open
+pub mod Mended
+pub mod Opened
 pub mod Clean
-pub mod Laws
+pub mod Anew
 pub mod WorkedDepartures

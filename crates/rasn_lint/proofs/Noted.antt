@@ -142,8 +142,10 @@ some_in a b c x p ds q r e =
 pub whole_noted : (len left : ℕ) (e : Span) (path octets inside : List ℕ) (inner : Bor (List ℕ)) (site : Site) → IsSiteAt len left e path (Some inner) site → IsFoundIn e octets left
     → (aspect : Aspect) (error : DecodeError) (a b c : List Departure) → (IsWellFormed inside → ⊥) → GrowsInside len e path a b
     → ((ds : List Departure) × (c ≡ b ++ ds) × AreNoted site aspect (Some error) ds) → Answers len e path inside a c
-whole_noted len left e path octets inside inner site at found aspect error a b c n (xs, p, h) (ds, q, d, r, is) =
-    let one = inside_at len left e path octets inner site at found aspect error d is in
+whole_noted len left e path octets inside inner site at found aspect error a b c n (xs, p, h) (ds, q, noted) =
+    let d = noted.0 in
+    let r : ds ≡ d ∷ [] = noted.1 in
+    let one = inside_at len left e path octets inner site at found aspect error d noted.2 in
     let all : c ≡ a ++ (xs ++ d ∷ []) = folded b a c xs (d ∷ []) p (q ∙ ap (λ z. b ++ z) r) in (
       xs ++ d ∷ [],
       all,

@@ -97,15 +97,15 @@ IsOpenFault (SequenceOf tag id c) octets f = f ≡ None
 IsOpenFault (SetOf tag id c) octets f = f ≡ None
 
 -- The header is judged where the value has one of its own.
-abbrev pub AreHeaderFaults : Bool → «Type» → List ℕ → Faults → Type 0
-AreHeaderFaults true ty octets f = IsTagFault octets f.tag × IsFormFault ty (is_constructed octets) f.form × IsLengthFault octets f.length
-AreHeaderFaults false ty octets f = (f.tag ≡ None) × (f.form ≡ None) × IsOpenFault ty octets f.length
+abbrev pub AreHeaderFaults : Bool → «Type» → List ℕ → Option DecodeError → Option DecodeError → Option DecodeError → Type 0
+AreHeaderFaults true ty octets tag form length = IsTagFault octets tag × IsFormFault ty (is_constructed octets) form × IsLengthFault octets length
+AreHeaderFaults false ty octets tag form length = (tag ≡ None) × (form ≡ None) × IsOpenFault ty octets length
 
 -- The errors of a part: in its place, in its header, and in its contents.
 pub record AreFaultsOf (types : List «Type») (trail : List Step) (e : Span) (ty : «Type») (f : Faults) : Type 0 where
   pub order : IsOrderFault (order_if (type_of types (holder_in trail e))) e.octets.now (before_in trail e) f.order
   pub default : IsDefaultFault types e.id.0 e.octets.now (default_if (type_of types (holder_in trail e)) e.index) f.default
-  pub header : AreHeaderFaults (has_own_header ty) ty e.octets.now f
+  pub header : AreHeaderFaults (has_own_header ty) ty e.octets.now f.tag f.form f.length
   pub contents : IsContentsFault types e.id.0 ty e.octets.now f.contents
 
 abbrev pub AreDepartures : List «Type» → ℕ → List Step → List ℕ → Span → Option «Type» → List Departure → Type 0

@@ -1,6 +1,6 @@
 //! What departs of one part.
 ghost use Rattle.std.specs.Prelude.{◌≡◌, ◌++◌, OnOk, IfOk, List};
-ghost use Rattle.rasn_lint.specs.Judged.{IsSiteAt, IsCopied, AreNoted, IsAnyFault, IsOpenFault, AreFaultsOf, AreListed};
+ghost use Rattle.rasn_lint.specs.Judged.{IsSiteAt, IsCopied, AreNoted, IsAnyFault, IsOpenFault, AreHeaderFaults, AreFaultsOf, AreListed};
 ghost use Rattle.rasn_lint.specs.Header.{has_own_header};
 ghost use Rattle.rasn_lint.specs.declared.departure.Departure.{Departure};
 
@@ -90,6 +90,33 @@ fn open_fault(alloc: Global, ty: &Type, octets: &[u8]) -> Option<DecodeError>
     }
 }
 
+/// The errors of a header.
+#[derive(Drop)]
+struct HeaderFaults {
+    tag: Option<DecodeError>,
+    form: Option<DecodeError>,
+    length: Option<DecodeError>,
+}
+
+/// Returns the errors of the header of a value of this type.
+fn header_faults(alloc: Global, ty: &Type, octets: &[u8]) -> Result<HeaderFaults, AllocError>
+    ensures { IfOk result (λ h. AreHeaderFaults (has_own_header ty.now) ty.now octets.now h.tag h.form h.length) }
+{
+    if !has_own_header(ty) {
+        return Ok(HeaderFaults {
+            tag: None,
+            form: None,
+            length: open_fault(alloc, ty, octets),
+        });
+    }
+    let length = length_fault(alloc, octets)?;
+    Ok(HeaderFaults {
+        tag: tag_fault(alloc, octets),
+        form: form_fault(ty, is_constructed(octets)),
+        length,
+    })
+}
+
 /// Returns the errors of a part of this type. The trail leads to the part before it.
 pub fn faults_of(
     alloc: Global,
@@ -100,23 +127,17 @@ pub fn faults_of(
 ) -> Result<Faults, AllocError>
     ensures { IfOk result (AreFaultsOf schema.now.types.items trail.now part.now ty.now) }
 {
-    let octets = part.octets;
-    let mut faults = Faults {
+    let default = default_fault(alloc, schema, trail, part)?;
+    let contents = contents_fault(alloc, schema, part.id, ty, part.octets)?;
+    let header = header_faults(alloc, ty, part.octets)?;
+    Ok(Faults {
         order: order_fault(alloc, schema.types(), trail, part),
-        default: default_fault(alloc, schema, trail, part)?,
-        tag: None,
-        form: None,
-        length: None,
-        contents: contents_fault(alloc, schema, part.id, ty, octets)?,
-    };
-    if has_own_header(ty) {
-        faults.tag = tag_fault(alloc, octets);
-        faults.form = form_fault(ty, is_constructed(octets));
-        faults.length = length_fault(alloc, octets)?;
-    } else {
-        faults.length = open_fault(alloc, ty, octets);
-    }
-    Ok(faults)
+        default,
+        tag: header.tag,
+        form: header.form,
+        length: header.length,
+        contents,
+    })
 }
 
 /// Returns the same path, in memory of its own.

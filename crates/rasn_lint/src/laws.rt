@@ -5,7 +5,7 @@ ghost use Rattle.rasn_lint.specs.Worked.{WorkedDepartures};
 /// Proves what the list of a message says of the value written anew, as `rasn_dynamic::normalise`
 /// does it: what is written has no departures, except in open types, whose octets it keeps; and a
 /// message without departures is written as it is.
-#[tactic(auto, using(crate::proofs::Laws::normal_is_clean, crate::proofs::Laws::clean_is_normal))]
+#[tactic(auto, using(crate::proofs::Anew::normal_is_clean, crate::proofs::Anew::clean_is_normal))]
 pub fn written_anew()
     ensures clean { NormalIsClean }
     ensures unchanged { CleanIsNormal }

@@ -9,7 +9,7 @@ ghost use Rattle.rasn_types.specs.Trees.{unconstrained};
 ghost use Rattle.rasn_lint.specs.Leaf.{segments_of, segments_in, Finds, IsMended, IsMendedFault, IsContentsFault};
 
 use crate::header::{is_constructed, is_string};
-use rasn_de::ber::de::{Decoder, DecoderOptions};
+use crate::place::reader_of;
 use rasn_dynamic::check;
 use rasn_enc::ber::enc::{Encoder, EncoderOptions};
 use rasn_schema::{LeafKind, Schema, Type, TypeId};
@@ -102,7 +102,7 @@ fn mended(
 ) -> Result<Option<Vec<u8>>, AllocError>
     ensures { IfOk result (λ found. MatchOption found ((t : Tree) (rest : List ℕ) → Finds segments tag octets.now t rest → ⊥) (λ v. IsMended segments tag octets.now v.items)) }
 {
-    let mut decoder = Decoder::new(alloc, octets, DecoderOptions::ber());
+    let mut decoder = reader_of(alloc, octets);
     match segments {
         Segments::Whole => match decoder.decode_open(tag) {
             Ok(contents) => kept(write_octets(alloc, tag, contents)),
