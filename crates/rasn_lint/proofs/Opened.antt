@@ -95,8 +95,8 @@ module _ (octets : List ℕ) (s new : State) (at : s ≡ start Ber octets) where
       (k.0.0.text, k.0.0.is)
 
   -- What an open type holds.
-  pub has_open : (tag : Tag) (o : Bor (List ℕ)) → BorrowsOpenType tag s (Ok o) new → HasOpen tag octets o.now
-  has_open tag o h = (new.rest, (subst (λ z. BorrowsOpenType tag z (Ok o) new) at h).0)
+  pub opened_at : (tag : Tag) (o : Bor (List ℕ)) → BorrowsOpenType tag s (Ok o) new → OpenAt Ber (looked_for tag) octets (Ok (o.now, new.rest))
+  opened_at tag o h = (subst (λ z. BorrowsOpenType tag z (Ok o) new) at h).0
 
   pub has_no_open : (tag : Tag) (e : DecodeError) → BorrowsOpenType tag s (Err e) new → (inside : List ℕ) → HasOpen tag octets inside → ⊥
   has_no_open tag e h inside (rest, x) =

@@ -42,10 +42,12 @@ struct Pending<'input> {
 
 /// Returns the number of end-of-contents octets of an encoding (X.690 8.1.5): one of indefinite
 /// length takes steps to be skipped.
+#[tactic(auto, using(crate::proofs::Opened::no_end, crate::proofs::Opened::some_end, crate::proofs::Opened::nothing_skipped))]
 fn end_len(alloc: Global, octets: &[u8]) -> usize
     ensures { IsEndLen octets.now result }
 {
-    match reader_of(alloc, octets).skip_value() {
+    let mut decoder = reader_of(alloc, octets);
+    match decoder.skip_value() {
         Ok(0) => 0,
         Ok(_) => 2,
         Err(_) => 0,
