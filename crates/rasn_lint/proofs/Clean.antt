@@ -1,14 +1,17 @@
 -- When a message has no departures, and what follows it.
 use Rattle.std.proofs.Common.{◌≡◌, ◌≢◌, ◌⊎◌, ◌<◌, ◌+◌, ◌-◌, inl, inr, ℕ, List, [], ◌∷◌, ◌++◌, length, Ok, Bool, true, false, refl, sym, ap, ◌∙◌, subst, arith, length-append}
-use Rattle.std.specs.Prelude.{◌↔◌}
+use Rattle.std.specs.Prelude.{◌↔◌, MatchOption, slice_get}
+use Rattle.std.proofs.Common.{Option, Some, None, Vec, Global, vec_len, ◌==◌}
+use Rattle.std.proofs.lemmas.Bool.Decides.{nat_tests}
 use Rattle.std.specs.List.Sorted.{IsNonDecreasingBy, IsPermutation}
 use Rattle.std.proofs.lemmas.List.Sorted.{length_permutation}
-use Rattle.rasn_types.specs.declared.types.codec.Codec.TheVariants.{Ber}
+use Rattle.rasn_types.specs.declared.types.codec.Codec.TheVariants.{Ber, Der}
 use Rattle.rasn_types.specs.Shapes.{Tree}
 use Rattle.rasn_types.specs.Grammar.{Reads, top}
 use Rattle.rasn_schema.specs.declared.types.«Type».{«Type»}
 use Rattle.rasn_dynamic.specs.declared.span.Span.{Span}
 use Rattle.rasn_dynamic.specs.declared.message.MessageParts.{MessageParts}
+use Rattle.rasn_dynamic.specs.declared.refusal.Refusal.{Refusal}
 use Rattle.rasn_dynamic.specs.Entry.{shape_of}
 use Rattle.rasn_dynamic.specs.Faults.{start}
 use Rattle.rasn_dynamic.specs.Walk.{ArePartsOf}
@@ -17,7 +20,8 @@ use Rattle.rasn_lint.specs.declared.by_schema.LintError.TheVariants.{Remainder}
 use Rattle.rasn_lint.specs.declared.by_schema.OpenTypes.{OpenTypes}
 use Rattle.rasn_lint.specs.declared.by_schema.OpenTypes.TheVariants.{Unexamined, Examined}
 use Rattle.rasn_lint.specs.declared.departure.Departure.{Departure}
-use Rattle.rasn_lint.specs.Lint.{IsDer, IsClean, AreAll, offset_of, IsLint, IsNoLint, len_after}
+use Rattle.rasn_lint.specs.Lint.{IsDer, IsAtFault, IsClean, AreAll, offset_of, IsLint, IsNoLint, IsFirstDeparture, len_after}
+use Rattle.rasn_lint.specs.Judged.{AreJudged}
 use Rattle.rasn_lint.proofs.Judged.{none_typed, none_if_formed, formed_if_none}
 
 none_of : {A : Type 0} (l : List A) → length l ≡ 0 → l ≡ []
@@ -53,6 +57,22 @@ module _ (types : List «Type») (id : ℕ) (input : List ℕ) (parts : List Spa
           λ h. none_of ds (k ∙ ap length (c.1 (subst (λ l. IsClean opens types id input l) e h))),
         );
       }
+
+-- What is looked into is clean exactly if nothing is found there.
+pub first_inside : (types : List «Type») (id : ℕ) (input : List ℕ) (ps : MessageParts) (list : List Departure) (r : Option Departure) → r ≡ slice_get list 0 → IsDer types id input → ArePartsOf types Der id input ps
+    → AreJudged true Examined types (length input) [] [] ps.list.items list → IsFirstDeparture Examined types id input r
+first_inside types id input ps [] r e d a j = subst (IsFirstDeparture Examined types id input) (sym e) (d, (ps, a, formed_if_none types (length input) [] [] ps.list.items [] j refl))
+first_inside types id input ps (x ∷ xs) r e d a j =
+    subst (IsFirstDeparture Examined types id input) (sym e)
+    (inr (d, (ps, a, (xs, j, λ f. let q = none_if_formed types (length input) [] [] ps.list.items (x ∷ xs) j f in omega (arith, ap length q)))))
+
+pub none_refused : (types : List «Type») (id : ℕ) (input : List ℕ) (o : Option Refusal) → MatchOption o (IsDer types id input) (λ r. (IsDer types id input → ⊥) × IsAtFault types id input r)
+    → ((r : Refusal) → o ≡ Some r → ⊥) → IsDer types id input
+none_refused types id input None h n = h
+none_refused types id input (Some x) h n = absurd (n x refl)
+
+pub no_departures : (v : Vec Departure Global) → true ≡ (vec_len v == 0) → v.items ≡ []
+no_departures v e = none_of v.items (grind (arith, nat_tests))
 
 -- The octets after the first part follow the value.
 pub followed : (types : List «Type») (id : ℕ) (input : List ℕ) (ps : MessageParts) (n : ℕ) → ArePartsOf types Ber id input ps → n ≡ len_after ps.list.items input → 0 < n → IsNoLint types id input (Remainder n)

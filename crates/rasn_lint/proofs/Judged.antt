@@ -1,5 +1,6 @@
 -- The departures of parts, one after the other.
-use Rattle.std.proofs.Common.{◌≡◌, ◌≢◌, ◌⊎◌, inl, inr, ℕ, List, [], ◌∷◌, ◌++◌, Bool, true, false, Option, Some, None, slice_get, refl, sym, ap, ◌∙◌, subst, append_assoc, append-nil}
+use Rattle.std.proofs.Common.{◌≡◌, ◌≢◌, ◌⊎◌, inl, inr, ℕ, List, [], ◌∷◌, ◌++◌, Bool, true, false, Option, Some, None, slice_get, ◌<◌, ◌≤◌, ◌+◌, suc, length, drop, get_or, drop-cons, add-one, refl, sym, ap, ◌∙◌, subst, append_assoc, append-nil}
+use Rattle.std.proofs.lemmas.List.{drop_all}
 use Rattle.std.specs.Prelude.{◌↔◌}
 use Rattle.std.specs.List.{AllByRecursion}
 use Rattle.rasn_types.specs.declared.types.tag.Tag.{Tag}
@@ -17,19 +18,27 @@ use Rattle.rasn_lint.specs.Judged.{AreJudged, AreOfPart, AreOpenDepartures, HasO
 use Rattle.rasn_lint.specs.Lint.{HasFormed}
 use Rattle.rasn_lint.specs.WellFormed.{IsWellFormed}
 
--- One part more, and no more.
+-- One part more, where the path leads to it and the trail to the part before it; and no more.
 module _ (is_read : Bool) (opens : OpenTypes) (types : List «Type») (len : ℕ) (parts : List Span) where
-  pub one_more : (trail : List Step) (path : List ℕ) (e : Span) (es : List Span) (list ds : List Departure)
-      → ((more : List Departure) → AreJudged is_read opens types len trail path (e ∷ es) more → AreJudged is_read opens types len [] [] parts (list ++ more))
-      → AreOfPart is_read opens types len trail (path_after path e) e ds → (more : List Departure)
-      → AreJudged is_read opens types len (trail_after trail e) (path_after path e) es more → AreJudged is_read opens types len [] [] parts ((list ++ ds) ++ more)
-  one_more trail path e es list ds f h more j =
-      subst (λ z. AreJudged is_read opens types len [] [] parts z) (sym (append_assoc list ds more)) (f (ds ++ more) (ds, more, refl, h, j))
+  -- What is found of the parts before this one, and of those from it on, is all.
+  abbrev pub Continues : List Step → List ℕ → ℕ → List Departure → Type 0
+  Continues trail path i list = (more : List Departure) → AreJudged is_read opens types len trail path (drop i parts) more → AreJudged is_read opens types len [] [] parts (list ++ more)
 
-  pub no_more : (trail : List Step) (path : List ℕ) (list : List Departure)
-      → ((more : List Departure) → AreJudged is_read opens types len trail path [] more → AreJudged is_read opens types len [] [] parts (list ++ more))
-      → AreJudged is_read opens types len [] [] parts list
-  no_more trail path list f = subst (λ z. AreJudged is_read opens types len [] [] parts z) (append-nil list) (f [] refl)
+  pub one_more : (trail seen new_trail : List Step) (path seen_path new_path : List ℕ) (i : ℕ) (e : Span) (list new_list : List Departure) → Continues trail path i list → i < length parts → e ≡ get_or parts i e
+      → seen ≡ trail → seen_path ≡ new_path → new_path ≡ path_after path e → new_trail ≡ trail_after trail e
+      → ((ds : List Departure) × (new_list ≡ list ++ ds) × AreOfPart is_read opens types len seen seen_path e ds) → Continues new_trail new_path (i + 1) new_list
+  one_more trail seen new_trail path seen_path new_path i e list new_list f within is p q r s (ds, z, h) more j =
+      let next : drop i parts ≡ e ∷ drop (i + 1) parts = drop-cons parts i e within ∙ ap (λ x. x ∷ drop (suc i) parts) (sym is) ∙ ap (λ n. e ∷ drop n parts) (sym (add-one i)) in
+      let mine : AreOfPart is_read opens types len trail (path_after path e) e ds = subst (λ x. AreOfPart is_read opens types len trail x e ds) (q ∙ r) (subst (λ x. AreOfPart is_read opens types len x seen_path e ds) p h) in
+      let others : AreJudged is_read opens types len (trail_after trail e) (path_after path e) (drop (i + 1) parts) more =
+      subst (λ x. AreJudged is_read opens types len (trail_after trail e) x (drop (i + 1) parts) more) r (subst (λ x. AreJudged is_read opens types len x new_path (drop (i + 1) parts) more) s j) in
+      subst (λ x. AreJudged is_read opens types len [] [] parts x) (sym (ap (λ x. x ++ more) z ∙ append_assoc list ds more))
+      (f (ds ++ more) (subst (λ x. AreJudged is_read opens types len trail path x (ds ++ more)) (sym next) (ds, more, refl, mine, others)))
+
+  pub no_more : (trail : List Step) (path : List ℕ) (i : ℕ) (list : List Departure) → Continues trail path i list → length parts ≤ i → AreJudged is_read opens types len [] [] parts list
+  no_more trail path i list f past =
+      subst (λ x. AreJudged is_read opens types len [] [] parts x) (append-nil list)
+      (f [] (subst (λ x. AreJudged is_read opens types len trail path x []) (sym (drop_all i parts past)) refl))
 
 open_one : (tag : Tag) (o a b : List ℕ) → HasOpen tag o a → HasOpen tag o b → a ≡ b
 open_one tag o a b (r, x) (s, y) = let h : numbers b ≡ numbers a = (x.1 (numbers b) s y.0).0 in cc

@@ -23,7 +23,7 @@ use Rattle.rasn_lint.specs.Open.{IsEndLen, IsEndOf, IsAfterHeader, IsFoundIn, Al
 -- An encoding of definite length takes no steps to be skipped, and no octets end it; one of indefinite length takes some.
 definite_parts : (octets : List ℕ) (tag : Tag) (bit : Bool) (c rest : List ℕ) → Frame basic_form octets tag bit rest (definite c)
     → (header : List ℕ) × (octets ≡ header ++ (c ++ rest)) × Skipped Ber octets 0 rest
-definite_parts octets tag bit c rest (with_length id len c a b s e) = (
+definite_parts octets tag bit _ rest (with_length id len c a b s e) = (
   id ++ len,
   e ∙ sym (append_assoc id len (c ++ rest)),
   record {

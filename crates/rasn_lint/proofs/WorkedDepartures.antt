@@ -33,6 +33,9 @@ misplaced e p q (front, back, r, n) = go front (sym p ∙ r) (omega (arith, n, q
     go (x ∷ []) h k = cc
     go (x ∷ y ∷ f) h k = omega (arith, k)
 
+not_one : {A : Type 0} (x : A) → [] ≡ x ∷ [] → ⊥
+not_one x e = omega (arith, ap length e)
+
 pub departures : WorkedDepartures
 unfolding after_number
 departures = record {
@@ -43,7 +46,7 @@ departures = record {
   string_in_segments = λ c names. (λ e. cc, refl);
   string_at_once = λ c names. refl;
   segments_are_seen = λ c names h. cc;
-  number_isnt_a_string = λ c names h. let e = h.1 in cc;
+  constructed_number = λ c names. (λ e. cc, refl);
   falls = λ s e. (subst (λ l. IsLess one l) (sym e) one_below_two, refl);
   rises = λ s e h. two_not_below_one (subst (λ l. IsLess two l) e h);
   equal_are_in_order = λ s e h. not_below one (subst (λ l. IsLess one l) e h);
@@ -55,5 +58,5 @@ departures = record {
   trail_of_the_next_part = λ whole first second p q r. grind arith;
   nothing_without_an_error = λ site. refl;
   not_one_without_an_error = λ site d h. cc;
-  not_none_with_an_error = λ site h. let e = h.1 in cc;
+  not_none_with_an_error = λ site h. not_one h.0 h.1;
 }

@@ -34,7 +34,7 @@ pub record WorkedDepartures : Type 0 where
   pub string_in_segments : (c : Constraints) (names : Vec NamedNumber Global) → IsFormFault (Leaf OctetString (in_universal 4) c names) true (Some (der_error ConstructedEncodingNotAllowed))
   pub string_at_once : (c : Constraints) (names : Vec NamedNumber Global) → IsFormFault (Leaf OctetString (in_universal 4) c names) false None
   pub segments_are_seen : (c : Constraints) (names : Vec NamedNumber Global) → IsFormFault (Leaf OctetString (in_universal 4) c names) true None → ⊥
-  pub number_isnt_a_string : (c : Constraints) (names : Vec NamedNumber Global) → IsFormFault (Leaf Integer (in_universal 2) c names) true (Some (der_error ConstructedEncodingNotAllowed)) → ⊥
+  pub constructed_number : (c : Constraints) (names : Vec NamedNumber Global) → IsFormFault (Leaf Integer (in_universal 2) c names) true (Some (der_error ConstructedBitMismatch))
   pub falls : (s : Step) → s.octets.now ≡ two → IsOrderFault ByOctets one (Some s) (Some (der_error SetOfOutOfOrder))
   pub rises : (s : Step) → s.octets.now ≡ one → IsOrderFault ByOctets two (Some s) None
   pub equal_are_in_order : (s : Step) → s.octets.now ≡ one → IsOrderFault ByOctets one (Some s) None

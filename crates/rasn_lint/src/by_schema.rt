@@ -155,7 +155,6 @@ fn judge_part(
 }
 
 /// Returns the departures of parts of a message of so many octets.
-#[tactic(auto, using(crate::proofs::Judged::one_more, crate::proofs::Judged::no_more))]
 pub fn judge_parts(
     alloc: Global,
     schema: &Schema,
@@ -169,25 +168,16 @@ pub fn judge_parts(
     let mut list = Vec::new(alloc);
     let mut trail = Vec::new(alloc);
     let mut path = Vec::new(alloc);
-    let mut rest = parts;
-    while let [part, after @ ..] = rest {
+    for part in parts {
         extend_path(&mut path, part)?;
         let way = Way {
             part,
             path: path.as_slice(),
             len,
         };
-        judge_part(
-            alloc,
-            &mut list,
-            schema,
-            is_read,
-            opens,
-            trail.as_slice(),
-            way,
-        )?;
+        let before = trail.as_slice();
+        judge_part(alloc, &mut list, schema, is_read, opens, before, way)?;
         extend_trail(&mut trail, part)?;
-        rest = after;
     }
     Ok(list)
 }

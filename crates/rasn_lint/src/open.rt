@@ -47,11 +47,10 @@ fn end_len(alloc: Global, octets: &[u8]) -> usize
     ensures { IsEndLen octets.now result }
 {
     let mut decoder = reader_of(alloc, octets);
-    match decoder.skip_value() {
-        Ok(0) => 0,
-        Ok(_) => 2,
-        Err(_) => 0,
-    }
+    let Ok(steps) = decoder.skip_value() else {
+        return 0;
+    };
+    if steps == 0 { 0 } else { 2 }
 }
 
 /// Returns the same of a value of an open type with this tag: without a tag, its octets are those of

@@ -1,3 +1,4 @@
+use Rattle.std.proofs.Common.{rules}
 use Rattle.std.proofs.lemmas.List.Sorted.{IsNonDecreasingBy-from_sort_by_key}
 use Rattle.rasn_lint.specs.Lint.{offset_of}
 use Rattle.rasn_lint.proofs.by_schema.in_order.Goals as goal
