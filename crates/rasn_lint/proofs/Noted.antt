@@ -1,5 +1,5 @@
 -- Departures that are appended.
-use Rattle.std.proofs.Common.{◌≡◌, ◌≢◌, ◌+◌, length, length-append, arith, ℕ, Bool, List, [], ◌∷◌, ◌++◌, Option, Some, None, Vec, Bor, refl, ap, ◌∙◌, append_assoc, append-nil, sym, subst}
+use Rattle.std.proofs.Common.{◌≡◌, ◌≢◌, ℕ, Bool, List, [], ◌∷◌, ◌++◌, Option, Some, None, Vec, Bor, refl, ap, ◌∙◌, append_assoc, sym, subst}
 use Rattle.std.specs.Global.{Global}
 use Rattle.rasn_types.specs.declared.error.decode.DecodeError.{DecodeError}
 use Rattle.rasn_lint.specs.declared.departure.Aspect.{Aspect}
@@ -14,8 +14,6 @@ use Rattle.rasn_lint.specs.declared.trail.Step.{Step}
 use Rattle.rasn_lint.specs.declared.judge.Site.{Site}
 use Rattle.rasn_lint.specs.Judged.{IsCopied, IsSiteAt, IsDepartureAt, AreNoted, AreListed, TypedUnless, OpenIf, AreOfPart}
 use Rattle.rasn_lint.specs.Open.{IsFoundIn, IsInside, GrowsInside}
-use Rattle.rasn_lint.specs.WellFormed.{IsWellFormed}
-use Rattle.std.specs.Prelude.{◌↔◌}
 
 folded : {A : Type 0} (l m z a b : List A) → l ≡ m ++ a → z ≡ l ++ b → z ≡ m ++ (a ++ b)
 folded l m z a b p q = q ∙ (ap (λ y. y ++ b) p ∙ append_assoc m a b)
@@ -58,13 +56,6 @@ all_append : {A : Type 0} (P : A → Type 0) (xs ys : List A) → AllByRecursion
 all_append P [] ys h k = k
 all_append P (x ∷ xs) ys h k = (h.0, all_append P xs ys h.1 k)
 
--- What is appended inside a part: nothing, or more.
-pub grows_none : (len : ℕ) (e : Span) (path : List ℕ) (l : List Departure) → GrowsInside len e path l l
-grows_none len e path l = ([], sym (append-nil l), tt)
-
-pub grows_more : (len : ℕ) (e : Span) (path : List ℕ) (a b c : List Departure) → GrowsInside len e path a b → GrowsInside len e path b c → GrowsInside len e path a c
-grows_more len e path a b c (xs, p, h) (ys, q, k) = (xs ++ ys, folded b a c xs ys p q, all_append (IsInside len e path) xs ys h k)
-
 -- Departures at a site inside the part.
 module _ (len left : ℕ) (e : Span) (path octets : List ℕ) (inner : Bor (List ℕ)) (site : Site) (at : IsSiteAt len left e path (Some inner) site) (found : IsFoundIn e octets left) where
   copied_some : (o : Option (Bor (List ℕ))) (v : Option (Vec ℕ Global)) → o ≡ Some inner → IsCopied o v → v ≢ None
@@ -85,9 +76,6 @@ module _ (len left : ℕ) (e : Span) (path octets : List ℕ) (inner : Bor (List
   noted_inside : (aspect : Aspect) (fault : Option DecodeError) (ds : List Departure) → AreNoted site aspect fault ds → AllByRecursion (IsInside len e path) ds
   noted_inside aspect None ds h = subst (AllByRecursion (IsInside len e path)) (sym h) tt
   noted_inside aspect (Some error) ds (d, p, h) = subst (AllByRecursion (IsInside len e path)) (sym p) (inside_at aspect error d h, tt)
-
-  pub grows_noted : (aspect : Aspect) (fault : Option DecodeError) (a b : List Departure) → ((ds : List Departure) × (b ≡ a ++ ds) × AreNoted site aspect fault ds) → GrowsInside len e path a b
-  grows_noted aspect fault a b (ds, p, h) = (ds, p, noted_inside aspect fault ds h)
 
   pub grows_listed : (f : Faults) (a b : List Departure) → ((ds : List Departure) × (b ≡ a ++ ds) × AreListed site f ds) → GrowsInside len e path a b
   grows_listed f a b (ds, p, h) =
@@ -115,40 +103,3 @@ both_parts is_read opens types len trail path e l0 l1 l2 (a, p, h) (b, q, k) = (
     by_octets = k;
   },
 )
-
--- ---- inside a part: nothing exactly if the octets are well formed
-
--- What is appended inside the part, where these octets are.
-abbrev Answers : ℕ → Span → List ℕ → List ℕ → List Departure → List Departure → Type 0
-Answers len e path inside a b = (ds : List Departure) × (b ≡ a ++ ds) × ((ds ≡ []) ↔ IsWellFormed inside) × AllByRecursion (IsInside len e path) ds
-
-pub none_inside : (len : ℕ) (e : Span) (path inside : List ℕ) (l : List Departure) → IsWellFormed inside → Answers len e path inside l l
-none_inside len e path inside l h = ([], sym (append-nil l), (λ q. h, λ k. refl), tt)
-
-pub some_inside : (len : ℕ) (e : Span) (path inside : List ℕ) (a b : List Departure) → (IsWellFormed inside → ⊥) → GrowsInside len e path a b → length b ≢ length a → Answers len e path inside a b
-some_inside len e path inside a b n (ds, p, h) m = (
-  ds,
-  p,
-  (λ q. absurd (m (ap length (p ∙ (ap (λ z. a ++ z) q ∙ append-nil a)))), λ k. absurd (n k)),
-  h,
-)
-
-some_in : {A : Type 0} (a b c : List A) (x : A) → c ≡ a ++ (b ++ x ∷ []) → (ds : List A) → c ≡ a ++ ds → ds ≡ b ++ x ∷ [] → ds ≢ []
-some_in a b c x p ds q r e =
-    let size = length-append b (x ∷ []) in
-    let none = ap length (sym r ∙ e) in
-    omega (arith, size, none)
-
-pub whole_noted : (len left : ℕ) (e : Span) (path octets inside : List ℕ) (inner : Bor (List ℕ)) (site : Site) → IsSiteAt len left e path (Some inner) site → IsFoundIn e octets left
-    → (aspect : Aspect) (error : DecodeError) (a b c : List Departure) → (IsWellFormed inside → ⊥) → GrowsInside len e path a b
-    → ((ds : List Departure) × (c ≡ b ++ ds) × AreNoted site aspect (Some error) ds) → Answers len e path inside a c
-whole_noted len left e path octets inside inner site at found aspect error a b c n (xs, p, h) (ds, q, noted) =
-    let d = noted.0 in
-    let r : ds ≡ d ∷ [] = noted.1 in
-    let one = inside_at len left e path octets inner site at found aspect error d noted.2 in
-    let all : c ≡ a ++ (xs ++ d ∷ []) = folded b a c xs (d ∷ []) p (q ∙ ap (λ z. b ++ z) r) in (
-      xs ++ d ∷ [],
-      all,
-      (λ z. absurd (some_in a xs c d all (xs ++ d ∷ []) all refl z), λ k. absurd (n k)),
-      all_append (IsInside len e path) xs (d ∷ []) h (one, tt),
-    )

@@ -89,19 +89,9 @@ module _ (octets : List ℕ) (s new : State) (at : s ≡ start Ber octets) where
       let k = subst (λ z. SkipsValue z (Err e) new) at h in
       record { definite = λ rest x. refl; indefinite = λ n rest x p. absurd (k.1.0 n rest x) }
 
-  pub skipped_end : (n : ℕ) → SkipsValue s (Ok n) new → IsEnd octets new.rest
-  skipped_end n h =
-      let k = subst (λ z. SkipsValue z (Ok n) new) at h in
-      (k.0.0.text, k.0.0.is)
-
   -- What an open type holds.
   pub opened_at : (tag : Tag) (o : Bor (List ℕ)) → BorrowsOpenType tag s (Ok o) new → OpenAt Ber (looked_for tag) octets (Ok (o.now, new.rest))
   opened_at tag o h = (subst (λ z. BorrowsOpenType tag z (Ok o) new) at h).0
-
-  pub has_no_open : (tag : Tag) (e : DecodeError) → BorrowsOpenType tag s (Err e) new → (inside : List ℕ) → HasOpen tag octets inside → ⊥
-  has_no_open tag e h inside (rest, x) =
-      let k = (subst (λ z. BorrowsOpenType tag z (Err e) new) at h).0 in
-      k.1.0 (numbers inside) rest x.0
 
 -- ---- places in a part
 
@@ -124,30 +114,3 @@ module _ (e : Span) where
         p ∙ ap (λ z. front ++ (z ++ back)) q ∙ sym (simp append_assoc),
         omega (arith, size, n, k),
       )
-
-  pub found_first : (octets first rest : List ℕ) (left : ℕ) → IsFoundIn e octets left → octets ≡ first ++ rest → IsFoundIn e first left
-  found_first octets first rest left (front, back, p, n) q = (front, rest ++ back, p ∙ ap (λ z. front ++ (z ++ back)) q ∙ ap (λ z. front ++ z) (append_assoc first rest back), n)
-
-  pub found_whole : (c : Contents) (left : ℕ) → IsAfterHeader e.octets.now c → left ≡ e.left - c.header_len → IsFoundIn e c.octets.now left
-  found_whole c left (header, end, q, m) k = (header, end, q, omega (arith, m, k))
-
-  -- What is kept for later.
-  P : Pending → Type 0
-  P p = IsFoundIn e p.octets.now p.left
-
-  pub all_kept : (xs ys : List Pending) (x : Pending) → ys ≡ xs ++ x ∷ [] → AllFound e xs → IsFoundIn e x.octets.now x.left → AllFound e ys
-  all_kept xs ys x q h w = subst (AllFound e) (sym q) (go xs h)
-    where
-      go : (l : List Pending) → AllFound e l → AllFound e (l ++ x ∷ [])
-      go [] k = (w, tt)
-      go (y ∷ l) k = (k.0, go l k.1)
-
-  pub last_found : (xs ys : List Pending) (x : Pending) → xs ≡ ys ++ x ∷ [] → AllFound e xs → AllFound e ys × IsFoundIn e x.octets.now x.left
-  last_found xs ys x q h = go ys (subst (AllFound e) q h)
-    where
-      go : (l : List Pending) → AllFound e (l ++ x ∷ []) → AllFound e l × IsFoundIn e x.octets.now x.left
-      go [] k = (tt, k.0)
-      go (y ∷ l) k = let r = go l k.1 in ((k.0, r.0), r.1)
-
-  pub one_kept : (x : Pending) → IsFoundIn e x.octets.now x.left → AllFound e (x ∷ [])
-  one_kept x h = (h, tt)

@@ -15,9 +15,3 @@ use Rattle.rasn.specs.Headline.{IsFollowed}
 pub not_read : (k : DecodeErrorKind) (R : Reading Tree) (input : List ℕ) → Exact R input (refusal k) → (IsOutOfMemory k → ⊥) → (t : Tree) (rest : List ℕ) → R input t rest → ⊥
 not_read OutOfMemory R input h n t rest r = n refl
 not_read _ R input h n t rest r = h t rest r
-
--- All of the input isn't read.
-pub not_alone : (rule : Codec) (s : Shape) (input : List ℕ) (e : DecodeError) → Exact (Reads rule s 128 (top rule)) input (refusal e.kind) ⊎ IsFollowed rule s input e
-    → (IsOutOfMemory e.kind → ⊥) → (t : Tree) → Reads rule s 128 (top rule) input t [] → ⊥
-not_alone rule s input e (inl h) n t r = not_read e.kind (Reads rule s 128 (top rule)) input h n t [] r
-not_alone rule s input e (inr f) n t r = f.extra.some (sym (f.read.1 t [] r).1)
