@@ -5,3 +5,12 @@ pub mod Pending
 pub mod Order
 pub mod Contents
 pub mod Worked
+pub mod Judged
+pub mod Unread
+pub mod Reader
+pub mod Noted
+pub mod Mended
+pub mod Opened
+pub mod Clean
+pub mod Anew
+pub mod WorkedDepartures

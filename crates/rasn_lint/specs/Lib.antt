@@ -4,3 +4,12 @@ pub mod Order
 pub mod WellFormed
 pub mod Encoding
 pub mod Pending
+pub mod Trail
+pub mod Place
+pub mod Header
+pub mod Leaf
+pub mod Open
+pub mod Judged
+pub mod Lint
+pub mod Laws
+pub mod Worked

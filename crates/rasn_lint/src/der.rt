@@ -14,10 +14,10 @@ use crate::der::order::is_in_order;
 use crate::der::universal::{ContentsRule, rule_of};
 use std::alloc::{AllocError, Global};
 
-mod contents;
-mod encoding;
+pub(crate) mod contents;
+pub(crate) mod encoding;
 pub mod laws;
-mod order;
+pub(crate) mod order;
 pub mod universal;
 
 /// Returns whether a constructed encoding may have these encodings as its contents.

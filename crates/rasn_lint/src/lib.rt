@@ -1,4 +1,20 @@
-//! Checks of octets against the distinguished encoding rules (X.690 10, 11) where no type is known.
+//! Checks of octets against the distinguished encoding rules (X.690 10, 11): by the type of a
+//! schema, with each departure, or where no type is known.
 #![tactic(auto)]
 
+mod by_schema;
+mod departure;
 pub mod der;
+mod first;
+mod header;
+mod judge;
+pub mod laws;
+mod leaf;
+mod open;
+mod place;
+mod trail;
+mod untyped;
+
+pub use by_schema::{LintError, OpenTypes, lint};
+pub use departure::{Aspect, Departure, NamedDeparture};
+pub use first::check;

@@ -27,7 +27,7 @@ pub struct Encoding<'input> {
 
 /// Returns the octets of `start` before `rest`.
 #[tactic(auto, using(rasn_de::proofs::Constructed::Ascending::cut_before))]
-fn octets_before<'input>(start: &'input [u8], rest: &[u8]) -> &'input [u8]
+pub fn octets_before<'input>(start: &'input [u8], rest: &[u8]) -> &'input [u8]
     requires { IsEnd start.now rest.now }
     ensures { start.now ≡ result.now ++ rest.now }
 {
@@ -55,7 +55,7 @@ fn encoding_of<'input>(
 }
 
 /// Returns a decoder of the octets by DER.
-fn decoder_of(alloc: Global, octets: &[u8]) -> Decoder<'_>
+pub fn decoder_of(alloc: Global, octets: &[u8]) -> Decoder<'_>
     ensures { result ≡ start octets.now }
 {
     Decoder::new(alloc, octets, DecoderOptions::der())

@@ -14,14 +14,14 @@ use std::alloc::Global;
 /// Returns whether `octets` are less than `others`. Octets are less than any longer ones that begin
 /// with them (X.690 11.6).
 #[tactic(auto, using(rasn_de::proofs::Constructed::Ascending::less_told))]
-fn is_less(octets: &[u8], others: &[u8]) -> bool
+pub fn is_less(octets: &[u8], others: &[u8]) -> bool
     ensures { IsWhether result (IsLess octets.now others.now) }
 {
     octets < others
 }
 
 /// Returns whether a tag is below another (X.680 8.6).
-fn is_tag_below(tag: Tag, other: Tag) -> bool
+pub fn is_tag_below(tag: Tag, other: Tag) -> bool
     ensures { IsWhether result (IsTagBelow tag other) }
 {
     tag < other

@@ -1,0 +1,105 @@
+-- Departures that are appended.
+use Rattle.std.proofs.Common.{◌≡◌, ◌≢◌, ℕ, Bool, List, [], ◌∷◌, ◌++◌, Option, Some, None, Vec, Bor, refl, ap, ◌∙◌, append_assoc, sym, subst}
+use Rattle.std.specs.Global.{Global}
+use Rattle.rasn_types.specs.declared.error.decode.DecodeError.{DecodeError}
+use Rattle.rasn_lint.specs.declared.departure.Aspect.{Aspect}
+use Rattle.std.specs.List.{AllByRecursion}
+use Rattle.rasn_dynamic.specs.declared.span.Span.{Span}
+use Rattle.rasn_lint.specs.declared.departure.Departure.{Departure}
+use Rattle.rasn_lint.specs.declared.departure.Aspect.TheVariants.{Header, Contents, Place}
+use Rattle.rasn_lint.specs.declared.judge.Faults.{Faults}
+use Rattle.rasn_schema.specs.declared.types.«Type».{«Type»}
+use Rattle.rasn_lint.specs.declared.by_schema.OpenTypes.{OpenTypes}
+use Rattle.rasn_lint.specs.declared.trail.Step.{Step}
+use Rattle.rasn_lint.specs.declared.judge.Site.{Site}
+use Rattle.rasn_lint.specs.Judged.{IsCopied, IsSiteAt, IsDepartureAt, AreNoted, AreListed, TypedUnless, OpenIf, AreOfPart}
+use Rattle.rasn_lint.specs.Open.{IsFoundIn, IsInside, GrowsInside}
+
+folded : {A : Type 0} (l m z a b : List A) → l ≡ m ++ a → z ≡ l ++ b → z ≡ m ++ (a ++ b)
+folded l m z a b p q = q ∙ (ap (λ y. y ++ b) p ∙ append_assoc m a b)
+
+-- What is appended of a part: six times one departure or none.
+pub listed : (site : Site) (f : Faults) (l0 l1 l2 l3 l4 l5 l6 : List Departure)
+    → ((ds : List Departure) × (l1 ≡ l0 ++ ds) × AreNoted site Place f.order ds)
+    → ((ds : List Departure) × (l2 ≡ l1 ++ ds) × AreNoted site Place f.default ds)
+    → ((ds : List Departure) × (l3 ≡ l2 ++ ds) × AreNoted site Header f.tag ds)
+    → ((ds : List Departure) × (l4 ≡ l3 ++ ds) × AreNoted site Header f.form ds)
+    → ((ds : List Departure) × (l5 ≡ l4 ++ ds) × AreNoted site Header f.length ds)
+    → ((ds : List Departure) × (l6 ≡ l5 ++ ds) × AreNoted site Contents f.contents ds)
+    → (ds : List Departure) × (l6 ≡ l0 ++ ds) × AreListed site f ds
+listed site f l0 l1 l2 l3 l4 l5 l6 (a, p, h) (b, q, i) (c, r, j) (d, s, k) (g, t, m) (o, u, n) =
+    let x5 = folded l5 l4 l6 g o t u in
+    let x4 = folded l4 l3 l6 d (g ++ o) s x5 in
+    let x3 = folded l3 l2 l6 c (d ++ (g ++ o)) r x4 in
+    let x2 = folded l2 l1 l6 b (c ++ (d ++ (g ++ o))) q x3 in
+    let x1 = folded l1 l0 l6 a (b ++ (c ++ (d ++ (g ++ o)))) p x2 in (
+      a ++ (b ++ (c ++ (d ++ (g ++ o)))),
+      x1,
+      record {
+        order = a;
+        default = b;
+        tag = c;
+        form = d;
+        length = g;
+        contents = o;
+        are = refl;
+        in_order = h;
+        by_default = i;
+        by_tag = j;
+        by_form = k;
+        by_length = m;
+        in_contents = n;
+      },
+    )
+
+all_append : {A : Type 0} (P : A → Type 0) (xs ys : List A) → AllByRecursion P xs → AllByRecursion P ys → AllByRecursion P (xs ++ ys)
+all_append P [] ys h k = k
+all_append P (x ∷ xs) ys h k = (h.0, all_append P xs ys h.1 k)
+
+-- Departures at a site inside the part.
+module _ (len left : ℕ) (e : Span) (path octets : List ℕ) (inner : Bor (List ℕ)) (site : Site) (at : IsSiteAt len left e path (Some inner) site) (found : IsFoundIn e octets left) where
+  copied_some : (o : Option (Bor (List ℕ))) (v : Option (Vec ℕ Global)) → o ≡ Some inner → IsCopied o v → v ≢ None
+  copied_some None v p h q = cc
+  copied_some (Some x) v p (w, r, is) q = cc
+
+  inside_at : (aspect : Aspect) (error : DecodeError) (d : Departure) → IsDepartureAt site aspect error d → IsInside len e path d
+  inside_at aspect error d h = record {
+    id = h.id ∙ at.id;
+    steps = h.steps ∙ at.path_is;
+    whole = copied_some site.inner d.inner at.inner_is h.inner;
+    octets = octets;
+    left = left;
+    found = found;
+    offset = h.offset ∙ at.offset;
+  }
+
+  noted_inside : (aspect : Aspect) (fault : Option DecodeError) (ds : List Departure) → AreNoted site aspect fault ds → AllByRecursion (IsInside len e path) ds
+  noted_inside aspect None ds h = subst (AllByRecursion (IsInside len e path)) (sym h) tt
+  noted_inside aspect (Some error) ds (d, p, h) = subst (AllByRecursion (IsInside len e path)) (sym p) (inside_at aspect error d h, tt)
+
+  pub grows_listed : (f : Faults) (a b : List Departure) → ((ds : List Departure) × (b ≡ a ++ ds) × AreListed site f ds) → GrowsInside len e path a b
+  grows_listed f a b (ds, p, h) =
+      let I = IsInside len e path in
+      let x5 = all_append I h.length h.contents (noted_inside Header f.length h.length h.by_length) (noted_inside Contents f.contents h.contents h.in_contents) in
+      let x4 = all_append I h.form (h.length ++ h.contents) (noted_inside Header f.form h.form h.by_form) x5 in
+      let x3 = all_append I h.tag (h.form ++ (h.length ++ h.contents)) (noted_inside Header f.tag h.tag h.by_tag) x4 in
+      let x2 = all_append I h.default (h.tag ++ (h.form ++ (h.length ++ h.contents))) (noted_inside Place f.default h.default h.by_default) x3 in
+      let x1 = all_append I h.order (h.default ++ (h.tag ++ (h.form ++ (h.length ++ h.contents)))) (noted_inside Place f.order h.order h.in_order) x2 in
+      (ds, p, subst (AllByRecursion I) (sym h.are) x1)
+
+-- What is appended of a part by its type, and then inside it.
+pub both_parts : (is_read : Bool) (opens : OpenTypes) (types : List «Type») (len : ℕ) (trail : List Step) (path : List ℕ) (e : Span) (l0 l1 l2 : List Departure)
+    → ((ds : List Departure) × (l1 ≡ l0 ++ ds) × TypedUnless is_read types len trail path e ds)
+    → ((ds : List Departure) × (l2 ≡ l1 ++ ds) × OpenIf opens types len path e ds)
+    → (ds : List Departure) × (l2 ≡ l0 ++ ds) × AreOfPart is_read opens types len trail path e ds
+both_parts is_read opens types len trail path e l0 l1 l2 (a, p, h) (b, q, k) = (
+  a ++ b,
+  folded l1 l0 l2 a b p q,
+  record {
+    typed = a;
+    inside = b;
+    are = refl;
+    by_type = h;
+    by_octets = k;
+  },
+)

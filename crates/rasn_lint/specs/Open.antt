@@ -1,0 +1,46 @@
+-- Octets inside a value of an open type, and where they are.
+use Rattle.std.specs.Prelude.{◌≡◌, ◌≢◌, ◌-◌, ◌<◌, ℕ, List, ◌++◌, length, Option, Some, None, Ok}
+use Rattle.std.specs.List.{AllByRecursion}
+use Rattle.rasn_types.specs.declared.types.codec.Codec.TheVariants.{Ber}
+use Rattle.rasn_types.specs.declared.types.tag.Tag.{Tag}
+use Rattle.rasn_de.specs.Skipping.{Skipped}
+use Rattle.rasn_dynamic.specs.declared.span.Span.{Span}
+use Rattle.rasn_lint.specs.declared.departure.Departure.{Departure}
+use Rattle.rasn_lint.specs.declared.open.Contents.{Contents}
+use Rattle.rasn_lint.specs.declared.open.Pending.{Pending}
+
+-- So many octets end the complete encoding with which the octets begin: two if its length is indefinite, and then
+-- skipping it takes steps (8.1.5).
+pub record IsEndLen (octets : List ℕ) (n : ℕ) : Type 0 where
+  pub definite : (rest : List ℕ) → Skipped Ber octets 0 rest → n ≡ 0
+  pub indefinite : (k : ℕ) (rest : List ℕ) → Skipped Ber octets k rest → 0 < k → n ≡ 2
+
+-- The same of a value of an open type. Without a tag, its octets are those of the encoding that it holds.
+abbrev pub IsEndOf : Option Tag → List ℕ → ℕ → Type 0
+IsEndOf None octets n = n ≡ 0
+IsEndOf (Some tag) octets n = IsEndLen octets n
+
+-- The contents are in the octets, after so many.
+abbrev pub IsAfterHeader : List ℕ → Contents → Type 0
+IsAfterHeader octets c = (header : List ℕ) × (end : List ℕ) × (octets ≡ header ++ (c.octets.now ++ end)) × (length header ≡ c.header_len)
+
+-- The octets are in those of the part, from whose start e.left are left to the end of the message: from theirs so many.
+abbrev pub IsFoundIn : Span → List ℕ → ℕ → Type 0
+IsFoundIn e octets left = (front : List ℕ) × (back : List ℕ) × (e.octets.now ≡ front ++ (octets ++ back)) × (left ≡ e.left - length front)
+
+abbrev pub AllFound : Span → List Pending → Type 0
+AllFound e ps = AllByRecursion (λ (p : Pending). IsFoundIn e p.octets.now p.left) ps
+
+-- The departure is one of the part with this path, in a message of so many octets, and is in its octets.
+pub record IsInside (len : ℕ) (e : Span) (path : List ℕ) (d : Departure) : Type 0 where
+  pub id : d.refusal.id ≡ e.id
+  pub steps : d.refusal.steps.items ≡ path
+  pub whole : d.inner ≢ None
+  pub octets : List ℕ
+  pub left : ℕ
+  pub found : IsFoundIn e octets left
+  pub offset : d.refusal.offset ≡ len - left
+
+-- Some are appended.
+abbrev pub GrowsInside : ℕ → Span → List ℕ → List Departure → List Departure → Type 0
+GrowsInside len e path old new = (ds : List Departure) × (new ≡ old ++ ds) × AllByRecursion (IsInside len e path) ds

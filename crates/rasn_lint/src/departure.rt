@@ -1,0 +1,155 @@
+//! A departure from DER.
+ghost use Rattle.std.specs.Prelude.{◌≡◌};
+
+use rasn_dynamic::{NamedRefusal, Refusal};
+use rasn_schema::{Schema, TypeId};
+use rasn_types::error::{
+    BerDecodeErrorKind, CodecDecodeError, DecodeErrorKind, DerDecodeErrorKind,
+};
+use std::fmt;
+
+/// What of an encoding departs from DER.
+#[derive(Clone, Copy, Debug, PartialEq, Eq)]
+pub enum Aspect {
+    /// Its identifier or length octets (X.690 8.1.2, 8.1.3, 10.1, 10.2).
+    Header,
+    /// Its contents octets (X.690 8, 11).
+    Contents,
+    /// That it is present, although it is a default, or where it is in a SET or a SET OF
+    /// (X.690 10.3, 11.5, 11.6).
+    Place,
+}
+
+/// A departure of a message from DER: what to mend, and where.
+#[derive(Debug, Drop)]
+pub struct Departure {
+    /// The part, with its offset and the error that the reader of DER has for it.
+    pub refusal: Refusal,
+    /// What of it departs.
+    pub aspect: Aspect,
+    /// If the part is an open type, and an encoding inside it departs, the index of each encoding
+    /// on the way to that one: the offset is its own.
+    pub inner: Option<Vec<usize>>,
+}
+
+impl Departure {
+    /// Returns the departure with the names on the way from the type that was asked for, whose
+    /// number this is.
+    pub fn with_names<'a>(&'a self, schema: &'a Schema, id: TypeId) -> NamedDeparture<'a>
+        ensures { (result.departure.now ≡ self.now) × (result.schema.now ≡ schema.now) × (result.id ≡ id) }
+    {
+        NamedDeparture {
+            departure: self,
+            schema,
+            id,
+        }
+    }
+}
+
+/// A departure that is shown with the names of a schema.
+#[derive(Drop)]
+pub struct NamedDeparture<'a> {
+    /// The departure.
+    pub departure: &'a Departure,
+    /// The schema.
+    pub schema: &'a Schema,
+    /// The number of the type that was asked for.
+    pub id: TypeId,
+}
+
+/// The names, the offset, the error, what departs, and the section of X.690.
+impl fmt::Display for NamedDeparture<'_> {
+    fn fmt<W: fmt::Write>(&self, f: &mut fmt::Formatter<W>) -> fmt::Result {
+        let departure = self.departure;
+        let place = departure.refusal.with_names(self.schema, self.id);
+        write!(f, "{place} ")?;
+        write_rule(f, departure)
+    }
+}
+
+/// The offset, the error, what departs, and the section of X.690.
+impl fmt::Display for Departure {
+    fn fmt<W: fmt::Write>(&self, f: &mut fmt::Formatter<W>) -> fmt::Result {
+        write!(f, "{} ", self.refusal)?;
+        write_rule(f, self)
+    }
+}
+
+/// Writes what departs, where inside an open type, and the section of X.690.
+fn write_rule<W: fmt::Write>(f: &mut fmt::Formatter<W>, departure: &Departure) -> fmt::Result {
+    f.write_str("(")?;
+    f.write_str(match departure.aspect {
+        Aspect::Header => "header",
+        Aspect::Contents => "contents",
+        Aspect::Place => "place",
+    })?;
+    if let Some(inner) = &departure.inner {
+        f.write_str(" inside the open type")?;
+        for index in inner {
+            write!(f, " [{index}]")?;
+        }
+    }
+    write!(f, ", {})", section_of(&departure.refusal.error.kind))
+}
+
+/// Returns what of an encoding an error of the reader of DER is about.
+pub fn aspect_of(kind: &DecodeErrorKind) -> Aspect {
+    match kind {
+        DecodeErrorKind::CodecSpecific { inner } => match inner {
+            CodecDecodeError::Der(kind) => der_aspect_of(*kind),
+            CodecDecodeError::Ber(BerDecodeErrorKind::IndefiniteLengthNotAllowed) => Aspect::Header,
+            CodecDecodeError::Ber(_) => Aspect::Contents,
+        },
+        _ => Aspect::Contents,
+    }
+}
+
+/// Returns what of an encoding an error kind of DER is about.
+fn der_aspect_of(kind: DerDecodeErrorKind) -> Aspect {
+    match kind {
+        DerDecodeErrorKind::ConstructedEncodingNotAllowed
+        | DerDecodeErrorKind::NonMinimalTagNumber
+        | DerDecodeErrorKind::ConstructedBitMismatch
+        | DerDecodeErrorKind::NonMinimalLength => Aspect::Header,
+        DerDecodeErrorKind::NonMinimalInteger
+        | DerDecodeErrorKind::NonMinimalArc
+        | DerDecodeErrorKind::NonzeroUnusedBits => Aspect::Contents,
+        DerDecodeErrorKind::DefaultValuePresent
+        | DerDecodeErrorKind::SetComponentsOutOfOrder
+        | DerDecodeErrorKind::SetOfOutOfOrder => Aspect::Place,
+    }
+}
+
+/// Returns the section of X.690 that an error kind is about.
+fn section_of(kind: &DecodeErrorKind) -> &'static str {
+    match kind {
+        DecodeErrorKind::InvalidBool { .. } => "11.1",
+        DecodeErrorKind::TrailingZeroBits => "11.2.2",
+        DecodeErrorKind::InvalidBitString { .. } => "8.6.2",
+        DecodeErrorKind::CodecSpecific { inner } => match inner {
+            CodecDecodeError::Der(kind) => der_section_of(*kind),
+            CodecDecodeError::Ber(kind) => match kind {
+                BerDecodeErrorKind::IndefiniteLengthNotAllowed => "10.1",
+                BerDecodeErrorKind::InvalidDate { .. } => "11.7, 11.8",
+                _ => "8",
+            },
+        },
+        _ => "8",
+    }
+}
+
+/// Returns the section of X.690 that an error kind of DER is about.
+fn der_section_of(kind: DerDecodeErrorKind) -> &'static str {
+    match kind {
+        DerDecodeErrorKind::ConstructedEncodingNotAllowed => "10.2",
+        DerDecodeErrorKind::NonMinimalTagNumber => "8.1.2.4",
+        DerDecodeErrorKind::ConstructedBitMismatch => "8.1.2.5",
+        DerDecodeErrorKind::NonMinimalLength => "10.1",
+        DerDecodeErrorKind::NonMinimalInteger => "8.3.2",
+        DerDecodeErrorKind::NonMinimalArc => "8.19.2",
+        DerDecodeErrorKind::NonzeroUnusedBits => "11.2.1",
+        DerDecodeErrorKind::DefaultValuePresent => "11.5",
+        DerDecodeErrorKind::SetComponentsOutOfOrder => "10.3",
+        DerDecodeErrorKind::SetOfOutOfOrder => "11.6",
+    }
+}

@@ -1,0 +1,18 @@
+//! Facts about lists of departures. The functions do nothing when they run.
+ghost use Rattle.rasn_lint.specs.Laws.{NormalIsClean, CleanIsNormal};
+ghost use Rattle.rasn_lint.specs.Worked.{WorkedDepartures};
+
+/// Proves what the list of a message says of the value written anew, as `rasn_dynamic::normalise`
+/// does it: what is written has no departures, except in open types, whose octets it keeps; and a
+/// message without departures is written as it is.
+#[tactic(auto, using(crate::proofs::Anew::normal_is_clean, crate::proofs::Anew::clean_is_normal))]
+pub fn written_anew()
+    ensures clean { NormalIsClean }
+    ensures unchanged { CleanIsNormal }
+{}
+
+/// Proves what departs of a few octets, and what doesn't.
+#[tactic(auto, using(crate::proofs::WorkedDepartures::departures))]
+pub fn worked_departures()
+    ensures { WorkedDepartures }
+{}

@@ -1,0 +1,147 @@
+//! What departs of an encoding whose type isn't known, unless its tag is universal.
+use crate::der::contents::allows_contents;
+use crate::der::order::is_in_order;
+use crate::der::universal::{ContentsRule, rule_of};
+use crate::header::{is_constructed, length_fault, tag_fault};
+use crate::judge::Faults;
+use crate::leaf::write_octets;
+use crate::place::der_error;
+use rasn_de::ber::de::{Decoder, DecoderOptions};
+use rasn_types::error::{
+    BerDecodeErrorKind, CodecDecodeError, DecodeError, DecodeErrorKind, DerDecodeErrorKind, Needed,
+};
+use rasn_types::types::{Codec, Constraints, Tag};
+use std::alloc::{AllocError, Global};
+
+/// Returns the error of an encoding that BER doesn't read.
+pub fn unreadable(alloc: Global, octets: &[u8]) -> DecodeError {
+    let mut decoder = Decoder::new(alloc, octets, DecoderOptions::der());
+    match decoder.skip_value() {
+        Ok(_) => der_error(DerDecodeErrorKind::ConstructedBitMismatch),
+        Err(error) => error,
+    }
+}
+
+/// Returns the error of an encoding that follows the one of the open type.
+pub fn extra(octets: &[u8]) -> DecodeError {
+    DecodeError {
+        kind: DecodeErrorKind::UnexpectedExtraData {
+            length: octets.len(),
+        },
+        codec: Codec::Der,
+    }
+}
+
+/// Returns the error of an encoding that is primitive or constructed although its universal type
+/// isn't.
+fn form_fault(rule: ContentsRule, bit: bool) -> Option<DecodeError> {
+    let kind = match rule {
+        ContentsRule::Unknown => return None,
+        ContentsRule::Values | ContentsRule::Set => {
+            return if bit {
+                None
+            } else {
+                Some(DecodeError {
+                    kind: DecodeErrorKind::CodecSpecific {
+                        inner: CodecDecodeError::Ber(
+                            BerDecodeErrorKind::InvalidConstructedIdentifier,
+                        ),
+                    },
+                    codec: Codec::Der,
+                })
+            };
+        }
+        ContentsRule::Boolean
+        | ContentsRule::Integer
+        | ContentsRule::Null
+        | ContentsRule::Subidentifiers => DerDecodeErrorKind::ConstructedBitMismatch,
+        _ => DerDecodeErrorKind::ConstructedEncodingNotAllowed,
+    };
+    if bit { Some(der_error(kind)) } else { None }
+}
+
+/// Returns the error of subidentifiers.
+fn arcs_error(contents: &[u8]) -> DecodeError {
+    match contents {
+        [.., 0..=0x7F] => der_error(DerDecodeErrorKind::NonMinimalArc),
+        _ => DecodeError {
+            kind: DecodeErrorKind::Incomplete {
+                needed: Needed::Size(1),
+            },
+            codec: Codec::Der,
+        },
+    }
+}
+
+/// Returns the error that the reader of DER has for the contents octets of a universal type.
+fn read_error(
+    alloc: Global,
+    rule: ContentsRule,
+    tag: Tag,
+    contents: &[u8],
+) -> Result<Option<DecodeError>, AllocError> {
+    let Ok(octets) = write_octets(alloc, tag, contents) else {
+        return Err(AllocError);
+    };
+    let none = &Constraints::NONE;
+    let mut decoder = Decoder::new(alloc, &octets, DecoderOptions::der());
+    Ok(match rule {
+        ContentsRule::Boolean => decoder.decode_bool(tag).err(),
+        ContentsRule::Integer => decoder.check_integer(tag, none).err(),
+        ContentsRule::BitString => decoder.decode_bits(tag, none).err(),
+        ContentsRule::Null => decoder.decode_null(tag).err(),
+        ContentsRule::Subidentifiers => Some(arcs_error(contents)),
+        ContentsRule::Utf8 => decoder.decode_utf8_text(tag, none).err(),
+        ContentsRule::Characters(alphabet) => {
+            decoder.decode_restricted_string(alphabet, tag, none).err()
+        }
+        ContentsRule::Units => decoder.decode_bmp_string(tag, none).err(),
+        ContentsRule::UtcTime => decoder.decode_utc_time(tag).err(),
+        ContentsRule::GeneralizedTime => decoder.decode_generalized_time(tag).err(),
+        ContentsRule::Date => decoder.decode_date(tag).err(),
+        _ => None,
+    })
+}
+
+/// Returns the error of contents that DER doesn't allow for a universal tag.
+fn contents_fault(
+    alloc: Global,
+    rule: ContentsRule,
+    tag: Tag,
+    bit: bool,
+    contents: &[u8],
+) -> Result<Option<DecodeError>, AllocError> {
+    if bit {
+        return match rule {
+            ContentsRule::Set if !is_in_order(alloc, contents) => {
+                Ok(Some(der_error(DerDecodeErrorKind::SetOfOutOfOrder)))
+            }
+            _ => Ok(None),
+        };
+    }
+    if allows_contents(rule, contents) {
+        return Ok(None);
+    }
+    read_error(alloc, rule, tag, contents)
+}
+
+/// Returns the errors of an encoding with this tag and these contents.
+pub fn faults_of(
+    alloc: Global,
+    tag: Tag,
+    contents: &[u8],
+    encoding: &[u8],
+) -> Result<Faults, AllocError> {
+    let rule = rule_of(tag);
+    let bit = is_constructed(encoding);
+    let length = length_fault(alloc, encoding)?;
+    let contents = contents_fault(alloc, rule, tag, bit, contents)?;
+    Ok(Faults {
+        order: None,
+        default: None,
+        tag: tag_fault(alloc, encoding),
+        form: form_fault(rule, bit),
+        length,
+        contents,
+    })
+}
