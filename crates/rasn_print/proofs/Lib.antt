@@ -1,3 +1,2 @@
 mod PemBlocks
 mod PemContents
-mod LookedInto

@@ -10,6 +10,7 @@ use std::alloc::{AllocError, Global};
 pub enum Work {
     Show,
     Check,
+    Lint,
     Normalise,
     Types,
     Dump,
@@ -52,6 +53,7 @@ pub fn command<'a>(alloc: Global) -> Result<Command<'a>, AllocError> {
         .subcommand_required(true)
         .subcommand(
             messages(alloc, "show", "Prints messages as text with names")?
+                .arg(rules(alloc))?
                 .arg(flag(
                     alloc,
                     "offsets",
@@ -65,14 +67,24 @@ pub fn command<'a>(alloc: Global) -> Result<Command<'a>, AllocError> {
                 "check",
                 "Prints nothing, or where a message is refused and why",
             )?
-            .arg(flag(alloc, "outer", "Leaves out what is inside open types"))?
+            .arg(rules(alloc))?
+            .arg(outer(alloc))?
             .after_help("Example: soqavise check --type Certificate *.der"),
         )?
-        .subcommand(messages(
-            alloc,
-            "normalise",
-            "Writes messages of BER or CER as DER",
-        )?.after_help("Example: soqavise normalise --type LDAPMessage message.ber"))?
+        .subcommand(
+            messages(
+                alloc,
+                "lint",
+                "Prints everything of messages of BER that departs from DER",
+            )?
+            .arg(outer(alloc))?
+            .after_help("Example: soqavise lint --type Certificate message.ber"),
+        )?
+        .subcommand(
+            messages(alloc, "normalise", "Writes messages of BER or CER as DER")?
+                .arg(rules(alloc))?
+                .after_help("Example: soqavise normalise --type LDAPMessage message.ber"),
+        )?
         .subcommand(
             Command::new(alloc, "types")
                 .about("Prints the types that are known, and what of them isn't checked")
@@ -99,13 +111,6 @@ fn messages<'a>(alloc: Global, name: &'a str, about: &'a str) -> Result<Command<
                 .value_name("[MODULE.]TYPE")
                 .help("The type of the messages"),
         )?
-        .arg(
-            Arg::new(alloc, "rules")
-                .long("rules")
-                .value_name("RULES")
-                .value_parser(ValueParser::from(["ber", "cer", "der"].as_slice()))
-                .help("The encoding rules by which messages are read"),
-        )?
         .arg(flag(
             alloc,
             "lines",
@@ -123,6 +128,14 @@ fn modules<'a>(alloc: Global) -> Arg<'a> {
         .help("Reads modules of ASN.1 from this file, too")
 }
 
+fn rules<'a>(alloc: Global) -> Arg<'a> {
+    Arg::new(alloc, "rules")
+        .long("rules")
+        .value_name("RULES")
+        .value_parser(ValueParser::from(["ber", "cer", "der"].as_slice()))
+        .help("The encoding rules by which messages are read")
+}
+
 fn input<'a>(alloc: Global) -> Arg<'a> {
     Arg::new(alloc, "input")
         .long("input")
@@ -136,6 +149,10 @@ fn files<'a>(alloc: Global) -> Arg<'a> {
         .value_name("FILE")
         .num_args(0..)
         .help("The files of messages; standard input without one")
+}
+
+fn outer<'a>(alloc: Global) -> Arg<'a> {
+    flag(alloc, "outer", "Leaves out what is inside open types")
 }
 
 fn flag<'a>(alloc: Global, name: &'a str, help: &'a str) -> Arg<'a> {
@@ -166,6 +183,7 @@ fn work_of(name: &str) -> Option<Work> {
     match name {
         "show" => Some(Work::Show),
         "check" => Some(Work::Check),
+        "lint" => Some(Work::Lint),
         "normalise" => Some(Work::Normalise),
         "types" => Some(Work::Types),
         "dump" => Some(Work::Dump),

@@ -6,6 +6,7 @@ use crate::fault::Fault;
 use crate::input::{form_of, from_hexadecimal, from_line};
 use crate::pem::{Block, blocks};
 use crate::work::{Answer, Input, Tools, answer_to};
+use std::alloc::{AllocError, Global};
 use std::io::{BufRead, Write};
 use std::str;
 
@@ -108,8 +109,20 @@ impl<W: Write + Drop, E: Write + Drop> Session<'_, W, E> {
         }
         match answer_to(&self.tools, input)? {
             Answer::Done(octets) => self.write(&octets),
+            Answer::Departures(lines) => self.departures(name, lines.as_slice()),
             Answer::Refused(text) => self.refuse(name, text.as_str()),
         }
+    }
+
+    /// Writes what departs from DER of a message of the input with this name.
+    fn departures(&mut self, name: &str, lines: &[String]) -> Result<(), Fault> {
+        self.is_refused = true;
+        let alloc = self.tools.alloc;
+        for line in lines {
+            let line = format!(in alloc; "{name}: {line}\n")?;
+            self.write(line.as_bytes())?;
+        }
+        Ok(())
     }
 
     /// Prints the encodings of octets.
@@ -152,6 +165,11 @@ impl<W: Write + Drop, E: Write + Drop> Session<'_, W, E> {
         match answer_to(&self.tools, &input)? {
             Answer::Done(text) if text.is_empty() => self.write(b"ok\n"),
             Answer::Done(text) => self.write(&text),
+            Answer::Departures(lines) => {
+                self.is_refused = true;
+                let text = joined(alloc, lines.as_slice())?;
+                self.write(text.as_bytes())
+            }
             Answer::Refused(text) => {
                 self.is_refused = true;
                 let text = format!(in alloc; "{text}\n")?;
@@ -159,4 +177,17 @@ impl<W: Write + Drop, E: Write + Drop> Session<'_, W, E> {
             }
         }
     }
+}
+
+/// Returns these lines in one, which is ended.
+fn joined(alloc: Global, lines: &[String]) -> Result<String, AllocError> {
+    let mut text = String::new(alloc);
+    for line in lines {
+        if !text.is_empty() {
+            text.push_str("; ")?;
+        }
+        text.push_str(line)?;
+    }
+    text.push('\n')?;
+    Ok(text)
 }

@@ -1,7 +1,6 @@
 //! What is done with each message.
 
 use crate::command_line::{Call, Work};
-use crate::inner::check_inner;
 use crate::known::Known;
 use crate::messages::{MESSAGES, type_of_label};
 use crate::offsets::offsets_text;
@@ -9,7 +8,8 @@ use crate::reading::{ReadError, check, show};
 use crate::types::{MessageType, NamedType, message_type};
 use base64::engine::general_purpose::STANDARD;
 use rasn_compiler::{Modules, Stop};
-use rasn_dynamic::normalise;
+use rasn_dynamic::{Refusal, normalise};
+use rasn_lint::{Departure, LintError, OpenTypes, check as check_der, lint};
 use rasn_types::types::{Codec, Hexadecimal};
 use std::alloc::{AllocError, Global};
 
@@ -39,6 +39,8 @@ pub struct Input<'a> {
 pub enum Answer {
     /// These octets.
     Done(Vec<u8>),
+    /// A line for each departure from DER, of which there is one at least.
+    Departures(Vec<String>),
     /// Why it is refused.
     Refused(String),
 }
@@ -61,8 +63,9 @@ pub fn answer_to(tools: &Tools<'_>, input: &Input<'_>) -> Result<Answer, AllocEr
 fn answer_by_trial(tools: &Tools<'_>, input: &Input<'_>) -> Result<Answer, AllocError> {
     let mut tried = String::new(tools.alloc);
     for (module, name) in MESSAGES {
-        if let Answer::Done(octets) = answer_as(tools, NamedType { module, name }, input)? {
-            return Ok(Answer::Done(octets));
+        match answer_as(tools, NamedType { module, name }, input)? {
+            Answer::Refused(_) => {}
+            answer => return Ok(answer),
         }
         if !tried.is_empty() {
             tried.push_str(", ")?;
@@ -92,17 +95,83 @@ fn answer_by(
     wanted: &MessageType<'_>,
     input: &Input<'_>,
 ) -> Result<Answer, AllocError> {
-    if tools.call.work == Work::Normalise {
-        return normalised(tools.alloc, wanted, input);
+    match tools.call.work {
+        Work::Normalise => normalised(tools.alloc, wanted, input),
+        Work::Lint => linted(tools, wanted, input.octets),
+        Work::Check if wanted.rule == Codec::Der => checked(tools, wanted, input.octets),
+        _ => match text_of(tools, wanted, input.octets) {
+            Ok(text) => Ok(Answer::Done(text.into_bytes())),
+            Err(ReadError::OutOfMemory) => Err(AllocError),
+            Err(ReadError::Refused(refusal)) => refused(tools.alloc, wanted, &refusal),
+        },
     }
-    match text_of(tools, wanted, input.octets) {
-        Ok(text) => Ok(Answer::Done(text.into_bytes())),
-        Err(ReadError::OutOfMemory) => Err(AllocError),
-        Err(ReadError::Refused(refusal)) => {
-            let shown = refusal.with_names(&wanted.schema, wanted.root);
-            Ok(Answer::Refused(format!(in tools.alloc; "{shown}")?))
-        }
+}
+
+/// Returns why a message of this type is refused.
+fn refused(
+    alloc: Global,
+    wanted: &MessageType<'_>,
+    refusal: &Refusal,
+) -> Result<Answer, AllocError> {
+    if refusal.error.is_out_of_memory() {
+        return Err(AllocError);
     }
+    let shown = refusal.with_names(&wanted.schema, wanted.root);
+    Ok(Answer::Refused(format!(in alloc; "{shown}")?))
+}
+
+/// Returns whether a call looks into open types.
+fn open_types(call: &Call<'_>) -> OpenTypes {
+    if call.is_outer {
+        OpenTypes::Unexamined
+    } else {
+        OpenTypes::Examined
+    }
+}
+
+/// Returns nothing for a message of DER, and else what is to be mended first.
+fn checked(
+    tools: &Tools<'_>,
+    wanted: &MessageType<'_>,
+    octets: &[u8],
+) -> Result<Answer, AllocError> {
+    let (alloc, opens) = (tools.alloc, open_types(tools.call));
+    match check_der(alloc, &wanted.schema, wanted.root, octets, opens) {
+        Ok(()) => Ok(Answer::Done(Vec::new(alloc))),
+        Err(departure) => refused(alloc, wanted, &departure.refusal),
+    }
+}
+
+/// Returns everything of a message of BER that departs from DER.
+fn linted(
+    tools: &Tools<'_>,
+    wanted: &MessageType<'_>,
+    octets: &[u8],
+) -> Result<Answer, AllocError> {
+    let (alloc, opens) = (tools.alloc, open_types(tools.call));
+    match lint(alloc, &wanted.schema, wanted.root, octets, opens) {
+        Ok(list) => departures(alloc, wanted, list.as_slice()),
+        Err(LintError::OutOfMemory) => Err(AllocError),
+        Err(LintError::Refused(refusal)) => refused(alloc, wanted, &refusal),
+        Err(error) => Ok(Answer::Refused(format!(in alloc; "{error}")?)),
+    }
+}
+
+/// Returns a line for each departure, if there are any.
+fn departures(
+    alloc: Global,
+    wanted: &MessageType<'_>,
+    list: &[Departure],
+) -> Result<Answer, AllocError> {
+    if list.is_empty() {
+        return Ok(Answer::Done(Vec::new(alloc)));
+    }
+    let mut lines = Vec::new(alloc);
+    for departure in list {
+        let shown = departure.with_names(&wanted.schema, wanted.root);
+        lines.push(format!(in alloc; "{shown}")?)?;
+    }
+    Ok(Answer::Departures(lines))
 }
 
 /// Returns a message as text or the parts of it, or no text if it is only checked.
@@ -111,29 +180,16 @@ fn text_of(
     wanted: &MessageType<'_>,
     octets: &[u8],
 ) -> Result<String, ReadError> {
-    let Tools {
-        alloc,
-        call,
-        known,
-        ..
-    } = *tools;
+    let Tools { alloc, call, known, .. } = *tools;
     let (rule, schema, root) = (wanted.rule, &wanted.schema, wanted.root);
-    match call.work {
-        Work::Show if !call.has_offsets => {
-            show(alloc, known, rule, schema, root, wanted.name, octets)
-        }
-        Work::Show => {
-            check(alloc, rule, schema, root, octets)?;
-            offsets_text(alloc, rule, schema, root, wanted.name, octets)
-        }
-        _ => {
-            check(alloc, rule, schema, root, octets)?;
-            if rule == Codec::Der && !call.is_outer {
-                check_inner(alloc, known, schema, root, octets)?;
-            }
-            Ok(String::new(alloc))
-        }
+    if call.work == Work::Show && !call.has_offsets {
+        return show(alloc, known, rule, schema, root, wanted.name, octets);
     }
+    check(alloc, rule, schema, root, octets)?;
+    if call.work == Work::Show {
+        return offsets_text(alloc, rule, schema, root, wanted.name, octets);
+    }
+    Ok(String::new(alloc))
 }
 
 /// Returns the DER octets of a message, in the form in which it was handed over.

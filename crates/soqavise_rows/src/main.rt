@@ -92,7 +92,11 @@ fn run(tools: Tools<'_>, input: &[u8]) -> Result<String, Fault> {
         refusals: Vec::new(alloc),
         is_refused: false,
     };
-    session.input("input", input)?;
+    if session.tools.call.has_lines {
+        session.lines("input", BufReader::new(alloc, input).map_err(Fault::of_write)?)?;
+    } else {
+        session.input("input", input)?;
+    }
     let Session {
         output,
         refusals,
