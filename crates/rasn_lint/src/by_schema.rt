@@ -225,8 +225,8 @@ fn len_after(parts: &[Span<'_>], octets: &[u8]) -> usize
 }
 
 /// Returns every departure from DER of octets that BER reads as a value of the type, in the order
-/// of the bytes: nothing exactly if DER reads them and, where open types are looked into, the octets
-/// of each are well formed.
+/// of the bytes: nothing exactly if DER reads them and, where open types are looked into, the
+/// octets of each are well formed.
 ///
 /// Each part of the value is judged on its own, in its place, its header and its contents.
 ///

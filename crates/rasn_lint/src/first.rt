@@ -61,7 +61,7 @@ fn out_of_memory(alloc: Global, id: TypeId) -> Departure
 }
 
 /// Checks that all of the octets are one value of the type by DER and, if open types are looked
-/// into, that the octets of each are well formed: exactly then [`lint`] has nothing to list.
+/// into, that the octets of each are well formed.
 ///
 /// # Errors
 /// The refusal of the reader of DER, with the place; or else the first departure inside an open

@@ -131,7 +131,8 @@ pub fn is_constructed(octets: &[u8]) -> bool
     }
 }
 
-/// Returns whether a value is a string, which BER may encode in segments (X.690 8.6.4, 8.7.3, 8.23).
+/// Returns whether a value is a string, which BER may encode in segments (X.690 8.6.4, 8.7.3,
+/// 8.23).
 pub fn is_string(kind: LeafKind) -> bool
     ensures { result ≡ is_string kind }
 {

@@ -57,8 +57,8 @@ pub struct Site<'a> {
     pub inner: Option<&'a [usize]>,
 }
 
-/// Returns the site of a part, or of an encoding inside it, from whose start so many octets are left
-/// to the end of the message.
+/// Returns the site of a part, or of an encoding inside it, from whose start so many octets are
+/// left to the end of the message.
 pub fn site_at<'a>(way: Way<'a, '_>, left: usize, inner: Option<&'a [usize]>) -> Site<'a>
     ensures { IsSiteAt way.entry.len left way.entry.part.now way.entry.path.now inner.entry result }
 {

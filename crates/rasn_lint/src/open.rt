@@ -53,8 +53,8 @@ fn end_len(alloc: Global, octets: &[u8]) -> usize
     if steps == 0 { 0 } else { 2 }
 }
 
-/// Returns the same of a value of an open type with this tag: without a tag, its octets are those of
-/// the encoding that it holds.
+/// Returns the same of a value of an open type with this tag: without a tag, its octets are those
+/// of the encoding that it holds.
 fn end_of(alloc: Global, tag: Tag, octets: &[u8]) -> usize
     ensures { IsEndOf (looked_for tag) octets.now result }
 {
