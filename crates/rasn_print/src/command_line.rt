@@ -25,13 +25,13 @@ pub enum InputForm {
 }
 
 /// What the command line asks for.
-#[derive(Clone, Copy)]
+#[derive(Drop)]
 pub struct Call<'a> {
     pub work: Work,
     /// The files of messages; none for standard input.
-    pub files: &'a [&'a str],
+    pub files: Vec<&'a str>,
     /// The files of modules.
-    pub modules: &'a [&'a str],
+    pub modules: Vec<&'a str>,
     /// The type, perhaps with its module before it.
     pub type_name: Option<&'a str>,
     pub rules: Option<Codec>,
@@ -163,19 +163,27 @@ fn flag<'a>(alloc: Global, name: &'a str, help: &'a str) -> Arg<'a> {
 }
 
 /// Returns what the command line asks for.
-pub fn call_of<'a>(matches: &'a ArgMatches<'a>) -> Option<Call<'a>> {
-    let (name, inner) = matches.subcommand()?;
-    Some(Call {
-        work: work_of(name)?,
-        files: inner.get_strs("file").unwrap_or(&[]),
-        modules: inner.get_strs("module").unwrap_or(&[]),
+pub fn call_of<'a>(
+    alloc: Global,
+    matches: &ArgMatches<'a>,
+) -> Result<Option<Call<'a>>, AllocError> {
+    let Some((name, inner)) = matches.subcommand() else {
+        return Ok(None);
+    };
+    let Some(work) = work_of(name) else {
+        return Ok(None);
+    };
+    Ok(Some(Call {
+        work,
+        files: Vec::from_slice(alloc, inner.get_strs("file").unwrap_or(&[]))?,
+        modules: Vec::from_slice(alloc, inner.get_strs("module").unwrap_or(&[]))?,
         type_name: inner.get_str("type"),
         rules: rules_of(inner.get_str("rules")),
         input: form_of(inner.get_str("input")),
         is_outer: inner.get_flag("outer"),
         has_offsets: inner.get_flag("offsets"),
         has_lines: inner.get_flag("lines"),
-    })
+    }))
 }
 
 /// Returns the work that a subcommand asks for.

@@ -1,11 +1,13 @@
 //! Shows, checks and converts messages of any type of ASN.1.
 #![tactic(auto)]
 
+use clap::ArgMatches;
 use rasn_compiler::Source;
 use rasn_print::{
     Call, Fault, Session, Tools, Work, call_of, command, known_of, modules_of, print_types,
     wanted_type,
 };
+use std::alloc::{AllocError, Global};
 use std::fs::{self, File};
 use std::io::{BufReader, BufWriter, ErrorKind, Read, Write};
 use std::process::ExitCode;
@@ -35,42 +37,70 @@ fn failed(rt: &HostRuntime, text: &str) -> ExitCode {
 
 /// Runs the program for its arguments. Returns its exit status.
 fn run(rt: &HostRuntime) -> Result<u8, Fault> {
-    let alloc = rt.alloc();
-    let mut words = Vec::new(alloc);
+    let mut words = Vec::new(rt.alloc());
     for word in env::args(rt).map_err(Fault::of_write)? {
         words.push(word)?;
     }
-    let matches = match command(alloc)?.try_get_matches_from(words.as_slice()) {
-        Ok(matches) => matches,
+    run_words(rt, words.as_slice())
+}
+
+/// Runs the program for these words.
+fn run_words(rt: &HostRuntime, words: &[String]) -> Result<u8, Fault> {
+    match command(rt.alloc())?.try_get_matches_from(words) {
+        Ok(matches) => run_matches(rt, matches),
         Err(error) => {
             error.print(rt).map_err(Fault::of_write)?;
-            return Ok(if error.exit_code() == 0 { 0 } else { USAGE });
+            Ok(if error.exit_code() == 0 { 0 } else { USAGE })
         }
-    };
-    match call_of(&matches) {
+    }
+}
+
+/// Runs the call that the command line asks for.
+fn run_matches(rt: &HostRuntime, matches: ArgMatches<'_>) -> Result<u8, Fault> {
+    match call_of(rt.alloc(), &matches)? {
         Some(call) => run_call(rt, &call),
         None => Ok(USAGE),
     }
+}
+
+/// Returns the texts of modules as sources.
+fn sources_of<'a>(
+    alloc: Global,
+    texts: &'a [(&'a str, String)],
+) -> Result<Vec<Source<'a>>, AllocError> {
+    let mut sources = Vec::new(alloc);
+    for (name, text) in texts {
+        let source = Source {
+            name,
+            text: text.as_str(),
+        };
+        sources.push(source)?;
+    }
+    Ok(sources)
 }
 
 /// Runs a call of the program.
 fn run_call(rt: &HostRuntime, call: &Call<'_>) -> Result<u8, Fault> {
     let alloc = rt.alloc();
     let mut texts = Vec::new(alloc);
-    for name in call.modules {
+    for name in &call.modules {
         match fs::read_to_string(rt, *name) {
             Ok(text) => texts.push((*name, text))?,
             Err(error) => return unreadable(rt, name, &error),
         }
     }
-    let mut sources = Vec::new(alloc);
-    for (name, text) in &texts {
-        sources.push(Source {
-            name,
-            text: text.as_str(),
-        })?;
-    }
-    let read = modules_of(alloc, sources.as_slice())?;
+    let sources = sources_of(alloc, texts.as_slice())?;
+    run_sources(rt, call, sources.as_slice())
+}
+
+/// Runs a call of the program with these texts of modules.
+fn run_sources<'a>(
+    rt: &HostRuntime,
+    call: &'a Call<'a>,
+    sources: &[Source<'a>],
+) -> Result<u8, Fault> {
+    let alloc = rt.alloc();
+    let read = modules_of(alloc, sources)?;
     let known = known_of(alloc, &read)?;
     let wanted = wanted_type(alloc, &read, call)?;
     let tools = Tools {
@@ -98,7 +128,7 @@ fn run_work(rt: &HostRuntime, tools: Tools<'_>) -> Result<u8, Fault> {
         refusals: rt.stderr(),
         is_refused: false,
     };
-    let status = inputs(rt, tools.call.files, &mut session)?;
+    let status = inputs(rt, tools.call.files.as_slice(), &mut session)?;
     session.flush()?;
     if status == 0 && session.is_refused {
         return Ok(REFUSED);

@@ -2,6 +2,7 @@
 //! its input in hexadecimal as the last word, or its text in quotation marks.
 #![tactic(auto)]
 
+use clap::ArgMatches;
 use rasn_compiler::Modules;
 use rasn_print::{
     Fault, Known, Session, Tools, call_of, command, known_of, modules_of, wanted_type,
@@ -55,11 +56,32 @@ fn answer_of(
     for word in call.split(' ') {
         words.push(word)?;
     }
-    let matches = match command(alloc)?.try_get_matches_from(words.as_slice()) {
-        Ok(matches) => matches,
-        Err(error) => return Ok(format!(in alloc; "{error}")?),
-    };
-    let Some(call) = call_of(&matches) else {
+    answer_to_words(alloc, read, known, words.as_slice(), input.as_bytes())
+}
+
+/// Returns what the call of these words prints for an input.
+fn answer_to_words(
+    alloc: Global,
+    read: &Modules<'_>,
+    known: &Known,
+    words: &[&str],
+    input: &[u8],
+) -> Result<String, Fault> {
+    match command(alloc)?.try_get_matches_from(words) {
+        Ok(matches) => answer_to_matches(alloc, read, known, matches, input),
+        Err(error) => Ok(format!(in alloc; "{error}")?),
+    }
+}
+
+/// Returns what the call that a command line asks for prints for an input.
+fn answer_to_matches(
+    alloc: Global,
+    read: &Modules<'_>,
+    known: &Known,
+    matches: ArgMatches<'_>,
+    input: &[u8],
+) -> Result<String, Fault> {
+    let Some(call) = call_of(alloc, &matches)? else {
         return Ok(String::from_str(alloc, "is no call")?);
     };
     let wanted = wanted_type(alloc, read, &call)?;
@@ -70,7 +92,7 @@ fn answer_of(
         known,
         wanted: wanted.as_ref(),
     };
-    run(tools, input.as_bytes())
+    run(tools, input)
 }
 
 /// Returns a text in which `\n` is a line feed, up to the quotation mark after it.
