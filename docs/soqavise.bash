@@ -3,10 +3,11 @@ _soqavise() {
     local word=${COMP_WORDS[COMP_CWORD]} before=${COMP_WORDS[COMP_CWORD - 1]} options='--help'
     case ${COMP_WORDS[1]} in
         show) options+=' --offsets' ;;
-        check) options+=' --outer' ;;
+        check | lint) options+=' --outer' ;;
     esac
     case ${COMP_WORDS[1]} in
         show | check | normalise) options+=' --module --type --rules --lines --input' ;;
+        lint) options+=' --module --type --lines --input' ;;
         types) options+=' --module' ;;
         dump) options+=' --input' ;;
     esac
@@ -16,7 +17,7 @@ _soqavise() {
         --type) mapfile -t COMPREPLY < <(compgen -W "$(soqavise types | sed 's/[:].*//; s/^[^.]*[.]//')" -- "$word") ;;
         *)
             if ((COMP_CWORD == 1)); then
-                mapfile -t COMPREPLY < <(compgen -W 'show check normalise types dump help' -- "$word")
+                mapfile -t COMPREPLY < <(compgen -W 'show check lint normalise types dump help' -- "$word")
             elif [[ $word == -* ]]; then
                 mapfile -t COMPREPLY < <(compgen -W "$options" -- "$word")
             else
