@@ -7,7 +7,7 @@ use Rattle.rasn_types.specs.declared.types.tag.Tag.{Tag}
 use Rattle.rasn_types.specs.declared.error.decode.DecodeError.{DecodeError}
 use Rattle.rasn_de.specs.State.{State}
 use Rattle.rasn_de.specs.Beyond.{Beyond, BeyondElements, BeyondMade, BeyondInside}
-use Rattle.rasn_de.specs.Constructed.{sequence_header, Closure}
+use Rattle.rasn_de.specs.Constructed.{sequence_header, contents_state, Closure}
 use Rattle.rasn_de.specs.Sequence.{MakesInitial, DecodesSequenceBy}
 
 -- What the initializer and the closure say of each value is said of what is read inside.
@@ -16,7 +16,8 @@ pub sequence_beyond : {I F D : Type 0} (root : ℕ) (extensible needs_field : Bo
     → ((o : State) (v : D) → MakesInitial made init o (Ok v) → beyond o v o)
     → ((o : State) (v : D) (m : State) → FnOnceReturnsAtMut g f o (Ok v) m → beyond o v m) → IfOk r (λ v. BeyondInside beyond (sequence_header tag) old v)
 sequence_beyond root extensible needs_field made init g f beyond tag old (Ok v) new (k, p) initial called =
-    (p.header, p.opened, p.left, elim p.call [ inl a ↦ subst (λ s. beyond _ v s) (sym a.2) (initial _ v a.1) | inr b ↦ called _ v _ b.1 ])
+    let start = contents_state (sequence_header tag) old p.header in
+    (p.header, p.opened, p.left, elim p.call [ inl a ↦ subst (λ s. beyond start v s) (sym a.2) (initial start v a.1) | inr b ↦ called start v p.left b.1 ])
 sequence_beyond root extensible needs_field made init g f beyond tag old (Err e) new k initial called = tt
 
 -- What is said of the value that the function makes from components.
