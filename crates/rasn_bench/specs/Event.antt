@@ -10,7 +10,7 @@ use Rattle.rasn_bench.specs.declared.worked.event.Event.{Event}
 use Rattle.rasn_bench.specs.declared.worked.event.Component.{Component}
 use Rattle.rasn_bench.specs.declared.worked.event.Component.TheVariants.{At, Level, Confirmed}
 use Rattle.rasn_de.specs.State.{State, Call}
-use Rattle.rasn_de.specs.Beyond.{Held, BeyondElements, BeyondInside}
+use Rattle.rasn_de.specs.Beyond.{Beyond, Held, BeyondElements, BeyondInside}
 use Rattle.rasn_de.specs.Constructed.{sequence_header}
 use Rattle.rasn_x509.specs.Times.{time_shape, time_tree, time_beyond}
 
@@ -49,7 +49,13 @@ component_beyond old (Confirmed truth) new = Unit {0}
 abbrev pub DecodesComponent : Call Component
 DecodesComponent old result new = IfOk result (λ c. component_beyond old c new)
 
+-- The time is one of these components.
+abbrev pub HoldsTime : List Component → Event → Type 0
+HoldsTime components event = Contains components (At event.time)
+
 -- The time is one of the components that are read inside.
+abbrev pub event_inside : Beyond Event
+event_inside start event end = (components : List Component) × BeyondElements (Held (choice event_parts) component_tree DecodesComponent) start components end × HoldsTime components event
+
 abbrev pub event_beyond : Tag → State → Event → Type 0
-event_beyond tag old event = BeyondInside (λ start (e : Event) end. (components : List Component) × BeyondElements (Held (choice event_parts) component_tree DecodesComponent) start components end × Contains components (At e.time))
-    (sequence_header tag) old event
+event_beyond tag old event = BeyondInside event_inside (sequence_header tag) old event

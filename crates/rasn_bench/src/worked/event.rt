@@ -1,11 +1,11 @@
 //! `Event ::= SET { time Time, level [0] IMPLICIT INTEGER (0..255) DEFAULT 7, confirmed [1]
 //! IMPLICIT BOOLEAN OPTIONAL }`
-ghost use Rattle.std.specs.Prelude.{◌≡◌, IfOk, IfErr, map, Contains};
+ghost use Rattle.std.specs.Prelude.{◌≡◌, IfOk, IfErr, map};
 ghost use Rattle.rasn_types.specs.Shapes.{IsFirst};
 ghost use Rattle.rasn_de.specs.Set.{MakesSet};
 ghost use Rattle.rasn_enc.specs.Sequence.{EncodesParts};
 ghost use Rattle.rasn_x509.specs.Times.{time_shape};
-ghost use Rattle.rasn_bench.specs.Event.{event_parts, event_tree, component_tree};
+ghost use Rattle.rasn_bench.specs.Event.{event_parts, event_tree, component_tree, HoldsTime};
 ghost use Rattle.rasn_types.specs.Truth.{IsWhether};
 
 use crate::worked::Time;
@@ -201,7 +201,7 @@ impl DecodeChoice for Component {
 /// Returns the value of these components. A component that is present twice is an error.
 fn gather(alloc: Global, codec: Codec, components: Vec<Component>) -> Result<Event, DecodeError>
     ensures makes { MakesSet event_parts event_tree (map component_tree components.items) result }
-    ensures beyond { IfOk result (λ e. Contains components.items (At e.time)) }
+    ensures beyond { IfOk result (HoldsTime components.items) }
     ensures rules { IfErr result (λ e. e.codec ≡ codec) }
 {
     let mut time = None;
@@ -258,7 +258,7 @@ impl Decode for Event {
             > { Component::decode(decoder) },
             |components: Vec<Component>| -> Result<Event, DecodeError>
                 ensures makes { MakesSet event_parts event_tree (map component_tree components.items) result }
-                ensures beyond { IfOk result (λ e. Contains components.items (At e.time)) }
+                ensures beyond { IfOk result (HoldsTime components.items) }
                 ensures rules { IfErr result (λ e. e.codec ≡ codec) }
             { gather(alloc, codec, components) },
         )
