@@ -55,7 +55,8 @@ HoldsTime components event = Contains components (At event.time)
 
 -- The time is one of the components that are read inside.
 abbrev pub event_inside : Beyond Event
-event_inside start event end = (components : List Component) × BeyondElements (Held (choice event_parts) component_tree DecodesComponent) start components end × HoldsTime components event
+event_inside start event end = (components : List Component) × BeyondElements (Held (choice event_parts) component_tree DecodesComponent) start components end
+    × HoldsTime components event
 
 abbrev pub event_beyond : Tag → State → Event → Type 0
 event_beyond tag old event = BeyondInside event_inside (sequence_header tag) old event
