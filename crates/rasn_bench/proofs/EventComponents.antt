@@ -1,5 +1,7 @@
 -- What was read of each part of an Event.
 use Rattle.std.proofs.Common.{◌≡◌, ◌⊎◌, inl, inr, ℕ, Bool, List, [], ◌∷◌, ◌++◌, Option, Some, None, map, unwrap_or, refl, sym, ap, subst, arith}
+use Rattle.std.specs.Prelude.{Contains}
+use Rattle.std.proofs.lemmas.List.Elements.{Contains-append_left}
 use Rattle.rasn_types.specs.Tags.{in_universal}
 use Rattle.rasn_types.specs.declared.types.tag.Tag.{Tag}
 use Rattle.rasn_types.specs.declared.error.decode.DecodeErrorKind.{DecodeErrorKind}
@@ -47,6 +49,15 @@ module _ (done : List Component) (time : Option Time) (level : Option ℕ) (conf
     slot_kept component_tree level_tree done (Confirmed b) (bool_tree b) 1 2 refl level (λ p. omega (arith, p)) s.1,
     slot_appended component_tree bool_tree done (Confirmed b) b 2 refl confirmed e s.2,
   )
+
+-- The time that was read is one of the components.
+abbrev pub IsThere : Option Time → List Component → Type 0
+IsThere None done = Unit {0}
+IsThere (Some t) done = Contains done (At t)
+
+pub there_still : (time : Option Time) (done : List Component) (next : Component) → IsThere time done → IsThere time (done ++ next ∷ [])
+there_still None done next h = tt
+there_still (Some t) done next h = Contains-append_left done (next ∷ []) (At t) h
 
 -- No time was read at the end.
 pub no_time : (all done : List Component) → done ≡ all → (held : Option Time) → held ≡ None → Slot 0 time_tree held (map component_tree done) → (kind : DecodeErrorKind)

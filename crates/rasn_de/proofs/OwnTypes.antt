@@ -6,3 +6,4 @@ pub mod Tags
 pub mod PartTypes
 pub mod AlternativeTypes
 pub mod SetPartTypes
+pub mod Beyond

@@ -1,5 +1,7 @@
 -- What values keep of the octets that they were read from, beyond their trees.
-use Rattle.std.specs.Prelude.{◌≡◌, ◌⊎◌, Option, Some, None, Ok, List, [], ◌∷◌, ◌++◌, Contains}
+use Rattle.std.specs.Prelude.{◌≡◌, ◌⊎◌, Option, Some, None, Result, Ok, List, [], ◌∷◌, ◌++◌, Contains, Vec}
+use Rattle.std.specs.Global.{Global}
+use Rattle.rasn_types.specs.declared.error.decode.DecodeError.{DecodeError}
 use Rattle.rasn_types.specs.declared.types.tag.Tag.{Tag}
 use Rattle.rasn_types.specs.declared.types.parts.OneOf.{OneOf}
 use Rattle.rasn_types.specs.declared.types.parts.OneOf.TheVariants.{This, Other}
@@ -47,6 +49,10 @@ BeyondElement {A} element old before all new = (v : A) × (all ≡ before ++ (v 
 abbrev pub BeyondElements : {A : Type 0} → Beyond A → Beyond (List A)
 BeyondElements element old [] new = new ≡ old
 BeyondElements element old (v ∷ vs) new = (here : State) × element old v here × BeyondElements element here vs new
+
+-- Components are read, one after the other, and a function makes the value from them.
+abbrev pub BeyondMade : {F D : Type 0} → Beyond F → (Vec F Global → Result D DecodeError → Type 0) → Beyond D
+BeyondMade {F} component made old v new = (fields : Vec F Global) × BeyondElements component old fields.items new × made fields (Ok v)
 
 -- What the contents of a value with such a header keep.
 abbrev pub BeyondInside : {D : Type 0} → Beyond D → ConstructedHeader → State → D → Type 0

@@ -82,8 +82,13 @@ pub trait Decode: AsnType {
 pub trait DecodeChoice: AsnType {
     ghost use Rattle.std.specs.Prelude.{◌≡◌};
     ghost use Rattle.rasn_types.specs.Shapes.{Parts, choice};
+    ghost use Rattle.rasn_de.specs.State.{Call};
 
     ghost alternatives: { Parts };
+
+    /// What a contract says, besides the tree, of a call that reads an alternative, as `beyond` of
+    /// `Decode` does. By default it says nothing.
+    ghost beyond: { Call Self } = { λ _ _ _. Unit {0} };
 
     /// Reads the alternative that begins with this tag. The caller has already looked at the tag:
     /// it is that of the next value, as returned by `Decoder::peek_tag`, and isn't universal 0.
@@ -94,6 +99,7 @@ pub trait DecodeChoice: AsnType {
     fn from_tag(decoder: &mut Decoder<'_>, tag: Tag) -> Result<Self, DecodeError>
         requires { NextTag (form decoder.old.rule) decoder.old.rest tag }
         ensures reads { Decodes Self.shape Self.tree decoder.old result decoder.new }
+        ensures beyond { Self.beyond decoder.old result decoder.new }
         ensures rules { IfErr result (λ e. e.codec ≡ decoder.old.rule) };
 
     ghost chooses: { Self.AsnType.shape ≡ choice alternatives };

@@ -2,7 +2,8 @@
 ghost use Rattle.std.specs.Prelude.{◌≡◌, IfOk, IfErr};
 ghost use Rattle.rasn_de.specs.Decodes.{DecodesParts};
 ghost use Rattle.rasn_enc.specs.Sequence.{EncodesParts};
-ghost use Rattle.rasn_bench.specs.Both.{both_parts, both_tree};
+ghost use Rattle.rasn_de.specs.Beyond.{Held};
+ghost use Rattle.rasn_bench.specs.Both.{both_parts, both_tree, both_inside};
 
 use rasn::ber::de::Decoder;
 use rasn::ber::enc::Encoder;
@@ -92,6 +93,12 @@ impl<A: AsnType, B: AsnType> Constructed<2, 0> for Both<A, B> {
 }
 
 impl<A: Decode, B: Decode> Decode for Both<A, B> {
+    ghost use Rattle.std.specs.Prelude.{IfOk};
+    ghost use Rattle.rasn_de.specs.Beyond.{Held};
+    ghost use Rattle.rasn_bench.specs.Both.{both_beyond};
+
+    ghost beyond = { λ tag old result _. IfOk result (both_beyond (Held A.shape A.tree (A.beyond A.TAG)) (Held B.shape B.tree (B.beyond B.TAG)) tag old) };
+
     fn decode_with_tag_and_constraints(
         decoder: &mut Decoder<'_>,
         tag: Tag,
@@ -106,6 +113,7 @@ impl<A: Decode, B: Decode> Decode for Both<A, B> {
             ),
             |decoder|
                 ensures reads { DecodesParts (both_parts A.shape B.shape) (both_tree A.tree B.tree) decoder.old result decoder.new }
+                ensures beyond { IfOk result (λ v. both_inside (Held A.shape A.tree (A.beyond A.TAG)) (Held B.shape B.tree (B.beyond B.TAG)) decoder.old v decoder.new) }
                 ensures rules { IfErr result (λ e. e.codec ≡ decoder.old.rule) }
             {
                 let first = A::decode(decoder)?;

@@ -5,7 +5,7 @@ ghost use Rattle.rasn_types.specs.Shapes.{IsFirst};
 ghost use Rattle.rasn_de.specs.Set.{MakesSet};
 ghost use Rattle.rasn_enc.specs.Sequence.{EncodesParts};
 ghost use Rattle.rasn_x509.specs.Times.{time_shape};
-ghost use Rattle.rasn_bench.specs.Event.{event_parts, event_tree, component_tree};
+ghost use Rattle.rasn_bench.specs.Event.{event_parts, event_tree, component_tree, HoldsTime};
 ghost use Rattle.rasn_types.specs.Truth.{IsWhether};
 
 use crate::worked::Time;
@@ -158,6 +158,10 @@ impl AsnType for Component {
 }
 
 impl Decode for Component {
+    ghost use Rattle.rasn_bench.specs.Event.{DecodesComponent};
+
+    ghost beyond = { λ _. DecodesComponent };
+
     fn decode_with_tag_and_constraints(
         decoder: &mut Decoder<'_>,
         _tag: Tag,
@@ -169,9 +173,11 @@ impl Decode for Component {
 
 impl DecodeChoice for Component {
     ghost use Rattle.std.specs.Prelude.{refl};
-    ghost use Rattle.rasn_bench.specs.Event.{event_parts};
+    ghost use Rattle.rasn_bench.specs.Event.{event_parts, DecodesComponent};
 
     ghost alternatives = { event_parts };
+
+    ghost beyond = { DecodesComponent };
 
     fn from_tag(decoder: &mut Decoder<'_>, tag: Tag) -> Result<Component, DecodeError> {
         if is_time(tag) {
@@ -195,6 +201,7 @@ impl DecodeChoice for Component {
 /// Returns the value of these components. A component that is present twice is an error.
 fn gather(alloc: Global, codec: Codec, components: Vec<Component>) -> Result<Event, DecodeError>
     ensures makes { MakesSet event_parts event_tree (map component_tree components.items) result }
+    ensures beyond { IfOk result (HoldsTime components.items) }
     ensures rules { IfErr result (λ e. e.codec ≡ codec) }
 {
     let mut time = None;
@@ -231,6 +238,11 @@ fn gather(alloc: Global, codec: Codec, components: Vec<Component>) -> Result<Eve
 }
 
 impl Decode for Event {
+    ghost use Rattle.std.specs.Prelude.{IfOk};
+    ghost use Rattle.rasn_bench.specs.Event.{event_beyond};
+
+    ghost beyond = { λ tag old result _. IfOk result (event_beyond tag old) };
+
     fn decode_with_tag_and_constraints(
         decoder: &mut Decoder<'_>,
         tag: Tag,
@@ -246,6 +258,7 @@ impl Decode for Event {
             > { Component::decode(decoder) },
             |components: Vec<Component>| -> Result<Event, DecodeError>
                 ensures makes { MakesSet event_parts event_tree (map component_tree components.items) result }
+                ensures beyond { IfOk result (HoldsTime components.items) }
                 ensures rules { IfErr result (λ e. e.codec ≡ codec) }
             { gather(alloc, codec, components) },
         )

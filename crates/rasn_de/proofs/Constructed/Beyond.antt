@@ -1,5 +1,5 @@
 -- What values hold beyond their trees, said of what is read one after the other and inside.
-use Rattle.std.proofs.Common.{◌≡◌, ◌≢◌, ◌⊎◌, inl, inr, ℕ, List, [], ◌∷◌, ◌++◌, length, Option, Some, None, Result, Ok, Err, refl, sym, subst, ap, arith}
+use Rattle.std.proofs.Common.{◌≡◌, ◌≢◌, ◌⊎◌, inl, inr, ℕ, List, [], ◌∷◌, ◌++◌, length, Option, Some, None, Result, Ok, Err, Vec, Global, refl, sym, subst, ap, arith}
 use Rattle.std.specs.Prelude.{IfOk, Contains}
 use Rattle.std.specs.Borrow.{Bor}
 use Rattle.std.proofs.lemmas.List.Elements.{Contains-push, Contains-push_cases, Contains-append_left}
@@ -9,7 +9,7 @@ use Rattle.rasn_types.specs.declared.error.decode.DecodeError.{DecodeError}
 use Rattle.rasn_de.specs.declared.ber.de.constructed.ConstructedHeader.{ConstructedHeader}
 use Rattle.rasn_de.specs.State.{State, Call}
 use Rattle.rasn_de.specs.Constructed.{DecodesInside}
-use Rattle.rasn_de.specs.Beyond.{Beyond, got, BeyondDefault, BeyondElement, BeyondElements, BeyondInside, BeyondSlot}
+use Rattle.rasn_de.specs.Beyond.{Beyond, got, BeyondDefault, BeyondElement, BeyondElements, BeyondMade, BeyondInside, BeyondSlot}
 
 -- What is said of what is read inside.
 pub inside_beyond : {D : Type 0} (beyond : Beyond D) (header : ConstructedHeader) (old : State) (r : Result D DecodeError) (new : State) → DecodesInside (λ o r n. IfOk r (λ v. beyond o v n)) header old r new
@@ -24,6 +24,12 @@ behind element old here next (u ∷ vs) v (mid, h, p) k = (mid, h, behind elemen
 
 pub beyond_more : {D : Type 0} (element : Beyond D) (old here next : State) (vs us : List D) → BeyondElements element old vs here → BeyondElement element here vs us next → BeyondElements element old us next
 beyond_more element old here next vs us p (v, e, k) = subst (λ l. BeyondElements element old l next) (sym e) (behind element old here next vs v p k)
+
+-- What a function makes of components.
+pub made_beyond : {F D : Type 0} (component : Beyond F) (made : Vec F Global → Result D DecodeError → Type 0) (old new : State) (fields : Vec F Global) (r : Result D DecodeError)
+    → BeyondElements component old fields.items new → made fields r → IfOk r (λ v. BeyondMade component made old v new)
+made_beyond component made old new fields (Ok v) h m = (fields, h, m)
+made_beyond component made old new fields (Err e) h m = tt
 
 -- A default that is made consumes nothing.
 pub default_beyond : {D : Type 0} (part : Beyond D) (old : State) (r : Result D DecodeError) → IfOk r (λ v. BeyondDefault part old v old)

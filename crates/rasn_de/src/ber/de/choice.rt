@@ -1,7 +1,8 @@
 //! CHOICE (X.690 8.13).
-ghost use Rattle.std.specs.Prelude.{◌≡◌, IfErr};
+ghost use Rattle.std.specs.Prelude.{◌≡◌, IfOk, IfErr};
 ghost use Rattle.rasn_de.specs.Decodes.{Decodes};
 ghost use Rattle.rasn_de.specs.Choice.{DecodesChosen};
+ghost use Rattle.rasn_de.specs.Beyond.{got};
 
 use crate::ber::de::Decoder;
 use crate::de::DecodeChoice;
@@ -19,6 +20,7 @@ impl<'input> Decoder<'input> {
     ) -> Result<D, DecodeError>
         ensures exact { DecodesChosen (Decodes D.shape D.tree) self.old result self.new }
         ensures reads { Decodes D.shape D.tree self.old result self.new }
+        ensures beyond { IfOk result (λ v. got D.beyond self.old v self.new) }
         ensures rules { IfErr result (λ e. e.codec ≡ self.old.rule) }
     {
         let tag = self.peek_tag()?;

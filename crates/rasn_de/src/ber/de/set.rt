@@ -1,7 +1,9 @@
 //! SET (X.690 8.11).
-ghost use Rattle.std.specs.Prelude.{Vec, ◌≡◌, IfErr};
+ghost use Rattle.std.specs.Prelude.{Vec, ◌≡◌, IfOk, IfErr};
 ghost use Rattle.std.specs.Global.{Global};
 ghost use Rattle.rasn_de.specs.Decodes.{Decodes};
+ghost use Rattle.rasn_de.specs.Beyond.{Held, BeyondElements, BeyondInside, BeyondMade};
+ghost use Rattle.rasn_de.specs.Constructed.{sequence_header};
 ghost use Rattle.rasn_de.specs.Set.{IsBelowLast, PeeksInOrder, DecodesComponents, DecodesSetContents, DecodesSetBy, DecodesSet, MakesByRules};
 ghost use Rattle.rasn_types.specs.Truth.{IsWhether};
 
@@ -42,6 +44,7 @@ impl<'input> Decoder<'input> {
     /// order (X.690 10.3).
     fn components<FIELDS: Decode>(&mut self) -> Result<Vec<FIELDS>, DecodeError>
         ensures exact { DecodesComponents (Decodes FIELDS.shape FIELDS.tree) (λ v. v.items) self.old result self.new }
+        ensures beyond { IfOk result (λ v. BeyondElements (Held FIELDS.shape FIELDS.tree (FIELDS.beyond FIELDS.TAG)) self.old v.items self.new) }
         ensures rules { IfErr result (λ e. e.codec ≡ self.old.rule) }
     {
         let mut values = Vec::new(self.alloc);
@@ -78,6 +81,7 @@ impl<'input> Decoder<'input> {
         requires callable { F.IsAlwaysCallable f }
         ensures exact { DecodesSetBy (Decodes FIELDS.shape FIELDS.tree) (F.post f) tag self.old result self.new }
         ensures reads { DecodesSet FIELDS.shape FIELDS.tree (F.post f) SET.parts SET.tree tag self.old result self.new }
+        ensures beyond { IfOk result (λ v. BeyondInside (BeyondMade (Held FIELDS.shape FIELDS.tree (FIELDS.beyond FIELDS.TAG)) (F.post f)) (sequence_header tag) self.old v) }
         ensures rules { MakesByRules self.old.rule (F.post f) → IfErr result (λ e. e.codec ≡ self.old.rule) }
     {
         self.inside(
@@ -86,6 +90,7 @@ impl<'input> Decoder<'input> {
                 requires { F.IsAlwaysCallable f }
                 ensures exact { DecodesSetContents (DecodesComponents (Decodes FIELDS.shape FIELDS.tree) (λ (v : Vec FIELDS Global). v.items)) (F.post f) inner.old result inner.new }
                 ensures rules { MakesByRules inner.old.rule (F.post f) → IfErr result (λ e. e.codec ≡ inner.old.rule) }
+                ensures beyond { IfOk result (λ v. BeyondMade (Held FIELDS.shape FIELDS.tree (FIELDS.beyond FIELDS.TAG)) (F.post f) inner.old v inner.new) }
             {
                 let fields = inner.components::<FIELDS>()?;
                 f(fields)

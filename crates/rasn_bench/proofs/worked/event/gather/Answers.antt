@@ -1,10 +1,13 @@
-use Rattle.std.proofs.Common.{rules, ◌≡◌, ◌∷◌, [], ◌++◌, List, length, sym, ap, ◌∙◌, append_assoc, append-nil, arith, refl}
+use Rattle.std.proofs.Common.{rules, ◌≡◌, ◌∷◌, [], ◌++◌, List, length, sym, ap, ◌∙◌, append_assoc, append-nil, arith, refl, subst}
+use Rattle.std.specs.Prelude.{Contains}
+use Rattle.std.proofs.lemmas.List.Elements.{Contains-push}
 use Rattle.std.specs.Vec.Iter.{into_iter_items}
 use Rattle.rasn_types.specs.Trees.{bool_tree}
 use Rattle.rasn_de.proofs.OwnTypes.Components.{component_twice}
 use Rattle.rasn_x509.specs.Times.{time_tree}
 use Rattle.rasn_bench.specs.Event.{event_parts, level_tree, component_tree}
-use Rattle.rasn_bench.proofs.EventComponents.{appended_time, appended_level, appended_confirmed, no_time, all_there}
+use Rattle.rasn_bench.specs.declared.worked.event.Component.TheVariants.{At}
+use Rattle.rasn_bench.proofs.EventComponents.{appended_time, appended_level, appended_confirmed, no_time, all_there, IsThere, there_still}
 use Rattle.rasn_bench.proofs.worked.event.gather.Goals as goal
 
 nothing_left : {X : Type 0} (l : List X) → length l ≡ 0 → l ≡ []
@@ -28,6 +31,7 @@ loop-component-preserved-else-is_some c =
           let short = ap length steps in
           omega arith,
       rw (c.replace.ensures.after, c.in-At.is) (appended_time at.yielded at.time at.level at.confirmed at.invariant.2 c.in-At.moment (search rules)),
+      rw (c.replace.ensures.after, c.in-At.is) (Contains-push at.yielded (At c.in-At.moment)),
     )
 
 pub returns-then-is_some-2-clause-makes : goal.returns-then-is_some-2-clause-makes
@@ -47,6 +51,7 @@ loop-component-preserved-else-is_some-2 c =
           let short = ap length steps in
           omega arith,
       rw (c.replace-in-Level.ensures.after, c.in-Level.is) (appended_level at.yielded at.time at.level at.confirmed at.invariant.2 c.in-Level.number (search rules)),
+      there_still at.time at.yielded c.in-Some.component at.invariant.3,
     )
 
 pub returns-then-is_some-3-clause-makes : goal.returns-then-is_some-3-clause-makes
@@ -66,6 +71,7 @@ loop-component-preserved c =
           let short = ap length steps in
           omega arith,
       rw (c.replace-in-Confirmed.ensures.after, c.in-Confirmed.is) (appended_confirmed at.yielded at.time at.level at.confirmed at.invariant.2 c.in-Confirmed.truth (search rules)),
+      there_still at.time at.yielded c.in-Some.component at.invariant.3,
     )
 
 pub returns-in_default-clause-makes : goal.returns-in_default-clause-makes
@@ -81,3 +87,10 @@ returns-clause-makes c =
     let gone : into_iter_items at.component-iterator ≡ [] = nothing_left _ (sym at.invariant.1 ∙ c.in-None.ensures.steps.0) in
     let all = sym (append-nil at.yielded) ∙ (rw gone at at.invariant.0 ∙ c.into_iter-component-iterator.ensures.into_iter_gives.0) in
     all_there c.args.components.items at.yielded all c.in-Some-time.time _ at.time at.level at.confirmed c.in-Some-time.is (search rules) at.invariant.2
+
+pub returns-clause-beyond : goal.returns-clause-beyond
+returns-clause-beyond c =
+    let at = c.loop-component in
+    let gone : into_iter_items at.component-iterator ≡ [] = nothing_left _ (sym at.invariant.1 ∙ c.in-None.ensures.steps.0) in
+    let all = sym (append-nil at.yielded) ∙ (rw gone at at.invariant.0 ∙ c.into_iter-component-iterator.ensures.into_iter_gives.0) in
+    subst (λ l. Contains l (At c.in-Some-time.time)) all (subst (λ h. IsThere h at.yielded) c.in-Some-time.is at.invariant.3)

@@ -1,5 +1,7 @@
 use Rattle.std.proofs.Common.{[], ◌∷◌, ◌++◌, ◌∙◌}
 use Rattle.rasn_de.specs.Decodes.{Decodes}
+use Rattle.rasn_de.specs.Beyond.{Held}
+use Rattle.rasn_de.proofs.Constructed.Beyond.{beyond_more}
 use Rattle.rasn_de.specs.Set.{not_read}
 use Rattle.rasn_de.proofs.Constructed.SetOfElements.{passes_from, came_stays}
 use Rattle.rasn_de.proofs.Headers.Tags.{tagged_order, look_refused, look_follows, look_kept}
@@ -48,4 +50,5 @@ loop-last-preserved g c =
           k.3 c.args.self.now c.loop-last.values.items _ c.loop-last.invariant.0 k.1 c.loop-last.invariant.1,
       look_kept c.args.self.now c.loop-last.self s c.loop-last.invariant.0 c.loop-last.last c.loop-last.invariant.2 g.FIELDS.AsnType.shape g.FIELDS.AsnType.tree _ c.in_ok-last.ensures k.0 _
           k.2 b k.2.end.1 k.3,
+      beyond_more (Held g.FIELDS.AsnType.shape g.FIELDS.AsnType.tree (g.FIELDS.Decode.beyond g.FIELDS.AsnType.TAG)) c.args.self.now c.loop-last.self _ c.loop-last.values.items _ c.loop-last.invariant.3 c.in_ok-push_element.ensures.beyond,
     )
