@@ -2,9 +2,9 @@
 #![tactic(auto)]
 
 use clap::ArgMatches;
-use rasn_compiler::Source;
+use rasn_compiler::{Modules, Source};
 use rasn_print::{
-    Call, Fault, Session, Tools, Work, call_of, command, known_of, modules_of, print_types,
+    Call, Fault, Known, Session, Tools, Work, call_of, command, known_of, modules_of, print_types,
     wanted_type,
 };
 use std::alloc::{AllocError, Global};
@@ -99,21 +99,40 @@ fn run_sources<'a>(
     call: &'a Call<'a>,
     sources: &[Source<'a>],
 ) -> Result<u8, Fault> {
+    let read = modules_of(rt.alloc(), sources)?;
+    run_modules(rt, call, &read)
+}
+
+/// Runs a call of the program with these modules.
+fn run_modules<'a>(
+    rt: &HostRuntime,
+    call: &'a Call<'a>,
+    read: &'a Modules<'a>,
+) -> Result<u8, Fault> {
+    let known = known_of(rt.alloc(), read)?;
+    run_known(rt, call, read, &known)
+}
+
+/// Runs a call of the program with these modules and the types of what is in open types.
+fn run_known<'a>(
+    rt: &HostRuntime,
+    call: &'a Call<'a>,
+    read: &'a Modules<'a>,
+    known: &'a Known,
+) -> Result<u8, Fault> {
     let alloc = rt.alloc();
-    let read = modules_of(alloc, sources)?;
-    let known = known_of(alloc, &read)?;
-    let wanted = wanted_type(alloc, &read, call)?;
+    let wanted = wanted_type(alloc, read, call)?;
     let tools = Tools {
         alloc,
         call,
-        read: &read,
-        known: &known,
+        read,
+        known,
         wanted: wanted.as_ref(),
     };
     run_work(rt, tools)
 }
 
-/// Runs the work of a call with these modules.
+/// Runs the work of a call.
 fn run_work(rt: &HostRuntime, tools: Tools<'_>) -> Result<u8, Fault> {
     let alloc = tools.alloc;
     let mut output = BufWriter::new(alloc, rt.stdout()).map_err(Fault::of_write)?;
