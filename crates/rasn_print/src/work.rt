@@ -180,7 +180,12 @@ fn text_of(
     wanted: &MessageType<'_>,
     octets: &[u8],
 ) -> Result<String, ReadError> {
-    let Tools { alloc, call, known, .. } = *tools;
+    let Tools {
+        alloc,
+        call,
+        known,
+        ..
+    } = *tools;
     let (rule, schema, root) = (wanted.rule, &wanted.schema, wanted.root);
     if call.work == Work::Show && !call.has_offsets {
         return show(alloc, known, rule, schema, root, wanted.name, octets);

@@ -115,7 +115,10 @@ fn run(tools: Tools<'_>, input: &[u8]) -> Result<String, Fault> {
         is_refused: false,
     };
     if session.tools.call.has_lines {
-        session.lines("input", BufReader::new(alloc, input).map_err(Fault::of_write)?)?;
+        session.lines(
+            "input",
+            BufReader::new(alloc, input).map_err(Fault::of_write)?,
+        )?;
     } else {
         session.input("input", input)?;
     }
