@@ -146,10 +146,10 @@ fn print_first<W: Write>(
 }
 
 /// Prints each departure, and their number.
-fn print_list<W: Write>(
-    schema: &Schema,
+fn print_list<'a, W: Write>(
+    schema: &'a Schema,
     id: TypeId,
-    list: &[Departure],
+    list: &'a [Departure],
     output: &mut W,
 ) -> io::Result<()> {
     for departure in list {
