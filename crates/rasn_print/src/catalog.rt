@@ -60,12 +60,12 @@ pub fn known_of(alloc: Global, read: &Modules<'_>) -> Result<Known, Fault> {
 pub fn wanted_type<'text>(
     alloc: Global,
     read: &Modules<'text>,
-    call: &Call<'_>,
+    call: &Call,
 ) -> Result<Option<MessageType<'text>>, Fault> {
-    let Some(name) = call.type_name else {
+    let Some(name) = &call.type_name else {
         return Ok(None);
     };
-    let Some(named) = type_named(read, name) else {
+    let Some(named) = type_named(read, name.as_str()) else {
         let text = format!(in alloc; "no type {name} is known")?;
         return Err(Fault::of_call(alloc, &text));
     };

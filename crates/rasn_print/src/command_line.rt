@@ -26,14 +26,14 @@ pub enum InputForm {
 
 /// What the command line asks for.
 #[derive(Drop)]
-pub struct Call<'a> {
+pub struct Call {
     pub work: Work,
     /// The files of messages; none for standard input.
-    pub files: Vec<&'a str>,
+    pub files: Vec<String>,
     /// The files of modules.
-    pub modules: Vec<&'a str>,
+    pub modules: Vec<String>,
     /// The type, perhaps with its module before it.
-    pub type_name: Option<&'a str>,
+    pub type_name: Option<String>,
     pub rules: Option<Codec>,
     pub input: Option<InputForm>,
     /// Whether open types aren't looked into.
@@ -163,10 +163,7 @@ fn flag<'a>(alloc: Global, name: &'a str, help: &'a str) -> Arg<'a> {
 }
 
 /// Returns what the command line asks for.
-pub fn call_of<'a>(
-    alloc: Global,
-    matches: &ArgMatches<'a>,
-) -> Result<Option<Call<'a>>, AllocError> {
+pub fn call_of(alloc: Global, matches: &ArgMatches<'_>) -> Result<Option<Call>, AllocError> {
     let Some((name, inner)) = matches.subcommand() else {
         return Ok(None);
     };
@@ -175,15 +172,27 @@ pub fn call_of<'a>(
     };
     Ok(Some(Call {
         work,
-        files: Vec::from_slice(alloc, inner.get_strs("file").unwrap_or(&[]))?,
-        modules: Vec::from_slice(alloc, inner.get_strs("module").unwrap_or(&[]))?,
-        type_name: inner.get_str("type"),
+        files: owned(alloc, inner.get_strs("file").unwrap_or(&[]))?,
+        modules: owned(alloc, inner.get_strs("module").unwrap_or(&[]))?,
+        type_name: match inner.get_str("type") {
+            Some(name) => Some(String::from_str(alloc, name)?),
+            None => None,
+        },
         rules: rules_of(inner.get_str("rules")),
         input: form_of(inner.get_str("input")),
         is_outer: inner.get_flag("outer"),
         has_offsets: inner.get_flag("offsets"),
         has_lines: inner.get_flag("lines"),
     }))
+}
+
+/// Returns copies of these words.
+fn owned(alloc: Global, words: &[&str]) -> Result<Vec<String>, AllocError> {
+    let mut copies = Vec::new(alloc);
+    for word in words {
+        copies.push(String::from_str(alloc, word)?)?;
+    }
+    Ok(copies)
 }
 
 /// Returns the work that a subcommand asks for.

@@ -12,15 +12,15 @@ use std::str;
 
 /// Prints what is to be said of messages.
 #[derive(Drop)]
-pub struct Session<'a, W: Write + Drop, E: Write + Drop> {
-    pub tools: Tools<'a>,
+pub struct Session<'a, 'text, W: Write + Drop, E: Write + Drop> {
+    pub tools: Tools<'a, 'text>,
     pub output: W,
     pub refusals: E,
     /// Whether a message was refused.
     pub is_refused: bool,
 }
 
-impl<W: Write + Drop, E: Write + Drop> Session<'_, W, E> {
+impl<W: Write + Drop, E: Write + Drop> Session<'_, '_, W, E> {
     /// Writes octets.
     fn write(&mut self, octets: &[u8]) -> Result<(), Fault> {
         self.output.write_all(octets).map_err(Fault::of_write)

@@ -15,13 +15,13 @@ use std::alloc::{AllocError, Global};
 
 /// What every message is worked on with.
 #[derive(Clone, Copy)]
-pub struct Tools<'a> {
+pub struct Tools<'a, 'text> {
     pub alloc: Global,
-    pub call: &'a Call<'a>,
-    pub read: &'a Modules<'a>,
+    pub call: &'a Call,
+    pub read: &'a Modules<'text>,
     pub known: &'a Known,
     /// The type that is asked for.
-    pub wanted: Option<&'a MessageType<'a>>,
+    pub wanted: Option<&'a MessageType<'text>>,
 }
 
 /// In which form a message was handed over, and its octets.
@@ -47,7 +47,7 @@ pub enum Answer {
 
 /// Returns what is printed for a message: of the type that is asked for, or that its label names,
 /// or of the first of the messages of standards that it is.
-pub fn answer_to(tools: &Tools<'_>, input: &Input<'_>) -> Result<Answer, AllocError> {
+pub fn answer_to(tools: &Tools<'_, '_>, input: &Input<'_>) -> Result<Answer, AllocError> {
     if let Some(wanted) = tools.wanted {
         return answer_by(tools, wanted, input);
     }
@@ -60,7 +60,7 @@ pub fn answer_to(tools: &Tools<'_>, input: &Input<'_>) -> Result<Answer, AllocEr
 }
 
 /// Returns what is printed for a message of the first type that it is of.
-fn answer_by_trial(tools: &Tools<'_>, input: &Input<'_>) -> Result<Answer, AllocError> {
+fn answer_by_trial(tools: &Tools<'_, '_>, input: &Input<'_>) -> Result<Answer, AllocError> {
     let mut tried = String::new(tools.alloc);
     for (module, name) in MESSAGES {
         match answer_as(tools, NamedType { module, name }, input)? {
@@ -77,7 +77,7 @@ fn answer_by_trial(tools: &Tools<'_>, input: &Input<'_>) -> Result<Answer, Alloc
 
 /// Returns what is printed for a message of this type of the modules.
 fn answer_as(
-    tools: &Tools<'_>,
+    tools: &Tools<'_, '_>,
     named: NamedType<'static>,
     input: &Input<'_>,
 ) -> Result<Answer, AllocError> {
@@ -91,7 +91,7 @@ fn answer_as(
 
 /// Returns what is printed for a message of this type.
 fn answer_by(
-    tools: &Tools<'_>,
+    tools: &Tools<'_, '_>,
     wanted: &MessageType<'_>,
     input: &Input<'_>,
 ) -> Result<Answer, AllocError> {
@@ -121,7 +121,7 @@ fn refused(
 }
 
 /// Returns whether a call looks into open types.
-fn open_types(call: &Call<'_>) -> OpenTypes {
+fn open_types(call: &Call) -> OpenTypes {
     if call.is_outer {
         OpenTypes::Unexamined
     } else {
@@ -131,7 +131,7 @@ fn open_types(call: &Call<'_>) -> OpenTypes {
 
 /// Returns nothing for a message of DER, and else what is to be mended first.
 fn checked(
-    tools: &Tools<'_>,
+    tools: &Tools<'_, '_>,
     wanted: &MessageType<'_>,
     octets: &[u8],
 ) -> Result<Answer, AllocError> {
@@ -144,7 +144,7 @@ fn checked(
 
 /// Returns everything of a message of BER that departs from DER.
 fn linted(
-    tools: &Tools<'_>,
+    tools: &Tools<'_, '_>,
     wanted: &MessageType<'_>,
     octets: &[u8],
 ) -> Result<Answer, AllocError> {
@@ -176,7 +176,7 @@ fn departures(
 
 /// Returns a message as text or the parts of it, or no text if it is only checked.
 fn text_of(
-    tools: &Tools<'_>,
+    tools: &Tools<'_, '_>,
     wanted: &MessageType<'_>,
     octets: &[u8],
 ) -> Result<String, ReadError> {

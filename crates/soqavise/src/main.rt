@@ -80,12 +80,12 @@ fn sources_of<'a>(
 }
 
 /// Runs a call of the program.
-fn run_call(rt: &HostRuntime, call: &Call<'_>) -> Result<u8, Fault> {
+fn run_call(rt: &HostRuntime, call: &Call) -> Result<u8, Fault> {
     let alloc = rt.alloc();
     let mut texts = Vec::new(alloc);
     for name in &call.modules {
-        match fs::read_to_string(rt, *name) {
-            Ok(text) => texts.push((*name, text))?,
+        match fs::read_to_string(rt, name.as_str()) {
+            Ok(text) => texts.push((name.as_str(), text))?,
             Err(error) => return unreadable(rt, name, &error),
         }
     }
@@ -94,31 +94,23 @@ fn run_call(rt: &HostRuntime, call: &Call<'_>) -> Result<u8, Fault> {
 }
 
 /// Runs a call of the program with these texts of modules.
-fn run_sources<'a>(
-    rt: &HostRuntime,
-    call: &'a Call<'a>,
-    sources: &[Source<'a>],
-) -> Result<u8, Fault> {
+fn run_sources(rt: &HostRuntime, call: &Call, sources: &[Source<'_>]) -> Result<u8, Fault> {
     let read = modules_of(rt.alloc(), sources)?;
     run_modules(rt, call, &read)
 }
 
 /// Runs a call of the program with these modules.
-fn run_modules<'a>(
-    rt: &HostRuntime,
-    call: &'a Call<'a>,
-    read: &'a Modules<'a>,
-) -> Result<u8, Fault> {
+fn run_modules(rt: &HostRuntime, call: &Call, read: &Modules<'_>) -> Result<u8, Fault> {
     let known = known_of(rt.alloc(), read)?;
     run_known(rt, call, read, &known)
 }
 
 /// Runs a call of the program with these modules and the types of what is in open types.
-fn run_known<'a>(
+fn run_known(
     rt: &HostRuntime,
-    call: &'a Call<'a>,
-    read: &'a Modules<'a>,
-    known: &'a Known,
+    call: &Call,
+    read: &Modules<'_>,
+    known: &Known,
 ) -> Result<u8, Fault> {
     let alloc = rt.alloc();
     let wanted = wanted_type(alloc, read, call)?;
@@ -133,7 +125,7 @@ fn run_known<'a>(
 }
 
 /// Runs the work of a call.
-fn run_work(rt: &HostRuntime, tools: Tools<'_>) -> Result<u8, Fault> {
+fn run_work(rt: &HostRuntime, tools: Tools<'_, '_>) -> Result<u8, Fault> {
     let alloc = tools.alloc;
     let mut output = BufWriter::new(alloc, rt.stdout()).map_err(Fault::of_write)?;
     if tools.call.work == Work::Types {
@@ -158,15 +150,15 @@ fn run_work(rt: &HostRuntime, tools: Tools<'_>) -> Result<u8, Fault> {
 /// Works on each file, or on standard input. Returns the exit status of files that can't be read.
 fn inputs<W: Write + Drop, E: Write + Drop>(
     rt: &HostRuntime,
-    files: &[&str],
-    session: &mut Session<'_, W, E>,
+    files: &[String],
+    session: &mut Session<'_, '_, W, E>,
 ) -> Result<u8, Fault> {
     if files.is_empty() {
         return source(rt, "standard input", rt.stdin(), session);
     }
     let mut status = 0;
     for name in files {
-        let answer = match File::open(rt, *name) {
+        let answer = match File::open(rt, name.as_str()) {
             Ok(file) => source(rt, name, file, session)?,
             Err(error) => unreadable(rt, name, &error)?,
         };
@@ -182,7 +174,7 @@ fn source<R: Read + Drop, W: Write + Drop, E: Write + Drop>(
     rt: &HostRuntime,
     name: &str,
     reader: R,
-    session: &mut Session<'_, W, E>,
+    session: &mut Session<'_, '_, W, E>,
 ) -> Result<u8, Fault> {
     let alloc = rt.alloc();
     if session.tools.call.has_lines {

@@ -106,7 +106,7 @@ fn unquoted(alloc: Global, text: &str) -> Result<String, AllocError> {
 }
 
 /// Returns what a call prints for an input.
-fn run(tools: Tools<'_>, input: &[u8]) -> Result<String, Fault> {
+fn run(tools: Tools<'_, '_>, input: &[u8]) -> Result<String, Fault> {
     let alloc = tools.alloc;
     let mut session = Session {
         tools,
