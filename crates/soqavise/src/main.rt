@@ -4,8 +4,8 @@
 use clap::ArgMatches;
 use rasn_compiler::{Modules, Source};
 use rasn_print::{
-    Call, Fault, Known, Session, Tools, Work, call_of, command, known_of, modules_of, print_types,
-    wanted_type,
+    Call, Fault, Known, MessageType, Session, Tools, Work, call_of, command, known_of, modules_of,
+    print_types, wanted_type,
 };
 use std::alloc::{AllocError, Global};
 use std::fs::{self, File};
@@ -112,14 +112,24 @@ fn run_known(
     read: &Modules<'_>,
     known: &Known,
 ) -> Result<u8, Fault> {
-    let alloc = rt.alloc();
-    let wanted = wanted_type(alloc, read, call)?;
+    let wanted = wanted_type(rt.alloc(), read, call)?;
+    run_wanted(rt, call, read, known, wanted.as_ref())
+}
+
+/// Runs a call of the program that asks for this type.
+fn run_wanted<'a, 'text>(
+    rt: &HostRuntime,
+    call: &'a Call,
+    read: &'a Modules<'text>,
+    known: &'a Known,
+    wanted: Option<&'a MessageType<'text>>,
+) -> Result<u8, Fault> {
     let tools = Tools {
-        alloc,
+        alloc: rt.alloc(),
         call,
         read,
         known,
-        wanted: wanted.as_ref(),
+        wanted,
     };
     run_work(rt, tools)
 }

@@ -5,7 +5,8 @@
 use clap::ArgMatches;
 use rasn_compiler::Modules;
 use rasn_print::{
-    Fault, Known, Session, Tools, call_of, command, known_of, modules_of, wanted_type,
+    Call, Fault, Known, MessageType, Session, Tools, call_of, command, known_of, modules_of,
+    wanted_type,
 };
 use std::alloc::{AllocError, Global};
 use std::io::{BufRead, BufReader, BufWriter, Write};
@@ -85,12 +86,24 @@ fn answer_to_matches(
         return Ok(String::from_str(alloc, "is no call")?);
     };
     let wanted = wanted_type(alloc, read, &call)?;
+    answer_to_call(alloc, &call, read, known, wanted.as_ref(), input)
+}
+
+/// Returns what a call that asks for this type prints for an input.
+fn answer_to_call<'a, 'text>(
+    alloc: Global,
+    call: &'a Call,
+    read: &'a Modules<'text>,
+    known: &'a Known,
+    wanted: Option<&'a MessageType<'text>>,
+    input: &[u8],
+) -> Result<String, Fault> {
     let tools = Tools {
         alloc,
-        call: &call,
+        call,
         read,
         known,
-        wanted: wanted.as_ref(),
+        wanted,
     };
     run(tools, input)
 }
