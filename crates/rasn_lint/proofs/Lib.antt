@@ -14,3 +14,4 @@ pub mod Opened
 pub mod Clean
 pub mod Anew
 pub mod WorkedDepartures
+pub mod WorkedMessages

@@ -13,3 +13,4 @@ pub mod Judged
 pub mod Lint
 pub mod Laws
 pub mod Worked
+pub mod WorkedMessages
