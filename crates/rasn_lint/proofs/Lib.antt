@@ -8,6 +8,7 @@ pub mod Worked
 pub mod Judged
 pub mod Unread
 pub mod Reader
+pub mod ByRule
 pub mod Noted
 pub mod Mended
 pub mod Opened

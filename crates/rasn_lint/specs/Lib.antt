@@ -8,6 +8,7 @@ pub mod Trail
 pub mod Place
 pub mod Header
 pub mod Leaf
+pub mod Untyped
 pub mod Open
 pub mod Judged
 pub mod Lint
