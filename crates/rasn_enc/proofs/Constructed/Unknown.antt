@@ -10,10 +10,8 @@ use Rattle.rasn_types.specs.Bytes.{Bytes, IsUntaggedOpen, Each, TagsOf}
 use Rattle.rasn_types.specs.declared.error.encode.EncodeError.{EncodeError}
 use Rattle.rasn_types.proofs.SetOf.Same.{items_one}
 use Rattle.rasn_enc.specs.View.{View, appended}
-use Rattle.rasn_enc.specs.Primitive.{IsAllocError}
 use Rattle.rasn_enc.specs.Encoding.{AppendsEncoding, EncodeFails}
-use Rattle.rasn_enc.specs.Any.{IsUntaggedInSetError}
-use Rattle.rasn_enc.specs.Unknown.{have_octets, AreUntaggedInSet, FailsAtUnknown}
+use Rattle.rasn_enc.specs.Unknown.{have_octets, FailsAtUnknown}
 use Rattle.rasn_enc.proofs.Leaves.Segments.{joined_one}
 use Rattle.rasn_enc.proofs.OwnTypes.Sequence.{appended-nil, appended-more}
 
@@ -54,6 +52,11 @@ no_octets [] n = refl
 no_octets ([] ∷ values) n = no_octets values n
 no_octets ((x ∷ l) ∷ values) n = absurd (n (has_octets x l values))
 
+-- A test for octets says that there are none.
+pub none_kept : (b : Bool) (l values : List (List ℕ)) → b ≡ have_octets l → l ≡ values → b ≡ false → T (have_octets values) → ⊥
+none_kept true l values e f n h = cc
+none_kept false l values e f n h = subst T (ap have_octets (sym f) ∙ sym e) h
+
 some_octets : (values : List (List ℕ)) → T (have_octets values) → joined_lists values ≢ []
 some_octets [] h e = h
 some_octets ([] ∷ values) h e = some_octets values h e
@@ -80,30 +83,34 @@ no_tags [] e = refl
 no_tags (x ∷ l) e = cc
 
 -- For the clause on success.
-pub unknown_encoded : (values : List (List ℕ)) (v w : View) → (AreUntaggedInSet values v → ⊥) → w ≡ appended v (joined_lists values) [] → AppendsEncoding unknown (list_tree numbers values) v w
+pub unknown_encoded : (values : List (List ℕ)) (v w : View) → (T (have_octets values) → v.last.tags ≡ None) → w ≡ appended v (joined_lists values) [] → AppendsEncoding unknown (list_tree numbers values) v w
 unfolding Bytes IsUntaggedOpen
 unknown_encoded values v w n a = record {
   octets = joined_lists values;
   defined = (map numbers values, values, refl, kept values, refl);
   tags = [];
-  heads = λ k. no_tags (joined_lists values) (no_octets values (λ h. n (h, k)));
-  tagged = λ k b. no_octets values (λ h. n (h, k));
+  heads = λ k. no_tags (joined_lists values) (no_octets values (λ h. k (n h)));
+  tagged = λ k b. no_octets values (λ h. k (n h));
   appended = a;
 }
+
+-- The same, where no value has octets.
+pub unknown_none : (values : List (List ℕ)) (v : View) → (T (have_octets values) → ⊥) → AppendsEncoding unknown (list_tree numbers values) v v
+unknown_none values v n = unknown_encoded values v v (λ h. absurd (n h)) (appended-nil v ∙ ap (λ l. appended v l []) (sym (no_octets values n)))
 
 -- For the clause on refusals.
 unknown_refused : (values : List (List ℕ)) (v : View) (e : EncodeError) → FailsAtUnknown values v e → EncodeFails unknown (list_tree numbers values) v e
 unfolding Bytes IsUntaggedOpen
-unknown_refused values v e (inl (k, told)) = record {
+unknown_refused values v e (s, inl (k, told)) = record {
   why = inr (inr (record {
     bare = tt;
     some = λ octets (us, bs, f, h, g) n.
         let i : us ≡ map numbers values = sym (items_one (map numbers values) us f) in
-        some_octets values k.0 (ap joined_lists (sym (kept_one values us bs i h)) ∙ (sym g ∙ n));
-    keeps = k.1;
+        some_octets values s (ap joined_lists (sym (kept_one values us bs i h)) ∙ (sym g ∙ n));
+    keeps = k;
   }));
 }
-unknown_refused values v e (inr m) = record { why = inl (ap (λ (x : EncodeError). x.kind) m) }
+unknown_refused values v e (s, inr (k, m)) = record { why = inl (ap (λ (x : EncodeError). x.kind) m) }
 
 pub unknown_fails : {R : Type 0} (r : Result R EncodeError) (values : List (List ℕ)) (v : View) → IfErr r (FailsAtUnknown values v) → IfErr r (EncodeFails unknown (list_tree numbers values) v)
 unknown_fails r values v h = IfErr-weaker r _ _ (λ e k. unknown_refused values v e k) h

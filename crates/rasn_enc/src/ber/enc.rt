@@ -2,6 +2,7 @@
 ghost use Rattle.std.specs.Prelude.{◌≡◌, ◌≤◌, ◌⊎◌, length, IfOk, IfErr, OnOk, OnErr, false, true};
 ghost use Rattle.rasn_types.specs.Truth.{IsWhether};
 ghost use Rattle.rasn_types.specs.Shapes.{Admits};
+ghost use Rattle.rasn_types.specs.Errors.{IsEncodeOutOfMemory};
 ghost use Rattle.rasn_enc.specs.Errors.{FailsAtSize};
 ghost use Rattle.rasn_enc.specs.View.{started, AreTagsInOrder};
 ghost use Rattle.rasn_enc.specs.Primitive.{IsAllocError, IsOrderError};
@@ -181,6 +182,7 @@ impl Encoder {
         ensures ok { IfOk result (λ v. v.items ≡ self.last.octets) }
         ensures order { OnOk result (AreTagsInOrder self) }
         ensures fails { IfErr result (λ e. IsAllocError self.rule e ⊎ FailsAtTags self e) }
+        ensures memory { IfErr result (λ e. IsEncodeOutOfMemory e.kind → AreTagsInOrder self) }
     {
         if self.kept_tags_out_of_order() {
             return Err(out_of_order(self.codec()));

@@ -1,6 +1,6 @@
 //! Writing extension additions (X.680 25.4).
-ghost use Rattle.std.specs.Prelude.{◌≡◌, IfErr, OnOk, OnErr};
-ghost use Rattle.rasn_types.specs.Shapes.{tagged_as, looked_for, option};
+ghost use Rattle.std.specs.Prelude.{◌≡◌, IfErr, IsOk, OnOk, OnErr};
+ghost use Rattle.rasn_types.specs.Shapes.{tagged_as, looked_for, option, absent};
 ghost use Rattle.rasn_enc.specs.Extension.{group_tree};
 ghost use Rattle.rasn_enc.specs.Encoding.{AppendsEncoding, EncodeFails};
 
@@ -36,7 +36,7 @@ impl Encoder {
     /// no group (X.680 25.10). The name is ignored.
     ///
     /// # Errors
-    /// The error of the value. On error, nothing is written.
+    /// The error of the value; none if there is no group. On error, nothing is written.
     pub fn encode_extension_addition_group<
         const RC: usize,
         const EC: usize,
@@ -44,6 +44,7 @@ impl Encoder {
     >(&mut self, value: Option<&E>, _identifier: Identifier) -> Result<(), EncodeError>
         ensures ok { OnOk result (AppendsEncoding (option (looked_for E.TAG) E.shape) (group_tree E.tree value.entry) self.old self.new) }
         ensures err { OnErr result (self.new ≡ self.old) }
+        ensures accepts { group_tree E.tree value.entry ≡ absent → IsOk result }
         ensures refused { IfErr result (EncodeFails (option (looked_for E.TAG) E.shape) (group_tree E.tree value.entry) self.old) }
         ensures rules { IfErr result (λ e. e.codec ≡ self.old.rule) }
     {

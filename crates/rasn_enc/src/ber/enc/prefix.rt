@@ -1,6 +1,6 @@
 //! Writing values under explicit tags (X.690 8.14.2).
-ghost use Rattle.std.specs.Prelude.{◌≡◌, IfErr, OnOk, OnErr};
-ghost use Rattle.rasn_types.specs.Shapes.{prefix, optional};
+ghost use Rattle.std.specs.Prelude.{◌≡◌, IfErr, IsOk, OnOk, OnErr};
+ghost use Rattle.rasn_types.specs.Shapes.{prefix, optional, absent};
 ghost use Rattle.rasn_enc.specs.Encoding.{AppendsEncoding, AppendsPart, EncodeFails, EncodePartFails};
 
 use crate::ber::enc::Encoder;
@@ -13,7 +13,8 @@ impl Encoder {
     /// or nothing if the value isn't present.
     ///
     /// # Errors
-    /// The error of the value, otherwise only `OutOfMemory`. On error, nothing is written.
+    /// The error of the value, otherwise only `OutOfMemory`; none if the value isn't present. On
+    /// error, nothing is written.
     pub fn encode_explicit_prefix<V: Encode>(
         &mut self,
         tag: Tag,
@@ -22,6 +23,7 @@ impl Encoder {
     ) -> Result<(), EncodeError>
         ensures ok { OnOk result (AppendsPart optional (prefix tag V.shape) (V.tree value.now) self.old self.new) }
         ensures err { OnErr result (self.new ≡ self.old) }
+        ensures accepts { V.tree value.now ≡ absent → IsOk result }
         ensures refused { IfErr result (EncodePartFails optional (prefix tag V.shape) (V.tree value.now) self.old) }
         ensures rules { IfErr result (λ e. e.codec ≡ self.old.rule) }
     {

@@ -6,8 +6,7 @@ ghost use Rattle.rasn_types.specs.Trees.{list_tree};
 ghost use Rattle.rasn_enc.specs.View.{Extends, appended};
 ghost use Rattle.rasn_enc.specs.Primitive.{IsAllocError};
 ghost use Rattle.rasn_enc.specs.Encoding.{AppendsEncoding};
-ghost use Rattle.rasn_enc.specs.Any.{IsUntaggedInSetError};
-ghost use Rattle.rasn_enc.specs.Unknown.{have_octets, AreUntaggedInSet, FailsAtUnknown};
+ghost use Rattle.rasn_enc.specs.Unknown.{have_octets, FailsAtUnknown};
 
 use crate::ber::enc::Encoder;
 use crate::ber::enc::any::any_in_set;
@@ -20,37 +19,29 @@ impl Encoder {
     ///
     /// # Errors
     /// `AnyInSet` if octets would be written directly in a SET, or in the output of an encoder that
-    /// `new_set` made: their order isn't known (X.690 9.3, 10.3). Otherwise only `OutOfMemory`. On
-    /// error, nothing is written.
+    /// `new_set` made: their order isn't known (X.690 9.3, 10.3). Otherwise only `OutOfMemory`; none
+    /// if there are no octets. On error, nothing is written.
     pub fn encode_unknown(&mut self, values: &Unknown) -> Result<(), EncodeError>
         ensures ok { OnOk result (AppendsEncoding unknown (list_tree numbers values.now.values.items) self.old self.new) }
         ensures err { OnErr result (self.new ≡ self.old) }
         ensures fails { IfErr result (FailsAtUnknown values.now.values.items self.old) }
         ensures rules { IfErr result (λ e. e.codec ≡ self.old.rule) }
     {
-        self.refuse_in_set(&values.values)?;
+        let values: &[Any] = &values.values;
+        if !some_have_octets(values) {
+            return Ok(());
+        }
+        if self.keeps_tags() {
+            return Err(any_in_set(self.codec()));
+        }
         let end = self.end();
-        match self.append_values(&values.values) {
+        match self.append_values(values) {
             Ok(()) => Ok(()),
             Err(error) => {
                 self.cut_back(end);
                 Err(error)
             }
         }
-    }
-
-    /// Returns an error if some of the values have octets, and the last list keeps tags.
-    fn refuse_in_set(&self, values: &[Any]) -> Result<(), EncodeError>
-        ensures ok { OnOk result (AreUntaggedInSet values.now self.now → ⊥) }
-        ensures fails { IfErr result (λ e. AreUntaggedInSet values.now self.now × IsUntaggedInSetError self.now.rule e) }
-    {
-        if !self.keeps_tags() {
-            return Ok(());
-        }
-        if some_have_octets(values) {
-            return Err(any_in_set(self.codec()));
-        }
-        Ok(())
     }
 
     /// Appends the octets of the values to the last list.
