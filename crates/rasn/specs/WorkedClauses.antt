@@ -6,6 +6,8 @@ use Rattle.rasn_de.specs.declared.ber.de.parser.ParseError.{ParseError}
 use Rattle.rasn_de.specs.declared.ber.de.parser.ParseError.TheVariants.{OutOfMemory}
 use Rattle.rasn_de.specs.Segments.{string_at, octets, without_memory}
 use Rattle.rasn_de.specs.OctetString.{CollectsOctets}
+use Rattle.rasn_de.specs.SetPartTypes.{HasGap, LeavesGap}
+use Rattle.rasn_types.specs.Shapes.{chosen, absent, required, optional, default}
 use Rattle.rasn_types.specs.Options.{IsSomeMeaningExactlyIf}
 use Rattle.rasn_types.specs.Calendar.{IsOffset}
 use Rattle.rasn_types.specs.CharacterString.{IsFirstForeign}
@@ -43,6 +45,13 @@ pub record WorkedClauses : Type 0 where
   pub nothing_collected : CollectsOctets Ber 2 (in_universal 4) (36 ∷ 0 ∷ []) → ⊥
   pub empty_collected : CollectsOctets Ber 2 (in_universal 4) (36 ∷ 2 ∷ 4 ∷ 0 ∷ []) → ⊥
   pub cut_collected : CollectsOctets Ber 2 (in_universal 4) (36 ∷ 3 ∷ 4 ∷ 2 ∷ 5 ∷ []) → ⊥
+  -- Of two parts of a SET, the one that isn't read leaves a gap if it is required or has a default, and none if it is
+  -- optional.
+  pub required_gap : LeavesGap 0 (required ∷ optional ∷ []) (chosen 1 absent ∷ [])
+  pub default_gap : LeavesGap 0 (required ∷ default absent ∷ []) (chosen 0 absent ∷ [])
+  pub optional_left_out : LeavesGap 0 (required ∷ optional ∷ []) (chosen 0 absent ∷ []) → ⊥
+  pub empty_slot : HasGap (required ∷ default absent ∷ []) (Some absent ∷ None ∷ [])
+  pub filled_slots : HasGap (required ∷ default absent ∷ []) (Some absent ∷ Some absent ∷ []) → ⊥
   -- 2^183 and -2^183 - 1 take 24 octets, 2^183 - 1 and -2^183 take 23
   pub long_number : IsLong (pos (2 ^ 183))
   pub long_below : IsLong (negsuc (2 ^ 183))

@@ -5,7 +5,7 @@ use Rattle.rasn_types.specs.declared.types.codec.Codec.{Codec}
 use Rattle.rasn_types.specs.declared.types.tag.Tag.{Tag}
 use Rattle.rasn_types.specs.declared.error.decode.DecodeError.{DecodeError}
 use Rattle.rasn_types.specs.Errors.{IsOutOfMemory}
-use Rattle.rasn_types.specs.Shapes.{Tree, chosen, items, choice, Parts, part, Presence, required, presences}
+use Rattle.rasn_types.specs.Shapes.{Tree, chosen, items, choice, Parts, part, Presence, required, default_by, presences}
 use Rattle.rasn_types.specs.Shapes.Parts.{none}
 use Rattle.rasn_types.specs.Readings.{IsMissing, NoneOf, OneOf}
 use Rattle.rasn_de.specs.State.{State, Call}
@@ -69,11 +69,11 @@ abbrev pub IsPlaced : {T : Type 0} → Option T → T → List ℕ → Option (B
 IsPlaced before v name None after = (before ≡ None) × (after ≡ Some v)
 IsPlaced before v name (Some told) after = (before ≢ None) × (after ≡ before) × (text told ≡ name)
 
--- The value is the one in the slot or, if the slot is empty, one that equals the default. An error means that an
--- allocation failed.
+-- The value is the one in the slot or, if the slot is empty, one that equals the default. An error means that the slot
+-- is empty and an allocation failed.
 abbrev pub IsOrDefault : {T : Type 0} → (T → Tree) → Tree → Option T → Result T DecodeError → Type 0
 IsOrDefault tree d slot (Ok v) = (slot ≡ Some v) ⊎ ((slot ≡ None) × (tree v ≡ d))
-IsOrDefault tree d slot (Err e) = IsOutOfMemory e.kind
+IsOrDefault tree d slot (Err e) = IsOutOfMemory e.kind × (slot ≡ None)
 
 -- A component is read as read_choice reads one of these parts. If it is no part, the error contains the name of the
 -- type, and nothing of the component is consumed.
@@ -120,6 +120,18 @@ LacksSlot (p ∷ ps) (h ∷ held) (suc k) = (p ≡ required → h ≢ None) × L
 abbrev pub IsLackOf : Parts → List (List ℕ) → Codec → List (Option Tree) → DecodeError → Type 0
 IsLackOf ps names rule held e = IsOutOfMemory e.kind ⊎ ((k : ℕ) × LacksSlot (presences ps) held k × IsNamedError (IsMissingField (name_at names k)) rule e)
 
+-- If a part with this presence isn't read, its name is told, or its default is made.
+abbrev pub IsToldOrMade : Presence → Type 0
+IsToldOrMade required = Unit {0}
+IsToldOrMade (default_by key d) = Unit {0}
+IsToldOrMade _ = ⊥
+
+-- The slot of a required part, or of one with a default, is empty.
+abbrev pub HasGap : List Presence → List (Option Tree) → Type 0
+HasGap [] held = ⊥
+HasGap (p ∷ ps) [] = ⊥
+HasGap (p ∷ ps) (h ∷ held) = (IsToldOrMade p × (h ≡ None)) ⊎ HasGap ps held
+
 -- The parts that are made from the slots, or the error for the first one that is missing.
 abbrev pub MakesParts : {D : Type 0} → Parts → (D → Tree) → List (List ℕ) → Codec → List (Option Tree) → Result D DecodeError → Type 0
 MakesParts ps tree names rule held (Ok v) = IsGathered ps held (tree v)
@@ -154,6 +166,17 @@ MakesOfReadings ps tree names rule readings (Err e) = IsOutOfMemory e.kind
     ⊎ (((k : ℕ) × RepeatsFirst ps k readings × IsNamedError (IsDuplicateField (name_at names k)) rule e)
     ⊎ (AreOnce 0 (presences ps) readings × ((k : ℕ) × LacksFirst 0 (presences ps) readings k × IsNamedError (IsMissingField (name_at names k)) rule e)))
 
+-- A required part, or one with a default, isn't read. The first part has the number j.
+abbrev pub LeavesGap : ℕ → List Presence → List Tree → Type 0
+LeavesGap j [] readings = ⊥
+LeavesGap j (p ∷ ps) readings = (IsToldOrMade p × NoneOf j readings) ⊎ LeavesGap (suc j) ps readings
+
+-- The same as MakesOfReadings. An allocation fails only where a part is repeated, or one isn't read whose name is told
+-- or whose default is made.
+abbrev pub MakesNamed : {D : Type 0} → Parts → (D → Tree) → List (List ℕ) → Codec → List Tree → Result D DecodeError → Type 0
+MakesNamed ps tree names rule readings r = MakesOfReadings ps tree names rule readings r
+    × IfErr r (λ e. IsOutOfMemory e.kind → ((k : ℕ) × RepeatsFirst ps k readings) ⊎ LeavesGap 0 (presences ps) readings)
+
 -- Components are read as decode_set reads them, and at the end the parts are made from all of them.
 abbrev pub DecodesSetPartContents : {D : Type 0} → Parts → (D → Tree) → List (List ℕ) → Call D
 DecodesSetPartContents ps tree names old =
@@ -162,10 +185,10 @@ DecodesSetPartContents ps tree names old =
 abbrev pub DecodesSetParts : {D : Type 0} → Parts → (D → Tree) → List (List ℕ) → Tag → Call D
 DecodesSetParts ps tree names tag = DecodesInside (DecodesSetPartContents ps tree names) (sequence_header tag)
 
--- The same, if each component is read as in DecodesOneOf.
+-- The same, if each component is read as in DecodesOneOf, and the parts are made as in MakesNamed.
 abbrev pub DecodesNamedContents : {D : Type 0} → Parts → (D → Tree) → List ℕ → List (List ℕ) → Call D
 DecodesNamedContents ps tree name names old =
-    DecodesSetContents (DecodesComponents (DecodesOneOf ps name) (λ (l : List Tree). l)) (MakesOfReadings ps tree names old.rule) old
+    DecodesSetContents (DecodesComponents (DecodesOneOf ps name) (λ (l : List Tree). l)) (MakesNamed ps tree names old.rule) old
 
 abbrev pub DecodesNamedParts : {D : Type 0} → Parts → (D → Tree) → List ℕ → List (List ℕ) → Tag → Call D
 DecodesNamedParts ps tree name names tag = DecodesInside (DecodesNamedContents ps tree name names) (sequence_header tag)

@@ -1,5 +1,5 @@
 -- Small clauses that contracts share: what they hold of, and what they don't.
-use Rattle.std.proofs.Common.{◌≡◌, ℕ, ℤ, zero, suc, ◌-◌, ◌^◌, ◌<◌, get_or, inl, inr, List, [], ◌∷◌, length, Result, Ok, Err, pos, negsuc, refl, sym, ap, ◌∙◌, arith, rules}
+use Rattle.std.proofs.Common.{◌≡◌, ℕ, ℤ, zero, suc, Some, None, ◌-◌, ◌^◌, ◌<◌, get_or, inl, inr, List, [], ◌∷◌, length, Result, Ok, Err, pos, negsuc, refl, sym, ap, ◌∙◌, arith, rules}
 use Rattle.rasn_types.specs.Contents.{RepeatsSign}
 use Rattle.rasn_types.specs.Inline.{IsLong}
 use Rattle.rasn_types.specs.Trees.{IsShortestOf}
@@ -9,6 +9,8 @@ use Rattle.rasn_de.specs.declared.ber.de.parser.ParseError.TheVariants.{OutOfMem
 use Rattle.rasn_de.specs.Headers.{header_by, tag_number_at, identifier_by, length_at}
 use Rattle.rasn_de.specs.Segments.{segments_at, string_of}
 use Rattle.rasn_types.specs.CharacterString.{IsPrintable}
+use Rattle.rasn_types.specs.Shapes.{Tree, chosen, absent, required, optional, default}
+use Rattle.rasn_de.specs.SetPartTypes.{HasGap, LeavesGap}
 use Rattle.rasn.specs.WorkedClauses.{bare_octets, WorkedClauses}
 
 star : IsPrintable 42 → ⊥
@@ -74,6 +76,22 @@ least = record { is = refl; shortest = turns; octets = search (arith, rules) }
 inline : (z : ℤ) (l : List ℕ) → IsShortestOf z l → length l ≡ 23 → IsLong z → ⊥
 inline z l s n (k, t, m) = let e = same_shortest k l t.octets s.octets t.shortest s.shortest (t.is ∙ sym s.is) in omega (arith, n, m, ap length e)
 
+first_and_second : (t u : Tree) → chosen 1 t ≡ chosen 0 u → ⊥
+first_and_second t u e = cc
+
+second_and_first : (t u : Tree) → chosen 0 t ≡ chosen 1 u → ⊥
+second_and_first t u e = cc
+
+optional_alone : LeavesGap 0 (required ∷ optional ∷ []) (chosen 0 absent ∷ []) → ⊥
+optional_alone (inl (t, (n, o))) = n absent refl
+optional_alone (inr (inl (t, n))) = t
+optional_alone (inr (inr h)) = h
+
+no_slot_empty : HasGap (required ∷ default absent ∷ []) (Some absent ∷ Some absent ∷ []) → ⊥
+no_slot_empty (inl (t, e)) = cc
+no_slot_empty (inr (inl (t, e))) = cc
+no_slot_empty (inr (inr h)) = h
+
 pub worked : WorkedClauses
 worked = record {
   least_offset = search (arith, rules);
@@ -93,6 +111,11 @@ worked = record {
   nothing_collected = λ h. not_wanted _ _ nothing h.1;
   empty_collected = λ h. not_wanted _ _ empty h.1;
   cut_collected = λ h. let e : ◌≡◌ {A = Result (List ℕ × List ℕ) ParseError} (Err (Incomplete 1)) (Err OutOfMemory) = sym cut ∙ h.1 in cc;
+  required_gap = inl (tt, (first_and_second absent, tt));
+  default_gap = inr (inl (tt, (second_and_first absent, tt)));
+  optional_left_out = optional_alone;
+  empty_slot = inr (inl (tt, refl));
+  filled_slots = no_slot_empty;
   long_number = (_, above, omega arith);
   long_below = (_, below, omega arith);
   greatest_inline = inline _ _ greatest refl;

@@ -26,7 +26,7 @@ use Rattle.rasn_de.specs.Steps.{IsErrorOf}
 use Rattle.rasn_de.specs.SequenceOf.{DecodesInTurnFrom, FailsAtElement}
 use Rattle.rasn_de.specs.Set.{FailsAtComponent, not_read, DecodesComponents, DecodesSetContents, AreParts, MakesSet, PeeksInOrder}
 use Rattle.rasn_de.specs.AlternativeTypes.{ReadsNumbered, FailsAtAlternative}
-use Rattle.rasn_de.specs.SetPartTypes.{held_tree, text, name_at, IsPart, AreEmpty, IsFilled, IsPlacedAt, ReadsPartAt, RefusesPart, IsPlaced, IsOrDefault, DecodesPlaced, DecodesNext, AreGathered, IsGathered, LacksSlot, IsLackOf, MakesParts, AreOnce, RepeatsFirst, LacksFirst, MakesOfReadings, DecodesOneOf, DecodesSetPartContents, DecodesNamedContents}
+use Rattle.rasn_de.specs.SetPartTypes.{held_tree, text, name_at, IsPart, AreEmpty, IsFilled, IsPlacedAt, ReadsPartAt, RefusesPart, IsPlaced, IsOrDefault, DecodesPlaced, DecodesNext, AreGathered, IsGathered, LacksSlot, IsLackOf, HasGap, MakesParts, AreOnce, RepeatsFirst, LacksFirst, MakesOfReadings, LeavesGap, MakesNamed, DecodesOneOf, DecodesSetPartContents, DecodesNamedContents}
 use Rattle.rasn_de.proofs.Leaves.Outcomes.{Exact-none}
 use Rattle.rasn_de.proofs.Headers.Tags.{Tagged, tagged_order, look_refused, look_follows, look_kept}
 use Rattle.rasn_de.proofs.Constructed.Reads.{IsCut, held_decodes, held_constructed, constructed_held}
@@ -205,6 +205,19 @@ made_of_held ps tree names rule held readings h (Ok v) (ts, e, g) = (ts, e, gath
 made_of_held ps tree names rule held readings h (Err e) (inl m) = inl m
 made_of_held ps tree names rule held readings h (Err e) (inr (k, l, w)) = inr (inr (held_once (presences ps) 0 held readings h, (k, held_lacks (presences ps) 0 k held readings h l, w)))
 
+-- A slot that is empty at the end leaves a gap in the readings.
+gap_of_held : (ps : List Presence) (j : ℕ) (held : List (Option Tree)) (readings : List Tree) → AreHeld j ps held readings → HasGap ps held → LeavesGap j ps readings
+gap_of_held [] j held readings h l = l
+gap_of_held (p ∷ ps) j [] readings h l = absurd l
+gap_of_held (p ∷ ps) j (x ∷ held) readings h (inl (t, e)) = inl (t, subst (λ y. Slot j (λ (t : Tree). t) y readings) e h.0)
+gap_of_held (p ∷ ps) j (x ∷ held) readings h (inr l) = inr (gap_of_held ps (suc j) held readings h.1 l)
+
+-- What is made by the slots: an allocation fails only where they leave a gap.
+named_of_held : {D : Type 0} (ps : Parts) (tree : D → Tree) (names : List (List ℕ)) (rule : Codec) (held : List (Option Tree)) (readings : List Tree) → AreHeld 0 (presences ps) held readings
+    → (r : Result D DecodeError) → MakesOfReadings ps tree names rule readings r → IfErr r (λ e. IsOutOfMemory e.kind → HasGap (presences ps) held) → MakesNamed ps tree names rule readings r
+named_of_held ps tree names rule held readings h (Ok v) m g = (m, tt)
+named_of_held ps tree names rule held readings h (Err e) m g = (m, λ o. inr (gap_of_held (presences ps) 0 held readings h (g o)))
+
 -- Where a required part isn't read, the readings are no parts.
 lacks_none : (ps : List Presence) (j k : ℕ) (readings ts : List Tree) → LacksFirst j ps readings k → ByPart j ps readings ts → ⊥
 lacks_none [] j k readings ts l b = l
@@ -269,11 +282,11 @@ others_lack p s ps names more behind rule held h n e (inl m) = inl m
 others_lack p s ps names more behind rule held h n e (inr (k, l, w)) = inr (suc k, (n, l), subst (λ z. IsNamedError (IsMissingField z) rule e) (behind k) w)
 
 -- What is made of all components is what their contents are read as.
-made_contents : {D : Type 0} (ps : Parts) (tree : D → Tree) (names : List (List ℕ)) (old here : State) (r : Result D DecodeError) (read : Call Tree)
-    → (fields : List Tree) × DecodesComponents read (λ (l : List Tree). l) old (Ok fields) here × MakesOfReadings ps tree names old.rule fields r
-    → DecodesSetContents (DecodesComponents read (λ (l : List Tree). l)) (MakesOfReadings ps tree names old.rule) old r here
-made_contents ps tree names old here (Ok v) read m = m
-made_contents ps tree names old here (Err e) read m = inr m
+made_contents : {D : Type 0} (made : List Tree → Result D DecodeError → Type 0) (old here : State) (r : Result D DecodeError) (read : Call Tree)
+    → (fields : List Tree) × DecodesComponents read (λ (l : List Tree). l) old (Ok fields) here × made fields r
+    → DecodesSetContents (DecodesComponents read (λ (l : List Tree). l)) made old r here
+made_contents made old here (Ok v) read m = m
+made_contents made old here (Err e) read m = inr m
 
 -- Components up to here, what was put into slots, and the name of the first part that was read twice.
 module _ (ps : Parts) (names : List (List ℕ)) where
@@ -340,22 +353,30 @@ module _ (ps : Parts) (names : List (List ℕ)) where
 
   -- All components were read, and this is made of them.
   abbrev pub Made : {D : Type 0} → (D → Tree) → State → State → Result D DecodeError → Type 0
-  Made tree old here r = (fields : List Tree) × DecodesComponents Read (λ (l : List Tree). l) old (Ok fields) here × MakesOfReadings ps tree names old.rule fields r
+  Made tree old here r = (fields : List Tree) × DecodesComponents Read (λ (l : List Tree). l) old (Ok fields) here × MakesNamed ps tree names old.rule fields r
 
   module _ {D : Type 0} (tree : D → Tree) (old here : State) (last : Option Tag) (held : List (Option Tree)) (n : Ended here.closing here.rest) where
-    pub all_made : ReadTo old here last None held → (r : Result D DecodeError) → MakesParts ps tree names here.rule held r → Made tree old here r
-    all_made k r m = (k.0, (k.1, (k.2, tagged_order old k.1 last k.3), n), made_of_held ps tree names old.rule held k.0 k.4 r (subst (λ (z : State). MakesParts ps tree names z.rule held r) (came_stays (choice ps) (λ (t : Tree). t) old here k.0 k.1 k.2) m))
+    made_exact : (r : Result D DecodeError) → Made tree old here r → DecodesSetPartContents ps tree names old r here
+    made_exact r (fields, d, m) = made_contents (MakesOfReadings ps tree names old.rule) old here r Read (fields, d, m.0)
 
-    pub all_once : ReadTo old here last None held → (r : Result D DecodeError) → MakesParts ps tree names here.rule held r → DecodesSetPartContents ps tree names old r here
-    all_once k r m = made_contents ps tree names old here r Read (all_made k r m)
+    pub all_made : ReadTo old here last None held → (r : Result D DecodeError) → MakesParts ps tree names here.rule held r → IfErr r (λ e. IsOutOfMemory e.kind → HasGap (presences ps) held) → Made tree old here r
+    all_made k r m g =
+        let f = came_stays (choice ps) (λ (t : Tree). t) old here k.0 k.1 k.2 in
+        let made = made_of_held ps tree names old.rule held k.0 k.4 r (subst (λ (z : State). MakesParts ps tree names z.rule held r) f m) in
+        (k.0, (k.1, (k.2, tagged_order old k.1 last k.3), n), named_of_held ps tree names old.rule held k.0 k.4 r made g)
+
+    pub all_once : ReadTo old here last None held → (r : Result D DecodeError) → MakesParts ps tree names here.rule held r → IfErr r (λ e. IsOutOfMemory e.kind → HasGap (presences ps) held)
+        → DecodesSetPartContents ps tree names old r here
+    all_once k r m g = made_exact r (all_made k r m g)
 
     pub made_twice : (x : Bor (List ℕ)) → ReadTo old here last (Some x) held → (e : DecodeError) → IsNamedError (IsDuplicateField (text x)) here.rule e → Made tree old here (Err e)
     made_twice x (done, bs, p, t, (i, r, m)) e w =
         let f = came_stays (choice ps) (λ (t : Tree). t) old here done bs p in
-        (done, (bs, (p, tagged_order old bs last t), n), inr (inl (i, r, subst (λ z. IsNamedError (IsDuplicateField z) old.rule e) m (subst (λ (z : State). IsNamedError (IsDuplicateField (text x)) z.rule e) f w))))
+        let named = subst (λ z. IsNamedError (IsDuplicateField z) old.rule e) m (subst (λ (z : State). IsNamedError (IsDuplicateField (text x)) z.rule e) f w) in
+        (done, (bs, (p, tagged_order old bs last t), n), (inr (inl (i, r, named)), λ o. inl (i, r)))
 
     pub one_twice : (x : Bor (List ℕ)) → ReadTo old here last (Some x) held → (e : DecodeError) → IsNamedError (IsDuplicateField (text x)) here.rule e → DecodesSetPartContents ps tree names old (Err e) here
-    one_twice x k e w = made_contents ps tree names old here (Err e) Read (made_twice x k e w)
+    one_twice x k e w = made_exact (Err e) (made_twice x k e w)
 
 -- The same of components that are each read as one of the parts.
 module _ {D : Type 0} (ps : Parts) (tree : D → Tree) (name : List ℕ) (names : List (List ℕ)) where
@@ -364,7 +385,7 @@ module _ {D : Type 0} (ps : Parts) (tree : D → Tree) (name : List ℕ) (names 
   turn_named old here (v ∷ vs) bs (b, more, next, e, f, d, r, n, p) = (b, more, next, e, f, d, (r, tt), n, turn_named next here vs more p)
 
   pub made_named : (old here : State) (r : Result D DecodeError) → Made ps names tree old here r → DecodesNamedContents ps tree name names old r here
-  made_named old here r (fields, (bs, (p, o), n), m) = made_contents ps tree names old here r (DecodesOneOf ps name) (fields, (bs, (turn_named old here fields bs p, o), n), m)
+  made_named old here r (fields, (bs, (p, o), n), m) = made_contents (MakesNamed ps tree names old.rule) old here r (DecodesOneOf ps name) (fields, (bs, (turn_named old here fields bs p, o), n), m)
 
   module _ (old here : State) (last : Option Tag) (twice : Option (Bor (List ℕ))) (held : List (Option Tree)) (k : ReadTo ps names old here last twice held) where
     unread_named : (Ended here.closing here.rest → ⊥) → (e : DecodeError) (new : State) → FailsAtComponent (DecodesOneOf ps name) k.1 here e new → DecodesNamedContents ps tree name names old (Err e) new

@@ -3,9 +3,10 @@
 ghost use Rattle.std.specs.Prelude.{◌≡◌, ◌≢◌, ℕ, zero, suc, true, length, List, Contains, IfOk, map, IfErr};
 ghost use Rattle.rasn_types.specs.Framing.{NextTag};
 ghost use Rattle.rasn_types.specs.Tags.{form};
-ghost use Rattle.rasn_types.specs.Shapes.{set};
+ghost use Rattle.rasn_types.specs.Errors.{IsOutOfMemory};
+ghost use Rattle.rasn_types.specs.Shapes.{set, presences};
 ghost use Rattle.rasn_de.specs.Decodes.{Decodes};
-ghost use Rattle.rasn_de.specs.SetPartTypes.{text, name_at, AreEmpty, IsPlaced, IsOrDefault, DecodesPlaced, DecodesOneOf, DecodesNext, MakesParts, DecodesSetPartContents, DecodesSetParts, DecodesNamedContents, DecodesNamedParts, BeyondSet};
+ghost use Rattle.rasn_de.specs.SetPartTypes.{text, name_at, AreEmpty, IsPlaced, IsOrDefault, DecodesPlaced, DecodesOneOf, DecodesNext, HasGap, MakesParts, DecodesSetPartContents, DecodesSetParts, DecodesNamedContents, DecodesNamedParts, BeyondSet};
 ghost use Rattle.rasn_de.specs.Beyond.{BeyondInside};
 ghost use Rattle.rasn_de.specs.Constructed.{sequence_header};
 ghost use Rattle.rasn_de.specs.State.{State};
@@ -76,13 +77,14 @@ pub trait DecodeSetParts: Drop {
     ///
     /// # Errors
     /// `MissingField` with the name of the first required part whose slot is empty, or
-    /// `OutOfMemory`.
+    /// `OutOfMemory`, which is for that name or for the default of a part whose slot is empty.
     fn gather(
         slots: Self::Slots,
         decoder: &Decoder<'_>,
         names: &[&str],
     ) -> Result<Self, DecodeError>
         ensures makes { MakesParts parts tree (map text names.now) decoder.now.rule (held slots) result }
+        ensures memory { IfErr result (λ e. IsOutOfMemory e.kind → HasGap (presences parts) (held slots)) }
         ensures beyond { (starts : List State) → kept starts slots → IfOk result (λ v. beyond starts v) }
         ensures rules { IfErr result (λ e. e.codec ≡ decoder.now.rule) };
 }
@@ -406,8 +408,9 @@ impl<'input> Decoder<'input> {
     ///   or `UnexpectedExtraData` if it consumes nothing. The header and the contents are consumed,
     ///   or only the header if the length is indefinite.
     /// - If all components are read, `DuplicateField` for the first component whose part was read
-    ///   before, or else `MissingField` for the first required part that is missing, or
-    ///   `OutOfMemory`. The same octets are consumed.
+    ///   before, or else `MissingField` for the first required part that is missing. `OutOfMemory`
+    ///   is reported only if a part was read before, or a required part or one with a default is
+    ///   missing. The same octets are consumed.
     /// - Last, missing end-of-contents octets (`Incomplete`): what was read inside is consumed too.
     ///
     /// `decode_set` reports errors in the same order.

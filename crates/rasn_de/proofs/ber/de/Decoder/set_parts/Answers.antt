@@ -49,7 +49,7 @@ returns-clause-exact g c =
     let names = map text c.args.names.now in
     let h : at.twice ≡ None = search rules in
     all_once g.P.DecodeSetParts.parts names g.P.DecodeSetParts.tree c.args.self.now at.self at.last (g.P.DecodeSetParts.held at.slots) c.loop-last-test.ensures
-    (subst (λ z. ReadTo g.P.DecodeSetParts.parts names c.args.self.now at.self at.last z (g.P.DecodeSetParts.held at.slots)) h at.invariant.read) _ c.gather.ensures.makes
+    (subst (λ z. ReadTo g.P.DecodeSetParts.parts names c.args.self.now at.self at.last z (g.P.DecodeSetParts.held at.slots)) h at.invariant.read) _ c.gather.ensures.makes c.gather.ensures.memory
 
 pub returns-in_err-last-clause-rules : goal.returns-in_err-last-clause-rules
 returns-in_err-last-clause-rules g c = rw (residual _ c.from_residual.ensures.1) ((order_rules _ c.loop-last.self _ c.in_err-last.ensures) ∙ (read_rules g.P.DecodeSetParts.parts _ _ _ _ _ _ c.loop-last.invariant.read))
@@ -89,7 +89,7 @@ returns-clause-fails g c =
     let names = map text c.args.names.now in
     let h : at.twice ≡ None = search rules in
     made_named g.P.DecodeSetParts.parts g.P.DecodeSetParts.tree c.args.name.now names c.args.self.now at.self c.gather.result (all_made g.P.DecodeSetParts.parts names g.P.DecodeSetParts.tree c.args.self.now at.self at.last (g.P.DecodeSetParts.held at.slots) c.loop-last-test.ensures
-    (subst (λ z. ReadTo g.P.DecodeSetParts.parts names c.args.self.now at.self at.last z (g.P.DecodeSetParts.held at.slots)) h at.invariant.read) _ c.gather.ensures.makes)
+    (subst (λ z. ReadTo g.P.DecodeSetParts.parts names c.args.self.now at.self at.last z (g.P.DecodeSetParts.held at.slots)) h at.invariant.read) _ c.gather.ensures.makes c.gather.ensures.memory)
 
 pub returns-clause-beyond : goal.returns-clause-beyond
 returns-clause-beyond g c =

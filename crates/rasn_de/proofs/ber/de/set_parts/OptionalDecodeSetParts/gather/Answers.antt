@@ -1,3 +1,4 @@
+use Rattle.std.proofs.Common.{inr}
 use Rattle.rasn_types.specs.Shapes.{optional}
 use Rattle.rasn_de.specs.SetPartTypes.{held_tree}
 use Rattle.rasn_de.proofs.Leaves.Returns.{residual}
@@ -6,6 +7,9 @@ use Rattle.rasn_de.proofs.ber.de.set_parts.OptionalDecodeSetParts.gather.Goals a
 
 pub returns-in_err-rest-clause-makes : goal.returns-in_err-rest-clause-makes
 returns-in_err-rest-clause-makes g c = rw (residual _ c.from_residual.ensures.1) (others_lack optional g.A.AsnType.shape g.R.DecodeSetParts.parts _ _ c.other_names.ensures _ (g.R.DecodeSetParts.held c.args.slots.1) (held_tree g.A.AsnType.tree c.args.slots.0) (λ e. cc) _ c.in_err-rest.ensures.makes)
+
+pub returns-in_err-rest-clause-memory : goal.returns-in_err-rest-clause-memory
+returns-in_err-rest-clause-memory g c = rw (residual _ c.from_residual.ensures.1) (λ o. inr (c.in_err-rest.ensures.memory o))
 
 pub returns-clause-makes : goal.returns-clause-makes
 returns-clause-makes g c = gathered_optional g.A.AsnType.shape g.R.DecodeSetParts.parts g.A.AsnType.tree c.args.slots.0 (g.R.DecodeSetParts.held c.args.slots.1) _ c.in_ok-rest.ensures.makes
