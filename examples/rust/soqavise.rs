@@ -66,6 +66,35 @@ impl fmt::Display for Fault {
     }
 }
 
+/// One whole encoding: its tag, and how many octets its header, its contents and all of it have. With an indefinite length two end-of-contents
+/// octets follow the contents.
+#[derive(Clone, Copy, Debug, Default, PartialEq, Eq)]
+#[repr(C)]
+pub struct Encoding {
+    /// 0 is universal, 1 application, 2 context-specific, 3 private.
+    pub tag_class: u32,
+    pub tag_number: u32,
+    /// 1 if it is constructed, otherwise 0.
+    pub constructed: u32,
+    pub header: usize,
+    pub contents: usize,
+    pub length: usize,
+}
+
+/// An instant, by its fields in UTC.
+#[derive(Clone, Copy, Debug, Default, PartialEq, Eq)]
+#[repr(C)]
+pub struct Time {
+    pub year: i32,
+    pub month: u32,
+    pub day: u32,
+    pub hour: u32,
+    pub minute: u32,
+    pub second: u32,
+    /// From 1,000,000,000 on they are in a leap second after the second 59.
+    pub nanosecond: u32,
+}
+
 #[derive(Default)]
 #[repr(C)]
 struct Told {
@@ -96,6 +125,25 @@ unsafe extern "C" {
         text: *mut u8,
         capacity: usize,
     ) -> u32;
+    fn soq_proved_next(rule: u32, octets: *const u8, length: usize, encoding: &mut Encoding) -> u32;
+    fn soq_proved_integer(rule: u32, octets: *const u8, length: usize, number: &mut i64) -> u32;
+    fn soq_proved_integer_octets(
+        rule: u32,
+        octets: *const u8,
+        length: usize,
+        buffer: *mut u8,
+        capacity: usize,
+        needed: &mut usize,
+    ) -> u32;
+    fn soq_proved_identifier(
+        rule: u32,
+        octets: *const u8,
+        length: usize,
+        buffer: *mut u8,
+        capacity: usize,
+        needed: &mut usize,
+    ) -> u32;
+    fn soq_proved_time(kind: u32, rule: u32, octets: *const u8, length: usize, time: &mut Time) -> u32;
 }
 
 /// What a status of the library says, but for a buffer that is too small.
@@ -169,4 +217,70 @@ pub fn decode_error(kind: Type, rule: Rule, octets: &[u8]) -> Result<Option<Faul
         })),
         Err(refusal) => Err(refusal),
     }
+}
+
+/// Returns the parts of the one whole encoding at the front of the octets: its contents, and what follows it, beside them.
+pub fn next(rule: Rule, octets: &[u8]) -> Result<(Encoding, &[u8], &[u8]), Refusal> {
+    let mut encoding = Encoding::default();
+    answer(unsafe { soq_proved_next(rule as u32, octets.as_ptr(), octets.len(), &mut encoding) })?;
+    let (whole, rest) = octets.split_at(encoding.length);
+    Ok((encoding, &whole[encoding.header..][..encoding.contents], rest))
+}
+
+/// Returns the number of the INTEGER that all of the octets are. Its tag may be any.
+pub fn integer(rule: Rule, octets: &[u8]) -> Result<i64, Refusal> {
+    let mut number = 0;
+    answer(unsafe { soq_proved_integer(rule as u32, octets.as_ptr(), octets.len(), &mut number) })?;
+    Ok(number)
+}
+
+/// Returns the number of the INTEGER that all of the octets are, of any length, in two's complement in the fewest octets. Its tag may be any.
+pub fn integer_octets(rule: Rule, octets: &[u8]) -> Result<Vec<u8>, Refusal> {
+    let mut buffer = vec![0; octets.len()];
+    let mut needed = 0;
+    answer(unsafe {
+        soq_proved_integer_octets(
+            rule as u32,
+            octets.as_ptr(),
+            octets.len(),
+            buffer.as_mut_ptr(),
+            buffer.len(),
+            &mut needed,
+        )
+    })?;
+    buffer.truncate(needed);
+    Ok(buffer)
+}
+
+/// Returns the OBJECT IDENTIFIER that all of the octets are as text. Its tag may be any.
+pub fn identifier(rule: Rule, octets: &[u8]) -> Result<String, Refusal> {
+    let mut buffer = vec![0; 4 * octets.len() + 8];
+    loop {
+        let mut needed = 0;
+        let status = unsafe {
+            soq_proved_identifier(
+                rule as u32,
+                octets.as_ptr(),
+                octets.len(),
+                buffer.as_mut_ptr(),
+                buffer.len(),
+                &mut needed,
+            )
+        };
+        match status {
+            3 => buffer.resize(needed, 0),
+            status => {
+                answer(status)?;
+                buffer.truncate(needed - 1);
+                return Ok(String::from_utf8_lossy(&buffer).into_owned());
+            }
+        }
+    }
+}
+
+/// Returns the instant of the UTCTime or the GeneralizedTime that all of the octets are. Its tag may be any.
+pub fn time(kind: Type, rule: Rule, octets: &[u8]) -> Result<Time, Refusal> {
+    let mut time = Time::default();
+    answer(unsafe { soq_proved_time(kind as u32, rule as u32, octets.as_ptr(), octets.len(), &mut time) })?;
+    Ok(time)
 }
