@@ -152,7 +152,8 @@ typedef struct soq_encoding {
 
 /* An instant, by its fields in UTC. */
 typedef struct soq_time_fields {
-    /* That of a UTCTime is from 1950 to 2049 (RFC 5280 4.1.2.5.1). */
+    /* That of a UTCTime is from 1970 to 2069, as the crate `rasn` has it. In certificates the years 50 to 69 mean 1950 to 1969 (RFC 5280
+     * 4.1.2.5.1). */
     int32_t year;
     /* From 1. */
     uint32_t month;

@@ -340,10 +340,10 @@ static const number numbers[] = {
 };
 
 static void numbers_are_written(void) {
-    size_t i, size;
+    size_t i, size, needed;
     for (i = 0; i < sizeof numbers / sizeof *numbers; i++) {
         uint8_t octets[LONGEST], wanted[LONGEST];
-        size_t length = octets_of(numbers[i].octets, octets), needed;
+        size_t length = octets_of(numbers[i].octets, octets);
         size_t count = numbers[i].number == NULL ? 0 : octets_of(numbers[i].number, wanted);
         for (size = 0; size < count + 3; size++) {
             uint8_t *out = before_guard(1, size);
@@ -379,11 +379,11 @@ static const identifier identifiers[] = {
 
 /* Each text in buffers of all sizes up to the right one and beyond. */
 static void identifiers_are_written(void) {
-    size_t i, size;
+    size_t i, size, needed;
     for (i = 0; i < sizeof identifiers / sizeof *identifiers; i++) {
         const char *text = identifiers[i].text;
         uint8_t octets[LONGEST];
-        size_t length = octets_of(identifiers[i].octets, octets), needed, wanted = text == NULL ? 0 : strlen(text) + 1;
+        size_t length = octets_of(identifiers[i].octets, octets), wanted = text == NULL ? 0 : strlen(text) + 1;
         for (size = 0; size < wanted + 3; size++) {
             char *out = (char *)before_guard(1, size);
             soq_status status;
@@ -406,12 +406,12 @@ typedef struct instant {
     soq_time_fields time;
 } instant;
 
-/* X.690 11.7, 11.8; the years of a UTCTime are from RFC 5280 4.1.2.5.1. */
+/* X.690 11.7, 11.8; the years of a UTCTime are from 1970 to 2069. */
 static const instant instants[] = {
     {SOQ_UTCTIME, SOQ_DER, "170D3236313132343132303030305A", SOQ_OK, {2026, 11, 24, 12, 0, 0, 0}},
     {SOQ_UTCTIME, SOQ_BER, "17113236313132343133303030302B30313030", SOQ_OK, {2026, 11, 24, 12, 0, 0, 0}},
-    {SOQ_UTCTIME, SOQ_DER, "170D3530303130313030303030305A", SOQ_OK, {1950, 1, 1, 0, 0, 0, 0}},
-    {SOQ_UTCTIME, SOQ_DER, "170D3439313233313233353935395A", SOQ_OK, {2049, 12, 31, 23, 59, 59, 0}},
+    {SOQ_UTCTIME, SOQ_DER, "170D3730303130313030303030305A", SOQ_OK, {1970, 1, 1, 0, 0, 0, 0}},
+    {SOQ_UTCTIME, SOQ_DER, "170D3639313233313233353935395A", SOQ_OK, {2069, 12, 31, 23, 59, 59, 0}},
     {SOQ_GENTIME, SOQ_DER, "18113230353031323331323335393539 2E355A", SOQ_OK, {2050, 12, 31, 23, 59, 59, 500000000}},
     {SOQ_GENTIME, SOQ_DER, "820F32303236313132343132303030305A", SOQ_OK, {2026, 11, 24, 12, 0, 0, 0}},
     {SOQ_GENTIME, SOQ_DER, "170D3236313132343132303030305A", SOQ_REFUSED, {0, 0, 0, 0, 0, 0, 0}},

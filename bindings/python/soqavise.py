@@ -227,7 +227,8 @@ def identifier(rules: Rules, octets: bytes) -> str:
 def time(type: Type, rules: Rules, octets: bytes) -> datetime.datetime:
     """Returns the instant of the UTCTime or GeneralizedTime that all of the octets are, in UTC.
 
-    Its tag may be any. Nanoseconds are cut to microseconds; a leap second is the second before it.
+    Its tag may be any. The year of a UTCTime is from 1970 to 2069; in certificates 50 to 69 mean
+    1950 to 1969. Nanoseconds are cut to microseconds; a leap second is the second before it.
     Raises OverflowError for a year that a datetime can't have.
     """
     it = _Time()

@@ -11,13 +11,14 @@ use std::alloc::Global;
 
 /// The numbers of the two types: a `soq_type` of the header.
 const UTC_TIME: u32 = 9;
+
 const GENERALIZED_TIME: u32 = 10;
 
 /// An instant, by its fields in UTC: `soq_time` of the header.
 #[repr(C)]
 #[derive(Clone, Copy, Debug, PartialEq, Eq)]
 pub struct Time {
-    /// The year. That of a UTCTime is from 1950 to 2049 (RFC 5280 4.1.2.5.1).
+    /// The year. That of a UTCTime is from 1970 to 2069.
     pub year: i32,
     /// The month, from 1 to 12.
     pub month: u32,
