@@ -1,9 +1,9 @@
 /*
  * Soqavise for C11: BER, CER and DER (ITU-T X.690), read and written by a library whose functions are proved to meet their contracts.
  *
- * The functions below check pointers and lengths, and pass them to the functions of the archive, `soq_proved_..`, which are proved. The
- * comment before each function says what it guarantees, and names the contract that the guarantee rests on (crates/rasn_c). The contracts
- * assume that no pointer is null and that no memory overlaps. No proof covers that; the functions below ensure it.
+ * Each function checks pointers and lengths, and passes them to a function of the crate rasn_c, which is proved. The comment before it says
+ * what it guarantees, and names the contract that the guarantee rests on. The contracts assume that no pointer is null and that no memory
+ * overlaps. No proof covers that; the checks, which are in soqavise.c, ensure it.
  *
  * Every function:
  * - has no state and keeps nothing, so any number of threads may call it at the same time. A signal handler must not call it.
@@ -12,7 +12,7 @@
  * - accepts a null pointer if its length is 0. Otherwise it returns SOQ_NULL_POINTER for a null pointer, SOQ_TOO_LONG for a length that
  *   no object can have, and SOQ_OVERLAP if memory that it would write overlaps other memory of the call. It then writes nothing.
  *
- * Link libsoqavise.a, which needs only the C library: cc -std=c11 program.c libsoqavise.a.
+ * Link libsoqavise.a, which needs only the C library: cc -std=c11 program.c libsoqavise.a. Or link libsoqavise.so: cc program.c -lsoqavise.
  */
 #ifndef SOQAVISE_H
 #define SOQAVISE_H
@@ -35,7 +35,7 @@ typedef enum soq_status {
     SOQ_BUFFER_TOO_SMALL = 3,
     SOQ_UNKNOWN_TYPE = 4,
     SOQ_UNKNOWN_RULE = 5,
-    /* The functions of this header return these three; those of the archive don't. */
+    /* What is wrong with the arguments of a call. */
     SOQ_NULL_POINTER = 16,
     SOQ_OVERLAP = 17,
     SOQ_TOO_LONG = 18
@@ -136,37 +136,34 @@ typedef struct soq_fault {
     size_t text_length;
 } soq_fault;
 
-/* The functions of the archive, which `soq_skip` and the others call. A pointer must not be null, even if its length is 0, a length must be
- * below 2^63, and memory that is written must not overlap other memory of the call. */
-uint32_t soq_proved_skip(uint32_t rule, const uint8_t *octets, size_t length, soq_passed *passed);
-uint32_t soq_proved_check(uint32_t type, const uint8_t *octets, size_t length);
-uint32_t soq_proved_normalise(uint32_t type, uint32_t rule, const uint8_t *octets, size_t length,
-                              uint8_t *buffer, size_t capacity, size_t *needed);
-uint32_t soq_proved_decode_error(uint32_t type, uint32_t rule, const uint8_t *octets, size_t length,
-                                 soq_fault *fault, uint8_t *text, size_t capacity);
+/* One whole encoding: its tag, and where its contents are (X.690 8.1). */
+typedef struct soq_encoding {
+    /* The class of the tag: 0 is universal, 1 application, 2 context-specific, 3 private. */
+    uint32_t tag_class;
+    uint32_t tag_number;
+    /* 1 if the encoding is constructed, otherwise 0. */
+    uint32_t constructed;
+    /* The number of identifier and length octets, that of contents octets after them, and that of all octets. With an indefinite length two
+     * end-of-contents octets follow the contents. */
+    size_t header;
+    size_t contents;
+    size_t length;
+} soq_encoding;
 
-/* Returns whether an object of this length can be at this address: SOQ_OK, SOQ_NULL_POINTER or SOQ_TOO_LONG. */
-static inline soq_status soq_tested(const void *at, size_t length) {
-    if (length == 0) {
-        return SOQ_OK;
-    }
-    if (at == NULL) {
-        return SOQ_NULL_POINTER;
-    }
-    return length > (size_t)PTRDIFF_MAX || length - 1 > UINTPTR_MAX - (uintptr_t)at ? SOQ_TOO_LONG : SOQ_OK;
-}
-
-/* Returns whether two pieces of memory, which `soq_tested` accepts, have an octet in common. */
-static inline int soq_overlap(const void *one, size_t length, const void *other, size_t other_length) {
-    uintptr_t a = (uintptr_t)one, b = (uintptr_t)other;
-    return length != 0 && other_length != 0 && (a <= b ? b - a < length : a - b < other_length);
-}
-
-/* Returns the pointer, or one that isn't null in place of a null pointer to no octets. */
-static inline const uint8_t *soq_octets(const uint8_t *at) {
-    static const uint8_t none = 0;
-    return at == NULL ? &none : at;
-}
+/* An instant, by its fields in UTC. */
+typedef struct soq_time_fields {
+    /* That of a UTCTime is from 1970 to 2069, as the crate `rasn` has it. In certificates the years 50 to 69 mean 1950 to 1969 (RFC 5280
+     * 4.1.2.5.1). */
+    int32_t year;
+    /* From 1. */
+    uint32_t month;
+    uint32_t day;
+    uint32_t hour;
+    uint32_t minute;
+    uint32_t second;
+    /* From 1,000,000,000 on they are in a leap second after the second 59. */
+    uint32_t nanosecond;
+} soq_time_fields;
 
 /*
  * Skips the one whole encoding at the front of the octets, of any type and nested to any depth. It doesn't recurse, and doesn't check the
@@ -178,19 +175,7 @@ static inline const uint8_t *soq_octets(const uint8_t *at) {
  *
  * Contract: AnswersSkip (crates/rasn_c/specs/Skipping.antt), from that of `Decoder::skip_value`.
  */
-static inline soq_status soq_skip(soq_rule rule, const uint8_t *octets, size_t length, soq_passed *passed) {
-    soq_status status = soq_tested(octets, length);
-    if (passed == NULL) {
-        return SOQ_NULL_POINTER;
-    }
-    if (status != SOQ_OK) {
-        return status;
-    }
-    if (soq_overlap(passed, sizeof *passed, octets, length)) {
-        return SOQ_OVERLAP;
-    }
-    return (soq_status)soq_proved_skip((uint32_t)rule, soq_octets(octets), length, passed);
-}
+soq_status soq_skip(soq_rule rule, const uint8_t *octets, size_t length, soq_passed *passed);
 
 /*
  * Returns whether the octets are the one DER encoding of a value of the type.
@@ -204,13 +189,7 @@ static inline soq_status soq_skip(soq_rule rule, const uint8_t *octets, size_t l
  *
  * Contract: AnswersCheck (crates/rasn_c/specs/Canonical.antt), from that of `der::is_canonical`.
  */
-static inline soq_status soq_check(soq_type type, const uint8_t *octets, size_t length) {
-    soq_status status = soq_tested(octets, length);
-    if (status != SOQ_OK) {
-        return status;
-    }
-    return (soq_status)soq_proved_check((uint32_t)type, soq_octets(octets), length);
-}
+soq_status soq_check(soq_type type, const uint8_t *octets, size_t length);
 
 /*
  * Writes the one DER encoding of the value that all of the octets encode under these rules to the front of the buffer.
@@ -224,26 +203,8 @@ static inline soq_status soq_check(soq_type type, const uint8_t *octets, size_t 
  *
  * Contract: AnswersNormalise (crates/rasn_c/specs/Normal.antt), from that of `rasn::normalise`.
  */
-static inline soq_status soq_normalise(soq_type type, soq_rule rule, const uint8_t *octets, size_t length, uint8_t *buffer,
-                                       size_t capacity, size_t *needed) {
-    soq_status status = soq_tested(octets, length);
-    uint8_t none = 0;
-    if (needed == NULL) {
-        return SOQ_NULL_POINTER;
-    }
-    if (status == SOQ_OK) {
-        status = soq_tested(buffer, capacity);
-    }
-    if (status != SOQ_OK) {
-        return status;
-    }
-    if (soq_overlap(buffer, capacity, octets, length) || soq_overlap(buffer, capacity, needed, sizeof *needed)
-        || soq_overlap(needed, sizeof *needed, octets, length)) {
-        return SOQ_OVERLAP;
-    }
-    return (soq_status)soq_proved_normalise((uint32_t)type, (uint32_t)rule, soq_octets(octets), length,
-                                            buffer == NULL ? &none : buffer, capacity, needed);
-}
+soq_status soq_normalise(soq_type type, soq_rule rule, const uint8_t *octets, size_t length, uint8_t *buffer,
+                         size_t capacity, size_t *needed);
 
 /*
  * Reports why the octets aren't exactly one value of the type under these rules.
@@ -258,26 +219,72 @@ static inline soq_status soq_normalise(soq_type type, soq_rule rule, const uint8
  * Contract: AnswersError, HoldsText (crates/rasn_c/specs/Errors.antt), from that of `Decode::decode`. The text is the error's own: the
  * rules, and what is wrong.
  */
-static inline soq_status soq_decode_error(soq_type type, soq_rule rule, const uint8_t *octets, size_t length, soq_fault *fault,
-                                          char *text, size_t capacity) {
-    soq_status status = soq_tested(octets, length);
-    uint8_t none = 0;
-    if (fault == NULL) {
-        return SOQ_NULL_POINTER;
-    }
-    if (status == SOQ_OK) {
-        status = soq_tested(text, capacity);
-    }
-    if (status != SOQ_OK) {
-        return status;
-    }
-    if (soq_overlap(text, capacity, octets, length) || soq_overlap(text, capacity, fault, sizeof *fault)
-        || soq_overlap(fault, sizeof *fault, octets, length)) {
-        return SOQ_OVERLAP;
-    }
-    return (soq_status)soq_proved_decode_error((uint32_t)type, (uint32_t)rule, soq_octets(octets), length, fault,
-                                               text == NULL ? &none : (uint8_t *)text, capacity);
-}
+soq_status soq_decode_error(soq_type type, soq_rule rule, const uint8_t *octets, size_t length, soq_fault *fault,
+                            char *text, size_t capacity);
+
+/*
+ * Returns the parts of the one whole encoding at the front of the octets, of any type. The contents of a constructed encoding are encodings
+ * again, one after another. As in an open type, the identifier and the length may be in any number of octets.
+ *
+ * SOQ_OK: the encoding has `encoding->length` octets: `header` octets, `contents` octets after them, and, if its length is indefinite, two
+ * end-of-contents octets.
+ * SOQ_REFUSED: the octets don't begin with a whole encoding.
+ * For SOQ_REFUSED and SOQ_UNKNOWN_RULE all fields are 0. The function allocates no memory.
+ *
+ * Contract: AnswersNext (crates/rasn_c/specs/Encodings.antt), from those of `Decoder::skip_value` and `Decoder::open`.
+ */
+soq_status soq_next(soq_rule rule, const uint8_t *octets, size_t length, soq_encoding *encoding);
+
+/*
+ * Returns the number of the INTEGER that all of the octets are. Its tag may be any, so that a component with a tag of its own is read too:
+ * the caller knows the type.
+ *
+ * SOQ_OK: they are one, and `*number` is its number.
+ * SOQ_REFUSED: they aren't one under these rules, or its number is below -2^63 or above 2^63 - 1.
+ * For each other status `*number` is 0.
+ *
+ * Contract: AnswersInteger (crates/rasn_c/specs/Leaves.antt), from that of `Decoder::decode_integer`.
+ */
+soq_status soq_integer(soq_rule rule, const uint8_t *octets, size_t length, int64_t *number);
+
+/*
+ * Writes the number of the INTEGER that all of the octets are to the buffer, in two's complement in the fewest octets, the first of them
+ * first (X.690 8.3.3): also one that 64 bits don't hold, such as most serial numbers of certificates. Its tag may be any.
+ *
+ * SOQ_OK: the number has `*needed` octets, at least one. The rest of the buffer is unchanged.
+ * SOQ_BUFFER_TOO_SMALL: it has `*needed` octets, which is more than `capacity`. The buffer is unchanged.
+ * SOQ_REFUSED: the octets aren't an INTEGER under these rules.
+ * For SOQ_REFUSED, SOQ_OUT_OF_MEMORY and SOQ_UNKNOWN_RULE `*needed` is 0 and the buffer is unchanged.
+ *
+ * Contract: AnswersNumber (crates/rasn_c/specs/Leaves.antt), from that of `Decoder::decode_integer`.
+ */
+soq_status soq_integer_octets(soq_rule rule, const uint8_t *octets, size_t length, uint8_t *buffer, size_t capacity,
+                              size_t *needed);
+
+/*
+ * Writes the OBJECT IDENTIFIER that all of the octets are to the buffer, as `1.2.840.113549` and a zero. Its tag may be any.
+ *
+ * SOQ_OK: the text has `*needed` octets with its zero. The rest of the buffer is unchanged.
+ * SOQ_BUFFER_TOO_SMALL: it has `*needed` octets, which is more than `capacity`. The buffer is unchanged.
+ * SOQ_REFUSED: the octets aren't an OBJECT IDENTIFIER under these rules, or one of its numbers is 2^32 or more.
+ * For SOQ_REFUSED, SOQ_OUT_OF_MEMORY and SOQ_UNKNOWN_RULE `*needed` is 0 and the buffer is unchanged.
+ *
+ * Contract: AnswersIdentifier (crates/rasn_c/specs/Leaves.antt), from that of `Decoder::decode_object_identifier`.
+ */
+soq_status soq_identifier(soq_rule rule, const uint8_t *octets, size_t length, char *text, size_t capacity,
+                          size_t *needed);
+
+/*
+ * Returns the instant of the UTCTime or the GeneralizedTime (SOQ_UTCTIME, SOQ_GENTIME) that all of the octets are. Its tag may be any.
+ *
+ * SOQ_OK: they are one.
+ * SOQ_REFUSED: they aren't one under these rules.
+ * SOQ_UNKNOWN_TYPE: the type is neither of the two.
+ * For each other status all fields are 0.
+ *
+ * Contract: AnswersTime (crates/rasn_c/specs/Leaves.antt), from those of `Decoder::decode_utc_time` and `decode_generalized_time`.
+ */
+soq_status soq_time(soq_type type, soq_rule rule, const uint8_t *octets, size_t length, soq_time_fields *time);
 
 #ifdef __cplusplus
 }

@@ -251,6 +251,238 @@ static void whole_encodings_are_passed(void) {
     ENSURE(soq_skip(SOQ_BER, NULL, 0, &passed) == SOQ_REFUSED);
 }
 
+typedef struct part {
+    soq_rule rule;
+    const char *octets;
+    soq_status status;
+    soq_encoding encoding;
+} part;
+
+/* Worked out by hand from X.690 8.1.2, 8.1.3 and 8.1.5. */
+static const part parts[] = {
+    {SOQ_DER, "0500", SOQ_OK, {0, 5, 0, 2, 0, 2}},
+    {SOQ_DER, "0500 0500", SOQ_OK, {0, 5, 0, 2, 0, 2}},
+    {SOQ_BER, "30800101FF0000 0500", SOQ_OK, {0, 16, 1, 2, 3, 7}},
+    {SOQ_DER, "30800101FF0000", SOQ_REFUSED, {0, 0, 0, 0, 0, 0}},
+    {SOQ_DER, "9F1F0100", SOQ_OK, {2, 31, 0, 3, 1, 4}},
+    {SOQ_DER, "7F81490141", SOQ_OK, {1, 201, 1, 4, 1, 5}},
+    {SOQ_CER, "DF1F00", SOQ_OK, {3, 31, 0, 3, 0, 3}},
+    {SOQ_DER, "0282000105", SOQ_OK, {0, 2, 0, 4, 1, 5}},
+    {SOQ_BER, "", SOQ_REFUSED, {0, 0, 0, 0, 0, 0}},
+    {SOQ_BER, "020501", SOQ_REFUSED, {0, 0, 0, 0, 0, 0}},
+    {SOQ_BER, "30800101FF00", SOQ_REFUSED, {0, 0, 0, 0, 0, 0}},
+    {(soq_rule)3, "0500", SOQ_UNKNOWN_RULE, {0, 0, 0, 0, 0, 0}},
+};
+
+static void parts_are_found(void) {
+    size_t i;
+    for (i = 0; i < sizeof parts / sizeof *parts; i++) {
+        const part *it = &parts[i];
+        const soq_encoding *wanted = &it->encoding;
+        uint8_t octets[LONGEST], *in;
+        size_t length = octets_of(it->octets, octets);
+        soq_encoding found = {7, 7, 7, 7, 7, 7};
+        in = before_guard(0, length);
+        memcpy(in, octets, length);
+        ENSURE(soq_next(it->rule, in, length, &found) == it->status);
+        ENSURE(found.tag_class == wanted->tag_class && found.tag_number == wanted->tag_number && found.constructed == wanted->constructed);
+        ENSURE(found.header == wanted->header && found.contents == wanted->contents && found.length == wanted->length);
+    }
+}
+
+typedef struct integer {
+    soq_rule rule;
+    const char *octets;
+    soq_status status;
+    int64_t number;
+} integer;
+
+/* X.690 8.3; the last have a tag of their own (8.14), or are longer than 64 bits. */
+static const integer integers[] = {
+    {SOQ_DER, "020100", SOQ_OK, 0},
+    {SOQ_DER, "0201FF", SOQ_OK, -1},
+    {SOQ_DER, "02020080", SOQ_OK, 128},
+    {SOQ_DER, "02088000000000000000", SOQ_OK, INT64_MIN},
+    {SOQ_DER, "02020001", SOQ_REFUSED, 0},
+    {SOQ_BER, "02020001", SOQ_OK, 1},
+    {SOQ_DER, "020100 00", SOQ_REFUSED, 0},
+    {SOQ_DER, "0200", SOQ_REFUSED, 0},
+    {SOQ_DER, "", SOQ_REFUSED, 0},
+    {SOQ_DER, "800105", SOQ_OK, 5},
+    {SOQ_DER, "0209008000000000000000", SOQ_REFUSED, 0},
+    {(soq_rule)3, "020100", SOQ_UNKNOWN_RULE, 0},
+};
+
+static void integers_are_read(void) {
+    size_t i;
+    for (i = 0; i < sizeof integers / sizeof *integers; i++) {
+        uint8_t octets[LONGEST];
+        size_t length = octets_of(integers[i].octets, octets);
+        int64_t number = 7;
+        ENSURE(soq_integer(integers[i].rule, octets, length, &number) == integers[i].status && number == integers[i].number);
+    }
+}
+
+typedef struct number {
+    soq_rule rule;
+    const char *octets;
+    /* NULL if it is refused. */
+    const char *number;
+} number;
+
+/* X.690 8.3.2, 8.3.3: the numbers in the fewest octets. */
+static const number numbers[] = {
+    {SOQ_DER, "0209008000000000000000", "008000000000000000"},
+    {SOQ_BER, "0204FFFFFF80", "80"},
+    {SOQ_DER, "0204FFFFFF80", NULL},
+    {SOQ_DER, "820100", "00"},
+    {SOQ_DER, "0200", NULL},
+};
+
+static void numbers_are_written(void) {
+    size_t i, size, needed;
+    for (i = 0; i < sizeof numbers / sizeof *numbers; i++) {
+        uint8_t octets[LONGEST], wanted[LONGEST];
+        size_t length = octets_of(numbers[i].octets, octets);
+        size_t count = numbers[i].number == NULL ? 0 : octets_of(numbers[i].number, wanted);
+        for (size = 0; size < count + 3; size++) {
+            uint8_t *out = before_guard(1, size);
+            soq_status status;
+            memset(out, 0xA5, size);
+            needed = 7;
+            status = soq_integer_octets(numbers[i].rule, octets, length, out, size, &needed);
+            ENSURE(needed == count && status == (count == 0 ? SOQ_REFUSED : size < count ? SOQ_BUFFER_TOO_SMALL : SOQ_OK));
+            ENSURE(status == SOQ_OK ? memcmp(out, wanted, count) == 0 : size == 0 || out[0] == 0xA5);
+            ENSURE(size <= count || out[count] == 0xA5);
+        }
+    }
+    ENSURE(soq_integer_octets((soq_rule)3, NULL, 0, NULL, 0, &needed) == SOQ_UNKNOWN_RULE && needed == 0);
+}
+
+typedef struct identifier {
+    soq_rule rule;
+    const char *octets;
+    /* NULL if it is refused. */
+    const char *text;
+} identifier;
+
+/* X.690 8.19, of which 8.19.5 has the second as an example. */
+static const identifier identifiers[] = {
+    {SOQ_DER, "06032A0304", "1.2.3.4"},
+    {SOQ_DER, "0603883703", "2.999.3"},
+    {SOQ_DER, "06062A864886F70D", "1.2.840.113549"},
+    {SOQ_DER, "80032A0304", "1.2.3.4"},
+    {SOQ_DER, "06042A800304", NULL},
+    {SOQ_DER, "0600", NULL},
+    {SOQ_DER, "06032A030400", NULL},
+};
+
+/* Each text in buffers of all sizes up to the right one and beyond. */
+static void identifiers_are_written(void) {
+    size_t i, size, needed;
+    for (i = 0; i < sizeof identifiers / sizeof *identifiers; i++) {
+        const char *text = identifiers[i].text;
+        uint8_t octets[LONGEST];
+        size_t length = octets_of(identifiers[i].octets, octets), wanted = text == NULL ? 0 : strlen(text) + 1;
+        for (size = 0; size < wanted + 3; size++) {
+            char *out = (char *)before_guard(1, size);
+            soq_status status;
+            memset(out, 0x5A, size);
+            needed = 7;
+            status = soq_identifier(identifiers[i].rule, octets, length, out, size, &needed);
+            ENSURE(needed == wanted && status == (text == NULL ? SOQ_REFUSED : size < wanted ? SOQ_BUFFER_TOO_SMALL : SOQ_OK));
+            ENSURE(status == SOQ_OK ? strcmp(out, text) == 0 : size == 0 || (out[0] == 0x5A && out[size - 1] == 0x5A));
+            ENSURE(size <= wanted || out[wanted] == 0x5A);
+        }
+    }
+    ENSURE(soq_identifier((soq_rule)3, NULL, 0, NULL, 0, &needed) == SOQ_UNKNOWN_RULE && needed == 0);
+}
+
+typedef struct instant {
+    soq_type type;
+    soq_rule rule;
+    const char *octets;
+    soq_status status;
+    soq_time_fields time;
+} instant;
+
+/* X.690 11.7, 11.8; the years of a UTCTime are from 1970 to 2069. */
+static const instant instants[] = {
+    {SOQ_UTCTIME, SOQ_DER, "170D3236313132343132303030305A", SOQ_OK, {2026, 11, 24, 12, 0, 0, 0}},
+    {SOQ_UTCTIME, SOQ_BER, "17113236313132343133303030302B30313030", SOQ_OK, {2026, 11, 24, 12, 0, 0, 0}},
+    {SOQ_UTCTIME, SOQ_DER, "170D3730303130313030303030305A", SOQ_OK, {1970, 1, 1, 0, 0, 0, 0}},
+    {SOQ_UTCTIME, SOQ_DER, "170D3639313233313233353935395A", SOQ_OK, {2069, 12, 31, 23, 59, 59, 0}},
+    {SOQ_GENTIME, SOQ_DER, "18113230353031323331323335393539 2E355A", SOQ_OK, {2050, 12, 31, 23, 59, 59, 500000000}},
+    {SOQ_GENTIME, SOQ_DER, "820F32303236313132343132303030305A", SOQ_OK, {2026, 11, 24, 12, 0, 0, 0}},
+    {SOQ_GENTIME, SOQ_DER, "170D3236313132343132303030305A", SOQ_REFUSED, {0, 0, 0, 0, 0, 0, 0}},
+    {SOQ_UTCTIME, SOQ_DER, "170D3236313332343132303030305A", SOQ_REFUSED, {0, 0, 0, 0, 0, 0, 0}},
+    {SOQ_UTCTIME, SOQ_DER, "", SOQ_REFUSED, {0, 0, 0, 0, 0, 0, 0}},
+    {SOQ_BOOL, SOQ_DER, "0101FF", SOQ_UNKNOWN_TYPE, {0, 0, 0, 0, 0, 0, 0}},
+    {SOQ_UTCTIME, (soq_rule)3, "", SOQ_UNKNOWN_RULE, {0, 0, 0, 0, 0, 0, 0}},
+};
+
+static void times_are_read(void) {
+    size_t i;
+    for (i = 0; i < sizeof instants / sizeof *instants; i++) {
+        const soq_time_fields *wanted = &instants[i].time;
+        uint8_t octets[LONGEST];
+        size_t length = octets_of(instants[i].octets, octets);
+        soq_time_fields time = {7, 7, 7, 7, 7, 7, 7};
+        ENSURE(soq_time(instants[i].type, instants[i].rule, octets, length, &time) == instants[i].status);
+        ENSURE(time.year == wanted->year && time.month == wanted->month && time.day == wanted->day);
+        ENSURE(time.hour == wanted->hour && time.minute == wanted->minute && time.second == wanted->second);
+        ENSURE(time.nanosecond == wanted->nanosecond);
+    }
+}
+
+static void wrong_arguments_of_parts_are_answered(void) {
+    static const uint8_t octets[] = {0x02, 0x01, 0x05};
+    union {
+        uint8_t octets[64];
+        int64_t number;
+        size_t needed;
+        soq_encoding encoding;
+        soq_time_fields time;
+    } shared = {{0x02, 0x01, 0x05}};
+    char text[8];
+    size_t needed = 7;
+    int64_t number = 7;
+    soq_encoding encoding = {7, 7, 7, 7, 7, 7};
+    soq_time_fields time = {7, 7, 7, 7, 7, 7, 7};
+    ENSURE(soq_next(SOQ_BER, NULL, 1, &encoding) == SOQ_NULL_POINTER && soq_next(SOQ_BER, octets, 3, NULL) == SOQ_NULL_POINTER);
+    ENSURE(soq_integer(SOQ_BER, NULL, 1, &number) == SOQ_NULL_POINTER && soq_integer(SOQ_BER, octets, 3, NULL) == SOQ_NULL_POINTER);
+    ENSURE(soq_integer_octets(SOQ_BER, NULL, 1, shared.octets + 8, 8, &needed) == SOQ_NULL_POINTER);
+    ENSURE(soq_integer_octets(SOQ_BER, octets, 3, NULL, 8, &needed) == SOQ_NULL_POINTER);
+    ENSURE(soq_integer_octets(SOQ_BER, octets, 3, shared.octets + 8, 8, NULL) == SOQ_NULL_POINTER);
+    ENSURE(soq_integer_octets(SOQ_BER, shared.octets, 3, shared.octets + 2, 8, &needed) == SOQ_OVERLAP);
+    ENSURE(soq_identifier(SOQ_BER, NULL, 1, text, 8, &needed) == SOQ_NULL_POINTER);
+    ENSURE(soq_identifier(SOQ_BER, octets, 3, NULL, 8, &needed) == SOQ_NULL_POINTER);
+    ENSURE(soq_identifier(SOQ_BER, octets, 3, text, 8, NULL) == SOQ_NULL_POINTER);
+    ENSURE(soq_time(SOQ_UTCTIME, SOQ_BER, NULL, 1, &time) == SOQ_NULL_POINTER);
+    ENSURE(soq_time(SOQ_UTCTIME, SOQ_BER, octets, 3, NULL) == SOQ_NULL_POINTER);
+    ENSURE(soq_next(SOQ_BER, octets, SIZE_MAX, &encoding) == SOQ_TOO_LONG && soq_integer(SOQ_BER, octets, SIZE_MAX, &number) == SOQ_TOO_LONG);
+    ENSURE(soq_next(SOQ_BER, shared.octets, 3, &shared.encoding) == SOQ_OVERLAP);
+    ENSURE(soq_integer(SOQ_BER, shared.octets, 3, &shared.number) == SOQ_OVERLAP);
+    ENSURE(soq_time(SOQ_UTCTIME, SOQ_BER, shared.octets, 3, &shared.time) == SOQ_OVERLAP);
+    ENSURE(soq_identifier(SOQ_BER, shared.octets, 3, text, 8, &shared.needed) == SOQ_OVERLAP);
+    ENSURE(soq_identifier(SOQ_BER, shared.octets, 3, (char *)shared.octets, 8, &needed) == SOQ_OVERLAP);
+    ENSURE(soq_identifier(SOQ_BER, octets, 3, (char *)shared.octets, 8, &shared.needed) == SOQ_OVERLAP);
+    ENSURE(shared.octets[0] == 0x02 && needed == 7 && number == 7 && encoding.length == 7 && time.year == 7);
+}
+
+/* All encodings in a certificate, one inside another, have the lengths that those around them have; nothing is left over. Returns how many there are. */
+static size_t walk(const uint8_t *octets, size_t length) {
+    size_t count = 0;
+    while (length > 0) {
+        soq_encoding it;
+        ENSURE(soq_next(SOQ_DER, octets, length, &it) == SOQ_OK && it.length <= length && it.header + it.contents == it.length);
+        count += 1 + (it.constructed ? walk(octets + it.header, it.contents) : 0);
+        octets += it.length;
+        length -= it.length;
+    }
+    return count;
+}
+
 static void wrong_arguments_are_answered(void) {
     static const uint8_t octets[] = {0x01, 0x01, 0xFF};
     union {
@@ -367,9 +599,13 @@ static long resident(void) {
     return usage.ru_maxrss;
 }
 
-/* Calls each of the four functions once. */
+/* Calls each function once. */
 static void call_all(void) {
     static const uint8_t spelled[] = {0x01, 0x01, 0x05}, constructed[] = {0x24, 0x80, 0x04, 0x01, 0x41, 0x00, 0x00};
+    static const uint8_t name[] = {0x06, 0x03, 0x2A, 0x03, 0x04};
+    soq_encoding encoding;
+    soq_time_fields time;
+    int64_t number;
     uint8_t out[8];
     char text[64];
     size_t needed;
@@ -379,6 +615,11 @@ static void call_all(void) {
     ENSURE(soq_check(SOQ_BOOL, spelled, sizeof spelled) == SOQ_REFUSED);
     ENSURE(soq_normalise(SOQ_OCTETS, SOQ_BER, constructed, sizeof constructed, out, sizeof out, &needed) == SOQ_OK && needed == 3);
     ENSURE(soq_decode_error(SOQ_BOOL, SOQ_DER, spelled, sizeof spelled, &fault, text, sizeof text) == SOQ_REFUSED);
+    ENSURE(soq_next(SOQ_BER, constructed, sizeof constructed, &encoding) == SOQ_OK && encoding.contents == 3);
+    ENSURE(soq_integer(SOQ_DER, spelled, sizeof spelled, &number) == SOQ_OK && number == 5);
+    ENSURE(soq_integer_octets(SOQ_DER, spelled, sizeof spelled, out, sizeof out, &needed) == SOQ_OK && needed == 1 && out[0] == 5);
+    ENSURE(soq_identifier(SOQ_DER, name, sizeof name, text, sizeof text, &needed) == SOQ_OK && needed == 8);
+    ENSURE(soq_time(SOQ_UTCTIME, SOQ_DER, spelled, sizeof spelled, &time) == SOQ_REFUSED);
 }
 
 static void a_million_calls_keep_nothing(void) {
@@ -442,6 +683,13 @@ int main(int count, char **words) {
     spoilt_rows_are_answered();
     whole_encodings_are_passed();
     wrong_arguments_are_answered();
+    parts_are_found();
+    integers_are_read();
+    numbers_are_written();
+    identifiers_are_written();
+    times_are_read();
+    wrong_arguments_of_parts_are_answered();
+    ENSURE(walk(octets, length) > 50);
     what_has_no_normal_is_refused();
     certificate_is_answered(octets, length);
     refused_memory_is_answered(octets, length);

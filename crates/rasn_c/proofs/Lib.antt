@@ -1,2 +1,5 @@
 pub mod Unwritten
 pub mod Told
+pub mod Encodings
+pub mod LeafTags
+pub mod Instants

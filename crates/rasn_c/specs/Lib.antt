@@ -7,3 +7,5 @@ pub mod Buffers
 pub mod Normal
 pub mod ErrorKinds
 pub mod Errors
+pub mod Encodings
+pub mod Leaves

@@ -5,7 +5,7 @@ use Rattle.rasn_de.specs.declared.ber.de.parser.ParseError.{ParseError}
 use Rattle.rasn_de.specs.Skipping.{Skipped, IsFault, Exactly}
 use Rattle.rasn_c.specs.Rules.{rule_number, IsUnknownRule}
 use Rattle.rasn_c.specs.declared.status.Status.{Status}
-use Rattle.rasn_c.specs.declared.status.Status.TheVariants.{Ok, Refused, OutOfMemory, BufferTooSmall, UnknownType, UnknownRule}
+use Rattle.rasn_c.specs.declared.status.Status.TheVariants.{Ok, Refused, UnknownRule}
 use Rattle.rasn_c.specs.declared.skipping.Passed.{Passed}
 
 -- nothing was skipped

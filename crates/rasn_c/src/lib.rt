@@ -8,11 +8,14 @@
 
 mod buffers;
 mod canonical;
+mod encoding;
 mod error_kinds;
 mod errors;
+mod leaves;
 mod normal;
 mod reading;
 mod rules;
 mod skipping;
 mod status;
+mod time;
 mod types;

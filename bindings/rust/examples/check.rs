@@ -1,8 +1,5 @@
-//! Checks that a file is one certificate in PEM or DER, as `examples/c/check.c` does. It needs Rust 1.82 or later.
-#[allow(dead_code)]
-mod soqavise;
-
-use soqavise::{Refusal, Rule, Type, check, decode_error};
+//! Checks that a file is one certificate in PEM or DER, as `examples/c/check.c` does.
+use soqavise::{check, Error, Type};
 use std::process::ExitCode;
 
 const SYMBOLS: &str = "ABCDEFGHIJKLMNOPQRSTUVWXYZabcdefghijklmnopqrstuvwxyz0123456789+/";
@@ -43,15 +40,12 @@ fn main() -> ExitCode {
             println!("{name}: a certificate of {} octets", octets.len());
             ExitCode::SUCCESS
         }
-        Err(Refusal::Octets) => {
-            match decode_error(Type::Certificate, Rule::Der, &octets) {
-                Ok(Some(fault)) => println!("{name}: no certificate: {fault}"),
-                _ => println!("{name}: no certificate"),
-            }
+        Err(error @ Error::Refused { .. }) => {
+            println!("{name}: no certificate: {error}");
             ExitCode::FAILURE
         }
-        Err(refusal) => {
-            eprintln!("{name}: {refusal:?}");
+        Err(error) => {
+            eprintln!("{name}: {error}");
             ExitCode::from(2)
         }
     }

@@ -1,0 +1,67 @@
+"""Tests of the module: python3 -m unittest, with SOQAVISE_LIBRARY naming libsoqavise.so."""
+import datetime
+import unittest
+
+from soqavise import Refused, Rules, Type, check, encodings, fault, identifier, integer, next_encoding, normalise, skip, time
+
+
+def octets(digits):
+    return bytes.fromhex(digits)
+
+
+class Calls(unittest.TestCase):
+    """Octets are worked out by hand from X.690, whose sections are named."""
+
+    def test_checks(self):
+        check(Type.BOOL, octets("0101FF"))
+        check(Type.LDAP, octets("30050201034200"))  # RFC 4511 4.3
+        with self.assertRaises(Refused) as refused:  # 11.1
+            check(Type.BOOL, octets("010105"))
+        self.assertEqual(refused.exception.kind, 8)
+        self.assertTrue(str(refused.exception).startswith("DER: "))
+
+    def test_says_why(self):
+        self.assertIsNone(fault(Type.BOOL, Rules.BER, octets("010105")))  # 8.2.2
+        self.assertEqual(fault(Type.BOOL, Rules.DER, octets("0101FF00")).offset, 3)  # 8.1.1.1
+
+    def test_normalises(self):
+        self.assertEqual(normalise(Type.OCTETS, Rules.BER, octets("2480040141040142 0000")), octets("04024142"))  # 8.7.3
+        self.assertEqual(normalise(Type.BOOL, Rules.BER, octets("010105")), octets("0101FF"))
+        with self.assertRaises(Refused):
+            normalise(Type.ANY, Rules.BER, octets("30800000"))
+
+    def test_goes_through_encodings(self):
+        found = next_encoding(Rules.BER, octets("30800101FF0000 0500"))  # 8.1.3.6, 8.1.5
+        self.assertEqual((found.tag_class, found.tag_number, found.constructed), (0, 16, True))
+        self.assertEqual((found.contents, found.rest), (octets("0101FF"), octets("0500")))
+        self.assertEqual([it.tag_number for it in encodings(Rules.DER, octets("0101FF0500"))], [1, 5])
+        self.assertEqual(skip(Rules.BER, octets("30800101FF0000 0500")), 7)
+        with self.assertRaises(Refused):
+            next_encoding(Rules.DER, octets("30800000"))
+        with self.assertRaises(Refused):
+            skip(Rules.DER, b"")
+
+    def test_reads_integers(self):
+        self.assertEqual(integer(Rules.DER, octets("0201FF")), -1)  # 8.3
+        self.assertEqual(integer(Rules.DER, octets("800105")), 5)
+        self.assertEqual(integer(Rules.DER, octets("0209008000000000000000")), 2**63)
+        self.assertEqual(integer(Rules.DER, octets("02020080")), 128)
+        for digits in ("0200", "02020001", "020100 00", "0209FF8000000000000000", "2201 00"):
+            with self.assertRaises(Refused):
+                integer(Rules.DER, octets(digits))
+
+    def test_reads_identifiers(self):
+        self.assertEqual(identifier(Rules.DER, octets("0603883703")), "2.999.3")  # 8.19.5
+        with self.assertRaises(Refused):
+            identifier(Rules.DER, octets("0600"))
+
+    def test_reads_times(self):
+        noon = datetime.datetime(2026, 11, 24, 12, tzinfo=datetime.timezone.utc)
+        self.assertEqual(time(Type.UTCTIME, Rules.DER, octets("170D3236313132343132303030305A")), noon)  # 11.8
+        self.assertEqual(time(Type.GENTIME, Rules.DER, octets("180F32303236313132343132303030305A")), noon)  # 11.7
+        with self.assertRaises(Refused):
+            time(Type.BOOL, Rules.DER, octets("0101FF"))
+
+
+if __name__ == "__main__":
+    unittest.main()

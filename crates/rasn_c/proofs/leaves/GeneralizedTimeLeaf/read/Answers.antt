@@ -1,0 +1,5 @@
+use Rattle.rasn_types.specs.Trees.{unconstrained}
+use Rattle.rasn_c.proofs.leaves.GeneralizedTimeLeaf.read.Goals as goal
+
+pub returns : goal.returns
+returns c = c.decode_generalized_time.ensures.reads unconstrained

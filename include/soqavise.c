@@ -1,0 +1,190 @@
+/*
+ * The functions of soqavise.h. They test pointers and lengths, and pass them to the functions of the crate rasn_c, `soq_proved_..`, which
+ * are proved. No proof covers what is in this file. None of these functions has a loop, a state or a call other than those.
+ */
+#include "soqavise.h"
+
+/* The functions of rasn_c. A pointer must not be null, even if its length is 0, a length must be
+ * below 2^63, and memory that is written must not overlap other memory of the call. */
+uint32_t soq_proved_skip(uint32_t rule, const uint8_t *octets, size_t length, soq_passed *passed);
+uint32_t soq_proved_check(uint32_t type, const uint8_t *octets, size_t length);
+uint32_t soq_proved_normalise(uint32_t type, uint32_t rule, const uint8_t *octets, size_t length,
+                              uint8_t *buffer, size_t capacity, size_t *needed);
+uint32_t soq_proved_decode_error(uint32_t type, uint32_t rule, const uint8_t *octets, size_t length,
+                                 soq_fault *fault, uint8_t *text, size_t capacity);
+uint32_t soq_proved_next(uint32_t rule, const uint8_t *octets, size_t length, soq_encoding *encoding);
+uint32_t soq_proved_integer(uint32_t rule, const uint8_t *octets, size_t length, int64_t *number);
+uint32_t soq_proved_integer_octets(uint32_t rule, const uint8_t *octets, size_t length, uint8_t *buffer,
+                                   size_t capacity, size_t *needed);
+uint32_t soq_proved_identifier(uint32_t rule, const uint8_t *octets, size_t length, uint8_t *buffer,
+                               size_t capacity, size_t *needed);
+uint32_t soq_proved_time(uint32_t type, uint32_t rule, const uint8_t *octets, size_t length, soq_time_fields *time);
+
+/* Returns whether an object of this length can be at this address: SOQ_OK, SOQ_NULL_POINTER or SOQ_TOO_LONG. */
+static soq_status soq_tested(const void *at, size_t length) {
+    if (length == 0) {
+        return SOQ_OK;
+    }
+    if (at == NULL) {
+        return SOQ_NULL_POINTER;
+    }
+    return length > (size_t)PTRDIFF_MAX || length - 1 > UINTPTR_MAX - (uintptr_t)at ? SOQ_TOO_LONG : SOQ_OK;
+}
+
+/* Returns whether two pieces of memory, which `soq_tested` accepts, have an octet in common. */
+static int soq_overlap(const void *one, size_t length, const void *other, size_t other_length) {
+    uintptr_t a = (uintptr_t)one, b = (uintptr_t)other;
+    return length != 0 && other_length != 0 && (a <= b ? b - a < length : a - b < other_length);
+}
+
+/* Returns the pointer, or one that isn't null in place of a null pointer to no octets. */
+static const uint8_t *soq_octets(const uint8_t *at) {
+    static const uint8_t none = 0;
+    return at == NULL ? &none : at;
+}
+
+soq_status soq_skip(soq_rule rule, const uint8_t *octets, size_t length, soq_passed *passed) {
+    soq_status status = soq_tested(octets, length);
+    if (passed == NULL) {
+        return SOQ_NULL_POINTER;
+    }
+    if (status != SOQ_OK) {
+        return status;
+    }
+    if (soq_overlap(passed, sizeof *passed, octets, length)) {
+        return SOQ_OVERLAP;
+    }
+    return (soq_status)soq_proved_skip((uint32_t)rule, soq_octets(octets), length, passed);
+}
+
+soq_status soq_check(soq_type type, const uint8_t *octets, size_t length) {
+    soq_status status = soq_tested(octets, length);
+    if (status != SOQ_OK) {
+        return status;
+    }
+    return (soq_status)soq_proved_check((uint32_t)type, soq_octets(octets), length);
+}
+
+soq_status soq_normalise(soq_type type, soq_rule rule, const uint8_t *octets, size_t length, uint8_t *buffer,
+                                       size_t capacity, size_t *needed) {
+    soq_status status = soq_tested(octets, length);
+    uint8_t none = 0;
+    if (needed == NULL) {
+        return SOQ_NULL_POINTER;
+    }
+    if (status == SOQ_OK) {
+        status = soq_tested(buffer, capacity);
+    }
+    if (status != SOQ_OK) {
+        return status;
+    }
+    if (soq_overlap(buffer, capacity, octets, length) || soq_overlap(buffer, capacity, needed, sizeof *needed)
+        || soq_overlap(needed, sizeof *needed, octets, length)) {
+        return SOQ_OVERLAP;
+    }
+    return (soq_status)soq_proved_normalise((uint32_t)type, (uint32_t)rule, soq_octets(octets), length,
+                                            buffer == NULL ? &none : buffer, capacity, needed);
+}
+
+soq_status soq_decode_error(soq_type type, soq_rule rule, const uint8_t *octets, size_t length, soq_fault *fault,
+                                          char *text, size_t capacity) {
+    soq_status status = soq_tested(octets, length);
+    uint8_t none = 0;
+    if (fault == NULL) {
+        return SOQ_NULL_POINTER;
+    }
+    if (status == SOQ_OK) {
+        status = soq_tested(text, capacity);
+    }
+    if (status != SOQ_OK) {
+        return status;
+    }
+    if (soq_overlap(text, capacity, octets, length) || soq_overlap(text, capacity, fault, sizeof *fault)
+        || soq_overlap(fault, sizeof *fault, octets, length)) {
+        return SOQ_OVERLAP;
+    }
+    return (soq_status)soq_proved_decode_error((uint32_t)type, (uint32_t)rule, soq_octets(octets), length, fault,
+                                               text == NULL ? &none : (uint8_t *)text, capacity);
+}
+
+soq_status soq_next(soq_rule rule, const uint8_t *octets, size_t length, soq_encoding *encoding) {
+    soq_status status = soq_tested(octets, length);
+    if (encoding == NULL) {
+        return SOQ_NULL_POINTER;
+    }
+    if (status != SOQ_OK) {
+        return status;
+    }
+    if (soq_overlap(encoding, sizeof *encoding, octets, length)) {
+        return SOQ_OVERLAP;
+    }
+    return (soq_status)soq_proved_next((uint32_t)rule, soq_octets(octets), length, encoding);
+}
+
+soq_status soq_integer(soq_rule rule, const uint8_t *octets, size_t length, int64_t *number) {
+    soq_status status = soq_tested(octets, length);
+    if (number == NULL) {
+        return SOQ_NULL_POINTER;
+    }
+    if (status != SOQ_OK) {
+        return status;
+    }
+    if (soq_overlap(number, sizeof *number, octets, length)) {
+        return SOQ_OVERLAP;
+    }
+    return (soq_status)soq_proved_integer((uint32_t)rule, soq_octets(octets), length, number);
+}
+
+soq_status soq_integer_octets(soq_rule rule, const uint8_t *octets, size_t length, uint8_t *buffer, size_t capacity, size_t *needed) {
+    soq_status status = soq_tested(octets, length);
+    uint8_t none = 0;
+    if (needed == NULL) {
+        return SOQ_NULL_POINTER;
+    }
+    if (status == SOQ_OK) {
+        status = soq_tested(buffer, capacity);
+    }
+    if (status != SOQ_OK) {
+        return status;
+    }
+    if (soq_overlap(buffer, capacity, octets, length) || soq_overlap(buffer, capacity, needed, sizeof *needed)
+        || soq_overlap(needed, sizeof *needed, octets, length)) {
+        return SOQ_OVERLAP;
+    }
+    return (soq_status)soq_proved_integer_octets((uint32_t)rule, soq_octets(octets), length, buffer == NULL ? &none : buffer, capacity,
+                                                 needed);
+}
+
+soq_status soq_identifier(soq_rule rule, const uint8_t *octets, size_t length, char *text, size_t capacity, size_t *needed) {
+    soq_status status = soq_tested(octets, length);
+    uint8_t none = 0;
+    if (needed == NULL) {
+        return SOQ_NULL_POINTER;
+    }
+    if (status == SOQ_OK) {
+        status = soq_tested(text, capacity);
+    }
+    if (status != SOQ_OK) {
+        return status;
+    }
+    if (soq_overlap(text, capacity, octets, length) || soq_overlap(text, capacity, needed, sizeof *needed)
+        || soq_overlap(needed, sizeof *needed, octets, length)) {
+        return SOQ_OVERLAP;
+    }
+    return (soq_status)soq_proved_identifier((uint32_t)rule, soq_octets(octets), length, text == NULL ? &none : (uint8_t *)text,
+                                             capacity, needed);
+}
+
+soq_status soq_time(soq_type type, soq_rule rule, const uint8_t *octets, size_t length, soq_time_fields *time) {
+    soq_status status = soq_tested(octets, length);
+    if (time == NULL) {
+        return SOQ_NULL_POINTER;
+    }
+    if (status != SOQ_OK) {
+        return status;
+    }
+    if (soq_overlap(time, sizeof *time, octets, length)) {
+        return SOQ_OVERLAP;
+    }
+    return (soq_status)soq_proved_time((uint32_t)type, (uint32_t)rule, soq_octets(octets), length, time);
+}
