@@ -15,8 +15,8 @@ pub fn worked_fitting()
     ensures { WorkedFitting }
 {}
 
-/// Proves which rules of X.680 a few types keep, and which they break. The function does nothing when
-/// it runs.
+/// Proves which rules of X.680 a few types keep, and which they break. The function does nothing
+/// when it runs.
 pub fn worked_rules()
     ensures { WorkedRules }
 {}

@@ -48,8 +48,8 @@ pub enum Value<'input> {
 }
 
 impl Value<'_> {
-    /// Returns a copy of the value, with memory of its own: it means the same, and is a value of each
-    /// type of which this is one.
+    /// Returns a copy of the value, with memory of its own: it means the same, and is a value of
+    /// each type of which this is one.
     ///
     /// # Errors
     /// Returns an error if there is no memory.

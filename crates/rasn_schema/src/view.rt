@@ -50,8 +50,9 @@ fn alternative_type(alternatives: &[Alternative], index: usize) -> Option<TypeId
     Some(alternative.type_id)
 }
 
-/// Returns the number of the type of the part with this index, counted from 0, if there is one: of a
-/// component, an alternative or an element. Of what an explicit tag holds, the index doesn't count.
+/// Returns the number of the type of the part with this index, counted from 0, if there is one: of
+/// a component, an alternative or an element. Of what an explicit tag holds, the index doesn't
+/// count.
 pub fn part_type(ty: &Type, index: usize) -> Option<TypeId>
     ensures { result ≡ part_type ty.now index }
 {
@@ -74,8 +75,8 @@ fn name_at<N: Named>(list: &[N], index: usize) -> Option<&str>
     Some(named.name())
 }
 
-/// Returns the name of the component or the alternative with this index, counted from 0, if there is
-/// one.
+/// Returns the name of the component or the alternative with this index, counted from 0, if there
+/// is one.
 pub fn part_name(ty: &Type, index: usize) -> Option<&str>
     ensures { option_copied result ≡ part_name ty.now index }
 {
