@@ -1,6 +1,7 @@
 -- What is read from the front of an input.
-use Rattle.std.proofs.Common.{◌≡◌, List, ℕ, [], inl, inr, Result, Ok, Err, refl, sym, subst}
+use Rattle.std.proofs.Common.{◌≡◌, List, ℕ, [], inl, inr, Bool, true, Option, Some, None, Result, Ok, Err, refl, sym, subst}
 use Rattle.std.specs.Prelude.{MatchResult}
+use Rattle.std.specs.Borrow.{Bor}
 use Rattle.rasn_types.specs.declared.types.codec.Codec.{Codec}
 use Rattle.rasn_types.specs.declared.error.decode.DecodeError.{DecodeError}
 use Rattle.rasn_types.specs.declared.error.decode.DecodeErrorKind.{DecodeErrorKind}
@@ -12,10 +13,15 @@ use Rattle.rasn_types.specs.Grammar.{Reads, top}
 use Rattle.rasn_de.specs.State.{State}
 use Rattle.rasn_de.specs.Outcomes.{Exact, Outcome, Got, refusal}
 use Rattle.rasn_de.specs.Decodes.{DecodesExactly}
-use Rattle.rasn.specs.Headline.{IsExtraData, AnsweredAlone}
-use Rattle.rasn_dynamic.specs.Entry.{IsChecked, Agree}
-use Rattle.rasn_dynamic.specs.Faults.{start}
+use Rattle.rasn.specs.Headline.{IsExtraData, Answered, AnsweredAlone}
+use Rattle.rasn_schema.specs.declared.value.Value.{Value}
+use Rattle.rasn_schema.specs.Trees.{tree_of}
+use Rattle.rasn_dynamic.specs.declared.refusal.Refusal.{Refusal}
+use Rattle.rasn_dynamic.specs.Entry.{IsChecked, IsCheckedUpTo, IsReadFirst, Agree}
+use Rattle.rasn_dynamic.specs.declared.trace.Fault.{Fault}
+use Rattle.rasn_dynamic.specs.Faults.{IsRefusalOf, start, unlocated}
 use Rattle.rasn_dynamic.specs.Inside.{DecodesTree}
+use Rattle.rasn_dynamic.proofs.Making.{kept_tree}
 
 module _ (rule : Codec) (s : Shape) (input : List ℕ) (old : State) (e : old ≡ start rule input) where
   at_front : (o : Outcome) (new : State) → DecodesExactly (λ r. Reads r s) old o new → Exact (Reads rule s 128 (top rule)) input o
@@ -27,10 +33,26 @@ module _ (rule : Codec) (s : Shape) (input : List ℕ) (old : State) (e : old �
   pub refused_first : (k : DecodeErrorKind) (new : State) → DecodesExactly (λ r. Reads r s) old (refusal k) new → Exact (Reads rule s 128 (top rule)) input (refusal k)
   refused_first k new h = at_front (refusal k) new h
 
+-- A refusal keeps the error.
+pub same_error : (e : DecodeError) (t : Option Fault) (len : ℕ) (r : Refusal) → IsRefusalOf e t len r → r.error ≡ e
+same_error e None len r h = h
+same_error e (Some f) len r h = h.0
+
+module _ (rule : Codec) (s : Shape) (input : List ℕ) where
+  pub answered_first : (r : Result (Value × Bor (List ℕ)) Refusal) → IsReadFirst true rule s input r → Answered rule s tree_of input (unlocated r)
+  answered_first (Ok read) (last, e, m) = read_first rule s input (start rule input) refl (tree_of read.0) last read.1.now e (kept_tree tree_of (DecodesTree s) (start rule input) read.0 last m)
+  answered_first (Err r) (last, d) = refused_first rule s input (start rule input) refl r.error.kind last d
+
+  pub checked_first : (keep : Bool) (read : Value × Bor (List ℕ)) → IsReadFirst keep rule s input (Ok read) → IsCheckedUpTo rule s input (Ok read.1)
+  checked_first keep read (last, e, m) = (m.0, read_first rule s input (start rule input) refl m.0 last read.1.now e m.2)
+
+  pub refused_check : (keep : Bool) (r : Refusal) → IsReadFirst keep rule s input (Err r) → IsCheckedUpTo rule s input (Err r.error)
+  refused_check keep r (last, d) = refused_first rule s input (start rule input) refl r.error.kind last d
+
   -- What follows the value is refused.
-  pub checked : (t : Tree) (new : State) (rest : List ℕ) → new.rest ≡ rest → DecodesTree s old (Ok t) new → (r : Result (Unit {0}) DecodeError) → MatchResult r (λ u. rest ≡ []) (IsExtraData rule rest) → IsChecked rule s input r
-  checked t new rest r h (Ok u) f = (t, subst (λ l. Exact (Reads rule s 128 (top rule)) input (Got t l)) f (read_first t new rest r h))
-  checked t new rest r h (Err x) f = inr (record { t = t; rest = rest; read = read_first t new rest r h; extra = f })
+  pub checked : (rest : Bor (List ℕ)) → IsCheckedUpTo rule s input (Ok rest) → (r : Result (Unit {0}) DecodeError) → MatchResult r (λ u. rest.now ≡ []) (IsExtraData rule rest.now) → IsChecked rule s input r
+  checked rest (t, h) (Ok u) f = (t, subst (λ l. Exact (Reads rule s 128 (top rule)) input (Got t l)) f h)
+  checked rest (t, h) (Err x) f = inr (record { t = t; rest = rest.now; read = h; extra = f })
 
 memory_or_none : (k : DecodeErrorKind) (R : Reading Tree) (input : List ℕ) (t : Tree) (rest : List ℕ) → Exact R input (refusal k) → R input t rest → IsOutOfMemory k
 memory_or_none OutOfMemory R input t rest h r = refl

@@ -27,3 +27,5 @@ pub mod Placed
 pub mod WorkedParts
 pub mod CheckedLeaves
 pub mod LeadsTo
+pub mod WorkedFaults
+pub mod Shown

@@ -1,19 +1,53 @@
 -- Lists of parts that were worked out by hand.
-use Rattle.std.proofs.Common.{◌≡◌, ℕ, zero, suc, List, [], ◌∷◌, ◌++◌, Some, None, inl, refl, sym, arith}
+use Rattle.std.proofs.Common.{◌≡◌, ℕ, zero, suc, List, [], ◌∷◌, ◌++◌, length, length-append, Bool, true, false, Vec, Global, Some, None, inl, inr, refl, sym, ap, ◌∙◌, subst, arith}
 use Rattle.std.specs.Prelude.{slice_get}
 use Rattle.std.proofs.lemmas.List.{append_cancel_right}
+use Rattle.rasn_types.specs.Tags.{in_universal}
 use Rattle.rasn_de.specs.State.{State}
+use Rattle.rasn_schema.specs.declared.types.Component.{Component}
 use Rattle.rasn_schema.specs.declared.types.«Type».{«Type»}
+use Rattle.rasn_schema.specs.declared.types.«Type».TheVariants.{Sequence}
+use Rattle.rasn_schema.specs.Schemas.{components_in}
+use Rattle.rasn_schema.proofs.Lists.{some_is}
+use Rattle.rasn_schema.proofs.Parts.{not_none}
+use Rattle.rasn_dynamic.specs.declared.part.Part.{Part}
 use Rattle.rasn_dynamic.specs.declared.span.Span.{Span}
 use Rattle.rasn_types.specs.declared.types.codec.Codec.TheVariants.{Der}
 use Rattle.rasn_dynamic.specs.Faults.{start}
 use Rattle.rasn_dynamic.specs.Listed.{PartsInside}
-use Rattle.rasn_dynamic.specs.WorkedParts.{WorkedParts}
+use Rattle.rasn_dynamic.specs.Parts.{AreContents, end_len}
+use Rattle.rasn_dynamic.specs.LeadsTo.{LeadsTo}
+use Rattle.rasn_dynamic.specs.WorkedParts.{sequence_alone, WorkedParts}
 
 missing : (levels id b : ℕ) (s : State) (es : List Span) → PartsInside [] levels id b s es → ⊥
 unfolding PartsInside
 missing zero id b s es h = h
 missing (suc n) id b s es (ty, at, h) = let none : slice_get [] id ≡ Some ty = at in cc
+
+second : (ps : Vec Component Global) (p q : Component) → ps.items ≡ p ∷ (q ∷ []) → LeadsTo (sequence_alone ps) 0 (1 ∷ []) q
+unfolding LeadsTo
+second ps p q e = (Sequence (in_universal 16) ps, refl, inl (refl, rw e refl))
+
+no_second : (ps : Vec Component Global) (p q : Component) → ps.items ≡ p ∷ [] → LeadsTo (sequence_alone ps) 0 (1 ∷ []) q → ⊥
+unfolding LeadsTo
+no_second ps p q e (ty, at, inl (n, h)) =
+    not_none q None refl (subst (λ l. Some q ≡ slice_get l 1) e (subst (λ t. Some q ≡ slice_get (components_in t) 1) (some_is ty (Sequence (in_universal 16) ps) at) h))
+no_second ps p q e (ty, at, inr (next, h, l)) = l
+
+no_path : (types : List «Type») (id : ℕ) (p : Component) → LeadsTo types id [] p → ⊥
+unfolding LeadsTo
+no_path types id p h = h
+
+module _ (p : Part) where
+  between : (header contents end : List ℕ) → p.octets.now ≡ header ++ (contents ++ end) → p.header_len ≡ length header → (b : Bool) → p.is_indefinite ≡ b → length end ≡ end_len b → AreContents p contents
+  between header contents end e h b i n = (header, end, e, sym h, n ∙ ap end_len (sym i))
+
+  not_empty_here : p.octets.now ≡ 2 ∷ 1 ∷ 7 ∷ [] → p.header_len ≡ 2 → p.is_indefinite ≡ false → AreContents p [] → ⊥
+  not_empty_here e h i (header, end, f, n, m) =
+      let a = ap length (sym e ∙ f) in
+      let b = length-append header end in
+      let c = m ∙ ap end_len i in
+      omega (arith, a, b, c, h, n)
 
 pub worked_parts : WorkedParts
 worked_parts = record {
@@ -27,4 +61,10 @@ worked_parts = record {
   not_one_part_after_none = λ s e h. let q = h.1 in cc;
   no_elements_in_nothing = λ f levels id b. (0, start Der [], (refl, refl), inl refl);
   nothing_inside_a_missing_type = missing;
+  component_at_the_end_of_a_path = second;
+  not_after_the_last_component = no_second;
+  no_component_without_a_path = no_path;
+  contents_of_a_number = λ p e h i. between p (2 ∷ 1 ∷ []) (7 ∷ []) [] e h false i refl;
+  not_without_the_last_octet = not_empty_here;
+  contents_before_their_end = λ p e h i. between p (48 ∷ 128 ∷ []) [] (0 ∷ 0 ∷ []) e h true i refl;
 }

@@ -8,6 +8,7 @@ use Rattle.rasn_types.specs.Shapes.{Shape, Tree}
 use Rattle.rasn_types.specs.Grammar.{Reads, top}
 use Rattle.rasn_types.specs.Bytes.{Bytes, Same}
 use Rattle.rasn_types.specs.declared.error.decode.DecodeError.{DecodeError}
+use Rattle.rasn_de.specs.State.{State}
 use Rattle.rasn_de.specs.Outcomes.{Exact, Got, refusal}
 use Rattle.rasn.specs.Headline.{AnsweredAlone, EncodingFails}
 use Rattle.rasn.specs.Normal.{Means, IsNormal, IsNoNormal}
@@ -20,6 +21,10 @@ use Rattle.rasn_enc.specs.Encoding.{NoEncoding}
 use Rattle.rasn_schema.specs.Trees.{tree_of}
 use Rattle.rasn_schema.specs.Fitting.{Fits}
 use Rattle.rasn_dynamic.specs.Unfit.{IsUnfitAt}
+use Rattle.rasn_dynamic.specs.Inside.{DecodesTree}
+use Rattle.rasn_dynamic.specs.Making.{Making}
+use Rattle.rasn_dynamic.specs.Faults.{start}
+use Rattle.rasn_dynamic.specs.declared.refusal.Refusal.{Refusal}
 use Rattle.rasn_dynamic.specs.declared.entry.WriteError.{WriteError}
 use Rattle.rasn_dynamic.specs.declared.entry.WriteError.TheVariants.{Unfit, Encode as Written}
 
@@ -43,6 +48,11 @@ Agree (Err e) (Err d) = Unit {0}
 abbrev pub IsCheckedUpTo : Codec → Shape → List ℕ → Result (Bor (List ℕ)) DecodeError → Type 0
 IsCheckedUpTo rule s input (Ok rest) = (t : Tree) × Exact (Reads rule s 128 (top rule)) input (Got t rest.now)
 IsCheckedUpTo rule s input (Err e) = Exact (Reads rule s 128 (top rule)) input (refusal e.kind)
+
+-- A value is read from the front of the input, and this rest is left; or nothing is. If values are kept, it is the one that is returned.
+abbrev pub IsReadFirst : Bool → Codec → Shape → List ℕ → Result (Value × Bor (List ℕ)) Refusal → Type 0
+IsReadFirst keep rule s input (Ok read) = (last : State) × (last.rest ≡ read.1.now) × Making keep tree_of (DecodesTree s) (start rule input) (Ok read.0) last
+IsReadFirst keep rule s input (Err r) = (last : State) × DecodesTree s (start rule input) (Err r.error) last
 
 -- The value is one of the type.
 abbrev pub FitsType : List «Type» → ℕ → Value → Type 0

@@ -15,3 +15,5 @@ pub mod Worked
 pub mod Steps
 pub mod WorkedParts
 pub mod LeadsTo
+pub mod Shown
+pub mod WorkedFaults

@@ -1,13 +1,24 @@
 -- Lists of parts that were worked out by hand, and what is none.
-use Rattle.std.specs.Prelude.{◌≡◌, ◌-◌, ◌^◌, ℕ, List, [], ◌∷◌}
+use Rattle.std.specs.Prelude.{◌≡◌, ◌-◌, ◌^◌, ℕ, List, [], ◌∷◌, true, false, Vec}
+use Rattle.std.specs.Global.{Global}
 use Rattle.rasn_types.specs.declared.types.codec.Codec.TheVariants.{Der}
 use Rattle.rasn_types.specs.Shapes.{Shape}
 use Rattle.rasn_de.specs.State.{State}
+use Rattle.rasn_types.specs.Tags.{in_universal}
+use Rattle.rasn_schema.specs.declared.types.Component.{Component}
 use Rattle.rasn_schema.specs.declared.types.«Type».{«Type»}
+use Rattle.rasn_schema.specs.declared.types.«Type».TheVariants.{Sequence}
+use Rattle.rasn_dynamic.specs.declared.part.Part.{Part}
 use Rattle.rasn_dynamic.specs.declared.span.Span.{Span}
 use Rattle.rasn_dynamic.specs.Faults.{start}
 use Rattle.rasn_dynamic.specs.Listed.{capped, InTurn, ElementsListed, PartsInside, Inside, IsCut}
 use Rattle.rasn_dynamic.specs.Walk.{path_at_depth}
+use Rattle.rasn_dynamic.specs.Parts.{AreContents}
+use Rattle.rasn_dynamic.specs.LeadsTo.{LeadsTo}
+
+-- A SEQUENCE alone.
+abbrev pub sequence_alone : Vec Component Global → List «Type»
+sequence_alone ps = Sequence (in_universal 16) ps ∷ []
 
 -- Nothing is read.
 abbrev pub no_step : ℕ → State → State → List Span → Type 0
@@ -24,3 +35,9 @@ pub record WorkedParts : Type 0 where
   pub not_one_part_after_none : (s : State) (e : Span) → InTurn no_step 0 s s (e ∷ []) → ⊥
   pub no_elements_in_nothing : (f : ℕ → Shape) (levels id b : ℕ) → ElementsListed f levels (Inside [] levels) id b (start Der []) []
   pub nothing_inside_a_missing_type : (levels id b : ℕ) (s : State) (es : List Span) → PartsInside [] levels id b s es → ⊥
+  pub component_at_the_end_of_a_path : (ps : Vec Component Global) (p q : Component) → ps.items ≡ p ∷ (q ∷ []) → LeadsTo (sequence_alone ps) 0 (1 ∷ []) q
+  pub not_after_the_last_component : (ps : Vec Component Global) (p q : Component) → ps.items ≡ p ∷ [] → LeadsTo (sequence_alone ps) 0 (1 ∷ []) q → ⊥
+  pub no_component_without_a_path : (types : List «Type») (id : ℕ) (p : Component) → LeadsTo types id [] p → ⊥
+  pub contents_of_a_number : (p : Part) → p.octets.now ≡ 2 ∷ 1 ∷ 7 ∷ [] → p.header_len ≡ 2 → p.is_indefinite ≡ false → AreContents p (7 ∷ [])
+  pub not_without_the_last_octet : (p : Part) → p.octets.now ≡ 2 ∷ 1 ∷ 7 ∷ [] → p.header_len ≡ 2 → p.is_indefinite ≡ false → AreContents p [] → ⊥
+  pub contents_before_their_end : (p : Part) → p.octets.now ≡ 48 ∷ 128 ∷ 0 ∷ 0 ∷ [] → p.header_len ≡ 2 → p.is_indefinite ≡ true → AreContents p []

@@ -12,21 +12,18 @@ ghost use Rattle.rasn_enc.specs.Primitive.{IsAllocError};
 ghost use Rattle.rasn_schema.specs.Trees.{tree_of};
 ghost use Rattle.rasn_dynamic.specs.Entry.{IsEncoded, IsNotEncoded, FailsIfFits, NamesRules, IsReadBack, IsNormalOf, IsNoNormalOf, FitsType, IsChecked, Agree, shape_of};
 
-use crate::made::{Nothing, Values};
+use crate::locate::{check_or_locate, decode_or_locate};
 use crate::path::ValuePath;
-use crate::reader::decode_at;
-use crate::span::no_list;
 use crate::unfit::append_unfit_path;
 use crate::writer::encode_at;
 use rasn::{NormaliseError, refuse_remainder};
-use rasn_de::ber::de::{Decoder, DecoderOptions};
 use rasn_enc::ber::enc::{Encoder, EncoderOptions, INITIAL_CAPACITY};
 use rasn_schema::{Schema, TypeId, Value, fits};
 use rasn_types::error::{DecodeError, EncodeError, EncodeErrorKind};
 use rasn_types::types::Codec;
 use std::alloc::{AllocError, Global};
-use std::mem;
-use thiserror::Error;
+use std::error::Error;
+use std::{fmt, mem};
 
 /// Reads the value with which the input begins. Returns it and what follows it.
 ///
@@ -43,16 +40,10 @@ pub fn decode_with_remainder<'input>(
     ensures fits { IfOk result (λ read. FitsType schema.now.types.items id.0 read.0) }
     ensures rules { IfErr result (λ e. e.codec ≡ rule) }
 {
-    let mut decoder = Decoder::new(alloc, input, DecoderOptions::of(rule));
-    let value = decode_at::<Values>(
-        &mut decoder,
-        &mut None,
-        &mut no_list(),
-        schema.types(),
-        usize::MAX,
-        id,
-    )?;
-    Ok((value, decoder.remaining()))
+    match decode_or_locate(alloc, rule, schema, id, input) {
+        Ok(read) => Ok(read),
+        Err(refusal) => Err(refusal.error),
+    }
 }
 
 /// Reads the value that is all of the input.
@@ -92,32 +83,39 @@ pub fn check(
     ensures agrees { (r : Result Value DecodeError) → AnsweredAlone rule (shape_of schema.now.types.items id.0) tree_of input.now r → Agree result r }
     ensures rules { IfErr result (λ e. e.codec ≡ rule) }
 {
-    let mut decoder = Decoder::new(alloc, input, DecoderOptions::of(rule));
-    let value = decode_at::<Nothing>(
-        &mut decoder,
-        &mut None,
-        &mut no_list(),
-        schema.types(),
-        usize::MAX,
-        id,
-    )?;
-    drop(value);
-    refuse_remainder(rule, decoder.remaining())
+    match check_or_locate(alloc, rule, schema, id, input) {
+        Ok(rest) => refuse_remainder(rule, rest),
+        Err(refusal) => Err(refusal.error),
+    }
 }
 
 /// What is wrong with a value that can't be written.
-#[derive(Debug, Drop, Error)]
+#[derive(Debug, Drop)]
 pub enum WriteError {
     /// A part of the value isn't one of its type, as [`fits`] tells.
-    #[error("the value doesn't fit its type at {path}")]
     Unfit {
         /// Leads to the part.
         path: ValuePath,
     },
     /// The value has no encoding, or memory runs out.
-    #[error("{0}")]
     Encode(EncodeError),
 }
+
+/// Writes the path of the part, or the text of the encoder's error.
+impl fmt::Display for WriteError {
+    ghost use Rattle.rasn_dynamic.specs.Shown.{shown_write_error};
+
+    ghost output = { shown_write_error };
+
+    fn fmt<W: fmt::Write>(&self, f: &mut fmt::Formatter<W>) -> fmt::Result {
+        match self {
+            WriteError::Unfit { path } => write!(f, "the value doesn't fit its type at {path}"),
+            WriteError::Encode(error) => fmt::Display::fmt(error, f),
+        }
+    }
+}
+
+impl Error for WriteError {}
 
 /// Returns the octets of a value.
 ///

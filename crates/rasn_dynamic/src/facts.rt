@@ -1,6 +1,7 @@
-//! Facts about places and parts that were worked out by hand.
+//! Facts about places, parts and faults that were worked out by hand.
 ghost use Rattle.rasn_dynamic.specs.Worked.{WorkedPlaces};
 ghost use Rattle.rasn_dynamic.specs.WorkedParts.{WorkedParts};
+ghost use Rattle.rasn_dynamic.specs.WorkedFaults.{WorkedFaults};
 
 /// Proves what leads to a part of a few octets, and what doesn't. The function does nothing when it
 /// runs.
@@ -8,8 +9,14 @@ pub fn worked_places()
     ensures { WorkedPlaces }
 {}
 
-/// Proves what lists of a few parts are, and what they aren't. The function does nothing when it
-/// runs.
+/// Proves what lists of a few parts are, which are contents of a part, and to which component a
+/// path leads; and what these aren't. The function does nothing when it runs.
 pub fn worked_parts()
     ensures { WorkedParts }
+{}
+
+/// Proves where a few values can't be read, and where they aren't refused. The function does
+/// nothing when it runs.
+pub fn worked_faults()
+    ensures { WorkedFaults }
 {}

@@ -8,7 +8,7 @@ ghost use Rattle.rasn_dynamic.specs.Faults.{IsAlternativeAt, IsComponentAt, IsMe
 ghost use Rattle.rasn_dynamic.specs.Parts.{IsSeen, LacksAlternative, IsAbsentHere, LacksComponent, LacksMember, LacksElement, LacksPart, IsEntered, LacksPartAt, LacksPath, IsReadHere, IsPartAt, IsHeaderOf, PassesBy, PassesPresent, PassesElement};
 
 use crate::components::{is_always_there, leaves_all_out};
-use crate::locate::check_or_locate;
+use crate::locate::{check_or_locate, out_of_memory};
 use crate::made::Nothing;
 use crate::order::octets_before;
 use crate::part::{Part, header_of};
@@ -19,7 +19,7 @@ use crate::span::no_list;
 use crate::trace::octets_after;
 use rasn_de::ber::de::{ConstructedHeader, Decoder, DecoderOptions};
 use rasn_schema::{Alternative, Component, Schema, Type, TypeId, alternative_for, type_at};
-use rasn_types::error::{DecodeError, DecodeErrorKind};
+use rasn_types::error::DecodeError;
 use rasn_types::types::Codec;
 use std::alloc::Global;
 
@@ -414,16 +414,7 @@ fn refuse(alloc: Global, rule: Codec, schema: &Schema, id: TypeId, input: &[u8])
     ensures rules { result.error.codec ≡ rule }
 {
     match check_or_locate(alloc, rule, schema, id, input) {
-        Ok(_) => Refusal {
-            error: DecodeError {
-                kind: DecodeErrorKind::OutOfMemory,
-                codec: rule,
-            },
-            offset: 0,
-            id,
-            steps: Vec::new(alloc),
-            is_cut: false,
-        },
+        Ok(_) => out_of_memory(alloc, rule, id),
         Err(refusal) => refusal,
     }
 }

@@ -1,19 +1,21 @@
 //! Reads a value, or says where it can't be read.
-ghost use Rattle.std.specs.Prelude.{◌≡◌, ◌≤◌, Some, IfOk, IfErr};
+ghost use Rattle.std.specs.Prelude.{◌≡◌, ◌≤◌, ◌<◌, ◌^◌, length, true, Some, IfOk, IfErr};
+ghost use Rattle.rasn_types.specs.Errors.{IsOutOfMemory};
 ghost use Rattle.rasn.specs.Headline.{Answered};
 ghost use Rattle.rasn_schema.specs.Trees.{tree_of};
-ghost use Rattle.rasn_dynamic.specs.Entry.{FitsType, IsCheckedUpTo, shape_of};
-ghost use Rattle.rasn_dynamic.specs.Faults.{IsLocated, IsRefusalOf, unlocated};
+ghost use Rattle.rasn_dynamic.specs.Entry.{FitsType, IsCheckedUpTo, IsReadFirst, shape_of};
+ghost use Rattle.rasn_dynamic.specs.Faults.{IsLocated, IsRefusalOf, start, unlocated};
+ghost use Rattle.rasn_dynamic.specs.Listed.{Lists, PartsInside};
 ghost use Rattle.rasn_dynamic.specs.declared.trace.Fault.{Fault};
 
-use crate::made::{Nothing, Values};
+use crate::made::{Made, Nothing, Values};
 use crate::reader::decode_at;
 use crate::refusal::Refusal;
-use crate::span::no_list;
-use crate::trace::Fault;
+use crate::span::{Spans, no_list};
+use crate::trace::{Fault, octets_left};
 use rasn_de::ber::de::{Decoder, DecoderOptions};
 use rasn_schema::{Schema, TypeId, Value};
-use rasn_types::error::DecodeError;
+use rasn_types::error::{DecodeError, DecodeErrorKind};
 use rasn_types::types::Codec;
 use std::alloc::Global;
 
@@ -50,6 +52,61 @@ pub(crate) fn refusal_of(
     }
 }
 
+/// Returns the refusal that memory ran out.
+pub(crate) fn out_of_memory(alloc: Global, rule: Codec, id: TypeId) -> Refusal
+    ensures kind { IsOutOfMemory result.error.kind }
+    ensures rules { result.error.codec ≡ rule }
+{
+    let error = DecodeError {
+        kind: DecodeErrorKind::OutOfMemory,
+        codec: rule,
+    };
+    Refusal {
+        error,
+        offset: 0,
+        id,
+        steps: Vec::new(alloc),
+        is_cut: false,
+    }
+}
+
+/// Reads the value with which the input begins, and notes its parts. Returns what is made of it,
+/// and what follows it.
+///
+/// # Errors
+/// With the place of the innermost value that can't be read.
+pub(crate) fn read_first<'input, M: Made>(
+    alloc: Global,
+    rule: Codec,
+    schema: &Schema,
+    id: TypeId,
+    input: &'input [u8],
+    spans: &mut Spans<'input>,
+) -> Result<(Value<'input>, &'input [u8]), Refusal>
+    ensures read { IsReadFirst M.KEEP rule (shape_of schema.now.types.items id.0) input.now result }
+    ensures fits { M.KEEP ≡ true → IfOk result (λ read. FitsType schema.now.types.items id.0 read.0) }
+    ensures rules { IfErr result (λ r. r.error.codec ≡ rule) }
+    ensures located { IfErr result (IsLocated schema.now.types.items rule id.0 input.now) }
+    ensures listed { IfOk result (λ read. Lists (λ b es. PartsInside schema.now.types.items 18446744073709551615 id.0 b (start rule input.now) es) spans.old spans.new) }
+    ensures short { length input.now < 2 ^ 64 }
+{
+    let mut decoder = Decoder::new(alloc, input, DecoderOptions::of(rule));
+    // The octets have a number of this type, so the places in them have too.
+    let _ = octets_left(&decoder);
+    let mut trace = None;
+    match decode_at::<M>(
+        &mut decoder,
+        &mut trace,
+        spans,
+        schema.types(),
+        usize::MAX,
+        id,
+    ) {
+        Ok(value) => Ok((value, decoder.remaining())),
+        Err(error) => Err(refusal_of(alloc, error, trace, id, input.len())),
+    }
+}
+
 /// Reads the value with which the input begins. Returns it and what follows it.
 ///
 /// # Errors
@@ -66,19 +123,7 @@ pub fn decode_or_locate<'input>(
     ensures rules { IfErr result (λ r. r.error.codec ≡ rule) }
     ensures located { IfErr result (IsLocated schema.now.types.items rule id.0 input.now) }
 {
-    let mut decoder = Decoder::new(alloc, input, DecoderOptions::of(rule));
-    let mut trace = None;
-    match decode_at::<Values>(
-        &mut decoder,
-        &mut trace,
-        &mut no_list(),
-        schema.types(),
-        usize::MAX,
-        id,
-    ) {
-        Ok(value) => Ok((value, decoder.remaining())),
-        Err(error) => Err(refusal_of(alloc, error, trace, id, input.len())),
-    }
+    read_first::<Values>(alloc, rule, schema, id, input, &mut no_list())
 }
 
 /// Returns what follows the value with which the input begins. No value is made, as by `check`.
@@ -96,20 +141,11 @@ pub fn check_or_locate<'input>(
     ensures rules { IfErr result (λ r. r.error.codec ≡ rule) }
     ensures located { IfErr result (IsLocated schema.now.types.items rule id.0 input.now) }
 {
-    let mut decoder = Decoder::new(alloc, input, DecoderOptions::of(rule));
-    let mut trace = None;
-    match decode_at::<Nothing>(
-        &mut decoder,
-        &mut trace,
-        &mut no_list(),
-        schema.types(),
-        usize::MAX,
-        id,
-    ) {
-        Ok(value) => {
+    match read_first::<Nothing>(alloc, rule, schema, id, input, &mut no_list()) {
+        Ok((value, rest)) => {
             drop(value);
-            Ok(decoder.remaining())
+            Ok(rest)
         }
-        Err(error) => Err(refusal_of(alloc, error, trace, id, input.len())),
+        Err(refusal) => Err(refusal),
     }
 }

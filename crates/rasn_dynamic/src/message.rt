@@ -4,14 +4,11 @@ ghost use Rattle.rasn_types.specs.Errors.{IsOutOfMemory};
 ghost use Rattle.rasn_dynamic.specs.Faults.{IsLocated};
 ghost use Rattle.rasn_dynamic.specs.Walk.{ArePartsOf, IsNextOf, path_at_depth};
 
-use crate::locate::refusal_of;
+use crate::locate::{out_of_memory, read_first};
 use crate::made::Nothing;
 use crate::part::{Part, header_of};
-use crate::reader::decode_at;
 use crate::refusal::Refusal;
 use crate::span::{Span, finish, list_of, new_list, note};
-use crate::trace::octets_left;
-use rasn_de::ber::de::{Decoder, DecoderOptions};
 use rasn_schema::{Schema, TypeId};
 use rasn_types::error::{DecodeError, DecodeErrorKind};
 use rasn_types::types::Codec;
@@ -30,23 +27,6 @@ pub struct MessageParts<'input> {
     pub path: Vec<usize>,
 }
 
-/// Returns the refusal that memory ran out.
-fn out_of_memory(alloc: Global, rule: Codec, id: TypeId) -> Refusal
-    ensures kind { IsOutOfMemory result.error.kind }
-    ensures rules { result.error.codec ≡ rule }
-{
-    Refusal {
-        error: DecodeError {
-            kind: DecodeErrorKind::OutOfMemory,
-            codec: rule,
-        },
-        offset: 0,
-        id,
-        steps: Vec::new(alloc),
-        is_cut: false,
-    }
-}
-
 /// Reads the value with which the input begins, and returns its parts, itself among them. No value
 /// is made of it, as by `check`.
 ///
@@ -63,23 +43,12 @@ pub fn parts_of<'input>(
     ensures located { IfErr result (λ r. IsOutOfMemory r.error.kind ⊎ IsLocated schema.now.types.items rule id.0 input.now r) }
     ensures rules { IfErr result (λ r. r.error.codec ≡ rule) }
 {
-    let mut decoder = Decoder::new(alloc, input, DecoderOptions::of(rule));
-    // The octets have a number of this type, so the places in them have too.
-    let _ = octets_left(&decoder);
-    let mut trace = None;
     let mut spans = new_list(alloc);
     let place = note(&mut spans, id, 0, usize::MAX, input);
-    match decode_at::<Nothing>(
-        &mut decoder,
-        &mut trace,
-        &mut spans,
-        schema.types(),
-        usize::MAX,
-        id,
-    ) {
-        Ok(value) => {
+    match read_first::<Nothing>(alloc, rule, schema, id, input, &mut spans) {
+        Ok((value, rest)) => {
             drop(value);
-            finish(&mut spans, place, decoder.remaining());
+            finish(&mut spans, place, rest);
             match list_of(spans) {
                 Some(list) => Ok(MessageParts {
                     list,
@@ -90,7 +59,7 @@ pub fn parts_of<'input>(
                 None => Err(out_of_memory(alloc, rule, id)),
             }
         }
-        Err(error) => Err(refusal_of(alloc, error, trace, id, input.len())),
+        Err(refusal) => Err(refusal),
     }
 }
 

@@ -1,7 +1,9 @@
 //! Why an input is refused, and where.
-ghost use Rattle.std.specs.Prelude.{◌≡◌};
+ghost use Rattle.std.specs.Prelude.{◌≡◌, true, option_copied, MatchOption};
+ghost use Rattle.std.specs.Fmt.{WritesOnOk};
+ghost use Rattle.rasn_dynamic.specs.Shown.{name_text, step_text, step_from, stays_first, end_text, way_text};
 
-use rasn_schema::{Alternative, Component, Schema, Type, TypeId, type_at};
+use rasn_schema::{Schema, Type, TypeId, part_name, part_type, type_at};
 use rasn_types::error::DecodeError;
 use std::error::Error;
 use std::fmt;
@@ -41,6 +43,10 @@ impl Refusal {
 
 /// The offset, and what is wrong.
 impl fmt::Display for Refusal {
+    ghost use Rattle.rasn_dynamic.specs.Shown.{shown_refusal};
+
+    ghost output = { shown_refusal };
+
     fn fmt<W: fmt::Write>(&self, f: &mut fmt::Formatter<W>) -> fmt::Result {
         write!(f, "byte {}: {}", self.offset, self.error)
     }
@@ -61,70 +67,98 @@ pub struct NamedRefusal<'a> {
 
 /// The names, the offset, and what is wrong.
 impl fmt::Display for NamedRefusal<'_> {
+    ghost use Rattle.rasn_dynamic.specs.Shown.{shown_named};
+
+    ghost output = { shown_named };
+
     fn fmt<W: fmt::Write>(&self, f: &mut fmt::Formatter<W>) -> fmt::Result {
-        if !self.refusal.is_cut {
-            write_steps(
-                f,
-                self.schema.types(),
-                self.id,
-                self.refusal.steps.as_slice(),
-            )?;
+        if self.refusal.is_cut {
+            return fmt::Display::fmt(self.refusal, f);
         }
-        write!(f, "byte {}: {}", self.refusal.offset, self.refusal.error)
+        let steps = self.refusal.steps.as_slice();
+        write_steps(f, self.schema.types(), self.id, steps)?;
+        fmt::Display::fmt(self.refusal, f)
     }
 }
 
-fn component_at(components: &[Component], index: usize) -> Option<(&str, TypeId)> {
-    let component = components.get(index)?;
-    Some((component.name.as_str(), component.type_id))
+/// Returns the type with this number, and the number of the type of its part with this index.
+fn step_from(types: &[Type], id: TypeId, index: usize) -> Option<(&Type, TypeId)>
+    ensures { MatchOption result (step_from types.now id.0 index ≡ None) (λ s. step_from types.now id.0 index ≡ Some (s.0.now, s.1)) }
+{
+    let ty = type_at(types, id)?;
+    Some((ty, part_type(ty, index)?))
 }
 
-fn alternative_at(alternatives: &[Alternative], index: usize) -> Option<(&str, TypeId)> {
-    let alternative = alternatives.get(index)?;
-    Some((alternative.name.as_str(), alternative.type_id))
+/// Writes a name, after a point unless it is the first.
+fn write_name<W: fmt::Write>(
+    f: &mut fmt::Formatter<W>,
+    name: Option<&str>,
+    is_first: bool,
+) -> fmt::Result
+    ensures { WritesOnOk W.write_str_gives f.old result (name_text is_first (option_copied name.entry)) f.new }
+{
+    let Some(name) = name else {
+        return Ok(());
+    };
+    if !is_first {
+        f.write_str(".")?;
+    }
+    f.write_str(name)
 }
 
-/// Returns the name and the type of the component or the alternative with this index.
-fn named_at(ty: &Type, index: usize) -> Option<(&str, TypeId)> {
+/// Writes the step to the part with this index: its name, of an element its index in brackets, and
+/// of what an explicit tag holds nothing.
+fn write_step<W: fmt::Write>(
+    f: &mut fmt::Formatter<W>,
+    ty: &Type,
+    index: usize,
+    is_first: bool,
+) -> fmt::Result
+    ensures { WritesOnOk W.write_str_gives f.old result (step_text is_first ty.now index) f.new }
+{
     match ty {
-        Type::Sequence { components, .. } => component_at(components.as_slice(), index),
-        Type::Set { components, .. } => component_at(components.as_slice(), index),
-        Type::Choice { alternatives, .. } => alternative_at(alternatives.as_slice(), index),
-        _ => None,
+        Type::Tagged { .. } => Ok(()),
+        Type::SequenceOf { .. } => write!(f, "[{index}]"),
+        Type::SetOf { .. } => write!(f, "[{index}]"),
+        _ => write_name(f, part_name(ty, index), is_first),
     }
 }
 
-/// Writes the names on the way and a comma: of an element its index in brackets, of an explicit tag
-/// nothing.
+/// Returns whether no name was written up to the part of a value of this type.
+fn stays_first(is_first: bool, ty: &Type) -> bool
+    ensures { result ≡ stays_first is_first ty.now }
+{
+    match ty {
+        Type::Tagged { .. } => is_first,
+        _ => false,
+    }
+}
+
+/// Writes a comma after the names, if there are some.
+fn write_end<W: fmt::Write>(f: &mut fmt::Formatter<W>, is_first: bool) -> fmt::Result
+    ensures { WritesOnOk W.write_str_gives f.old result (end_text is_first) f.new }
+{
+    f.write_str(if is_first { "" } else { ", " })
+}
+
+/// Writes the steps from the type with this number, and a comma after them, unless there are none.
 fn write_steps<W: fmt::Write>(
     f: &mut fmt::Formatter<W>,
     types: &[Type],
     from: TypeId,
     steps: &[usize],
-) -> fmt::Result {
+) -> fmt::Result
+    ensures { WritesOnOk W.write_str_gives f.old result (way_text types.now true from.0 steps.now) f.new }
+{
     let mut id = from;
     let mut is_first = true;
     for step in steps {
-        match type_at(types, id) {
-            Some(Type::Tagged { inner, .. }) => {
-                id = *inner;
-                continue;
-            }
-            Some(Type::SequenceOf { element, .. } | Type::SetOf { element, .. }) => {
-                write!(f, "[{step}]")?;
-                id = *element;
-            }
-            Some(ty) => {
-                let Some((name, next)) = named_at(ty, *step) else {
-                    break;
-                };
-                f.write_str(if is_first { "" } else { "." })?;
-                f.write_str(name)?;
-                id = next;
-            }
-            None => break,
-        }
-        is_first = false;
+        let Some((ty, next)) = step_from(types, id, *step) else {
+            return write_end(f, is_first);
+        };
+        write_step(f, ty, *step, is_first)?;
+        is_first = stays_first(is_first, ty);
+        id = next;
     }
-    f.write_str(if is_first { "" } else { ", " })
+    write_end(f, is_first)
 }

@@ -72,6 +72,22 @@ fn parts_are_found(rt: HostRuntime) {
     }
 }
 
+/// Returns whether the contents of the part at a path are these.
+fn has_contents(alloc: Global, octets: &[u8], path: &[usize], expected: &[u8]) -> Option<bool> {
+    let schema = Schema::new(types(alloc, TYPES).ok()?).ok()?;
+    let part = find_part(alloc, Codec::Ber, &schema, TypeId(3), octets, path).ok()??;
+    Some(part.contents() == expected)
+}
+
+// X.690 8.1.3.6, 8.1.4, 8.1.5: neither the header nor end-of-contents octets are contents.
+#[test]
+fn contents_are_between_header_and_end(rt: HostRuntime) {
+    let inner = [1, 1, 0xFF, 2, 1, 9];
+    assert!(rt; has_contents(rt.alloc(), OPEN_LIST, &[0], &inner) == Some(true));
+    assert!(rt; has_contents(rt.alloc(), OPEN_LIST, &[1], &[1, 1, 0, 2, 1, 0]) == Some(true));
+    assert!(rt; has_contents(rt.alloc(), LIST, &[0, 1], &[7]) == Some(true));
+}
+
 /// Returns how many parts a message has, if each is the one that is found at its path.
 fn parts_found(alloc: Global, id: usize, octets: &[u8]) -> Option<usize> {
     let schema = Schema::new(types(alloc, TYPES).ok()?).ok()?;

@@ -18,3 +18,7 @@ pub mod Significant
 pub mod ListsOf
 pub mod Untagged
 pub mod Parts
+pub mod Copies
+pub mod WorkedHeld
+pub mod WorkedFitting
+pub mod WorkedRules

@@ -1,9 +1,8 @@
 -- Parts of values, by index and by name.
-use Rattle.std.proofs.Common.{◌≡◌, ◌≢◌, ◌⊎◌, inl, inr, ℕ, ◌<◌, List, [], Option, Some, None, MatchOption, Vec, Global, refl, sym, ap, subst, ◌∙◌}
+use Rattle.std.proofs.Common.{◌≡◌, ◌⊎◌, inl, inr, ℕ, ◌<◌, List, [], Option, Some, None, Vec, Global, refl, sym, subst, ◌∙◌}
 use Rattle.std.specs.Prelude.{slice_get}
 use Rattle.std.specs.String.{string_bytes}
 use Rattle.std.proofs.lemmas.Bool.{cases_order}
-use Rattle.rasn_types.specs.declared.types.tag.Tag.{Tag}
 use Rattle.rasn_schema.specs.declared.type_id.TypeId.{TypeId}
 use Rattle.rasn_schema.specs.declared.types.Component.{Component}
 use Rattle.rasn_schema.specs.declared.types.Alternative.{Alternative}
@@ -11,7 +10,7 @@ use Rattle.rasn_schema.specs.declared.types.«Type».{«Type»}
 use Rattle.rasn_schema.specs.declared.types.«Type».TheVariants.{Leaf, Enumerated, Any, Tagged, Choice, Sequence, Set, SequenceOf, SetOf}
 use Rattle.rasn_schema.specs.declared.value.Value.{Value, Items, Elements, roll-Value, out-Value, roll-out-Value}
 use Rattle.rasn_schema.specs.declared.value.Value.TheOpen.{Value-F, Boolean as Boolean-F, Null as Null-F, Integer as Integer-F, Bits as Bits-F, Octets as Octets-F, Text as Text-F, Units as Units-F, Arcs as Arcs-F, Instant as Instant-F, Day as Day-F, Items as Items-F, Elements as Elements-F, Chosen as Chosen-F, Absent as Absent-F}
-use Rattle.rasn_schema.specs.Held.{held_in, IsUntagged, IsComponentType, IsTypeOfPart, IsPartAt, IsComponentNamed, IsComponentValue, IsAlternativeNamed, IsChosenValue, IsPartNamed, IsNamedPartOf}
+use Rattle.rasn_schema.specs.Held.{held_in, IsUntagged, part_type, IsPartAt, IsComponentNamed, IsComponentValue, IsAlternativeNamed, IsPartNamed, IsNamedPartOf}
 use Rattle.rasn_schema.proofs.Lists.{some_is}
 use Rattle.rasn_schema.proofs.Untagged.{one_inside}
 
@@ -40,30 +39,11 @@ held_nothing v n m = subst (λ w. held_in w ≡ []) (roll-out-Value v) (go (out-
 pub not_none : {X : Type 0} (x : X) (o : Option X) → None ≡ o → Some x ≡ o → ⊥
 not_none x o e f = let h : Some x ≡ None = f ∙ sym e in cc
 
--- ---- the type of a part
-
--- What a call returns that finds the number of a part's type.
-abbrev pub FindsType : «Type» → ℕ → Option TypeId → Type 0
-FindsType ty i r = MatchOption r ((id : TypeId) → IsTypeOfPart ty i id → ⊥) (λ id. IsTypeOfPart ty i id)
-
-abbrev pub FindsComponent : List Component → ℕ → Option TypeId → Type 0
-FindsComponent ps i r = MatchOption r ((id : TypeId) → IsComponentType ps i id → ⊥) (λ id. IsComponentType ps i id)
-
-pub no_part_type : (ty : «Type») (i : ℕ) → ((tag : _) (ps : _) → ty ≡ Sequence tag ps → ⊥) → ((name : _) (tag : _) (ps : _) → ty ≡ Set name tag ps → ⊥)
-    → ((tag : _) (k : TypeId) (c : _) → ty ≡ SequenceOf tag k c → ⊥) → ((tag : _) (k : TypeId) (c : _) → ty ≡ SetOf tag k c → ⊥) → (id : TypeId) → IsTypeOfPart ty i id → ⊥
-no_part_type (Sequence tag ps) i a b c d id h = a tag ps refl
-no_part_type (Set name tag ps) i a b c d id h = b name tag ps refl
-no_part_type (SequenceOf tag k s) i a b c d id h = c tag k s refl
-no_part_type (SetOf tag k s) i a b c d id h = d tag k s refl
-no_part_type (Leaf kind tag s names) i a b c d id h = h
-no_part_type (Enumerated tag ns) i a b c d id h = h
-no_part_type (Any tag) i a b c d id h = h
-no_part_type (Tagged tag k) i a b c d id h = h
-no_part_type (Choice name ks) i a b c d id h = h
+-- ---- parts by index
 
 module _ (types : List «Type») (k : ℕ) (ty : «Type») (u : IsUntagged types k ty) (v : Value) where
-  pub no_part_of_type : (i : ℕ) → ((id : TypeId) → IsTypeOfPart ty i id → ⊥) → (id : TypeId) (part : Value) → IsPartAt types k v i id part → ⊥
-  no_part_of_type i n id part ((t, w, h), e) = n id (subst (λ (s : «Type»). IsTypeOfPart s i id) (one_inside types k t ty w u) h)
+  pub no_part_of_type : (i : ℕ) → None ≡ part_type ty i → (id : TypeId) (part : Value) → IsPartAt types k v i id part → ⊥
+  no_part_of_type i n id part ((t, w, h), e) = not_none id (part_type ty i) n (subst (λ (s : «Type»). Some id ≡ part_type s i) (one_inside types k t ty w u) h)
 
   pub no_named_part : (name : List ℕ) → ((id : TypeId) (part : Value) → IsPartNamed ty name v id part → ⊥) → (id : TypeId) (part : Value) → IsNamedPartOf types k v name id part → ⊥
   no_named_part name n id part (t, w, h) = n id part (subst (λ (s : «Type»). IsPartNamed s name v id part) (one_inside types k t ty w u) h)

@@ -9,7 +9,7 @@ use Rattle.rasn_types.specs.CowBits.{cow_bits}
 use Rattle.rasn_schema.specs.Trees.{tree_of, trees_in}
 use Rattle.rasn_schema.specs.Held.{held_in}
 
-abbrev row_of : Value → (n : Count) × Row_of-Value n
+abbrev pub row_of : Value → (n : Count) × Row_of-Value n
 row_of (Items' _ row) = (_, row)
 row_of (Elements' _ row) = (_, row)
 row_of _ = (_, end_of-Value)

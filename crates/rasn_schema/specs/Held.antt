@@ -1,5 +1,5 @@
 -- The values that a value holds, and their names.
-use Rattle.std.specs.Prelude.{◌≡◌, ◌≢◌, ◌<◌, ℕ, zero, suc, List, [], Some, slice_get}
+use Rattle.std.specs.Prelude.{◌≡◌, ◌≢◌, ◌<◌, ℕ, zero, suc, List, [], Option, Some, None, option_map, slice_get}
 use Rattle.std.specs.String.{string_bytes}
 use Rattle.rasn_types.specs.declared.types.tag.Tag.{Tag}
 use Rattle.rasn_schema.specs.declared.type_id.TypeId.{TypeId}
@@ -9,6 +9,7 @@ use Rattle.rasn_schema.specs.declared.types.«Type».{«Type»}
 use Rattle.rasn_schema.specs.declared.types.«Type».TheVariants.{Tagged, Choice, Sequence, Set, SequenceOf, SetOf}
 use Rattle.rasn_schema.specs.declared.value.Value.{Value, Items', Elements', items-the_row-Value}
 use Rattle.rasn_schema.specs.Fitting.{IsChosen}
+use Rattle.rasn_schema.specs.Schemas.{components_in}
 
 -- ---- the type inside explicit tags
 
@@ -33,21 +34,24 @@ held_in (Items' _ row) = items-the_row-Value _ row
 held_in (Elements' _ row) = items-the_row-Value _ row
 held_in _ = []
 
--- The type of component i has this number.
-abbrev pub IsComponentType : List Component → ℕ → TypeId → Type 0
-IsComponentType ps i id = (c : Component) × (Some c ≡ slice_get ps i) × (c.type_id ≡ id)
+-- The number of the type of part i of a value of this type: of a component, an alternative or an element. Of what an explicit tag holds, the index doesn't count.
+abbrev pub part_type : «Type» → ℕ → Option TypeId
+part_type (Tagged tag inner) i = Some inner
+part_type (Choice name ks) i = option_map (λ (a : Alternative). a.type_id) (slice_get ks.items i)
+part_type (Sequence tag ps) i = option_map (λ (c : Component). c.type_id) (slice_get ps.items i)
+part_type (Set name tag ps) i = option_map (λ (c : Component). c.type_id) (slice_get ps.items i)
+part_type (SequenceOf tag element c) i = Some element
+part_type (SetOf tag element c) i = Some element
+part_type _ i = None
 
--- The type of component or element i of a value of this type has this number.
-abbrev pub IsTypeOfPart : «Type» → ℕ → TypeId → Type 0
-IsTypeOfPart (Sequence tag ps) i id = IsComponentType ps.items i id
-IsTypeOfPart (Set name tag ps) i id = IsComponentType ps.items i id
-IsTypeOfPart (SequenceOf tag element c) i id = element ≡ id
-IsTypeOfPart (SetOf tag element c) i id = element ≡ id
-IsTypeOfPart _ i id = ⊥
+-- The name of component or alternative i.
+abbrev pub part_name : «Type» → ℕ → Option (List ℕ)
+part_name (Choice name ks) i = option_map (λ (a : Alternative). string_bytes a.name) (slice_get ks.items i)
+part_name ty i = option_map (λ (c : Component). string_bytes c.name) (slice_get (components_in ty) i)
 
 -- The value is component or element i of a value of type k.
 abbrev pub IsPartAt : List «Type» → ℕ → Value → ℕ → TypeId → Value → Type 0
-IsPartAt types k v i id part = ((ty : «Type») × IsUntagged types k ty × IsTypeOfPart ty i id) × (Some part ≡ slice_get (held_in v) i)
+IsPartAt types k v i id part = ((ty : «Type») × IsUntagged types k ty × (Some id ≡ part_type ty i)) × (Some part ≡ slice_get (held_in v) i)
 
 -- ---- parts by name
 

@@ -12,3 +12,8 @@ pub mod Held
 pub mod Named
 pub mod Depth
 pub mod Fitting
+pub mod Copies
+pub mod Shown
+pub mod WorkedHeld
+pub mod WorkedFitting
+pub mod WorkedRules

@@ -2,8 +2,8 @@
 ghost use Rattle.std.specs.Prelude.{◌≡◌, IfOk};
 ghost use Rattle.std.specs.Cow.{cow_slice_items, cow_str_bytes};
 ghost use Rattle.rasn_types.specs.CowBits.{cow_bits};
-ghost use Rattle.rasn_types.specs.Trees.{list_tree};
-ghost use Rattle.rasn_schema.specs.Trees.{tree_of};
+ghost use Rattle.rasn_types.specs.Order.{Each};
+ghost use Rattle.rasn_schema.specs.Copies.{IsCopy};
 
 use crate::value::Value;
 use rasn_types::types::{BitString, CowBits, TryClone};
@@ -31,7 +31,7 @@ fn owned_text<'any>(text: &str, alloc: Global) -> Result<CowStr<'any>, AllocErro
 /// Returns a copy of a value, with memory of its own.
 #[cycle(copy)]
 pub fn copy_of<'any>(value: &Value<'_>, alloc: Global) -> Result<Value<'any>, AllocError>
-    ensures { IfOk result (λ v. tree_of v ≡ tree_of value.now) }
+    ensures { IfOk result (λ copy. IsCopy value.now copy) }
 {
     match value {
         Value::Boolean(truth) => Ok(Value::Boolean(*truth)),
@@ -57,7 +57,7 @@ pub fn copy_of<'any>(value: &Value<'_>, alloc: Global) -> Result<Value<'any>, Al
 /// Returns copies of values, in their order.
 #[cycle(copy)]
 fn copies_of<'any>(values: &[Value<'_>], alloc: Global) -> Result<Vec<Value<'any>>, AllocError>
-    ensures { IfOk result (λ copies. list_tree tree_of copies.items ≡ list_tree tree_of values.now) }
+    ensures { IfOk result (λ copies. Each IsCopy values.now copies.items) }
 {
     let mut copies = Vec::with_capacity(alloc, values.len())?;
     for value in values {

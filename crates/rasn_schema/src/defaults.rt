@@ -1,14 +1,14 @@
 //! Defaults that aren't values of their component's type (X.680 25).
-ghost use Rattle.std.specs.Prelude.{◌≡◌, ℕ, MatchOption};
+ghost use Rattle.std.specs.Prelude.{ℕ, MatchOption};
 ghost use Rattle.rasn_types.specs.Truth.{IsWhether};
 ghost use Rattle.rasn_schema.specs.Fitting.{Fits};
-ghost use Rattle.rasn_schema.specs.Schemas.{components_in, IsUnfitDefault, HasUnfitDefault, HaveFitDefaults};
+ghost use Rattle.rasn_schema.specs.Schemas.{IsUnfitDefault, HasUnfitDefault, HaveFitDefaults};
 ghost use Rattle.rasn_schema.specs.Faults.{IsDefaultFault};
 
 use crate::error::SchemaError;
 use crate::fitting::fits_at;
 use crate::type_id::TypeId;
-use crate::types::{Component, Presence, Type};
+use crate::types::{Component, Presence, Type, components_of};
 
 /// Returns whether the component has a default that isn't a value of its type.
 fn is_unfit_default(types: &[Type], component: &Component) -> bool
@@ -17,17 +17,6 @@ fn is_unfit_default(types: &[Type], component: &Component) -> bool
     match &component.presence {
         Presence::Default(default) => !fits_at(types, usize::MAX, component.type_id, default),
         _ => false,
-    }
-}
-
-/// Returns the components of a SEQUENCE or a SET.
-pub fn components_of(ty: &Type) -> &[Component]
-    ensures { result.now ≡ components_in ty.now }
-{
-    match ty {
-        Type::Sequence { components, .. } => components.as_slice(),
-        Type::Set { components, .. } => components.as_slice(),
-        _ => &[],
     }
 }
 

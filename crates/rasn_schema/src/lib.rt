@@ -8,6 +8,7 @@ mod copy;
 mod defaults;
 mod equal;
 mod error;
+mod facts;
 mod first_tags;
 mod fit;
 mod fitting;
@@ -23,11 +24,14 @@ mod view;
 
 pub use begin::{alternative_for, begins, is_choice_at};
 pub use error::SchemaError;
+pub use facts::{worked_fitting, worked_held, worked_rules};
 pub use fit::{elements_of, is_left_out, items_of};
 pub use fitting::{component_fits, fits, fits_at, is_listed, leaf_fits};
 pub use named::{Named, TypeName, index_named, name_of_number};
 pub use schema::Schema;
 pub use type_id::TypeId;
-pub use types::{Alternative, Component, LeafKind, NamedNumber, Presence, Type, tag_at, type_at};
+pub use types::{
+    Alternative, Component, LeafKind, NamedNumber, Presence, Type, components_of, tag_at, type_at,
+};
 pub use value::Value;
-pub use view::View;
+pub use view::{View, part_name, part_type};

@@ -1,10 +1,9 @@
 //! Values as text, in the value notation of X.680 as far as the type or its names are known.
-use crate::defaults::components_of;
 use crate::named::name_of_number;
 use crate::schema::Schema;
 use crate::types::{LeafKind, NamedNumber, Type};
 use crate::value::Value;
-use crate::view::{View, part_type, untagged};
+use crate::view::{View, part_name, part_type, untagged};
 use rasn_types::types::{BitStr, BmpString, Hexadecimal, Integer, Tag};
 use std::fmt;
 
@@ -167,12 +166,9 @@ fn write_arcs<W: fmt::Write>(f: &mut fmt::Formatter<W>, arcs: &[u32]) -> fmt::Re
     f.write_str(" }")
 }
 
-/// Returns the name of the component with this index.
-fn part_name<'types>(ty: Option<&'types Type>, index: usize) -> Option<&'types str> {
-    match ty? {
-        Type::Choice { alternatives, .. } => Some(alternatives.get(index)?.name.as_str()),
-        ty => Some(components_of(ty).get(index)?.name.as_str()),
-    }
+/// Returns the name of the part with this index, if the type is given and the part has one.
+fn name_of<'types>(ty: Option<&'types Type>, index: usize) -> Option<&'types str> {
+    part_name(ty?, index)
 }
 
 /// Returns the type of the part with this index, inside its explicit tags.
@@ -181,11 +177,7 @@ fn part_of<'schema>(
     ty: Option<&Type>,
     index: usize,
 ) -> Option<&'schema Type> {
-    let id = match ty? {
-        Type::Choice { alternatives, .. } => alternatives.get(index)?.type_id,
-        ty => part_type(ty, index)?,
-    };
-    untagged(schema?, id)
+    untagged(schema?, part_type(ty?, index)?)
 }
 
 /// Writes a value. Names are those of its type, if it is given.
@@ -229,7 +221,7 @@ fn write_values<W: fmt::Write>(
         }
         f.write_str(if first { "{ " } else { ", " })?;
         first = false;
-        if let Some(name) = part_name(ty, index) {
+        if let Some(name) = name_of(ty, index) {
             f.write_str(name)?;
             f.write_char(' ')?;
         }
@@ -247,7 +239,7 @@ fn write_chosen<W: fmt::Write>(
     schema: Option<&Schema>,
     ty: Option<&Type>,
 ) -> fmt::Result {
-    match part_name(ty, index) {
+    match name_of(ty, index) {
         Some(name) => f.write_str(name)?,
         None => write!(f, "[{index}]")?,
     }

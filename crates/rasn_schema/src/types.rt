@@ -1,6 +1,7 @@
 //! Types, and the components of those that have some.
 ghost use Rattle.std.specs.Prelude.{◌≡◌, slice_get, option_copied};
 ghost use Rattle.rasn_schema.specs.Shapes.{tag_of_type, tag_at};
+ghost use Rattle.rasn_schema.specs.Schemas.{components_in};
 
 use crate::type_id::TypeId;
 use crate::value::Value;
@@ -191,5 +192,16 @@ pub fn tag_at(types: &[Type], id: TypeId) -> Tag
     match type_at(types, id) {
         Some(ty) => ty.tag(),
         None => Tag::EOC,
+    }
+}
+
+/// Returns the components of a SEQUENCE or a SET, and of any other type none.
+pub fn components_of(ty: &Type) -> &[Component]
+    ensures { result.now ≡ components_in ty.now }
+{
+    match ty {
+        Type::Sequence { components, .. } => components.as_slice(),
+        Type::Set { components, .. } => components.as_slice(),
+        _ => &[],
     }
 }

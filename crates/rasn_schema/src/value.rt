@@ -1,7 +1,10 @@
 //! Values of any type.
-ghost use Rattle.std.specs.Prelude.{◌≡◌, IfOk};
+ghost use Rattle.std.specs.Prelude.{◌≡◌, ℕ, List, IfOk};
 ghost use Rattle.rasn_types.specs.Equality.{DecidesSame};
+ghost use Rattle.rasn_schema.specs.declared.types.«Type».{«Type»};
 ghost use Rattle.rasn_schema.specs.Trees.{tree_of};
+ghost use Rattle.rasn_schema.specs.Copies.{IsCopy};
+ghost use Rattle.rasn_schema.specs.Fitting.{Fits};
 
 use crate::copy::copy_of;
 use crate::equal::is_same;
@@ -45,12 +48,15 @@ pub enum Value<'input> {
 }
 
 impl Value<'_> {
-    /// Returns a copy of the value, with memory of its own.
+    /// Returns a copy of the value, with memory of its own: it means the same, and is a value of
+    /// each type of which this is one.
     ///
     /// # Errors
     /// Returns an error if there is no memory.
     pub fn try_clone<'any>(&self, alloc: Global) -> Result<Value<'any>, AllocError>
-        ensures { IfOk result (λ v. tree_of v ≡ tree_of self.now) }
+        ensures copy { IfOk result (λ copy. IsCopy self.now copy) }
+        ensures means { IfOk result (λ copy. tree_of copy ≡ tree_of self.now) }
+        ensures fits { IfOk result (λ copy. (types : List «Type») (levels id : ℕ) → Fits types levels id self.now → Fits types levels id copy) }
     {
         copy_of(self, alloc)
     }

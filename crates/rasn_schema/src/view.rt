@@ -1,15 +1,16 @@
 //! Access into values by index and by name.
-ghost use Rattle.std.specs.Prelude.{◌≡◌, ℕ, slice_get, option_copied, IfSome, MatchOption};
-ghost use Rattle.std.specs.String.{string_bytes};
+ghost use Rattle.std.specs.Prelude.{◌≡◌, slice_get, option_copied, option_map, IfSome, MatchOption};
 ghost use Rattle.rasn_schema.specs.declared.type_id.TypeId.{TypeId};
 ghost use Rattle.rasn_schema.specs.declared.types.«Type».{«Type»};
+ghost use Rattle.rasn_schema.specs.declared.types.Alternative.{Alternative};
+ghost use Rattle.rasn_schema.specs.declared.types.Component.{Component};
 ghost use Rattle.rasn_schema.specs.declared.value.Value.{Value};
-ghost use Rattle.rasn_schema.specs.Held.{held_in, IsUntagged, IsComponentType, IsTypeOfPart, IsPartAt, IsComponentValue, IsChosenValue, IsPartNamed, IsNamedPartOf};
+ghost use Rattle.rasn_schema.specs.Held.{held_in, part_type, part_name, IsUntagged, IsPartAt, IsComponentValue, IsChosenValue, IsPartNamed, IsNamedPartOf};
 
-use crate::named::{has_name, index_named};
+use crate::named::{Named, has_name, index_named};
 use crate::schema::Schema;
 use crate::type_id::TypeId;
-use crate::types::{Alternative, Component, Type, type_at};
+use crate::types::{Alternative, Component, Type, components_of, type_at};
 use crate::value::Value;
 
 /// A value with its type: its parts are found by index and by name.
@@ -35,21 +36,53 @@ pub fn untagged(schema: &Schema, id: TypeId) -> Option<&Type>
 
 /// Returns the number of the type of the component with this index.
 fn component_type(components: &[Component], index: usize) -> Option<TypeId>
-    ensures { MatchOption result ((id : TypeId) → IsComponentType components.now index id → ⊥) (λ id. IsComponentType components.now index id) }
+    ensures { result ≡ option_map (λ (c : Component). c.type_id) (slice_get components.now index) }
 {
     let component = component_at(components, index)?;
     Some(component.type_id)
 }
 
-/// Returns the number of the type of the part with this index.
+/// Returns the number of the type of the alternative with this index.
+fn alternative_type(alternatives: &[Alternative], index: usize) -> Option<TypeId>
+    ensures { result ≡ option_map (λ (a : Alternative). a.type_id) (slice_get alternatives.now index) }
+{
+    let alternative = alternative_at(alternatives, index)?;
+    Some(alternative.type_id)
+}
+
+/// Returns the number of the type of the part with this index, counted from 0, if there is one: of
+/// a component, an alternative or an element. Of what an explicit tag holds, the index doesn't
+/// count.
 pub fn part_type(ty: &Type, index: usize) -> Option<TypeId>
-    ensures { MatchOption result ((id : TypeId) → IsTypeOfPart ty.now index id → ⊥) (λ id. IsTypeOfPart ty.now index id) }
+    ensures { result ≡ part_type ty.now index }
 {
     match ty {
+        Type::Tagged { inner, .. } => Some(*inner),
+        Type::Choice { alternatives, .. } => alternative_type(alternatives.as_slice(), index),
         Type::Sequence { components, .. } => component_type(components.as_slice(), index),
         Type::Set { components, .. } => component_type(components.as_slice(), index),
-        Type::SequenceOf { element, .. } | Type::SetOf { element, .. } => Some(*element),
+        Type::SequenceOf { element, .. } => Some(*element),
+        Type::SetOf { element, .. } => Some(*element),
         _ => None,
+    }
+}
+
+/// Returns the name of the element of a list with this index.
+fn name_at<N: Named>(list: &[N], index: usize) -> Option<&str>
+    ensures { option_copied result ≡ option_map N.name (slice_get list.now index) }
+{
+    let named = list.get(index)?;
+    Some(named.name())
+}
+
+/// Returns the name of the component or the alternative with this index, counted from 0, if there
+/// is one.
+pub fn part_name(ty: &Type, index: usize) -> Option<&str>
+    ensures { option_copied result ≡ part_name ty.now index }
+{
+    match ty {
+        Type::Choice { alternatives, .. } => name_at(alternatives.as_slice(), index),
+        _ => name_at(components_of(ty), index),
     }
 }
 

@@ -1,7 +1,7 @@
 use Rattle.std.proofs.Common.{ap, ◌∙◌}
 use Rattle.std.specs.Prelude.{slice_get}
 use Rattle.rasn_schema.proofs.Lists.{nothing_left, not_empty}
-use Rattle.rasn_dynamic.proofs.LeadsTo.{no_way, nowhere, found, not_found, no_part, next_alike, no_path, weaker, is_empty}
+use Rattle.rasn_dynamic.proofs.LeadsTo.{no_way, nowhere, found, not_found, no_part, next_alike, no_path, weaker, is_empty, looked_up}
 use Rattle.rasn_dynamic.proofs.Ways.{first_item}
 use Rattle.rasn_dynamic.proofs.leads_to.component_at.Goals as goal
 
@@ -14,7 +14,7 @@ returns-then-is_empty c =
     let n = is_empty _ c.if-is_empty.ensures in
     weaker c.component_of.result _ _ _ _
     (λ h p. not_found _ _ _ _ _ _ _ e c.loop-rest.invariant _ (c.in_ok-ty.ensures ∙ ap (λ z. slice_get z c.loop-rest.id.0) c.types.ensures.types) p n (h p))
-    (λ p. found _ _ _ _ _ _ _ e c.loop-rest.invariant _ (c.in_ok-ty.ensures ∙ ap (λ z. slice_get z c.loop-rest.id.0) c.types.ensures.types) p.now n) c.component_of.ensures
+    (λ p. found _ _ _ _ _ _ _ e c.loop-rest.invariant _ (c.in_ok-ty.ensures ∙ ap (λ z. slice_get z c.loop-rest.id.0) c.types.ensures.types) p.now n) (looked_up _ _ c.component_of.ensures)
 
 pub returns-in_err-id : goal.returns-in_err-id
 returns-in_err-id c = rw c.from_residual-in_err-id.ensures (λ p. no_part _ _ _ _ _ _ _ (first_item c.loop-rest.rest.now 0 c.in-len1-up.len_at_least) c.loop-rest.invariant _ (c.in_ok-ty.ensures ∙ ap (λ z. slice_get z c.loop-rest.id.0) c.types.ensures.types) p (not_empty _ c.if-is_empty.ensures) c.in_err-id.ensures)

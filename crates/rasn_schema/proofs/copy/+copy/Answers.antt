@@ -1,12 +1,19 @@
-use Rattle.std.proofs.Common.{ap, ◌∙◌}
-use Rattle.rasn_types.specs.Shapes.{set_elements}
-use Rattle.rasn_types.specs.Trees.{list_tree}
-use Rattle.rasn_schema.specs.Trees.{tree_of}
-use Rattle.rasn_schema.proofs.Values.{tree_items, tree_elements}
+use Rattle.std.proofs.Common.{sym, subst}
+use Rattle.rasn_types.specs.Order.{Each}
+use Rattle.rasn_schema.specs.declared.value.Value.{Items, Elements}
+use Rattle.rasn_schema.specs.Copies.{IsCopy}
+use Rattle.rasn_schema.proofs.Copies.{each_more, items_copied, elements_copied}
 use Rattle.rasn_schema.proofs.copy.+copy.Goals as goal
 
+pub copies_of-loop-value-preserved : goal.copies_of-loop-value-preserved
+copies_of-loop-value-preserved t c = each_more c.args.values.now c.loop-value.copies.items c.push.new.self.items c.loop-value.value-index c.value-item.result c.in_ok-copy.copy c.loop-value-test.true c.value-item.is c.in_ok-push.ensures.items c.loop-value.invariant c.in_ok-copy.ensures
+
 pub copy_of-returns-in_ok-copies_of-in-Items : goal.copy_of-returns-in_ok-copies_of-in-Items
-copy_of-returns-in_ok-copies_of-in-Items t c = rw (c.in-Items.is, tree_items _, tree_items _) (c.in_ok-copies_of-in-Items.ensures ∙ ap (list_tree tree_of) c.as_slice-in-Items.ensures.value)
+copy_of-returns-in_ok-copies_of-in-Items t c =
+    let copies = c.in_ok-copies_of-in-Items.field-0 in
+    subst (λ w. IsCopy w (Items copies)) (sym c.in-Items.is) (items_copied c.in-Items.values copies (subst (λ l. Each IsCopy l copies.items) c.as_slice-in-Items.ensures.value c.in_ok-copies_of-in-Items.ensures))
 
 pub copy_of-returns-in_ok-copies_of-in-Elements : goal.copy_of-returns-in_ok-copies_of-in-Elements
-copy_of-returns-in_ok-copies_of-in-Elements t c = rw (c.in-Elements.is, tree_elements _, tree_elements _) (ap set_elements (c.in_ok-copies_of-in-Elements.ensures ∙ ap (list_tree tree_of) c.as_slice-in-Elements.ensures.value))
+copy_of-returns-in_ok-copies_of-in-Elements t c =
+    let copies = c.in_ok-copies_of-in-Elements.field-0 in
+    subst (λ w. IsCopy w (Elements copies)) (sym c.in-Elements.is) (elements_copied c.in-Elements.values copies (subst (λ l. Each IsCopy l copies.items) c.as_slice-in-Elements.ensures.value c.in_ok-copies_of-in-Elements.ensures))

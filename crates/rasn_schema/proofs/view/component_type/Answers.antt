@@ -1,9 +1,10 @@
-use Rattle.std.proofs.Common.{refl}
-use Rattle.rasn_schema.proofs.Parts.{not_none}
+use Rattle.std.proofs.Common.{ap}
+use Rattle.std.specs.Prelude.{option_map}
+use Rattle.rasn_schema.specs.declared.types.Component.{Component}
 use Rattle.rasn_schema.proofs.view.component_type.Goals as goal
 
 pub returns-in_err-component : goal.returns-in_err-component
-returns-in_err-component c = rw c.from_residual.ensures (λ id p. not_none p.0 _ c.in_err-component.ensures p.1)
+returns-in_err-component c = rw c.from_residual.ensures (ap (option_map (λ (q : Component). q.type_id)) c.in_err-component.ensures)
 
 pub returns : goal.returns
-returns c = (c.in_ok-component.component.now, c.in_ok-component.ensures, refl)
+returns c = ap (option_map (λ (q : Component). q.type_id)) c.in_ok-component.ensures

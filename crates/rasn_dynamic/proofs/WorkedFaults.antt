@@ -1,0 +1,72 @@
+-- Refusals and faults that were worked out by hand.
+use Rattle.std.proofs.Common.{◌≡◌, ℕ, ◌<◌, List, [], ◌∷◌, ◌++◌, length, length-append, Some, None, inl, inr, refl, sym, ap, subst, arith}
+use Rattle.rasn_types.specs.declared.types.codec.Codec.{Codec}
+use Rattle.rasn_types.specs.declared.types.codec.Codec.TheVariants.{Der}
+use Rattle.rasn_types.specs.declared.error.decode.DecodeError.{DecodeError}
+use Rattle.rasn_types.specs.declared.error.decode.DecodeErrorKind.{DecodeErrorKind}
+use Rattle.rasn_types.specs.Errors.{IsOutOfMemory}
+use Rattle.rasn_types.specs.Shapes.{Shape, Tree}
+use Rattle.rasn_types.specs.Readings.{Reading}
+use Rattle.rasn_types.specs.Grammar.{Reads, top}
+use Rattle.rasn_de.specs.State.{State}
+use Rattle.rasn_de.specs.Outcomes.{Exact, refusal}
+use Rattle.rasn_schema.specs.declared.types.«Type».{«Type»}
+use Rattle.rasn_schema.specs.Shapes.{shape_of_type}
+use Rattle.rasn_dynamic.specs.declared.refusal.Refusal.{Refusal}
+use Rattle.rasn_dynamic.specs.Faults.{Leads, FailsAt, StopsInSequence, IsLocated, start}
+use Rattle.rasn_dynamic.specs.WorkedFaults.{WorkedFaults}
+
+no_way : (levels : ℕ) (s : State) (id : ℕ) → id ≡ 0 → Leads [] [] levels 0 s levels id s
+unfolding Leads
+no_way levels s id e = (refl, sym e, refl)
+
+no_type : (levels : ℕ) (s : State) (e : DecodeError) (id : ℕ) → FailsAt [] levels id s e
+no_type levels s e id = λ n ty l g. absurd (none ty g)
+  where
+    none : (ty : «Type») → None ≡ Some ty → ⊥
+    none ty g = cc
+
+anything : (R : Reading Tree) (input : List ℕ) (k : DecodeErrorKind) → IsOutOfMemory k → Exact R input (refusal k)
+anything R input k e = subst (λ z. Exact R input (refusal z)) (sym e) tt
+
+at_the_start : (r : Refusal) → IsOutOfMemory r.error.kind → r.id.0 ≡ 0 → r.offset ≡ 0 → r.steps.items ≡ [] → IsLocated [] Der 0 [] r
+at_the_start r m i o s = record {
+  path = [];
+  below = 18446744073709551615;
+  last = start Der [];
+  front = [];
+  back = [];
+  is = refl;
+  offset = sym o;
+  has_path = λ c. s;
+  leads = no_way 18446744073709551615 (start Der []) r.id.0 i;
+  refused = anything (Reads Der (shape_of_type [] 18446744073709551615 r.id.0) 128 (top Der)) [] r.error.kind m;
+  itself = no_type 18446744073709551615 (start Der []) r.error r.id.0;
+}
+
+not_after : (types : List «Type») (rule : Codec) (id : ℕ) (r : Refusal) → 0 < r.offset → IsLocated types rule id [] r → ⊥
+not_after types rule id r l h =
+    let a = ap length h.is in
+    let b = length-append h.front (h.last.rest ++ h.back) in
+    let c = h.offset in
+    omega (arith, a, b, c, l)
+
+no_components : (f : ℕ → Shape) (s : State) (e : DecodeError) → (IsOutOfMemory e.kind → ⊥) → StopsInSequence f [] s e → ⊥
+no_components f s e n (inl m) = n m
+no_components f s e n (inr (done, p, after, here, is, turn, stops)) =
+    let a = ap length is in
+    let b = length-append done (p ∷ after) in
+    omega (arith, a, b)
+
+pub worked_faults : WorkedFaults
+worked_faults = record {
+  no_memory_at_the_start = at_the_start;
+  not_after_the_input = not_after;
+  open_type_fails_itself = λ f s e. tt;
+  nothing_stops_inside_an_open_type = λ f s e h. h;
+  anything_is_said_of_a_missing_type = λ levels s e. no_type levels s e 0;
+  no_memory_at_a_choice = λ f ks s e m. inr (inr m);
+  no_memory_in_a_sequence = λ f s e m. inl m;
+  nothing_stops_without_components = no_components;
+  no_memory_between_elements = λ f id s e m. inl m;
+}

@@ -1,0 +1,43 @@
+-- Values and types that were worked out by hand: which are values of which.
+use Rattle.std.specs.Prelude.{ℕ, pos, negsuc, List, [], ◌∷◌, true, false}
+use Rattle.rasn_types.specs.Tags.{eoc}
+use Rattle.rasn_types.specs.Shapes.{number, absent, required, optional_by, default_by, own_tag}
+use Rattle.rasn_schema.specs.declared.types.LeafKind.TheVariants.{Boolean as BooleanKind, NamedBits, BitString, FixedOctetString, Signed32, Unsigned32, Numeric, Utf8}
+use Rattle.rasn_schema.specs.declared.types.Component.{Component}
+use Rattle.rasn_schema.specs.declared.types.«Type».{«Type»}
+use Rattle.rasn_schema.specs.declared.types.«Type».TheVariants.{Any}
+use Rattle.rasn_schema.specs.declared.value.Value.{Value, Boolean, Null, Integer, Octets}
+use Rattle.rasn_schema.specs.Fitting.{NumberFits, OctetsFit, BitsFit, FitsLeaf, IsNumber, IsListOf, IsNoList, IsChosen, IsLeftOutAs, ComponentsFit, EachFits, Fits}
+
+pub record WorkedFitting : Type 0 where
+  pub most_of_32_bits : NumberFits Signed32 (pos 2147483647)
+  pub past_32_bits : NumberFits Signed32 (pos 2147483648) → ⊥
+  pub nothing_below_zero : NumberFits Unsigned32 (negsuc 0) → ⊥
+  pub digits : OctetsFit Numeric (49 ∷ (32 ∷ []))
+  pub no_letter : OctetsFit Numeric (65 ∷ []) → ⊥
+  pub two_octets : OctetsFit (FixedOctetString 2) (1 ∷ (2 ∷ []))
+  pub not_one_octet : OctetsFit (FixedOctetString 2) (1 ∷ []) → ⊥
+  pub a_bit : BitsFit NamedBits (true ∷ [])
+  pub no_trailing_0_bit : BitsFit NamedBits (false ∷ []) → ⊥
+  pub trailing_0_bit_without_names : BitsFit BitString (false ∷ [])
+  pub truth : FitsLeaf BooleanKind (Boolean true)
+  pub no_number_is_a_truth : FitsLeaf BooleanKind (Integer (pos 1)) → ⊥
+  pub octets_are_no_text : (o : _) → FitsLeaf Utf8 (Octets o) → ⊥
+  pub listed : IsNumber (pos 1 ∷ (pos 3 ∷ [])) (Integer (pos 3))
+  pub not_listed : IsNumber (pos 1 ∷ (pos 3 ∷ [])) (Integer (pos 2)) → ⊥
+  pub null_is_no_list : IsNoList Null
+  pub null_is_no_list_of : (vs : List Value) → IsListOf vs Null → ⊥
+  pub nothing_is_chosen : IsChosen (λ i v. Unit {0}) Null → ⊥
+  pub left_out : IsLeftOutAs (optional_by own_tag) absent
+  pub never_left_out : IsLeftOutAs required absent → ⊥
+  pub default_left_out : IsLeftOutAs (default_by own_tag (number (pos 5))) (number (pos 5))
+  pub not_left_out : IsLeftOutAs (default_by own_tag (number (pos 5))) (number (pos 6)) → ⊥
+  pub no_components : ComponentsFit (λ k v. Unit {0}) [] []
+  pub not_one_value_more : (v : Value) → ComponentsFit (λ k v. Unit {0}) [] (v ∷ []) → ⊥
+  pub not_one_value_less : (p : Component) → ComponentsFit (λ k v. Unit {0}) (p ∷ []) [] → ⊥
+  pub each_truth : EachFits (FitsLeaf BooleanKind) (Boolean true ∷ [])
+  pub not_each : EachFits (FitsLeaf BooleanKind) (Boolean true ∷ (Null ∷ [])) → ⊥
+  pub open_value : (o : _) → Fits (Any eoc ∷ []) 1 0 (Octets o)
+  pub no_open_null : (levels : ℕ) → Fits (Any eoc ∷ []) levels 0 Null → ⊥
+  pub nothing_of_a_missing_type : (levels : ℕ) (v : Value) → Fits [] levels 0 v → ⊥
+  pub nothing_at_no_level : (types : List «Type») (v : Value) → Fits types 0 0 v → ⊥

@@ -1,0 +1,60 @@
+-- Types that were worked out by hand: which rules of X.680 they keep, and which they break.
+use Rattle.std.specs.Prelude.{◌≡◌, ℕ, List, [], ◌∷◌, Option, Some, None}
+use Rattle.rasn_types.specs.declared.types.tag.Tag.{Tag}
+use Rattle.rasn_types.specs.Tags.{eoc, in_universal}
+use Rattle.rasn_types.specs.Shapes.{Shape, leaf, any, prefix, boolean, null}
+use Rattle.rasn_types.specs.Trees.{unconstrained}
+use Rattle.rasn_schema.specs.declared.types.Alternative.{Alternative}
+use Rattle.rasn_schema.specs.declared.types.Component.{Component}
+use Rattle.rasn_schema.specs.declared.types.NamedNumber.{NamedNumber}
+use Rattle.rasn_schema.specs.declared.types.«Type».{«Type»}
+use Rattle.rasn_schema.specs.declared.types.«Type».TheVariants.{Any, Tagged}
+use Rattle.rasn_schema.specs.declared.first_tags.FirstTags.TheVariants.{Nothing, One}
+use Rattle.rasn_schema.specs.declared.error.SchemaError.TheVariants.{ReservedTag}
+use Rattle.rasn_schema.specs.Shapes.{presence_of}
+use Rattle.rasn_schema.specs.FirstTags.{AreFirstTags, IsAlwaysThere}
+use Rattle.rasn_schema.specs.Depth.{AreDeep}
+use Rattle.rasn_schema.specs.Schemas.{AreDistinct, IsBefore, IsPrefix, AreLowerAndTagged, AreDistinctAlternatives, AreDistinctNumbers, MayFollow, IsRecognizable, IsToldFrom, AreToldInOrder, IsSchema}
+use Rattle.rasn_schema.specs.Faults.{IsFault}
+
+-- A BOOLEAN and a NULL.
+abbrev pub truth : Shape
+truth = leaf boolean (in_universal 1) unconstrained
+
+abbrev pub nothing : Shape
+nothing = leaf null (in_universal 5) unconstrained
+
+-- An explicit tag that is reserved, alone.
+abbrev pub reserved_alone : List «Type»
+reserved_alone = Tagged eoc (record { 0 = 0 }) ∷ []
+
+pub record WorkedRules : Type 0 where
+  pub distinct : AreDistinct truth nothing
+  pub not_distinct : AreDistinct truth truth → ⊥
+  pub before : IsBefore truth nothing
+  pub not_before : IsBefore nothing truth → ⊥
+  pub tagged : IsPrefix (prefix eoc truth)
+  pub not_tagged : IsPrefix truth → ⊥
+  pub lower_and_tagged : (a : Alternative) → a.type_id.0 ≡ 0 → AreLowerAndTagged (λ k. truth) 1 (a ∷ [])
+  pub not_lower : (a : Alternative) → a.type_id.0 ≡ 1 → AreLowerAndTagged (λ k. truth) 1 (a ∷ []) → ⊥
+  pub one_alternative : (f : ℕ → Shape) (a : Alternative) → AreDistinctAlternatives f (a ∷ [])
+  pub alternatives_clash : (a b : Alternative) → AreDistinctAlternatives (λ k. truth) (a ∷ (b ∷ [])) → ⊥
+  pub one_number : (n : NamedNumber) → AreDistinctNumbers (n ∷ [])
+  pub numbers_clash : (m n : NamedNumber) → m.number ≡ n.number → AreDistinctNumbers (m ∷ (n ∷ [])) → ⊥
+  pub next_follows : (p q : Component) → MayFollow (p ∷ (q ∷ [])) 0 1
+  pub none_follows_itself : (ps : List Component) → MayFollow ps 1 1 → ⊥
+  pub not_past_one_that_is_there : (p q r : Component) → IsAlwaysThere (presence_of q.presence) → MayFollow (p ∷ (q ∷ (r ∷ []))) 0 2 → ⊥
+  pub recognizable : IsRecognizable truth
+  pub not_recognizable : IsRecognizable (any None) → ⊥
+  pub told_by_its_tag : IsToldFrom (Some (in_universal 1)) truth nothing
+  pub not_told : IsToldFrom (Some (in_universal 1)) truth truth → ⊥
+  pub one_component : (own : ℕ → Option Tag) (f : ℕ → Shape) (p : Component) → AreToldInOrder own f (p ∷ [])
+  pub components_clash : (p q : Component) → (IsAlwaysThere (presence_of p.presence) → ⊥) → AreToldInOrder (λ k. Some (in_universal 1)) (λ k. truth) (p ∷ (q ∷ [])) → ⊥
+  pub first_tag : (f : ℕ → Shape) → AreFirstTags f truth (One (in_universal 1))
+  pub not_no_tag : (f : ℕ → Shape) → AreFirstTags f truth Nothing → ⊥
+  pub deep : AreDeep [] 0 1
+  pub not_deep : AreDeep [] 0 0 → ⊥
+  pub schema : IsSchema (Any eoc ∷ [])
+  pub no_schema : IsSchema reserved_alone → ⊥
+  pub fault : IsFault reserved_alone (ReservedTag (record { 0 = 0 }))
+  pub no_fault : IsFault (Any eoc ∷ []) (ReservedTag (record { 0 = 0 })) → ⊥

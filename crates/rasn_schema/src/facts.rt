@@ -1,0 +1,22 @@
+//! Facts about values, types and the rules of types that were worked out by hand.
+ghost use Rattle.rasn_schema.specs.WorkedHeld.{WorkedHeld};
+ghost use Rattle.rasn_schema.specs.WorkedFitting.{WorkedFitting};
+ghost use Rattle.rasn_schema.specs.WorkedRules.{WorkedRules};
+
+/// Proves which values are parts, which have names, and which are copies, and which aren't. The
+/// function does nothing when it runs.
+pub fn worked_held()
+    ensures { WorkedHeld }
+{}
+
+/// Proves which values are values of a type, and which aren't. The function does nothing when it
+/// runs.
+pub fn worked_fitting()
+    ensures { WorkedFitting }
+{}
+
+/// Proves which rules of X.680 a few types keep, and which they break. The function does nothing
+/// when it runs.
+pub fn worked_rules()
+    ensures { WorkedRules }
+{}
