@@ -13,10 +13,10 @@ uint32_t soq_proved_normalise(uint32_t type, uint32_t rule, const uint8_t *octet
 uint32_t soq_proved_decode_error(uint32_t type, uint32_t rule, const uint8_t *octets, size_t length,
                                  soq_fault *fault, uint8_t *text, size_t capacity);
 uint32_t soq_proved_next(uint32_t rule, const uint8_t *octets, size_t length, soq_encoding *encoding);
-uint32_t soq_proved_integer(uint32_t rule, const uint8_t *octets, size_t length, int64_t *number);
+uint32_t soq_proved_integer_i64(uint32_t rule, const uint8_t *octets, size_t length, int64_t *number);
 uint32_t soq_proved_integer_octets(uint32_t rule, const uint8_t *octets, size_t length, uint8_t *buffer,
                                    size_t capacity, size_t *needed);
-uint32_t soq_proved_identifier(uint32_t rule, const uint8_t *octets, size_t length, uint8_t *buffer,
+uint32_t soq_proved_oid_text(uint32_t rule, const uint8_t *octets, size_t length, uint8_t *buffer,
                                size_t capacity, size_t *needed);
 uint32_t soq_proved_time(uint32_t type, uint32_t rule, const uint8_t *octets, size_t length, soq_time_fields *time);
 
@@ -121,7 +121,7 @@ soq_status soq_next(soq_rule rule, const uint8_t *octets, size_t length, soq_enc
     return (soq_status)soq_proved_next((uint32_t)rule, soq_octets(octets), length, encoding);
 }
 
-soq_status soq_integer(soq_rule rule, const uint8_t *octets, size_t length, int64_t *number) {
+soq_status soq_integer_i64(soq_rule rule, const uint8_t *octets, size_t length, int64_t *number) {
     soq_status status = soq_tested(octets, length);
     if (number == NULL) {
         return SOQ_NULL_POINTER;
@@ -132,7 +132,7 @@ soq_status soq_integer(soq_rule rule, const uint8_t *octets, size_t length, int6
     if (soq_overlap(number, sizeof *number, octets, length)) {
         return SOQ_OVERLAP;
     }
-    return (soq_status)soq_proved_integer((uint32_t)rule, soq_octets(octets), length, number);
+    return (soq_status)soq_proved_integer_i64((uint32_t)rule, soq_octets(octets), length, number);
 }
 
 soq_status soq_integer_octets(soq_rule rule, const uint8_t *octets, size_t length, uint8_t *buffer, size_t capacity, size_t *needed) {
@@ -155,7 +155,7 @@ soq_status soq_integer_octets(soq_rule rule, const uint8_t *octets, size_t lengt
                                                  needed);
 }
 
-soq_status soq_identifier(soq_rule rule, const uint8_t *octets, size_t length, char *text, size_t capacity, size_t *needed) {
+soq_status soq_oid_text(soq_rule rule, const uint8_t *octets, size_t length, char *text, size_t capacity, size_t *needed) {
     soq_status status = soq_tested(octets, length);
     uint8_t none = 0;
     if (needed == NULL) {
@@ -171,7 +171,7 @@ soq_status soq_identifier(soq_rule rule, const uint8_t *octets, size_t length, c
         || soq_overlap(needed, sizeof *needed, octets, length)) {
         return SOQ_OVERLAP;
     }
-    return (soq_status)soq_proved_identifier((uint32_t)rule, soq_octets(octets), length, text == NULL ? &none : (uint8_t *)text,
+    return (soq_status)soq_proved_oid_text((uint32_t)rule, soq_octets(octets), length, text == NULL ? &none : (uint8_t *)text,
                                              capacity, needed);
 }
 

@@ -245,7 +245,7 @@ soq_status soq_next(soq_rule rule, const uint8_t *octets, size_t length, soq_enc
  *
  * Contract: AnswersInteger (crates/rasn_c/specs/Leaves.antt), from that of `Decoder::decode_integer`.
  */
-soq_status soq_integer(soq_rule rule, const uint8_t *octets, size_t length, int64_t *number);
+soq_status soq_integer_i64(soq_rule rule, const uint8_t *octets, size_t length, int64_t *number);
 
 /*
  * Writes the number of the INTEGER that all of the octets are to the buffer, in two's complement in the fewest octets, the first of them
@@ -271,7 +271,7 @@ soq_status soq_integer_octets(soq_rule rule, const uint8_t *octets, size_t lengt
  *
  * Contract: AnswersIdentifier (crates/rasn_c/specs/Leaves.antt), from that of `Decoder::decode_object_identifier`.
  */
-soq_status soq_identifier(soq_rule rule, const uint8_t *octets, size_t length, char *text, size_t capacity,
+soq_status soq_oid_text(soq_rule rule, const uint8_t *octets, size_t length, char *text, size_t capacity,
                           size_t *needed);
 
 /*

@@ -319,7 +319,7 @@ static void integers_are_read(void) {
         uint8_t octets[LONGEST];
         size_t length = octets_of(integers[i].octets, octets);
         int64_t number = 7;
-        ENSURE(soq_integer(integers[i].rule, octets, length, &number) == integers[i].status && number == integers[i].number);
+        ENSURE(soq_integer_i64(integers[i].rule, octets, length, &number) == integers[i].status && number == integers[i].number);
     }
 }
 
@@ -389,13 +389,13 @@ static void identifiers_are_written(void) {
             soq_status status;
             memset(out, 0x5A, size);
             needed = 7;
-            status = soq_identifier(identifiers[i].rule, octets, length, out, size, &needed);
+            status = soq_oid_text(identifiers[i].rule, octets, length, out, size, &needed);
             ENSURE(needed == wanted && status == (text == NULL ? SOQ_REFUSED : size < wanted ? SOQ_BUFFER_TOO_SMALL : SOQ_OK));
             ENSURE(status == SOQ_OK ? strcmp(out, text) == 0 : size == 0 || (out[0] == 0x5A && out[size - 1] == 0x5A));
             ENSURE(size <= wanted || out[wanted] == 0x5A);
         }
     }
-    ENSURE(soq_identifier((soq_rule)3, NULL, 0, NULL, 0, &needed) == SOQ_UNKNOWN_RULE && needed == 0);
+    ENSURE(soq_oid_text((soq_rule)3, NULL, 0, NULL, 0, &needed) == SOQ_UNKNOWN_RULE && needed == 0);
 }
 
 typedef struct instant {
@@ -450,23 +450,23 @@ static void wrong_arguments_of_parts_are_answered(void) {
     soq_encoding encoding = {7, 7, 7, 7, 7, 7};
     soq_time_fields time = {7, 7, 7, 7, 7, 7, 7};
     ENSURE(soq_next(SOQ_BER, NULL, 1, &encoding) == SOQ_NULL_POINTER && soq_next(SOQ_BER, octets, 3, NULL) == SOQ_NULL_POINTER);
-    ENSURE(soq_integer(SOQ_BER, NULL, 1, &number) == SOQ_NULL_POINTER && soq_integer(SOQ_BER, octets, 3, NULL) == SOQ_NULL_POINTER);
+    ENSURE(soq_integer_i64(SOQ_BER, NULL, 1, &number) == SOQ_NULL_POINTER && soq_integer_i64(SOQ_BER, octets, 3, NULL) == SOQ_NULL_POINTER);
     ENSURE(soq_integer_octets(SOQ_BER, NULL, 1, shared.octets + 8, 8, &needed) == SOQ_NULL_POINTER);
     ENSURE(soq_integer_octets(SOQ_BER, octets, 3, NULL, 8, &needed) == SOQ_NULL_POINTER);
     ENSURE(soq_integer_octets(SOQ_BER, octets, 3, shared.octets + 8, 8, NULL) == SOQ_NULL_POINTER);
     ENSURE(soq_integer_octets(SOQ_BER, shared.octets, 3, shared.octets + 2, 8, &needed) == SOQ_OVERLAP);
-    ENSURE(soq_identifier(SOQ_BER, NULL, 1, text, 8, &needed) == SOQ_NULL_POINTER);
-    ENSURE(soq_identifier(SOQ_BER, octets, 3, NULL, 8, &needed) == SOQ_NULL_POINTER);
-    ENSURE(soq_identifier(SOQ_BER, octets, 3, text, 8, NULL) == SOQ_NULL_POINTER);
+    ENSURE(soq_oid_text(SOQ_BER, NULL, 1, text, 8, &needed) == SOQ_NULL_POINTER);
+    ENSURE(soq_oid_text(SOQ_BER, octets, 3, NULL, 8, &needed) == SOQ_NULL_POINTER);
+    ENSURE(soq_oid_text(SOQ_BER, octets, 3, text, 8, NULL) == SOQ_NULL_POINTER);
     ENSURE(soq_time(SOQ_UTCTIME, SOQ_BER, NULL, 1, &time) == SOQ_NULL_POINTER);
     ENSURE(soq_time(SOQ_UTCTIME, SOQ_BER, octets, 3, NULL) == SOQ_NULL_POINTER);
-    ENSURE(soq_next(SOQ_BER, octets, SIZE_MAX, &encoding) == SOQ_TOO_LONG && soq_integer(SOQ_BER, octets, SIZE_MAX, &number) == SOQ_TOO_LONG);
+    ENSURE(soq_next(SOQ_BER, octets, SIZE_MAX, &encoding) == SOQ_TOO_LONG && soq_integer_i64(SOQ_BER, octets, SIZE_MAX, &number) == SOQ_TOO_LONG);
     ENSURE(soq_next(SOQ_BER, shared.octets, 3, &shared.encoding) == SOQ_OVERLAP);
-    ENSURE(soq_integer(SOQ_BER, shared.octets, 3, &shared.number) == SOQ_OVERLAP);
+    ENSURE(soq_integer_i64(SOQ_BER, shared.octets, 3, &shared.number) == SOQ_OVERLAP);
     ENSURE(soq_time(SOQ_UTCTIME, SOQ_BER, shared.octets, 3, &shared.time) == SOQ_OVERLAP);
-    ENSURE(soq_identifier(SOQ_BER, shared.octets, 3, text, 8, &shared.needed) == SOQ_OVERLAP);
-    ENSURE(soq_identifier(SOQ_BER, shared.octets, 3, (char *)shared.octets, 8, &needed) == SOQ_OVERLAP);
-    ENSURE(soq_identifier(SOQ_BER, octets, 3, (char *)shared.octets, 8, &shared.needed) == SOQ_OVERLAP);
+    ENSURE(soq_oid_text(SOQ_BER, shared.octets, 3, text, 8, &shared.needed) == SOQ_OVERLAP);
+    ENSURE(soq_oid_text(SOQ_BER, shared.octets, 3, (char *)shared.octets, 8, &needed) == SOQ_OVERLAP);
+    ENSURE(soq_oid_text(SOQ_BER, octets, 3, (char *)shared.octets, 8, &shared.needed) == SOQ_OVERLAP);
     ENSURE(shared.octets[0] == 0x02 && needed == 7 && number == 7 && encoding.length == 7 && time.year == 7);
 }
 
@@ -616,9 +616,9 @@ static void call_all(void) {
     ENSURE(soq_normalise(SOQ_OCTETS, SOQ_BER, constructed, sizeof constructed, out, sizeof out, &needed) == SOQ_OK && needed == 3);
     ENSURE(soq_decode_error(SOQ_BOOL, SOQ_DER, spelled, sizeof spelled, &fault, text, sizeof text) == SOQ_REFUSED);
     ENSURE(soq_next(SOQ_BER, constructed, sizeof constructed, &encoding) == SOQ_OK && encoding.contents == 3);
-    ENSURE(soq_integer(SOQ_DER, spelled, sizeof spelled, &number) == SOQ_OK && number == 5);
+    ENSURE(soq_integer_i64(SOQ_DER, spelled, sizeof spelled, &number) == SOQ_OK && number == 5);
     ENSURE(soq_integer_octets(SOQ_DER, spelled, sizeof spelled, out, sizeof out, &needed) == SOQ_OK && needed == 1 && out[0] == 5);
-    ENSURE(soq_identifier(SOQ_DER, name, sizeof name, text, sizeof text, &needed) == SOQ_OK && needed == 8);
+    ENSURE(soq_oid_text(SOQ_DER, name, sizeof name, text, sizeof text, &needed) == SOQ_OK && needed == 8);
     ENSURE(soq_time(SOQ_UTCTIME, SOQ_DER, spelled, sizeof spelled, &time) == SOQ_REFUSED);
 }
 

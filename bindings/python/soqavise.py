@@ -133,7 +133,7 @@ _normalise = _function("soq_normalise", _KIND, _KIND, *_OCTETS, *_OCTETS, _SIZE)
 _decode_error = _function("soq_decode_error", _KIND, _KIND, *_OCTETS, ctypes.POINTER(_Fault), *_OCTETS)
 _next = _function("soq_next", _KIND, *_OCTETS, ctypes.POINTER(_Encoding))
 _integer_octets = _function("soq_integer_octets", _KIND, *_OCTETS, *_OCTETS, _SIZE)
-_identifier = _function("soq_identifier", _KIND, *_OCTETS, *_OCTETS, _SIZE)
+_identifier = _function("soq_oid_text", _KIND, *_OCTETS, *_OCTETS, _SIZE)
 _time = _function("soq_time", _KIND, _KIND, *_OCTETS, ctypes.POINTER(_Time))
 
 

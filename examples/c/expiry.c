@@ -46,7 +46,7 @@ int main(int count, char **words) {
     validity = take(&body, &whole);
     take(&validity, &whole); /* notBefore */
     take(&validity, &whole);
-    if (soq_integer(SOQ_DER, serial.at, serial.length, &number) == SOQ_OK) {
+    if (soq_integer_i64(SOQ_DER, serial.at, serial.length, &number) == SOQ_OK) {
         printf("serial number %" PRId64 "\n", number);
     }
     if (soq_time(whole.at[0] == 0x17 ? SOQ_UTCTIME : SOQ_GENTIME, SOQ_DER, whole.at, whole.length, &end) == SOQ_OK) {

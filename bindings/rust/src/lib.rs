@@ -181,7 +181,7 @@ unsafe extern "C" {
         capacity: usize,
     ) -> u32;
     fn soq_proved_next(rules: u32, octets: *const u8, length: usize, parts: &mut Parts) -> u32;
-    fn soq_proved_integer(rules: u32, octets: *const u8, length: usize, number: &mut i64) -> u32;
+    fn soq_proved_integer_i64(rules: u32, octets: *const u8, length: usize, number: &mut i64) -> u32;
     fn soq_proved_integer_octets(
         rules: u32,
         octets: *const u8,
@@ -190,7 +190,7 @@ unsafe extern "C" {
         capacity: usize,
         needed: &mut usize,
     ) -> u32;
-    fn soq_proved_identifier(
+    fn soq_proved_oid_text(
         rules: u32,
         octets: *const u8,
         length: usize,
@@ -344,7 +344,7 @@ pub fn encodings(rules: Rules, octets: &[u8]) -> impl Iterator<Item = Result<Enc
 pub fn integer(rules: Rules, octets: &[u8]) -> Result<i64, Error> {
     let mut number = 0;
     let (at, length) = (octets.as_ptr(), octets.len());
-    let status = unsafe { soq_proved_integer(rules as u32, at, length, &mut number) };
+    let status = unsafe { soq_proved_integer_i64(rules as u32, at, length, &mut number) };
     answer(status, "the octets aren't one INTEGER of 64 bits")?;
     Ok(number)
 }
@@ -370,7 +370,7 @@ pub fn identifier(rules: Rules, octets: &[u8]) -> Result<String, Error> {
     let (at, length) = (octets.as_ptr(), octets.len());
     let text = written(64, "the octets aren't one OBJECT IDENTIFIER", |buffer, needed| unsafe {
         let (to, capacity) = (buffer.as_mut_ptr(), buffer.len());
-        soq_proved_identifier(rules as u32, at, length, to, capacity, needed)
+        soq_proved_oid_text(rules as u32, at, length, to, capacity, needed)
     })?;
     let (_zero, dotted) = text.split_last().unwrap_or((&0, &[]));
     Ok(String::from_utf8_lossy(dotted).into_owned())

@@ -115,7 +115,7 @@ pub(crate) fn leaf_of<L: Leaf>(alloc: Global, rule: Codec, octets: &[u8]) -> Res
 /// Returns the number of the INTEGER that all of the octets are, under the rules of this number. Its
 /// tag may be any. A number that 64 bits don't hold is refused.
 #[unsafe(no_mangle)]
-pub extern "C" fn soq_proved_integer(
+pub extern "C" fn soq_proved_integer_i64(
     alloc: Global,
     rule: u32,
     octets: &[u8],
@@ -188,7 +188,7 @@ fn put_number(
 /// between them and a zero after them. Its tag may be any. `needed` is the number of octets of this
 /// text, also if the buffer is smaller; the buffer is then unchanged.
 #[unsafe(no_mangle)]
-pub extern "C" fn soq_proved_identifier(
+pub extern "C" fn soq_proved_oid_text(
     alloc: Global,
     rule: u32,
     octets: &[u8],
