@@ -14,7 +14,8 @@ use Rattle.rasn_lint.specs.declared.by_schema.OpenTypes.TheVariants.{Unexamined,
 use Rattle.rasn_lint.specs.declared.departure.Departure.{Departure}
 use Rattle.rasn_lint.specs.declared.trail.Step.{Step}
 use Rattle.rasn_lint.specs.Trail.{trail_after}
-use Rattle.rasn_lint.specs.Judged.{AreJudged, AreOfPart, AreOpenDepartures, HasOpen}
+use Rattle.rasn_lint.specs.Judged.{AreJudged, AreOfPart, AreOpenDepartures}
+use Rattle.rasn_lint.specs.Untyped.{HasOpen}
 use Rattle.rasn_lint.specs.Lint.{HasFormed}
 use Rattle.rasn_lint.specs.WellFormed.{IsWellFormed}
 

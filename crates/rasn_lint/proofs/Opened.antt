@@ -1,5 +1,6 @@
 -- Where the octets of encodings inside an open type are.
-use Rattle.std.proofs.Common.{◌≡◌, ◌≢◌, ◌⊎◌, inl, inr, ◌<◌, ◌+◌, ◌-◌, ℕ, List, [], ◌∷◌, ◌++◌, length, Bool, Option, Some, None, Ok, Err, refl, sym, ap, ◌∙◌, subst, append_assoc, append-nil, arith, length-append, Bor}
+use Rattle.std.specs.Prelude.{min}
+use Rattle.std.proofs.Common.{◌≡◌, ◌≢◌, ◌⊎◌, inl, inr, ◌<◌, ◌+◌, ◌-◌, ◌^◌, ℕ, List, [], ◌∷◌, ◌++◌, length, Bool, Option, Some, None, Ok, Err, refl, sym, ap, ◌∙◌, subst, append_assoc, append-nil, arith, length-append, Bor}
 use Rattle.std.specs.List.{AllByRecursion}
 use Rattle.rasn_types.specs.declared.types.codec.Codec.TheVariants.{Ber}
 use Rattle.rasn_types.specs.declared.types.tag.Tag.{Tag}
@@ -15,8 +16,10 @@ use Rattle.rasn_dynamic.specs.declared.span.Span.{Span}
 use Rattle.rasn_dynamic.specs.Faults.{start}
 use Rattle.rasn_lint.specs.declared.open.Contents.{Contents}
 use Rattle.rasn_lint.specs.declared.open.Pending.{Pending}
-use Rattle.rasn_lint.specs.Judged.{HasOpen}
-use Rattle.rasn_lint.specs.Open.{IsEndLen, IsEndOf, IsAfterHeader, IsFoundIn, AllFound}
+use Rattle.rasn_de.specs.ParserViews.{peeked_tag}
+use Rattle.rasn_lint.specs.Open.{IsEndLen, IsEndOf, IsAfterHeader, IsFoundIn, IsPending, AllPending, IsOfWhole}
+use Rattle.rasn_lint.specs.Untyped.{HasOpen, HasNoContents, HasContents, IsFollowedBy, IsUnread}
+use Rattle.rasn_lint.proofs.Noted.{all_append}
 
 -- ---- end-of-contents octets
 
@@ -89,9 +92,24 @@ module _ (octets : List ℕ) (s new : State) (at : s ≡ start Ber octets) where
       let k = subst (λ z. SkipsValue z (Err e) new) at h in
       record { definite = λ rest x. refl; indefinite = λ n rest x p. absurd (k.1.0 n rest x) }
 
+  -- The encoding that is skipped, or none.
+  pub unread : (e : DecodeError) → SkipsValue s (Err e) new → IsUnread octets
+  unread e h rest (n, x) =
+      let k = subst (λ z. SkipsValue z (Err e) new) at h in
+      k.1.0 n rest x
+
+  pub followed : (n : ℕ) (rest : List ℕ) → SkipsValue s (Ok n) new → rest ≡ new.rest → IsFollowedBy octets rest
+  followed n rest h r =
+      let k = subst (λ z. SkipsValue z (Ok n) new) at h in
+      (n, subst (Skipped Ber octets n) (sym r) k.0.0)
+
   -- What an open type holds.
   pub opened_at : (tag : Tag) (o : Bor (List ℕ)) → BorrowsOpenType tag s (Ok o) new → OpenAt Ber (looked_for tag) octets (Ok (o.now, new.rest))
   opened_at tag o h = (subst (λ z. BorrowsOpenType tag z (Ok o) new) at h).0
+
+-- Of the tag that is there no contents are found.
+pub no_contents : (octets : List ℕ) (tag : Tag) → peeked_tag (form Ber) octets ≡ Ok tag → ((inside : List ℕ) → HasOpen tag octets inside → ⊥) → HasNoContents octets
+no_contents octets tag p n other inside (q, h) = let e : other ≡ tag = cc in n inside (subst (λ t. HasOpen t octets inside) e h)
 
 -- ---- places in a part
 
@@ -114,3 +132,44 @@ module _ (e : Span) where
         p ∙ ap (λ z. front ++ (z ++ back)) q ∙ sym (simp append_assoc),
         omega (arith, size, n, k),
       )
+
+  -- Encodings that are kept.
+  pub kept : (inside : List ℕ) (old new : List Pending) (p : Pending) → new ≡ old ++ p ∷ [] → IsPending e inside p → AllPending e inside old → AllPending e inside new
+  kept inside old new p q h a = subst (AllPending e inside) (sym q) (all_append (IsPending e inside) old (p ∷ []) a (h, tt))
+
+  -- Those inside an encoding, and those after one, which are outermost if it is.
+  pub pending_inside : (inside : List ℕ) (p : Pending) (n : ℕ) → IsFoundIn e p.octets.now p.left → p.depth ≡ min (n + 1) (2 ^ 64 - 1) → IsPending e inside p
+  pending_inside inside p n h d = record { found = h; outermost = λ z. absurd (omega (arith, z, d)) }
+
+  pub pending_after : (inside : List ℕ) (next p : Pending) → IsPending e inside next → ((next.depth ≡ 0) × (0 < next.index) → ⊥) → IsFoundIn e p.octets.now p.left → IsFollowedBy next.octets.now p.octets.now
+      → p.depth ≡ next.depth → p.index ≡ min (next.index + 1) (2 ^ 64 - 1) → p.octets.now ≢ [] → IsPending e inside p
+  pending_after inside next p h n f b d i some = record { found = f; outermost = λ z. go z (h.outermost (sym d ∙ z)) }
+    where
+      go : p.depth ≡ 0 → ((next.index ≡ 0) × (next.octets.now ≡ inside)) ⊎ ((0 < next.index) × (next.octets.now ≢ []) × IsFollowedBy inside next.octets.now)
+          → ((p.index ≡ 0) × (p.octets.now ≡ inside)) ⊎ ((0 < p.index) × (p.octets.now ≢ []) × IsFollowedBy inside p.octets.now)
+      go z (inl (q, r)) = inr (omega (arith, i), some, subst (λ l. IsFollowedBy l p.octets.now) r b)
+      go z (inr (q, r)) = absurd (n (sym d ∙ z, q))
+
+  -- The first encodings are all those of the open type.
+  pub outermost : (p : Pending) → IsFoundIn e p.octets.now p.left → p.index ≡ 0 → AllPending e p.octets.now (p ∷ [])
+  outermost p h i = (record { found = h; outermost = λ z. inl (i, refl) }, tt)
+
+  -- Encodings that are taken back.
+  pub popped : (inside : List ℕ) (old new : List Pending) (p : Pending) → old ≡ new ++ p ∷ [] → AllPending e inside old → AllPending e inside new × IsPending e inside p
+  popped inside old new p q a = let h = subst (AllPending e inside) q a in (front new h, last new h)
+    where
+      front : (xs : List Pending) → AllPending e inside (xs ++ p ∷ []) → AllPending e inside xs
+      front [] h = tt
+      front (x ∷ xs) h = (h.0, front xs h.1)
+
+      last : (xs : List Pending) → AllPending e inside (xs ++ p ∷ []) → IsPending e inside p
+      last [] h = h.0
+      last (x ∷ xs) h = last xs h.1
+
+  -- Those after the first encoding of the open type.
+  pub extra_follows : (inside : List ℕ) (p : Pending) → IsPending e inside p → (p.depth ≡ 0) × (0 < p.index) → IsOfWhole inside p.octets.now
+  extra_follows inside p h (d, i) = go (h.outermost d)
+    where
+      go : ((p.index ≡ 0) × (p.octets.now ≡ inside)) ⊎ ((0 < p.index) × (p.octets.now ≢ []) × IsFollowedBy inside p.octets.now) → IsOfWhole inside p.octets.now
+      go (inl (q, r)) = absurd (omega (arith, q, i))
+      go (inr (q, s, b)) = inl (s, b)

@@ -3,10 +3,8 @@ use Rattle.std.specs.Prelude.{◌≡◌, ◌≢◌, ◌⊎◌, ◌↔◌, ◌-�
 use Rattle.std.specs.List.{AllByRecursion}
 use Rattle.std.specs.Borrow.{Bor}
 use Rattle.std.specs.Global.{Global}
-use Rattle.rasn_types.specs.declared.types.codec.Codec.TheVariants.{Ber}
 use Rattle.rasn_types.specs.declared.types.tag.Tag.{Tag}
-use Rattle.rasn_types.specs.Shapes.{looked_for}
-use Rattle.rasn_de.specs.Any.{OpenAt, BorrowsOpenType}
+use Rattle.rasn_de.specs.Any.{BorrowsOpenType}
 use Rattle.rasn_de.specs.State.{State}
 use Rattle.rasn_types.specs.declared.error.decode.DecodeError.{DecodeError}
 use Rattle.rasn_types.specs.Tags.{eoc}
@@ -26,6 +24,7 @@ use Rattle.rasn_lint.specs.Header.{has_own_header, is_constructed, IsTagFault, I
 use Rattle.rasn_lint.specs.Leaf.{IsContentsFault}
 use Rattle.rasn_lint.specs.Encoding.{start}
 use Rattle.rasn_lint.specs.Open.{IsInside}
+use Rattle.rasn_lint.specs.Untyped.{HasOpen}
 use Rattle.rasn_lint.specs.WellFormed.{IsWellFormed}
 use Rattle.rasn_lint.specs.declared.by_schema.OpenTypes.{OpenTypes}
 use Rattle.rasn_lint.specs.declared.by_schema.OpenTypes.TheVariants.{Unexamined, Examined}
@@ -114,13 +113,9 @@ AreDepartures types len trail path e (Some ty) ds = (f : Faults) × (site : Site
 
 -- ---- open types
 
--- The octets of a value of an open type, as BER finds them.
-abbrev pub HasOpen : Tag → List ℕ → List ℕ → Type 0
-HasOpen tag octets inside = (rest : List ℕ) × OpenAt Ber (looked_for tag) octets (Ok (inside, rest))
-
 -- There are none exactly if the octets of the open type are well formed.
 abbrev pub AreInside : Tag → ℕ → List ℕ → Span → List Departure → Type 0
-AreInside tag len path e ds = (inside : List ℕ) × HasOpen tag e.octets.now inside × ((ds ≡ []) ↔ IsWellFormed inside) × AllByRecursion (IsInside len e path) ds
+AreInside tag len path e ds = (inside : List ℕ) × HasOpen tag e.octets.now inside × ((ds ≡ []) ↔ IsWellFormed inside) × AllByRecursion (IsInside len e path inside) ds
 
 -- The same of a part of any type; of one that isn't open, and where BER finds no octets, there are none.
 abbrev pub AreOpenDepartures : ℕ → List ℕ → Span → Option «Type» → List Departure → Type 0

@@ -21,7 +21,8 @@ use Rattle.rasn_lint.specs.declared.by_schema.LintError.TheVariants.{Refused, Re
 use Rattle.rasn_lint.specs.declared.by_schema.OpenTypes.{OpenTypes}
 use Rattle.rasn_lint.specs.declared.by_schema.OpenTypes.TheVariants.{Unexamined, Examined}
 use Rattle.rasn_lint.specs.declared.departure.Departure.{Departure}
-use Rattle.rasn_lint.specs.Judged.{AreJudged, HasOpen}
+use Rattle.rasn_lint.specs.Judged.{AreJudged}
+use Rattle.rasn_lint.specs.Untyped.{HasOpen}
 use Rattle.rasn_lint.specs.WellFormed.{IsWellFormed}
 
 -- DER reads all of the octets as a value of the type.

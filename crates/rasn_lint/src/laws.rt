@@ -1,6 +1,10 @@
 //! Facts about lists of departures. The functions do nothing when they run.
 ghost use Rattle.rasn_lint.specs.Laws.{NormalIsClean, CleanIsNormal};
+ghost use Rattle.std.specs.Prelude.{Vec};
+ghost use Rattle.std.specs.Global.{Global};
+ghost use Rattle.rasn_schema.specs.declared.types.NamedNumber.{NamedNumber};
 ghost use Rattle.rasn_lint.specs.Worked.{WorkedDepartures};
+ghost use Rattle.rasn_lint.specs.WorkedMessages.{WorkedMessages};
 
 /// Proves what the list of a message says of the value written anew, as `rasn_dynamic::normalise`
 /// does it: what is written has no departures, except in open types, whose octets it keeps; and a
@@ -15,4 +19,11 @@ pub fn written_anew()
 #[tactic(auto, using(crate::proofs::WorkedDepartures::departures))]
 pub fn worked_departures()
     ensures { WorkedDepartures }
+{}
+
+/// Proves what DER doesn't read of a BOOLEAN that is `01 81 01 FF`, and that `01 01 FF` has no
+/// departures.
+#[tactic(auto, using(crate::proofs::WorkedMessages::worked_messages))]
+pub fn worked_messages()
+    ensures { (names : Vec NamedNumber Global) → WorkedMessages names }
 {}

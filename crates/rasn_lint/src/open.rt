@@ -1,9 +1,11 @@
 //! What departs inside an open type, where no type is known.
-ghost use Rattle.std.specs.Prelude.{◌≡◌, ◌++◌, ◌↔◌, [], ℕ, List, OnOk, MatchOption, Some};
+ghost use Rattle.std.specs.Prelude.{◌≡◌, ◌≢◌, ◌<◌, ◌++◌, ◌∷◌, ◌↔◌, [], ℕ, List, OnOk, MatchOption, Some};
 ghost use Rattle.std.specs.List.{AllByRecursion};
 ghost use Rattle.rasn_types.specs.Shapes.{looked_for};
-ghost use Rattle.rasn_lint.specs.Judged.{HasOpen, AreOpenDepartures};
-ghost use Rattle.rasn_lint.specs.Open.{IsEndLen, IsEndOf, IsAfterHeader, IsFoundIn, AllFound, IsInside, GrowsInside};
+ghost use Rattle.rasn_types.specs.Truth.{IsWhether};
+ghost use Rattle.rasn_lint.specs.Judged.{AreOpenDepartures};
+ghost use Rattle.rasn_lint.specs.Open.{IsEndLen, IsEndOf, IsAfterHeader, IsFoundIn, IsPending, AllPending, IsInside, GrowsInside};
+ghost use Rattle.rasn_lint.specs.Untyped.{HasOpen, HasContents, HasNoContents, IsFollowedBy, IsUnread};
 ghost use Rattle.rasn_lint.specs.WellFormed.{IsWellFormed};
 ghost use Rattle.rasn_lint.specs.declared.departure.Departure.{Departure};
 
@@ -12,7 +14,7 @@ use crate::der::encoding::octets_before;
 use crate::der::is_well_formed;
 use crate::header::is_constructed;
 use crate::judge::{Way, note, note_faults, site_at};
-use crate::place::reader_of;
+use crate::place::{reader_of, tag_of};
 use crate::trail::go_along;
 use crate::untyped::{extra, faults_of, unreadable};
 use rasn_dynamic::Span;
@@ -85,18 +87,18 @@ fn contents_at(alloc: Global, tag: Tag, octets: &[u8]) -> Option<Contents<'_>>
 }
 
 /// Returns the tag of an encoding, and its contents.
+#[tactic(auto, using(crate::proofs::Opened::no_contents))]
 fn contents_of(alloc: Global, encoding: &[u8]) -> Option<(Tag, Contents<'_>)>
-    ensures { MatchOption result (Unit {0}) (λ found. IsAfterHeader encoding.now found.1) }
+    ensures { MatchOption result (HasNoContents encoding.now) (λ found. HasContents found.0 encoding.now found.1.octets.now × IsAfterHeader encoding.now found.1) }
 {
-    let Ok(tag) = reader_of(alloc, encoding).peek_tag() else {
-        return None;
-    };
+    let tag = tag_of(alloc, encoding)?;
     Some((tag, contents_at(alloc, tag, encoding)?))
 }
 
 /// Returns the first of these encodings as BER reads it, and what follows it.
+#[tactic(auto, using(crate::proofs::Opened::unread, crate::proofs::Opened::followed))]
 fn first_encoding(alloc: Global, octets: &[u8]) -> Option<(&[u8], &[u8])>
-    ensures { MatchOption result (Unit {0}) (λ found. octets.now ≡ found.0.now ++ found.1.now) }
+    ensures { MatchOption result (IsUnread octets.now) (λ found. (octets.now ≡ found.0.now ++ found.1.now) × IsFollowedBy octets.now found.1.now) }
 {
     let mut decoder = reader_of(alloc, octets);
     match decoder.skip_value() {
@@ -114,9 +116,7 @@ fn keep<'input>(
     part: &Span<'_>,
     encodings: Pending<'input>,
 ) -> Result<(), AllocError>
-    requires here { IsFoundIn part.now encodings.octets.now encodings.left }
-    requires all { AllFound part.now pending.old.items }
-    ensures { OnOk result (AllFound part.now pending.new.items) }
+    ensures { OnOk result ((inside : List ℕ) → (encodings.entry.octets.now ≢ [] → IsPending part.now inside encodings.entry) → AllPending part.now inside pending.old.items → AllPending part.now inside pending.new.items) }
 {
     if encodings.octets.is_empty() {
         return Ok(());
@@ -136,10 +136,9 @@ fn look_into<'input>(
     next: Pending<'input>,
     encoding: &'input [u8],
 ) -> Result<(), AllocError>
-    requires here { IsFoundIn way.part.now encoding.now next.left }
-    requires all { AllFound way.part.now pending.old.items }
-    ensures grows { OnOk result (GrowsInside way.entry.len way.entry.part.now way.entry.path.now list.old.items list.new.items) }
-    ensures all { OnOk result (AllFound way.entry.part.now pending.new.items) }
+    requires { IsFoundIn way.part.now encoding.now next.left }
+    ensures grows { OnOk result ((inside : List ℕ) → GrowsInside way.entry.len way.entry.part.now way.entry.path.now inside list.old.items list.new.items) }
+    ensures all { OnOk result ((inside : List ℕ) → AllPending way.entry.part.now inside pending.old.items → AllPending way.entry.part.now inside pending.new.items) }
 {
     let site = site_at(way, next.left, Some(path));
     let Some((tag, contents)) = contents_of(alloc, encoding) else {
@@ -160,6 +159,13 @@ fn look_into<'input>(
     keep(pending, way.part, inside)
 }
 
+/// Returns whether encodings follow the one of the open type, where there may be none.
+fn is_extra(encodings: Pending<'_>) -> bool
+    ensures { IsWhether result ((encodings.entry.depth ≡ 0) × (0 < encodings.entry.index)) }
+{
+    encodings.depth == 0 && encodings.index > 0
+}
+
 /// Appends what departs of the first of these encodings of a part, unless it is well formed, and
 /// keeps those inside it and those after it.
 fn look<'input>(
@@ -170,20 +176,14 @@ fn look<'input>(
     pending: &mut Vec<Pending<'input>>,
     next: Pending<'input>,
 ) -> Result<(), AllocError>
-    requires here { IsFoundIn way.part.now next.octets.now next.left }
-    requires all { AllFound way.part.now pending.old.items }
-    ensures grows { OnOk result (GrowsInside way.entry.len way.entry.part.now way.entry.path.now list.old.items list.new.items) }
-    ensures all { OnOk result (AllFound way.entry.part.now pending.new.items) }
+    requires { IsFoundIn way.part.now next.octets.now next.left }
+    ensures grows { OnOk result ((inside : List ℕ) → IsPending way.entry.part.now inside next.entry → GrowsInside way.entry.len way.entry.part.now way.entry.path.now inside list.old.items list.new.items) }
+    ensures all { OnOk result ((inside : List ℕ) → IsPending way.entry.part.now inside next.entry → AllPending way.entry.part.now inside pending.old.items → AllPending way.entry.part.now inside pending.new.items) }
 {
     let site = site_at(way, next.left, Some(path));
-    if next.depth == 0 && next.index > 0 {
-        return note(
-            alloc,
-            list,
-            site,
-            Aspect::Contents,
-            Some(extra(next.octets)),
-        );
+    if is_extra(next) {
+        let error = extra(next.octets);
+        return note(alloc, list, site, Aspect::Contents, Some(error));
     }
     let Some((encoding, rest)) = first_encoding(alloc, next.octets) else {
         let error = unreadable(alloc, next.octets);
@@ -203,14 +203,16 @@ fn look<'input>(
 }
 
 /// Appends what departs of these encodings of a part, and inside them.
+#[tactic(auto, using(crate::proofs::Opened::outermost, crate::proofs::Opened::popped, crate::proofs::Noted::grows_more))]
 fn look_along(
     alloc: Global,
     list: &mut Vec<Departure>,
     way: Way<'_, '_>,
     encodings: Pending<'_>,
 ) -> Result<(), AllocError>
-    requires { IsFoundIn way.part.now encodings.octets.now encodings.left }
-    ensures { OnOk result (GrowsInside way.entry.len way.entry.part.now way.entry.path.now list.old.items list.new.items) }
+    requires here { IsFoundIn way.part.now encodings.octets.now encodings.left }
+    requires first { encodings.index ≡ 0 }
+    ensures { OnOk result (GrowsInside way.entry.len way.entry.part.now way.entry.path.now encodings.entry.octets.now list.old.items list.new.items) }
 {
     let mut path = Vec::new(alloc);
     let mut pending = Vec::new(alloc);
@@ -226,6 +228,23 @@ fn look_along(
     Ok(())
 }
 
+/// Appends that these octets, which are those of a value of an open type, aren't well formed.
+fn note_whole(
+    alloc: Global,
+    list: &mut Vec<Departure>,
+    way: Way<'_, '_>,
+    octets: &[u8],
+    left: usize,
+) -> Result<(), AllocError>
+    requires here { IsFoundIn way.part.now octets.now left }
+    requires formed { IsWellFormed octets.now → ⊥ }
+    ensures { OnOk result ((d : Departure) × (list.new.items ≡ list.old.items ++ d ∷ []) × IsInside way.entry.len way.entry.part.now way.entry.path.now octets.now d) }
+{
+    let site = site_at(way, left, Some(&[]));
+    let error = unreadable(alloc, octets);
+    note(alloc, list, site, Aspect::Contents, Some(error))
+}
+
 /// Appends what departs inside a value of an open type with these contents: nothing exactly if they
 /// are well formed.
 fn note_inside(
@@ -236,7 +255,7 @@ fn note_inside(
 ) -> Result<(), AllocError>
     requires { IsAfterHeader way.part.now.octets.now contents }
     ensures { OnOk result ((ds : List Departure) × (list.new.items ≡ list.old.items ++ ds) × ((ds ≡ []) ↔ IsWellFormed contents.entry.octets.now)
-        × AllByRecursion (IsInside way.entry.len way.entry.part.now way.entry.path.now) ds) }
+        × AllByRecursion (IsInside way.entry.len way.entry.part.now way.entry.path.now contents.entry.octets.now) ds) }
 {
     if is_well_formed(alloc, contents.octets)? {
         return Ok(());
@@ -250,9 +269,7 @@ fn note_inside(
     let before = list.len();
     look_along(alloc, list, way, encodings)?;
     if list.len() == before {
-        let site = site_at(way, encodings.left, Some(&[]));
-        let error = unreadable(alloc, contents.octets);
-        note(alloc, list, site, Aspect::Contents, Some(error))?;
+        note_whole(alloc, list, way, contents.octets, encodings.left)?;
     }
     Ok(())
 }
