@@ -1,6 +1,6 @@
 -- Departures that are appended.
 use Rattle.std.specs.Prelude.{IfOk, MatchOption}
-use Rattle.std.proofs.Common.{◌≡◌, ◌≢◌, inl, inr, ℕ, Bool, false, List, [], ◌∷◌, ◌++◌, Option, Some, None, Result, Ok, Err, Vec, Bor, refl, ap, ◌∙◌, append_assoc, sym, subst}
+use Rattle.std.proofs.Common.{◌≡◌, ◌≢◌, inl, inr, ℕ, Bool, true, false, List, [], ◌∷◌, ◌++◌, Option, Some, None, Result, Ok, Err, Vec, Bor, refl, ap, ◌∙◌, append_assoc, append-nil, slice_get, sym, subst}
 use Rattle.std.specs.Global.{Global}
 use Rattle.rasn_types.specs.declared.error.decode.DecodeError.{DecodeError}
 use Rattle.rasn_lint.specs.declared.departure.Aspect.{Aspect}
@@ -11,6 +11,7 @@ use Rattle.rasn_lint.specs.declared.departure.Aspect.TheVariants.{Header, Conten
 use Rattle.rasn_lint.specs.declared.judge.Faults.{Faults}
 use Rattle.rasn_schema.specs.declared.types.«Type».{«Type»}
 use Rattle.rasn_lint.specs.declared.by_schema.OpenTypes.{OpenTypes}
+use Rattle.rasn_lint.specs.declared.by_schema.OpenTypes.TheVariants.{Unexamined, Examined}
 use Rattle.rasn_lint.specs.declared.trail.Step.{Step}
 use Rattle.rasn_lint.specs.declared.judge.Site.{Site}
 use Rattle.rasn_lint.specs.Judged.{IsCopied, IsSiteAt, IsDepartureAt, AreNoted, AreListed, TypedUnless, OpenIf, AreOfPart}
@@ -18,7 +19,7 @@ use Rattle.rasn_types.specs.declared.types.tag.Tag.{Tag}
 use Rattle.rasn_lint.specs.Header.{is_constructed, IsTagFault, IsLengthFault}
 use Rattle.rasn_lint.specs.Open.{IsFoundIn, DepartsThere, IsInside, GrowsInside}
 use Rattle.rasn_lint.specs.Universal.{rule_of}
-use Rattle.rasn_lint.specs.Untyped.{HasContents, HasNoForm, AreUntypedFaults}
+use Rattle.rasn_lint.specs.Untyped.{HasContents, LeadsInto, HasNoForm, AreUntypedFaults}
 use Rattle.rasn_lint.specs.WellFormed.{AllowsEncoding}
 
 folded : {A : Type 0} (l m z a b : List A) → l ≡ m ++ a → z ≡ l ++ b → z ≡ m ++ (a ++ b)
@@ -62,47 +63,51 @@ pub all_append : {A : Type 0} (P : A → Type 0) (xs ys : List A) → AllByRecur
 all_append P [] ys h k = k
 all_append P (x ∷ xs) ys h k = (h.0, all_append P xs ys h.1 k)
 
--- Departures at a site inside the part.
-module _ (len left : ℕ) (e : Span) (path octets : List ℕ) (inner : Bor (List ℕ)) (site : Site) (at : IsSiteAt len left e path (Some inner) site) (found : IsFoundIn e octets left) (inside : List ℕ) where
-  copied_some : (o : Option (Bor (List ℕ))) (v : Option (Vec ℕ Global)) → o ≡ Some inner → IsCopied o v → v ≢ None
-  copied_some None v p h q = cc
-  copied_some (Some x) v p (w, r, is) q = cc
+-- Departures at a site inside the part, to which the indices lead.
+module _ (len left : ℕ) (e : Span) (path octets : List ℕ) (indices : Bor (List ℕ)) (site : Site) (at : IsSiteAt len left e path (Some indices) site) (found : IsFoundIn e octets left) (inside : List ℕ) where
+  copied_some : (o : Option (Bor (List ℕ))) (v : Option (Vec ℕ Global)) → o ≡ Some indices → IsCopied o v → (w : Vec ℕ Global) × (v ≡ Some w) × (w.items ≡ indices.now)
+  copied_some None v p h = let q : Some indices ≡ None = sym p in cc
+  copied_some (Some x) v p (w, r, is) = let q : x ≡ indices = cc in (w, r, is ∙ ap (λ (z : Bor (List ℕ)). z.now) q)
 
-  inside_at : (aspect : Aspect) (error : DecodeError) (d : Departure) → DepartsThere inside octets aspect error → IsDepartureAt site aspect error d → IsInside len e path inside d
-  inside_at aspect error d w h = record {
-    id = h.id ∙ at.id;
-    steps = h.steps ∙ at.path_is;
-    whole = copied_some site.inner d.inner at.inner_is h.inner;
-    octets = octets;
-    left = left;
-    found = found;
-    offset = h.offset ∙ at.offset;
-    departs = subst (λ a. DepartsThere inside octets a d.refusal.error) (sym h.aspect_is) (subst (λ x. DepartsThere inside octets aspect x) (sym h.error_is) w);
-  }
+  inside_at : (aspect : Aspect) (error : DecodeError) (d : Departure) → DepartsThere inside indices.now octets aspect error → IsDepartureAt site aspect error d → IsInside len e path inside d
+  inside_at aspect error d w h =
+      let v = copied_some site.inner d.inner at.inner_is h.inner in
+      record {
+        id = h.id ∙ at.id;
+        steps = h.steps ∙ at.path_is;
+        indices = v.0;
+        inner = v.1;
+        octets = octets;
+        left = left;
+        found = found;
+        offset = h.offset ∙ at.offset;
+        departs = subst (λ z. DepartsThere inside z octets d.aspect d.refusal.error) (sym v.2)
+        (subst (λ a. DepartsThere inside indices.now octets a d.refusal.error) (sym h.aspect_is) (subst (λ x. DepartsThere inside indices.now octets aspect x) (sym h.error_is) w));
+      }
 
-  noted_inside : (aspect : Aspect) (fault : Option DecodeError) (ds : List Departure) → ((error : DecodeError) → fault ≡ Some error → DepartsThere inside octets aspect error)
+  noted_inside : (aspect : Aspect) (fault : Option DecodeError) (ds : List Departure) → ((error : DecodeError) → fault ≡ Some error → DepartsThere inside indices.now octets aspect error)
       → AreNoted site aspect fault ds → AllByRecursion (IsInside len e path inside) ds
   noted_inside aspect None ds w h = subst (AllByRecursion (IsInside len e path inside)) (sym h) tt
   noted_inside aspect (Some error) ds w (d, p, h) = subst (AllByRecursion (IsInside len e path inside)) (sym p) (inside_at aspect error d (w error refl) h, tt)
 
   -- One is appended.
-  pub grows_one : (aspect : Aspect) (error : DecodeError) (a b : List Departure) → DepartsThere inside octets aspect error
-      → ((ds : List Departure) × (b ≡ a ++ ds) × AreNoted site aspect (Some error) ds) → GrowsInside len e path inside a b
-  grows_one aspect error a b w (ds, p, d, q, h) = (ds, p, subst (AllByRecursion (IsInside len e path inside)) (sym q) (inside_at aspect error d w h, tt))
-
-  pub one_inside : (aspect : Aspect) (error : DecodeError) (a b : List Departure) → DepartsThere inside octets aspect error
+  pub one_inside : (aspect : Aspect) (error : DecodeError) (a b : List Departure) → DepartsThere inside indices.now octets aspect error
       → ((ds : List Departure) × (b ≡ a ++ ds) × AreNoted site aspect (Some error) ds) → (d : Departure) × (b ≡ a ++ d ∷ []) × IsInside len e path inside d
-  one_inside aspect error a b w (ds, p, d, q, h) = (d, p ∙ ap (λ z. a ++ z) q, inside_at aspect error d w h)
+  one_inside aspect error a b w (ds, p, (d, q, h)) = (d, p ∙ ap (λ z. a ++ z) q, inside_at aspect error d w h)
+
+  pub grows_one : (aspect : Aspect) (error : DecodeError) (a b : List Departure) → DepartsThere inside indices.now octets aspect error
+      → ((ds : List Departure) × (b ≡ a ++ ds) × AreNoted site aspect (Some error) ds) → GrowsInside len e path inside a b
+  grows_one aspect error a b w h = let r = one_inside aspect error a b w h in (r.0 ∷ [], r.1, (r.2, tt))
 
   -- Those of the encoding there are.
-  pub grows_listed : (f : Faults) (tag : Tag) (contents : List ℕ) (a b : List Departure) → HasContents tag octets contents → AreUntypedFaults tag contents octets f
+  pub grows_listed : (f : Faults) (tag : Tag) (contents : List ℕ) (a b : List Departure) → LeadsInto indices.now inside octets → HasContents tag octets contents → AreUntypedFaults tag contents octets f
       → ((ds : List Departure) × (b ≡ a ++ ds) × AreListed site f ds) → GrowsInside len e path inside a b
-  grows_listed f tag contents a b has u (ds, p, h) =
+  grows_listed f tag contents a b leads has u (ds, p, h) =
       let I = IsInside len e path inside in
-      let by_contents = noted_inside Contents f.contents h.contents (λ x q. inl (tag, contents, has, subst (λ o. MatchOption o (Unit {0}) (λ z. AllowsEncoding false tag (is_constructed octets) contents)) q u.in_contents)) h.in_contents in
-      let by_length = noted_inside Header f.length h.length (λ x q. inl (inl (inr (subst (IsLengthFault octets) q u.by_length)))) h.by_length in
-      let by_form = noted_inside Header f.form h.form (λ x q. inl (inr (inl (tag, contents, has, subst (λ o. MatchOption o (Unit {0}) (λ z. HasNoForm (rule_of tag) (is_constructed octets))) q u.by_form)))) h.by_form in
-      let by_tag = noted_inside Header f.tag h.tag (λ x q. inl (inl (inl (subst (IsTagFault octets) q u.by_tag)))) h.by_tag in
+      let by_contents = noted_inside Contents f.contents h.contents (λ x q. inl (leads, (tag, contents, has, subst (λ o. MatchOption o (Unit {0}) (λ z. AllowsEncoding false tag (is_constructed octets) contents)) q u.in_contents))) h.in_contents in
+      let by_length = noted_inside Header f.length h.length (λ x q. inl (leads, inl (inr (subst (IsLengthFault octets) q u.by_length)))) h.by_length in
+      let by_form = noted_inside Header f.form h.form (λ x q. inl (leads, inr (inl (tag, contents, has, subst (λ o. MatchOption o (Unit {0}) (λ z. HasNoForm (rule_of tag) (is_constructed octets))) q u.by_form)))) h.by_form in
+      let by_tag = noted_inside Header f.tag h.tag (λ x q. inl (leads, inl (inl (subst (IsTagFault octets) q u.by_tag)))) h.by_tag in
       let by_default = noted_inside Place f.default h.default (λ x q. let n = u.default in cc) h.by_default in
       let in_order = noted_inside Place f.order h.order (λ x q. let n = u.order in cc) h.in_order in
       let x5 = all_append I h.length h.contents by_length by_contents in
@@ -122,18 +127,33 @@ pub grows_more : (len : ℕ) (e : Span) (path inside : List ℕ) (a b c : List D
 grows_more len e path inside a b c (ds, p, h) (es, q, k) = (ds ++ es, folded b a c ds es p q, all_append (IsInside len e path inside) ds es h k)
 
 -- What is appended of a part by its type, and then inside it.
-pub both_parts : (is_read : Bool) (opens : OpenTypes) (types : List «Type») (len : ℕ) (trail : List Step) (path : List ℕ) (e : Span) (l0 l1 l2 : List Departure)
-    → ((ds : List Departure) × (l1 ≡ l0 ++ ds) × TypedUnless is_read types len trail path e ds)
-    → ((ds : List Departure) × (l2 ≡ l1 ++ ds) × OpenIf opens types len path e ds)
+pub both_parts : (is_read : Bool) (opens : OpenTypes) (types : List «Type») (len : ℕ) (trail : List Step) (path : List ℕ) (e : Span) (o : Option «Type») (l0 l1 l2 : List Departure)
+    → o ≡ slice_get types e.id.0
+    → ((ds : List Departure) × (l1 ≡ l0 ++ ds) × TypedUnless is_read opens types len trail path e o ds)
+    → ((ds : List Departure) × (l2 ≡ l1 ++ ds) × OpenIf opens len path e o ds)
     → (ds : List Departure) × (l2 ≡ l0 ++ ds) × AreOfPart is_read opens types len trail path e ds
-both_parts is_read opens types len trail path e l0 l1 l2 (a, p, h) (b, q, k) = (
+both_parts is_read opens types len trail path e o l0 l1 l2 is (a, p, h) (b, q, k) = (
   a ++ b,
   folded l1 l0 l2 a b p q,
   record {
     typed = a;
     inside = b;
     are = refl;
-    by_type = h;
-    by_octets = k;
+    by_type = subst (λ z. TypedUnless is_read opens types len trail path e z a) is h;
+    by_octets = subst (λ z. OpenIf opens len path e z b) is k;
   },
 )
+
+-- Of no type there are none.
+pub no_part : (is_read : Bool) (opens : OpenTypes) (types : List «Type») (len : ℕ) (trail : List Step) (path : List ℕ) (e : Span) (l : List Departure) → slice_get types e.id.0 ≡ None
+    → (ds : List Departure) × (l ≡ l ++ ds) × AreOfPart is_read opens types len trail path e ds
+no_part is_read opens types len trail path e l is =
+    both_parts is_read opens types len trail path e None l l l (sym is) ([], sym (append-nil l), none is_read) ([], sym (append-nil l), none_inside opens)
+  where
+    none : (b : Bool) → TypedUnless b opens types len trail path e None []
+    none true = refl
+    none false = refl
+
+    none_inside : (o : OpenTypes) → OpenIf o len path e None []
+    none_inside Unexamined = refl
+    none_inside Examined = refl

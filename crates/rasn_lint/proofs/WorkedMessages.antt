@@ -1,6 +1,6 @@
 -- The octets of a BOOLEAN, worked out by hand.
 use Rattle.std.specs.Prelude.{MatchOption}
-use Rattle.std.proofs.Common.{◌≡◌, ◌≢◌, inl, inr, ℕ, ℤ, pos, List, [], ◌∷◌, length, Bool, true, false, Option, Some, None, Ok, Err, Vec, Global, refl, sym, ap, ◌∙◌, subst, arith}
+use Rattle.std.proofs.Common.{◌≡◌, ◌≢◌, inl, inr, ℕ, ℤ, pos, List, [], ◌∷◌, length, Bool, true, false, Option, Some, None, Result, Ok, Err, Vec, Global, refl, sym, ap, ◌∙◌, subst, arith}
 use Rattle.rasn_types.specs.declared.types.codec.Codec.TheVariants.{Ber, Der}
 use Rattle.rasn_types.specs.declared.types.tag.Tag.{Tag}
 use Rattle.rasn_types.specs.declared.error.decode.DecodeError.{DecodeError}
@@ -16,7 +16,7 @@ use Rattle.rasn_de.specs.declared.ber.de.parser.ParseError.{ParseError}
 use Rattle.rasn_de.specs.declared.ber.de.parser.ParseError.TheVariants.{Der as DerFault}
 use Rattle.rasn_de.specs.Causes.{error_kind}
 use Rattle.rasn_de.specs.Constructed.{sequence_header, constructed_header_at}
-use Rattle.rasn_de.specs.Headers.{header_by, identifier_by, tag_number_at, length_at, long_at, number256_at}
+use Rattle.rasn_de.specs.Headers.{Header, header_by, identifier_by, tag_number_at, length_at, long_at, number256_at}
 use Rattle.rasn_de.proofs.Headers.Fronts.{frame_shorter}
 use Rattle.rasn_schema.specs.declared.types.NamedNumber.{NamedNumber}
 use Rattle.rasn_schema.specs.Shapes.{shape_of_type}
@@ -89,14 +89,17 @@ long : IsLengthFault long_true (Some (der_error NonMinimalLength))
 long = inl (in_universal 1, long_next, ((DerFault NonMinimalLength, long_true, computed, refl), inl refl))
 
 same_fault : (f : ParseError) (rest : List ℕ) → constructed_header_at (sequence_header (in_universal 1)) Der 128 long_true ≡ Err (f, rest) → f ≡ DerFault NonMinimalLength
-same_fault f rest p = let k = sym computed ∙ p in cc
+same_fault f rest p =
+    let q : ◌≡◌ {A = Result Header (ParseError × List ℕ)} (Err (DerFault NonMinimalLength, long_true)) (Err (f, rest)) = sym computed ∙ p in
+    let k : ◌≡◌ {A = ParseError × List ℕ} (DerFault NonMinimalLength, long_true) (f, rest) = cc in
+    sym (ap (λ (x : ParseError × List ℕ). x.0) k)
 
 of_length : (r : Option DecodeError) → ReadsHeader (in_universal 1) long_true r → MatchOption r (Unit {0}) (λ e. IsOfLength e → ⊥) → ⊥
 of_length None (h, p) n = let k = sym computed ∙ p in cc
 of_length (Some e) (f, rest, p, q) n = n (inl (ap (λ (x : DecodeError). x.kind) q ∙ ap error_kind (same_fault f rest p)))
 
 long_is_seen : IsLengthFault long_true None → ⊥
-long_is_seen (inl (t, next, refused, reads, n)) = of_length refused (subst (λ z. ReadsHeader z long_true refused) (next_one long_true t (in_universal 1) next long_next) reads) n
+long_is_seen (inl (t, next, (refused, reads, n))) = of_length refused (subst (λ z. ReadsHeader z long_true refused) (next_one long_true t (in_universal 1) next long_next) reads) n
 long_is_seen (inr (none, h)) = none (in_universal 1) long_next
 
 -- ---- contents after a header of DER
@@ -129,8 +132,8 @@ worked_messages names = record {
   default = (number (pos 1), long_read names, refl, refl);
   default_is_seen = λ h. h (number (pos 1)) (long_read names) refl;
   not_the_default = not_false names;
-  listed = λ l. not_read names (l.clean.0 refl);
-  not_listed = λ ds l. l.clean.1 (read names);
+  listed = λ l. not_read names (l.clean.0 refl).0;
+  not_listed = λ ds l. l.clean.1 (read names, tt);
   none_first = (read names, tt);
   one_is_first = λ h. not_read names h.0;
   not_one = λ d h. h.0 (read names);

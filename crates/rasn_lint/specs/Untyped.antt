@@ -1,5 +1,5 @@
 -- Encodings whose type isn't known, and what departs of one of them, whatever departs inside it.
-use Rattle.std.specs.Prelude.{◌≡◌, ◌⊎◌, ℕ, List, Bool, true, false, Option, Some, None, Ok, MatchOption}
+use Rattle.std.specs.Prelude.{◌≡◌, ◌⊎◌, ℕ, zero, suc, List, [], ◌∷◌, Bool, true, false, Option, Some, None, Ok, MatchOption}
 use Rattle.rasn_types.specs.declared.types.codec.Codec.TheVariants.{Ber}
 use Rattle.rasn_types.specs.declared.types.tag.Tag.{Tag}
 use Rattle.rasn_types.specs.declared.error.decode.DecodeError.{DecodeError}
@@ -37,6 +37,25 @@ IsFollowedBy octets rest = (steps : ℕ) × Skipped Ber octets steps rest
 
 abbrev pub IsUnread : List ℕ → Type 0
 IsUnread octets = (rest : List ℕ) → IsFollowedBy octets rest → ⊥
+
+-- So many encodings, one after the other, are before the rest.
+abbrev pub FollowsAfter : ℕ → List ℕ → List ℕ → Type 0
+FollowsAfter zero octets rest = rest ≡ octets
+FollowsAfter (suc n) octets rest = (more : List ℕ) × IsFollowedBy octets more × FollowsAfter n more rest
+
+-- The contents of the encoding at the start of the octets are encodings, and the one with the index k is at the start of
+-- those there.
+pub record HoldsAt (k : ℕ) (octets there : List ℕ) : Type 0 where
+  pub tag : Tag
+  pub contents : List ℕ
+  pub has : HasContents tag octets contents
+  pub follows : FollowsAfter k contents there
+
+-- The indices lead from the encoding at the start of the octets to the one at the start of those there: each is that of an
+-- encoding in the contents of the one before.
+abbrev pub LeadsInto : List ℕ → List ℕ → List ℕ → Type 0
+LeadsInto [] octets there = there ≡ octets
+LeadsInto (k ∷ ks) octets there = (first : List ℕ) × HoldsAt k octets first × LeadsInto ks first there
 
 -- No encoding that follows the rule has this form.
 abbrev pub HasNoForm : ContentsRule → Bool → Type 0

@@ -4,5 +4,5 @@ use Rattle.rasn_lint.proofs.open.look_along.Given as goal
 abbrev pub invariant-encodings : goal.invariant-encodings
 invariant-encodings l = record {
   grows : GrowsInside l.way.len l.way.part.now l.way.path.now l.encodings.octets.now l.fn.list.items l.list.items;
-  all : AllPending l.way.part.now l.encodings.octets.now l.pending.items;
+  all : AllPending l.way.part.now l.encodings.octets.now l.path.items l.pending.items;
 }

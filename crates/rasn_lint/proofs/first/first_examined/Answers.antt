@@ -1,0 +1,4 @@
+use Rattle.rasn_lint.proofs.first.first_examined.Goals as goal
+
+pub returns : goal.returns
+returns c = ?
