@@ -82,7 +82,7 @@ module _ (len left : ℕ) (e : Span) (path octets : List ℕ) (indices : Bor (Li
         found = found;
         offset = h.offset ∙ at.offset;
         departs = subst (λ z. DepartsThere inside z octets d.aspect d.refusal.error) (sym v.2)
-        (subst (λ a. DepartsThere inside indices.now octets a d.refusal.error) (sym h.aspect_is) (subst (λ x. DepartsThere inside indices.now octets aspect x) (sym h.error_is) w));
+            (subst (λ a. DepartsThere inside indices.now octets a d.refusal.error) (sym h.aspect_is) (subst (λ x. DepartsThere inside indices.now octets aspect x) (sym h.error_is) w));
       }
 
   noted_inside : (aspect : Aspect) (fault : Option DecodeError) (ds : List Departure) → ((error : DecodeError) → fault ≡ Some error → DepartsThere inside indices.now octets aspect error)

@@ -298,9 +298,9 @@ module _ (e : Span) where
           found = subst (λ z. IsFoundIn e z p.left) (sym o) (found_after next.octets.now rest next.left p.left h.found f a.left);
           size = let l = ap length o in omega (arith, size, small, i, l);
           there = subst (λ z. IsThere inside path z p.index p.octets.now) (sym a.depth)
-          (subst (λ z. IsThere inside path next.depth z p.octets.now) (sym i)
-          (subst (λ z. IsThere inside path next.depth (suc next.index) z) (sym o)
-          (after_there next.depth rest refl n f (λ z. s (o ∙ z)) h.there)));
+              (subst (λ z. IsThere inside path next.depth z p.octets.now) (sym i)
+              (subst (λ z. IsThere inside path next.depth (suc next.index) z) (sym o)
+              (after_there next.depth rest refl n f (λ z. s (o ∙ z)) h.there)));
         }
 
     -- What follows is kept.
@@ -311,12 +311,12 @@ module _ (e : Span) where
         let same : p.depth ≤ next.depth = omega (arith, a.depth) in
         let low : AllByRecursion (λ (q : Pending). q.depth ≤ p.depth) old = subst (λ x. AllByRecursion (λ (q : Pending). q.depth ≤ x) old) (sym a.depth) r.below in
         subst (IsReached e inside path next) (sym z) (
-          record {
-            pending = r.pending;
-            path_is = r.path_is;
-            below = all_append (λ (q : Pending). q.depth ≤ next.depth) old (p ∷ []) r.below (same, tt);
-            all = all_snoc inside path old p r.all w low;
-          }
+        record {
+          pending = r.pending;
+          path_is = r.path_is;
+          below = all_append (λ (q : Pending). q.depth ≤ next.depth) old (p ∷ []) r.below (same, tt);
+          all = all_snoc inside path old p r.all w low;
+        }
         )
 
     -- What is inside is kept.

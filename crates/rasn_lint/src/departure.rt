@@ -128,7 +128,11 @@ fn write_rule<W: fmt::Write>(f: &mut fmt::Formatter<W>, departure: &Departure) -
         Aspect::Contents => "contents",
         Aspect::Place => "place",
     };
-    write!(f, "({aspect}, {})", section_of(&departure.refusal.error.kind))
+    write!(
+        f,
+        "({aspect}, {})",
+        section_of(&departure.refusal.error.kind)
+    )
 }
 
 /// Returns what of an encoding an error of the reader of DER is about.

@@ -92,12 +92,7 @@ fn any_fault(alloc: Global, opens: OpenTypes, octets: &[u8]) -> Option<DecodeErr
 }
 
 /// Returns the same if the type is open.
-fn open_fault(
-    alloc: Global,
-    opens: OpenTypes,
-    ty: &Type,
-    octets: &[u8],
-) -> Option<DecodeError>
+fn open_fault(alloc: Global, opens: OpenTypes, ty: &Type, octets: &[u8]) -> Option<DecodeError>
     ensures { IsOpenFault opens ty.now octets.now result }
 {
     match ty {

@@ -8,7 +8,7 @@ loop-part-preserved c =
     record {
       none = none;
       goes_on = goes_on c.args.schema.now.types.items c.args.len c.args.parts.now c.loop-part.path.items c.as_slice.result.now c.extend_path.new.path.items c.loop-part.part-index _ c.loop-part.list.items c.note_first.new.list.items
-      c.loop-part.invariant.goes_on c.loop-part-test.true (get_or_default c.args.parts.now c.loop-part.part-index _ _ c.loop-part-test.true) c.as_slice.ensures.value c.in_ok-extend_path.ensures c.in_ok-note_first.ensures none;
+          c.loop-part.invariant.goes_on c.loop-part-test.true (get_or_default c.args.parts.now c.loop-part.part-index _ _ c.loop-part-test.true) c.as_slice.ensures.value c.in_ok-extend_path.ensures c.in_ok-note_first.ensures none;
     }
 
 pub returns-then-not-is_empty : goal.returns-then-not-is_empty

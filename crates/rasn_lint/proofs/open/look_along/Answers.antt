@@ -10,7 +10,7 @@ encodings-preserved c =
     (c.deref.ensures.value ∙ c.in_ok-go_along.ensures) in
     record {
       grows = grows_more c.args.way.len c.args.way.part.now c.args.way.path.now c.args.encodings.octets.now c.args.list.now.items c.encodings.list.items c.look.new.list.items c.encodings.invariant.grows
-      (c.in_ok-look.ensures.grows c.args.encodings.octets.now r);
+          (c.in_ok-look.ensures.grows c.args.encodings.octets.now r);
       all = subst (λ z. AllPending c.args.way.part.now c.args.encodings.octets.now z c.look.new.pending.items) c.deref.ensures.value (c.in_ok-look.ensures.all c.args.encodings.octets.now r);
     }
 
