@@ -1,43 +1,45 @@
 -- When a message has no departures, and what follows it.
-use Rattle.std.proofs.Common.{◌≡◌, ◌≢◌, ◌⊎◌, ◌<◌, ◌+◌, ◌-◌, inl, inr, ℕ, List, [], ◌∷◌, ◌++◌, length, Ok, Bool, true, false, refl, sym, ap, ◌∙◌, subst, arith, length-append}
-use Rattle.std.specs.Prelude.{◌↔◌, MatchOption, slice_get}
-use Rattle.std.proofs.Common.{Option, Some, None, Vec, Global, vec_len, ◌==◌}
+use Rattle.std.proofs.Common.{◌≡◌, ◌≢◌, ◌⊎◌, ◌<◌, ◌≤◌, ◌+◌, inl, inr, ℕ, suc, List, [], ◌∷◌, ◌++◌, length, drop, get_or, drop-cons, add-one, Result, Ok, Err, Bool, true, false, Option, Some, None, Vec, Global, vec_len, ◌==◌, refl, sym, ap, ◌∙◌, subst, arith}
+use Rattle.std.specs.Prelude.{◌↔◌, IfOk, is_some, not, slice_get}
 use Rattle.std.proofs.lemmas.Bool.Decides.{nat_tests}
+use Rattle.std.proofs.lemmas.List.{drop_all}
+use Rattle.std.proofs.Math.Seq.{drop-append_seam}
 use Rattle.std.specs.List.Sorted.{IsNonDecreasingBy, IsPermutation}
 use Rattle.std.proofs.lemmas.List.Sorted.{length_permutation}
 use Rattle.rasn_types.specs.declared.types.codec.Codec.TheVariants.{Ber, Der}
-use Rattle.rasn_types.specs.Shapes.{Tree}
 use Rattle.rasn_types.specs.Grammar.{Reads, top}
+use Rattle.rasn_de.specs.Outcomes.{Exact, Got}
 use Rattle.rasn_schema.specs.declared.types.«Type».{«Type»}
+use Rattle.rasn_schema.specs.declared.types.«Type».TheVariants.{Leaf, Enumerated, Any, Tagged, Choice, Sequence, Set, SequenceOf, SetOf}
 use Rattle.rasn_dynamic.specs.declared.span.Span.{Span}
 use Rattle.rasn_dynamic.specs.declared.message.MessageParts.{MessageParts}
 use Rattle.rasn_dynamic.specs.declared.refusal.Refusal.{Refusal}
 use Rattle.rasn_dynamic.specs.Entry.{shape_of}
 use Rattle.rasn_dynamic.specs.Faults.{start}
-use Rattle.rasn_dynamic.specs.Walk.{ArePartsOf}
+use Rattle.rasn_dynamic.specs.Walk.{ArePartsOf, path_after}
 use Rattle.rasn_dynamic.proofs.Checked.{read_first}
 use Rattle.rasn_lint.specs.declared.by_schema.LintError.TheVariants.{Remainder}
 use Rattle.rasn_lint.specs.declared.by_schema.OpenTypes.{OpenTypes}
 use Rattle.rasn_lint.specs.declared.by_schema.OpenTypes.TheVariants.{Unexamined, Examined}
 use Rattle.rasn_lint.specs.declared.departure.Departure.{Departure}
-use Rattle.rasn_lint.specs.Lint.{IsDer, IsAtFault, IsClean, AreAll, offset_of, IsLint, IsNoLint, IsFirstDeparture, len_after}
-use Rattle.rasn_lint.specs.Judged.{AreJudged}
-use Rattle.rasn_lint.proofs.Judged.{none_typed, none_if_formed, formed_if_none}
+use Rattle.rasn_lint.specs.Lint.{IsDer, HasFormed, IsRemainderOf, IsAtFault, IsDerOrNot, IsClean, AreAll, offset_of, IsLint, IsNoLint, IsIllFormedAt, IsFirstOr, IsFirstDeparture, rest_after}
+use Rattle.rasn_lint.specs.Judged.{AreJudged, AreOpenDepartures}
+use Rattle.rasn_lint.proofs.Judged.{none_typed, none_if_formed, formed_if_none, formed_if}
+
+last_empty : {A : Type 0} (b c : List A) → b ++ c ≡ [] → c ≡ []
+last_empty [] c p = p
+last_empty (x ∷ b) c p = cc
 
 none_of : {A : Type 0} (l : List A) → length l ≡ 0 → l ≡ []
 none_of [] e = refl
 none_of (x ∷ l) e = absurd (omega (arith, e))
 
 module _ (types : List «Type») (id : ℕ) (input : List ℕ) (parts : List Span) where
-  pub is_der : (opens : OpenTypes) → IsClean opens types id input parts → IsDer types id input
-  is_der Unexamined k = k
-  is_der Examined k = k.0
-
   pub clean : (opens : OpenTypes) (ds : List Departure) → AreAll opens types id input parts ds → (ds ≡ []) ↔ IsClean opens types id input parts
-  clean Unexamined ds (inl (d, j)) = (λ q. d, λ k. none_typed types (length input) [] [] parts ds j)
+  clean Unexamined ds (inl (d, j)) = (λ q. (d, tt), λ k. none_typed types (length input) [] [] parts ds j)
   clean Examined ds (inl (d, j)) = (λ q. (d, formed_if_none types (length input) [] [] parts ds j q), λ k. none_if_formed types (length input) [] [] parts ds j k.1)
-  clean opens ds (inr (n, inl (j, some))) = (λ q. absurd (some q), λ k. absurd (n (is_der opens k)))
-  clean opens ds (inr (n, inr (j, d, p, i))) = (λ q. let x : d ∷ [] ≡ [] = sym p ∙ q in cc, λ k. absurd (n (is_der opens k)))
+  clean opens ds (inr (n, inl (j, some))) = (λ q. absurd (some q), λ k. absurd (n k.0))
+  clean opens ds (inr (n, inr (j, d, p, i))) = (λ q. let x : d ∷ [] ≡ [] = sym p ∙ q in cc, λ k. absurd (n k.0))
 
   -- What was found, in the order of its places.
   pub listed : (opens : OpenTypes) (ps : MessageParts) (found ds : List Departure) → ps.list.items ≡ parts → ArePartsOf types Ber id input ps → AreAll opens types id input ps.list.items found → IsPermutation found ds → IsNonDecreasingBy offset_of ds
@@ -58,28 +60,122 @@ module _ (types : List «Type») (id : ℕ) (input : List ℕ) (parts : List Spa
         );
       }
 
--- What is looked into is clean exactly if nothing is found there.
-pub first_inside : (types : List «Type») (id : ℕ) (input : List ℕ) (ps : MessageParts) (list : List Departure) (r : Option Departure) → r ≡ slice_get list 0 → IsDer types id input → ArePartsOf types Der id input ps
-    → AreJudged true Examined types (length input) [] [] ps.list.items list → IsFirstDeparture Examined types id input r
-first_inside types id input ps [] r e d a j = subst (IsFirstDeparture Examined types id input) (sym e) (d, (ps, a, formed_if_none types (length input) [] [] ps.list.items [] j refl))
-first_inside types id input ps (x ∷ xs) r e d a j =
-    subst (IsFirstDeparture Examined types id input) (sym e)
-    (inr (d, (ps, a, (xs, j, λ f. let q = none_if_formed types (length input) [] [] ps.list.items (x ∷ xs) j f in omega (arith, ap length q)))))
+-- What is found of the parts of a message.
+module _ (opens : OpenTypes) (types : List «Type») (id : ℕ) (input : List ℕ) (parts : List Span) where
+  pub some_departures : (o : Option Refusal) (b : Bool) (ds : List Departure) → is_some o ≡ not b → IsDerOrNot types id input o → AreJudged b opens types (length input) [] [] parts ds → ds ≢ [] → AreAll opens types id input parts ds
+  some_departures None true ds e h j n = inl (h, j)
+  some_departures None false ds e h j n = cc
+  some_departures (Some r) true ds e h j n = cc
+  some_departures (Some r) false ds e h j n = inr (h.0, inl (j, n))
 
-pub none_refused : (types : List «Type») (id : ℕ) (input : List ℕ) (o : Option Refusal) → MatchOption o (IsDer types id input) (λ r. (IsDer types id input → ⊥) × IsAtFault types id input r)
-    → ((r : Refusal) → o ≡ Some r → ⊥) → IsDer types id input
-none_refused types id input None h n = h
-none_refused types id input (Some x) h n = absurd (n x refl)
+  pub refusal_alone : (o : Option Refusal) (r : Refusal) (b : Bool) (none ds : List Departure) → o ≡ Some r → is_some o ≡ not b → IsDerOrNot types id input o → AreJudged b opens types (length input) [] [] parts none → none ≡ []
+      → ((d : Departure) × (ds ≡ none ++ d ∷ []) × (d.refusal ≡ r) × (d.inner ≡ None)) → AreAll opens types id input parts ds
+  refusal_alone o r b none ds q e h j n (d, p, s, i) = go b (subst (λ z. is_some z ≡ not b) q e) j
+    where
+      go : (b : Bool) → is_some (Some r) ≡ not b → AreJudged b opens types (length input) [] [] parts none → AreAll opens types id input parts ds
+      go true e j = cc
+      go false e j =
+          let k = subst (IsDerOrNot types id input) q h in
+          let g = subst (λ z. AreJudged false opens types (length input) [] [] parts z) n j in
+          inr (k.0, inr (g, d, p ∙ ap (λ z. z ++ d ∷ []) n, (subst (IsAtFault types id input) (sym s) k.1, i)))
+
+-- What is looked into, part by part.
+module _ (types : List «Type») (len : ℕ) (parts : List Span) where
+  -- What is first in the parts from this one on is first in all.
+  abbrev pub GoesOn : List ℕ → ℕ → Type 0
+  GoesOn path i = (found : Option Departure) → IsFirstOr types len path (drop i parts) found → IsFirstOr types len [] parts found
+
+  formed_first : (path : List ℕ) (e : Span) (es : List Span) (found : Option Departure) → HasFormed types e → IsFirstOr types len (path_after path e) es found → IsFirstOr types len path (e ∷ es) found
+  formed_first path e es None f h = (f, h)
+  formed_first path e es (Some d) f h = inr (f, h)
+
+  ill_formed : (path : List ℕ) (e : Span) (o : Option «Type») (d : Departure) (ds : List Departure) → o ≡ slice_get types e.id.0 → AreOpenDepartures len path e o (d ∷ ds) → IsIllFormedAt types len path e d
+  ill_formed path e (Some (Any tag)) d ds q (inl (inside, has, iff, all)) = (tag, inside, sym q, has, (λ w. let x : d ∷ ds ≡ [] = iff.1 w in cc), all.0)
+  ill_formed path e (Some (Any tag)) d ds q (inr (n, x)) = cc
+  ill_formed path e None d ds q h = cc
+  ill_formed path e (Some (Leaf kind tag c names)) d ds q h = cc
+  ill_formed path e (Some (Enumerated tag ns)) d ds q h = cc
+  ill_formed path e (Some (Tagged tag id)) d ds q h = cc
+  ill_formed path e (Some (Choice name ks)) d ds q h = cc
+  ill_formed path e (Some (Sequence tag ps)) d ds q h = cc
+  ill_formed path e (Some (Set name tag ps)) d ds q h = cc
+  ill_formed path e (Some (SequenceOf tag id c)) d ds q h = cc
+  ill_formed path e (Some (SetOf tag id c)) d ds q h = cc
+
+  here : (i : ℕ) (e : Span) → i < length parts → e ≡ get_or parts i e → drop i parts ≡ e ∷ drop (i + 1) parts
+  here i e within is = drop-cons parts i e within ∙ ap (λ x. x ∷ drop (suc i) parts) (sym is) ∙ ap (λ n. e ∷ drop n parts) (sym (add-one i))
+
+  -- Nothing is found in this part.
+  pub goes_on : (path seen new : List ℕ) (i : ℕ) (e : Span) (old list : List Departure) → GoesOn path i → i < length parts → e ≡ get_or parts i e → seen ≡ new → new ≡ path_after path e
+      → ((ds : List Departure) × (list ≡ old ++ ds) × AreOpenDepartures len seen e (slice_get types e.id.0) ds) → list ≡ [] → GoesOn new (i + 1)
+  goes_on path seen new i e old list f within is p q (ds, z, h) none found k =
+      let empty : ds ≡ [] = last_empty old ds (sym z ∙ none) in
+      let formed : HasFormed types e = (formed_if (slice_get types e.id.0) len seen e ds h).0 empty in
+      f found (subst (λ x. IsFirstOr types len path x found) (sym (here i e within is)) (formed_first path e (drop (i + 1) parts) found formed (subst (λ x. IsFirstOr types len x (drop (i + 1) parts) found) q k)))
+
+  -- This is the first one.
+  pub is_first : (path seen new : List ℕ) (i : ℕ) (e : Span) (old list : List Departure) (r : Option Departure) → GoesOn path i → i < length parts → e ≡ get_or parts i e → seen ≡ new → new ≡ path_after path e → old ≡ []
+      → ((ds : List Departure) × (list ≡ old ++ ds) × AreOpenDepartures len seen e (slice_get types e.id.0) ds) → list ≢ [] → r ≡ slice_get list 0 → IsFirstOr types len [] parts r
+  is_first path seen new i e old list r f within is p q none (ds, z, h) some s = go ds (z ∙ ap (λ x. x ++ ds) none) h
+    where
+      go : (xs : List Departure) → list ≡ xs → AreOpenDepartures len seen e (slice_get types e.id.0) xs → IsFirstOr types len [] parts r
+      go [] y k = absurd (some y)
+      go (d ∷ xs) y k =
+          let found : r ≡ Some d = s ∙ ap (λ l. slice_get l 0) y in
+          let ill = ill_formed (path_after path e) e (slice_get types e.id.0) d xs refl (subst (λ l. AreOpenDepartures len l e (slice_get types e.id.0) (d ∷ xs)) (p ∙ q) k) in
+          subst (IsFirstOr types len [] parts) (sym found)
+          (f (Some d) (subst (λ x. IsFirstOr types len path x (Some d)) (sym (here i e within is)) (inl ill)))
+
+  pub all_formed : (path : List ℕ) (i : ℕ) → GoesOn path i → length parts ≤ i → IsFirstOr types len [] parts None
+  all_formed path i f past = f None (subst (λ x. IsFirstOr types len path x None) (sym (drop_all i parts past)) tt)
+
+-- The first departure of a message.
+module _ (types : List «Type») (id : ℕ) (input : List ℕ) where
+  pub no_typed : IsDer types id input → IsFirstDeparture Unexamined types id input None
+  no_typed d = (d, tt)
+
+  -- Of octets that DER doesn't read it is the same, whether open types are looked into or not.
+  pub not_read : (d : Departure) → IsFirstDeparture Unexamined types id input (Some d) → IsFirstDeparture Examined types id input (Some d)
+  not_read d h = inl h
+
+  -- What follows the first part of a message.
+  module _ (ps : MessageParts) (rest : List ℕ) (are : ArePartsOf types Der id input ps) (at : rest ≡ rest_after ps.list.items input) where
+    last_is : rest ≡ are.last.rest
+    last_is =
+        let l = are.listed in
+        at ∙ (ap (λ z. rest_after z input) l.is ∙ (ap (λ z. drop (length l.part.octets.now) z) l.octets ∙ drop-append_seam l.part.octets.now are.last.rest))
+
+    read : Exact (Reads Der (shape_of types id) 128 (top Der)) input (Got are.listed.tree rest)
+    read = read_first Der (shape_of types id) input (start Der input) refl are.listed.tree are.last rest (sym last_is) are.listed.reads
+
+    pub whole_is_read : rest ≡ [] → IsDer types id input
+    whole_is_read e = (are.listed.tree, subst (λ z. Reads Der (shape_of types id) 128 (top Der) input are.listed.tree z) e read.0)
+
+    pub remainder_first : (r : Refusal) (d : Departure) → IsRemainderOf input rest r → d.refusal ≡ r → d.inner ≡ None → IsFirstDeparture Examined types id input (Some d)
+    remainder_first r d h e i = inl (
+      (λ k. h.extra.some (sym (read.1 k.0 [] k.1).1)),
+      (subst (IsAtFault types id input) (sym e) (inr (are.listed.tree, rest, read.0, h)), i),
+    )
+
+    pub parts_first : rest ≡ [] → (r : Option Departure) → IsFirstOr types (length input) [] ps.list.items r → IsFirstDeparture Examined types id input r
+    parts_first e None h = (whole_is_read e, (ps, are, h))
+    parts_first e (Some d) h = inr (whole_is_read e, (ps, are, h))
+
+pub some_departed : (v : Vec Departure Global) → false ≡ (vec_len v == 0) → v.items ≢ []
+some_departed v e q = let n : length v.items ≡ 0 = ap length q in grind (arith, nat_tests)
+
+-- What follows of the value that a call returns.
+pub if_then : {T E : Type 0} {P Q : T → Type 0} (r : Result T E) → ((v : T) → P v → Q v) → IfOk r P → IfOk r Q
+if_then (Ok v) f h = f v h
+if_then (Err e) f h = tt
 
 pub no_departures : (v : Vec Departure Global) → true ≡ (vec_len v == 0) → v.items ≡ []
 no_departures v e = none_of v.items (grind (arith, nat_tests))
 
 -- The octets after the first part follow the value.
-pub followed : (types : List «Type») (id : ℕ) (input : List ℕ) (ps : MessageParts) (n : ℕ) → ArePartsOf types Ber id input ps → n ≡ len_after ps.list.items input → 0 < n → IsNoLint types id input (Remainder n)
-followed types id input ps n a e p =
+pub followed : (types : List «Type») (id : ℕ) (input rest : List ℕ) (ps : MessageParts) → ArePartsOf types Ber id input ps → rest ≡ rest_after ps.list.items input → rest ≢ [] → IsNoLint types id input (Remainder (length rest))
+followed types id input rest ps a e some =
     let l = a.listed in
-    let cut : n ≡ length input - length l.part.octets.now = e ∙ ap (λ z. len_after z input) l.is in
-    let size : length input ≡ length l.part.octets.now + length a.last.rest = ap length l.octets ∙ length-append l.part.octets.now a.last.rest in
-    let rest : length a.last.rest ≡ n = omega (arith, cut, size) in
-    let read = read_first Ber (shape_of types id) input (start Ber input) refl l.tree a.last a.last.rest refl l.reads in
-    (l.tree, a.last.rest, read.0, rest, λ q. let z = ap length q in omega (arith, z, rest, p))
+    let is : rest ≡ a.last.rest = e ∙ (ap (λ z. rest_after z input) l.is ∙ (ap (λ z. drop (length l.part.octets.now) z) l.octets ∙ drop-append_seam l.part.octets.now a.last.rest)) in
+    let read = read_first Ber (shape_of types id) input (start Ber input) refl l.tree a.last rest (sym is) l.reads in
+    (l.tree, rest, read.0, refl, some)

@@ -14,7 +14,8 @@ use Rattle.rasn_lint.specs.declared.by_schema.OpenTypes.TheVariants.{Unexamined,
 use Rattle.rasn_lint.specs.declared.departure.Departure.{Departure}
 use Rattle.rasn_lint.specs.declared.trail.Step.{Step}
 use Rattle.rasn_lint.specs.Trail.{trail_after}
-use Rattle.rasn_lint.specs.Judged.{AreJudged, AreOfPart, AreOpenDepartures, HasOpen}
+use Rattle.rasn_lint.specs.Judged.{AreJudged, AreOfPart, AreOpenDepartures}
+use Rattle.rasn_lint.specs.Untyped.{HasOpen}
 use Rattle.rasn_lint.specs.Lint.{HasFormed}
 use Rattle.rasn_lint.specs.WellFormed.{IsWellFormed}
 
@@ -44,10 +45,10 @@ open_one : (tag : Tag) (o a b : List ℕ) → HasOpen tag o a → HasOpen tag o 
 open_one tag o a b (r, x) (s, y) = let h : numbers b ≡ numbers a = (x.1 (numbers b) s y.0).0 in cc
 
 -- There is no departure inside a part exactly if the octets of its open type are well formed.
-abbrev Formed : Option «Type» → Span → Type 0
+abbrev pub Formed : Option «Type» → Span → Type 0
 Formed o e = (tag : Tag) (inside : List ℕ) → o ≡ Some (Any tag) → HasOpen tag e.octets.now inside → IsWellFormed inside
 
-formed_if : (o : Option «Type») (len : ℕ) (path : List ℕ) (e : Span) (ds : List Departure) → AreOpenDepartures len path e o ds → (ds ≡ []) ↔ Formed o e
+pub formed_if : (o : Option «Type») (len : ℕ) (path : List ℕ) (e : Span) (ds : List Departure) → AreOpenDepartures len path e o ds → (ds ≡ []) ↔ Formed o e
 formed_if None len path e ds h = (λ q tag inside p. cc, λ f. h)
 formed_if (Some (Any tag)) len path e ds (inl (inside, has, iff, all)) = (
   λ q t i p g.

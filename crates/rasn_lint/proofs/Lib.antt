@@ -8,9 +8,11 @@ pub mod Worked
 pub mod Judged
 pub mod Unread
 pub mod Reader
+pub mod ByRule
 pub mod Noted
 pub mod Mended
 pub mod Opened
 pub mod Clean
 pub mod Anew
 pub mod WorkedDepartures
+pub mod WorkedMessages

@@ -1,5 +1,6 @@
 -- Departures that are appended.
-use Rattle.std.proofs.Common.{◌≡◌, ◌≢◌, ℕ, Bool, List, [], ◌∷◌, ◌++◌, Option, Some, None, Vec, Bor, refl, ap, ◌∙◌, append_assoc, sym, subst}
+use Rattle.std.specs.Prelude.{IfOk, MatchOption}
+use Rattle.std.proofs.Common.{◌≡◌, ◌≢◌, inl, inr, ℕ, Bool, true, false, List, [], ◌∷◌, ◌++◌, Option, Some, None, Result, Ok, Err, Vec, Bor, refl, ap, ◌∙◌, append_assoc, append-nil, slice_get, sym, subst}
 use Rattle.std.specs.Global.{Global}
 use Rattle.rasn_types.specs.declared.error.decode.DecodeError.{DecodeError}
 use Rattle.rasn_lint.specs.declared.departure.Aspect.{Aspect}
@@ -10,10 +11,16 @@ use Rattle.rasn_lint.specs.declared.departure.Aspect.TheVariants.{Header, Conten
 use Rattle.rasn_lint.specs.declared.judge.Faults.{Faults}
 use Rattle.rasn_schema.specs.declared.types.«Type».{«Type»}
 use Rattle.rasn_lint.specs.declared.by_schema.OpenTypes.{OpenTypes}
+use Rattle.rasn_lint.specs.declared.by_schema.OpenTypes.TheVariants.{Unexamined, Examined}
 use Rattle.rasn_lint.specs.declared.trail.Step.{Step}
 use Rattle.rasn_lint.specs.declared.judge.Site.{Site}
 use Rattle.rasn_lint.specs.Judged.{IsCopied, IsSiteAt, IsDepartureAt, AreNoted, AreListed, TypedUnless, OpenIf, AreOfPart}
-use Rattle.rasn_lint.specs.Open.{IsFoundIn, IsInside, GrowsInside}
+use Rattle.rasn_types.specs.declared.types.tag.Tag.{Tag}
+use Rattle.rasn_lint.specs.Header.{is_constructed, IsTagFault, IsLengthFault}
+use Rattle.rasn_lint.specs.Open.{IsFoundIn, DepartsThere, IsInside, GrowsInside}
+use Rattle.rasn_lint.specs.Universal.{rule_of}
+use Rattle.rasn_lint.specs.Untyped.{HasContents, LeadsInto, HasNoForm, AreUntypedFaults}
+use Rattle.rasn_lint.specs.WellFormed.{AllowsEncoding}
 
 folded : {A : Type 0} (l m z a b : List A) → l ≡ m ++ a → z ≡ l ++ b → z ≡ m ++ (a ++ b)
 folded l m z a b p q = q ∙ (ap (λ y. y ++ b) p ∙ append_assoc m a b)
@@ -52,54 +59,101 @@ listed site f l0 l1 l2 l3 l4 l5 l6 (a, p, h) (b, q, i) (c, r, j) (d, s, k) (g, t
       },
     )
 
-all_append : {A : Type 0} (P : A → Type 0) (xs ys : List A) → AllByRecursion P xs → AllByRecursion P ys → AllByRecursion P (xs ++ ys)
+pub all_append : {A : Type 0} (P : A → Type 0) (xs ys : List A) → AllByRecursion P xs → AllByRecursion P ys → AllByRecursion P (xs ++ ys)
 all_append P [] ys h k = k
 all_append P (x ∷ xs) ys h k = (h.0, all_append P xs ys h.1 k)
 
--- Departures at a site inside the part.
-module _ (len left : ℕ) (e : Span) (path octets : List ℕ) (inner : Bor (List ℕ)) (site : Site) (at : IsSiteAt len left e path (Some inner) site) (found : IsFoundIn e octets left) where
-  copied_some : (o : Option (Bor (List ℕ))) (v : Option (Vec ℕ Global)) → o ≡ Some inner → IsCopied o v → v ≢ None
-  copied_some None v p h q = cc
-  copied_some (Some x) v p (w, r, is) q = cc
+-- Departures at a site inside the part, to which the indices lead.
+module _ (len left : ℕ) (e : Span) (path octets : List ℕ) (indices : Bor (List ℕ)) (site : Site) (at : IsSiteAt len left e path (Some indices) site) (found : IsFoundIn e octets left) (inside : List ℕ) where
+  copied_some : (o : Option (Bor (List ℕ))) (v : Option (Vec ℕ Global)) → o ≡ Some indices → IsCopied o v → (w : Vec ℕ Global) × (v ≡ Some w) × (w.items ≡ indices.now)
+  copied_some None v p h = let q : Some indices ≡ None = sym p in cc
+  copied_some (Some x) v p (w, r, is) = let q : x ≡ indices = cc in (w, r, is ∙ ap (λ (z : Bor (List ℕ)). z.now) q)
 
-  inside_at : (aspect : Aspect) (error : DecodeError) (d : Departure) → IsDepartureAt site aspect error d → IsInside len e path d
-  inside_at aspect error d h = record {
-    id = h.id ∙ at.id;
-    steps = h.steps ∙ at.path_is;
-    whole = copied_some site.inner d.inner at.inner_is h.inner;
-    octets = octets;
-    left = left;
-    found = found;
-    offset = h.offset ∙ at.offset;
-  }
+  inside_at : (aspect : Aspect) (error : DecodeError) (d : Departure) → DepartsThere inside indices.now octets aspect error → IsDepartureAt site aspect error d → IsInside len e path inside d
+  inside_at aspect error d w h =
+      let v = copied_some site.inner d.inner at.inner_is h.inner in
+      record {
+        id = h.id ∙ at.id;
+        steps = h.steps ∙ at.path_is;
+        indices = v.0;
+        inner = v.1;
+        octets = octets;
+        left = left;
+        found = found;
+        offset = h.offset ∙ at.offset;
+        departs = subst (λ z. DepartsThere inside z octets d.aspect d.refusal.error) (sym v.2)
+            (subst (λ a. DepartsThere inside indices.now octets a d.refusal.error) (sym h.aspect_is) (subst (λ x. DepartsThere inside indices.now octets aspect x) (sym h.error_is) w));
+      }
 
-  noted_inside : (aspect : Aspect) (fault : Option DecodeError) (ds : List Departure) → AreNoted site aspect fault ds → AllByRecursion (IsInside len e path) ds
-  noted_inside aspect None ds h = subst (AllByRecursion (IsInside len e path)) (sym h) tt
-  noted_inside aspect (Some error) ds (d, p, h) = subst (AllByRecursion (IsInside len e path)) (sym p) (inside_at aspect error d h, tt)
+  noted_inside : (aspect : Aspect) (fault : Option DecodeError) (ds : List Departure) → ((error : DecodeError) → fault ≡ Some error → DepartsThere inside indices.now octets aspect error)
+      → AreNoted site aspect fault ds → AllByRecursion (IsInside len e path inside) ds
+  noted_inside aspect None ds w h = subst (AllByRecursion (IsInside len e path inside)) (sym h) tt
+  noted_inside aspect (Some error) ds w (d, p, h) = subst (AllByRecursion (IsInside len e path inside)) (sym p) (inside_at aspect error d (w error refl) h, tt)
 
-  pub grows_listed : (f : Faults) (a b : List Departure) → ((ds : List Departure) × (b ≡ a ++ ds) × AreListed site f ds) → GrowsInside len e path a b
-  grows_listed f a b (ds, p, h) =
-      let I = IsInside len e path in
-      let x5 = all_append I h.length h.contents (noted_inside Header f.length h.length h.by_length) (noted_inside Contents f.contents h.contents h.in_contents) in
-      let x4 = all_append I h.form (h.length ++ h.contents) (noted_inside Header f.form h.form h.by_form) x5 in
-      let x3 = all_append I h.tag (h.form ++ (h.length ++ h.contents)) (noted_inside Header f.tag h.tag h.by_tag) x4 in
-      let x2 = all_append I h.default (h.tag ++ (h.form ++ (h.length ++ h.contents))) (noted_inside Place f.default h.default h.by_default) x3 in
-      let x1 = all_append I h.order (h.default ++ (h.tag ++ (h.form ++ (h.length ++ h.contents)))) (noted_inside Place f.order h.order h.in_order) x2 in
+  -- One is appended.
+  pub one_inside : (aspect : Aspect) (error : DecodeError) (a b : List Departure) → DepartsThere inside indices.now octets aspect error
+      → ((ds : List Departure) × (b ≡ a ++ ds) × AreNoted site aspect (Some error) ds) → (d : Departure) × (b ≡ a ++ d ∷ []) × IsInside len e path inside d
+  one_inside aspect error a b w (ds, p, (d, q, h)) = (d, p ∙ ap (λ z. a ++ z) q, inside_at aspect error d w h)
+
+  pub grows_one : (aspect : Aspect) (error : DecodeError) (a b : List Departure) → DepartsThere inside indices.now octets aspect error
+      → ((ds : List Departure) × (b ≡ a ++ ds) × AreNoted site aspect (Some error) ds) → GrowsInside len e path inside a b
+  grows_one aspect error a b w h = let r = one_inside aspect error a b w h in (r.0 ∷ [], r.1, (r.2, tt))
+
+  -- Those of the encoding there are.
+  pub grows_listed : (f : Faults) (tag : Tag) (contents : List ℕ) (a b : List Departure) → LeadsInto indices.now inside octets → HasContents tag octets contents → AreUntypedFaults tag contents octets f
+      → ((ds : List Departure) × (b ≡ a ++ ds) × AreListed site f ds) → GrowsInside len e path inside a b
+  grows_listed f tag contents a b leads has u (ds, p, h) =
+      let I = IsInside len e path inside in
+      let by_contents = noted_inside Contents f.contents h.contents (λ x q. inl (leads, (tag, contents, has, subst (λ o. MatchOption o (Unit {0}) (λ z. AllowsEncoding false tag (is_constructed octets) contents)) q u.in_contents))) h.in_contents in
+      let by_length = noted_inside Header f.length h.length (λ x q. inl (leads, inl (inr (subst (IsLengthFault octets) q u.by_length)))) h.by_length in
+      let by_form = noted_inside Header f.form h.form (λ x q. inl (leads, inr (inl (tag, contents, has, subst (λ o. MatchOption o (Unit {0}) (λ z. HasNoForm (rule_of tag) (is_constructed octets))) q u.by_form)))) h.by_form in
+      let by_tag = noted_inside Header f.tag h.tag (λ x q. inl (leads, inl (inl (subst (IsTagFault octets) q u.by_tag)))) h.by_tag in
+      let by_default = noted_inside Place f.default h.default (λ x q. let n = u.default in cc) h.by_default in
+      let in_order = noted_inside Place f.order h.order (λ x q. let n = u.order in cc) h.in_order in
+      let x5 = all_append I h.length h.contents by_length by_contents in
+      let x4 = all_append I h.form (h.length ++ h.contents) by_form x5 in
+      let x3 = all_append I h.tag (h.form ++ (h.length ++ h.contents)) by_tag x4 in
+      let x2 = all_append I h.default (h.tag ++ (h.form ++ (h.length ++ h.contents))) by_default x3 in
+      let x1 = all_append I h.order (h.default ++ (h.tag ++ (h.form ++ (h.length ++ h.contents)))) in_order x2 in
       (ds, p, subst (AllByRecursion I) (sym h.are) x1)
 
+-- What follows if a call succeeds.
+pub if_so : {T E : Type 0} {P Q : Type 0} (r : Result T E) → (P → Q) → IfOk r (λ v. P) → IfOk r (λ v. Q)
+if_so (Ok v) f h = f h
+if_so (Err e) f h = tt
+
+-- Some are appended after others.
+pub grows_more : (len : ℕ) (e : Span) (path inside : List ℕ) (a b c : List Departure) → GrowsInside len e path inside a b → GrowsInside len e path inside b c → GrowsInside len e path inside a c
+grows_more len e path inside a b c (ds, p, h) (es, q, k) = (ds ++ es, folded b a c ds es p q, all_append (IsInside len e path inside) ds es h k)
+
 -- What is appended of a part by its type, and then inside it.
-pub both_parts : (is_read : Bool) (opens : OpenTypes) (types : List «Type») (len : ℕ) (trail : List Step) (path : List ℕ) (e : Span) (l0 l1 l2 : List Departure)
-    → ((ds : List Departure) × (l1 ≡ l0 ++ ds) × TypedUnless is_read types len trail path e ds)
-    → ((ds : List Departure) × (l2 ≡ l1 ++ ds) × OpenIf opens types len path e ds)
+pub both_parts : (is_read : Bool) (opens : OpenTypes) (types : List «Type») (len : ℕ) (trail : List Step) (path : List ℕ) (e : Span) (o : Option «Type») (l0 l1 l2 : List Departure)
+    → o ≡ slice_get types e.id.0
+    → ((ds : List Departure) × (l1 ≡ l0 ++ ds) × TypedUnless is_read opens types len trail path e o ds)
+    → ((ds : List Departure) × (l2 ≡ l1 ++ ds) × OpenIf opens len path e o ds)
     → (ds : List Departure) × (l2 ≡ l0 ++ ds) × AreOfPart is_read opens types len trail path e ds
-both_parts is_read opens types len trail path e l0 l1 l2 (a, p, h) (b, q, k) = (
+both_parts is_read opens types len trail path e o l0 l1 l2 is (a, p, h) (b, q, k) = (
   a ++ b,
   folded l1 l0 l2 a b p q,
   record {
     typed = a;
     inside = b;
     are = refl;
-    by_type = h;
-    by_octets = k;
+    by_type = subst (λ z. TypedUnless is_read opens types len trail path e z a) is h;
+    by_octets = subst (λ z. OpenIf opens len path e z b) is k;
   },
 )
+
+-- Of no type there are none.
+pub no_part : (is_read : Bool) (opens : OpenTypes) (types : List «Type») (len : ℕ) (trail : List Step) (path : List ℕ) (e : Span) (l : List Departure) → slice_get types e.id.0 ≡ None
+    → (ds : List Departure) × (l ≡ l ++ ds) × AreOfPart is_read opens types len trail path e ds
+no_part is_read opens types len trail path e l is =
+    both_parts is_read opens types len trail path e None l l l (sym is) ([], sym (append-nil l), none is_read) ([], sym (append-nil l), none_inside opens)
+  where
+    none : (b : Bool) → TypedUnless b opens types len trail path e None []
+    none true = refl
+    none false = refl
+
+    none_inside : (o : OpenTypes) → OpenIf o len path e None []
+    none_inside Unexamined = refl
+    none_inside Examined = refl

@@ -7,7 +7,7 @@ use Rattle.rasn_lint.specs.Universal.{rule_in}
 use Rattle.rasn_lint.specs.WellFormed.{IsWellFormed, primitive, constructed, none, one_more, AreEncodings}
 use Rattle.rasn_lint.proofs.Steps.{primitive_first, constructed_first}
 
-universal_id : (n : ℕ) (bit : Bool) → 0 < n → n < 31 → SpellsIdentifier ((32 * bit_of bit + n) ∷ []) (in_universal n) bit
+pub universal_id : (n : ℕ) (bit : Bool) → 0 < n → n < 31 → SpellsIdentifier ((32 * bit_of bit + n) ∷ []) (in_universal n) bit
 universal_id n bit p q = record {
   spells = record { low = n; leading = omega arith; number = inl (q, refl, refl) };
   is_one = λ e. let v : n ≡ 0 = ap (λ (t : Tag). t.value) e in omega (arith, v, p);

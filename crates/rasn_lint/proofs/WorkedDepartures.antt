@@ -6,6 +6,21 @@ use Rattle.rasn_lint.specs.declared.trail.Step.{Step}
 use Rattle.rasn_lint.specs.Header.{after_number}
 use Rattle.rasn_lint.specs.Open.{IsFoundIn}
 use Rattle.rasn_lint.specs.Worked.{one, two, WorkedDepartures}
+use Rattle.std.proofs.Common.{Ok, Err, Result}
+use Rattle.rasn_types.specs.declared.types.codec.Codec.TheVariants.{Ber}
+use Rattle.rasn_types.specs.declared.types.tag.Tag.{Tag}
+use Rattle.rasn_types.specs.Framing.{Frame, with_length, definite}
+use Rattle.rasn_types.specs.Grammar.{ReadsOpen}
+use Rattle.rasn_types.specs.Shapes.{Tree, numbers, looked_for}
+use Rattle.rasn_types.specs.Tags.{basic_form, form, in_universal}
+use Rattle.rasn_types.proofs.Headers.Frames.{frame_one}
+use Rattle.rasn_de.specs.declared.ber.de.parser.ParseError.{ParseError}
+use Rattle.rasn_de.specs.Any.{OpenAt}
+use Rattle.rasn_de.specs.Headers.{identifier_by, tag_number_at}
+use Rattle.rasn_de.specs.ParserViews.{peeked_tag}
+use Rattle.rasn_lint.specs.Untyped.{HasContents, FollowsAfter, LeadsInto}
+use Rattle.rasn_lint.proofs.Opened.{followed_shorter}
+use Rattle.rasn_lint.proofs.Worked.{universal_id}
 
 one_below_two : IsLess one two
 one_below_two = inr (refl, inr (refl, inl (omega arith)))
@@ -33,6 +48,49 @@ misplaced e p q (front, back, r, n) = go front (sym p ∙ r) (omega (arith, n, q
     go (x ∷ []) h k = cc
     go (x ∷ y ∷ f) h k = omega (arith, k)
 
+-- The first encoding in a SEQUENCE.
+sequence_frame : Frame basic_form (48 ∷ 3 ∷ 1 ∷ 1 ∷ 1 ∷ []) (in_universal 16) true [] (definite (1 ∷ 1 ∷ 1 ∷ []))
+sequence_frame = with_length (48 ∷ []) (3 ∷ []) (1 ∷ 1 ∷ 1 ∷ []) (universal_id 16 true (omega arith) (omega arith)) (inl (omega arith, refl, refl)) (λ s. absurd s) refl
+
+only_contents : (u : Tree) (rest : List ℕ) → ReadsOpen Ber (in_universal 16) (48 ∷ 3 ∷ 1 ∷ 1 ∷ 1 ∷ []) u rest → (u ≡ numbers (1 ∷ 1 ∷ 1 ∷ [])) × (rest ≡ [])
+only_contents u rest (bit, contents, e, strict, inl f) =
+    let o = frame_one _ sequence_frame f in
+    let x = o.extent in
+    let k : 1 ∷ 1 ∷ 1 ∷ [] ≡ contents = cc in
+    (e ∙ ap numbers (sym k), sym o.rest)
+only_contents u rest (bit, contents, e, strict, inr (body, f, inside, is)) = let x = (frame_one _ sequence_frame f).extent in cc
+
+sequence_tag : peeked_tag (form Ber) (48 ∷ 3 ∷ 1 ∷ 1 ∷ 1 ∷ []) ≡ Ok (in_universal 16)
+unfolding identifier_by tag_number_at
+sequence_tag = refl
+
+in_sequence : LeadsInto (0 ∷ []) (48 ∷ 3 ∷ 1 ∷ 1 ∷ 1 ∷ []) (1 ∷ 1 ∷ 1 ∷ [])
+in_sequence = (
+  1 ∷ 1 ∷ 1 ∷ [],
+  record {
+    tag = in_universal 16;
+    contents = 1 ∷ 1 ∷ 1 ∷ [];
+    has = (sequence_tag, ([], ((true, 1 ∷ 1 ∷ 1 ∷ [], refl, (λ s. refl), inl sequence_frame), only_contents)));
+    follows = refl;
+  },
+  refl,
+)
+
+not_second : LeadsInto (1 ∷ []) (48 ∷ 3 ∷ 1 ∷ 1 ∷ 1 ∷ []) (1 ∷ 1 ∷ 1 ∷ []) → ⊥
+not_second (first, h, e) = go h.has h.follows
+  where
+    go : HasContents h.tag (48 ∷ 3 ∷ 1 ∷ 1 ∷ 1 ∷ []) h.contents → FollowsAfter 1 h.contents first → ⊥
+    go (p, (rest, o)) (more, f, q) =
+        let t : ◌≡◌ {A = Result Tag ParseError} (Ok (in_universal 16)) (Ok h.tag) = sym sequence_tag ∙ p in
+        let s : in_universal 16 ≡ h.tag = cc in
+        let r = subst (λ x. OpenAt Ber (looked_for x) (48 ∷ 3 ∷ 1 ∷ 1 ∷ 1 ∷ []) (Ok (h.contents, rest))) (sym s) o in
+        let c = only_contents (numbers h.contents) rest r.0 in
+        let k : h.contents ≡ 1 ∷ 1 ∷ 1 ∷ [] = cc in
+        let n = followed_shorter h.contents more f in
+        let m = ap length k in
+        let w = ap length (e ∙ q) in
+        omega (arith, n, m, w)
+
 not_one : {A : Type 0} (x : A) → [] ≡ x ∷ [] → ⊥
 not_one x e = omega (arith, ap length e)
 
@@ -55,6 +113,8 @@ departures = record {
   first_has_none_before = refl;
   at_its_place = placed;
   not_one_octet_before = misplaced;
+  inside_a_sequence = in_sequence;
+  not_the_second_one = not_second;
   trail_of_the_next_part = λ whole first second p q r. grind arith;
   nothing_without_an_error = λ site. refl;
   not_one_without_an_error = λ site d h. cc;

@@ -1,5 +1,5 @@
 -- How DER writes identifier and length octets (X.690 8.1.2, 8.1.3, 10.1, 10.2).
-use Rattle.std.specs.Prelude.{◌≡◌, ◌≢◌, ◌⊎◌, ◌%◌, ℕ, List, [], ◌∷◌, Bool, true, false, nat_lt, nat_eq, not, if◌then◌else◌, Option, Some, None, Result, Ok, Err, MatchOption, IfErr}
+use Rattle.std.specs.Prelude.{◌≡◌, ◌≢◌, ◌⊎◌, ◌%◌, ℕ, List, [], ◌∷◌, take, Bool, true, false, nat_lt, nat_eq, not, if◌then◌else◌, Option, Some, None, Result, Ok, Err, MatchOption, IfErr}
 use Rattle.rasn_types.specs.declared.types.codec.Codec.TheVariants.{Der}
 use Rattle.rasn_types.specs.declared.types.tag.Tag.{Tag}
 use Rattle.rasn_types.specs.declared.error.decode.DecodeError.{DecodeError}
@@ -61,10 +61,11 @@ abbrev pub IsLengthFaultAfter : Tag → List ℕ → Option DecodeError → Type
 IsLengthFaultAfter tag octets (Some e) = ReadsHeader tag octets (Some e) × IsOfLength e
 IsLengthFaultAfter tag octets None = (refused : Option DecodeError) × ReadsHeader tag octets refused × MatchOption refused (Unit {0}) (λ e. IsOfLength e → ⊥)
 
--- The same of octets whose identifier may have any form: one that DER doesn't read is replaced by that of a SEQUENCE.
+-- The same of octets whose identifier may have any form: one that DER doesn't read is replaced by that of a SEQUENCE, before
+-- the octets that can be those of the length, of which there are at most 127 (8.1.3.5).
 abbrev pub IsLengthFault : List ℕ → Option DecodeError → Type 0
 IsLengthFault octets f = ((t : Tag) × NextTag der_form octets t × IsLengthFaultAfter t octets f)
-    ⊎ (((t : Tag) → NextTag der_form octets t → ⊥) × IsLengthFaultAfter (in_universal 16) (48 ∷ after_identifier octets) f)
+    ⊎ (((t : Tag) → NextTag der_form octets t → ⊥) × IsLengthFaultAfter (in_universal 16) (48 ∷ take 127 (after_identifier octets)) f)
 
 abbrev pub is_constructed : List ℕ → Bool
 is_constructed [] = false

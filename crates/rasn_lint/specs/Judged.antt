@@ -3,10 +3,8 @@ use Rattle.std.specs.Prelude.{◌≡◌, ◌≢◌, ◌⊎◌, ◌↔◌, ◌-�
 use Rattle.std.specs.List.{AllByRecursion}
 use Rattle.std.specs.Borrow.{Bor}
 use Rattle.std.specs.Global.{Global}
-use Rattle.rasn_types.specs.declared.types.codec.Codec.TheVariants.{Ber}
 use Rattle.rasn_types.specs.declared.types.tag.Tag.{Tag}
-use Rattle.rasn_types.specs.Shapes.{looked_for}
-use Rattle.rasn_de.specs.Any.{OpenAt, BorrowsOpenType}
+use Rattle.rasn_de.specs.Any.{BorrowsOpenType}
 use Rattle.rasn_de.specs.State.{State}
 use Rattle.rasn_types.specs.declared.error.decode.DecodeError.{DecodeError}
 use Rattle.rasn_types.specs.Tags.{eoc}
@@ -26,6 +24,7 @@ use Rattle.rasn_lint.specs.Header.{has_own_header, is_constructed, IsTagFault, I
 use Rattle.rasn_lint.specs.Leaf.{IsContentsFault}
 use Rattle.rasn_lint.specs.Encoding.{start}
 use Rattle.rasn_lint.specs.Open.{IsInside}
+use Rattle.rasn_lint.specs.Untyped.{HasOpen}
 use Rattle.rasn_lint.specs.WellFormed.{IsWellFormed}
 use Rattle.rasn_lint.specs.declared.by_schema.OpenTypes.{OpenTypes}
 use Rattle.rasn_lint.specs.declared.by_schema.OpenTypes.TheVariants.{Unexamined, Examined}
@@ -82,45 +81,46 @@ abbrev pub IsRefusedBy : {T : Type 0} → Result T DecodeError → Option Decode
 IsRefusedBy (Ok v) f = f ≡ None
 IsRefusedBy (Err e) f = f ≡ Some e
 
-abbrev pub IsAnyFault : List ℕ → Option DecodeError → Type 0
-IsAnyFault octets f = (r : Result (Bor (List ℕ)) DecodeError) × (new : State) × BorrowsOpenType eoc (start octets) r new × IsRefusedBy r f
+abbrev pub IsAnyRefusal : List ℕ → Option DecodeError → Type 0
+IsAnyRefusal octets f = (r : Result (Bor (List ℕ)) DecodeError) × (new : State) × BorrowsOpenType eoc (start octets) r new × IsRefusedBy r f
 
-abbrev pub IsOpenFault : «Type» → List ℕ → Option DecodeError → Type 0
-IsOpenFault (Leaf kind tag c names) octets f = f ≡ None
-IsOpenFault (Enumerated tag ns) octets f = f ≡ None
-IsOpenFault (Any tag) octets f = IsAnyFault octets f
-IsOpenFault (Tagged tag id) octets f = f ≡ None
-IsOpenFault (Choice name ks) octets f = f ≡ None
-IsOpenFault (Sequence tag ps) octets f = f ≡ None
-IsOpenFault (Set name tag ps) octets f = f ≡ None
-IsOpenFault (SequenceOf tag id c) octets f = f ≡ None
-IsOpenFault (SetOf tag id c) octets f = f ≡ None
+-- If open types are looked into, there is none: it is found there.
+abbrev pub IsAnyFault : OpenTypes → List ℕ → Option DecodeError → Type 0
+IsAnyFault Unexamined octets f = IsAnyRefusal octets f
+IsAnyFault Examined octets f = f ≡ None
+
+abbrev pub IsOpenFault : OpenTypes → «Type» → List ℕ → Option DecodeError → Type 0
+IsOpenFault opens (Leaf kind tag c names) octets f = f ≡ None
+IsOpenFault opens (Enumerated tag ns) octets f = f ≡ None
+IsOpenFault opens (Any tag) octets f = IsAnyFault opens octets f
+IsOpenFault opens (Tagged tag id) octets f = f ≡ None
+IsOpenFault opens (Choice name ks) octets f = f ≡ None
+IsOpenFault opens (Sequence tag ps) octets f = f ≡ None
+IsOpenFault opens (Set name tag ps) octets f = f ≡ None
+IsOpenFault opens (SequenceOf tag id c) octets f = f ≡ None
+IsOpenFault opens (SetOf tag id c) octets f = f ≡ None
 
 -- The header is judged where the value has one of its own.
-abbrev pub AreHeaderFaults : Bool → «Type» → List ℕ → Option DecodeError → Option DecodeError → Option DecodeError → Type 0
-AreHeaderFaults true ty octets tag form length = IsTagFault octets tag × IsFormFault ty (is_constructed octets) form × IsLengthFault octets length
-AreHeaderFaults false ty octets tag form length = (tag ≡ None) × (form ≡ None) × IsOpenFault ty octets length
+abbrev pub AreHeaderFaults : Bool → OpenTypes → «Type» → List ℕ → Option DecodeError → Option DecodeError → Option DecodeError → Type 0
+AreHeaderFaults true opens ty octets tag form length = IsTagFault octets tag × IsFormFault ty (is_constructed octets) form × IsLengthFault octets length
+AreHeaderFaults false opens ty octets tag form length = (tag ≡ None) × (form ≡ None) × IsOpenFault opens ty octets length
 
 -- The errors of a part: in its place, in its header, and in its contents.
-pub record AreFaultsOf (types : List «Type») (trail : List Step) (e : Span) (ty : «Type») (f : Faults) : Type 0 where
+pub record AreFaultsOf (opens : OpenTypes) (types : List «Type») (trail : List Step) (e : Span) (ty : «Type») (f : Faults) : Type 0 where
   pub order : IsOrderFault (order_if (type_of types (holder_in trail e))) e.octets.now (before_in trail e) f.order
   pub default : IsDefaultFault types e.id.0 e.octets.now (default_if (type_of types (holder_in trail e)) e.index) f.default
-  pub header : AreHeaderFaults (has_own_header ty) ty e.octets.now f.tag f.form f.length
+  pub header : AreHeaderFaults (has_own_header ty) opens ty e.octets.now f.tag f.form f.length
   pub contents : IsContentsFault types e.id.0 ty e.octets.now f.contents
 
-abbrev pub AreDepartures : List «Type» → ℕ → List Step → List ℕ → Span → Option «Type» → List Departure → Type 0
-AreDepartures types len trail path e None ds = ds ≡ []
-AreDepartures types len trail path e (Some ty) ds = (f : Faults) × (site : Site) × AreFaultsOf types trail e ty f × IsSiteAt len e.left e path None site × AreListed site f ds
+abbrev pub AreDepartures : OpenTypes → List «Type» → ℕ → List Step → List ℕ → Span → Option «Type» → List Departure → Type 0
+AreDepartures opens types len trail path e None ds = ds ≡ []
+AreDepartures opens types len trail path e (Some ty) ds = (f : Faults) × (site : Site) × AreFaultsOf opens types trail e ty f × IsSiteAt len e.left e path None site × AreListed site f ds
 
 -- ---- open types
 
--- The octets of a value of an open type, as BER finds them.
-abbrev pub HasOpen : Tag → List ℕ → List ℕ → Type 0
-HasOpen tag octets inside = (rest : List ℕ) × OpenAt Ber (looked_for tag) octets (Ok (inside, rest))
-
 -- There are none exactly if the octets of the open type are well formed.
 abbrev pub AreInside : Tag → ℕ → List ℕ → Span → List Departure → Type 0
-AreInside tag len path e ds = (inside : List ℕ) × HasOpen tag e.octets.now inside × ((ds ≡ []) ↔ IsWellFormed inside) × AllByRecursion (IsInside len e path) ds
+AreInside tag len path e ds = (inside : List ℕ) × HasOpen tag e.octets.now inside × ((ds ≡ []) ↔ IsWellFormed inside) × AllByRecursion (IsInside len e path inside) ds
 
 -- The same of a part of any type; of one that isn't open, and where BER finds no octets, there are none.
 abbrev pub AreOpenDepartures : ℕ → List ℕ → Span → Option «Type» → List Departure → Type 0
@@ -131,20 +131,20 @@ AreOpenDepartures len path e ty ds = ds ≡ []
 
 -- The departures of a part by its type, unless DER reads the message, and then those inside it, if open types are
 -- looked into.
-abbrev pub TypedUnless : Bool → List «Type» → ℕ → List Step → List ℕ → Span → List Departure → Type 0
-TypedUnless true types len trail path e ds = ds ≡ []
-TypedUnless false types len trail path e ds = AreDepartures types len trail path e (slice_get types e.id.0) ds
+abbrev pub TypedUnless : Bool → OpenTypes → List «Type» → ℕ → List Step → List ℕ → Span → Option «Type» → List Departure → Type 0
+TypedUnless true opens types len trail path e o ds = ds ≡ []
+TypedUnless false opens types len trail path e o ds = AreDepartures opens types len trail path e o ds
 
-abbrev pub OpenIf : OpenTypes → List «Type» → ℕ → List ℕ → Span → List Departure → Type 0
-OpenIf Unexamined types len path e ds = ds ≡ []
-OpenIf Examined types len path e ds = AreOpenDepartures len path e (slice_get types e.id.0) ds
+abbrev pub OpenIf : OpenTypes → ℕ → List ℕ → Span → Option «Type» → List Departure → Type 0
+OpenIf Unexamined len path e o ds = ds ≡ []
+OpenIf Examined len path e o ds = AreOpenDepartures len path e o ds
 
 pub record AreOfPart (is_read : Bool) (opens : OpenTypes) (types : List «Type») (len : ℕ) (trail : List Step) (path : List ℕ) (e : Span) (ds : List Departure) : Type 0 where
   pub typed : List Departure
   pub inside : List Departure
   pub are : ds ≡ typed ++ inside
-  pub by_type : TypedUnless is_read types len trail path e typed
-  pub by_octets : OpenIf opens types len path e inside
+  pub by_type : TypedUnless is_read opens types len trail path e (slice_get types e.id.0) typed
+  pub by_octets : OpenIf opens len path e (slice_get types e.id.0) inside
 
 -- Those of parts, one after the other, where the trail and the path lead to the part before them.
 abbrev pub AreJudged : Bool → OpenTypes → List «Type» → ℕ → List Step → List ℕ → List Span → List Departure → Type 0

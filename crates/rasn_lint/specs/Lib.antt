@@ -8,8 +8,10 @@ pub mod Trail
 pub mod Place
 pub mod Header
 pub mod Leaf
+pub mod Untyped
 pub mod Open
 pub mod Judged
 pub mod Lint
 pub mod Laws
 pub mod Worked
+pub mod WorkedMessages

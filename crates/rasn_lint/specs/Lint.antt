@@ -1,5 +1,5 @@
 -- What is returned of a message.
-use Rattle.std.specs.Prelude.{◌≡◌, ◌≢◌, ◌⊎◌, ◌↔◌, ◌-◌, ℕ, List, [], ◌∷◌, ◌++◌, length, Bool, true, false, Option, Some, None, Result, Ok, Err, slice_get}
+use Rattle.std.specs.Prelude.{◌≡◌, ◌≢◌, ◌⊎◌, ◌↔◌, ◌-◌, ℕ, List, [], ◌∷◌, ◌++◌, length, drop, Bool, true, false, Option, Some, None, Result, Ok, Err, MatchOption, slice_get}
 use Rattle.std.specs.List.{AllByRecursion}
 use Rattle.std.specs.List.Sorted.{IsNonDecreasingBy, IsPermutation}
 use Rattle.rasn_types.specs.declared.types.codec.Codec.TheVariants.{Ber, Der}
@@ -15,13 +15,15 @@ use Rattle.rasn_dynamic.specs.declared.message.MessageParts.{MessageParts}
 use Rattle.rasn_dynamic.specs.declared.refusal.Refusal.{Refusal}
 use Rattle.rasn_dynamic.specs.Entry.{shape_of}
 use Rattle.rasn_dynamic.specs.Faults.{IsLocated}
-use Rattle.rasn_dynamic.specs.Walk.{ArePartsOf}
+use Rattle.rasn_dynamic.specs.Walk.{ArePartsOf, path_after}
 use Rattle.rasn_lint.specs.declared.by_schema.LintError.{LintError}
 use Rattle.rasn_lint.specs.declared.by_schema.LintError.TheVariants.{Refused, Remainder, OutOfMemory}
 use Rattle.rasn_lint.specs.declared.by_schema.OpenTypes.{OpenTypes}
 use Rattle.rasn_lint.specs.declared.by_schema.OpenTypes.TheVariants.{Unexamined, Examined}
 use Rattle.rasn_lint.specs.declared.departure.Departure.{Departure}
-use Rattle.rasn_lint.specs.Judged.{AreJudged, HasOpen}
+use Rattle.rasn_lint.specs.Judged.{AreJudged}
+use Rattle.rasn_lint.specs.Open.{IsInside}
+use Rattle.rasn_lint.specs.Untyped.{HasOpen}
 use Rattle.rasn_lint.specs.WellFormed.{IsWellFormed}
 
 -- DER reads all of the octets as a value of the type.
@@ -32,16 +34,28 @@ IsDer types id input = (t : Tree) × Reads Der (shape_of types id) 128 (top Der)
 abbrev pub HasFormed : List «Type» → Span → Type 0
 HasFormed types e = (tag : Tag) (inside : List ℕ) → slice_get types e.id.0 ≡ Some (Any tag) → HasOpen tag e.octets.now inside → IsWellFormed inside
 
--- Nothing is to be mended: DER reads the message and, if open types are looked into, the octets of each are well
--- formed.
+-- If open types are looked into, the octets of each are well formed.
+abbrev pub AreFormed : OpenTypes → List «Type» → List Span → Type 0
+AreFormed Unexamined types parts = Unit {0}
+AreFormed Examined types parts = AllByRecursion (HasFormed types) parts
+
+-- Nothing is to be mended: DER reads the message, and its open types are well formed, if they are looked into.
 abbrev pub IsClean : OpenTypes → List «Type» → ℕ → List ℕ → List Span → Type 0
-IsClean Unexamined types id input parts = IsDer types id input
-IsClean Examined types id input parts = IsDer types id input × AllByRecursion (HasFormed types) parts
+IsClean opens types id input parts = IsDer types id input × AreFormed opens types parts
+
+-- The refusal is that of this rest of the input, at its start.
+pub record IsRemainderOf (input rest : List ℕ) (r : Refusal) : Type 0 where
+  pub extra : IsExtraData Der rest r.error
+  pub offset : r.offset ≡ length input - length rest
+  pub steps : r.steps.items ≡ []
 
 -- DER reads no value of the type there, and this is where and why; or octets follow the value, and this is their number.
 abbrev pub IsAtFault : List «Type» → ℕ → List ℕ → Refusal → Type 0
-IsAtFault types id input r = IsLocated types Der id input r
-    ⊎ ((t : Tree) × (rest : List ℕ) × Reads Der (shape_of types id) 128 (top Der) input t rest × IsExtraData Der rest r.error × (r.offset ≡ length input - length rest) × (r.steps.items ≡ []))
+IsAtFault types id input r = IsLocated types Der id input r ⊎ ((t : Tree) × (rest : List ℕ) × Reads Der (shape_of types id) 128 (top Der) input t rest × IsRemainderOf input rest r)
+
+-- DER reads the message; or it doesn't, and this is where and why.
+abbrev pub IsDerOrNot : List «Type» → ℕ → List ℕ → Option Refusal → Type 0
+IsDerOrNot types id input found = MatchOption found (IsDer types id input) (λ r. (IsDer types id input → ⊥) × IsAtFault types id input r)
 
 -- The departure is that refusal.
 abbrev pub IsRefusal : List «Type» → ℕ → List ℕ → Departure → Type 0
@@ -54,10 +68,10 @@ AreAll opens types id input parts ds = (IsDer types id input × AreJudged true o
     ⊎ ((IsDer types id input → ⊥) × ((AreJudged false opens types (length input) [] [] parts ds × (ds ≢ []))
     ⊎ (AreJudged false opens types (length input) [] [] parts [] × (d : Departure) × (ds ≡ d ∷ []) × IsRefusal types id input d)))
 
--- how many octets follow the first of the parts, which is the whole value
-abbrev pub len_after : List Span → List ℕ → ℕ
-len_after [] input = length input
-len_after (e ∷ es) input = length input - length e.octets.now
+-- the octets after the first of the parts, which is the whole value
+abbrev pub rest_after : List Span → List ℕ → List ℕ
+rest_after [] input = input
+rest_after (e ∷ es) input = drop (length e.octets.now) input
 
 -- where a departure is in the message
 abbrev pub offset_of : Departure → ℕ
@@ -84,16 +98,26 @@ abbrev pub AreLookedInto : OpenTypes → List «Type» → ℕ → List ℕ → 
 AreLookedInto Unexamined types id input P = Unit {0}
 AreLookedInto Examined types id input P = (parts : MessageParts) × ArePartsOf types Der id input parts × P parts.list.items
 
--- The first of the departures of the parts, of which some open type isn't well formed.
-abbrev pub IsFirstInside : List «Type» → ℕ → List ℕ → Departure → List Span → Type 0
-IsFirstInside types id input d parts = (others : List Departure) × AreJudged true Examined types (length input) [] [] parts (d ∷ others) × (AllByRecursion (HasFormed types) parts → ⊥)
+-- The octets of the part's open type aren't well formed, and the departure is inside them.
+abbrev pub IsIllFormedAt : List «Type» → ℕ → List ℕ → Span → Departure → Type 0
+IsIllFormedAt types len path e d = (tag : Tag) × (inside : List ℕ) × (slice_get types e.id.0 ≡ Some (Any tag)) × HasOpen tag e.octets.now inside × (IsWellFormed inside → ⊥) × IsInside len e path inside d
+
+-- The departure is inside the first of the parts whose open type isn't well formed, where the path leads to the part
+-- before them.
+abbrev pub IsFirstIn : List «Type» → ℕ → List ℕ → List Span → Departure → Type 0
+IsFirstIn types len path [] d = ⊥
+IsFirstIn types len path (e ∷ es) d = IsIllFormedAt types len (path_after path e) e d ⊎ (HasFormed types e × IsFirstIn types len (path_after path e) es d)
+
+-- Each of the parts is well formed inside; or this is the first departure there.
+abbrev pub IsFirstOr : List «Type» → ℕ → List ℕ → List Span → Option Departure → Type 0
+IsFirstOr types len path parts found = MatchOption found (AllByRecursion (HasFormed types) parts) (IsFirstIn types len path parts)
 
 -- The first thing to be mended, if there is one: why DER doesn't read the message, or what departs inside an open type.
 abbrev pub IsFirstDeparture : OpenTypes → List «Type» → ℕ → List ℕ → Option Departure → Type 0
 IsFirstDeparture opens types id input None = IsDer types id input × AreLookedInto opens types id input (AllByRecursion (HasFormed types))
 IsFirstDeparture Unexamined types id input (Some d) = (IsDer types id input → ⊥) × IsRefusal types id input d
 IsFirstDeparture Examined types id input (Some d) = ((IsDer types id input → ⊥) × IsRefusal types id input d)
-    ⊎ (IsDer types id input × AreLookedInto Examined types id input (IsFirstInside types id input d))
+    ⊎ (IsDer types id input × AreLookedInto Examined types id input (λ parts. IsFirstIn types (length input) [] parts d))
 
 -- Nothing is to be mended; or this is the first thing, or memory ran out.
 abbrev pub IsCheckOf : OpenTypes → List «Type» → ℕ → List ℕ → Result (Unit {0}) Departure → Type 0

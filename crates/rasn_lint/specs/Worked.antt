@@ -18,6 +18,7 @@ use Rattle.rasn_lint.specs.Judged.{AreNoted}
 use Rattle.rasn_lint.specs.Open.{IsFoundIn}
 use Rattle.rasn_lint.specs.Place.{der_error, IsOrderFault}
 use Rattle.rasn_lint.specs.Trail.{trail_after, step_of}
+use Rattle.rasn_lint.specs.Untyped.{LeadsInto}
 
 -- The octets of the INTEGER 1 and of the INTEGER 2.
 abbrev pub one : List ℕ
@@ -43,6 +44,8 @@ pub record WorkedDepartures : Type 0 where
   pub first_has_none_before : IsOrderFault ByOctets one None None
   pub at_its_place : (e : Span) → e.octets.now ≡ 48 ∷ 3 ∷ 1 ∷ 1 ∷ 1 ∷ [] → e.left ≡ 7 → IsFoundIn e (1 ∷ 1 ∷ 1 ∷ []) 5
   pub not_one_octet_before : (e : Span) → e.octets.now ≡ 48 ∷ 3 ∷ 1 ∷ 1 ∷ 1 ∷ [] → e.left ≡ 7 → IsFoundIn e (1 ∷ 1 ∷ 1 ∷ []) 6 → ⊥
+  pub inside_a_sequence : LeadsInto (0 ∷ []) (48 ∷ 3 ∷ 1 ∷ 1 ∷ 1 ∷ []) (1 ∷ 1 ∷ 1 ∷ [])
+  pub not_the_second_one : LeadsInto (1 ∷ []) (48 ∷ 3 ∷ 1 ∷ 1 ∷ 1 ∷ []) (1 ∷ 1 ∷ 1 ∷ []) → ⊥
   pub trail_of_the_next_part : (whole first second : Span) → whole.levels ≡ 2 ^ 64 - 1 → first.levels ≡ 2 ^ 64 - 2 → second.levels ≡ 2 ^ 64 - 2
       → trail_after (trail_after (trail_after [] whole) first) second ≡ step_of whole ∷ step_of second ∷ []
   pub nothing_without_an_error : (site : Site) → AreNoted site Header None []

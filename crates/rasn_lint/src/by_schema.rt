@@ -1,19 +1,19 @@
 //! Every departure of a message from DER, by its type.
-ghost use Rattle.std.specs.Prelude.{◌≡◌, ◌++◌, ◌∷◌, [], None, IfOk, IfErr, OnOk, List, MatchOption};
+ghost use Rattle.std.specs.Prelude.{◌≡◌, ◌++◌, ◌∷◌, [], Some, None, IfOk, IfErr, OnOk, List, MatchOption};
 ghost use Rattle.std.specs.List.Sorted.{IsNonDecreasingBy, IsPermutation};
 ghost use Rattle.rasn_lint.specs.declared.departure.Departure.{Departure};
 ghost use Rattle.rasn_lint.specs.Judged.{TypedUnless, OpenIf, AreOfPart, AreJudged};
-ghost use Rattle.rasn_lint.specs.Lint.{IsDer, IsAtFault, AreAll, offset_of, IsLint, IsNoLint, len_after};
+ghost use Rattle.rasn_lint.specs.Lint.{IsDerOrNot, IsRemainderOf, AreAll, offset_of, IsLint, IsNoLint, rest_after};
 ghost use Rattle.rasn_lint.specs.Trail.{trail_after};
 ghost use Rattle.rasn_dynamic.specs.Walk.{path_after};
 
 use crate::departure::{Departure, aspect_of};
 use crate::judge::{Way, faults_of, note_faults, site_at};
-use crate::open::note_open;
+use crate::open::{Wanted, note_open};
 use crate::trail::{Step, extend_path, extend_trail};
 use rasn::refuse_remainder;
 use rasn_dynamic::{Refusal, Span, check_or_locate, parts_of};
-use rasn_schema::{Schema, TypeId, type_at};
+use rasn_schema::{Schema, Type, TypeId, type_at};
 use rasn_types::types::Codec;
 use std::alloc::{AllocError, Global};
 use thiserror::Error;
@@ -34,11 +34,27 @@ pub enum LintError {
     #[error("{0}")]
     Refused(Refusal),
     /// So many octets follow the value.
-    #[error("octets after the value: {0}")]
+    #[error("BER: octets after the value: {0}")]
     Remainder(usize),
     /// Memory ran out.
     #[error("out of memory")]
     OutOfMemory,
+}
+
+/// Returns the refusal of octets after the value, if there are some.
+pub fn remainder_refusal(alloc: Global, id: TypeId, octets: &[u8], rest: &[u8]) -> Option<Refusal>
+    ensures { MatchOption result (rest.now ≡ []) (IsRemainderOf octets.now rest.now) }
+{
+    match refuse_remainder(Codec::Der, rest) {
+        Ok(()) => None,
+        Err(error) => Some(Refusal {
+            error,
+            offset: octets.len().saturating_sub(rest.len()),
+            id,
+            steps: Vec::new(alloc),
+            is_cut: false,
+        }),
+    }
 }
 
 /// Returns where and why DER doesn't read the octets as a value of the type, if it doesn't.
@@ -48,19 +64,13 @@ pub fn der_refusal(
     id: TypeId,
     octets: &[u8],
 ) -> Result<Option<Refusal>, AllocError>
-    ensures { IfOk result (λ found. MatchOption found (IsDer schema.now.types.items id.0 octets.now) (λ r. (IsDer schema.now.types.items id.0 octets.now → ⊥) × IsAtFault schema.now.types.items id.0 octets.now r)) }
+    ensures { IfOk result (IsDerOrNot schema.now.types.items id.0 octets.now) }
 {
     match check_or_locate(alloc, Codec::Der, schema, id, octets) {
-        Ok(rest) => match refuse_remainder(Codec::Der, rest) {
-            Ok(()) => Ok(None),
-            Err(error) => Ok(Some(Refusal {
-                error,
-                offset: octets.len().saturating_sub(rest.len()),
-                id,
-                steps: Vec::new(alloc),
-                is_cut: false,
-            })),
-        },
+        Ok(rest) => {
+            let found = remainder_refusal(alloc, id, octets, rest);
+            Ok(found)
+        }
         Err(refusal) => if refusal.error.is_out_of_memory() {
             Err(AllocError)
         } else {
@@ -97,19 +107,18 @@ fn note_typed(
     list: &mut Vec<Departure>,
     schema: &Schema,
     is_read: bool,
+    opens: OpenTypes,
     trail: &[Step<'_>],
+    ty: &Type,
     way: Way<'_, '_>,
 ) -> Result<(), AllocError>
     ensures { OnOk result ((ds : List Departure) × (list.new.items ≡ list.old.items ++ ds)
-        × TypedUnless is_read schema.now.types.items way.entry.len trail.now way.entry.path.now way.entry.part.now ds) }
+        × TypedUnless is_read opens schema.now.types.items way.entry.len trail.now way.entry.path.now way.entry.part.now (Some ty.now) ds) }
 {
     if is_read {
         return Ok(());
     }
-    let Some(ty) = type_at(schema.types(), way.part.id) else {
-        return Ok(());
-    };
-    let faults = faults_of(alloc, schema, trail, way.part, ty)?;
+    let faults = faults_of(alloc, schema, opens, trail, way.part, ty)?;
     let site = site_at(way, way.part.left, None);
     note_faults(alloc, list, site, faults)?;
     Ok(())
@@ -119,21 +128,17 @@ fn note_typed(
 fn note_examined(
     alloc: Global,
     list: &mut Vec<Departure>,
-    schema: &Schema,
     opens: OpenTypes,
+    ty: &Type,
     way: Way<'_, '_>,
 ) -> Result<(), AllocError>
     ensures { OnOk result ((ds : List Departure) × (list.new.items ≡ list.old.items ++ ds)
-        × OpenIf opens schema.now.types.items way.entry.len way.entry.path.now way.entry.part.now ds) }
+        × OpenIf opens way.entry.len way.entry.path.now way.entry.part.now (Some ty.now) ds) }
 {
-    let OpenTypes::Examined = opens else {
-        return Ok(());
-    };
-    let Some(ty) = type_at(schema.types(), way.part.id) else {
-        return Ok(());
-    };
-    note_open(alloc, list, ty, way)?;
-    Ok(())
+    match opens {
+        OpenTypes::Unexamined => Ok(()),
+        OpenTypes::Examined => note_open(alloc, list, Wanted::All, ty, way),
+    }
 }
 
 /// Appends the departures of a part. The trail leads to the part before it.
@@ -149,9 +154,14 @@ fn judge_part(
     ensures { OnOk result ((ds : List Departure) × (list.new.items ≡ list.old.items ++ ds)
         × AreOfPart is_read opens schema.now.types.items way.entry.len trail.now way.entry.path.now way.entry.part.now ds) }
 {
-    note_typed(alloc, list, schema, is_read, trail, way)?;
-    note_examined(alloc, list, schema, opens, way)?;
-    Ok(())
+    match type_at(schema.types(), way.part.id) {
+        Some(ty) => {
+            note_typed(alloc, list, schema, is_read, opens, trail, ty, way)?;
+            note_examined(alloc, list, opens, ty, way)?;
+            Ok(())
+        }
+        None => Ok(()),
+    }
 }
 
 /// Returns the departures of parts of a message of so many octets.
@@ -193,15 +203,16 @@ fn judge_message(
 ) -> Result<Vec<Departure>, AllocError>
     ensures { IfOk result (λ list. AreAll opens schema.now.types.items id.0 octets.now parts.now list.items) }
 {
-    let Some(refusal) = der_refusal(alloc, schema, id, octets)? else {
-        let list = judge_parts(alloc, schema, true, opens, octets.len(), parts)?;
-        return Ok(list);
-    };
-    let mut list = judge_parts(alloc, schema, false, opens, octets.len(), parts)?;
-    if list.is_empty() {
-        push_refusal(&mut list, refusal)?;
+    let refusal = der_refusal(alloc, schema, id, octets)?;
+    let is_read = refusal.is_none();
+    let mut list = judge_parts(alloc, schema, is_read, opens, octets.len(), parts)?;
+    if !list.is_empty() {
         return Ok(list);
     }
+    let Some(refusal) = refusal else {
+        return Ok(list);
+    };
+    push_refusal(&mut list, refusal)?;
     Ok(list)
 }
 
@@ -214,13 +225,13 @@ fn in_order(list: Vec<Departure>) -> Result<Vec<Departure>, AllocError>
     Ok(list)
 }
 
-/// Returns the number of octets after the first of the parts, which is the whole value.
-fn len_after(parts: &[Span<'_>], octets: &[u8]) -> usize
-    ensures { result ≡ len_after parts.now octets.now }
+/// Returns the octets after the first of the parts, which is the whole value.
+pub fn rest_after<'input>(parts: &[Span<'_>], octets: &'input [u8]) -> &'input [u8]
+    ensures { result.now ≡ rest_after parts.now octets.now }
 {
     match parts {
-        [whole, ..] => octets.len().saturating_sub(whole.octets.len()),
-        [] => octets.len(),
+        [whole, ..] => &octets[whole.octets.len().min(octets.len())..],
+        [] => octets,
     }
 }
 
@@ -258,9 +269,9 @@ pub fn lint(
         Ok(parts) => parts,
         Err(refusal) => return Err(LintError::Refused(refusal)),
     };
-    let remainder = len_after(parts.list.as_slice(), octets);
-    if remainder > 0 {
-        return Err(LintError::Remainder(remainder));
+    let rest = rest_after(parts.list.as_slice(), octets);
+    if !rest.is_empty() {
+        return Err(LintError::Remainder(rest.len()));
     }
     let Ok(list) = judge_message(alloc, schema, id, octets, opens, parts.list.as_slice()) else {
         return Err(LintError::OutOfMemory);

@@ -1,7 +1,8 @@
 //! A departure from DER.
-ghost use Rattle.std.specs.Prelude.{◌≡◌};
+ghost use Rattle.std.specs.Prelude.{◌≡◌, [], MatchOption};
 
-use rasn_dynamic::{NamedRefusal, Refusal};
+use crate::names::{write_indices, write_names};
+use rasn_dynamic::Refusal;
 use rasn_schema::{Schema, TypeId};
 use rasn_types::error::{
     BerDecodeErrorKind, CodecDecodeError, DecodeErrorKind, DerDecodeErrorKind,
@@ -36,9 +37,18 @@ impl Departure {
     /// Returns the departure with the names on the way from the type that was asked for, whose
     /// number this is.
     pub fn with_names<'a>(&'a self, schema: &'a Schema, id: TypeId) -> NamedDeparture<'a>
-        ensures { (result.departure.now ≡ self.now) × (result.schema.now ≡ schema.now) × (result.id ≡ id) }
+        ensures { (result.place.departure.now ≡ self.now) × (result.place.schema.now ≡ schema.now) × (result.place.id ≡ id) }
     {
         NamedDeparture {
+            place: self.place_with_names(schema, id),
+        }
+    }
+
+    /// Returns the same without what departs: where it is and the error.
+    pub fn place_with_names<'a>(&'a self, schema: &'a Schema, id: TypeId) -> NamedPlace<'a>
+        ensures { (result.departure.now ≡ self.now) × (result.schema.now ≡ schema.now) × (result.id ≡ id) }
+    {
+        NamedPlace {
             departure: self,
             schema,
             id,
@@ -46,9 +56,21 @@ impl Departure {
     }
 }
 
-/// A departure that is shown with the names of a schema.
+impl Departure {
+    /// Returns the index of each encoding on the way inside an open type.
+    fn indices(&self) -> &[usize]
+        ensures { MatchOption self.now.inner (result.now ≡ []) (λ v. result.now ≡ v.items) }
+    {
+        match &self.inner {
+            Some(indices) => indices.as_slice(),
+            None => &[],
+        }
+    }
+}
+
+/// The place of a departure, which is shown with the names of a schema.
 #[derive(Drop)]
-pub struct NamedDeparture<'a> {
+pub struct NamedPlace<'a> {
     /// The departure.
     pub departure: &'a Departure,
     /// The schema.
@@ -57,13 +79,37 @@ pub struct NamedDeparture<'a> {
     pub id: TypeId,
 }
 
-/// The names, the offset, the error, what departs, and the section of X.690.
-impl fmt::Display for NamedDeparture<'_> {
+/// The way to the part, as [`Refusal::with_names`] shows it, and on inside an open type: the index
+/// of each encoding there, in brackets. Then the offset and the error.
+impl fmt::Display for NamedPlace<'_> {
     fn fmt<W: fmt::Write>(&self, f: &mut fmt::Formatter<W>) -> fmt::Result {
         let departure = self.departure;
-        let place = departure.refusal.with_names(self.schema, self.id);
-        write!(f, "{place} ")?;
-        write_rule(f, departure)
+        let refusal = &departure.refusal;
+        if !refusal.is_cut {
+            let steps = refusal.steps.as_slice();
+            let has_names = write_names(f, self.schema.types(), self.id, steps)?;
+            let inner = departure.indices();
+            write_indices(f, inner)?;
+            if has_names || !inner.is_empty() {
+                f.write_str(", ")?;
+            }
+        }
+        write!(f, "{refusal}")
+    }
+}
+
+/// A departure that is shown with the names of a schema.
+#[derive(Drop)]
+pub struct NamedDeparture<'a> {
+    /// Its place.
+    pub place: NamedPlace<'a>,
+}
+
+/// The place with its names, what departs, and the section of X.690.
+impl fmt::Display for NamedDeparture<'_> {
+    fn fmt<W: fmt::Write>(&self, f: &mut fmt::Formatter<W>) -> fmt::Result {
+        write!(f, "{} ", self.place)?;
+        write_rule(f, self.place.departure)
     }
 }
 
@@ -75,21 +121,18 @@ impl fmt::Display for Departure {
     }
 }
 
-/// Writes what departs, where inside an open type, and the section of X.690.
+/// Writes what departs, and the section of X.690.
 fn write_rule<W: fmt::Write>(f: &mut fmt::Formatter<W>, departure: &Departure) -> fmt::Result {
-    f.write_str("(")?;
-    f.write_str(match departure.aspect {
+    let aspect = match departure.aspect {
         Aspect::Header => "header",
         Aspect::Contents => "contents",
         Aspect::Place => "place",
-    })?;
-    if let Some(inner) = &departure.inner {
-        f.write_str(" inside the open type")?;
-        for index in inner {
-            write!(f, " [{index}]")?;
-        }
-    }
-    write!(f, ", {})", section_of(&departure.refusal.error.kind))
+    };
+    write!(
+        f,
+        "({aspect}, {})",
+        section_of(&departure.refusal.error.kind)
+    )
 }
 
 /// Returns what of an encoding an error of the reader of DER is about.

@@ -1,12 +1,18 @@
 //! The first departure of a message from DER.
-ghost use Rattle.std.specs.Prelude.{◌≡◌, IfOk, slice_get};
+ghost use Rattle.std.specs.Prelude.{◌≡◌, ◌++◌, [], List, IfOk, OnOk, slice_get};
 ghost use Rattle.rasn_types.specs.Errors.{IsOutOfMemory};
-ghost use Rattle.rasn_lint.specs.Lint.{IsFirstDeparture, IsCheckOf};
+ghost use Rattle.rasn_lint.specs.declared.by_schema.OpenTypes.TheVariants.{Unexamined, Examined};
+ghost use Rattle.rasn_lint.specs.declared.departure.Departure.{Departure};
+ghost use Rattle.rasn_lint.specs.Judged.{AreOpenDepartures};
+ghost use Rattle.rasn_lint.specs.Lint.{IsFirstOr, IsFirstDeparture, IsCheckOf};
 
-use crate::by_schema::{OpenTypes, departure_of, der_refusal, judge_parts};
+use crate::by_schema::{OpenTypes, departure_of, der_refusal, remainder_refusal, rest_after};
 use crate::departure::Departure;
-use rasn_dynamic::{Refusal, parts_of};
-use rasn_schema::{Schema, TypeId};
+use crate::judge::Way;
+use crate::open::{Wanted, note_open};
+use crate::trail::extend_path;
+use rasn_dynamic::{Refusal, Span, parts_of};
+use rasn_schema::{Schema, TypeId, type_at};
 use rasn_types::error::{DecodeError, DecodeErrorKind};
 use rasn_types::types::Codec;
 use std::alloc::{AllocError, Global};
@@ -18,8 +24,89 @@ fn first_of(list: Vec<Departure>) -> Option<Departure>
     list.into_iter().next()
 }
 
-/// Returns the refusal of the reader of DER; or, if it reads the octets and open types are looked
-/// into, the first departure inside one.
+/// Appends the first departure inside a part, if it is a value of an open type that isn't well
+/// formed. Others may follow it.
+fn note_first(
+    alloc: Global,
+    list: &mut Vec<Departure>,
+    schema: &Schema,
+    way: Way<'_, '_>,
+) -> Result<(), AllocError>
+    ensures { OnOk result ((ds : List Departure) × (list.new.items ≡ list.old.items ++ ds)
+        × AreOpenDepartures way.entry.len way.entry.path.now way.entry.part.now (slice_get schema.now.types.items way.entry.part.now.id.0) ds) }
+{
+    match type_at(schema.types(), way.part.id) {
+        Some(ty) => note_open(alloc, list, Wanted::First, ty, way),
+        None => Ok(()),
+    }
+}
+
+/// Returns the first departure inside the open types of these parts of a message of so many octets.
+fn first_inside(
+    alloc: Global,
+    schema: &Schema,
+    len: usize,
+    parts: &[Span<'_>],
+) -> Result<Option<Departure>, AllocError>
+    ensures { IfOk result (IsFirstOr schema.now.types.items len [] parts.now) }
+{
+    let mut list = Vec::new(alloc);
+    let mut path = Vec::new(alloc);
+    for part in parts {
+        extend_path(&mut path, part)?;
+        let way = Way {
+            part,
+            path: path.as_slice(),
+            len,
+        };
+        note_first(alloc, &mut list, schema, way)?;
+        if !list.is_empty() {
+            return Ok(first_of(list));
+        }
+    }
+    Ok(None)
+}
+
+/// Returns the refusal of the reader of DER as a departure, if it doesn't read the octets.
+fn first_typed(
+    alloc: Global,
+    schema: &Schema,
+    id: TypeId,
+    octets: &[u8],
+) -> Result<Option<Departure>, AllocError>
+    ensures { IfOk result (IsFirstDeparture Unexamined schema.now.types.items id.0 octets.now) }
+{
+    match der_refusal(alloc, schema, id, octets)? {
+        Some(refusal) => Ok(Some(departure_of(refusal))),
+        None => Ok(None),
+    }
+}
+
+/// Returns the same or, if DER reads the octets, the first departure inside an open type.
+fn first_examined(
+    alloc: Global,
+    schema: &Schema,
+    id: TypeId,
+    octets: &[u8],
+) -> Result<Option<Departure>, AllocError>
+    ensures { IfOk result (IsFirstDeparture Examined schema.now.types.items id.0 octets.now) }
+{
+    let Ok(parts) = parts_of(alloc, Codec::Der, schema, id, octets) else {
+        return match first_typed(alloc, schema, id, octets)? {
+            Some(departure) => Ok(Some(departure)),
+            // Only memory for the list of the parts was missing.
+            None => Err(AllocError),
+        };
+    };
+    let parts = parts.list.as_slice();
+    let rest = rest_after(parts, octets);
+    match remainder_refusal(alloc, id, octets, rest) {
+        Some(refusal) => Ok(Some(departure_of(refusal))),
+        None => first_inside(alloc, schema, octets.len(), parts),
+    }
+}
+
+/// Returns the first departure of a message, if there is one.
 fn first_departure(
     alloc: Global,
     schema: &Schema,
@@ -29,19 +116,10 @@ fn first_departure(
 ) -> Result<Option<Departure>, AllocError>
     ensures { IfOk result (IsFirstDeparture opens schema.now.types.items id.0 octets.now) }
 {
-    if let Some(refusal) = der_refusal(alloc, schema, id, octets)? {
-        return Ok(Some(departure_of(refusal)));
+    match opens {
+        OpenTypes::Unexamined => first_typed(alloc, schema, id, octets),
+        OpenTypes::Examined => first_examined(alloc, schema, id, octets),
     }
-    let OpenTypes::Examined = opens else {
-        return Ok(None);
-    };
-    // DER reads the octets, so only memory may be missing for their parts.
-    let Ok(parts) = parts_of(alloc, Codec::Der, schema, id, octets) else {
-        return Err(AllocError);
-    };
-    let parts = parts.list.as_slice();
-    let list = judge_parts(alloc, schema, true, opens, octets.len(), parts)?;
-    Ok(first_of(list))
 }
 
 /// Returns the departure that memory ran out.

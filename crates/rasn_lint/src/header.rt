@@ -1,5 +1,5 @@
 //! Identifier and length octets (X.690 8.1.2, 8.1.3).
-ghost use Rattle.std.specs.Prelude.{◌≡◌, ◌∷◌, IfOk};
+ghost use Rattle.std.specs.Prelude.{◌≡◌, ◌∷◌, take, IfOk};
 ghost use Rattle.rasn_types.specs.Truth.{IsWhether};
 ghost use Rattle.rasn_types.specs.declared.error.decode.DerDecodeErrorKind.TheVariants.{ConstructedBitMismatch};
 ghost use Rattle.rasn_lint.specs.Header.{has_own_header, IsTagFault, after_number, after_identifier, IsOfLength, IsLengthFaultAfter, IsLengthFault, is_constructed, is_string, IsBitFault, IsLeafFormFault, IsFormFault};
@@ -99,13 +99,24 @@ fn length_fault_after(alloc: Global, tag: Tag, octets: &[u8]) -> Option<DecodeEr
     }
 }
 
-/// Returns the octets with the identifier of a SEQUENCE in place of their own.
+/// Returns the octets that may be those of a length.
+fn length_octets(octets: &[u8]) -> &[u8]
+    ensures { result.now ≡ take 127 octets.now }
+{
+    if octets.len() <= 127 {
+        octets
+    } else {
+        &octets[..127]
+    }
+}
+
+/// Returns the length octets, with the identifier of a SEQUENCE in place of their own.
 fn with_short_identifier(alloc: Global, octets: &[u8]) -> Result<Vec<u8>, AllocError>
-    ensures { IfOk result (λ copy. copy.items ≡ 48 ∷ after_identifier octets.now) }
+    ensures { IfOk result (λ copy. copy.items ≡ 48 ∷ take 127 (after_identifier octets.now)) }
 {
     let mut copy = Vec::new(alloc);
     copy.push(SEQUENCE)?;
-    copy.extend_from_slice(after_identifier(octets))?;
+    copy.extend_from_slice(length_octets(after_identifier(octets)))?;
     Ok(copy)
 }
 

@@ -1,9 +1,10 @@
 //! What departs of one part.
 ghost use Rattle.std.specs.Prelude.{◌≡◌, ◌++◌, OnOk, IfOk, List};
-ghost use Rattle.rasn_lint.specs.Judged.{IsSiteAt, IsCopied, AreNoted, IsAnyFault, IsOpenFault, AreHeaderFaults, AreFaultsOf, AreListed};
+ghost use Rattle.rasn_lint.specs.Judged.{IsSiteAt, IsCopied, AreNoted, IsAnyRefusal, IsAnyFault, IsOpenFault, AreHeaderFaults, AreFaultsOf, AreListed};
 ghost use Rattle.rasn_lint.specs.Header.{has_own_header};
 ghost use Rattle.rasn_lint.specs.declared.departure.Departure.{Departure};
 
+use crate::by_schema::OpenTypes;
 use crate::departure::{Aspect, Departure};
 use crate::der::encoding::decoder_of;
 use crate::header::{form_fault, has_own_header, is_constructed, length_fault, tag_fault};
@@ -71,8 +72,8 @@ pub fn site_at<'a>(way: Way<'a, '_>, left: usize, inner: Option<&'a [usize]>) ->
 }
 
 /// Returns the error with which DER refuses a value of an open type of any tag.
-fn any_fault(alloc: Global, octets: &[u8]) -> Option<DecodeError>
-    ensures { IsAnyFault octets.now result }
+fn any_refusal(alloc: Global, octets: &[u8]) -> Option<DecodeError>
+    ensures { IsAnyRefusal octets.now result }
 {
     match decoder_of(alloc, octets).decode_open(Tag::EOC) {
         Ok(_) => None,
@@ -80,12 +81,22 @@ fn any_fault(alloc: Global, octets: &[u8]) -> Option<DecodeError>
     }
 }
 
+/// Returns the same, unless open types are looked into: then it is found there.
+fn any_fault(alloc: Global, opens: OpenTypes, octets: &[u8]) -> Option<DecodeError>
+    ensures { IsAnyFault opens octets.now result }
+{
+    match opens {
+        OpenTypes::Unexamined => any_refusal(alloc, octets),
+        OpenTypes::Examined => None,
+    }
+}
+
 /// Returns the same if the type is open.
-fn open_fault(alloc: Global, ty: &Type, octets: &[u8]) -> Option<DecodeError>
-    ensures { IsOpenFault ty.now octets.now result }
+fn open_fault(alloc: Global, opens: OpenTypes, ty: &Type, octets: &[u8]) -> Option<DecodeError>
+    ensures { IsOpenFault opens ty.now octets.now result }
 {
     match ty {
-        Type::Any { .. } => any_fault(alloc, octets),
+        Type::Any { .. } => any_fault(alloc, opens, octets),
         _ => None,
     }
 }
@@ -99,14 +110,19 @@ struct HeaderFaults {
 }
 
 /// Returns the errors of the header of a value of this type.
-fn header_faults(alloc: Global, ty: &Type, octets: &[u8]) -> Result<HeaderFaults, AllocError>
-    ensures { IfOk result (λ h. AreHeaderFaults (has_own_header ty.now) ty.now octets.now h.tag h.form h.length) }
+fn header_faults(
+    alloc: Global,
+    opens: OpenTypes,
+    ty: &Type,
+    octets: &[u8],
+) -> Result<HeaderFaults, AllocError>
+    ensures { IfOk result (λ h. AreHeaderFaults (has_own_header ty.now) opens ty.now octets.now h.tag h.form h.length) }
 {
     if !has_own_header(ty) {
         return Ok(HeaderFaults {
             tag: None,
             form: None,
-            length: open_fault(alloc, ty, octets),
+            length: open_fault(alloc, opens, ty, octets),
         });
     }
     let length = length_fault(alloc, octets)?;
@@ -121,15 +137,16 @@ fn header_faults(alloc: Global, ty: &Type, octets: &[u8]) -> Result<HeaderFaults
 pub fn faults_of(
     alloc: Global,
     schema: &Schema,
+    opens: OpenTypes,
     trail: &[Step<'_>],
     part: &Span<'_>,
     ty: &Type,
 ) -> Result<Faults, AllocError>
-    ensures { IfOk result (AreFaultsOf schema.now.types.items trail.now part.now ty.now) }
+    ensures { IfOk result (AreFaultsOf opens schema.now.types.items trail.now part.now ty.now) }
 {
     let default = default_fault(alloc, schema, trail, part)?;
     let contents = contents_fault(alloc, schema, part.id, ty, part.octets)?;
-    let header = header_faults(alloc, ty, part.octets)?;
+    let header = header_faults(alloc, opens, ty, part.octets)?;
     Ok(Faults {
         order: order_fault(alloc, schema.types(), trail, part),
         default,

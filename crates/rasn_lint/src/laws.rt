@@ -1,18 +1,35 @@
 //! Facts about lists of departures. The functions do nothing when they run.
-ghost use Rattle.rasn_lint.specs.Laws.{NormalIsClean, CleanIsNormal};
+ghost use Rattle.rasn_lint.specs.Laws.{NormalIsClean, ClosedIsClean, FirstIsListed, CleanIsNormal};
+ghost use Rattle.std.specs.Prelude.{Vec};
+ghost use Rattle.std.specs.Global.{Global};
+ghost use Rattle.rasn_schema.specs.declared.types.NamedNumber.{NamedNumber};
 ghost use Rattle.rasn_lint.specs.Worked.{WorkedDepartures};
+ghost use Rattle.rasn_lint.specs.WorkedMessages.{WorkedMessages};
 
 /// Proves what the list of a message says of the value written anew, as `rasn_dynamic::normalise`
-/// does it: what is written has no departures, except in open types, whose octets it keeps; and a
-/// message without departures is written as it is.
-#[tactic(auto, using(crate::proofs::Anew::normal_is_clean, crate::proofs::Anew::clean_is_normal))]
+/// does it: what is written has no departures, except in open types, whose octets it keeps, so none
+/// where no type is open; and a message without departures is written as it is.
+#[tactic(auto, using(crate::proofs::Anew::normal_is_clean))]
 pub fn written_anew()
     ensures clean { NormalIsClean }
+    ensures closed { ClosedIsClean }
     ensures unchanged { CleanIsNormal }
+{}
+
+/// Proves that `check` finds a departure exactly if `lint` lists one, where open types aren't looked
+/// into or none of the types is one.
+pub fn first_listed()
+    ensures { FirstIsListed }
 {}
 
 /// Proves what departs of a few octets, and what doesn't.
 #[tactic(auto, using(crate::proofs::WorkedDepartures::departures))]
 pub fn worked_departures()
     ensures { WorkedDepartures }
+{}
+
+/// Proves what DER doesn't read of a BOOLEAN that is `01 81 01 FF`, and that `01 01 FF` has no
+/// departures.
+pub fn worked_messages()
+    ensures { (names : Vec NamedNumber Global) → WorkedMessages names }
 {}

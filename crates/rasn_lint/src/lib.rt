@@ -10,11 +10,12 @@ mod header;
 mod judge;
 pub mod laws;
 mod leaf;
+mod names;
 mod open;
 mod place;
 mod trail;
 mod untyped;
 
 pub use by_schema::{LintError, OpenTypes, lint};
-pub use departure::{Aspect, Departure, NamedDeparture};
+pub use departure::{Aspect, Departure, NamedDeparture, NamedPlace};
 pub use first::check;

@@ -1,24 +1,34 @@
 //! What departs inside an open type, where no type is known.
-ghost use Rattle.std.specs.Prelude.{◌≡◌, ◌++◌, ◌↔◌, [], ℕ, List, OnOk, MatchOption, Some};
+ghost use Rattle.std.specs.Prelude.{◌≡◌, ◌<◌, ◌^◌, ◌++◌, ◌∷◌, ◌↔◌, [], ℕ, List, length, OnOk, MatchOption, Some};
 ghost use Rattle.std.specs.List.{AllByRecursion};
 ghost use Rattle.rasn_types.specs.Shapes.{looked_for};
-ghost use Rattle.rasn_lint.specs.Judged.{HasOpen, AreOpenDepartures};
-ghost use Rattle.rasn_lint.specs.Open.{IsEndLen, IsEndOf, IsAfterHeader, IsFoundIn, AllFound, IsInside, GrowsInside};
+ghost use Rattle.rasn_types.specs.Truth.{IsWhether};
+ghost use Rattle.rasn_lint.specs.Judged.{AreOpenDepartures};
+ghost use Rattle.rasn_lint.specs.Open.{IsEndLen, IsEndOf, IsAfterHeader, IsFoundIn, IsExtra, IsAfter, AllPending, IsReached, IsKept, IsInside, GrowsInside};
+ghost use Rattle.rasn_lint.specs.Untyped.{HasOpen, HasContents, HasNoContents, IsFollowedBy, IsUnread};
 ghost use Rattle.rasn_lint.specs.WellFormed.{IsWellFormed};
 ghost use Rattle.rasn_lint.specs.declared.departure.Departure.{Departure};
 
 use crate::departure::{Aspect, Departure};
-use crate::der::encoding::octets_before;
 use crate::der::is_well_formed;
 use crate::header::is_constructed;
 use crate::judge::{Way, note, note_faults, site_at};
-use crate::place::reader_of;
+use crate::place::{reader_of, tag_of};
 use crate::trail::go_along;
 use crate::untyped::{extra, faults_of, unreadable};
 use rasn_dynamic::Span;
 use rasn_schema::Type;
 use rasn_types::types::Tag;
 use std::alloc::{AllocError, Global};
+
+/// How many departures inside a value of an open type are wanted.
+#[derive(Clone, Copy)]
+pub enum Wanted {
+    /// All.
+    All,
+    /// The first one at least.
+    First,
+}
 
 /// The contents octets of an encoding.
 #[derive(Clone, Copy)]
@@ -67,7 +77,8 @@ fn end_of(alloc: Global, tag: Tag, octets: &[u8]) -> usize
 
 /// Returns the octets of a value of an open type with this tag, as BER finds them.
 fn contents_at(alloc: Global, tag: Tag, octets: &[u8]) -> Option<Contents<'_>>
-    ensures { MatchOption result ((inside : List ℕ) → HasOpen tag octets.now inside → ⊥) (λ found. HasOpen tag octets.now found.octets.now × IsAfterHeader octets.now found) }
+    ensures { MatchOption result ((inside : List ℕ) → HasOpen tag octets.now inside → ⊥)
+        (λ found. HasOpen tag octets.now found.octets.now × IsAfterHeader octets.now found × (length found.octets.now < 2 ^ 64)) }
 {
     let mut decoder = reader_of(alloc, octets);
     let Ok(contents) = decoder.decode_open(tag) else {
@@ -84,39 +95,34 @@ fn contents_at(alloc: Global, tag: Tag, octets: &[u8]) -> Option<Contents<'_>>
     })
 }
 
-/// Returns the tag of an encoding, and its contents.
-fn contents_of(alloc: Global, encoding: &[u8]) -> Option<(Tag, Contents<'_>)>
-    ensures { MatchOption result (Unit {0}) (λ found. IsAfterHeader encoding.now found.1) }
+/// Returns the tag of the encoding at the start of octets, and its contents.
+fn contents_of(alloc: Global, octets: &[u8]) -> Option<(Tag, Contents<'_>)>
+    ensures { MatchOption result (HasNoContents octets.now) (λ found. HasContents found.0 octets.now found.1.octets.now × IsAfterHeader octets.now found.1) }
 {
-    let Ok(tag) = reader_of(alloc, encoding).peek_tag() else {
+    let tag = tag_of(alloc, octets)?;
+    let Some(contents) = contents_at(alloc, tag, octets) else {
         return None;
     };
-    Some((tag, contents_at(alloc, tag, encoding)?))
+    Some((tag, contents))
 }
 
-/// Returns the first of these encodings as BER reads it, and what follows it.
-fn first_encoding(alloc: Global, octets: &[u8]) -> Option<(&[u8], &[u8])>
-    ensures { MatchOption result (Unit {0}) (λ found. octets.now ≡ found.0.now ++ found.1.now) }
+/// Returns what follows the first of these encodings, as BER skips it.
+fn after_first(alloc: Global, octets: &[u8]) -> Option<&[u8]>
+    ensures { MatchOption result (IsUnread octets.now) (λ rest. IsFollowedBy octets.now rest.now) }
 {
     let mut decoder = reader_of(alloc, octets);
-    match decoder.skip_value() {
-        Ok(_) => Some((
-            octets_before(octets, decoder.remaining()),
-            decoder.remaining(),
-        )),
-        Err(_) => None,
-    }
+    let Ok(_) = decoder.skip_value() else {
+        return None;
+    };
+    Some(decoder.remaining())
 }
 
-/// Keeps encodings of a part that are looked at later, unless there are none.
+/// Keeps encodings that are looked at later, unless there are none.
 fn keep<'input>(
     pending: &mut Vec<Pending<'input>>,
-    part: &Span<'_>,
     encodings: Pending<'input>,
 ) -> Result<(), AllocError>
-    requires here { IsFoundIn part.now encodings.octets.now encodings.left }
-    requires all { AllFound part.now pending.old.items }
-    ensures { OnOk result (AllFound part.now pending.new.items) }
+    ensures { OnOk result (IsKept encodings.entry pending.old.items pending.new.items) }
 {
     if encodings.octets.is_empty() {
         return Ok(());
@@ -125,8 +131,8 @@ fn keep<'input>(
     Ok(())
 }
 
-/// Appends what departs of an encoding of a part, which begins where the given ones do, and keeps
-/// what is inside it.
+/// Appends what departs of the first of these encodings, to which the path leads, and keeps those
+/// inside it.
 fn look_into<'input>(
     alloc: Global,
     list: &mut Vec<Departure>,
@@ -134,34 +140,56 @@ fn look_into<'input>(
     path: &[usize],
     pending: &mut Vec<Pending<'input>>,
     next: Pending<'input>,
-    encoding: &'input [u8],
 ) -> Result<(), AllocError>
-    requires here { IsFoundIn way.part.now encoding.now next.left }
-    requires all { AllFound way.part.now pending.old.items }
-    ensures grows { OnOk result (GrowsInside way.entry.len way.entry.part.now way.entry.path.now list.old.items list.new.items) }
-    ensures all { OnOk result (AllFound way.entry.part.now pending.new.items) }
+    requires { IsExtra next → ⊥ }
+    ensures grows { OnOk result ((inside : List ℕ) → IsReached way.entry.part.now inside path.now next.entry pending.old.items
+        → GrowsInside way.entry.len way.entry.part.now way.entry.path.now inside list.old.items list.new.items) }
+    ensures all { OnOk result ((inside : List ℕ) → IsReached way.entry.part.now inside path.now next.entry pending.old.items
+        → AllPending way.entry.part.now inside path.now pending.new.items) }
 {
+    let octets = next.octets;
     let site = site_at(way, next.left, Some(path));
-    let Some((tag, contents)) = contents_of(alloc, encoding) else {
-        let error = unreadable(alloc, encoding);
+    let Some((tag, contents)) = contents_of(alloc, octets) else {
+        let error = unreadable(alloc, octets);
         return note(alloc, list, site, Aspect::Header, Some(error));
     };
-    let faults = faults_of(alloc, tag, contents.octets, encoding)?;
+    let faults = faults_of(alloc, tag, contents.octets, octets)?;
     note_faults(alloc, list, site, faults)?;
-    if !is_constructed(encoding) {
+    if !is_constructed(octets) {
         return Ok(());
     }
     let inside = Pending {
         octets: contents.octets,
         index: 0,
-        depth: next.depth.saturating_add(1),
+        depth: path.len() + 1,
         left: next.left.saturating_sub(contents.header_len),
     };
-    keep(pending, way.part, inside)
+    keep(pending, inside)
 }
 
-/// Appends what departs of the first of these encodings of a part, unless it is well formed, and
-/// keeps those inside it and those after it.
+/// Returns whether encodings follow the one of the open type, where there may be none.
+fn is_extra(encodings: Pending<'_>) -> bool
+    ensures { IsWhether result (IsExtra encodings.entry) }
+{
+    encodings.depth == 0 && encodings.index > 0
+}
+
+/// Returns the encodings after the first of these.
+fn after<'input>(next: Pending<'input>, rest: &'input [u8]) -> Pending<'input>
+    ensures { IsAfter next.entry rest.now result }
+{
+    Pending {
+        octets: rest,
+        index: next.index.saturating_add(1),
+        depth: next.depth,
+        left: next
+            .left
+            .saturating_sub(next.octets.len().saturating_sub(rest.len())),
+    }
+}
+
+/// Appends what departs of the first of these encodings, to which the path leads, and keeps those
+/// inside it and those after it.
 fn look<'input>(
     alloc: Global,
     list: &mut Vec<Departure>,
@@ -170,60 +198,83 @@ fn look<'input>(
     pending: &mut Vec<Pending<'input>>,
     next: Pending<'input>,
 ) -> Result<(), AllocError>
-    requires here { IsFoundIn way.part.now next.octets.now next.left }
-    requires all { AllFound way.part.now pending.old.items }
-    ensures grows { OnOk result (GrowsInside way.entry.len way.entry.part.now way.entry.path.now list.old.items list.new.items) }
-    ensures all { OnOk result (AllFound way.entry.part.now pending.new.items) }
+    ensures grows { OnOk result ((inside : List ℕ) → IsReached way.entry.part.now inside path.now next.entry pending.old.items
+        → GrowsInside way.entry.len way.entry.part.now way.entry.path.now inside list.old.items list.new.items) }
+    ensures all { OnOk result ((inside : List ℕ) → IsReached way.entry.part.now inside path.now next.entry pending.old.items
+        → AllPending way.entry.part.now inside path.now pending.new.items) }
 {
     let site = site_at(way, next.left, Some(path));
-    if next.depth == 0 && next.index > 0 {
-        return note(
-            alloc,
-            list,
-            site,
-            Aspect::Contents,
-            Some(extra(next.octets)),
-        );
+    if is_extra(next) {
+        let error = extra(next.octets);
+        return note(alloc, list, site, Aspect::Contents, Some(error));
     }
-    let Some((encoding, rest)) = first_encoding(alloc, next.octets) else {
+    let Some(rest) = after_first(alloc, next.octets) else {
         let error = unreadable(alloc, next.octets);
         return note(alloc, list, site, Aspect::Header, Some(error));
     };
-    let after = Pending {
-        octets: rest,
-        index: next.index.saturating_add(1),
-        depth: next.depth,
-        left: next.left.saturating_sub(encoding.len()),
-    };
-    keep(pending, way.part, after)?;
-    if is_well_formed(alloc, encoding)? {
-        return Ok(());
-    }
-    look_into(alloc, list, way, path, pending, next, encoding)
+    keep(pending, after(next, rest))?;
+    look_into(alloc, list, way, path, pending, next)
 }
 
-/// Appends what departs of these encodings of a part, and inside them.
+/// Returns whether no more departures are wanted than were found.
+fn is_enough(wanted: Wanted, found: usize) -> bool {
+    match wanted {
+        Wanted::All => false,
+        Wanted::First => found > 0,
+    }
+}
+
+/// Appends what departs of these encodings of a part and inside them, or the first of it: `wanted`
+/// tells.
+///
+/// Each encoding is looked at once. That takes a number of steps in proportion to its octets, except
+/// that one of indefinite length is skipped to find its end.
 fn look_along(
     alloc: Global,
     list: &mut Vec<Departure>,
+    wanted: Wanted,
     way: Way<'_, '_>,
     encodings: Pending<'_>,
 ) -> Result<(), AllocError>
-    requires { IsFoundIn way.part.now encodings.octets.now encodings.left }
-    ensures { OnOk result (GrowsInside way.entry.len way.entry.part.now way.entry.path.now list.old.items list.new.items) }
+    requires here { IsFoundIn way.part.now encodings.octets.now encodings.left }
+    requires first { encodings.index ≡ 0 }
+    requires outermost { encodings.depth ≡ 0 }
+    requires size { length encodings.octets.now < 2 ^ 64 }
+    ensures { OnOk result (GrowsInside way.entry.len way.entry.part.now way.entry.path.now encodings.entry.octets.now list.old.items list.new.items) }
 {
+    let before = list.len();
     let mut path = Vec::new(alloc);
     let mut pending = Vec::new(alloc);
     pending.push(encodings)?;
     // Each encoding has an octet of its own.
     'encodings: for _ in encodings.octets {
         let Some(next) = pending.pop() else {
-            break;
+            return Ok(());
         };
         go_along(&mut path, next.depth, next.index)?;
         look(alloc, list, way, &path, &mut pending, next)?;
+        if is_enough(wanted, list.len().saturating_sub(before)) {
+            return Ok(());
+        }
     }
     Ok(())
+}
+
+/// Appends that these octets, which are those of a value of an open type, aren't well formed.
+fn note_whole(
+    alloc: Global,
+    list: &mut Vec<Departure>,
+    way: Way<'_, '_>,
+    octets: &[u8],
+    left: usize,
+) -> Result<(), AllocError>
+    requires here { IsFoundIn way.part.now octets.now left }
+    requires formed { IsWellFormed octets.now → ⊥ }
+    ensures { OnOk result ((d : Departure) × (list.new.items ≡ list.old.items ++ d ∷ []) × IsInside way.entry.len way.entry.part.now way.entry.path.now octets.now d) }
+{
+    let site = site_at(way, left, Some(&[]));
+    let error = unreadable(alloc, octets);
+    note(alloc, list, site, Aspect::Contents, Some(error))
 }
 
 /// Appends what departs inside a value of an open type with these contents: nothing exactly if they
@@ -231,12 +282,14 @@ fn look_along(
 fn note_inside(
     alloc: Global,
     list: &mut Vec<Departure>,
+    wanted: Wanted,
     way: Way<'_, '_>,
     contents: Contents<'_>,
 ) -> Result<(), AllocError>
-    requires { IsAfterHeader way.part.now.octets.now contents }
+    requires after { IsAfterHeader way.part.now.octets.now contents }
+    requires size { length contents.octets.now < 2 ^ 64 }
     ensures { OnOk result ((ds : List Departure) × (list.new.items ≡ list.old.items ++ ds) × ((ds ≡ []) ↔ IsWellFormed contents.entry.octets.now)
-        × AllByRecursion (IsInside way.entry.len way.entry.part.now way.entry.path.now) ds) }
+        × AllByRecursion (IsInside way.entry.len way.entry.part.now way.entry.path.now contents.entry.octets.now) ds) }
 {
     if is_well_formed(alloc, contents.octets)? {
         return Ok(());
@@ -248,19 +301,18 @@ fn note_inside(
         left: way.part.left.saturating_sub(contents.header_len),
     };
     let before = list.len();
-    look_along(alloc, list, way, encodings)?;
+    look_along(alloc, list, wanted, way, encodings)?;
     if list.len() == before {
-        let site = site_at(way, encodings.left, Some(&[]));
-        let error = unreadable(alloc, contents.octets);
-        note(alloc, list, site, Aspect::Contents, Some(error))?;
+        note_whole(alloc, list, way, contents.octets, encodings.left)?;
     }
     Ok(())
 }
 
-/// Appends what departs inside a part, if it is a value of an open type.
+/// Appends what departs inside a part, or the first of it, if it is a value of an open type.
 pub fn note_open(
     alloc: Global,
     list: &mut Vec<Departure>,
+    wanted: Wanted,
     ty: &Type,
     way: Way<'_, '_>,
 ) -> Result<(), AllocError>
@@ -270,7 +322,7 @@ pub fn note_open(
         return Ok(());
     };
     match contents_at(alloc, *tag, way.part.octets) {
-        Some(contents) => note_inside(alloc, list, way, contents),
+        Some(contents) => note_inside(alloc, list, wanted, way, contents),
         None => Ok(()),
     }
 }

@@ -49,7 +49,7 @@ pub fn reader_of(alloc: Global, octets: &[u8]) -> Decoder<'_>
 }
 
 /// Returns the tag with which an encoding begins.
-fn tag_of(alloc: Global, octets: &[u8]) -> Option<Tag>
+pub fn tag_of(alloc: Global, octets: &[u8]) -> Option<Tag>
     ensures { MatchOption result ((t : Tag) → peeked_tag (form Ber) octets.now ≡ Ok t → ⊥) (λ t. peeked_tag (form Ber) octets.now ≡ Ok t) }
 {
     let Ok(tag) = reader_of(alloc, octets).peek_tag() else {

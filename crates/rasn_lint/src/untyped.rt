@@ -1,4 +1,8 @@
 //! What departs of an encoding whose type isn't known, unless its tag is universal.
+ghost use Rattle.std.specs.Prelude.{◌≡◌, false, IfOk, MatchOption};
+ghost use Rattle.rasn_lint.specs.Untyped.{HasNoForm, IsUnordered, AreUntypedFaults};
+ghost use Rattle.rasn_lint.specs.WellFormed.{AllowsEncoding};
+
 use crate::der::contents::allows_contents;
 use crate::der::order::is_in_order;
 use crate::der::universal::{ContentsRule, rule_of};
@@ -32,32 +36,48 @@ pub fn extra(octets: &[u8]) -> DecodeError {
     }
 }
 
-/// Returns the error of an encoding that is primitive or constructed although its universal type
-/// isn't.
-fn form_fault(rule: ContentsRule, bit: bool) -> Option<DecodeError> {
-    let kind = match rule {
-        ContentsRule::Unknown => return None,
-        ContentsRule::Values | ContentsRule::Set => {
-            return if bit {
-                None
-            } else {
-                Some(DecodeError {
-                    kind: DecodeErrorKind::CodecSpecific {
-                        inner: CodecDecodeError::Ber(
-                            BerDecodeErrorKind::InvalidConstructedIdentifier,
-                        ),
-                    },
-                    codec: Codec::Der,
-                })
-            };
-        }
+/// Returns the error of a value that isn't constructed although it has to be.
+fn primitive_fault(bit: bool) -> Option<DecodeError>
+    ensures { MatchOption result (Unit {0}) (λ e. bit ≡ false) }
+{
+    if bit {
+        return None;
+    }
+    Some(DecodeError {
+        kind: DecodeErrorKind::CodecSpecific {
+            inner: CodecDecodeError::Ber(BerDecodeErrorKind::InvalidConstructedIdentifier),
+        },
+        codec: Codec::Der,
+    })
+}
+
+/// Returns the error kind of a constructed encoding whose universal type is primitive.
+fn constructed_kind(rule: ContentsRule) -> DerDecodeErrorKind {
+    match rule {
         ContentsRule::Boolean
         | ContentsRule::Integer
         | ContentsRule::Null
         | ContentsRule::Subidentifiers => DerDecodeErrorKind::ConstructedBitMismatch,
         _ => DerDecodeErrorKind::ConstructedEncodingNotAllowed,
-    };
-    if bit { Some(der_error(kind)) } else { None }
+    }
+}
+
+/// Returns the error of an encoding that is primitive or constructed although its universal type
+/// isn't.
+#[tactic(auto, using(crate::proofs::ByRule::values_constructed, crate::proofs::ByRule::set_constructed, crate::proofs::ByRule::never_constructed))]
+fn form_fault(rule: ContentsRule, bit: bool) -> Option<DecodeError>
+    ensures { MatchOption result (Unit {0}) (λ e. HasNoForm rule bit) }
+{
+    match rule {
+        ContentsRule::Unknown => None,
+        ContentsRule::Values => primitive_fault(bit),
+        ContentsRule::Set => primitive_fault(bit),
+        _ => if bit {
+            Some(der_error(constructed_kind(rule)))
+        } else {
+            None
+        },
+    }
 }
 
 /// Returns the error of subidentifiers.
@@ -103,21 +123,34 @@ fn read_error(
     })
 }
 
+/// Returns the error of encodings in a SET that aren't in order.
+fn order_fault(alloc: Global, rule: ContentsRule, contents: &[u8]) -> Option<DecodeError>
+    ensures { MatchOption result (Unit {0}) (λ e. IsUnordered rule contents.now) }
+{
+    match rule {
+        ContentsRule::Set => if is_in_order(alloc, contents) {
+            None
+        } else {
+            Some(der_error(DerDecodeErrorKind::SetOfOutOfOrder))
+        },
+        _ => None,
+    }
+}
+
 /// Returns the error of contents that DER doesn't allow for a universal tag.
+#[tactic(auto, using(crate::proofs::ByRule::unordered, crate::proofs::ByRule::refused_plain))]
 fn contents_fault(
     alloc: Global,
-    rule: ContentsRule,
     tag: Tag,
     bit: bool,
     contents: &[u8],
-) -> Result<Option<DecodeError>, AllocError> {
+) -> Result<Option<DecodeError>, AllocError>
+    ensures { IfOk result (λ f. MatchOption f (Unit {0}) (λ e. AllowsEncoding false tag bit contents.now)) }
+{
+    let rule = rule_of(tag);
     if bit {
-        return match rule {
-            ContentsRule::Set if !is_in_order(alloc, contents) => {
-                Ok(Some(der_error(DerDecodeErrorKind::SetOfOutOfOrder)))
-            }
-            _ => Ok(None),
-        };
+        let fault = order_fault(alloc, rule, contents);
+        return Ok(fault);
     }
     if allows_contents(rule, contents) {
         return Ok(None);
@@ -131,16 +164,17 @@ pub fn faults_of(
     tag: Tag,
     contents: &[u8],
     encoding: &[u8],
-) -> Result<Faults, AllocError> {
-    let rule = rule_of(tag);
+) -> Result<Faults, AllocError>
+    ensures { IfOk result (AreUntypedFaults tag contents.now encoding.now) }
+{
     let bit = is_constructed(encoding);
     let length = length_fault(alloc, encoding)?;
-    let contents = contents_fault(alloc, rule, tag, bit, contents)?;
+    let contents = contents_fault(alloc, tag, bit, contents)?;
     Ok(Faults {
         order: None,
         default: None,
         tag: tag_fault(alloc, encoding),
-        form: form_fault(rule, bit),
+        form: form_fault(rule_of(tag), bit),
         length,
         contents,
     })

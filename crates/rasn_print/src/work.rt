@@ -138,8 +138,21 @@ fn checked(
     let (alloc, opens) = (tools.alloc, open_types(tools.call));
     match check_der(alloc, &wanted.schema, wanted.root, octets, opens) {
         Ok(()) => Ok(Answer::Done(Vec::new(alloc))),
-        Err(departure) => refused(alloc, wanted, &departure.refusal),
+        Err(departure) => departed(alloc, wanted, &departure),
     }
+}
+
+/// Returns what is to be mended first. Inside an open type the path goes on by indices.
+fn departed(
+    alloc: Global,
+    wanted: &MessageType<'_>,
+    departure: &Departure,
+) -> Result<Answer, AllocError> {
+    if departure.refusal.error.is_out_of_memory() {
+        return Err(AllocError);
+    }
+    let shown = departure.place_with_names(&wanted.schema, wanted.root);
+    Ok(Answer::Refused(format!(in alloc; "{shown}")?))
 }
 
 /// Returns everything of a message of BER that departs from DER.

@@ -1,5 +1,8 @@
-use Rattle.rasn_lint.proofs.Anew.{clean_is_normal}
+use Rattle.rasn_lint.proofs.Anew.{closed_is_clean, clean_is_normal}
 use Rattle.rasn_lint.proofs.laws.written_anew.Goals as goal
+
+pub returns-clause-closed : goal.returns-clause-closed
+returns-clause-closed c = closed_is_clean
 
 pub returns-clause-unchanged : goal.returns-clause-unchanged
 returns-clause-unchanged c = clean_is_normal

@@ -1,5 +1,35 @@
-use Rattle.rasn_lint.proofs.Opened.{found_after}
+use Rattle.std.proofs.Common.{inl, inr, refl}
+use Rattle.rasn_lint.specs.declared.departure.Aspect.TheVariants.{Header, Contents}
+use Rattle.rasn_lint.proofs.Noted.{grows_one, if_so}
+use Rattle.rasn_lint.proofs.Opened.{leads_there, extra_follows, reached_after}
 use Rattle.rasn_lint.proofs.open.look.Goals as goal
 
-pub keep-requires-clause-here : goal.keep-requires-clause-here
-keep-requires-clause-here c = found_after c.args.way.part.now c.args.next.octets.now c.in-Some.encoding.now c.in-Some.rest.now c.args.next.left _ c.requires.here c.in-Some.ensures c.saturating_sub.ensures
+pub returns-then-is_extra-clause-grows : goal.returns-then-is_extra-clause-grows
+returns-then-is_extra-clause-grows c = if_so c.note.result
+    (λ g inside r.
+    let x = extra_follows c.args.way.part.now inside c.args.path.now c.args.next _ r c.if-is_extra.ensures in
+    grows_one c.args.way.len c.args.next.left c.args.way.part.now c.args.way.path.now c.args.next.octets.now c.args.path c.site_at-site.result c.site_at-site.ensures r.pending.found inside
+    Contents c.extra-error.result _ _ (inr (x.0, refl, x.1)) g)
+    c.note.ensures
+
+pub returns-then-is_extra-clause-all : goal.returns-then-is_extra-clause-all
+returns-then-is_extra-clause-all c = if_so c.note.result (λ g inside r. r.all) c.note.ensures
+
+pub returns-in_default-clause-grows : goal.returns-in_default-clause-grows
+returns-in_default-clause-grows c = if_so c.note-in_default.result
+    (λ g inside r. grows_one c.args.way.len c.args.next.left c.args.way.part.now c.args.way.path.now c.args.next.octets.now c.args.path c.site_at-site.result c.site_at-site.ensures r.pending.found inside
+    Header c.unreadable-error.result _ _ (inl (leads_there c.args.way.part.now inside c.args.path.now c.args.next _ r c.if-is_extra.ensures, inr (inr (inr c.in_default.ensures)))) g)
+    c.note-in_default.ensures
+
+pub returns-in_default-clause-all : goal.returns-in_default-clause-all
+returns-in_default-clause-all c = if_so c.note-in_default.result (λ g inside r. r.all) c.note-in_default.ensures
+
+pub returns-clause-grows : goal.returns-clause-grows
+returns-clause-grows c = if_so c.look_into.result
+    (λ g inside r. g inside (reached_after c.args.way.part.now inside c.args.path.now c.args.next c.in-Some.rest.now c.after.result _ _ r c.if-is_extra.ensures c.in-Some.ensures c.after.ensures c.in_ok-keep.ensures))
+    c.look_into.ensures.grows
+
+pub returns-clause-all : goal.returns-clause-all
+returns-clause-all c = if_so c.look_into.result
+    (λ g inside r. g inside (reached_after c.args.way.part.now inside c.args.path.now c.args.next c.in-Some.rest.now c.after.result _ _ r c.if-is_extra.ensures c.in-Some.ensures c.after.ensures c.in_ok-keep.ensures))
+    c.look_into.ensures.all
