@@ -1,8 +1,7 @@
-use Rattle.std.proofs.Common.{sym, subst}
 use Rattle.std.specs.String.{string_bytes}
 use Rattle.rasn_schema.specs.declared.types.Alternative.{Alternative}
 use Rattle.rasn_schema.specs.declared.types.Component.{Component}
-use Rattle.rasn_dynamic.proofs.Ways.{FindsName, first_named, component_named}
+use Rattle.rasn_dynamic.proofs.Ways.{first_named, component_named}
 use Rattle.rasn_dynamic.proofs.steps.index_of.Goals as goal
 
 pub returns-in-Choice : goal.returns-in-Choice
