@@ -1,6 +1,8 @@
 -- Paths by names.
-use Rattle.std.proofs.Common.{◌≡◌, ◌≢◌, ℕ, suc, ◌-◌, ◌≤◌, List, [], ◌∷◌, ◌++◌, length, take, drop, get_or, append_assoc, Vec, Global, String, Some, None, Bool, true, false, inl, inr, refl, sym, ap, ◌∙◌, subst, arith}
-use Rattle.std.specs.Prelude.{slice_get, MatchBool}
+use Rattle.std.proofs.Common.{◌≡◌, ◌≢◌, ◌⊎◌, ℕ, suc, ◌-◌, ◌≤◌, ◌<◌, List, [], ◌∷◌, ◌++◌, length, take, drop, get_or, append_assoc, Vec, Global, String, Option, Some, None, Bool, true, false, inl, inr, refl, sym, ap, ◌∙◌, subst, arith}
+use Rattle.std.specs.Prelude.{slice_get, option_map, MatchBool, MatchOption}
+use Rattle.std.specs.String.{string_bytes}
+use Rattle.std.proofs.lemmas.Bool.{cases_order}
 use Rattle.rasn_types.specs.declared.types.tag.Tag.{Tag}
 use Rattle.rasn_types.specs.declared.types.constraints.Constraints.{Constraints}
 use Rattle.rasn_schema.specs.declared.type_id.TypeId.{TypeId}
@@ -8,22 +10,51 @@ use Rattle.rasn_schema.specs.declared.types.«Type».{«Type»}
 use Rattle.rasn_schema.specs.declared.types.«Type».TheVariants.{Leaf, Enumerated, Any, Tagged, Choice, Sequence, Set, SequenceOf, SetOf}
 use Rattle.rasn_schema.specs.declared.types.Component.{Component}
 use Rattle.rasn_schema.specs.declared.types.Alternative.{Alternative}
-use Rattle.rasn_schema.specs.Held.{IsTagged}
+use Rattle.rasn_schema.specs.Schemas.{components_in}
+use Rattle.rasn_schema.specs.Held.{IsTagged, part_type, part_name}
 use Rattle.rasn_schema.proofs.Lists.{split}
+use Rattle.rasn_schema.proofs.Parts.{not_none}
 use Rattle.rasn_dynamic.specs.declared.steps.Step.{Step}
-use Rattle.rasn_dynamic.specs.Steps.{IsNamedStep, IsIndexedStep, IsStepOf, IsWay, IsNoWay, IsPartWay, IsNoPartWay}
+use Rattle.rasn_dynamic.specs.Steps.{IsFirstName, IsNamedStep, IsIndexedStep, IsStepOf, IsWay, IsNoWay, IsPartWay, IsNoPartWay}
 
-pub no_named : (ty : «Type») (name : List ℕ) → ((tag : Tag) (ps : Vec Component Global) → ty ≡ Sequence tag ps → ⊥) → ((n : String Global) (tag : Tag) (ps : Vec Component Global) → ty ≡ Set n tag ps → ⊥)
-    → ((n : String Global) (ks : Vec Alternative Global) → ty ≡ Choice n ks → ⊥) → (k : ℕ) (id : TypeId) → IsNamedStep ty name k id → ⊥
-no_named (Leaf kind tag c names) name a b d k id h = h
-no_named (Enumerated tag ns) name a b d k id h = h
-no_named (Any tag) name a b d k id h = h
-no_named (Tagged tag inner) name a b d k id h = h
-no_named (Choice n ks) name a b d k id h = d n ks refl
-no_named (Sequence tag ps) name a b d k id h = a tag ps refl
-no_named (Set n tag ps) name a b d k id h = b n tag ps refl
-no_named (SequenceOf tag element c) name a b d k id h = h
-no_named (SetOf tag element c) name a b d k id h = h
+-- ---- the first part with a name
+
+no_name : {X : Type 0} (f : X → List ℕ) (name : List ℕ) (o : Option X) → ((n : X) → Some n ≡ o → f n ≢ name) → Some name ≡ option_map f o → ⊥
+no_name f name None h e = cc
+no_name f name (Some n) h e = h n refl (let g : name ≡ f n = cc in sym g)
+
+-- What a call returns that looks for the first element with a name.
+pub first_named : {X : Type 0} (f : X → List ℕ) (l : List X) (name : List ℕ) (r : Option ℕ)
+    → MatchOption r ((j : ℕ) (n : X) → Some n ≡ slice_get l j → f n ≢ name) (λ k. ((n : X) × (Some n ≡ slice_get l k) × (f n ≡ name)) × ((j : ℕ) (n : X) → j < k → Some n ≡ slice_get l j → f n ≢ name))
+    → MatchOption r ((k : ℕ) → Some name ≡ option_map f (slice_get l k) → ⊥) (λ k. (Some name ≡ option_map f (slice_get l k)) × ((j : ℕ) → j < k → Some name ≡ option_map f (slice_get l j) → ⊥))
+first_named f l name None h = λ k e. no_name f name (slice_get l k) (λ n g. h k n g) e
+first_named f l name (Some k) ((n, g, e), first) = (ap Some (sym e) ∙ ap (option_map f) g, λ j m q. no_name f name (slice_get l j) (λ x d. first j x m d) q)
+
+-- What a call returns that finds the first part with a name.
+abbrev pub FindsName : «Type» → List ℕ → Option ℕ → Type 0
+FindsName ty name r = MatchOption r ((k : ℕ) → Some name ≡ part_name ty k → ⊥) (λ k. IsFirstName ty name k)
+
+abbrev FindsComponent : «Type» → List ℕ → Option ℕ → Type 0
+FindsComponent ty name r = MatchOption r ((k : ℕ) → Some name ≡ option_map (λ (c : Component). string_bytes c.name) (slice_get (components_in ty) k) → ⊥)
+    (λ k. (Some name ≡ option_map (λ (c : Component). string_bytes c.name) (slice_get (components_in ty) k)) × ((j : ℕ) → j < k → Some name ≡ option_map (λ (c : Component). string_bytes c.name) (slice_get (components_in ty) j) → ⊥))
+
+pub component_named : (ty : «Type») (name : List ℕ) (r : Option ℕ) → ((n : String Global) (ks : Vec Alternative Global) → ty ≡ Choice n ks → ⊥) → FindsComponent ty name r → FindsName ty name r
+component_named (Choice n ks) name r a h = absurd (a n ks refl)
+component_named ty name r a h = h
+
+pub one_name : (ty : «Type») (name : List ℕ) (i k : ℕ) → IsFirstName ty name i → IsFirstName ty name k → i ≡ k
+one_name ty name i k a b = go (cases_order i k)
+  where
+    go : (i ≡ k) ⊎ ((i < k) ⊎ (k < i)) → i ≡ k
+    go (inl h) = h
+    go (inr (inl h)) = absurd (b.1 i h a.0)
+    go (inr (inr h)) = absurd (a.1 k h b.0)
+
+-- A part without a type isn't one.
+pub no_named : (ty : «Type») (name : List ℕ) (i : ℕ) → IsFirstName ty name i → None ≡ part_type ty i → (k : ℕ) (id : TypeId) → IsNamedStep ty name k id → ⊥
+no_named ty name i a n k id h = not_none id (part_type ty i) n (subst (λ j. Some id ≡ part_type ty j) (sym (one_name ty name i k a h.0)) h.1)
+
+-- ---- elements
 
 pub no_indexed : (ty : «Type») (index : ℕ) → ((tag : Tag) (element : TypeId) (c : Constraints) → ty ≡ SequenceOf tag element c → ⊥) → ((tag : Tag) (element : TypeId) (c : Constraints) → ty ≡ SetOf tag element c → ⊥)
     → (k : ℕ) (id : TypeId) → IsIndexedStep ty index k id → ⊥

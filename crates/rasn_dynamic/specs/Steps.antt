@@ -1,19 +1,20 @@
 -- Paths to parts by names.
-use Rattle.std.specs.Prelude.{◌≡◌, ◌≢◌, ◌⊎◌, ℕ, zero, suc, List, [], ◌∷◌, slice_get, Some, None}
+use Rattle.std.specs.Prelude.{◌≡◌, ◌≢◌, ◌⊎◌, ◌<◌, ℕ, zero, suc, List, [], ◌∷◌, slice_get, Some, None}
 use Rattle.rasn_types.specs.declared.types.tag.Tag.{Tag}
 use Rattle.rasn_schema.specs.declared.type_id.TypeId.{TypeId}
 use Rattle.rasn_schema.specs.declared.types.«Type».{«Type»}
-use Rattle.rasn_schema.specs.declared.types.«Type».TheVariants.{Tagged, Choice, Sequence, Set, SequenceOf, SetOf}
-use Rattle.rasn_schema.specs.Held.{IsTagged, IsComponentNamed, IsAlternativeNamed}
+use Rattle.rasn_schema.specs.declared.types.«Type».TheVariants.{Tagged, SequenceOf, SetOf}
+use Rattle.rasn_schema.specs.Held.{IsTagged, part_type, part_name}
 use Rattle.rasn_dynamic.specs.declared.steps.Step.{Step}
 use Rattle.rasn_dynamic.specs.declared.steps.Step.TheVariants.{Name, Index}
 
--- Part k of a value of the type has the name, and is of the type with the number.
+-- Component or alternative k of a value of the type is the first with the name.
+abbrev pub IsFirstName : «Type» → List ℕ → ℕ → Type 0
+IsFirstName ty name k = (Some name ≡ part_name ty k) × ((j : ℕ) → j < k → Some name ≡ part_name ty j → ⊥)
+
+-- So is part k, which is of the type with the number.
 abbrev pub IsNamedStep : «Type» → List ℕ → ℕ → TypeId → Type 0
-IsNamedStep (Sequence tag ps) name k id = IsComponentNamed ps.items name k id
-IsNamedStep (Set n tag ps) name k id = IsComponentNamed ps.items name k id
-IsNamedStep (Choice n ks) name k id = IsAlternativeNamed ks.items name k id
-IsNamedStep _ name k id = ⊥
+IsNamedStep ty name k id = IsFirstName ty name k × (Some id ≡ part_type ty k)
 
 -- It is the element with the index.
 abbrev pub IsIndexedStep : «Type» → ℕ → ℕ → TypeId → Type 0

@@ -1,10 +1,10 @@
 //! Paths to parts by names.
-ghost use Rattle.std.specs.Prelude.{◌≡◌, ◌++◌, ℕ, List, OnOk, IfOk, MatchOption, MatchBool, ◌∷◌, []};
+ghost use Rattle.std.specs.Prelude.{◌≡◌, ◌++◌, ℕ, List, Some, OnOk, IfOk, MatchOption, MatchBool, ◌∷◌, []};
 ghost use Rattle.rasn_schema.specs.declared.type_id.TypeId.{TypeId};
-ghost use Rattle.rasn_schema.specs.Held.{IsComponentNamed, IsAlternativeNamed};
-ghost use Rattle.rasn_dynamic.specs.Steps.{IsNamedStep, IsIndexedStep, IsStepOf, IsWay, IsNoWay, IsPartWay, IsNoPartWay};
+ghost use Rattle.rasn_schema.specs.Held.{part_name};
+ghost use Rattle.rasn_dynamic.specs.Steps.{IsFirstName, IsNamedStep, IsIndexedStep, IsStepOf, IsWay, IsNoWay, IsPartWay, IsNoPartWay};
 
-use rasn_schema::{Alternative, Component, Schema, Type, TypeId, index_named, type_at};
+use rasn_schema::{Schema, Type, TypeId, components_of, index_named, part_type, type_at};
 use std::alloc::{AllocError, Global};
 
 /// A step on the way to a part.
@@ -16,32 +16,22 @@ pub enum Step<'name> {
     Index(usize),
 }
 
-/// Returns the index of the first component with this name, and the number of its type.
-fn component_step(components: &[Component], name: &str) -> Option<(usize, TypeId)>
-    ensures { MatchOption result ((k : ℕ) (id : TypeId) → IsComponentNamed components.now name.now k id → ⊥) (λ q. IsComponentNamed components.now name.now q.0 q.1) }
+/// Returns the index of the first component or alternative with this name.
+fn index_of(ty: &Type, name: &str) -> Option<usize>
+    ensures { MatchOption result ((k : ℕ) → Some name.now ≡ part_name ty.now k → ⊥) (λ k. IsFirstName ty.now name.now k) }
 {
-    let index = index_named(components, name)?;
-    Some((index, components[index].type_id))
-}
-
-/// Returns the index of the first alternative with this name, and the number of its type.
-fn alternative_step(alternatives: &[Alternative], name: &str) -> Option<(usize, TypeId)>
-    ensures { MatchOption result ((k : ℕ) (id : TypeId) → IsAlternativeNamed alternatives.now name.now k id → ⊥) (λ q. IsAlternativeNamed alternatives.now name.now q.0 q.1) }
-{
-    let index = index_named(alternatives, name)?;
-    Some((index, alternatives[index].type_id))
+    match ty {
+        Type::Choice { alternatives, .. } => index_named(alternatives.as_slice(), name),
+        _ => index_named(components_of(ty), name),
+    }
 }
 
 /// Returns the index of the part with this name, and the number of its type.
 fn named_step(ty: &Type, name: &str) -> Option<(usize, TypeId)>
     ensures { MatchOption result ((k : ℕ) (id : TypeId) → IsNamedStep ty.now name.now k id → ⊥) (λ q. IsNamedStep ty.now name.now q.0 q.1) }
 {
-    match ty {
-        Type::Sequence { components, .. } => component_step(components.as_slice(), name),
-        Type::Set { components, .. } => component_step(components.as_slice(), name),
-        Type::Choice { alternatives, .. } => alternative_step(alternatives.as_slice(), name),
-        _ => None,
-    }
+    let index = index_of(ty, name)?;
+    Some((index, part_type(ty, index)?))
 }
 
 /// Returns the index of an element, and the number of its type.

@@ -84,7 +84,7 @@ fn has_contents(alloc: Global, octets: &[u8], path: &[usize], expected: &[u8]) -
 fn contents_are_between_header_and_end(rt: HostRuntime) {
     let inner = [1, 1, 0xFF, 2, 1, 9];
     assert!(rt; has_contents(rt.alloc(), OPEN_LIST, &[0], &inner) == Some(true));
-    assert!(rt; has_contents(rt.alloc(), OPEN_LIST, &[1], &[1, 1, 0, 2, 1, 0]) == Some(true));
+    assert!(rt; has_contents(rt.alloc(), OPEN_LIST, &[1], &[1, 1, 0, 2, 1, 1]) == Some(true));
     assert!(rt; has_contents(rt.alloc(), LIST, &[0, 1], &[7]) == Some(true));
 }
 
