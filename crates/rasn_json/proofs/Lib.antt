@@ -1,0 +1,5 @@
+pub mod LowFirst
+pub mod Signs
+pub mod Levels
+pub mod Appended
+pub mod ReadParts
