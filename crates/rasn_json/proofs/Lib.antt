@@ -3,3 +3,5 @@ pub mod Signs
 pub mod Levels
 pub mod Appended
 pub mod ReadParts
+pub mod DayTexts
+pub mod Spelled

@@ -1,7 +1,7 @@
 -- The texts of values in JSON strings.
 use Rattle.std.specs.Prelude.{◌≡◌, ℕ, ◌+◌, ◌/◌, List, Bool, length}
 use Rattle.rasn_types.specs.Calendar.{Moment}
-use Rattle.rasn_types.specs.Time.{Stamp, GeneralUtc, GeneralGeneralized}
+use Rattle.rasn_types.specs.Time.{GeneralUtc, GeneralGeneralized}
 use Rattle.rasn_types.specs.BitString.{bits_from}
 use Rattle.rasn_schema.specs.declared.types.LeafKind.{LeafKind}
 use Rattle.rasn_schema.specs.declared.types.LeafKind.TheVariants.{UtcTime}

@@ -148,6 +148,17 @@ pub enum EncodeJsonError {
     Encode(WriteError),
 }
 
+impl EncodeJsonError {
+    /// Returns whether memory ran out.
+    pub fn is_out_of_memory(&self) -> bool {
+        match self {
+            EncodeJsonError::Json(error) => error.is_out_of_memory(),
+            EncodeJsonError::Encode(WriteError::Encode(error)) => error.is_out_of_memory(),
+            EncodeJsonError::Encode(WriteError::Unfit { .. }) => false,
+        }
+    }
+}
+
 /// Returns the JSON text of the value that is all of the input by these rules.
 ///
 /// # Errors

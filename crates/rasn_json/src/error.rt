@@ -142,6 +142,11 @@ impl JsonError {
         JsonError::new(alloc, JsonErrorKind::OutOfMemory)
     }
 
+    /// Returns whether memory ran out.
+    pub fn is_out_of_memory(&self) -> bool {
+        matches!(self.kind, JsonErrorKind::OutOfMemory)
+    }
+
     /// Returns the error of a value of which the one with the error is the member with this name.
     pub(crate) fn in_member(self, alloc: Global, name: &str) -> JsonError {
         match String::from_str(alloc, name) {

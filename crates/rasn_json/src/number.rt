@@ -8,7 +8,7 @@ ghost use Rattle.rasn_schema.specs.Fitting.{FitsLeaf, IsNumber};
 ghost use Rattle.rasn_json.specs.Json.{IsExtensible, IsUnnamed, NameJson};
 ghost use Rattle.rasn_json.specs.Reading.{EnumeratedRead, LeafRead, NameRead};
 
-use crate::error::{JsonError, JsonErrorKind, or_memory};
+use crate::error::{JsonError, JsonErrorKind};
 use crate::found::{copied, string_of, whole_number};
 use json::Value as Json;
 use rasn_schema::{LeafKind, NamedNumber, Value, index_named, leaf_fits};
@@ -72,8 +72,11 @@ fn number_named(
     let name = string_of(alloc, "a string", json)?;
     match index_named(numbers, name) {
         Some(index) => {
-            let number = numbers[index].number;
-            or_memory(alloc, Integer::from_i128(alloc, number as i128))
+            let number = i128::from(numbers[index].number);
+            match Integer::from_i128(alloc, number) {
+                Ok(number) => Ok(number),
+                Err(_) => Err(JsonError::memory(alloc)),
+            }
         }
         None => {
             let name = copied(alloc, name)?;

@@ -53,10 +53,13 @@ pub fn text_of_instant(
 pub fn day_of(text: &str) -> Option<Date>
     ensures { IfSome result (λ d. text.now ≡ shown_day d) }
 {
-    let [y, e, a, r, b'-', m, n, b'-', d, c] = text.as_bytes() else {
+    let octets = text.as_bytes();
+    if octets.len() != 10 || octets[4] != b'-' || octets[7] != b'-' {
         return None;
-    };
-    parse_date(&[*y, *e, *a, *r, *m, *n, *d, *c])
+    }
+    parse_date(&[
+        octets[0], octets[1], octets[2], octets[3], octets[5], octets[6], octets[8], octets[9],
+    ])
 }
 
 /// Returns the text of a day, or `None` if its year hasn't four digits.
