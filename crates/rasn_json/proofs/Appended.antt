@@ -30,6 +30,15 @@ step old l x y t e f = f ∙ (ap (λ z. z ++ t ∷ []) e ∙ append_assoc old l 
 pub one_token : (P : Json → Type 0) (j : Json) (old new : List Token) → new ≡ old ++ json_tokens j → P j → Appends P old new
 one_token P j old new e h = (j, e, h)
 
+pub on_ok : {A E : Type 0} (r : Result A E) (P Q : Type 0) → (P → Q) → OnOk r P → OnOk r Q
+on_ok (Ok v) P Q f h = f h
+on_ok (Err x) P Q f h = tt
+
+-- One token is the JSON of a value.
+pub on_one : {A E : Type 0} (P : Json → Type 0) (j : Json) (old new : List Token) (r : Result A E) → OnOk r (new ≡ old ++ json_tokens j) → P j → OnOk r (Appends P old new)
+on_one P j old new (Ok v) e h = (j, e, h)
+on_one P j old new (Err x) e h = tt
+
 -- ---- leaves
 
 pub counted_appended : (bs : List Bool) (o : List ℕ) (n : ℕ) (old one two three four five new : List Token) → Packs bs o → n ≡ length bs → one ≡ old ++ begin_object ∷ [] → two ≡ one ++ key (codes "value") ∷ []
@@ -65,7 +74,7 @@ module _ (g : ℕ → Value → Json → Type 0) where
     object_more (inr (n, (j, s, h))) = (
       k.0 ++ key (string_bytes p.name) ∷ json_tokens j,
       s ∙ (ap (λ l. l ++ key (string_bytes p.name) ∷ json_tokens j) k.1 ∙ append_assoc old (begin_object ∷ k.0) (key (string_bytes p.name) ∷ json_tokens j)),
-      λ ms m. let x = k.2 (member (string_bytes p.name) j ms) (joined (member (string_bytes p.name) j ms) (inr (n, j, ms, refl, h, m))) in
+      λ ms m. let x = k.2 (member (string_bytes p.name) j ms) (joined (member (string_bytes p.name) j ms) (inr (n, (j, ms, refl, h, m)))) in
           (x.0, x.1, x.2 ∙ sym (append_assoc k.0 (key (string_bytes p.name) ∷ json_tokens j) (members_tokens ms))),
     )
 
@@ -111,3 +120,8 @@ chosen_appended g ks i w a old one two new at b (x, s, h) n =
       n ∙ (ap (λ l. l ++ end_object ∷ []) (s ∙ (ap (λ l. l ++ k ∷ json_tokens x) b ∙ append_assoc old (begin_object ∷ []) (k ∷ json_tokens x))) ∙ append_assoc old (begin_object ∷ k ∷ json_tokens x) (end_object ∷ [])),
       (a, x, at, refl, h),
     )
+
+pub chosen_put : {A E : Type 0} (g : ℕ → Value → Json → Type 0) (ks : List Alternative) (i : ℕ) (w x : Value) (a : Alternative) (name : List ℕ) (old one two new : List Token) (r : Result A E) → Some a ≡ slice_get ks i
+    → name ≡ string_bytes a.name → x ≡ w → one ≡ old ++ begin_object ∷ [] → AppendsMember (g a.type_id.0 x) name one two → OnOk r (new ≡ two ++ end_object ∷ []) → OnOk r (Appends (λ j. ChosenJson g ks j i w) old new)
+chosen_put g ks i w x a name old one two new r at n e b m h =
+    on_ok r _ _ (chosen_appended g ks i w a old one two new at b (subst (λ s. AppendsMember (g a.type_id.0 w) s one two) n (subst (λ y. AppendsMember (g a.type_id.0 y) name one two) e m))) h

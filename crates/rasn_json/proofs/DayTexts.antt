@@ -5,14 +5,14 @@ use Rattle.std.proofs.lemmas.Bool.{lt-ltb}
 use Rattle.rasn_types.specs.Calendar.{Day}
 use Rattle.rasn_types.specs.Options.{IsSomeRelated}
 use Rattle.rasn_types.specs.Text.{shown_day}
-use Rattle.rasn_types.specs.Time.{DateText, written_year}
+use Rattle.rasn_types.specs.Time.{DateText, written_year, long_year}
 use Rattle.rasn_types.specs.TimeSpelling.{two, four}
 
 abbrev hyphened : List ℕ → List ℕ
 hyphened l = take 4 l ++ (45 ∷ (take 2 (drop 4 l) ++ (45 ∷ drop 6 l)))
 
 four_digits : (y : ℕ) → y < 10000 → written_year (pos y) ≡ four y
-four_digits y h = ap (λ b. if b then four y else written_year (pos y)) (lt-ltb y 10000 h) ∙ refl
+four_digits y h = ap (λ b. if b then four y else 43 ∷ long_year y) (lt-ltb y 10000 h)
 
 day_shown : (l : List ℕ) (d : Day) → DateText l d → hyphened l ≡ shown_day d
 unfolding shown_day

@@ -1,6 +1,6 @@
 -- The JSON of a value, one level deeper.
-use Rattle.std.proofs.Common.{◌≡◌, ℕ, zero, suc, Some, sym, ap, subst, List, Result, Ok, Err, arith}
-use Rattle.std.specs.Prelude.{slice_get, IfOk}
+use Rattle.std.proofs.Common.{◌≡◌, ℕ, zero, suc, Some, sym, ap, subst, List, Result, Ok, Err, ◌∙◌, arith}
+use Rattle.std.specs.Prelude.{slice_get, IfOk, MatchResult, true, is_err}
 use Rattle.json.specs.Json.{Json}
 use Rattle.rasn_schema.specs.declared.types.«Type».{«Type»}
 use Rattle.rasn_schema.specs.declared.value.Value.{Value}
@@ -17,3 +17,17 @@ json_below types (suc m) below k ty v j n e h =
 pub if_ok : {A E : Type 0} (P Q : A → Type 0) (r : Result A E) → ((v : A) → P v → Q v) → IfOk r P → IfOk r Q
 if_ok P Q (Ok v) f h = f v h
 if_ok P Q (Err e) f h = tt
+
+-- ---- results that are handed on
+
+no_error : {A E : Type 0} (r : Result A E) (v : A) → is_err r ≡ true → r ≡ Ok v → ⊥
+no_error (Ok u) v h e = cc
+no_error (Err x) v h e = cc
+
+same_value : {A E : Type 0} (u v : A) (r : Result A E) → r ≡ Ok u → r ≡ Ok v → u ≡ v
+same_value u v r e f = let g : Ok u ≡ Ok v = sym e ∙ f in cc
+
+-- What holds of the value of a result that was handed on.
+pub handed : {A E F : Type 0} (P : A → Type 0) (outcome : Result A E) (r : Result A F) (v : A) → MatchResult outcome (λ w. r ≡ Ok w) (λ _. is_err r ≡ true) → r ≡ Ok v → IfOk outcome P → P v
+handed P (Ok w) r v m e h = subst P (same_value w v r m e) h
+handed P (Err x) r v m e h = absurd (no_error r v m e)

@@ -1,7 +1,7 @@
 //! Strings whose characters are octets, and BMPStrings (X.697, character strings).
 ghost use Rattle.std.specs.Prelude.{◌≡◌, ◌+◌, length, IfOk, OnOk, string_bytes, encode_utf8_all};
 
-use crate::error::{JsonError, JsonErrorKind, or_memory};
+use crate::error::{JsonError, JsonErrorKind};
 use rasn_types::types::BmpString;
 use std::alloc::{AllocError, Global};
 
@@ -22,9 +22,12 @@ pub fn octets_of(alloc: Global, text: &str) -> Result<Vec<u8>, JsonError>
 {
     let mut octets = Vec::new(alloc);
     for character in text.chars() {
-        match u8::try_from(u32::from(character)) {
-            Ok(octet) => or_memory(alloc, octets.push(octet).map_err(|_| AllocError))?,
-            Err(_) => return Err(foreign(alloc, octets.len())),
+        let Ok(octet) = u8::try_from(u32::from(character)) else {
+            return Err(foreign(alloc, octets.len()));
+        };
+        match octets.push(octet) {
+            Ok(()) => {}
+            Err(_) => return Err(JsonError::memory(alloc)),
         }
     }
     Ok(octets)

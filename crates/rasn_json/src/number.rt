@@ -60,6 +60,17 @@ pub fn integer_value<'any>(
     checked(alloc, kind, Value::Integer(number))
 }
 
+/// Returns the number that has a name.
+fn number_of(alloc: Global, named: &NamedNumber) -> Result<Integer, JsonError>
+    ensures { IfOk result (λ n. n ≡ named.now.number) }
+{
+    let number = named.number as i128;
+    match Integer::from_i128(alloc, number) {
+        Ok(number) => Ok(number),
+        Err(_) => Err(JsonError::memory(alloc)),
+    }
+}
+
 /// Returns the number that a JSON string names.
 fn number_named(
     alloc: Global,
@@ -71,13 +82,7 @@ fn number_named(
 {
     let name = string_of(alloc, "a string", json)?;
     match index_named(numbers, name) {
-        Some(index) => {
-            let number = i128::from(numbers[index].number);
-            match Integer::from_i128(alloc, number) {
-                Ok(number) => Ok(number),
-                Err(_) => Err(JsonError::memory(alloc)),
-            }
-        }
+        Some(index) => number_of(alloc, &numbers[index]),
         None => {
             let name = copied(alloc, name)?;
             Err(JsonError::new(alloc, JsonErrorKind::UnknownName { name }))

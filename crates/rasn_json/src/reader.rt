@@ -72,12 +72,18 @@ fn value_of<'any>(
             element,
             constraints,
             ..
-        } => Ok(Value::Items(array_values(alloc, types, below, *element, constraints, json)?)),
+        } => {
+            let values = array_values(alloc, types, below, *element, constraints, json)?;
+            Ok(Value::Items(values))
+        }
         Type::SetOf {
             element,
             constraints,
             ..
-        } => Ok(Value::Elements(array_values(alloc, types, below, *element, constraints, json)?)),
+        } => {
+            let values = array_values(alloc, types, below, *element, constraints, json)?;
+            Ok(Value::Elements(values))
+        }
     }
 }
 
@@ -150,7 +156,8 @@ fn object_value<'any>(
         return Err(other_form(alloc, "an object", json));
     };
     check_names(alloc, components, members.as_slice())?;
-    Ok(Value::Items(component_values(alloc, types, below, components, json)?))
+    let values = component_values(alloc, types, below, components, json)?;
+    Ok(Value::Items(values))
 }
 
 /// Checks that each member is a component, and none of them twice.
