@@ -1,5 +1,5 @@
 -- The JSON of a value, one level deeper.
-use Rattle.std.proofs.Common.{◌≡◌, ℕ, zero, suc, Some, sym, ap, subst, List, Result, Ok, Err, ◌∙◌, arith}
+use Rattle.std.proofs.Common.{◌≡◌, ℕ, zero, suc, Some, refl, sym, ap, subst, List, Result, Ok, Err, ◌∙◌, arith}
 use Rattle.std.specs.Prelude.{slice_get, IfOk, MatchResult, true, is_err}
 use Rattle.json.specs.Json.{Json}
 use Rattle.rasn_schema.specs.declared.types.«Type».{«Type»}
@@ -31,3 +31,8 @@ same_value u v r e f = let g : Ok u ≡ Ok v = sym e ∙ f in cc
 pub handed : {A E F : Type 0} (P : A → Type 0) (outcome : Result A E) (r : Result A F) (v : A) → MatchResult outcome (λ w. r ≡ Ok w) (λ _. is_err r ≡ true) → r ≡ Ok v → IfOk outcome P → P v
 handed P (Ok w) r v m e h = subst P (same_value w v r m e) h
 handed P (Err x) r v m e h = absurd (no_error r v m e)
+
+pub or_ok : {A E F : Type 0} (P : A → Type 0) (outcome : Result A E) (r : Result A F) → MatchResult outcome (λ w. r ≡ Ok w) (λ _. is_err r ≡ true) → IfOk outcome P → IfOk r P
+or_ok P (Ok w) r m h = subst (λ x. IfOk x P) (sym m) h
+or_ok P (Err x) (Ok v) m h = absurd (no_error (Ok v) v m refl)
+or_ok P (Err x) (Err y) m h = tt

@@ -1,11 +1,14 @@
-use Rattle.std.proofs.Common.{◌≡◌, ◌-◌, ◌+◌, ℕ, List, length, take, refl, sym, ap, ◌∙◌, subst, arith, Option, Some, None, Result, Ok, Err, string_bytes}
-use Rattle.json.specs.Value.{value_view, items_view}
+use Rattle.std.proofs.Common.{◌≡◌, ◌-◌, ◌+◌, ◌++◌, ◌∷◌, [], ℕ, List, length, take, refl, sym, ap, ◌∙◌, subst, arith, Option, Some, None, Result, Ok, Err, string_bytes}
+use Rattle.json.specs.Json.{object}
+use Rattle.json.specs.Value.{value_view, items_view, members_view}
 use Rattle.json.proofs.Trees.{view-Array, view-Object}
 use Rattle.rasn_schema.specs.Fitting.{Fits, EachFits, ComponentsFit}
 use Rattle.rasn_schema.proofs.Lists.{split, nothing_left, read_at}
 use Rattle.rasn_dynamic.proofs.FitsRead.{fits_below, are_items, are_elements, each_more, fit_more, fit_end}
 use Rattle.rasn_json.specs.Reading.{ReadAt, ArrayRead, ObjectRead}
-use Rattle.rasn_json.proofs.ReadParts.{read_below, read_more, read_end, each_read_more, items_read}
+use Rattle.rasn_json.proofs.ReadParts.{read_below, read_more, read_end, each_read_more, items_read, chosen_read, EachRead}
+use Rattle.std.proofs.lemmas.List.{take_more, take_all}
+use Rattle.std.proofs.lemmas.Option.{slice_get_within}
 use Rattle.rasn_json.proofs.Levels.{if_ok}
 use Rattle.rasn_json.proofs.reader.+read.Goals as goal
 
@@ -35,3 +38,30 @@ object_value-returns-clause-fits t c = are_items (ComponentsFit (Fits c.args.typ
 
 pub object_value-returns-clause-reads : goal.object_value-returns-clause-reads
 object_value-returns-clause-reads t c = are_items (ObjectRead (ReadAt c.args.types.now c.args.below) c.args.components.now (value_view c.args.json.now)) c.in_ok-values.values (_, ap value_view c.in-Object.is ∙ view-Object c.in-Object.members, c.in_ok-values.ensures.reads)
+
+pub chosen_value-returns-in-Ok-new-clause-fits : goal.chosen_value-returns-in-Ok-new-clause-fits
+chosen_value-returns-in-Ok-new-clause-fits t c =
+    let n = c.in-Some.ensures.0 in
+    (c.index-alternatives-index.result, read_at c.args.alternatives.now c.in-Some.index c.index-alternatives-index.result (slice_get_within c.args.alternatives.now c.in-Some.index n.0 (sym n.1)) c.index-alternatives-index.is,
+      subst (Fits c.args.types.now c.args.below c.index-alternatives-index.result.type_id.0) (sym c.in-Ok-new.ensures.ok) c.in-Ok.ensures.fits)
+
+pub chosen_value-returns-in-Ok-new-clause-reads : goal.chosen_value-returns-in-Ok-new-clause-reads
+chosen_value-returns-in-Ok-new-clause-reads t c =
+    chosen_read (ReadAt c.args.types.now c.args.below) c.args.alternatives.now c.in-Some.index _ c.in-Ok.value (value_view c.args.json.now) c.as_slice.result.now c.index-name-0.result c.index-member-0.result c.index-alternatives-index.result
+    (ap value_view c.in-Object.is ∙ (view-Object c.in-Object.members ∙ ap (λ l. object (members_view l)) (sym c.as_slice.ensures.value))) c.in-len1.len_at_least c.in-len1.len_below c.index-name-0.is c.index-member-0.is
+    c.in-Some.ensures.0 c.in-Some.ensures.1 c.index-alternatives-index.is c.in-Ok.ensures.reads c.in-Ok-new.ensures.ok
+
+pub element_values-loop-index-preserved : goal.element_values-loop-index-preserved
+element_values-loop-index-preserved t c =
+    let i = c.loop-index.index in
+    let l = c.args.items.now in
+    let x = c.index-items-index.result in (
+      each_more (Fits c.args.types.now c.args.below c.args.element.0) c.loop-index.values.items _ c.in-Ok.value c.in_ok-append-in-Ok.ensures c.loop-index.invariant.0 c.in-Ok.ensures.fits,
+      each_read_more (ReadAt c.args.types.now c.args.below c.args.element.0) (take i l) _ x c.loop-index.values.items _ c.in-Ok.value c.loop-index.invariant.1 c.in-Ok.ensures.reads (take_more l i x (omega arith) ∙ ap (λ y. take i l ++ y ∷ []) (sym c.index-items-index.is)) c.in_ok-append-in-Ok.ensures,
+    )
+
+pub element_values-returns-clause-reads : goal.element_values-returns-clause-reads
+element_values-returns-clause-reads t c =
+    let i = c.loop-index.index in
+    let l = c.args.items.now in
+    items_read (ReadAt c.args.types.now c.args.below c.args.element.0) l c.loop-index.values.items (subst (λ x. EachRead (ReadAt c.args.types.now c.args.below c.args.element.0) x c.loop-index.values.items) (take_all i l (omega arith)) c.loop-index.invariant.1)
