@@ -1,6 +1,6 @@
 -- The JSON of a value, one level deeper.
 use Rattle.std.proofs.Common.{◌≡◌, ℕ, zero, suc, Some, refl, sym, ap, subst, List, Result, Ok, Err, ◌∙◌, arith}
-use Rattle.std.specs.Prelude.{slice_get, IfOk, MatchResult, true, is_err}
+use Rattle.std.specs.Prelude.{slice_get, IfOk, MatchResult, true, false, is_err}
 use Rattle.json.specs.Json.{Json}
 use Rattle.rasn_schema.specs.declared.types.«Type».{«Type»}
 use Rattle.rasn_schema.specs.declared.value.Value.{Value}
@@ -32,7 +32,10 @@ pub handed : {A E F : Type 0} (P : A → Type 0) (outcome : Result A E) (r : Res
 handed P (Ok w) r v m e h = subst P (same_value w v r m e) h
 handed P (Err x) r v m e h = absurd (no_error r v m e)
 
+not_true : false ≡ true → ⊥
+not_true e = cc
+
 pub or_ok : {A E F : Type 0} (P : A → Type 0) (outcome : Result A E) (r : Result A F) → MatchResult outcome (λ w. r ≡ Ok w) (λ _. is_err r ≡ true) → IfOk outcome P → IfOk r P
 or_ok P (Ok w) r m h = subst (λ x. IfOk x P) (sym m) h
-or_ok P (Err x) (Ok v) m h = absurd (no_error (Ok v) v m refl)
+or_ok P (Err x) (Ok v) m h = absurd (not_true m)
 or_ok P (Err x) (Err y) m h = tt

@@ -1,7 +1,8 @@
-use Rattle.std.proofs.Common.{◌≡◌, ◌-◌, ◌+◌, ◌++◌, ◌∷◌, [], ℕ, List, length, take, refl, sym, ap, ◌∙◌, subst, arith, Option, Some, None, Result, Ok, Err, string_bytes}
+use Rattle.std.proofs.Common.{◌≡◌, ◌-◌, ◌+◌, ◌++◌, ◌∷◌, [], ℕ, List, length, take, get_or, refl, sym, ap, ◌∙◌, subst, arith, Option, Some, None, Result, Ok, Err, string_bytes}
 use Rattle.json.specs.Json.{object}
 use Rattle.json.specs.Value.{value_view, items_view, members_view}
 use Rattle.json.proofs.Trees.{view-Array, view-Object}
+use Rattle.rasn_schema.specs.declared.types.Alternative.{Alternative}
 use Rattle.rasn_schema.specs.Fitting.{Fits, EachFits, ComponentsFit}
 use Rattle.rasn_schema.proofs.Lists.{split, nothing_left, read_at}
 use Rattle.rasn_dynamic.proofs.FitsRead.{fits_below, are_items, are_elements, each_more, fit_more, fit_end}
@@ -43,13 +44,17 @@ pub chosen_value-returns-in-Ok-new-clause-fits : goal.chosen_value-returns-in-Ok
 chosen_value-returns-in-Ok-new-clause-fits t c =
     let n = c.in-Some.ensures.0 in
     (c.index-alternatives-index.result, read_at c.args.alternatives.now c.in-Some.index c.index-alternatives-index.result (slice_get_within c.args.alternatives.now c.in-Some.index n.0 (sym n.1)) c.index-alternatives-index.is,
-      subst (Fits c.args.types.now c.args.below c.index-alternatives-index.result.type_id.0) (sym c.in-Ok-new.ensures.ok) c.in-Ok.ensures.fits)
+      subst (Fits c.args.types.now c.args.below c.index-alternatives-index.result.type_id.0) (sym c.in-Ok-new.ensures.ok)
+      (subst (λ (a : Alternative). Fits c.args.types.now c.args.below a.type_id.0 c.in-Ok.value) (sym c.index-alternatives-index.is) c.in-Ok.ensures.fits))
 
 pub chosen_value-returns-in-Ok-new-clause-reads : goal.chosen_value-returns-in-Ok-new-clause-reads
 chosen_value-returns-in-Ok-new-clause-reads t c =
-    chosen_read (ReadAt c.args.types.now c.args.below) c.args.alternatives.now c.in-Some.index _ c.in-Ok.value (value_view c.args.json.now) c.as_slice.result.now c.index-name-0.result c.index-member-0.result c.index-alternatives-index.result
-    (ap value_view c.in-Object.is ∙ (view-Object c.in-Object.members ∙ ap (λ l. object (members_view l)) (sym c.as_slice.ensures.value))) c.in-len1.len_at_least c.in-len1.len_below c.index-name-0.is c.index-member-0.is
-    c.in-Some.ensures.0 c.in-Some.ensures.1 c.index-alternatives-index.is c.in-Ok.ensures.reads c.in-Ok-new.ensures.ok
+    let l = c.as_slice.result.now in
+    let ks = c.args.alternatives.now in
+    let i = c.in-Some.index in
+    chosen_read (ReadAt c.args.types.now c.args.below) ks i _ c.in-Ok.value (value_view c.args.json.now) l (get_or l 0 c.index-name-0.result) (get_or l 0 c.index-member-0.result) (get_or ks i c.index-alternatives-index.result)
+    (ap value_view c.in-Object.is ∙ (view-Object c.in-Object.members ∙ ap (λ x. object (members_view x)) (sym c.as_slice.ensures.value))) c.in-len1.len_at_least c.in-len1.len_below
+    (ap (λ x. get_or l 0 x) c.index-name-0.is) (ap (λ x. get_or l 0 x) c.index-member-0.is) c.in-Some.ensures.0 c.in-Some.ensures.1 (ap (λ x. get_or ks i x) c.index-alternatives-index.is) c.in-Ok.ensures.reads c.in-Ok-new.ensures.ok
 
 pub element_values-loop-index-preserved : goal.element_values-loop-index-preserved
 element_values-loop-index-preserved t c =
