@@ -1,0 +1,19 @@
+use Rattle.std.proofs.Common.{◌≡◌, sym, subst}
+use Rattle.rasn_types.specs.Shapes.{Same}
+use Rattle.rasn_schema.specs.declared.types.Presence.{Presence}
+use Rattle.rasn_schema.specs.declared.types.Presence.TheVariants.{Default}
+use Rattle.rasn_schema.specs.declared.value.Value.{Value}
+use Rattle.rasn_schema.specs.Trees.{tree_of}
+use Rattle.rasn_schema.specs.Shapes.{presence_of}
+use Rattle.rasn_schema.specs.Equals.{same_itself}
+use Rattle.rasn_schema.specs.Fitting.{IsLeftOutAs}
+use Rattle.rasn_json.proofs.Levels.{if_ok, or_ok}
+use Rattle.rasn_json.proofs.reader.absent_value.Goals as goal
+
+default_left : (p : Presence) (v d : Value) → p ≡ Default d → tree_of v ≡ tree_of d → IsLeftOutAs (presence_of p) (tree_of v)
+default_left p v d e t = subst (λ q. IsLeftOutAs (presence_of q) (tree_of v)) (sym e) (subst (Same (tree_of v)) t (same_itself v))
+
+pub returns-in-Default-clause-fits : goal.returns-in-Default-clause-fits
+returns-in-Default-clause-fits c =
+    or_ok (λ v. IsLeftOutAs (presence_of c.args.component.now.presence) (tree_of v)) c.try_clone.result c.or_memory.result c.or_memory.ensures
+    (if_ok _ _ c.try_clone.result (λ v e. default_left c.args.component.now.presence v _ c.in-Default.is e) c.try_clone.ensures)

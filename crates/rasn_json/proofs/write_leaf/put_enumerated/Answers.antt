@@ -1,0 +1,10 @@
+use Rattle.std.proofs.Common.{◌≡◌, ◌≢◌, ◌++◌, ◌∷◌, [], ℕ, List, refl, sym, ap, ◌∙◌, subst, arith, inl, inr, Option, Some, None, Result, Ok, Err, string_bytes}
+use Rattle.json.specs.Json as json
+use Rattle.rasn_schema.specs.declared.value.Value.{Integer}
+use Rattle.rasn_json.specs.Json.{EnumeratedJson}
+use Rattle.rasn_json.proofs.Appended.{on_one}
+use Rattle.rasn_json.proofs.write_leaf.put_enumerated.Goals as goal
+
+pub returns-in-Some : goal.returns-in-Some
+returns-in-Some g c = on_one (EnumeratedJson c.args.numbers.now c.args.value.now) (json.string c.in-Some.name.now) _ _ c.put.result c.put.ensures
+    (subst (λ v. EnumeratedJson c.args.numbers.now v (json.string c.in-Some.name.now)) (sym c.in-Integer.is) c.in-Some.ensures)

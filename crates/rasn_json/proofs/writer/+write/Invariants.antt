@@ -1,0 +1,40 @@
+use Rattle.std.proofs.Common.{◌≡◌, ◌+◌, ◌*◌, length}
+use Rattle.rasn_json.specs.Json.{JsonAt}
+use Rattle.rasn_json.proofs.Appended.{ObjectSoFar, ArraySoFar}
+use Rattle.rasn_json.proofs.writer.+write.Given as goal
+
+abbrev pub decreases-put_at : goal.decreases-put_at
+decreases-put_at g l = 8 * l.levels
+
+abbrev pub decreases-put_value : goal.decreases-put_value
+decreases-put_value g l = 8 * l.below + 7
+
+abbrev pub decreases-put_inside : goal.decreases-put_inside
+decreases-put_inside g l = 8 * l.below + 6
+
+abbrev pub decreases-put_chosen : goal.decreases-put_chosen
+decreases-put_chosen g l = 8 * l.below + 5
+
+abbrev pub decreases-put_object : goal.decreases-put_object
+decreases-put_object g l = 8 * l.below + 5
+
+abbrev pub decreases-put_component : goal.decreases-put_component
+decreases-put_component g l = 8 * l.below + 4
+
+abbrev pub decreases-put_member : goal.decreases-put_member
+decreases-put_member g l = 8 * l.below + 3
+
+abbrev pub decreases-put_array : goal.decreases-put_array
+decreases-put_array g l = 8 * l.below + 5
+
+abbrev pub invariant-put_object-loop-rest : goal.invariant-put_object-loop-rest
+invariant-put_object-loop-rest g l = ObjectSoFar (JsonAt l.types l.below) l.components l.rest l.values l.left (g.T.Tokens.written l.fn.out) (g.T.Tokens.written l.out)
+
+abbrev pub decreases-put_object-loop-rest : goal.decreases-put_object-loop-rest
+decreases-put_object-loop-rest g l = length l.rest
+
+abbrev pub invariant-put_array-loop-left : goal.invariant-put_array-loop-left
+invariant-put_array-loop-left g l = (l.index + length l.left ≡ length l.values) × ArraySoFar (JsonAt l.types l.below l.element.0) l.values l.left (g.T.Tokens.written l.fn.out) (g.T.Tokens.written l.out)
+
+abbrev pub decreases-put_array-loop-left : goal.decreases-put_array-loop-left
+decreases-put_array-loop-left g l = length l.left

@@ -1,0 +1,169 @@
+-- The JSON of a value (X.697).
+use Rattle.std.specs.Prelude.{◌≡◌, ◌≢◌, ◌⊎◌, ◌++◌, ℕ, zero, suc, ℤ, List, [], ◌∷◌, Bool, Option, Some, None, slice_get, codes, decimal, length, encode_utf8_all, ◌==◌, if◌then◌else◌}
+use Rattle.std.specs.Cow.{cow_slice_items, cow_str_bytes}
+use Rattle.std.specs.String.{string_bytes}
+use Rattle.json.specs.Token.{Token, key}
+use Rattle.json.specs.Json.{Json, null, boolean, number, string, array, object, Items, no_items, item, Members, no_members, member}
+use Rattle.json.specs.Print.{IsNumber}
+use Rattle.json.specs.Tree.{json_tokens}
+use Rattle.rasn_types.specs.Calendar.{Moment}
+use Rattle.rasn_types.specs.declared.types.constraints.Bound.{Bound}
+use Rattle.rasn_types.specs.declared.types.constraints.Bounded.{Bounded}
+use Rattle.rasn_types.specs.declared.types.constraints.Bounded.TheVariants.{Single, Range}
+use Rattle.rasn_types.specs.declared.types.constraints.Constraints.{Constraints}
+use Rattle.rasn_types.specs.BitString.{Packs}
+use Rattle.rasn_types.specs.CowBits.{cow_bits}
+use Rattle.rasn_types.specs.Text.{hexadecimal, dotted, shown_day}
+use Rattle.rasn_schema.specs.declared.types.LeafKind.{LeafKind}
+use Rattle.rasn_schema.specs.declared.types.LeafKind.TheVariants.{Signed64, OctetString, FixedOctetString}
+use Rattle.rasn_schema.specs.declared.types.NamedNumber.{NamedNumber}
+use Rattle.rasn_schema.specs.declared.types.Alternative.{Alternative}
+use Rattle.rasn_schema.specs.declared.types.Component.{Component}
+use Rattle.rasn_schema.specs.declared.types.«Type».{«Type»}
+use Rattle.rasn_schema.specs.declared.types.«Type».TheVariants.{Leaf, Enumerated, Any, Tagged, Choice, Sequence, Set, SequenceOf, SetOf}
+use Rattle.rasn_schema.specs.declared.value.Value.{Value, Boolean, Null, Integer as Number, Bits, Octets, Text, Units, Arcs, Instant, Day, Absent, Items', Elements', Chosen'}
+use Rattle.rasn_schema.specs.Trees.{tree_of}
+use Rattle.rasn_schema.specs.Shapes.{presence_of}
+use Rattle.rasn_json.specs.Decimal.{IsWhole}
+use Rattle.rasn_json.specs.Texts.{InstantText}
+use Rattle.rasn_schema.specs.Fitting.{AreItems, AreElements, IsChosen, IsLeftOutAs}
+
+-- ---- numbers
+
+-- A number in decimal: JSON's numbers have no leading zeros.
+abbrev pub NumberJson : ℤ → Json → Type 0
+NumberJson n j = (s : List ℕ) × (j ≡ number s) × IsNumber s × IsWhole s n
+
+-- A name of the number.
+abbrev pub NameJson : List NamedNumber → ℤ → Json → Type 0
+NameJson names n j = (i : ℕ) × (m : NamedNumber) × (Some m ≡ slice_get names i) × (m.number ≡ n) × (j ≡ string (string_bytes m.name))
+
+abbrev pub IsUnnamed : List NamedNumber → ℤ → Type 0
+IsUnnamed names n = (i : ℕ) (m : NamedNumber) → Some m ≡ slice_get names i → m.number ≡ n → ⊥
+
+-- An ENUMERATED with an extension marker is a number of 64 bits with names.
+abbrev pub IsExtensible : LeafKind → List NamedNumber → Type 0
+IsExtensible kind names = (kind ≡ Signed64) × (names ≢ [])
+
+-- A number, or the name that it has in an ENUMERATED.
+abbrev pub IntegerJson : LeafKind → List NamedNumber → ℤ → Json → Type 0
+IntegerJson kind names n j = (IsExtensible kind names × NameJson names n j) ⊎ ((IsExtensible kind names → IsUnnamed names n) × NumberJson n j)
+
+abbrev pub EnumeratedJson : List NamedNumber → Value → Json → Type 0
+EnumeratedJson names (Number n) j = NameJson names n j
+EnumeratedJson names _ j = ⊥
+
+-- ---- strings
+
+abbrev pub HexadecimalJson : List ℕ → Json → Type 0
+HexadecimalJson o j = j ≡ string (hexadecimal o)
+
+abbrev pub OpenJson : Value → Json → Type 0
+OpenJson (Octets o) j = HexadecimalJson (cow_slice_items o) j
+OpenJson _ j = ⊥
+
+-- Octets are digits, or the numbers of characters.
+abbrev pub OctetsJson : LeafKind → List ℕ → Json → Type 0
+OctetsJson OctetString o j = HexadecimalJson o j
+OctetsJson (FixedOctetString n) o j = HexadecimalJson o j
+OctetsJson _ o j = j ≡ string (encode_utf8_all o)
+
+-- Bits are digits alone, where the type has one size, or digits and their number.
+abbrev pub BitsJson : List Bool → Json → Type 0
+BitsJson bs j = ((o : List ℕ) × HexadecimalJson o j)
+    ⊎ ((o : List ℕ) × Packs bs o × (j ≡ object (member (codes "value") (string (hexadecimal o)) (member (codes "length") (number (decimal (length bs))) no_members))))
+
+-- The one size that a constraint admits, if there is one.
+abbrev pub one_of : Bounded ℕ → Option ℕ
+one_of (Single n) = Some n
+one_of (Range (Some m) (Some n)) = if m == n then Some m else None
+one_of _ = None
+
+abbrev pub size_of : Option (Bound ℕ) → Option ℕ
+size_of None = None
+size_of (Some b) = if b.extensible then None else one_of b.constraint
+
+abbrev pub one_size : Constraints → Option ℕ
+one_size c = size_of c.size
+
+-- The text of an instant, as InstantText has it.
+abbrev pub InstantJson : LeafKind → Moment → Json → Type 0
+InstantJson kind m j = (s : List ℕ) × (j ≡ string s) × InstantText kind s m
+
+abbrev pub IsString : Json → Type 0
+IsString j = (s : List ℕ) × (j ≡ string s)
+
+-- ---- values that hold no others
+
+abbrev pub LeafJson : LeafKind → List NamedNumber → Value → Json → Type 0
+LeafJson kind names (Boolean b) j = j ≡ boolean b
+LeafJson kind names Null j = j ≡ null
+LeafJson kind names (Number n) j = IntegerJson kind names n j
+LeafJson kind names (Bits b) j = BitsJson (cow_bits b) j
+LeafJson kind names (Octets o) j = OctetsJson kind (cow_slice_items o) j
+LeafJson kind names (Text s) j = j ≡ string (cow_str_bytes s)
+LeafJson kind names (Units u) j = IsString j
+LeafJson kind names (Arcs a) j = j ≡ string (dotted a)
+LeafJson kind names (Instant t) j = InstantJson kind t.moment j
+LeafJson kind names (Day d) j = j ≡ string (shown_day d)
+LeafJson kind names _ j = ⊥
+
+-- ---- values that hold others. Of a type with a number, g tells which JSON a value has.
+
+-- The one member is the alternative.
+abbrev pub ChosenJson : (ℕ → Value → Json → Type 0) → List Alternative → Json → ℕ → Value → Type 0
+ChosenJson g ks j i w = (a : Alternative) × (x : Json) × (Some a ≡ slice_get ks i) × (j ≡ object (member (string_bytes a.name) x no_members)) × g a.type_id.0 w x
+
+abbrev pub IsLeftOut : Component → Value → Type 0
+IsLeftOut p v = IsLeftOutAs (presence_of p.presence) (tree_of v)
+
+-- A member for each component, in order, except for those that are left out.
+abbrev pub MembersJson : (ℕ → Value → Json → Type 0) → List Component → List Value → Members → Type 0
+MembersJson g [] [] ms = ms ≡ no_members
+MembersJson g [] (v ∷ vs) ms = ⊥
+MembersJson g (p ∷ ps) [] ms = ⊥
+MembersJson g (p ∷ ps) (v ∷ vs) ms = (IsLeftOut p v × MembersJson g ps vs ms)
+    ⊎ ((IsLeftOut p v → ⊥) × ((x : Json) × (rest : Members) × (ms ≡ member (string_bytes p.name) x rest) × g p.type_id.0 v x × MembersJson g ps vs rest))
+
+abbrev pub ItemsJson : (Value → Json → Type 0) → List Value → Items → Type 0
+ItemsJson P [] js = js ≡ no_items
+ItemsJson P (v ∷ vs) js = (x : Json) × (rest : Items) × (js ≡ item x rest) × P v x × ItemsJson P vs rest
+
+abbrev pub ObjectJson : (ℕ → Value → Json → Type 0) → List Component → Json → List Value → Type 0
+ObjectJson g ps j vs = (ms : Members) × (j ≡ object ms) × MembersJson g ps vs ms
+
+abbrev pub ArrayJson : (Value → Json → Type 0) → Json → List Value → Type 0
+ArrayJson P j vs = (js : Items) × (j ≡ array js) × ItemsJson P vs js
+
+abbrev pub JsonBy : (ℕ → Value → Json → Type 0) → «Type» → Value → Json → Type 0
+JsonBy g (Leaf kind tag c names) v j = LeafJson kind names.items v j
+JsonBy g (Enumerated tag ns) v j = EnumeratedJson ns.items v j
+JsonBy g (Any tag) v j = OpenJson v j
+JsonBy g (Tagged tag k) v j = g k.0 v j
+JsonBy g (Choice name ks) v j = IsChosen (ChosenJson g ks.items j) v
+JsonBy g (Sequence tag ps) v j = AreItems (ObjectJson g ps.items j) v
+JsonBy g (Set name tag ps) v j = AreItems (ObjectJson g ps.items j) v
+JsonBy g (SequenceOf tag k c) v j = AreItems (ArrayJson (g k.0) j) v
+JsonBy g (SetOf tag k c) v j = AreElements (ArrayJson (g k.0) j) v
+
+abbrev pub JsonFound : (ℕ → Value → Json → Type 0) → Option «Type» → Value → Json → Type 0
+JsonFound g None v j = ⊥
+JsonFound g (Some ty) v j = JsonBy g ty v j
+
+-- The value of the type with this number has this JSON, types followed so many levels deep.
+unfoldable pub JsonAt : List «Type» → ℕ → ℕ → Value → Json → Type 0
+JsonAt types zero k v j = ⊥
+JsonAt types (suc levels) k v j = JsonFound (λ i w x. JsonAt types levels i w x) (slice_get types k) v j
+
+-- ---- what is written
+
+-- Tokens of such a JSON value are appended.
+abbrev pub Appends : (Json → Type 0) → List Token → List Token → Type 0
+Appends P old new = (j : Json) × (new ≡ old ++ json_tokens j) × P j
+
+-- So are those of a member, or nothing is.
+abbrev pub AppendsMember : (Json → Type 0) → List ℕ → List Token → List Token → Type 0
+AppendsMember P name old new = (j : Json) × (new ≡ old ++ key name ∷ json_tokens j) × P j
+
+abbrev pub AppendsComponent : (ℕ → Value → Json → Type 0) → Component → Value → List Token → List Token → Type 0
+AppendsComponent g p v old new = (IsLeftOut p v × (new ≡ old)) ⊎ ((IsLeftOut p v → ⊥) × AppendsMember (g p.type_id.0 v) (string_bytes p.name) old new)

@@ -1,0 +1,154 @@
+-- Which value JSON is read as (X.697). The members of an object may be in any order.
+use Rattle.std.specs.Prelude.{◌≡◌, ◌≢◌, ◌⊎◌, ℕ, zero, suc, ◌<◌, ℤ, pos, List, [], ◌∷◌, Bool, true, Option, Some, None, Ok, slice_get, codes, encode_utf8_all, MatchOption}
+use Rattle.std.specs.Cow.{cow_slice_items, cow_str_bytes}
+use Rattle.std.specs.String.{string_bytes}
+use Rattle.json.specs.Json.{Json, null, boolean, number, string, array, object, Items, no_items, item, Members, no_members, member}
+use Rattle.json.specs.Find.{get, as_str, as_number}
+use Rattle.hex.specs.Hex.{decode_of}
+use Rattle.rasn_types.specs.declared.types.constraints.Bounded.{Bounded}
+use Rattle.rasn_types.specs.declared.types.constraints.Bounded.TheVariants.{Single, Range}
+use Rattle.rasn_types.specs.declared.types.constraints.Constraints.{Constraints}
+use Rattle.rasn_types.specs.Shapes.{Tree, Presence, required, addition, optional_by, default_by, absent}
+use Rattle.rasn_types.specs.Calendar.{Moment}
+use Rattle.rasn_types.specs.BitString.{significant}
+use Rattle.rasn_types.specs.CowBits.{cow_bits}
+use Rattle.rasn_types.specs.Text.{IsDotted, shown_day}
+use Rattle.rasn_schema.specs.declared.types.LeafKind.{LeafKind}
+use Rattle.rasn_schema.specs.declared.types.LeafKind.TheVariants.{NamedBits, OctetString, FixedOctetString}
+use Rattle.rasn_schema.specs.declared.types.NamedNumber.{NamedNumber}
+use Rattle.rasn_schema.specs.declared.types.Alternative.{Alternative}
+use Rattle.rasn_schema.specs.declared.types.Component.{Component}
+use Rattle.rasn_schema.specs.declared.types.«Type».{«Type»}
+use Rattle.rasn_schema.specs.declared.types.«Type».TheVariants.{Leaf, Enumerated, Any, Tagged, Choice, Sequence, Set, SequenceOf, SetOf}
+use Rattle.rasn_schema.specs.declared.value.Value.{Value, Boolean, Null, Integer as Number, Bits, Octets, Text, Units, Arcs, Instant, Day, Absent, Items', Elements', Chosen'}
+use Rattle.rasn_schema.specs.Trees.{tree_of}
+use Rattle.rasn_schema.specs.Shapes.{presence_of}
+use Rattle.rasn_schema.specs.Fitting.{AreItems, AreElements, IsChosen}
+use Rattle.rasn_json.specs.Decimal.{IsWhole}
+use Rattle.rasn_json.specs.Texts.{InstantText, ArePacked}
+use Rattle.rasn_json.specs.Json.{IsExtensible, IsString, one_size}
+
+-- ---- numbers
+
+abbrev pub WholeRead : Json → ℤ → Type 0
+WholeRead j n = (s : List ℕ) × (as_number j ≡ Some s) × IsWhole s n
+
+-- The number that the string names.
+abbrev pub NameRead : List NamedNumber → Json → ℤ → Type 0
+NameRead names j n = (s : List ℕ) × (as_str j ≡ Some s) × (i : ℕ) × (m : NamedNumber) × (Some m ≡ slice_get names i) × (string_bytes m.name ≡ s) × (m.number ≡ n)
+
+-- A number, or in an ENUMERATED with an extension marker a name.
+abbrev pub IntegerRead : LeafKind → List NamedNumber → Json → ℤ → Type 0
+IntegerRead kind names j n = (IsExtensible kind names × NameRead names j n) ⊎ WholeRead j n
+
+abbrev pub EnumeratedRead : List NamedNumber → Json → Value → Type 0
+EnumeratedRead names j (Number n) = NameRead names j n
+EnumeratedRead names j _ = ⊥
+
+-- ---- strings
+
+abbrev pub HexadecimalRead : Json → List ℕ → Type 0
+HexadecimalRead j o = (s : List ℕ) × (as_str j ≡ Some s) × (decode_of s ≡ Ok o)
+
+abbrev pub OpenRead : Json → Value → Type 0
+OpenRead j (Octets o) = HexadecimalRead j (cow_slice_items o)
+OpenRead j _ = ⊥
+
+abbrev pub OctetsRead : LeafKind → Json → List ℕ → Type 0
+OctetsRead OctetString j o = HexadecimalRead j o
+OctetsRead (FixedOctetString n) j o = HexadecimalRead j o
+OctetsRead _ j o = as_str j ≡ Some (encode_utf8_all o)
+
+-- So many bits in hexadecimal digits.
+abbrev pub DigitsRead : Json → ℕ → List Bool → Type 0
+DigitsRead j n bs = (o : List ℕ) × HexadecimalRead j o × ArePacked o n bs
+
+-- Bits are digits alone, where the type has one size, or digits and their number.
+abbrev pub AllBitsRead : Option ℕ → Json → List Bool → Type 0
+AllBitsRead (Some n) j bs = DigitsRead j n bs
+AllBitsRead None j bs = (x y : Json) × (n : ℕ) × (get (codes "value") j ≡ Some x) × (get (codes "length") j ≡ Some y) × WholeRead y (pos n) × DigitsRead x n bs
+
+-- Trailing 0 bits of named bits don't count (X.680 22.7).
+abbrev pub NamedBitsRead : Option ℕ → Json → List Bool → Type 0
+NamedBitsRead size j bs = (all : List Bool) × AllBitsRead size j all × (bs ≡ significant all)
+
+abbrev pub BitsRead : LeafKind → Option ℕ → Json → List Bool → Type 0
+BitsRead NamedBits size j bs = NamedBitsRead size j bs
+BitsRead _ size j bs = AllBitsRead size j bs
+
+abbrev pub ArcsRead : Json → List ℕ → Type 0
+ArcsRead j a = (s : List ℕ) × (as_str j ≡ Some s) × IsDotted s a
+
+abbrev pub InstantRead : LeafKind → Json → Moment → Type 0
+InstantRead kind j m = (s : List ℕ) × (as_str j ≡ Some s) × InstantText kind s m
+
+-- ---- values that hold no others
+
+abbrev pub LeafRead : LeafKind → Constraints → List NamedNumber → Json → Value → Type 0
+LeafRead kind c names j (Boolean b) = j ≡ boolean b
+LeafRead kind c names j Null = j ≡ null
+LeafRead kind c names j (Number n) = IntegerRead kind names j n
+LeafRead kind c names j (Bits b) = BitsRead kind (one_size c) j (cow_bits b)
+LeafRead kind c names j (Octets o) = OctetsRead kind j (cow_slice_items o)
+LeafRead kind c names j (Text s) = as_str j ≡ Some (cow_str_bytes s)
+LeafRead kind c names j (Units u) = IsString j
+LeafRead kind c names j (Arcs a) = ArcsRead j a
+LeafRead kind c names j (Instant t) = InstantRead kind j t.moment
+LeafRead kind c names j (Day d) = as_str j ≡ Some (shown_day d)
+LeafRead kind c names j _ = ⊥
+
+-- ---- values that hold others. Of a type with a number, g tells which value JSON is read as.
+
+-- The one member names the alternative.
+abbrev pub ChosenRead : (ℕ → Json → Value → Type 0) → List Alternative → Json → ℕ → Value → Type 0
+ChosenRead g ks j i w = (a : Alternative) × (x : Json) × (Some a ≡ slice_get ks i) × (j ≡ object (member (string_bytes a.name) x no_members))
+    × ((k : ℕ) (b : Alternative) → k < i → Some b ≡ slice_get ks k → string_bytes b.name ≢ string_bytes a.name) × g a.type_id.0 x w
+
+-- What a component without a member means.
+abbrev pub IsAbsentAs : Presence → Tree → Type 0
+IsAbsentAs required t = ⊥
+IsAbsentAs (optional_by key) t = t ≡ absent
+IsAbsentAs addition t = t ≡ absent
+IsAbsentAs (default_by key d) t = t ≡ d
+
+abbrev pub ComponentRead : (ℕ → Json → Value → Type 0) → Component → Option Json → Value → Type 0
+ComponentRead g p None v = IsAbsentAs (presence_of p.presence) (tree_of v)
+ComponentRead g p (Some x) v = g p.type_id.0 x v
+
+abbrev pub ComponentsRead : (ℕ → Json → Value → Type 0) → List Component → Json → List Value → Type 0
+ComponentsRead g [] j [] = Unit {0}
+ComponentsRead g [] j (v ∷ vs) = ⊥
+ComponentsRead g (p ∷ ps) j [] = ⊥
+ComponentsRead g (p ∷ ps) j (v ∷ vs) = ComponentRead g p (get (string_bytes p.name) j) v × ComponentsRead g ps j vs
+
+abbrev pub ObjectRead : (ℕ → Json → Value → Type 0) → List Component → Json → List Value → Type 0
+ObjectRead g ps j vs = (ms : Members) × (j ≡ object ms) × ComponentsRead g ps j vs
+
+abbrev pub ItemsRead : (Json → Value → Type 0) → Items → List Value → Type 0
+ItemsRead P no_items [] = Unit {0}
+ItemsRead P no_items (v ∷ vs) = ⊥
+ItemsRead P (item x js) [] = ⊥
+ItemsRead P (item x js) (v ∷ vs) = P x v × ItemsRead P js vs
+
+abbrev pub ArrayRead : (Json → Value → Type 0) → Json → List Value → Type 0
+ArrayRead P j vs = (js : Items) × (j ≡ array js) × ItemsRead P js vs
+
+abbrev pub ReadBy : (ℕ → Json → Value → Type 0) → «Type» → Json → Value → Type 0
+ReadBy g (Leaf kind tag c names) j v = LeafRead kind c names.items j v
+ReadBy g (Enumerated tag ns) j v = EnumeratedRead ns.items j v
+ReadBy g (Any tag) j v = OpenRead j v
+ReadBy g (Tagged tag k) j v = g k.0 j v
+ReadBy g (Choice name ks) j v = IsChosen (ChosenRead g ks.items j) v
+ReadBy g (Sequence tag ps) j v = AreItems (ObjectRead g ps.items j) v
+ReadBy g (Set name tag ps) j v = AreItems (ObjectRead g ps.items j) v
+ReadBy g (SequenceOf tag k c) j v = AreItems (ArrayRead (g k.0) j) v
+ReadBy g (SetOf tag k c) j v = AreElements (ArrayRead (g k.0) j) v
+
+abbrev pub ReadFound : (ℕ → Json → Value → Type 0) → Option «Type» → Json → Value → Type 0
+ReadFound g None j v = ⊥
+ReadFound g (Some ty) j v = ReadBy g ty j v
+
+-- JSON is read as this value of the type with this number, types followed so many levels deep.
+unfoldable pub ReadAt : List «Type» → ℕ → ℕ → Json → Value → Type 0
+ReadAt types zero k j v = ⊥
+ReadAt types (suc levels) k j v = ReadFound (λ i x w. ReadAt types levels i x w) (slice_get types k) j v

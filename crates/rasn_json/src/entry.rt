@@ -1,0 +1,208 @@
+//! Values as JSON text, and octets as JSON text.
+ghost use Rattle.std.specs.Prelude.{◌≡◌, Ok, IfOk, IfErr, IsUtf8, string_bytes};
+ghost use Rattle.json.specs.Lex.{tokens};
+ghost use Rattle.json.specs.Print.{print};
+ghost use Rattle.json.specs.Layout.{pretty};
+ghost use Rattle.rasn.specs.Headline.{AnsweredAlone};
+ghost use Rattle.rasn_schema.specs.declared.value.Value.{Value};
+ghost use Rattle.rasn_schema.specs.Trees.{tree_of};
+ghost use Rattle.rasn_dynamic.specs.Entry.{FitsType, IsEncoded, shape_of};
+ghost use Rattle.rasn_json.specs.Entry.{HasJson, IsLaidOut, IsNoJsonOf, IsNotEncodedFrom, IsReadAs};
+
+use crate::error::JsonError;
+use crate::layout::Layout;
+use crate::reader::value_at;
+use crate::syntax::{MAX_NESTING, parse};
+use crate::tokens::Compact;
+use crate::writer::put_at;
+use json::{Pretty, Scratch, Writer};
+use rasn_dynamic::{WriteError, decode};
+use rasn_schema::{Schema, TypeId, Value};
+use rasn_types::error::DecodeError;
+use rasn_types::types::Codec;
+use std::alloc::Global;
+use thiserror::Error;
+
+/// Returns a value as JSON text (X.697).
+///
+/// # Errors
+/// - `Unfit` at the part that isn't a value of its type, as `fits` tells.
+/// - `NoJson` for a value without JSON: a BMPString with an unpaired surrogate, a time of a year that
+///   its text can't have, or with more than the text says.
+/// - `WrongSize` for a BIT STRING that hasn't the one size of its type.
+/// - `TooDeep` if arrays and objects would be nested more than [`MAX_NESTING`] deep.
+/// - `OutOfMemory`.
+pub fn to_json(
+    alloc: Global,
+    schema: &Schema,
+    id: TypeId,
+    value: &Value<'_>,
+    layout: Layout,
+) -> Result<String, JsonError>
+    ensures json { IfOk result (λ text. HasJson schema.now.types.items id.0 value.now (string_bytes text)) }
+    ensures layout { IfOk result (λ text. IsLaidOut layout (string_bytes text)) }
+{
+    match layout {
+        Layout::Compact => compact(alloc, schema, id, value),
+        Layout::Indented => indented(alloc, schema, id, value),
+    }
+}
+
+/// Returns a value as JSON text without spaces.
+fn compact(
+    alloc: Global,
+    schema: &Schema,
+    id: TypeId,
+    value: &Value<'_>,
+) -> Result<String, JsonError>
+    ensures json { IfOk result (λ text. HasJson schema.now.types.items id.0 value.now (string_bytes text)) }
+    ensures text { IfOk result (λ text. string_bytes text ≡ print (tokens (string_bytes text))) }
+{
+    let mut out = Compact {
+        out: Writer::new(Vec::new(alloc)),
+    };
+    put_at(
+        &mut out,
+        alloc,
+        schema.types(),
+        usize::MAX,
+        MAX_NESTING,
+        id,
+        value,
+    )?;
+    Ok(text_of(out.out.into_inner()))
+}
+
+/// Returns a value as JSON text with line breaks.
+fn indented(
+    alloc: Global,
+    schema: &Schema,
+    id: TypeId,
+    value: &Value<'_>,
+) -> Result<String, JsonError>
+    ensures json { IfOk result (λ text. HasJson schema.now.types.items id.0 value.now (string_bytes text)) }
+    ensures text { IfOk result (λ text. string_bytes text ≡ pretty (tokens (string_bytes text))) }
+{
+    let mut out = Pretty::new(alloc);
+    put_at(
+        &mut out,
+        alloc,
+        schema.types(),
+        usize::MAX,
+        MAX_NESTING,
+        id,
+        value,
+    )?;
+    Ok(text_of(out.into_inner()))
+}
+
+/// Returns UTF-8 as text.
+fn text_of(octets: Vec<u8>) -> String
+    requires { IsUtf8 octets.items }
+    ensures { string_bytes result ≡ octets.items }
+{
+    match String::from_utf8(octets) {
+        Ok(text) => text,
+        Err(_) => unreachable!(),
+    }
+}
+
+/// Returns the value that a JSON text is (X.697). It borrows nothing from the text.
+///
+/// # Errors
+/// Says which part is refused and why: `Syntax` if the text isn't JSON, and else the first part, in
+/// the order of the components, that isn't a value of its type.
+pub fn from_json<'any>(
+    alloc: Global,
+    schema: &Schema,
+    id: TypeId,
+    text: &str,
+) -> Result<Value<'any>, JsonError>
+    ensures fits { IfOk result (λ v. FitsType schema.now.types.items id.0 v) }
+    ensures reads { IfOk result (IsReadAs schema.now.types.items id.0 text.now) }
+{
+    let mut scratch = Scratch::new(alloc);
+    let json = parse(alloc, text, &mut scratch)?;
+    value_at(alloc, schema.types(), usize::MAX, id, &json)
+}
+
+/// Why octets have no JSON.
+#[derive(Debug, Drop, Error)]
+pub enum ToJsonError {
+    /// The octets aren't a value of the type.
+    #[error("{0}")]
+    Decode(DecodeError),
+    /// The value has no JSON.
+    #[error("{0}")]
+    Json(JsonError),
+}
+
+/// Why JSON has no octets.
+#[derive(Debug, Drop, Error)]
+pub enum EncodeJsonError {
+    /// The text isn't the JSON of a value of the type.
+    #[error("{0}")]
+    Json(JsonError),
+    /// The value has no encoding.
+    #[error("{0}")]
+    Encode(WriteError),
+}
+
+impl EncodeJsonError {
+    /// Returns whether memory ran out.
+    pub fn is_out_of_memory(&self) -> bool {
+        match self {
+            EncodeJsonError::Json(error) => error.is_out_of_memory(),
+            EncodeJsonError::Encode(WriteError::Encode(error)) => error.is_out_of_memory(),
+            EncodeJsonError::Encode(WriteError::Unfit { .. }) => false,
+        }
+    }
+}
+
+/// Returns the JSON text of the value that is all of the input by these rules.
+///
+/// # Errors
+/// As [`rasn_dynamic::decode`], and as [`to_json`] of what it returns.
+pub fn json(
+    alloc: Global,
+    rule: Codec,
+    schema: &Schema,
+    id: TypeId,
+    input: &[u8],
+    layout: Layout,
+) -> Result<String, ToJsonError>
+    ensures ok { IfOk result (λ text. (v : Value) × AnsweredAlone rule (shape_of schema.now.types.items id.0) tree_of input.now (Ok v) × HasJson schema.now.types.items id.0 v (string_bytes text)) }
+    ensures layout { IfOk result (λ text. IsLaidOut layout (string_bytes text)) }
+    ensures err { IfErr result (IsNoJsonOf rule schema.now.types.items id.0 input.now) }
+{
+    match decode(alloc, rule, schema, id, input) {
+        Ok(value) => match to_json(alloc, schema, id, &value, layout) {
+            Ok(text) => Ok(text),
+            Err(error) => Err(ToJsonError::Json(error)),
+        },
+        Err(error) => Err(ToJsonError::Decode(error)),
+    }
+}
+
+/// Returns the octets, by these rules, of the value that a JSON text is.
+///
+/// # Errors
+/// As [`from_json`], and as [`rasn_dynamic::encode`] of what it returns.
+pub fn encode(
+    alloc: Global,
+    rule: Codec,
+    schema: &Schema,
+    id: TypeId,
+    text: &str,
+) -> Result<Vec<u8>, EncodeJsonError>
+    ensures ok { IfOk result (λ octets. (v : Value) × IsReadAs schema.now.types.items id.0 text.now v × IsEncoded rule schema.now.types.items id.0 v octets.items) }
+    ensures err { IfErr result (IsNotEncodedFrom rule schema.now.types.items id.0 text.now) }
+{
+    match from_json(alloc, schema, id, text) {
+        Ok(value) => match rasn_dynamic::encode(alloc, rule, schema, id, &value) {
+            Ok(octets) => Ok(octets),
+            Err(error) => Err(EncodeJsonError::Encode(error)),
+        },
+        Err(error) => Err(EncodeJsonError::Json(error)),
+    }
+}

@@ -1,0 +1,71 @@
+//! Which form a JSON value has.
+ghost use Rattle.std.specs.Prelude.{◌≡◌, Some, IfOk};
+ghost use Rattle.json.specs.Find.{as_str};
+ghost use Rattle.json.specs.Value.{value_view};
+ghost use Rattle.rasn_json.specs.Reading.{WholeRead};
+
+use crate::decimal::integer_of;
+use crate::error::{JsonError, JsonErrorKind, or_memory};
+use json::Value as Json;
+use rasn_types::types::Integer;
+use std::alloc::Global;
+
+/// Returns the form of a JSON value, for errors.
+fn form_of(json: &Json<'_>) -> &'static str {
+    match json {
+        Json::Null => "null",
+        Json::Bool(_) => "a truth value",
+        Json::Number(_) => "a number",
+        Json::String(_) => "a string",
+        Json::Array(_) => "an array",
+        Json::Object(_) => "an object",
+    }
+}
+
+/// Returns the error that a JSON value has another form than this.
+pub fn other_form(alloc: Global, expected: &'static str, json: &Json<'_>) -> JsonError {
+    let kind = JsonErrorKind::OtherForm {
+        expected,
+        found: form_of(json),
+    };
+    JsonError::new(alloc, kind)
+}
+
+/// Returns the characters of a string.
+pub fn string_of<'text>(
+    alloc: Global,
+    expected: &'static str,
+    json: &Json<'text>,
+) -> Result<&'text str, JsonError>
+    ensures { IfOk result (λ s. as_str (value_view json.now) ≡ Some s.now) }
+{
+    match json.as_str() {
+        Some(text) => Ok(text),
+        None => Err(other_form(alloc, expected, json)),
+    }
+}
+
+/// Returns a whole number.
+pub fn whole_number(
+    alloc: Global,
+    expected: &'static str,
+    json: &Json<'_>,
+) -> Result<Integer, JsonError>
+    ensures { IfOk result (λ n. WholeRead (value_view json.now) n) }
+{
+    let Some(text) = json.as_number() else {
+        return Err(other_form(alloc, expected, json));
+    };
+    match or_memory(alloc, integer_of(alloc, text))? {
+        Some(number) => Ok(number),
+        None => Err(JsonError::new(alloc, JsonErrorKind::NotWhole)),
+    }
+}
+
+/// Returns a copy of a name, for errors.
+pub fn copied(alloc: Global, name: &str) -> Result<String, JsonError> {
+    match String::from_str(alloc, name) {
+        Ok(name) => Ok(name),
+        Err(_) => Err(JsonError::memory(alloc)),
+    }
+}

@@ -1,0 +1,271 @@
+//! Values that hold no others, as JSON.
+ghost use Rattle.std.specs.Prelude.{◌≡◌, ◌∷◌, ◌++◌, [], Some, Ok, codes, OnOk, IfOk, string_bytes, decimal};
+ghost use Rattle.json.specs.Reads.{token_of};
+ghost use Rattle.json.specs.Print.{IsPrintable};
+ghost use Rattle.json.specs.Json.{string};
+ghost use Rattle.json.specs.Token.{number};
+ghost use Rattle.rasn_types.specs.Text.{dotted, shown_day};
+ghost use Rattle.rasn_json.specs.Json.{Appends, BitsJson, EnumeratedJson, HexadecimalJson, InstantJson, IntegerJson, IsString, LeafJson, NumberJson, OctetsJson, OpenJson};
+
+use crate::bits::fixed_size;
+use crate::characters::{text_of, text_of_units};
+use crate::decimal::decimal_of;
+use crate::digits::digits_of;
+use crate::error::{JsonError, JsonErrorKind, or_memory};
+use crate::number::{is_enumerated, name_of};
+use crate::times::{text_of_day, text_of_instant};
+use crate::tokens::Tokens;
+use json::{Token, is_number};
+use rasn_schema::{LeafKind, NamedNumber, Value, leaf_fits};
+use rasn_types::types::{
+    BitStr, BitString, BmpString, Constraints, Date, GeneralizedTime, Integer, ObjectIdentifier,
+};
+use std::alloc::{AllocError, Global};
+
+/// Appends a token.
+pub fn put<T: Tokens>(out: &mut T, alloc: Global, token: Token<'_>) -> Result<(), JsonError>
+    requires { IsPrintable (token_of token) }
+    ensures { OnOk result (T.Tokens.written out.new ≡ T.Tokens.written out.old ++ token_of token.entry ∷ []) }
+{
+    or_memory(alloc, out.put(token))
+}
+
+/// Returns a text, or an error if memory ran out or the value has none.
+fn some_text(alloc: Global, text: Result<Option<String>, AllocError>) -> Result<String, JsonError>
+    ensures { IfOk result (λ s. text ≡ Ok (Some s)) }
+{
+    match text {
+        Ok(Some(text)) => Ok(text),
+        Ok(None) => Err(JsonError::new(alloc, JsonErrorKind::NoJson)),
+        Err(_) => Err(JsonError::memory(alloc)),
+    }
+}
+
+/// Returns the error of a value that isn't one of its type.
+pub fn unfit(alloc: Global) -> JsonError {
+    JsonError::new(alloc, JsonErrorKind::Unfit)
+}
+
+/// Appends a number.
+fn put_number<T: Tokens>(out: &mut T, alloc: Global, number: &Integer) -> Result<(), JsonError>
+    ensures { OnOk result (Appends (NumberJson number.now) (T.Tokens.written out.old) (T.Tokens.written out.new)) }
+{
+    let text = or_memory(alloc, decimal_of(alloc, number))?;
+    if is_number(text.as_str()) {
+        return put(out, alloc, Token::Number(text.as_str()));
+    }
+    Err(JsonError::new(alloc, JsonErrorKind::NoJson))
+}
+
+/// Appends the number of an INTEGER, or of an ENUMERATED with an extension marker: its name or, if it
+/// has none, the number.
+fn put_integer<T: Tokens>(
+    out: &mut T,
+    alloc: Global,
+    kind: LeafKind,
+    names: &[NamedNumber],
+    number: &Integer,
+) -> Result<(), JsonError>
+    ensures { OnOk result (Appends (IntegerJson kind names.now number.now) (T.Tokens.written out.old) (T.Tokens.written out.new)) }
+{
+    if is_enumerated(kind, names) {
+        if let Some(name) = name_of(names, number) {
+            return put(out, alloc, Token::String(name));
+        }
+    }
+    put_number(out, alloc, number)
+}
+
+/// Appends the name of a number of an ENUMERATED.
+pub fn put_enumerated<T: Tokens>(
+    out: &mut T,
+    alloc: Global,
+    numbers: &[NamedNumber],
+    value: &Value<'_>,
+) -> Result<(), JsonError>
+    ensures { OnOk result (Appends (EnumeratedJson numbers.now value.now) (T.Tokens.written out.old) (T.Tokens.written out.new)) }
+{
+    let Value::Integer(number) = value else {
+        return Err(unfit(alloc));
+    };
+    match name_of(numbers, number) {
+        Some(name) => put(out, alloc, Token::String(name)),
+        None => Err(unfit(alloc)),
+    }
+}
+
+/// Appends octets as hexadecimal digits.
+fn put_digits<T: Tokens>(out: &mut T, alloc: Global, octets: &[u8]) -> Result<(), JsonError>
+    ensures { OnOk result (Appends (HexadecimalJson octets.now) (T.Tokens.written out.old) (T.Tokens.written out.new)) }
+{
+    let digits = or_memory(alloc, digits_of(alloc, octets))?;
+    put(out, alloc, Token::String(digits.as_str()))
+}
+
+/// Appends the octets of an open type.
+pub fn put_open<T: Tokens>(out: &mut T, alloc: Global, value: &Value<'_>) -> Result<(), JsonError>
+    ensures { OnOk result (Appends (OpenJson value.now) (T.Tokens.written out.old) (T.Tokens.written out.new)) }
+{
+    match value {
+        Value::Octets(octets) => put_digits(out, alloc, octets.as_slice()),
+        _ => Err(unfit(alloc)),
+    }
+}
+
+/// Appends bits: as a string if the type has one size, else as an object with their number.
+fn put_bits<T: Tokens>(
+    out: &mut T,
+    alloc: Global,
+    depth: usize,
+    kind: LeafKind,
+    constraints: &Constraints,
+    bits: &BitStr<'_>,
+) -> Result<(), JsonError>
+    ensures { OnOk result (Appends (BitsJson bits.now) (T.Tokens.written out.old) (T.Tokens.written out.new)) }
+{
+    match fixed_size(constraints) {
+        Some(size) => {
+            if bits.len() == size || kind == LeafKind::NamedBits && bits.len() < size {
+                return put_fixed_bits(out, alloc, size, bits);
+            }
+            let kind = JsonErrorKind::WrongSize {
+                size: bits.len(),
+                expected: constraints.size_bounds(),
+            };
+            Err(JsonError::new(alloc, kind))
+        }
+        None => {
+            if depth == 0 {
+                return Err(JsonError::new(alloc, JsonErrorKind::TooDeep));
+            }
+            put_counted_bits(out, alloc, bits)
+        }
+    }
+}
+
+/// Appends bits, and 0 bits up to this size, as hexadecimal digits.
+fn put_fixed_bits<T: Tokens>(
+    out: &mut T,
+    alloc: Global,
+    size: usize,
+    bits: &BitStr<'_>,
+) -> Result<(), JsonError>
+    ensures { OnOk result (Appends (BitsJson bits.now) (T.Tokens.written out.old) (T.Tokens.written out.new)) }
+{
+    let mut octets = or_memory(alloc, BitString::from_bitstr(alloc, bits))?.into_vec();
+    or_memory(alloc, octets.resize(size.div_ceil(8), 0))?;
+    put_digits(out, alloc, octets.as_slice())
+}
+
+/// Appends bits as an object with their hexadecimal digits and their number.
+fn put_counted_bits<T: Tokens>(
+    out: &mut T,
+    alloc: Global,
+    bits: &BitStr<'_>,
+) -> Result<(), JsonError>
+    ensures { OnOk result (Appends (BitsJson bits.now) (T.Tokens.written out.old) (T.Tokens.written out.new)) }
+{
+    let octets = or_memory(alloc, BitString::from_bitstr(alloc, bits))?.into_vec();
+    put(out, alloc, Token::BeginObject)?;
+    put(out, alloc, Token::Key("value"))?;
+    put_digits(out, alloc, octets.as_slice())?;
+    put(out, alloc, Token::Key("length"))?;
+    put_size(out, alloc, bits.len())?;
+    put(out, alloc, Token::EndObject)
+}
+
+/// Appends a size.
+fn put_size<T: Tokens>(out: &mut T, alloc: Global, size: usize) -> Result<(), JsonError>
+    ensures { OnOk result (T.Tokens.written out.new ≡ T.Tokens.written out.old ++ number (decimal size) ∷ []) }
+{
+    let mut buffer = itoa::Buffer::new();
+    put(out, alloc, Token::Number(buffer.format(size)))
+}
+
+/// Appends octets: as hexadecimal digits, or as the characters that they are.
+fn put_octets<T: Tokens>(
+    out: &mut T,
+    alloc: Global,
+    kind: LeafKind,
+    octets: &[u8],
+) -> Result<(), JsonError>
+    ensures { OnOk result (Appends (OctetsJson kind octets.now) (T.Tokens.written out.old) (T.Tokens.written out.new)) }
+{
+    match kind {
+        LeafKind::OctetString => put_digits(out, alloc, octets),
+        LeafKind::FixedOctetString(_) => put_digits(out, alloc, octets),
+        _ => {
+            let text = or_memory(alloc, text_of(alloc, octets))?;
+            put(out, alloc, Token::String(text.as_str()))
+        }
+    }
+}
+
+/// Appends the units of a BMPString.
+fn put_units<T: Tokens>(out: &mut T, alloc: Global, units: &BmpString) -> Result<(), JsonError>
+    ensures { OnOk result (Appends IsString (T.Tokens.written out.old) (T.Tokens.written out.new)) }
+{
+    let text = some_text(alloc, text_of_units(alloc, units))?;
+    put(out, alloc, Token::String(text.as_str()))
+}
+
+/// Appends the arcs of an OBJECT IDENTIFIER.
+fn put_arcs<T: Tokens>(out: &mut T, alloc: Global, arcs: &ObjectIdentifier) -> Result<(), JsonError>
+    ensures { OnOk result (Appends (λ j. j ≡ string (dotted arcs.now)) (T.Tokens.written out.old) (T.Tokens.written out.new)) }
+{
+    let text = or_memory(alloc, format!(in alloc; "{arcs}"))?;
+    put(out, alloc, Token::String(text.as_str()))
+}
+
+/// Appends an instant.
+fn put_instant<T: Tokens>(
+    out: &mut T,
+    alloc: Global,
+    kind: LeafKind,
+    time: &GeneralizedTime,
+) -> Result<(), JsonError>
+    ensures { OnOk result (Appends (InstantJson kind time.now.moment) (T.Tokens.written out.old) (T.Tokens.written out.new)) }
+{
+    let text = some_text(alloc, text_of_instant(alloc, kind, time))?;
+    put(out, alloc, Token::String(text.as_str()))
+}
+
+/// Appends a day.
+fn put_day<T: Tokens>(out: &mut T, alloc: Global, day: &Date) -> Result<(), JsonError>
+    ensures { OnOk result (Appends (λ j. j ≡ string (shown_day day.now)) (T.Tokens.written out.old) (T.Tokens.written out.new)) }
+{
+    let text = some_text(alloc, text_of_day(alloc, day))?;
+    put(out, alloc, Token::String(text.as_str()))
+}
+
+/// Appends a value that holds no others. So many arrays and objects may be nested in it.
+pub fn put_leaf<T: Tokens>(
+    out: &mut T,
+    alloc: Global,
+    depth: usize,
+    kind: LeafKind,
+    constraints: &Constraints,
+    names: &[NamedNumber],
+    value: &Value<'_>,
+) -> Result<(), JsonError>
+    ensures { OnOk result (Appends (LeafJson kind names.now value.now) (T.Tokens.written out.old) (T.Tokens.written out.new)) }
+{
+    if !leaf_fits(kind, value) {
+        return Err(unfit(alloc));
+    }
+    match value {
+        Value::Boolean(truth) => put(out, alloc, Token::Bool(*truth)),
+        Value::Null => put(out, alloc, Token::Null),
+        Value::Integer(number) => put_integer(out, alloc, kind, names, number),
+        Value::Bits(bits) => put_bits(out, alloc, depth, kind, constraints, &bits.as_bitstr()),
+        Value::Octets(octets) => put_octets(out, alloc, kind, octets.as_slice()),
+        Value::Text(text) => put(out, alloc, Token::String(text.as_str())),
+        Value::Units(units) => put_units(out, alloc, units),
+        Value::Arcs(arcs) => put_arcs(out, alloc, arcs),
+        Value::Instant(time) => put_instant(out, alloc, kind, time),
+        Value::Day(day) => put_day(out, alloc, day),
+        Value::Items(_) | Value::Elements(_) | Value::Chosen(_, _) | Value::Absent => {
+            unreachable!()
+        }
+    }
+}

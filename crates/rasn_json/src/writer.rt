@@ -1,0 +1,242 @@
+//! Values as JSON.
+ghost use Rattle.std.specs.Prelude.{◌≡◌, ◌<◌, OnOk};
+ghost use Rattle.json.specs.Json.{object, array};
+ghost use Rattle.rasn_schema.specs.Fitting.{IsChosen};
+ghost use Rattle.rasn_json.specs.Json.{Appends, AppendsComponent, AppendsMember, ArrayJson, ChosenJson, JsonAt, JsonBy, ObjectJson};
+
+use crate::error::{JsonError, JsonErrorKind};
+use crate::tokens::Tokens;
+use crate::write_leaf::{put, put_enumerated, put_leaf, put_open, unfit};
+use json::Token;
+use rasn_schema::{
+    Alternative, Component, Type, TypeId, Value, elements_of, is_left_out, items_of, type_at,
+};
+use std::alloc::Global;
+
+/// Appends a value of the type with this number, types followed `levels` deep. So many arrays and
+/// objects may be nested in it.
+#[cycle(write)]
+pub fn put_at<T: Tokens>(
+    out: &mut T,
+    alloc: Global,
+    types: &[Type],
+    levels: usize,
+    depth: usize,
+    id: TypeId,
+    value: &Value<'_>,
+) -> Result<(), JsonError>
+    ensures { OnOk result (Appends (JsonAt types.now levels id.0 value.now) (T.Tokens.written out.old) (T.Tokens.written out.new)) }
+{
+    if levels == 0 {
+        return Err(unfit(alloc));
+    }
+    match type_at(types, id) {
+        Some(ty) => put_value(out, alloc, types, levels - 1, depth, ty, value),
+        None => Err(JsonError::new(alloc, JsonErrorKind::NoType { id })),
+    }
+}
+
+/// Appends a value of a type.
+#[cycle(write)]
+fn put_value<T: Tokens>(
+    out: &mut T,
+    alloc: Global,
+    types: &[Type],
+    below: usize,
+    depth: usize,
+    ty: &Type,
+    value: &Value<'_>,
+) -> Result<(), JsonError>
+    ensures { OnOk result (Appends (JsonBy (JsonAt types.now below) ty.now value.now) (T.Tokens.written out.old) (T.Tokens.written out.new)) }
+{
+    match ty {
+        Type::Leaf {
+            kind,
+            constraints,
+            names,
+            ..
+        } => put_leaf(out, alloc, depth, *kind, constraints, names, value),
+        Type::Enumerated { numbers, .. } => put_enumerated(out, alloc, numbers, value),
+        Type::Any { .. } => put_open(out, alloc, value),
+        Type::Tagged { inner, .. } => put_at(out, alloc, types, below, depth, *inner, value),
+        _ => {
+            if depth == 0 {
+                return Err(JsonError::new(alloc, JsonErrorKind::TooDeep));
+            }
+            put_inside(out, alloc, types, below, depth - 1, ty, value)
+        }
+    }
+}
+
+/// Appends a value that holds others.
+#[cycle(write)]
+fn put_inside<T: Tokens>(
+    out: &mut T,
+    alloc: Global,
+    types: &[Type],
+    below: usize,
+    depth: usize,
+    ty: &Type,
+    value: &Value<'_>,
+) -> Result<(), JsonError>
+    ensures { OnOk result (Appends (JsonBy (JsonAt types.now below) ty.now value.now) (T.Tokens.written out.old) (T.Tokens.written out.new)) }
+{
+    match ty {
+        Type::Choice { alternatives, .. } => {
+            put_chosen(out, alloc, types, below, depth, alternatives, value)
+        }
+        Type::Sequence { components, .. } | Type::Set { components, .. } => match items_of(value) {
+            Some(values) => put_object(out, alloc, types, below, depth, components, values),
+            None => Err(unfit(alloc)),
+        },
+        Type::SequenceOf { element, .. } => match items_of(value) {
+            Some(values) => put_array(out, alloc, types, below, depth, *element, values),
+            None => Err(unfit(alloc)),
+        },
+        Type::SetOf { element, .. } => match elements_of(value) {
+            Some(values) => put_array(out, alloc, types, below, depth, *element, values),
+            None => Err(unfit(alloc)),
+        },
+        _ => Err(unfit(alloc)),
+    }
+}
+
+/// Appends the alternative that is chosen, as an object with one member.
+#[cycle(write)]
+fn put_chosen<T: Tokens>(
+    out: &mut T,
+    alloc: Global,
+    types: &[Type],
+    below: usize,
+    depth: usize,
+    alternatives: &[Alternative],
+    value: &Value<'_>,
+) -> Result<(), JsonError>
+    ensures { OnOk result (Appends (λ j. IsChosen (ChosenJson (JsonAt types.now below) alternatives.now j) value.now) (T.Tokens.written out.old) (T.Tokens.written out.new)) }
+{
+    let Value::Chosen(index, inner) = value else {
+        return Err(unfit(alloc));
+    };
+    let Some(alternative) = alternatives.get(*index) else {
+        return Err(unfit(alloc));
+    };
+    put(out, alloc, Token::BeginObject)?;
+    put_member(
+        out,
+        alloc,
+        types,
+        below,
+        depth,
+        alternative.name.as_str(),
+        alternative.type_id,
+        inner,
+    )?;
+    put(out, alloc, Token::EndObject)
+}
+
+/// Appends a member.
+#[cycle(write)]
+fn put_member<T: Tokens>(
+    out: &mut T,
+    alloc: Global,
+    types: &[Type],
+    below: usize,
+    depth: usize,
+    name: &str,
+    id: TypeId,
+    value: &Value<'_>,
+) -> Result<(), JsonError>
+    ensures { OnOk result (AppendsMember (JsonAt types.now below id.0 value.now) name.now (T.Tokens.written out.old) (T.Tokens.written out.new)) }
+{
+    put(out, alloc, Token::Key(name))?;
+    match put_at(out, alloc, types, below, depth, id, value) {
+        Ok(()) => Ok(()),
+        Err(error) => Err(error.in_member(alloc, name)),
+    }
+}
+
+/// Appends components as an object, except those that are absent or have their default's value.
+#[cycle(write)]
+fn put_object<T: Tokens>(
+    out: &mut T,
+    alloc: Global,
+    types: &[Type],
+    below: usize,
+    depth: usize,
+    components: &[Component],
+    values: &[Value<'_>],
+) -> Result<(), JsonError>
+    ensures { OnOk result (Appends (λ j. ObjectJson (JsonAt types.now below) components.now j values.now) (T.Tokens.written out.old) (T.Tokens.written out.new)) }
+{
+    put(out, alloc, Token::BeginObject)?;
+    let mut rest = components;
+    let mut left = values;
+    while let [component, after @ ..] = rest {
+        let [value, others @ ..] = left else {
+            return Err(unfit(alloc));
+        };
+        put_component(out, alloc, types, below, depth, component, value)?;
+        rest = after;
+        left = others;
+    }
+    if left.is_empty() {
+        return put(out, alloc, Token::EndObject);
+    }
+    Err(unfit(alloc))
+}
+
+/// Appends a component, or nothing if it is absent or has its default's value.
+#[cycle(write)]
+fn put_component<T: Tokens>(
+    out: &mut T,
+    alloc: Global,
+    types: &[Type],
+    below: usize,
+    depth: usize,
+    component: &Component,
+    value: &Value<'_>,
+) -> Result<(), JsonError>
+    ensures { OnOk result (AppendsComponent (JsonAt types.now below) component.now value.now (T.Tokens.written out.old) (T.Tokens.written out.new)) }
+{
+    if is_left_out(component, value) {
+        return Ok(());
+    }
+    let name = component.name.as_str();
+    put_member(
+        out,
+        alloc,
+        types,
+        below,
+        depth,
+        name,
+        component.type_id,
+        value,
+    )
+}
+
+/// Appends elements as an array.
+#[cycle(write)]
+fn put_array<T: Tokens>(
+    out: &mut T,
+    alloc: Global,
+    types: &[Type],
+    below: usize,
+    depth: usize,
+    element: TypeId,
+    values: &[Value<'_>],
+) -> Result<(), JsonError>
+    ensures { OnOk result (Appends (λ j. ArrayJson (JsonAt types.now below element.0) j values.now) (T.Tokens.written out.old) (T.Tokens.written out.new)) }
+{
+    put(out, alloc, Token::BeginArray)?;
+    let mut index = 0usize;
+    let mut left = values;
+    while let [value, others @ ..] = left {
+        match put_at(out, alloc, types, below, depth, element, value) {
+            Ok(()) => {}
+            Err(error) => return Err(error.in_element(alloc, index)),
+        }
+        left = others;
+        index += 1;
+    }
+    put(out, alloc, Token::EndArray)
+}
