@@ -5,7 +5,6 @@
 
 mod catalog;
 mod command_line;
-mod conversion;
 mod dump;
 mod fault;
 mod identifiers;
@@ -25,7 +24,6 @@ mod work;
 
 pub use catalog::{known_of, modules_of, print_types, wanted_type};
 pub use command_line::{Call, InputForm, Work, call_of, command};
-pub use conversion::{NoJson, json_of};
 pub use dump::{DumpError, Entry, dump_text, entries};
 pub use fault::Fault;
 pub use known::Known;
