@@ -32,8 +32,8 @@ pub fn fixed_size(constraints: &Constraints) -> Option<usize>
     }
 }
 
-/// Returns the bits that a JSON value is: digits for as many bits as the type has, or an object with
-/// digits and the number of bits.
+/// Returns the bits that a JSON value is: digits for as many bits as the type has, or an object
+/// with digits and the number of bits.
 pub fn bits_of(
     alloc: Global,
     constraints: &Constraints,

@@ -5,6 +5,6 @@
 pub enum Layout {
     /// Without a space or a line break.
     Compact,
-    /// A line for each member and element, indented by two spaces for each array or object around it.
+    /// A line for each member and element, indented by two spaces for each array or object around.
     Indented,
 }

@@ -124,7 +124,11 @@ pub fn extensible_value<'any>(
 }
 
 /// Returns a value of a kind, or an error if its number is out of the kind's range.
-fn checked<'any>(alloc: Global, kind: LeafKind, value: Value<'any>) -> Result<Value<'any>, JsonError>
+fn checked<'any>(
+    alloc: Global,
+    kind: LeafKind,
+    value: Value<'any>,
+) -> Result<Value<'any>, JsonError>
     ensures fits { IfOk result (λ v. FitsLeaf kind v) }
     ensures same { IfOk result (λ v. v ≡ value.entry) }
 {

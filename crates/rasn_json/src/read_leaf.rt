@@ -238,11 +238,7 @@ fn text_of(alloc: Global, constraints: &Constraints, json: &Json<'_>) -> Result<
     or_memory(alloc, String::from_str(alloc, text))
 }
 
-fn time_of(
-    alloc: Global,
-    kind: LeafKind,
-    json: &Json<'_>,
-) -> Result<GeneralizedTime, JsonError>
+fn time_of(alloc: Global, kind: LeafKind, json: &Json<'_>) -> Result<GeneralizedTime, JsonError>
     ensures { IfOk result (λ t. InstantRead kind (value_view json.now) t.moment) }
 {
     let text = string_of(alloc, "a string", json)?;

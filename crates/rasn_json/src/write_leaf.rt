@@ -57,8 +57,8 @@ fn put_number<T: Tokens>(out: &mut T, alloc: Global, number: &Integer) -> Result
     Err(JsonError::new(alloc, JsonErrorKind::NoJson))
 }
 
-/// Appends the number of an INTEGER, or of an ENUMERATED with an extension marker: its name or, if it
-/// has none, the number.
+/// Appends the number of an INTEGER, or of an ENUMERATED with an extension marker: its name or, if
+/// it has none, the number.
 fn put_integer<T: Tokens>(
     out: &mut T,
     alloc: Global,

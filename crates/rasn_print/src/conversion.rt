@@ -60,7 +60,14 @@ pub(crate) fn json_answer(
     } else {
         Layout::Indented
     };
-    match json_of(alloc, wanted.rule, &wanted.schema, wanted.root, octets, layout) {
+    match json_of(
+        alloc,
+        wanted.rule,
+        &wanted.schema,
+        wanted.root,
+        octets,
+        layout,
+    ) {
         Ok(text) => Ok(Answer::Done(format!(in alloc; "{text}\n")?.into_bytes())),
         Err(NoJson::Unread(ReadError::OutOfMemory)) => Err(AllocError),
         Err(NoJson::Unread(ReadError::Refused(refusal))) => refusal_answer(alloc, wanted, &refusal),

@@ -1,6 +1,5 @@
 use Rattle.std.proofs.Common.{◌≡◌, ◌+◌, ◌++◌, ◌∷◌, [], ℕ, List, take, get_or, refl, sym, ap, ◌∙◌, subst, arith, string_bytes}
 use Rattle.std.specs.Prelude.{encode_utf8_all, encode_utf8}
-
 use Rattle.std.proofs.lemmas.List.{take_more}
 use Rattle.rasn_json.proofs.Spelled.{one_more_character}
 use Rattle.rasn_json.proofs.characters.text_of.Goals as goal

@@ -42,10 +42,12 @@ object_value-returns-clause-reads t c = are_items (ObjectRead (ReadAt c.args.typ
 
 pub chosen_value-returns-in-Ok-new-clause-fits : goal.chosen_value-returns-in-Ok-new-clause-fits
 chosen_value-returns-in-Ok-new-clause-fits t c =
-    let n = c.in-Some.ensures.0 in
-    (c.index-alternatives-index.result, read_at c.args.alternatives.now c.in-Some.index c.index-alternatives-index.result (slice_get_within c.args.alternatives.now c.in-Some.index n.0 (sym n.1)) c.index-alternatives-index.is,
+    let n = c.in-Some.ensures.0 in (
+      c.index-alternatives-index.result,
+      read_at c.args.alternatives.now c.in-Some.index c.index-alternatives-index.result (slice_get_within c.args.alternatives.now c.in-Some.index n.0 (sym n.1)) c.index-alternatives-index.is,
       subst (Fits c.args.types.now c.args.below c.index-alternatives-index.result.type_id.0) (sym c.in-Ok-new.ensures.ok)
-      (subst (λ (a : Alternative). Fits c.args.types.now c.args.below a.type_id.0 c.in-Ok.value) (sym c.index-alternatives-index.is) c.in-Ok.ensures.fits))
+          (subst (λ (a : Alternative). Fits c.args.types.now c.args.below a.type_id.0 c.in-Ok.value) (sym c.index-alternatives-index.is) c.in-Ok.ensures.fits),
+    )
 
 pub chosen_value-returns-in-Ok-new-clause-reads : goal.chosen_value-returns-in-Ok-new-clause-reads
 chosen_value-returns-in-Ok-new-clause-reads t c =
