@@ -7,8 +7,8 @@ use Rattle.rasn_types.specs.declared.types.tag.Tag.{Tag}
 use Rattle.rasn_types.specs.declared.error.decode.DecodeError.{DecodeError}
 use Rattle.rasn_types.specs.declared.error.decode.DecodeErrorKind.{DecodeErrorKind}
 use Rattle.rasn_types.specs.Tags.{form, IsStrict}
-use Rattle.rasn_types.specs.Framing.{NextTag}
-use Rattle.rasn_types.specs.Shapes.{Tree, chosen, Shape, choice, Parts, Presence, required, addition, optional_by, default_by, IsFirst, IsFirstOf}
+use Rattle.rasn_types.specs.Framing.{NextTag, Ended}
+use Rattle.rasn_types.specs.Shapes.{Tree, chosen, Shape, choice, Parts, Presence, presences, required, addition, optional_by, default_by, IsFirst, IsFirstOf}
 use Rattle.rasn_types.specs.Readings.{IsNoDefault}
 use Rattle.rasn_types.specs.Grammar.{Reads}
 use Rattle.rasn_types.specs.Lawful.{AreLawfulByTag}
@@ -18,12 +18,14 @@ use Rattle.rasn_de.specs.Steps.{PeeksTag, IsErrorOf}
 use Rattle.rasn_de.specs.Outcomes.{Got, refusal, outcome}
 use Rattle.rasn_de.specs.Decodes.{DecodesExactly}
 use Rattle.rasn_de.specs.Choice.{IsOnlyAlternative}
-use Rattle.rasn_de.specs.SetPartTypes.{name_at, DecodesNext}
+use Rattle.rasn_de.specs.SetPartTypes.{name_at, DecodesNext, LacksSlot, HasGap, IsToldOrMade, MakesParts, DecodesSetPartContents}
 use Rattle.rasn_de.proofs.Leaves.Outcomes.{Exact-none, Exact-refusal}
+use Rattle.rasn_de.proofs.Headers.Tags.{tagged_order}
 use Rattle.rasn_de.proofs.Constructed.Steps.{rules_same}
 use Rattle.rasn_de.proofs.Constructed.Choice.{choice_decodes}
 use Rattle.rasn_de.proofs.OwnTypes.Parts.{call_keeps}
 use Rattle.rasn_de.proofs.OwnTypes.Alternatives.{OneAlternative, no_default, as_read, alternative_got, alternative_refused, no_alternative}
+use Rattle.rasn_de.proofs.OwnTypes.SetPartTypes.{ReadTo, all_once}
 use Rattle.rasn_schema.specs.declared.types.Component.{Component}
 use Rattle.rasn_schema.specs.declared.value.Value.{Value}
 use Rattle.rasn_schema.specs.Trees.{tree_of}
@@ -112,3 +114,15 @@ pub member_shorter : (keep : Bool) (ps : Parts) (names : List (List ℕ)) (befor
     → DecodesMember keep ps names before old (Ok r) new after → length new.rest < length old.rest
 member_shorter keep ps names before after slots old new None h d = let w = d slots h in shorter old.rest new.rest w.2.3.0.end w.2.3.1
 member_shorter keep ps names before after slots old new (Some told) h d = let w = d slots h in shorter old.rest new.rest w.2.5.0.end w.2.5.1
+
+-- The end of a SET whose components have been read: a failure of the end itself is for want of a component.
+lacks_gap : (ps : List Presence) (held : List (Option Tree)) (k : ℕ) → LacksSlot ps held k → HasGap ps held
+lacks_gap [] held k l = l
+lacks_gap (p ∷ ps) [] k l = l
+lacks_gap (p ∷ ps) (h ∷ held) zero (e, n) = inl (subst IsToldOrMade (sym e) tt, n)
+lacks_gap (p ∷ ps) (h ∷ held) (suc k) (f, l) = inr (lacks_gap ps held k l)
+
+pub once_read : {D : Type 0} (ps : Parts) (names : List (List ℕ)) (tree : D → Tree) (old here : State) (last : Option Tag) (held : List (Option Tree)) → Ended here.closing here.rest → ReadTo ps names old here last None held → (r : Result D DecodeError) → MakesParts ps tree names here.rule held r → DecodesSetPartContents ps tree names old r here
+once_read ps names tree old here last held n k (Ok v) m = all_once ps names tree old here last held n k (Ok v) m tt
+once_read ps names tree old here last held n k (Err e) (inl m) = inr (k.0, (k.1, (k.2, tagged_order old k.1 last k.3), n), inl m)
+once_read ps names tree old here last held n k (Err e) (inr w) = all_once ps names tree old here last held n k (Err e) (inr w) (λ o. lacks_gap (presences ps) held w.0 w.1)

@@ -7,7 +7,7 @@ use Rattle.rasn_de.specs.NamedErrors.{IsNamedError, IsDuplicateField}
 use Rattle.rasn_de.specs.SetPartTypes.{text, DecodesSetPartContents}
 use Rattle.rasn_de.specs.Constructed.{DecodesInside, list_header}
 use Rattle.rasn_de.proofs.Leaves.Outcomes.{alloc_failed}
-use Rattle.rasn_de.proofs.OwnTypes.SetPartTypes.{ReadTo, read_rules, none_read, untold, next_fails, next_passes, all_once, one_twice}
+use Rattle.rasn_de.proofs.OwnTypes.SetPartTypes.{ReadTo, read_rules, none_read, untold, next_fails, next_passes, one_twice}
 use Rattle.rasn_schema.proofs.Alternatives.{first_of_all}
 use Rattle.rasn_types.specs.Lawful.{IsLawful}
 use Rattle.rasn_types.specs.Tags.{IsStrict}
@@ -49,7 +49,7 @@ use Rattle.rasn_dynamic.proofs.OnePart.{always, always_fails, looked, looked_fai
 use Rattle.rasn_dynamic.proofs.Contents.{prefix_lawful, list_lawful, set_of_lawful, seq_lawful, set_lawful, none_holds, sequence_runs_out, parts_start, parts_more, part_fails, part_fails_at, parts_run_out, parts_end}
 use Rattle.rasn_dynamic.proofs.Typed.{contents_end, contents_stay, not_sized, is_sized, missized, holds_others, is_counted, count_items, by_prefix, by_sequence, by_set, by_list, by_set_of, type_decodes, sequence_fails, sequence_made, set_fails, set_made, set_runs_out}
 use Rattle.rasn_dynamic.proofs.Pieces.{got_below, first_of_part, part_lawful, nones_come, nones_held, makes_parts}
-use Rattle.rasn_dynamic.proofs.Component.{next_unpeeked, next_unknown, next_unread, next_idle, next_put, member_shorter}
+use Rattle.rasn_dynamic.proofs.Component.{next_unpeeked, next_unknown, next_unread, next_idle, next_put, member_shorter, once_read}
 use Rattle.rasn_dynamic.proofs.Parts.{shorter}
 use Rattle.rasn_dynamic.proofs.reader.+decode.Goals.{decode_elements_in_order-else-is_strict-via-then-is_strict+else-is_less, decode_elements_in_order-else-is_strict-via-else-is_strict}
 use Rattle.rasn_dynamic.specs.Listed.{Lists, Inside, PartListed, ComponentAt, MemberListed}
@@ -870,7 +870,7 @@ decode_set-returns-clause-exact g t c =
     let h : at.twice ≡ None = search rules in
     let n = found_length _ c.args.components.now _ at.invariant.1 in
     makes_parts _ (shape_of_type c.args.types.now c.args.below) c.args.components.now _ at.found.items i.0 c.gather.result c.args.decoder.now at.decoder (DecodesSetPartContents ps items names) n i.1 c.gather.ensures.gathers
-    (λ q m. all_once ps names items c.args.decoder.now at.decoder at.last i.0 c.loop-last-test.ensures (subst (λ z. ReadTo ps names c.args.decoder.now at.decoder at.last z i.0) h i.2) q m)
+    (λ q m. once_read ps names items c.args.decoder.now at.decoder at.last i.0 c.loop-last-test.ensures (subst (λ z. ReadTo ps names c.args.decoder.now at.decoder at.last z i.0) h i.2) q m)
 
 pub decode_set-returns-clause-fits : goal.decode_set-returns-clause-fits
 decode_set-returns-clause-fits g t c = λ k. gathered_fit (Fits c.args.types.now c.args.below) _ k c.args.components.now _ c.loop-last.found.items _ (found_kept _ (Fits c.args.types.now c.args.below) k c.args.components.now c.loop-last.found.items c.loop-last.invariant.1) c.gather.ensures.gathers
