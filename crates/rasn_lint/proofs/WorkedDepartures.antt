@@ -68,6 +68,7 @@ in_sequence : LeadsInto (0 ∷ []) (48 ∷ 3 ∷ 1 ∷ 1 ∷ 1 ∷ []) (1 ∷ 1 
 in_sequence = (
   1 ∷ 1 ∷ 1 ∷ [],
   record {
+    constructed = refl;
     tag = in_universal 16;
     contents = 1 ∷ 1 ∷ 1 ∷ [];
     has = (sequence_tag, ([], ((true, 1 ∷ 1 ∷ 1 ∷ [], refl, (λ s. refl), inl sequence_frame), only_contents)));

@@ -43,9 +43,10 @@ abbrev pub FollowsAfter : ℕ → List ℕ → List ℕ → Type 0
 FollowsAfter zero octets rest = rest ≡ octets
 FollowsAfter (suc n) octets rest = (more : List ℕ) × IsFollowedBy octets more × FollowsAfter n more rest
 
--- The contents of the encoding at the start of the octets are encodings, and the one with the index k is at the start of
--- those there.
+-- The encoding at the start of the octets is constructed, and of the encodings in its contents the one with the index k is
+-- at the start of those there.
 pub record HoldsAt (k : ℕ) (octets there : List ℕ) : Type 0 where
+  pub constructed : is_constructed octets ≡ true
   pub tag : Tag
   pub contents : List ℕ
   pub has : HasContents tag octets contents
