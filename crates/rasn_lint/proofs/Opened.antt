@@ -1,16 +1,14 @@
 -- Where the octets of encodings inside an open type are.
-use Rattle.std.specs.Prelude.{min}
-use Rattle.std.proofs.Common.{◌≡◌, ◌≢◌, ◌⊎◌, inl, inr, ◌<◌, ◌≤◌, ◌+◌, ◌-◌, ◌^◌, ℕ, zero, suc, take, drop, List, [], ◌∷◌, ◌++◌, length, Bool, true, Option, Some, None, Ok, Err, refl, sym, ap, ◌∙◌, subst, append_assoc, append-nil, arith, length-append, Bor}
+use Rattle.std.proofs.Common.{◌≡◌, ◌≢◌, ◌⊎◌, inl, inr, ◌<◌, ◌≤◌, ◌+◌, ◌-◌, ◌^◌, ℕ, zero, suc, take, drop, List, [], ◌∷◌, ◌++◌, length, Bool, true, Option, Some, None, Ok, Err, refl, sym, ap, ◌∙◌, subst, append_assoc, arith, length-append, Bor}
 use Rattle.std.proofs.Math.Seq.{take-append_seam, take-length}
 use Rattle.std.proofs.lemmas.List.{take-append-le, take-append-drop, length-take-le}
 use Rattle.std.specs.List.{AllByRecursion}
 use Rattle.rasn_types.specs.declared.types.codec.Codec.TheVariants.{Ber}
 use Rattle.rasn_types.specs.declared.types.tag.Tag.{Tag}
 use Rattle.rasn_types.specs.declared.error.decode.DecodeError.{DecodeError}
-use Rattle.rasn_types.specs.Tags.{form, loose, basic_form}
-use Rattle.rasn_types.specs.Framing.{Frame, with_length, without_length, definite, indefinite, CompleteEncoding, CompleteEncodings, plain, closed, steps_in, steps_of}
-use Rattle.rasn_types.specs.Grammar.{ReadsOpen, ReadsAny}
-use Rattle.rasn_types.specs.Shapes.{numbers, looked_for}
+use Rattle.rasn_types.specs.Tags.{form, basic_form}
+use Rattle.rasn_types.specs.Framing.{Frame, with_length, without_length, definite, indefinite, CompleteEncoding, CompleteEncodings, plain, closed, steps_of}
+use Rattle.rasn_types.specs.Shapes.{looked_for}
 use Rattle.rasn_de.specs.Any.{OpenAt, SkipsValue, BorrowsOpenType}
 use Rattle.rasn_de.specs.Skipping.{Skipped}
 use Rattle.rasn_de.specs.State.{State}
