@@ -1,7 +1,6 @@
 -- What the list of a message says of its normal encoding.
-use Rattle.std.proofs.Common.{◌≡◌, inl, inr, ℕ, List, [], ◌∷◌, length, Some, None, refl}
+use Rattle.std.proofs.Common.{inl, inr, ℕ, List, [], ◌∷◌, length, Some, None, refl}
 use Rattle.std.specs.List.{AllByRecursion}
-use Rattle.rasn_types.specs.declared.types.codec.Codec.TheVariants.{Der}
 use Rattle.rasn_schema.specs.declared.types.«Type».{«Type»}
 use Rattle.rasn_dynamic.specs.declared.span.Span.{Span}
 use Rattle.rasn_lint.specs.declared.by_schema.OpenTypes.{OpenTypes}

@@ -1,10 +1,9 @@
 -- What departs of an encoding, by the rule of its tag.
 use Rattle.std.specs.Prelude.{IfOk, MatchOption}
-use Rattle.std.proofs.Common.{◌≡◌, ℕ, List, Bool, true, false, Option, Some, None, Result, Ok, Err, refl, sym, subst}
+use Rattle.std.proofs.Common.{◌≡◌, ℕ, List, Bool, true, false, Option, Some, None, Result, Ok, Err, sym, subst}
 use Rattle.std.specs.declared.alloc.AllocError.{AllocError}
 use Rattle.rasn_types.specs.declared.types.tag.Tag.{Tag}
 use Rattle.rasn_types.specs.declared.error.decode.DecodeError.{DecodeError}
-use Rattle.rasn_types.specs.Contents.{joined_lists}
 use Rattle.rasn_types.specs.Truth.{IsWhether}
 use Rattle.rasn_lint.specs.declared.der.universal.ContentsRule.{ContentsRule}
 use Rattle.rasn_lint.specs.declared.der.universal.ContentsRule.TheVariants.{Values, Set, Unknown}

@@ -1,5 +1,5 @@
 -- Contents that are written after a header of DER.
-use Rattle.std.proofs.Common.{◌≡◌, List, ℕ, Option, Some, None, Result, Ok, Err, Vec, Bor, Global, sym, subst}
+use Rattle.std.proofs.Common.{◌≡◌, List, ℕ, Option, Some, None, Result, Ok, Err, Vec, Global, sym, subst}
 use Rattle.std.specs.Prelude.{IfOk, MatchOption}
 use Rattle.std.specs.declared.alloc.AllocError.{AllocError}
 use Rattle.rasn_types.specs.declared.types.codec.Codec.TheVariants.{Ber, Der}
@@ -7,7 +7,7 @@ use Rattle.rasn_types.specs.declared.types.tag.Tag.{Tag}
 use Rattle.rasn_types.specs.declared.error.decode.DecodeError.{DecodeError}
 use Rattle.rasn_types.specs.declared.error.encode.EncodeError.{EncodeError}
 use Rattle.rasn_types.specs.Errors.{IsOutOfMemory}
-use Rattle.rasn_types.specs.Shapes.{Shape, Tree}
+use Rattle.rasn_types.specs.Shapes.{Tree}
 use Rattle.rasn_types.specs.Grammar.{Reads, top}
 use Rattle.rasn_types.specs.Bytes.{Bytes}
 use Rattle.rasn_de.specs.Decodes.{Decodes}

@@ -1,6 +1,6 @@
 -- Departures that are appended.
 use Rattle.std.specs.Prelude.{IfOk, MatchOption}
-use Rattle.std.proofs.Common.{◌≡◌, ◌≢◌, inl, inr, ℕ, Bool, true, false, List, [], ◌∷◌, ◌++◌, Option, Some, None, Result, Ok, Err, Vec, Bor, refl, ap, ◌∙◌, append_assoc, append-nil, slice_get, sym, subst}
+use Rattle.std.proofs.Common.{◌≡◌, inl, inr, ℕ, Bool, true, false, List, [], ◌∷◌, ◌++◌, Option, Some, None, Result, Ok, Err, Vec, Bor, refl, ap, ◌∙◌, append_assoc, append-nil, slice_get, sym, subst}
 use Rattle.std.specs.Global.{Global}
 use Rattle.rasn_types.specs.declared.error.decode.DecodeError.{DecodeError}
 use Rattle.rasn_lint.specs.declared.departure.Aspect.{Aspect}

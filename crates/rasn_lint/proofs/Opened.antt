@@ -1,16 +1,14 @@
 -- Where the octets of encodings inside an open type are.
-use Rattle.std.specs.Prelude.{min}
-use Rattle.std.proofs.Common.{◌≡◌, ◌≢◌, ◌⊎◌, inl, inr, ◌<◌, ◌≤◌, ◌+◌, ◌-◌, ◌^◌, ℕ, zero, suc, take, drop, List, [], ◌∷◌, ◌++◌, length, Bool, Option, Some, None, Ok, Err, refl, sym, ap, ◌∙◌, subst, append_assoc, append-nil, arith, length-append, Bor}
+use Rattle.std.proofs.Common.{◌≡◌, ◌≢◌, ◌⊎◌, inl, inr, ◌<◌, ◌≤◌, ◌+◌, ◌-◌, ◌^◌, ℕ, zero, suc, take, drop, List, [], ◌∷◌, ◌++◌, length, Bool, true, Option, Some, None, Ok, Err, refl, sym, ap, ◌∙◌, subst, append_assoc, arith, length-append, Bor}
 use Rattle.std.proofs.Math.Seq.{take-append_seam, take-length}
 use Rattle.std.proofs.lemmas.List.{take-append-le, take-append-drop, length-take-le}
 use Rattle.std.specs.List.{AllByRecursion}
 use Rattle.rasn_types.specs.declared.types.codec.Codec.TheVariants.{Ber}
 use Rattle.rasn_types.specs.declared.types.tag.Tag.{Tag}
 use Rattle.rasn_types.specs.declared.error.decode.DecodeError.{DecodeError}
-use Rattle.rasn_types.specs.Tags.{form, loose, basic_form}
-use Rattle.rasn_types.specs.Framing.{Frame, with_length, without_length, definite, indefinite, CompleteEncoding, CompleteEncodings, plain, closed, steps_in, steps_of}
-use Rattle.rasn_types.specs.Grammar.{ReadsOpen, ReadsAny}
-use Rattle.rasn_types.specs.Shapes.{numbers, looked_for}
+use Rattle.rasn_types.specs.Tags.{form, basic_form}
+use Rattle.rasn_types.specs.Framing.{Frame, with_length, without_length, definite, indefinite, CompleteEncoding, CompleteEncodings, plain, closed, steps_of}
+use Rattle.rasn_types.specs.Shapes.{looked_for}
 use Rattle.rasn_de.specs.Any.{OpenAt, SkipsValue, BorrowsOpenType}
 use Rattle.rasn_de.specs.Skipping.{Skipped}
 use Rattle.rasn_de.specs.State.{State}
@@ -21,6 +19,7 @@ use Rattle.rasn_dynamic.specs.Faults.{start}
 use Rattle.rasn_lint.specs.declared.open.Contents.{Contents}
 use Rattle.rasn_lint.specs.declared.open.Pending.{Pending}
 use Rattle.rasn_de.specs.ParserViews.{peeked_tag}
+use Rattle.rasn_lint.specs.Header.{is_constructed}
 use Rattle.rasn_lint.specs.Open.{IsEndLen, IsEndOf, IsAfterHeader, IsFoundIn, IsThere, IsPending, AllPending, IsReached, IsExtra, IsAfter, IsKept, IsOfWhole}
 use Rattle.rasn_lint.specs.Untyped.{HasOpen, HasNoContents, HasContents, IsFollowedBy, IsUnread, FollowsAfter, HoldsAt, LeadsInto}
 use Rattle.rasn_lint.proofs.Noted.{all_append}
@@ -129,7 +128,7 @@ follows_one zero l m r e h = (r, subst (λ z. IsFollowedBy z r) e h, refl)
 follows_one (suc n) l m r (more, f, g) h = (more, f, follows_one n more m r g h)
 
 holds_next : (k : ℕ) (holder octets rest : List ℕ) → HoldsAt k holder octets → IsFollowedBy octets rest → HoldsAt (suc k) holder rest
-holds_next k holder octets rest h f = record { tag = h.tag; contents = h.contents; has = h.has; follows = follows_one k h.contents octets rest h.follows f }
+holds_next k holder octets rest h f = record { constructed = h.constructed; tag = h.tag; contents = h.contents; has = h.has; follows = follows_one k h.contents octets rest h.follows f }
 
 -- One index more leads one encoding deeper.
 leads_more : (ks : List ℕ) (k : ℕ) (a b c : List ℕ) → LeadsInto ks a b → HoldsAt k b c → LeadsInto (ks ++ k ∷ []) a c
@@ -331,15 +330,15 @@ module _ (e : Span) where
     below_more d [] h a = tt
     below_more d (p ∷ ps) h (b, a) = (omega (arith, b, h), below_more d ps h a)
 
-    pub kept_inside : (tag : Tag) (c : Contents) (p : Pending) (old new : List Pending) → IsReached e inside path next old → (IsExtra next → ⊥) → HasContents tag next.octets.now c.octets.now → IsAfterHeader next.octets.now c
+    pub kept_inside : (tag : Tag) (c : Contents) (p : Pending) (old new : List Pending) → IsReached e inside path next old → (IsExtra next → ⊥) → is_constructed next.octets.now ≡ true → HasContents tag next.octets.now c.octets.now → IsAfterHeader next.octets.now c
         → p.octets ≡ c.octets → p.index ≡ 0 → p.depth ≡ length path + 1 → p.left ≡ next.left - c.header_len → IsKept p old new → AllPending e inside path new
-    kept_inside tag c p old new r n has header o i d l (inl (q, z)) = subst (AllPending e inside path) (sym z) r.all
-    kept_inside tag c p old new r n has header o i d l (inr (s, z)) =
+    kept_inside tag c p old new r n bit has header o i d l (inl (q, z)) = subst (AllPending e inside path) (sym z) r.all
+    kept_inside tag c p old new r n bit has header o i d l (inr (s, z)) =
         let size = deep old r in
         let is : p.depth ≡ suc (length path) = omega (arith, d) in
         let now : p.octets.now ≡ c.octets.now = ap (λ (x : Bor (List ℕ)). x.now) o in
         let whole : take (length path) path ≡ path = take-length path in
-        let holds : HoldsAt 0 next.octets.now p.octets.now = record { tag = tag; contents = c.octets.now; has = has; follows = now } in
+        let holds : HoldsAt 0 next.octets.now p.octets.now = record { constructed = bit; tag = tag; contents = c.octets.now; has = has; follows = now } in
         let there : IsThere inside path (suc (length path)) 0 p.octets.now = (omega arith, next.octets.now, subst (λ x. LeadsInto x inside next.octets.now) (sym whole) (leads_there old r n), holds) in
         let w : IsPending e inside path p = record {
           found = subst (λ x. IsFoundIn e x p.left) (sym now) (found_inside next.octets.now next.left p.left c r.pending.found header l);

@@ -1,16 +1,11 @@
 -- What isn't read, if memory didn't run out.
-use Rattle.std.proofs.Common.{◌≡◌, ◌⊎◌, List, ℕ, [], inl, inr, refl, sym, Result, Ok, Err}
-use Rattle.rasn_types.specs.declared.types.codec.Codec.{Codec}
-use Rattle.rasn_types.specs.declared.types.codec.Codec.TheVariants.{Ber, Der}
-use Rattle.rasn_types.specs.declared.error.decode.DecodeError.{DecodeError}
+use Rattle.std.proofs.Common.{List, ℕ, refl}
 use Rattle.rasn_types.specs.declared.error.decode.DecodeErrorKind.{DecodeErrorKind}
 use Rattle.rasn_types.specs.declared.error.decode.DecodeErrorKind.TheVariants.{OutOfMemory}
 use Rattle.rasn_types.specs.Errors.{IsOutOfMemory}
 use Rattle.rasn_types.specs.Readings.{Reading}
-use Rattle.rasn_types.specs.Shapes.{Shape, Tree, Same}
-use Rattle.rasn_types.specs.Grammar.{Reads, top}
-use Rattle.rasn_de.specs.Outcomes.{Exact, Got, refusal}
-use Rattle.rasn.specs.Headline.{IsFollowed}
+use Rattle.rasn_types.specs.Shapes.{Tree}
+use Rattle.rasn_de.specs.Outcomes.{Exact, refusal}
 
 pub not_read : (k : DecodeErrorKind) (R : Reading Tree) (input : List ℕ) → Exact R input (refusal k) → (IsOutOfMemory k → ⊥) → (t : Tree) (rest : List ℕ) → R input t rest → ⊥
 not_read OutOfMemory R input h n t rest r = n refl

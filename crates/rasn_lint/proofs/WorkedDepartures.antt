@@ -1,12 +1,11 @@
 -- Departures worked out by hand.
-use Rattle.std.proofs.Common.{◌≡◌, ◌≢◌, ◌+◌, ◌-◌, ◌<◌, inl, inr, ℕ, List, [], ◌∷◌, ◌++◌, length, true, false, refl, sym, ap, ◌∙◌, subst, arith}
+use Rattle.std.proofs.Common.{◌≡◌, ◌-◌, inl, inr, ℕ, List, [], ◌∷◌, ◌++◌, length, true, refl, sym, ap, ◌∙◌, subst, arith}
 use Rattle.rasn_types.specs.Order.{IsLess}
 use Rattle.rasn_dynamic.specs.declared.span.Span.{Span}
-use Rattle.rasn_lint.specs.declared.trail.Step.{Step}
 use Rattle.rasn_lint.specs.Header.{after_number}
 use Rattle.rasn_lint.specs.Open.{IsFoundIn}
 use Rattle.rasn_lint.specs.Worked.{one, two, WorkedDepartures}
-use Rattle.std.proofs.Common.{Ok, Err, Result}
+use Rattle.std.proofs.Common.{Ok, Result}
 use Rattle.rasn_types.specs.declared.types.codec.Codec.TheVariants.{Ber}
 use Rattle.rasn_types.specs.declared.types.tag.Tag.{Tag}
 use Rattle.rasn_types.specs.Framing.{Frame, with_length, definite}
@@ -68,6 +67,7 @@ in_sequence : LeadsInto (0 ∷ []) (48 ∷ 3 ∷ 1 ∷ 1 ∷ 1 ∷ []) (1 ∷ 1 
 in_sequence = (
   1 ∷ 1 ∷ 1 ∷ [],
   record {
+    constructed = refl;
     tag = in_universal 16;
     contents = 1 ∷ 1 ∷ 1 ∷ [];
     has = (sequence_tag, ([], ((true, 1 ∷ 1 ∷ 1 ∷ [], refl, (λ s. refl), inl sequence_frame), only_contents)));

@@ -1,5 +1,5 @@
 -- How DER writes identifier and length octets (X.690 8.1.2, 8.1.3, 10.1, 10.2).
-use Rattle.std.specs.Prelude.{◌≡◌, ◌≢◌, ◌⊎◌, ◌%◌, ℕ, List, [], ◌∷◌, take, Bool, true, false, nat_lt, nat_eq, not, if◌then◌else◌, Option, Some, None, Result, Ok, Err, MatchOption, IfErr}
+use Rattle.std.specs.Prelude.{◌≡◌, ◌≢◌, ◌⊎◌, ◌%◌, ℕ, List, [], ◌∷◌, take, Bool, true, false, nat_lt, nat_eq, not, if◌then◌else◌, Option, Some, None, Ok, Err, MatchOption}
 use Rattle.rasn_types.specs.declared.types.codec.Codec.TheVariants.{Der}
 use Rattle.rasn_types.specs.declared.types.tag.Tag.{Tag}
 use Rattle.rasn_types.specs.declared.error.decode.DecodeError.{DecodeError}
@@ -12,7 +12,6 @@ use Rattle.rasn_de.specs.declared.ber.de.parser.ParseError.TheVariants.{Der as D
 use Rattle.rasn_de.specs.Causes.{error_kind}
 use Rattle.rasn_de.specs.Headers.{bit_at, Header}
 use Rattle.rasn_de.specs.Constructed.{sequence_header, constructed_header_at}
-use Rattle.rasn_de.specs.State.{State}
 use Rattle.rasn_de.specs.Steps.{PeeksTag}
 use Rattle.rasn_schema.specs.declared.types.LeafKind.{LeafKind}
 use Rattle.rasn_schema.specs.declared.types.LeafKind.TheVariants.{Boolean, Null, ObjectIdentifier, BitString, NamedBits, OctetString, FixedOctetString, Integer, Signed32, Signed64, Unsigned32, Unsigned64, Numeric, Printable, Visible, Ia5, AnyOctets, Bmp, Utf8, UtcTime, GeneralizedTime, Date}

@@ -1,5 +1,5 @@
 -- Encodings whose type isn't known, and what departs of one of them, whatever departs inside it.
-use Rattle.std.specs.Prelude.{◌≡◌, ◌⊎◌, ℕ, zero, suc, List, [], ◌∷◌, Bool, true, false, Option, Some, None, Ok, MatchOption}
+use Rattle.std.specs.Prelude.{◌≡◌, ◌⊎◌, ℕ, zero, suc, List, [], ◌∷◌, Bool, true, false, Some, None, Ok, MatchOption}
 use Rattle.rasn_types.specs.declared.types.codec.Codec.TheVariants.{Ber}
 use Rattle.rasn_types.specs.declared.types.tag.Tag.{Tag}
 use Rattle.rasn_types.specs.declared.error.decode.DecodeError.{DecodeError}
@@ -43,9 +43,10 @@ abbrev pub FollowsAfter : ℕ → List ℕ → List ℕ → Type 0
 FollowsAfter zero octets rest = rest ≡ octets
 FollowsAfter (suc n) octets rest = (more : List ℕ) × IsFollowedBy octets more × FollowsAfter n more rest
 
--- The contents of the encoding at the start of the octets are encodings, and the one with the index k is at the start of
--- those there.
+-- The encoding at the start of the octets is constructed, and of the encodings in its contents the one with the index k is
+-- at the start of those there.
 pub record HoldsAt (k : ℕ) (octets there : List ℕ) : Type 0 where
+  pub constructed : is_constructed octets ≡ true
   pub tag : Tag
   pub contents : List ℕ
   pub has : HasContents tag octets contents

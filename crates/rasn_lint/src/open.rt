@@ -8,6 +8,7 @@ ghost use Rattle.rasn_lint.specs.Open.{IsEndLen, IsEndOf, IsAfterHeader, IsFound
 ghost use Rattle.rasn_lint.specs.Untyped.{HasOpen, HasContents, HasNoContents, IsFollowedBy, IsUnread};
 ghost use Rattle.rasn_lint.specs.WellFormed.{IsWellFormed};
 ghost use Rattle.rasn_lint.specs.declared.departure.Departure.{Departure};
+ghost use Rattle.rasn_lint.specs.declared.open.Wanted.TheVariants.{First};
 
 use crate::departure::{Aspect, Departure};
 use crate::der::is_well_formed;
@@ -217,7 +218,9 @@ fn look<'input>(
 }
 
 /// Returns whether no more departures are wanted than were found.
-fn is_enough(wanted: Wanted, found: usize) -> bool {
+fn is_enough(wanted: Wanted, found: usize) -> bool
+    ensures { IsWhether result ((wanted ≡ First) × (0 < found)) }
+{
     match wanted {
         Wanted::All => false,
         Wanted::First => found > 0,

@@ -1,5 +1,7 @@
 //! What departs of an encoding whose type isn't known, unless its tag is universal.
-ghost use Rattle.std.specs.Prelude.{◌≡◌, false, IfOk, MatchOption};
+ghost use Rattle.std.specs.Prelude.{◌≡◌, ◌≢◌, [], false, IfOk, MatchOption};
+ghost use Rattle.rasn.specs.Headline.{IsExtraData};
+ghost use Rattle.rasn_types.specs.declared.types.codec.Codec.TheVariants.{Der};
 ghost use Rattle.rasn_lint.specs.Untyped.{HasNoForm, IsUnordered, AreUntypedFaults};
 ghost use Rattle.rasn_lint.specs.WellFormed.{AllowsEncoding};
 
@@ -27,7 +29,9 @@ pub fn unreadable(alloc: Global, octets: &[u8]) -> DecodeError {
 }
 
 /// Returns the error of an encoding that follows the one of the open type.
-pub fn extra(octets: &[u8]) -> DecodeError {
+pub fn extra(octets: &[u8]) -> DecodeError
+    ensures { octets.now ≢ [] → IsExtraData Der octets.now result }
+{
     DecodeError {
         kind: DecodeErrorKind::UnexpectedExtraData {
             length: octets.len(),

@@ -1,4 +1,4 @@
-use Rattle.std.proofs.Common.{inl, inr, refl}
+use Rattle.std.proofs.Common.{inl, inr, refl, sym}
 use Rattle.rasn_lint.specs.declared.departure.Aspect.TheVariants.{Header}
 use Rattle.rasn_lint.proofs.Noted.{grows_one, grows_listed, if_so}
 use Rattle.rasn_lint.proofs.Opened.{leads_there, kept_inside}
@@ -25,5 +25,5 @@ returns-clause-grows c = if_so c.keep.result
 
 pub returns-clause-all : goal.returns-clause-all
 returns-clause-all c = if_so c.keep.result
-    (λ k inside r. kept_inside c.args.way.part.now inside c.args.path.now c.args.next c.in-Some.tag c.in-Some.contents _ _ _ r c.requires c.in-Some.ensures.0 c.in-Some.ensures.1 refl refl refl c.saturating_sub.ensures k)
+    (λ k inside r. kept_inside c.args.way.part.now inside c.args.path.now c.args.next c.in-Some.tag c.in-Some.contents _ _ _ r c.requires (sym c.if-not-is_constructed.ensures) c.in-Some.ensures.0 c.in-Some.ensures.1 refl refl refl c.saturating_sub.ensures k)
     c.keep.ensures
