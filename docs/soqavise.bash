@@ -6,7 +6,8 @@ _soqavise() {
         check | lint) options+=' --outer' ;;
     esac
     case ${COMP_WORDS[1]} in
-        show | check | normalise) options+=' --module --type --rules --lines --input' ;;
+        show | check | json | normalise) options+=' --module --type --rules --lines --input' ;;
+        encode) options+=' --module --type --rules --lines' ;;
         lint) options+=' --module --type --lines --input' ;;
         types) options+=' --module' ;;
         dump) options+=' --input' ;;
@@ -17,7 +18,7 @@ _soqavise() {
         --type) mapfile -t COMPREPLY < <(compgen -W "$(soqavise types | sed 's/[:].*//; s/^[^.]*[.]//')" -- "$word") ;;
         *)
             if ((COMP_CWORD == 1)); then
-                mapfile -t COMPREPLY < <(compgen -W 'show check lint normalise types dump help' -- "$word")
+                mapfile -t COMPREPLY < <(compgen -W 'show check lint json encode normalise types dump help' -- "$word")
             elif [[ $word == -* ]]; then
                 mapfile -t COMPREPLY < <(compgen -W "$options" -- "$word")
             else

@@ -11,6 +11,8 @@ pub enum Work {
     Show,
     Check,
     Lint,
+    Json,
+    Encode,
     Normalise,
     Types,
     Dump,
@@ -81,6 +83,25 @@ pub fn command<'a>(alloc: Global) -> Result<Command<'a>, AllocError> {
             .after_help("Example: soqavise lint --type Certificate message.ber"),
         )?
         .subcommand(
+            messages(alloc, "json", "Prints messages as JSON (X.697)")?
+                .arg(rules(alloc))?
+                .after_help("Example: soqavise json cert.pem"),
+        )?
+        .subcommand(
+            Command::new(alloc, "encode")
+                .about("Writes the messages whose JSON is read")
+                .arg(modules(alloc))?
+                .arg(type_name(alloc).required(true))?
+                .arg(rules(alloc))?
+                .arg(flag(
+                    alloc,
+                    "lines",
+                    "Reads the JSON of a message from each line, and writes hexadecimal digits",
+                ))?
+                .arg(files(alloc))?
+                .after_help("Example: soqavise encode --type Certificate cert.json"),
+        )?
+        .subcommand(
             messages(alloc, "normalise", "Writes messages of BER or CER as DER")?
                 .arg(rules(alloc))?
                 .after_help("Example: soqavise normalise --type LDAPMessage message.ber"),
@@ -105,12 +126,7 @@ fn messages<'a>(alloc: Global, name: &'a str, about: &'a str) -> Result<Command<
     Command::new(alloc, name)
         .about(about)
         .arg(modules(alloc))?
-        .arg(
-            Arg::new(alloc, "type")
-                .long("type")
-                .value_name("[MODULE.]TYPE")
-                .help("The type of the messages"),
-        )?
+        .arg(type_name(alloc))?
         .arg(flag(
             alloc,
             "lines",
@@ -118,6 +134,13 @@ fn messages<'a>(alloc: Global, name: &'a str, about: &'a str) -> Result<Command<
         ))?
         .arg(input(alloc))?
         .arg(files(alloc))
+}
+
+fn type_name<'a>(alloc: Global) -> Arg<'a> {
+    Arg::new(alloc, "type")
+        .long("type")
+        .value_name("[MODULE.]TYPE")
+        .help("The type of the messages")
 }
 
 fn modules<'a>(alloc: Global) -> Arg<'a> {
@@ -201,6 +224,8 @@ fn work_of(name: &str) -> Option<Work> {
         "show" => Some(Work::Show),
         "check" => Some(Work::Check),
         "lint" => Some(Work::Lint),
+        "json" => Some(Work::Json),
+        "encode" => Some(Work::Encode),
         "normalise" => Some(Work::Normalise),
         "types" => Some(Work::Types),
         "dump" => Some(Work::Dump),

@@ -5,6 +5,7 @@
 
 mod catalog;
 mod command_line;
+mod conversion;
 mod dump;
 mod fault;
 mod identifiers;
@@ -24,6 +25,7 @@ mod work;
 
 pub use catalog::{known_of, modules_of, print_types, wanted_type};
 pub use command_line::{Call, InputForm, Work, call_of, command};
+pub use conversion::{NoJson, json_of};
 pub use dump::{DumpError, Entry, dump_text, entries};
 pub use fault::Fault;
 pub use known::Known;

@@ -32,7 +32,7 @@ pub(crate) fn refused(refusal: Refusal) -> ReadError
 }
 
 /// Refuses octets after the value, which begin at this place.
-fn refuse_rest(
+pub(crate) fn refuse_rest(
     alloc: Global,
     rule: Codec,
     id: TypeId,

@@ -44,6 +44,9 @@ impl<W: Write + Drop, E: Write + Drop> Session<'_, '_, W, E> {
     /// Works on the messages of an input.
     pub fn input(&mut self, name: &str, octets: &[u8]) -> Result<(), Fault> {
         let alloc = self.tools.alloc;
+        if self.tools.call.work == Work::Encode {
+            return self.message(name, &plain(octets));
+        }
         match form_of(alloc, self.tools.call.input, octets)? {
             InputForm::Pem => self.pem(name, octets),
             InputForm::Hex => match from_hexadecimal(alloc, octets)? {
@@ -57,14 +60,7 @@ impl<W: Write + Drop, E: Write + Drop> Session<'_, '_, W, E> {
                 ),
                 None => self.refuse(name, "not hexadecimal digits"),
             },
-            InputForm::Der => self.message(
-                name,
-                &Input {
-                    octets,
-                    label: None,
-                    is_text: false,
-                },
-            ),
+            InputForm::Der => self.message(name, &plain(octets)),
         }
     }
 
@@ -153,7 +149,7 @@ impl<W: Write + Drop, E: Write + Drop> Session<'_, '_, W, E> {
     /// Works on a line: prints its answer, `ok` if that is empty, or why it is refused.
     fn line(&mut self, line: &str) -> Result<(), Fault> {
         let alloc = self.tools.alloc;
-        let Some(octets) = from_line(alloc, line)? else {
+        let Some(octets) = octets_of(alloc, self.tools.call.work, line)? else {
             self.is_refused = true;
             return self.write(b"neither hexadecimal nor base64\n");
         };
@@ -177,6 +173,23 @@ impl<W: Write + Drop, E: Write + Drop> Session<'_, '_, W, E> {
             }
         }
     }
+}
+
+/// Returns an input as it was handed over.
+fn plain(octets: &[u8]) -> Input<'_> {
+    Input {
+        octets,
+        label: None,
+        is_text: false,
+    }
+}
+
+/// Returns the octets of a line: those that it denotes, or those of its JSON.
+fn octets_of(alloc: Global, work: Work, line: &str) -> Result<Option<Vec<u8>>, AllocError> {
+    if work == Work::Encode {
+        return Ok(Some(Vec::from_slice(alloc, line.as_bytes())?));
+    }
+    from_line(alloc, line)
 }
 
 /// Returns these lines in one, which is ended.

@@ -1,6 +1,7 @@
 //! What is done with each message.
 
 use crate::command_line::{Call, Work};
+use crate::conversion::{encode_answer, json_answer};
 use crate::known::Known;
 use crate::messages::{MESSAGES, type_of_label};
 use crate::offsets::offsets_text;
@@ -98,17 +99,19 @@ fn answer_by(
     match tools.call.work {
         Work::Normalise => normalised(tools.alloc, wanted, input),
         Work::Lint => linted(tools, wanted, input.octets),
+        Work::Json => json_answer(tools, wanted, input.octets),
+        Work::Encode => encode_answer(tools, wanted, input.octets),
         Work::Check if wanted.rule == Codec::Der => checked(tools, wanted, input.octets),
         _ => match text_of(tools, wanted, input.octets) {
             Ok(text) => Ok(Answer::Done(text.into_bytes())),
             Err(ReadError::OutOfMemory) => Err(AllocError),
-            Err(ReadError::Refused(refusal)) => refused(tools.alloc, wanted, &refusal),
+            Err(ReadError::Refused(refusal)) => refusal_answer(tools.alloc, wanted, &refusal),
         },
     }
 }
 
 /// Returns why a message of this type is refused.
-fn refused(
+pub(crate) fn refusal_answer(
     alloc: Global,
     wanted: &MessageType<'_>,
     refusal: &Refusal,
@@ -138,7 +141,7 @@ fn checked(
     let (alloc, opens) = (tools.alloc, open_types(tools.call));
     match check_der(alloc, &wanted.schema, wanted.root, octets, opens) {
         Ok(()) => Ok(Answer::Done(Vec::new(alloc))),
-        Err(departure) => refused(alloc, wanted, &departure.refusal),
+        Err(departure) => refusal_answer(alloc, wanted, &departure.refusal),
     }
 }
 
@@ -152,7 +155,7 @@ fn linted(
     match lint(alloc, &wanted.schema, wanted.root, octets, opens) {
         Ok(list) => departures(alloc, wanted, list.as_slice()),
         Err(LintError::OutOfMemory) => Err(AllocError),
-        Err(LintError::Refused(refusal)) => refused(alloc, wanted, &refusal),
+        Err(LintError::Refused(refusal)) => refusal_answer(alloc, wanted, &refusal),
         Err(error) => Ok(Answer::Refused(format!(in alloc; "{error}")?)),
     }
 }
