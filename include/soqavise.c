@@ -1,6 +1,7 @@
 /*
- * The functions of soqavise.h. They test pointers and lengths, and pass them to the functions of the crate rasn_c, `soq_proved_..`, which
- * are proved. No proof covers what is in this file. None of these functions has a loop, a state or a call other than those.
+ * The functions of soqavise.h. They test pointers and lengths, and pass them to the functions of the
+ * crate rasn_c, `soq_proved_..`, which are proved. No proof covers what is in this file. None of
+ * these functions has a loop or a state, or calls anything else.
  */
 #include "soqavise.h"
 
@@ -17,10 +18,12 @@ uint32_t soq_proved_integer_i64(uint32_t rule, const uint8_t *octets, size_t len
 uint32_t soq_proved_integer_octets(uint32_t rule, const uint8_t *octets, size_t length, uint8_t *buffer,
                                    size_t capacity, size_t *needed);
 uint32_t soq_proved_oid_text(uint32_t rule, const uint8_t *octets, size_t length, uint8_t *buffer,
-                               size_t capacity, size_t *needed);
-uint32_t soq_proved_time(uint32_t type, uint32_t rule, const uint8_t *octets, size_t length, soq_time_fields *time);
+                             size_t capacity, size_t *needed);
+uint32_t soq_proved_time(uint32_t type, uint32_t rule, const uint8_t *octets, size_t length,
+                         soq_time_fields *time);
 
-/* Returns whether an object of this length can be at this address: SOQ_OK, SOQ_NULL_POINTER or SOQ_TOO_LONG. */
+/* Returns whether an object of this length can be at this address: SOQ_OK, SOQ_NULL_POINTER or
+ * SOQ_TOO_LONG. */
 static soq_status soq_tested(const void *at, size_t length) {
     if (length == 0) {
         return SOQ_OK;
@@ -43,16 +46,39 @@ static const uint8_t *soq_octets(const uint8_t *at) {
     return at == NULL ? &none : at;
 }
 
-soq_status soq_skip(soq_rule rule, const uint8_t *octets, size_t length, soq_passed *passed) {
-    soq_status status = soq_tested(octets, length);
-    if (passed == NULL) {
-        return SOQ_NULL_POINTER;
+/* Returns a buffer, or one of no octets in place of a null pointer. */
+static uint8_t *soq_buffer(void *at) {
+    static uint8_t none;
+    return at == NULL ? &none : (uint8_t *)at;
+}
+
+/* Returns whether the octets can be read and the result be written: SOQ_OK, or why not. */
+static soq_status soq_ready(const uint8_t *octets, size_t length, const void *result, size_t size) {
+    soq_status status = result == NULL ? SOQ_NULL_POINTER : soq_tested(octets, length);
+    if (status == SOQ_OK && soq_overlap(result, size, octets, length)) {
+        return SOQ_OVERLAP;
     }
+    return status;
+}
+
+/* Returns whether, besides, a buffer can be written: SOQ_OK, or why not. */
+static soq_status soq_ready_to(const uint8_t *octets, size_t length, const void *result, size_t size,
+                               const void *buffer, size_t capacity) {
+    soq_status status = result == NULL ? SOQ_NULL_POINTER : soq_tested(octets, length);
+    if (status == SOQ_OK) {
+        status = soq_tested(buffer, capacity);
+    }
+    if (status == SOQ_OK && (soq_overlap(buffer, capacity, octets, length)
+                             || soq_overlap(buffer, capacity, result, size))) {
+        return SOQ_OVERLAP;
+    }
+    return status == SOQ_OK ? soq_ready(octets, length, result, size) : status;
+}
+
+soq_status soq_skip(soq_rule rule, const uint8_t *octets, size_t length, soq_passed *passed) {
+    soq_status status = soq_ready(octets, length, passed, sizeof *passed);
     if (status != SOQ_OK) {
         return status;
-    }
-    if (soq_overlap(passed, sizeof *passed, octets, length)) {
-        return SOQ_OVERLAP;
     }
     return (soq_status)soq_proved_skip((uint32_t)rule, soq_octets(octets), length, passed);
 }
@@ -65,126 +91,67 @@ soq_status soq_check(soq_type type, const uint8_t *octets, size_t length) {
     return (soq_status)soq_proved_check((uint32_t)type, soq_octets(octets), length);
 }
 
-soq_status soq_normalise(soq_type type, soq_rule rule, const uint8_t *octets, size_t length, uint8_t *buffer,
-                                       size_t capacity, size_t *needed) {
-    soq_status status = soq_tested(octets, length);
-    uint8_t none = 0;
-    if (needed == NULL) {
-        return SOQ_NULL_POINTER;
-    }
-    if (status == SOQ_OK) {
-        status = soq_tested(buffer, capacity);
-    }
+soq_status soq_normalise(soq_type type, soq_rule rule, const uint8_t *octets, size_t length,
+                         uint8_t *buffer, size_t capacity, size_t *needed) {
+    soq_status status = soq_ready_to(octets, length, needed, sizeof *needed, buffer, capacity);
     if (status != SOQ_OK) {
         return status;
     }
-    if (soq_overlap(buffer, capacity, octets, length) || soq_overlap(buffer, capacity, needed, sizeof *needed)
-        || soq_overlap(needed, sizeof *needed, octets, length)) {
-        return SOQ_OVERLAP;
-    }
-    return (soq_status)soq_proved_normalise((uint32_t)type, (uint32_t)rule, soq_octets(octets), length,
-                                            buffer == NULL ? &none : buffer, capacity, needed);
+    return (soq_status)soq_proved_normalise((uint32_t)type, (uint32_t)rule, soq_octets(octets),
+                                            length, soq_buffer(buffer), capacity, needed);
 }
 
-soq_status soq_decode_error(soq_type type, soq_rule rule, const uint8_t *octets, size_t length, soq_fault *fault,
-                                          char *text, size_t capacity) {
-    soq_status status = soq_tested(octets, length);
-    uint8_t none = 0;
-    if (fault == NULL) {
-        return SOQ_NULL_POINTER;
-    }
-    if (status == SOQ_OK) {
-        status = soq_tested(text, capacity);
-    }
+soq_status soq_decode_error(soq_type type, soq_rule rule, const uint8_t *octets, size_t length,
+                            soq_fault *fault, char *text, size_t capacity) {
+    soq_status status = soq_ready_to(octets, length, fault, sizeof *fault, text, capacity);
     if (status != SOQ_OK) {
         return status;
     }
-    if (soq_overlap(text, capacity, octets, length) || soq_overlap(text, capacity, fault, sizeof *fault)
-        || soq_overlap(fault, sizeof *fault, octets, length)) {
-        return SOQ_OVERLAP;
-    }
-    return (soq_status)soq_proved_decode_error((uint32_t)type, (uint32_t)rule, soq_octets(octets), length, fault,
-                                               text == NULL ? &none : (uint8_t *)text, capacity);
+    return (soq_status)soq_proved_decode_error((uint32_t)type, (uint32_t)rule, soq_octets(octets),
+                                               length, fault, soq_buffer(text), capacity);
 }
 
 soq_status soq_next(soq_rule rule, const uint8_t *octets, size_t length, soq_encoding *encoding) {
-    soq_status status = soq_tested(octets, length);
-    if (encoding == NULL) {
-        return SOQ_NULL_POINTER;
-    }
+    soq_status status = soq_ready(octets, length, encoding, sizeof *encoding);
     if (status != SOQ_OK) {
         return status;
-    }
-    if (soq_overlap(encoding, sizeof *encoding, octets, length)) {
-        return SOQ_OVERLAP;
     }
     return (soq_status)soq_proved_next((uint32_t)rule, soq_octets(octets), length, encoding);
 }
 
 soq_status soq_integer_i64(soq_rule rule, const uint8_t *octets, size_t length, int64_t *number) {
-    soq_status status = soq_tested(octets, length);
-    if (number == NULL) {
-        return SOQ_NULL_POINTER;
-    }
+    soq_status status = soq_ready(octets, length, number, sizeof *number);
     if (status != SOQ_OK) {
         return status;
-    }
-    if (soq_overlap(number, sizeof *number, octets, length)) {
-        return SOQ_OVERLAP;
     }
     return (soq_status)soq_proved_integer_i64((uint32_t)rule, soq_octets(octets), length, number);
 }
 
-soq_status soq_integer_octets(soq_rule rule, const uint8_t *octets, size_t length, uint8_t *buffer, size_t capacity, size_t *needed) {
-    soq_status status = soq_tested(octets, length);
-    uint8_t none = 0;
-    if (needed == NULL) {
-        return SOQ_NULL_POINTER;
-    }
-    if (status == SOQ_OK) {
-        status = soq_tested(buffer, capacity);
-    }
+soq_status soq_integer_octets(soq_rule rule, const uint8_t *octets, size_t length, uint8_t *buffer,
+                              size_t capacity, size_t *needed) {
+    soq_status status = soq_ready_to(octets, length, needed, sizeof *needed, buffer, capacity);
     if (status != SOQ_OK) {
         return status;
     }
-    if (soq_overlap(buffer, capacity, octets, length) || soq_overlap(buffer, capacity, needed, sizeof *needed)
-        || soq_overlap(needed, sizeof *needed, octets, length)) {
-        return SOQ_OVERLAP;
-    }
-    return (soq_status)soq_proved_integer_octets((uint32_t)rule, soq_octets(octets), length, buffer == NULL ? &none : buffer, capacity,
-                                                 needed);
+    return (soq_status)soq_proved_integer_octets((uint32_t)rule, soq_octets(octets), length,
+                                                 soq_buffer(buffer), capacity, needed);
 }
 
-soq_status soq_oid_text(soq_rule rule, const uint8_t *octets, size_t length, char *text, size_t capacity, size_t *needed) {
-    soq_status status = soq_tested(octets, length);
-    uint8_t none = 0;
-    if (needed == NULL) {
-        return SOQ_NULL_POINTER;
-    }
-    if (status == SOQ_OK) {
-        status = soq_tested(text, capacity);
-    }
+soq_status soq_oid_text(soq_rule rule, const uint8_t *octets, size_t length, char *text,
+                        size_t capacity, size_t *needed) {
+    soq_status status = soq_ready_to(octets, length, needed, sizeof *needed, text, capacity);
     if (status != SOQ_OK) {
         return status;
     }
-    if (soq_overlap(text, capacity, octets, length) || soq_overlap(text, capacity, needed, sizeof *needed)
-        || soq_overlap(needed, sizeof *needed, octets, length)) {
-        return SOQ_OVERLAP;
-    }
-    return (soq_status)soq_proved_oid_text((uint32_t)rule, soq_octets(octets), length, text == NULL ? &none : (uint8_t *)text,
-                                             capacity, needed);
+    return (soq_status)soq_proved_oid_text((uint32_t)rule, soq_octets(octets), length,
+                                           soq_buffer(text), capacity, needed);
 }
 
-soq_status soq_time(soq_type type, soq_rule rule, const uint8_t *octets, size_t length, soq_time_fields *time) {
-    soq_status status = soq_tested(octets, length);
-    if (time == NULL) {
-        return SOQ_NULL_POINTER;
-    }
+soq_status soq_time(soq_type type, soq_rule rule, const uint8_t *octets, size_t length,
+                    soq_time_fields *time) {
+    soq_status status = soq_ready(octets, length, time, sizeof *time);
     if (status != SOQ_OK) {
         return status;
-    }
-    if (soq_overlap(time, sizeof *time, octets, length)) {
-        return SOQ_OVERLAP;
     }
     return (soq_status)soq_proved_time((uint32_t)type, (uint32_t)rule, soq_octets(octets), length, time);
 }

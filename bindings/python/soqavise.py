@@ -11,7 +11,7 @@ the system looks for libraries.
 >>> soqavise.check(soqavise.Type.BOOL, bytes.fromhex("010105"))
 Traceback (most recent call last):
     ..
-soqavise.Refused: DER: BOOLEAN octet 5
+soqavise.Refused: DER: BOOLEAN octet 05 is neither 00 nor FF
 """
 from __future__ import annotations
 
@@ -74,14 +74,13 @@ class Refused(ValueError):
 
 
 class Encoding(NamedTuple):
-    """One whole encoding: its tag, its contents, all of its octets, and what follows it."""
+    """One whole encoding: its tag, its contents, and all of its octets."""
 
     tag_class: int  # 0 universal, 1 application, 2 context-specific, 3 private
     tag_number: int
     constructed: bool
     contents: bytes
     whole: bytes
-    rest: bytes
 
 
 class _Passed(ctypes.Structure):
@@ -131,7 +130,7 @@ _skip = _function("soq_skip", _KIND, *_OCTETS, ctypes.POINTER(_Passed))
 _check = _function("soq_check", _KIND, *_OCTETS)
 _normalise = _function("soq_normalise", _KIND, _KIND, *_OCTETS, *_OCTETS, _SIZE)
 _decode_error = _function("soq_decode_error", _KIND, _KIND, *_OCTETS, ctypes.POINTER(_Fault), *_OCTETS)
-_next = _function("soq_next", _KIND, *_OCTETS, ctypes.POINTER(_Encoding))
+_next = _function("soq_next", _KIND, ctypes.c_void_p, ctypes.c_size_t, ctypes.POINTER(_Encoding))
 _integer_octets = _function("soq_integer_octets", _KIND, *_OCTETS, *_OCTETS, _SIZE)
 _identifier = _function("soq_oid_text", _KIND, *_OCTETS, *_OCTETS, _SIZE)
 _time = _function("soq_time", _KIND, _KIND, *_OCTETS, ctypes.POINTER(_Time))
@@ -187,21 +186,28 @@ def skip(rules: Rules, octets: bytes) -> int:
     return passed.consumed
 
 
+def _encoding_at(rules: Rules, octets: bytes, at: int) -> Encoding:
+    found = _Encoding()
+    start = ctypes.cast(octets, ctypes.c_void_p).value + at
+    status = _next(rules, start, len(octets) - at, found)
+    _answer(status, "the octets don't begin with a whole encoding")
+    first = at + found.header
+    contents, whole = octets[first:first + found.contents], octets[at:at + found.length]
+    return Encoding(found.tag_class, found.tag_number, bool(found.constructed), contents, whole)
+
+
 def next_encoding(rules: Rules, octets: bytes) -> Encoding:
     """Returns the parts of the one whole encoding at the front of the octets, of any type."""
-    found = _Encoding()
-    _answer(_next(rules, octets, len(octets), found), "the octets don't begin with a whole encoding")
-    contents = octets[found.header:found.header + found.contents]
-    whole, rest = octets[:found.length], octets[found.length:]
-    return Encoding(found.tag_class, found.tag_number, bool(found.constructed), contents, whole, rest)
+    return _encoding_at(rules, octets, 0)
 
 
 def encodings(rules: Rules, octets: bytes) -> Iterator[Encoding]:
     """Yields the encodings of which the octets are made, such as those in constructed contents."""
-    while octets:
-        found = next_encoding(rules, octets)
+    at = 0
+    while at < len(octets):
+        found = _encoding_at(rules, octets, at)
         yield found
-        octets = found.rest
+        at += len(found.whole)
 
 
 def integer(rules: Rules, octets: bytes) -> int:

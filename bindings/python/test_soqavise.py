@@ -33,7 +33,7 @@ class Calls(unittest.TestCase):
     def test_goes_through_encodings(self):
         found = next_encoding(Rules.BER, octets("30800101FF0000 0500"))  # 8.1.3.6, 8.1.5
         self.assertEqual((found.tag_class, found.tag_number, found.constructed), (0, 16, True))
-        self.assertEqual((found.contents, found.rest), (octets("0101FF"), octets("0500")))
+        self.assertEqual((found.contents, found.whole), (octets("0101FF"), octets("30800101FF0000")))
         self.assertEqual([it.tag_number for it in encodings(Rules.DER, octets("0101FF0500"))], [1, 5])
         self.assertEqual(skip(Rules.BER, octets("30800101FF0000 0500")), 7)
         with self.assertRaises(Refused):
