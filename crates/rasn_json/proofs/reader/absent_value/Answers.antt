@@ -16,4 +16,4 @@ default_left p v d e t = subst (λ q. IsLeftOutAs (presence_of q) (tree_of v)) (
 pub returns-in-Default-clause-fits : goal.returns-in-Default-clause-fits
 returns-in-Default-clause-fits c =
     or_ok (λ v. IsLeftOutAs (presence_of c.args.component.now.presence) (tree_of v)) c.try_clone.result c.or_memory.result c.or_memory.ensures
-    (if_ok _ _ c.try_clone.result (λ v e. default_left c.args.component.now.presence v _ c.in-Default.is e) c.try_clone.ensures)
+    (if_ok _ _ c.try_clone.result (λ v e. default_left c.args.component.now.presence v _ c.in-Default.is e) c.try_clone.ensures.means)
