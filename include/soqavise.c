@@ -52,31 +52,24 @@ static uint8_t *soq_buffer(void *at) {
     return at == NULL ? &none : (uint8_t *)at;
 }
 
-/* Returns whether the octets can be read and the result be written: SOQ_OK, or why not. */
-static soq_status soq_ready(const uint8_t *octets, size_t length, const void *result, size_t size) {
-    soq_status status = result == NULL ? SOQ_NULL_POINTER : soq_tested(octets, length);
-    if (status == SOQ_OK && soq_overlap(result, size, octets, length)) {
-        return SOQ_OVERLAP;
-    }
-    return status;
-}
-
-/* Returns whether, besides, a buffer can be written: SOQ_OK, or why not. */
-static soq_status soq_ready_to(const uint8_t *octets, size_t length, const void *result, size_t size,
-                               const void *buffer, size_t capacity) {
+/* Returns whether the octets can be read, and the result and the buffer be written: SOQ_OK, or why
+ * not. A call without a buffer has a null pointer to no octets. */
+static soq_status soq_ready(const uint8_t *octets, size_t length, const void *result, size_t size,
+                            const void *buffer, size_t capacity) {
     soq_status status = result == NULL ? SOQ_NULL_POINTER : soq_tested(octets, length);
     if (status == SOQ_OK) {
         status = soq_tested(buffer, capacity);
     }
     if (status == SOQ_OK && (soq_overlap(buffer, capacity, octets, length)
-                             || soq_overlap(buffer, capacity, result, size))) {
+                             || soq_overlap(buffer, capacity, result, size)
+                             || soq_overlap(result, size, octets, length))) {
         return SOQ_OVERLAP;
     }
-    return status == SOQ_OK ? soq_ready(octets, length, result, size) : status;
+    return status;
 }
 
 soq_status soq_skip(soq_rule rule, const uint8_t *octets, size_t length, soq_passed *passed) {
-    soq_status status = soq_ready(octets, length, passed, sizeof *passed);
+    soq_status status = soq_ready(octets, length, passed, sizeof *passed, NULL, 0);
     if (status != SOQ_OK) {
         return status;
     }
@@ -93,7 +86,7 @@ soq_status soq_check(soq_type type, const uint8_t *octets, size_t length) {
 
 soq_status soq_normalise(soq_type type, soq_rule rule, const uint8_t *octets, size_t length,
                          uint8_t *buffer, size_t capacity, size_t *needed) {
-    soq_status status = soq_ready_to(octets, length, needed, sizeof *needed, buffer, capacity);
+    soq_status status = soq_ready(octets, length, needed, sizeof *needed, buffer, capacity);
     if (status != SOQ_OK) {
         return status;
     }
@@ -103,7 +96,7 @@ soq_status soq_normalise(soq_type type, soq_rule rule, const uint8_t *octets, si
 
 soq_status soq_decode_error(soq_type type, soq_rule rule, const uint8_t *octets, size_t length,
                             soq_fault *fault, char *text, size_t capacity) {
-    soq_status status = soq_ready_to(octets, length, fault, sizeof *fault, text, capacity);
+    soq_status status = soq_ready(octets, length, fault, sizeof *fault, text, capacity);
     if (status != SOQ_OK) {
         return status;
     }
@@ -112,7 +105,7 @@ soq_status soq_decode_error(soq_type type, soq_rule rule, const uint8_t *octets,
 }
 
 soq_status soq_next(soq_rule rule, const uint8_t *octets, size_t length, soq_encoding *encoding) {
-    soq_status status = soq_ready(octets, length, encoding, sizeof *encoding);
+    soq_status status = soq_ready(octets, length, encoding, sizeof *encoding, NULL, 0);
     if (status != SOQ_OK) {
         return status;
     }
@@ -120,7 +113,7 @@ soq_status soq_next(soq_rule rule, const uint8_t *octets, size_t length, soq_enc
 }
 
 soq_status soq_integer_i64(soq_rule rule, const uint8_t *octets, size_t length, int64_t *number) {
-    soq_status status = soq_ready(octets, length, number, sizeof *number);
+    soq_status status = soq_ready(octets, length, number, sizeof *number, NULL, 0);
     if (status != SOQ_OK) {
         return status;
     }
@@ -129,7 +122,7 @@ soq_status soq_integer_i64(soq_rule rule, const uint8_t *octets, size_t length, 
 
 soq_status soq_integer_octets(soq_rule rule, const uint8_t *octets, size_t length, uint8_t *buffer,
                               size_t capacity, size_t *needed) {
-    soq_status status = soq_ready_to(octets, length, needed, sizeof *needed, buffer, capacity);
+    soq_status status = soq_ready(octets, length, needed, sizeof *needed, buffer, capacity);
     if (status != SOQ_OK) {
         return status;
     }
@@ -139,7 +132,7 @@ soq_status soq_integer_octets(soq_rule rule, const uint8_t *octets, size_t lengt
 
 soq_status soq_oid_text(soq_rule rule, const uint8_t *octets, size_t length, char *text,
                         size_t capacity, size_t *needed) {
-    soq_status status = soq_ready_to(octets, length, needed, sizeof *needed, text, capacity);
+    soq_status status = soq_ready(octets, length, needed, sizeof *needed, text, capacity);
     if (status != SOQ_OK) {
         return status;
     }
@@ -149,7 +142,7 @@ soq_status soq_oid_text(soq_rule rule, const uint8_t *octets, size_t length, cha
 
 soq_status soq_time(soq_type type, soq_rule rule, const uint8_t *octets, size_t length,
                     soq_time_fields *time) {
-    soq_status status = soq_ready(octets, length, time, sizeof *time);
+    soq_status status = soq_ready(octets, length, time, sizeof *time, NULL, 0);
     if (status != SOQ_OK) {
         return status;
     }
