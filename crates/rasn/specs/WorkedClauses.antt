@@ -6,7 +6,7 @@ use Rattle.rasn_de.specs.declared.ber.de.parser.ParseError.{ParseError}
 use Rattle.rasn_de.specs.declared.ber.de.parser.ParseError.TheVariants.{OutOfMemory}
 use Rattle.rasn_de.specs.Segments.{string_at, octets, without_memory}
 use Rattle.rasn_de.specs.OctetString.{CollectsOctets}
-use Rattle.rasn_de.specs.SetPartTypes.{HasGap, LeavesGap}
+use Rattle.rasn_de.specs.SetPartTypes.{IsRequiredOrDefault, HasGap, LeavesGap}
 use Rattle.rasn_types.specs.Shapes.{chosen, absent, required, optional, default}
 use Rattle.rasn_types.specs.Options.{IsSomeMeaningExactlyIf}
 use Rattle.rasn_types.specs.Calendar.{IsOffset}
@@ -45,6 +45,10 @@ pub record WorkedClauses : Type 0 where
   pub nothing_collected : CollectsOctets Ber 2 (in_universal 4) (36 ∷ 0 ∷ []) → ⊥
   pub empty_collected : CollectsOctets Ber 2 (in_universal 4) (36 ∷ 2 ∷ 4 ∷ 0 ∷ []) → ⊥
   pub cut_collected : CollectsOctets Ber 2 (in_universal 4) (36 ∷ 3 ∷ 4 ∷ 2 ∷ 5 ∷ []) → ⊥
+  -- A required part and one with a default need memory if they aren't read, an optional part doesn't.
+  pub required_needs : IsRequiredOrDefault required
+  pub default_needs : IsRequiredOrDefault (default absent)
+  pub optional_needs_none : IsRequiredOrDefault optional → ⊥
   -- Of two parts of a SET, the one that isn't read leaves a gap if it is required or has a default, and none if it is
   -- optional.
   pub required_gap : LeavesGap 0 (required ∷ optional ∷ []) (chosen 1 absent ∷ [])

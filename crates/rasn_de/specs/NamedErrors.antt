@@ -6,15 +6,15 @@ use Rattle.rasn_types.specs.declared.error.decode.DecodeErrorKind.{DecodeErrorKi
 use Rattle.rasn_types.specs.declared.error.decode.DecodeErrorKind.TheVariants.{OutOfMemory, NoValidChoice, MissingField, DuplicateField}
 
 abbrev pub IsNoValidChoice : List ℕ → DecodeErrorKind → Type 0
-IsNoValidChoice name (NoValidChoice told) = string_bytes told ≡ name
+IsNoValidChoice name (NoValidChoice reported) = string_bytes reported ≡ name
 IsNoValidChoice name _ = ⊥
 
 abbrev pub IsMissingField : List ℕ → DecodeErrorKind → Type 0
-IsMissingField name (MissingField told) = string_bytes told ≡ name
+IsMissingField name (MissingField reported) = string_bytes reported ≡ name
 IsMissingField name _ = ⊥
 
 abbrev pub IsDuplicateField : List ℕ → DecodeErrorKind → Type 0
-IsDuplicateField name (DuplicateField told) = string_bytes told ≡ name
+IsDuplicateField name (DuplicateField reported) = string_bytes reported ≡ name
 IsDuplicateField name _ = ⊥
 
 -- The error is of this kind, or the allocation for its copy of the name failed.

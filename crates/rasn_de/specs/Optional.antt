@@ -8,7 +8,7 @@ use Rattle.rasn_types.specs.Tags.{form, IsStrict}
 use Rattle.rasn_types.specs.Framing.{Ended}
 use Rattle.rasn_types.specs.declared.types.codec.Codec.{Codec}
 use Rattle.rasn_types.specs.declared.types.constraints.Constraints.{Constraints}
-use Rattle.rasn_types.specs.Shapes.{Tree, Same, Shape, Presence, default, optional_choice, default_choice, option, IsFirst, Sought, one_tag, any_of, sought_in, looked_for, tagged_as}
+use Rattle.rasn_types.specs.Shapes.{Tree, Same, Shape, Presence, default, optional_choice, default_choice, option, Sought, one_tag, any_of, sought_in, looked_for, tagged_as}
 use Rattle.rasn_types.specs.Trees.{option_tree}
 use Rattle.rasn_types.specs.Readings.{Reading, ReadsPart, IsLeftOut, IsPresent}
 use Rattle.rasn_types.specs.Grammar.{Reads}

@@ -1,12 +1,9 @@
 -- Parts as types: tests on them that compute, and the first part that can't be read.
-use Rattle.std.specs.Prelude.{◌≡◌, ◌⊎◌, ℕ, Bool, true, false, ◌||◌, not, IfOk, Option, Some, None, Ok, Err}
-use Rattle.rasn_types.specs.declared.types.codec.Codec.{Codec}
+use Rattle.std.specs.Prelude.{◌≡◌, ◌⊎◌, Bool, true, false, ◌||◌, not, IfOk, Option, Some, None, Ok, Err}
 use Rattle.rasn_types.specs.declared.types.tag.Tag.{Tag}
 use Rattle.rasn_types.specs.declared.error.decode.DecodeError.{DecodeError}
 use Rattle.rasn_types.specs.Shapes.{Shape, Tree, own, looked_for, Parts, part, Presence, required, addition, optional_by, default_by, sought_by}
 use Rattle.rasn_types.specs.Shapes.Parts.{none}
-use Rattle.rasn_types.specs.Readings.{Reading, ReadsPart}
-use Rattle.rasn_types.specs.Grammar.{Reads}
 use Rattle.rasn_types.specs.Described.{has_required, has_addition}
 use Rattle.rasn_de.specs.Headers.{same_tag}
 use Rattle.rasn_de.specs.State.{State, Call}

@@ -27,6 +27,10 @@ unfoldable pub ReadsSetElements : Shape → Codec → ℕ → Bool → Reading T
 ReadsSetElements s rule depth closing input t rest = (ts : List Tree) × (t ≡ set_elements (items ts)) × ReadsMany (Reads rule s depth closing) closing input ts rest
     × (IsStrict rule → (bs : List (List ℕ)) × ReadsFrom (Reads rule s depth closing) input ts rest bs × AreAscending IsLess bs)
 
+-- What was read here consumes nothing, which is reported with the number of octets that are left.
+abbrev pub ConsumesNothing : State → DecodeError → State → Type 0
+ConsumesNothing here e new = (length new.rest ≡ length here.rest) × IsErrorOf (UnexpectedExtraData (length here.rest)) here e
+
 -- What reads of elements do, one after the other.
 module _ {D : Type 0} (read : Call D) where
   -- These elements are read, and each consumes octets.
@@ -34,10 +38,13 @@ module _ {D : Type 0} (read : Call D) where
   DecodesInTurn old [] here = here ≡ old
   DecodesInTurn old (v ∷ vs) here = (next : State) × (Ended old.closing old.rest → ⊥) × read old (Ok v) next × (length next.rest ≢ length old.rest) × DecodesInTurn next vs here
 
-  -- An element can't be read; or it consumes nothing; or an allocation fails after it is read.
+  -- An element can't be read, or it consumes nothing.
+  abbrev pub RefusesElement : State → DecodeError → State → Type 0
+  RefusesElement here e new = read here (Err e) new ⊎ ((v : D) × read here (Ok v) new × ConsumesNothing here e new)
+
+  -- The same; or an allocation fails after the element is read, for the list that it is appended to.
   abbrev pub FailsAtElement : State → DecodeError → State → Type 0
-  FailsAtElement here e new = read here (Err e) new
-      ⊎ ((v : D) × read here (Ok v) new × (((length new.rest ≡ length here.rest) × IsErrorOf (UnexpectedExtraData (length here.rest)) here e) ⊎ IsErrorOf OutOfMemory here e))
+  FailsAtElement here e new = read here (Err e) new ⊎ ((v : D) × read here (Ok v) new × (ConsumesNothing here e new ⊎ IsErrorOf OutOfMemory here e))
 
   -- One more element, which consumes octets, is appended to the others.
   abbrev pub DecodesElement : State → List D → Result (Unit {0}) DecodeError → State → List D → Type 0

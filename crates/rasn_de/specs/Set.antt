@@ -14,7 +14,7 @@ use Rattle.rasn_de.specs.State.{State, Call}
 use Rattle.rasn_de.specs.Decodes.{Decodes}
 use Rattle.rasn_de.specs.Constructed.{sequence_header, DecodesInside}
 use Rattle.rasn_de.specs.Steps.{IsErrorOf, PeeksTag}
-use Rattle.rasn_de.specs.SequenceOf.{DecodesInTurnFrom, FailsAtElement}
+use Rattle.rasn_de.specs.SequenceOf.{DecodesInTurnFrom, RefusesElement, FailsAtElement}
 use Rattle.rasn_de.specs.Outcomes.{Exact, refusal}
 
 -- A tag is less than the last one, if there is one.
@@ -29,22 +29,30 @@ PeeksInOrder last s (Ok (Some tag)) = NextTag (form s.rule) s.rest tag × (IsBel
 PeeksInOrder last s (Err e) = IsStrict s.rule
     × (PeeksTag s (Err e) ⊎ ((tag : Tag) × NextTag (form s.rule) s.rest tag × IsBelowLast tag last × IsErrorOf (Der SetComponentsOutOfOrder) s e))
 
+-- The next component has no valid tag, or its tag is out of order after those of these octets, or a call fails at it so.
+-- Only the strict rule requires a look at the tag.
+pub data FailsAtComponent (fails : State → DecodeError → State → Type 0) (bs : List (List ℕ)) (here : State) (e : DecodeError) (new : State) : Type 0 where
+  no_tag : IsStrict here.rule → PeeksTag here (Err e) → new ≡ here → FailsAtComponent fails bs here e new
+  falls : IsStrict here.rule → (tag : Tag) → NextTag (form here.rule) here.rest tag → (AreInTagOrder (bs ++ here.rest ∷ []) → ⊥) → IsErrorOf (Der SetComponentsOutOfOrder) here e → new ≡ here → FailsAtComponent fails bs here e new
+  not_read : (IsStrict here.rule → (tag : Tag) × NextTag (form here.rule) here.rest tag × AreInTagOrder (bs ++ here.rest ∷ [])) → fails here e new → FailsAtComponent fails bs here e new
+
 module _ {D : Type 0} (read : Call D) where
   -- Components are read from these octets. Under the strict rule their tags are in ascending order (10.3).
   abbrev pub DecodesInTagOrder : State → List D → List (List ℕ) → State → Type 0
   DecodesInTagOrder old vs bs here = DecodesInTurnFrom read old vs bs here × (IsStrict old.rule → AreInTagOrder bs)
 
-  -- The next component has no valid tag, or its tag is out of order after those of these octets, or it can't be read.
-  -- Only the strict rule requires a look at the tag.
-  pub data FailsAtComponent (bs : List (List ℕ)) (here : State) (e : DecodeError) (new : State) : Type 0 where
-    no_tag : IsStrict here.rule → PeeksTag here (Err e) → new ≡ here → FailsAtComponent bs here e new
-    falls : IsStrict here.rule → (tag : Tag) → NextTag (form here.rule) here.rest tag → (AreInTagOrder (bs ++ here.rest ∷ []) → ⊥) → IsErrorOf (Der SetComponentsOutOfOrder) here e → new ≡ here → FailsAtComponent bs here e new
-    not_read : (IsStrict here.rule → (tag : Tag) × NextTag (form here.rule) here.rest tag × AreInTagOrder (bs ++ here.rest ∷ [])) → FailsAtElement read here e new → FailsAtComponent bs here e new
+  -- Components up to the end, or up to the first one at which a call fails so.
+  abbrev pub DecodesUpTo : (State → DecodeError → State → Type 0) → {L : Type 0} → (L → List D) → Call L
+  DecodesUpTo fails elements old (Ok v) new = (bs : List (List ℕ)) × DecodesInTagOrder old (elements v) bs new × Ended new.closing new.rest
+  DecodesUpTo fails elements old (Err e) new = (vs : List D) × (bs : List (List ℕ)) × (here : State) × DecodesInTagOrder old vs bs here × (Ended here.closing here.rest → ⊥) × FailsAtComponent fails bs here e new
 
-  -- Components up to the end, or up to the first one that can't be read.
+  -- The components are appended to a list, which takes memory.
   abbrev pub DecodesComponents : {L : Type 0} → (L → List D) → Call L
-  DecodesComponents elements old (Ok v) new = (bs : List (List ℕ)) × DecodesInTagOrder old (elements v) bs new × Ended new.closing new.rest
-  DecodesComponents elements old (Err e) new = (vs : List D) × (bs : List (List ℕ)) × (here : State) × DecodesInTagOrder old vs bs here × (Ended here.closing here.rest → ⊥) × FailsAtComponent bs here e new
+  DecodesComponents elements = DecodesUpTo (FailsAtElement read) elements
+
+  -- Each component is put into a slot, which takes no memory.
+  abbrev pub DecodesIntoSlots : Call (List D)
+  DecodesIntoSlots = DecodesUpTo (RefusesElement read) (λ (l : List D). l)
 
 -- A function is called once on what was read. An error is that of the read or that of the function.
 abbrev pub DecodesSetContents : {L D : Type 0} → Call L → (L → Result D DecodeError → Type 0) → Call D

@@ -13,8 +13,8 @@ use Rattle.rasn_de.specs.Outcomes.{Got, refusal}
 use Rattle.rasn_de.specs.NamedErrors.{IsNamedError, IsMissingField, IsDuplicateField}
 use Rattle.rasn_de.specs.Decodes.{DecodesExactly, Decodes}
 use Rattle.rasn_de.specs.Constructed.{sequence_header, DecodesInside}
-use Rattle.rasn_de.specs.SequenceOf.{FailsAtElement, DecodesInTurnFrom}
-use Rattle.rasn_de.specs.Set.{DecodesComponents, DecodesSetContents, AreParts}
+use Rattle.rasn_de.specs.SequenceOf.{RefusesElement, DecodesInTurnFrom}
+use Rattle.rasn_de.specs.Set.{DecodesIntoSlots, DecodesSetContents, AreParts}
 use Rattle.rasn_de.specs.Beyond.{Beyond}
 use Rattle.rasn_de.specs.AlternativeTypes.{ReadsNumbered, DecodesAlternative}
 
@@ -67,7 +67,7 @@ pub record RefusesPart (ps : Parts) (e : DecodeError) (old new : State) : Type 0
 -- An empty slot is filled with a value; or it is filled already, and the name of the part is returned.
 abbrev pub IsPlaced : {T : Type 0} → Option T → T → List ℕ → Option (Bor (List ℕ)) → Option T → Type 0
 IsPlaced before v name None after = (before ≡ None) × (after ≡ Some v)
-IsPlaced before v name (Some told) after = (before ≢ None) × (after ≡ before) × (text told ≡ name)
+IsPlaced before v name (Some repeated) after = (before ≢ None) × (after ≡ before) × (text repeated ≡ name)
 
 -- The value is the one in the slot or, if the slot is empty, one that equals the default. An error means that the slot
 -- is empty and an allocation failed.
@@ -85,17 +85,17 @@ module _ (ps : Parts) (names : List (List ℕ)) (before : List (Option Tree)) (o
   -- is returned; or the component can't be read as any part.
   abbrev pub DecodesPlaced : Result (Option (Bor (List ℕ))) DecodeError → State → List (Option Tree) → Type 0
   DecodesPlaced (Ok None) new held = (k : ℕ) × (u : Tree) × IsPlacedAt before k u held × ReadsPartAt ps k u old new
-  DecodesPlaced (Ok (Some told)) new held = (k : ℕ) × (u : Tree) × IsFilled before k × (held ≡ before) × (text told ≡ name_at names k) × ReadsPartAt ps k u old new
+  DecodesPlaced (Ok (Some repeated)) new held = (k : ℕ) × (u : Tree) × IsFilled before k × (held ≡ before) × (text repeated ≡ name_at names k) × ReadsPartAt ps k u old new
   DecodesPlaced (Err e) new held = RefusesPart ps e old new
 
   abbrev pub DecodesComponent : ℕ → Tree → State → Type 0
   DecodesComponent k u new = Decodes (choice ps) (λ (t : Tree). t) old (Ok (chosen k u)) new × (length new.rest ≢ length old.rest)
 
-  -- One more component is read in the same way, and consumes octets.
+  -- One more component is read in the same way, and consumes octets. After it is read nothing is allocated.
   abbrev pub DecodesNext : Result (Option (Bor (List ℕ))) DecodeError → State → List (Option Tree) → Type 0
   DecodesNext (Ok None) new held = (k : ℕ) × (u : Tree) × IsPlacedAt before k u held × DecodesComponent k u new
-  DecodesNext (Ok (Some told)) new held = (k : ℕ) × (u : Tree) × IsFilled before k × (held ≡ before) × (text told ≡ name_at names k) × DecodesComponent k u new
-  DecodesNext (Err e) new held = FailsAtElement (Decodes (choice ps) (λ (t : Tree). t)) old e new
+  DecodesNext (Ok (Some repeated)) new held = (k : ℕ) × (u : Tree) × IsFilled before k × (held ≡ before) × (text repeated ≡ name_at names k) × DecodesComponent k u new
+  DecodesNext (Err e) new held = RefusesElement (Decodes (choice ps) (λ (t : Tree). t)) old e new
 
 -- Each part is the value in its slot. If the slot is empty, the part is one that may be left out, and is absent or its
 -- default.
@@ -120,17 +120,18 @@ LacksSlot (p ∷ ps) (h ∷ held) (suc k) = (p ≡ required → h ≢ None) × L
 abbrev pub IsLackOf : Parts → List (List ℕ) → Codec → List (Option Tree) → DecodeError → Type 0
 IsLackOf ps names rule held e = IsOutOfMemory e.kind ⊎ ((k : ℕ) × LacksSlot (presences ps) held k × IsNamedError (IsMissingField (name_at names k)) rule e)
 
--- If a part with this presence isn't read, its name is told, or its default is made.
-abbrev pub IsToldOrMade : Presence → Type 0
-IsToldOrMade required = Unit {0}
-IsToldOrMade (default_by key d) = Unit {0}
-IsToldOrMade _ = ⊥
+-- A part with this presence is required, or has a default. If it isn't read, memory is needed for the error that
+-- contains its name, or for the default.
+abbrev pub IsRequiredOrDefault : Presence → Type 0
+IsRequiredOrDefault required = Unit {0}
+IsRequiredOrDefault (default_by key d) = Unit {0}
+IsRequiredOrDefault _ = ⊥
 
--- The slot of a required part, or of one with a default, is empty.
+-- The slot of a part that is required, or that has a default, is empty.
 abbrev pub HasGap : List Presence → List (Option Tree) → Type 0
 HasGap [] held = ⊥
 HasGap (p ∷ ps) [] = ⊥
-HasGap (p ∷ ps) (h ∷ held) = (IsToldOrMade p × (h ≡ None)) ⊎ HasGap ps held
+HasGap (p ∷ ps) (h ∷ held) = (IsRequiredOrDefault p × (h ≡ None)) ⊎ HasGap ps held
 
 -- The parts that are made from the slots, or the error for the first one that is missing.
 abbrev pub MakesParts : {D : Type 0} → Parts → (D → Tree) → List (List ℕ) → Codec → List (Option Tree) → Result D DecodeError → Type 0
@@ -166,21 +167,22 @@ MakesOfReadings ps tree names rule readings (Err e) = IsOutOfMemory e.kind
     ⊎ (((k : ℕ) × RepeatsFirst ps k readings × IsNamedError (IsDuplicateField (name_at names k)) rule e)
     ⊎ (AreOnce 0 (presences ps) readings × ((k : ℕ) × LacksFirst 0 (presences ps) readings k × IsNamedError (IsMissingField (name_at names k)) rule e)))
 
--- A required part, or one with a default, isn't read. The first part has the number j.
+-- A part that is required, or that has a default, isn't read. The first part has the number j.
 abbrev pub LeavesGap : ℕ → List Presence → List Tree → Type 0
 LeavesGap j [] readings = ⊥
-LeavesGap j (p ∷ ps) readings = (IsToldOrMade p × NoneOf j readings) ⊎ LeavesGap (suc j) ps readings
+LeavesGap j (p ∷ ps) readings = (IsRequiredOrDefault p × NoneOf j readings) ⊎ LeavesGap (suc j) ps readings
 
--- The same as MakesOfReadings. An allocation fails only where a part is repeated, or one isn't read whose name is told
--- or whose default is made.
+-- The same as MakesOfReadings. An allocation fails only where a part is repeated, or where a required part or one with
+-- a default isn't read.
 abbrev pub MakesNamed : {D : Type 0} → Parts → (D → Tree) → List (List ℕ) → Codec → List Tree → Result D DecodeError → Type 0
 MakesNamed ps tree names rule readings r = MakesOfReadings ps tree names rule readings r
     × IfErr r (λ e. IsOutOfMemory e.kind → ((k : ℕ) × RepeatsFirst ps k readings) ⊎ LeavesGap 0 (presences ps) readings)
 
--- Components are read as decode_set reads them, and at the end the parts are made from all of them.
+-- Components are read one by one, each as read_choice reads one of the parts, and at the end the parts are made from all
+-- of them. No allocation fails between a component and the next one.
 abbrev pub DecodesSetPartContents : {D : Type 0} → Parts → (D → Tree) → List (List ℕ) → Call D
 DecodesSetPartContents ps tree names old =
-    DecodesSetContents (DecodesComponents (Decodes (choice ps) (λ (t : Tree). t)) (λ (l : List Tree). l)) (MakesOfReadings ps tree names old.rule) old
+    DecodesSetContents (DecodesIntoSlots (Decodes (choice ps) (λ (t : Tree). t))) (MakesOfReadings ps tree names old.rule) old
 
 abbrev pub DecodesSetParts : {D : Type 0} → Parts → (D → Tree) → List (List ℕ) → Tag → Call D
 DecodesSetParts ps tree names tag = DecodesInside (DecodesSetPartContents ps tree names) (sequence_header tag)
@@ -188,7 +190,7 @@ DecodesSetParts ps tree names tag = DecodesInside (DecodesSetPartContents ps tre
 -- The same, if each component is read as in DecodesOneOf, and the parts are made as in MakesNamed.
 abbrev pub DecodesNamedContents : {D : Type 0} → Parts → (D → Tree) → List ℕ → List (List ℕ) → Call D
 DecodesNamedContents ps tree name names old =
-    DecodesSetContents (DecodesComponents (DecodesOneOf ps name) (λ (l : List Tree). l)) (MakesNamed ps tree names old.rule) old
+    DecodesSetContents (DecodesIntoSlots (DecodesOneOf ps name)) (MakesNamed ps tree names old.rule) old
 
 abbrev pub DecodesNamedParts : {D : Type 0} → Parts → (D → Tree) → List ℕ → List (List ℕ) → Tag → Call D
 DecodesNamedParts ps tree name names tag = DecodesInside (DecodesNamedContents ps tree name names) (sequence_header tag)

@@ -9,6 +9,7 @@ pub mod CharacterString
 pub mod Closures
 pub mod Sequence
 pub mod SequenceOf
+pub mod Set
 pub mod Integer
 pub mod Default
 pub mod Extension

@@ -111,6 +111,9 @@ worked = record {
   nothing_collected = λ h. not_wanted _ _ nothing h.1;
   empty_collected = λ h. not_wanted _ _ empty h.1;
   cut_collected = λ h. let e : ◌≡◌ {A = Result (List ℕ × List ℕ) ParseError} (Err (Incomplete 1)) (Err OutOfMemory) = sym cut ∙ h.1 in cc;
+  required_needs = tt;
+  default_needs = tt;
+  optional_needs_none = λ h. h;
   required_gap = inl (tt, (first_and_second absent, tt));
   default_gap = inr (inl (tt, (second_and_first absent, tt)));
   optional_left_out = optional_alone;

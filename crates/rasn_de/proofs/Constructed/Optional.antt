@@ -1,5 +1,5 @@
 -- A value that may be left out is read where it is present.
-use Rattle.std.proofs.Common.{◌≡◌, ◌≢◌, ◌⊎◌, inl, inr, Bool, true, false, List, ℕ, Option, Some, None, Result, Ok, Err, refl, sym, ap, subst}
+use Rattle.std.proofs.Common.{◌≡◌, ◌⊎◌, inl, inr, Bool, true, false, List, ℕ, Option, Some, None, Result, Ok, Err, refl, sym, ap, subst}
 use Rattle.std.specs.declared.alloc.AllocError.{AllocError}
 use Rattle.rasn_types.specs.declared.types.tag.Tag.{Tag}
 use Rattle.rasn_types.specs.declared.error.decode.DecodeError.{DecodeError}
@@ -21,7 +21,7 @@ use Rattle.rasn_de.specs.Steps.{PeeksTag}
 use Rattle.rasn_de.specs.Outcomes.{Exact, Outcome, Got, Refused, AllocFailed, refusal}
 use Rattle.rasn_de.specs.Decodes.{Decodes, DecodesBy}
 use Rattle.rasn_de.specs.Constructed.{Keeps}
-use Rattle.rasn_de.specs.Optional.{NeedsTag, NextIs, DecodesIfSought, DecodesIfPresent, MakesValue, DecodesSoughtOrDefault, DecodesOrDefault, no_look, no_default, no_read, not_compared, present, ReadsDefault, DecodesDefault}
+use Rattle.rasn_de.specs.Optional.{NeedsTag, NextIs, DecodesIfSought, DecodesIfPresent, MakesValue, DecodesSoughtOrDefault, DecodesOrDefault, no_look, no_default, no_read, not_compared, present, DecodesDefault}
 use Rattle.rasn_de.proofs.Leaves.Outcomes.{Exact-none, Exact-refusal}
 use Rattle.rasn_de.proofs.Headers.Ends.{IsEnd-refl}
 use Rattle.rasn_de.proofs.Headers.NextTag.{next_none}

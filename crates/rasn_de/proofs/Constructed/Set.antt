@@ -29,7 +29,7 @@ module _ {F : Type 0} (s : Shape) (piece : F → Tree) where
   stops_leaves here e new (inl k) = k.end
   stops_leaves here e new (inr (v, k, x)) = k.end
 
-  unread_leaves : (bs : List (List ℕ)) (here : State) (e : DecodeError) (new : State) → FailsAtComponent (Decodes s piece) bs here e new → IsEnd here.rest new.rest
+  unread_leaves : (bs : List (List ℕ)) (here : State) (e : DecodeError) (new : State) → FailsAtComponent (FailsAtElement (Decodes s piece)) bs here e new → IsEnd here.rest new.rest
   unread_leaves bs here e new (no_tag a p q) = (kept_same here new q).end
   unread_leaves bs here e new (falls a t n f w q) = (kept_same here new q).end
   unread_leaves bs here e new (not_read f w) = stops_leaves here e new w

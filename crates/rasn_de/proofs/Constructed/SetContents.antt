@@ -12,10 +12,10 @@ use Rattle.rasn_types.specs.Shapes.{Tree, items, choice, Parts, presences}
 use Rattle.rasn_types.specs.Readings.{Reading, ReadsMany, ReadsFrom, ReadsChoice, ByPart, AreInTagOrder, ReadsSet}
 use Rattle.rasn_types.specs.Grammar.{Reads, parts_of}
 use Rattle.rasn_types.specs.Trees.{list_tree}
-use Rattle.rasn_de.specs.State.{State}
+use Rattle.rasn_de.specs.State.{State, Call}
 use Rattle.rasn_de.specs.Decodes.{Decodes, DecodesBy}
-use Rattle.rasn_de.specs.SequenceOf.{ReadsElements, FailsAtElement}
-use Rattle.rasn_de.specs.Set.{FailsAtComponent, no_tag, falls, not_read, DecodesComponents, DecodesSetContents, AreParts, MakesSet}
+use Rattle.rasn_de.specs.SequenceOf.{ReadsElements, RefusesElement, FailsAtElement}
+use Rattle.rasn_de.specs.Set.{FailsAtComponent, no_tag, falls, not_read, DecodesComponents, DecodesIntoSlots, DecodesSetContents, AreParts, MakesSet}
 use Rattle.rasn_de.specs.Outcomes.{Exact, refusal}
 use Rattle.rasn_de.specs.Steps.{PeeksTag}
 use Rattle.rasn_de.proofs.Leaves.Outcomes.{Exact-none, Exact-refusal}
@@ -112,7 +112,7 @@ module _ {F S : Type 0} (ps : Parts) (piece : F → Tree) (tree : S → Tree) (o
   stopped here vs a n e new k = from_list e new (element_stops (choice ps) piece old (λ (l : List F). list_tree piece l) here vs a n e new k)
 
   unread : (here : State) (vs : List F) (bs : List (List ℕ)) → Came (choice ps) piece old here vs bs → (Ended here.closing here.rest → ⊥) → (e : DecodeError) (new : State)
-      → FailsAtComponent (Decodes (choice ps) piece) bs here e new → DecodesBy (SetReads ps) tree old (Err e) new
+      → FailsAtComponent (FailsAtElement (Decodes (choice ps) piece)) bs here e new → DecodesBy (SetReads ps) tree old (Err e) new
   unread here vs bs k n e new (no_tag s p q) = subst (DecodesBy (SetReads ps) tree old (Err e)) (sym q) (untold here vs bs k n e p s)
   unread here vs bs k n e new (falls s t i f w q) = subst (DecodesBy (SetReads ps) tree old (Err e)) (sym q) (fell here vs bs k n e f s)
   unread here vs bs k n e new (not_read f w) = stopped here vs k.come n e new w
@@ -179,3 +179,16 @@ module _ {F S : Type 0} (ps : Parts) (piece : F → Tree) (tree : S → Tree) (o
   set_collects elements by H (Ok v) new (fs, (bs, (p, order), end), m) = made new (elements fs) bs (came (choice ps) piece old new (elements fs) bs p) order end v (H fs (Ok v) m)
   set_collects elements by H (Err e) new (inl (vs, bs, here, (p, order), n, u)) = unread here vs bs (came (choice ps) piece old here vs bs p) n e new u
   set_collects elements by H (Err e) new (inr (fs, (bs, (p, order), end), m)) = not_made new (elements fs) bs (came (choice ps) piece old new (elements fs) bs p) order end e (H fs (Err e) m)
+
+-- What is put into slots is read as what is appended to a list.
+module _ {D S : Type 0} (read : Call D) (by : List D → Result S DecodeError → Type 0) where
+  collected : (bs : List (List ℕ)) (here : State) (e : DecodeError) (new : State) → FailsAtComponent (RefusesElement read) bs here e new → FailsAtComponent (FailsAtElement read) bs here e new
+  collected bs here e new (no_tag s p q) = no_tag s p q
+  collected bs here e new (falls s t n f w q) = falls s t n f w q
+  collected bs here e new (not_read f (inl k)) = not_read f (inl k)
+  collected bs here e new (not_read f (inr (v, k, w))) = not_read f (inr (v, k, inl w))
+
+  pub slots_collected : (old : State) (r : Result S DecodeError) (new : State) → DecodesSetContents (DecodesIntoSlots read) by old r new → DecodesSetContents (DecodesComponents read (λ (l : List D). l)) by old r new
+  slots_collected old (Ok v) new k = k
+  slots_collected old (Err e) new (inl (vs, bs, here, p, n, u)) = inl (vs, bs, here, p, n, collected bs here e new u)
+  slots_collected old (Err e) new (inr k) = inr k

@@ -1,5 +1,5 @@
 -- The tags that components begin with.
-use Rattle.std.proofs.Common.{◌≡◌, ◌≢◌, inl, inr, ℕ, List, [], ◌∷◌, ◌++◌, length, Option, Some, None, Result, Ok, Err, refl, sym, ap, ap₂, ◌∙◌, subst}
+use Rattle.std.proofs.Common.{◌≡◌, ◌≢◌, inl, inr, ℕ, List, [], ◌∷◌, ◌++◌, length, Option, Some, None, Ok, Err, refl, sym, ap, ap₂, ◌∙◌, subst}
 use Rattle.rasn_types.specs.declared.types.tag.Tag.{Tag}
 use Rattle.rasn_types.specs.declared.error.decode.DecodeError.{DecodeError}
 use Rattle.rasn_types.specs.Tags.{form, IsStrict, IsTagBelow}
@@ -68,9 +68,9 @@ module _ (old here : State) (stays : here ≡ at old here.rest) (bs : List (List
   strict_here : IsStrict old.rule → IsStrict here.rule
   strict_here h = subst (λ (s : State). IsStrict s.rule) (sym stays) h
 
-  pub look_refused : {D : Type 0} (read : State → Result D DecodeError → State → Type 0) (e : DecodeError) → PeeksInOrder last here (Err e) → FailsAtComponent read bs here e here
-  look_refused read e (strict, inl p) = no_tag strict p refl
-  look_refused read e (strict, inr (tag, next, below, w)) = falls strict tag next (λ (all, h, d). out_of_order all h d) w refl
+  pub look_refused : (fails : State → DecodeError → State → Type 0) (e : DecodeError) → PeeksInOrder last here (Err e) → FailsAtComponent fails bs here e here
+  look_refused fails e (strict, inl p) = no_tag strict p refl
+  look_refused fails e (strict, inr (tag, next, below, w)) = falls strict tag next (λ (all, h, d). out_of_order all h d) w refl
     where
       t : (tags : List Tag) × Each Begins bs tags × AreAscending IsTagBelow tags × EndsAt tags last
       t = k (strict_before strict)

@@ -23,15 +23,15 @@ use Rattle.rasn_de.specs.NamedErrors.{IsNamedError, IsMissingField, IsDuplicateF
 use Rattle.rasn_de.specs.Decodes.{DecodesExactly, Decodes}
 use Rattle.rasn_de.specs.Constructed.{sequence_header, constructed_header_at, is_indefinite_extent, contents_state, DecodesInside}
 use Rattle.rasn_de.specs.Steps.{IsErrorOf}
-use Rattle.rasn_de.specs.SequenceOf.{DecodesInTurnFrom, FailsAtElement}
-use Rattle.rasn_de.specs.Set.{FailsAtComponent, not_read, DecodesComponents, DecodesSetContents, AreParts, MakesSet, PeeksInOrder}
+use Rattle.rasn_de.specs.SequenceOf.{DecodesInTurnFrom, RefusesElement}
+use Rattle.rasn_de.specs.Set.{FailsAtComponent, not_read, DecodesIntoSlots, DecodesSetContents, AreParts, MakesSet, PeeksInOrder}
 use Rattle.rasn_de.specs.AlternativeTypes.{ReadsNumbered, FailsAtAlternative}
 use Rattle.rasn_de.specs.SetPartTypes.{held_tree, text, name_at, IsPart, AreEmpty, IsFilled, IsPlacedAt, ReadsPartAt, RefusesPart, IsPlaced, IsOrDefault, DecodesPlaced, DecodesNext, AreGathered, IsGathered, LacksSlot, IsLackOf, HasGap, MakesParts, AreOnce, RepeatsFirst, LacksFirst, MakesOfReadings, LeavesGap, MakesNamed, DecodesOneOf, DecodesSetPartContents, DecodesNamedContents}
 use Rattle.rasn_de.proofs.Leaves.Outcomes.{Exact-none}
 use Rattle.rasn_de.proofs.Headers.Tags.{Tagged, tagged_order, look_refused, look_follows, look_kept}
 use Rattle.rasn_de.proofs.Constructed.Reads.{IsCut, held_decodes, held_constructed, constructed_held}
 use Rattle.rasn_de.proofs.Constructed.SetOfElements.{came_stays, passes_from}
-use Rattle.rasn_de.proofs.Constructed.SetContents.{SetReads, set_collects}
+use Rattle.rasn_de.proofs.Constructed.SetContents.{SetReads, set_collects, slots_collected}
 use Rattle.rasn_de.proofs.Constructed.Steps.{rules_same}
 use Rattle.rasn_de.proofs.OwnTypes.Parts.{call_keeps}
 use Rattle.rasn_de.proofs.OwnTypes.Alternatives.{OneAlternative}
@@ -80,11 +80,11 @@ placed_decodes ps k u old new a =
     let f : 0 + k ≡ k = omega arith in
     choice_read ps (subst (λ m. DecodesExactly (ReadsNumbered 0 ps) old (Got (chosen m u) new.rest) new) f (a.from 0))
 
-pub next_refused : (ps : Parts) (old new : State) (e : DecodeError) → RefusesPart ps e old new → FailsAtElement (Decodes (choice ps) (λ (t : Tree). t)) old e new
+pub next_refused : (ps : Parts) (old new : State) (e : DecodeError) → RefusesPart ps e old new → RefusesElement (Decodes (choice ps) (λ (t : Tree). t)) old e new
 next_refused ps old new e a = inl (choice_read ps (a.from 0))
 
 pub named_refused : (ps : Parts) (name : List ℕ) (tag : Tag) (old new : State) (e : DecodeError) → NextTag (form old.rule) old.rest tag → RefusesPart ps e old new → FailsAtAlternative ps name tag old e new
-    → FailsAtElement (DecodesOneOf ps name) old e new
+    → RefusesElement (DecodesOneOf ps name) old e new
 named_refused ps name tag old new e n a f = inl (choice_read ps (a.from 0), inr (tag, n, f))
 
 module _ (ps : Parts) (names : List (List ℕ)) (before held : List (Option Tree)) (old new : State) where
@@ -96,7 +96,7 @@ module _ (ps : Parts) (names : List (List ℕ)) (before held : List (Option Tree
       → IsErrorOf (UnexpectedExtraData left) new e → DecodesNext ps names before old (Err e) new more
   took_nothing k u a more n left f e w =
       let d = placed_decodes ps k u old new a in
-      inr (chosen k u, d, inl (n, rules_same old new (UnexpectedExtraData (length old.rest)) e (call_keeps d) (subst (λ m. IsErrorOf (UnexpectedExtraData m) new e) f w)))
+      inr (chosen k u, d, (n, rules_same old new (UnexpectedExtraData (length old.rest)) e (call_keeps d) (subst (λ m. IsErrorOf (UnexpectedExtraData m) new e) f w)))
 
   pub next_takes_nothing : (r : Option (Bor (List ℕ))) → DecodesPlaced ps names before old (Ok r) new held → (more : List (Option Tree)) → length new.rest ≡ length old.rest → (left : ℕ) → left ≡ length old.rest → (e : DecodeError)
       → IsErrorOf (UnexpectedExtraData left) new e → DecodesNext ps names before old (Err e) new more
@@ -104,13 +104,13 @@ module _ (ps : Parts) (names : List (List ℕ)) (before held : List (Option Tree
   next_takes_nothing (Some x) (k, u, c, f, m, a) = took_nothing k u a
 
   named_takes_nothing_at : (name : List ℕ) (k : ℕ) (u : Tree) → ReadsPartAt ps k u old new → length new.rest ≡ length old.rest → (left : ℕ) → left ≡ length old.rest → (e : DecodeError)
-      → IsErrorOf (UnexpectedExtraData left) new e → FailsAtElement (DecodesOneOf ps name) old e new
+      → IsErrorOf (UnexpectedExtraData left) new e → RefusesElement (DecodesOneOf ps name) old e new
   named_takes_nothing_at name k u a n left f e w =
       let d = placed_decodes ps k u old new a in
-      inr (chosen k u, (d, tt), inl (n, rules_same old new (UnexpectedExtraData (length old.rest)) e (call_keeps d) (subst (λ m. IsErrorOf (UnexpectedExtraData m) new e) f w)))
+      inr (chosen k u, (d, tt), (n, rules_same old new (UnexpectedExtraData (length old.rest)) e (call_keeps d) (subst (λ m. IsErrorOf (UnexpectedExtraData m) new e) f w)))
 
   pub named_takes_nothing : (name : List ℕ) (r : Option (Bor (List ℕ))) → DecodesPlaced ps names before old (Ok r) new held → length new.rest ≡ length old.rest → (left : ℕ) → left ≡ length old.rest → (e : DecodeError)
-      → IsErrorOf (UnexpectedExtraData left) new e → FailsAtElement (DecodesOneOf ps name) old e new
+      → IsErrorOf (UnexpectedExtraData left) new e → RefusesElement (DecodesOneOf ps name) old e new
   named_takes_nothing name None (k, u, c, a) = named_takes_nothing_at name k u a
   named_takes_nothing name (Some x) (k, u, c, f, m, a) = named_takes_nothing_at name k u a
 
@@ -283,8 +283,8 @@ others_lack p s ps names more behind rule held h n e (inr (k, l, w)) = inr (suc 
 
 -- What is made of all components is what their contents are read as.
 made_contents : {D : Type 0} (made : List Tree → Result D DecodeError → Type 0) (old here : State) (r : Result D DecodeError) (read : Call Tree)
-    → (fields : List Tree) × DecodesComponents read (λ (l : List Tree). l) old (Ok fields) here × made fields r
-    → DecodesSetContents (DecodesComponents read (λ (l : List Tree). l)) made old r here
+    → (fields : List Tree) × DecodesIntoSlots read old (Ok fields) here × made fields r
+    → DecodesSetContents (DecodesIntoSlots read) made old r here
 made_contents made old here (Ok v) read m = m
 made_contents made old here (Err e) read m = inr m
 
@@ -322,11 +322,11 @@ module _ (ps : Parts) (names : List (List ℕ)) where
     pub read_rules : here.rule ≡ old.rule
     read_rules = rule_is old here stays_here
 
-    unread : {D : Type 0} (tree : D → Tree) → (Ended here.closing here.rest → ⊥) → (e : DecodeError) (new : State) → FailsAtComponent Read k.1 here e new → DecodesSetPartContents ps tree names old (Err e) new
+    unread : {D : Type 0} (tree : D → Tree) → (Ended here.closing here.rest → ⊥) → (e : DecodeError) (new : State) → FailsAtComponent (RefusesElement Read) k.1 here e new → DecodesSetPartContents ps tree names old (Err e) new
     unread tree n e new f = inl (k.0, k.1, here, (k.2, tagged_order old k.1 last k.3), n, f)
 
     pub untold : {D : Type 0} (tree : D → Tree) → (Ended here.closing here.rest → ⊥) → (e : DecodeError) → PeeksInOrder last here (Err e) → DecodesSetPartContents ps tree names old (Err e) here
-    untold tree n e p = unread tree n e here (look_refused old here stays_here k.1 last k.3 Read e p)
+    untold tree n e p = unread tree n e here (look_refused old here stays_here k.1 last k.3 (RefusesElement Read) e p)
 
     pub next_fails : {D : Type 0} (tree : D → Tree) → (Ended here.closing here.rest → ⊥) → (found : Option Tag) → PeeksInOrder last here (Ok found) → (e : DecodeError) (new : State) (after : List (Option Tree))
         → DecodesNext ps names held here (Err e) new after → DecodesSetPartContents ps tree names old (Err e) new
@@ -353,7 +353,7 @@ module _ (ps : Parts) (names : List (List ℕ)) where
 
   -- All components were read, and this is made of them.
   abbrev pub Made : {D : Type 0} → (D → Tree) → State → State → Result D DecodeError → Type 0
-  Made tree old here r = (fields : List Tree) × DecodesComponents Read (λ (l : List Tree). l) old (Ok fields) here × MakesNamed ps tree names old.rule fields r
+  Made tree old here r = (fields : List Tree) × DecodesIntoSlots Read old (Ok fields) here × MakesNamed ps tree names old.rule fields r
 
   module _ {D : Type 0} (tree : D → Tree) (old here : State) (last : Option Tag) (held : List (Option Tree)) (n : Ended here.closing here.rest) where
     made_exact : (r : Result D DecodeError) → Made tree old here r → DecodesSetPartContents ps tree names old r here
@@ -388,13 +388,13 @@ module _ {D : Type 0} (ps : Parts) (tree : D → Tree) (name : List ℕ) (names 
   made_named old here r (fields, (bs, (p, o), n), m) = made_contents (MakesNamed ps tree names old.rule) old here r (DecodesOneOf ps name) (fields, (bs, (turn_named old here fields bs p, o), n), m)
 
   module _ (old here : State) (last : Option Tag) (twice : Option (Bor (List ℕ))) (held : List (Option Tree)) (k : ReadTo ps names old here last twice held) where
-    unread_named : (Ended here.closing here.rest → ⊥) → (e : DecodeError) (new : State) → FailsAtComponent (DecodesOneOf ps name) k.1 here e new → DecodesNamedContents ps tree name names old (Err e) new
+    unread_named : (Ended here.closing here.rest → ⊥) → (e : DecodeError) (new : State) → FailsAtComponent (RefusesElement (DecodesOneOf ps name)) k.1 here e new → DecodesNamedContents ps tree name names old (Err e) new
     unread_named n e new f = inl (k.0, k.1, here, (turn_named old here k.0 k.1 k.2, tagged_order old k.1 last k.3), n, f)
 
     pub untold_named : (Ended here.closing here.rest → ⊥) → (e : DecodeError) → PeeksInOrder last here (Err e) → DecodesNamedContents ps tree name names old (Err e) here
-    untold_named n e p = unread_named n e here (look_refused old here (stays_here ps names old here last twice held k) k.1 last k.3 (DecodesOneOf ps name) e p)
+    untold_named n e p = unread_named n e here (look_refused old here (stays_here ps names old here last twice held k) k.1 last k.3 (RefusesElement (DecodesOneOf ps name)) e p)
 
-    pub named_fails : (Ended here.closing here.rest → ⊥) → (found : Option Tag) → PeeksInOrder last here (Ok found) → (e : DecodeError) (new : State) → FailsAtElement (DecodesOneOf ps name) here e new
+    pub named_fails : (Ended here.closing here.rest → ⊥) → (found : Option Tag) → PeeksInOrder last here (Ok found) → (e : DecodeError) (new : State) → RefusesElement (DecodesOneOf ps name) here e new
         → DecodesNamedContents ps tree name names old (Err e) new
     named_fails n found p e new f = unread_named n e new (not_read (look_follows old here (stays_here ps names old here last twice held k) k.1 last k.3 found p) f)
 
@@ -409,7 +409,9 @@ module _ {D : Type 0} (ps : Parts) (tree : D → Tree) (names : List (List ℕ))
   inside_exact : (h : Header) → constructed_header_at (sequence_header tag) old.rule old.depth old.rest ≡ Ok h → (r : Result D DecodeError) (left : State) → Inside (contents_state (sequence_header tag) old h) r left
       → Exact (Contents (is_indefinite_extent h.extent)) (octets_inside h.extent h.rest) (outcome tree r left.rest) ⊎ IsCut (sequence_header tag) Contents old o h left.rest
   inside_exact h e r left k =
-      inl (set_collects ps (λ (t : Tree). t) tree (contents_state (sequence_header tag) old h) (λ (l : List Tree). l) (MakesOfReadings ps tree names old.rule) (makes_set ps tree names old.rule) r left k).exact
+      let i = contents_state (sequence_header tag) old h in
+      let made = MakesOfReadings ps tree names old.rule in
+      inl (set_collects ps (λ (t : Tree). t) tree i (λ (l : List Tree). l) made (makes_set ps tree names old.rule) r left (slots_collected (Decodes (choice ps) (λ (t : Tree). t)) made i r left k)).exact
 
   pub set_parts_decode : (result : Result D DecodeError) (new : State) → DecodesInside Inside (sequence_header tag) old result new → Decodes (set tag ps) tree old result new
   unfolding Reads

@@ -21,6 +21,7 @@ use Rattle.rasn_enc.specs.View.{View, opened, kept_of, AreTagsInOrder}
 use Rattle.rasn_enc.specs.Closures.{EncodeClosure, AppendsEnclosedInOrder, FailsAtEnclosed}
 use Rattle.rasn_enc.specs.Encoding.{AppendsEncoding, NoEncoding, EncodeFails}
 use Rattle.rasn_enc.specs.Sequence.{AppendsParts, EncodesParts, NoEncodingOfParts, HasUntaggedInSet}
+use Rattle.rasn_enc.specs.Set.{FallsInSet, FailsAtSet}
 use Rattle.rasn_enc.proofs.Leaves.Primitive.{cons_begins, encoded_one}
 
 keeps_tags : (v : View) → (opened v true).last.tags ≢ None
@@ -85,4 +86,15 @@ set_refused g f v tag parts tree r h written = IfErr-weaker r _ _ (λ e. elim [
   | inl m ↦ record { why = inl (ap (λ (x : EncodeError). x.kind) m) }
   | inr (inl k) ↦ parts_why v tag parts tree e (written (Err e) k.0 k.1).refused.why
   | inr (inr k) ↦ record { why = inr (inl (set_out_of_order v tag parts tree k.inner (written (Ok tt) k.inner k.ran).ok k.falls)) }
+]) h
+
+-- For the clause on the order of tags.
+pub set_fails : {F : Type 0} (g : EncodeClosure F (Unit {0})) (f : F) (v : View) (parts : Parts) (tree : Tree) (r : Result (Unit {0}) EncodeError)
+    → IfErr r (FailsAtEnclosed g f v)
+    → ((q : Result (Unit {0}) EncodeError) (u : View) → FnOnceReturnsAtMut g f (opened v true) q u → EncodesParts parts tree (opened v true) q u)
+    → IfErr r (FailsAtSet parts tree v)
+set_fails g f v parts tree r h written = IfErr-weaker r _ _ (λ e. elim [
+  | inl m ↦ inl m
+  | inr (inl k) ↦ inr (inl (written (Err e) k.0 k.1).refused)
+  | inr (inr k) ↦ inr (inr (record { inner = k.inner; wrote = (written (Ok tt) k.inner k.ran).ok; falls = k.falls; is = k.told }))
 ]) h

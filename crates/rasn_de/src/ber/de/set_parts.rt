@@ -11,7 +11,7 @@ ghost use Rattle.rasn_de.specs.Beyond.{BeyondInside};
 ghost use Rattle.rasn_de.specs.Constructed.{sequence_header};
 ghost use Rattle.rasn_de.specs.State.{State};
 ghost use Rattle.rasn_de.specs.AlternativeTypes.{FailsAtAlternative};
-ghost use Rattle.rasn_de.specs.SequenceOf.{FailsAtElement};
+ghost use Rattle.rasn_de.specs.SequenceOf.{RefusesElement};
 
 use crate::ber::de::Decoder;
 use crate::ber::de::constructed::ConstructedHeader;
@@ -359,7 +359,7 @@ impl<'input> Decoder<'input> {
     ) -> Result<Option<&'names str>, DecodeError>
         requires { P.tags_differ ≡ true }
         ensures exact { DecodesNext P.parts (map text names.now) (P.held slots.old) self.old result self.new (P.held slots.new) }
-        ensures fails { IfErr result (λ e. FailsAtElement (DecodesOneOf P.parts name.now) self.old e self.new) }
+        ensures fails { IfErr result (λ e. RefusesElement (DecodesOneOf P.parts name.now) self.old e self.new) }
         ensures kept { (starts : List State) → Contains starts self.old → P.kept starts slots.old → IfOk result (λ r. P.kept starts slots.new) }
         ensures rules { IfErr result (λ e. e.codec ≡ self.old.rule) }
     {

@@ -4,6 +4,7 @@ ghost use Rattle.std.specs.Prelude.{◌≡◌, IfOk, IfErr, OnOk, OnErr};
 ghost use Rattle.rasn_types.specs.Shapes.{seq, set};
 ghost use Rattle.rasn_enc.specs.Encoding.{AppendsEncoding, EncodeFails};
 ghost use Rattle.rasn_enc.specs.Sequence.{EncodesParts};
+ghost use Rattle.rasn_enc.specs.Set.{FailsAtSet};
 
 use crate::ber::enc::Encoder;
 use crate::enc::Encode;
@@ -238,6 +239,7 @@ impl Encoder {
         ensures ok { OnOk result (AppendsEncoding (set tag P.parts) (P.tree parts) self.old self.new) }
         ensures err { OnErr result (self.new ≡ self.old) }
         ensures refused { IfErr result (EncodeFails (set tag P.parts) (P.tree parts) self.old) }
+        ensures fails { IfErr result (FailsAtSet P.parts (P.tree parts) self.old) }
         ensures rules { IfErr result (λ e. e.codec ≡ self.old.rule) }
     {
         self.enclose_in_order(

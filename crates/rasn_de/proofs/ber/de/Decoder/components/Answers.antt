@@ -2,6 +2,7 @@ use Rattle.std.proofs.Common.{[], ◌∷◌, ◌++◌, ◌∙◌}
 use Rattle.rasn_de.specs.Decodes.{Decodes}
 use Rattle.rasn_de.specs.Beyond.{Held}
 use Rattle.rasn_de.proofs.Constructed.Beyond.{beyond_more}
+use Rattle.rasn_de.specs.SequenceOf.{FailsAtElement}
 use Rattle.rasn_de.specs.Set.{not_read}
 use Rattle.rasn_de.proofs.Constructed.SetOfElements.{passes_from, came_stays}
 use Rattle.rasn_de.proofs.Headers.Tags.{tagged_order, look_refused, look_follows, look_kept}
@@ -18,7 +19,7 @@ returns-in_err-last-clause-exact g c =
       c.loop-last.self,
       (c.loop-last.invariant.1, tagged_order c.args.self.now c.loop-last.invariant.0 c.loop-last.last c.loop-last.invariant.2),
       c.loop-last-test.ensures,
-      look_refused c.args.self.now c.loop-last.self s c.loop-last.invariant.0 c.loop-last.last c.loop-last.invariant.2 (Decodes g.FIELDS.AsnType.shape g.FIELDS.AsnType.tree) _ c.in_err-last.ensures,
+      look_refused c.args.self.now c.loop-last.self s c.loop-last.invariant.0 c.loop-last.last c.loop-last.invariant.2 (FailsAtElement (Decodes g.FIELDS.AsnType.shape g.FIELDS.AsnType.tree)) _ c.in_err-last.ensures,
     )
 
 pub returns-in_err-push_element-clause-exact : goal.returns-in_err-push_element-clause-exact

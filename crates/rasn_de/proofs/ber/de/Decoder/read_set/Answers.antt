@@ -5,6 +5,8 @@ use Rattle.rasn_de.specs.Constructed.{sequence_header}
 use Rattle.rasn_de.specs.SetPartTypes.{text, MakesOfReadings, DecodesSetPartContents, DecodesNamedContents, BeyondSet}
 use Rattle.rasn_de.proofs.Constructed.Beyond.{inside_beyond}
 use Rattle.rasn_de.proofs.Constructed.Set.{collects_leaves}
+use Rattle.rasn_de.proofs.Constructed.SetContents.{slots_collected}
+use Rattle.rasn_de.specs.Decodes.{Decodes}
 use Rattle.rasn_de.proofs.Constructed.Steps.{closure_leaves, closure_inside, closure_rules}
 use Rattle.rasn_de.proofs.OwnTypes.SetPartTypes.{set_parts_decode}
 use Rattle.rasn_de.proofs.ber.de.Decoder.read_set.Goals as goal
@@ -15,7 +17,9 @@ inside-requires-clause-leaves g c =
     let tree = g.P.DecodeSetParts.tree in
     let names = map text c.args.names.now in
     closure_leaves _ _ (DecodesSetPartContents ps tree names) (λ p r q m. m.0)
-    (λ old. collects_leaves (choice ps) (λ (t : Tree). t) (λ (l : List Tree). l) (MakesOfReadings ps tree names old.rule) old)
+    (λ old r new k.
+        let made = MakesOfReadings ps tree names old.rule in
+        collects_leaves (choice ps) (λ (t : Tree). t) (λ (l : List Tree). l) made old r new (slots_collected (Decodes (choice ps) (λ (t : Tree). t)) made old r new k))
 
 pub returns : goal.returns
 returns g c =
