@@ -18,7 +18,7 @@ use Rattle.rasn_de.specs.Steps.{PeeksTag, IsErrorOf}
 use Rattle.rasn_de.specs.Outcomes.{Got, refusal, outcome}
 use Rattle.rasn_de.specs.Decodes.{DecodesExactly}
 use Rattle.rasn_de.specs.Choice.{IsOnlyAlternative}
-use Rattle.rasn_de.specs.SetPartTypes.{name_at, DecodesNext, LacksSlot, HasGap, IsToldOrMade, MakesParts, DecodesSetPartContents}
+use Rattle.rasn_de.specs.SetPartTypes.{name_at, DecodesNext, LacksSlot, HasGap, IsRequiredOrDefault, MakesParts, DecodesSetPartContents}
 use Rattle.rasn_de.proofs.Leaves.Outcomes.{Exact-none, Exact-refusal}
 use Rattle.rasn_de.proofs.Headers.Tags.{tagged_order}
 use Rattle.rasn_de.proofs.Constructed.Steps.{rules_same}
@@ -98,7 +98,7 @@ module _ (f : ℕ → Shape) (ps : List Component) (k : ℕ) (p : Component) (ta
 
     pub next_idle : (before after : List (Option Tree)) (left : ℕ) → left ≡ length old.rest → length new.rest ≡ left → (e : DecodeError) → IsErrorOf (UnexpectedExtraData left) new e
         → DecodesNext (components_by f ps) (names_of ps) before old (Err e) new after
-    next_idle before after left g l e x = inr (chosen k t, got, inl (l ∙ g, rules_same old new (UnexpectedExtraData (length old.rest)) e (call_keeps got) (subst (λ m. IsErrorOf (UnexpectedExtraData m) new e) g x)))
+    next_idle before after left g l e x = inr (chosen k t, got, (l ∙ g, rules_same old new (UnexpectedExtraData (length old.rest)) e (call_keeps got) (subst (λ m. IsErrorOf (UnexpectedExtraData m) new e) g x)))
 
     pub next_put : (keep : Bool) (v : Value) → (keep ≡ true → tree_of v ≡ t) → (before : List (Option Value)) (slots : List (Option Tree)) → HoldsSlots keep before slots → k < length before
         → (left : ℕ) → left ≡ length old.rest → (length new.rest ≡ left → ⊥) → (r : Option (Bor (List ℕ))) (after : List (Option Value)) → IsPut k v (string_bytes p.name) before r after
@@ -106,20 +106,20 @@ module _ (f : ℕ → Shape) (ps : List Component) (k : ℕ) (p : Component) (ta
     next_put keep v q before slots h l left g m None after (e, a) =
         let o = slots_placed keep before slots k v t q h l e in
         (o.0, subst (λ z. HoldsSlots keep z o.0) (sym a) o.1, (k, t, o.2, (got, λ w. m (w ∙ sym g))))
-    next_put keep v q before slots h l left g m (Some told) after (e, a, w) =
+    next_put keep v q before slots h l left g m (Some repeated) after (e, a, w) =
         (slots, subst (λ z. HoldsSlots keep z slots) (sym a) h, (k, t, slots_filled keep before slots k h l e, refl, w ∙ name_here ps k p b.0, (got, λ x. m (x ∙ sym g))))
 
 -- Some of the octets are read.
 pub member_shorter : (keep : Bool) (ps : Parts) (names : List (List ℕ)) (before after : List (Option Value)) (slots : List (Option Tree)) (old new : State) (r : Option (Bor (List ℕ))) → HoldsSlots keep before slots
     → DecodesMember keep ps names before old (Ok r) new after → length new.rest < length old.rest
 member_shorter keep ps names before after slots old new None h d = let w = d slots h in shorter old.rest new.rest w.2.3.0.end w.2.3.1
-member_shorter keep ps names before after slots old new (Some told) h d = let w = d slots h in shorter old.rest new.rest w.2.5.0.end w.2.5.1
+member_shorter keep ps names before after slots old new (Some repeated) h d = let w = d slots h in shorter old.rest new.rest w.2.5.0.end w.2.5.1
 
 -- The end of a SET whose components have been read: a failure of the end itself is for want of a component.
 lacks_gap : (ps : List Presence) (held : List (Option Tree)) (k : ℕ) → LacksSlot ps held k → HasGap ps held
 lacks_gap [] held k l = l
 lacks_gap (p ∷ ps) [] k l = l
-lacks_gap (p ∷ ps) (h ∷ held) zero (e, n) = inl (subst IsToldOrMade (sym e) tt, n)
+lacks_gap (p ∷ ps) (h ∷ held) zero (e, n) = inl (subst IsRequiredOrDefault (sym e) tt, n)
 lacks_gap (p ∷ ps) (h ∷ held) (suc k) (f, l) = inr (lacks_gap ps held k l)
 
 pub once_read : {D : Type 0} (ps : Parts) (names : List (List ℕ)) (tree : D → Tree) (old here : State) (last : Option Tag) (held : List (Option Tree)) → Ended here.closing here.rest → ReadTo ps names old here last None held → (r : Result D DecodeError) → MakesParts ps tree names here.rule held r → DecodesSetPartContents ps tree names old r here

@@ -5,13 +5,13 @@ use Rattle.rasn_types.specs.declared.types.tag.Tag.{Tag}
 use Rattle.rasn_types.specs.declared.types.constraints.Bound.{Bound}
 use Rattle.rasn_types.specs.declared.error.decode.DecodeError.{DecodeError}
 use Rattle.rasn_types.specs.declared.error.decode.DecodeErrorKind.{DecodeErrorKind}
-use Rattle.rasn_types.specs.Shapes.{Tree, items, done, joined, Shape, prefix, seq, set, list, set_of, Parts, part, required, Presence, IsFirst}
+use Rattle.rasn_types.specs.Shapes.{Tree, items, done, joined, Shape, prefix, seq, choice, set, list, set_of, Parts, part, required, Presence, IsFirst}
 use Rattle.rasn_types.specs.Shapes.Parts.{none}
 use Rattle.rasn_types.specs.Lawful.{IsLawful, AreDistinguished, AreAlternatives, AreLawfulInOrder, AreLawfulByTag}
 use Rattle.rasn_types.specs.Grammar.{Reads}
 use Rattle.rasn_de.specs.State.{State}
 use Rattle.rasn_de.specs.Outcomes.{Outcome, Got, refusal}
-use Rattle.rasn_de.specs.Decodes.{DecodesBy, DecodesExactly, ReadsParts}
+use Rattle.rasn_de.specs.Decodes.{Decodes, DecodesBy, DecodesExactly, ReadsParts}
 use Rattle.rasn_de.specs.Choice.{IsOnlyAlternative}
 use Rattle.rasn_de.specs.Constructed.{Keeps}
 use Rattle.rasn_types.specs.Errors.{IsOutOfMemory}
@@ -31,7 +31,7 @@ use Rattle.rasn_schema.specs.declared.types.Component.{Component}
 use Rattle.rasn_schema.specs.Shapes.{alternatives_by}
 use Rattle.rasn_dynamic.specs.Inside.{ReadsInside, ReadsSequence}
 use Rattle.rasn_de.specs.SetPartTypes.{MakesOfReadings, DecodesSetPartContents}
-use Rattle.rasn_de.proofs.Constructed.SetContents.{SetReads, set_collects}
+use Rattle.rasn_de.proofs.Constructed.SetContents.{SetReads, set_collects, slots_collected}
 use Rattle.rasn_de.proofs.OwnTypes.SetPartTypes.{makes_set}
 use Rattle.rasn_dynamic.specs.Typed.{HoldsOthers}
 use Rattle.rasn_de.specs.PartTypes.{FailsAtOnePart, FailsAtPart}
@@ -116,7 +116,9 @@ unfolding ReadsInside
 inside_seq_got tag ps old new ts k = k
 
 set_reads : (ps : Parts) (names : List (List ℕ)) (old new : State) (r : Result (List Tree) DecodeError) → DecodesSetPartContents ps items names old r new → DecodesBy (SetReads ps) items old r new
-set_reads ps names old new r k = set_collects ps itself items old (λ (l : List Tree). l) (MakesOfReadings ps items names old.rule) (makes_set ps items names old.rule) r new k
+set_reads ps names old new r k =
+    let made = MakesOfReadings ps items names old.rule in
+    set_collects ps itself items old (λ (l : List Tree). l) made (makes_set ps items names old.rule) r new (slots_collected (Decodes (choice ps) itself) made old r new k)
 
 pub inside_set : (tag : Tag) (ps : Parts) (names : List (List ℕ)) (old new : State) (e : DecodeError) → DecodesSetPartContents ps items names old (Err e) new → DecodesBy (ReadsInside (set tag ps)) itself old (Err e) new
 unfolding ReadsInside

@@ -135,15 +135,10 @@ module _ (f : ℕ → Shape) where
   StopsAtMember ps s e = PeeksTag s (Err e) ⊎ (IsUnknown (components_by f ps) s
       ⊎ ((k : ℕ) × (p : Component) × (Some p ≡ slice_get ps k) × (IsDefaultWritten p s e ⊎ TakesNothing p.type_id.0 s)))
 
-  -- what is done with each component of a SET, where none is refused
-  abbrev pub MembersStop : List Component → Call (Unit {0})
-  MembersStop ps s (Ok u) new = ⊥
-  MembersStop ps s (Err e) new = StopsAtMember ps s e
-
   -- Components of a SET were read up to there, or all were: then one is missing, or is there twice; or an allocation fails.
   abbrev pub StopsInSet : List Component → State → DecodeError → Type 0
   StopsInSet ps s e = IsOutOfMemory e.kind ⊎ ((done : List Tree) × (bs : List (List ℕ)) × (here : State) × DecodesInTurnFrom (DecodesTree (choice (components_by f ps))) s done bs here
-      × (Ended here.closing here.rest ⊎ ((new : State) × FailsAtComponent (MembersStop ps) bs here e new)))
+      × (Ended here.closing here.rest ⊎ ((new : State) × FailsAtComponent (λ there x after. StopsAtMember ps there x) bs here e new)))
 
   -- Elements were read up to there, and the next one takes nothing; or memory runs out.
   abbrev pub StopsInElements : ℕ → State → DecodeError → Type 0

@@ -61,7 +61,7 @@ use Rattle.rasn_dynamic.proofs.reader.+decode.Goals as goal
 use Rattle.rasn_de.specs.SequenceOf.{DecodesSized}
 use Rattle.rasn_de.specs.Set.{not_read}
 use Rattle.rasn_de.proofs.Headers.Tags.{look_refused, look_follows}
-use Rattle.rasn_dynamic.specs.Faults.{IsFaultOf, IsFaultIn, IsFaultInside, IsOnly, IsAlternativeAt, IsComponentAt, IsMemberAt, ReadsEachPart, MembersStop, StopsInSequence, StopsInSet, TellsOf}
+use Rattle.rasn_dynamic.specs.Faults.{IsFaultOf, IsFaultIn, IsFaultInside, IsOnly, IsAlternativeAt, IsComponentAt, IsMemberAt, ReadsEachPart, StopsAtMember, StopsInSequence, StopsInSet, TellsOf}
 use Rattle.rasn_dynamic.proofs.Faults.{any_err, if_err_map, unnamed, one_taken, turns_long, marked, stepped, further, weaker, entered, opened, opened_short, told_map, tells, tells_err, alternative_there, element_there, forgotten, one_part_more, part_there, member_there, member_behind, turns_keep, at_err, named, not_named, unmoved, got_inside, found_itself, itself_leaf, present_stops, set_ends, itself_prefix, itself_sequence, itself_set, itself_list, itself_set_of, itself_choice, element_stops, set_element_stops, default_stops, unmade_stops, only_memory}
 
 -- ---- the type with a number
@@ -1261,7 +1261,7 @@ decode_set-returns-in_err-last-clause-itself g t c =
     let k = at.invariant.0.2 in
     let stays = came_stays (choice (components_by (shape_of_type c.args.types.now c.args.below) c.args.components.now)) (λ (z : Tree). z) c.args.decoder.now at.decoder k.0 k.1 k.2 in
     rw (residual _ c.from_residual.ensures.1)
-    (λ n. inr (k.0, k.1, at.decoder, k.2, inr (_, look_refused c.args.decoder.now at.decoder stays k.1 at.last k.3 (MembersStop (shape_of_type c.args.types.now c.args.below) c.args.components.now) _ c.in_err-last.ensures)))
+    (λ n. inr (k.0, k.1, at.decoder, k.2, inr (_, look_refused c.args.decoder.now at.decoder stays k.1 at.last k.3 (λ there x after. StopsAtMember (shape_of_type c.args.types.now c.args.below) c.args.components.now there x) _ c.in_err-last.ensures)))
 
 pub decode_set-returns-in_err-next-clause-itself : goal.decode_set-returns-in_err-next-clause-itself
 decode_set-returns-in_err-next-clause-itself g t c =
@@ -1269,7 +1269,7 @@ decode_set-returns-in_err-next-clause-itself g t c =
     let k = at.invariant.0.2 in
     let stays = came_stays (choice (components_by (shape_of_type c.args.types.now c.args.below) c.args.components.now)) (λ (z : Tree). z) c.args.decoder.now at.decoder k.0 k.1 k.2 in
     rw (residual _ c.from_residual-in_err-next.ensures.1)
-    (λ n. inr (k.0, k.1, at.decoder, k.2, inr (at.decoder, not_read (look_follows c.args.decoder.now at.decoder stays k.1 at.last k.3 _ c.in_ok-last.ensures) (inl (c.in_err-next.ensures.itself n)))))
+    (λ n. inr (k.0, k.1, at.decoder, k.2, inr (at.decoder, not_read (look_follows c.args.decoder.now at.decoder stays k.1 at.last k.3 _ c.in_ok-last.ensures) (c.in_err-next.ensures.itself n))))
 
 pub decode_set-returns-in-Some-clause-itself : goal.decode_set-returns-in-Some-clause-itself
 decode_set-returns-in-Some-clause-itself g t c =
