@@ -241,7 +241,7 @@ soq_status soq_next(soq_rule rule, const uint8_t *octets, size_t length, soq_enc
  *
  * SOQ_OK: they are one, and `*number` is its number.
  * SOQ_REFUSED: they aren't one under these rules, or its number is below -2^63 or above 2^63 - 1.
- * For each other status `*number` is 0.
+ * For each other status `*number` is 0. SOQ_OUT_OF_MEMORY is never returned.
  *
  * Contract: AnswersInteger (crates/rasn_c/specs/Leaves.antt), from that of `Decoder::decode_integer`.
  */
@@ -254,6 +254,7 @@ soq_status soq_integer_i64(soq_rule rule, const uint8_t *octets, size_t length, 
  * SOQ_OK: the number has `*needed` octets, at least one. The rest of the buffer is unchanged.
  * SOQ_BUFFER_TOO_SMALL: it has `*needed` octets, which is more than `capacity`. The buffer is unchanged.
  * SOQ_REFUSED: the octets aren't an INTEGER under these rules.
+ * SOQ_OUT_OF_MEMORY: only for a number of more than 23 octets.
  * For SOQ_REFUSED, SOQ_OUT_OF_MEMORY and SOQ_UNKNOWN_RULE `*needed` is 0 and the buffer is unchanged.
  *
  * Contract: AnswersNumber (crates/rasn_c/specs/Leaves.antt), from that of `Decoder::decode_integer`.

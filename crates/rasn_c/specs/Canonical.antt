@@ -1,5 +1,6 @@
 -- The check that octets are the one DER encoding of a value of a type.
-use Rattle.std.specs.Prelude.{ℕ, List}
+use Rattle.std.specs.Prelude.{ℕ, List, Bool, true, false, Option, Some, None, Result, Ok as Answers, Err}
+use Rattle.std.specs.declared.alloc.AllocError.{AllocError}
 use Rattle.rasn_types.specs.declared.types.codec.Codec.{Codec}
 use Rattle.rasn_types.specs.declared.types.codec.Codec.TheVariants.{Der}
 use Rattle.rasn_types.specs.Shapes.{Shape}
@@ -15,3 +16,10 @@ AnswersCheck type octets Refused = (shape : Shape) × IsShapeOf type shape × (I
 AnswersCheck type octets OutOfMemory = (shape : Shape) × IsShapeOf type shape
 AnswersCheck type octets UnknownType = IsUnknownType type
 AnswersCheck type octets _ = ⊥
+
+-- The status of a check by its result: a failed allocation is nothing else, and nothing else is one.
+abbrev pub check_status : Option (Result Bool AllocError) → Status
+check_status (Some (Answers true)) = Ok
+check_status (Some (Answers false)) = Refused
+check_status (Some (Err e)) = OutOfMemory
+check_status None = UnknownType

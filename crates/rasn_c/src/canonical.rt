@@ -1,6 +1,7 @@
 //! The check that octets are the one DER encoding of a value.
+ghost use Rattle.std.specs.Prelude.{◌≡◌};
 ghost use Rattle.rasn_c.specs.Status.{IsNumberOf};
-ghost use Rattle.rasn_c.specs.Canonical.{AnswersCheck};
+ghost use Rattle.rasn_c.specs.Canonical.{AnswersCheck, check_status};
 
 use crate::status::Status;
 use crate::types::{TypedAnswer, answer_of};
@@ -40,7 +41,14 @@ pub extern "C" fn soq_proved_check(alloc: Global, type_number: u32, octets: &[u8
 fn check(alloc: Global, type_number: u32, octets: &[u8]) -> Status
     ensures { AnswersCheck type_number octets.now result }
 {
-    match answer_of::<Result<bool, AllocError>>(alloc, type_number, Codec::Der, octets) {
+    status_of(answer_of(alloc, type_number, Codec::Der, octets))
+}
+
+/// Returns the status of a check with this result, which no type has if its number is unknown.
+fn status_of(answer: Option<Result<bool, AllocError>>) -> Status
+    ensures { result ≡ check_status answer }
+{
+    match answer {
         Some(Ok(true)) => Status::Ok,
         Some(Ok(false)) => Status::Refused,
         Some(Err(_)) => Status::OutOfMemory,

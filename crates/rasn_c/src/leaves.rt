@@ -1,8 +1,10 @@
 //! Values that hold no others, each from one whole encoding, whatever its tag is: so a value that
 //! has a tag of its own in its type is read too (X.690 8.14).
-ghost use Rattle.std.specs.Prelude.{◌≡◌, MatchResult, IfOk, string_bytes};
+ghost use Rattle.std.specs.Prelude.{◌≡◌, MatchResult, IfOk, IfErr, List, ℕ, string_bytes};
 ghost use Rattle.rasn_types.specs.Shapes.{Kind, Tree, leaf};
 ghost use Rattle.rasn_types.specs.Trees.{unconstrained};
+ghost use Rattle.rasn_types.specs.Errors.{IsOutOfMemory};
+ghost use Rattle.rasn_types.specs.declared.types.codec.Codec.{Codec};
 ghost use Rattle.rasn_de.specs.Decodes.{Decodes};
 ghost use Rattle.rasn_c.specs.Status.{IsNumberOf};
 ghost use Rattle.rasn_c.specs.Leaves.{IsLeaf, IsNoLeaf, AnswersInteger, AnswersNumber, AnswersIdentifier, dotted_text};
@@ -22,12 +24,17 @@ pub(crate) trait Leaf: Drop {
 
     ghost tree: { Self → Tree };
 
+    /// Of which octets reading a value may take memory.
+    ghost Takes: { Codec → List ℕ → Type 0 };
+
     /// Reads the next value, which must have this tag.
     fn read(decoder: &mut Decoder<'_>, tag: Tag) -> Result<Self, DecodeError>
-        ensures { Decodes (leaf kind tag unconstrained) tree decoder.old result decoder.new };
+        ensures reads { Decodes (leaf kind tag unconstrained) tree decoder.old result decoder.new }
+        ensures memory { IfErr result (λ e. IsOutOfMemory e.kind → Takes decoder.old.rule decoder.old.rest) };
 }
 
 impl Leaf for i64 {
+    ghost use Rattle.rasn_c.specs.Leaves.{TakesNone};
     ghost use Rattle.rasn_types.specs.Shapes.{integer, number};
     ghost use Rattle.rasn_types.specs.Trees.{signed_range};
 
@@ -35,12 +42,15 @@ impl Leaf for i64 {
 
     ghost tree = { λ n. number n };
 
+    ghost Takes = { TakesNone };
+
     fn read(decoder: &mut Decoder<'_>, tag: Tag) -> Result<i64, DecodeError> {
         decoder.decode_integer::<i64>(tag, &Constraints::NONE)
     }
 }
 
 impl Leaf for Integer {
+    ghost use Rattle.rasn_c.specs.Leaves.{TakesLong};
     ghost use Rattle.rasn_types.specs.Shapes.{integer, number};
     ghost use Rattle.rasn_types.specs.Shapes.{every};
 
@@ -48,17 +58,22 @@ impl Leaf for Integer {
 
     ghost tree = { λ n. number n };
 
+    ghost Takes = { TakesLong };
+
     fn read(decoder: &mut Decoder<'_>, tag: Tag) -> Result<Integer, DecodeError> {
         decoder.decode_integer::<Integer>(tag, &Constraints::NONE)
     }
 }
 
 impl Leaf for ObjectIdentifier {
+    ghost use Rattle.rasn_c.specs.Leaves.{MayTake};
     ghost use Rattle.rasn_types.specs.Shapes.{object_identifier, numbers};
 
     ghost kind = { object_identifier };
 
     ghost tree = { λ o. numbers o };
+
+    ghost Takes = { MayTake };
 
     fn read(decoder: &mut Decoder<'_>, tag: Tag) -> Result<ObjectIdentifier, DecodeError> {
         decoder.decode_object_identifier(tag)
@@ -66,11 +81,14 @@ impl Leaf for ObjectIdentifier {
 }
 
 impl Leaf for UtcTime {
+    ghost use Rattle.rasn_c.specs.Leaves.{MayTake};
     ghost use Rattle.rasn_types.specs.Shapes.{utc_time, instant};
 
     ghost kind = { utc_time };
 
     ghost tree = { λ m. instant m };
+
+    ghost Takes = { MayTake };
 
     fn read(decoder: &mut Decoder<'_>, tag: Tag) -> Result<UtcTime, DecodeError> {
         decoder.decode_utc_time(tag)
@@ -78,11 +96,14 @@ impl Leaf for UtcTime {
 }
 
 impl Leaf for GeneralizedTime {
+    ghost use Rattle.rasn_c.specs.Leaves.{MayTake};
     ghost use Rattle.rasn_types.specs.Shapes.{generalized_time, instant};
 
     ghost kind = { generalized_time };
 
     ghost tree = { λ s. instant s.moment };
+
+    ghost Takes = { MayTake };
 
     fn read(decoder: &mut Decoder<'_>, tag: Tag) -> Result<GeneralizedTime, DecodeError> {
         decoder.decode_generalized_time(tag)
@@ -91,7 +112,7 @@ impl Leaf for GeneralizedTime {
 
 /// Returns the value that all of the octets are, or the status of a refusal.
 pub(crate) fn leaf_of<L: Leaf>(alloc: Global, rule: Codec, octets: &[u8]) -> Result<L, Status>
-    ensures { MatchResult result (λ v. IsLeaf rule L.kind octets.now (L.tree v)) (IsNoLeaf rule L.kind octets.now) }
+    ensures { MatchResult result (λ v. IsLeaf rule L.kind octets.now (L.tree v)) (IsNoLeaf L.Takes rule L.kind octets.now) }
 {
     let mut decoder = Decoder::new(alloc, octets, DecoderOptions::of(rule));
     let Ok(tag) = decoder.peek_tag() else {
