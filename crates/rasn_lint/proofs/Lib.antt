@@ -17,4 +17,5 @@ pub mod Holding
 pub mod Kept
 pub mod Anew
 pub mod WorkedDepartures
+pub mod WorkedList
 pub mod WorkedMessages
