@@ -24,6 +24,7 @@ pub mod Ways
 pub mod Checked
 pub mod Listed
 pub mod Placed
+pub mod SameParts
 pub mod WorkedParts
 pub mod CheckedLeaves
 pub mod LeadsTo

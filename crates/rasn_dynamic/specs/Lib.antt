@@ -11,6 +11,7 @@ pub mod Paths
 pub mod Parts
 pub mod Listed
 pub mod Walk
+pub mod SameParts
 pub mod Worked
 pub mod Steps
 pub mod WorkedParts

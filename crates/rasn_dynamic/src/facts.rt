@@ -1,7 +1,8 @@
-//! Facts about places, parts and faults that were worked out by hand.
+//! Facts about places, parts and faults.
 ghost use Rattle.rasn_dynamic.specs.Worked.{WorkedPlaces};
 ghost use Rattle.rasn_dynamic.specs.WorkedParts.{WorkedParts};
 ghost use Rattle.rasn_dynamic.specs.WorkedFaults.{WorkedFaults};
+ghost use Rattle.rasn_dynamic.specs.SameParts.{PartsAreDetermined};
 
 /// Proves what leads to a part of a few octets, and what doesn't. The function does nothing when it
 /// runs.
@@ -19,4 +20,10 @@ pub fn worked_parts()
 /// nothing when it runs.
 pub fn worked_faults()
     ensures { WorkedFaults }
+{}
+
+/// Proves that octets have one list of parts: what is read as a value of a type of a schema, by the
+/// same rules, has no other parts, in no other order. The function does nothing when it runs.
+pub fn parts_determined()
+    ensures { PartsAreDetermined }
 {}

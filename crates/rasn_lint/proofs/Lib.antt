@@ -13,6 +13,9 @@ pub mod Noted
 pub mod Mended
 pub mod Opened
 pub mod Clean
+pub mod Holding
+pub mod Kept
 pub mod Anew
 pub mod WorkedDepartures
+pub mod WorkedList
 pub mod WorkedMessages

@@ -29,6 +29,7 @@ use Rattle.rasn_lint.specs.Leaf.{IsMended}
 use Rattle.rasn_lint.specs.Lint.{IsDer}
 use Rattle.rasn_lint.specs.Place.{der_error, IsValue}
 use Rattle.rasn_lint.specs.declared.leaf.Segments.TheVariants.{Whole}
+use Rattle.rasn_lint.proofs.WorkedList.{one_listed}
 use Rattle.rasn_lint.specs.WorkedMessages.{a_boolean, short_true, long_true, WorkedMessages}
 
 -- ---- readings
@@ -132,6 +133,7 @@ worked_messages names = record {
   default = (number (pos 1), long_read names, refl, refl);
   default_is_seen = λ h. h (number (pos 1)) (long_read names) refl;
   not_the_default = not_false names;
+  one_listed = λ ps e d a o. one_listed names (shape_is names) (not_read names) true_by_der long mended ps e d a o;
   listed = λ l. not_read names (l.clean.0 refl).0;
   not_listed = λ ds l. l.clean.1 (read names, tt);
   none_first = (read names, tt);

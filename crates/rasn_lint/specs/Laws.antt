@@ -8,17 +8,21 @@ use Rattle.rasn.specs.Normal.{IsNormal, IsCarriedIn}
 use Rattle.rasn_types.specs.declared.types.tag.Tag.{Tag}
 use Rattle.rasn_schema.specs.declared.types.«Type».{«Type»}
 use Rattle.rasn_schema.specs.declared.types.«Type».TheVariants.{Any}
+use Rattle.rasn_dynamic.specs.declared.message.MessageParts.{MessageParts}
 use Rattle.rasn_dynamic.specs.Entry.{shape_of}
+use Rattle.rasn_dynamic.specs.Walk.{ArePartsOf}
+use Rattle.rasn_dynamic.specs.SameParts.{AreLawfulTypes}
 use Rattle.rasn_lint.specs.declared.by_schema.OpenTypes.{OpenTypes}
 use Rattle.rasn_lint.specs.declared.by_schema.OpenTypes.TheVariants.{Unexamined, Examined}
 use Rattle.rasn_lint.specs.declared.departure.Departure.{Departure}
 use Rattle.rasn_lint.specs.Lint.{AreFormed, IsLint, IsFirstDeparture}
 
--- The list of a normal encoding is empty if the octets of each of its open types are well formed, where they are looked
--- into.
+-- The list of a normal encoding is empty if the octets of each open type of the input are well formed, where they are
+-- looked into: the encoding has the same ones. The input is read by any rules.
 abbrev pub NormalIsClean : Type 0
-NormalIsClean = (opens : OpenTypes) (types : List «Type») (id : ℕ) (rule : Codec) (input octets : List ℕ) (ds : List Departure)
-    → IsNormal rule (shape_of types id) input octets → (l : IsLint opens types id octets ds) → AreFormed opens types l.parts.list.items → ds ≡ []
+NormalIsClean = (opens : OpenTypes) (types : List «Type») (id : ℕ) (rule : Codec) (input octets : List ℕ) (ds : List Departure) (parts : MessageParts)
+    → AreLawfulTypes types → AreOctets input → AreOctets octets → IsNormal rule (shape_of types id) input octets
+    → ArePartsOf types rule id input parts → AreFormed opens types parts.list.items → IsLint opens types id octets ds → ds ≡ []
 
 -- Open types aren't looked into, or none of the types is one.
 abbrev pub IsClosed : OpenTypes → List «Type» → Type 0
@@ -30,10 +34,10 @@ abbrev pub ClosedIsClean : Type 0
 ClosedIsClean = (opens : OpenTypes) (types : List «Type») (id : ℕ) (rule : Codec) (input octets : List ℕ) (ds : List Departure)
     → IsClosed opens types → IsNormal rule (shape_of types id) input octets → IsLint opens types id octets ds → ds ≡ []
 
--- There is a first departure exactly if the list isn't empty, if no open type is looked into.
+-- There is a first departure exactly if the list isn't empty.
 abbrev pub FirstIsListed : Type 0
 FirstIsListed = (opens : OpenTypes) (types : List «Type») (id : ℕ) (input : List ℕ) (ds : List Departure) (found : Option Departure)
-    → IsClosed opens types → IsLint opens types id input ds → IsFirstDeparture opens types id input found → (found ≡ None) ↔ (ds ≡ [])
+    → AreLawfulTypes types → AreOctets input → IsLint opens types id input ds → IsFirstDeparture opens types id input found → (found ≡ None) ↔ (ds ≡ [])
 
 -- Of octets whose list is empty the normal encoding is these octets, if they are a carried value of a lawful shape.
 abbrev pub CleanIsNormal : Type 0

@@ -9,8 +9,11 @@ use Rattle.rasn_schema.specs.declared.types.LeafKind.TheVariants.{Boolean}
 use Rattle.rasn_schema.specs.declared.types.«Type».{«Type»}
 use Rattle.rasn_schema.specs.declared.types.«Type».TheVariants.{Leaf}
 use Rattle.rasn_schema.specs.declared.value.Value.{Boolean as BooleanValue}
+use Rattle.rasn_dynamic.specs.declared.message.MessageParts.{MessageParts}
+use Rattle.rasn_dynamic.specs.declared.span.Span.{Span}
 use Rattle.rasn_lint.specs.declared.by_schema.OpenTypes.TheVariants.{Unexamined}
 use Rattle.rasn_lint.specs.declared.departure.Departure.{Departure}
+use Rattle.rasn_lint.specs.declared.departure.Aspect.TheVariants.{Header}
 use Rattle.rasn_lint.specs.declared.leaf.Segments.TheVariants.{Whole}
 use Rattle.rasn_lint.specs.Header.{IsLengthFault}
 use Rattle.rasn_lint.specs.Leaf.{IsMended}
@@ -28,6 +31,28 @@ short_true = 1 ∷ 1 ∷ 255 ∷ []
 abbrev pub long_true : List ℕ
 long_true = 1 ∷ 129 ∷ 1 ∷ 255 ∷ []
 
+-- The parts of the long one: it alone.
+pub record IsLongAlone (ps : MessageParts) (e : Span) : Type 0 where
+  pub list : ps.list.items ≡ e ∷ []
+  pub input : ps.input.now ≡ long_true
+  pub next : ps.next ≡ 0
+  pub path : ps.path.items ≡ []
+  pub id : e.id.0 ≡ 0
+  pub index : e.index ≡ 0
+  pub levels : e.levels ≡ 18446744073709551615
+  pub left : e.left ≡ 4
+  pub octets : e.octets.now ≡ long_true
+
+-- Its length is in more octets than it needs, and the departure is at its start.
+pub record IsOfLongLength (e : Span) (d : Departure) : Type 0 where
+  pub error : d.refusal.error ≡ der_error NonMinimalLength
+  pub offset : d.refusal.offset ≡ 0
+  pub id : d.refusal.id ≡ e.id
+  pub steps : d.refusal.steps.items ≡ []
+  pub whole : d.refusal.is_cut ≡ false
+  pub aspect : d.aspect ≡ Header
+  pub inner : d.inner ≡ None
+
 pub record WorkedMessages (names : Vec NamedNumber Global) : Type 0 where
   pub read : IsDer (a_boolean names) 0 short_true
   pub not_read : IsDer (a_boolean names) 0 long_true → ⊥
@@ -38,6 +63,7 @@ pub record WorkedMessages (names : Vec NamedNumber Global) : Type 0 where
   pub default : IsDefaultFault (a_boolean names) 0 long_true (Some (BooleanValue true)) (Some (der_error DefaultValuePresent))
   pub default_is_seen : IsDefaultFault (a_boolean names) 0 long_true (Some (BooleanValue true)) None → ⊥
   pub not_the_default : IsDefaultFault (a_boolean names) 0 long_true (Some (BooleanValue false)) None
+  pub one_listed : (ps : MessageParts) (e : Span) (d : Departure) → IsLongAlone ps e → IsOfLongLength e d → IsLint Unexamined (a_boolean names) 0 long_true (d ∷ [])
   pub listed : IsLint Unexamined (a_boolean names) 0 long_true [] → ⊥
   pub not_listed : (ds : List Departure) → IsLint Unexamined (a_boolean names) 0 short_true ds → ds ≡ []
   pub none_first : IsFirstDeparture Unexamined (a_boolean names) 0 short_true None

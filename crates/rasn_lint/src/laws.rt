@@ -7,17 +7,15 @@ ghost use Rattle.rasn_lint.specs.Worked.{WorkedDepartures};
 ghost use Rattle.rasn_lint.specs.WorkedMessages.{WorkedMessages};
 
 /// Proves what the list of a message says of the value written anew, as `rasn_dynamic::normalise`
-/// does it: what is written has no departures, except in open types, whose octets it keeps, so none
-/// where no type is open; and a message without departures is written as it is.
-#[tactic(auto, using(crate::proofs::Anew::normal_is_clean))]
+/// does it: what is written has no departures if the open types of the message are well formed, so
+/// none where no type is open; and a message without departures is written as it is.
 pub fn written_anew()
     ensures clean { NormalIsClean }
     ensures closed { ClosedIsClean }
     ensures unchanged { CleanIsNormal }
 {}
 
-/// Proves that `check` finds a departure exactly if `lint` lists one, where open types aren't looked
-/// into or none of the types is one.
+/// Proves that `check` finds a departure exactly if `lint` lists one.
 pub fn first_listed()
     ensures { FirstIsListed }
 {}

@@ -1,0 +1,345 @@
+-- What is read has one list of parts.
+use Rattle.std.proofs.Common.{◌≡◌, ◌⊎◌, ◌≢◌, inl, inr, ◌<◌, ◌-◌, ℕ, zero, suc, List, [], ◌∷◌, ◌++◌, length, Bool, true, false, Some, None, Ok, refl, sym, ap, ◌∙◌, subst, arith}
+use Rattle.std.specs.Prelude.{slice_get}
+use Rattle.std.proofs.lemmas.Bool.{cases_order}
+use Rattle.std.proofs.lemmas.List.{append_cancel_right}
+use Rattle.rasn_types.specs.declared.types.codec.Codec.{Codec}
+use Rattle.rasn_types.specs.declared.types.codec.Codec.TheVariants.{Ber}
+use Rattle.rasn_types.specs.declared.types.tag.Tag.{Tag}
+use Rattle.rasn_types.specs.Tags.{Form, form}
+use Rattle.rasn_types.specs.Framing.{AreOctets, Ended, Frame, NextTag}
+use Rattle.rasn_types.specs.Shapes.{Shape, Tree, leaf, any, prefix, choice, option, seq, set, list, set_of, unknown, Parts, part, Presence, IsFirst, one_tag, any_of, sought_by, IsAlwaysPresent}
+use Rattle.rasn_types.specs.Shapes.Parts.{none}
+use Rattle.rasn_types.specs.Readings.{IsLeftOut}
+use Rattle.rasn_types.specs.Grammar.{Reads}
+use Rattle.rasn_types.specs.Lawful.{IsLawful, HasTag, AreAlternatives, AreDistinguished, AreLawfulByTag}
+use Rattle.rasn_types.proofs.Headers.Frames.{frame_one, next_one, not_ended}
+use Rattle.rasn_de.specs.State.{State}
+use Rattle.rasn_de.specs.Choice.{IsOnlyAlternative}
+use Rattle.rasn_de.specs.Optional.{NextIs}
+use Rattle.rasn_de.specs.Headers.{Header}
+use Rattle.rasn_de.specs.declared.ber.de.constructed.ConstructedHeader.{ConstructedHeader}
+use Rattle.rasn_de.specs.Constructed.{sequence_header, list_header, prefix_header, expected_header, constructed_header_at, is_indefinite_extent}
+use Rattle.rasn_de.specs.Segments.{octets_inside}
+use Rattle.rasn_de.proofs.Headers.Frames.{header_parsed}
+use Rattle.rasn_de.proofs.Headers.Results.{octets_back}
+use Rattle.rasn_de.proofs.Strings.Reads.{frame_octets}
+use Rattle.rasn_de.proofs.Constructed.Contents.{constructed_header_parsed}
+use Rattle.rasn.proofs.ReadBack.Begins.{BeginsIn, begins, has_next_tag, solid_closing}
+use Rattle.rasn.proofs.Included.IntoBer.{reads_in}
+use Rattle.rasn.proofs.OneReading.Shapes.{reads_one}
+use Rattle.rasn_schema.specs.declared.types.Component.{Component}
+use Rattle.rasn_schema.specs.declared.types.Alternative.{Alternative}
+use Rattle.rasn_schema.specs.declared.types.«Type».{«Type»}
+use Rattle.rasn_schema.specs.declared.types.«Type».TheVariants.{Leaf, Enumerated, Any, Tagged, Choice, Sequence, Set, SequenceOf, SetOf}
+use Rattle.rasn_schema.specs.Shapes.{shape_of_type, type_by, found_by, alternatives_by, components_by, key_of}
+use Rattle.rasn_schema.proofs.Lists.{some_is, same_or_not}
+use Rattle.rasn_schema.proofs.LawfulTypes.{is_present}
+use Rattle.rasn_dynamic.specs.declared.span.Span.{Span}
+use Rattle.rasn_dynamic.specs.Inside.{DecodesTree}
+use Rattle.rasn_dynamic.specs.Faults.{octets_after, start}
+use Rattle.rasn_dynamic.specs.Listed.{capped, GoesInside, GoesInto, InTurn, PartListed, ComponentListed, ComponentAt, ComponentsListed, MemberListed, MembersListed, ElementsListed, AlternativeListed, ContentsListed, ValueListed, PartsInside, Inside}
+use Rattle.rasn_dynamic.specs.SameParts.{IsSamePart, AreSameParts, AreLawfulTypes, PartsAreDetermined}
+use Rattle.rasn_dynamic.proofs.Contents.{only_at}
+use Rattle.rasn_dynamic.proofs.Pieces.{only_part, by_tag_distinguished}
+
+-- ---- lists of the same parts
+
+none_same : (es fs : List Span) → es ≡ [] → fs ≡ [] → AreSameParts es fs
+none_same es fs p q = subst (λ z. AreSameParts z fs) (sym p) q
+
+cons_same : (es fs xs ys : List Span) (e g : Span) → es ≡ e ∷ xs → fs ≡ g ∷ ys → IsSamePart e g → AreSameParts xs ys → AreSameParts es fs
+cons_same es fs xs ys e g p q h k = subst (λ z. AreSameParts z fs) (sym p) (g, ys, q, h, k)
+
+both_same : (a b c d : List Span) → AreSameParts a c → AreSameParts b d → AreSameParts (a ++ b) (c ++ d)
+both_same [] b c d h k = subst (λ z. AreSameParts b (z ++ d)) (sym h) k
+both_same (e ∷ a) b c d (g, more, is, h, hs) k = (g, more ++ d, ap (λ z. z ++ d) is, h, both_same a b more d hs k)
+
+append_same : (es fs a b c d : List Span) → es ≡ a ++ b → fs ≡ c ++ d → AreSameParts a c → AreSameParts b d → AreSameParts es fs
+append_same es fs a b c d p q h k = subst (λ z. AreSameParts z fs) (sym p) (subst (λ z. AreSameParts (a ++ b) z) (sym q) (both_same a b c d h k))
+
+-- ---- what is read
+
+-- The same octets are read at the same depth, by whichever rules.
+record Alike (s z : State) : Type 0 where
+  rest : s.rest ≡ z.rest
+  depth : s.depth ≡ z.depth
+  octets : AreOctets s.rest
+
+by_ber : (s : Shape) → IsAlwaysPresent s → (old new : State) (t : Tree) → DecodesTree s old (Ok t) new → Reads Ber s old.depth true old.rest t new.rest
+by_ber s solid old new t d = solid_closing s solid Ber old.depth old.closing true old.rest t new.rest (reads_in s old.rule old.depth old.closing old.rest t new.rest d.exact.0)
+
+-- What other rules read there is the same.
+pub same_reading : (s : Shape) → IsAlwaysPresent s → IsLawful s → (old new : State) (u : Tree) → DecodesTree s old (Ok u) new
+    → (rule : Codec) (closing : Bool) (t : Tree) (rest : List ℕ) → Reads rule s old.depth closing old.rest t rest → (t ≡ u) × (rest ≡ new.rest)
+same_reading s solid lawful old new u d rule closing t rest r =
+    reads_one s lawful Ber old.depth true old.rest t u rest new.rest (solid_closing s solid Ber old.depth closing true old.rest t rest (reads_in s rule old.depth closing old.rest t rest r)) (by_ber s solid old new u d)
+
+-- A value is read up to the same octets.
+read_alike : (s : Shape) → IsAlwaysPresent s → IsLawful s → (old other n m : State) (t u : Tree) → Alike old other → DecodesTree s old (Ok t) n → DecodesTree s other (Ok u) m → Alike n m
+read_alike s solid lawful old other n m t u alike d e =
+    let x = by_ber s solid old n t d in
+    let y = subst (λ l. Reads Ber s old.depth true l u m.rest) (sym alike.rest) (subst (λ k. Reads Ber s k true other.rest u m.rest) (sym alike.depth) (by_ber s solid other m u e)) in
+    record {
+      rest = (reads_one s lawful Ber old.depth true old.rest t u n.rest m.rest x y).1;
+      depth = ap (λ (z : State). z.depth) d.stays ∙ (alike.depth ∙ sym (ap (λ (z : State). z.depth) e.stays));
+      octets = octets_back d.end.0 n.rest (subst AreOctets d.end.1 alike.octets);
+    }
+
+-- No value is read at an end.
+pub not_at_end : (s : Shape) → IsAlwaysPresent s → (rule : Codec) (depth : ℕ) (c closing : Bool) (input : List ℕ) (t : Tree) (rest : List ℕ) → Reads rule s depth c input t rest → Ended closing input → ⊥
+not_at_end s solid rule depth c closing input t rest r e = let n = has_next_tag s solid rule depth c input t rest r in not_ended closing input n.1 n.2 e
+
+not_read : (s : Shape) → IsAlwaysPresent s → (old new : State) (t : Tree) → DecodesTree s old (Ok t) new → (closing : Bool) → Ended closing old.rest → ⊥
+not_read s solid old new t d closing e = not_at_end s solid old.rule old.depth old.closing closing old.rest t new.rest d.exact.0 e
+
+tag_read : (s : Shape) → IsAlwaysPresent s → HasTag s → (old new : State) (t : Tree) → DecodesTree s old (Ok t) new → BeginsIn (form old.rule) (IsFirst s) old.rest
+tag_read s solid has old new t d = begins s solid has old.rule old.depth old.closing old.rest t new.rest d.exact.0
+
+-- ---- one after the other
+
+abbrev IsOneStep : (State → State → List Span → Type 0) → Type 0
+IsOneStep P = (s z n m : State) (es fs : List Span) → Alike s z → P s n es → P z m fs → Alike n m × AreSameParts es fs
+
+module _ (step : ℕ → State → State → List Span → Type 0) where
+  -- The first n of more, and the one after them.
+  abbrev FirstOf : ℕ → State → Type 0
+  FirstOf n s = (here : State) × (next : State) × (before : List Span) × (mine : List Span) × InTurn step n s here before × step n here next mine
+
+  cut : (n m : ℕ) (s last : State) (es : List Span) → n < m → InTurn step m s last es → FirstOf n s
+  cut n zero s last es h t = absurd (omega (arith, h))
+  cut n (suc m) s last es h (before, mine, here, is, t, k) = go (same_or_not n m) (λ d. cut n m s here before (omega (arith, h, d)) t)
+    where
+      go : (n ≡ m) ⊎ (n ≢ m) → ((n ≢ m) → FirstOf n s) → FirstOf n s
+      go (inl e) f = (here, last, before, mine, subst (λ z. InTurn step z s here before) (sym e) t, subst (λ z. step z here last mine) (sym e) k)
+      go (inr d) f = f d
+
+  module _ (one : (k : ℕ) → IsOneStep (step k)) where
+    in_turn_one : (n : ℕ) → IsOneStep (InTurn step n)
+    in_turn_one zero s z a b es fs alike (p, q) (x, y) =
+        (subst (λ v. Alike v b) (sym p) (subst (λ v. Alike s v) (sym x) alike), none_same es fs q y)
+    in_turn_one (suc n) s z a b es fs alike (before, mine, here, is, t, k) (first, last, there, are, u, l) =
+        let r = in_turn_one n s z here there before first alike t u in
+        let v = one n here there a b mine last r.0 k l in
+        (v.0, append_same es fs before mine first last is are r.1 v.1)
+
+    -- Up to an end, at which nothing is read.
+    module _ (none_at_end : (k : ℕ) (s n : State) (es : List Span) → step k s n es → (closing : Bool) → Ended closing s.rest → ⊥) where
+      not_shorter : (n m : ℕ) (s z a b : State) (es fs : List Span) → Alike s z → n < m → InTurn step n s a es → Ended a.closing a.rest → InTurn step m z b fs → ⊥
+      not_shorter n m s z a b es fs alike h t e u =
+          let (here, next, before, mine, v, k) = cut n m z b fs h u in
+          let r = in_turn_one n s z a here es before alike t v in
+          none_at_end n here next mine k a.closing (subst (λ l. Ended a.closing l) r.0.rest e)
+
+      ended_one : (n m : ℕ) (s z a b : State) (es fs : List Span) → Alike s z → InTurn step n s a es → Ended a.closing a.rest → InTurn step m z b fs → Ended b.closing b.rest → AreSameParts es fs
+      ended_one n m s z a b es fs alike t e u g = go (cases_order n m)
+        where
+          back : Alike z s
+          back = record { rest = sym alike.rest; depth = sym alike.depth; octets = subst AreOctets alike.rest alike.octets }
+
+          go : (n ≡ m) ⊎ ((n < m) ⊎ (m < n)) → AreSameParts es fs
+          go (inl h) = (in_turn_one n s z a b es fs alike t (subst (λ k. InTurn step k z b fs) (sym h) u)).1
+          go (inr (inl h)) = absurd (not_shorter n m s z a b es fs alike h t e u)
+          go (inr (inr h)) = absurd (not_shorter m n z s b a fs es back h u g t)
+
+-- ---- which alternative, and whether a component is absent
+
+pub same_index : (ps : Parts) (tag : Tag) (j k : ℕ) (p q : Presence) (s u : Shape) → IsOnlyAlternative ps j p s tag → IsOnlyAlternative ps k q u tag → j ≡ k
+same_index none tag j k p q s u a b = absurd a
+same_index (part presence x ps) tag zero zero p q s u a b = refl
+same_index (part presence x ps) tag zero (suc k) p q s u (e, f, h, n) (m, b) = absurd (m (subst (λ z. IsFirst z tag) (sym f) h))
+same_index (part presence x ps) tag (suc j) zero p q s u (m, a) (e, f, h, n) = absurd (m (subst (λ z. IsFirst z tag) (sym f) h))
+same_index (part presence x ps) tag (suc j) (suc k) p q s u (m, a) (n, b) = ap suc (same_index ps tag j k p q s u a b)
+
+other_tag : (spelling other : Form) (tag : Tag) (closing : Bool) (input : List ℕ) → BeginsIn spelling (λ n. n ≡ tag) input → IsLeftOut other (one_tag (Some tag)) closing input → ⊥
+other_tag spelling other tag closing input (n, next, is) (inl e) = not_ended closing input n next e
+other_tag spelling other tag closing input (n, next, is) (inr (m, another, isnt)) = isnt (next_one input m n another next ∙ is)
+
+no_first : (spelling other : Form) (P : Tag → Type 0) (closing : Bool) (input : List ℕ) → BeginsIn spelling P input → IsLeftOut other (any_of P) closing input → ⊥
+no_first spelling other P closing input (n, next, first) (inl e) = not_ended closing input n next e
+no_first spelling other P closing input (n, next, first) (inr (m, another, isnt)) = isnt (subst P (next_one input n m next another) first)
+
+-- A value isn't read where it is absent.
+pub not_absent : (s : Shape) → IsAlwaysPresent s → (rule : Codec) (depth : ℕ) (c : Bool) (input : List ℕ) (t : Tree) (rest : List ℕ) → Reads rule s depth c input t rest
+    → (other : Form) (closing : Bool) → IsLeftOut other (sought_by (key_of s) s) closing input → ⊥
+not_absent (leaf kind tag bounds) solid rule depth c input t rest r other closing l = other_tag (form rule) other tag closing input (begins (leaf kind tag bounds) solid tt rule depth c input t rest r) l
+not_absent (any None) solid rule depth c input t rest r other closing l = not_at_end (any None) solid rule depth c closing input t rest r l
+not_absent (any (Some tag)) solid rule depth c input t rest r other closing l = other_tag (form rule) other tag closing input (begins (any (Some tag)) solid tt rule depth c input t rest r) l
+not_absent (prefix tag s) solid rule depth c input t rest r other closing l = other_tag (form rule) other tag closing input (begins (prefix tag s) solid tt rule depth c input t rest r) l
+not_absent (choice ps) solid rule depth c input t rest r other closing l = no_first (form rule) other (IsFirst (choice ps)) closing input (begins (choice ps) solid tt rule depth c input t rest r) l
+not_absent (option tag s) solid rule depth c input t rest r other closing l = absurd solid
+not_absent (seq tag ps) solid rule depth c input t rest r other closing l = other_tag (form rule) other tag closing input (begins (seq tag ps) solid tt rule depth c input t rest r) l
+not_absent (set tag ps) solid rule depth c input t rest r other closing l = other_tag (form rule) other tag closing input (begins (set tag ps) solid tt rule depth c input t rest r) l
+not_absent (list tag s size) solid rule depth c input t rest r other closing l = other_tag (form rule) other tag closing input (begins (list tag s size) solid tt rule depth c input t rest r) l
+not_absent (set_of tag s size) solid rule depth c input t rest r other closing l = other_tag (form rule) other tag closing input (begins (set_of tag s size) solid tt rule depth c input t rest r) l
+not_absent unknown solid rule depth c input t rest r other closing l = absurd solid
+
+absent_there : (s : Shape) → IsAlwaysPresent s → (old other new : State) (t : Tree) → other.rest ≡ old.rest → DecodesTree s old (Ok t) new → NextIs (sought_by (key_of s) s) other (Ok false) → ⊥
+absent_there s solid old other new t e d l =
+    not_absent s solid old.rule old.depth old.closing old.rest t new.rest d.exact.0 (form other.rule) other.closing (subst (λ z. IsLeftOut (form other.rule) (sought_by (key_of s) s) other.closing z) e l)
+
+pub alternative_tagged : (f : ℕ → Shape) (ks : List Alternative) (k : ℕ) (a : Alternative) → AreAlternatives (alternatives_by f ks) → Some a ≡ slice_get ks k → HasTag (f a.type_id.0)
+unfolding IsLawful
+alternative_tagged f [] k a h e = absurd cc
+alternative_tagged f (c ∷ ks) zero a h e = subst (λ (z : Alternative). HasTag (f z.type_id.0)) (some_is c a (sym e)) h.1
+alternative_tagged f (c ∷ ks) (suc k) a h e = alternative_tagged f ks k a h.4 e
+
+pub member_tagged : (f : ℕ → Shape) (ps : List Component) (k : ℕ) (p : Component) → AreLawfulByTag (components_by f ps) → Some p ≡ slice_get ps k → HasTag (f p.type_id.0)
+unfolding IsLawful
+member_tagged f [] k p h e = absurd cc
+member_tagged f (q ∷ ps) zero p h e = subst (λ (z : Component). HasTag (f z.type_id.0)) (some_is q p (sym e)) h.1
+member_tagged f (q ∷ ps) (suc k) p h e = member_tagged f ps k p h.5 e
+
+-- ---- the parts of a value, if those inside its parts are determined
+
+abbrev IsOneInside : (ℕ → ℕ → State → List Span → Type 0) → Type 0
+IsOneInside P = (id b : ℕ) (s z : State) (es fs : List Span) → Alike s z → P id b s es → P id b z fs → AreSameParts es fs
+
+-- A header by one rule is the same by another.
+pub header_frame : (d : ConstructedHeader) (s : State) (h : Header) → AreOctets s.rest → constructed_header_at d s.rule s.depth s.rest ≡ Ok h → Frame (form s.rule) s.rest h.tag h.bit h.rest h.extent
+header_frame d s h o e = (header_parsed (form s.rule) (expected_header d s.rule) s.rest h o (constructed_header_parsed d s.rule s.depth s.rest h e).1).0
+
+into_header : (d : ConstructedHeader) (b : ℕ) (s z : State) (a c : ℕ) (inner other : State) → Alike s z → GoesInside d b s a inner → GoesInside d b z c other → (a ≡ c) × Alike inner other
+into_header d b s z a c inner other alike (h, p, q, r) (k, u, v, w) =
+    let F = header_frame d s h alike.octets p in
+    let G = subst (λ l. Frame (form z.rule) l k.tag k.bit k.rest k.extent) (sym alike.rest) (header_frame d z k (subst AreOctets alike.rest alike.octets) u) in
+    let one = frame_one s.rest F G in
+    let closing : inner.closing ≡ other.closing = ap (λ (y : State). y.closing) q ∙ (ap is_indefinite_extent one.extent ∙ sym (ap (λ (y : State). y.closing) v)) in
+    let same : octets_inside h.extent h.rest ≡ octets_inside k.extent k.rest = ap (λ x. octets_inside x h.rest) one.extent ∙ ap (octets_inside k.extent) one.rest in (
+      r ∙ (ap (λ y. capped b (octets_after y (length h.rest))) closing ∙ (ap (λ l. capped b (octets_after other.closing (length l))) one.rest ∙ sym w)),
+      record {
+        rest = ap (λ (y : State). y.rest) q ∙ (same ∙ sym (ap (λ (y : State). y.rest) v));
+        depth = ap (λ (y : State). y.depth) q ∙ (ap (λ n. n - d.levels) alike.depth ∙ sym (ap (λ (y : State). y.depth) v));
+        octets = subst AreOctets (sym (ap (λ (y : State). y.rest) q)) (frame_octets s.rest alike.octets F).1;
+      },
+    )
+
+into_one : (ty : «Type») (b : ℕ) (s z : State) (a c : ℕ) (inner other : State) → Alike s z → GoesInto ty b s a inner → GoesInto ty b z c other → (a ≡ c) × Alike inner other
+into_one ty b s z a c inner other alike g h = go ty g h
+  where
+    stays : (a ≡ b) × (inner ≡ s) → (c ≡ b) × (other ≡ z) → (a ≡ c) × Alike inner other
+    stays (p, q) (u, v) = (p ∙ sym u, subst (λ y. Alike y other) (sym q) (subst (λ y. Alike s y) (sym v) alike))
+
+    go : (ty : «Type») → GoesInto ty b s a inner → GoesInto ty b z c other → (a ≡ c) × Alike inner other
+    go (Leaf kind tag bounds names) g h = stays g h
+    go (Enumerated tag ns) g h = stays g h
+    go (Any tag) g h = stays g h
+    go (Tagged tag id) g h = into_header (prefix_header tag) b s z a c inner other alike g h
+    go (Choice name ks) g h = stays g h
+    go (Sequence tag ps) g h = into_header (sequence_header tag) b s z a c inner other alike g h
+    go (Set name tag ps) g h = into_header (sequence_header tag) b s z a c inner other alike g h
+    go (SequenceOf tag id size) g h = into_header (list_header tag) b s z a c inner other alike g h
+    go (SetOf tag id size) g h = into_header (list_header tag) b s z a c inner other alike g h
+
+module _ (f : ℕ → Shape) (solid : (k : ℕ) → IsAlwaysPresent (f k)) (levels : ℕ) (P : ℕ → ℕ → State → List Span → Type 0) where
+  part_not_at_end : (id k b : ℕ) (s n : State) (es : List Span) → PartListed f levels P id k b s n es → (closing : Bool) → Ended closing s.rest → ⊥
+  part_not_at_end id k b s n es x closing e = not_read (f id) (solid id) s n x.tree x.reads closing e
+
+  -- Nothing is left: each component is absent.
+  pub none_left : (ps : List Component) (b n : ℕ) (s last : State) (es : List Span) → s.rest ≡ [] → InTurn (ComponentAt f levels P ps b) n s last es → (last ≡ s) × (es ≡ [])
+  none_left ps b zero s last es e (p, q) = (p, q)
+  none_left ps b (suc n) s last es e (before, mine, here, is, t, (p, a, inl (h, g, i))) =
+      let r = none_left ps b n s here before e t in
+      (g ∙ r.0, is ∙ (ap (λ l. l ++ mine) r.1 ∙ i))
+  none_left ps b (suc n) s last es e (before, mine, here, is, t, (p, a, inr x)) =
+      let r = none_left ps b n s here before e t in
+      absurd (part_not_at_end p.type_id.0 n b here last mine x true (inl (ap (λ (v : State). v.rest) r.0 ∙ e)))
+
+module _ (f : ℕ → Shape) (solid : (k : ℕ) → IsAlwaysPresent (f k)) (lawful : (k : ℕ) → IsLawful (f k)) (levels : ℕ) (P : ℕ → ℕ → State → List Span → Type 0) (one : IsOneInside P) where
+  part_one : (id k b : ℕ) → IsOneStep (PartListed f levels P id k b)
+  part_one id k b s z n m es fs alike x y =
+      let e = read_alike (f id) (solid id) (lawful id) s z n m x.tree y.tree alike x.reads y.reads in
+      let o : x.part.octets.now ++ n.rest ≡ y.part.octets.now ++ n.rest = sym x.octets ∙ (alike.rest ∙ (y.octets ∙ ap (λ l. y.part.octets.now ++ l) (sym e.rest))) in
+      let same : IsSamePart x.part y.part = record {
+        id = x.id_is ∙ sym y.id_is;
+        index = x.index ∙ sym y.index;
+        levels = x.deep ∙ sym y.deep;
+        left = x.left ∙ (ap (λ l. capped b (length l)) alike.rest ∙ sym y.left);
+        octets = append_cancel_right x.part.octets.now y.part.octets.now n.rest o;
+      } in
+      (e, cons_same es fs x.inside y.inside x.part y.part x.is y.is same (one id b s z x.inside y.inside alike x.parts y.parts))
+
+  elements_one : (id b : ℕ) (s z : State) (es fs : List Span) → Alike s z → ElementsListed f levels P id b s es → ElementsListed f levels P id b z fs → AreSameParts es fs
+  elements_one id b s z es fs alike (n, a, t, e) (m, c, u, g) =
+      ended_one (λ k. PartListed f levels P id k b) (λ k. part_one id k b) (λ k. part_not_at_end f solid levels P id k b) n m s z a c es fs alike t e u g
+
+  component_one : (ps : List Component) (b k : ℕ) → IsOneStep (ComponentAt f levels P ps b k)
+  component_one ps b k s z n m es fs alike (p, a, x) (q, c, y) = go x (subst (λ (v : Component). ComponentListed f levels P v k b z m fs) (some_is q p (c ∙ sym a)) y)
+    where
+      go : ComponentListed f levels P p k b s n es → ComponentListed f levels P p k b z m fs → Alike n m × AreSameParts es fs
+      go (inl (h, e, i)) (inl (l, g, j)) = (subst (λ v. Alike v m) (sym e) (subst (λ v. Alike s v) (sym g) alike), none_same es fs i j)
+      go (inl (h, e, i)) (inr r) = absurd (absent_there (f p.type_id.0) (solid p.type_id.0) z s m r.tree alike.rest r.reads h.1)
+      go (inr r) (inl (l, g, j)) = absurd (absent_there (f p.type_id.0) (solid p.type_id.0) s z n r.tree (sym alike.rest) r.reads l.1)
+      go (inr r) (inr v) = part_one p.type_id.0 k b s z n m es fs alike r v
+
+  components_one : (ps : List Component) (b : ℕ) (s z : State) (es fs : List Span) → Alike s z → ComponentsListed f levels P ps b s es → ComponentsListed f levels P ps b z fs → AreSameParts es fs
+  components_one ps b s z es fs alike (inl (h, p)) (inl (k, q)) = none_same es fs p q
+  components_one ps b s z es fs alike (inl (h, p)) (inr (m, u)) = none_same es fs p (none_left f solid levels P ps b (length ps) z m fs (sym alike.rest ∙ h.2) u).1
+  components_one ps b s z es fs alike (inr (n, t)) (inl (k, q)) = none_same es fs (none_left f solid levels P ps b (length ps) s n es (alike.rest ∙ k.2) t).1 q
+  components_one ps b s z es fs alike (inr (n, t)) (inr (m, u)) = (in_turn_one (ComponentAt f levels P ps b) (component_one ps b) (length ps) s z n m es fs alike t u).1
+
+  -- The next tag says which alternative or component it is.
+  alternative_one : (ks : List Alternative) → AreAlternatives (alternatives_by f ks) → AreDistinguished (alternatives_by f ks) → (b : ℕ) (s z : State) (es fs : List Span) → Alike s z
+      → AlternativeListed f levels P ks b s es → AlternativeListed f levels P ks b z fs → AreSameParts es fs
+  alternative_one ks are apart b s z es fs alike (j, a, p, n, x) (k, c, q, m, y) =
+      let v = tag_read (f a.type_id.0) (solid a.type_id.0) (alternative_tagged f ks j a are p) s n x.tree x.reads in
+      let w = tag_read (f c.type_id.0) (solid c.type_id.0) (alternative_tagged f ks k c are q) z m y.tree y.reads in
+      let next = subst (λ l. NextTag (form z.rule) l w.0) (sym alike.rest) w.1 in
+      let first = subst (IsFirst (f c.type_id.0)) (next_one s.rest w.0 v.0 next v.1) w.2 in
+      let e : j ≡ k = same_index (alternatives_by f ks) v.0 j k _ _ _ _ (only_at f ks j a v.0 apart p v.2) (only_at f ks k c v.0 apart q first) in
+      let g : c ≡ a = some_is c a (q ∙ (ap (slice_get ks) (sym e) ∙ sym p)) in
+      (part_one a.type_id.0 j b s z n m es fs alike x (subst (λ (i : Alternative). PartListed f levels P i.type_id.0 j b z m fs) g (subst (λ i. PartListed f levels P c.type_id.0 i b z m fs) (sym e) y))).1
+
+  member_one : (ps : List Component) → AreLawfulByTag (components_by f ps) → (b : ℕ) → IsOneStep (MemberListed f levels P ps b)
+  member_one ps are b s z n m es fs alike (j, a, p, x) (k, c, q, y) =
+      let apart = by_tag_distinguished (components_by f ps) are in
+      let v = tag_read (f a.type_id.0) (solid a.type_id.0) (member_tagged f ps j a are p) s n x.tree x.reads in
+      let w = tag_read (f c.type_id.0) (solid c.type_id.0) (member_tagged f ps k c are q) z m y.tree y.reads in
+      let next = subst (λ l. NextTag (form z.rule) l w.0) (sym alike.rest) w.1 in
+      let first = subst (IsFirst (f c.type_id.0)) (next_one s.rest w.0 v.0 next v.1) w.2 in
+      let e : j ≡ k = same_index (components_by f ps) v.0 j k _ _ _ _ (only_part f v.0 ps j a apart (p, v.2)) (only_part f v.0 ps k c apart (q, first)) in
+      let g : c ≡ a = some_is c a (q ∙ (ap (slice_get ps) (sym e) ∙ sym p)) in
+      part_one a.type_id.0 j b s z n m es fs alike x (subst (λ (i : Component). PartListed f levels P i.type_id.0 j b z m fs) g (subst (λ i. PartListed f levels P c.type_id.0 i b z m fs) (sym e) y))
+
+  members_one : (ps : List Component) → AreLawfulByTag (components_by f ps) → (b : ℕ) (s z : State) (es fs : List Span) → Alike s z → MembersListed f levels P ps b s es → MembersListed f levels P ps b z fs → AreSameParts es fs
+  members_one ps are b s z es fs alike (n, a, t, e) (m, c, u, g) =
+      ended_one (λ k. MemberListed f levels P ps b) (λ k. member_one ps are b) (λ k v w es (j, p, is, x) closing e. part_not_at_end f solid levels P p.type_id.0 j b v w es x closing e) n m s z a c es fs alike t e u g
+
+  contents_one : (ty : «Type») → IsLawful (type_by f ty) → (b : ℕ) (s z : State) (es fs : List Span) → Alike s z → ContentsListed f levels P ty b s es → ContentsListed f levels P ty b z fs → AreSameParts es fs
+  unfolding IsLawful
+  contents_one (Leaf kind tag c names) are b s z es fs alike p q = none_same es fs p q
+  contents_one (Enumerated tag ns) are b s z es fs alike p q = none_same es fs p q
+  contents_one (Any tag) are b s z es fs alike p q = none_same es fs p q
+  contents_one (Tagged tag id) are b s z es fs alike (n, x) (m, y) = (part_one id.0 0 b s z n m es fs alike x y).1
+  contents_one (Choice name ks) are b s z es fs alike x y = alternative_one ks.items are.0 are.1 b s z es fs alike x y
+  contents_one (Sequence tag ps) are b s z es fs alike x y = components_one ps.items b s z es fs alike x y
+  contents_one (Set name tag ps) are b s z es fs alike x y = members_one ps.items are.1 b s z es fs alike x y
+  contents_one (SequenceOf tag id c) are b s z es fs alike x y = elements_one id.0 b s z es fs alike x y
+  contents_one (SetOf tag id c) are b s z es fs alike x y = elements_one id.0 b s z es fs alike x y
+
+  value_one : (ty : «Type») → IsLawful (type_by f ty) → (b : ℕ) (s z : State) (es fs : List Span) → Alike s z → ValueListed f levels P ty b s es → ValueListed f levels P ty b z fs → AreSameParts es fs
+  value_one ty are b s z es fs alike (a, inner, g, x) (c, other, h, y) =
+      let e = into_one ty b s z a c inner other alike g h in
+      contents_one ty are a inner other es fs e.1 x (subst (λ n. ContentsListed f levels P ty n other fs) (sym e.0) y)
+
+-- ---- types by their numbers
+
+module _ (types : List «Type») (lawful : AreLawfulTypes types) where
+  pub lawful_type : (n id : ℕ) (ty : «Type») → slice_get types id ≡ Some ty → IsLawful (type_by (shape_of_type types n) ty)
+  unfolding shape_of_type
+  lawful_type n id ty at = subst (λ z. IsLawful (found_by (λ j. shape_of_type types n j) z)) at (lawful (suc n) id)
+
+  inside_one : (n : ℕ) → IsOneInside (Inside types n)
+  unfolding PartsInside
+  inside_one zero id b s z es fs alike h k = absurd h
+  inside_one (suc n) id b s z es fs alike (ty, p, x) (tz, q, y) =
+      let e : tz ≡ ty = some_is tz ty (sym q ∙ p) in
+      value_one (shape_of_type types n) (is_present types n) (lawful n) n (Inside types n) (inside_one n) ty (lawful_type n id ty p) b s z es fs alike x
+      (subst (λ v. ValueListed (shape_of_type types n) n (Inside types n) v b z fs) e y)
+
+pub parts_determined : PartsAreDetermined
+parts_determined types rule other id input ps qs lawful octets x y =
+    let n : ℕ = 18446744073709551615 in
+    let alike : Alike (start rule input) (start other input) = record { rest = refl; depth = refl; octets = octets } in
+    (part_one (shape_of_type types 18446744073709551615) (is_present types n) (lawful n) n (Inside types n) (inside_one types lawful n)
+    id 0 0 (start rule input) (start other input) x.last y.last ps.list.items qs.list.items alike x.listed y.listed).1
