@@ -19,7 +19,7 @@ use Rattle.rasn_lint.specs.declared.by_schema.OpenTypes.TheVariants.{Unexamined,
 use Rattle.rasn.proofs.Normalised.{unchanged}
 use Rattle.rasn_dynamic.specs.Walk.{ArePartsOf, path_after}
 use Rattle.rasn_lint.specs.declared.departure.Departure.{Departure}
-use Rattle.rasn_lint.specs.Lint.{IsDer, HasFormed, AreFormed, IsFirstIn, IsFirstDeparture, IsLint}
+use Rattle.rasn_lint.specs.Lint.{HasFormed, AreFormed, IsFirstIn, IsLint}
 use Rattle.rasn_lint.specs.Untyped.{HasOpen}
 use Rattle.rasn_lint.specs.Laws.{NormalIsClean, IsClosed, ClosedIsClean, FirstIsListed, CleanIsNormal}
 use Rattle.rasn_lint.proofs.Holding.{holds}

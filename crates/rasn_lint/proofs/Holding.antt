@@ -1,5 +1,5 @@
 -- The parts of a message beside the tree of its value.
-use Rattle.std.proofs.Common.{◌≡◌, ◌≢◌, ◌⊎◌, inl, inr, ◌+◌, ◌-◌, ℕ, zero, suc, List, [], ◌∷◌, ◌++◌, length, drop, append_assoc, append-nil, Bool, true, false, Option, Some, None, Ok, refl, sym, ap, ◌∙◌, subst, arith}
+use Rattle.std.proofs.Common.{◌≡◌, ◌≢◌, ◌⊎◌, inl, inr, ◌+◌, ◌-◌, ℕ, zero, suc, List, [], ◌∷◌, ◌++◌, length, drop, append_assoc, append-nil, Bool, true, false, Option, Some, None, refl, sym, ap, ◌∙◌, subst, arith}
 use Rattle.std.specs.Prelude.{◌↔◌, slice_get}
 use Rattle.std.proofs.lemmas.List.{append_cancel_right}
 use Rattle.rasn_types.specs.declared.types.codec.Codec.{Codec}
@@ -12,9 +12,8 @@ use Rattle.rasn_types.specs.Readings.{Reading, ReadsContents, definite_form, ind
 use Rattle.rasn_types.specs.Grammar.{Reads, parts_of, ReadsList, ReadsSetOf}
 use Rattle.rasn_types.specs.Lawful.{IsLawful, AreAlternatives, AreDistinguished, AreLawfulByTag}
 use Rattle.rasn_types.proofs.Headers.Frames.{frame_one, next_one, not_ended}
-use Rattle.rasn_de.specs.Any.{OpenAt, ReadsOpenOctets}
+use Rattle.rasn_de.specs.Any.{ReadsOpenOctets}
 use Rattle.rasn_de.specs.State.{State}
-use Rattle.rasn_de.specs.Headers.{Header}
 use Rattle.rasn_de.specs.Segments.{octets_inside}
 use Rattle.rasn_de.specs.Constructed.{sequence_header, list_header, prefix_header}
 use Rattle.rasn_de.specs.declared.ber.de.constructed.ConstructedHeader.{ConstructedHeader}
@@ -31,12 +30,10 @@ use Rattle.rasn_schema.specs.declared.types.Presence.TheVariants.{Required, Opti
 use Rattle.rasn_schema.specs.declared.types.«Type».{«Type»}
 use Rattle.rasn_schema.specs.declared.types.«Type».TheVariants.{Leaf, Enumerated, Any, Tagged, Choice, Sequence, Set, SequenceOf, SetOf}
 use Rattle.rasn_schema.specs.Shapes.{shape_of_type, type_by, found_by, alternatives_by, components_by, key_of, presence_by, presence_of, presence_in}
-use Rattle.rasn_schema.specs.Trees.{tree_of}
 use Rattle.rasn_schema.proofs.Lists.{some_is}
 use Rattle.rasn_schema.proofs.LawfulTypes.{is_present}
 use Rattle.rasn_dynamic.specs.declared.span.Span.{Span}
-use Rattle.rasn_dynamic.specs.Calls.{LeavesAllOut}
-use Rattle.rasn_dynamic.specs.Listed.{GoesInside, InTurn, PartListed, ComponentListed, ComponentAt, ComponentsListed, MemberListed, MembersListed, ElementsListed, AlternativeListed, ValueListed, PartsInside, Inside}
+use Rattle.rasn_dynamic.specs.Listed.{GoesInside, InTurn, PartListed, ComponentListed, ComponentAt, ComponentsListed, MemberListed, AlternativeListed, ValueListed, PartsInside, Inside}
 use Rattle.rasn_dynamic.specs.SameParts.{AreLawfulTypes}
 use Rattle.rasn_dynamic.proofs.Contents.{only_at}
 use Rattle.rasn_dynamic.proofs.Pieces.{only_part, by_tag_distinguished}

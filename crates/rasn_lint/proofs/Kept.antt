@@ -1,11 +1,11 @@
 -- The open types of a value are well formed, wherever they are written.
-use Rattle.std.proofs.Common.{◌≡◌, ◌⊎◌, inl, inr, ◌+◌, ℕ, zero, suc, List, [], ◌∷◌, ◌++◌, Option, Some, None, refl, sym, ap, ◌∙◌, subst, arith, IsPermutation}
-use Rattle.std.specs.Prelude.{◌↔◌, slice_get}
+use Rattle.std.proofs.Common.{◌≡◌, ◌⊎◌, inl, inr, ◌+◌, ℕ, zero, suc, List, [], ◌∷◌, ◌++◌, Some, refl, sym, ap, ◌∙◌, subst, arith, IsPermutation}
+use Rattle.std.specs.Prelude.{slice_get}
 use Rattle.std.specs.List.{AllByRecursion}
 use Rattle.rasn_types.specs.declared.types.codec.Codec.{Codec}
 use Rattle.rasn_types.specs.declared.types.codec.Codec.TheVariants.{Der}
 use Rattle.rasn_types.specs.declared.types.tag.Tag.{Tag}
-use Rattle.rasn_types.specs.Shapes.{Shape, Tree, Same, numbers, chosen, items, set_elements, joined, presences, Presence as PartPresence, required, addition, optional_by, default_by}
+use Rattle.rasn_types.specs.Shapes.{Shape, Tree, Same, numbers, chosen, items, set_elements, joined, presences}
 use Rattle.rasn_types.specs.Order.{Each}
 use Rattle.rasn_types.specs.Readings.{NoneOf, OneOf, ByPart, IsMissing}
 use Rattle.rasn_types.proofs.SetOf.Same.{items_one, each_moved, same_sym}
@@ -22,7 +22,7 @@ use Rattle.rasn_dynamic.specs.declared.span.Span.{Span}
 use Rattle.rasn_lint.specs.Lint.{HasFormed}
 use Rattle.rasn_lint.specs.Untyped.{HasOpen}
 use Rattle.rasn_lint.specs.WellFormed.{IsWellFormed}
-use Rattle.rasn_lint.proofs.Holding.{Along, IsLeft, HoldsWritten, HoldsComponent, HoldsComponents, HoldsMember, HoldsInside, Holds, own_missing}
+use Rattle.rasn_lint.proofs.Holding.{Along, IsLeft, HoldsComponent, HoldsComponents, HoldsMember, HoldsInside, Holds, own_missing}
 
 -- ---- lists
 

@@ -1,18 +1,17 @@
 -- The list of the octets of a BOOLEAN with a long length, worked out by hand.
-use Rattle.std.proofs.Common.{◌≡◌, inl, inr, ℕ, zero, suc, ◌<◌, pos, List, [], ◌∷◌, ◌++◌, length, Bool, true, false, Option, Some, None, Ok, Vec, Global, refl, sym, ap, ◌∙◌, subst, arith}
+use Rattle.std.proofs.Common.{◌≡◌, inl, inr, ℕ, zero, suc, ◌<◌, pos, List, [], ◌∷◌, ◌++◌, length, true, false, Some, None, Vec, Global, refl, sym, ap, ◌∙◌, subst, arith}
 use Rattle.std.specs.Prelude.{◌-◌, slice_get, slice_index_or}
 use Rattle.std.specs.List.{All}
-use Rattle.std.specs.List.Sorted.{IsPermutation, IsNonDecreasingBy}
+use Rattle.std.specs.List.Sorted.{IsNonDecreasingBy}
 use Rattle.std.proofs.lemmas.List.Sorted.{IsPermutation-refl}
 use Rattle.rasn_types.specs.declared.types.codec.Codec.TheVariants.{Ber, Der}
 use Rattle.rasn_types.specs.declared.error.decode.DerDecodeErrorKind.TheVariants.{NonMinimalLength}
-use Rattle.rasn_types.specs.Grammar.{Reads, parts_of}
-use Rattle.rasn_types.specs.Shapes.{Tree, number, boolean}
-use Rattle.rasn_types.specs.Tags.{in_universal, der_form}
+use Rattle.rasn_types.specs.Grammar.{Reads}
+use Rattle.rasn_types.specs.Shapes.{number, boolean}
+use Rattle.rasn_types.specs.Tags.{in_universal}
 use Rattle.rasn_types.specs.Trees.{unconstrained}
 use Rattle.rasn_de.specs.Headers.{identifier_by, tag_number_at}
 use Rattle.rasn_de.specs.Outcomes.{Exact, Got}
-use Rattle.rasn_de.specs.ParserViews.{peeked_tag}
 use Rattle.rasn_de.specs.State.{State}
 use Rattle.rasn.proofs.OneReading.Shapes.{one_leaf}
 use Rattle.rasn.specs.WorkedShapes.{plain}
@@ -23,20 +22,19 @@ use Rattle.rasn_schema.specs.declared.types.«Type».TheVariants.{Leaf}
 use Rattle.rasn_schema.specs.Shapes.{shape_of_type}
 use Rattle.rasn_dynamic.specs.declared.message.MessageParts.{MessageParts}
 use Rattle.rasn_dynamic.specs.declared.span.Span.{Span}
-use Rattle.rasn_dynamic.specs.Entry.{shape_of, IsChecked}
+use Rattle.rasn_dynamic.specs.Entry.{shape_of}
 use Rattle.rasn_dynamic.specs.Faults.{start}
 use Rattle.rasn_dynamic.specs.Listed.{PartListed, PartsInside, Inside}
 use Rattle.rasn_dynamic.specs.Walk.{ArePartsOf, IsPlaced, depth_of, path_at_depth, path_after}
 use Rattle.rasn_lint.specs.declared.by_schema.OpenTypes.TheVariants.{Unexamined}
 use Rattle.rasn_lint.specs.declared.departure.Departure.{Departure}
-use Rattle.rasn_lint.specs.declared.departure.Aspect.TheVariants.{Header, Contents, Place}
+use Rattle.rasn_lint.specs.declared.departure.Aspect.TheVariants.{Header}
 use Rattle.rasn_lint.specs.declared.judge.Faults.{Faults}
 use Rattle.rasn_lint.specs.declared.judge.Site.{Site}
 use Rattle.rasn_lint.specs.declared.leaf.Segments.TheVariants.{Whole}
-use Rattle.rasn_lint.specs.Encoding.{start as der_start}
 use Rattle.rasn_lint.specs.Header.{is_constructed, IsTagFault, IsFormFault, IsLengthFault}
-use Rattle.rasn_lint.specs.Judged.{IsSiteAt, IsDepartureAt, AreListed, AreFaultsOf, AreDepartures, AreOfPart, AreJudged}
-use Rattle.rasn_lint.specs.Leaf.{segments_of, IsMended, IsMendedFault, IsContentsFault}
+use Rattle.rasn_lint.specs.Judged.{IsSiteAt, IsDepartureAt, AreListed, AreFaultsOf, AreDepartures, AreOfPart}
+use Rattle.rasn_lint.specs.Leaf.{IsMended, IsContentsFault}
 use Rattle.rasn_lint.specs.Lint.{IsDer, AreAll, IsLint, offset_of}
 use Rattle.rasn_lint.specs.Place.{der_error, order_if, default_if, type_of, IsOrderFault, IsDefaultFault}
 use Rattle.rasn_lint.specs.Trail.{holder_in, before_in, step_before}
