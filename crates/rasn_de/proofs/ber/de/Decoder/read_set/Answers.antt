@@ -18,8 +18,8 @@ inside-requires-clause-leaves g c =
     let names = map text c.args.names.now in
     closure_leaves _ _ (DecodesSetPartContents ps tree names) (λ p r q m. m.0)
     (λ old r new k.
-        let made = MakesOfReadings ps tree names old.rule in
-        collects_leaves (choice ps) (λ (t : Tree). t) (λ (l : List Tree). l) made old r new (slots_collected (Decodes (choice ps) (λ (t : Tree). t)) made old r new k))
+    let made = MakesOfReadings ps tree names old.rule in
+    collects_leaves (choice ps) (λ (t : Tree). t) (λ (l : List Tree). l) made old r new (slots_collected (Decodes (choice ps) (λ (t : Tree). t)) made old r new k))
 
 pub returns : goal.returns
 returns g c =
