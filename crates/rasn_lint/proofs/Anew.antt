@@ -16,7 +16,7 @@ normal_is_clean opens types id rule input octets ds n l formed = l.clean.1 ((n.a
 
 all_formed : (types : List «Type») → IsClosed Examined types → (es : List Span) → AllByRecursion (HasFormed types) es
 all_formed types none [] = tt
-all_formed types none (e ∷ es) = ((λ tag inside is has. absurd (none e.id.0 tag is)), all_formed types none es)
+all_formed types none (e ∷ es) = (((λ tag inside is has. absurd (none.0 e.id.0 tag is)), λ is. absurd (none.1 e.id.0 is)), all_formed types none es)
 
 are_formed : (opens : OpenTypes) (types : List «Type») → IsClosed opens types → (es : List Span) → AreFormed opens types es
 are_formed Unexamined types none es = tt
@@ -27,7 +27,8 @@ closed_is_clean opens types id rule input octets ds none n l = normal_is_clean o
 
 none_first : (types : List «Type») → IsClosed Examined types → (len : ℕ) (path : List ℕ) (es : List Span) (d : Departure) → IsFirstIn types len path es d → ⊥
 none_first types none len path [] d h = h
-none_first types none len path (e ∷ es) d (inl (tag, inside, is, has, n, w)) = none e.id.0 tag is
+none_first types none len path (e ∷ es) d (inl (inl (is, n, w))) = none.1 e.id.0 is
+none_first types none len path (e ∷ es) d (inl (inr (tag, inside, is, has, n, w))) = none.0 e.id.0 tag is
 none_first types none len path (e ∷ es) d (inr (f, h)) = none_first types none len (path_after path e) es d h
 
 not_der : (opens : OpenTypes) (types : List «Type») (id : ℕ) (input : List ℕ) (d : Departure) → IsClosed opens types → IsFirstDeparture opens types id input (Some d) → IsDer types id input → ⊥

@@ -7,7 +7,7 @@ use Rattle.rasn_types.specs.Lawful.{IsLawful}
 use Rattle.rasn.specs.Normal.{IsNormal, IsCarriedIn}
 use Rattle.rasn_types.specs.declared.types.tag.Tag.{Tag}
 use Rattle.rasn_schema.specs.declared.types.«Type».{«Type»}
-use Rattle.rasn_schema.specs.declared.types.«Type».TheVariants.{Any}
+use Rattle.rasn_schema.specs.declared.types.«Type».TheVariants.{Any, Unknown}
 use Rattle.rasn_dynamic.specs.Entry.{shape_of}
 use Rattle.rasn_lint.specs.declared.by_schema.OpenTypes.{OpenTypes}
 use Rattle.rasn_lint.specs.declared.by_schema.OpenTypes.TheVariants.{Unexamined, Examined}
@@ -20,10 +20,10 @@ abbrev pub NormalIsClean : Type 0
 NormalIsClean = (opens : OpenTypes) (types : List «Type») (id : ℕ) (rule : Codec) (input octets : List ℕ) (ds : List Departure)
     → IsNormal rule (shape_of types id) input octets → (l : IsLint opens types id octets ds) → AreFormed opens types l.parts.list.items → ds ≡ []
 
--- Open types aren't looked into, or none of the types is one.
+-- Open types aren't looked into, or none of the types is one, or is unknown values.
 abbrev pub IsClosed : OpenTypes → List «Type» → Type 0
 IsClosed Unexamined types = Unit {0}
-IsClosed Examined types = (k : ℕ) (tag : Tag) → slice_get types k ≡ Some (Any tag) → ⊥
+IsClosed Examined types = ((k : ℕ) (tag : Tag) → slice_get types k ≡ Some (Any tag) → ⊥) × ((k : ℕ) → slice_get types k ≡ Some Unknown → ⊥)
 
 -- It is empty if no open type is looked into.
 abbrev pub ClosedIsClean : Type 0
