@@ -111,9 +111,11 @@ impl Names {
 /// Returns whether a type has parts, or elements, that may have parts of their own.
 fn is_made_of_others(ty: &Type) -> bool {
     match ty {
-        Type::Leaf { .. } | Type::Enumerated { .. } | Type::Any { .. } | Type::Tagged { .. } => {
-            false
-        }
+        Type::Leaf { .. }
+        | Type::Enumerated { .. }
+        | Type::Any { .. }
+        | Type::Unknown
+        | Type::Tagged { .. } => false,
         _ => true,
     }
 }
@@ -243,10 +245,25 @@ impl Notation<'_> {
     ) -> fmt::Result {
         f.write_str(" {")?;
         for (index, component) in components.iter().enumerate() {
-            self.write_part(f, index, component.name.as_str(), component.type_id)?;
-            self.write_presence(f, component)?;
+            self.write_component(f, index, component)?;
         }
         f.write_str(" }")
+    }
+
+    /// Writes the name and the type of a component, and whether it may be absent. In place of unknown
+    /// values it writes an extension marker.
+    fn write_component<W: fmt::Write>(
+        &self,
+        f: &mut fmt::Formatter<W>,
+        index: usize,
+        component: &Component,
+    ) -> fmt::Result {
+        if let Some(Type::Unknown) = type_at(self.schema.types(), component.type_id) {
+            f.write_str(separator(index))?;
+            return f.write_str("...");
+        }
+        self.write_part(f, index, component.name.as_str(), component.type_id)?;
+        self.write_presence(f, component)
     }
 
     /// Writes the name and the type of an alternative or a component, after a comma if it isn't the
@@ -258,7 +275,7 @@ impl Notation<'_> {
         name: &str,
         id: TypeId,
     ) -> fmt::Result {
-        f.write_str(if index == 0 { "\n    " } else { ",\n    " })?;
+        f.write_str(separator(index))?;
         f.write_str(name)?;
         f.write_str(" ")?;
         self.write_use(f, id)
@@ -279,6 +296,11 @@ impl Notation<'_> {
             }
         }
     }
+}
+
+/// Returns what is written before the part with this index.
+fn separator(index: usize) -> &'static str {
+    if index == 0 { "\n    " } else { ",\n    " }
 }
 
 /// Writes a tag (X.680 31.2).

@@ -52,7 +52,9 @@ pub struct Resolved {
 }
 
 impl<'text> Modules<'text> {
-    /// Returns a schema of a type of a module (X.680 16.2), in which the type has its name.
+    /// Returns a schema of a type of a module (X.680 16.2), in which the type has its name. A SEQUENCE
+    /// with an extension marker, whose additions are at its end, has unknown values as its last
+    /// component: what a newer version of the module has there is kept (X.680 25).
     ///
     /// # Errors
     /// Returns the first fault that is found in what the type is made of, or that memory ran out.

@@ -120,6 +120,7 @@ fn push_head(text: &mut String, ty: &Type) -> Result<(), AllocError> {
             push_tagged(text, "SET", *tag)?;
             push_constraints(text, constraints)
         }
+        Type::Unknown => text.push_str("unknown"),
         Type::Leaf {
             kind,
             tag,

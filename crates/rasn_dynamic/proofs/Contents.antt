@@ -24,11 +24,11 @@ use Rattle.rasn_schema.specs.declared.value.Value.{Value}
 use Rattle.rasn_schema.specs.Trees.{tree_of}
 use Rattle.rasn_types.specs.declared.types.constraints.Constraints.{Constraints}
 use Rattle.rasn_schema.specs.declared.types.«Type».{«Type»}
-use Rattle.rasn_schema.specs.declared.types.«Type».TheVariants.{Leaf, Enumerated, Any, Tagged, Choice, Sequence, Set, SequenceOf, SetOf}
+use Rattle.rasn_schema.specs.declared.types.«Type».TheVariants.{Leaf, Enumerated, Any, Tagged, Choice, Sequence, Set, SequenceOf, SetOf, Unknown}
 use Rattle.rasn_schema.specs.declared.type_id.TypeId.{TypeId}
 use Rattle.rasn_schema.specs.declared.types.Alternative.{Alternative}
 use Rattle.rasn_schema.specs.declared.types.Component.{Component}
-use Rattle.rasn_schema.specs.Shapes.{alternatives_by}
+use Rattle.rasn_schema.specs.Shapes.{alternatives_by, IsReadable}
 use Rattle.rasn_dynamic.specs.Inside.{ReadsInside, ReadsSequence}
 use Rattle.rasn_de.specs.SetPartTypes.{MakesOfReadings, DecodesSetPartContents}
 use Rattle.rasn_de.proofs.Constructed.SetContents.{SetReads, set_collects, slots_collected}
@@ -138,6 +138,7 @@ pub none_holds : (ty : «Type») → ((tag : Tag) (k : TypeId) → ty ≡ Tagged
 none_holds (Leaf kind tag c names) a b d e g h = h
 none_holds (Enumerated tag ns) a b d e g h = h
 none_holds (Any tag) a b d e g h = h
+none_holds Unknown a b d e g h = h
 none_holds (Tagged tag k) a b d e g h = a tag k refl
 none_holds (Choice name ks) a b d e g h = h
 none_holds (Sequence tag ps) a b d e g h = b tag ps refl
@@ -147,25 +148,34 @@ none_holds (SetOf tag k c) a b d e g h = g tag k c refl
 
 -- ---- what is lawful in a lawful shape
 
-pub prefix_lawful : (tag : Tag) (s : Shape) → IsLawful (prefix tag s) → IsLawful s
+pub prefix_lawful : (tag : Tag) (s : Shape) → IsReadable (prefix tag s) → IsReadable s
 unfolding IsLawful
-prefix_lawful tag s h = h.2
+prefix_lawful tag s (inl h) = inl (h.1.1, h.1.2)
+prefix_lawful tag s (inr e) = cc
 
-pub list_lawful : (tag : Tag) (s : Shape) (size : Option (Bound ℕ)) → IsLawful (list tag s size) → IsLawful s
+pub list_lawful : (tag : Tag) (s : Shape) (size : Option (Bound ℕ)) → IsReadable (list tag s size) → IsReadable s
 unfolding IsLawful
-list_lawful tag s size h = h.2
+list_lawful tag s size (inl h) = inl (h.1.1, h.1.2)
+list_lawful tag s size (inr e) = cc
 
-pub set_of_lawful : (tag : Tag) (s : Shape) (size : Option (Bound ℕ)) → IsLawful (set_of tag s size) → IsLawful s
+pub set_of_lawful : (tag : Tag) (s : Shape) (size : Option (Bound ℕ)) → IsReadable (set_of tag s size) → IsReadable s
 unfolding IsLawful
-set_of_lawful tag s size h = h.2
+set_of_lawful tag s size (inl h) = inl (h.1.1, h.1.2)
+set_of_lawful tag s size (inr e) = cc
 
-pub seq_lawful : (tag : Tag) (ps : Parts) → IsLawful (seq tag ps) → AreLawfulInOrder ps
+pub seq_lawful : (tag : Tag) (ps : Parts) → IsReadable (seq tag ps) → AreLawfulInOrder ps
 unfolding IsLawful
-seq_lawful tag ps h = h.1
+seq_lawful tag ps (inl h) = h.1.1
+seq_lawful tag ps (inr e) = cc
 
-pub set_lawful : (tag : Tag) (ps : Parts) → IsLawful (set tag ps) → AreLawfulByTag ps
+pub set_lawful : (tag : Tag) (ps : Parts) → IsReadable (set tag ps) → AreLawfulByTag ps
 unfolding IsLawful
-set_lawful tag ps h = h.1
+set_lawful tag ps (inl h) = h.1.1
+set_lawful tag ps (inr e) = cc
+
+pub choice_lawful : (ps : Parts) → IsReadable (choice ps) → IsLawful (choice ps)
+choice_lawful ps (inl h) = h.1
+choice_lawful ps (inr e) = cc
 
 -- ---- alternatives
 
@@ -179,8 +189,8 @@ module _ (f : ℕ → Shape) where
       (refl, ap (λ (x : Alternative). f x.type_id.0) same, h, λ g. d.0 tag (subst (λ (x : Alternative). IsFirst (f x.type_id.0) tag) (sym same) h) g)
   only_at (b ∷ ks) (suc k) a tag d e h = ((λ g. d.0 tag g (first_of_all f tag ks k a e h)), only_at ks k a tag d.1 e h)
 
-  pub alternative_lawful : (ks : List Alternative) (k : ℕ) (a : Alternative) → AreAlternatives (alternatives_by f ks) → Some a ≡ slice_get ks k → IsLawful (f a.type_id.0)
+  pub alternative_lawful : (ks : List Alternative) (k : ℕ) (a : Alternative) → AreAlternatives (alternatives_by f ks) → Some a ≡ slice_get ks k → IsReadable (f a.type_id.0)
   unfolding IsLawful
   alternative_lawful [] k a h e = absurd cc
-  alternative_lawful (b ∷ ks) zero a h e = let same : b ≡ a = cc in subst (λ (x : Alternative). IsLawful (f x.type_id.0)) same h.3
+  alternative_lawful (b ∷ ks) zero a h e = let same : b ≡ a = cc in subst (λ (x : Alternative). IsReadable (f x.type_id.0)) same (inl (h.2, h.3))
   alternative_lawful (b ∷ ks) (suc k) a h e = alternative_lawful ks k a h.4 e

@@ -4,7 +4,7 @@ use Rattle.std.specs.Prelude.{IfOk, IfErr}
 use Rattle.rasn_types.specs.declared.types.codec.Codec.{Codec}
 use Rattle.rasn_types.specs.Errors.{IsOutOfMemory}
 use Rattle.rasn_types.specs.declared.error.decode.DecodeError.{DecodeError}
-use Rattle.rasn_types.specs.Shapes.{Tree, items, absent, Shape, Key, own_tag, Parts, part, IsAlwaysPresent}
+use Rattle.rasn_types.specs.Shapes.{Tree, items, absent, Shape, Key, own_tag, Parts, part}
 use Rattle.rasn_types.specs.Shapes.Parts.{none}
 use Rattle.rasn_types.specs.Readings.{IsMissing, AllMissing}
 use Rattle.rasn_types.specs.Readings.{presences_in as presences_of_parts}
@@ -22,7 +22,7 @@ use Rattle.rasn_schema.specs.declared.types.Presence.TheVariants.{Required, Opti
 use Rattle.rasn_schema.specs.declared.types.Presence.{Presence as PartPresence}
 use Rattle.rasn_schema.specs.declared.value.Value.{Value}
 use Rattle.rasn_schema.specs.Trees.{tree_of}
-use Rattle.rasn_schema.specs.Shapes.{components_by, key_of, presence_by, presence_of, presences_in, AreLawful}
+use Rattle.rasn_schema.specs.Shapes.{components_by, key_of, presence_by, presence_of, presences_in, AreReadable}
 use Rattle.rasn_schema.proofs.Presences.{missing_by}
 use Rattle.rasn_dynamic.specs.Inside.{ReadsSequence}
 use Rattle.rasn_dynamic.specs.Making.{Making, trees_of}
@@ -60,11 +60,11 @@ module _ (f : ℕ → Shape) where
   missing_same rule [] depth closing ts e = e
   missing_same rule (p ∷ ps) depth closing ts (t, us, e, m, h) = (t, us, e, missing_by own_tag (key_of (f p.type_id.0)) p.presence t m, missing_same rule ps depth closing us h)
 
-  pub lawful_parts : ((k : ℕ) → IsAlwaysPresent (f k)) → (ps : List Component) → AreLawfulInOrder (components_by f ps) → AreLawful (components_by f ps)
+  pub lawful_parts : (ps : List Component) → AreLawfulInOrder (components_by f ps) → AreReadable (components_by f ps)
   unfolding IsLawful
-  lawful_parts present [] h = tt
-  lawful_parts present (p ∷ ps) (inl h) = absurd (subst IsAlwaysPresent h.1 (present p.type_id.0))
-  lawful_parts present (p ∷ ps) (inr h) = (h.1, lawful_parts present ps h.3)
+  lawful_parts [] h = tt
+  lawful_parts (p ∷ ps) (inl (r, e, n)) = (inr e, subst AreReadable (sym n) tt)
+  lawful_parts (p ∷ ps) (inr (a, l, m, h)) = (inl (a, l), lawful_parts ps h)
 
   module _ (ps : List Component) (old : State) where
     left_exact : (t : Tree) (ts : List Tree) → any_required ps ≡ false → t ≡ items ts → AllMissing (presences_in ps) ts → (c : Bool) (i : List ℕ) → c ≡ false → i ≡ []

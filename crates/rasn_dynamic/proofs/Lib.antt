@@ -1,3 +1,4 @@
+pub mod Unknown
 pub mod Inside
 pub mod Contents
 pub mod Typed

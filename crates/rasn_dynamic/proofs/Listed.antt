@@ -17,7 +17,7 @@ use Rattle.rasn_schema.specs.declared.type_id.TypeId.{TypeId}
 use Rattle.rasn_schema.specs.declared.types.Component.{Component}
 use Rattle.rasn_schema.specs.declared.types.Alternative.{Alternative}
 use Rattle.rasn_schema.specs.declared.types.«Type».{«Type»}
-use Rattle.rasn_schema.specs.declared.types.«Type».TheVariants.{Leaf, Enumerated, Any, Tagged, Choice, Sequence, Set, SequenceOf, SetOf}
+use Rattle.rasn_schema.specs.declared.types.«Type».TheVariants.{Leaf, Enumerated, Any, Tagged, Choice, Sequence, Set, SequenceOf, SetOf, Unknown}
 use Rattle.rasn_schema.specs.Shapes.{shape_of_type}
 use Rattle.rasn_dynamic.specs.declared.span.Span.{Span}
 use Rattle.rasn_dynamic.specs.declared.span.Spans.{Spans}
@@ -149,6 +149,7 @@ abbrev pub HoldsNone : «Type» → Type 0
 HoldsNone (Leaf kind tag c names) = Unit {0}
 HoldsNone (Enumerated tag ns) = Unit {0}
 HoldsNone (Any tag) = Unit {0}
+HoldsNone Unknown = Unit {0}
 HoldsNone _ = ⊥
 
 abbrev pub HasHeader : «Type» → ConstructedHeader → Type 0
@@ -172,6 +173,7 @@ module _ (f : ℕ → Shape) (levels : ℕ) (P : ℕ → ℕ → State → List 
   none_inside (Leaf kind tag c names) b s h = (b, s, (refl, refl), refl)
   none_inside (Enumerated tag ns) b s h = (b, s, (refl, refl), refl)
   none_inside (Any tag) b s h = (b, s, (refl, refl), refl)
+  none_inside Unknown b s h = (b, s, (refl, refl), refl)
   none_inside (Tagged tag id) b s h = absurd h
   none_inside (Choice name ks) b s h = absurd h
   none_inside (Sequence tag ps) b s h = absurd h
@@ -186,6 +188,7 @@ module _ (f : ℕ → Shape) (levels : ℕ) (P : ℕ → ℕ → State → List 
   into (Leaf kind tag k names) d b s c inner h g = absurd h
   into (Enumerated tag ns) d b s c inner h g = absurd h
   into (Any tag) d b s c inner h g = absurd h
+  into Unknown d b s c inner h g = absurd h
   into (Tagged tag id) d b s c inner h g = subst (λ x. GoesInside x b s c inner) h g
   into (Choice name ks) d b s c inner h g = absurd h
   into (Sequence tag ps) d b s c inner h g = subst (λ x. GoesInside x b s c inner) h g
@@ -201,6 +204,7 @@ module _ (f : ℕ → Shape) (levels : ℕ) (P : ℕ → ℕ → State → List 
   alternatives_of (Leaf kind tag c names) l b s es h q = absurd h
   alternatives_of (Enumerated tag ns) l b s es h q = absurd h
   alternatives_of (Any tag) l b s es h q = absurd h
+  alternatives_of Unknown l b s es h q = absurd h
   alternatives_of (Tagged tag id) l b s es h q = absurd h
   alternatives_of (Choice name ks) l b s es h q = (b, s, (refl, refl), subst (λ z. AlternativeListed f levels P z b s es) h q)
   alternatives_of (Sequence tag ps) l b s es h q = absurd h
@@ -230,6 +234,7 @@ module _ (f : ℕ → Shape) (levels : ℕ) (P : ℕ → ℕ → State → List 
   one_of (Leaf kind tag c names) id b s last es h q = absurd h
   one_of (Enumerated tag ns) id b s last es h q = absurd h
   one_of (Any tag) id b s last es h q = absurd h
+  one_of Unknown id b s last es h q = absurd h
   one_of (Tagged tag k) id b s last es h q = (last, subst (λ z. PartListed f levels P z 0 b s last es) h q)
   one_of (Choice name ks) id b s last es h q = absurd h
   one_of (Sequence tag ps) id b s last es h q = absurd h

@@ -6,9 +6,8 @@ use Rattle.rasn_types.specs.declared.types.tag.Tag.{Tag}
 use Rattle.rasn_types.specs.declared.types.codec.Codec.TheVariants.{Ber}
 use Rattle.rasn_types.specs.Tags.{form}
 use Rattle.rasn_types.specs.Framing.{AreOctets, Extent, definite, indefinite, Frame}
-use Rattle.rasn_types.specs.Shapes.{Shape, Tree, chosen, choice, IsAlwaysPresent}
+use Rattle.rasn_types.specs.Shapes.{Shape, Tree, chosen, choice}
 use Rattle.rasn_types.specs.Readings.{NoneOf}
-use Rattle.rasn_types.specs.Lawful.{IsLawful}
 use Rattle.rasn_de.specs.State.{State, at, IsEnd}
 use Rattle.rasn_de.specs.declared.ber.de.parser.Contents.{Contents}
 use Rattle.rasn_de.specs.declared.ber.de.constructed.ConstructedHeader.{ConstructedHeader}
@@ -18,9 +17,9 @@ use Rattle.rasn_de.specs.Constructed.{sequence_header, list_header, prefix_heade
 use Rattle.rasn_de.specs.Decodes.{Decodes}
 use Rattle.rasn_de.proofs.Headers.Ends.{IsEnd-refl, IsEnd-trans}
 use Rattle.rasn_schema.specs.declared.types.«Type».{«Type»}
-use Rattle.rasn_schema.specs.declared.types.«Type».TheVariants.{Leaf, Enumerated, Any, Tagged, Choice, Sequence, Set, SequenceOf, SetOf}
+use Rattle.rasn_schema.specs.declared.types.«Type».TheVariants.{Leaf, Enumerated, Any, Tagged, Choice, Sequence, Set, SequenceOf, SetOf, Unknown}
 use Rattle.rasn_schema.specs.declared.types.Component.{Component}
-use Rattle.rasn_schema.specs.Shapes.{shape_of_type, type_by, components_by, AreLawful}
+use Rattle.rasn_schema.specs.Shapes.{shape_of_type, type_by, components_by, IsReadable, AreReadable}
 use Rattle.rasn_dynamic.specs.Faults.{octets_after, ComponentsInTurn, IsPart, EntersBy, Enters, Leads, start}
 use Rattle.rasn_dynamic.specs.Parts.{IsSeen, IsEntered, IsHeader, IsHeaderOf, LacksPart, IsReadHere, IsPartAt}
 use Rattle.rasn_dynamic.specs.declared.part.Part.{Part}
@@ -86,6 +85,7 @@ pub part_keeps : (f : ℕ → Shape) (ty : «Type») (s : State) (k next : ℕ) 
 part_keeps f (Leaf kind tag c names) s k next here i = absurd i
 part_keeps f (Enumerated tag ns) s k next here i = absurd i
 part_keeps f (Any tag) s k next here i = absurd i
+part_keeps f Unknown s k next here i = absurd i
 part_keeps f (Tagged tag id) s k next here (a, b, g) = same_keeps s here g
 part_keeps f (Choice name ks) s k next here (a, e, b, g) = same_keeps s here g
 part_keeps f (Sequence tag ps) s k next here (done, p, after, e, l, b, t) = components_keep f done s here t
@@ -93,29 +93,31 @@ part_keeps f (Set name tag ps) s k next here (p, e, b, done, bs, d) = turns_keep
 part_keeps f (SequenceOf tag id c) s k next here (b, ts, l, d, n) = turns_keep (f id.0) (λ (t : Tree). t) s ts here d
 part_keeps f (SetOf tag id c) s k next here (b, ts, l, d, n) = turns_keep (f id.0) (λ (t : Tree). t) s ts here d
 
-component_lawful : (f : ℕ → Shape) (done : List Component) (p : Component) (after : List Component) → AreLawful (components_by f (done ++ p ∷ after)) → IsLawful (f p.type_id.0)
+component_lawful : (f : ℕ → Shape) (done : List Component) (p : Component) (after : List Component) → AreReadable (components_by f (done ++ p ∷ after)) → IsReadable (f p.type_id.0)
 component_lawful f [] p after h = h.0
 component_lawful f (q ∷ qs) p after h = component_lawful f qs p after h.1
 
--- The shape of a part is lawful.
-pub lawful_part : (f : ℕ → Shape) → ((k : ℕ) → IsAlwaysPresent (f k)) → (ty : «Type») → IsLawful (type_by f ty) → (s : State) (k next : ℕ) (here : State) → IsPart f ty s k next here → IsLawful (f next)
-lawful_part f present (Leaf kind tag c names) h s k next here i = absurd i
-lawful_part f present (Enumerated tag ns) h s k next here i = absurd i
-lawful_part f present (Any tag) h s k next here i = absurd i
-lawful_part f present (Tagged tag id) h s k next here (a, b, g) = subst (λ z. IsLawful (f z)) (sym b) (prefix_lawful tag (f id.0) h)
-lawful_part f present (Choice name ks) h s k next here (a, e, b, g) = subst (λ z. IsLawful (f z)) (sym b) (lawful_at f ks.items k a h e)
-lawful_part f present (Sequence tag ps) h s k next here (done, p, after, e, l, b, t) =
-    let all = lawful_parts f present ps.items (seq_lawful tag (components_by f ps.items) h) in
-    subst (λ z. IsLawful (f z)) (sym b) (component_lawful f done p after (subst (λ z. AreLawful (components_by f z)) e all))
-lawful_part f present (Set name tag ps) h s k next here (p, e, b, done, bs, d) = subst (λ z. IsLawful (f z)) (sym b) (part_lawful f ps.items k p (set_lawful tag (components_by f ps.items) h) e)
-lawful_part f present (SequenceOf tag id c) h s k next here (b, vs, l, d, n) = subst (λ z. IsLawful (f z)) (sym b) (list_lawful tag (f id.0) c.size h)
-lawful_part f present (SetOf tag id c) h s k next here (b, vs, l, d, n) = subst (λ z. IsLawful (f z)) (sym b) (set_of_lawful tag (f id.0) c.size h)
+-- The shape of a part is lawful, or unknown values.
+pub lawful_part : (f : ℕ → Shape) (ty : «Type») → IsReadable (type_by f ty) → (s : State) (k next : ℕ) (here : State) → IsPart f ty s k next here → IsReadable (f next)
+lawful_part f (Leaf kind tag c names) h s k next here i = absurd i
+lawful_part f (Enumerated tag ns) h s k next here i = absurd i
+lawful_part f (Any tag) h s k next here i = absurd i
+lawful_part f Unknown h s k next here i = absurd i
+lawful_part f (Tagged tag id) h s k next here (a, b, g) = subst (λ z. IsReadable (f z)) (sym b) (prefix_lawful tag (f id.0) h)
+lawful_part f (Choice name ks) h s k next here (a, e, b, g) = subst (λ z. IsReadable (f z)) (sym b) (lawful_at f ks.items k a h e)
+lawful_part f (Sequence tag ps) h s k next here (done, p, after, e, l, b, t) =
+    let all = lawful_parts f ps.items (seq_lawful tag (components_by f ps.items) h) in
+    subst (λ z. IsReadable (f z)) (sym b) (component_lawful f done p after (subst (λ z. AreReadable (components_by f z)) e all))
+lawful_part f (Set name tag ps) h s k next here (p, e, b, done, bs, d) = subst (λ z. IsReadable (f z)) (sym b) (part_lawful f ps.items k p (set_lawful tag (components_by f ps.items) h) e)
+lawful_part f (SequenceOf tag id c) h s k next here (b, vs, l, d, n) = subst (λ z. IsReadable (f z)) (sym b) (list_lawful tag (f id.0) c.size h)
+lawful_part f (SetOf tag id c) h s k next here (b, vs, l, d, n) = subst (λ z. IsReadable (f z)) (sym b) (set_of_lawful tag (f id.0) c.size h)
 
 -- What has a part holds others.
 pub entered_for : (f : ℕ → Shape) (ty : «Type») (s inner : State) (k next : ℕ) (here : State) → IsEntered ty s inner → IsPart f ty inner k next here → Enters ty s inner
 entered_for f (Leaf kind tag c names) s inner k next here e i = absurd i
 entered_for f (Enumerated tag ns) s inner k next here e i = absurd i
 entered_for f (Any tag) s inner k next here e i = absurd i
+entered_for f Unknown s inner k next here e i = absurd i
 entered_for f (Tagged tag id) s inner k next here e i = e
 entered_for f (Choice name ks) s inner k next here e i = e
 entered_for f (Sequence tag ps) s inner k next here e i = e
@@ -159,6 +161,7 @@ pub entered_by : (ty : «Type») (d : ConstructedHeader) (s inner mid : State) (
 entered_by (Leaf kind tag cs names) d s inner mid c e w = absurd cc
 entered_by (Enumerated tag ns) d s inner mid c e w = absurd cc
 entered_by (Any tag) d s inner mid c e w = absurd cc
+entered_by Unknown d s inner mid c e w = absurd cc
 entered_by (Tagged tag id) d s inner mid c e w = let same : d ≡ prefix_header tag = cc in subst (λ z. EntersBy z s inner) same (w.0, w.1, w.2)
 entered_by (Choice name ks) d s inner mid c e w = absurd cc
 entered_by (Sequence tag ps) d s inner mid c e w = let same : d ≡ sequence_header tag = cc in subst (λ z. EntersBy z s inner) same (w.0, w.1, w.2)
@@ -170,6 +173,7 @@ pub not_entered : (ty : «Type») (s : State) → IsHeaderOf ty None → IsEnter
 not_entered (Leaf kind tag c names) s e = refl
 not_entered (Enumerated tag ns) s e = refl
 not_entered (Any tag) s e = refl
+not_entered Unknown s e = refl
 not_entered (Tagged tag id) s e = absurd cc
 not_entered (Choice name ks) s e = refl
 not_entered (Sequence tag ps) s e = absurd cc
@@ -191,6 +195,7 @@ pub no_header : (ty : «Type») → (HoldsOthers ty → ⊥) → IsHeaderOf ty N
 no_header (Leaf kind tag c names) n = refl
 no_header (Enumerated tag ns) n = refl
 no_header (Any tag) n = refl
+no_header Unknown n = refl
 no_header (Tagged tag id) n = absurd (n tt)
 no_header (Choice name ks) n = refl
 no_header (Sequence tag ps) n = absurd (n tt)
@@ -203,6 +208,7 @@ pub no_parts : (f : ℕ → Shape) (ty : «Type») → (HoldsOthers ty → ⊥) 
 no_parts f (Leaf kind tag c names) n m s k = tt
 no_parts f (Enumerated tag ns) n m s k = tt
 no_parts f (Any tag) n m s k = tt
+no_parts f Unknown n m s k = tt
 no_parts f (Tagged tag id) n m s k = absurd (n tt)
 no_parts f (Choice name ks) n m s k = absurd (m name ks refl)
 no_parts f (Sequence tag ps) n m s k = absurd (n tt)

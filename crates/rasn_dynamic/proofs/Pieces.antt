@@ -19,7 +19,7 @@ use Rattle.rasn_schema.specs.declared.types.Presence.{Presence as PartPresence}
 use Rattle.rasn_schema.specs.declared.types.Presence.TheVariants.{Required, Optional, Addition, Default}
 use Rattle.rasn_schema.specs.declared.value.Value.{Value}
 use Rattle.rasn_schema.specs.Trees.{tree_of}
-use Rattle.rasn_schema.specs.Shapes.{components_by, key_of, presence_in, presence_of, presences_in}
+use Rattle.rasn_schema.specs.Shapes.{components_by, key_of, presence_in, presence_of, presences_in, IsReadable}
 use Rattle.rasn_schema.proofs.Presences.{missing_by, required_by}
 use Rattle.rasn_de.specs.State.{State, Call}
 use Rattle.rasn_dynamic.specs.Making.{Making, trees_of}
@@ -55,10 +55,10 @@ pub none_of : (a b : Bool) → a || b ≡ false → (a ≡ false) × (b ≡ fals
 none_of false b e = (refl, e)
 none_of true b e = absurd (true≢false e)
 
-pub part_lawful : (f : ℕ → Shape) (ps : List Component) (k : ℕ) (p : Component) → AreLawfulByTag (components_by f ps) → Some p ≡ slice_get ps k → IsLawful (f p.type_id.0)
+pub part_lawful : (f : ℕ → Shape) (ps : List Component) (k : ℕ) (p : Component) → AreLawfulByTag (components_by f ps) → Some p ≡ slice_get ps k → IsReadable (f p.type_id.0)
 unfolding IsLawful
 part_lawful f [] k p h e = cc
-part_lawful f (q ∷ ps) zero p h e = let same : q ≡ p = cc in subst (λ (x : Component). IsLawful (f x.type_id.0)) same h.3
+part_lawful f (q ∷ ps) zero p h e = let same : q ≡ p = cc in subst (λ (x : Component). IsReadable (f x.type_id.0)) same (inl (h.2, h.3))
 part_lawful f (q ∷ ps) (suc k) p h e = part_lawful f ps k p h.5 e
 
 not_below_itself : (n : Tag) → IsTagBelow n n → ⊥

@@ -14,7 +14,7 @@ use Rattle.rasn_de.specs.Segments.{octets_inside}
 use Rattle.rasn_de.specs.declared.ber.de.constructed.ConstructedHeader.{ConstructedHeader}
 use Rattle.rasn_de.specs.Constructed.{sequence_header, list_header, prefix_header, is_indefinite_extent}
 use Rattle.rasn_schema.specs.declared.types.«Type».{«Type»}
-use Rattle.rasn_schema.specs.declared.types.«Type».TheVariants.{Leaf, Enumerated, Any, Tagged, Choice, Sequence, Set, SequenceOf, SetOf}
+use Rattle.rasn_schema.specs.declared.types.«Type».TheVariants.{Leaf, Enumerated, Any, Tagged, Choice, Sequence, Set, SequenceOf, SetOf, Unknown}
 use Rattle.rasn_schema.specs.Shapes.{shape_of_type}
 use Rattle.rasn_dynamic.specs.declared.span.Span.{Span}
 use Rattle.rasn_dynamic.specs.Faults.{octets_after, start}
@@ -72,6 +72,7 @@ module _ (input : List ℕ) (short : length input < 2 ^ 64) (o : AreOctets input
   into_seen (Leaf kind tag k names) b s c inner seen g = stays_seen b s c inner seen g
   into_seen (Enumerated tag ns) b s c inner seen g = stays_seen b s c inner seen g
   into_seen (Any tag) b s c inner seen g = stays_seen b s c inner seen g
+  into_seen Unknown b s c inner seen g = stays_seen b s c inner seen g
   into_seen (Tagged tag id) b s c inner seen g = inside_seen (prefix_header tag) b s c inner seen g
   into_seen (Choice name ks) b s c inner seen g = stays_seen b s c inner seen g
   into_seen (Sequence tag ps) b s c inner seen g = inside_seen (sequence_header tag) b s c inner seen g
@@ -112,6 +113,7 @@ module _ (input : List ℕ) (short : length input < 2 ^ 64) (o : AreOctets input
     contents_placed (Leaf kind tag c names) b s es seen q = none_placed es q
     contents_placed (Enumerated tag ns) b s es seen q = none_placed es q
     contents_placed (Any tag) b s es seen q = none_placed es q
+    contents_placed Unknown b s es seen q = none_placed es q
     contents_placed (Tagged tag id) b s es seen (last, q) = (part_placed id.0 0 b s last es seen q).0
     contents_placed (Choice name ks) b s es seen (k, a, at, last, q) = (part_placed a.type_id.0 k b s last es seen q).0
     contents_placed (Sequence tag ps) b s es seen (inl (h, e)) = none_placed es e

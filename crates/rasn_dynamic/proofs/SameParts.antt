@@ -1,5 +1,5 @@
 -- What is read has one list of parts.
-use Rattle.std.proofs.Common.{◌≡◌, ◌⊎◌, ◌≢◌, inl, inr, ◌<◌, ◌-◌, ℕ, zero, suc, List, [], ◌∷◌, ◌++◌, length, Bool, true, false, Some, None, Ok, refl, sym, ap, ◌∙◌, subst, arith}
+use Rattle.std.proofs.Common.{◌≡◌, ◌⊎◌, ◌≢◌, inl, inr, ◌<◌, ◌-◌, ℕ, zero, suc, List, [], ◌∷◌, ◌++◌, length, Bool, true, false, Option, Some, None, Ok, refl, sym, ap, ◌∙◌, subst, arith}
 use Rattle.std.specs.Prelude.{slice_get}
 use Rattle.std.proofs.lemmas.Bool.{cases_order}
 use Rattle.std.proofs.lemmas.List.{append_cancel_right}
@@ -8,7 +8,7 @@ use Rattle.rasn_types.specs.declared.types.codec.Codec.TheVariants.{Ber}
 use Rattle.rasn_types.specs.declared.types.tag.Tag.{Tag}
 use Rattle.rasn_types.specs.Tags.{Form, form}
 use Rattle.rasn_types.specs.Framing.{AreOctets, Ended, Frame, NextTag}
-use Rattle.rasn_types.specs.Shapes.{Shape, Tree, leaf, any, prefix, choice, option, seq, set, list, set_of, unknown, Parts, part, Presence, IsFirst, one_tag, any_of, sought_by, IsAlwaysPresent}
+use Rattle.rasn_types.specs.Shapes.{Shape, Tree, leaf, any, prefix, choice, option, seq, set, list, set_of, unknown, Parts, part, Presence, IsFirst, one_tag, any_of, sought_by, looked_for, IsAlwaysPresent, AreAlwaysPresent}
 use Rattle.rasn_types.specs.Shapes.Parts.{none}
 use Rattle.rasn_types.specs.Readings.{IsLeftOut}
 use Rattle.rasn_types.specs.Grammar.{Reads}
@@ -31,10 +31,10 @@ use Rattle.rasn.proofs.OneReading.Shapes.{reads_one}
 use Rattle.rasn_schema.specs.declared.types.Component.{Component}
 use Rattle.rasn_schema.specs.declared.types.Alternative.{Alternative}
 use Rattle.rasn_schema.specs.declared.types.«Type».{«Type»}
-use Rattle.rasn_schema.specs.declared.types.«Type».TheVariants.{Leaf, Enumerated, Any, Tagged, Choice, Sequence, Set, SequenceOf, SetOf}
-use Rattle.rasn_schema.specs.Shapes.{shape_of_type, type_by, found_by, alternatives_by, components_by, key_of}
+use Rattle.rasn_schema.specs.declared.types.«Type».TheVariants.{Leaf, Enumerated, Any, Tagged, Choice, Sequence, Set, SequenceOf, SetOf, Unknown}
+use Rattle.rasn_schema.specs.Shapes.{shape_of_type, type_by, found_by, alternatives_by, components_by, key_of, tag_at}
 use Rattle.rasn_schema.proofs.Lists.{some_is, same_or_not}
-use Rattle.rasn_schema.proofs.LawfulTypes.{is_present}
+use Rattle.rasn_schema.proofs.LawfulTypes.{nothing_present}
 use Rattle.rasn_dynamic.specs.declared.span.Span.{Span}
 use Rattle.rasn_dynamic.specs.Inside.{DecodesTree}
 use Rattle.rasn_dynamic.specs.Faults.{octets_after, start}
@@ -224,6 +224,7 @@ into_one ty b s z a c inner other alike g h = go ty g h
     go (Leaf kind tag bounds names) g h = stays g h
     go (Enumerated tag ns) g h = stays g h
     go (Any tag) g h = stays g h
+    go Unknown g h = stays g h
     go (Tagged tag id) g h = into_header (prefix_header tag) b s z a c inner other alike g h
     go (Choice name ks) g h = stays g h
     go (Sequence tag ps) g h = into_header (sequence_header tag) b s z a c inner other alike g h
@@ -310,6 +311,7 @@ module _ (f : ℕ → Shape) (solid : (k : ℕ) → IsAlwaysPresent (f k)) (lawf
   contents_one (Leaf kind tag c names) are b s z es fs alike p q = none_same es fs p q
   contents_one (Enumerated tag ns) are b s z es fs alike p q = none_same es fs p q
   contents_one (Any tag) are b s z es fs alike p q = none_same es fs p q
+  contents_one Unknown are b s z es fs alike p q = none_same es fs p q
   contents_one (Tagged tag id) are b s z es fs alike (n, x) (m, y) = (part_one id.0 0 b s z n m es fs alike x y).1
   contents_one (Choice name ks) are b s z es fs alike x y = alternative_one ks.items are.0 are.1 b s z es fs alike x y
   contents_one (Sequence tag ps) are b s z es fs alike x y = components_one ps.items b s z es fs alike x y
@@ -324,6 +326,33 @@ module _ (f : ℕ → Shape) (solid : (k : ℕ) → IsAlwaysPresent (f k)) (lawf
 
 -- ---- types by their numbers
 
+all_present : (f : ℕ → Shape) → ((k : ℕ) → IsAlwaysPresent (f k)) → (ks : List Alternative) → AreAlwaysPresent (alternatives_by f ks)
+all_present f h [] = tt
+all_present f h (a ∷ ks) = (h a.type_id.0, all_present f h ks)
+
+type_present : (f : ℕ → Shape) → ((k : ℕ) → IsAlwaysPresent (f k)) → (ty : «Type») → IsLawful (type_by f ty) → IsAlwaysPresent (type_by f ty)
+unfolding IsLawful
+type_present f h (Leaf kind tag c names) l = tt
+type_present f h (Enumerated tag ns) l = tt
+type_present f h (Any tag) l = tt
+type_present f h (Tagged tag k) l = tt
+type_present f h (Choice name ks) l = all_present f h ks.items
+type_present f h (Sequence tag ps) l = tt
+type_present f h (Set name tag ps) l = tt
+type_present f h (SequenceOf tag k c) l = tt
+type_present f h (SetOf tag k c) l = tt
+type_present f h Unknown l = absurd l
+
+found_present : (f : ℕ → Shape) → ((k : ℕ) → IsAlwaysPresent (f k)) → (o : Option «Type») → IsLawful (found_by f o) → IsAlwaysPresent (found_by f o)
+found_present f h None l = tt
+found_present f h (Some ty) l = type_present f h ty l
+
+-- Values of lawful types have octets.
+pub is_present : (types : List «Type») → AreLawfulTypes types → (levels k : ℕ) → IsAlwaysPresent (shape_of_type types levels k)
+unfolding shape_of_type
+is_present types lawful zero k = nothing_present (looked_for (tag_at types k))
+is_present types lawful (suc levels) k = found_present (shape_of_type types levels) (is_present types lawful levels) (slice_get types k) (lawful (suc levels) k)
+
 module _ (types : List «Type») (lawful : AreLawfulTypes types) where
   pub lawful_type : (n id : ℕ) (ty : «Type») → slice_get types id ≡ Some ty → IsLawful (type_by (shape_of_type types n) ty)
   unfolding shape_of_type
@@ -334,12 +363,12 @@ module _ (types : List «Type») (lawful : AreLawfulTypes types) where
   inside_one zero id b s z es fs alike h k = absurd h
   inside_one (suc n) id b s z es fs alike (ty, p, x) (tz, q, y) =
       let e : tz ≡ ty = some_is tz ty (sym q ∙ p) in
-      value_one (shape_of_type types n) (is_present types n) (lawful n) n (Inside types n) (inside_one n) ty (lawful_type n id ty p) b s z es fs alike x
+      value_one (shape_of_type types n) (is_present types lawful n) (lawful n) n (Inside types n) (inside_one n) ty (lawful_type n id ty p) b s z es fs alike x
       (subst (λ v. ValueListed (shape_of_type types n) n (Inside types n) v b z fs) e y)
 
 pub parts_determined : PartsAreDetermined
 parts_determined types rule other id input ps qs lawful octets x y =
     let n : ℕ = 18446744073709551615 in
     let alike : Alike (start rule input) (start other input) = record { rest = refl; depth = refl; octets = octets } in
-    (part_one (shape_of_type types 18446744073709551615) (is_present types n) (lawful n) n (Inside types n) (inside_one types lawful n)
+    (part_one (shape_of_type types 18446744073709551615) (is_present types lawful n) (lawful n) n (Inside types n) (inside_one types lawful n)
     id 0 0 (start rule input) (start other input) x.last y.last ps.list.items qs.list.items alike x.listed y.listed).1

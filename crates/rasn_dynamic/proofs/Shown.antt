@@ -3,22 +3,23 @@ use Rattle.std.proofs.Common.{◌≡◌, ℕ, ◌+◌, ◌<◌, ◌≤◌, Bool,
 use Rattle.std.proofs.Math.Seq.{drop-cons}
 use Rattle.std.proofs.lemmas.List.{drop_all}
 use Rattle.std.proofs.lemmas.Grind.{put_two}
+use Rattle.std.specs.Prelude.{slice_get}
 use Rattle.std.specs.Fmt.{HasWritten, IsPlainFormatter, DisplaysOnOk, ◌++?◌}
 use Rattle.std.specs.declared.fmt.Error.{Error}
 use Rattle.std.specs.declared.fmt.Formatter.{Formatter}
 use Rattle.rasn_schema.specs.declared.type_id.TypeId.{TypeId}
 use Rattle.rasn_schema.specs.declared.types.«Type».{«Type»}
-use Rattle.rasn_dynamic.specs.Shown.{step_text, stays_first, step_from, end_text, after_step, way_text}
+use Rattle.rasn_dynamic.specs.Shown.{part_text, stays_first, step_from, end_text, after_step, way_text}
 
 module _ (types : List «Type») (first : Bool) (id : ℕ) where
   goes_on : (k : ℕ) (steps : List ℕ) (ty : «Type») (next : TypeId) → step_from types id k ≡ Some (ty, next)
-      → way_text types first id (k ∷ steps) ≡ step_text first ty k ++ way_text types (stays_first first ty) next.0 steps
+      → way_text types first id (k ∷ steps) ≡ part_text first ty k (slice_get types next.0) ++ way_text types (stays_first first ty) next.0 steps
   unfolding way_text
-  goes_on k steps ty next e = ap (after_step first k (λ f n. way_text types f n steps)) e
+  goes_on k steps ty next e = ap (after_step types first k (λ f n. way_text types f n steps)) e
 
   stops : (k : ℕ) (steps : List ℕ) → step_from types id k ≡ None → way_text types first id (k ∷ steps) ≡ end_text first
   unfolding way_text
-  stops k steps e = ap (after_step first k (λ f n. way_text types f n steps)) e
+  stops k steps e = ap (after_step types first k (λ f n. way_text types f n steps)) e
 
   ended : way_text types first id [] ≡ end_text first
   unfolding way_text
@@ -33,12 +34,12 @@ module _ {W : Type 0} (took : W → List ℕ → W → Type 0) (types : List «T
     left : drop i steps ≡ get_or steps i d ∷ drop (i + 1) steps
     left = drop-cons steps i d l ∙ ap (λ n. get_or steps i d ∷ drop n steps) (sym (add-one i))
 
-    pub step_more : (ty : «Type») (next : TypeId) → step_from types id (get_or steps i d) ≡ Some (ty, next) → HasWritten took f (step_text first ty (get_or steps i d)) g
+    pub step_more : (ty : «Type») (next : TypeId) → step_from types id (get_or steps i d) ≡ Some (ty, next) → HasWritten took f (part_text first ty (get_or steps i d) (slice_get types next.0)) g
         → SoFar took types steps whole (i + 1) before (stays_first first ty) next.0 g
     step_more ty next s h = (
-      so_far.0 ++ step_text first ty (get_or steps i d),
-      put_two took before f g so_far.0 (step_text first ty (get_or steps i d)) _ so_far.1 h refl,
-      append_assoc so_far.0 (step_text first ty (get_or steps i d)) _ ∙ ap (λ x. so_far.0 ++ x) (sym (ap (way_text types first id) left ∙ goes_on types first id (get_or steps i d) (drop (i + 1) steps) ty next s)) ∙ so_far.2,
+      so_far.0 ++ part_text first ty (get_or steps i d) (slice_get types next.0),
+      put_two took before f g so_far.0 (part_text first ty (get_or steps i d) (slice_get types next.0)) _ so_far.1 h refl,
+      append_assoc so_far.0 (part_text first ty (get_or steps i d) (slice_get types next.0)) _ ∙ ap (λ x. so_far.0 ++ x) (sym (ap (way_text types first id) left ∙ goes_on types first id (get_or steps i d) (drop (i + 1) steps) ty next s)) ∙ so_far.2,
     )
 
   finished : way_text types first id (drop i steps) ≡ end_text first → HasWritten took f (end_text first) g → HasWritten took before whole g

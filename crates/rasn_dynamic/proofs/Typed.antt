@@ -22,7 +22,7 @@ use Rattle.rasn_de.proofs.Constructed.Steps.{rules_same, inside_by}
 use Rattle.rasn_de.proofs.Constructed.SetOfElements.{each_decodes, in_order_decodes, each_leaves, in_order_leaves}
 use Rattle.rasn_de.proofs.Constructed.SequenceOf.{sized}
 use Rattle.rasn_schema.specs.declared.types.«Type».{«Type»}
-use Rattle.rasn_schema.specs.declared.types.«Type».TheVariants.{Leaf, Enumerated, Any, Tagged, Choice, Sequence, Set, SequenceOf, SetOf}
+use Rattle.rasn_schema.specs.declared.types.«Type».TheVariants.{Leaf, Enumerated, Any, Tagged, Choice, Sequence, Set, SequenceOf, SetOf, Unknown}
 use Rattle.rasn_schema.specs.declared.type_id.TypeId.{TypeId}
 use Rattle.rasn_schema.specs.declared.types.Component.{Component}
 use Rattle.rasn_schema.specs.Shapes.{type_by, components_by}
@@ -59,6 +59,7 @@ pub holds_others : (ty : «Type») → HoldsElements ty → HoldsOthers ty
 holds_others (Leaf kind tag c names) h = absurd h
 holds_others (Enumerated tag ns) h = absurd h
 holds_others (Any tag) h = absurd h
+holds_others Unknown h = absurd h
 holds_others (Tagged tag k) h = tt
 holds_others (Choice name ks) h = absurd h
 holds_others (Sequence tag ps) h = tt
@@ -70,6 +71,7 @@ pub is_counted : (ty : «Type») (n : ℕ) (t : Tree) → HoldsElements ty → C
 is_counted (Leaf kind tag c names) n t h k = absurd h
 is_counted (Enumerated tag ns) n t h k = absurd h
 is_counted (Any tag) n t h k = absurd h
+is_counted Unknown n t h k = absurd h
 is_counted (Tagged tag i) n t h k = absurd h
 is_counted (Choice name ks) n t h k = absurd h
 is_counted (Sequence tag ps) n t h k = absurd h
@@ -189,6 +191,7 @@ module _ (f : ℕ → Shape) where
   contents_end (Leaf kind tag c names) o t n h = absurd h
   contents_end (Enumerated tag ns) o t n h = absurd h
   contents_end (Any tag) o t n h = absurd h
+  contents_end Unknown o t n h = absurd h
   contents_end (Tagged tag k) o t n h = h.end
   contents_end (Choice name ks) o t n h = absurd h
   contents_end (Sequence tag ps) o t n h = (sequence_contents tag ps o (Ok t) n h).end
@@ -201,6 +204,7 @@ module _ (f : ℕ → Shape) where
   contents_stay (Leaf kind tag c names) o e n h = absurd h
   contents_stay (Enumerated tag ns) o e n h = absurd h
   contents_stay (Any tag) o e n h = absurd h
+  contents_stay Unknown o e n h = absurd h
   contents_stay (Tagged tag k) o e n h = h.stays
   contents_stay (Choice name ks) o e n h = absurd h
   contents_stay (Sequence tag ps) o e n h = (sequence_contents tag ps o (Err e) n h).stays
@@ -222,6 +226,7 @@ module _ (f : ℕ → Shape) where
     type_decodes (Leaf kind tag c names) h = h
     type_decodes (Enumerated tag ns) h = h
     type_decodes (Any tag) h = h
+    type_decodes Unknown h = h
     type_decodes (Tagged tag k) h = prefixed tag k h
     type_decodes (Choice name ks) h = h.0
     type_decodes (Sequence tag ps) h = in_sequence tag ps h

@@ -4,7 +4,7 @@ use Rattle.std.specs.Prelude.{slice_get, MatchOption}
 use Rattle.rasn_schema.specs.declared.types.Alternative.{Alternative}
 use Rattle.rasn_schema.specs.declared.types.Component.{Component}
 use Rattle.rasn_schema.specs.declared.types.«Type».{«Type»}
-use Rattle.rasn_schema.specs.declared.types.«Type».TheVariants.{Leaf, Enumerated, Any, Tagged, Choice, Sequence, Set, SequenceOf, SetOf}
+use Rattle.rasn_schema.specs.declared.types.«Type».TheVariants.{Leaf, Enumerated, Any, Tagged, Choice, Sequence, Set, SequenceOf, SetOf, Unknown}
 use Rattle.rasn_schema.specs.declared.value.Value.{Value, Boolean, Null, Integer, Bits, Octets, Text, Units, Arcs, Instant, Day, Absent, Items', Elements', Chosen'}
 use Rattle.rasn_schema.proofs.Lists.{some_is}
 use Rattle.rasn_types.specs.declared.types.tag.Tag.{Tag}
@@ -100,6 +100,7 @@ unfit_in h (Tagged tag k) v p n a = absurd n
 unfit_in h (Leaf kind tag c names) v p n a = a
 unfit_in h (Enumerated tag ns) v p n a = a
 unfit_in h (Any tag) v p n a = a
+unfit_in h Unknown v p n a = a
 unfit_in h (Choice name ks) v p n a = a
 unfit_in h (Sequence tag ps) v p n a = a
 unfit_in h (Set name tag ps) v p n a = a

@@ -7,7 +7,7 @@ use Rattle.rasn_types.specs.declared.types.tag.Tag.{Tag}
 use Rattle.rasn_types.specs.declared.types.constraints.Constraints.{Constraints}
 use Rattle.rasn_schema.specs.declared.type_id.TypeId.{TypeId}
 use Rattle.rasn_schema.specs.declared.types.«Type».{«Type»}
-use Rattle.rasn_schema.specs.declared.types.«Type».TheVariants.{Leaf, Enumerated, Any, Tagged, Choice, Sequence, Set, SequenceOf, SetOf}
+use Rattle.rasn_schema.specs.declared.types.«Type».TheVariants.{Leaf, Enumerated, Any, Tagged, Choice, Sequence, Set, SequenceOf, SetOf, Unknown}
 use Rattle.rasn_schema.specs.declared.types.Component.{Component}
 use Rattle.rasn_schema.specs.declared.types.Alternative.{Alternative}
 use Rattle.rasn_schema.specs.Schemas.{components_in}
@@ -61,6 +61,7 @@ pub no_indexed : (ty : «Type») (index : ℕ) → ((tag : Tag) (element : TypeI
 no_indexed (Leaf kind tag c names) index a b k id h = h
 no_indexed (Enumerated tag ns) index a b k id h = h
 no_indexed (Any tag) index a b k id h = h
+no_indexed Unknown index a b k id h = h
 no_indexed (Tagged tag inner) index a b k id h = h
 no_indexed (Choice n ks) index a b k id h = h
 no_indexed (Sequence tag ps) index a b k id h = h
@@ -72,6 +73,7 @@ pub not_tagged : (ty : «Type») → ((tag : Tag) (inner : TypeId) → ty ≡ Ta
 not_tagged (Leaf kind tag c names) n h = h
 not_tagged (Enumerated tag ns) n h = h
 not_tagged (Any tag) n h = h
+not_tagged Unknown n h = h
 not_tagged (Tagged tag inner) n h = n tag inner refl
 not_tagged (Choice name ks) n h = h
 not_tagged (Sequence tag ps) n h = h

@@ -22,7 +22,7 @@ use Rattle.rasn_schema.specs.declared.type_id.TypeId.{TypeId}
 use Rattle.rasn_schema.specs.declared.types.Component.{Component}
 use Rattle.rasn_schema.specs.declared.types.Alternative.{Alternative}
 use Rattle.rasn_schema.specs.declared.types.«Type».{«Type»}
-use Rattle.rasn_schema.specs.declared.types.«Type».TheVariants.{Leaf, Enumerated, Any, Tagged, Choice, Sequence, Set, SequenceOf, SetOf}
+use Rattle.rasn_schema.specs.declared.types.«Type».TheVariants.{Leaf, Enumerated, Any, Tagged, Choice, Sequence, Set, SequenceOf, SetOf, Unknown}
 use Rattle.rasn_schema.specs.Shapes.{shape_of_type, alternatives_by, components_by, presence_of, presence_in}
 use Rattle.rasn_schema.specs.FirstTags.{IsAlwaysThere}
 use Rattle.rasn_dynamic.specs.Inside.{DecodesTree, DecodesComponent}
@@ -95,6 +95,7 @@ abbrev pub IsPart : (ℕ → Shape) → «Type» → State → ℕ → ℕ → S
 IsPart f (Leaf kind tag c names) s k next here = ⊥
 IsPart f (Enumerated tag ns) s k next here = ⊥
 IsPart f (Any tag) s k next here = ⊥
+IsPart f Unknown s k next here = ⊥
 IsPart f (Tagged tag id) s k next here = IsOnly 0 id.0 s k next here
 IsPart f (Choice name ks) s k next here = IsAlternativeAt ks.items s k next here
 IsPart f (Sequence tag ps) s k next here = IsComponentAt f ps.items s k next here
@@ -154,6 +155,7 @@ module _ (f : ℕ → Shape) where
   StopsInside (Leaf kind tag c names) s e = ⊥
   StopsInside (Enumerated tag ns) s e = ⊥
   StopsInside (Any tag) s e = ⊥
+  StopsInside Unknown s e = ⊥
   StopsInside (Tagged tag id) s e = ⊥
   StopsInside (Choice name ks) s e = ⊥
   StopsInside (Sequence tag ps) s e = StopsInSequence ps.items s e
@@ -171,6 +173,7 @@ module _ (f : ℕ → Shape) where
   FailsItself (Leaf kind tag c names) s e = Unit {0}
   FailsItself (Enumerated tag ns) s e = Unit {0}
   FailsItself (Any tag) s e = Unit {0}
+  FailsItself Unknown s e = Unit {0}
   FailsItself (Tagged tag id) s e = (new : State) × DecodesInside (ReadsEachPart (Tagged tag id)) (prefix_header tag) s (Err e) new
   FailsItself (Choice name ks) s e = StopsAtChoice ks.items s e
   FailsItself (Sequence tag ps) s e = (new : State) × DecodesInside (ReadsEachPart (Sequence tag ps)) (sequence_header tag) s (Err e) new
@@ -192,6 +195,7 @@ abbrev pub Enters : «Type» → State → State → Type 0
 Enters (Leaf kind tag c names) s inner = ⊥
 Enters (Enumerated tag ns) s inner = ⊥
 Enters (Any tag) s inner = ⊥
+Enters Unknown s inner = ⊥
 Enters (Tagged tag id) s inner = EntersBy (prefix_header tag) s inner
 Enters (Choice name ks) s inner = inner ≡ s
 Enters (Sequence tag ps) s inner = EntersBy (sequence_header tag) s inner

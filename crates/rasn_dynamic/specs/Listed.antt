@@ -11,7 +11,7 @@ use Rattle.rasn_schema.specs.declared.type_id.TypeId.{TypeId}
 use Rattle.rasn_schema.specs.declared.types.Component.{Component}
 use Rattle.rasn_schema.specs.declared.types.Alternative.{Alternative}
 use Rattle.rasn_schema.specs.declared.types.«Type».{«Type»}
-use Rattle.rasn_schema.specs.declared.types.«Type».TheVariants.{Leaf, Enumerated, Any, Tagged, Choice, Sequence, Set, SequenceOf, SetOf}
+use Rattle.rasn_schema.specs.declared.types.«Type».TheVariants.{Leaf, Enumerated, Any, Tagged, Choice, Sequence, Set, SequenceOf, SetOf, Unknown}
 use Rattle.rasn_schema.specs.Shapes.{shape_of_type}
 use Rattle.rasn_dynamic.specs.declared.span.Span.{Span}
 use Rattle.rasn_dynamic.specs.declared.span.Spans.{Spans}
@@ -33,6 +33,7 @@ abbrev pub GoesInto : «Type» → ℕ → State → ℕ → State → Type 0
 GoesInto (Leaf kind tag c names) b s a inner = (a ≡ b) × (inner ≡ s)
 GoesInto (Enumerated tag ns) b s a inner = (a ≡ b) × (inner ≡ s)
 GoesInto (Any tag) b s a inner = (a ≡ b) × (inner ≡ s)
+GoesInto Unknown b s a inner = (a ≡ b) × (inner ≡ s)
 GoesInto (Tagged tag id) b s a inner = GoesInside (prefix_header tag) b s a inner
 GoesInto (Choice name ks) b s a inner = (a ≡ b) × (inner ≡ s)
 GoesInto (Sequence tag ps) b s a inner = GoesInside (sequence_header tag) b s a inner
@@ -92,6 +93,7 @@ module _ (f : ℕ → Shape) (levels : ℕ) (P : ℕ → ℕ → State → List 
   ContentsListed (Leaf kind tag c names) b s es = es ≡ []
   ContentsListed (Enumerated tag ns) b s es = es ≡ []
   ContentsListed (Any tag) b s es = es ≡ []
+  ContentsListed Unknown b s es = es ≡ []
   ContentsListed (Tagged tag id) b s es = (last : State) × PartListed id.0 0 b s last es
   ContentsListed (Choice name ks) b s es = AlternativeListed ks.items b s es
   ContentsListed (Sequence tag ps) b s es = ComponentsListed ps.items b s es

@@ -1,5 +1,5 @@
 -- Where the part at the end of a path is.
-use Rattle.std.specs.Prelude.{◌≡◌, ◌≢◌, ◌⊎◌, ◌+◌, ◌≤◌, ℕ, suc, List, ◌∷◌, ◌++◌, length, Bool, true, false, slice_get, Option, Some, None, Ok}
+use Rattle.std.specs.Prelude.{[], ◌≡◌, ◌≢◌, ◌⊎◌, ◌+◌, ◌≤◌, ℕ, suc, List, ◌∷◌, ◌++◌, length, Bool, true, false, slice_get, Option, Some, None, Ok}
 use Rattle.rasn_types.specs.declared.types.codec.Codec.{Codec}
 use Rattle.rasn_types.specs.declared.types.codec.Codec.TheVariants.{Ber}
 use Rattle.rasn_types.specs.declared.types.tag.Tag.{Tag}
@@ -16,7 +16,7 @@ use Rattle.rasn_de.specs.Decodes.{DecodesBy}
 use Rattle.rasn_de.specs.Optional.{NextIs}
 use Rattle.rasn_de.specs.SequenceOf.{DecodesInTurn, DecodesInTurnFrom}
 use Rattle.rasn_schema.specs.declared.types.«Type».{«Type»}
-use Rattle.rasn_schema.specs.declared.types.«Type».TheVariants.{Leaf, Enumerated, Any, Tagged, Choice, Sequence, Set, SequenceOf, SetOf}
+use Rattle.rasn_schema.specs.declared.types.«Type».TheVariants.{Leaf, Enumerated, Any, Tagged, Choice, Sequence, Set, SequenceOf, SetOf, Unknown}
 use Rattle.rasn_schema.specs.declared.types.Component.{Component}
 use Rattle.rasn_schema.specs.declared.types.Alternative.{Alternative}
 use Rattle.rasn_schema.specs.Shapes.{shape_of_type, components_by, presence_of, key_of}
@@ -30,6 +30,10 @@ use Rattle.rasn_dynamic.specs.declared.part.Part.{Part}
 abbrev pub IsHeader : List ℕ → ℕ → Bool → Type 0
 IsHeader octets n false = (tag : Tag) × (bit : Bool) × (contents : List ℕ) × (rest : List ℕ) × Frame (form Ber) octets tag bit rest (definite contents) × (n + (length contents + length rest) ≡ length octets)
 IsHeader octets n true = (tag : Tag) × (bit : Bool) × (rest : List ℕ) × Frame (form Ber) octets tag bit rest indefinite × (n + length rest ≡ length octets)
+
+-- So does a part, unless it has no octets, as unknown values of which there are none.
+abbrev pub IsPartHeader : List ℕ → ℕ → Bool → Type 0
+IsPartHeader octets n b = ((octets ≡ []) × (n ≡ 0) × (b ≡ false)) ⊎ IsHeader octets n b
 
 -- how many octets end it (8.1.5)
 abbrev pub end_len : Bool → ℕ
@@ -84,6 +88,7 @@ abbrev pub LacksPart : (ℕ → Shape) → «Type» → State → ℕ → Type 0
 LacksPart f (Leaf kind tag c names) s k = Unit {0}
 LacksPart f (Enumerated tag ns) s k = Unit {0}
 LacksPart f (Any tag) s k = Unit {0}
+LacksPart f Unknown s k = Unit {0}
 LacksPart f (Tagged tag id) s k = k ≢ 0
 LacksPart f (Choice name ks) s k = LacksAlternative f ks.items s k
 LacksPart f (Sequence tag ps) s k = LacksComponent f ps.items s k
@@ -96,6 +101,7 @@ abbrev pub IsEntered : «Type» → State → State → Type 0
 IsEntered (Leaf kind tag c names) s inner = inner ≡ s
 IsEntered (Enumerated tag ns) s inner = inner ≡ s
 IsEntered (Any tag) s inner = inner ≡ s
+IsEntered Unknown s inner = inner ≡ s
 IsEntered (Tagged tag id) s inner = Enters (Tagged tag id) s inner
 IsEntered (Choice name ks) s inner = Enters (Choice name ks) s inner
 IsEntered (Sequence tag ps) s inner = Enters (Sequence tag ps) s inner
@@ -108,6 +114,7 @@ abbrev pub IsHeaderOf : «Type» → Option ConstructedHeader → Type 0
 IsHeaderOf (Leaf kind tag c names) d = d ≡ None
 IsHeaderOf (Enumerated tag ns) d = d ≡ None
 IsHeaderOf (Any tag) d = d ≡ None
+IsHeaderOf Unknown d = d ≡ None
 IsHeaderOf (Tagged tag id) d = d ≡ Some (prefix_header tag)
 IsHeaderOf (Choice name ks) d = d ≡ None
 IsHeaderOf (Sequence tag ps) d = d ≡ Some (sequence_header tag)
@@ -132,7 +139,7 @@ pub record IsReadHere (types : List «Type») (levels id : ℕ) (s : State) (oct
   pub rest : List ℕ
   pub is : s.rest ≡ octets ++ rest
   pub reads : Exact (Reads s.rule (shape_of_type types levels id) s.depth s.closing) s.rest (Got tree rest)
-  pub header : IsHeader s.rest header_len is_indefinite
+  pub header : IsPartHeader octets header_len is_indefinite
 
 -- The path leads to a value that the grammar relates to the octets of the part, and they are at its offset in the input.
 pub record IsPartAt (types : List «Type») (rule : Codec) (id : ℕ) (input path : List ℕ) (p : Part) : Type 0 where

@@ -5,7 +5,7 @@ use Rattle.rasn_types.specs.ErrorText.{shown_decode_error, shown_encode_error}
 use Rattle.rasn_schema.specs.declared.type_id.TypeId.{TypeId}
 use Rattle.rasn_schema.specs.declared.types.«Type».{«Type»}
 use Rattle.rasn_schema.specs.declared.types.«Type».TheVariants.{Tagged, SequenceOf, SetOf}
-use Rattle.rasn_schema.specs.Held.{part_type, part_name}
+use Rattle.rasn_schema.specs.Held.{is_unknown_found, part_type, part_name}
 use Rattle.rasn_dynamic.specs.declared.entry.WriteError.{WriteError}
 use Rattle.rasn_dynamic.specs.declared.entry.WriteError.TheVariants.{Unfit, Encode}
 use Rattle.rasn_dynamic.specs.declared.refusal.Refusal.{Refusal}
@@ -38,6 +38,10 @@ step_text first (SequenceOf tag element c) k = bracketed k
 step_text first (SetOf tag element c) k = bracketed k
 step_text first ty k = name_text first (part_name ty k)
 
+-- The same, where the type of the part is this one. Of unknown values it is their index in brackets, since they have no name.
+abbrev pub part_text : Bool → «Type» → ℕ → Option «Type» → List ℕ
+part_text first ty k part = if is_unknown_found part then bracketed k else step_text first ty k
+
 -- Whether the next name is the first one still.
 abbrev pub stays_first : Bool → «Type» → Bool
 stays_first first (Tagged tag inner) = first
@@ -51,14 +55,14 @@ step_from types id k = option_and_then (λ ty. option_map (λ next. (ty, next)) 
 abbrev pub end_text : Bool → List ℕ
 end_text first = if first then [] else codes ", "
 
-abbrev pub after_step : Bool → ℕ → (Bool → ℕ → List ℕ) → Option («Type» × TypeId) → List ℕ
-after_step first k more None = end_text first
-after_step first k more (Some s) = step_text first s.0 k ++ more (stays_first first s.0) s.1.0
+abbrev pub after_step : List «Type» → Bool → ℕ → (Bool → ℕ → List ℕ) → Option («Type» × TypeId) → List ℕ
+after_step types first k more None = end_text first
+after_step types first k more (Some s) = part_text first s.0 k (slice_get types s.1.0) ++ more (stays_first first s.0) s.1.0
 
 -- The steps from the type with number id, as far as they lead to parts.
 unfoldable pub way_text : List «Type» → Bool → ℕ → List ℕ → List ℕ
 way_text types first id [] = end_text first
-way_text types first id (k ∷ steps) = after_step first k (λ f n. way_text types f n steps) (step_from types id k)
+way_text types first id (k ∷ steps) = after_step types first k (λ f n. way_text types f n steps) (step_from types id k)
 
 -- The names on the way, unless some are missing, and the refusal.
 abbrev pub shown_way : Bool → List ℕ → Option (List ℕ) → Option (List ℕ)

@@ -14,7 +14,7 @@ use Rattle.rasn_de.specs.SequenceOf.{DecodesElements, DecodesElementsInOrder, De
 use Rattle.rasn_de.specs.PartTypes.{FailsAtPart}
 use Rattle.rasn_de.specs.SetPartTypes.{DecodesSetPartContents}
 use Rattle.rasn_schema.specs.declared.types.«Type».{«Type»}
-use Rattle.rasn_schema.specs.declared.types.«Type».TheVariants.{Leaf, Enumerated, Any, Tagged, Choice, Sequence, Set, SequenceOf, SetOf}
+use Rattle.rasn_schema.specs.declared.types.«Type».TheVariants.{Leaf, Enumerated, Any, Tagged, Choice, Sequence, Set, SequenceOf, SetOf, Unknown}
 use Rattle.rasn_schema.specs.Shapes.{type_by, alternatives_by, components_by}
 use Rattle.rasn_dynamic.specs.Inside.{ReadsSequence, DecodesTree}
 use Rattle.rasn_dynamic.specs.Making.{these}
@@ -65,6 +65,7 @@ abbrev pub HoldsOthers : «Type» → Type 0
 HoldsOthers (Leaf kind tag c names) = ⊥
 HoldsOthers (Enumerated tag ns) = ⊥
 HoldsOthers (Any tag) = ⊥
+HoldsOthers Unknown = ⊥
 HoldsOthers (Tagged tag k) = Unit {0}
 HoldsOthers (Choice name ks) = ⊥
 HoldsOthers (Sequence tag ps) = Unit {0}
@@ -79,6 +80,7 @@ module _ (f : ℕ → Shape) where
   DecodesContents (Leaf kind tag c names) = λ old r new. ⊥
   DecodesContents (Enumerated tag ns) = λ old r new. ⊥
   DecodesContents (Any tag) = λ old r new. ⊥
+  DecodesContents Unknown = λ old r new. ⊥
   DecodesContents (Tagged tag k) = DecodesTree (f k.0)
   DecodesContents (Choice name ks) = λ old r new. ⊥
   DecodesContents (Sequence tag ps) = Makes items (DecodesComponents (components_by f ps.items))
@@ -91,6 +93,7 @@ module _ (f : ℕ → Shape) where
   DecodesType (Leaf kind tag c names) = DecodesTree (type_by f (Leaf kind tag c names))
   DecodesType (Enumerated tag ns) = DecodesTree (type_by f (Enumerated tag ns))
   DecodesType (Any tag) = DecodesTree (type_by f (Any tag))
+  DecodesType Unknown = DecodesTree (type_by f Unknown)
   DecodesType (Tagged tag k) = DecodesInside (DecodesContents (Tagged tag k)) (prefix_header tag)
   DecodesType (Choice name ks) = λ old r new.
       DecodesTree (choice (alternatives_by f ks.items)) old r new × IfErr r (λ e. IsNoAlternative (alternatives_by f ks.items) (string_bytes name) old e new)

@@ -9,7 +9,7 @@ use Rattle.rasn_dynamic.specs.declared.span.Span.{Span}
 use Rattle.rasn_dynamic.specs.declared.part.Part.{Part}
 use Rattle.rasn_dynamic.specs.declared.message.MessageParts.{MessageParts}
 use Rattle.rasn_dynamic.specs.Faults.{start}
-use Rattle.rasn_dynamic.specs.Parts.{IsHeader}
+use Rattle.rasn_dynamic.specs.Parts.{IsPartHeader}
 use Rattle.rasn_dynamic.specs.Listed.{PartListed, Inside}
 
 -- Its octets are in the input, where so many are left from its start to the end.
@@ -41,4 +41,4 @@ path_after path e = path_at_depth (depth_of e) path e.index
 abbrev pub IsNextOf : MessageParts → Option Part → MessageParts → Type 0
 IsNextOf old None new = (length old.list.items ≤ old.next) × (new.next ≡ old.next) × (new.path ≡ old.path)
 IsNextOf old (Some p) new = (e : Span) × (Some e ≡ slice_get old.list.items old.next) × (p.id ≡ e.id) × (p.octets.now ≡ e.octets.now) × (p.offset ≡ length old.input.now - e.left)
-    × IsHeader e.octets.now p.header_len p.is_indefinite × (new.next ≡ old.next + 1) × (new.path.items ≡ path_after old.path.items e)
+    × IsPartHeader e.octets.now p.header_len p.is_indefinite × (new.next ≡ old.next + 1) × (new.path.items ≡ path_after old.path.items e)

@@ -1,8 +1,8 @@
 //! Finds a part of a message.
 ghost use Rattle.std.specs.Prelude.{◌≡◌, ◌≢◌, ◌⊎◌, ◌+◌, ◌≤◌, ◌∷◌, [], length, true, OnOk, IfOk, IfErr, MatchOption, MatchBool};
 ghost use Rattle.rasn_types.specs.Errors.{IsOutOfMemory};
-ghost use Rattle.rasn_types.specs.Lawful.{IsLawful, AreLawfulByTag};
-ghost use Rattle.rasn_schema.specs.Shapes.{shape_of_type, type_by, components_by, presence_in, AreLawful};
+ghost use Rattle.rasn_types.specs.Lawful.{AreLawfulByTag};
+ghost use Rattle.rasn_schema.specs.Shapes.{shape_of_type, type_by, components_by, presence_in, IsReadable, AreReadable};
 ghost use Rattle.rasn_dynamic.specs.Inside.{ReadsComponent};
 ghost use Rattle.rasn_dynamic.specs.Faults.{IsAlternativeAt, IsComponentAt, IsMemberAt, IsElementAt, IsPart, Leads, IsLocated, start};
 ghost use Rattle.rasn_dynamic.specs.Parts.{IsSeen, LacksAlternative, IsAbsentHere, LacksComponent, LacksMember, LacksElement, LacksPart, IsEntered, LacksPartAt, LacksPath, IsReadHere, IsPartAt, IsHeaderOf, PassesBy, PassesPresent, PassesElement};
@@ -11,7 +11,7 @@ use crate::components::{is_always_there, leaves_all_out};
 use crate::locate::{check_or_locate, out_of_memory};
 use crate::made::Nothing;
 use crate::order::octets_before;
-use crate::part::{Part, header_of};
+use crate::part::{Part, part_header};
 use crate::reader::{decode_at, decode_component, decode_present, extra, is_next, no_value};
 use crate::refusal::Refusal;
 use crate::set::component_for;
@@ -93,7 +93,7 @@ fn component_here(
     below: usize,
     component: &Component,
 ) -> Result<Option<TypeId>, DecodeError>
-    requires lawful { IsLawful (shape_of_type types.now below component.now.type_id.0) }
+    requires lawful { IsReadable (shape_of_type types.now below component.now.type_id.0) }
     ensures { IfOk result (λ found. MatchOption found (IsAbsentHere (shape_of_type types.now below) component.now decoder.now) (λ id. id ≡ component.now.type_id)) }
 {
     if is_always_there(component) {
@@ -113,7 +113,7 @@ fn pass_component(
     below: usize,
     component: &Component,
 ) -> Result<(), DecodeError>
-    requires lawful { IsLawful (shape_of_type types.now below component.now.type_id.0) }
+    requires lawful { IsReadable (shape_of_type types.now below component.now.type_id.0) }
     ensures { OnOk result (PassesBy (ReadsComponent (presence_in (shape_of_type types.now below) component.now) (shape_of_type types.now below component.now.type_id.0)) decoder.old decoder.new) }
 {
     let mut trace = None;
@@ -142,7 +142,7 @@ fn go_to_component(
     components: &[Component],
     index: usize,
 ) -> Result<Option<TypeId>, DecodeError>
-    requires lawful { AreLawful (components_by (shape_of_type types.now below) components.now) }
+    requires lawful { AreReadable (components_by (shape_of_type types.now below) components.now) }
     ensures found { IfOk result (λ found. MatchOption found (LacksComponent (shape_of_type types.now below) components.now decoder.old index) (λ id. IsComponentAt (shape_of_type types.now below) components.now decoder.old index id.0 decoder.new)) }
 {
     if leaves_all_out(decoder, components) {
@@ -178,7 +178,7 @@ fn pass_member(
     below: usize,
     component: &Component,
 ) -> Result<(), DecodeError>
-    requires lawful { IsLawful (shape_of_type types.now below component.now.type_id.0) }
+    requires lawful { IsReadable (shape_of_type types.now below component.now.type_id.0) }
     ensures { OnOk result (PassesPresent (presence_in (shape_of_type types.now below) component.now) (shape_of_type types.now below component.now.type_id.0) decoder.old decoder.new) }
 {
     let left = decoder.remaining().len();
@@ -231,7 +231,7 @@ fn pass_element(
     below: usize,
     element: TypeId,
 ) -> Result<(), DecodeError>
-    requires lawful { IsLawful (shape_of_type types.now below element.0) }
+    requires lawful { IsReadable (shape_of_type types.now below element.0) }
     ensures { OnOk result (PassesElement (shape_of_type types.now below element.0) decoder.old decoder.new) }
 {
     let left = decoder.remaining().len();
@@ -253,7 +253,7 @@ fn go_to_element(
     element: TypeId,
     index: usize,
 ) -> Result<Option<TypeId>, DecodeError>
-    requires lawful { IsLawful (shape_of_type types.now below element.0) }
+    requires lawful { IsReadable (shape_of_type types.now below element.0) }
     ensures found { IfOk result (λ found. MatchOption found (LacksElement (shape_of_type types.now below) element.0 decoder.old index) (λ id. IsElementAt (shape_of_type types.now below) element.0 decoder.old index id.0 decoder.new)) }
 {
     let mut number = 0;
@@ -285,7 +285,7 @@ fn go_inside(
     ty: &Type,
     index: usize,
 ) -> Result<Option<TypeId>, DecodeError>
-    requires lawful { IsLawful (type_by (shape_of_type types.now below) ty.now) }
+    requires lawful { IsReadable (type_by (shape_of_type types.now below) ty.now) }
     ensures found { IfOk result (λ found. MatchOption found (LacksPart (shape_of_type types.now below) ty.now decoder.old index) (λ id. IsPart (shape_of_type types.now below) ty.now decoder.old index id.0 decoder.new)) }
 {
     match ty {
@@ -305,11 +305,11 @@ fn go_inside(
 
 /// Goes from a value to its part with this index. Returns whether the part is present.
 fn go_to_part(place: &mut Place<'_>, types: &[Type], index: usize) -> Result<bool, DecodeError>
-    requires lawful { IsLawful (shape_of_type types.now place.old.levels place.old.id.0) }
+    requires lawful { IsReadable (shape_of_type types.now place.old.levels place.old.id.0) }
     requires seen { length place.old.decoder.rest ≤ place.old.end }
     ensures found { IfOk result (λ found. MatchBool found (Leads types.now (index ∷ []) place.old.levels place.old.id.0 place.old.decoder place.new.levels place.new.id.0 place.new.decoder) (LacksPartAt types.now place.old.levels place.old.id.0 place.old.decoder index)) }
     ensures seen { IfOk result (λ found. found ≡ true → IsSeen place.old.decoder.rest place.old.end place.new.decoder.rest place.new.end) }
-    ensures lawful { IfOk result (λ found. found ≡ true → IsLawful (shape_of_type types.now place.new.levels place.new.id.0)) }
+    ensures lawful { IfOk result (λ found. found ≡ true → IsReadable (shape_of_type types.now place.new.levels place.new.id.0)) }
 {
     if place.levels == 0 {
         return Err(no_value(&place.decoder));
@@ -331,11 +331,11 @@ fn go_to_part(place: &mut Place<'_>, types: &[Type], index: usize) -> Result<boo
 
 /// Goes along a path. Returns whether there is a part at its end.
 fn go_along(place: &mut Place<'_>, types: &[Type], path: &[usize]) -> Result<bool, DecodeError>
-    requires lawful { IsLawful (shape_of_type types.now place.old.levels place.old.id.0) }
+    requires lawful { IsReadable (shape_of_type types.now place.old.levels place.old.id.0) }
     requires seen { length place.old.decoder.rest ≤ place.old.end }
     ensures found { IfOk result (λ found. MatchBool found (Leads types.now path.now place.old.levels place.old.id.0 place.old.decoder place.new.levels place.new.id.0 place.new.decoder) (LacksPath types.now path.now place.old.levels place.old.id.0 place.old.decoder)) }
     ensures seen { IfOk result (λ found. found ≡ true → IsSeen place.old.decoder.rest place.old.end place.new.decoder.rest place.new.end) }
-    ensures lawful { IfOk result (λ found. found ≡ true → IsLawful (shape_of_type types.now place.new.levels place.new.id.0)) }
+    ensures lawful { IfOk result (λ found. found ≡ true → IsReadable (shape_of_type types.now place.new.levels place.new.id.0)) }
 {
     let mut rest = path;
     while let [index, after @ ..] = rest {
@@ -350,13 +350,12 @@ fn go_along(place: &mut Place<'_>, types: &[Type], path: &[usize]) -> Result<boo
 
 /// Reads the value at a place, and returns where it is.
 fn read_part<'input>(place: &mut Place<'input>, types: &[Type]) -> Result<Part<'input>, DecodeError>
-    requires lawful { IsLawful (shape_of_type types.now place.old.levels place.old.id.0) }
+    requires lawful { IsReadable (shape_of_type types.now place.old.levels place.old.id.0) }
     requires seen { length place.old.decoder.rest ≤ place.old.end }
     ensures read { IfOk result (λ p. IsReadHere types.now place.old.levels place.old.id.0 place.old.decoder p.octets.now p.header_len p.is_indefinite) }
     ensures at { IfOk result (λ p. (p.id ≡ place.old.id) × (p.offset + length place.old.decoder.rest ≡ place.old.end)) }
 {
     let start = place.decoder.remaining();
-    let (header_len, is_indefinite) = header_of(place.decoder.alloc(), start)?;
     let mut trace = None;
     match decode_at::<Nothing>(
         &mut place.decoder,
@@ -368,12 +367,14 @@ fn read_part<'input>(place: &mut Place<'input>, types: &[Type]) -> Result<Part<'
     ) {
         Ok(value) => {
             drop(value);
+            let octets = octets_before(start, place.decoder.remaining());
+            let (header_len, is_indefinite) = part_header(place.decoder.alloc(), octets)?;
             Ok(Part {
                 id: place.id,
                 offset: place.end - start.len(),
                 header_len,
                 is_indefinite,
-                octets: octets_before(start, place.decoder.remaining()),
+                octets,
             })
         }
         Err(error) => Err(error),

@@ -1,7 +1,6 @@
 //! What a reader makes of what it reads.
 ghost use Rattle.std.specs.Prelude.{◌≡◌, Bool, true, false, None, MatchOption, IfSome, IfOk, IfErr};
-ghost use Rattle.rasn_types.specs.Lawful.{IsLawful};
-ghost use Rattle.rasn_schema.specs.Shapes.{shape_of_type};
+ghost use Rattle.rasn_schema.specs.Shapes.{shape_of_type, IsReadable};
 ghost use Rattle.rasn_schema.specs.Trees.{tree_of};
 ghost use Rattle.rasn_schema.specs.Fitting.{Fits};
 ghost use Rattle.rasn_dynamic.specs.Inside.{DecodesTree};
@@ -33,7 +32,7 @@ pub trait Made {
         id: TypeId,
         index: usize,
     ) -> Option<Result<Value<'input>, DecodeError>>
-        requires lawful { IsLawful (shape_of_type types.now levels id.0) }
+        requires lawful { IsReadable (shape_of_type types.now levels id.0) }
         requires clear { trace.old ≡ None }
         ensures reads { MatchOption result ((KEEP ≡ true) × (decoder.new ≡ decoder.old) × (trace.new ≡ None)) (λ r. Making true tree_of (DecodesTree (shape_of_type types.now levels id.0)) decoder.old r decoder.new) }
         ensures fits { IfSome result (λ r. IfOk r (λ v. Fits types.now levels id.0 v)) }

@@ -6,7 +6,7 @@ ghost use Rattle.rasn_dynamic.specs.Walk.{ArePartsOf, IsNextOf, path_at_depth};
 
 use crate::locate::{out_of_memory, read_first};
 use crate::made::Nothing;
-use crate::part::{Part, header_of};
+use crate::part::{Part, part_header};
 use crate::refusal::Refusal;
 use crate::span::{Span, finish, list_of, new_list, note};
 use rasn_schema::{Schema, TypeId};
@@ -94,7 +94,7 @@ impl<'input> MessageParts<'input> {
         };
         let (id, index, octets) = (span.id, span.index, span.octets);
         let (levels, left) = (span.levels, span.left);
-        let (header_len, is_indefinite) = header_of(alloc, octets)?;
+        let (header_len, is_indefinite) = part_header(alloc, octets)?;
         if go_along(&mut self.path, usize::MAX - levels, index).is_err() {
             return Err(DecodeError {
                 kind: DecodeErrorKind::OutOfMemory,

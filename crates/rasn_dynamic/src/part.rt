@@ -1,6 +1,6 @@
 //! A part of a message.
 ghost use Rattle.std.specs.Prelude.{◌≡◌, ◌+◌, ◌≤◌, length, IfOk};
-ghost use Rattle.rasn_dynamic.specs.Parts.{IsHeader, end_len, AreContents};
+ghost use Rattle.rasn_dynamic.specs.Parts.{IsHeader, IsPartHeader, end_len, AreContents};
 
 use crate::trace::octets_after;
 use rasn_de::ber::de::{ConstructedHeader, Decoder, DecoderOptions};
@@ -16,7 +16,8 @@ pub struct Part<'input> {
     pub id: TypeId,
     /// Where it begins, in octets from the start of the message: at its identifier octets.
     pub offset: usize,
-    /// The number of its identifier and length octets (X.690 8.1.2, 8.1.3).
+    /// The number of its identifier and length octets (X.690 8.1.2, 8.1.3). Of unknown values it is
+    /// that of the first, or 0 if there are none.
     pub header_len: usize,
     /// Whether its length is indefinite: then end-of-contents octets end it (X.690 8.1.3.6).
     pub is_indefinite: bool,
@@ -48,12 +49,26 @@ impl<'input> Part<'input> {
     }
 }
 
+/// Returns the number of identifier and length octets of a part with these octets, and whether its
+/// length is indefinite.
+///
+/// # Errors
+/// As [`header_of`].
+pub fn part_header(alloc: Global, octets: &[u8]) -> Result<(usize, bool), DecodeError>
+    ensures { IfOk result (λ h. IsPartHeader octets.now h.0 h.1) }
+{
+    if octets.is_empty() {
+        return Ok((0, false));
+    }
+    header_of(alloc, octets)
+}
+
 /// Returns the number of identifier and length octets of the encoding with which the octets begin,
 /// and whether its length is indefinite.
 ///
 /// # Errors
 /// The framing error of BER, if no encoding begins there.
-pub fn header_of(alloc: Global, octets: &[u8]) -> Result<(usize, bool), DecodeError>
+fn header_of(alloc: Global, octets: &[u8]) -> Result<(usize, bool), DecodeError>
     ensures { IfOk result (λ h. IsHeader octets.now h.0 h.1) }
 {
     let mut decoder = Decoder::new(alloc, octets, DecoderOptions::of(Codec::Ber));

@@ -3,7 +3,7 @@ ghost use Rattle.std.specs.Prelude.{◌≡◌, true, ◌++◌, ◌∷◌, [], On
 ghost use Rattle.rasn_types.specs.Errors.{IsOutOfMemory};
 ghost use Rattle.rasn_types.specs.Numbered.{fit_isize};
 ghost use Rattle.rasn_types.specs.CharacterString.{string_kind};
-ghost use Rattle.rasn_types.specs.Shapes.{leaf, any, looked_for, fixed, integer, enumerated, utc_time};
+ghost use Rattle.rasn_types.specs.Shapes.{leaf, any, unknown, looked_for, fixed, integer, enumerated, utc_time};
 ghost use Rattle.rasn_types.specs.Trees.{unconstrained};
 ghost use Rattle.rasn_types.specs.Truth.{IsWhether};
 ghost use Rattle.rasn_de.specs.Decodes.{Decodes};
@@ -15,8 +15,10 @@ ghost use Rattle.rasn_de.specs.declared.ber.de.parser.ParseError.TheVariants.{Ou
 ghost use Rattle.rasn_schema.specs.Trees.{tree_of};
 ghost use Rattle.rasn_schema.specs.Shapes.{kind_of, numbers_of};
 ghost use Rattle.rasn_schema.specs.declared.types.LeafKind.TheVariants.{FixedOctetString as FixedKind, UtcTime as UtcTimeKind};
+ghost use Rattle.rasn_dynamic.specs.Inside.{DecodesTree};
+ghost use Rattle.rasn_dynamic.specs.Making.{Making};
 ghost use Rattle.rasn_dynamic.specs.Calls.{IsNumberIn, IsStringOf, FailsAtNumber, FailsAtFixed};
-ghost use Rattle.rasn_schema.specs.Fitting.{FitsLeaf, IsNumber, AreOctets};
+ghost use Rattle.rasn_schema.specs.Fitting.{FitsLeaf, IsNumber, AreOctets, AreItems, EachFits};
 
 use crate::made::Made;
 use rasn_de::ber::de::Decoder;
@@ -340,4 +342,25 @@ pub fn decode_any_value<'input>(
 {
     let octets = decoder.decode_open(tag)?;
     Ok(Value::Octets(CowSlice::Borrowed(octets)))
+}
+
+/// Reads all values up to the end of the contents, each as one complete encoding (X.680 25). They are
+/// kept where values are.
+///
+/// # Errors
+/// The error of the first value that can't be read: the values before it are consumed. Otherwise
+/// only `OutOfMemory`.
+pub fn decode_unknown_values<'input, M: Made>(
+    decoder: &mut Decoder<'input>,
+) -> Result<Value<'input>, DecodeError>
+    ensures reads { Making M.KEEP tree_of (DecodesTree unknown) decoder.old result decoder.new }
+    ensures fits { M.KEEP ≡ true → IfOk result (AreItems (EachFits AreOctets)) }
+    ensures rules { IfErr result (λ e. e.codec ≡ decoder.old.rule) }
+{
+    let mut values = Vec::new(decoder.alloc());
+    while !decoder.has_ended() {
+        let value = decode_any_value(decoder, Tag::EOC)?;
+        push::<M>(decoder, &mut values, value)?;
+    }
+    Ok(Value::Items(values))
 }

@@ -3,7 +3,7 @@ ghost use Rattle.std.specs.Prelude.{◌≡◌, ◌≢◌, ◌⊎◌, [], true, s
 ghost use Rattle.std.specs.String.{string_bytes};
 ghost use Rattle.rasn_types.specs.Framing.{AreOctets};
 ghost use Rattle.rasn_types.specs.Errors.{IsOutOfMemory};
-ghost use Rattle.rasn_types.specs.Lawful.{IsLawful, AreLawfulByTag};
+ghost use Rattle.rasn_types.specs.Lawful.{AreLawfulByTag};
 ghost use Rattle.rasn_types.specs.Shapes.{items, choice, sought_by};
 ghost use Rattle.rasn_de.specs.Decodes.{DecodesBy};
 ghost use Rattle.rasn_de.specs.Constructed.{DecodesInside};
@@ -14,7 +14,7 @@ ghost use Rattle.rasn_de.specs.SetPartTypes.{DecodesSetPartContents};
 ghost use Rattle.rasn_de.specs.Steps.{IsErrorOf};
 ghost use Rattle.rasn_de.specs.declared.ber.de.parser.ParseError.TheVariants.{UnexpectedExtraData, UnexpectedEmptyInput};
 ghost use Rattle.rasn_schema.specs.Trees.{tree_of};
-ghost use Rattle.rasn_schema.specs.Shapes.{shape_of_type, type_by, alternatives_by, components_by, key_of, presence_in, AreLawful};
+ghost use Rattle.rasn_schema.specs.Shapes.{shape_of_type, type_by, alternatives_by, components_by, key_of, presence_in, IsReadable, AreReadable};
 ghost use Rattle.rasn_dynamic.specs.Inside.{ReadsSequence, DecodesTree, DecodesComponent};
 ghost use Rattle.rasn_dynamic.specs.Making.{Making, Counting, IsLength, trees_of, these};
 ghost use Rattle.rasn_dynamic.specs.Typed.{element_count, IsSized, HoldsOthers, HoldsElements, CountsElements, DecodesContents, DecodesType};
@@ -28,7 +28,9 @@ ghost use Rattle.rasn_de.specs.Constructed.{list_header};
 use crate::components::{default_present, is_always_there, leaves_all_out, missing};
 use crate::made::Made;
 use crate::order::{is_less, octets_before, out_of_order};
-use crate::read_leaf::{decode_any_value, decode_number, leaf_value, out_of_memory, push};
+use crate::read_leaf::{
+    decode_any_value, decode_number, decode_unknown_values, leaf_value, out_of_memory, push,
+};
 use crate::set::{all_absent, component_for, gather, no_components, put};
 use crate::span::{Spans, finish, go_inside, go_outside, note};
 use crate::trace::{Fault, add_after, mark, octets_after, octets_left, step};
@@ -149,7 +151,7 @@ pub fn decode_at<'input, M: Made>(
     levels: usize,
     id: TypeId,
 ) -> Result<Value<'input>, DecodeError>
-    requires lawful { IsLawful (shape_of_type types.now levels id.0) }
+    requires lawful { IsReadable (shape_of_type types.now levels id.0) }
     requires clear { trace.old ≡ None }
     ensures reads { Making M.KEEP tree_of (DecodesTree (shape_of_type types.now levels id.0)) decoder.old result decoder.new }
     ensures nothing { IfErr result (λ e. None ≡ slice_get types.now id.0 → IsErrorOf UnexpectedEmptyInput decoder.old e × (decoder.new ≡ decoder.old)) }
@@ -180,7 +182,7 @@ pub fn decode_part<'input, M: Made>(
     id: TypeId,
     index: usize,
 ) -> Result<Value<'input>, DecodeError>
-    requires lawful { IsLawful (shape_of_type types.now levels id.0) }
+    requires lawful { IsReadable (shape_of_type types.now levels id.0) }
     requires clear { trace.old ≡ None }
     ensures reads { Making M.KEEP tree_of (DecodesTree (shape_of_type types.now levels id.0)) decoder.old result decoder.new }
     ensures fits { M.KEEP ≡ true → IfOk result (λ v. Fits types.now levels id.0 v) }
@@ -213,7 +215,7 @@ fn decode_compared<'input, M: Made>(
     id: TypeId,
     index: usize,
 ) -> Result<Value<'input>, DecodeError>
-    requires lawful { IsLawful (shape_of_type types.now levels id.0) }
+    requires lawful { IsReadable (shape_of_type types.now levels id.0) }
     requires clear { trace.old ≡ None }
     ensures reads { Making true tree_of (DecodesTree (shape_of_type types.now levels id.0)) decoder.old result decoder.new }
     ensures fits { IfOk result (λ v. Fits types.now levels id.0 v) }
@@ -237,7 +239,7 @@ fn decode_found<'input, M: Made>(
     levels: usize,
     id: TypeId,
 ) -> Result<Value<'input>, DecodeError>
-    requires lawful { IsLawful (shape_of_type types.now levels id.0) }
+    requires lawful { IsReadable (shape_of_type types.now levels id.0) }
     requires clear { trace.old ≡ None }
     ensures reads { Making M.KEEP tree_of (DecodesTree (shape_of_type types.now levels id.0)) decoder.old result decoder.new }
     ensures nothing { IfErr result (λ e. None ≡ slice_get types.now id.0 → IsErrorOf UnexpectedEmptyInput decoder.old e × (decoder.new ≡ decoder.old)) }
@@ -267,7 +269,7 @@ fn decode_type<'input, M: Made>(
     below: usize,
     ty: &Type,
 ) -> Result<Value<'input>, DecodeError>
-    requires lawful { IsLawful (type_by (shape_of_type types.now below) ty.now) }
+    requires lawful { IsReadable (type_by (shape_of_type types.now below) ty.now) }
     requires clear { trace.old ≡ None }
     ensures exact { Making M.KEEP tree_of (DecodesType (shape_of_type types.now below) ty.now) decoder.old result decoder.new }
     ensures reads { Making M.KEEP tree_of (DecodesTree (type_by (shape_of_type types.now below) ty.now)) decoder.old result decoder.new }
@@ -286,6 +288,7 @@ fn decode_type<'input, M: Made>(
         } => leaf_value::<M>(decoder, *kind, *tag, constraints),
         Type::Enumerated { tag, numbers } => decode_number(decoder, *tag, numbers),
         Type::Any { tag } => decode_any_value(decoder, *tag),
+        Type::Unknown => decode_unknown_values::<M>(decoder),
         Type::Choice { name, alternatives } => {
             decode_choice::<M>(
                 decoder,
@@ -360,7 +363,7 @@ fn decode_choice<'input, M: Made>(
     name: &str,
     alternatives: &[Alternative],
 ) -> Result<Value<'input>, DecodeError>
-    requires lawful { IsLawful (choice (alternatives_by (shape_of_type types.now below) alternatives.now)) }
+    requires lawful { IsReadable (choice (alternatives_by (shape_of_type types.now below) alternatives.now)) }
     requires clear { trace.old ≡ None }
     ensures reads { Making M.KEEP tree_of (DecodesTree (choice (alternatives_by (shape_of_type types.now below) alternatives.now))) decoder.old result decoder.new }
     ensures fits { M.KEEP ≡ true → IfOk result (λ v. IsChosen (AlternativeFits (Fits types.now below) alternatives.now) v) }
@@ -394,7 +397,7 @@ fn decode_list<'input, M: Made>(
     tag: Tag,
     constraints: &Constraints,
 ) -> Result<Value<'input>, DecodeError>
-    requires lawful { IsLawful (type_by (shape_of_type types.now below) ty.now) }
+    requires lawful { IsReadable (type_by (shape_of_type types.now below) ty.now) }
     requires elements { HoldsElements ty.now }
     requires clear { trace.old ≡ None }
     ensures exact { Making M.KEEP tree_of (DecodesSized (DecodesContents (shape_of_type types.now below) ty.now) element_count tag constraints.now) decoder.old result decoder.new }
@@ -432,7 +435,7 @@ fn decode_inside<'input, M: Made>(
     header: ConstructedHeader,
     count: &mut usize,
 ) -> Result<Value<'input>, DecodeError>
-    requires lawful { IsLawful (type_by (shape_of_type types.now below) ty.now) }
+    requires lawful { IsReadable (type_by (shape_of_type types.now below) ty.now) }
     requires holds { HoldsOthers ty.now }
     requires counts { count.old ≡ 0 }
     requires clear { trace.old ≡ None }
@@ -471,7 +474,7 @@ fn decode_contents<'input, M: Made>(
     ty: &Type,
     count: &mut usize,
 ) -> Result<Value<'input>, DecodeError>
-    requires lawful { IsLawful (type_by (shape_of_type types.now below) ty.now) }
+    requires lawful { IsReadable (type_by (shape_of_type types.now below) ty.now) }
     requires holds { HoldsOthers ty.now }
     requires counts { count.old ≡ 0 }
     requires clear { trace.old ≡ None }
@@ -535,7 +538,7 @@ fn decode_elements<'input, M: Made>(
     element: TypeId,
     count: &mut usize,
 ) -> Result<Vec<Value<'input>>, DecodeError>
-    requires lawful { IsLawful (shape_of_type types.now below element.0) }
+    requires lawful { IsReadable (shape_of_type types.now below element.0) }
     requires counts { count.old ≡ 0 }
     requires clear { trace.old ≡ None }
     ensures reads { Counting M.KEEP trees_of IsLength (DecodesElements (DecodesTree (shape_of_type types.now below element.0)) these) decoder.old result decoder.new count.new }
@@ -568,7 +571,7 @@ fn decode_elements_in_order<'input, M: Made>(
     element: TypeId,
     count: &mut usize,
 ) -> Result<Vec<Value<'input>>, DecodeError>
-    requires lawful { IsLawful (shape_of_type types.now below element.0) }
+    requires lawful { IsReadable (shape_of_type types.now below element.0) }
     requires counts { count.old ≡ 0 }
     requires clear { trace.old ≡ None }
     ensures reads { Counting M.KEEP trees_of IsLength (DecodesElementsInOrder (DecodesTree (shape_of_type types.now below element.0)) these) decoder.old result decoder.new count.new }
@@ -606,7 +609,7 @@ fn decode_sequence<'input, M: Made>(
     below: usize,
     components: &[Component],
 ) -> Result<Vec<Value<'input>>, DecodeError>
-    requires lawful { AreLawful (components_by (shape_of_type types.now below) components.now) }
+    requires lawful { AreReadable (components_by (shape_of_type types.now below) components.now) }
     requires clear { trace.old ≡ None }
     ensures reads { Making M.KEEP trees_of (DecodesBy (ReadsSequence (components_by (shape_of_type types.now below) components.now)) items) decoder.old result decoder.new }
     ensures fails { IfErr result (λ e. FailsAtPart (components_by (shape_of_type types.now below) components.now) decoder.old e decoder.new ⊎ IsOutOfMemory e.kind) }
@@ -639,7 +642,7 @@ pub(crate) fn is_next(
     levels: usize,
     id: TypeId,
 ) -> Result<bool, DecodeError>
-    requires { IsLawful (shape_of_type types.now levels id.0) }
+    requires { IsReadable (shape_of_type types.now levels id.0) }
     ensures { NextIs (sought_by (key_of (shape_of_type types.now levels id.0)) (shape_of_type types.now levels id.0)) decoder.now result }
 {
     if !is_choice_at(types, levels, id) {
@@ -663,7 +666,7 @@ pub fn decode_component<'input, M: Made>(
     component: &Component,
     index: usize,
 ) -> Result<Value<'input>, DecodeError>
-    requires lawful { IsLawful (shape_of_type types.now below component.now.type_id.0) }
+    requires lawful { IsReadable (shape_of_type types.now below component.now.type_id.0) }
     requires clear { trace.old ≡ None }
     ensures reads { Making M.KEEP tree_of (DecodesComponent (presence_in (shape_of_type types.now below) component.now) (shape_of_type types.now below component.now.type_id.0)) decoder.old result decoder.new }
     ensures fails { IfErr result (λ e. FailsAtOnePart (presence_in (shape_of_type types.now below) component.now) (shape_of_type types.now below component.now.type_id.0) decoder.old e decoder.new) }
@@ -695,7 +698,7 @@ pub fn decode_present<'input, M: Made>(
     component: &Component,
     index: usize,
 ) -> Result<Value<'input>, DecodeError>
-    requires lawful { IsLawful (shape_of_type types.now below component.now.type_id.0) }
+    requires lawful { IsReadable (shape_of_type types.now below component.now.type_id.0) }
     requires clear { trace.old ≡ None }
     ensures reads { Making M.KEEP tree_of (DecodesPresent (presence_in (shape_of_type types.now below) component.now) (shape_of_type types.now below component.now.type_id.0)) decoder.old result decoder.new }
     ensures fits { M.KEEP ≡ true → IfOk result (λ v. Fits types.now below component.now.type_id.0 v) }

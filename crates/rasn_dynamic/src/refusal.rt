@@ -1,9 +1,9 @@
 //! Why an input is refused, and where.
-ghost use Rattle.std.specs.Prelude.{◌≡◌, true, option_copied, MatchOption};
+ghost use Rattle.std.specs.Prelude.{◌≡◌, true, option_copied, slice_get, MatchOption};
 ghost use Rattle.std.specs.Fmt.{WritesOnOk};
-ghost use Rattle.rasn_dynamic.specs.Shown.{name_text, step_text, step_from, stays_first, end_text, way_text};
+ghost use Rattle.rasn_dynamic.specs.Shown.{name_text, step_text, part_text, step_from, stays_first, end_text, way_text};
 
-use rasn_schema::{Schema, Type, TypeId, part_name, part_type, type_at};
+use rasn_schema::{Schema, Type, TypeId, is_unknown_at, part_name, part_type, type_at};
 use rasn_types::error::DecodeError;
 use std::error::Error;
 use std::fmt;
@@ -124,6 +124,23 @@ fn write_step<W: fmt::Write>(
     }
 }
 
+/// Writes the same, or the index of unknown values in brackets.
+fn write_part<W: fmt::Write>(
+    f: &mut fmt::Formatter<W>,
+    types: &[Type],
+    ty: &Type,
+    index: usize,
+    next: TypeId,
+    is_first: bool,
+) -> fmt::Result
+    ensures { WritesOnOk W.write_str_gives f.old result (part_text is_first ty.now index (slice_get types.now next.0)) f.new }
+{
+    if is_unknown_at(types, next) {
+        return write!(f, "[{index}]");
+    }
+    write_step(f, ty, index, is_first)
+}
+
 /// Returns whether no name was written up to the part of a value of this type.
 fn stays_first(is_first: bool, ty: &Type) -> bool
     ensures { result ≡ stays_first is_first ty.now }
@@ -156,7 +173,7 @@ fn write_steps<W: fmt::Write>(
         let Some((ty, next)) = step_from(types, id, *step) else {
             return write_end(f, is_first);
         };
-        write_step(f, ty, *step, is_first)?;
+        write_part(f, types, ty, *step, next, is_first)?;
         is_first = stays_first(is_first, ty);
         id = next;
     }

@@ -115,6 +115,7 @@ fn first_unfit_part<'value, 'input>(
         Type::Leaf { .. } => None,
         Type::Enumerated { .. } => None,
         Type::Any { .. } => None,
+        Type::Unknown => None,
         Type::Tagged { .. } => None,
     }
 }

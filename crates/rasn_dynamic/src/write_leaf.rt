@@ -1,17 +1,18 @@
 //! Writes values that hold no other values.
-ghost use Rattle.std.specs.Prelude.{◌≡◌, OnErr, IfErr};
-ghost use Rattle.rasn_types.specs.Shapes.{bits, leaf, any, looked_for, enumerated};
+ghost use Rattle.std.specs.Prelude.{◌≡◌, OnErr, IfOk, IfErr, MatchOption, map};
+ghost use Rattle.rasn_types.specs.Shapes.{bits, numbers, leaf, any, unknown, looked_for, enumerated};
 ghost use Rattle.rasn_types.specs.Trees.{unconstrained};
 ghost use Rattle.rasn_schema.specs.Trees.{tree_of};
 ghost use Rattle.rasn_schema.specs.Shapes.{kind_of, numbers_of};
-ghost use Rattle.rasn_schema.specs.Fitting.{BitsFit, FitsLeaf, IsNumber, AreOctets};
+ghost use Rattle.rasn_schema.specs.Fitting.{BitsFit, FitsLeaf, IsNumber, AreOctets, AreItems, EachFits};
 ghost use Rattle.rasn_dynamic.specs.Written.{Encodes, EncodesIf};
 
 use rasn_enc::ber::enc::Encoder;
 use rasn_enc::enc::Encode;
-use rasn_schema::{LeafKind, NamedNumber, Value, is_listed, leaf_fits};
+use rasn_schema::{LeafKind, NamedNumber, Value, is_listed, items_of, leaf_fits};
 use rasn_types::error::{EncodeError, EncodeErrorKind};
-use rasn_types::types::{BitStr, Constraints, Identifier, Integer, Tag};
+use rasn_types::types::{Any, BitStr, Constraints, Identifier, Integer, Tag, Unknown};
+use std::alloc::{AllocError, Global};
 
 /// Returns an error for a value of another form than its type's. No public call returns it: `encode` asks `fits` after an error, and
 /// returns `Unfit` then.
@@ -125,4 +126,47 @@ pub fn encode_open_value(
         return Err(other_form(encoder));
     };
     encoder.encode_open(tag, held.as_slice())
+}
+
+/// Copies the octets of a value of an open type.
+fn copy_octets(alloc: Global, value: &Value<'_>) -> Result<Option<Any>, AllocError>
+    ensures { IfOk result (λ found. MatchOption found (AreOctets value.now → ⊥) (λ a. AreOctets value.now × (numbers a ≡ tree_of value.now))) }
+{
+    let Value::Octets(held) = value else {
+        return Ok(None);
+    };
+    Ok(Some(Any::new(Vec::from_slice(alloc, held.as_slice())?)))
+}
+
+/// Copies the octets of unknown values.
+fn copy_unknown(alloc: Global, values: &[Value<'_>]) -> Result<Option<Unknown>, AllocError>
+    ensures { IfOk result (λ found. MatchOption found (EachFits AreOctets values.now → ⊥) (λ u. EachFits AreOctets values.now × (map numbers u.values.items ≡ map tree_of values.now))) }
+{
+    let mut copies = Vec::new(alloc);
+    let mut rest = values;
+    while let [value, after @ ..] = rest {
+        let Some(copy) = copy_octets(alloc, value)? else {
+            return Ok(None);
+        };
+        copies.push(copy)?;
+        rest = after;
+    }
+    Ok(Some(Unknown { values: copies }))
+}
+
+/// Writes the octets of unknown values, one value after the other (X.680 25).
+pub fn encode_unknown_values(encoder: &mut Encoder, value: &Value<'_>) -> Result<(), EncodeError>
+    ensures { EncodesIf (AreItems (EachFits AreOctets) value.now) unknown (tree_of value.now) encoder.old result encoder.new }
+{
+    let Some(values) = items_of(value) else {
+        return Err(other_form(encoder));
+    };
+    match copy_unknown(encoder.alloc(), values) {
+        Ok(Some(values)) => encoder.encode_unknown(&values),
+        Ok(None) => Err(other_form(encoder)),
+        Err(_) => Err(EncodeError {
+            kind: EncodeErrorKind::OutOfMemory,
+            codec: encoder.codec(),
+        }),
+    }
 }

@@ -9,7 +9,9 @@ ghost use Rattle.rasn_schema.specs.Shapes.{shape_of_type, type_by, alternatives_
 ghost use Rattle.rasn_schema.specs.Fitting.{AlternativeFits, IsChosen, ComponentFits, ComponentsFit, EachFits, FitsBy, Fits};
 ghost use Rattle.rasn_dynamic.specs.Written.{EncodesIf, EncodesPartIf, EncodesInsideIf, EncodesPartsIf, EncodesElementsIf, EncodesSetOfIf, IsEnclosed, HoldsOthers, keeps_tags};
 
-use crate::write_leaf::{encode_leaf, encode_number, encode_open_value, other_form};
+use crate::write_leaf::{
+    encode_leaf, encode_number, encode_open_value, encode_unknown_values, other_form,
+};
 use rasn_enc::ber::enc::Encoder;
 use rasn_schema::{
     Alternative, Component, Type, TypeId, Value, elements_of, is_left_out, items_of, type_at,
@@ -69,6 +71,7 @@ fn encode_type(
         } => encode_leaf(encoder, *kind, *tag, constraints, value),
         Type::Enumerated { tag, numbers } => encode_number(encoder, *tag, numbers, value),
         Type::Any { tag } => encode_open_value(encoder, *tag, value),
+        Type::Unknown => encode_unknown_values(encoder, value),
         Type::Choice { alternatives, .. } => encode_choice(
             encoder,
             types,

@@ -23,6 +23,13 @@ pub const TYPES: &[Definition] = &[
     Definition::SequenceOf(Tag::SEQUENCE, 2, Constraints::NONE),
     Definition::Tagged(CONTEXT_0, 3),
     Definition::Choice("Any", &[("flag", 0), ("list", 3), ("tagged", 4)]),
+    Definition::Unknown,
+    Definition::Sequence(Tag::SEQUENCE, EXTENSIBLE),
+];
+
+const EXTENSIBLE: &[Part] = &[
+    ("flag", Occurrence::Required, 0),
+    ("...", Occurrence::Required, 6),
 ];
 
 /// Where octets are refused: the offset, the type of what is there, the steps to it, and how the
@@ -82,6 +89,11 @@ fn innermost_value_is_named(rt: HostRuntime) {
             (2, 3, &[2, 0], "tagged, byte 2: BER: "),
         ),
         (2, &[0x31, 0], (0, 2, &[], "byte 0: BER: ")),
+        (
+            7,
+            &[0x30, 7, 1, 1, 0xFF, 5, 0, 5, 1],
+            (5, 6, &[1], "[1], byte 5: BER: "),
+        ),
     ];
     for (id, octets, place) in ROWS {
         let refused = is_refused_at(rt.alloc(), TypeId(*id), octets, place);

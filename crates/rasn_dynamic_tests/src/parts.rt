@@ -46,6 +46,9 @@ const OPEN_LIST: &[u8] = &[
     0x30, 0x80, 0x30, 0x80, 1, 1, 0xFF, 2, 1, 9, 0, 0, 0x30, 6, 1, 1, 0, 2, 1, 1, 0, 0,
 ];
 
+/// Two values that the type doesn't name, after the one that it does.
+const EXTENDED: &[u8] = &[0x30, 8, 1, 1, 0xFF, 5, 0, 2, 1, 5];
+
 // X.690 8.1.2, 8.1.3, 8.9, 8.10, 8.13: offsets are counted in the octets by hand.
 #[test]
 fn parts_are_found(rt: HostRuntime) {
@@ -66,6 +69,8 @@ fn parts_are_found(rt: HostRuntime) {
             &[2, 0],
             Some(((2, 3, 2, 2), false)),
         ),
+        (7, EXTENDED, &[1], Some(((5, 6, 2, 5), false))),
+        (7, &[0x30, 3, 1, 1, 0xFF], &[1], Some(((5, 6, 0, 0), false))),
     ];
     for row in ROWS {
         assert!(rt; finds(rt.alloc(), row) == Some(true));
@@ -115,6 +120,7 @@ fn parts_are_gone_over(rt: HostRuntime) {
     assert!(rt; parts_found(rt.alloc(), 3, OPEN_LIST) == Some(7));
     assert!(rt; parts_found(rt.alloc(), 5, &[1, 1, 0]) == Some(2));
     assert!(rt; parts_found(rt.alloc(), 5, &[0xA0, 2, 0x30, 0]) == Some(3));
+    assert!(rt; parts_found(rt.alloc(), 7, EXTENDED) == Some(3));
     assert!(rt; parts_found(rt.alloc(), 5, &[0x30, 8, 0x30, 6, 1, 1, 0, 2, 1, 1]) == Some(5));
 }
 

@@ -56,20 +56,20 @@ other_octets _ o j n m h = h
 -- ---- the members of an object
 
 -- Some components are written, and the rest is left.
-abbrev pub ObjectSoFar : (ℕ → Value → Json → Type 0) → List Component → List Component → List Value → List Value → List Token → List Token → Type 0
-ObjectSoFar g all rest vs left old new = (done : List Token) × (new ≡ old ++ begin_object ∷ done)
-    × ((ms : Members) → MembersJson g rest left ms → (ns : Members) × MembersJson g all vs ns × (members_tokens ns ≡ done ++ members_tokens ms))
+abbrev pub ObjectSoFar : (ℕ → Bool) → (ℕ → Value → Json → Type 0) → List Component → List Component → List Value → List Value → List Token → List Token → Type 0
+ObjectSoFar u g all rest vs left old new = (done : List Token) × (new ≡ old ++ begin_object ∷ done)
+    × ((ms : Members) → MembersJson u g rest left ms → (ns : Members) × MembersJson u g all vs ns × (members_tokens ns ≡ done ++ members_tokens ms))
 
-module _ (g : ℕ → Value → Json → Type 0) where
-  pub object_start : (all : List Component) (vs : List Value) (old new : List Token) → new ≡ old ++ begin_object ∷ [] → ObjectSoFar g all all vs vs old new
+module _ (u : ℕ → Bool) (g : ℕ → Value → Json → Type 0) where
+  pub object_start : (all : List Component) (vs : List Value) (old new : List Token) → new ≡ old ++ begin_object ∷ [] → ObjectSoFar u g all all vs vs old new
   object_start all vs old new e = ([], e, λ ms h. (ms, h, refl))
 
   module _ (all rest after : List Component) (vs left others : List Value) (p : Component) (v : Value) (old here new : List Token)
-      (k : ObjectSoFar g all rest vs left old here) (e : rest ≡ p ∷ after) (f : left ≡ v ∷ others) where
-    joined : (ms : Members) → MembersJson g (p ∷ after) (v ∷ others) ms → MembersJson g rest left ms
-    joined ms h = subst (λ l. MembersJson g l left ms) (sym e) (subst (λ l. MembersJson g (p ∷ after) l ms) (sym f) h)
+      (k : ObjectSoFar u g all rest vs left old here) (e : rest ≡ p ∷ after) (f : left ≡ v ∷ others) where
+    joined : (ms : Members) → MembersJson u g (p ∷ after) (v ∷ others) ms → MembersJson u g rest left ms
+    joined ms h = subst (λ l. MembersJson u g l left ms) (sym e) (subst (λ l. MembersJson u g (p ∷ after) l ms) (sym f) h)
 
-    pub object_more : AppendsComponent g p v here new → ObjectSoFar g all after vs others old new
+    pub object_more : AppendsComponent u g p v here new → ObjectSoFar u g all after vs others old new
     object_more (inl (o, s)) = (k.0, s ∙ k.1, λ ms h. k.2 ms (joined ms (inl (o, h))))
     object_more (inr (n, (j, s, h))) = (
       k.0 ++ key (string_bytes p.name) ∷ json_tokens j,
@@ -78,10 +78,10 @@ module _ (g : ℕ → Value → Json → Type 0) where
           (x.0, x.1, x.2 ∙ sym (append_assoc k.0 (key (string_bytes p.name) ∷ json_tokens j) (members_tokens ms))),
     )
 
-  pub object_end : (all rest : List Component) (vs left : List Value) (old here new : List Token) → ObjectSoFar g all rest vs left old here → rest ≡ [] → left ≡ [] → new ≡ here ++ end_object ∷ []
-      → Appends (λ j. ObjectJson g all j vs) old new
+  pub object_end : (all rest : List Component) (vs left : List Value) (old here new : List Token) → ObjectSoFar u g all rest vs left old here → rest ≡ [] → left ≡ [] → new ≡ here ++ end_object ∷ []
+      → Appends (λ j. ObjectJson u g all j vs) old new
   object_end all rest vs left old here new k e f n =
-      let x = k.2 no_members (subst (λ l. MembersJson g l left no_members) (sym e) (subst (λ l. MembersJson g [] l no_members) (sym f) refl)) in
+      let x = k.2 no_members (subst (λ l. MembersJson u g l left no_members) (sym e) (subst (λ l. MembersJson u g [] l no_members) (sym f) refl)) in
       (object x.0, n ∙ (ap (λ l. l ++ end_object ∷ []) k.1 ∙ (append_assoc old (begin_object ∷ k.0) (end_object ∷ []) ∙ ap (λ l. old ++ begin_object ∷ l) (sym x.2))), (x.0, refl, x.1))
 
 -- ---- the items of an array

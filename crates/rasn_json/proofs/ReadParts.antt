@@ -1,5 +1,5 @@
 -- What is read of members and items, one after the other.
-use Rattle.std.proofs.Common.{◌≡◌, ◌≢◌, ◌<◌, ◌≤◌, ℕ, zero, suc, length, get_or, List, [], ◌∷◌, ◌++◌, Some, None, Option, Result, Ok, Err, Vec, Global, refl, sym, ap, ◌∙◌, subst, append_assoc, arith}
+use Rattle.std.proofs.Common.{◌≡◌, ◌≢◌, ◌<◌, ◌≤◌, ℕ, Bool, true, false, zero, suc, length, get_or, List, [], ◌∷◌, ◌++◌, Some, None, Option, Result, Ok, Err, Vec, Global, refl, sym, ap, ◌∙◌, subst, append_assoc, arith}
 use Rattle.std.specs.Prelude.{slice_get, IfOk}
 use Rattle.std.specs.String.{string_bytes}
 use Rattle.std.proofs.lemmas.List.{append-nil}
@@ -12,30 +12,48 @@ use Rattle.std.proofs.lemmas.Option.{slice_get_within}
 use Rattle.rasn_schema.specs.declared.types.Alternative.{Alternative}
 use Rattle.rasn_schema.specs.declared.types.Component.{Component}
 use Rattle.rasn_schema.specs.declared.types.«Type».{«Type»}
+use Rattle.rasn_schema.specs.declared.types.«Type».TheVariants.{Leaf, Enumerated, Any, Tagged, Choice, Sequence, Set, SequenceOf, SetOf, Unknown}
+use Rattle.rasn_schema.specs.Held.{is_unknown_found}
 use Rattle.rasn_schema.specs.declared.value.Value.{Value}
 use Rattle.rasn_schema.proofs.Lists.{read_at, some_is}
+use Rattle.rasn_json.specs.Json.{unknown_in}
 use Rattle.rasn_json.specs.Reading.{ChosenRead, ReadAt, ReadBy, ReadFound, ComponentRead, ComponentsRead, ItemsRead}
 
-pub read_below : (types : List «Type») (levels below k : ℕ) (ty : «Type») (j : Json) (v : Value) → levels ≡ suc below → Some ty ≡ slice_get types k → ReadBy (ReadAt types below) ty j v → ReadAt types levels k j v
+pub read_below : (types : List «Type») (levels below k : ℕ) (ty : «Type») (j : Json) (v : Value) → levels ≡ suc below → Some ty ≡ slice_get types k → ReadBy (unknown_in types) (ReadAt types below) ty j v → ReadAt types levels k j v
 unfolding ReadAt
 read_below types zero below k ty j v n e h = absurd (omega (arith, n))
 read_below types (suc m) below k ty j v n e h =
     let s : m ≡ below = omega (arith, n) in
-    subst (λ o. ReadFound (λ i x w. ReadAt types m i x w) o j v) e (subst (λ b. ReadBy (λ i x w. ReadAt types b i x w) ty j v) (sym s) h)
+    subst (λ o. ReadFound (unknown_in types) (λ i x w. ReadAt types m i x w) o j v) e (subst (λ b. ReadBy (unknown_in types) (λ i x w. ReadAt types b i x w) ty j v) (sym s) h)
+
+-- ---- unknown values
+
+pub unknown_found : (o : Option «Type») (b : Bool) → b ≡ true → b ≡ is_unknown_found o → Some Unknown ≡ o
+unknown_found None b t e = let x : false ≡ true = sym e ∙ t in cc
+unknown_found (Some Unknown) b t e = refl
+unknown_found (Some (Leaf kind tag c names)) b t e = let x : false ≡ true = sym e ∙ t in cc
+unknown_found (Some (Enumerated tag ns)) b t e = let x : false ≡ true = sym e ∙ t in cc
+unknown_found (Some (Any tag)) b t e = let x : false ≡ true = sym e ∙ t in cc
+unknown_found (Some (Tagged tag k)) b t e = let x : false ≡ true = sym e ∙ t in cc
+unknown_found (Some (Choice name ks)) b t e = let x : false ≡ true = sym e ∙ t in cc
+unknown_found (Some (Sequence tag ps)) b t e = let x : false ≡ true = sym e ∙ t in cc
+unknown_found (Some (Set name tag ps)) b t e = let x : false ≡ true = sym e ∙ t in cc
+unknown_found (Some (SequenceOf tag k c)) b t e = let x : false ≡ true = sym e ∙ t in cc
+unknown_found (Some (SetOf tag k c)) b t e = let x : false ≡ true = sym e ∙ t in cc
 
 -- ---- components
 
 -- Some components are read, and the rest is left.
-abbrev pub ReadSoFar : (ℕ → Json → Value → Type 0) → List Component → List Component → Json → List Value → Type 0
-ReadSoFar g all rest j vs = (us : List Value) → ComponentsRead g rest j us → ComponentsRead g all j (vs ++ us)
+abbrev pub ReadSoFar : (ℕ → Bool) → (ℕ → Json → Value → Type 0) → List Component → List Component → Json → List Value → Type 0
+ReadSoFar u g all rest j vs = (us : List Value) → ComponentsRead u g rest j us → ComponentsRead u g all j (vs ++ us)
 
-pub read_more : (g : ℕ → Json → Value → Type 0) (all rest after : List Component) (j : Json) (p : Component) (vs ws : List Value) (v : Value) → ReadSoFar g all rest j vs → rest ≡ p ∷ after → ws ≡ vs ++ v ∷ []
-    → ComponentRead g p (get (string_bytes p.name) j) v → ReadSoFar g all after j ws
-read_more g all rest after j p vs ws v k e f m us h =
-    subst (ComponentsRead g all j) (sym (ap (λ l. l ++ us) f ∙ append_assoc vs (v ∷ []) us)) (k (v ∷ us) (subst (λ l. ComponentsRead g l j (v ∷ us)) (sym e) (m, h)))
+pub read_more : (u : ℕ → Bool) (g : ℕ → Json → Value → Type 0) (all rest after : List Component) (j : Json) (p : Component) (vs ws : List Value) (v : Value) → ReadSoFar u g all rest j vs → rest ≡ p ∷ after → ws ≡ vs ++ v ∷ []
+    → ComponentRead u g p (get (string_bytes p.name) j) v → ReadSoFar u g all after j ws
+read_more u g all rest after j p vs ws v k e f m us h =
+    subst (ComponentsRead u g all j) (sym (ap (λ l. l ++ us) f ∙ append_assoc vs (v ∷ []) us)) (k (v ∷ us) (subst (λ l. ComponentsRead u g l j (v ∷ us)) (sym e) (m, h)))
 
-pub read_end : (g : ℕ → Json → Value → Type 0) (all rest : List Component) (j : Json) (vs : List Value) → ReadSoFar g all rest j vs → rest ≡ [] → ComponentsRead g all j vs
-read_end g all rest j vs k e = subst (ComponentsRead g all j) (append-nil vs) (k [] (subst (λ l. ComponentsRead g l j []) (sym e) tt))
+pub read_end : (u : ℕ → Bool) (g : ℕ → Json → Value → Type 0) (all rest : List Component) (j : Json) (vs : List Value) → ReadSoFar u g all rest j vs → rest ≡ [] → ComponentsRead u g all j vs
+read_end u g all rest j vs k e = subst (ComponentsRead u g all j) (append-nil vs) (k [] (subst (λ l. ComponentsRead u g l j []) (sym e) tt))
 
 -- ---- items
 

@@ -1,5 +1,5 @@
 -- The JSON of a value (X.697).
-use Rattle.std.specs.Prelude.{◌≡◌, ◌≢◌, ◌⊎◌, ◌++◌, ℕ, zero, suc, ℤ, List, [], ◌∷◌, Bool, Option, Some, None, slice_get, codes, decimal, length, encode_utf8_all, ◌==◌, if◌then◌else◌}
+use Rattle.std.specs.Prelude.{◌≡◌, ◌≢◌, ◌⊎◌, ◌++◌, ℕ, zero, suc, ℤ, List, [], ◌∷◌, Bool, true, Option, Some, None, slice_get, codes, decimal, length, encode_utf8_all, ◌==◌, if◌then◌else◌}
 use Rattle.std.specs.Cow.{cow_slice_items, cow_str_bytes}
 use Rattle.std.specs.String.{string_bytes}
 use Rattle.json.specs.Token.{Token, key}
@@ -20,13 +20,14 @@ use Rattle.rasn_schema.specs.declared.types.NamedNumber.{NamedNumber}
 use Rattle.rasn_schema.specs.declared.types.Alternative.{Alternative}
 use Rattle.rasn_schema.specs.declared.types.Component.{Component}
 use Rattle.rasn_schema.specs.declared.types.«Type».{«Type»}
-use Rattle.rasn_schema.specs.declared.types.«Type».TheVariants.{Leaf, Enumerated, Any, Tagged, Choice, Sequence, Set, SequenceOf, SetOf}
+use Rattle.rasn_schema.specs.declared.types.«Type».TheVariants.{Leaf, Enumerated, Any, Tagged, Choice, Sequence, Set, SequenceOf, SetOf, Unknown}
 use Rattle.rasn_schema.specs.declared.value.Value.{Value, Boolean, Null, Integer as Number, Bits, Octets, Text, Units, Arcs, Instant, Day, Absent, Items', Elements', Chosen'}
 use Rattle.rasn_schema.specs.Trees.{tree_of}
 use Rattle.rasn_schema.specs.Shapes.{presence_of}
 use Rattle.rasn_json.specs.Decimal.{IsWhole}
 use Rattle.rasn_json.specs.Texts.{InstantText}
-use Rattle.rasn_schema.specs.Fitting.{AreItems, AreElements, IsChosen, IsLeftOutAs}
+use Rattle.rasn_schema.specs.Fitting.{AreItems, AreElements, IsListOf, IsChosen, IsLeftOutAs}
+use Rattle.rasn_schema.specs.Held.{is_unknown_found}
 
 -- ---- numbers
 
@@ -108,52 +109,60 @@ LeafJson kind names (Instant t) j = InstantJson kind t.moment j
 LeafJson kind names (Day d) j = j ≡ string (shown_day d)
 LeafJson kind names _ j = ⊥
 
--- ---- values that hold others. Of a type with a number, g tells which JSON a value has.
+-- ---- values that hold others. Of a type with a number, g tells which JSON a value has, and u whether it is that of unknown values.
+
+abbrev pub unknown_in : List «Type» → ℕ → Bool
+unknown_in types k = is_unknown_found (slice_get types k)
 
 -- The one member is the alternative.
 abbrev pub ChosenJson : (ℕ → Value → Json → Type 0) → List Alternative → Json → ℕ → Value → Type 0
 ChosenJson g ks j i w = (a : Alternative) × (x : Json) × (Some a ≡ slice_get ks i) × (j ≡ object (member (string_bytes a.name) x no_members)) × g a.type_id.0 w x
 
-abbrev pub IsLeftOut : Component → Value → Type 0
-IsLeftOut p v = IsLeftOutAs (presence_of p.presence) (tree_of v)
+-- There are no unknown values.
+abbrev pub IsNothing : (ℕ → Bool) → Component → Value → Type 0
+IsNothing u p v = (u p.type_id.0 ≡ true) × IsListOf [] v
+
+abbrev pub IsLeftOut : (ℕ → Bool) → Component → Value → Type 0
+IsLeftOut u p v = IsLeftOutAs (presence_of p.presence) (tree_of v) ⊎ IsNothing u p v
 
 -- A member for each component, in order, except for those that are left out.
-abbrev pub MembersJson : (ℕ → Value → Json → Type 0) → List Component → List Value → Members → Type 0
-MembersJson g [] [] ms = ms ≡ no_members
-MembersJson g [] (v ∷ vs) ms = ⊥
-MembersJson g (p ∷ ps) [] ms = ⊥
-MembersJson g (p ∷ ps) (v ∷ vs) ms = (IsLeftOut p v × MembersJson g ps vs ms)
-    ⊎ ((IsLeftOut p v → ⊥) × ((x : Json) × (rest : Members) × (ms ≡ member (string_bytes p.name) x rest) × g p.type_id.0 v x × MembersJson g ps vs rest))
+abbrev pub MembersJson : (ℕ → Bool) → (ℕ → Value → Json → Type 0) → List Component → List Value → Members → Type 0
+MembersJson u g [] [] ms = ms ≡ no_members
+MembersJson u g [] (v ∷ vs) ms = ⊥
+MembersJson u g (p ∷ ps) [] ms = ⊥
+MembersJson u g (p ∷ ps) (v ∷ vs) ms = (IsLeftOut u p v × MembersJson u g ps vs ms)
+    ⊎ ((IsLeftOut u p v → ⊥) × ((x : Json) × (rest : Members) × (ms ≡ member (string_bytes p.name) x rest) × g p.type_id.0 v x × MembersJson u g ps vs rest))
 
 abbrev pub ItemsJson : (Value → Json → Type 0) → List Value → Items → Type 0
 ItemsJson P [] js = js ≡ no_items
 ItemsJson P (v ∷ vs) js = (x : Json) × (rest : Items) × (js ≡ item x rest) × P v x × ItemsJson P vs rest
 
-abbrev pub ObjectJson : (ℕ → Value → Json → Type 0) → List Component → Json → List Value → Type 0
-ObjectJson g ps j vs = (ms : Members) × (j ≡ object ms) × MembersJson g ps vs ms
+abbrev pub ObjectJson : (ℕ → Bool) → (ℕ → Value → Json → Type 0) → List Component → Json → List Value → Type 0
+ObjectJson u g ps j vs = (ms : Members) × (j ≡ object ms) × MembersJson u g ps vs ms
 
 abbrev pub ArrayJson : (Value → Json → Type 0) → Json → List Value → Type 0
 ArrayJson P j vs = (js : Items) × (j ≡ array js) × ItemsJson P vs js
 
-abbrev pub JsonBy : (ℕ → Value → Json → Type 0) → «Type» → Value → Json → Type 0
-JsonBy g (Leaf kind tag c names) v j = LeafJson kind names.items v j
-JsonBy g (Enumerated tag ns) v j = EnumeratedJson ns.items v j
-JsonBy g (Any tag) v j = OpenJson v j
-JsonBy g (Tagged tag k) v j = g k.0 v j
-JsonBy g (Choice name ks) v j = IsChosen (ChosenJson g ks.items j) v
-JsonBy g (Sequence tag ps) v j = AreItems (ObjectJson g ps.items j) v
-JsonBy g (Set name tag ps) v j = AreItems (ObjectJson g ps.items j) v
-JsonBy g (SequenceOf tag k c) v j = AreItems (ArrayJson (g k.0) j) v
-JsonBy g (SetOf tag k c) v j = AreElements (ArrayJson (g k.0) j) v
+abbrev pub JsonBy : (ℕ → Bool) → (ℕ → Value → Json → Type 0) → «Type» → Value → Json → Type 0
+JsonBy u g (Leaf kind tag c names) v j = LeafJson kind names.items v j
+JsonBy u g (Enumerated tag ns) v j = EnumeratedJson ns.items v j
+JsonBy u g (Any tag) v j = OpenJson v j
+JsonBy u g (Tagged tag k) v j = g k.0 v j
+JsonBy u g (Choice name ks) v j = IsChosen (ChosenJson g ks.items j) v
+JsonBy u g (Sequence tag ps) v j = AreItems (ObjectJson u g ps.items j) v
+JsonBy u g (Set name tag ps) v j = AreItems (ObjectJson u g ps.items j) v
+JsonBy u g (SequenceOf tag k c) v j = AreItems (ArrayJson (g k.0) j) v
+JsonBy u g (SetOf tag k c) v j = AreElements (ArrayJson (g k.0) j) v
+JsonBy u g Unknown v j = AreItems (ArrayJson OpenJson j) v
 
-abbrev pub JsonFound : (ℕ → Value → Json → Type 0) → Option «Type» → Value → Json → Type 0
-JsonFound g None v j = ⊥
-JsonFound g (Some ty) v j = JsonBy g ty v j
+abbrev pub JsonFound : (ℕ → Bool) → (ℕ → Value → Json → Type 0) → Option «Type» → Value → Json → Type 0
+JsonFound u g None v j = ⊥
+JsonFound u g (Some ty) v j = JsonBy u g ty v j
 
 -- The value of the type with this number has this JSON, types followed so many levels deep.
 unfoldable pub JsonAt : List «Type» → ℕ → ℕ → Value → Json → Type 0
 JsonAt types zero k v j = ⊥
-JsonAt types (suc levels) k v j = JsonFound (λ i w x. JsonAt types levels i w x) (slice_get types k) v j
+JsonAt types (suc levels) k v j = JsonFound (unknown_in types) (λ i w x. JsonAt types levels i w x) (slice_get types k) v j
 
 -- ---- what is written
 
@@ -165,5 +174,5 @@ Appends P old new = (j : Json) × (new ≡ old ++ json_tokens j) × P j
 abbrev pub AppendsMember : (Json → Type 0) → List ℕ → List Token → List Token → Type 0
 AppendsMember P name old new = (j : Json) × (new ≡ old ++ key name ∷ json_tokens j) × P j
 
-abbrev pub AppendsComponent : (ℕ → Value → Json → Type 0) → Component → Value → List Token → List Token → Type 0
-AppendsComponent g p v old new = (IsLeftOut p v × (new ≡ old)) ⊎ ((IsLeftOut p v → ⊥) × AppendsMember (g p.type_id.0 v) (string_bytes p.name) old new)
+abbrev pub AppendsComponent : (ℕ → Bool) → (ℕ → Value → Json → Type 0) → Component → Value → List Token → List Token → Type 0
+AppendsComponent u g p v old new = (IsLeftOut u p v × (new ≡ old)) ⊎ ((IsLeftOut u p v → ⊥) × AppendsMember (g p.type_id.0 v) (string_bytes p.name) old new)

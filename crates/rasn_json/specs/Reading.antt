@@ -19,14 +19,14 @@ use Rattle.rasn_schema.specs.declared.types.NamedNumber.{NamedNumber}
 use Rattle.rasn_schema.specs.declared.types.Alternative.{Alternative}
 use Rattle.rasn_schema.specs.declared.types.Component.{Component}
 use Rattle.rasn_schema.specs.declared.types.«Type».{«Type»}
-use Rattle.rasn_schema.specs.declared.types.«Type».TheVariants.{Leaf, Enumerated, Any, Tagged, Choice, Sequence, Set, SequenceOf, SetOf}
+use Rattle.rasn_schema.specs.declared.types.«Type».TheVariants.{Leaf, Enumerated, Any, Tagged, Choice, Sequence, Set, SequenceOf, SetOf, Unknown}
 use Rattle.rasn_schema.specs.declared.value.Value.{Value, Boolean, Null, Integer as Number, Bits, Octets, Text, Units, Arcs, Instant, Day, Absent, Items', Elements', Chosen'}
 use Rattle.rasn_schema.specs.Trees.{tree_of}
 use Rattle.rasn_schema.specs.Shapes.{presence_of}
 use Rattle.rasn_schema.specs.Fitting.{AreItems, AreElements, IsChosen}
 use Rattle.rasn_json.specs.Decimal.{IsWhole}
 use Rattle.rasn_json.specs.Texts.{InstantText, ArePacked}
-use Rattle.rasn_json.specs.Json.{IsExtensible, IsString, one_size}
+use Rattle.rasn_json.specs.Json.{IsExtensible, IsString, IsNothing, unknown_in, one_size}
 
 -- ---- numbers
 
@@ -97,32 +97,32 @@ LeafRead kind c names j (Instant t) = InstantRead kind j t.moment
 LeafRead kind c names j (Day d) = as_str j ≡ Some (shown_day d)
 LeafRead kind c names j _ = ⊥
 
--- ---- values that hold others. Of a type with a number, g tells which value JSON is read as.
+-- ---- values that hold others. Of a type with a number, g tells which value JSON is read as, and u whether it is that of unknown values.
 
 -- The one member names the alternative.
 abbrev pub ChosenRead : (ℕ → Json → Value → Type 0) → List Alternative → Json → ℕ → Value → Type 0
 ChosenRead g ks j i w = (a : Alternative) × (x : Json) × (Some a ≡ slice_get ks i) × (j ≡ object (member (string_bytes a.name) x no_members))
     × ((k : ℕ) (b : Alternative) → k < i → Some b ≡ slice_get ks k → string_bytes b.name ≢ string_bytes a.name) × g a.type_id.0 x w
 
--- What a component without a member means.
+-- What a component without a member means. Of unknown values there are none then.
 abbrev pub IsAbsentAs : Presence → Tree → Type 0
 IsAbsentAs required t = ⊥
 IsAbsentAs (optional_by key) t = t ≡ absent
 IsAbsentAs addition t = t ≡ absent
 IsAbsentAs (default_by key d) t = t ≡ d
 
-abbrev pub ComponentRead : (ℕ → Json → Value → Type 0) → Component → Option Json → Value → Type 0
-ComponentRead g p None v = IsAbsentAs (presence_of p.presence) (tree_of v)
-ComponentRead g p (Some x) v = g p.type_id.0 x v
+abbrev pub ComponentRead : (ℕ → Bool) → (ℕ → Json → Value → Type 0) → Component → Option Json → Value → Type 0
+ComponentRead u g p None v = IsAbsentAs (presence_of p.presence) (tree_of v) ⊎ IsNothing u p v
+ComponentRead u g p (Some x) v = g p.type_id.0 x v
 
-abbrev pub ComponentsRead : (ℕ → Json → Value → Type 0) → List Component → Json → List Value → Type 0
-ComponentsRead g [] j [] = Unit {0}
-ComponentsRead g [] j (v ∷ vs) = ⊥
-ComponentsRead g (p ∷ ps) j [] = ⊥
-ComponentsRead g (p ∷ ps) j (v ∷ vs) = ComponentRead g p (get (string_bytes p.name) j) v × ComponentsRead g ps j vs
+abbrev pub ComponentsRead : (ℕ → Bool) → (ℕ → Json → Value → Type 0) → List Component → Json → List Value → Type 0
+ComponentsRead u g [] j [] = Unit {0}
+ComponentsRead u g [] j (v ∷ vs) = ⊥
+ComponentsRead u g (p ∷ ps) j [] = ⊥
+ComponentsRead u g (p ∷ ps) j (v ∷ vs) = ComponentRead u g p (get (string_bytes p.name) j) v × ComponentsRead u g ps j vs
 
-abbrev pub ObjectRead : (ℕ → Json → Value → Type 0) → List Component → Json → List Value → Type 0
-ObjectRead g ps j vs = (ms : Members) × (j ≡ object ms) × ComponentsRead g ps j vs
+abbrev pub ObjectRead : (ℕ → Bool) → (ℕ → Json → Value → Type 0) → List Component → Json → List Value → Type 0
+ObjectRead u g ps j vs = (ms : Members) × (j ≡ object ms) × ComponentsRead u g ps j vs
 
 abbrev pub ItemsRead : (Json → Value → Type 0) → Items → List Value → Type 0
 ItemsRead P no_items [] = Unit {0}
@@ -133,22 +133,23 @@ ItemsRead P (item x js) (v ∷ vs) = P x v × ItemsRead P js vs
 abbrev pub ArrayRead : (Json → Value → Type 0) → Json → List Value → Type 0
 ArrayRead P j vs = (js : Items) × (j ≡ array js) × ItemsRead P js vs
 
-abbrev pub ReadBy : (ℕ → Json → Value → Type 0) → «Type» → Json → Value → Type 0
-ReadBy g (Leaf kind tag c names) j v = LeafRead kind c names.items j v
-ReadBy g (Enumerated tag ns) j v = EnumeratedRead ns.items j v
-ReadBy g (Any tag) j v = OpenRead j v
-ReadBy g (Tagged tag k) j v = g k.0 j v
-ReadBy g (Choice name ks) j v = IsChosen (ChosenRead g ks.items j) v
-ReadBy g (Sequence tag ps) j v = AreItems (ObjectRead g ps.items j) v
-ReadBy g (Set name tag ps) j v = AreItems (ObjectRead g ps.items j) v
-ReadBy g (SequenceOf tag k c) j v = AreItems (ArrayRead (g k.0) j) v
-ReadBy g (SetOf tag k c) j v = AreElements (ArrayRead (g k.0) j) v
+abbrev pub ReadBy : (ℕ → Bool) → (ℕ → Json → Value → Type 0) → «Type» → Json → Value → Type 0
+ReadBy u g (Leaf kind tag c names) j v = LeafRead kind c names.items j v
+ReadBy u g (Enumerated tag ns) j v = EnumeratedRead ns.items j v
+ReadBy u g (Any tag) j v = OpenRead j v
+ReadBy u g (Tagged tag k) j v = g k.0 j v
+ReadBy u g (Choice name ks) j v = IsChosen (ChosenRead g ks.items j) v
+ReadBy u g (Sequence tag ps) j v = AreItems (ObjectRead u g ps.items j) v
+ReadBy u g (Set name tag ps) j v = AreItems (ObjectRead u g ps.items j) v
+ReadBy u g (SequenceOf tag k c) j v = AreItems (ArrayRead (g k.0) j) v
+ReadBy u g (SetOf tag k c) j v = AreElements (ArrayRead (g k.0) j) v
+ReadBy u g Unknown j v = AreItems (ArrayRead OpenRead j) v
 
-abbrev pub ReadFound : (ℕ → Json → Value → Type 0) → Option «Type» → Json → Value → Type 0
-ReadFound g None j v = ⊥
-ReadFound g (Some ty) j v = ReadBy g ty j v
+abbrev pub ReadFound : (ℕ → Bool) → (ℕ → Json → Value → Type 0) → Option «Type» → Json → Value → Type 0
+ReadFound u g None j v = ⊥
+ReadFound u g (Some ty) j v = ReadBy u g ty j v
 
 -- JSON is read as this value of the type with this number, types followed so many levels deep.
 unfoldable pub ReadAt : List «Type» → ℕ → ℕ → Json → Value → Type 0
 ReadAt types zero k j v = ⊥
-ReadAt types (suc levels) k j v = ReadFound (λ i x w. ReadAt types levels i x w) (slice_get types k) j v
+ReadAt types (suc levels) k j v = ReadFound (unknown_in types) (λ i x w. ReadAt types levels i x w) (slice_get types k) j v

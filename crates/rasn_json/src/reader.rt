@@ -1,11 +1,12 @@
 //! Values of JSON.
-ghost use Rattle.std.specs.Prelude.{◌≡◌, [], ◌∷◌, ◌++◌, IfOk, OnOk, string_bytes};
+ghost use Rattle.std.specs.Prelude.{◌≡◌, ◌⊎◌, [], ◌∷◌, ◌++◌, IfOk, OnOk, string_bytes};
 ghost use Rattle.json.specs.Find.{get};
 ghost use Rattle.json.specs.Value.{items_view, value_view};
 ghost use Rattle.rasn_schema.specs.Trees.{tree_of};
 ghost use Rattle.rasn_schema.specs.Shapes.{presence_of};
-ghost use Rattle.rasn_schema.specs.Fitting.{AlternativeFits, AreItems, ComponentFits, ComponentsFit, EachFits, Fits, FitsBy, IsChosen, IsLeftOutAs};
-ghost use Rattle.rasn_json.specs.Reading.{ArrayRead, ChosenRead, ComponentRead, ComponentsRead, IsAbsentAs, ItemsRead, ObjectRead, ReadAt, ReadBy};
+ghost use Rattle.rasn_schema.specs.Fitting.{AlternativeFits, AreItems, AreOctets, ComponentFits, ComponentsFit, EachFits, Fits, FitsBy, IsChosen};
+ghost use Rattle.rasn_json.specs.Json.{IsNothing, unknown_in};
+ghost use Rattle.rasn_json.specs.Reading.{ArrayRead, ChosenRead, ComponentRead, ComponentsRead, IsAbsentAs, ItemsRead, ObjectRead, OpenRead, ReadAt, ReadBy};
 
 use crate::error::{JsonError, JsonErrorKind, or_memory};
 use crate::found::{copied, other_form};
@@ -13,7 +14,9 @@ use crate::members::{check_member, missing_member};
 use crate::number::enumerated_value;
 use crate::read_leaf::{check_size, leaf_value, open_value};
 use json::Value as Json;
-use rasn_schema::{Alternative, Component, Presence, Type, TypeId, Value, index_named, type_at};
+use rasn_schema::{
+    Alternative, Component, Presence, Type, TypeId, Value, index_named, is_unknown_at, type_at,
+};
 use rasn_types::types::Constraints;
 use std::alloc::Global;
 
@@ -53,7 +56,7 @@ fn value_of<'any>(
     json: &Json<'_>,
 ) -> Result<Value<'any>, JsonError>
     ensures fits { IfOk result (λ v. FitsBy (Fits types.now below) ty.now v) }
-    ensures reads { IfOk result (ReadBy (ReadAt types.now below) ty.now (value_view json.now)) }
+    ensures reads { IfOk result (ReadBy (unknown_in types.now) (ReadAt types.now below) ty.now (value_view json.now)) }
 {
     match ty {
         Type::Leaf {
@@ -64,6 +67,7 @@ fn value_of<'any>(
         } => leaf_value(alloc, *kind, constraints, names, json),
         Type::Enumerated { numbers, .. } => enumerated_value(alloc, numbers, json),
         Type::Any { .. } => open_value(alloc, json),
+        Type::Unknown => unknown_values(alloc, json),
         Type::Tagged { inner, .. } => value_at(alloc, types, below, *inner, json),
         Type::Choice { alternatives, .. } => chosen_value(alloc, types, below, alternatives, json),
         Type::Sequence { components, .. } => object_value(alloc, types, below, components, json),
@@ -150,7 +154,7 @@ fn object_value<'any>(
     json: &Json<'_>,
 ) -> Result<Value<'any>, JsonError>
     ensures fits { IfOk result (λ v. AreItems (ComponentsFit (Fits types.now below) components.now) v) }
-    ensures reads { IfOk result (AreItems (ObjectRead (ReadAt types.now below) components.now (value_view json.now))) }
+    ensures reads { IfOk result (AreItems (ObjectRead (unknown_in types.now) (ReadAt types.now below) components.now (value_view json.now))) }
 {
     let Json::Object(members) = json else {
         return Err(other_form(alloc, "an object", json));
@@ -197,7 +201,7 @@ fn component_values<'any>(
     json: &Json<'_>,
 ) -> Result<Vec<Value<'any>>, JsonError>
     ensures fits { IfOk result (λ vs. ComponentsFit (Fits types.now below) components.now vs.items) }
-    ensures reads { IfOk result (λ vs. ComponentsRead (ReadAt types.now below) components.now (value_view json.now) vs.items) }
+    ensures reads { IfOk result (λ vs. ComponentsRead (unknown_in types.now) (ReadAt types.now below) components.now (value_view json.now) vs.items) }
 {
     let mut values = Vec::new(alloc);
     let mut rest = components;
@@ -219,11 +223,11 @@ fn component_value<'any>(
     json: &Json<'_>,
 ) -> Result<Value<'any>, JsonError>
     ensures fits { IfOk result (λ v. ComponentFits (Fits types.now below) component.now v) }
-    ensures reads { IfOk result (ComponentRead (ReadAt types.now below) component.now (get (string_bytes component.now.name) (value_view json.now))) }
+    ensures reads { IfOk result (ComponentRead (unknown_in types.now) (ReadAt types.now below) component.now (get (string_bytes component.now.name) (value_view json.now))) }
 {
     let name = component.name.as_str();
     let Some(member) = json.get(name) else {
-        return absent_value(alloc, component);
+        return absent_value(alloc, types, below, component);
     };
     match value_at(alloc, types, below, component.type_id, member) {
         Ok(value) => Ok(value),
@@ -232,15 +236,66 @@ fn component_value<'any>(
 }
 
 /// Returns the value of a component without a member.
-fn absent_value<'any>(alloc: Global, component: &Component) -> Result<Value<'any>, JsonError>
-    ensures fits { IfOk result (λ v. IsLeftOutAs (presence_of component.now.presence) (tree_of v)) }
-    ensures reads { IfOk result (λ v. IsAbsentAs (presence_of component.now.presence) (tree_of v)) }
+fn absent_value<'any>(
+    alloc: Global,
+    types: &[Type],
+    below: usize,
+    component: &Component,
+) -> Result<Value<'any>, JsonError>
+    ensures fits { IfOk result (λ v. ComponentFits (Fits types.now below) component.now v) }
+    ensures reads { IfOk result (λ v. IsAbsentAs (presence_of component.now.presence) (tree_of v) ⊎ IsNothing (unknown_in types.now) component.now v) }
 {
     match &component.presence {
-        Presence::Required => Err(missing_member(alloc, component.name.as_str())),
+        Presence::Required => no_unknown_values(alloc, types, below, component),
         Presence::Optional | Presence::Addition => Ok(Value::Absent),
         Presence::Default(default) => or_memory(alloc, default.try_clone(alloc)),
     }
+}
+
+/// Returns no unknown values, which need no member.
+fn no_unknown_values<'any>(
+    alloc: Global,
+    types: &[Type],
+    below: usize,
+    component: &Component,
+) -> Result<Value<'any>, JsonError>
+    ensures fits { IfOk result (λ v. Fits types.now below component.now.type_id.0 v) }
+    ensures reads { IfOk result (λ v. IsNothing (unknown_in types.now) component.now v) }
+{
+    if below == 0 {
+        return Err(missing_member(alloc, component.name.as_str()));
+    }
+    if is_unknown_at(types, component.type_id) {
+        return Ok(Value::Items(Vec::new(alloc)));
+    }
+    Err(missing_member(alloc, component.name.as_str()))
+}
+
+/// Returns the octets of unknown values that an array is.
+fn unknown_values<'any>(alloc: Global, json: &Json<'_>) -> Result<Value<'any>, JsonError>
+    ensures fits { IfOk result (λ v. AreItems (EachFits AreOctets) v) }
+    ensures reads { IfOk result (λ v. AreItems (ArrayRead OpenRead (value_view json.now)) v) }
+{
+    let Json::Array(items) = json else {
+        return Err(other_form(alloc, "an array", json));
+    };
+    let values = open_values(alloc, items.as_slice())?;
+    Ok(Value::Items(values))
+}
+
+/// Returns the values of an open type that items are.
+fn open_values<'any>(alloc: Global, items: &[Json<'_>]) -> Result<Vec<Value<'any>>, JsonError>
+    ensures fits { IfOk result (λ vs. EachFits AreOctets vs.items) }
+    ensures reads { IfOk result (λ vs. ItemsRead OpenRead (items_view items.now) vs.items) }
+{
+    let mut values = Vec::new(alloc);
+    for (index, item) in items.iter().enumerate() {
+        match open_value(alloc, item) {
+            Ok(value) => append(alloc, &mut values, value)?,
+            Err(error) => return Err(error.in_element(alloc, index)),
+        }
+    }
+    Ok(values)
 }
 
 /// Returns the values of elements.

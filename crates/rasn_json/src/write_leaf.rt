@@ -5,7 +5,7 @@ ghost use Rattle.json.specs.Print.{IsPrintable};
 ghost use Rattle.json.specs.Json.{string};
 ghost use Rattle.json.specs.Token.{number};
 ghost use Rattle.rasn_types.specs.Text.{dotted, shown_day};
-ghost use Rattle.rasn_json.specs.Json.{Appends, BitsJson, EnumeratedJson, HexadecimalJson, InstantJson, IntegerJson, IsString, LeafJson, NumberJson, OctetsJson, OpenJson};
+ghost use Rattle.rasn_json.specs.Json.{Appends, BitsJson, EnumeratedJson, HexadecimalJson, InstantJson, IntegerJson, IsString, LeafJson, NumberJson, OctetsJson, OpenJson, ArrayJson};
 
 use crate::bits::fixed_size;
 use crate::characters::{text_of, text_of_units};
@@ -110,6 +110,28 @@ pub fn put_open<T: Tokens>(out: &mut T, alloc: Global, value: &Value<'_>) -> Res
         Value::Octets(octets) => put_digits(out, alloc, octets.as_slice()),
         _ => Err(unfit(alloc)),
     }
+}
+
+/// Appends the octets of unknown values as an array.
+pub fn put_unknown<T: Tokens>(
+    out: &mut T,
+    alloc: Global,
+    values: &[Value<'_>],
+) -> Result<(), JsonError>
+    ensures { OnOk result (Appends (λ j. ArrayJson OpenJson j values.now) (T.Tokens.written out.old) (T.Tokens.written out.new)) }
+{
+    put(out, alloc, Token::BeginArray)?;
+    let mut index = 0usize;
+    let mut left = values;
+    while let [value, others @ ..] = left {
+        match put_open(out, alloc, value) {
+            Ok(()) => {}
+            Err(error) => return Err(error.in_element(alloc, index)),
+        }
+        left = others;
+        index += 1;
+    }
+    put(out, alloc, Token::EndArray)
 }
 
 /// Appends bits: as a string if the type has one size, else as an object with their number.

@@ -1,15 +1,17 @@
 //! Values as JSON.
 ghost use Rattle.std.specs.Prelude.{◌≡◌, ◌<◌, OnOk};
+ghost use Rattle.rasn_types.specs.Truth.{IsWhether};
 ghost use Rattle.json.specs.Json.{object, array};
 ghost use Rattle.rasn_schema.specs.Fitting.{IsChosen};
-ghost use Rattle.rasn_json.specs.Json.{Appends, AppendsComponent, AppendsMember, ArrayJson, ChosenJson, JsonAt, JsonBy, ObjectJson};
+ghost use Rattle.rasn_json.specs.Json.{Appends, AppendsComponent, AppendsMember, ArrayJson, ChosenJson, JsonAt, JsonBy, IsLeftOut, IsNothing, ObjectJson, unknown_in};
 
 use crate::error::{JsonError, JsonErrorKind};
 use crate::tokens::Tokens;
-use crate::write_leaf::{put, put_enumerated, put_leaf, put_open, unfit};
+use crate::write_leaf::{put, put_enumerated, put_leaf, put_open, put_unknown, unfit};
 use json::Token;
 use rasn_schema::{
-    Alternative, Component, Type, TypeId, Value, elements_of, is_left_out, items_of, type_at,
+    Alternative, Component, Type, TypeId, Value, elements_of, is_left_out, is_unknown_at, items_of,
+    type_at,
 };
 use std::alloc::Global;
 
@@ -47,7 +49,7 @@ fn put_value<T: Tokens>(
     ty: &Type,
     value: &Value<'_>,
 ) -> Result<(), JsonError>
-    ensures { OnOk result (Appends (JsonBy (JsonAt types.now below) ty.now value.now) (T.Tokens.written out.old) (T.Tokens.written out.new)) }
+    ensures { OnOk result (Appends (JsonBy (unknown_in types.now) (JsonAt types.now below) ty.now value.now) (T.Tokens.written out.old) (T.Tokens.written out.new)) }
 {
     match ty {
         Type::Leaf {
@@ -79,7 +81,7 @@ fn put_inside<T: Tokens>(
     ty: &Type,
     value: &Value<'_>,
 ) -> Result<(), JsonError>
-    ensures { OnOk result (Appends (JsonBy (JsonAt types.now below) ty.now value.now) (T.Tokens.written out.old) (T.Tokens.written out.new)) }
+    ensures { OnOk result (Appends (JsonBy (unknown_in types.now) (JsonAt types.now below) ty.now value.now) (T.Tokens.written out.old) (T.Tokens.written out.new)) }
 {
     match ty {
         Type::Choice { alternatives, .. } => {
@@ -95,6 +97,10 @@ fn put_inside<T: Tokens>(
         },
         Type::SetOf { element, .. } => match elements_of(value) {
             Some(values) => put_array(out, alloc, types, below, depth, *element, values),
+            None => Err(unfit(alloc)),
+        },
+        Type::Unknown => match items_of(value) {
+            Some(values) => put_unknown(out, alloc, values),
             None => Err(unfit(alloc)),
         },
         _ => Err(unfit(alloc)),
@@ -155,7 +161,7 @@ fn put_member<T: Tokens>(
     }
 }
 
-/// Appends components as an object, except those that are absent or have their default's value.
+/// Appends components as an object, except those that aren't written.
 #[cycle(write)]
 fn put_object<T: Tokens>(
     out: &mut T,
@@ -166,7 +172,7 @@ fn put_object<T: Tokens>(
     components: &[Component],
     values: &[Value<'_>],
 ) -> Result<(), JsonError>
-    ensures { OnOk result (Appends (λ j. ObjectJson (JsonAt types.now below) components.now j values.now) (T.Tokens.written out.old) (T.Tokens.written out.new)) }
+    ensures { OnOk result (Appends (λ j. ObjectJson (unknown_in types.now) (JsonAt types.now below) components.now j values.now) (T.Tokens.written out.old) (T.Tokens.written out.new)) }
 {
     put(out, alloc, Token::BeginObject)?;
     let mut rest = components;
@@ -185,7 +191,28 @@ fn put_object<T: Tokens>(
     Err(unfit(alloc))
 }
 
-/// Appends a component, or nothing if it is absent or has its default's value.
+/// Returns whether there are no unknown values, where the component is such.
+fn is_nothing(types: &[Type], component: &Component, value: &Value<'_>) -> bool
+    ensures { IsWhether result (IsNothing (unknown_in types.now) component.now value.now) }
+{
+    if !is_unknown_at(types, component.type_id) {
+        return false;
+    }
+    match items_of(value) {
+        Some(values) => values.is_empty(),
+        None => false,
+    }
+}
+
+/// Returns whether a component isn't written: if it is absent, has its default's value, or is unknown
+/// values of which there are none.
+fn is_unwritten(types: &[Type], component: &Component, value: &Value<'_>) -> bool
+    ensures { IsWhether result (IsLeftOut (unknown_in types.now) component.now value.now) }
+{
+    is_left_out(component, value) || is_nothing(types, component, value)
+}
+
+/// Appends a component, unless it isn't written.
 #[cycle(write)]
 fn put_component<T: Tokens>(
     out: &mut T,
@@ -196,9 +223,9 @@ fn put_component<T: Tokens>(
     component: &Component,
     value: &Value<'_>,
 ) -> Result<(), JsonError>
-    ensures { OnOk result (AppendsComponent (JsonAt types.now below) component.now value.now (T.Tokens.written out.old) (T.Tokens.written out.new)) }
+    ensures { OnOk result (AppendsComponent (unknown_in types.now) (JsonAt types.now below) component.now value.now (T.Tokens.written out.old) (T.Tokens.written out.new)) }
 {
-    if is_left_out(component, value) {
+    if is_unwritten(types, component, value) {
         return Ok(());
     }
     let name = component.name.as_str();

@@ -21,6 +21,7 @@ use Rattle.rasn_dynamic.specs.Walk.{ArePartsOf, path_after}
 use Rattle.rasn_lint.specs.declared.departure.Departure.{Departure}
 use Rattle.rasn_lint.specs.Lint.{HasFormed, AreFormed, IsFirstIn, IsLint}
 use Rattle.rasn_lint.specs.Untyped.{HasOpen}
+use Rattle.rasn_lint.specs.WellFormed.{AreEncodings}
 use Rattle.rasn_lint.specs.Laws.{NormalIsClean, IsClosed, ClosedIsClean, FirstIsListed, CleanIsNormal}
 use Rattle.rasn_lint.proofs.Holding.{holds}
 use Rattle.rasn_lint.proofs.Kept.{kept, formed}
@@ -45,7 +46,7 @@ normal_is_clean Examined types id rule input octets ds ps lawful are written n p
 
 all_formed : (types : List «Type») → IsClosed Examined types → (es : List Span) → AllByRecursion (HasFormed types) es
 all_formed types none [] = tt
-all_formed types none (e ∷ es) = ((λ tag inside is has. absurd (none e.id.0 tag is)), all_formed types none es)
+all_formed types none (e ∷ es) = (((λ tag inside is has. absurd (none.0 e.id.0 tag is)), λ is. absurd (none.1 e.id.0 is)), all_formed types none es)
 
 are_formed : (opens : OpenTypes) (types : List «Type») → IsClosed opens types → (es : List Span) → AreFormed opens types es
 are_formed Unexamined types none es = tt
@@ -57,8 +58,10 @@ closed_is_clean opens types id rule input octets ds none n l = clean_if_formed o
 -- ---- the first departure
 
 formed_same : (types : List «Type») (a b : Span) → IsSamePart a b → HasFormed types a → HasFormed types b
-formed_same types a b same w tag inside is has =
-    w tag inside (ap (slice_get types) same.id ∙ is) (subst (λ l. HasOpen tag l inside) (sym same.octets) has)
+formed_same types a b same w = (
+  λ tag inside is has. w.0 tag inside (ap (slice_get types) same.id ∙ is) (subst (λ l. HasOpen tag l inside) (sym same.octets) has),
+  λ is. subst AreEncodings same.octets (w.1 (ap (slice_get types) same.id ∙ is)),
+)
 
 same_formed : (types : List «Type») (es fs : List Span) → AreSameParts es fs → AllByRecursion (HasFormed types) es → AllByRecursion (HasFormed types) fs
 same_formed types [] fs h all = subst (AllByRecursion (HasFormed types)) (sym h) tt
@@ -66,7 +69,8 @@ same_formed types (e ∷ es) fs (g, more, is, same, h) (w, all) = subst (AllByRe
 
 none_first : (types : List «Type») (len : ℕ) (path : List ℕ) (es : List Span) (d : Departure) → AllByRecursion (HasFormed types) es → IsFirstIn types len path es d → ⊥
 none_first types len path [] d all h = h
-none_first types len path (e ∷ es) d all (inl (tag, inside, is, has, n, w)) = n (all.0 tag inside is has)
+none_first types len path (e ∷ es) d all (inl (inl (is, n, w))) = n (all.0.1 is)
+none_first types len path (e ∷ es) d all (inl (inr (tag, inside, is, has, n, w))) = n (all.0.0 tag inside is has)
 none_first types len path (e ∷ es) d all (inr (f, h)) = none_first types len (path_after path e) es d all.1 h
 
 pub first_is_listed : FirstIsListed

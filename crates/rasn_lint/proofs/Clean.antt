@@ -10,7 +10,7 @@ use Rattle.rasn_types.specs.declared.types.codec.Codec.TheVariants.{Ber, Der}
 use Rattle.rasn_types.specs.Grammar.{Reads, top}
 use Rattle.rasn_de.specs.Outcomes.{Exact, Got}
 use Rattle.rasn_schema.specs.declared.types.«Type».{«Type»}
-use Rattle.rasn_schema.specs.declared.types.«Type».TheVariants.{Leaf, Enumerated, Any, Tagged, Choice, Sequence, Set, SequenceOf, SetOf}
+use Rattle.rasn_schema.specs.declared.types.«Type».TheVariants.{Leaf, Enumerated, Any, Tagged, Choice, Sequence, Set, SequenceOf, SetOf, Unknown}
 use Rattle.rasn_dynamic.specs.declared.span.Span.{Span}
 use Rattle.rasn_dynamic.specs.declared.message.MessageParts.{MessageParts}
 use Rattle.rasn_dynamic.specs.declared.refusal.Refusal.{Refusal}
@@ -90,7 +90,7 @@ module _ (types : List «Type») (len : ℕ) (parts : List Span) where
   formed_first path e es (Some d) f h = inr (f, h)
 
   ill_formed : (path : List ℕ) (e : Span) (o : Option «Type») (d : Departure) (ds : List Departure) → o ≡ slice_get types e.id.0 → AreOpenDepartures len path e o (d ∷ ds) → IsIllFormedAt types len path e d
-  ill_formed path e (Some (Any tag)) d ds q (inl (inside, has, iff, all)) = (tag, inside, sym q, has, (λ w. let x : d ∷ ds ≡ [] = iff.1 w in cc), all.0)
+  ill_formed path e (Some (Any tag)) d ds q (inl (inside, has, iff, all)) = inr (tag, inside, sym q, has, (λ w. let x : d ∷ ds ≡ [] = iff.1 w in cc), all.0)
   ill_formed path e (Some (Any tag)) d ds q (inr (n, x)) = cc
   ill_formed path e None d ds q h = cc
   ill_formed path e (Some (Leaf kind tag c names)) d ds q h = cc
@@ -101,6 +101,7 @@ module _ (types : List «Type») (len : ℕ) (parts : List Span) where
   ill_formed path e (Some (Set name tag ps)) d ds q h = cc
   ill_formed path e (Some (SequenceOf tag id c)) d ds q h = cc
   ill_formed path e (Some (SetOf tag id c)) d ds q h = cc
+  ill_formed path e (Some Unknown) d ds q (iff, all) = inl (sym q, (λ a. let x : d ∷ ds ≡ [] = iff.1 a in cc), all.0)
 
   here : (i : ℕ) (e : Span) → i < length parts → e ≡ get_or parts i e → drop i parts ≡ e ∷ drop (i + 1) parts
   here i e within is = drop-cons parts i e within ∙ ap (λ x. x ∷ drop (suc i) parts) (sym is) ∙ ap (λ n. e ∷ drop n parts) (sym (add-one i))

@@ -28,16 +28,15 @@ use Rattle.rasn_schema.specs.declared.types.Alternative.{Alternative}
 use Rattle.rasn_schema.specs.declared.types.Presence.{Presence}
 use Rattle.rasn_schema.specs.declared.types.Presence.TheVariants.{Required, Optional, Addition, Default}
 use Rattle.rasn_schema.specs.declared.types.«Type».{«Type»}
-use Rattle.rasn_schema.specs.declared.types.«Type».TheVariants.{Leaf, Enumerated, Any, Tagged, Choice, Sequence, Set, SequenceOf, SetOf}
+use Rattle.rasn_schema.specs.declared.types.«Type».TheVariants.{Leaf, Enumerated, Any, Tagged, Choice, Sequence, Set, SequenceOf, SetOf, Unknown}
 use Rattle.rasn_schema.specs.Shapes.{shape_of_type, type_by, found_by, alternatives_by, components_by, key_of, presence_by, presence_of, presence_in}
 use Rattle.rasn_schema.proofs.Lists.{some_is}
-use Rattle.rasn_schema.proofs.LawfulTypes.{is_present}
 use Rattle.rasn_dynamic.specs.declared.span.Span.{Span}
 use Rattle.rasn_dynamic.specs.Listed.{GoesInside, InTurn, PartListed, ComponentListed, ComponentAt, ComponentsListed, MemberListed, AlternativeListed, ValueListed, PartsInside, Inside}
 use Rattle.rasn_dynamic.specs.SameParts.{AreLawfulTypes}
 use Rattle.rasn_dynamic.proofs.Contents.{only_at}
 use Rattle.rasn_dynamic.proofs.Pieces.{only_part, by_tag_distinguished}
-use Rattle.rasn_dynamic.proofs.SameParts.{same_reading, not_at_end, not_absent, none_left, same_index, alternative_tagged, member_tagged, header_frame, lawful_type}
+use Rattle.rasn_dynamic.proofs.SameParts.{same_reading, not_at_end, not_absent, none_left, same_index, alternative_tagged, member_tagged, header_frame, lawful_type, is_present}
 use Rattle.rasn_lint.specs.Untyped.{HasOpen}
 
 -- ---- what parts hold of a tree
@@ -75,6 +74,7 @@ module _ (rule : Codec) (f : ℕ → Shape) (H : ℕ → Tree → List Span → 
   HoldsInside (Leaf kind tag c names) e t es = es ≡ []
   HoldsInside (Enumerated tag ns) e t es = es ≡ []
   HoldsInside (Any tag) e t es = (es ≡ []) × ((x : List ℕ) → (t ≡ numbers x) ↔ HasOpen tag e.octets.now x)
+  HoldsInside Unknown e t es = ⊥
   HoldsInside (Tagged tag id) e t es = H id.0 t es
   HoldsInside (Choice name ks) e t es = (k : ℕ) × (a : Alternative) × (u : Tree) × (Some a ≡ slice_get ks.items k) × (t ≡ chosen k u) × H a.type_id.0 u es
   HoldsInside (Sequence tag ps) e t es = (ts : List Tree) × (t ≡ items ts) × HoldsComponents ps.items ts es
@@ -396,6 +396,7 @@ module _ (rule : Codec) (f : ℕ → Shape) (solid : (k : ℕ) → IsAlwaysPrese
   value_held (Enumerated tag ns) are b s e after es is (a, inner, g, x) depth c input t rest at q r = x
   value_held (Any tag) are b s e after es is (a, inner, g, x) depth c input t rest at q r =
       (x, opened rule tag e.octets.now after depth c t (subst (λ l. Reads rule (any (looked_for tag)) depth c l t after) (sym at.1 ∙ is) (subst (λ l. Reads rule (any (looked_for tag)) depth c input t l) q r)))
+  value_held Unknown are b s e after es is v depth c input t rest at q r = absurd are
   value_held (Tagged tag id) are b s e after es is (a, inner, g, (last, x)) depth c input t rest at q r =
       let (k, l, end, own, there) = into_contents (prefix_header tag) b a s inner depth input g at rule tag r.1 (λ c. Reads rule (f id.0) (depth - 1) c) t rest r.3 in
       (part_held id.0 0 a inner last es (depth - 1) k l t end x there own).0
@@ -434,7 +435,7 @@ module _ (rule : Codec) (types : List «Type») (lawful : AreLawfulTypes types) 
   unfolding PartsInside Holds
   holds_value n below id k b s next es x c t rest o r =
       let (ty, at, v) = x.parts in
-      let after : rest ≡ next.rest = (same_reading (shape_of_type types (suc n) id) (is_present types (suc n) id) (lawful (suc n) id) s next x.tree x.reads rule c t rest r).1 in
+      let after : rest ≡ next.rest = (same_reading (shape_of_type types (suc n) id) (is_present types lawful (suc n) id) (lawful (suc n) id) s next x.tree x.reads rule c t rest r).1 in
       let own = subst (λ z. Reads rule z s.depth c s.rest t rest) (shape_is n id ty at) r in (
         x.part,
         x.inside,
@@ -442,7 +443,7 @@ module _ (rule : Codec) (types : List «Type») (lawful : AreLawfulTypes types) 
         x.id_is,
         ty,
         at,
-        value_held rule (shape_of_type types n) (is_present types n) (lawful n) n (Inside types n) (λ k u more. Holds rule types n k u more) below
+        value_held rule (shape_of_type types n) (is_present types lawful n) (lawful n) n (Inside types n) (λ k u more. Holds rule types n k u more) below
             ty (lawful_type types lawful n id ty at) b s x.part next.rest x.inside x.octets v s.depth c s.rest t rest (refl, refl, o) after own,
       )
 

@@ -6,7 +6,7 @@ use Rattle.std.specs.List.{AllByRecursion}
 use Rattle.rasn_types.specs.declared.types.tag.Tag.{Tag}
 use Rattle.rasn_types.specs.Shapes.{numbers}
 use Rattle.rasn_schema.specs.declared.types.«Type».{«Type»}
-use Rattle.rasn_schema.specs.declared.types.«Type».TheVariants.{Leaf, Enumerated, Any, Tagged, Choice, Sequence, Set, SequenceOf, SetOf}
+use Rattle.rasn_schema.specs.declared.types.«Type».TheVariants.{Leaf, Enumerated, Any, Tagged, Choice, Sequence, Set, SequenceOf, SetOf, Unknown}
 use Rattle.rasn_dynamic.specs.declared.span.Span.{Span}
 use Rattle.rasn_dynamic.specs.Walk.{path_after}
 use Rattle.rasn_lint.specs.declared.by_schema.OpenTypes.{OpenTypes}
@@ -17,7 +17,7 @@ use Rattle.rasn_lint.specs.Trail.{trail_after}
 use Rattle.rasn_lint.specs.Judged.{AreJudged, AreOfPart, AreOpenDepartures}
 use Rattle.rasn_lint.specs.Untyped.{HasOpen}
 use Rattle.rasn_lint.specs.Lint.{HasFormed}
-use Rattle.rasn_lint.specs.WellFormed.{IsWellFormed}
+use Rattle.rasn_lint.specs.WellFormed.{IsWellFormed, AreEncodings}
 
 -- One part more, where the path leads to it and the trail to the part before it; and no more.
 module _ (is_read : Bool) (opens : OpenTypes) (types : List «Type») (len : ℕ) (parts : List Span) where
@@ -44,33 +44,40 @@ module _ (is_read : Bool) (opens : OpenTypes) (types : List «Type») (len : ℕ
 open_one : (tag : Tag) (o a b : List ℕ) → HasOpen tag o a → HasOpen tag o b → a ≡ b
 open_one tag o a b (r, x) (s, y) = let h : numbers b ≡ numbers a = (x.1 (numbers b) s y.0).0 in cc
 
--- There is no departure inside a part exactly if the octets of its open type are well formed.
+-- There is no departure inside a part exactly if the octets of its open type, or its unknown values, are well formed.
 abbrev pub Formed : Option «Type» → Span → Type 0
-Formed o e = (tag : Tag) (inside : List ℕ) → o ≡ Some (Any tag) → HasOpen tag e.octets.now inside → IsWellFormed inside
+Formed o e = ((tag : Tag) (inside : List ℕ) → o ≡ Some (Any tag) → HasOpen tag e.octets.now inside → IsWellFormed inside) × (o ≡ Some Unknown → AreEncodings e.octets.now)
 
 pub formed_if : (o : Option «Type») (len : ℕ) (path : List ℕ) (e : Span) (ds : List Departure) → AreOpenDepartures len path e o ds → (ds ≡ []) ↔ Formed o e
-formed_if None len path e ds h = (λ q tag inside p. cc, λ f. h)
+formed_if None len path e ds h = (λ q. ((λ tag inside p. cc), λ p. cc), λ f. h)
 formed_if (Some (Any tag)) len path e ds (inl (inside, has, iff, all)) = (
-  λ q t i p g.
-      let s : t ≡ tag = cc in
-      let k : inside ≡ i = open_one tag e.octets.now inside i has (subst (λ u. HasOpen u e.octets.now i) s g) in
-      subst IsWellFormed k (iff.0 q),
-  λ f. iff.1 (f tag inside refl has),
+  λ q. (
+    (λ t i p g.
+        let s : t ≡ tag = cc in
+        let k : inside ≡ i = open_one tag e.octets.now inside i has (subst (λ u. HasOpen u e.octets.now i) s g) in
+        subst IsWellFormed k (iff.0 q)),
+    λ p. cc,
+  ),
+  λ f. iff.1 (f.0 tag inside refl has),
 )
 formed_if (Some (Any tag)) len path e ds (inr (none, q)) = (
-  λ z t i p g.
-      let s : t ≡ tag = cc in
-      absurd (none i (subst (λ u. HasOpen u e.octets.now i) s g)),
+  λ z. (
+    (λ t i p g.
+        let s : t ≡ tag = cc in
+        absurd (none i (subst (λ u. HasOpen u e.octets.now i) s g))),
+    λ p. cc,
+  ),
   λ f. q,
 )
-formed_if (Some (Leaf kind tag c names)) len path e ds h = (λ q t inside p. cc, λ f. h)
-formed_if (Some (Enumerated tag ns)) len path e ds h = (λ q t inside p. cc, λ f. h)
-formed_if (Some (Tagged tag id)) len path e ds h = (λ q t inside p. cc, λ f. h)
-formed_if (Some (Choice name ks)) len path e ds h = (λ q t inside p. cc, λ f. h)
-formed_if (Some (Sequence tag ps)) len path e ds h = (λ q t inside p. cc, λ f. h)
-formed_if (Some (Set name tag ps)) len path e ds h = (λ q t inside p. cc, λ f. h)
-formed_if (Some (SequenceOf tag id c)) len path e ds h = (λ q t inside p. cc, λ f. h)
-formed_if (Some (SetOf tag id c)) len path e ds h = (λ q t inside p. cc, λ f. h)
+formed_if (Some (Leaf kind tag c names)) len path e ds h = (λ q. ((λ t inside p. cc), λ p. cc), λ f. h)
+formed_if (Some (Enumerated tag ns)) len path e ds h = (λ q. ((λ t inside p. cc), λ p. cc), λ f. h)
+formed_if (Some (Tagged tag id)) len path e ds h = (λ q. ((λ t inside p. cc), λ p. cc), λ f. h)
+formed_if (Some (Choice name ks)) len path e ds h = (λ q. ((λ t inside p. cc), λ p. cc), λ f. h)
+formed_if (Some (Sequence tag ps)) len path e ds h = (λ q. ((λ t inside p. cc), λ p. cc), λ f. h)
+formed_if (Some (Set name tag ps)) len path e ds h = (λ q. ((λ t inside p. cc), λ p. cc), λ f. h)
+formed_if (Some (SequenceOf tag id c)) len path e ds h = (λ q. ((λ t inside p. cc), λ p. cc), λ f. h)
+formed_if (Some (SetOf tag id c)) len path e ds h = (λ q. ((λ t inside p. cc), λ p. cc), λ f. h)
+formed_if (Some Unknown) len path e ds (iff, all) = (λ q. ((λ t inside p. cc), λ p. iff.0 q), λ f. iff.1 (f.1 refl))
 
 -- Two lists without elements are one.
 both_empty : {A : Type 0} (a b c : List A) → a ≡ b ++ c → b ≡ [] → c ≡ [] → a ≡ []

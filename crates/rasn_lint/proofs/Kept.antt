@@ -14,7 +14,7 @@ use Rattle.rasn_schema.specs.declared.types.Alternative.{Alternative}
 use Rattle.rasn_schema.specs.declared.types.Presence.{Presence}
 use Rattle.rasn_schema.specs.declared.types.Presence.TheVariants.{Required, Optional, Addition, Default}
 use Rattle.rasn_schema.specs.declared.types.«Type».{«Type»}
-use Rattle.rasn_schema.specs.declared.types.«Type».TheVariants.{Leaf, Enumerated, Any, Tagged, Choice, Sequence, Set, SequenceOf, SetOf}
+use Rattle.rasn_schema.specs.declared.types.«Type».TheVariants.{Leaf, Enumerated, Any, Tagged, Choice, Sequence, Set, SequenceOf, SetOf, Unknown}
 use Rattle.rasn_schema.specs.Shapes.{shape_of_type, components_by, key_of, presence_of, presence_in}
 use Rattle.rasn_schema.specs.Trees.{tree_of}
 use Rattle.rasn_schema.proofs.Lists.{some_is}
@@ -122,6 +122,7 @@ module _ (F : ℕ → Tree → Type 0) where
   FormedIn (Leaf kind tag c names) t = Unit {0}
   FormedIn (Enumerated tag ns) t = Unit {0}
   FormedIn (Any tag) t = (x : List ℕ) → t ≡ numbers x → IsWellFormed x
+  FormedIn Unknown t = Unit {0}
   FormedIn (Tagged tag id) t = F id.0 t
   FormedIn (Choice name ks) t = (k : ℕ) (a : Alternative) (u : Tree) → Some a ≡ slice_get ks.items k → t ≡ chosen k u → F a.type_id.0 u
   FormedIn (Sequence tag ps) t = (ts : List Tree) → t ≡ items ts → FormedComponents ps.items ts
@@ -198,6 +199,7 @@ module _ (rule : Codec) (f : ℕ → Shape) (H : ℕ → Tree → List Span → 
   inside_kept (Leaf kind tag c names) e t es h w q u s = tt
   inside_kept (Enumerated tag ns) e t es h w q u s = tt
   inside_kept (Any tag) e t es h w q u s = λ x i. let back = same_sym t u s in w tag x refl ((h.1 x).0 (subst (λ z. Same z t) i back))
+  inside_kept Unknown e t es h w q u s = tt
   inside_kept (Tagged tag id) e t es h w q u s = below id.0 t es h q u s
   inside_kept (Choice name ks) e t es (k, a, v, at, i, h) w q u s = go (subst (λ z. Same z u) i s)
     where
@@ -226,7 +228,7 @@ module _ (rule : Codec) (f : ℕ → Shape) (H : ℕ → Tree → List Span → 
 
 -- The open type of the part is well formed.
 formed_part : (types : List «Type») (id : ℕ) (e : Span) (ty : «Type») → e.id.0 ≡ id → slice_get types id ≡ Some ty → HasFormed types e → (tag : Tag) (x : List ℕ) → ty ≡ Any tag → HasOpen tag e.octets.now x → IsWellFormed x
-formed_part types id e ty i at w tag x g has = w tag x (ap (slice_get types) i ∙ (at ∙ ap Some g)) has
+formed_part types id e ty i at w tag x g has = w.0 tag x (ap (slice_get types) i ∙ (at ∙ ap Some g)) has
 
 pub kept : (rule : Codec) (types : List «Type») (n id : ℕ) (t : Tree) (es : List Span) → Holds rule types n id t es → AllByRecursion (HasFormed types) es → (u : Tree) → Same t u → FormedTree types n id u
 unfolding Holds FormedTree
@@ -281,6 +283,7 @@ module _ (f : ℕ → Shape) (H : ℕ → Tree → List Span → Type 0) (F : �
   inside_formed (Leaf kind tag c names) e t es h a = none_formed es h
   inside_formed (Enumerated tag ns) e t es h a = none_formed es h
   inside_formed (Any tag) e t es h a = none_formed es h.0
+  inside_formed Unknown e t es h a = absurd h
   inside_formed (Tagged tag id) e t es h a = below id.0 t es h a
   inside_formed (Choice name ks) e t es (k, c, u, at, i, h) a = below c.type_id.0 u es h (a k c u at i)
   inside_formed (Sequence tag ps) e t es (ts, i, h) a = components_formed ps.items ts es h (a ts i)
@@ -293,6 +296,7 @@ open_formed : (f : ℕ → Shape) (H : ℕ → Tree → List Span → Type 0) (F
 open_formed f H F (Any own) e t es h a tag x i has =
     let same : tag ≡ own = cc in
     a x ((h.1 x).1 (subst (λ z. HasOpen z e.octets.now x) same has))
+open_formed f H F Unknown e t es h a tag x i has = absurd cc
 open_formed f H F (Leaf kind t0 c names) e t es h a tag x i has = absurd cc
 open_formed f H F (Enumerated t0 ns) e t es h a tag x i has = absurd cc
 open_formed f H F (Tagged t0 id) e t es h a tag x i has = absurd cc
@@ -307,7 +311,12 @@ unfolding Holds FormedTree
 formed types zero id t es h a = absurd h
 formed types (suc n) id t es (e, inside, is, i, ty, at, h) a =
     let own : FormedIn (λ k u. FormedTree types n k u) ty t = a ty at in
-    let mine : HasFormed types e = λ tag x found has. open_formed (shape_of_type types n) (λ k u more. Holds Der types n k u more) (λ k u. FormedTree types n k u) ty e t inside h own tag x
-    (some_is ty (Any tag) (sym at ∙ (ap (slice_get types) (sym i) ∙ found))) has in
+    let none : slice_get types e.id.0 ≡ Some Unknown → ⊥ = λ found.
+    subst (λ z. HoldsInside Der (shape_of_type types n) (λ k u more. Holds Der types n k u more) z e t inside) (some_is ty Unknown (sym at ∙ (ap (slice_get types) (sym i) ∙ found))) h in
+    let mine : HasFormed types e = (
+      λ tag x found has. open_formed (shape_of_type types n) (λ k u more. Holds Der types n k u more) (λ k u. FormedTree types n k u) ty e t inside h own tag x
+          (some_is ty (Any tag) (sym at ∙ (ap (slice_get types) (sym i) ∙ found))) has,
+      λ found. absurd (none found),
+    ) in
     subst (AllByRecursion (HasFormed types)) (sym is)
     (mine, inside_formed (shape_of_type types n) (λ k u more. Holds Der types n k u more) (λ k u. FormedTree types n k u) (HasFormed types) (λ k t es h a. formed types n k t es h a) ty e t inside h own)

@@ -17,7 +17,7 @@ use Rattle.rasn_lint.specs.declared.judge.Site.{Site}
 use Rattle.rasn_lint.specs.Judged.{IsCopied, IsSiteAt, IsDepartureAt, AreNoted, AreListed, TypedUnless, OpenIf, AreOfPart}
 use Rattle.rasn_types.specs.declared.types.tag.Tag.{Tag}
 use Rattle.rasn_lint.specs.Header.{is_constructed, IsTagFault, IsLengthFault}
-use Rattle.rasn_lint.specs.Open.{IsFoundIn, DepartsThere, IsInside, GrowsInside}
+use Rattle.rasn_lint.specs.Open.{IsFoundIn, DepartsThere, IsInside, IsOfUnknown, GrowsInside, GrowsUnknown}
 use Rattle.rasn_lint.specs.Universal.{rule_of}
 use Rattle.rasn_lint.specs.Untyped.{HasContents, LeadsInto, HasNoForm, AreUntypedFaults}
 use Rattle.rasn_lint.specs.WellFormed.{AllowsEncoding}
@@ -125,6 +125,14 @@ if_so (Err e) f h = tt
 -- Some are appended after others.
 pub grows_more : (len : ℕ) (e : Span) (path inside : List ℕ) (a b c : List Departure) → GrowsInside len e path inside a b → GrowsInside len e path inside b c → GrowsInside len e path inside a c
 grows_more len e path inside a b c (ds, p, h) (es, q, k) = (ds ++ es, folded b a c ds es p q, all_append (IsInside len e path inside) ds es h k)
+
+-- Departures inside one of unknown values are appended after others.
+pub unknown_more : (len : ℕ) (e : Span) (path inside : List ℕ) (a b c ds : List Departure) → GrowsUnknown len e path a b → c ≡ b ++ ds → AllByRecursion (IsInside len e path inside) ds → GrowsUnknown len e path a c
+unknown_more len e path inside a b c ds (es, p, h) q k = (es ++ ds, folded b a c es ds p q, all_append (IsOfUnknown len e path) es ds h (go ds k))
+  where
+    go : (xs : List Departure) → AllByRecursion (IsInside len e path inside) xs → AllByRecursion (IsOfUnknown len e path) xs
+    go [] k = tt
+    go (x ∷ xs) k = ((inside, k.0), go xs k.1)
 
 -- What is appended of a part by its type, and then inside it.
 pub both_parts : (is_read : Bool) (opens : OpenTypes) (types : List «Type») (len : ℕ) (trail : List Step) (path : List ℕ) (e : Span) (o : Option «Type») (l0 l1 l2 : List Departure)

@@ -16,7 +16,7 @@ use Rattle.rasn_de.specs.Steps.{PeeksTag}
 use Rattle.rasn_schema.specs.declared.types.LeafKind.{LeafKind}
 use Rattle.rasn_schema.specs.declared.types.LeafKind.TheVariants.{Boolean, Null, ObjectIdentifier, BitString, NamedBits, OctetString, FixedOctetString, Integer, Signed32, Signed64, Unsigned32, Unsigned64, Numeric, Printable, Visible, Ia5, AnyOctets, Bmp, Utf8, UtcTime, GeneralizedTime, Date}
 use Rattle.rasn_schema.specs.declared.types.«Type».{«Type»}
-use Rattle.rasn_schema.specs.declared.types.«Type».TheVariants.{Leaf, Enumerated, Any, Tagged, Choice, Sequence, Set, SequenceOf, SetOf}
+use Rattle.rasn_schema.specs.declared.types.«Type».TheVariants.{Leaf, Enumerated, Any, Tagged, Choice, Sequence, Set, SequenceOf, SetOf, Unknown}
 use Rattle.rasn_lint.specs.Encoding.{start}
 use Rattle.rasn_lint.specs.Place.{der_error}
 
@@ -32,6 +32,7 @@ has_own_header (Sequence tag ps) = true
 has_own_header (Set name tag ps) = true
 has_own_header (SequenceOf tag id c) = true
 has_own_header (SetOf tag id c) = true
+has_own_header Unknown = false
 
 -- There is an error exactly if DER doesn't read the identifier, and it is the reader's.
 abbrev pub IsTagFault : List ℕ → Option DecodeError → Type 0
@@ -114,3 +115,4 @@ IsFormFault (Sequence tag ps) bit f = f ≡ None
 IsFormFault (Set name tag ps) bit f = f ≡ None
 IsFormFault (SequenceOf tag id c) bit f = f ≡ None
 IsFormFault (SetOf tag id c) bit f = f ≡ None
+IsFormFault Unknown bit f = f ≡ None

@@ -9,7 +9,7 @@ use Rattle.rasn_de.specs.State.{State}
 use Rattle.rasn_types.specs.declared.error.decode.DecodeError.{DecodeError}
 use Rattle.rasn_types.specs.Tags.{eoc}
 use Rattle.rasn_schema.specs.declared.types.«Type».{«Type»}
-use Rattle.rasn_schema.specs.declared.types.«Type».TheVariants.{Leaf, Enumerated, Any, Tagged, Choice, Sequence, Set, SequenceOf, SetOf}
+use Rattle.rasn_schema.specs.declared.types.«Type».TheVariants.{Leaf, Enumerated, Any, Tagged, Choice, Sequence, Set, SequenceOf, SetOf, Unknown}
 use Rattle.rasn_dynamic.specs.declared.span.Span.{Span}
 use Rattle.rasn_dynamic.specs.Walk.{path_after}
 use Rattle.rasn_lint.specs.declared.departure.Departure.{Departure}
@@ -23,9 +23,9 @@ use Rattle.rasn_lint.specs.Place.{order_if, default_if, type_of, IsOrderFault, I
 use Rattle.rasn_lint.specs.Header.{has_own_header, is_constructed, IsTagFault, IsFormFault, IsLengthFault}
 use Rattle.rasn_lint.specs.Leaf.{IsContentsFault}
 use Rattle.rasn_lint.specs.Encoding.{start}
-use Rattle.rasn_lint.specs.Open.{IsInside}
+use Rattle.rasn_lint.specs.Open.{IsInside, IsOfUnknown}
 use Rattle.rasn_lint.specs.Untyped.{HasOpen}
-use Rattle.rasn_lint.specs.WellFormed.{IsWellFormed}
+use Rattle.rasn_lint.specs.WellFormed.{IsWellFormed, AreEncodings}
 use Rattle.rasn_lint.specs.declared.by_schema.OpenTypes.{OpenTypes}
 use Rattle.rasn_lint.specs.declared.by_schema.OpenTypes.TheVariants.{Unexamined, Examined}
 
@@ -99,6 +99,7 @@ IsOpenFault opens (Sequence tag ps) octets f = f ≡ None
 IsOpenFault opens (Set name tag ps) octets f = f ≡ None
 IsOpenFault opens (SequenceOf tag id c) octets f = f ≡ None
 IsOpenFault opens (SetOf tag id c) octets f = f ≡ None
+IsOpenFault opens Unknown octets f = f ≡ None
 
 -- The header is judged where the value has one of its own.
 abbrev pub AreHeaderFaults : Bool → OpenTypes → «Type» → List ℕ → Option DecodeError → Option DecodeError → Option DecodeError → Type 0
@@ -122,9 +123,14 @@ AreDepartures opens types len trail path e (Some ty) ds = (f : Faults) × (site 
 abbrev pub AreInside : Tag → ℕ → List ℕ → Span → List Departure → Type 0
 AreInside tag len path e ds = (inside : List ℕ) × HasOpen tag e.octets.now inside × ((ds ≡ []) ↔ IsWellFormed inside) × AllByRecursion (IsInside len e path inside) ds
 
+-- There are none exactly if unknown values are well-formed encodings, one after the other.
+abbrev pub AreOfUnknown : ℕ → List ℕ → Span → List Departure → Type 0
+AreOfUnknown len path e ds = ((ds ≡ []) ↔ AreEncodings e.octets.now) × AllByRecursion (IsOfUnknown len e path) ds
+
 -- The same of a part of any type; of one that isn't open, and where BER finds no octets, there are none.
 abbrev pub AreOpenDepartures : ℕ → List ℕ → Span → Option «Type» → List Departure → Type 0
 AreOpenDepartures len path e (Some (Any tag)) ds = AreInside tag len path e ds ⊎ (((inside : List ℕ) → HasOpen tag e.octets.now inside → ⊥) × (ds ≡ []))
+AreOpenDepartures len path e (Some Unknown) ds = AreOfUnknown len path e ds
 AreOpenDepartures len path e ty ds = ds ≡ []
 
 -- ---- all parts

@@ -7,7 +7,7 @@ use Rattle.rasn_types.specs.Lawful.{IsLawful}
 use Rattle.rasn.specs.Normal.{IsNormal, IsCarriedIn}
 use Rattle.rasn_types.specs.declared.types.tag.Tag.{Tag}
 use Rattle.rasn_schema.specs.declared.types.«Type».{«Type»}
-use Rattle.rasn_schema.specs.declared.types.«Type».TheVariants.{Any}
+use Rattle.rasn_schema.specs.declared.types.«Type».TheVariants.{Any, Unknown}
 use Rattle.rasn_dynamic.specs.declared.message.MessageParts.{MessageParts}
 use Rattle.rasn_dynamic.specs.Entry.{shape_of}
 use Rattle.rasn_dynamic.specs.Walk.{ArePartsOf}
@@ -24,10 +24,10 @@ NormalIsClean = (opens : OpenTypes) (types : List «Type») (id : ℕ) (rule : C
     → AreLawfulTypes types → AreOctets input → AreOctets octets → IsNormal rule (shape_of types id) input octets
     → ArePartsOf types rule id input parts → AreFormed opens types parts.list.items → IsLint opens types id octets ds → ds ≡ []
 
--- Open types aren't looked into, or none of the types is one.
+-- Open types aren't looked into, or none of the types is one, or is unknown values.
 abbrev pub IsClosed : OpenTypes → List «Type» → Type 0
 IsClosed Unexamined types = Unit {0}
-IsClosed Examined types = (k : ℕ) (tag : Tag) → slice_get types k ≡ Some (Any tag) → ⊥
+IsClosed Examined types = ((k : ℕ) (tag : Tag) → slice_get types k ≡ Some (Any tag) → ⊥) × ((k : ℕ) → slice_get types k ≡ Some Unknown → ⊥)
 
 -- It is empty if no open type is looked into.
 abbrev pub ClosedIsClean : Type 0

@@ -11,7 +11,7 @@ use Rattle.rasn_types.specs.Bytes.{Bytes}
 use Rattle.rasn_schema.specs.declared.types.LeafKind.{LeafKind}
 use Rattle.rasn_schema.specs.declared.types.LeafKind.TheVariants.{BitString, NamedBits}
 use Rattle.rasn_schema.specs.declared.types.«Type».{«Type»}
-use Rattle.rasn_schema.specs.declared.types.«Type».TheVariants.{Leaf, Enumerated, Any, Tagged, Choice, Sequence, Set, SequenceOf, SetOf}
+use Rattle.rasn_schema.specs.declared.types.«Type».TheVariants.{Leaf, Enumerated, Any, Tagged, Choice, Sequence, Set, SequenceOf, SetOf, Unknown}
 use Rattle.rasn_dynamic.specs.Entry.{shape_of, IsChecked}
 use Rattle.rasn_lint.specs.Header.{is_string, is_constructed}
 use Rattle.rasn_lint.specs.declared.leaf.Segments.{Segments}
@@ -64,3 +64,4 @@ IsContentsFault types id (Sequence tag ps) octets f = f ≡ None
 IsContentsFault types id (Set name tag ps) octets f = f ≡ None
 IsContentsFault types id (SequenceOf tag k c) octets f = f ≡ None
 IsContentsFault types id (SetOf tag k c) octets f = f ≡ None
+IsContentsFault types id Unknown octets f = f ≡ None

@@ -9,7 +9,7 @@ use Rattle.rasn_types.specs.Shapes.{Tree}
 use Rattle.rasn_types.specs.Grammar.{Reads, top}
 use Rattle.rasn.specs.Headline.{IsExtraData}
 use Rattle.rasn_schema.specs.declared.types.«Type».{«Type»}
-use Rattle.rasn_schema.specs.declared.types.«Type».TheVariants.{Any}
+use Rattle.rasn_schema.specs.declared.types.«Type».TheVariants.{Any, Unknown}
 use Rattle.rasn_dynamic.specs.declared.span.Span.{Span}
 use Rattle.rasn_dynamic.specs.declared.message.MessageParts.{MessageParts}
 use Rattle.rasn_dynamic.specs.declared.refusal.Refusal.{Refusal}
@@ -22,17 +22,18 @@ use Rattle.rasn_lint.specs.declared.by_schema.OpenTypes.{OpenTypes}
 use Rattle.rasn_lint.specs.declared.by_schema.OpenTypes.TheVariants.{Unexamined, Examined}
 use Rattle.rasn_lint.specs.declared.departure.Departure.{Departure}
 use Rattle.rasn_lint.specs.Judged.{AreJudged}
-use Rattle.rasn_lint.specs.Open.{IsInside}
+use Rattle.rasn_lint.specs.Open.{IsInside, IsOfUnknown}
 use Rattle.rasn_lint.specs.Untyped.{HasOpen}
-use Rattle.rasn_lint.specs.WellFormed.{IsWellFormed}
+use Rattle.rasn_lint.specs.WellFormed.{IsWellFormed, AreEncodings}
 
 -- DER reads all of the octets as a value of the type.
 abbrev pub IsDer : List «Type» → ℕ → List ℕ → Type 0
 IsDer types id input = (t : Tree) × Reads Der (shape_of types id) 128 (top Der) input t []
 
--- If the part is a value of an open type, its octets are well formed.
+-- If the part is a value of an open type, its octets are well formed; if it is unknown values, each of them is.
 abbrev pub HasFormed : List «Type» → Span → Type 0
-HasFormed types e = (tag : Tag) (inside : List ℕ) → slice_get types e.id.0 ≡ Some (Any tag) → HasOpen tag e.octets.now inside → IsWellFormed inside
+HasFormed types e = ((tag : Tag) (inside : List ℕ) → slice_get types e.id.0 ≡ Some (Any tag) → HasOpen tag e.octets.now inside → IsWellFormed inside)
+    × (slice_get types e.id.0 ≡ Some Unknown → AreEncodings e.octets.now)
 
 -- If open types are looked into, the octets of each are well formed.
 abbrev pub AreFormed : OpenTypes → List «Type» → List Span → Type 0
@@ -98,9 +99,11 @@ abbrev pub AreLookedInto : OpenTypes → List «Type» → ℕ → List ℕ → 
 AreLookedInto Unexamined types id input P = Unit {0}
 AreLookedInto Examined types id input P = (parts : MessageParts) × ArePartsOf types Der id input parts × P parts.list.items
 
--- The octets of the part's open type aren't well formed, and the departure is inside them.
+-- The octets of the part's open type aren't well formed, and the departure is inside them; or the part is unknown values of
+-- which one isn't.
 abbrev pub IsIllFormedAt : List «Type» → ℕ → List ℕ → Span → Departure → Type 0
-IsIllFormedAt types len path e d = (tag : Tag) × (inside : List ℕ) × (slice_get types e.id.0 ≡ Some (Any tag)) × HasOpen tag e.octets.now inside × (IsWellFormed inside → ⊥) × IsInside len e path inside d
+IsIllFormedAt types len path e d = ((slice_get types e.id.0 ≡ Some Unknown) × (AreEncodings e.octets.now → ⊥) × IsOfUnknown len e path d)
+    ⊎ ((tag : Tag) × (inside : List ℕ) × (slice_get types e.id.0 ≡ Some (Any tag)) × HasOpen tag e.octets.now inside × (IsWellFormed inside → ⊥) × IsInside len e path inside d)
 
 -- The departure is inside the first of the parts whose open type isn't well formed, where the path leads to the part
 -- before them.

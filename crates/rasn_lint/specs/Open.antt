@@ -59,9 +59,16 @@ pub record IsInside (len : ℕ) (e : Span) (path inside : List ℕ) (d : Departu
   pub offset : d.refusal.offset ≡ len - left
   pub departs : DepartsThere inside indices.items octets d.aspect d.refusal.error
 
+-- The departure is inside one of the encodings of unknown values.
+abbrev pub IsOfUnknown : ℕ → Span → List ℕ → Departure → Type 0
+IsOfUnknown len e path d = (inside : List ℕ) × IsInside len e path inside d
+
 -- Some are appended.
 abbrev pub GrowsInside : ℕ → Span → List ℕ → List ℕ → List Departure → List Departure → Type 0
 GrowsInside len e path inside old new = (ds : List Departure) × (new ≡ old ++ ds) × AllByRecursion (IsInside len e path inside) ds
+
+abbrev pub GrowsUnknown : ℕ → Span → List ℕ → List Departure → List Departure → Type 0
+GrowsUnknown len e path old new = (ds : List Departure) × (new ≡ old ++ ds) × AllByRecursion (IsOfUnknown len e path) ds
 
 -- ---- encodings that are still to be looked at
 

@@ -13,7 +13,7 @@ use Rattle.rasn_de.specs.declared.ber.de.parser.ParseError.TheVariants.{Der as D
 use Rattle.rasn_de.specs.Causes.{error_kind}
 use Rattle.rasn_de.specs.ParserViews.{peeked_tag}
 use Rattle.rasn_schema.specs.declared.types.«Type».{«Type»}
-use Rattle.rasn_schema.specs.declared.types.«Type».TheVariants.{Leaf, Enumerated, Any, Tagged, Choice, Sequence, Set, SequenceOf, SetOf}
+use Rattle.rasn_schema.specs.declared.types.«Type».TheVariants.{Leaf, Enumerated, Any, Tagged, Choice, Sequence, Set, SequenceOf, SetOf, Unknown}
 use Rattle.rasn_schema.specs.declared.types.Component.{Component}
 use Rattle.rasn_schema.specs.declared.types.Presence.{Presence}
 use Rattle.rasn_schema.specs.declared.types.Presence.TheVariants.{Required, Optional, Addition, Default}
@@ -39,6 +39,7 @@ order_of (Sequence tag ps) = Unordered
 order_of (Set name tag ps) = ByTag
 order_of (SequenceOf tag id c) = Unordered
 order_of (SetOf tag id c) = ByOctets
+order_of Unknown = Unordered
 
 -- the default that the part of a value of the type has
 abbrev pub default_in : Presence → Option Value
@@ -61,6 +62,7 @@ default_of (Sequence tag ps) k = default_at (slice_get ps.items k)
 default_of (Set name tag ps) k = default_at (slice_get ps.items k)
 default_of (SequenceOf tag id c) k = None
 default_of (SetOf tag id c) k = None
+default_of Unknown k = None
 
 -- the same of a part that may hold others
 abbrev pub order_if : Option «Type» → Order

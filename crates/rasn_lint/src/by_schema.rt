@@ -23,7 +23,8 @@ use thiserror::Error;
 pub enum OpenTypes {
     /// They are what the reader of DER reads: of a value of any tag, a definite length.
     Unexamined,
-    /// They are also well formed, as [`is_well_formed`](crate::der::is_well_formed) tells.
+    /// They are also well formed, as [`is_well_formed`](crate::der::is_well_formed) tells. So is each
+    /// unknown value at the end of an extensible SEQUENCE.
     Examined,
 }
 
@@ -237,7 +238,7 @@ pub fn rest_after<'input>(parts: &[Span<'_>], octets: &'input [u8]) -> &'input [
 
 /// Returns every departure from DER of octets that BER reads as a value of the type, in the order
 /// of the bytes: nothing exactly if DER reads them and, where open types are looked into, the
-/// octets of each are well formed.
+/// octets of each are well formed, and each unknown value is.
 ///
 /// Each part of the value is judged on its own, in its place, its header and its contents.
 ///

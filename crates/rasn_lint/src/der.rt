@@ -69,7 +69,7 @@ fn keep<'input>(outer: &mut Vec<&'input [u8]>, octets: &'input [u8]) -> Result<(
 /// most half of the SET's octets: of n octets each is compared in at most log2 n of the SETs around
 /// it. So the time is linear where no SET is inside a SET, and at most n log2 n.
 #[tactic(auto, using(rasn_de::proofs::Leaves::Integer::empty_is, rasn_de::proofs::Leaves::Integer::not_empty, crate::proofs::Pending::starts, crate::proofs::Pending::closes, crate::proofs::Pending::ends, crate::proofs::Pending::none_begins, crate::proofs::Pending::passes, crate::proofs::Pending::opens, crate::proofs::Pending::refuses, crate::proofs::Pending::smaller_closed, crate::proofs::Pending::smaller_passed, crate::proofs::Pending::smaller_opened))]
-fn are_encodings(alloc: Global, contents: &[u8]) -> Result<bool, AllocError>
+pub(crate) fn are_encodings(alloc: Global, contents: &[u8]) -> Result<bool, AllocError>
     ensures { IfOk result (λ b. IsWhether b (AreEncodings contents.now)) }
 {
     let mut rest = contents;

@@ -19,13 +19,15 @@ use std::alloc::{AllocError, Global};
 const SEQUENCE: u8 = 0x30;
 
 /// Returns whether a value of the type has a header of its own, which DER reads by its rules: one
-/// of a CHOICE has that of its alternative, and in an open type headers may have any form.
+/// of a CHOICE has that of its alternative, and in an open type and unknown values headers may have
+/// any form.
 pub fn has_own_header(ty: &Type) -> bool
     ensures { result ≡ has_own_header ty.now }
 {
     match ty {
         Type::Choice { .. } => false,
         Type::Any { tag } => *tag != Tag::EOC,
+        Type::Unknown => false,
         _ => true,
     }
 }

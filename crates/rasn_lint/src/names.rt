@@ -1,6 +1,6 @@
 //! The names on the way to a part.
 
-use rasn_schema::{Alternative, Component, Type, TypeId, type_at};
+use rasn_schema::{Alternative, Component, Type, TypeId, is_unknown_at, type_at};
 use std::fmt;
 
 /// Writes each index in brackets.
@@ -32,7 +32,7 @@ fn named_in(ty: &Type, index: usize) -> Option<(&str, TypeId)> {
 }
 
 /// Writes the names of the parts on the way from a type, with a point between two: of an element
-/// its index in brackets, of an explicit tag nothing. Returns whether there are some.
+/// and of unknown values the index in brackets, of an explicit tag nothing. Returns whether there are some.
 pub fn write_names<W: fmt::Write>(
     f: &mut fmt::Formatter<W>,
     types: &[Type],
@@ -55,8 +55,12 @@ pub fn write_names<W: fmt::Write>(
                 let Some((name, next)) = named_in(ty, *step) else {
                     break;
                 };
-                f.write_str(if is_first { "" } else { "." })?;
-                f.write_str(name)?;
+                if is_unknown_at(types, next) {
+                    write!(f, "[{step}]")?;
+                } else {
+                    f.write_str(if is_first { "" } else { "." })?;
+                    f.write_str(name)?;
+                }
                 id = next;
             }
             None => break,

@@ -1,17 +1,18 @@
 //! What departs inside an open type, where no type is known.
-ghost use Rattle.std.specs.Prelude.{◌≡◌, ◌<◌, ◌^◌, ◌++◌, ◌∷◌, ◌↔◌, [], ℕ, List, length, OnOk, MatchOption, Some};
+ghost use Rattle.std.specs.Prelude.{◌≡◌, ◌<◌, ◌^◌, ◌++◌, ◌∷◌, ◌↔◌, [], ℕ, List, length, OnOk, IfSome, MatchOption, Some};
 ghost use Rattle.std.specs.List.{AllByRecursion};
 ghost use Rattle.rasn_types.specs.Shapes.{looked_for};
 ghost use Rattle.rasn_types.specs.Truth.{IsWhether};
-ghost use Rattle.rasn_lint.specs.Judged.{AreOpenDepartures};
-ghost use Rattle.rasn_lint.specs.Open.{IsEndLen, IsEndOf, IsAfterHeader, IsFoundIn, IsExtra, IsAfter, AllPending, IsReached, IsKept, IsInside, GrowsInside};
+ghost use Rattle.rasn_schema.specs.declared.types.«Type».TheVariants.{Any};
+ghost use Rattle.rasn_lint.specs.Judged.{AreOfUnknown, AreOpenDepartures};
+ghost use Rattle.rasn_lint.specs.Open.{IsEndLen, IsEndOf, IsAfterHeader, IsFoundIn, IsExtra, IsAfter, AllPending, IsReached, IsKept, IsInside, GrowsInside, GrowsUnknown};
 ghost use Rattle.rasn_lint.specs.Untyped.{HasOpen, HasContents, HasNoContents, IsFollowedBy, IsUnread};
 ghost use Rattle.rasn_lint.specs.WellFormed.{IsWellFormed};
 ghost use Rattle.rasn_lint.specs.declared.departure.Departure.{Departure};
 ghost use Rattle.rasn_lint.specs.declared.open.Wanted.TheVariants.{First};
 
 use crate::departure::{Aspect, Departure};
-use crate::der::is_well_formed;
+use crate::der::{are_encodings, is_well_formed};
 use crate::header::is_constructed;
 use crate::judge::{Way, note, note_faults, site_at};
 use crate::place::{reader_of, tag_of};
@@ -311,7 +312,87 @@ fn note_inside(
     Ok(())
 }
 
-/// Appends what departs inside a part, or the first of it, if it is a value of an open type.
+/// Appends what departs inside a part, or the first of it, if it is a value of an open type with this
+/// tag.
+fn note_any(
+    alloc: Global,
+    list: &mut Vec<Departure>,
+    wanted: Wanted,
+    tag: Tag,
+    way: Way<'_, '_>,
+) -> Result<(), AllocError>
+    ensures { OnOk result ((ds : List Departure) × (list.new.items ≡ list.old.items ++ ds) × AreOpenDepartures way.entry.len way.entry.path.now way.entry.part.now (Some (Any tag)) ds) }
+{
+    match contents_at(alloc, tag, way.part.octets) {
+        Some(contents) => note_inside(alloc, list, wanted, way, contents),
+        None => Ok(()),
+    }
+}
+
+/// Returns the octets of the first of these encodings, as BER skips it, and the others.
+fn split_first(alloc: Global, octets: &[u8]) -> Option<(&[u8], &[u8])>
+    ensures { IfSome result (λ s. octets.now ≡ s.0.now ++ s.1.now) }
+{
+    let after = after_first(alloc, octets)?;
+    let len = octets.len().saturating_sub(after.len());
+    Some((&octets[..len], &octets[len..]))
+}
+
+/// Appends what departs inside each of the unknown values, or the first of it.
+fn note_each(
+    alloc: Global,
+    list: &mut Vec<Departure>,
+    wanted: Wanted,
+    way: Way<'_, '_>,
+) -> Result<(), AllocError>
+    ensures { OnOk result (GrowsUnknown way.entry.len way.entry.part.now way.entry.path.now list.old.items list.new.items) }
+{
+    let octets = way.part.octets;
+    let before = list.len();
+    let mut rest = octets;
+    // Each encoding has an octet of its own.
+    'values: for _ in octets {
+        let Some((first, others)) = split_first(alloc, rest) else {
+            return Ok(());
+        };
+        let header_len = octets.len().saturating_sub(rest.len());
+        let contents = Contents {
+            octets: first,
+            header_len,
+        };
+        note_inside(alloc, list, wanted, way, contents)?;
+        if is_enough(wanted, list.len().saturating_sub(before)) {
+            return Ok(());
+        }
+        rest = others;
+    }
+    Ok(())
+}
+
+/// Appends what departs inside unknown values, or the first of it: nothing exactly if they are
+/// well-formed encodings, one after the other.
+fn note_unknown(
+    alloc: Global,
+    list: &mut Vec<Departure>,
+    wanted: Wanted,
+    way: Way<'_, '_>,
+) -> Result<(), AllocError>
+    ensures { OnOk result ((ds : List Departure) × (list.new.items ≡ list.old.items ++ ds) × AreOfUnknown way.entry.len way.entry.path.now way.entry.part.now ds) }
+{
+    let octets = way.part.octets;
+    if are_encodings(alloc, octets)? {
+        return Ok(());
+    }
+    let before = list.len();
+    note_each(alloc, list, wanted, way)?;
+    if list.len() == before {
+        note_whole(alloc, list, way, octets, way.part.left)?;
+    }
+    Ok(())
+}
+
+/// Appends what departs inside a part, or the first of it, if it is a value of an open type, or unknown
+/// values.
 pub fn note_open(
     alloc: Global,
     list: &mut Vec<Departure>,
@@ -321,11 +402,9 @@ pub fn note_open(
 ) -> Result<(), AllocError>
     ensures { OnOk result ((ds : List Departure) × (list.new.items ≡ list.old.items ++ ds) × AreOpenDepartures way.entry.len way.entry.path.now way.entry.part.now (Some ty.now) ds) }
 {
-    let Type::Any { tag } = ty else {
-        return Ok(());
-    };
-    match contents_at(alloc, *tag, way.part.octets) {
-        Some(contents) => note_inside(alloc, list, wanted, way, contents),
-        None => Ok(()),
+    match ty {
+        Type::Any { tag } => note_any(alloc, list, wanted, *tag, way),
+        Type::Unknown => note_unknown(alloc, list, wanted, way),
+        _ => Ok(()),
     }
 }

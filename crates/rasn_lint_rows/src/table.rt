@@ -14,6 +14,11 @@ const ATTRIBUTE: &[Part] = &[
     ("value", Occurrence::Required, 9),
 ];
 
+const EXTENSIBLE: &[Part] = &[
+    ("flag", Occurrence::Required, 0),
+    ("...", Occurrence::Required, 22),
+];
+
 const WITH_DEFAULT: &[Part] = &[
     ("number", Occurrence::Required, 1),
     ("flag", Occurrence::False, 0),
@@ -58,6 +63,8 @@ pub const TYPES: &[Definition] = &[
     Definition::Choice("Choice", &[("number", 1), ("tagged", 18)]),
     Definition::SequenceOf(Tag::SEQUENCE, 10, Constraints::NONE),
     Definition::Any(CONTEXT_3),
+    Definition::Unknown,
+    Definition::Sequence(Tag::SEQUENCE, EXTENSIBLE),
 ];
 
 /// The names of the types that rows have.
@@ -82,4 +89,5 @@ pub const NAMES: &[(&str, usize)] = &[
     ("Choice", 19),
     ("Attributes", 20),
     ("OpenTagged", 21),
+    ("Extensible", 23),
 ];

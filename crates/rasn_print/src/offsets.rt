@@ -4,7 +4,9 @@ use crate::dump::push_indent;
 use crate::leaf::{hexadecimal_text, leaf_text};
 use crate::reading::{ReadError, refused};
 use rasn_dynamic::{MessageParts, Part, decode, parts_of};
-use rasn_schema::{Alternative, Component, LeafKind, NamedNumber, Schema, Type, TypeId, type_at};
+use rasn_schema::{
+    Alternative, Component, LeafKind, NamedNumber, Schema, Type, TypeId, is_unknown_at, type_at,
+};
 use rasn_types::types::Codec;
 use std::alloc::{AllocError, Global};
 
@@ -46,9 +48,12 @@ fn text_of(
             Ok(Some(part)) => {
                 let path = parts.path.as_slice();
                 around.truncate(path.len());
-                push_header(&mut text, &part, path.len())?;
-                push_name(&mut text, schema, around.as_slice(), path, title)?;
-                push_value(&mut text, alloc, rule, schema, &part)?;
+                // Of unknown values there may be none.
+                if !part.octets.is_empty() {
+                    push_header(&mut text, schema, &part, path.len())?;
+                    push_name(&mut text, schema, around.as_slice(), path, title)?;
+                    push_value(&mut text, alloc, rule, schema, &part)?;
+                }
                 around.push(part.id)?;
             }
             Ok(None) => break,
@@ -58,12 +63,21 @@ fn text_of(
     Ok(text)
 }
 
-/// Appends where a part begins and its lengths.
-fn push_header(text: &mut String, part: &Part<'_>, depth: usize) -> Result<(), AllocError> {
+/// Appends where a part begins and its lengths. Unknown values have no header around them.
+fn push_header(
+    text: &mut String,
+    schema: &Schema,
+    part: &Part<'_>,
+    depth: usize,
+) -> Result<(), AllocError> {
     let offset = part.offset;
-    let header = part.header_len;
+    let (header, is_indefinite) = if is_unknown_at(schema.types(), part.id) {
+        (0, false)
+    } else {
+        (part.header_len, part.is_indefinite)
+    };
     write!(text, "{offset:>6} {header:>2}+")?;
-    if part.is_indefinite {
+    if is_indefinite {
         text.push_str("indef ")?;
     } else {
         let len = part.octets.len().saturating_sub(header);
@@ -120,7 +134,7 @@ fn push_value(
             let kind = LeafKind::Integer;
             part_text(alloc, rule, schema, part, kind, numbers.as_slice())?
         }
-        Some(Type::Any { .. }) => hexadecimal_text(alloc, part.octets)?,
+        Some(Type::Any { .. } | Type::Unknown) => hexadecimal_text(alloc, part.octets)?,
         _ => return text.push('\n'),
     };
     writeln!(text, ": {shown}")

@@ -125,6 +125,7 @@ impl Printer<'_> {
                 self.print_elements(below, place, view, *element)
             }
             Type::Any { .. } => self.print_octets(below, place, view, Form::Open),
+            Type::Unknown => self.print_additions(place, view.value),
             Type::Enumerated { numbers, .. } => {
                 self.print_leaf(place, LeafKind::Integer, numbers.as_slice(), view.value)
             }
@@ -306,6 +307,19 @@ impl Printer<'_> {
             None if form == Form::Open => self.print_encoding(place, octets),
             None => self.print_leaf(place, LeafKind::OctetString, &[], value),
         }
+    }
+
+    /// Appends the lines of unknown values, each of which is an encoding.
+    fn print_additions(&mut self, place: Place<'_>, value: &Value<'_>) -> Result<(), AllocError> {
+        let Value::Items(values) = value else {
+            return Ok(());
+        };
+        for value in values {
+            if let Value::Octets(octets) = value {
+                self.print_encoding(place, octets.as_slice())?;
+            }
+        }
+        Ok(())
     }
 
     /// Appends the lines of an encoding of a type that isn't known.

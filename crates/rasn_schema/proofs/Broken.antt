@@ -12,14 +12,14 @@ use Rattle.rasn_schema.specs.declared.types.Alternative.{Alternative}
 use Rattle.rasn_schema.specs.declared.types.NamedNumber.{NamedNumber}
 use Rattle.rasn_schema.specs.declared.types.LeafKind.{LeafKind}
 use Rattle.rasn_schema.specs.declared.types.«Type».{«Type»}
-use Rattle.rasn_schema.specs.declared.types.«Type».TheVariants.{Leaf, Enumerated, Any, Tagged, Choice, Sequence, Set, SequenceOf, SetOf}
+use Rattle.rasn_schema.specs.declared.types.«Type».TheVariants.{Leaf, Enumerated, Any, Tagged, Choice, Sequence, Set, SequenceOf, SetOf, Unknown}
 use Rattle.rasn_schema.specs.declared.error.SchemaError.{SchemaError}
-use Rattle.rasn_schema.specs.declared.error.SchemaError.TheVariants.{ReservedTag, ConstructedTag, LateInner, NumbersClash, NoNumbers, NoAlternatives, LateAlternative, UntaggedAlternative, AlternativesClash, ComponentsClash, UntaggedComponent, AdditionInSet, UntaggedInSet, SetClash, SetOutOfOrder, UnfitDefault}
+use Rattle.rasn_schema.specs.declared.error.SchemaError.TheVariants.{ReservedTag, ConstructedTag, LateInner, NumbersClash, NoNumbers, NoAlternatives, LateAlternative, UntaggedAlternative, AlternativesClash, ComponentsClash, UntaggedComponent, AdditionInSet, UntaggedInSet, SetClash, SetOutOfOrder, UnfitDefault, MisplacedUnknown}
 use Rattle.rasn_schema.specs.Shapes.{kind_of, presence_of, shape_of_type}
-use Rattle.rasn_schema.specs.Schemas.{IsPrefix, AreDistinct, IsBefore, AreLowerAndTagged, AreDistinctAlternatives, AreDistinctNumbers, AreToldInOrder, IsRecognizable, IsToldFrom, AreTagged, AreInOrderOfTags, IsWellFormed, AreWellFormed, AreChoicesWellFormed, AreOthersWellFormed, HaveFitDefaults, IsSchema, own_at, begin_at}
+use Rattle.rasn_schema.specs.Schemas.{IsPrefix, IsUnknown, EndsUnknown, AreDistinct, IsBefore, AreLowerAndTagged, AreDistinctAlternatives, AreDistinctNumbers, AreToldInOrder, IsRecognizable, IsToldFrom, AreTagged, AreInOrderOfTags, IsWellFormed, AreWellFormed, AreChoicesWellFormed, AreOthersWellFormed, HaveFitDefaults, IsSchema, own_at, begin_at}
 use Rattle.rasn_schema.specs.FirstTags.{IsAlwaysThere}
 use Rattle.rasn_schema.proofs.Firsts.{not_below}
-use Rattle.rasn_schema.specs.Faults.{IsTagFault, IsTaggedFault, IsLeafFault, IsNumbersFault, IsAlternativesFault, IsSequenceFault, IsSetFault, IsFaultOf, SomeFault, IsDefaultFault, IsFault}
+use Rattle.rasn_schema.specs.Faults.{IsListFault, IsTaggedFault, IsLeafFault, IsNumbersFault, IsAlternativesFault, IsSequenceFault, IsSetFault, IsFaultOf, SomeFault, IsDefaultFault, IsFault}
 
 -- the element at an index that is within the list
 slice_get_in : {X : Type 0} (l : List X) (i : ℕ) → i < length l → (x : X) × (Some x ≡ slice_get l i)
@@ -27,25 +27,26 @@ slice_get_in [] i h = absurd (omega (arith, h))
 slice_get_in (x ∷ l) zero h = (x, refl)
 slice_get_in (x ∷ l) (suc i) h = slice_get_in l i (omega (arith, h))
 
-tag_broken : (id : ℕ) (tag : Tag) (e : SchemaError) → IsTagFault id tag e → (tag ≢ eoc) → ⊥
-tag_broken id tag (ReservedTag k) h w = w h.1
-tag_broken id tag (ConstructedTag k) h w = h
-tag_broken id tag (LateInner k) h w = h
-tag_broken id tag (NumbersClash k i j) h w = h
-tag_broken id tag (NoNumbers k) h w = h
-tag_broken id tag (NoAlternatives k) h w = h
-tag_broken id tag (LateAlternative k i) h w = h
-tag_broken id tag (UntaggedAlternative k i) h w = h
-tag_broken id tag (AlternativesClash k i j) h w = h
-tag_broken id tag (ComponentsClash k i j) h w = h
-tag_broken id tag (UntaggedComponent k i) h w = h
-tag_broken id tag (AdditionInSet k i) h w = h
-tag_broken id tag (UntaggedInSet k i) h w = h
-tag_broken id tag (SetClash k i j) h w = h
-tag_broken id tag (SetOutOfOrder k i j) h w = h
-tag_broken id tag (UnfitDefault k i) h w = h
+list_broken : (f : ℕ → Shape) (id : ℕ) (tag : Tag) (j : ℕ) (e : SchemaError) → IsListFault f id tag j e → (tag ≢ eoc) × (IsUnknown (f j) → ⊥) → ⊥
+list_broken f id tag m (ReservedTag k) h w = w.0 h.1
+list_broken f id tag m (ConstructedTag k) h w = h
+list_broken f id tag m (LateInner k) h w = h
+list_broken f id tag m (NumbersClash k i j) h w = h
+list_broken f id tag m (NoNumbers k) h w = h
+list_broken f id tag m (NoAlternatives k) h w = h
+list_broken f id tag m (LateAlternative k i) h w = h
+list_broken f id tag m (UntaggedAlternative k i) h w = h
+list_broken f id tag m (AlternativesClash k i j) h w = h
+list_broken f id tag m (ComponentsClash k i j) h w = h
+list_broken f id tag m (UntaggedComponent k i) h w = h
+list_broken f id tag m (AdditionInSet k i) h w = h
+list_broken f id tag m (UntaggedInSet k i) h w = h
+list_broken f id tag m (SetClash k i j) h w = h
+list_broken f id tag m (SetOutOfOrder k i j) h w = h
+list_broken f id tag m (UnfitDefault k i) h w = h
+list_broken f id tag m (MisplacedUnknown k i) h w = w.1 h.1
 
-tagged_broken : (f : ℕ → Shape) (id : ℕ) (tag : Tag) (j : ℕ) (e : SchemaError) → IsTaggedFault f id tag j e → (tag ≢ eoc) × (IsPrefix (f j) → j < id) → ⊥
+tagged_broken : (f : ℕ → Shape) (id : ℕ) (tag : Tag) (j : ℕ) (e : SchemaError) → IsTaggedFault f id tag j e → (tag ≢ eoc) × (IsPrefix (f j) → j < id) × (IsUnknown (f j) → ⊥) → ⊥
 tagged_broken f id tag m (ReservedTag k) h w = w.0 h.1
 tagged_broken f id tag m (ConstructedTag k) h w = h
 tagged_broken f id tag m (LateInner k) h w = h.2 (w.1 h.1)
@@ -62,6 +63,7 @@ tagged_broken f id tag m (UntaggedInSet k i) h w = h
 tagged_broken f id tag m (SetClash k i j) h w = h
 tagged_broken f id tag m (SetOutOfOrder k i j) h w = h
 tagged_broken f id tag m (UnfitDefault k i) h w = h
+tagged_broken f id tag m (MisplacedUnknown k i) h w = w.2 h.1
 
 leaf_broken : (id : ℕ) (kind : LeafKind) (tag : Tag) (e : SchemaError) → IsLeafFault id kind tag e → (tag ≢ eoc) × IsBitFree (family (kind_of kind)) tag → ⊥
 leaf_broken id kind tag (ReservedTag k) h w = w.0 h.1
@@ -80,6 +82,7 @@ leaf_broken id kind tag (UntaggedInSet k i) h w = h
 leaf_broken id kind tag (SetClash k i j) h w = h
 leaf_broken id kind tag (SetOutOfOrder k i j) h w = h
 leaf_broken id kind tag (UnfitDefault k i) h w = h
+leaf_broken id kind tag (MisplacedUnknown k i) h w = h
 
 numbers_broken : (id : ℕ) (tag : Tag) (ns : List NamedNumber) (e : SchemaError) → IsNumbersFault id tag ns e → (tag ≢ eoc) × (ns ≢ []) × AreDistinctNumbers ns → ⊥
 numbers_broken id tag ns (ReservedTag k) h w = w.0 h.1
@@ -98,6 +101,7 @@ numbers_broken id tag ns (UntaggedInSet k i) h w = h
 numbers_broken id tag ns (SetClash k i j) h w = h
 numbers_broken id tag ns (SetOutOfOrder k i j) h w = h
 numbers_broken id tag ns (UnfitDefault k i) h w = h
+numbers_broken id tag ns (MisplacedUnknown k i) h w = h
 
 choice_broken : (f : ℕ → Shape) (id : ℕ) (ks : List Alternative) (e : SchemaError) → IsAlternativesFault f id ks e → (ks ≢ []) × AreLowerAndTagged f id ks × AreDistinctAlternatives f ks → ⊥
 choice_broken f id ks (ReservedTag k) h w = h
@@ -116,13 +120,14 @@ choice_broken f id ks (UntaggedInSet k i) h w = h
 choice_broken f id ks (SetClash k i j) h w = h
 choice_broken f id ks (SetOutOfOrder k i j) h w = h
 choice_broken f id ks (UnfitDefault k i) h w = h
+choice_broken f id ks (MisplacedUnknown k i) h w = h
 
 next : (own : ℕ → Option Tag) (f : ℕ → Shape) (ps : List Component) (i : ℕ) (p : Component) → i + 1 < length ps → Some p ≡ slice_get ps i → (IsAlwaysThere (presence_of p.presence) → ⊥) → own p.type_id.0 ≡ None
     → (IsRecognizable (f p.type_id.0) → ⊥) → AreToldInOrder own f ps → ⊥
 next own f ps i p l d a n r w = let q = slice_get_in ps (i + 1) l in
     r (subst (λ o. IsToldFrom o (f p.type_id.0) (f q.0.type_id.0)) n (w i (i + 1) p q.0 d q.1 a (omega arith, λ m r u v. absurd (omega (arith, u, v))))).0
 
-sequence_broken : (own : ℕ → Option Tag) (f : ℕ → Shape) (id : ℕ) (tag : Tag) (ps : List Component) (e : SchemaError) → IsSequenceFault own f id tag ps e → (tag ≢ eoc) × AreToldInOrder own f ps → ⊥
+sequence_broken : (own : ℕ → Option Tag) (f : ℕ → Shape) (id : ℕ) (tag : Tag) (ps : List Component) (e : SchemaError) → IsSequenceFault own f id tag ps e → (tag ≢ eoc) × AreToldInOrder own f ps × EndsUnknown f ps → ⊥
 sequence_broken own f id tag ps (ReservedTag k) h w = w.0 h.1
 sequence_broken own f id tag ps (ConstructedTag k) h w = h
 sequence_broken own f id tag ps (LateInner k) h w = h
@@ -139,6 +144,7 @@ sequence_broken own f id tag ps (UntaggedInSet k i) h w = h
 sequence_broken own f id tag ps (SetClash k i j) h w = h
 sequence_broken own f id tag ps (SetOutOfOrder k i j) h w = h
 sequence_broken own f id tag ps (UnfitDefault k i) h w = h
+sequence_broken own f id tag ps (MisplacedUnknown k i) (g, (p, d, n)) w = n (w.2 i p d)
 
 set_broken : (f : ℕ → Shape) (id : ℕ) (tag : Tag) (ps : List Component) (e : SchemaError) → IsSetFault f id tag ps e → (tag ≢ eoc) × AreTagged f ps × AreInOrderOfTags f ps → ⊥
 set_broken f id tag ps (ReservedTag k) h w = w.0 h.1
@@ -157,6 +163,7 @@ set_broken f id tag ps (UntaggedInSet k i) (g, (p, e, n)) w = n (w.1 i p e).1
 set_broken f id tag ps (SetClash k i j) (g, l, (p, q, d, e, n)) w = n (λ t a b. not_below t (w.2 i j p q l d e t a t b))
 set_broken f id tag ps (SetOutOfOrder k i j) (g, l, (p, q, d, e, n)) w = n (w.2 i j p q l d e)
 set_broken f id tag ps (UnfitDefault k i) h w = h
+set_broken f id tag ps (MisplacedUnknown k i) h w = h
 
 type_broken : (own : ℕ → Option Tag) (f : ℕ → Shape) (id : ℕ) (ty : «Type») (e : SchemaError) → IsFaultOf own f id ty e → IsWellFormed own f id ty → ⊥
 type_broken own f id (Leaf kind tag c names) e h w = leaf_broken id kind tag e h w
@@ -166,8 +173,9 @@ type_broken own f id (Tagged tag k) e h w = tagged_broken f id tag k.0 e h w
 type_broken own f id (Choice name ks) e h w = choice_broken f id ks.items e h w
 type_broken own f id (Sequence tag ps) e h w = sequence_broken own f id tag ps.items e h w
 type_broken own f id (Set name tag ps) e h w = set_broken f id tag ps.items e h w
-type_broken own f id (SequenceOf tag k c) e h w = tag_broken id tag e h w
-type_broken own f id (SetOf tag k c) e h w = tag_broken id tag e h w
+type_broken own f id (SequenceOf tag k c) e h w = list_broken f id tag k.0 e h w
+type_broken own f id (SetOf tag k c) e h w = list_broken f id tag k.0 e h w
+type_broken own f id Unknown e h w = h
 
 default_broken : (types : List «Type») (e : SchemaError) → IsDefaultFault types e → HaveFitDefaults types → ⊥
 default_broken types (ReservedTag k) h w = h
@@ -186,6 +194,7 @@ default_broken types (UntaggedInSet k i) h w = h
 default_broken types (SetClash k i j) h w = h
 default_broken types (SetOutOfOrder k i j) h w = h
 default_broken types (UnfitDefault k i) (ty, e, h) w = w k.0 ty e i h
+default_broken types (MisplacedUnknown k i) h w = h
 
 -- Types that have a fault aren't a schema.
 pub no_schema : (types : List «Type») (e : SchemaError) → IsFault types e → IsSchema types → ⊥
@@ -231,6 +240,7 @@ module _ (own : ℕ → Option Tag) (f : ℕ → Shape) (types : List «Type») 
       go (Set name tag ps) e = o k (Set name tag ps) e (λ h. h)
       go (SequenceOf tag j b) e = o k (SequenceOf tag j b) e (λ h. h)
       go (SetOf tag j b) e = o k (SetOf tag j b) e (λ h. h)
+      go Unknown e = o k Unknown e (λ h. h)
 
 module _ (types ts us vs : List «Type») (levels : ℕ) (s : ts ≡ types) (u : us ≡ types) (v : vs ≡ types) (n : levels ≡ suc (length types)) where
   -- the same of slices that have the types

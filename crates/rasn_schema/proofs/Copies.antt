@@ -10,7 +10,7 @@ use Rattle.rasn_schema.specs.declared.types.LeafKind.{LeafKind}
 use Rattle.rasn_schema.specs.declared.types.Alternative.{Alternative}
 use Rattle.rasn_schema.specs.declared.types.Component.{Component}
 use Rattle.rasn_schema.specs.declared.types.«Type».{«Type»}
-use Rattle.rasn_schema.specs.declared.types.«Type».TheVariants.{Leaf, Enumerated, Any, Tagged, Choice, Sequence, Set, SequenceOf, SetOf}
+use Rattle.rasn_schema.specs.declared.types.«Type».TheVariants.{Leaf, Enumerated, Any, Tagged, Choice, Sequence, Set, SequenceOf, SetOf, Unknown}
 use Rattle.rasn_schema.specs.declared.value.Value.{Value, Integer, Bits, Octets, Text, Items, Items', Elements, Elements', Chosen', Row_of-Value, end_of-Value, more_of-Value, items-the_row-Value, items_hidden-the_row-Value-0}
 use Rattle.rasn_schema.specs.Trees.{tree_of, trees_in}
 use Rattle.rasn_schema.specs.Shapes.{presence_of, numbers_of}
@@ -93,15 +93,15 @@ set_copied P k (Elements' _ row) (Elements' _ other) h f = k _ row _ h f
 set_copied P k (Elements' _ row) _ h f = absurd h
 set_copied P k _ v h f = absurd f
 
+each_copied : (P : Value → Type 0) → ((w v : Value) → IsCopy w v → P w → P v) → (n : Count) (row : Row_of-Value n) (vs : List Value) → AreCopies row vs → EachFits P (items-the_row-Value n row) → EachFits P vs
+each_copied P more n end_of-Value vs e f = subst (EachFits P) (sym e) tt
+each_copied P more n (more_of-Value w rest) vs (v, us, e, c, h) (f, fs) = subst (EachFits P) (sym e) (more w v c f, each_copied P more _ rest us h fs)
+
 module _ (g : ℕ → Value → Type 0) (more : (j : ℕ) (w v : Value) → IsCopy w v → g j w → g j v) where
   alternative_copied : (ks : List Alternative) (w v : Value) → IsCopy w v → IsChosen (AlternativeFits g ks) w → IsChosen (AlternativeFits g ks) v
   alternative_copied ks (Chosen' k _ w) (Chosen' i _ v) (e, h) (a, at, f) = (a, at ∙ ap (slice_get ks) (sym e), more a.type_id.0 w v h f)
   alternative_copied ks (Chosen' k _ w) _ h f = absurd h
   alternative_copied ks _ v h f = absurd f
-
-  each_copied : (j : ℕ) (n : Count) (row : Row_of-Value n) (vs : List Value) → AreCopies row vs → EachFits (g j) (items-the_row-Value n row) → EachFits (g j) vs
-  each_copied j n end_of-Value vs e f = subst (EachFits (g j)) (sym e) tt
-  each_copied j n (more_of-Value w rest) vs (v, us, e, c, h) (f, fs) = subst (EachFits (g j)) (sym e) (more j w v c f, each_copied j _ rest us h fs)
 
   component_copied : (p : Component) (w v : Value) → IsCopy w v → ComponentFits g p w → ComponentFits g p v
   component_copied p w v c (inl left) = inl (subst (IsLeftOutAs (presence_of p.presence)) (sym (copy_means w v c)) left)
@@ -121,8 +121,9 @@ module _ (g : ℕ → Value → Type 0) (more : (j : ℕ) (w v : Value) → IsCo
   by_copied (Choice name ks) w v h f = alternative_copied ks.items w v h f
   by_copied (Sequence tag ps) w v h f = list_copied _ (components_copied ps.items) w v h f
   by_copied (Set name tag ps) w v h f = list_copied _ (components_copied ps.items) w v h f
-  by_copied (SequenceOf tag k c) w v h f = list_copied _ (each_copied k.0) w v h f
-  by_copied (SetOf tag k c) w v h f = set_copied _ (each_copied k.0) w v h f
+  by_copied (SequenceOf tag k c) w v h f = list_copied _ (each_copied (g k.0) (more k.0)) w v h f
+  by_copied (SetOf tag k c) w v h f = set_copied _ (each_copied (g k.0) (more k.0)) w v h f
+  by_copied Unknown w v h f = list_copied _ (each_copied AreOctets octets_copied) w v h f
 
   found_copied : (o : Option «Type») (w v : Value) → IsCopy w v → FitsFound g o w → FitsFound g o v
   found_copied None w v c f = f

@@ -11,7 +11,7 @@ use Rattle.rasn_types.specs.Shapes.{Tree, absent, Shape, choice, own, looked_for
 use Rattle.rasn_types.specs.Readings.{Reading, ReadsContents, definite_form, indefinite_form, ReadsMany, ReadsFrom, ReadsOptional, IsNoDefault, ReadsPart, ReadsInOrder, AllMissing, presences_in, HasRequired, AreAllLeftOut, ReadsSeq, ReadsChoice, ByPart, ReadsSet}
 use Rattle.rasn_types.specs.Grammar.{Reads, parts_of, ReadsList, ReadsSetOf}
 use Rattle.rasn_schema.specs.declared.types.«Type».{«Type»}
-use Rattle.rasn_schema.specs.declared.types.«Type».TheVariants.{Leaf, Enumerated, Any, Tagged, Choice, Sequence, Set, SequenceOf, SetOf}
+use Rattle.rasn_schema.specs.declared.types.«Type».TheVariants.{Leaf, Enumerated, Any, Tagged, Choice, Sequence, Set, SequenceOf, SetOf, Unknown}
 use Rattle.rasn_schema.specs.declared.types.Component.{Component}
 use Rattle.rasn_schema.specs.declared.types.Alternative.{Alternative}
 use Rattle.rasn_schema.specs.Shapes.{found_by, type_by, alternatives_by, components_by, key_of, presence_by, tag_at, shape_of_type}
@@ -19,7 +19,7 @@ use Rattle.rasn_schema.specs.Schemas.{IsSchema}
 use Rattle.rasn_schema.specs.Depth.{AreDeep, AreReadAlike}
 use Rattle.rasn_schema.proofs.Presences.{missing_by, no_default_by, required_by}
 use Rattle.rasn_schema.proofs.TypeShapes.{own_is, shape_none}
-use Rattle.rasn_schema.proofs.Schemas.{AreBefore, IsBehindOwn, all_before, settled, none_first, schema_lawful}
+use Rattle.rasn_schema.proofs.Schemas.{AreBefore, IsBehindOwn, all_before, settled, none_first, schema_readable}
 
 -- Each reading by the one is a reading by the other.
 abbrev IsIn : {X : Type 0} → Reading X → Reading X → Type 0
@@ -171,6 +171,7 @@ module _ (f g : ℕ → Shape) (rule : Codec) (depth id : ℕ) (low : (k : ℕ) 
   type_in (Set name tag ps) b input t rest (p, r) = (p, inside_in _ _ (λ c. set_in f g rule (depth - 1) c (one p) ps.items) rule tag true input t rest r)
   type_in (SequenceOf tag k c) b input t rest (p, r) = (p, inside_in _ _ (λ e. list_in _ _ ((two p k.0).reads e) c.size e) rule tag true input t rest r)
   type_in (SetOf tag k c) b input t rest (p, r) = (p, inside_in _ _ (λ e. set_of_in _ _ ((two p k.0).reads e) rule c.size e) rule tag true input t rest r)
+  type_in Unknown b input t rest r = r
 
   found_in : (o : Option «Type») → IsBehindOwn id o → IsIn (Reads rule (found_by f o) depth closing) (Reads rule (found_by g o) depth closing)
   unfolding Reads
@@ -190,6 +191,7 @@ found_key f g (Some (Sequence tag ps)) = refl
 found_key f g (Some (Set name tag ps)) = refl
 found_key f g (Some (SequenceOf tag k c)) = refl
 found_key f g (Some (SetOf tag k c)) = refl
+found_key f g (Some Unknown) = refl
 
 -- The type with a number is followed deep enough for so many values in one another.
 abbrev IsDeep : List «Type» → ℕ → ℕ → ℕ → Type 0
@@ -225,7 +227,7 @@ module _ (types : List «Type») (w : IsSchema types) (rule : Codec) where
   }
 
   own_alike : (i j k : ℕ) → own (shape_of_type types i k) ≡ own (shape_of_type types j k)
-  own_alike i j k = own_is types i k (schema_lawful types w i k) ∙ sym (own_is types j k (schema_lawful types w j k))
+  own_alike i j k = own_is types i k (schema_readable types w i k) ∙ sym (own_is types j k (schema_readable types w j k))
 
   keys_alike : (i j k : ℕ) → key_of (shape_of_type types (suc i) k) ≡ key_of (shape_of_type types (suc j) k)
   unfolding shape_of_type

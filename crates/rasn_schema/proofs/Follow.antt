@@ -75,3 +75,8 @@ module _ (types : List «Type») where
 pub recognizable : (s : Shape) (b : Bool) → HasTag s → IsWhether b ((n : Tag) × IsFirst s n) → IsWhether b (IsRecognizable s)
 recognizable s true h (n, f) = (h, λ none. none n f)
 recognizable s false h none = λ r. r.1 (λ n f. none (n, f))
+
+-- What is asked only where A holds, which it does.
+pub placed_told : (A X : Type 0) (b : Bool) → A → IsWhether b X → IsWhether b (A → X)
+placed_told A X true a w = λ h. w
+placed_told A X false a w = λ g. w (g a)

@@ -1,49 +1,56 @@
 -- Lawful types.
-use Rattle.std.proofs.Common.{◌≡◌, ◌≢◌, inr, ℕ, zero, suc, Bool, true, false, List, [], ◌∷◌, Option, Some, None, refl, sym, ◌∙◌, subst, true≢false}
+use Rattle.std.proofs.Common.{◌≡◌, ◌≢◌, inl, inr, ℕ, zero, suc, Bool, true, false, List, [], ◌∷◌, length, Option, Some, None, refl, sym, ap, ◌∙◌, subst, true≢false}
 use Rattle.std.specs.Prelude.{slice_get}
 use Rattle.rasn_types.specs.declared.types.tag.Tag.{Tag}
 use Rattle.rasn_types.specs.Tags.{eoc, is_eoc, IsTagBelow}
-use Rattle.rasn_types.specs.Shapes.{Shape, any, choice, own, looked_for, IsFirstOf, IsAlwaysPresent, AreAlwaysPresent, addition}
+use Rattle.rasn_types.specs.Shapes.{Shape, any, choice, unknown, own, looked_for, IsFirstOf, IsAlwaysPresent, Key, required, addition}
 use Rattle.rasn_types.specs.Shapes.Parts.{none}
 use Rattle.rasn_types.specs.Lawful.{IsLawful, HasTag, MayBeLeftOut, AreLawfulInOrder, AreLawfulByTag}
 use Rattle.rasn_types.specs.Truth.{IsWhether}
 use Rattle.rasn_schema.specs.declared.types.«Type».{«Type»}
-use Rattle.rasn_schema.specs.declared.types.«Type».TheVariants.{Leaf, Enumerated, Any, Tagged, Choice, Sequence, Set, SequenceOf, SetOf}
+use Rattle.rasn_schema.specs.declared.types.«Type».TheVariants.{Leaf, Enumerated, Any, Tagged, Choice, Sequence, Set, SequenceOf, SetOf, Unknown}
 use Rattle.rasn_schema.specs.declared.types.Component.{Component}
 use Rattle.rasn_schema.specs.declared.types.Alternative.{Alternative}
-use Rattle.rasn_schema.specs.Shapes.{nothing, found_by, type_by, alternatives_by, components_by, key_of, presence_by, tag_at, shape_of_type}
+use Rattle.rasn_schema.specs.Shapes.{nothing, found_by, type_by, alternatives_by, components_by, key_of, presence_by, tag_at, shape_of_type, IsReadable}
+use Rattle.rasn_schema.specs.declared.types.Presence.{Presence}
+use Rattle.rasn_schema.specs.declared.types.Presence.TheVariants.{Required, Optional, Addition, Default}
 use Rattle.rasn_schema.specs.FirstTags.{EachFirst, EachFirstOf}
+use Rattle.rasn_schema.specs.Schemas.{IsUnknown, IsRequired, begin_at}
 use Rattle.rasn_schema.proofs.TypeShapes.{not_eoc}
 
 -- ---- values are always present
 
-all_present : (f : ℕ → Shape) → ((k : ℕ) → IsAlwaysPresent (f k)) → (ks : List Alternative) → AreAlwaysPresent (alternatives_by f ks)
-all_present f h [] = tt
-all_present f h (a ∷ ks) = (h a.type_id.0, all_present f h ks)
-
-node_present : (f : ℕ → Shape) → ((k : ℕ) → IsAlwaysPresent (f k)) → (ty : «Type») → IsAlwaysPresent (type_by f ty)
-node_present f h (Leaf kind tag c names) = tt
-node_present f h (Enumerated tag ns) = tt
-node_present f h (Any tag) = tt
-node_present f h (Tagged tag k) = tt
-node_present f h (Choice name ks) = all_present f h ks.items
-node_present f h (Sequence tag ps) = tt
-node_present f h (Set name tag ps) = tt
-node_present f h (SequenceOf tag k c) = tt
-node_present f h (SetOf tag k c) = tt
-
-found_present : (f : ℕ → Shape) → ((k : ℕ) → IsAlwaysPresent (f k)) → (o : Option «Type») → IsAlwaysPresent (found_by f o)
-found_present f h None = tt
-found_present f h (Some ty) = node_present f h ty
-
-nothing_present : (tag : Option Tag) → IsAlwaysPresent (nothing tag)
+pub nothing_present : (tag : Option Tag) → IsAlwaysPresent (nothing tag)
 nothing_present None = tt
 nothing_present (Some tag) = tt
 
-pub is_present : (types : List «Type») (levels k : ℕ) → IsAlwaysPresent (shape_of_type types levels k)
+-- A type that isn't unknown values.
+pub known : (s : Shape) → IsReadable s → (s ≡ unknown → ⊥) → IsAlwaysPresent s × IsLawful s
+known s (inl h) n = h
+known s (inr e) n = absurd (n e)
+
+nothing_known : (tag : Option Tag) → nothing tag ≡ unknown → ⊥
+nothing_known None e = cc
+nothing_known (Some tag) e = cc
+
+found_unknown : (f g : ℕ → Shape) (o : Option «Type») → found_by f o ≡ unknown → IsUnknown (found_by g o)
+found_unknown f g None e = cc
+found_unknown f g (Some (Leaf kind tag c names)) e = cc
+found_unknown f g (Some (Enumerated tag ns)) e = cc
+found_unknown f g (Some (Any tag)) e = cc
+found_unknown f g (Some (Tagged tag k)) e = cc
+found_unknown f g (Some (Choice name ks)) e = cc
+found_unknown f g (Some (Sequence tag ps)) e = cc
+found_unknown f g (Some (Set name tag ps)) e = cc
+found_unknown f g (Some (SequenceOf tag k c)) e = cc
+found_unknown f g (Some (SetOf tag k c)) e = cc
+found_unknown f g (Some Unknown) e = tt
+
+-- At any depth a type is unknown values only if the check sees that.
+pub unknown_at : (types : List «Type») (i k : ℕ) → shape_of_type types i k ≡ unknown → IsUnknown (begin_at types k)
 unfolding shape_of_type
-is_present types zero k = nothing_present (looked_for (tag_at types k))
-is_present types (suc levels) k = found_present (shape_of_type types levels) (is_present types levels) (slice_get types k)
+unknown_at types zero k e = absurd (nothing_known (looked_for (tag_at types k)) e)
+unknown_at types (suc i) k e = found_unknown (shape_of_type types i) (shape_of_type types (length types)) (slice_get types k) e
 
 -- ---- types that are too deep, or not there
 
@@ -86,16 +93,17 @@ open_tag_told f tag true w = open_has_tag tag (is_eoc tag) refl w
 open_tag_told f tag false w = λ h. w (λ e. subst (λ t. HasTag (any (looked_for t))) e h)
 
 module _ (f : ℕ → Shape) where
-  pub others_have_tag : (ty : «Type») → ((tag : Tag) → ty ≡ Any tag → ⊥) → HasTag (type_by f ty)
-  others_have_tag (Leaf kind tag c names) n = tt
-  others_have_tag (Enumerated tag ns) n = tt
-  others_have_tag (Any tag) n = absurd (n tag refl)
-  others_have_tag (Tagged tag k) n = tt
-  others_have_tag (Choice name ks) n = tt
-  others_have_tag (Sequence tag ps) n = tt
-  others_have_tag (Set name tag ps) n = tt
-  others_have_tag (SequenceOf tag k c) n = tt
-  others_have_tag (SetOf tag k c) n = tt
+  pub others_have_tag : (ty : «Type») → ((tag : Tag) → ty ≡ Any tag → ⊥) → (ty ≡ Unknown → ⊥) → HasTag (type_by f ty)
+  others_have_tag (Leaf kind tag c names) n u = tt
+  others_have_tag (Enumerated tag ns) n u = tt
+  others_have_tag (Any tag) n u = absurd (n tag refl)
+  others_have_tag (Tagged tag k) n u = tt
+  others_have_tag (Choice name ks) n u = tt
+  others_have_tag (Sequence tag ps) n u = tt
+  others_have_tag (Set name tag ps) n u = tt
+  others_have_tag (SequenceOf tag k c) n u = tt
+  others_have_tag (SetOf tag k c) n u = tt
+  others_have_tag Unknown n u = absurd (u refl)
 
 -- ---- lists of alternatives and components
 
@@ -125,6 +133,16 @@ module _ (f : ℕ → Shape) where
   pub put_in_order : (p : Component) (ps : List Component) → OneInOrder p ps → InOrder ps → InOrder (p ∷ ps)
   unfolding IsLawful
   put_in_order p ps o h = inr (o.0, o.1, o.2, h)
+
+  required_by : (key : Key) (r : Presence) → IsRequired r → presence_by key r ≡ required
+  required_by key Required h = refl
+  required_by key Optional h = absurd h
+  required_by key Addition h = absurd h
+  required_by key (Default v) h = absurd h
+
+  pub put_unknown : (p : Component) (ps : List Component) → f p.type_id.0 ≡ unknown → IsRequired p.presence → ps ≡ [] → InOrder (p ∷ ps)
+  unfolding IsLawful
+  put_unknown p ps e r n = inl (required_by (key_of (f p.type_id.0)) p.presence r, e, ap (components_by f) n)
 
   pub none_in_order : InOrder []
   unfolding IsLawful

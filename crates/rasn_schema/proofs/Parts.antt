@@ -7,7 +7,7 @@ use Rattle.rasn_schema.specs.declared.type_id.TypeId.{TypeId}
 use Rattle.rasn_schema.specs.declared.types.Component.{Component}
 use Rattle.rasn_schema.specs.declared.types.Alternative.{Alternative}
 use Rattle.rasn_schema.specs.declared.types.«Type».{«Type»}
-use Rattle.rasn_schema.specs.declared.types.«Type».TheVariants.{Leaf, Enumerated, Any, Tagged, Choice, Sequence, Set, SequenceOf, SetOf}
+use Rattle.rasn_schema.specs.declared.types.«Type».TheVariants.{Leaf, Enumerated, Any, Tagged, Choice, Sequence, Set, SequenceOf, SetOf, Unknown}
 use Rattle.rasn_schema.specs.declared.value.Value.{Value, Items, Elements, roll-Value, out-Value, roll-out-Value}
 use Rattle.rasn_schema.specs.declared.value.Value.TheOpen.{Value-F, Boolean as Boolean-F, Null as Null-F, Integer as Integer-F, Bits as Bits-F, Octets as Octets-F, Text as Text-F, Units as Units-F, Arcs as Arcs-F, Instant as Instant-F, Day as Day-F, Items as Items-F, Elements as Elements-F, Chosen as Chosen-F, Absent as Absent-F}
 use Rattle.rasn_schema.specs.Held.{held_in, IsUntagged, part_type, IsPartAt, IsComponentNamed, IsComponentValue, IsAlternativeNamed, IsPartNamed, IsNamedPartOf}
@@ -79,3 +79,4 @@ no_such_part (Any tag) name v a b c id part h = h
 no_such_part (Tagged tag k) name v a b c id part h = h
 no_such_part (SequenceOf tag k s) name v a b c id part h = h
 no_such_part (SetOf tag k s) name v a b c id part h = h
+no_such_part Unknown name v a b c id part h = h

@@ -1,24 +1,24 @@
--- A schema is lawful as deep as it is read.
+-- A schema's types are lawful, or unknown values, as deep as they are read.
 use Rattle.std.proofs.Common.{◌≡◌, ◌≢◌, ◌∙◌, ℕ, zero, suc, ◌<◌, ◌≤◌, inl, inr, Bool, true, false, List, [], ◌∷◌, length, Option, Some, None, refl, sym, subst, arith}
 use Rattle.std.specs.Prelude.{slice_get}
 use Rattle.std.proofs.lemmas.Option.{slice_get_within}
 use Rattle.rasn_types.specs.declared.types.tag.Tag.{Tag}
 use Rattle.rasn_types.specs.Tags.{eoc, is_eoc, IsTagBelow}
 use Rattle.rasn_types.specs.Shapes.Parts.{none}
-use Rattle.rasn_types.specs.Shapes.{Shape, leaf, any, prefix, choice, option, seq, set, list, set_of, unknown, part, own, looked_for, IsTagOf, IsFirst, IsFirstOf, Key, own_tag, first_tags, Presence, required, addition, optional_by, default_by}
+use Rattle.rasn_types.specs.Shapes.{Shape, leaf, any, prefix, choice, option, seq, set, list, set_of, unknown, part, own, looked_for, IsTagOf, IsFirst, IsFirstOf, IsAlwaysPresent, AreAlwaysPresent, Key, own_tag, first_tags, Presence, required, addition, optional_by, default_by}
 use Rattle.rasn_types.specs.Lawful.{IsLawful, HasTag, IsFirstBehind, MayBeLeftOut, IsDistinguished, IsRecognized, AreLawfulInOrder, AreLawfulByTag}
 use Rattle.rasn_schema.specs.declared.types.«Type».{«Type»}
-use Rattle.rasn_schema.specs.declared.types.«Type».TheVariants.{Leaf, Enumerated, Any, Tagged, Choice, Sequence, Set, SequenceOf, SetOf}
+use Rattle.rasn_schema.specs.declared.types.«Type».TheVariants.{Leaf, Enumerated, Any, Tagged, Choice, Sequence, Set, SequenceOf, SetOf, Unknown}
 use Rattle.rasn_schema.specs.declared.types.Component.{Component}
 use Rattle.rasn_schema.specs.declared.types.Presence.{Presence as ComponentPresence}
 use Rattle.rasn_schema.specs.declared.types.Presence.TheVariants.{Required, Optional, Addition, Default}
 use Rattle.rasn_schema.specs.declared.types.Alternative.{Alternative}
-use Rattle.rasn_schema.specs.Shapes.{nothing, found_by, type_by, alternatives_by, components_by, key_of, presence_by, presence_of, tag_at, tag_found, shape_of_type}
+use Rattle.rasn_schema.specs.Shapes.{nothing, found_by, type_by, alternatives_by, components_by, key_of, presence_by, presence_of, tag_at, tag_found, shape_of_type, IsReadable}
 use Rattle.rasn_schema.specs.FirstTags.{EachFirst, EachFirstOf, IsAlwaysThere}
-use Rattle.rasn_schema.specs.Schemas.{AreLowerAndTagged, AreDistinctAlternatives, MayFollow, IsToldFrom, AreToldInOrder, AreTagged, AreInOrderOfTags, IsWellFormed, IsSchema, own_at, begin_at}
+use Rattle.rasn_schema.specs.Schemas.{IsUnknown, EndsUnknown, AreLowerAndTagged, AreDistinctAlternatives, MayFollow, IsToldFrom, AreToldInOrder, AreTagged, AreInOrderOfTags, IsWellFormed, IsSchema, own_at, begin_at}
 use Rattle.rasn_schema.proofs.Presences.{always_by, no_addition_by}
 use Rattle.rasn_schema.proofs.TypeShapes.{looked, own_is}
-use Rattle.rasn_schema.proofs.LawfulTypes.{is_present, cut_lawful, none_lawful, open_lawful, put_alternative, put_in_order, put_by_tag, none_in_order, none_by_tag}
+use Rattle.rasn_schema.proofs.LawfulTypes.{nothing_present, known, unknown_at, put_unknown, cut_lawful, none_lawful, open_lawful, put_alternative, put_in_order, put_by_tag, none_in_order, none_by_tag}
 
 -- ---- how a type begins at one depth, and at another
 
@@ -48,6 +48,7 @@ module _ (f g : ℕ → Shape) (n : Tag) (id : ℕ) (h : (k : ℕ) → k < id �
   found_firsts (Some (Set name tag ps)) b a = a
   found_firsts (Some (SequenceOf tag k c)) b a = a
   found_firsts (Some (SetOf tag k c)) b a = a
+  found_firsts (Some Unknown) b a = a
 
 -- A type that is too deep begins as it does elsewhere.
 module _ (n : Tag) where
@@ -74,6 +75,7 @@ module _ (n : Tag) where
   cut_firsts g (Some (Set name tag ps)) a = cut_first tag (is_eoc tag) refl a
   cut_firsts g (Some (SequenceOf tag k c)) a = cut_first tag (is_eoc tag) refl a
   cut_firsts g (Some (SetOf tag k c)) a = cut_first tag (is_eoc tag) refl a
+  cut_firsts g (Some Unknown) a = absurd a
 
 -- At any depth a type begins only with tags with which it begins at the depth of its number.
 pub settled : (types : List «Type») → ((k : ℕ) → IsBehindOwn k (slice_get types k)) → (n : Tag) (b k i : ℕ) → k ≤ b → IsFirst (shape_of_type types i k) n → IsFirst (shape_of_type types (suc b) k) n
@@ -102,6 +104,7 @@ node_before types k (Sequence tag ps) w = tt
 node_before types k (Set name tag ps) w = tt
 node_before types k (SequenceOf tag j c) w = tt
 node_before types k (SetOf tag j c) w = tt
+node_before types k Unknown w = tt
 
 pub all_before : (types : List «Type») → IsSchema types → (k : ℕ) → IsBehindOwn k (slice_get types k)
 all_before types w k = go (slice_get types k) refl
@@ -135,6 +138,7 @@ found_has_tag f g (Some (Sequence tag ps)) w = tt
 found_has_tag f g (Some (Set name tag ps)) w = tt
 found_has_tag f g (Some (SequenceOf tag k c)) w = tt
 found_has_tag f g (Some (SetOf tag k c)) w = tt
+found_has_tag f g (Some Unknown) w = w
 
 has_tag_at : (types : List «Type») (i k : ℕ) → HasTag (begin_at types k) → HasTag (shape_of_type types i k)
 unfolding shape_of_type
@@ -195,14 +199,24 @@ follow_first p ps j n = (omega arith, go)
     go zero r l u e a = absurd (omega (arith, l))
     go (suc m) r l u e a = n m r (omega (arith, u)) e a
 
-module _ (types : List «Type») (i : ℕ) (w : IsSchema types) (lawful : (k : ℕ) → IsLawful (shape_of_type types i k)) where
+module _ (types : List «Type») (i : ℕ) (w : IsSchema types) (readable : (k : ℕ) → IsReadable (shape_of_type types i k)) where
   firsts : (n : Tag) (k : ℕ) → IsFirst (shape_of_type types i k) n → IsFirst (begin_at types k) n
   firsts n k = begins_as_told types w i k n
+
+  of_tagged : (k : ℕ) → HasTag (begin_at types k) → IsAlwaysPresent (shape_of_type types i k) × IsLawful (shape_of_type types i k)
+  of_tagged k t = known (shape_of_type types i k) (readable k) (λ e. subst HasTag e (has_tag_at types i k t))
+
+  of_known : (k : ℕ) → (IsUnknown (begin_at types k) → ⊥) → IsAlwaysPresent (shape_of_type types i k) × IsLawful (shape_of_type types i k)
+  of_known k n = known (shape_of_type types i k) (readable k) (λ e. n (unknown_at types i k e))
+
+  alternatives_present : (id : ℕ) (ks : List Alternative) → AreLowerAndTagged (begin_at types) id ks → AreAlwaysPresent (alternatives_by (shape_of_type types i) ks)
+  alternatives_present id [] t = tt
+  alternatives_present id (k ∷ ks) t = ((of_tagged k.type_id.0 (t 0 k refl).1).0, alternatives_present id ks (λ j l e. t (suc j) l e))
 
   alternatives_lawful : (id : ℕ) (ks : List Alternative) → AreLowerAndTagged (begin_at types) id ks → AreDistinctAlternatives (begin_at types) ks → IsLawful (choice (alternatives_by (shape_of_type types i) ks))
   alternatives_lawful id [] t d = none_lawful
   alternatives_lawful id (k ∷ ks) t d = put_alternative (shape_of_type types i) k ks
-      (has_tag_at types i k.type_id.0 (t 0 k refl).1, is_present types i k.type_id.0, lawful k.type_id.0, λ n a. none_begins (shape_of_type types i) n ks (λ j l e b. d 0 (suc j) k l (omega arith) refl e n (firsts n k.type_id.0 a) (firsts n l.type_id.0 b)))
+      (has_tag_at types i k.type_id.0 (t 0 k refl).1, (of_tagged k.type_id.0 (t 0 k refl).1).0, (of_tagged k.type_id.0 (t 0 k refl).1).1, λ n a. none_begins (shape_of_type types i) n ks (λ j l e b. d 0 (suc j) k l (omega arith) refl e n (firsts n k.type_id.0 a) (firsts n l.type_id.0 b)))
       (alternatives_lawful id ks (λ j l e. t (suc j) l e) (λ j m a b l e g. d (suc j) (suc m) a b (omega (arith, l)) e g))
 
   -- A type without a tag of its own, and which isn't a CHOICE, is an open type.
@@ -219,8 +233,9 @@ module _ (types : List «Type») (i : ℕ) (w : IsSchema types) (lawful : (k : �
       by_type f g (Some (Choice name ks)) q e n h = cc
       by_type f g (Some (Sequence tag ps)) q e n h = let l = looked tag (w.0 k (Sequence tag ps) (sym q)).0 in cc
       by_type f g (Some (Set name tag ps)) q e n h = let l = looked tag (w.0 k (Set name tag ps) (sym q)).0 in cc
-      by_type f g (Some (SequenceOf tag j c)) q e n h = let l = looked tag (w.0 k (SequenceOf tag j c) (sym q)) in cc
-      by_type f g (Some (SetOf tag j c)) q e n h = let l = looked tag (w.0 k (SetOf tag j c) (sym q)) in cc
+      by_type f g (Some (SequenceOf tag j c)) q e n h = let l = looked tag (w.0 k (SequenceOf tag j c) (sym q)).0 in cc
+      by_type f g (Some (SetOf tag j c)) q e n h = let l = looked tag (w.0 k (SetOf tag j c) (sym q)).0 in cc
+      by_type f g (Some Unknown) q e n h = h
 
       by_levels : (i : ℕ) → key_of (shape_of_type types i k) ≡ own_tag → ⊥
       by_levels zero e = let f : key_of (nothing None) ≡ own_tag = subst (λ o. key_of (nothing o) ≡ own_tag) n e in cc
@@ -273,10 +288,10 @@ module _ (types : List «Type») (i : ℕ) (w : IsSchema types) (lawful : (k : �
             r.0.1 (λ n b. apart_from e n b (all n))
 
     recognized : (key : Key) → key_of (shape_of_type types i p.type_id.0) ≡ key → IsRecognized key (shape_of_type types i p.type_id.0) (components_by (shape_of_type types i) ps)
-    recognized own_tag e = subst (λ o. IsDistinguished o (components_by (shape_of_type types i) ps)) (sym (own_is types i p.type_id.0 (lawful p.type_id.0))) (told_by_own (own_at types p.type_id.0) refl e)
+    recognized own_tag e = subst (λ o. IsDistinguished o (components_by (shape_of_type types i) ps)) (sym (own_is types i p.type_id.0 (readable p.type_id.0))) (told_by_own (own_at types p.type_id.0) refl e)
     recognized first_tags e =
         let c = choice_own (shape_of_type types i p.type_id.0) e in
-        let n : own_at types p.type_id.0 ≡ None = sym (own_is types i p.type_id.0 (lawful p.type_id.0)) ∙ c.0 in
+        let n : own_at types p.type_id.0 ≡ None = sym (own_is types i p.type_id.0 (readable p.type_id.0)) ∙ c.0 in
         (c.1, not_every n, λ m b. apart_from n m (firsts m p.type_id.0 b))
 
   left_out : (p : Component) (ps : List Component) → AreToldInOrder (own_at types) (begin_at types) (p ∷ ps) → (key : Key) → key_of (shape_of_type types i p.type_id.0) ≡ key
@@ -286,41 +301,53 @@ module _ (types : List «Type») (i : ℕ) (w : IsSchema types) (lawful : (k : �
   left_out p ps t key k Optional e = recognized p ps t (λ a. subst (λ r. IsAlwaysThere (presence_of r)) e a) key k
   left_out p ps t key k (Default v) e = recognized p ps t (λ a. subst (λ r. IsAlwaysThere (presence_of r)) e a) key k
 
-  in_order_lawful : (ps : List Component) → AreToldInOrder (own_at types) (begin_at types) ps → AreLawfulInOrder (components_by (shape_of_type types i) ps)
-  in_order_lawful [] t = none_in_order (shape_of_type types i)
-  in_order_lawful (p ∷ ps) t = put_in_order (shape_of_type types i) p ps
-      (is_present types i p.type_id.0, lawful p.type_id.0, left_out p ps t (key_of (shape_of_type types i p.type_id.0)) refl p.presence refl)
-      (in_order_lawful ps (λ j m q r d e a f. t (suc j) (suc m) q r d e a (follow_later p ps j m f)))
+  no_more : (ps : List Component) → 1 ≡ suc (length ps) → ps ≡ []
+  no_more [] e = refl
+  no_more (q ∷ ps) e = absurd (omega (arith, e))
+
+  -- Unknown values are the last component, and any other one may be left out as far as it is told from those after it.
+  one_in_order : (p : Component) (ps : List Component) → AreToldInOrder (own_at types) (begin_at types) (p ∷ ps) → EndsUnknown (begin_at types) (p ∷ ps) → IsReadable (shape_of_type types i p.type_id.0)
+      → AreLawfulInOrder (components_by (shape_of_type types i) ps) → AreLawfulInOrder (components_by (shape_of_type types i) (p ∷ ps))
+  one_in_order p ps t u (inl (present, lawful)) h = put_in_order (shape_of_type types i) p ps (present, lawful, left_out p ps t (key_of (shape_of_type types i p.type_id.0)) refl p.presence refl) h
+  one_in_order p ps t u (inr e) h =
+      let last = u 0 p refl (unknown_at types i p.type_id.0 e) in
+      put_unknown (shape_of_type types i) p ps e last.1 (no_more ps last.0)
+
+  in_order_lawful : (ps : List Component) → AreToldInOrder (own_at types) (begin_at types) ps → EndsUnknown (begin_at types) ps → AreLawfulInOrder (components_by (shape_of_type types i) ps)
+  in_order_lawful [] t u = none_in_order (shape_of_type types i)
+  in_order_lawful (p ∷ ps) t u = one_in_order p ps t u (readable p.type_id.0)
+      (in_order_lawful ps (λ j m q r d e a f. t (suc j) (suc m) q r d e a (follow_later p ps j m f)) (λ j q e a. let h = u (suc j) q e a in (omega (arith, h.0), h.1)))
 
   by_tag_lawful : (ps : List Component) → AreTagged (begin_at types) ps → AreInOrderOfTags (begin_at types) ps → AreLawfulByTag (components_by (shape_of_type types i) ps)
   by_tag_lawful [] t d = none_by_tag (shape_of_type types i)
   by_tag_lawful (p ∷ ps) t d = put_by_tag (shape_of_type types i) p ps (
     no_addition_by (key_of (shape_of_type types i p.type_id.0)) p.presence (t 0 p refl).0,
     has_tag_at types i p.type_id.0 (t 0 p refl).1,
-    is_present types i p.type_id.0,
-    lawful p.type_id.0,
+    (of_tagged p.type_id.0 (t 0 p refl).1).0,
+    (of_tagged p.type_id.0 (t 0 p refl).1).1,
     λ m a. each_begins (shape_of_type types i) (IsTagBelow m) ps (λ j q e n b. d 0 (suc j) p q (omega arith) refl e m (firsts m p.type_id.0 a) n (firsts n q.type_id.0 b)),
   )
       (by_tag_lawful ps (λ j q e. t (suc j) q e) (λ j m q r l e g. d (suc j) (suc m) q r (omega (arith, l)) e g))
 
-  type_lawful : (id : ℕ) (ty : «Type») → IsWellFormed (own_at types) (begin_at types) id ty → IsLawful (type_by (shape_of_type types i) ty)
+  type_readable : (id : ℕ) (ty : «Type») → IsWellFormed (own_at types) (begin_at types) id ty → IsReadable (type_by (shape_of_type types i) ty)
   unfolding IsLawful
-  type_lawful id (Leaf kind tag c names) t = t
-  type_lawful id (Enumerated tag ns) t = (t.0, tt)
-  type_lawful id (Any tag) t = open_lawful tag
-  type_lawful id (Tagged tag k) t = (t.0, is_present types i k.0, lawful k.0)
-  type_lawful id (Choice name ks) t = alternatives_lawful id ks.items t.1 t.2
-  type_lawful id (Sequence tag ps) t = (t.0, in_order_lawful ps.items t.1)
-  type_lawful id (Set name tag ps) t = (t.0, by_tag_lawful ps.items t.1 t.2)
-  type_lawful id (SequenceOf tag k c) t = (t, is_present types i k.0, lawful k.0)
-  type_lawful id (SetOf tag k c) t = (t, is_present types i k.0, lawful k.0)
+  type_readable id (Leaf kind tag c names) t = inl (tt, t)
+  type_readable id (Enumerated tag ns) t = inl (tt, (t.0, tt))
+  type_readable id (Any tag) t = inl (tt, open_lawful tag)
+  type_readable id (Tagged tag k) t = inl (tt, (t.0, (of_known k.0 t.2).0, (of_known k.0 t.2).1))
+  type_readable id (Choice name ks) t = inl (alternatives_present id ks.items t.1, alternatives_lawful id ks.items t.1 t.2)
+  type_readable id (Sequence tag ps) t = inl (tt, (t.0, in_order_lawful ps.items t.1 t.2))
+  type_readable id (Set name tag ps) t = inl (tt, (t.0, by_tag_lawful ps.items t.1 t.2))
+  type_readable id (SequenceOf tag k c) t = inl (tt, (t.0, (of_known k.0 t.1).0, (of_known k.0 t.1).1))
+  type_readable id (SetOf tag k c) t = inl (tt, (t.0, (of_known k.0 t.1).0, (of_known k.0 t.1).1))
+  type_readable id Unknown t = inr refl
 
-  found_lawful : (k : ℕ) (o : Option «Type») → slice_get types k ≡ o → IsLawful (found_by (shape_of_type types i) o)
-  found_lawful k None e = none_lawful
-  found_lawful k (Some ty) e = type_lawful k ty (w.0 k ty (sym e))
+  found_readable : (k : ℕ) (o : Option «Type») → slice_get types k ≡ o → IsReadable (found_by (shape_of_type types i) o)
+  found_readable k None e = inl (tt, none_lawful)
+  found_readable k (Some ty) e = type_readable k ty (w.0 k ty (sym e))
 
--- The theorem: if each type keeps the rules, each shape is lawful, however deep types are followed.
-pub schema_lawful : (types : List «Type») → IsSchema types → (levels k : ℕ) → IsLawful (shape_of_type types levels k)
+-- The theorem: if each type keeps the rules, each shape is lawful or is unknown values, however deep types are followed.
+pub schema_readable : (types : List «Type») → IsSchema types → (levels k : ℕ) → IsReadable (shape_of_type types levels k)
 unfolding shape_of_type
-schema_lawful types w zero k = cut_lawful types k
-schema_lawful types w (suc levels) k = found_lawful types levels w (schema_lawful types w levels) k (slice_get types k) refl
+schema_readable types w zero k = inl (nothing_present (looked_for (tag_at types k)), cut_lawful types k)
+schema_readable types w (suc levels) k = found_readable types levels w (schema_readable types w levels) k (slice_get types k) refl

@@ -1,16 +1,16 @@
 -- The shapes and tags of types.
-use Rattle.std.proofs.Common.{◌≡◌, ◌≢◌, ℕ, zero, suc, Bool, true, false, ◌&&◌, List, Option, Some, None, refl, sym, ap, ap₂, subst, arith}
+use Rattle.std.proofs.Common.{◌≡◌, ◌≢◌, ℕ, zero, suc, Bool, true, false, ◌&&◌, List, Option, Some, None, inl, inr, refl, sym, ap, ap₂, subst, arith}
 use Rattle.std.specs.Prelude.{nat_eq, slice_get}
 use Rattle.std.proofs.lemmas.Bool.Decides.{nat_tests}
 use Rattle.rasn_types.specs.declared.types.tag.Tag.{Tag}
 use Rattle.rasn_types.specs.declared.types.tag.Class.{Class}
 use Rattle.rasn_types.specs.declared.types.tag.Class.TheVariants.{Universal, Application, Context, Private}
 use Rattle.rasn_types.specs.Tags.{eoc, is_universal, is_eoc}
-use Rattle.rasn_types.specs.Shapes.{Shape, own, looked_for, leaf, any, prefix, choice, seq, set, list, set_of}
+use Rattle.rasn_types.specs.Shapes.{Shape, own, looked_for, leaf, any, prefix, choice, seq, set, list, set_of, unknown}
 use Rattle.rasn_types.specs.Lawful.{IsLawful}
 use Rattle.rasn_schema.specs.declared.types.«Type».{«Type»}
-use Rattle.rasn_schema.specs.declared.types.«Type».TheVariants.{Leaf, Enumerated, Any, Tagged, Choice, Sequence, Set, SequenceOf, SetOf}
-use Rattle.rasn_schema.specs.Shapes.{type_by, found_by, nothing, tag_of_type, tag_found, tag_at, shape_of_type}
+use Rattle.rasn_schema.specs.declared.types.«Type».TheVariants.{Leaf, Enumerated, Any, Tagged, Choice, Sequence, Set, SequenceOf, SetOf, Unknown}
+use Rattle.rasn_schema.specs.Shapes.{type_by, found_by, nothing, tag_of_type, tag_found, tag_at, shape_of_type, IsReadable}
 
 tag_is : (s t : Tag) → s.class ≡ t.class → s.value ≡ t.value → s ≡ t
 tag_is s t p q = ap₂ make p q
@@ -47,20 +47,38 @@ node_own f (Sequence tag ps) h = looked tag h.0
 node_own f (Set name tag ps) h = looked tag h.0
 node_own f (SequenceOf tag k c) h = looked tag h.0
 node_own f (SetOf tag k c) h = looked tag h.0
+node_own f Unknown h = absurd h
 
 found_own : (f : ℕ → Shape) (o : Option «Type») → IsLawful (found_by f o) → own (found_by f o) ≡ looked_for (tag_found o)
 found_own f None h = refl
 found_own f (Some ty) h = node_own f ty h
+
+unknown_own : (f : ℕ → Shape) (o : Option «Type») → found_by f o ≡ unknown → own (found_by f o) ≡ looked_for (tag_found o)
+unknown_own f None e = cc
+unknown_own f (Some (Leaf kind tag c names)) e = cc
+unknown_own f (Some (Enumerated tag ns)) e = cc
+unknown_own f (Some (Any tag)) e = cc
+unknown_own f (Some (Tagged tag k)) e = cc
+unknown_own f (Some (Choice name ks)) e = cc
+unknown_own f (Some (Sequence tag ps)) e = cc
+unknown_own f (Some (Set name tag ps)) e = cc
+unknown_own f (Some (SequenceOf tag k c)) e = cc
+unknown_own f (Some (SetOf tag k c)) e = cc
+unknown_own f (Some Unknown) e = refl
+
+readable_own : (f : ℕ → Shape) (o : Option «Type») → IsReadable (found_by f o) → own (found_by f o) ≡ looked_for (tag_found o)
+readable_own f o (inl h) = found_own f o h.1
+readable_own f o (inr e) = unknown_own f o e
 
 nothing_own : (tag : Option Tag) → own (nothing tag) ≡ tag
 nothing_own None = refl
 nothing_own (Some tag) = refl
 
 -- The tag by which a type is looked for is its own.
-pub own_is : (types : List «Type») (levels k : ℕ) → IsLawful (shape_of_type types levels k) → own (shape_of_type types levels k) ≡ looked_for (tag_at types k)
+pub own_is : (types : List «Type») (levels k : ℕ) → IsReadable (shape_of_type types levels k) → own (shape_of_type types levels k) ≡ looked_for (tag_at types k)
 unfolding shape_of_type
 own_is types zero k h = nothing_own (looked_for (tag_at types k))
-own_is types (suc levels) k h = found_own (shape_of_type types levels) (slice_get types k) h
+own_is types (suc levels) k h = readable_own (shape_of_type types levels) (slice_get types k) h
 
 -- The same of a level that was counted down.
 pub shape_below : (types : List «Type») (levels below k : ℕ) (ty : «Type») → levels ≡ suc below → Some ty ≡ slice_get types k → shape_of_type types levels k ≡ type_by (shape_of_type types below) ty

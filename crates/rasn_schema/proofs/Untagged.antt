@@ -6,7 +6,7 @@ use Rattle.rasn_types.specs.declared.types.tag.Tag.{Tag}
 use Rattle.rasn_types.specs.Shapes.{Shape}
 use Rattle.rasn_schema.specs.declared.type_id.TypeId.{TypeId}
 use Rattle.rasn_schema.specs.declared.types.«Type».{«Type»}
-use Rattle.rasn_schema.specs.declared.types.«Type».TheVariants.{Leaf, Enumerated, Any, Tagged, Choice, Sequence, Set, SequenceOf, SetOf}
+use Rattle.rasn_schema.specs.declared.types.«Type».TheVariants.{Leaf, Enumerated, Any, Tagged, Choice, Sequence, Set, SequenceOf, SetOf, Unknown}
 use Rattle.rasn_schema.specs.Shapes.{found_by, shape_of_type}
 use Rattle.rasn_schema.specs.Schemas.{IsPrefix, IsSchema}
 use Rattle.rasn_schema.specs.Held.{IsTagged, IsInside, IsUntagged}
@@ -24,6 +24,7 @@ not_tagged (Sequence tag ps) n = λ h. h
 not_tagged (Set name tag ps) n = λ h. h
 not_tagged (SequenceOf tag k c) n = λ h. h
 not_tagged (SetOf tag k c) n = λ h. h
+not_tagged Unknown n = λ h. h
 
 same_inner : (s t : Tag) (a b : TypeId) → Some (Tagged s a) ≡ Some (Tagged t b) → a ≡ b
 same_inner s t a b e = cc
@@ -90,3 +91,4 @@ tags_end types w k tag inner e = subst (λ o. tags_below (slice_get types inner.
     go (Some (Set name t ps)) f = omega arith
     go (Some (SequenceOf t j c)) f = omega arith
     go (Some (SetOf t j c)) f = omega arith
+    go (Some Unknown) f = omega arith

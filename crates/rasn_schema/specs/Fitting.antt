@@ -12,7 +12,7 @@ use Rattle.rasn_schema.specs.declared.types.LeafKind.{LeafKind}
 use Rattle.rasn_schema.specs.declared.types.LeafKind.TheVariants.{Boolean as BooleanKind, Null as NullKind, ObjectIdentifier, BitString, NamedBits, OctetString, FixedOctetString, Integer, Signed32, Signed64, Unsigned32, Unsigned64, Numeric, Printable, Visible, Ia5, AnyOctets, Bmp, Utf8, UtcTime, GeneralizedTime, Date}
 use Rattle.rasn_schema.specs.declared.types.Component.{Component}
 use Rattle.rasn_schema.specs.declared.types.«Type».{«Type»}
-use Rattle.rasn_schema.specs.declared.types.«Type».TheVariants.{Leaf, Enumerated, Any, Tagged, Choice, Sequence, Set, SequenceOf, SetOf}
+use Rattle.rasn_schema.specs.declared.types.«Type».TheVariants.{Leaf, Enumerated, Any, Tagged, Choice, Sequence, Set, SequenceOf, SetOf, Unknown}
 use Rattle.rasn_schema.specs.declared.value.Value.{Value, Boolean, Null, Integer as Number, Bits, Octets, Text, Units, Arcs, Instant, Day, Absent, Items', Elements', Chosen', items-the_row-Value}
 use Rattle.rasn_schema.specs.Trees.{tree_of}
 use Rattle.rasn_schema.specs.Shapes.{presence_of, numbers_of}
@@ -132,6 +132,7 @@ FitsBy g (Sequence tag ps) v = AreItems (ComponentsFit g ps.items) v
 FitsBy g (Set name tag ps) v = AreItems (ComponentsFit g ps.items) v
 FitsBy g (SequenceOf tag k c) v = AreItems (EachFits (g k.0)) v
 FitsBy g (SetOf tag k c) v = AreElements (EachFits (g k.0)) v
+FitsBy g Unknown v = AreItems (EachFits AreOctets) v
 
 abbrev pub FitsFound : (ℕ → Value → Type 0) → Option «Type» → Value → Type 0
 FitsFound g None v = ⊥

@@ -1,12 +1,12 @@
 -- The values that a value holds, and their names.
-use Rattle.std.specs.Prelude.{◌≡◌, ◌≢◌, ◌<◌, ℕ, zero, suc, List, [], Option, Some, None, option_map, slice_get}
+use Rattle.std.specs.Prelude.{◌≡◌, ◌≢◌, ◌<◌, ℕ, zero, suc, List, [], Bool, true, false, Option, Some, None, option_map, slice_get}
 use Rattle.std.specs.String.{string_bytes}
 use Rattle.rasn_types.specs.declared.types.tag.Tag.{Tag}
 use Rattle.rasn_schema.specs.declared.type_id.TypeId.{TypeId}
 use Rattle.rasn_schema.specs.declared.types.Component.{Component}
 use Rattle.rasn_schema.specs.declared.types.Alternative.{Alternative}
 use Rattle.rasn_schema.specs.declared.types.«Type».{«Type»}
-use Rattle.rasn_schema.specs.declared.types.«Type».TheVariants.{Tagged, Choice, Sequence, Set, SequenceOf, SetOf}
+use Rattle.rasn_schema.specs.declared.types.«Type».TheVariants.{Tagged, Choice, Sequence, Set, SequenceOf, SetOf, Unknown}
 use Rattle.rasn_schema.specs.declared.value.Value.{Value, Items', Elements', items-the_row-Value}
 use Rattle.rasn_schema.specs.Fitting.{IsChosen}
 use Rattle.rasn_schema.specs.Schemas.{components_in}
@@ -25,6 +25,16 @@ IsInside types (suc tags) k ty = (tag : Tag) × (inner : TypeId) × (Some (Tagge
 -- The type with number k is this one, without its explicit tags.
 abbrev pub IsUntagged : List «Type» → ℕ → «Type» → Type 0
 IsUntagged types k ty = (tags : ℕ) × IsInside types tags k ty
+
+-- ---- unknown values
+
+abbrev pub is_unknown : «Type» → Bool
+is_unknown Unknown = true
+is_unknown _ = false
+
+abbrev pub is_unknown_found : Option «Type» → Bool
+is_unknown_found None = false
+is_unknown_found (Some ty) = is_unknown ty
 
 -- ---- parts by index
 

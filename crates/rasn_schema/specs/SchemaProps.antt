@@ -15,9 +15,11 @@ use Rattle.rasn_schema.specs.declared.types.Component.{Component}
 use Rattle.rasn_schema.specs.declared.types.Alternative.{Alternative}
 use Rattle.rasn_schema.specs.declared.types.NamedNumber.{NamedNumber}
 use Rattle.rasn_schema.specs.declared.types.«Type».{«Type»}
-use Rattle.rasn_schema.specs.declared.types.«Type».TheVariants.{Leaf, Enumerated, Any, Tagged, Choice, Sequence, Set, SequenceOf, SetOf}
+use Rattle.rasn_schema.specs.declared.types.«Type».TheVariants.{Leaf, Enumerated, Any, Tagged, Choice, Sequence, Set, SequenceOf, SetOf, Unknown}
+use Rattle.rasn_schema.specs.declared.types.Presence.{Presence}
+use Rattle.rasn_schema.specs.declared.types.Presence.TheVariants.{Required, Optional, Addition, Default}
 use Rattle.rasn_schema.specs.Shapes.{kind_of}
-use Rattle.rasn_schema.specs.Schemas.{AreDistinct, IsBefore, AreLowerAndTagged, AreDistinctAlternatives, AreDistinctNumbers, IsToldFrom, AreToldInOrder, AreTagged, AreInOrderOfTags, IsWellFormed, HaveFitDefaults, IsSchema, own_at, begin_at}
+use Rattle.rasn_schema.specs.Schemas.{IsUnknown, IsRequired, EndsUnknown, AreDistinct, IsBefore, AreLowerAndTagged, AreDistinctAlternatives, AreDistinctNumbers, IsToldFrom, AreToldInOrder, AreTagged, AreInOrderOfTags, IsWellFormed, HaveFitDefaults, IsSchema, own_at, begin_at}
 
 -- ---- facts of several parts
 
@@ -84,6 +86,15 @@ told_prop (Some tag) s t = not_prop _
 in_order_prop : (own : ℕ → Option Tag) (f : ℕ → Shape) (ps : List Component) → IsProp (AreToldInOrder own f ps)
 in_order_prop own f ps = each_prop _ (λ i. each_prop _ (λ j. each_prop _ (λ p. each_prop _ (λ q. each_prop _ (λ d. each_prop _ (λ e. each_prop _ (λ a. each_prop _ (λ m. told_prop (own p.type_id.0) (f p.type_id.0) (f q.type_id.0)))))))))
 
+required_prop : (r : Presence) → IsProp (IsRequired r)
+required_prop Required = Unit-prop
+required_prop Optional = none_prop
+required_prop Addition = none_prop
+required_prop (Default v) = none_prop
+
+ends_prop : (f : ℕ → Shape) (ps : List Component) → IsProp (EndsUnknown f ps)
+ends_prop f ps = each_prop _ (λ i. each_prop _ (λ p. each_prop _ (λ e. each_prop _ (λ a. ×_prop (ℕ_set _ _) (required_prop p.presence)))))
+
 tagged_prop : (f : ℕ → Shape) (ps : List Component) → IsProp (AreTagged f ps)
 tagged_prop f ps = each_prop _ (λ i. each_prop _ (λ p. each_prop _ (λ e. ×_prop (not_prop _) (has_tag_prop (f p.type_id.0)))))
 
@@ -97,12 +108,13 @@ type_prop : (own : ℕ → Option Tag) (f : ℕ → Shape) (id : ℕ) (ty : «Ty
 type_prop own f id (Leaf kind tag c names) = ×_prop (not_prop (tag ≡ eoc)) (bit_free_prop (family (kind_of kind)) tag)
 type_prop own f id (Enumerated tag ns) = three_prop (not_prop (tag ≡ eoc)) (not_prop (ns.items ≡ [])) (numbers_prop ns.items)
 type_prop own f id (Any tag) = Unit-prop
-type_prop own f id (Tagged tag k) = ×_prop (not_prop (tag ≡ eoc)) (each_prop _ (λ h. le_prop))
+type_prop own f id (Tagged tag k) = three_prop (not_prop (tag ≡ eoc)) (each_prop _ (λ h. le_prop)) (not_prop _)
 type_prop own f id (Choice name ks) = three_prop (not_prop (ks.items ≡ [])) (lower_prop f id ks.items) (alternatives_prop f ks.items)
-type_prop own f id (Sequence tag ps) = ×_prop (not_prop (tag ≡ eoc)) (in_order_prop own f ps.items)
+type_prop own f id (Sequence tag ps) = three_prop (not_prop (tag ≡ eoc)) (in_order_prop own f ps.items) (ends_prop f ps.items)
 type_prop own f id (Set name tag ps) = three_prop (not_prop (tag ≡ eoc)) (tagged_prop f ps.items) (of_tags_prop f ps.items)
-type_prop own f id (SequenceOf tag k c) = not_prop _
-type_prop own f id (SetOf tag k c) = not_prop _
+type_prop own f id (SequenceOf tag k c) = ×_prop (not_prop _) (not_prop _)
+type_prop own f id (SetOf tag k c) = ×_prop (not_prop _) (not_prop _)
+type_prop own f id Unknown = Unit-prop
 
 defaults_prop : (types : List «Type») → IsProp (HaveFitDefaults types)
 defaults_prop types = each_prop _ (λ k. each_prop _ (λ ty. each_prop _ (λ e. each_prop _ (λ i. not_prop _))))

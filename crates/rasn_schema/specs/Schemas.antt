@@ -3,17 +3,17 @@ use Rattle.std.specs.Prelude.{◌≡◌, ◌≢◌, ℕ, suc, ◌<◌, List, [],
 use Rattle.rasn_types.specs.declared.types.tag.Tag.{Tag}
 use Rattle.rasn_types.specs.Tags.{eoc, IsTagBelow}
 use Rattle.rasn_types.specs.Grammar.{family}
-use Rattle.rasn_types.specs.Shapes.{Shape, prefix, IsFirst, looked_for, addition}
+use Rattle.rasn_types.specs.Shapes.{Shape, prefix, unknown, IsFirst, looked_for, addition}
 use Rattle.rasn_types.specs.Lawful.{IsBitFree, HasTag}
 use Rattle.rasn_schema.specs.declared.types.Component.{Component}
 use Rattle.rasn_schema.specs.declared.types.Alternative.{Alternative}
 use Rattle.rasn_schema.specs.declared.types.NamedNumber.{NamedNumber}
 use Rattle.rasn_schema.specs.declared.types.«Type».{«Type»}
-use Rattle.rasn_schema.specs.declared.types.«Type».TheVariants.{Leaf, Enumerated, Any, Tagged, Choice, Sequence, Set, SequenceOf, SetOf}
+use Rattle.rasn_schema.specs.declared.types.«Type».TheVariants.{Leaf, Enumerated, Any, Tagged, Choice, Sequence, Set, SequenceOf, SetOf, Unknown}
 use Rattle.rasn_schema.specs.Shapes.{presence_of, kind_of, tag_at, shape_of_type}
 use Rattle.rasn_schema.specs.FirstTags.{EachFirst, IsAlwaysThere}
 use Rattle.rasn_schema.specs.declared.types.Presence.{Presence}
-use Rattle.rasn_schema.specs.declared.types.Presence.TheVariants.{Default}
+use Rattle.rasn_schema.specs.declared.types.Presence.TheVariants.{Required, Default}
 use Rattle.rasn_schema.specs.declared.value.Value.{Value}
 use Rattle.rasn_schema.specs.Fitting.{Fits}
 
@@ -30,6 +30,14 @@ IsBefore s t = EachFirst s (λ m. EachFirst t (λ n. IsTagBelow m n))
 abbrev pub IsPrefix : Shape → Type 0
 IsPrefix (prefix tag s) = Unit {0}
 IsPrefix _ = ⊥
+
+abbrev pub IsUnknown : Shape → Type 0
+IsUnknown unknown = Unit {0}
+IsUnknown _ = ⊥
+
+abbrev pub IsRequired : Presence → Type 0
+IsRequired Required = Unit {0}
+IsRequired _ = ⊥
 
 -- Each alternative of the CHOICE with number id has a lower number, and a tag.
 abbrev pub AreLowerAndTagged : (ℕ → Shape) → ℕ → List Alternative → Type 0
@@ -60,6 +68,10 @@ IsToldFrom (Some tag) s t = IsFirst t tag → ⊥
 abbrev pub AreToldInOrder : (ℕ → Option Tag) → (ℕ → Shape) → List Component → Type 0
 AreToldInOrder own f ps = (i j : ℕ) (p q : Component) → Some p ≡ slice_get ps i → Some q ≡ slice_get ps j → (IsAlwaysThere (presence_of p.presence) → ⊥) → MayFollow ps i j → IsToldFrom (own p.type_id.0) (f p.type_id.0) (f q.type_id.0)
 
+-- Only the last component may be unknown values, and it is required.
+abbrev pub EndsUnknown : (ℕ → Shape) → List Component → Type 0
+EndsUnknown f ps = (i : ℕ) (p : Component) → Some p ≡ slice_get ps i → IsUnknown (f p.type_id.0) → (suc i ≡ length ps) × IsRequired p.presence
+
 -- Each component of a SET has a tag, and none is an extension addition.
 abbrev pub AreTagged : (ℕ → Shape) → List Component → Type 0
 AreTagged f ps = (i : ℕ) (p : Component) → Some p ≡ slice_get ps i → (presence_of p.presence ≢ addition) × HasTag (f p.type_id.0)
@@ -73,12 +85,13 @@ abbrev pub IsWellFormed : (ℕ → Option Tag) → (ℕ → Shape) → ℕ → �
 IsWellFormed own f id (Leaf kind tag c names) = (tag ≢ eoc) × IsBitFree (family (kind_of kind)) tag
 IsWellFormed own f id (Enumerated tag ns) = (tag ≢ eoc) × (ns.items ≢ []) × AreDistinctNumbers ns.items
 IsWellFormed own f id (Any tag) = Unit {0}
-IsWellFormed own f id (Tagged tag k) = (tag ≢ eoc) × (IsPrefix (f k.0) → k.0 < id)
+IsWellFormed own f id (Tagged tag k) = (tag ≢ eoc) × (IsPrefix (f k.0) → k.0 < id) × (IsUnknown (f k.0) → ⊥)
 IsWellFormed own f id (Choice name ks) = (ks.items ≢ []) × AreLowerAndTagged f id ks.items × AreDistinctAlternatives f ks.items
-IsWellFormed own f id (Sequence tag ps) = (tag ≢ eoc) × AreToldInOrder own f ps.items
+IsWellFormed own f id (Sequence tag ps) = (tag ≢ eoc) × AreToldInOrder own f ps.items × EndsUnknown f ps.items
 IsWellFormed own f id (Set name tag ps) = (tag ≢ eoc) × AreTagged f ps.items × AreInOrderOfTags f ps.items
-IsWellFormed own f id (SequenceOf tag k c) = tag ≢ eoc
-IsWellFormed own f id (SetOf tag k c) = tag ≢ eoc
+IsWellFormed own f id (SequenceOf tag k c) = (tag ≢ eoc) × (IsUnknown (f k.0) → ⊥)
+IsWellFormed own f id (SetOf tag k c) = (tag ≢ eoc) × (IsUnknown (f k.0) → ⊥)
+IsWellFormed own f id Unknown = Unit {0}
 
 -- ---- of all types
 

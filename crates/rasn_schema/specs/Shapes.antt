@@ -1,8 +1,8 @@
 -- The shapes that a schema has.
-use Rattle.std.specs.Prelude.{◌≡◌, ℕ, ℤ, zero, suc, List, [], ◌∷◌, Option, Some, None, slice_get}
+use Rattle.std.specs.Prelude.{◌≡◌, ℕ, ℤ, zero, suc, List, [], ◌∷◌, Option, Some, None, slice_get, ◌⊎◌}
 use Rattle.rasn_types.specs.declared.types.tag.Tag.{Tag}
 use Rattle.rasn_types.specs.Tags.{eoc}
-use Rattle.rasn_types.specs.Shapes.{Shape, leaf, any, prefix, choice, seq, set, list, set_of, Parts, part, looked_for, Kind, boolean, null, object_identifier, bit_string, named_bits, octet_string, fixed, integer, enumerated, every, numeric, printable, visible, ia5, any_octets, bmp, utf8, utc_time, generalized_time, date, Key, own_tag, first_tags, required, addition, optional_by, default_by, Presence as PartPresence}
+use Rattle.rasn_types.specs.Shapes.{Shape, leaf, any, prefix, choice, seq, set, list, set_of, unknown, IsAlwaysPresent, Parts, part, looked_for, Kind, boolean, null, object_identifier, bit_string, named_bits, octet_string, fixed, integer, enumerated, every, numeric, printable, visible, ia5, any_octets, bmp, utf8, utc_time, generalized_time, date, Key, own_tag, first_tags, required, addition, optional_by, default_by, Presence as PartPresence}
 use Rattle.rasn_types.specs.Shapes.Parts.{none}
 use Rattle.rasn_types.specs.Lawful.{IsLawful}
 use Rattle.rasn_types.specs.Trees.{signed_range, unsigned_range, unconstrained}
@@ -15,7 +15,7 @@ use Rattle.rasn_schema.specs.declared.types.Component.{Component}
 use Rattle.rasn_schema.specs.declared.types.Alternative.{Alternative}
 use Rattle.rasn_schema.specs.declared.types.NamedNumber.{NamedNumber}
 use Rattle.rasn_schema.specs.declared.types.«Type».{«Type»}
-use Rattle.rasn_schema.specs.declared.types.«Type».TheVariants.{Leaf, Enumerated, Any, Tagged, Choice, Sequence, Set, SequenceOf, SetOf}
+use Rattle.rasn_schema.specs.declared.types.«Type».TheVariants.{Leaf, Enumerated, Any, Tagged, Choice, Sequence, Set, SequenceOf, SetOf, Unknown}
 
 abbrev pub kind_of : LeafKind → Kind
 kind_of Boolean = boolean
@@ -86,6 +86,7 @@ type_by f (Sequence tag ps) = seq tag (components_by f ps.items)
 type_by f (Set name tag ps) = set tag (components_by f ps.items)
 type_by f (SequenceOf tag k c) = list tag (f k.0) c.size
 type_by f (SetOf tag k c) = set_of tag (f k.0) c.size
+type_by f Unknown = unknown
 
 -- A type's own tag: universal 0 if it has none.
 abbrev pub tag_of_type : «Type» → Tag
@@ -98,6 +99,7 @@ tag_of_type (Sequence tag ps) = tag
 tag_of_type (Set name tag ps) = tag
 tag_of_type (SequenceOf tag k c) = tag
 tag_of_type (SetOf tag k c) = tag
+tag_of_type Unknown = eoc
 
 abbrev pub tag_found : Option «Type» → Tag
 tag_found None = eoc
@@ -125,6 +127,10 @@ abbrev pub presences_in : List Component → List PartPresence
 presences_in [] = []
 presences_in (p ∷ ps) = presence_of p.presence ∷ presences_in ps
 
-abbrev pub AreLawful : Parts → Type 0
-AreLawful none = Unit {0}
-AreLawful (part presence s ps) = IsLawful s × AreLawful ps
+-- What is read and written: a lawful shape whose values have octets, or unknown values.
+abbrev pub IsReadable : Shape → Type 0
+IsReadable s = (IsAlwaysPresent s × IsLawful s) ⊎ (s ≡ unknown)
+
+abbrev pub AreReadable : Parts → Type 0
+AreReadable none = Unit {0}
+AreReadable (part presence s ps) = IsReadable s × AreReadable ps

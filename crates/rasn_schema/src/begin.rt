@@ -66,6 +66,7 @@ fn type_begins(types: &[Type], below: usize, ty: &Type, tag: Tag) -> bool
         Type::Set { tag: own, .. } => is_tag(tag, *own),
         Type::SequenceOf { tag: own, .. } => is_tag(tag, *own),
         Type::SetOf { tag: own, .. } => is_tag(tag, *own),
+        Type::Unknown => false,
     }
 }
 

@@ -84,6 +84,12 @@ pub enum SchemaError {
         index: usize,
         other: usize,
     },
+    /// A part is unknown values, which only the last component of a SEQUENCE may be, where it is
+    /// required (X.680 25).
+    MisplacedUnknown {
+        id: TypeId,
+        index: usize,
+    },
     /// The default of a component isn't a value of the component's type (X.680 25).
     UnfitDefault {
         id: TypeId,
@@ -169,6 +175,11 @@ impl fmt::Display for SchemaError {
             SchemaError::SetOutOfOrder { id, index, other } => {
                 let back = " of a SET aren't in the order of their tags (X.680 8.6)";
                 write_both(f, id, "components ", index, " and ", other, back)
+            }
+            SchemaError::MisplacedUnknown { id, index } => {
+                let back =
+                    " is unknown values, and not the last, required component of a SEQUENCE (X.680 25)";
+                write_one(f, id, "part ", index, back)
             }
             SchemaError::UnfitDefault { id, index } => {
                 let back = " isn't a value of its type (X.680 25)";

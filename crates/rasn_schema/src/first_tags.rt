@@ -81,6 +81,7 @@ fn type_first_tags(ty: &Type) -> FirstTags<'_>
         Type::Set { tag, .. } => FirstTags::One(*tag),
         Type::SequenceOf { tag, .. } => FirstTags::One(*tag),
         Type::SetOf { tag, .. } => FirstTags::One(*tag),
+        Type::Unknown => FirstTags::Nothing,
     }
 }
 

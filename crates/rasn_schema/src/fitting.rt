@@ -152,6 +152,30 @@ fn are_octets(value: &Value<'_>) -> bool
     matches!(value, Value::Octets(_))
 }
 
+/// Returns whether each value is that of an open type.
+fn each_has_octets(values: &[Value<'_>]) -> bool
+    ensures { IsWhether result (EachFits AreOctets values.now) }
+{
+    let mut rest = values;
+    while let [value, after @ ..] = rest {
+        if !are_octets(value) {
+            return false;
+        }
+        rest = after;
+    }
+    true
+}
+
+/// Returns whether the value is a list of unknown values.
+fn are_unknown(value: &Value<'_>) -> bool
+    ensures { IsWhether result (AreItems (EachFits AreOctets) value.now) }
+{
+    match items_of(value) {
+        Some(values) => each_has_octets(values),
+        None => false,
+    }
+}
+
 /// Returns whether the value is one of the type with this number. Types are followed `levels` deep.
 #[cycle(fits)]
 pub fn fits_at(types: &[Type], levels: usize, id: TypeId, value: &Value<'_>) -> bool
@@ -187,6 +211,7 @@ fn type_fits(types: &[Type], below: usize, ty: &Type, value: &Value<'_>) -> bool
             Some(values) => each_fits(types, below, *element, values),
             None => false,
         },
+        Type::Unknown => are_unknown(value),
     }
 }
 

@@ -31,7 +31,8 @@ pub use named::{Named, TypeName, index_named, name_of_number};
 pub use schema::Schema;
 pub use type_id::TypeId;
 pub use types::{
-    Alternative, Component, LeafKind, NamedNumber, Presence, Type, components_of, tag_at, type_at,
+    Alternative, Component, LeafKind, NamedNumber, Presence, Type, components_of, is_unknown_at,
+    tag_at, type_at,
 };
 pub use value::Value;
 pub use view::{View, part_name, part_type};

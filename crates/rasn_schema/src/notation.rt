@@ -206,7 +206,18 @@ fn write_value<W: fmt::Write>(
     }
 }
 
-/// Writes the values of a list in braces. Absent components are left out.
+/// Returns whether a component is shown: unless it is absent, or unknown values of which there are
+/// none.
+fn is_shown(value: &Value<'_>, ty: Option<&Type>) -> bool {
+    match (value, ty) {
+        (Value::Absent, _) => false,
+        (Value::Items(values), Some(Type::Unknown)) => !values.is_empty(),
+        _ => true,
+    }
+}
+
+/// Writes the values of a list in braces. Components that are absent are left out, and unknown
+/// values if there are none.
 #[cycle(notation)]
 fn write_values<W: fmt::Write>(
     f: &mut fmt::Formatter<W>,
@@ -216,7 +227,8 @@ fn write_values<W: fmt::Write>(
 ) -> fmt::Result {
     let mut first = true;
     for (index, value) in values.iter().enumerate() {
-        if let Value::Absent = value {
+        let part = part_of(schema, ty, index);
+        if !is_shown(value, part) {
             continue;
         }
         f.write_str(if first { "{ " } else { ", " })?;
@@ -225,7 +237,7 @@ fn write_values<W: fmt::Write>(
             f.write_str(name)?;
             f.write_char(' ')?;
         }
-        write_value(f, value, schema, part_of(schema, ty, index))?;
+        write_value(f, value, schema, part)?;
     }
     f.write_str(if first { "{ }" } else { " }" })
 }

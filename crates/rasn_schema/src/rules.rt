@@ -1,5 +1,5 @@
 //! The rules that each type of a schema keeps: it is looked at once, however deep values are nested (X.680 25.6, 27.3, 29.3).
-ghost use Rattle.std.specs.Prelude.{◌≡◌, ◌≢◌, [], ◌<◌, ℕ, length, slice_get, Some, None, MatchOption};
+ghost use Rattle.std.specs.Prelude.{◌≡◌, ◌≢◌, [], ◌<◌, ℕ, suc, length, slice_get, Some, None, MatchOption};
 ghost use Rattle.rasn_types.specs.Tags.{eoc};
 ghost use Rattle.rasn_types.specs.Grammar.{family};
 ghost use Rattle.rasn_types.specs.Shapes.{IsFirst, addition};
@@ -10,8 +10,8 @@ ghost use Rattle.rasn_types.specs.Lawful.{IsBitFree, HasTag};
 ghost use Rattle.rasn_types.specs.Truth.{IsWhether};
 ghost use Rattle.rasn_schema.specs.FirstTags.{IsAlwaysThere};
 ghost use Rattle.rasn_schema.specs.Shapes.{shape_of_type, type_by, presence_of, kind_of};
-ghost use Rattle.rasn_schema.specs.Schemas.{IsPrefix, AreLowerAndTagged, AreDistinctAlternatives, AreDistinctNumbers, AreDistinct, AreToldInOrder, MayFollow, IsRecognizable, IsToldFrom, AreTagged, AreInOrderOfTags, IsBefore, IsWellFormed, AreOthersWellFormed, AreChoicesWellFormed, IsChoice, own_at};
-ghost use Rattle.rasn_schema.specs.Faults.{IsTagFault, IsTaggedFault, IsLeafFault, IsNumbersFault, IsAlternativesFault, IsSequenceFault, IsSetFault, IsFaultOf, SomeFault};
+ghost use Rattle.rasn_schema.specs.Schemas.{IsPrefix, IsUnknown, IsRequired, EndsUnknown, AreLowerAndTagged, AreDistinctAlternatives, AreDistinctNumbers, AreDistinct, AreToldInOrder, MayFollow, IsRecognizable, IsToldFrom, AreTagged, AreInOrderOfTags, IsBefore, IsWellFormed, AreOthersWellFormed, AreChoicesWellFormed, IsChoice, own_at};
+ghost use Rattle.rasn_schema.specs.Faults.{IsListFault, IsTaggedFault, IsLeafFault, IsNumbersFault, IsAlternativesFault, IsSequenceFault, IsSetFault, IsFaultOf, SomeFault};
 
 use crate::begin::begins;
 use crate::error::SchemaError;
@@ -61,6 +61,7 @@ fn type_has_tag(ty: &Type) -> bool
 {
     match ty {
         Type::Any { tag } => *tag != Tag::EOC,
+        Type::Unknown => false,
         _ => true,
     }
 }
@@ -85,6 +86,35 @@ fn type_is_tagged(ty: &Type) -> bool
     }
 }
 
+/// Returns whether the type with this number is unknown values.
+fn is_unknown(types: &[Type], levels: usize, id: TypeId) -> bool
+    requires { levels ≢ 0 }
+    ensures { IsWhether result (IsUnknown (shape_of_type types.now levels id.0)) }
+{
+    match type_at(types, id) {
+        Some(ty) => type_is_unknown(ty),
+        None => false,
+    }
+}
+
+fn type_is_unknown(ty: &Type) -> bool
+    ensures { (f : _) → IsWhether result (IsUnknown (type_by f ty.now)) }
+{
+    match ty {
+        Type::Unknown => true,
+        _ => false,
+    }
+}
+
+fn is_required(component: &Component) -> bool
+    ensures { IsWhether result (IsRequired component.now.presence) }
+{
+    match &component.presence {
+        Presence::Required => true,
+        Presence::Addition | Presence::Optional | Presence::Default(_) => false,
+    }
+}
+
 /// Returns whether a component can't be absent.
 fn is_always_there(component: &Component) -> bool
     ensures { IsWhether result (IsAlwaysThere (presence_of component.now.presence)) }
@@ -104,15 +134,25 @@ fn is_addition(component: &Component) -> bool
     }
 }
 
-/// Returns what is wrong with a tag.
-fn tag_fault(id: TypeId, tag: Tag) -> Option<SchemaError>
-    ensures { MatchOption result (tag ≢ eoc) (λ e. IsTagFault id.0 tag e) }
+/// Returns what is wrong with a SEQUENCE OF or a SET OF.
+fn list_fault(
+    types: &[Type],
+    levels: usize,
+    id: TypeId,
+    tag: Tag,
+    element: TypeId,
+) -> Option<SchemaError>
+    requires { levels ≢ 0 }
+    ensures { let f = shape_of_type types.now levels in
+        MatchOption result ((tag ≢ eoc) × (IsUnknown (f element.0) → ⊥)) (λ e. IsListFault f id.0 tag element.0 e) }
 {
     if is_no_tag(tag) {
-        Some(SchemaError::ReservedTag { id })
-    } else {
-        None
+        return Some(SchemaError::ReservedTag { id });
     }
+    if is_unknown(types, levels, element) {
+        return Some(SchemaError::MisplacedUnknown { id, index: 0 });
+    }
+    None
 }
 
 /// Returns what is wrong with a type that has an explicit tag.
@@ -125,13 +165,16 @@ fn tagged_fault(
 ) -> Option<SchemaError>
     requires { levels ≢ 0 }
     ensures { let f = shape_of_type types.now levels in
-        MatchOption result ((tag ≢ eoc) × (IsPrefix (f inner.0) → inner.0 < id.0)) (λ e. IsTaggedFault f id.0 tag inner.0 e) }
+        MatchOption result ((tag ≢ eoc) × (IsPrefix (f inner.0) → inner.0 < id.0) × (IsUnknown (f inner.0) → ⊥)) (λ e. IsTaggedFault f id.0 tag inner.0 e) }
 {
     if is_no_tag(tag) {
         return Some(SchemaError::ReservedTag { id });
     }
     if inner >= id && is_tagged(types, levels, inner) {
         return Some(SchemaError::LateInner { id });
+    }
+    if is_unknown(types, levels, inner) {
+        return Some(SchemaError::MisplacedUnknown { id, index: 0 });
     }
     None
 }
@@ -461,6 +504,56 @@ fn components_clash(
     None
 }
 
+/// Returns whether a component is the last one, and required.
+fn may_be_unknown(components: &[Component], index: usize, component: &Component) -> bool
+    requires { index < length components.now }
+    ensures { IsWhether result ((suc index ≡ length components.now) × IsRequired component.now.presence) }
+{
+    if components.len() - index != 1 {
+        return false;
+    }
+    is_required(component)
+}
+
+/// Returns whether a component isn't unknown values, or is the last one and required.
+fn is_well_placed(
+    types: &[Type],
+    levels: usize,
+    components: &[Component],
+    index: usize,
+    component: &Component,
+) -> bool
+    requires levels { levels ≢ 0 }
+    requires within { index < length components.now }
+    ensures { let f = shape_of_type types.now levels in
+        IsWhether result (IsUnknown (f component.now.type_id.0) → (suc index ≡ length components.now) × IsRequired component.now.presence) }
+{
+    if !is_unknown(types, levels, component.type_id) {
+        return true;
+    }
+    may_be_unknown(components, index, component)
+}
+
+/// Returns the first component of a SEQUENCE that is unknown values, and isn't the last or may be
+/// absent (X.680 25).
+fn misplaced_unknown(
+    types: &[Type],
+    levels: usize,
+    id: TypeId,
+    components: &[Component],
+) -> Option<SchemaError>
+    requires { levels ≢ 0 }
+    ensures { let f = shape_of_type types.now levels in
+        MatchOption result (EndsUnknown f components.now) (λ e. (own : _) (tag : _) → IsSequenceFault own f id.0 tag components.now e) }
+{
+    for (index, component) in components.iter().enumerate() {
+        if !is_well_placed(types, levels, components, index, component) {
+            return Some(SchemaError::MisplacedUnknown { id, index });
+        }
+    }
+    None
+}
+
 /// Returns what is wrong with a SEQUENCE.
 fn sequence_fault(
     types: &[Type],
@@ -469,11 +562,15 @@ fn sequence_fault(
     tag: Tag,
     components: &[Component],
 ) -> Option<SchemaError>
+    requires { levels ≢ 0 }
     ensures { let f = shape_of_type types.now levels in
-        MatchOption result ((tag ≢ eoc) × AreToldInOrder (own_at types.now) f components.now) (λ e. IsSequenceFault (own_at types.now) f id.0 tag components.now e) }
+        MatchOption result ((tag ≢ eoc) × AreToldInOrder (own_at types.now) f components.now × EndsUnknown f components.now) (λ e. IsSequenceFault (own_at types.now) f id.0 tag components.now e) }
 {
     if is_no_tag(tag) {
         return Some(SchemaError::ReservedTag { id });
+    }
+    if let Some(fault) = misplaced_unknown(types, levels, id, components) {
+        return Some(fault);
     }
     components_clash(types, levels, id, components)
 }
@@ -581,8 +678,9 @@ fn type_fault(types: &[Type], levels: usize, id: TypeId, ty: &Type) -> Option<Sc
             components,
             ..
         } => set_fault(types, levels, id, *tag, components),
-        Type::SequenceOf { tag, .. } => tag_fault(id, *tag),
-        Type::SetOf { tag, .. } => tag_fault(id, *tag),
+        Type::SequenceOf { tag, element, .. } => list_fault(types, levels, id, *tag, *element),
+        Type::SetOf { tag, element, .. } => list_fault(types, levels, id, *tag, *element),
+        Type::Unknown => None,
     }
 }
 

@@ -25,9 +25,8 @@ pub struct Schema {
 impl Schema {
     ghost use Rattle.std.specs.Prelude.{◌≡◌, IfOk, IfErr, MatchOption, Some, ℕ};
     ghost use Rattle.rasn_schema.specs.Named.{IsFirstNamed, IsUnnamed};
-    ghost use Rattle.rasn_types.specs.Lawful.{IsLawful};
     ghost use Rattle.rasn_types.specs.declared.types.codec.Codec.{Codec};
-    ghost use Rattle.rasn_schema.specs.Shapes.{shape_of_type};
+    ghost use Rattle.rasn_schema.specs.Shapes.{shape_of_type, IsReadable};
     ghost use Rattle.rasn_schema.specs.Depth.{AreDeep, AreReadAlike};
     ghost use Rattle.rasn_schema.specs.Schemas.{HaveFitDefaults};
     ghost use Rattle.rasn_schema.specs.Faults.{IsFault};
@@ -56,12 +55,12 @@ impl Schema {
         Ok(Schema { types, names: None })
     }
 
-    /// Returns the types. Each is lawful, however deep it is read. How deep types are followed makes
-    /// no difference to what is read, from the depth on to which values are read. Each default is a
-    /// value of its component's type.
+    /// Returns the types. Each is lawful, or unknown values, however deep it is read. How deep types
+    /// are followed makes no difference to what is read, from the depth on to which values are read.
+    /// Each default is a value of its component's type.
     pub fn types(&self) -> &[Type]
         ensures types { result.now ≡ self.now.types.items }
-        ensures lawful { (levels id : ℕ) → IsLawful (shape_of_type result.now levels id) }
+        ensures readable { (levels id : ℕ) → IsReadable (shape_of_type result.now levels id) }
         ensures deep { (rule : Codec) (i j depth id : ℕ) → AreDeep result.now depth i → AreDeep result.now depth j → AreReadAlike rule depth (shape_of_type result.now i id) (shape_of_type result.now j id) }
         ensures defaults { HaveFitDefaults result.now }
     {

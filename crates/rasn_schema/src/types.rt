@@ -2,6 +2,7 @@
 ghost use Rattle.std.specs.Prelude.{◌≡◌, slice_get, option_copied};
 ghost use Rattle.rasn_schema.specs.Shapes.{tag_of_type, tag_at};
 ghost use Rattle.rasn_schema.specs.Schemas.{components_in};
+ghost use Rattle.rasn_schema.specs.Held.{is_unknown, is_unknown_found};
 
 use crate::type_id::TypeId;
 use crate::value::Value;
@@ -112,6 +113,10 @@ pub enum Type {
         element: TypeId,
         constraints: Constraints,
     },
+    /// Values that the type of an extensible SEQUENCE doesn't name, up to the end of its contents
+    /// (X.680 25). Only its last component may be such, which is required. The value is a list of
+    /// the octets of each.
+    Unknown,
 }
 
 /// A number with a name: of an ENUMERATED or an INTEGER, or of a bit (X.680 19, 20, 22).
@@ -172,6 +177,7 @@ impl Type {
             Type::Set { tag, .. } => *tag,
             Type::SequenceOf { tag, .. } => *tag,
             Type::SetOf { tag, .. } => *tag,
+            Type::Unknown => Tag::EOC,
         }
     }
 }
@@ -192,6 +198,25 @@ pub fn tag_at(types: &[Type], id: TypeId) -> Tag
     match type_at(types, id) {
         Some(ty) => ty.tag(),
         None => Tag::EOC,
+    }
+}
+
+fn is_unknown(ty: &Type) -> bool
+    ensures { result ≡ is_unknown ty.now }
+{
+    match ty {
+        Type::Unknown => true,
+        _ => false,
+    }
+}
+
+/// Returns whether the type with this number is that of unknown values (X.680 25).
+pub fn is_unknown_at(types: &[Type], id: TypeId) -> bool
+    ensures { result ≡ is_unknown_found (slice_get types.now id.0) }
+{
+    match type_at(types, id) {
+        Some(ty) => is_unknown(ty),
+        None => false,
     }
 }
 

@@ -32,6 +32,8 @@ pub enum Definition {
     SequenceOf(Tag, usize, Constraints),
     /// A SET OF.
     SetOf(Tag, usize, Constraints),
+    /// Unknown values at the end of an extensible SEQUENCE.
+    Unknown,
 }
 
 /// Whether a component may be absent, as [`Presence`].
@@ -115,6 +117,7 @@ fn defined(alloc: Global, definition: &Definition) -> Result<Type, AllocError> {
             element: TypeId(*element),
             constraints: *constraints,
         },
+        Definition::Unknown => Type::Unknown,
     })
 }
 

@@ -21,7 +21,7 @@ pub const FILTER_TYPES: &[Definition] = &[
     Definition::Leaf(LeafKind::OctetString, CONTEXT_7),
     Definition::Sequence(CONTEXT_8, ATTRIBUTE_VALUE_ASSERTION),
     Definition::Sequence(CONTEXT_9, MATCHING_RULE_ASSERTION),
-    // 10 to 18: AttributeDescription, AssertionValue and the like are OCTET STRINGs
+    // 10 to 19: AttributeDescription, AssertionValue and the like are OCTET STRINGs
     Definition::Leaf(LeafKind::OctetString, Tag::OCTET_STRING),
     Definition::Leaf(LeafKind::OctetString, CONTEXT_0),
     Definition::Leaf(LeafKind::OctetString, CONTEXT_1),
@@ -31,6 +31,7 @@ pub const FILTER_TYPES: &[Definition] = &[
     Definition::Leaf(LeafKind::OctetString, CONTEXT_3),
     Definition::Leaf(LeafKind::Boolean, CONTEXT_4),
     Definition::Choice("Filter", FILTER_ALTERNATIVES),
+    Definition::Unknown,
 ];
 
 /// The number of Filter.
@@ -49,14 +50,19 @@ const FILTER_ALTERNATIVES: &[(&str, usize)] = &[
     ("extensibleMatch", 9),
 ];
 
+/// What a newer version of a SEQUENCE has at its end (RFC 4511 4).
+const UNKNOWN: Part = ("...", Occurrence::Required, 19);
+
 const ATTRIBUTE_VALUE_ASSERTION: &[Part] = &[
     ("attributeDesc", Occurrence::Required, 10),
     ("assertionValue", Occurrence::Required, 10),
+    UNKNOWN,
 ];
 
 const SUBSTRING_FILTER: &[Part] = &[
     ("type", Occurrence::Required, 10),
     ("substrings", Occurrence::Required, 15),
+    UNKNOWN,
 ];
 
 const SUBSTRING: &[(&str, usize)] = &[("initial", 11), ("any", 12), ("final", 13)];
@@ -66,4 +72,5 @@ const MATCHING_RULE_ASSERTION: &[Part] = &[
     ("type", Occurrence::Optional, 13),
     ("matchValue", Occurrence::Required, 16),
     ("dnAttributes", Occurrence::False, 17),
+    UNKNOWN,
 ];

@@ -54,6 +54,8 @@ fn types_named(name: &str) -> Option<(&'static [Definition], TypeId)> {
         "any-bits" => Some((ROW_TYPES, TypeId(14))),
         "usage" => Some((ROW_TYPES, TypeId(27))),
         "operation" => Some((ROW_TYPES, TypeId(28))),
+        "extensible" => Some((ROW_TYPES, TypeId(30))),
+        "with-flags" => Some((ROW_TYPES, TypeId(32))),
         _ => Some((LINE_TYPES, type_id(ValueType::of_name(name)?))),
     }
 }

@@ -28,7 +28,7 @@ pub const ROW_TYPES: &[Definition] = &[
     Definition::Leaf(LeafKind::ObjectIdentifier, Tag::OBJECT_IDENTIFIER),
     Definition::SetOf(Tag::SET, 0, Constraints::NONE),
     Definition::Sequence(Tag::SEQUENCE, EACH_KIND),
-    // 20 to 28
+    // 20 to 29
     Definition::Leaf(LeafKind::Signed64, Tag::INTEGER),
     Definition::Choice("Answer", &[("flag", 0), ("number", 20)]),
     Definition::Set("Set2", Tag::SET, FLAG_AND_NUMBER),
@@ -42,6 +42,23 @@ pub const ROW_TYPES: &[Definition] = &[
         Tag::ENUMERATED,
         &[("add", 0), ("delete", 1)],
     ),
+    Definition::Unknown,
+    // 30 to 32
+    Definition::Sequence(Tag::SEQUENCE, EXTENSIBLE),
+    Definition::SequenceOf(Tag::SEQUENCE, 0, Constraints::NONE),
+    Definition::Sequence(Tag::SEQUENCE, WITH_FLAGS),
+];
+
+const EXTENSIBLE: &[Part] = &[
+    ("flag", Occurrence::Required, 0),
+    ("number", Occurrence::Optional, 24),
+    ("...", Occurrence::Required, 29),
+];
+
+const WITH_FLAGS: &[Part] = &[
+    ("flag", Occurrence::Required, 0),
+    ("number", Occurrence::Optional, 24),
+    ("flags", Occurrence::Required, 31),
 ];
 
 const USAGES: &[(&str, isize)] = &[("digitalSignature", 0), ("keyCertSign", 5), ("cRLSign", 6)];
@@ -168,6 +185,55 @@ pub const WRONG_TYPES: &[(&str, &[Definition])] = &[
         "default-too-high",
         &[NUMBER, Definition::Set("One", Tag::SET, TOO_HIGH)],
     ),
+    (
+        "unknown-not-last",
+        &[
+            FLAG,
+            Definition::Unknown,
+            Definition::Sequence(Tag::SEQUENCE, NOT_LAST),
+        ],
+    ),
+    (
+        "unknown-optional",
+        &[
+            FLAG,
+            Definition::Unknown,
+            Definition::Sequence(Tag::SEQUENCE, MAY_BE_ABSENT),
+        ],
+    ),
+    (
+        "unknown-in-set",
+        &[
+            FLAG,
+            Definition::Unknown,
+            Definition::Set("Both", Tag::SET, OPEN),
+        ],
+    ),
+    (
+        "unknown-alternative",
+        &[Definition::Unknown, Definition::Choice("C", &[("a", 0)])],
+    ),
+    (
+        "unknown-elements",
+        &[
+            Definition::Unknown,
+            Definition::SequenceOf(Tag::SEQUENCE, 0, Constraints::NONE),
+        ],
+    ),
+    (
+        "unknown-tagged",
+        &[Definition::Unknown, Definition::Tagged(CONTEXT_0, 0)],
+    ),
+];
+
+const NOT_LAST: &[Part] = &[
+    ("part", Occurrence::Required, 1),
+    ("part", Occurrence::Required, 0),
+];
+
+const MAY_BE_ABSENT: &[Part] = &[
+    ("part", Occurrence::Required, 0),
+    ("part", Occurrence::Optional, 1),
 ];
 
 const NUMBER: Definition = Definition::Leaf(LeafKind::Signed32, Tag::INTEGER);

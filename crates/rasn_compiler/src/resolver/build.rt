@@ -110,10 +110,16 @@ impl<'modules, 'text> Resolver<'modules, 'text> {
             Some(of) => self.request(requests, of, asked.name)?,
             None => 0,
         };
-        let Shape { ty, parts, .. } = shape;
+        let Shape {
+            ty,
+            parts,
+            is_extensible,
+            ..
+        } = shape;
         Ok(Node {
             ty,
             parts,
+            is_extensible,
             inner,
             name: asked.name,
             is_named: asked.is_named,

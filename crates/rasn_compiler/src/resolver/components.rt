@@ -1,5 +1,6 @@
 //! Components and alternatives (X.680 25, 27, 29).
 use crate::fault::{Problem, Stop};
+use crate::modules::Modules;
 use crate::position::Position;
 use crate::resolver::included::Listed;
 use crate::resolver::node::{Part, Place, Use};
@@ -16,6 +17,14 @@ pub(crate) enum Within {
     Sequence,
     Set,
     Choice,
+}
+
+/// The components of a SEQUENCE or a SET, or the alternatives of a CHOICE.
+#[derive(Drop)]
+pub(crate) struct Components<'text> {
+    pub(crate) parts: Vec<Part<'text>>,
+    /// Whether unknown values follow them.
+    pub(crate) is_extensible: bool,
 }
 
 /// How many components were seen of a list, and their names.
@@ -99,7 +108,7 @@ impl<'modules, 'text> Resolver<'modules, 'text> {
         place: Place,
         list: &[Component<'text>],
         within: Within,
-    ) -> Result<Vec<Part<'text>>, Stop<'text>> {
+    ) -> Result<Components<'text>, Stop<'text>> {
         let mut parts = Vec::new(self.alloc);
         let is_automatic = self.is_automatic(place, list)?;
         let listed = self.listed(place, list, within, is_automatic)?;
@@ -110,7 +119,10 @@ impl<'modules, 'text> Resolver<'modules, 'text> {
                 parts.push(part)?;
             }
         }
-        Ok(parts)
+        Ok(Components {
+            parts,
+            is_extensible: has_unknown(self.modules, place, listed.as_slice(), within),
+        })
     }
 
     /// Resolves a component or an alternative, if it isn't a marker.
@@ -224,6 +236,36 @@ impl<'modules, 'text> Resolver<'modules, 'text> {
             }
         }
     }
+}
+
+/// Returns whether unknown values follow such components: where a SEQUENCE has its additions at its
+/// end, and a module may imply a marker there (X.680 13.4, 25).
+pub(crate) fn has_unknown(
+    modules: &Modules<'_>,
+    place: Place,
+    list: &[Listed<'_>],
+    within: Within,
+) -> bool {
+    let is_implied = modules.is_extensible(place.module);
+    within == Within::Sequence && ends_open(list, is_implied)
+}
+
+/// Returns whether additions come after all components: after the only marker, or before a second one
+/// that nothing follows (X.680 25).
+fn ends_open(list: &[Listed<'_>], is_implied: bool) -> bool {
+    let mut ends_open = is_implied;
+    let mut markers = 0usize;
+    for listed in list {
+        match listed.component {
+            Component::Marker(_) => {
+                markers = markers.saturating_add(1);
+                ends_open = true;
+            }
+            _ if markers > 1 => ends_open = false,
+            _ => {}
+        }
+    }
+    ends_open
 }
 
 /// Returns how many components are outside the extension additions.

@@ -56,7 +56,7 @@ fn named(schema: Schema, names: Vec<TypeName>) -> Schema
     }
 }
 
-/// Returns the types in their order.
+/// Returns the types in their order, and after them that of unknown values, if one has such.
 fn filled(
     alloc: Global,
     nodes: &mut Vec<Node<'_>>,
@@ -64,11 +64,16 @@ fn filled(
 ) -> Result<Vec<Type>, AllocError> {
     let firsts = first_tags(alloc, nodes.as_slice(), order)?;
     let mut types = Vec::with_capacity(alloc, order.nodes.len())?;
+    let mut has_unknown = false;
     for index in &order.nodes {
         if let Some(node) = nodes.get_mut(*index) {
             fill(alloc, node, order, firsts.as_slice())?;
             types.push(mem::replace(&mut node.ty, Type::Any { tag: Tag::EOC }))?;
+            has_unknown = has_unknown || node.is_extensible;
         }
+    }
+    if has_unknown {
+        types.push(Type::Unknown)?;
     }
     Ok(types)
 }
@@ -89,6 +94,9 @@ fn fill(
         Type::SetOf { element, .. } => *element = order.type_id(node.inner),
         Type::Sequence { components, .. } => {
             *components = components_of(alloc, &mut node.parts, order)?;
+            if node.is_extensible {
+                components.push(unknown_values(alloc, order)?)?;
+            }
         }
         Type::Set { components, .. } => {
             *components = components_of(alloc, &mut node.parts, order)?;
@@ -126,6 +134,15 @@ fn components_of(
         })?;
     }
     Ok(components)
+}
+
+/// Returns the last component of an extensible SEQUENCE, whose type follows all others.
+fn unknown_values(alloc: Global, order: &Order) -> Result<Component, AllocError> {
+    Ok(Component {
+        name: String::from_str(alloc, "...")?,
+        presence: Presence::Required,
+        type_id: TypeId(order.nodes.len()),
+    })
 }
 
 /// Returns the alternatives of a CHOICE.

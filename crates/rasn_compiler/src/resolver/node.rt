@@ -91,6 +91,8 @@ pub(crate) struct Shape<'text> {
     pub(crate) ty: Type,
     /// Its components or alternatives.
     pub(crate) parts: Vec<Part<'text>>,
+    /// Whether unknown values follow the components (X.680 25).
+    pub(crate) is_extensible: bool,
     /// The type within its explicit tag, or of its elements.
     pub(crate) inner: Option<Use>,
 }
@@ -101,6 +103,7 @@ impl<'text> Shape<'text> {
         Shape {
             ty,
             parts: Vec::new(alloc),
+            is_extensible: false,
             inner: None,
         }
     }
@@ -111,6 +114,8 @@ impl<'text> Shape<'text> {
 pub(crate) struct Node<'text> {
     pub(crate) ty: Type,
     pub(crate) parts: Vec<Part<'text>>,
+    /// Whether unknown values follow the components (X.680 25).
+    pub(crate) is_extensible: bool,
     /// The node of the type within its explicit tag, or of its elements.
     pub(crate) inner: usize,
     pub(crate) name: &'text str,

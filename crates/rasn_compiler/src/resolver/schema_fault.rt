@@ -48,6 +48,7 @@ fn place(error: SchemaError) -> (TypeId, Option<usize>, Option<usize>) {
         | SchemaError::UntaggedComponent { id, index }
         | SchemaError::AdditionInSet { id, index }
         | SchemaError::UntaggedInSet { id, index }
+        | SchemaError::MisplacedUnknown { id, index }
         | SchemaError::UnfitDefault { id, index } => (id, Some(index), None),
         SchemaError::AlternativesClash { id, index, other }
         | SchemaError::ComponentsClash { id, index, other }

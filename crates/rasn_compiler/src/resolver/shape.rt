@@ -2,7 +2,7 @@
 use crate::fault::{Problem, Stop};
 use crate::modules::Modules;
 use crate::position::Position;
-use crate::resolver::components::Within;
+use crate::resolver::components::{Components, Within};
 use crate::resolver::enumerated::Enumeration;
 use crate::resolver::leaf::{Plain, universal, universal_type};
 use crate::resolver::node::{Asked, Shape, Unfolded, Use};
@@ -53,6 +53,7 @@ impl<'modules, 'text> Resolver<'modules, 'text> {
                 inner: TypeId(0),
             },
             parts: Vec::new(self.alloc),
+            is_extensible: false,
             inner: Some(within),
         }
     }
@@ -105,9 +106,14 @@ impl<'modules, 'text> Resolver<'modules, 'text> {
         within: Within,
     ) -> Result<Shape<'text>, Stop<'text>> {
         self.count_unchecked(unfolded.constraints.len());
+        let Components {
+            parts,
+            is_extensible,
+        } = self.components(unfolded.place, list, within)?;
         Ok(Shape {
             ty,
-            parts: self.components(unfolded.place, list, within)?,
+            parts,
+            is_extensible,
             inner: None,
         })
     }
@@ -137,6 +143,7 @@ impl<'modules, 'text> Resolver<'modules, 'text> {
         Ok(Shape {
             ty,
             parts: Vec::new(self.alloc),
+            is_extensible: false,
             inner: Some(Use::of(unfolded.place, list.element.0)),
         })
     }

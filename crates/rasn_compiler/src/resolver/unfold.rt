@@ -188,6 +188,14 @@ impl Modules<'_> {
             None => Tagging::Explicit,
         }
     }
+
+    /// Returns whether a module has EXTENSIBILITY IMPLIED in its head (X.680 13.4).
+    pub(crate) fn is_extensible(&self, module: usize) -> bool {
+        match self.module_at(module) {
+            Some(found) => found.is_extensible,
+            None => false,
+        }
+    }
 }
 
 /// Returns a tag of the context-specific class.

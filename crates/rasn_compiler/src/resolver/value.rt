@@ -5,13 +5,14 @@ use crate::fault::{Problem, Stop};
 use crate::lexer::tokens;
 use crate::parser::Parser;
 use crate::position::Position;
-use crate::resolver::components::Within;
+use crate::resolver::components::{Within, has_unknown};
 use crate::resolver::included::Listed;
 use crate::resolver::node::Place;
 use crate::resolver::shape::Resolver;
 use crate::token::{Kind, Token};
 use crate::tree::{Base, Component, Presence, TypeIndex, Unread, Value as Written};
 use rasn_schema::Value;
+use std::alloc::Global;
 
 /// A value as it is written, and where.
 #[derive(Clone, Copy)]
@@ -111,6 +112,9 @@ impl<'modules, 'text> Resolver<'modules, 'text> {
                 };
                 values.push(value)?;
             }
+        }
+        if has_unknown(self.modules, at, listed.as_slice(), within) {
+            values.push(no_values(self.alloc))?;
         }
         Ok(Value::Items(values))
     }
@@ -310,6 +314,11 @@ impl<'tokens, 'text> Parser<'tokens, 'text> {
             value: self.spelled(place)?,
         })
     }
+}
+
+/// Returns the value of unknown values of which there are none.
+fn no_values(alloc: Global) -> Value<'static> {
+    Value::Items(Vec::new(alloc))
 }
 
 /// Returns the value of the component of this name.

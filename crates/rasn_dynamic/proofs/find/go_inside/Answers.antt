@@ -1,8 +1,6 @@
 use Rattle.std.proofs.Common.{refl, ap, subst}
-use Rattle.rasn_types.specs.Lawful.{IsLawful}
 use Rattle.rasn_schema.specs.declared.type_id.TypeId.{TypeId}
-use Rattle.rasn_schema.specs.Shapes.{shape_of_type, type_by}
-use Rattle.rasn_schema.proofs.LawfulTypes.{is_present}
+use Rattle.rasn_schema.specs.Shapes.{shape_of_type, type_by, IsReadable}
 use Rattle.rasn_dynamic.proofs.Contents.{list_lawful, set_of_lawful, seq_lawful, set_lawful, none_holds}
 use Rattle.rasn_dynamic.proofs.InOrder.{lawful_parts}
 use Rattle.rasn_dynamic.proofs.Parts.{option_weaker, no_parts}
@@ -10,22 +8,22 @@ use Rattle.rasn_dynamic.proofs.find.go_inside.Goals as goal
 
 pub go_to_component-requires : goal.go_to_component-requires
 go_to_component-requires c = record {
-  lawful = rw c.deref-in-Sequence.ensures.value (lawful_parts (shape_of_type c.args.types.now c.args.below) (is_present c.args.types.now c.args.below) _ (seq_lawful _ _ (subst (λ n. IsLawful (type_by (shape_of_type c.args.types.now c.args.below) n)) c.in-Sequence.is c.requires.lawful)));
+  lawful = rw c.deref-in-Sequence.ensures.value (lawful_parts (shape_of_type c.args.types.now c.args.below) _ (seq_lawful _ _ (subst (λ n. IsReadable (type_by (shape_of_type c.args.types.now c.args.below) n)) c.in-Sequence.is c.requires.lawful)));
 }
 
 pub go_to_member-requires : goal.go_to_member-requires
 go_to_member-requires c = record {
-  lawful = rw c.deref-in-Set.ensures.value (set_lawful _ _ (subst (λ n. IsLawful (type_by (shape_of_type c.args.types.now c.args.below) n)) c.in-Set.is c.requires.lawful));
+  lawful = rw c.deref-in-Set.ensures.value (set_lawful _ _ (subst (λ n. IsReadable (type_by (shape_of_type c.args.types.now c.args.below) n)) c.in-Set.is c.requires.lawful));
 }
 
 pub go_to_element-requires : goal.go_to_element-requires
 go_to_element-requires c = record {
-  lawful = list_lawful _ _ c.in-SequenceOf.constraints.size (subst (λ n. IsLawful (type_by (shape_of_type c.args.types.now c.args.below) n)) c.in-SequenceOf.is c.requires.lawful);
+  lawful = list_lawful _ _ c.in-SequenceOf.constraints.size (subst (λ n. IsReadable (type_by (shape_of_type c.args.types.now c.args.below) n)) c.in-SequenceOf.is c.requires.lawful);
 }
 
 pub go_to_element-requires-in-SetOf : goal.go_to_element-requires-in-SetOf
 go_to_element-requires-in-SetOf c = record {
-  lawful = set_of_lawful _ _ c.in-SetOf.constraints.size (subst (λ n. IsLawful (type_by (shape_of_type c.args.types.now c.args.below) n)) c.in-SetOf.is c.requires.lawful);
+  lawful = set_of_lawful _ _ c.in-SetOf.constraints.size (subst (λ n. IsReadable (type_by (shape_of_type c.args.types.now c.args.below) n)) c.in-SetOf.is c.requires.lawful);
 }
 
 pub returns-in-Tagged : goal.returns-in-Tagged

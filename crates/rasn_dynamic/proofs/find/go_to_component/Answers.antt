@@ -1,7 +1,7 @@
 use Rattle.std.proofs.Common.{arith, inl, inr, ◌∷◌, [], ◌++◌, ◌+◌, length, length-append, append_assoc, refl, sym, ap, ◌∙◌, subst}
 use Rattle.std.proofs.lemmas.Result.{IfOk-weaker}
 use Rattle.rasn_schema.specs.declared.type_id.TypeId.{TypeId}
-use Rattle.rasn_schema.specs.Shapes.{shape_of_type, components_by, AreLawful}
+use Rattle.rasn_schema.specs.Shapes.{shape_of_type, components_by, AreReadable}
 use Rattle.rasn_schema.proofs.Lists.{split, nothing_left}
 use Rattle.rasn_dynamic.proofs.Faults.{one_part_more}
 use Rattle.rasn_dynamic.proofs.Parts.{option_weaker}
@@ -29,14 +29,14 @@ pub component_here-requires : goal.component_here-requires
 component_here-requires c = record {
   lawful =
       let at = split c.loop-rest.rest.now _ c.in-len1-up.len_at_least c.component-item.is in
-      (subst AreLawful (ap (components_by (shape_of_type c.args.types.now c.args.below)) at) c.loop-rest.invariant.0).0;
+      (subst AreReadable (ap (components_by (shape_of_type c.args.types.now c.args.below)) at) c.loop-rest.invariant.0).0;
 }
 
 pub pass_component-requires : goal.pass_component-requires
 pass_component-requires c = record {
   lawful =
       let at = split c.loop-rest.rest.now _ c.in-len1-up.len_at_least c.component-item.is in
-      (subst AreLawful (ap (components_by (shape_of_type c.args.types.now c.args.below)) at) c.loop-rest.invariant.0).0;
+      (subst AreReadable (ap (components_by (shape_of_type c.args.types.now c.args.below)) at) c.loop-rest.invariant.0).0;
 }
 
 pub loop-rest-preserved : goal.loop-rest-preserved
@@ -44,7 +44,7 @@ loop-rest-preserved c =
     let i = c.loop-rest.invariant in
     let w = c.in_ok-pass_component.ensures in
     let at = split c.loop-rest.rest.now _ c.in-len1-up.len_at_least c.component-item.is in (
-      (subst AreLawful (ap (components_by (shape_of_type c.args.types.now c.args.below)) at) i.0).1,
+      (subst AreReadable (ap (components_by (shape_of_type c.args.types.now c.args.below)) at) i.0).1,
       omega (arith, i.1, c.if-number-index.false),
       i.2 ++ c.component-item.result ∷ [],
       i.3 ∙ ap (λ l. i.2 ++ l) at ∙ sym (append_assoc i.2 (c.component-item.result ∷ []) _),

@@ -1,15 +1,13 @@
 use Rattle.std.proofs.Common.{arith, ◌-◌, sym, subst}
-use Rattle.rasn_types.specs.Lawful.{IsLawful}
-use Rattle.rasn_schema.specs.Shapes.{shape_of_type}
+use Rattle.rasn_schema.specs.Shapes.{shape_of_type, IsReadable}
 use Rattle.rasn_schema.proofs.TypeShapes.{shape_below}
-use Rattle.rasn_schema.proofs.LawfulTypes.{is_present}
 use Rattle.rasn_dynamic.proofs.Parts.{leads_one, lawful_part, part_keeps, seen_through, seen_end, if_some, if_none}
 use Rattle.rasn_dynamic.proofs.find.go_to_part.Goals as goal
 
 pub go_inside-requires : goal.go_inside-requires
 go_inside-requires c = record {
   lawful =
-      subst IsLawful (shape_below c.args.types.now c.args.place.now.levels (c.args.place.now.levels - 1) c.args.place.now.id.0 c.in-Some.ty.now (let n = c.if-place-eq0.false in omega arith) c.in-Some.ensures) c.requires.lawful;
+      subst IsReadable (shape_below c.args.types.now c.args.place.now.levels (c.args.place.now.levels - 1) c.args.place.now.id.0 c.in-Some.ty.now (let n = c.if-place-eq0.false in omega arith) c.in-Some.ensures) c.requires.lawful;
 }
 
 pub returns-in-Some-2-clause-found : goal.returns-in-Some-2-clause-found
@@ -25,8 +23,8 @@ returns-in-Some-2-clause-seen c = λ e.
 pub returns-in-Some-2-clause-lawful : goal.returns-in-Some-2-clause-lawful
 returns-in-Some-2-clause-lawful c = λ e.
     let part = if_some _ _ _ _ c.in-Some-2.is c.in_ok-id.ensures.found in
-    let whole = subst IsLawful (shape_below c.args.types.now c.args.place.now.levels (c.args.place.now.levels - 1) c.args.place.now.id.0 c.in-Some.ty.now (let n = c.if-place-eq0.false in omega arith) c.in-Some.ensures) c.requires.lawful in
-    lawful_part (shape_of_type c.args.types.now (c.args.place.now.levels - 1)) (is_present c.args.types.now (c.args.place.now.levels - 1)) c.in-Some.ty.now whole _ c.args.index _ _ part
+    let whole = subst IsReadable (shape_below c.args.types.now c.args.place.now.levels (c.args.place.now.levels - 1) c.args.place.now.id.0 c.in-Some.ty.now (let n = c.if-place-eq0.false in omega arith) c.in-Some.ensures) c.requires.lawful in
+    lawful_part (shape_of_type c.args.types.now (c.args.place.now.levels - 1)) c.in-Some.ty.now whole _ c.args.index _ _ part
 
 pub returns-in-None-clause-found : goal.returns-in-None-clause-found
 returns-in-None-clause-found c =

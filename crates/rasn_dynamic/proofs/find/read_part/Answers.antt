@@ -1,20 +1,19 @@
 use Rattle.std.proofs.Common.{arith, ◌++◌, length, refl, sym, ap, ◌∙◌, subst}
-use Rattle.rasn_dynamic.specs.Parts.{IsHeader}
 use Rattle.rasn_dynamic.proofs.find.read_part.Goals as goal
 
 pub overflow_sub-result : goal.overflow_sub-result
 overflow_sub-result c = let e = ap length c.remaining-start.ensures.value in omega (arith, e, c.requires.seen)
 
-pub octets_before-requires : goal.octets_before-requires
-octets_before-requires c = rw (c.remaining-start.ensures.value, c.remaining.ensures.value) c.in-Ok.ensures.reads.2.end
+pub octets_before-octets-requires : goal.octets_before-octets-requires
+octets_before-octets-requires c = rw (c.remaining-start.ensures.value, c.remaining.ensures.value) c.in-Ok.ensures.reads.2.end
 
 pub returns-in-Ok-clause-read : goal.returns-in-Ok-clause-read
 returns-in-Ok-clause-read c = record {
   tree = c.in-Ok.ensures.reads.0;
   rest = _;
-  is = sym c.remaining-start.ensures.value ∙ c.octets_before.ensures ∙ ap (λ l. c.octets_before.result.now ++ l) c.remaining.ensures.value;
+  is = sym c.remaining-start.ensures.value ∙ c.octets_before-octets.ensures ∙ ap (λ l. c.octets_before-octets.result.now ++ l) c.remaining.ensures.value;
   reads = c.in-Ok.ensures.reads.2.exact;
-  header = subst (λ l. IsHeader l c.in_ok-header_len.header_len c.in_ok-header_len.is_indefinite) c.remaining-start.ensures.value c.in_ok-header_len.ensures;
+  header = c.in_ok-header_len-in-Ok.ensures;
 }
 
 pub returns-in-Ok-clause-at : goal.returns-in-Ok-clause-at

@@ -9,7 +9,6 @@ use Rattle.rasn_de.specs.Constructed.{DecodesInside, list_header}
 use Rattle.rasn_de.proofs.Leaves.Outcomes.{alloc_failed}
 use Rattle.rasn_de.proofs.OwnTypes.SetPartTypes.{ReadTo, read_rules, none_read, untold, next_fails, next_passes, one_twice}
 use Rattle.rasn_schema.proofs.Alternatives.{first_of_all}
-use Rattle.rasn_types.specs.Lawful.{IsLawful}
 use Rattle.rasn_types.specs.Tags.{IsStrict}
 use Rattle.rasn_types.specs.Order.{IsLess}
 use Rattle.rasn_types.specs.declared.error.decode.DerDecodeErrorKind.TheVariants.{SetOfOutOfOrder}
@@ -29,7 +28,7 @@ use Rattle.rasn_de.proofs.OwnTypes.Parts.{call_keeps}
 use Rattle.rasn_schema.specs.declared.types.Alternative.{Alternative}
 use Rattle.rasn_schema.specs.declared.value.Value.{Value}
 use Rattle.rasn_schema.specs.Trees.{tree_of}
-use Rattle.rasn_schema.specs.Shapes.{numbers_of, shape_of_type, type_by, alternatives_by, components_by, key_of, presence_in, AreLawful}
+use Rattle.rasn_schema.specs.Shapes.{numbers_of, shape_of_type, type_by, alternatives_by, components_by, key_of, presence_in, AreReadable, IsReadable}
 use Rattle.rasn_schema.proofs.Presences.{always_by}
 use Rattle.rasn_schema.proofs.TypeShapes.{shape_below, own_is}
 use Rattle.rasn_schema.proofs.Lists.{split, nothing_left, read_at}
@@ -41,7 +40,6 @@ use Rattle.rasn_dynamic.specs.Calls.{held, names_of, nones, DecodesPresent}
 use Rattle.rasn_dynamic.proofs.Making.{made_as, made_fails_as, choice_exact, uncounted, counted_nothing, made_of_value, if_kept, items_made, elements_made, one_made, choice_made, choice_fits}
 use Rattle.rasn_schema.specs.Fitting.{Fits, FitsBy, IsNumber, ComponentsFit, EachFits}
 use Rattle.rasn_dynamic.proofs.FitsRead.{if_ok, fits_below, are_items, are_elements, each_more, fit_more, fit_end, made_fits, gathered_fit, all_left_fit, nones_fit, found_length, found_kept, put_fits}
-use Rattle.rasn_schema.proofs.LawfulTypes.{is_present}
 use Rattle.rasn_dynamic.proofs.Nothing.{refused_at_zero, refused_not_there, found_here}
 use Rattle.rasn_dynamic.proofs.Chosen.{no_tag, lawful_at, first_at, chosen_got, chosen_refused}
 use Rattle.rasn_dynamic.proofs.InOrder.{lawful_parts, all_left_read, in_turn}
@@ -70,7 +68,7 @@ pub decode_found-returns-then-levels-eq0-clause-reads : goal.decode_found-return
 decode_found-returns-then-levels-eq0-clause-reads g t c = refused_at_zero _ _ _ _ _ c.if-levels-eq0.true
 
 pub decode_found-decode_type-requires : goal.decode_found-decode_type-requires
-decode_found-decode_type-requires g t c = λ κs o. (search rules, (search rules, (subst IsLawful (shape_below c.args.types.now c.args.levels (c.args.levels - 1) c.args.id.0 c.in-Some.ty.now (let n = c.if-levels-eq0.false in omega arith) c.in-Some.ensures) c.requires.lawful, c.requires.clear)))
+decode_found-decode_type-requires g t c = λ κs o. (search rules, (search rules, (subst IsReadable (shape_below c.args.types.now c.args.levels (c.args.levels - 1) c.args.id.0 c.in-Some.ty.now (let n = c.if-levels-eq0.false in omega arith) c.in-Some.ensures) c.requires.lawful, c.requires.clear)))
 
 pub decode_found-returns-in-Some-clause-reads : goal.decode_found-returns-in-Some-clause-reads
 decode_found-returns-in-Some-clause-reads g t c = rw (shape_below c.args.types.now c.args.levels (c.args.levels - 1) c.args.id.0 c.in-Some.ty.now (let n = c.if-levels-eq0.false in omega arith) c.in-Some.ensures) c.decode_type.ensures.reads
@@ -166,10 +164,10 @@ decode_choice-returns-clause-reads g t c =
 -- ---- contents
 
 pub decode_contents-decode_part-requires : goal.decode_contents-decode_part-requires
-decode_contents-decode_part-requires g t c = λ κs o. (search rules, (search rules, (prefix_lawful _ _ (subst (λ n. IsLawful (type_by (shape_of_type c.args.types.now c.args.below) n)) c.in-Tagged.is c.requires.lawful), c.requires.clear)))
+decode_contents-decode_part-requires g t c = λ κs o. (search rules, (search rules, (prefix_lawful _ _ (subst (λ n. IsReadable (type_by (shape_of_type c.args.types.now c.args.below) n)) c.in-Tagged.is c.requires.lawful), c.requires.clear)))
 
 pub decode_contents-decode_sequence-requires : goal.decode_contents-decode_sequence-requires
-decode_contents-decode_sequence-requires g t c = λ κs o. (search rules, (search rules, (rw c.deref.ensures.value (lawful_parts (shape_of_type c.args.types.now c.args.below) (is_present c.args.types.now c.args.below) _ (seq_lawful _ _ (subst (λ n. IsLawful (type_by (shape_of_type c.args.types.now c.args.below) n)) c.in-Sequence.is c.requires.lawful))), c.requires.clear)))
+decode_contents-decode_sequence-requires g t c = λ κs o. (search rules, (search rules, (rw c.deref.ensures.value (lawful_parts (shape_of_type c.args.types.now c.args.below) _ (seq_lawful _ _ (subst (λ n. IsReadable (type_by (shape_of_type c.args.types.now c.args.below) n)) c.in-Sequence.is c.requires.lawful))), c.requires.clear)))
 
 pub decode_contents-returns-in_ok-values-in-Sequence-clause-exact : goal.decode_contents-returns-in_ok-values-in-Sequence-clause-exact
 decode_contents-returns-in_ok-values-in-Sequence-clause-exact g t c =
@@ -180,7 +178,7 @@ pub decode_contents-returns-in_err-values-in-Sequence-clause-exact : goal.decode
 decode_contents-returns-in_err-values-in-Sequence-clause-exact g t c = rw (residual _ c.from_residual.ensures.1, c.in-Sequence.is) (sequence_fails (shape_of_type c.args.types.now c.args.below) _ c.in-Sequence.components c.deref.ensures.value _ _ c.in-Sequence.tag _ (c.in_err-values-in-Sequence.ensures.reads, c.in_err-values-in-Sequence.ensures.fails))
 
 pub decode_contents-decode_elements-requires : goal.decode_contents-decode_elements-requires
-decode_contents-decode_elements-requires g t c = λ κs o. (search rules, (search rules, (list_lawful _ _ c.in-SequenceOf.constraints.size (subst (λ n. IsLawful (type_by (shape_of_type c.args.types.now c.args.below) n)) c.in-SequenceOf.is c.requires.lawful), (c.requires.counts, c.requires.clear))))
+decode_contents-decode_elements-requires g t c = λ κs o. (search rules, (search rules, (list_lawful _ _ c.in-SequenceOf.constraints.size (subst (λ n. IsReadable (type_by (shape_of_type c.args.types.now c.args.below) n)) c.in-SequenceOf.is c.requires.lawful), (c.requires.counts, c.requires.clear))))
 
 pub decode_contents-returns-in_ok-values-in-SequenceOf-clause-fits : goal.decode_contents-returns-in_ok-values-in-SequenceOf-clause-fits
 decode_contents-returns-in_ok-values-in-SequenceOf-clause-fits g t c = λ k. rw c.in-SequenceOf.is (are_items (EachFits (Fits c.args.types.now c.args.below c.in-SequenceOf.element.0)) c.in_ok-values-in-SequenceOf.values (c.in_ok-values-in-SequenceOf.ensures.fits k))
@@ -204,7 +202,7 @@ decode_contents-returns-in_ok-values-in-Sequence-clause-fits g t c = λ k.
     rw c.in-Sequence.is (are_items (ComponentsFit (Fits c.args.types.now c.args.below) c.in-Sequence.components.items) c.in_ok-values-in-Sequence.values (rw (← c.deref.ensures.value) (c.in_ok-values-in-Sequence.ensures.fits k)))
 
 pub decode_contents-decode_elements_in_order-requires : goal.decode_contents-decode_elements_in_order-requires
-decode_contents-decode_elements_in_order-requires g t c = λ κs o. (search rules, (search rules, (set_of_lawful _ _ c.in-SetOf.constraints.size (subst (λ n. IsLawful (type_by (shape_of_type c.args.types.now c.args.below) n)) c.in-SetOf.is c.requires.lawful), (c.requires.counts, c.requires.clear))))
+decode_contents-decode_elements_in_order-requires g t c = λ κs o. (search rules, (search rules, (set_of_lawful _ _ c.in-SetOf.constraints.size (subst (λ n. IsReadable (type_by (shape_of_type c.args.types.now c.args.below) n)) c.in-SetOf.is c.requires.lawful), (c.requires.counts, c.requires.clear))))
 
 pub decode_contents-returns-in_ok-values-in-SetOf-clause-fits : goal.decode_contents-returns-in_ok-values-in-SetOf-clause-fits
 decode_contents-returns-in_ok-values-in-SetOf-clause-fits g t c = λ k. rw c.in-SetOf.is (are_elements (EachFits (Fits c.args.types.now c.args.below c.in-SetOf.element.0)) c.in_ok-values-in-SetOf.values (c.in_ok-values-in-SetOf.ensures.fits k))
@@ -223,7 +221,7 @@ decode_contents-decode_set-requires g t c = λ κs o. (
   (
     search rules,
     (
-      rw c.deref-in-Set-2.ensures.value (set_lawful _ _ (subst (λ n. IsLawful (type_by (shape_of_type c.args.types.now c.args.below) n)) c.in-Set.is c.requires.lawful)),
+      rw c.deref-in-Set-2.ensures.value (set_lawful _ _ (subst (λ n. IsReadable (type_by (shape_of_type c.args.types.now c.args.below) n)) c.in-Set.is c.requires.lawful)),
       (c.in_ok-found-in-Set.ensures.ok ∙ ap nones (c.deref-in-Set.ensures.value ∙ sym c.deref-in-Set-2.ensures.value), c.requires.clear),
     ),
   ),
@@ -509,6 +507,22 @@ decode_list-returns-clause-fits g t c = c.in_ok-value.ensures.fits
 pub decode_type-returns-in-Any-clause-exact : goal.decode_type-returns-in-Any-clause-exact
 decode_type-returns-in-Any-clause-exact g t c = rw c.in-Any.is (made_of_value _ _ c.args.decoder.now c.decode_any_value.result _ c.decode_any_value.ensures.reads)
 
+pub decode_type-returns-in-Unknown-clause-exact : goal.decode_type-returns-in-Unknown-clause-exact
+decode_type-returns-in-Unknown-clause-exact g t c = rw c.in-Unknown.is c.decode_unknown_values.ensures.reads
+
+pub decode_type-returns-in-Unknown-clause-fits : goal.decode_type-returns-in-Unknown-clause-fits
+decode_type-returns-in-Unknown-clause-fits g t c = λ k. rw c.in-Unknown.is (c.decode_unknown_values.ensures.fits k)
+
+pub decode_type-returns-in-Unknown-clause-reads : goal.decode_type-returns-in-Unknown-clause-reads
+decode_type-returns-in-Unknown-clause-reads g t c = rw c.in-Unknown.is c.decode_unknown_values.ensures.reads
+
+pub decode_type-returns-in-Unknown-clause-itself : goal.decode_type-returns-in-Unknown-clause-itself
+decode_type-returns-in-Unknown-clause-itself g t c =
+    itself_leaf (shape_of_type c.args.types.now c.args.below) c.args.ty.now c.args.decoder.now _ (λ e. rw c.in-Unknown.is tt) _
+
+pub decode_type-returns-in-Unknown-clause-listed : goal.decode_type-returns-in-Unknown-clause-listed
+decode_type-returns-in-Unknown-clause-listed g t c = if_any _ (none_listed (shape_of_type c.args.types.now c.args.below) c.args.below (Inside c.args.types.now c.args.below) c.args.ty.now c.args.decoder.now _ (rw c.in-Unknown.is tt))
+
 pub decode_type-returns-in-Choice-clause-exact : goal.decode_type-returns-in-Choice-clause-exact
 decode_type-returns-in-Choice-clause-exact g t c =
     choice_exact (shape_of_type c.args.types.now c.args.below) c.args.ty.now _ c.args.decoder.now c.decode_choice.result _ c.in-Choice.name c.in-Choice.alternatives c.deref-in-Choice.result.now c.as_str.result.now c.in-Choice.is c.deref-in-Choice.ensures.value c.as_str.ensures.value c.decode_choice.ensures.reads c.decode_choice.ensures.unknown
@@ -759,7 +773,7 @@ decode_sequence-loop-rest-preserved g t c =
         one_made _ c.loop-rest.values.items _ i.0 c.in_ok-value.value w.0 i.1 w.1 c.in_ok-push.ensures.ok,
         parts_more _ _ _ (presence_in (shape_of_type c.args.types.now c.args.below) c.component-item.result) ((shape_of_type c.args.types.now c.args.below) c.component-item.result.type_id.0) _ _ _ i.2 e w.0 _ _ refl w.2,
       ),
-      (subst AreLawful e c.loop-rest.invariant.1).1,
+      (subst AreReadable e c.loop-rest.invariant.1).1,
       (λ k. fit_more (Fits c.args.types.now c.args.below) _ _ _ c.component-item.result c.loop-rest.values.items _ c.in_ok-value.value (c.loop-rest.invariant.2 k) at (c.in_ok-push.ensures.ok k) (c.in_ok-value.ensures.fits k)),
       c.in_ok-value.ensures.told,
       c.loop-rest.invariant.4 ++ c.component-item.result ∷ [],

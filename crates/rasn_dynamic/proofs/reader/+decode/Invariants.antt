@@ -8,7 +8,7 @@ use Rattle.rasn_types.specs.Shapes.{Tree}
 use Rattle.rasn_de.specs.SequenceOf.{DecodesInTurn, DecodesInTurnFrom}
 use Rattle.rasn_de.proofs.OwnTypes.SetPartTypes.{ReadTo}
 use Rattle.rasn_schema.specs.Trees.{tree_of}
-use Rattle.rasn_schema.specs.Shapes.{shape_of_type, components_by, AreLawful}
+use Rattle.rasn_schema.specs.Shapes.{shape_of_type, components_by, AreReadable}
 use Rattle.rasn_dynamic.specs.Inside.{DecodesTree}
 use Rattle.rasn_dynamic.specs.Calls.{names_of, HoldsSlots}
 use Rattle.rasn_schema.specs.Fitting.{Fits, EachFits}
@@ -86,7 +86,7 @@ decreases-decode_elements_in_order-loop-last g l = length l.decoder.rest
 abbrev pub invariant-decode_sequence-loop-rest : goal.invariant-decode_sequence-loop-rest
 invariant-decode_sequence-loop-rest g l = ((ts : List Tree) × (g.M.Made.KEEP ≡ true → map tree_of l.values.items ≡ ts)
     × PartsSoFar (components_by (shape_of_type l.types l.below) l.components) (components_by (shape_of_type l.types l.below) l.rest) ts l.fn.decoder l.decoder)
-    × AreLawful (components_by (shape_of_type l.types l.below) l.rest) × (g.M.Made.KEEP ≡ true → FitSoFar (Fits l.types l.below) l.components l.rest l.values.items) × (l.trace ≡ None)
+    × AreReadable (components_by (shape_of_type l.types l.below) l.rest) × (g.M.Made.KEEP ≡ true → FitSoFar (Fits l.types l.below) l.components l.rest l.values.items) × (l.trace ≡ None)
     × (done : List Component) × (l.components ≡ done ++ l.rest) × ComponentsInTurn (shape_of_type l.types l.below) done l.fn.decoder l.decoder
     × Lists (λ b es. InTurn (ComponentAt (shape_of_type l.types l.below) l.below (Inside l.types l.below) l.components b) (length done) l.fn.decoder l.decoder es) l.fn.spans l.spans
 

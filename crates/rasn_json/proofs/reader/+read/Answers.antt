@@ -6,6 +6,7 @@ use Rattle.rasn_schema.specs.declared.types.Alternative.{Alternative}
 use Rattle.rasn_schema.specs.Fitting.{Fits, EachFits, ComponentsFit}
 use Rattle.rasn_schema.proofs.Lists.{split, nothing_left, read_at}
 use Rattle.rasn_dynamic.proofs.FitsRead.{fits_below, are_items, are_elements, each_more, fit_more, fit_end}
+use Rattle.rasn_json.specs.Json.{unknown_in}
 use Rattle.rasn_json.specs.Reading.{ReadAt, ArrayRead, ObjectRead}
 use Rattle.rasn_json.proofs.ReadParts.{read_below, read_more, read_end, each_read_more, items_read, chosen_read, EachRead}
 use Rattle.std.proofs.lemmas.List.{take_more, take_all}
@@ -25,20 +26,20 @@ pub component_values-loop-rest-preserved : goal.component_values-loop-rest-prese
 component_values-loop-rest-preserved t c =
     let at = split c.loop-rest.rest.now _ c.in-len1-up.len_at_least c.component-item.is in (
       fit_more (Fits c.args.types.now c.args.below) _ _ _ c.component-item.result c.loop-rest.values.items _ c.in_ok-value.value c.loop-rest.invariant.0 at c.in_ok-append.ensures c.in_ok-value.ensures.fits,
-      read_more (ReadAt c.args.types.now c.args.below) _ _ _ (value_view c.args.json.now) c.component-item.result c.loop-rest.values.items _ c.in_ok-value.value c.loop-rest.invariant.1 at c.in_ok-append.ensures c.in_ok-value.ensures.reads,
+      read_more (unknown_in c.args.types.now) (ReadAt c.args.types.now c.args.below) _ _ _ (value_view c.args.json.now) c.component-item.result c.loop-rest.values.items _ c.in_ok-value.value c.loop-rest.invariant.1 at c.in_ok-append.ensures c.in_ok-value.ensures.reads,
     )
 
 pub component_values-returns-clause-fits : goal.component_values-returns-clause-fits
 component_values-returns-clause-fits t c = fit_end (Fits c.args.types.now c.args.below) _ _ _ c.loop-rest.invariant.0 (nothing_left _ c.in_default.len_below)
 
 pub component_values-returns-clause-reads : goal.component_values-returns-clause-reads
-component_values-returns-clause-reads t c = read_end (ReadAt c.args.types.now c.args.below) _ _ (value_view c.args.json.now) _ c.loop-rest.invariant.1 (nothing_left _ c.in_default.len_below)
+component_values-returns-clause-reads t c = read_end (unknown_in c.args.types.now) (ReadAt c.args.types.now c.args.below) _ _ (value_view c.args.json.now) _ c.loop-rest.invariant.1 (nothing_left _ c.in_default.len_below)
 
 pub object_value-returns-clause-fits : goal.object_value-returns-clause-fits
 object_value-returns-clause-fits t c = are_items (ComponentsFit (Fits c.args.types.now c.args.below) c.args.components.now) c.in_ok-values.values c.in_ok-values.ensures.fits
 
 pub object_value-returns-clause-reads : goal.object_value-returns-clause-reads
-object_value-returns-clause-reads t c = are_items (ObjectRead (ReadAt c.args.types.now c.args.below) c.args.components.now (value_view c.args.json.now)) c.in_ok-values.values (_, ap value_view c.in-Object.is ∙ view-Object c.in-Object.members, c.in_ok-values.ensures.reads)
+object_value-returns-clause-reads t c = are_items (ObjectRead (unknown_in c.args.types.now) (ReadAt c.args.types.now c.args.below) c.args.components.now (value_view c.args.json.now)) c.in_ok-values.values (_, ap value_view c.in-Object.is ∙ view-Object c.in-Object.members, c.in_ok-values.ensures.reads)
 
 pub chosen_value-returns-in-Ok-new-clause-fits : goal.chosen_value-returns-in-Ok-new-clause-fits
 chosen_value-returns-in-Ok-new-clause-fits t c =

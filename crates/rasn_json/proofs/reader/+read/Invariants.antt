@@ -1,5 +1,6 @@
 use Rattle.std.proofs.Common.{◌+◌, ◌*◌, length, take}
 use Rattle.json.specs.Value.{value_view}
+use Rattle.rasn_json.specs.Json.{unknown_in}
 use Rattle.rasn_json.specs.Reading.{ReadAt}
 use Rattle.rasn_json.proofs.ReadParts.{ReadSoFar, EachRead}
 use Rattle.rasn_schema.specs.Fitting.{Fits, EachFits}
@@ -31,7 +32,7 @@ abbrev pub decreases-element_values : goal.decreases-element_values
 decreases-element_values l = 8 * l.below + 5
 
 abbrev pub invariant-component_values-loop-rest : goal.invariant-component_values-loop-rest
-invariant-component_values-loop-rest l = FitSoFar (Fits l.types l.below) l.components l.rest l.values.items × ReadSoFar (ReadAt l.types l.below) l.components l.rest (value_view l.json) l.values.items
+invariant-component_values-loop-rest l = FitSoFar (Fits l.types l.below) l.components l.rest l.values.items × ReadSoFar (unknown_in l.types) (ReadAt l.types l.below) l.components l.rest (value_view l.json) l.values.items
 
 abbrev pub decreases-component_values-loop-rest : goal.decreases-component_values-loop-rest
 decreases-component_values-loop-rest l = length l.rest

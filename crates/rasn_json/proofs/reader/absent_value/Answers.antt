@@ -1,4 +1,4 @@
-use Rattle.std.proofs.Common.{◌≡◌, sym, subst}
+use Rattle.std.proofs.Common.{◌≡◌, inl, sym, subst}
 use Rattle.rasn_types.specs.Shapes.{Same}
 use Rattle.rasn_schema.specs.declared.types.Presence.{Presence}
 use Rattle.rasn_schema.specs.declared.types.Presence.TheVariants.{Default}
@@ -6,7 +6,7 @@ use Rattle.rasn_schema.specs.declared.value.Value.{Value}
 use Rattle.rasn_schema.specs.Trees.{tree_of}
 use Rattle.rasn_schema.specs.Shapes.{presence_of}
 use Rattle.rasn_schema.specs.Equals.{same_itself}
-use Rattle.rasn_schema.specs.Fitting.{IsLeftOutAs}
+use Rattle.rasn_schema.specs.Fitting.{IsLeftOutAs, ComponentFits, Fits}
 use Rattle.rasn_json.proofs.Levels.{if_ok, or_ok}
 use Rattle.rasn_json.proofs.reader.absent_value.Goals as goal
 
@@ -15,5 +15,5 @@ default_left p v d e t = subst (λ q. IsLeftOutAs (presence_of q) (tree_of v)) (
 
 pub returns-in-Default-clause-fits : goal.returns-in-Default-clause-fits
 returns-in-Default-clause-fits c =
-    or_ok (λ v. IsLeftOutAs (presence_of c.args.component.now.presence) (tree_of v)) c.try_clone.result c.or_memory.result c.or_memory.ensures
-    (if_ok _ _ c.try_clone.result (λ v e. default_left c.args.component.now.presence v _ c.in-Default.is e) c.try_clone.ensures.means)
+    or_ok (ComponentFits (Fits c.args.types.now c.args.below) c.args.component.now) c.try_clone.result c.or_memory.result c.or_memory.ensures
+    (if_ok _ _ c.try_clone.result (λ v e. inl (default_left c.args.component.now.presence v _ c.in-Default.is e)) c.try_clone.ensures.means)

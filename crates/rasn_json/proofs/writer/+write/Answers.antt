@@ -1,5 +1,5 @@
 use Rattle.std.proofs.Common.{◌≡◌, ◌≢◌, ◌+◌, ◌-◌, ◌++◌, ◌∷◌, [], ℕ, List, length, refl, sym, ap, ◌∙◌, subst, arith, Option, Some, None, Result, Ok, Err, string_bytes}
-use Rattle.rasn_json.specs.Json.{JsonAt}
+use Rattle.rasn_json.specs.Json.{unknown_in, JsonAt}
 use Rattle.rasn_schema.proofs.Lists.{split, nothing_left, read_at}
 use Rattle.rasn_dynamic.proofs.WrittenInside.{none_when}
 use Rattle.rasn_json.proofs.Appended.{on_appends, on_ok, array_more, array_end, object_more, object_end, chosen_put}
@@ -17,12 +17,12 @@ put_chosen-returns g t c =
 
 pub put_object-loop-rest-preserved : goal.put_object-loop-rest-preserved
 put_object-loop-rest-preserved g t c =
-    object_more (JsonAt c.args.types.now c.args.below) _ _ _ _ _ _ c.component-item.result c.value-item.result _ _ _ c.loop-rest.invariant (split c.loop-rest.rest.now _ c.in-len1-up.len_at_least c.component-item.is)
+    object_more (unknown_in c.args.types.now) (JsonAt c.args.types.now c.args.below) _ _ _ _ _ _ c.component-item.result c.value-item.result _ _ _ c.loop-rest.invariant (split c.loop-rest.rest.now _ c.in-len1-up.len_at_least c.component-item.is)
     (split c.loop-rest.left.now _ c.in-len1-up-left.len_at_least c.value-item.is) c.in_ok-put_component.ensures
 
 pub put_object-returns-then-is_empty : goal.put_object-returns-then-is_empty
 put_object-returns-then-is_empty g t c =
-    on_ok c.put-then-is_empty.result _ _ (object_end (JsonAt c.args.types.now c.args.below) _ _ _ _ _ _ _ c.loop-rest.invariant (nothing_left _ c.in_default.len_below) (none_when _ c.is_empty.result c.is_empty.ensures c.if-is_empty.true)) c.put-then-is_empty.ensures
+    on_ok c.put-then-is_empty.result _ _ (object_end (unknown_in c.args.types.now) (JsonAt c.args.types.now c.args.below) _ _ _ _ _ _ _ c.loop-rest.invariant (nothing_left _ c.in_default.len_below) (none_when _ c.is_empty.result c.is_empty.ensures c.if-is_empty.true)) c.put-then-is_empty.ensures
 
 pub put_array-loop-left-preserved : goal.put_array-loop-left-preserved
 put_array-loop-left-preserved g t c =

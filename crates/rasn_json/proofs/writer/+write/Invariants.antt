@@ -1,5 +1,5 @@
 use Rattle.std.proofs.Common.{◌≡◌, ◌+◌, ◌*◌, length}
-use Rattle.rasn_json.specs.Json.{JsonAt}
+use Rattle.rasn_json.specs.Json.{unknown_in, JsonAt}
 use Rattle.rasn_json.proofs.Appended.{ObjectSoFar, ArraySoFar}
 use Rattle.rasn_json.proofs.writer.+write.Given as goal
 
@@ -28,7 +28,7 @@ abbrev pub decreases-put_array : goal.decreases-put_array
 decreases-put_array g l = 8 * l.below + 5
 
 abbrev pub invariant-put_object-loop-rest : goal.invariant-put_object-loop-rest
-invariant-put_object-loop-rest g l = ObjectSoFar (JsonAt l.types l.below) l.components l.rest l.values l.left (g.T.Tokens.written l.fn.out) (g.T.Tokens.written l.out)
+invariant-put_object-loop-rest g l = ObjectSoFar (unknown_in l.types) (JsonAt l.types l.below) l.components l.rest l.values l.left (g.T.Tokens.written l.fn.out) (g.T.Tokens.written l.out)
 
 abbrev pub decreases-put_object-loop-rest : goal.decreases-put_object-loop-rest
 decreases-put_object-loop-rest g l = length l.rest

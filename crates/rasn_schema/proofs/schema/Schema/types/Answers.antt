@@ -1,16 +1,15 @@
 use Rattle.std.proofs.Common.{sym, subst, ℕ, List}
 use Rattle.rasn_types.specs.declared.types.codec.Codec.{Codec}
-use Rattle.rasn_types.specs.Lawful.{IsLawful}
 use Rattle.rasn_schema.specs.declared.types.«Type».{«Type»}
-use Rattle.rasn_schema.specs.Shapes.{shape_of_type}
+use Rattle.rasn_schema.specs.Shapes.{shape_of_type, IsReadable}
 use Rattle.rasn_schema.specs.Schemas.{HaveFitDefaults}
 use Rattle.rasn_schema.specs.Depth.{AreDeep, AreReadAlike}
-use Rattle.rasn_schema.proofs.Schemas.{schema_lawful}
+use Rattle.rasn_schema.proofs.Schemas.{schema_readable}
 use Rattle.rasn_schema.proofs.Depth.{read_alike}
 use Rattle.rasn_schema.proofs.schema.Schema.types.Goals as goal
 
-pub returns-clause-lawful : goal.returns-clause-lawful
-returns-clause-lawful c = subst (λ (l : List «Type»). (levels : ℕ) (id : ℕ) → IsLawful (shape_of_type l levels id)) (sym c.as_slice.ensures.value) (schema_lawful c.args.self.now.types.items c.args.self.now.lawful)
+pub returns-clause-readable : goal.returns-clause-readable
+returns-clause-readable c = subst (λ (l : List «Type»). (levels : ℕ) (id : ℕ) → IsReadable (shape_of_type l levels id)) (sym c.as_slice.ensures.value) (schema_readable c.args.self.now.types.items c.args.self.now.lawful)
 
 AllDeep : List «Type» → Type 0
 AllDeep l = (rule : Codec) (i j depth id : ℕ) → AreDeep l depth i → AreDeep l depth j → AreReadAlike rule depth (shape_of_type l i id) (shape_of_type l j id)
