@@ -19,15 +19,14 @@ use Rattle.rasn_lint.specs.declared.by_schema.OpenTypes.TheVariants.{Unexamined,
 use Rattle.rasn.proofs.Normalised.{unchanged}
 use Rattle.rasn_dynamic.specs.Walk.{ArePartsOf, path_after}
 use Rattle.rasn_lint.specs.declared.departure.Departure.{Departure}
-use Rattle.rasn_lint.specs.Lint.{HasFormed, AreFormed, IsFirstIn, IsLint}
+use Rattle.rasn_lint.specs.Lint.{IsDer, HasFormed, AreFormed, IsFirstIn, IsFirstDeparture, IsLint}
 use Rattle.rasn_lint.specs.Untyped.{HasOpen}
 use Rattle.rasn_lint.specs.WellFormed.{AreEncodings}
-use Rattle.rasn_lint.specs.Laws.{NormalIsClean, IsClosed, ClosedIsClean, FirstIsListed, CleanIsNormal}
+use Rattle.rasn_lint.specs.Laws.{NormalIsClean, FormedIsClean, IsClosed, ClosedIsClean, FirstIsListed, ClosedFirstIsListed, CleanIsNormal}
 use Rattle.rasn_lint.proofs.Holding.{holds}
 use Rattle.rasn_lint.proofs.Kept.{kept, formed}
 
-clean_if_formed : (opens : OpenTypes) (types : List «Type») (id : ℕ) (rule : Codec) (input octets : List ℕ) (ds : List Departure) → IsNormal rule (shape_of types id) input octets
-    → (l : IsLint opens types id octets ds) → AreFormed opens types l.parts.list.items → ds ≡ []
+pub clean_if_formed : FormedIsClean
 clean_if_formed opens types id rule input octets ds n l all = l.clean.1 ((n.again, n.read_again.0), all)
 
 -- The open types of the normal encoding are those of the input.
@@ -83,6 +82,22 @@ first_is_listed Examined types id input ds (Some d) lawful are l (inl h) = (λ q
 first_is_listed Examined types id input ds (Some d) lawful are l (inr (der, (ps, p, f))) =
     let same = parts_determined types Ber Der id input l.parts ps lawful are l.are_parts p in
     (λ q. cc, λ q. absurd (none_first types (length input) [] ps.list.items d (same_formed types l.parts.list.items ps.list.items same (l.clean.0 q).1) f))
+
+-- No part is open.
+none_open : (types : List «Type») → IsClosed Examined types → (len : ℕ) (path : List ℕ) (es : List Span) (d : Departure) → IsFirstIn types len path es d → ⊥
+none_open types none len path [] d h = h
+none_open types none len path (e ∷ es) d (inl (inl (is, n, w))) = none.1 e.id.0 is
+none_open types none len path (e ∷ es) d (inl (inr (tag, inside, is, has, n, w))) = none.0 e.id.0 tag is
+none_open types none len path (e ∷ es) d (inr (f, h)) = none_open types none len (path_after path e) es d h
+
+not_der : (opens : OpenTypes) (types : List «Type») (id : ℕ) (input : List ℕ) (d : Departure) → IsClosed opens types → IsFirstDeparture opens types id input (Some d) → IsDer types id input → ⊥
+not_der Unexamined types id input d none h k = h.0 k
+not_der Examined types id input d none (inl h) k = h.0 k
+not_der Examined types id input d none (inr (r, (ps, a, f))) k = none_open types none (length input) [] ps.list.items d f
+
+pub closed_first_is_listed : ClosedFirstIsListed
+closed_first_is_listed opens types id input ds None none l h = (λ q. l.clean.1 (h.0, are_formed opens types none l.parts.list.items), λ q. refl)
+closed_first_is_listed opens types id input ds (Some d) none l h = (λ q. cc, λ q. absurd (not_der opens types id input d none h (l.clean.0 q).0))
 
 pub clean_is_normal : CleanIsNormal
 clean_is_normal opens types id rule input octets lawful are t carried l n = let d = (l.clean.0 refl).0 in unchanged are n lawful t carried d.0 d.1

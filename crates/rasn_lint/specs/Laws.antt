@@ -24,6 +24,11 @@ NormalIsClean = (opens : OpenTypes) (types : List «Type») (id : ℕ) (rule : C
     → AreLawfulTypes types → AreOctets input → AreOctets octets → IsNormal rule (shape_of types id) input octets
     → ArePartsOf types rule id input parts → AreFormed opens types parts.list.items → IsLint opens types id octets ds → ds ≡ []
 
+-- The same where the open types and the unknown values of the encoding itself are well formed, whatever the types are.
+abbrev pub FormedIsClean : Type 0
+FormedIsClean = (opens : OpenTypes) (types : List «Type») (id : ℕ) (rule : Codec) (input octets : List ℕ) (ds : List Departure)
+    → IsNormal rule (shape_of types id) input octets → (l : IsLint opens types id octets ds) → AreFormed opens types l.parts.list.items → ds ≡ []
+
 -- Open types aren't looked into, or none of the types is one, or is unknown values.
 abbrev pub IsClosed : OpenTypes → List «Type» → Type 0
 IsClosed Unexamined types = Unit {0}
@@ -38,6 +43,11 @@ ClosedIsClean = (opens : OpenTypes) (types : List «Type») (id : ℕ) (rule : C
 abbrev pub FirstIsListed : Type 0
 FirstIsListed = (opens : OpenTypes) (types : List «Type») (id : ℕ) (input : List ℕ) (ds : List Departure) (found : Option Departure)
     → AreLawfulTypes types → AreOctets input → IsLint opens types id input ds → IsFirstDeparture opens types id input found → (found ≡ None) ↔ (ds ≡ [])
+
+-- The same whatever the types are, where open types aren't looked into, or none of the types is open.
+abbrev pub ClosedFirstIsListed : Type 0
+ClosedFirstIsListed = (opens : OpenTypes) (types : List «Type») (id : ℕ) (input : List ℕ) (ds : List Departure) (found : Option Departure)
+    → IsClosed opens types → IsLint opens types id input ds → IsFirstDeparture opens types id input found → (found ≡ None) ↔ (ds ≡ [])
 
 -- Of octets whose list is empty the normal encoding is these octets, if they are a carried value of a lawful shape.
 abbrev pub CleanIsNormal : Type 0

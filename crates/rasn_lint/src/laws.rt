@@ -1,5 +1,5 @@
 //! Facts about lists of departures. The functions do nothing when they run.
-ghost use Rattle.rasn_lint.specs.Laws.{NormalIsClean, ClosedIsClean, FirstIsListed, CleanIsNormal};
+ghost use Rattle.rasn_lint.specs.Laws.{NormalIsClean, FormedIsClean, ClosedIsClean, FirstIsListed, ClosedFirstIsListed, CleanIsNormal};
 ghost use Rattle.std.specs.Prelude.{Vec};
 ghost use Rattle.std.specs.Global.{Global};
 ghost use Rattle.rasn_schema.specs.declared.types.NamedNumber.{NamedNumber};
@@ -7,17 +7,19 @@ ghost use Rattle.rasn_lint.specs.Worked.{WorkedDepartures};
 ghost use Rattle.rasn_lint.specs.WorkedMessages.{WorkedMessages};
 
 /// Proves what the list of a message says of the value written anew, as `rasn_dynamic::normalise`
-/// does it: what is written has no departures if the open types of the message are well formed, so
-/// none where no type is open; and a message without departures is written as it is.
+/// does it: what is written has no departures if the open types of the message, or its own, are well
+/// formed, so none where no type is open; and a message without departures is written as it is.
 pub fn written_anew()
     ensures clean { NormalIsClean }
+    ensures formed { FormedIsClean }
     ensures closed { ClosedIsClean }
     ensures unchanged { CleanIsNormal }
 {}
 
 /// Proves that `check` finds a departure exactly if `lint` lists one.
 pub fn first_listed()
-    ensures { FirstIsListed }
+    ensures listed { FirstIsListed }
+    ensures closed { ClosedFirstIsListed }
 {}
 
 /// Proves what departs of a few octets, and what doesn't.
