@@ -1,3 +1,4 @@
+mod Forms
 pub mod Frames
 pub mod Rules
 pub mod Steps
@@ -12,6 +13,7 @@ pub mod ByRule
 pub mod Noted
 pub mod Mended
 pub mod Opened
+pub mod Listed
 pub mod Clean
 pub mod Holding
 pub mod Kept

@@ -17,9 +17,10 @@ use Rattle.rasn_lint.specs.declared.judge.Site.{Site}
 use Rattle.rasn_lint.specs.Judged.{IsCopied, IsSiteAt, IsDepartureAt, AreNoted, AreListed, TypedUnless, OpenIf, AreOfPart}
 use Rattle.rasn_types.specs.declared.types.tag.Tag.{Tag}
 use Rattle.rasn_lint.specs.Header.{is_constructed, IsTagFault, IsLengthFault}
+use Rattle.rasn_lint.specs.Listed.{HasAllIf}
 use Rattle.rasn_lint.specs.Open.{IsFoundIn, DepartsThere, IsInside, IsOfUnknown, GrowsInside, GrowsUnknown}
 use Rattle.rasn_lint.specs.Universal.{rule_of}
-use Rattle.rasn_lint.specs.Untyped.{HasContents, LeadsInto, HasNoForm, AreUntypedFaults}
+use Rattle.rasn_lint.specs.Untyped.{HasContents, LeadsInto, HasNoForm, HasWrongContents, AreUntypedFaults}
 use Rattle.rasn_lint.specs.WellFormed.{AllowsEncoding}
 
 folded : {A : Type 0} (l m z a b : List A) → l ≡ m ++ a → z ≡ l ++ b → z ≡ m ++ (a ++ b)
@@ -104,9 +105,9 @@ module _ (len left : ℕ) (e : Span) (path octets : List ℕ) (indices : Bor (Li
       → ((ds : List Departure) × (b ≡ a ++ ds) × AreListed site f ds) → GrowsInside len e path inside a b
   grows_listed f tag contents a b leads has u (ds, p, h) =
       let I = IsInside len e path inside in
-      let by_contents = noted_inside Contents f.contents h.contents (λ x q. inl (leads, (tag, contents, has, subst (λ o. MatchOption o (Unit {0}) (λ z. AllowsEncoding false tag (is_constructed octets) contents)) q u.in_contents))) h.in_contents in
+      let by_contents = noted_inside Contents f.contents h.contents (λ x q. inl (leads, (tag, contents, has, subst (λ o. MatchOption o (HasWrongContents tag (is_constructed octets) contents → ⊥) (λ z. AllowsEncoding false tag (is_constructed octets) contents)) q u.in_contents))) h.in_contents in
       let by_length = noted_inside Header f.length h.length (λ x q. inl (leads, inl (inr (subst (IsLengthFault octets) q u.by_length)))) h.by_length in
-      let by_form = noted_inside Header f.form h.form (λ x q. inl (leads, inr (inl (tag, contents, has, subst (λ o. MatchOption o (Unit {0}) (λ z. HasNoForm (rule_of tag) (is_constructed octets))) q u.by_form)))) h.by_form in
+      let by_form = noted_inside Header f.form h.form (λ x q. inl (leads, inr (inl (tag, contents, has, subst (λ o. MatchOption o (HasNoForm (rule_of tag) (is_constructed octets) → ⊥) (λ z. HasNoForm (rule_of tag) (is_constructed octets))) q u.by_form)))) h.by_form in
       let by_tag = noted_inside Header f.tag h.tag (λ x q. inl (leads, inl (inl (subst (IsTagFault octets) q u.by_tag)))) h.by_tag in
       let by_default = noted_inside Place f.default h.default (λ x q. let n = u.default in cc) h.by_default in
       let in_order = noted_inside Place f.order h.order (λ x q. let n = u.order in cc) h.in_order in
@@ -139,8 +140,9 @@ pub both_parts : (is_read : Bool) (opens : OpenTypes) (types : List «Type») (l
     → o ≡ slice_get types e.id.0
     → ((ds : List Departure) × (l1 ≡ l0 ++ ds) × TypedUnless is_read opens types len trail path e o ds)
     → ((ds : List Departure) × (l2 ≡ l1 ++ ds) × OpenIf opens len path e o ds)
+    → ((ds : List Departure) → l2 ≡ l1 ++ ds → HasAllIf opens e o ds)
     → (ds : List Departure) × (l2 ≡ l0 ++ ds) × AreOfPart is_read opens types len trail path e ds
-both_parts is_read opens types len trail path e o l0 l1 l2 is (a, p, h) (b, q, k) = (
+both_parts is_read opens types len trail path e o l0 l1 l2 is (a, p, h) (b, q, k) m = (
   a ++ b,
   folded l1 l0 l2 a b p q,
   record {
@@ -149,6 +151,7 @@ both_parts is_read opens types len trail path e o l0 l1 l2 is (a, p, h) (b, q, k
     are = refl;
     by_type = subst (λ z. TypedUnless is_read opens types len trail path e z a) is h;
     by_octets = subst (λ z. OpenIf opens len path e z b) is k;
+    complete = subst (λ z. HasAllIf opens e z b) is (m b q);
   },
 )
 
@@ -156,7 +159,7 @@ both_parts is_read opens types len trail path e o l0 l1 l2 is (a, p, h) (b, q, k
 pub no_part : (is_read : Bool) (opens : OpenTypes) (types : List «Type») (len : ℕ) (trail : List Step) (path : List ℕ) (e : Span) (l : List Departure) → slice_get types e.id.0 ≡ None
     → (ds : List Departure) × (l ≡ l ++ ds) × AreOfPart is_read opens types len trail path e ds
 no_part is_read opens types len trail path e l is =
-    both_parts is_read opens types len trail path e None l l l (sym is) ([], sym (append-nil l), none is_read) ([], sym (append-nil l), none_inside opens)
+    both_parts is_read opens types len trail path e None l l l (sym is) ([], sym (append-nil l), none is_read) ([], sym (append-nil l), none_inside opens) (λ ds q. none_left_out opens ds)
   where
     none : (b : Bool) → TypedUnless b opens types len trail path e None []
     none true = refl
@@ -165,3 +168,7 @@ no_part is_read opens types len trail path e l is =
     none_inside : (o : OpenTypes) → OpenIf o len path e None []
     none_inside Unexamined = refl
     none_inside Examined = refl
+
+    none_left_out : (o : OpenTypes) (ds : List Departure) → HasAllIf o e None ds
+    none_left_out Unexamined ds = tt
+    none_left_out Examined ds = tt

@@ -22,12 +22,13 @@ use Rattle.rasn_de.specs.ParserViews.{peeked_tag}
 use Rattle.rasn_lint.specs.Header.{is_constructed}
 use Rattle.rasn_lint.specs.Open.{IsEndLen, IsEndOf, IsAfterHeader, IsFoundIn, IsThere, IsPending, AllPending, IsReached, IsExtra, IsAfter, IsKept, IsOfWhole}
 use Rattle.rasn_lint.specs.Untyped.{HasOpen, HasNoContents, HasContents, IsFollowedBy, IsUnread, FollowsAfter, HoldsAt, LeadsInto}
+use Rattle.rasn_lint.specs.Listed.{IsOnlyRest}
 use Rattle.rasn_lint.proofs.Noted.{all_append}
 
 -- ---- end-of-contents octets
 
 -- An encoding of definite length takes no steps to be skipped, and no octets end it; one of indefinite length takes some.
-definite_parts : (octets : List ℕ) (tag : Tag) (bit : Bool) (c rest : List ℕ) → Frame basic_form octets tag bit rest (definite c)
+pub definite_parts : (octets : List ℕ) (tag : Tag) (bit : Bool) (c rest : List ℕ) → Frame basic_form octets tag bit rest (definite c)
     → (header : List ℕ) × (octets ≡ header ++ (c ++ rest)) × Skipped Ber octets 0 rest
 definite_parts octets tag bit _ rest (with_length id len c a b s e) = (
   id ++ len,
@@ -40,7 +41,7 @@ definite_parts octets tag bit _ rest (with_length id len c a b s e) = (
   },
 )
 
-indefinite_parts : (octets : List ℕ) (tag : Tag) (bit : Bool) (c body rest : List ℕ) → Frame basic_form octets tag bit body indefinite → CompleteEncodings Ber c → body ≡ c ++ (0 ∷ 0 ∷ rest)
+pub indefinite_parts : (octets : List ℕ) (tag : Tag) (bit : Bool) (c body rest : List ℕ) → Frame basic_form octets tag bit body indefinite → CompleteEncodings Ber c → body ≡ c ++ (0 ∷ 0 ∷ rest)
     → (header : List ℕ) × (octets ≡ header ++ (c ++ (0 ∷ 0 ∷ rest))) × (k : ℕ) × Skipped Ber octets k rest × (0 < k)
 indefinite_parts octets tag bit c body rest (without_length id a b i e) inside is = (
   id ++ 128 ∷ [],
@@ -106,6 +107,11 @@ module _ (octets : List ℕ) (s new : State) (at : s ≡ start Ber octets) where
       let k = subst (λ z. SkipsValue z (Ok n) new) at h in
       (n, subst (Skipped Ber octets n) (sym r) k.0.0)
 
+  pub only_rest : (n : ℕ) (rest : List ℕ) → SkipsValue s (Ok n) new → rest ≡ new.rest → IsOnlyRest octets rest
+  only_rest n rest h r other (m, x) =
+      let k = subst (λ z. SkipsValue z (Ok n) new) at h in
+      (k.0.1 m other x).1 ∙ sym r
+
   -- What an open type holds.
   pub opened_at : (tag : Tag) (o : Bor (List ℕ)) → BorrowsOpenType tag s (Ok o) new → OpenAt Ber (looked_for tag) octets (Ok (o.now, new.rest))
   opened_at tag o h = (subst (λ z. BorrowsOpenType tag z (Ok o) new) at h).0
@@ -149,7 +155,7 @@ take_take m d path h g =
     let n = length-take-le d path g in
     sym (ap (λ z. take m z) (sym (take-append-drop d path)) ∙ take-append-le m (take d path) (drop d path) (omega (arith, n, h)))
 
-cut_shorter : (m d k : ℕ) (path : List ℕ) → m ≤ d → d ≤ length path → take m (take d path ++ k ∷ []) ≡ take m path
+pub cut_shorter : (m d k : ℕ) (path : List ℕ) → m ≤ d → d ≤ length path → take m (take d path ++ k ∷ []) ≡ take m path
 cut_shorter m d k path h g =
     let n : length (take d path) ≡ d = length-take-le d path g in
     take-append-le m (take d path) (k ∷ []) (omega (arith, n, h)) ∙ take_take m d path h g
@@ -239,6 +245,13 @@ module _ (e : Span) where
 
   within : (inside path : List ℕ) (d k : ℕ) (octets : List ℕ) → IsThere inside path d k octets → (m : ℕ) → d ≡ suc m → m ≤ length path
   within inside path d k octets t m q = (subst (λ z. IsThere inside path z k octets) q t).0
+
+  -- The path has the indices of the last of them, and the others are in no more encodings.
+  pub fits_below : (inside path : List ℕ) (old others : List Pending) (p : Pending) → AllPending e inside path old → old ≡ others ++ p ∷ []
+      → ((m : ℕ) → p.depth ≡ suc m → m ≤ length path) × AllByRecursion (λ (q : Pending). q.depth ≤ p.depth) others
+  fits_below inside path old others p a q =
+      let r = taken inside path others p (subst (AllPending e inside path) q a) in
+      (within inside path p.depth p.index p.octets.now r.1.there, r.2)
 
   pub reached : (inside path new : List ℕ) (old others : List Pending) (p : Pending) → AllPending e inside path old → old ≡ others ++ p ∷ [] → new ≡ path_at_depth p.depth path p.index → IsReached e inside new p others
   reached inside path new old others p a q went =

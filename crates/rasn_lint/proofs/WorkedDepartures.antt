@@ -1,7 +1,10 @@
 -- Departures worked out by hand.
-use Rattle.std.proofs.Common.{◌≡◌, ◌-◌, inl, inr, ℕ, List, [], ◌∷◌, ◌++◌, length, true, refl, sym, ap, ◌∙◌, subst, arith}
+use Rattle.std.proofs.Common.{◌≡◌, ◌-◌, inl, inr, ◌⊎◌, ℕ, List, [], ◌∷◌, ◌++◌, length, true, false, Some, Vec, refl, sym, ap, ◌∙◌, subst, arith}
 use Rattle.rasn_types.specs.Order.{IsLess}
+use Rattle.std.specs.Global.{Global}
 use Rattle.rasn_dynamic.specs.declared.span.Span.{Span}
+use Rattle.rasn_lint.specs.declared.departure.Departure.{Departure}
+use Rattle.rasn_lint.specs.declared.departure.Aspect.TheVariants.{Contents}
 use Rattle.rasn_lint.specs.Header.{after_number}
 use Rattle.rasn_lint.specs.Open.{IsFoundIn}
 use Rattle.rasn_lint.specs.Worked.{one, two, WorkedDepartures}
@@ -18,6 +21,9 @@ use Rattle.rasn_de.specs.Any.{OpenAt}
 use Rattle.rasn_de.specs.Headers.{identifier_by, tag_number_at}
 use Rattle.rasn_de.specs.ParserViews.{peeked_tag}
 use Rattle.rasn_lint.specs.Untyped.{HasContents, FollowsAfter, LeadsInto}
+use Rattle.rasn_lint.specs.Listed.{LeadsToOne, HasOne, HasAll}
+use Rattle.rasn_lint.specs.Universal.{rule_in}
+use Rattle.rasn_lint.proofs.Listed.{leads_nowhere, no_rest}
 use Rattle.rasn_lint.proofs.Opened.{followed_shorter}
 use Rattle.rasn_lint.proofs.Worked.{universal_id}
 
@@ -91,6 +97,48 @@ not_second (first, h, e) = go h.has h.follows
         let w = ap length (e ∙ q) in
         omega (arith, n, m, w)
 
+-- The BOOLEAN there.
+boolean_frame : Frame basic_form (1 ∷ 1 ∷ 1 ∷ []) (in_universal 1) false [] (definite (1 ∷ []))
+boolean_frame = with_length (1 ∷ []) (1 ∷ []) (1 ∷ []) (universal_id 1 false (omega arith) (omega arith)) (inl (omega arith, refl, refl)) (λ s. absurd s) refl
+
+only_octet : (u : Tree) (rest : List ℕ) → ReadsOpen Ber (in_universal 1) (1 ∷ 1 ∷ 1 ∷ []) u rest → (u ≡ numbers (1 ∷ [])) × (rest ≡ [])
+only_octet u rest (bit, contents, e, strict, inl f) =
+    let o = frame_one _ boolean_frame f in
+    let x = o.extent in
+    let k : 1 ∷ [] ≡ contents = cc in
+    (e ∙ ap numbers (sym k), sym o.rest)
+only_octet u rest (bit, contents, e, strict, inr (body, f, inside, is)) = let x = (frame_one _ boolean_frame f).extent in cc
+
+boolean_tag : peeked_tag (form Ber) (1 ∷ 1 ∷ 1 ∷ []) ≡ Ok (in_universal 1)
+unfolding identifier_by tag_number_at
+boolean_tag = refl
+
+wrong_boolean : LeadsToOne (0 ∷ []) (48 ∷ 3 ∷ 1 ∷ 1 ∷ 1 ∷ []) Contents
+unfolding rule_in
+wrong_boolean = (
+  1 ∷ 1 ∷ 1 ∷ [],
+  (λ e. cc),
+  in_sequence,
+  (
+    in_universal 1,
+    1 ∷ [],
+    (boolean_tag, ([], ((false, 1 ∷ [], refl, (λ s. absurd s), inl boolean_frame), only_octet))),
+    ((λ n. n (0 ∷ []) (inl refl)), (λ e. cc), no_boolean),
+  ),
+)
+  where
+    no_boolean : ◌≡◌ {A = List ℕ} (1 ∷ []) (0 ∷ []) ⊎ ◌≡◌ {A = List ℕ} (1 ∷ []) (255 ∷ []) → ⊥
+    no_boolean (inl e) = cc
+    no_boolean (inr e) = cc
+
+in_no_octets : HasAll [] []
+in_no_octets i a (inl l) = absurd (leads_nowhere i a l)
+in_no_octets i a (inr (e, q, rest, s, f)) = absurd (no_rest rest f)
+
+elsewhere : (d : Departure) (v : Vec ℕ Global) → d.inner ≡ Some v → v.items ≡ 0 ∷ [] → HasOne (1 ∷ []) d.aspect (d ∷ []) → ⊥
+elsewhere d v p q (inl (w, r, s, t)) = let e : v ≡ w = cc in let k = ap (λ (x : Vec ℕ Global). x.items) e in cc
+elsewhere d v p q (inr h) = h
+
 not_one : {A : Type 0} (x : A) → [] ≡ x ∷ [] → ⊥
 not_one x e = omega (arith, ap length e)
 
@@ -115,6 +163,10 @@ departures = record {
   not_one_octet_before = misplaced;
   inside_a_sequence = in_sequence;
   not_the_second_one = not_second;
+  nothing_in_no_octets = in_no_octets;
+  left_out = λ h. h (0 ∷ []) Contents (inl wrong_boolean);
+  at_its_indices = λ d v p q. inl (v, p, q, refl);
+  not_at_others = elsewhere;
   trail_of_the_next_part = λ whole first second p q r. grind arith;
   nothing_without_an_error = λ site. refl;
   not_one_without_an_error = λ site d h. cc;

@@ -1,6 +1,6 @@
 -- The list of the octets of a BOOLEAN with a long length, worked out by hand.
 use Rattle.std.proofs.Common.{◌≡◌, inl, inr, ℕ, zero, suc, ◌<◌, pos, List, [], ◌∷◌, ◌++◌, length, true, false, Some, None, Vec, Global, refl, sym, ap, ◌∙◌, subst, arith}
-use Rattle.std.specs.Prelude.{◌-◌, slice_get, slice_index_or}
+use Rattle.std.specs.Prelude.{slice_get, slice_index_or}
 use Rattle.std.specs.List.{All}
 use Rattle.std.specs.List.Sorted.{IsNonDecreasingBy}
 use Rattle.std.proofs.lemmas.List.Sorted.{IsPermutation-refl}
@@ -164,7 +164,7 @@ module _ (names : Vec NamedNumber Global) (shape_is : shape_of (a_boolean names)
   are_departures = subst (λ z. AreDepartures Unexamined types 4 [] (path_after [] e) e z (d ∷ [])) (ap (slice_get types) (sym a.id)) (faults, site, are_faults, is_site, are_listed)
 
   of_part : AreOfPart false Unexamined types 4 [] (path_after [] e) e (d ∷ [])
-  of_part = record { typed = d ∷ []; inside = []; are = refl; by_type = are_departures; by_octets = refl }
+  of_part = record { typed = d ∷ []; inside = []; are = refl; by_type = are_departures; by_octets = refl; complete = tt }
 
   are_all : AreAll Unexamined types 0 long_true ps.list.items (d ∷ [])
   are_all = subst (λ l. AreAll Unexamined types 0 long_true l (d ∷ [])) (sym a.list) (inr (not_read, inl ((d ∷ [], [], refl, of_part, refl), λ q. cc)))

@@ -23,6 +23,7 @@ use Rattle.rasn_lint.specs.Place.{order_if, default_if, type_of, IsOrderFault, I
 use Rattle.rasn_lint.specs.Header.{has_own_header, is_constructed, IsTagFault, IsFormFault, IsLengthFault}
 use Rattle.rasn_lint.specs.Leaf.{IsContentsFault}
 use Rattle.rasn_lint.specs.Encoding.{start}
+use Rattle.rasn_lint.specs.Listed.{HasAllIf}
 use Rattle.rasn_lint.specs.Open.{IsInside, IsOfUnknown}
 use Rattle.rasn_lint.specs.Untyped.{HasOpen}
 use Rattle.rasn_lint.specs.WellFormed.{IsWellFormed, AreEncodings}
@@ -151,6 +152,7 @@ pub record AreOfPart (is_read : Bool) (opens : OpenTypes) (types : List «Type»
   pub are : ds ≡ typed ++ inside
   pub by_type : TypedUnless is_read opens types len trail path e (slice_get types e.id.0) typed
   pub by_octets : OpenIf opens len path e (slice_get types e.id.0) inside
+  pub complete : HasAllIf opens e (slice_get types e.id.0) inside
 
 -- Those of parts, one after the other, where the trail and the path lead to the part before them.
 abbrev pub AreJudged : Bool → OpenTypes → List «Type» → ℕ → List Step → List ℕ → List Span → List Departure → Type 0

@@ -10,6 +10,7 @@ pub mod Header
 pub mod Leaf
 pub mod Untyped
 pub mod Open
+pub mod Listed
 pub mod Judged
 pub mod Lint
 pub mod Laws

@@ -18,7 +18,7 @@ use Rattle.rasn_lint.specs.Contents.{AllowsContents}
 use Rattle.rasn_lint.specs.Header.{is_constructed, IsTagFault, IsLengthFault}
 use Rattle.rasn_lint.specs.Order.{IsInOrder}
 use Rattle.rasn_lint.specs.Universal.{rule_of}
-use Rattle.rasn_lint.specs.WellFormed.{AllowsParts, AreWellFormed, AllowsEncoding}
+use Rattle.rasn_lint.specs.WellFormed.{AllowsParts, AreWellFormed, AreEncodings, AllowsEncoding}
 
 -- The octets of a value of an open type, as BER finds them.
 abbrev pub HasOpen : Tag → List ℕ → List ℕ → Type 0
@@ -67,14 +67,20 @@ HasNoForm rule true = (parts : List (List ℕ)) → AllowsParts rule parts → �
 abbrev pub IsUnordered : ContentsRule → List ℕ → Type 0
 IsUnordered rule contents = (rule ≡ Set) × ((parts : List (List ℕ)) → contents ≡ joined_lists parts → AreWellFormed parts → IsInOrder parts → ⊥)
 
--- The errors of an encoding with this tag and these contents, of which nothing is said in its place.
+-- The contents aren't allowed for the tag, although the form is. Those of a constructed encoding are well formed: else what
+-- departs is inside them.
+abbrev pub HasWrongContents : Tag → Bool → List ℕ → Type 0
+HasWrongContents tag bit contents = (HasNoForm (rule_of tag) bit → ⊥) × (bit ≡ true → AreEncodings contents) × AllowsEncoding false tag bit contents
+
+-- The errors of an encoding with this tag and these contents, of which nothing is said in its place. There is one of the
+-- form, and of the contents, exactly if they aren't allowed.
 pub record AreUntypedFaults (tag : Tag) (contents octets : List ℕ) (f : Faults) : Type 0 where
   pub order : f.order ≡ None
   pub default : f.default ≡ None
   pub by_tag : IsTagFault octets f.tag
-  pub by_form : MatchOption f.form (Unit {0}) (λ e. HasNoForm (rule_of tag) (is_constructed octets))
+  pub by_form : MatchOption f.form (HasNoForm (rule_of tag) (is_constructed octets) → ⊥) (λ e. HasNoForm (rule_of tag) (is_constructed octets))
   pub by_length : IsLengthFault octets f.length
-  pub in_contents : MatchOption f.contents (Unit {0}) (λ e. AllowsEncoding false tag (is_constructed octets) contents)
+  pub in_contents : MatchOption f.contents (HasWrongContents tag (is_constructed octets) contents → ⊥) (λ e. AllowsEncoding false tag (is_constructed octets) contents)
 
 -- Of what the octets begin with the identifier or length octets depart, and the error is that of the reader; or the form
 -- isn't that of the tag, or BER doesn't read it.

@@ -15,6 +15,7 @@ use Rattle.rasn_lint.specs.declared.place.Order.TheVariants.{Unordered, ByOctets
 use Rattle.rasn_lint.specs.declared.trail.Step.{Step}
 use Rattle.rasn_lint.specs.Header.{after_identifier, is_constructed, IsFormFault}
 use Rattle.rasn_lint.specs.Judged.{AreNoted}
+use Rattle.rasn_lint.specs.Listed.{HasOne, HasAll}
 use Rattle.rasn_lint.specs.Open.{IsFoundIn}
 use Rattle.rasn_lint.specs.Place.{der_error, IsOrderFault}
 use Rattle.rasn_lint.specs.Trail.{trail_after, step_of}
@@ -46,6 +47,10 @@ pub record WorkedDepartures : Type 0 where
   pub not_one_octet_before : (e : Span) → e.octets.now ≡ 48 ∷ 3 ∷ 1 ∷ 1 ∷ 1 ∷ [] → e.left ≡ 7 → IsFoundIn e (1 ∷ 1 ∷ 1 ∷ []) 6 → ⊥
   pub inside_a_sequence : LeadsInto (0 ∷ []) (48 ∷ 3 ∷ 1 ∷ 1 ∷ 1 ∷ []) (1 ∷ 1 ∷ 1 ∷ [])
   pub not_the_second_one : LeadsInto (1 ∷ []) (48 ∷ 3 ∷ 1 ∷ 1 ∷ 1 ∷ []) (1 ∷ 1 ∷ 1 ∷ []) → ⊥
+  pub nothing_in_no_octets : HasAll [] []
+  pub left_out : HasAll (48 ∷ 3 ∷ 1 ∷ 1 ∷ 1 ∷ []) [] → ⊥
+  pub at_its_indices : (d : Departure) (v : Vec ℕ Global) → d.inner ≡ Some v → v.items ≡ 0 ∷ [] → HasOne (0 ∷ []) d.aspect (d ∷ [])
+  pub not_at_others : (d : Departure) (v : Vec ℕ Global) → d.inner ≡ Some v → v.items ≡ 0 ∷ [] → HasOne (1 ∷ []) d.aspect (d ∷ []) → ⊥
   pub trail_of_the_next_part : (whole first second : Span) → whole.levels ≡ 2 ^ 64 - 1 → first.levels ≡ 2 ^ 64 - 2 → second.levels ≡ 2 ^ 64 - 2
       → trail_after (trail_after (trail_after [] whole) first) second ≡ step_of whole ∷ step_of second ∷ []
   pub nothing_without_an_error : (site : Site) → AreNoted site Header None []

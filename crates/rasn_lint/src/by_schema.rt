@@ -3,6 +3,7 @@ ghost use Rattle.std.specs.Prelude.{◌≡◌, ◌++◌, ◌∷◌, [], Some, No
 ghost use Rattle.std.specs.List.Sorted.{IsNonDecreasingBy, IsPermutation};
 ghost use Rattle.rasn_lint.specs.declared.departure.Departure.{Departure};
 ghost use Rattle.rasn_lint.specs.Judged.{TypedUnless, OpenIf, AreOfPart, AreJudged};
+ghost use Rattle.rasn_lint.specs.Listed.{HasAllIf};
 ghost use Rattle.rasn_lint.specs.Lint.{IsDerOrNot, IsRemainderOf, AreAll, offset_of, IsLint, IsNoLint, rest_after};
 ghost use Rattle.rasn_lint.specs.Trail.{trail_after};
 ghost use Rattle.rasn_dynamic.specs.Walk.{path_after};
@@ -133,8 +134,9 @@ fn note_examined(
     ty: &Type,
     way: Way<'_, '_>,
 ) -> Result<(), AllocError>
-    ensures { OnOk result ((ds : List Departure) × (list.new.items ≡ list.old.items ++ ds)
+    ensures listed { OnOk result ((ds : List Departure) × (list.new.items ≡ list.old.items ++ ds)
         × OpenIf opens way.entry.len way.entry.path.now way.entry.part.now (Some ty.now) ds) }
+    ensures complete { OnOk result ((ds : List Departure) → list.new.items ≡ list.old.items ++ ds → HasAllIf opens way.entry.part.now (Some ty.now) ds) }
 {
     match opens {
         OpenTypes::Unexamined => Ok(()),

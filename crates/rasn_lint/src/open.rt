@@ -5,11 +5,12 @@ ghost use Rattle.rasn_types.specs.Shapes.{looked_for};
 ghost use Rattle.rasn_types.specs.Truth.{IsWhether};
 ghost use Rattle.rasn_schema.specs.declared.types.«Type».TheVariants.{Any};
 ghost use Rattle.rasn_lint.specs.Judged.{AreOfUnknown, AreOpenDepartures};
+ghost use Rattle.rasn_lint.specs.Listed.{HasAll, HasAllInside, IsOnlyRest, IsLookedInto, IsLooked};
 ghost use Rattle.rasn_lint.specs.Open.{IsEndLen, IsEndOf, IsAfterHeader, IsFoundIn, IsExtra, IsAfter, AllPending, IsReached, IsKept, IsInside, GrowsInside, GrowsUnknown};
 ghost use Rattle.rasn_lint.specs.Untyped.{HasOpen, HasContents, HasNoContents, IsFollowedBy, IsUnread};
 ghost use Rattle.rasn_lint.specs.WellFormed.{IsWellFormed};
 ghost use Rattle.rasn_lint.specs.declared.departure.Departure.{Departure};
-ghost use Rattle.rasn_lint.specs.declared.open.Wanted.TheVariants.{First};
+ghost use Rattle.rasn_lint.specs.declared.open.Wanted.TheVariants.{All, First};
 
 use crate::departure::{Aspect, Departure};
 use crate::der::{are_encodings, is_well_formed};
@@ -110,7 +111,8 @@ fn contents_of(alloc: Global, octets: &[u8]) -> Option<(Tag, Contents<'_>)>
 
 /// Returns what follows the first of these encodings, as BER skips it.
 fn after_first(alloc: Global, octets: &[u8]) -> Option<&[u8]>
-    ensures { MatchOption result (IsUnread octets.now) (λ rest. IsFollowedBy octets.now rest.now) }
+    ensures exact { MatchOption result (IsUnread octets.now) (λ rest. IsFollowedBy octets.now rest.now) }
+    ensures one { IfSome result (λ rest. IsOnlyRest octets.now rest.now) }
 {
     let mut decoder = reader_of(alloc, octets);
     let Ok(_) = decoder.skip_value() else {
@@ -148,6 +150,7 @@ fn look_into<'input>(
         → GrowsInside way.entry.len way.entry.part.now way.entry.path.now inside list.old.items list.new.items) }
     ensures all { OnOk result ((inside : List ℕ) → IsReached way.entry.part.now inside path.now next.entry pending.old.items
         → AllPending way.entry.part.now inside path.now pending.new.items) }
+    ensures told { OnOk result (IsLookedInto path.now next.entry.octets.now list.old.items list.new.items pending.old.items pending.new.items) }
 {
     let octets = next.octets;
     let site = site_at(way, next.left, Some(path));
@@ -204,6 +207,8 @@ fn look<'input>(
         → GrowsInside way.entry.len way.entry.part.now way.entry.path.now inside list.old.items list.new.items) }
     ensures all { OnOk result ((inside : List ℕ) → IsReached way.entry.part.now inside path.now next.entry pending.old.items
         → AllPending way.entry.part.now inside path.now pending.new.items) }
+    ensures told { OnOk result ((inside : List ℕ) → IsReached way.entry.part.now inside path.now next.entry pending.old.items
+        → IsLooked path.now next.entry list.old.items list.new.items pending.old.items pending.new.items) }
 {
     let site = site_at(way, next.left, Some(path));
     if is_extra(next) {
@@ -244,7 +249,8 @@ fn look_along(
     requires first { encodings.index ≡ 0 }
     requires outermost { encodings.depth ≡ 0 }
     requires size { length encodings.octets.now < 2 ^ 64 }
-    ensures { OnOk result (GrowsInside way.entry.len way.entry.part.now way.entry.path.now encodings.entry.octets.now list.old.items list.new.items) }
+    ensures grows { OnOk result (GrowsInside way.entry.len way.entry.part.now way.entry.path.now encodings.entry.octets.now list.old.items list.new.items) }
+    ensures complete { OnOk result (wanted ≡ All → (ds : List Departure) → list.new.items ≡ list.old.items ++ ds → HasAll encodings.entry.octets.now ds) }
 {
     let before = list.len();
     let mut path = Vec::new(alloc);
@@ -292,8 +298,9 @@ fn note_inside(
 ) -> Result<(), AllocError>
     requires after { IsAfterHeader way.part.now.octets.now contents }
     requires size { length contents.octets.now < 2 ^ 64 }
-    ensures { OnOk result ((ds : List Departure) × (list.new.items ≡ list.old.items ++ ds) × ((ds ≡ []) ↔ IsWellFormed contents.entry.octets.now)
+    ensures listed { OnOk result ((ds : List Departure) × (list.new.items ≡ list.old.items ++ ds) × ((ds ≡ []) ↔ IsWellFormed contents.entry.octets.now)
         × AllByRecursion (IsInside way.entry.len way.entry.part.now way.entry.path.now contents.entry.octets.now) ds) }
+    ensures complete { OnOk result (wanted ≡ All → (IsWellFormed contents.entry.octets.now → ⊥) → (ds : List Departure) → list.new.items ≡ list.old.items ++ ds → HasAll contents.entry.octets.now ds) }
 {
     if is_well_formed(alloc, contents.octets)? {
         return Ok(());
@@ -321,7 +328,8 @@ fn note_any(
     tag: Tag,
     way: Way<'_, '_>,
 ) -> Result<(), AllocError>
-    ensures { OnOk result ((ds : List Departure) × (list.new.items ≡ list.old.items ++ ds) × AreOpenDepartures way.entry.len way.entry.path.now way.entry.part.now (Some (Any tag)) ds) }
+    ensures listed { OnOk result ((ds : List Departure) × (list.new.items ≡ list.old.items ++ ds) × AreOpenDepartures way.entry.len way.entry.path.now way.entry.part.now (Some (Any tag)) ds) }
+    ensures complete { OnOk result (wanted ≡ All → (ds : List Departure) → list.new.items ≡ list.old.items ++ ds → HasAllInside way.entry.part.now (Some (Any tag)) ds) }
 {
     match contents_at(alloc, tag, way.part.octets) {
         Some(contents) => note_inside(alloc, list, wanted, way, contents),
@@ -400,7 +408,8 @@ pub fn note_open(
     ty: &Type,
     way: Way<'_, '_>,
 ) -> Result<(), AllocError>
-    ensures { OnOk result ((ds : List Departure) × (list.new.items ≡ list.old.items ++ ds) × AreOpenDepartures way.entry.len way.entry.path.now way.entry.part.now (Some ty.now) ds) }
+    ensures listed { OnOk result ((ds : List Departure) × (list.new.items ≡ list.old.items ++ ds) × AreOpenDepartures way.entry.len way.entry.path.now way.entry.part.now (Some ty.now) ds) }
+    ensures complete { OnOk result (wanted ≡ All → (ds : List Departure) → list.new.items ≡ list.old.items ++ ds → HasAllInside way.entry.part.now (Some ty.now) ds) }
 {
     match ty {
         Type::Any { tag } => note_any(alloc, list, wanted, *tag, way),

@@ -1,9 +1,10 @@
 //! What departs of an encoding whose type isn't known, unless its tag is universal.
-ghost use Rattle.std.specs.Prelude.{◌≡◌, ◌≢◌, [], false, IfOk, MatchOption};
+ghost use Rattle.std.specs.Prelude.{◌≡◌, ◌≢◌, [], true, false, IfOk, MatchOption};
 ghost use Rattle.rasn.specs.Headline.{IsExtraData};
 ghost use Rattle.rasn_types.specs.declared.types.codec.Codec.TheVariants.{Der};
-ghost use Rattle.rasn_lint.specs.Untyped.{HasNoForm, IsUnordered, AreUntypedFaults};
-ghost use Rattle.rasn_lint.specs.WellFormed.{AllowsEncoding};
+ghost use Rattle.rasn_lint.specs.Contents.{AllowsContents};
+ghost use Rattle.rasn_lint.specs.Untyped.{HasNoForm, HasWrongContents, IsUnordered, AreUntypedFaults};
+ghost use Rattle.rasn_lint.specs.WellFormed.{AllowsEncoding, AreEncodings};
 
 use crate::der::contents::allows_contents;
 use crate::der::order::is_in_order;
@@ -42,7 +43,7 @@ pub fn extra(octets: &[u8]) -> DecodeError
 
 /// Returns the error of a value that isn't constructed although it has to be.
 fn primitive_fault(bit: bool) -> Option<DecodeError>
-    ensures { MatchOption result (Unit {0}) (λ e. bit ≡ false) }
+    ensures { MatchOption result (bit ≡ true) (λ e. bit ≡ false) }
 {
     if bit {
         return None;
@@ -68,9 +69,9 @@ fn constructed_kind(rule: ContentsRule) -> DerDecodeErrorKind {
 
 /// Returns the error of an encoding that is primitive or constructed although its universal type
 /// isn't.
-#[tactic(auto, using(crate::proofs::ByRule::values_constructed, crate::proofs::ByRule::set_constructed, crate::proofs::ByRule::never_constructed))]
+#[tactic(auto, using(crate::proofs::ByRule::any_form, crate::proofs::ByRule::values_constructed, crate::proofs::ByRule::set_constructed, crate::proofs::ByRule::never_constructed, crate::proofs::ByRule::may_be_primitive))]
 fn form_fault(rule: ContentsRule, bit: bool) -> Option<DecodeError>
-    ensures { MatchOption result (Unit {0}) (λ e. HasNoForm rule bit) }
+    ensures { MatchOption result (HasNoForm rule bit → ⊥) (λ e. HasNoForm rule bit) }
 {
     match rule {
         ContentsRule::Unknown => None,
@@ -129,7 +130,7 @@ fn read_error(
 
 /// Returns the error of encodings in a SET that aren't in order.
 fn order_fault(alloc: Global, rule: ContentsRule, contents: &[u8]) -> Option<DecodeError>
-    ensures { MatchOption result (Unit {0}) (λ e. IsUnordered rule contents.now) }
+    ensures { MatchOption result (AreEncodings contents.now → IsUnordered rule contents.now → ⊥) (λ e. IsUnordered rule contents.now) }
 {
     match rule {
         ContentsRule::Set => if is_in_order(alloc, contents) {
@@ -141,15 +142,41 @@ fn order_fault(alloc: Global, rule: ContentsRule, contents: &[u8]) -> Option<Dec
     }
 }
 
+/// Returns the error of contents octets that DER doesn't allow for a universal type, unless no
+/// encoding of it is primitive.
+#[tactic(auto, using(crate::proofs::ByRule::no_values, crate::proofs::ByRule::no_set))]
+fn primitive_contents_fault(
+    alloc: Global,
+    rule: ContentsRule,
+    tag: Tag,
+    contents: &[u8],
+) -> Result<Option<DecodeError>, AllocError>
+    requires { AllowsContents rule contents.now → ⊥ }
+    ensures { IfOk result (λ f. MatchOption f (HasNoForm rule false) (λ e. Unit {0})) }
+{
+    match rule {
+        ContentsRule::Values | ContentsRule::Set => return Ok(None),
+        _ => {}
+    }
+    match read_error(alloc, rule, tag, contents)? {
+        Some(error) => Ok(Some(error)),
+        // The reader refuses whatever isn't allowed.
+        None => Ok(Some(DecodeError {
+            kind: DecodeErrorKind::StringConversionFailed { tag },
+            codec: Codec::Der,
+        })),
+    }
+}
+
 /// Returns the error of contents that DER doesn't allow for a universal tag.
-#[tactic(auto, using(crate::proofs::ByRule::unordered, crate::proofs::ByRule::refused_plain))]
+#[tactic(auto, using(crate::proofs::ByRule::unordered, crate::proofs::ByRule::allowed, crate::proofs::ByRule::refused_plain))]
 fn contents_fault(
     alloc: Global,
     tag: Tag,
     bit: bool,
     contents: &[u8],
 ) -> Result<Option<DecodeError>, AllocError>
-    ensures { IfOk result (λ f. MatchOption f (Unit {0}) (λ e. AllowsEncoding false tag bit contents.now)) }
+    ensures { IfOk result (λ f. MatchOption f (HasWrongContents tag bit contents.now → ⊥) (λ e. AllowsEncoding false tag bit contents.now)) }
 {
     let rule = rule_of(tag);
     if bit {
@@ -159,7 +186,7 @@ fn contents_fault(
     if allows_contents(rule, contents) {
         return Ok(None);
     }
-    read_error(alloc, rule, tag, contents)
+    primitive_contents_fault(alloc, rule, tag, contents)
 }
 
 /// Returns the errors of an encoding with this tag and these contents.

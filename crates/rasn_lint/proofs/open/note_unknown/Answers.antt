@@ -1,4 +1,4 @@
-use Rattle.std.proofs.Common.{◌≡◌, ◌∷◌, [], false, sym, subst, append-nil, arith}
+use Rattle.std.proofs.Common.{◌∷◌, [], sym, subst, append-nil, arith}
 use Rattle.rasn_types.specs.Truth.{IsWhether}
 use Rattle.rasn_lint.specs.WellFormed.{AreEncodings}
 use Rattle.rasn_lint.specs.WellFormed.AreWellFormed.{none, one_more}
