@@ -16,7 +16,7 @@ use Rattle.rasn_de.proofs.Constructed.Optional.{apart, perhaps_decodes}
 use Rattle.rasn.specs.Headline.{EncodingFails}
 use Rattle.rasn_schema.specs.declared.value.Value.{Value, Absent}
 use Rattle.rasn_schema.specs.declared.types.«Type».{«Type»}
-use Rattle.rasn_schema.specs.declared.types.«Type».TheVariants.{Leaf, Enumerated, Any, Tagged, Choice, Sequence, Set, SequenceOf, SetOf}
+use Rattle.rasn_schema.specs.declared.types.«Type».TheVariants.{Leaf, Enumerated, Any, Tagged, Choice, Sequence, Set, SequenceOf, SetOf, Unknown}
 use Rattle.rasn_schema.specs.Trees.{tree_of}
 use Rattle.rasn_dynamic.specs.Entry.{shape_of, IsNotEncoded}
 use Rattle.rasn_dynamic.specs.declared.entry.WriteError.TheVariants.{Encode as Written}
@@ -31,6 +31,7 @@ absent_fits_by : (g : ℕ → Value → Type 0) → ((k : ℕ) → g k Absent �
 absent_fits_by g none (Leaf kind tag c names) h = h
 absent_fits_by g none (Enumerated tag ns) h = h
 absent_fits_by g none (Any tag) h = h
+absent_fits_by g none Unknown h = h
 absent_fits_by g none (Tagged tag k) h = none k.0 h
 absent_fits_by g none (Choice name ks) h = h
 absent_fits_by g none (Sequence tag ps) h = h
