@@ -7,8 +7,8 @@ use Rattle.rasn_types.specs.Tags.{Class, Universal, Application, Context, Privat
 use Rattle.rasn_types.specs.Shapes.{Shape, leaf, any, prefix, choice, option, seq, set, list, set_of, unknown, Parts, part, own, IsFirst, IsFirstOf, IsAlwaysPresent, AreAlwaysPresent, Key, own_tag, first_tags, Presence, required, addition, optional_by, default_by}
 use Rattle.rasn_types.specs.Shapes.Parts.{none}
 use Rattle.rasn_types.specs.Grammar.{Family, plain_family, bit_family, named_family, text_family, family}
-use Rattle.rasn_types.specs.Lawful.{AreDisjoint, AreDistinguished, IsFirstBehind, IsDistinguished, IsRecognized, MayBeLeftOut, IsBitFree, HasTag, EndsUnknown, IsLawful, AreAlternatives, AreLawfulInOrder, AreLawfulByTag}
-use Rattle.rasn_types.specs.LawfulTest.{is_same_tag, is_other_tag, is_tag_below, Firsts, either_first, firsts, firsts_of, firsts_behind, is_first, holds_between, are_distinguished, is_none, is_distinguished, is_every, is_recognized, may_be_left_out, is_bit_free, has_tag, is_unknown, ends_unknown, is_always_present, are_always_present, is_required, is_addition, is_same_own, is_lawful, are_alternatives, are_lawful_in_order, are_lawful_by_tag}
+use Rattle.rasn_types.specs.Lawful.{AreDisjoint, AreDistinguished, IsFirstBehind, IsDistinguished, IsRecognized, MayBeLeftOut, IsBitFree, HasTag, EndsUnknown, IsLawful, AreAlternatives, AreLawfulInOrder, AreLawfulByTag, AreListedByTag}
+use Rattle.rasn_types.specs.LawfulTest.{is_same_tag, is_other_tag, is_tag_below, Firsts, either_first, firsts, firsts_of, firsts_behind, is_first, holds_between, are_distinguished, is_none, is_distinguished, is_every, is_recognized, may_be_left_out, is_bit_free, has_tag, is_unknown, ends_unknown, is_always_present, are_always_present, is_required, is_addition, is_same_own, is_lawful, are_alternatives, are_lawful_in_order, are_lawful_by_tag, are_listed_by_tag}
 
 -- ---- constant tests
 
@@ -63,16 +63,16 @@ no_value tag = Decides-not (is_eoc tag) (Decides-like (is_eoc tag) (λ h. ap₂ 
 
 -- ---- first tags
 
-abbrev IsAmong : List Tag → Tag → Type 0
+abbrev pub IsAmong : List Tag → Tag → Type 0
 IsAmong [] n = ⊥
 IsAmong (t ∷ ts) n = (n ≡ t) ⊎ IsAmong ts n
 
-abbrev IsIn : Firsts → Tag → Type 0
+abbrev pub IsIn : Firsts → Tag → Type 0
 IsIn None n = Unit {0}
 IsIn (Some tags) n = IsAmong tags n
 
 -- The list has the tags for which P holds.
-abbrev DescribesFirsts : Firsts → (Tag → Type 0) → Type 0
+abbrev pub DescribesFirsts : Firsts → (Tag → Type 0) → Type 0
 DescribesFirsts f P = (n : Tag) → (P n → IsIn f n) × (IsIn f n → P n)
 
 among_left : (a b : List Tag) (n : Tag) → IsAmong a n → IsAmong (a ++ b) n
@@ -101,7 +101,7 @@ tells_one : (tag : Tag) → DescribesFirsts (Some (tag ∷ [])) (λ n. n ≡ tag
 tells_one tag n = (λ e. inl e, λ h. elim h [ inl e ↦ e | inr x ↦ absurd x ])
 
 mutual
-  firsts_tell : (s : Shape) → DescribesFirsts (firsts s) (IsFirst s)
+  pub firsts_tell : (s : Shape) → DescribesFirsts (firsts s) (IsFirst s)
   firsts_tell (leaf kind tag bounds) = tells_one tag
   firsts_tell (any None) = λ n. (λ h. tt, λ h. tt)
   firsts_tell (any (Some tag)) = tells_one tag
@@ -343,7 +343,7 @@ mutual
   by_tag : (ps : Parts) → Decides (are_lawful_by_tag ps) (AreLawfulByTag ps)
   by_tag none = decides_yes
   by_tag (part presence s ps) = Decides-like (are_lawful_by_tag (part presence s ps)) (λ h. (h.0, h.1, h.2.0, h.2.1, h.2.2.0, h.2.2.1)) (λ h. (h.0, h.1, (h.2, h.3, (h.4, h.5))))
-      (both _ _ _ (no_addition presence) (tagged s) (both _ _ _ (solid s) (lawful_decides s) (Decides-and _ _ (rising s ps) (by_tag ps))))
+      (both _ _ _ (no_addition presence) (tagged s) (both _ _ _ (solid s) (lawful_decides s) (Decides-and _ _ (disjoint (firsts s) (firsts_of ps) (IsFirst s) (IsFirstOf ps) (firsts_tell s) (all_tell ps)) (by_tag ps))))
 
 -- A shape that passes the test is lawful, and one that doesn't isn't.
 pub lawful : (s : Shape) → is_lawful s ≡ true → IsLawful s
@@ -351,3 +351,10 @@ lawful s = (lawful_decides s).0
 
 pub unlawful : (s : Shape) → is_lawful s ≡ false → IsLawful s → ⊥
 unlawful s = not_from_Decides (is_lawful s) (lawful_decides s)
+
+pub listed_decides : (ps : Parts) → Decides (are_listed_by_tag ps) (AreListedByTag ps)
+listed_decides none = decides_yes
+listed_decides (part presence s ps) = Decides-and _ _ (rising s ps) (listed_decides ps)
+
+pub listed_by_tag : (ps : Parts) → are_listed_by_tag ps ≡ true → AreListedByTag ps
+listed_by_tag ps = (listed_decides ps).0

@@ -1,4 +1,5 @@
 pub mod Lawful
+pub mod InOrder
 pub mod BitString
 pub mod Time
 pub mod Integer

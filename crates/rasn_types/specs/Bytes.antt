@@ -5,9 +5,9 @@ use Rattle.rasn_types.specs.Tags.{tag_bit, Codec, Ber, Cer, Der, Tag, in_univers
 use Rattle.rasn_types.specs.Framing.{SpellsAnyIdentifier, SpellsLength, IsShortestIdentifier, IsShortestLength, Begins, AreOctets}
 use Rattle.rasn_types.specs.Calendar.{Day, IsDay, Moment, IsMoment}
 use Rattle.rasn_types.specs.Time.{written_date, written_generalized, written_utc}
-pub use Rattle.rasn_types.specs.Order.{Each, IsLess, AreAscending}
+pub use Rattle.rasn_types.specs.Order.{Each, IsLess, AreAscending, IsBeforeAll, AreInOrder, IsReordered}
 pub use Rattle.rasn_types.specs.Shapes.{Same}
-use Rattle.rasn_types.specs.Shapes.{Tree, bits, numbers, instant, on_day, items, set_elements, chosen, absent, Kind, utc_time, generalized_time, date, Bound, Admits, Shape, leaf, any, prefix, choice, option, seq, set, list, set_of, unknown, Parts, part, Presence, required, addition, optional_by, default_by}
+use Rattle.rasn_types.specs.Shapes.{Tree, bits, numbers, instant, on_day, items, set_elements, chosen, absent, Kind, utc_time, generalized_time, date, Bound, Admits, Shape, leaf, any, prefix, choice, option, seq, set, list, set_of, unknown, Parts, part, Presence, required, addition, optional_by, default_by, IsFirst}
 use Rattle.rasn_types.specs.Shapes.Parts.{none}
 pub use Rattle.rasn_types.specs.Contents.{AllFalse}
 use Rattle.rasn_types.specs.Contents.{IsShortest, Contents, BitSegment, joined_lists}
@@ -46,11 +46,13 @@ ConstructedEncoding Ber tag = DefiniteForm tag true
 ConstructedEncoding Cer tag = IndefiniteForm tag
 ConstructedEncoding Der tag = DefiniteForm tag true
 
--- A part as it is written, and which of its trees are written as untagged open types.
+-- A part as it is written, which of its trees are written as untagged open types, and the tags that its values may begin
+-- with.
 pub record Field : Type 1 where
   pub presence : Presence
   pub writes : Writing Tree
   pub is_untagged_open : Tree → Type 0
+  pub IsFirst : Tag → Type 0
 
 abbrev pub WritesPart : Presence → Writing Tree → Writing Tree
 WritesPart required writes t b = writes t b
@@ -73,6 +75,36 @@ TagsOf ((o ∷ b) ∷ bs) tags = (tag : Tag) × (more : List Tag) × (tags ≡ t
 abbrev pub NoneUntaggedOpen : List Field → List Tree → List (List ℕ) → Type 0
 NoneUntaggedOpen (f ∷ fs) (t ∷ ts) (b ∷ bs) = (f.is_untagged_open t → b ≡ []) × NoneUntaggedOpen fs ts bs
 NoneUntaggedOpen fs ts bs = Unit {0}
+
+-- A component of a SET: its octets, the tag that decides where it is, and its number among the parts.
+pub record Component : Type 0 where
+  pub tag : Tag
+  pub number : ℕ
+  pub octets : List ℕ
+
+-- A component is ordered by the tag that it begins with (10.3) or, under CER, by the least of those that values of its
+-- type may begin with (9.3). The two are one unless the type is a CHOICE without a tag.
+abbrev pub IsPlacedBy : Codec → (Tag → Type 0) → List ℕ → Tag → Type 0
+IsPlacedBy Ber P b tag = Begins b tag
+IsPlacedBy Cer P b tag = P tag × ((n : Tag) → P n → IsTagBelow n tag → ⊥)
+IsPlacedBy Der P b tag = Begins b tag
+
+-- The components that these octets of the parts are; the first part has the number k. A part that is left out has no
+-- octets.
+abbrev pub ComponentsOf : Codec → ℕ → List Field → List (List ℕ) → List Component → Type 0
+ComponentsOf rule k (f ∷ fs) ([] ∷ bs) cs = ComponentsOf rule (suc k) fs bs cs
+ComponentsOf rule k (f ∷ fs) ((o ∷ b) ∷ bs) cs = (tag : Tag) × (more : List Component) × (cs ≡ record { tag = tag; number = k; octets = o ∷ b } ∷ more)
+    × IsPlacedBy rule f.IsFirst (o ∷ b) tag × ComponentsOf rule (suc k) fs bs more
+ComponentsOf rule k fs bs cs = cs ≡ []
+
+-- Components are in ascending order of their tags. If two have the same tag, which no two parts of a lawful shape do,
+-- they are in the order of the parts.
+abbrev pub ComesBefore : Component → Component → Type 0
+ComesBefore c d = IsTagBelow c.tag d.tag ⊎ ((c.tag ≡ d.tag) × (c.number < d.number))
+
+abbrev pub contents_of : List Component → List ℕ
+contents_of [] = []
+contents_of (c ∷ cs) = c.octets ++ contents_of cs
 
 -- Contents octets as they are written: under DER, and in the fewest octets.
 pub record Written (kind : Kind) (t : Tree) (l : List ℕ) : Type 0 where
@@ -127,9 +159,10 @@ WritesChoice k (f ∷ fs) t b = ((u : Tree) × (t ≡ chosen k u) × f.writes u 
 abbrev pub WritesSeq : Codec → Tag → List Field → Writing Tree
 WritesSeq rule tag fs t b = (ts : List Tree) × (bs : List (List ℕ)) × (t ≡ items ts) × PartsWritten fs ts bs × ConstructedEncoding rule tag (joined_lists bs) b
 
+-- The components of a SET are in ascending order of their tags, whatever the order of the parts is (9.3, 10.3).
 abbrev pub WritesSet : Codec → Tag → List Field → Writing Tree
-WritesSet rule tag fs t b = (ts : List Tree) × (bs : List (List ℕ)) × (tags : List Tag) × (t ≡ items ts) × PartsWritten fs ts bs
-    × NoneUntaggedOpen fs ts bs × TagsOf bs tags × AreAscending IsTagBelow tags × ConstructedEncoding rule tag (joined_lists bs) b
+WritesSet rule tag fs t b = (ts : List Tree) × (bs : List (List ℕ)) × (cs : List Component) × (ds : List Component) × (t ≡ items ts) × PartsWritten fs ts bs
+    × NoneUntaggedOpen fs ts bs × ComponentsOf rule 0 fs bs cs × IsReordered cs ds × AreInOrder ComesBefore ds × ConstructedEncoding rule tag (contents_of ds) b
 
 abbrev pub WritesList : Codec → Tag → Option (Bound ℕ) → Writing Tree → Writing Tree
 WritesList rule tag size writes t b = (ts : List Tree) × (bs : List (List ℕ)) × (t ≡ items ts) × Admits ◌≤◌ size (length ts)
@@ -180,4 +213,4 @@ unfoldable mutual
 
   pub fields_of : Codec → Parts → List Field
   fields_of rule none = []
-  fields_of rule (part presence s ps) = record { presence = presence; writes = Bytes rule s; is_untagged_open = IsUntaggedOpen s } ∷ fields_of rule ps
+  fields_of rule (part presence s ps) = record { presence = presence; writes = Bytes rule s; is_untagged_open = IsUntaggedOpen s; IsFirst = IsFirst s } ∷ fields_of rule ps

@@ -77,8 +77,14 @@ unfoldable mutual
   AreLawfulInOrder none = Unit {0}
   AreLawfulInOrder (part presence s ps) = EndsUnknown presence s ps ⊎ (IsAlwaysPresent s × IsLawful s × MayBeLeftOut presence s ps × AreLawfulInOrder ps)
 
-  -- The parts are in ascending order of tags, in ranges that don't overlap.
+  -- No two parts begin with the same tag.
   pub AreLawfulByTag : Parts → Type 0
   AreLawfulByTag none = Unit {0}
   AreLawfulByTag (part presence s ps) = (presence ≢ addition) × HasTag s × IsAlwaysPresent s × IsLawful s
-      × ((m n : Tag) → IsFirst s m → IsFirstOf ps n → IsTagBelow m n) × AreLawfulByTag ps
+      × AreDisjoint (IsFirst s) (IsFirstOf ps) × AreLawfulByTag ps
+
+-- The parts are listed in ascending order of tags: none begins with a tag above one that a later part begins with. Then
+-- they are written in this order, whichever of them are present.
+abbrev pub AreListedByTag : Parts → Type 0
+AreListedByTag none = Unit {0}
+AreListedByTag (part presence s ps) = ((m n : Tag) → IsFirst s m → IsFirstOf ps n → IsTagBelow m n) × AreListedByTag ps

@@ -174,4 +174,9 @@ abbrev mutual
   pub are_lawful_by_tag : Parts → Bool
   are_lawful_by_tag none = true
   are_lawful_by_tag (part presence s ps) = not (is_addition presence) && (has_tag s && (is_always_present s && (is_lawful s
-      && (holds_between is_tag_below (firsts s) (firsts_of ps) && are_lawful_by_tag ps))))
+      && (holds_between is_other_tag (firsts s) (firsts_of ps) && are_lawful_by_tag ps))))
+
+-- A test of whether the parts are listed in ascending order of tags.
+abbrev pub are_listed_by_tag : Parts → Bool
+are_listed_by_tag none = true
+are_listed_by_tag (part presence s ps) = holds_between is_tag_below (firsts s) (firsts_of ps) && are_listed_by_tag ps

@@ -44,7 +44,7 @@ mutual
   written_same (option tag s) rule t b (inl h) = absent_same t h.0
   written_same (option tag s) rule t b (inr h) = written_same s rule t b h.1
   written_same (seq tag ps) rule t b (ts, bs, e, w, c) = subst (λ z. Same z z) (sym e) (items_same ts (parts_same ps rule ts bs w))
-  written_same (set tag ps) rule t b (ts, bs, tags, e, w, n, m, d, c) = subst (λ z. Same z z) (sym e) (items_same ts (parts_same ps rule ts bs w))
+  written_same (set tag ps) rule t b (ts, bs, cs, ds, e, w, n, m, p, d, c) = subst (λ z. Same z z) (sym e) (items_same ts (parts_same ps rule ts bs w))
   written_same (list tag s size) rule t b (ts, bs, e, m, w, c) = subst (λ z. Same z z) (sym e) (items_same ts (elements_same (Bytes rule s) (written_same s rule) ts bs w))
   written_same (set_of tag s size) rule t b (ts, bs, e, m, w, o, c) =
       subst (λ z. Same z z) (sym e) (ts, ts, refl, IsPermutation-refl ts, items_same ts (elements_same (Bytes rule s) (written_same s rule) ts bs w))

@@ -1,14 +1,16 @@
 -- Trees that are the same have the same octets.
 use Rattle.std.proofs.Common.{◌≡◌, ℕ, suc, ◌<◌, ◌⊎◌, ◌≢◌, inl, inr, List, [], ◌∷◌, refl, sym, ap, ap₂, ◌∙◌, subst, arith, IsPermutation, Some, None}
 use Rattle.std.proofs.lemmas.List.Sorted.{IsPermutation-sym}
-use Rattle.rasn_types.specs.Tags.{Codec, Der, Tag}
+use Rattle.rasn_types.specs.Tags.{Codec, Ber, Cer, Der, Tag, IsTagBelow}
 use Rattle.rasn_types.specs.Shapes.{Tree, number, bits, numbers, instant, on_day, items, set_elements, chosen, absent, Kind, boolean, null, object_identifier, integer, enumerated, octet_string, fixed, numeric, printable, visible, ia5, any_octets, bmp, utf8, utc_time, generalized_time, date, Shape, leaf, any, prefix, choice, option, seq, set, list, set_of, unknown, Parts, part, Presence, required, optional, addition, optional_by, default_by}
 use Rattle.rasn_types.specs.Contents.{Contents, joined_lists}
 use Rattle.rasn_types.specs.Grammar.{Family, plain_family, bit_family, named_family, text_family, family}
-use Rattle.rasn_types.specs.Bytes.{Same, Each, ConstructedEncoding, WritesIn, WritesText, WritesPart, PartsWritten, WritesChoice, AreAscending, IsLess, Bytes, fields_of}
+use Rattle.rasn_types.specs.Bytes.{Same, Each, ConstructedEncoding, WritesIn, WritesText, WritesPart, PartsWritten, WritesChoice, AreAscending, IsLess, Field, Component, IsPlacedBy, ComponentsOf, ComesBefore, contents_of, AreInOrder, IsReordered, Bytes, fields_of}
 use Rattle.rasn_types.proofs.SetOf.Same.{items_one, same_sym, same_trans, same_each, each_moved}
 use Rattle.rasn_types.proofs.Encoding.Determined.{numbers_one, cons_one, in_once}
 use Rattle.rasn_types.proofs.SetOf.OneOrder.{ordered_one}
+use Rattle.rasn_types.proofs.InOrder.{neither_below, one_order_of_components}
+use Rattle.rasn_types.proofs.Headers.Frames.{begins_one}
 
 -- The tree of a leaf: it is the same as no other tree.
 abbrev pub IsFlat : Tree → Type 0
@@ -172,6 +174,19 @@ kept_once : (ts us : List Tree) (ls bs : List (List ℕ)) → Each Same ts us �
 unfolding Bytes
 kept_once ts us ls bs same w x = elements_once Der (any None) (λ t u a b same h k. let g : u ≡ numbers a = subst (λ z. Same z u) h same in numbers_one a b (sym g ∙ k)) ts us ls bs same w x
 
+-- The components of these octets are determined, and so is their order.
+place_once : (rule : Codec) (P : Tag → Type 0) (b : List ℕ) (s t : Tag) → IsPlacedBy rule P b s → IsPlacedBy rule P b t → s ≡ t
+place_once Ber P b s t h k = begins_one b s t h k
+place_once Cer P b s t h k = neither_below s t (k.1 s h.0) (h.1 t k.0)
+place_once Der P b s t h k = begins_one b s t h k
+
+pub components_once : (rule : Codec) (k : ℕ) (fs : List Field) (bs : List (List ℕ)) (cs ds : List Component) → ComponentsOf rule k fs bs cs → ComponentsOf rule k fs bs ds → cs ≡ ds
+components_once rule k [] bs cs ds h i = h ∙ sym i
+components_once rule k (f ∷ fs) [] cs ds h i = h ∙ sym i
+components_once rule k (f ∷ fs) ([] ∷ bs) cs ds h i = components_once rule (suc k) fs bs cs ds h i
+components_once rule k (f ∷ fs) ((o ∷ b) ∷ bs) cs ds (s, more, e, p, h) (t, others, g, q, i) =
+    e ∙ (ap₂ (λ n l. record { tag = n; number = k; octets = o ∷ b } ∷ l) (place_once rule f.IsFirst (o ∷ b) s t p q) (components_once rule (suc k) fs bs more others h i) ∙ sym g)
+
 mutual
   unfolding Bytes fields_of
 
@@ -185,8 +200,10 @@ mutual
   once (option tag s) rule t u a b same h k = part_once rule s (once s rule) optional t u a b same h k
   once (seq tag ps) rule t u a b same (ts, ls, e, w, c) (us, bs, f, x, d) =
       cons_one rule tag (joined_lists ls) (joined_lists bs) a b c d (ap joined_lists (parts_once rule ps (each_is_once ps rule) ts us ls bs (same_lists t u ts us e f same) w x))
-  once (set tag ps) rule t u a b same (ts, ls, tags, e, w, q, n, o, c) (us, bs, tags', f, x, q', n', o', d) =
-      cons_one rule tag (joined_lists ls) (joined_lists bs) a b c d (ap joined_lists (parts_once rule ps (each_is_once ps rule) ts us ls bs (same_lists t u ts us e f same) w x))
+  once (set tag ps) rule t u a b same (ts, ls, cs, ds, e, w, q, m, p, o, c) (us, bs, cs', ds', f, x, q', m', p', o', d) =
+      let g : ls ≡ bs = parts_once rule ps (each_is_once ps rule) ts us ls bs (same_lists t u ts us e f same) w x in
+      let h : cs ≡ cs' = components_once rule 0 (fields_of rule ps) bs cs cs' (subst (λ l. ComponentsOf rule 0 (fields_of rule ps) l cs) g m) m' in
+      cons_one rule tag (contents_of ds) (contents_of ds') a b c d (ap contents_of (one_order_of_components cs' ds ds' (subst (λ l. IsReordered l ds) h p) p' o o'))
   once (list tag s size) rule t u a b same (ts, ls, e, n, w, c) (us, bs, f, m, x, d) =
       cons_one rule tag (joined_lists ls) (joined_lists bs) a b c d (ap joined_lists (elements_once rule s (once s rule) ts us ls bs (same_lists t u ts us e f same) w x))
   once (set_of tag s size) rule t u a b same (ts, ls, e, n, w, o, c) (us, bs, f, m, x, q, d) =
