@@ -1,6 +1,7 @@
 pub mod Shapes
 pub mod Begins
 pub mod Set
+pub mod Reordered
 pub mod Constructed
 pub mod Headers
 pub mod Parts

@@ -7,7 +7,7 @@ use Rattle.rasn_types.specs.Shapes.{number, set_elements, items, absent, every, 
 use Rattle.rasn_types.specs.Shapes.Parts.{none}
 use Rattle.rasn_types.specs.Trees.{unconstrained, unsigned_range}
 use Rattle.rasn_types.specs.declared.types.codec.Codec.TheVariants.{Der}
-use Rattle.rasn_types.specs.Lawful.{IsLawful}
+use Rattle.rasn_types.specs.Lawful.{IsLawful, AreListedByTag}
 use Rattle.rasn_types.specs.Described.{count, describes}
 use Rattle.rasn_de.proofs.OwnTypes.Tags.{begins_alone}
 use Rattle.rasn_types.specs.Grammar.{Reads}
@@ -48,11 +48,17 @@ small n = tagged (integer (unsigned_range 8)) n
 
 -- SET { [0] INTEGER (0..255), [1] INTEGER (0..255), [2] INTEGER (0..255) }, and below it the same components in reverse
 -- order
+abbrev pub rising_parts : Parts
+rising_parts = part required (small 0) (part required (small 1) (part required (small 2) none))
+
 abbrev pub three_of_set : Shape
-three_of_set = set (in_universal 17) (part required (small 0) (part required (small 1) (part required (small 2) none)))
+three_of_set = set (in_universal 17) rising_parts
+
+abbrev pub falling_parts : Parts
+falling_parts = part required (small 2) (part required (small 1) (part required (small 0) none))
 
 abbrev pub turned_round : Shape
-turned_round = set (in_universal 17) (part required (small 2) (part required (small 1) (part required (small 0) none)))
+turned_round = set (in_universal 17) falling_parts
 
 -- SET OF OCTET STRING
 abbrev pub octets_in_set_of : Shape
@@ -154,8 +160,11 @@ abbrev pub choice_in_set : Shape
 choice_in_set = set (in_universal 17) (part optional truth (part required either_time (part (default (number (pos 7))) (tagged (integer every) 0) none)))
 
 -- SET { CHOICE { BOOLEAN, [0] INTEGER }, INTEGER }: universal 2 lies between the first tags of the CHOICE
-abbrev pub overlapping : Shape
-overlapping = set (in_universal 17) (part required (choice (part required truth (part required (tagged (integer every) 0) none))) (part required whole_number none))
+abbrev pub interleaved_parts : Parts
+interleaved_parts = part required (choice (part required truth (part required (tagged (integer every) 0) none))) (part required whole_number none)
+
+abbrev pub interleaved : Shape
+interleaved = set (in_universal 17) interleaved_parts
 
 -- SEQUENCE { BOOLEAN, ..., [[ INTEGER, BOOLEAN ]] }: the group is one optional SEQUENCE
 abbrev pub with_group : Shape
@@ -213,8 +222,13 @@ pub record LawfulShapes : Type 0 where
   pub other_looked_for : IsLawful (option (Some (in_universal 2)) truth) → ⊥
   pub one_of_two_integers : IsLawful (choice (part required whole_number (part required whole_number none))) → ⊥
   pub open_alternative : IsLawful (choice (part required whole_number (part required (any None) none))) → ⊥
-  pub turned_round : IsLawful turned_round → ⊥
-  pub overlapping : IsLawful overlapping → ⊥
+  pub turned_round : IsLawful turned_round
+  pub interleaved : IsLawful interleaved
+  pub two_alike_in_set : IsLawful (set (in_universal 17) two_alike) → ⊥
+  pub alternative_in_set : IsLawful (set (in_universal 17) (part required truth_or_number (part required (tagged (integer every) 0) none))) → ⊥
+  pub listed_by_tag : AreListedByTag rising_parts
+  pub not_listed_by_tag : AreListedByTag falling_parts → ⊥
+  pub interleaved_not_listed : AreListedByTag interleaved_parts → ⊥
   pub open_in_set : IsLawful (set (in_universal 17) (part required (any None) none)) → ⊥
   pub addition_in_set : IsLawful (set (in_universal 17) (part addition (prefix (contextual 0) whole_number) none)) → ⊥
   pub string_as_sequence : IsLawful (plain octet_string 16) → ⊥

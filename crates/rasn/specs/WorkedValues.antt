@@ -10,8 +10,8 @@ use Rattle.rasn_types.specs.Shapes.{Tree, number, bits, numbers, instant, on_day
 use Rattle.rasn_types.specs.Trees.{signed_range}
 use Rattle.rasn_types.specs.Bytes.{Bytes}
 use Rattle.rasn_types.specs.Carried.{Carried}
-use Rattle.rasn.specs.Worked.{IsCarriedAs, IsRefusedBy, IsReadAs, one_two_three, three_two_one, rising_octets}
-use Rattle.rasn.specs.WorkedShapes.{plain, contextual, perhaps_bool, validity, three_of_set, turned_round, octets_in_set_of, algorithm, relative_name, extended, extensible, mixed}
+use Rattle.rasn.specs.Worked.{IsCarriedAs, IsRefusedBy, IsReadAs, one_two_three, three_two_one, rising_octets, falling_octets}
+use Rattle.rasn.specs.WorkedShapes.{plain, contextual, perhaps_bool, validity, three_of_set, turned_round, interleaved, octets_in_set_of, algorithm, relative_name, extended, extensible, mixed}
 
 abbrev pub on : ℕ → ℕ → ℕ → Day
 on y m d = record { year = pos y; month = m; day = d }
@@ -41,9 +41,21 @@ pub record WorkedValues : Type 0 where
   pub five_in_prefix : IsCarriedAs Der (prefix (contextual 0) (plain (integer every) 2)) (number (pos 5)) (160 ∷ 3 ∷ 2 ∷ 1 ∷ 5 ∷ [])
   pub list_of_nine : IsCarriedAs Der (list (in_universal 16) (plain (integer every) 2) None) (items (number (pos 9) ∷ [])) (48 ∷ 3 ∷ 2 ∷ 1 ∷ 9 ∷ [])
 
+-- The INTEGER 7 with the tag [0], and the INTEGER 5.
+abbrev pub seven_and_five : Tree
+seven_and_five = items (chosen 1 (number (pos 7)) ∷ number (pos 5) ∷ [])
+
+-- Components are in the order of their tags, whatever the order of the parts is. Under DER the alternative that is chosen
+-- decides where a CHOICE is (10.3); under CER it is always where its least tag is (9.3).
 pub record WorkedSets : Type 0 where
   pub set_rises : IsCarriedAs Der three_of_set one_two_three rising_octets
-  pub set_never_out_of_order : (rule : Codec) (b : List ℕ) → Bytes rule turned_round three_two_one b → ⊥
+  pub set_put_in_order : IsCarriedAs Der turned_round three_two_one rising_octets
+  pub set_never_out_of_order : Bytes Der turned_round three_two_one falling_octets → ⊥
+  pub choice_before : IsCarriedAs Der interleaved (items (chosen 0 (number (pos 1)) ∷ number (pos 5) ∷ [])) (49 ∷ 6 ∷ 1 ∷ 1 ∷ 255 ∷ 2 ∷ 1 ∷ 5 ∷ [])
+  pub choice_after : IsCarriedAs Der interleaved seven_and_five (49 ∷ 6 ∷ 2 ∷ 1 ∷ 5 ∷ 128 ∷ 1 ∷ 7 ∷ [])
+  pub choice_in_one_place : IsCarriedAs Cer interleaved seven_and_five (49 ∷ 128 ∷ 128 ∷ 1 ∷ 7 ∷ 2 ∷ 1 ∷ 5 ∷ 0 ∷ 0 ∷ [])
+  pub choice_never_before : Bytes Der interleaved seven_and_five (49 ∷ 6 ∷ 128 ∷ 1 ∷ 7 ∷ 2 ∷ 1 ∷ 5 ∷ []) → ⊥
+  pub choice_never_after : Bytes Cer interleaved seven_and_five (49 ∷ 128 ∷ 2 ∷ 1 ∷ 5 ∷ 128 ∷ 1 ∷ 7 ∷ 0 ∷ 0 ∷ []) → ⊥
   pub set_of_rises : IsCarriedAs Der octets_in_set_of (set_elements (items (numbers (1 ∷ []) ∷ numbers (2 ∷ []) ∷ numbers (1 ∷ 255 ∷ []) ∷ numbers (2 ∷ 1 ∷ []) ∷ [])))
       (49 ∷ 14 ∷ 4 ∷ 1 ∷ 1 ∷ 4 ∷ 1 ∷ 2 ∷ 4 ∷ 2 ∷ 1 ∷ 255 ∷ 4 ∷ 2 ∷ 2 ∷ 1 ∷ [])
   pub all_in_set : IsCarriedAs Der mixed (items (items (number (pos 1) ∷ number (pos 2) ∷ []) ∷ number (pos 7) ∷ numbers (5 ∷ 0 ∷ []) ∷ items (number (pos 9) ∷ []) ∷ []))

@@ -1,5 +1,5 @@
 -- Lists in another order; and there is only one in which each element is before those after it.
-use Rattle.std.proofs.Common.{◌≡◌, ℕ, ◌<◌, ◌⊎◌, inl, inr, List, [], ◌∷◌, ◌++◌, refl, sym, ap, ap₂, ◌∙◌, subst, arith}
+use Rattle.std.proofs.Common.{◌≡◌, ◌<◌, ◌⊎◌, inl, inr, List, [], ◌∷◌, ◌++◌, refl, sym, ap, ap₂, ◌∙◌, subst, arith}
 use Rattle.std.proofs.lemmas.Bool.{cases_order}
 use Rattle.rasn_types.specs.Tags.{Tag, rank, IsTagBelow}
 use Rattle.rasn_types.specs.Order.{Each, IsBeforeAll, AreInOrder, IsReordered}
@@ -11,7 +11,7 @@ same_order [] = refl
 same_order (x ∷ xs) = ([], xs, refl, same_order xs)
 
 -- Lists that are related element by element stay so in another order.
-insert_each : {X Y : Type 0} (R : X → Y → Type 0) (x : X) (y : Y) → R x y → (before after : List X) (ys : List Y) → Each R (before ++ after) ys
+pub insert_each : {X Y : Type 0} (R : X → Y → Type 0) (x : X) (y : Y) → R x y → (before after : List X) (ys : List Y) → Each R (before ++ after) ys
     → (front : List Y) × (back : List Y) × (ys ≡ front ++ back) × Each R (before ++ (x ∷ after)) (front ++ (y ∷ back))
 insert_each R x y r [] after ys h = ([], ys, refl, (y, ys, refl, r, h))
 insert_each R x y r (z ∷ before) after ys (w, more, e, s, h) =

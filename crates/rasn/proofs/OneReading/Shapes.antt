@@ -1,6 +1,6 @@
 -- A lawful shape is read in one way.
-use Rattle.std.proofs.Common.{◌≡◌, ℕ, ◌-◌, ◌⊎◌, inl, inr, Bool, Option, Some, None, sym, ap, ◌∙◌, subst, arith}
-use Rattle.rasn_types.specs.Tags.{form, IsTagBelow}
+use Rattle.std.proofs.Common.{◌≡◌, ℕ, ◌-◌, ◌⊎◌, inl, inr, Bool, Option, Some, None, sym, ap, ◌∙◌, subst}
+use Rattle.rasn_types.specs.Tags.{form}
 use Rattle.rasn_types.specs.declared.types.codec.Codec.{Codec}
 use Rattle.rasn_types.specs.declared.types.tag.Tag.{Tag}
 use Rattle.rasn_types.specs.Shapes.{Tree, items, set_elements, absent, Shape, leaf, any, prefix, choice, option, seq, set, list, set_of, unknown, Parts, part, IsFirstOf, one_tag, presences}
@@ -105,14 +105,10 @@ in_order_lawful none h = tt
 in_order_lawful (part presence s ps) (inl h) = (inr h.1, subst EachLawful (sym h.2) tt)
 in_order_lawful (part presence s ps) (inr h) = (inl h.1, in_order_lawful ps h.3)
 
-not_below_itself : (n : Tag) → IsTagBelow n n → ⊥
-not_below_itself n (inl h) = omega arith
-not_below_itself n (inr h) = omega (arith, h.1)
-
 by_tag_lawful : (ps : Parts) → AreLawfulByTag ps → EachLawful ps × AreDistinguished ps
 unfolding IsLawful
 by_tag_lawful none h = (tt, tt)
-by_tag_lawful (part presence s ps) h = let r = by_tag_lawful ps h.5 in ((inl h.3, r.0), (λ n p q. not_below_itself n (h.4 n n p q), r.1))
+by_tag_lawful (part presence s ps) h = let r = by_tag_lawful ps h.5 in ((inl h.3, r.0), (h.4, r.1))
 
 mutual
   unfolding IsLawful

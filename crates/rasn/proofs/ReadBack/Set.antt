@@ -1,63 +1,29 @@
 -- The components of a SET are read as they were written.
-use Rattle.std.proofs.Common.{◌≡◌, ℕ, suc, ◌<◌, ◌⊎◌, ◌≢◌, inl, inr, List, [], ◌∷◌, ◌++◌, Bool, false, refl, sym, ap, ◌∙◌, subst, arith, append_assoc}
-use Rattle.rasn_types.specs.Tags.{IsTagBelow}
-use Rattle.rasn_types.specs.Order.{AreAscending}
+use Rattle.std.proofs.Common.{◌≡◌, ℕ, suc, ◌<◌, ◌⊎◌, inl, inr, List, [], ◌∷◌, ◌++◌, Bool, false, refl, sym, ◌∙◌, subst, arith, append_assoc}
+use Rattle.rasn_types.specs.Tags.{IsStrict, IsTagBelow}
+use Rattle.rasn_types.specs.Order.{AreAscending, AreInOrder, IsReordered}
 use Rattle.rasn_types.specs.declared.types.codec.Codec.{Codec}
+use Rattle.rasn_types.specs.declared.types.codec.Codec.TheVariants.{Ber, Cer, Der}
 use Rattle.rasn_types.specs.declared.types.tag.Tag.{Tag}
-use Rattle.rasn_types.specs.Framing.{Begins, Ended}
-use Rattle.rasn_types.specs.Shapes.{Tree, items, chosen, absent, Shape, Parts, part, presences, Presence, required, addition, optional_by, default_by, IsAlwaysPresent}
+use Rattle.rasn_types.specs.Framing.{Begins}
+use Rattle.rasn_types.specs.Shapes.{Tree, items, chosen, absent, Shape, Parts, part, presences, Presence, required, addition, optional_by, default_by, IsFirst, IsAlwaysPresent}
 use Rattle.rasn_types.specs.Shapes.Parts.{none}
 use Rattle.rasn_types.specs.Readings.{ReadsMany, ReadsFrom, IsNoDefault, IsMissing, ReadsChoice, NoneOf, ByPart, ReadsSet}
-use Rattle.rasn_types.specs.Contents.{joined_lists}
 use Rattle.rasn_types.specs.Grammar.{Reads, parts_of}
-use Rattle.rasn_types.specs.Bytes.{TagsOf, Each, Same, WritesPart, PartsWritten, Bytes, fields_of}
+use Rattle.rasn_types.specs.Bytes.{Each, Same, Component as Written, IsPlacedBy, ComponentsOf, ComesBefore, contents_of, WritesPart, PartsWritten, Bytes, fields_of}
 use Rattle.rasn_types.specs.Carried.{PartIsWithinLimits, IsWithinLimits, AreWithinLimits}
 use Rattle.rasn_types.proofs.Headers.Frames.{not_ended}
+use Rattle.rasn_types.proofs.InOrder.{each_reordered, not_both_below, not_below_itself}
 use Rattle.rasn.proofs.ReadBack.Begins.{begins, HasNextTag, has_next_tag}
 use Rattle.rasn.proofs.ReadBack.Constructed.{tail_ended, IsReadAs}
 use Rattle.rasn_types.specs.Lawful.{HasTag}
 use Rattle.rasn_types.proofs.SetOf.Same.{each_same, same_trans}
 use Rattle.rasn.proofs.ReadBack.Parts.{EachTagged, nothing_is_next, IsBack, EachBack}
+use Rattle.rasn.proofs.ReadBack.Reordered.{other_part, by_part_more, by_part_reordered}
 
--- Readings by index.
-none_more : (j k : ℕ) (u : Tree) (rs : List Tree) → (j ≡ k → ⊥) → NoneOf j rs → NoneOf j (chosen k u ∷ rs)
-none_more j k u rs h n = ((λ v e. h cc), n)
-
-by_part_more : (ps : List Presence) (j k : ℕ) (u : Tree) (rs us : List Tree) → k < j → ByPart j ps rs us → ByPart j ps (chosen k u ∷ rs) us
-by_part_more [] j k u rs us h b = b
-by_part_more (presence ∷ ps) j k u rs us h (t, vs, e, inl o, b) = (
-  t,
-  vs,
-  e,
-  inl (record {
-    before = chosen k u ∷ o.before;
-    after = o.after;
-    is = ap (λ l. chosen k u ∷ l) o.is;
-    none_before = none_more j k u o.before (λ f. omega arith) o.none_before;
-    none_after = o.none_after;
-  }),
-  by_part_more ps (suc j) k u rs vs (omega arith) b,
-)
-by_part_more (presence ∷ ps) j k u rs us h (t, vs, e, inr o, b) =
-    (t, vs, e, inr (none_more j k u rs (λ f. omega arith) o.0, o.1), by_part_more ps (suc j) k u rs vs (omega arith) b)
-
--- The readings of these parts within those of all.
+-- A component is read as one of all the parts.
 abbrev pub Component : Codec → ℕ → Parts → Bool → List ℕ → Tree → List ℕ → Type 0
 Component rule depth all c = ReadsChoice rule 0 (parts_of rule all depth c)
-
--- They are read from the octets of those that are there.
-abbrev pub FromBack : Codec → ℕ → Parts → List (List ℕ) → List Tree → Type 0
-FromBack rule depth all bs rs = (os : List (List ℕ)) × ((tags : List Tag) → TagsOf bs tags → Each Begins os tags)
-    × ((c : Bool) (tail : List ℕ) → ReadsFrom (Component rule depth all c) (joined_lists bs ++ tail) rs tail os)
-
-abbrev pub SetBack : Codec → ℕ → Parts → ℕ → Parts → List Tree → List (List ℕ) → List Tree → List Tree → Type 0
-SetBack rule depth all k ps ts bs rs us = Each Same ts us × ByPart k (presences ps) rs us
-    × ((j : ℕ) → j < k → NoneOf j rs) × FromBack rule depth all bs rs
-    × IsReadAs (λ c. ReadsMany (Component rule depth all c) c) (joined_lists bs) rs
-
-tags_more : (b : List ℕ) (x y : List (List ℕ)) → b ≢ [] → ((tags : List Tag) → TagsOf x tags → Each Begins y tags) → (tags : List Tag) → TagsOf (b ∷ x) tags → Each Begins (b ∷ y) tags
-tags_more [] x y some f tags h = absurd (some refl)
-tags_more (o ∷ b) x y some f tags (t, more, e, n, h) = (t, more, e, n, f more h)
 
 abbrev pub IsAmong : Codec → ℕ → Parts → ℕ → Parts → Type 0
 IsAmong rule depth all k ps = (c : Bool) (input : List ℕ) (t : Tree) (rest : List ℕ)
@@ -96,88 +62,139 @@ read_more rule depth all k presence s ps solid has among v b differs again = rec
   begins = λ rest. has_next_tag s solid rule depth false (b ++ rest) v rest (again rest false);
 }
 
-from_more : (rule : Codec) (depth : ℕ) (all : Parts) (b : List ℕ) (t : Tree) → ReadMore rule depth all b t → (cs : List (List ℕ)) (rs : List Tree)
-    → FromBack rule depth all cs rs → FromBack rule depth all (b ∷ cs) (t ∷ rs)
-from_more rule depth all b t r cs rs (os, firsts, from) = (
-  b ∷ os,
-  tags_more b cs os (λ e. nothing_is_next (subst (λ i. HasNextTag (i ++ [])) e (r.begins []))) firsts,
-  λ c tail. subst (λ i. ReadsFrom (Component rule depth all c) i (t ∷ rs) tail (b ∷ os)) (sym (append_assoc b (joined_lists cs) tail))
-      (b, os, joined_lists cs ++ tail, refl, refl, r.again (joined_lists cs ++ tail) c, from c tail),
-)
+-- A component that is written is read as this reading. Where readings have to be in the order of their tags, it begins
+-- with the tag that decides where it is.
+abbrev pub IsReadBack : Codec → ℕ → Parts → Written → Tree → Type 0
+IsReadBack rule depth all c t = ReadMore rule depth all c.octets t × (IsStrict rule → Begins c.octets c.tag)
 
-many_more : (rule : Codec) (depth : ℕ) (all : Parts) (b : List ℕ) (t : Tree) → ReadMore rule depth all b t → (cs : List (List ℕ)) (rs : List Tree)
-    → IsReadAs (λ c. ReadsMany (Component rule depth all c) c) (joined_lists cs) rs
-    → IsReadAs (λ c. ReadsMany (Component rule depth all c) c) (joined_lists (b ∷ cs)) (t ∷ rs)
-many_more rule depth all b t r cs rs many closing tail e =
-    let x = joined_lists cs ++ tail in
+placed_begins : (rule : Codec) (P : Tag → Type 0) (b : List ℕ) (tag : Tag) → IsPlacedBy rule P b tag → IsStrict rule → Begins b tag
+placed_begins Ber P b tag h z = absurd z
+placed_begins Cer P b tag h z = absurd z
+placed_begins Der P b tag h z = h
+
+-- The components are read in any order.
+many_read : (rule : Codec) (depth : ℕ) (all : Parts) (cs : List Written) (rs : List Tree) → Each (IsReadBack rule depth all) cs rs
+    → IsReadAs (λ c. ReadsMany (Component rule depth all c) c) (contents_of cs) rs
+many_read rule depth all [] rs h closing tail e = subst (λ l. ReadsMany (Component rule depth all closing) closing tail l tail) (sym h) (tail_ended closing tail e, refl)
+many_read rule depth all (c ∷ cs) rs (t, more, f, (r, b), h) closing tail e =
+    let x = contents_of cs ++ tail in
     let n = r.begins x in
-    subst (λ i. ReadsMany (Component rule depth all closing) closing i (t ∷ rs) tail) (sym (append_assoc b (joined_lists cs) tail))
-    (not_ended closing (b ++ x) n.1 n.2, x, r.again x closing, many closing tail e)
+    subst (λ l. ReadsMany (Component rule depth all closing) closing ((c.octets ++ contents_of cs) ++ tail) l tail) (sym f)
+    (subst (λ i. ReadsMany (Component rule depth all closing) closing i (t ∷ more) tail) (sym (append_assoc c.octets (contents_of cs) tail))
+    (not_ended closing (c.octets ++ x) n.1 n.2, x, r.again x closing, many_read rule depth all cs more h closing tail e))
+
+octets_in : List Written → List (List ℕ)
+octets_in [] = []
+octets_in (c ∷ cs) = c.octets ∷ octets_in cs
+
+tags_in : List Written → List Tag
+tags_in [] = []
+tags_in (c ∷ cs) = c.tag ∷ tags_in cs
+
+from_read : (rule : Codec) (depth : ℕ) (all : Parts) (cs : List Written) (rs : List Tree) → Each (IsReadBack rule depth all) cs rs → (c : Bool) (tail : List ℕ)
+    → ReadsFrom (Component rule depth all c) (contents_of cs ++ tail) rs tail (octets_in cs)
+unfolding octets_in
+from_read rule depth all [] rs h c tail = subst (λ l. ReadsFrom (Component rule depth all c) tail l tail []) (sym h) (refl, refl)
+from_read rule depth all (w ∷ cs) rs (t, more, f, (r, b), h) c tail =
+    subst (λ l. ReadsFrom (Component rule depth all c) ((w.octets ++ contents_of cs) ++ tail) l tail (w.octets ∷ octets_in cs)) (sym f)
+    (subst (λ i. ReadsFrom (Component rule depth all c) i (t ∷ more) tail (w.octets ∷ octets_in cs)) (sym (append_assoc w.octets (contents_of cs) tail))
+    (w.octets, octets_in cs, contents_of cs ++ tail, refl, refl, r.again (contents_of cs ++ tail) c, from_read rule depth all cs more h c tail))
+
+begin_read : (rule : Codec) (depth : ℕ) (all : Parts) (cs : List Written) (rs : List Tree) → Each (IsReadBack rule depth all) cs rs → IsStrict rule → Each Begins (octets_in cs) (tags_in cs)
+unfolding octets_in tags_in
+begin_read rule depth all [] rs h z = refl
+begin_read rule depth all (c ∷ cs) rs (t, more, f, (r, b), h) z = (c.tag, tags_in cs, refl, b z, begin_read rule depth all cs more h z)
+
+rising : (cs : List Written) → AreInOrder ComesBefore cs → AreAscending IsTagBelow (tags_in cs)
+unfolding tags_in
+rising [] h = tt
+rising (c ∷ []) h = tt
+rising (c ∷ d ∷ cs) h = (falls h.0.0, rising (d ∷ cs) h.1)
+  where
+    falls : ComesBefore c d → IsTagBelow d.tag c.tag → ⊥
+    falls (inl l) m = not_both_below d.tag c.tag m l
+    falls (inr l) m = not_below_itself d.tag (subst (IsTagBelow d.tag) l.0 m)
+
+-- What is read of parts, in their order.
+abbrev pub SetBack : Codec → ℕ → Parts → ℕ → Parts → List Tree → List Written → List Tree → List Tree → Type 0
+SetBack rule depth all k ps ts cs rs us = Each Same ts us × ByPart k (presences ps) rs us × ((j : ℕ) → j < k → NoneOf j rs) × Each (IsReadBack rule depth all) cs rs
 
 set_parts_back : (rule : Codec) (depth : ℕ) (all : Parts) (ps : Parts) → EachTagged ps → EachBack rule depth ps → (k : ℕ) → IsAmong rule depth all k ps
-    → (ts : List Tree) (bs : List (List ℕ)) → AreWithinLimits rule ps depth ts → PartsWritten (fields_of rule ps) ts bs
-    → (rs : List Tree) × (us : List Tree) × SetBack rule depth all k ps ts bs rs us
+    → (ts : List Tree) (bs : List (List ℕ)) (cs : List Written) → AreWithinLimits rule ps depth ts → PartsWritten (fields_of rule ps) ts bs → ComponentsOf rule k (fields_of rule ps) bs cs
+    → (rs : List Tree) × (us : List Tree) × SetBack rule depth all k ps ts cs rs us
 unfolding Reads parts_of Bytes fields_of IsWithinLimits
-set_parts_back rule depth all none has back k among ts bs within_limits (e, f) = (
-  [],
-  [],
-  (
-    subst (λ l. Each Same l []) (sym e) refl,
-    refl,
-    (λ j h. tt),
-    ([], (λ tags h. subst (λ l. TagsOf l tags) f h), λ c tail. (refl, sym (ap (λ l. joined_lists l ++ tail) f))),
-    λ closing tail t.
-        (subst (λ l. Ended closing (joined_lists l ++ tail)) (sym f) (tail_ended closing tail t), sym (ap (λ l. joined_lists l ++ tail) f)),
-  ),
-)
-set_parts_back rule depth all (part presence s ps) has back k among ts bs (t, us, e, within_limits, others) (t', us', b, cs, e', f, w, ws) =
+set_parts_back rule depth all none has back k among ts bs cs within_limits w m =
+    ([], [], (subst (λ l. Each Same l []) (sym w.0) refl, refl, (λ j h. tt), subst (λ l. Each (IsReadBack rule depth all) l []) (sym m) refl))
+set_parts_back rule depth all (part presence s ps) has back k among ts bs cs (t, us, e, within_limits, others) (t', us', b, more, e', f, w, ws) m =
     let eq : t' ∷ us' ≡ t ∷ us = sym e' ∙ e in
     let p : t' ≡ t = cc in
     let q : us' ≡ us = cc in
     go (component_back rule depth s back.1 presence t b within_limits (subst (λ x. WritesPart presence (Bytes rule s) x b) p w))
-    (set_parts_back rule depth all ps has.1 back.2 (suc k) (λ c input x rest h. among c input x rest (inr h)) us cs others (subst (λ x. PartsWritten (fields_of rule ps) x cs) q ws))
+    (λ ds. set_parts_back rule depth all ps has.1 back.2 (suc k) (λ c input x rest h. among c input x rest (inr h)) us more ds others (subst (λ x. PartsWritten (fields_of rule ps) x more) q ws))
+    (subst (λ l. ComponentsOf rule k (fields_of rule (part presence s ps)) l cs) f m)
   where
-    go : ComponentBack rule depth presence s t b → (rs : List Tree) × (vs : List Tree) × SetBack rule depth all (suc k) ps us cs rs vs
-        → (rs : List Tree) × (vs : List Tree) × SetBack rule depth all k (part presence s ps) ts bs rs vs
-    go (v, same, inl (g, m)) (rs, vs, (alike, by, low, from, many)) = (
+    Later : Type 0
+    Later = (ds : List Written) → ComponentsOf rule (suc k) (fields_of rule ps) more ds → (rs : List Tree) × (vs : List Tree) × SetBack rule depth all (suc k) ps us ds rs vs
+
+    left : (v : Tree) → Same t v → IsMissing presence v → (rs : List Tree) × (vs : List Tree) × SetBack rule depth all (suc k) ps us cs rs vs
+        → (rs : List Tree) × (vs : List Tree) × SetBack rule depth all k (part presence s ps) ts cs rs vs
+    left v same n (rs, vs, (alike, by, low, each)) = (
       rs,
+      v ∷ vs,
+      (subst (λ l. Each Same l (v ∷ vs)) (sym e) (v, vs, refl, same, alike), (v, vs, refl, inr (low k (omega arith), n), by), (λ j h. low j (omega arith)), each),
+    )
+
+    more_read : (v : Tree) (o : List ℕ) → Same t v → IsNoDefault presence v → ((rest : List ℕ) (closing : Bool) → Reads rule s depth closing (o ++ rest) v rest) → ReadMore rule depth all o (chosen k v)
+    more_read v o same differs again = read_more rule depth all k presence s ps back.0 has.0 among v o differs again
+
+    there : (v : Tree) (c : Written) (ds : List Written) → Same t v → cs ≡ c ∷ ds → IsReadBack rule depth all c (chosen k v)
+        → (rs : List Tree) × (vs : List Tree) × SetBack rule depth all (suc k) ps us ds rs vs → (rs : List Tree) × (vs : List Tree) × SetBack rule depth all k (part presence s ps) ts cs rs vs
+    there v c ds same g r (rs, vs, (alike, by, low, each)) = (
+      chosen k v ∷ rs,
       v ∷ vs,
       (
         subst (λ l. Each Same l (v ∷ vs)) (sym e) (v, vs, refl, same, alike),
-        (v, vs, refl, inr (low k (omega arith), m), by),
-        (λ j h. low j (omega arith)),
-        subst (λ l. FromBack rule depth all l rs) (sym f) (subst (λ l. FromBack rule depth all (l ∷ cs) rs) (sym g) from),
-        subst (λ l. IsReadAs (λ c. ReadsMany (Component rule depth all c) c) (joined_lists l) rs) (sym f)
-            (subst (λ l. IsReadAs (λ c. ReadsMany (Component rule depth all c) c) (l ++ joined_lists cs) rs) (sym g) many),
+        (
+          v,
+          vs,
+          refl,
+          inl (record { before = []; after = rs; is = refl; none_before = tt; none_after = low k (omega arith) }),
+          by_part_more (presences ps) (suc k) k v rs vs (omega arith) by,
+        ),
+        (λ j h. (other_part j k v (λ x. omega arith), low j (omega arith))),
+        subst (λ l. Each (IsReadBack rule depth all) l (chosen k v ∷ rs)) (sym g) (chosen k v, rs, refl, r, each),
       ),
     )
-    go (v, same, inr (differs, again)) (rs, vs, (alike, by, low, from, many)) =
-        let more = read_more rule depth all k presence s ps back.0 has.0 among v b differs again in (
-          chosen k v ∷ rs,
-          v ∷ vs,
-          (
-            subst (λ l. Each Same l (v ∷ vs)) (sym e) (v, vs, refl, same, alike),
-            (
-              v,
-              vs,
-              refl,
-              inl (record { before = []; after = rs; is = refl; none_before = tt; none_after = low k (omega arith) }),
-              by_part_more (presences ps) (suc k) k v rs vs (omega arith) by,
-            ),
-            (λ j h. none_more j k v rs (λ g. omega arith) (low j (omega arith))),
-            subst (λ l. FromBack rule depth all l (chosen k v ∷ rs)) (sym f) (from_more rule depth all b (chosen k v) more cs rs from),
-            subst (λ l. IsReadAs (λ c. ReadsMany (Component rule depth all c) c) (joined_lists l) (chosen k v ∷ rs)) (sym f)
-                (many_more rule depth all b (chosen k v) more cs rs many),
+
+    written : (v : Tree) (b : List ℕ) → Same t v → IsNoDefault presence v → ((rest : List ℕ) (closing : Bool) → Reads rule s depth closing (b ++ rest) v rest) → Later
+        → ComponentsOf rule k (fields_of rule (part presence s ps)) (b ∷ more) cs → (rs : List Tree) × (vs : List Tree) × SetBack rule depth all k (part presence s ps) ts cs rs vs
+    written v [] same differs again later m = absurd (nothing_is_next ((more_read v [] same differs again).begins []))
+    written v (o ∷ b) same differs again later (tag, ds, g, h, m) =
+        there v (record { tag = tag; number = k; octets = o ∷ b }) ds same g (more_read v (o ∷ b) same differs again, placed_begins rule (IsFirst s) (o ∷ b) tag h) (later ds m)
+
+    go : ComponentBack rule depth presence s t b → Later → ComponentsOf rule k (fields_of rule (part presence s ps)) (b ∷ more) cs
+        → (rs : List Tree) × (vs : List Tree) × SetBack rule depth all k (part presence s ps) ts cs rs vs
+    go (v, same, inl (g, n)) later m = left v same n (later cs (subst (λ l. ComponentsOf rule k (fields_of rule (part presence s ps)) (l ∷ more) cs) g m))
+    go (v, same, inr (differs, again)) later m = written v b same differs again later m
+
+pub set_back : (rule : Codec) (depth : ℕ) (ps : Parts) → EachTagged ps → EachBack rule depth ps → (ts : List Tree) (bs : List (List ℕ)) (cs ds : List Written)
+    → AreWithinLimits rule ps depth ts → PartsWritten (fields_of rule ps) ts bs → ComponentsOf rule 0 (fields_of rule ps) bs cs → IsReordered cs ds → AreInOrder ComesBefore ds
+    → (u : Tree) × Same (items ts) u × IsReadAs (λ c. ReadsSet rule (presences ps) (Component rule depth ps c) c) (contents_of ds) u
+set_back rule depth ps has back ts bs cs ds within_limits w m p order =
+    go (set_parts_back rule depth ps ps has back 0 (λ c input t rest h. h) ts bs cs within_limits w m)
+  where
+    go : (rs : List Tree) × (us : List Tree) × SetBack rule depth ps 0 ps ts cs rs us
+        → (u : Tree) × Same (items ts) u × IsReadAs (λ c. ReadsSet rule (presences ps) (Component rule depth ps c) c) (contents_of ds) u
+    go (rs, us, (alike, by, low, each)) =
+        let o = each_reordered (IsReadBack rule depth ps) cs ds rs p each in (
+          items us,
+          each_same ts us alike,
+          λ closing tail t. (
+            o.0,
+            us,
+            refl,
+            many_read rule depth ps ds o.0 o.1 closing tail t,
+            by_part_reordered (presences ps) 0 rs o.0 us o.2 by,
+            λ z. (octets_in ds, from_read rule depth ps ds o.0 o.1 closing tail, (tags_in ds, begin_read rule depth ps ds o.0 o.1 z, rising ds order)),
           ),
         )
-
-pub set_back : (rule : Codec) (depth : ℕ) (ps : Parts) → EachTagged ps → EachBack rule depth ps → (ts : List Tree) (bs : List (List ℕ)) (tags : List Tag)
-    → AreWithinLimits rule ps depth ts → PartsWritten (fields_of rule ps) ts bs → TagsOf bs tags → AreAscending IsTagBelow tags
-    → (u : Tree) × Same (items ts) u × IsReadAs (λ c. ReadsSet rule (presences ps) (Component rule depth ps c) c) (joined_lists bs) u
-set_back rule depth ps has back ts bs tags within_limits w firsts order =
-    go (set_parts_back rule depth ps ps has back 0 (λ c input t rest h. h) ts bs within_limits w)
-  where
-    go : (rs : List Tree) × (us : List Tree) × SetBack rule depth ps 0 ps ts bs rs us
-        → (u : Tree) × Same (items ts) u × IsReadAs (λ c. ReadsSet rule (presences ps) (Component rule depth ps c) c) (joined_lists bs) u
-    go (rs, us, (alike, by, low, (os, begin, from), many)) =
-        (items us, each_same ts us alike, λ closing tail t. (rs, us, refl, many closing tail t, by, λ z. (os, from closing tail, (tags, begin tags firsts, order))))

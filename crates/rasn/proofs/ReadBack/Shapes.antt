@@ -11,7 +11,7 @@ use Rattle.rasn_types.specs.declared.types.constraints.Bound.{Bound}
 use Rattle.rasn_types.specs.Readings.{IsLeftOut, IsPresent, Reading, ReadsMany, ReadsFrom, ReadsSeq, ReadsSet}
 use Rattle.rasn_types.specs.Contents.{joined_lists}
 use Rattle.rasn_types.specs.Grammar.{Reads, parts_of, ReadsOpen, ReadsAny, ReadsList, ReadsSetOf}
-use Rattle.rasn_types.specs.Bytes.{Same, ConstructedEncoding, Each, Bytes, fields_of}
+use Rattle.rasn_types.specs.Bytes.{Same, ConstructedEncoding, Each, contents_of, Bytes, fields_of}
 use Rattle.rasn_types.specs.Carried.{IsOneEncoding, NoneTaken, IsWithinLimits, AreWithinLimits, EachOf, Carried}
 use Rattle.rasn_types.specs.Lawful.{IsLawful, AreAlternatives, AreLawfulInOrder, AreLawfulByTag}
 use Rattle.rasn_types.proofs.Headers.Frames.{frame_next, not_ended}
@@ -195,14 +195,14 @@ in_seq_back rule tag one ps depth lawful back t b (deep, us, e, ms, taken) (ts, 
 
 in_set_back : (rule : Codec) (tag : Tag) → tag ≢ eoc → (ps : Parts) (depth : ℕ) → EachTagged ps → EachBack rule (depth - 1) ps → IsBack rule (set tag ps) depth
 unfolding Reads parts_of Bytes fields_of IsWithinLimits
-in_set_back rule tag one ps depth has back t b (deep, us, e, ms) (ts, bs, tags, f, ws, bare, firsts, order, c) =
+in_set_back rule tag one ps depth has back t b (deep, us, e, ms) (ts, bs, cs, ds, f, ws, bare, placed, moved, order, c) =
     let g : us ≡ ts = items_one us ts (sym e ∙ f) in
-    let r = set_back rule (depth - 1) ps has back ts bs tags (subst (AreWithinLimits rule ps (depth - 1)) g ms) ws firsts order in (
+    let r = set_back rule (depth - 1) ps has back ts bs cs ds (subst (AreWithinLimits rule ps (depth - 1)) g ms) ws placed moved order in (
       r.0,
       subst (λ x. Same x r.0) (sym f) r.1,
       λ rest closing. (
         deep,
-        cons_back rule tag one (joined_lists bs) b c (λ c. ReadsSet rule (presences ps) (Component rule (depth - 1) ps c) c) r.0 r.2 rest,
+        cons_back rule tag one (contents_of ds) b c (λ c. ReadsSet rule (presences ps) (Component rule (depth - 1) ps c) c) r.0 r.2 rest,
       ),
     )
 

@@ -1,18 +1,18 @@
 -- What DER reads of a tree that owes no more is written of it: its octets need not be given.
-use Rattle.std.proofs.Common.{◌≡◌, ℕ, suc, ◌-◌, ◌≤◌, inl, inr, List, [], ◌∷◌, ◌++◌, length, Bool, true, false, Option, Some, None, refl, sym, ap, ◌∙◌, subst, arith, append_assoc, append-nil}
+use Rattle.std.proofs.Common.{◌≡◌, ◌⊎◌, ℕ, suc, ◌-◌, ◌≤◌, inl, inr, List, [], ◌∷◌, ◌++◌, length, Bool, true, false, Option, Some, None, refl, sym, ap, ◌∙◌, subst, arith, append_assoc, append-nil}
 use Rattle.std.proofs.lemmas.List.{append_cancel_right}
-use Rattle.rasn_types.specs.Tags.{loose_form, IsTagBelow}
+use Rattle.rasn_types.specs.Tags.{loose_form}
 use Rattle.rasn_types.specs.declared.types.codec.Codec.TheVariants.{Der}
 use Rattle.rasn_types.specs.declared.types.tag.Tag.{Tag}
-use Rattle.rasn_types.specs.Framing.{AreOctets, SpellsAnyIdentifier, Begins, Frame, definite}
-use Rattle.rasn_types.specs.Shapes.{Tree, items, set_elements, chosen, Admits, Shape, leaf, any, prefix, choice, option, seq, set, list, set_of, unknown, Parts, part, own, IsFirst, IsFirstOf, Presence, presences, required, addition, optional_by, default_by, Sought, sought_in, IsAlwaysPresent}
+use Rattle.rasn_types.specs.Framing.{AreOctets, Frame, definite}
+use Rattle.rasn_types.specs.Shapes.{Tree, items, set_elements, chosen, Admits, Shape, leaf, any, prefix, choice, option, seq, set, list, set_of, unknown, Parts, part, own, Presence, presences, required, addition, optional_by, default_by, Sought, sought_in, IsAlwaysPresent}
 use Rattle.rasn_types.specs.declared.types.constraints.Bound.{Bound}
 use Rattle.rasn_types.specs.Shapes.Parts.{none}
-use Rattle.rasn_types.specs.Readings.{Reading, ReadsContents, definite_form, indefinite_form, ReadsMany, ReadsFrom, IsNoDefault, ReadsPart, ReadsInOrder, IsMissing, AllMissing, presences_in, ReadsChoice, NoneOf, OneOf, ByPart}
-use Rattle.rasn_types.specs.Order.{Each, IsLess, AreAscending}
+use Rattle.rasn_types.specs.Readings.{Reading, ReadsContents, definite_form, indefinite_form, ReadsMany, ReadsFrom, IsNoDefault, ReadsPart, ReadsInOrder, IsMissing, AllMissing, presences_in, ReadsChoice, NoneOf, OneOf, ByPart, AreInTagOrder, ReadsSet}
+use Rattle.rasn_types.specs.Order.{Each, IsLess, AreAscending, AreInOrder, IsReordered}
 use Rattle.rasn_types.specs.Contents.{joined_lists}
 use Rattle.rasn_types.specs.Grammar.{Reads, parts_of, family}
-use Rattle.rasn_types.specs.Bytes.{Same, DefiniteForm, WritesPart, PartsWritten, WritesChoice, TagsOf, NoneUntaggedOpen, IsUntaggedOpen, IsUntaggedOpenIn, Bytes, fields_of}
+use Rattle.rasn_types.specs.Bytes.{Same, DefiniteForm, WritesPart, PartsWritten, WritesChoice, NoneUntaggedOpen, Component, ComponentsOf, ComesBefore, contents_of, IsUntaggedOpen, IsUntaggedOpenIn, Bytes, fields_of}
 use Rattle.rasn_types.specs.Carried.{EachOf}
 use Rattle.rasn_types.specs.Lawful.{HasTag, IsLawful, AreAlternatives, AreLawfulByTag}
 use Rattle.rasn_types.proofs.Headers.Frames.{frame_next, not_ended}
@@ -22,7 +22,8 @@ use Rattle.rasn.proofs.LawsHold.Written.{one_reading, read_again}
 use Rattle.rasn.proofs.StrictDer.Shapes.{there, unknown_there, set_elements_one}
 use Rattle.rasn.proofs.StrictDer.Leaves.{tail_octets, framed, no_open, in_told}
 use Rattle.rasn.proofs.StrictDer.Parts.{IsNeverAbsent, nothing, other_read}
-use Rattle.rasn.proofs.StrictDer.Set.{Components, first_is_next, behind, by_part_less, fewer}
+use Rattle.rasn.proofs.ReadBack.Reordered.{none_join, by_part_less}
+use Rattle.rasn.proofs.StrictDer.Set.{IsReadFrom, each_read, each_at, behind, InReadOrder, none_read, read_later, put_in, read_in_order, first_read, joined_contents, begins_some}
 use Rattle.rasn.proofs.StrictDer.Limits.{PartOwes, Owes, OwesParts, OwesChoice, other_owed, owed_meets, meets_owed, owes_like}
 use Rattle.rasn.specs.Laws.{OnlyCarried, StaysCarried}
 
@@ -124,75 +125,72 @@ from_made s depth made c input (t ∷ ts) rest bs o (b, cs, middle, e, f, h, hs)
     ((b, cs, e, subst (Bytes Der s t) p a.1, r.0), f ∙ (ap (λ l. b ++ l) r.1 ∙ (sym (append_assoc b (joined_lists cs) rest) ∙ ap (λ l. joined_lists l ++ rest) (sym e))))
 
 -- SETs.
-begins_some : (m : Tag) → Begins [] m → ⊥
-begins_some m h = go h.id h.spells h.is
-  where
-    go : (id : List ℕ) → SpellsAnyIdentifier id m h.bit → [] ≡ id ++ h.more → ⊥
-    go [] s e = s
-    go (x ∷ l) s e = cc
 
-tags_cons : (b : List ℕ) (cs : List (List ℕ)) (tags ms : List Tag) (m : Tag) → tags ≡ m ∷ ms → Begins b m → TagsOf cs ms → TagsOf (b ∷ cs) tags
-tags_cons [] cs tags ms m e h t = absurd (begins_some m h)
-tags_cons (x ∷ b) cs tags ms m e h t = (m, ms, e, h, t)
-
-abbrev pub SetMade : Parts → List ℕ → List Tree → List ℕ → List Tag → Type 0
-SetMade ps input ts rest tags = (bs : List (List ℕ)) × PartsWritten (fields_of Der ps) ts bs × NoneUntaggedOpen (fields_of Der ps) ts bs × TagsOf bs tags × (input ≡ joined_lists bs ++ rest)
+-- The parts of components that are read, as they are written.
+abbrev pub SetMade : Parts → ℕ → List (List ℕ) → List Tree → Type 0
+SetMade ps k os ts = (bs : List (List ℕ)) × (cs : List Component) × PartsWritten (fields_of Der ps) ts bs × NoneUntaggedOpen (fields_of Der ps) ts bs
+    × ComponentsOf Der k (fields_of Der ps) bs cs × InReadOrder ps cs os
 
 abbrev pub IsSetMade : Parts → ℕ → Type 0
-IsSetMade ps depth = (k : ℕ) (c : Bool) (input : List ℕ) (rs : List Tree) (rest : List ℕ) (os : List (List ℕ)) (tags : List Tag) (ts : List Tree) → AreOctets input
-    → ReadsFrom (Components ps depth k c) input rs rest os → ByPart k (presences ps) rs ts → Each Begins os tags → AreAscending IsTagBelow tags
-    → OwesParts ps depth ts → SetMade ps input ts rest tags
-
-first_made : (presence : Presence) (s : Shape) (ps : Parts) (depth : ℕ) → EachMade depth (part presence s ps) → HasTag s → ((m n : Tag) → IsFirst s m → IsFirstOf ps n → IsTagBelow m n)
-    → IsSetMade ps depth → (k : ℕ) (c : Bool) (input : List ℕ) (rs : List Tree) (rest : List ℕ) (os : List (List ℕ)) (tags : List Tag) (ts : List Tree) (t : Tree) (us : List Tree) → ts ≡ t ∷ us → AreOctets input
-    → ReadsFrom (Components (part presence s ps) depth k c) input rs rest os → OneOf k t rs
-    → ByPart (suc k) (presences ps) rs us → Each Begins os tags → AreAscending IsTagBelow tags → PartOwes presence (Owes s depth) t → OwesParts ps depth us
-    → SetMade (part presence s ps) input ts rest tags
-unfolding Reads parts_of Bytes fields_of Owes
-first_made presence s ps depth made has below more k c input rs rest os tags ts t us ets octets h o by starts order m ms = go o.before rs h o.is o.none_before by
-  where
-    go : (before : List Tree) (rs : List Tree) → ReadsFrom (Components (part presence s ps) depth k c) input rs rest os → rs ≡ before ++ (chosen k t ∷ o.after) → NoneOf k before
-        → ByPart (suc k) (presences ps) rs us → SetMade (part presence s ps) input ts rest tags
-    go (x ∷ before) rs h e f by = absurd (first_is_next presence s ps depth k c below input rs rest os tags x before o.after t h starts order e f)
-    go [] [] h e f by = cc
-    go [] (x ∷ rs) (a, az, middle, g, i, inr h, hs) e f by = let v : x ≡ chosen k t = cc in absurd (other_read ps depth (suc k) k c input x t middle (omega arith) v h)
-    go [] (x ∷ rs) (a, az, middle, g, i, inl (u, y, n, next, first, h, differs), hs) e f by =
-        let z : u ≡ t = cc in
-        let v : x ≡ chosen k t = cc in
-        let l : rs ≡ o.after = cc in
-        let w = next_made s depth made.0 presence c input t middle octets (subst (λ q. Reads Der s depth c input q middle) z h) (subst (IsNoDefault presence) z (differs tt)) m in
-        let p : a ≡ w.0 = append_cancel_right a w.0 middle (sym i ∙ w.2) in
-        let q : Each Begins (a ∷ az) tags = subst (λ l. Each Begins l tags) g starts in
-        let r = more (suc k) c middle rs rest az q.1 us (tail_octets input a middle i octets) (behind presence s ps depth k c below middle rs rest az hs (subst (NoneOf k) (sym l) o.none_after))
-        (by_part_less (presences ps) (suc k) k t rs us (omega arith) (subst (λ q. ByPart (suc k) (presences ps) (q ∷ rs) us) v by))
-        q.4 (fewer q.0 q.1 (subst (AreAscending IsTagBelow) q.2 order)) ms in (
-          w.0 ∷ r.0,
-          (t, us, w.0, r.0, ets, refl, w.1, r.1),
-          subst (λ l. NoneUntaggedOpen (fields_of Der (part presence s ps)) l (w.0 ∷ r.0)) (sym ets) ((λ b. absurd (made.0.not_untagged has t b)), r.2),
-          tags_cons w.0 r.0 tags q.1 q.0 q.2 (subst (λ l. Begins l q.0) p q.3) r.3,
-          w.2 ∙ (ap (λ l. w.0 ++ l) r.4 ∙ sym (append_assoc w.0 (joined_lists r.0) rest)),
-        )
+IsSetMade ps depth = (k : ℕ) (c : Bool) (rs : List Tree) (os : List (List ℕ)) (ts : List Tree) → Each (IsReadFrom ps depth k c) rs os → ByPart k (presences ps) rs ts
+    → OwesParts ps depth ts → SetMade ps k os ts
 
 set_made : (ps : Parts) (depth : ℕ) → AreLawfulByTag ps → EachMade depth ps → IsSetMade ps depth
 unfolding Reads parts_of Bytes fields_of Owes AreLawfulByTag
-set_made none depth lawful made k c input [] rest os tags ts o h by starts order m =
-    ([], (by, refl), tt, subst (λ l. Each Begins l tags) h.0 starts, sym h.1)
-set_made none depth lawful made k c input (x ∷ rs) rest os tags ts o h by starts order m = absurd h.5
-set_made (part presence s ps) depth lawful made k c input rs rest os tags ts o h (t, us, e, inl y, by) starts order (t', us', e', m, ms) =
-    let p : t' ≡ t = let x : t' ∷ us' ≡ t ∷ us = sym e' ∙ e in cc in
-    let q : us' ≡ us = let x : t' ∷ us' ≡ t ∷ us = sym e' ∙ e in cc in
-    first_made presence s ps depth made lawful.1 lawful.4 (set_made ps depth lawful.5 made.1) k c input rs rest os tags ts t us e o h y by starts order
-    (subst (PartOwes presence (Owes s depth)) p m) (subst (OwesParts ps depth) q ms)
-set_made (part presence s ps) depth lawful made k c input rs rest os tags ts o h (t, us, e, inr (y, z), by) starts order (t', us', e', m, ms) =
-    let p : t' ≡ t = let x : t' ∷ us' ≡ t ∷ us = sym e' ∙ e in cc in
-    let q : us' ≡ us = let x : t' ∷ us' ≡ t ∷ us = sym e' ∙ e in cc in
-    let r = set_made ps depth lawful.5 made.1 (suc k) c input rs rest os tags us o (behind presence s ps depth k c lawful.4 input rs rest os h y) by starts order (subst (OwesParts ps depth) q ms) in (
-      [] ∷ r.0,
-      (t, us, [], r.0, e, refl, missing_made s depth presence t z (subst (PartOwes presence (Owes s depth)) p m), r.1),
-      subst (λ l. NoneUntaggedOpen (fields_of Der (part presence s ps)) l ([] ∷ r.0)) (sym e) ((λ b. refl), r.2),
-      r.3,
-      r.4,
+set_made none depth lawful made k c [] os ts h by m = ([], [], (by, refl), tt, refl, none_read [] os refl h)
+set_made none depth lawful made k c (r ∷ rs) os ts h by m = let x = h.3 in absurd x.reads
+set_made (part presence s ps) depth lawful made k c rs os ts h (t, us, e, x, by) (t', us', e', m, ms) = go (set_made ps depth lawful.5 made.1) x
+  where
+    p : t' ≡ t
+    p = let x : t' ∷ us' ≡ t ∷ us = sym e' ∙ e in cc
+
+    q : us' ≡ us
+    q = let x : t' ∷ us' ≡ t ∷ us = sym e' ∙ e in cc
+
+    owes : PartOwes presence (Owes s depth) t
+    owes = subst (PartOwes presence (Owes s depth)) p m
+
+    owe : OwesParts ps depth us
+    owe = subst (OwesParts ps depth) q ms
+
+    -- The octets of a component are written of its part.
+    writes : (o : List ℕ) → IsReadFrom (part presence s ps) depth k c (chosen k t) o → WritesPart presence (Bytes Der s) t o
+    writes o r =
+        let z = first_read presence s ps depth k c t o r in
+        let w = next_made s depth made.0 presence c r.input t r.rest r.octets z.1 z.2 owes in
+        subst (WritesPart presence (Bytes Der s) t) (append_cancel_right w.0 o r.rest (sym w.2 ∙ r.is)) w.1
+
+    there : (o : List ℕ) (front back : List (List ℕ)) → IsReadFrom (part presence s ps) depth k c (chosen k t) o → SetMade ps (suc k) (front ++ back) us → SetMade (part presence s ps) k (front ++ (o ∷ back)) ts
+    there [] front back r later = absurd (begins_some r.tag r.begins)
+    there (x ∷ o) front back r (bs, cs, written, none_bare, placed, read) = (
+      (x ∷ o) ∷ bs,
+      record { tag = r.tag; number = k; octets = x ∷ o } ∷ cs,
+      (t, us, x ∷ o, bs, e, refl, writes (x ∷ o) r, written),
+      subst (λ l. NoneUntaggedOpen (fields_of Der (part presence s ps)) l ((x ∷ o) ∷ bs)) (sym e) ((λ b. absurd (made.0.not_untagged lawful.1 t b)), none_bare),
+      (r.tag, cs, refl, r.begins, placed),
+      put_in presence s ps lawful.4 (record { tag = r.tag; number = k; octets = x ∷ o }) cs front (x ∷ o) back (refl, r.begins) (first_read presence s ps depth k c t (x ∷ o) r).0 read,
     )
+
+    missing : IsMissing presence t → SetMade ps (suc k) os us → SetMade (part presence s ps) k os ts
+    missing z (bs, cs, written, none_bare, placed, read) = (
+      [] ∷ bs,
+      cs,
+      (t, us, [], bs, e, refl, missing_made s depth presence t z owes, written),
+      subst (λ l. NoneUntaggedOpen (fields_of Der (part presence s ps)) l ([] ∷ bs)) (sym e) ((λ b. refl), none_bare),
+      placed,
+      read_later presence s ps cs os read,
+    )
+
+    go : IsSetMade ps depth → OneOf k t rs ⊎ (NoneOf k rs × IsMissing presence t) → SetMade (part presence s ps) k os ts
+    go later (inl o) =
+        let h' : Each (IsReadFrom (part presence s ps) depth k c) (o.before ++ (chosen k t ∷ o.after)) os = subst (λ l. Each (IsReadFrom (part presence s ps) depth k c) l os) o.is h in
+        let i = each_at (IsReadFrom (part presence s ps) depth k c) o.before (chosen k t) o.after os h' in
+        let others = o.before ++ o.after in
+        subst (λ l. SetMade (part presence s ps) k l ts) (sym i.3)
+        (there i.1 i.0 i.2 i.4
+        (later (suc k) c others (i.0 ++ i.2) us (behind presence s ps depth k c others (i.0 ++ i.2) i.5 (none_join k o.before o.after o.none_before o.none_after))
+        (by_part_less (presences ps) (suc k) k t o.before o.after us (omega arith) (subst (λ l. ByPart (suc k) (presences ps) l us) o.is by)) owe))
+    go later (inr (n, z)) = missing z (later (suc k) c rs os us (behind presence s ps depth k c rs os h n) by owe)
 
 -- A value that is written round contents.
 abbrev pub Enclosed : Tag → (List ℕ → Type 0) → List ℕ → List ℕ → Type 0
@@ -232,18 +230,34 @@ in_seq_made tag ps depth k closing input t rest o (deep, h) (deep', us, f, m, ta
     ]) h in
     (r.2, (r.1.0, r.1.1, r.1.2, r.1.3, subst (λ l. DefiniteForm tag true l r.2) r.1.4 r.3), r.4)
 
+-- The parts of a SET as contents that are written.
+abbrev pub SetContents : Parts → Tree → List ℕ → Type 0
+SetContents ps t contents = (ts : List Tree) × (bs : List (List ℕ)) × (cs : List Component) × (ds : List Component) × (t ≡ items ts) × PartsWritten (fields_of Der ps) ts bs
+    × NoneUntaggedOpen (fields_of Der ps) ts bs × ComponentsOf Der 0 (fields_of Der ps) bs cs × IsReordered cs ds × AreInOrder ComesBefore ds × (contents ≡ contents_of ds)
+
 in_set_made : (tag : Tag) (ps : Parts) (depth : ℕ) → AreLawfulByTag ps → EachMade (depth - 1) ps → IsMade (set tag ps) depth
 unfolding Reads parts_of Bytes fields_of Owes
-in_set_made tag ps depth lawful k closing input t rest o (deep, h) (deep', us, f, m) =
-    let r = enclosed_made tag true refl _ (λ c. (ts : List Tree) × (bs : List (List ℕ)) × (tags : List Tag) × (t ≡ items ts) × PartsWritten (fields_of Der ps) ts bs
-    × NoneUntaggedOpen (fields_of Der ps) ts bs × TagsOf bs tags × AreAscending IsTagBelow tags × (c ≡ joined_lists bs)) input t rest o
-    (λ contents p r.
-    let vs = r.1 in
-    let y : us ≡ vs = items_one us vs (sym f ∙ r.2) in
-    let g = r.5 tt in
-    let q = set_made ps (depth - 1) lawful k 0 false contents r.0 [] g.0 g.2.0 vs p g.1 r.4 g.2.1 g.2.2 (subst (OwesParts ps (depth - 1)) y m) in
-    (joined_lists q.0, (vs, q.0, g.2.0, r.2, q.1, q.2, q.3, g.2.2, refl), q.4)) h in
-    (r.2, (r.1.0, r.1.1, r.1.2, r.1.3, r.1.4, r.1.5, r.1.6, r.1.7, subst (λ l. DefiniteForm tag true l r.2) r.1.8 r.3), r.4)
+in_set_made tag ps depth lawful k closing input t rest o (deep, h) (deep', us, f, m) = whole (enclosed_made tag true refl _ (SetContents ps t) input t rest o made h)
+  where
+    put : (contents : List ℕ) (ts : List Tree) (os : List (List ℕ)) → t ≡ items ts → contents ≡ joined_lists os ++ [] → AreInTagOrder os → SetMade ps 0 os ts
+        → (c : List ℕ) × SetContents ps t c × (contents ≡ c ++ [])
+    put contents ts os e g firsts (bs, cs, written, none_bare, placed, read) = (
+      contents_of read.0,
+      (ts, bs, cs, read.0, e, written, none_bare, placed, read.1, read_in_order ps cs os firsts read, refl),
+      g ∙ ap (λ l. l ++ []) (joined_contents os read.0 read.2),
+    )
+
+    made : (contents : List ℕ) → AreOctets contents → ReadsSet Der (presences ps) (ReadsChoice Der 0 (parts_of Der ps (depth - 1) false)) false contents t []
+        → (c : List ℕ) × SetContents ps t c × (contents ≡ c ++ [])
+    made contents p r =
+        let y : us ≡ r.1 = items_one us r.1 (sym f ∙ r.2) in
+        let g = r.5 tt in
+        let i = each_read ps (depth - 1) 0 false contents r.0 [] g.0 g.2.0 p g.1 g.2.1 in
+        put contents r.1 g.0 r.2 i.1 g.2 (set_made ps (depth - 1) lawful k 0 false r.0 g.0 r.1 i.0 r.4 (subst (OwesParts ps (depth - 1)) y m))
+
+    whole : Enclosed tag (SetContents ps t) input rest → (b : List ℕ) × Bytes Der (set tag ps) t b × (input ≡ b ++ rest)
+    whole (c, (ts, bs, cs, ds, e, written, bare, placed, moved, order, g), b, d, i) =
+        (b, (ts, bs, cs, ds, e, written, bare, placed, moved, order, subst (λ l. DefiniteForm tag true l b) g d), i)
 
 in_list_made : (tag : Tag) (s : Shape) (size : Option (Bound ℕ)) (depth : ℕ) → IsMade s (depth - 2) → IsMade (list tag s size) depth
 unfolding Reads parts_of Bytes fields_of Owes

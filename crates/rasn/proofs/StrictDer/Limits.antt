@@ -206,7 +206,7 @@ mutual
         parts_like ps (depth - 1) ts r.0 bs r.2 w (subst (AreWithinLimits Der ps (depth - 1)) (items_of t u ts us e f) m),
         taken_like ps ts r.0 r.2 (subst (NoneTaken Der ps) (items_of t u ts us e f) taken),
       )
-  owes_like (set tag ps) depth t u b same (ts, bs, tags, e, w, q, n, o, c) (deep, us, f, m) =
+  owes_like (set tag ps) depth t u b same (ts, bs, cs, ds, e, w, q, n, p, o, c) (deep, us, f, m) =
       let r = items_alike ts u (subst (λ z. Same z u) e same) in
       (deep, r.0, r.1, parts_like ps (depth - 1) ts r.0 bs r.2 w (subst (AreWithinLimits Der ps (depth - 1)) (items_of t u ts us e f) m))
   owes_like (list tag s size) depth t u b same (ts, bs, e, n, w, c) (deep, us, f, m) =

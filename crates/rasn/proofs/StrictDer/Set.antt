@@ -1,133 +1,227 @@
 -- The octets of the components of a SET that DER reads are those that are written.
-use Rattle.std.proofs.Common.{◌≡◌, ℕ, suc, ◌<◌, ◌⊎◌, ◌≢◌, inl, inr, List, [], ◌∷◌, ◌++◌, Bool, sym, ap, ◌∙◌, subst, arith, append_assoc}
-use Rattle.rasn_types.specs.Tags.{der_form, IsTagBelow}
+use Rattle.std.proofs.Common.{◌≡◌, ℕ, suc, ◌⊎◌, ◌≢◌, inl, inr, List, [], ◌∷◌, ◌++◌, Bool, refl, sym, ap, ◌∙◌, subst, arith, append_assoc}
+use Rattle.std.proofs.lemmas.List.{append_cancel_right}
+use Rattle.rasn_types.specs.Tags.{IsTagBelow}
 use Rattle.rasn_types.specs.declared.types.codec.Codec.TheVariants.{Der}
 use Rattle.rasn_types.specs.declared.types.tag.Tag.{Tag}
-use Rattle.rasn_types.specs.Framing.{AreOctets, Begins, NextTag}
-use Rattle.rasn_types.specs.Shapes.{Tree, chosen, Parts, part, IsFirst, IsFirstOf, Shape, Presence, presences}
+use Rattle.rasn_types.specs.Framing.{AreOctets, Begins, SpellsAnyIdentifier}
+use Rattle.rasn_types.specs.Shapes.{Tree, chosen, Parts, part, Shape, Presence, presences, IsFirst, IsFirstOf}
 use Rattle.rasn_types.specs.Shapes.Parts.{none}
 use Rattle.rasn_types.specs.Readings.{ReadsFrom, IsNoDefault, IsMissing, ReadsChoice, NoneOf, OneOf, ByPart, AreInTagOrder}
-use Rattle.rasn_types.specs.Order.{Each, AreAscending}
+use Rattle.rasn_types.specs.Order.{Each, AreAscending, IsBeforeAll, AreInOrder, IsReordered}
 use Rattle.rasn_types.specs.Contents.{joined_lists}
 use Rattle.rasn_types.specs.Grammar.{Reads, parts_of}
-use Rattle.rasn_types.specs.Bytes.{WritesPart, PartsWritten, Bytes, fields_of}
+use Rattle.rasn_types.specs.Bytes.{Component, ComponentsOf, ComesBefore, contents_of, WritesPart, PartsWritten, Bytes, fields_of}
 use Rattle.rasn_types.specs.Carried.{PartIsWithinLimits, IsWithinLimits, AreWithinLimits}
-use Rattle.rasn_types.specs.Lawful.{AreLawfulByTag}
 use Rattle.rasn_types.proofs.Headers.Frames.{begins_one}
+use Rattle.rasn_types.specs.Lawful.{AreDisjoint, AreLawfulByTag}
+use Rattle.rasn_types.proofs.InOrder.{insert_each, below_or_same, below_trans, one_order_of_components}
 use Rattle.rasn_de.proofs.Headers.Begins.{begins_more}
+use Rattle.rasn.proofs.ReadBack.Reordered.{none_join, by_part_less}
 use Rattle.rasn.proofs.StrictDer.Leaves.{tail_octets}
-use Rattle.rasn.proofs.StrictDer.Parts.{EachTold, missing_told, next_told, nothing, other_read}
+use Rattle.rasn.proofs.StrictDer.Parts.{EachTold, missing_told, next_told, other_read}
 
 -- The components of these parts.
 abbrev pub Components : Parts → ℕ → ℕ → Bool → List ℕ → Tree → List ℕ → Type 0
 Components ps depth k c = ReadsChoice Der k (parts_of Der ps depth c)
 
--- A component's first tag.
-first_of : (ps : Parts) (depth k : ℕ) (c : Bool) (input : List ℕ) (t : Tree) (rest : List ℕ) → ReadsChoice Der k (parts_of Der ps depth c) input t rest
-    → (n : Tag) × NextTag der_form input n × IsFirstOf ps n
+-- The component is read from these octets, which are followed by others and begin with a tag.
+pub record IsReadFrom (ps : Parts) (depth k : ℕ) (c : Bool) (t : Tree) (o : List ℕ) : Type 0 where
+  pub input : List ℕ
+  pub rest : List ℕ
+  pub is : input ≡ o ++ rest
+  pub octets : AreOctets input
+  pub tag : Tag
+  pub begins : Begins o tag
+  pub reads : Components ps depth k c input t rest
+
+pub each_read : (ps : Parts) (depth k : ℕ) (c : Bool) (input : List ℕ) (rs : List Tree) (rest : List ℕ) (os : List (List ℕ)) (tags : List Tag) → AreOctets input
+    → ReadsFrom (Components ps depth k c) input rs rest os → Each Begins os tags → Each (IsReadFrom ps depth k c) rs os × (input ≡ joined_lists os ++ rest)
+each_read ps depth k c input [] rest os tags o h b = (h.0, sym h.1 ∙ ap (λ l. joined_lists l ++ rest) (sym h.0))
+each_read ps depth k c input (r ∷ rs) rest os tags o (a, more, middle, e, f, h, hs) b =
+    let z : Each Begins (a ∷ more) tags = subst (λ l. Each Begins l tags) e b in
+    let q = each_read ps depth k c middle rs rest more z.1 (tail_octets input a middle f o) hs z.4 in (
+      (a, more, e, record { input = input; rest = middle; is = f; octets = o; tag = z.0; begins = z.3; reads = h }, q.0),
+      f ∙ (ap (λ l. a ++ l) q.1 ∙ (sym (append_assoc a (joined_lists more) rest) ∙ ap (λ l. joined_lists l ++ rest) (sym e))),
+    )
+
+-- What is related to one of a list's elements, and to the others.
+pub each_at : {X Y : Type 0} (R : X → Y → Type 0) (before : List X) (x : X) (after : List X) (ys : List Y) → Each R (before ++ (x ∷ after)) ys
+    → (front : List Y) × (y : Y) × (back : List Y) × (ys ≡ front ++ (y ∷ back)) × R x y × Each R (before ++ after) (front ++ back)
+each_at R [] x after ys (y, more, e, r, h) = ([], y, more, e, r, h)
+each_at R (z ∷ before) x after ys (w, more, e, r, h) =
+    let o = each_at R before x after more h in
+    (w ∷ o.0, o.1, o.2, e ∙ ap (λ l. w ∷ l) o.3, o.4, (w, o.0 ++ o.2, refl, r, o.5))
+
+-- Components none of which is of part k are of the parts after it.
+pub behind : (presence : Presence) (s : Shape) (ps : Parts) (depth k : ℕ) (c : Bool) (rs : List Tree) (os : List (List ℕ))
+    → Each (IsReadFrom (part presence s ps) depth k c) rs os → NoneOf k rs → Each (IsReadFrom ps depth (suc k) c) rs os
 unfolding Reads parts_of
-first_of none depth k c input t rest h = absurd h
-first_of (part presence s ps) depth k c input t rest (inl h) = (h.2, h.3, inl h.4)
-first_of (part presence s ps) depth k c input t rest (inr h) = let r = first_of ps depth (suc k) c input t rest h in (r.0, r.1, inr r.2)
-
--- the tag of a piece is the next tag
-same_first : (input b rest : List ℕ) (t n : Tag) → input ≡ b ++ rest → Begins b t → NextTag der_form input n → t ≡ n
-same_first input b rest t n e h next = begins_one input t n (subst (λ i. Begins i t) (sym e) (begins_more b rest t h)) next.begins
-
-pub fewer : (m : Tag) (ms : List Tag) → AreAscending IsTagBelow (m ∷ ms) → AreAscending IsTagBelow ms
-fewer m [] d = tt
-fewer m (n ∷ ms) d = d.1
-
-module _ (presence : Presence) (s : Shape) (ps : Parts) (depth k : ℕ) (c : Bool) (below : (m n : Tag) → IsFirst s m → IsFirstOf ps n → IsTagBelow m n) where
-  -- A component of a later part isn't just before one of part k.
-  neither : (input : List ℕ) (x y : Tree) (a d middle rest : List ℕ) (t : Tree) (m n : Tag) → ((u : Tree) → x ≢ chosen k u) → y ≡ chosen k t
-      → input ≡ a ++ middle → Components (part presence s ps) depth k c input x middle → middle ≡ d ++ rest → Components (part presence s ps) depth k c middle y rest
-      → Begins a m → Begins d n → IsTagBelow n m
-  unfolding Reads parts_of
-  neither input x y a d middle rest t m n f e i (inl h) j g p q = absurd (f h.0 h.1)
-  neither input x y a d middle rest t m n f e i (inr h) j (inr g) p q = absurd (other_read ps depth (suc k) k c middle y t rest (omega arith) e g)
-  neither input x y a d middle rest t m n f e i (inr h) j (inl (u, v, o, next, first, g, differs)) p q =
-      let r = first_of ps depth (suc k) c input x middle h in
-      let w : m ≡ r.0 = same_first input a middle m r.0 i p r.1 in
-      let z : n ≡ o = same_first middle d rest n o j q next in
-      subst (λ l. IsTagBelow l m) (sym z) (subst (IsTagBelow o) (sym w) (below o r.0 first r.2))
-
-  -- So that of part k is the first.
-  pub first_is_next : (input : List ℕ) (rs : List Tree) (rest : List ℕ) (os : List (List ℕ)) (tags : List Tag) (x : Tree) (before after : List Tree) (t : Tree)
-      → ReadsFrom (Components (part presence s ps) depth k c) input rs rest os → Each Begins os tags → AreAscending IsTagBelow tags
-      → rs ≡ x ∷ (before ++ (chosen k t ∷ after)) → NoneOf k (x ∷ before) → ⊥
-  first_is_next input [] rest os tags x before after t h b d e f = cc
-  first_is_next input (p ∷ []) rest os tags x [] after t h b d e f = cc
-  first_is_next input (p ∷ []) rest os tags x (y ∷ before) after t h b d e f = cc
-  first_is_next input (p ∷ q ∷ rs) rest os tags x [] after t (a, az, middle, g, i, h, (l, ls, next, g', i', h', hs)) b d e f =
-      let z : Each Begins (a ∷ l ∷ ls) tags = subst (λ n. Each Begins n tags) (g ∙ ap (λ n. a ∷ n) g') b in
-      let o : AreAscending IsTagBelow (z.0 ∷ z.4.0 ∷ z.4.1) = subst (AreAscending IsTagBelow) (z.2 ∙ ap (λ n. z.0 ∷ n) z.4.2) d in
-      let v : p ≡ x = cc in
-      let w : q ≡ chosen k t = cc in
-      o.0 (neither input p q a l middle next t z.0 z.4.0 (λ u y. f.0 u (sym v ∙ y)) w i h i' h' z.3 z.4.3)
-  first_is_next input (p ∷ q ∷ rs) rest os tags x (y ∷ before) after t (a, az, middle, g, i, h, hs) b d e f =
-      let z : Each Begins (a ∷ az) tags = subst (λ n. Each Begins n tags) g b in
-      let l : q ∷ rs ≡ y ∷ (before ++ (chosen k t ∷ after)) = cc in
-      first_is_next middle (q ∷ rs) rest az z.1 y before after t hs z.4 (fewer z.0 z.1 (subst (AreAscending IsTagBelow) z.2 d)) l f.1
-
-  -- Components none of which is of part k are of the parts after it.
-  pub behind : (input : List ℕ) (rs : List Tree) (rest : List ℕ) (os : List (List ℕ)) → ReadsFrom (Components (part presence s ps) depth k c) input rs rest os → NoneOf k rs
-      → ReadsFrom (Components ps depth (suc k) c) input rs rest os
-  unfolding Reads parts_of
-  behind input [] rest os h f = h
-  behind input (x ∷ rs) rest os (a, az, middle, g, i, inl h, hs) f = absurd (f.0 h.0 h.1)
-  behind input (x ∷ rs) rest os (a, az, middle, g, i, inr h, hs) f = (a, az, middle, g, i, h, behind middle rs rest az hs f.1)
-
--- The reading of part k says nothing of later parts.
-pub by_part_less : (ps : List Presence) (j k : ℕ) (u : Tree) (rs us : List Tree) → k < j → ByPart j ps (chosen k u ∷ rs) us → ByPart j ps rs us
-by_part_less [] j k u rs us h b = b
-by_part_less (presence ∷ ps) j k u rs us h (t, vs, e, inr (f, m), b) = (t, vs, e, inr (f.1, m), by_part_less ps (suc j) k u rs vs (omega arith) b)
-by_part_less (presence ∷ ps) j k u rs us h (t, vs, e, inl o, b) = (t, vs, e, inl (less o.before o.is o.none_before), by_part_less ps (suc j) k u rs vs (omega arith) b)
+behind presence s ps depth k c [] os h n = h
+behind presence s ps depth k c (r ∷ rs) os (o, more, e, h, hs) n = (o, more, e, go h.reads, behind presence s ps depth k c rs more hs n.1)
   where
-    less : (before : List Tree) → chosen k u ∷ rs ≡ before ++ (chosen j t ∷ o.after) → NoneOf j before → OneOf j t rs
-    less [] i f = let w : k ≡ j = cc in absurd (omega arith)
-    less (x ∷ before) i f = record { before = before; after = o.after; is = cc; none_before = f.1; none_after = o.none_after }
+    go : Components (part presence s ps) depth k c h.input r h.rest → IsReadFrom ps depth (suc k) c r o
+    go (inl x) = absurd (n.0 x.0 x.1)
+    go (inr x) = record { input = h.input; rest = h.rest; is = h.is; octets = h.octets; tag = h.tag; begins = h.begins; reads = x }
 
-in_order_less : (b : List ℕ) (bs : List (List ℕ)) → AreInTagOrder (b ∷ bs) → AreInTagOrder bs
-in_order_less b bs (tags, (m, ms, i, h, hs), d) = (ms, hs, fewer m ms (subst (AreAscending IsTagBelow) i d))
+-- ---- the order of tags
+
+-- The other tag isn't below this one.
+abbrev pub IsNotAbove : Tag → Tag → Type 0
+IsNotAbove s t = IsTagBelow t s → ⊥
+
+not_above_trans : (s t u : Tag) → IsNotAbove s t → IsNotAbove t u → IsNotAbove s u
+not_above_trans s t u h k l = elim (below_or_same t u) [
+  | inl m ↦ h (below_trans t u s m l)
+  | inr (inl m) ↦ k m
+  | inr (inr e) ↦ h (subst (λ x. IsTagBelow x s) (sym e) l)
+]
+
+before_more : (s t : Tag) (ts : List Tag) → IsNotAbove s t → IsBeforeAll IsNotAbove t ts → IsBeforeAll IsNotAbove s ts
+before_more s t [] h k = tt
+before_more s t (u ∷ ts) h k = (not_above_trans s t u h k.0, before_more s t ts h k.1)
+
+ascending_all : (ts : List Tag) → AreAscending IsTagBelow ts → AreInOrder IsNotAbove ts
+ascending_all [] h = tt
+ascending_all (t ∷ []) h = (tt, tt)
+ascending_all (t ∷ u ∷ ts) h = let r = ascending_all (u ∷ ts) h.1 in ((h.0, before_more t u ts h.0 r.0), r)
+
+-- The component has these octets, and begins with its tag.
+abbrev pub IsComponentIn : List ℕ → Component → Type 0
+IsComponentIn o c = (o ≡ c.octets) × Begins o c.tag
+
+abbrev pub IsNotComponentAbove : Component → Component → Type 0
+IsNotComponentAbove c d = IsNotAbove c.tag d.tag
+
+same_tags : (os : List (List ℕ)) (tags : List Tag) (es : List Component) (s : Tag) (c : Component) → s ≡ c.tag → Each Begins os tags → Each IsComponentIn os es
+    → IsBeforeAll IsNotAbove s tags → IsBeforeAll IsNotComponentAbove c es
+same_tags [] tags es s c e b h n = subst (IsBeforeAll IsNotComponentAbove c) (sym h) tt
+same_tags (o ∷ os) tags es s c e (t, ts, f, b, bs) (d, ds, g, i, h) n =
+    let z : IsBeforeAll IsNotAbove s (t ∷ ts) = subst (IsBeforeAll IsNotAbove s) f n in
+    let q : t ≡ d.tag = begins_one o t d.tag b i.1 in
+    subst (IsBeforeAll IsNotComponentAbove c) (sym g)
+    ((λ l. z.0 (subst (λ x. IsTagBelow x s) (sym q) (subst (IsTagBelow d.tag) (sym e) l))), same_tags os ts ds s c e bs h z.1)
+
+components_in_order : (os : List (List ℕ)) (tags : List Tag) (es : List Component) → Each Begins os tags → Each IsComponentIn os es → AreInOrder IsNotAbove tags → AreInOrder IsNotComponentAbove es
+components_in_order [] tags es b h n = subst (AreInOrder IsNotComponentAbove) (sym h) tt
+components_in_order (o ∷ os) tags es (t, ts, f, b, bs) (c, cs, g, i, h) n =
+    let z : AreInOrder IsNotAbove (t ∷ ts) = subst (AreInOrder IsNotAbove) f n in
+    subst (AreInOrder IsNotComponentAbove) (sym g) (same_tags os ts cs t c (begins_one o t c.tag b i.1) bs h z.0, components_in_order os ts cs bs h z.1)
+
+pub none_above : (os : List (List ℕ)) (es : List Component) → AreInTagOrder os → Each IsComponentIn os es → AreInOrder IsNotComponentAbove es
+none_above os es (tags, b, d) h = components_in_order os tags es b h (ascending_all tags d)
+
+-- ---- the components that are read
+
+pub joined_contents : (os : List (List ℕ)) (es : List Component) → Each IsComponentIn os es → joined_lists os ≡ contents_of es
+joined_contents [] es h = ap contents_of (sym h)
+joined_contents (o ∷ os) es (c, cs, g, i, h) = ap (λ l. l ++ joined_lists os) i.0 ∙ (ap (λ l. c.octets ++ l) (joined_contents os cs h) ∙ ap contents_of (sym g))
+
+pub begins_some : (m : Tag) → Begins [] m → ⊥
+begins_some m h = go h.id h.spells h.is
+  where
+    go : (id : List ℕ) → SpellsAnyIdentifier id m h.bit → [] ≡ id ++ h.more → ⊥
+    go [] s e = s
+    go (x ∷ l) s e = cc
+
+-- The component begins with one of the first tags of these parts.
+abbrev pub AreOfParts : Parts → List Component → Type 0
+AreOfParts ps [] = Unit {0}
+AreOfParts ps (c ∷ cs) = IsFirstOf ps c.tag × AreOfParts ps cs
+
+of_later : (presence : Presence) (s : Shape) (ps : Parts) (cs : List Component) → AreOfParts ps cs → AreOfParts (part presence s ps) cs
+of_later presence s ps [] h = tt
+of_later presence s ps (c ∷ cs) h = (inr h.0, of_later presence s ps cs h.1)
+
+of_inserted : (ps : Parts) (c : Component) (front back : List Component) → IsFirstOf ps c.tag → AreOfParts ps (front ++ back) → AreOfParts ps (front ++ (c ∷ back))
+of_inserted ps c [] back i h = (i, h)
+of_inserted ps c (d ∷ front) back i h = (h.0, of_inserted ps c front back i h.1)
+
+-- The two have different tags.
+abbrev pub AreApart : Component → Component → Type 0
+AreApart c d = c.tag ≢ d.tag
+
+apart_before : (s : Shape) (ps : Parts) → AreDisjoint (IsFirst s) (IsFirstOf ps) → (c : Component) → IsFirst s c.tag → (cs : List Component) → AreOfParts ps cs → IsBeforeAll AreApart c cs
+apart_before s ps h c i [] o = tt
+apart_before s ps h c i (d ∷ cs) o = ((λ e. h d.tag (subst (IsFirst s) e i) o.0), apart_before s ps h c i cs o.1)
+
+before_inserted : (d c : Component) (front back : List Component) → AreApart d c → IsBeforeAll AreApart d (front ++ back) → IsBeforeAll AreApart d (front ++ (c ∷ back))
+before_inserted d c [] back i h = (i, h)
+before_inserted d c (e ∷ front) back i h = (h.0, before_inserted d c front back i h.1)
+
+-- A component of a part has another tag than those of the parts after it, wherever it is among them.
+apart_inserted : (s : Shape) (ps : Parts) → AreDisjoint (IsFirst s) (IsFirstOf ps) → (c : Component) → IsFirst s c.tag → (front back : List Component) → AreOfParts ps (front ++ back)
+    → AreInOrder AreApart (front ++ back) → AreInOrder AreApart (front ++ (c ∷ back))
+apart_inserted s ps h c i [] back o d = (apart_before s ps h c i back o, d)
+apart_inserted s ps h c i (e ∷ front) back o d =
+    (before_inserted e c front back (λ f. h e.tag (subst (IsFirst s) (sym f) i) o.0) d.0, apart_inserted s ps h c i front back o.1 d.1)
+
+below_before : (c : Component) (cs : List Component) → IsBeforeAll AreApart c cs → IsBeforeAll IsNotComponentAbove c cs → IsBeforeAll ComesBefore c cs
+below_before c [] h k = tt
+below_before c (d ∷ cs) h k = (elim (below_or_same c.tag d.tag) [
+  | inl l ↦ inl l
+  | inr (inl l) ↦ absurd (k.0 l)
+  | inr (inr e) ↦ absurd (h.0 e)
+], below_before c cs h.1 k.1)
+
+all_before : (cs : List Component) → AreInOrder AreApart cs → AreInOrder IsNotComponentAbove cs → AreInOrder ComesBefore cs
+all_before [] h k = tt
+all_before (c ∷ cs) h k = (below_before c cs h.0 k.0, all_before cs h.1 k.1)
+
+-- The components that are written, in the order in which they are read. No two have the same tag.
+abbrev pub InReadOrder : Parts → List Component → List (List ℕ) → Type 0
+InReadOrder ps cs os = (es : List Component) × IsReordered cs es × Each IsComponentIn os es × AreOfParts ps es × AreInOrder AreApart es
+
+pub none_read : (cs : List Component) (os : List (List ℕ)) → cs ≡ [] → os ≡ [] → InReadOrder none cs os
+none_read cs os e f = ([], subst (λ l. IsReordered l []) (sym e) refl, subst (λ l. Each IsComponentIn l []) (sym f) refl, tt, tt)
+
+pub read_later : (presence : Presence) (s : Shape) (ps : Parts) (cs : List Component) (os : List (List ℕ)) → InReadOrder ps cs os → InReadOrder (part presence s ps) cs os
+read_later presence s ps cs os (es, p, h, of, d) = (es, p, h, of_later presence s ps es of, d)
+
+-- The component of a part, put among those of the parts after it.
+pub put_in : (presence : Presence) (s : Shape) (ps : Parts) → AreDisjoint (IsFirst s) (IsFirstOf ps) → (c : Component) (cs : List Component) (front : List (List ℕ)) (o : List ℕ) (back : List (List ℕ))
+    → IsComponentIn o c → IsFirst s c.tag → InReadOrder ps cs (front ++ back) → InReadOrder (part presence s ps) (c ∷ cs) (front ++ (o ∷ back))
+put_in presence s ps apart c cs front o back i first (es, p, h, of, d) =
+    let r = insert_each IsComponentIn o c i front back es h in
+    let of' : AreOfParts ps (r.0 ++ r.1) = subst (AreOfParts ps) r.2 of in (
+      r.0 ++ (c ∷ r.1),
+      (r.0, r.1, refl, subst (IsReordered cs) r.2 p),
+      r.3,
+      of_inserted (part presence s ps) c r.0 r.1 (inl first) (of_later presence s ps (r.0 ++ r.1) of'),
+      apart_inserted s ps apart c first r.0 r.1 of' (subst (AreInOrder AreApart) r.2 d),
+    )
+
+-- The order in which DER reads components is that in which they are written.
+pub read_in_order : (ps : Parts) (cs : List Component) (os : List (List ℕ)) → AreInTagOrder os → (r : InReadOrder ps cs os) → AreInOrder ComesBefore r.0
+read_in_order ps cs os firsts (es, p, h, of, d) = all_before es d (none_above os es firsts h)
+
+pub read_as_written : (ps : Parts) (cs ds : List Component) (os : List (List ℕ)) → IsReordered cs ds → AreInOrder ComesBefore ds → AreInTagOrder os → InReadOrder ps cs os → joined_lists os ≡ contents_of ds
+read_as_written ps cs ds os p order firsts (es, q, h, of, d) =
+    joined_contents os es h ∙ ap contents_of (sym (one_order_of_components cs ds es p q order (all_before es d (none_above os es firsts h))))
+
+-- The first tag of what is read of part k is the component's.
+pub first_read : (presence : Presence) (s : Shape) (ps : Parts) (depth k : ℕ) (c : Bool) (t : Tree) (o : List ℕ) (h : IsReadFrom (part presence s ps) depth k c (chosen k t) o)
+    → IsFirst s h.tag × Reads Der s depth c h.input t h.rest × IsNoDefault presence t
+unfolding Reads parts_of
+first_read presence s ps depth k c t o h = go h.reads
+  where
+    go : Components (part presence s ps) depth k c h.input (chosen k t) h.rest → IsFirst s h.tag × Reads Der s depth c h.input t h.rest × IsNoDefault presence t
+    go (inr x) = absurd (other_read ps depth (suc k) k c h.input (chosen k t) t h.rest (omega arith) refl x)
+    go (inl (u, e, n, next, first, r, differs)) =
+        let z : u ≡ t = cc in
+        let q : n ≡ h.tag = begins_one h.input n h.tag next.begins (subst (λ i. Begins i h.tag) (sym h.is) (begins_more o h.rest h.tag h.begins)) in
+        (subst (IsFirst s) q first, subst (λ x. Reads Der s depth c h.input x h.rest) z r, subst (IsNoDefault presence) z (differs tt))
 
 abbrev pub IsSetTold : Parts → ℕ → Type 0
-IsSetTold ps depth = (k : ℕ) (c : Bool) (input : List ℕ) (rs : List Tree) (rest : List ℕ) (os : List (List ℕ)) (ts : List Tree) (bs : List (List ℕ)) → AreOctets input
-    → ReadsFrom (Components ps depth k c) input rs rest os → ByPart k (presences ps) rs ts → AreInTagOrder os
-    → PartsWritten (fields_of Der ps) ts bs → AreWithinLimits Der ps depth ts → input ≡ joined_lists bs ++ rest
-
--- The component of part k is the first, followed by those of the parts after it.
-is_next_first : (presence : Presence) (s : Shape) (ps : Parts) (depth : ℕ) → EachTold depth (part presence s ps) → ((m n : Tag) → IsFirst s m → IsFirstOf ps n → IsTagBelow m n)
-    → IsSetTold ps depth → (k : ℕ) (c : Bool) (input : List ℕ) (rs : List Tree) (rest : List ℕ) (os : List (List ℕ)) (t : Tree) (us : List Tree) (b : List ℕ) (cs : List (List ℕ)) → AreOctets input
-    → ReadsFrom (Components (part presence s ps) depth k c) input rs rest os → OneOf k t rs
-    → ByPart (suc k) (presences ps) rs us → AreInTagOrder os
-    → WritesPart presence (Bytes Der s) t b → PartsWritten (fields_of Der ps) us cs → PartIsWithinLimits presence (IsWithinLimits Der s depth) t → AreWithinLimits Der ps depth us
-    → input ≡ b ++ (joined_lists cs ++ rest)
-unfolding Reads parts_of Bytes fields_of IsWithinLimits
-is_next_first presence s ps depth told below more k c input rs rest os t us b cs octets h o by order w ws m ms = go o.before rs h o.is o.none_before by
-  where
-    go : (before : List Tree) (rs : List Tree) → ReadsFrom (Components (part presence s ps) depth k c) input rs rest os → rs ≡ before ++ (chosen k t ∷ o.after) → NoneOf k before
-        → ByPart (suc k) (presences ps) rs us → input ≡ b ++ (joined_lists cs ++ rest)
-    go (x ∷ before) rs h e f by = absurd (first_is_next presence s ps depth k c below input rs rest os order.0 x before o.after t h order.1 order.2 e f)
-    go [] [] h e f by = cc
-    go [] (x ∷ rs) (a, az, middle, g, i, inr h, hs) e f by = let v : x ≡ chosen k t = cc in absurd (other_read ps depth (suc k) k c input x t middle (omega arith) v h)
-    go [] (x ∷ rs) (a, az, middle, g, i, inl (u, y, n, next, first, h, differs), hs) e f by =
-        let z : u ≡ t = cc in
-        let v : x ≡ chosen k t = cc in
-        let l : rs ≡ o.after = cc in
-        let d : input ≡ b ++ middle = next_told s depth told.0 presence c input t middle b octets (subst (λ q. Reads Der s depth c input q middle) z h) (subst (IsNoDefault presence) z (differs tt)) w m in
-        let none_of : NoneOf k rs = subst (NoneOf k) (sym l) o.none_after in
-        let r : middle ≡ joined_lists cs ++ rest = more (suc k) c middle rs rest az us cs (tail_octets input b middle d octets)
-        (behind presence s ps depth k c below middle rs rest az hs none_of)
-        (by_part_less (presences ps) (suc k) k t rs us (omega arith) (subst (λ q. ByPart (suc k) (presences ps) (q ∷ rs) us) v by))
-        (in_order_less a az (subst AreInTagOrder g order)) ws ms in
-        d ∙ ap (λ q. b ++ q) r
+IsSetTold ps depth = (k : ℕ) (c : Bool) (rs : List Tree) (os : List (List ℕ)) (ts : List Tree) (bs : List (List ℕ)) (cs : List Component) → Each (IsReadFrom ps depth k c) rs os
+    → ByPart k (presences ps) rs ts → PartsWritten (fields_of Der ps) ts bs → AreWithinLimits Der ps depth ts → ComponentsOf Der k (fields_of Der ps) bs cs → InReadOrder ps cs os
 
 pub set_told : (ps : Parts) (depth : ℕ) → AreLawfulByTag ps → EachTold depth ps → IsSetTold ps depth
 unfolding Reads parts_of Bytes fields_of IsWithinLimits AreLawfulByTag
-set_told none depth lawful told k c input [] rest os ts bs o h by order w m = nothing input rest (joined_lists bs) (ap joined_lists w.1) h.1
-set_told none depth lawful told k c input (x ∷ rs) rest os ts bs o h by order w m = absurd h.5
-set_told (part presence s ps) depth lawful told k c input rs rest os ts bs o h (t, us, e, x, by) order (t', us', b, cs, e', f, w, ws) (t'', us'', e'', m, ms) = go (set_told ps depth lawful.5 told.1) x
+set_told none depth lawful told k c [] os ts bs cs h by w m placed = none_read cs os placed h
+set_told none depth lawful told k c (r ∷ rs) os ts bs cs h by w m placed = let x = h.3 in absurd x.reads
+set_told (part presence s ps) depth lawful told k c rs os ts bs cs h (t, us, e, x, by) (t', us', b, more, e', f, w, ws) (t'', us'', e'', m, ms) placed =
+    go (set_told ps depth lawful.5 told.1) x (subst (λ l. ComponentsOf Der k (fields_of Der (part presence s ps)) l cs) f placed)
   where
     p : t' ≡ t
     p = let x : t' ∷ us' ≡ t ∷ us = sym e' ∙ e in cc
@@ -144,8 +238,8 @@ set_told (part presence s ps) depth lawful told k c input rs rest os ts bs o h (
     write : WritesPart presence (Bytes Der s) t b
     write = subst (λ x. WritesPart presence (Bytes Der s) x b) p w
 
-    writes : PartsWritten (fields_of Der ps) us cs
-    writes = subst (λ x. PartsWritten (fields_of Der ps) x cs) q ws
+    writes : PartsWritten (fields_of Der ps) us more
+    writes = subst (λ x. PartsWritten (fields_of Der ps) x more) q ws
 
     meet : PartIsWithinLimits presence (IsWithinLimits Der s depth) t
     meet = subst (PartIsWithinLimits presence (IsWithinLimits Der s depth)) p' m
@@ -153,13 +247,32 @@ set_told (part presence s ps) depth lawful told k c input rs rest os ts bs o h (
     within_limits : AreWithinLimits Der ps depth us
     within_limits = subst (AreWithinLimits Der ps depth) q' ms
 
-    joined : joined_lists bs ++ rest ≡ b ++ (joined_lists cs ++ rest)
-    joined = ap (λ l. joined_lists l ++ rest) f ∙ append_assoc b (joined_lists cs) rest
+    -- The octets of a component are those that are written of its part.
+    same_octets : (o : List ℕ) → IsReadFrom (part presence s ps) depth k c (chosen k t) o → b ≡ o
+    same_octets o r =
+        let z = first_read presence s ps depth k c t o r in
+        append_cancel_right b o r.rest (sym (next_told s depth told.0 presence c r.input t r.rest b r.octets z.1 z.2 write meet) ∙ r.is)
 
-    go : IsSetTold ps depth → OneOf k t rs ⊎ (NoneOf k rs × IsMissing presence t) → input ≡ joined_lists bs ++ rest
-    go more (inl y) =
-        is_next_first presence s ps depth told lawful.4 more k c input rs rest os t us b cs o h y by order write writes meet within_limits ∙ sym joined
-    go more (inr (y, z)) =
-        let r = more (suc k) c input rs rest os us cs o (behind presence s ps depth k c lawful.4 input rs rest os h y) by order writes within_limits in
+    written : (b o : List ℕ) (front back : List (List ℕ)) → b ≡ o → (r : IsReadFrom (part presence s ps) depth k c (chosen k t) o)
+        → ((ds : List Component) → ComponentsOf Der (suc k) (fields_of Der ps) more ds → InReadOrder ps ds (front ++ back))
+        → ComponentsOf Der k (fields_of Der (part presence s ps)) (b ∷ more) cs → InReadOrder (part presence s ps) cs (front ++ (o ∷ back))
+    written [] o front back g r later placed = absurd (begins_some r.tag (subst (λ l. Begins l r.tag) (sym g) r.begins))
+    written (x ∷ b) o front back g r later (n, ds, i, first, placed) =
+        let y : n ≡ r.tag = begins_one o n r.tag (subst (λ l. Begins l n) g first) r.begins in
+        subst (λ l. InReadOrder (part presence s ps) l (front ++ (o ∷ back))) (sym i)
+        (put_in presence s ps lawful.4 (record { tag = n; number = k; octets = x ∷ b }) ds front o back (sym g, subst (λ l. Begins l n) g first)
+        (subst (IsFirst s) (sym y) (first_read presence s ps depth k c t o r).0) (later ds placed))
+
+    go : IsSetTold ps depth → OneOf k t rs ⊎ (NoneOf k rs × IsMissing presence t) → ComponentsOf Der k (fields_of Der (part presence s ps)) (b ∷ more) cs → InReadOrder (part presence s ps) cs os
+    go later (inl o) placed =
+        let h' : Each (IsReadFrom (part presence s ps) depth k c) (o.before ++ (chosen k t ∷ o.after)) os = subst (λ l. Each (IsReadFrom (part presence s ps) depth k c) l os) o.is h in
+        let i = each_at (IsReadFrom (part presence s ps) depth k c) o.before (chosen k t) o.after os h' in
+        let others = o.before ++ o.after in
+        subst (InReadOrder (part presence s ps) cs) (sym i.3)
+        (written b i.1 i.0 i.2 (same_octets i.1 i.4) i.4
+        (λ ds. later (suc k) c others (i.0 ++ i.2) us more ds (behind presence s ps depth k c others (i.0 ++ i.2) i.5 (none_join k o.before o.after o.none_before o.none_after))
+        (by_part_less (presences ps) (suc k) k t o.before o.after us (omega arith) (subst (λ l. ByPart (suc k) (presences ps) l us) o.is by)) writes within_limits) placed)
+    go later (inr (n, z)) placed =
         let a : b ≡ [] = missing_told s depth presence t b z write meet in
-        r ∙ (ap (λ l. l ++ (joined_lists cs ++ rest)) (sym a) ∙ sym joined)
+        read_later presence s ps cs os
+        (later (suc k) c rs os us more cs (behind presence s ps depth k c rs os h n) by writes within_limits (subst (λ l. ComponentsOf Der k (fields_of Der (part presence s ps)) (l ∷ more) cs) a placed))

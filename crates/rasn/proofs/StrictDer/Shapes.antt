@@ -10,7 +10,7 @@ use Rattle.rasn_types.specs.Shapes.Parts.{none}
 use Rattle.rasn_types.specs.Readings.{ReadsContents, definite_form, indefinite_form, Reading, ReadsChoice}
 use Rattle.rasn_types.specs.Contents.{Contents, joined_lists}
 use Rattle.rasn_types.specs.Grammar.{Reads, parts_of, Family, plain_family, bit_family, named_family, text_family, family, ReadsIn, Text}
-use Rattle.rasn_types.specs.Bytes.{DefiniteForm, Each, PartsWritten, Bytes, fields_of}
+use Rattle.rasn_types.specs.Bytes.{DefiniteForm, Each, contents_of, PartsWritten, Bytes, fields_of}
 use Rattle.rasn_types.specs.Carried.{IsWithinLimits, AreWithinLimits, EachOf}
 use Rattle.rasn_types.specs.Lawful.{IsLawful, AreLawfulByTag}
 use Rattle.rasn_types.proofs.Headers.Frames.{frame_next, not_ended}
@@ -19,7 +19,7 @@ use Rattle.rasn_types.proofs.Encoding.Determined.{definite_one, numbers_one}
 use Rattle.rasn.proofs.ReadBack.Shapes.{EachGood, alternatives_good, EachGoodInOrder, in_order_good, by_tag_good}
 use Rattle.rasn.proofs.StrictDer.Leaves.{framed, no_open, leaf_told}
 use Rattle.rasn.proofs.StrictDer.Parts.{IsTold, IsNeverAbsent, Told, EachTold, in_order_told, all_missing_told, choice_decided, many_told}
-use Rattle.rasn.proofs.StrictDer.Set.{set_told}
+use Rattle.rasn.proofs.StrictDer.Set.{each_read, set_told, read_as_written}
 
 -- Contents in a value that is written round them.
 enclosed : {X : Type 0} (tag : Tag) (bit : Bool) → bit ≡ true → (inner : Bool → Reading X) (input : List ℕ) (x : X) (rest c b : List ℕ) → AreOctets input → DefiniteForm tag true c b
@@ -74,14 +74,15 @@ in_seq_told tag ps depth k closing input t rest b o (deep, h) (ts, bs, e, w, d) 
 
 in_set_told : (tag : Tag) (ps : Parts) (depth : ℕ) → AreLawfulByTag ps → EachTold (depth - 1) ps → IsTold (set tag ps) depth
 unfolding Reads parts_of Bytes fields_of IsWithinLimits
-in_set_told tag ps depth lawful k closing input t rest b o (deep, h) (ts, bs, tags, e, w, bare, firsts, order, d) (deep', us, f, m) =
-    enclosed tag true refl _ input t rest (joined_lists bs) b o d (λ contents p r.
+in_set_told tag ps depth lawful k closing input t rest b o (deep, h) (ts, bs, cs, ds, e, w, bare, placed, moved, order, d) (deep', us, f, m) =
+    enclosed tag true refl _ input t rest (contents_of ds) b o d (λ contents p r.
     let vs = r.1 in
     let x : ts ≡ vs = items_one ts vs (sym e ∙ r.2) in
     let y : us ≡ vs = items_one us vs (sym f ∙ r.2) in
-    let f = r.5 tt in
-    set_told ps (depth - 1) lawful k 0 false contents r.0 [] f.0 vs bs p f.1 r.4 f.2
-    (subst (λ l. PartsWritten (fields_of Der ps) l bs) x w) (subst (AreWithinLimits Der ps (depth - 1)) y m)) h
+    let g = r.5 tt in
+    let i = each_read ps (depth - 1) 0 false contents r.0 [] g.0 g.2.0 p g.1 g.2.1 in
+    let j = set_told ps (depth - 1) lawful k 0 false r.0 g.0 vs bs cs i.0 r.4 (subst (λ l. PartsWritten (fields_of Der ps) l bs) x w) (subst (AreWithinLimits Der ps (depth - 1)) y m) placed in
+    i.1 ∙ ap (λ l. l ++ []) (read_as_written ps cs ds g.0 moved order g.2 j)) h
 
 in_list_told : (tag : Tag) (s : Shape) (size : Option (Bound ℕ)) (depth : ℕ) → IsTold s (depth - 2) → IsTold (list tag s size) depth
 unfolding Reads parts_of Bytes fields_of IsWithinLimits

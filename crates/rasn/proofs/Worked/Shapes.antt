@@ -2,13 +2,14 @@
 use Rattle.std.proofs.Common.{◌≡◌, List, [], ◌∷◌, true, false, pos, inl, inr, refl, sym, arith}
 use Rattle.rasn_types.specs.Shapes.{Tree, number, items, set_elements, absent, Same, integer, every, boolean, octet_string}
 use Rattle.rasn_types.specs.Lawful.{IsLawful}
-use Rattle.rasn_types.proofs.Lawful.{lawful, unlawful}
+use Rattle.std.proofs.lemmas.Bool.Decides.{not_from_Decides}
+use Rattle.rasn_types.proofs.Lawful.{lawful, unlawful, listed_decides}
 use Rattle.rasn_types.specs.declared.types.codec.Codec.TheVariants.{Der}
 use Rattle.rasn_types.specs.Readings.{definite_form}
 use Rattle.rasn_types.specs.Grammar.{Reads, parts_of}
 use Rattle.rasn_types.specs.Carried.{IsWithinLimits, Carried}
 use Rattle.rasn_types.proofs.SetOf.Same.{items_one}
-use Rattle.rasn.specs.WorkedShapes.{plain, three_of_set, octets_in_set_of, seven, added_alone, LawfulShapes, CarriedShapes}
+use Rattle.rasn.specs.WorkedShapes.{plain, three_of_set, octets_in_set_of, rising_parts, falling_parts, interleaved_parts, seven, added_alone, LawfulShapes, CarriedShapes}
 use Rattle.rasn.proofs.ReadBack.Headers.{short}
 
 pub integer_lawful : IsLawful (plain (integer every) 2)
@@ -57,8 +58,13 @@ shapes = record {
   other_looked_for = unlawful _ refl;
   one_of_two_integers = unlawful _ refl;
   open_alternative = unlawful _ refl;
-  turned_round = unlawful _ refl;
-  overlapping = unlawful _ refl;
+  turned_round = lawful _ refl;
+  interleaved = lawful _ refl;
+  two_alike_in_set = unlawful _ refl;
+  alternative_in_set = unlawful _ refl;
+  listed_by_tag = (listed_decides rising_parts).0 refl;
+  not_listed_by_tag = not_from_Decides _ (listed_decides falling_parts) refl;
+  interleaved_not_listed = not_from_Decides _ (listed_decides interleaved_parts) refl;
   open_in_set = unlawful _ refl;
   addition_in_set = unlawful _ refl;
   string_as_sequence = unlawful _ refl;

@@ -1,11 +1,11 @@
 -- What is written begins with one of the first tags of its shape; and of these tags one is the least.
-use Rattle.std.proofs.Common.{◌≡◌, ◌≢◌, ℕ, suc, ◌⊎◌, inl, inr, List, [], ◌∷◌, ◌++◌, Bool, true, Option, Some, None, refl, sym, subst, arith, append_assoc}
+use Rattle.std.proofs.Common.{◌≡◌, ◌≢◌, ℕ, suc, ◌⊎◌, inl, inr, List, [], ◌∷◌, ◌++◌, Bool, true, Some, None, refl, subst, arith}
 use Rattle.rasn_types.specs.Tags.{Codec, Ber, Cer, Der, Tag, eoc, IsTagBelow}
 use Rattle.rasn_types.specs.Framing.{Begins}
 use Rattle.rasn_types.specs.Shapes.{Tree, Kind, Shape, leaf, any, prefix, choice, option, seq, set, list, set_of, unknown, Parts, part, IsFirst, IsFirstOf}
 use Rattle.rasn_types.specs.Shapes.Parts.{none}
 use Rattle.rasn_types.specs.Grammar.{Family, plain_family, bit_family, named_family, text_family, family}
-use Rattle.rasn_types.specs.Bytes.{Writing, DefiniteForm, IndefiniteForm, ConstructedEncoding, WritesString, WritesIn, WritesChoice, IsUntaggedOpen, IsUntaggedOpenIn, Bytes, fields_of}
+use Rattle.rasn_types.specs.Bytes.{Writing, DefiniteForm, ConstructedEncoding, WritesString, WritesIn, WritesChoice, IsUntaggedOpen, IsUntaggedOpenIn, Bytes, fields_of}
 use Rattle.rasn_types.specs.LawfulTest.{Firsts, firsts}
 use Rattle.rasn_types.proofs.Lawful.{IsAmong, IsIn, DescribesFirsts, firsts_tell}
 use Rattle.rasn_types.proofs.InOrder.{not_below_itself, below_trans, below_or_same}

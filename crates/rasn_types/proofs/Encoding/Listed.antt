@@ -1,7 +1,6 @@
 -- Parts that are listed in ascending order of their tags are written in this order.
-use Rattle.std.proofs.Common.{◌≡◌, ◌≢◌, ℕ, suc, ◌⊎◌, inl, inr, List, [], ◌∷◌, ◌++◌, refl, sym, ap, ◌∙◌, subst}
+use Rattle.std.proofs.Common.{◌≡◌, ◌≢◌, ℕ, suc, inl, inr, List, [], ◌∷◌, ◌++◌, refl, sym, ap, subst}
 use Rattle.rasn_types.specs.Tags.{Codec, Ber, Cer, Der, Tag, IsTagBelow}
-use Rattle.rasn_types.specs.Framing.{Begins}
 use Rattle.rasn_types.specs.Order.{AreAscending, IsBeforeAll, AreInOrder}
 use Rattle.rasn_types.specs.Shapes.{Tree, Shape, Parts, part, Presence, required, addition, optional_by, default_by, IsFirst, IsFirstOf}
 use Rattle.rasn_types.specs.Shapes.Parts.{none}
@@ -10,7 +9,7 @@ use Rattle.rasn_types.specs.Bytes.{WritesPart, PartsWritten, TagsOf, NoneUntagge
 use Rattle.rasn_types.specs.Lawful.{AreListedByTag}
 use Rattle.rasn_types.proofs.Headers.Frames.{begins_one}
 use Rattle.rasn_types.proofs.InOrder.{not_both_below}
-use Rattle.rasn_types.proofs.Encoding.First.{BeginsWithin, IsLeast, written_first, least_first}
+use Rattle.rasn_types.proofs.Encoding.First.{BeginsWithin, written_first, least_first}
 
 -- The octets of a part that is written.
 part_written : (rule : Codec) (s : Shape) (presence : Presence) (t : Tree) (b : List ℕ) → WritesPart presence (Bytes rule s) t b → b ≢ [] → Bytes rule s t b

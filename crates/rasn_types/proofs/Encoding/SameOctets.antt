@@ -1,11 +1,11 @@
 -- Trees that are the same have the same octets.
 use Rattle.std.proofs.Common.{◌≡◌, ℕ, suc, ◌<◌, ◌⊎◌, ◌≢◌, inl, inr, List, [], ◌∷◌, refl, sym, ap, ap₂, ◌∙◌, subst, arith, IsPermutation, Some, None}
 use Rattle.std.proofs.lemmas.List.Sorted.{IsPermutation-sym}
-use Rattle.rasn_types.specs.Tags.{Codec, Ber, Cer, Der, Tag, IsTagBelow}
+use Rattle.rasn_types.specs.Tags.{Codec, Ber, Cer, Der, Tag}
 use Rattle.rasn_types.specs.Shapes.{Tree, number, bits, numbers, instant, on_day, items, set_elements, chosen, absent, Kind, boolean, null, object_identifier, integer, enumerated, octet_string, fixed, numeric, printable, visible, ia5, any_octets, bmp, utf8, utc_time, generalized_time, date, Shape, leaf, any, prefix, choice, option, seq, set, list, set_of, unknown, Parts, part, Presence, required, optional, addition, optional_by, default_by}
 use Rattle.rasn_types.specs.Contents.{Contents, joined_lists}
 use Rattle.rasn_types.specs.Grammar.{Family, plain_family, bit_family, named_family, text_family, family}
-use Rattle.rasn_types.specs.Bytes.{Same, Each, ConstructedEncoding, WritesIn, WritesText, WritesPart, PartsWritten, WritesChoice, AreAscending, IsLess, Field, Component, IsPlacedBy, ComponentsOf, ComesBefore, contents_of, AreInOrder, IsReordered, Bytes, fields_of}
+use Rattle.rasn_types.specs.Bytes.{Same, Each, ConstructedEncoding, WritesIn, WritesText, WritesPart, PartsWritten, WritesChoice, AreAscending, IsLess, Field, Component, IsPlacedBy, ComponentsOf, contents_of, IsReordered, Bytes, fields_of}
 use Rattle.rasn_types.proofs.SetOf.Same.{items_one, same_sym, same_trans, same_each, each_moved}
 use Rattle.rasn_types.proofs.Encoding.Determined.{numbers_one, cons_one, in_once}
 use Rattle.rasn_types.proofs.SetOf.OneOrder.{ordered_one}
