@@ -8,7 +8,7 @@ use Rattle.rasn_types.specs.declared.error.encode.EncodeError.{EncodeError}
 use Rattle.rasn_types.specs.Errors.{IsEncodeOutOfMemory}
 use Rattle.rasn_types.specs.Shapes.{Tree, Shape, leaf, any, prefix, choice, option, seq, set, list, set_of, unknown}
 use Rattle.rasn_types.specs.Contents.{joined_lists}
-use Rattle.rasn_types.specs.Bytes.{Bytes, IsUntaggedOpen, ConstructedEncoding}
+use Rattle.rasn_types.specs.Bytes.{Bytes, IsUntaggedOpen, ConstructedEncoding, contents_of}
 use Rattle.rasn_enc.specs.View.{View, IsBelow, opened}
 use Rattle.rasn_enc.specs.Primitive.{Appends, IsAllocError}
 use Rattle.rasn_enc.specs.Encoding.{AppendsEncoding, EncodeFails}
@@ -24,7 +24,7 @@ module _ (rule : Codec) (t : Tree) (u : Tag) (keeps : Bool) where
   bytes_of (choice ps) i c o w d = absurd i
   bytes_of (option tag s) i c o w d = absurd i
   bytes_of (seq tag ps) (e, k) c o (ts, bs, f, p, j) d = (ts, bs, f, p, subst (λ z. ConstructedEncoding rule z (joined_lists bs) o) e (subst (λ z. ConstructedEncoding rule u z o) j d))
-  bytes_of (set tag ps) (e, k) c o (ts, bs, tags, f, p, n, h, a, j) d = (ts, bs, tags, f, p, n, h, a, subst (λ z. ConstructedEncoding rule z (joined_lists bs) o) e (subst (λ z. ConstructedEncoding rule u z o) j d))
+  bytes_of (set tag ps) (e, k) c o (ts, bs, cs, ds, f, p, n, m, q, a, j) d = (ts, bs, cs, ds, f, p, n, m, q, a, subst (λ z. ConstructedEncoding rule z (contents_of ds) o) e (subst (λ z. ConstructedEncoding rule u z o) j d))
   bytes_of (list tag s size) (e, k) c o (ts, bs, f, m, p, j) d = (ts, bs, f, m, p, subst (λ z. ConstructedEncoding rule z (joined_lists bs) o) e (subst (λ z. ConstructedEncoding rule u z o) j d))
   bytes_of (set_of tag s size) (e, k) c o (ts, bs, f, m, p, a, j) d = (ts, bs, f, m, p, a, subst (λ z. ConstructedEncoding rule z (joined_lists bs) o) e (subst (λ z. ConstructedEncoding rule u z o) j d))
   bytes_of unknown i c o w d = absurd i
@@ -37,7 +37,7 @@ module _ (rule : Codec) (t : Tree) (u : Tag) (keeps : Bool) where
   inside_of (choice ps) i o b = absurd i
   inside_of (option tag s) i o b = absurd i
   inside_of (seq tag ps) i o (ts, bs, f, p, d) = (joined_lists bs, (ts, bs, f, p, refl))
-  inside_of (set tag ps) i o (ts, bs, tags, f, p, n, h, a, d) = (joined_lists bs, (ts, bs, tags, f, p, n, h, a, refl))
+  inside_of (set tag ps) i o (ts, bs, cs, ds, f, p, n, m, q, a, d) = (contents_of ds, (ts, bs, cs, ds, f, p, n, m, q, a, refl))
   inside_of (list tag s size) i o (ts, bs, f, m, p, d) = (joined_lists bs, (ts, bs, f, m, p, refl))
   inside_of (set_of tag s size) i o (ts, bs, f, m, p, a, d) = (joined_lists bs, (ts, bs, f, m, p, a, refl))
   inside_of unknown i o b = absurd i

@@ -7,7 +7,6 @@ use Rattle.rasn_types.specs.declared.types.codec.Codec.{Codec}
 use Rattle.rasn_types.specs.declared.types.tag.Tag.{Tag}
 use Rattle.rasn_types.specs.declared.error.decode.DecodeError.{DecodeError}
 use Rattle.rasn_types.specs.Errors.{IsOutOfMemory}
-use Rattle.rasn_types.specs.Tags.{IsTagBelow}
 use Rattle.rasn_types.specs.Shapes.{Tree, items, absent, Shape, Parts, part, presences, own_tag, Presence, required, IsFirst, IsFirstOf}
 use Rattle.rasn_types.specs.Readings.{IsMissing, AllMissing}
 use Rattle.rasn_types.specs.Lawful.{IsLawful, AreDistinguished, AreLawfulByTag}
@@ -61,14 +60,10 @@ part_lawful f [] k p h e = cc
 part_lawful f (q ∷ ps) zero p h e = let same : q ≡ p = cc in subst (λ (x : Component). IsLawful (f x.type_id.0)) same h.3
 part_lawful f (q ∷ ps) (suc k) p h e = part_lawful f ps k p h.5 e
 
-not_below_itself : (n : Tag) → IsTagBelow n n → ⊥
-not_below_itself n (inl h) = omega arith
-not_below_itself n (inr h) = omega (arith, h.1)
-
 pub by_tag_distinguished : (ps : Parts) → AreLawfulByTag ps → AreDistinguished ps
 unfolding IsLawful
 by_tag_distinguished Rattle.rasn_types.specs.Shapes.Parts.none h = tt
-by_tag_distinguished (part presence s ps) h = ((λ n p q. not_below_itself n (h.4 n n p q)), by_tag_distinguished ps h.5)
+by_tag_distinguished (part presence s ps) h = (h.4, by_tag_distinguished ps h.5)
 
 -- ---- what was read
 

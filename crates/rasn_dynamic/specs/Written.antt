@@ -4,10 +4,9 @@ use Rattle.rasn_types.specs.declared.types.codec.Codec.{Codec}
 use Rattle.rasn_types.specs.declared.types.tag.Tag.{Tag}
 use Rattle.rasn_types.specs.declared.error.encode.EncodeError.{EncodeError}
 use Rattle.rasn_types.specs.Errors.{IsEncodeOutOfMemory}
-use Rattle.rasn_types.specs.Tags.{IsTagBelow}
 use Rattle.rasn_types.specs.Contents.{joined_lists}
 use Rattle.rasn_types.specs.Shapes.{Tree, items, set_elements, Presence, required, Shape, leaf, any, prefix, choice, option, seq, set, list, set_of, unknown, Parts, Admits}
-use Rattle.rasn_types.specs.Bytes.{Bytes, fields_of, PartsWritten, NoneUntaggedOpen, TagsOf, Each, AreAscending, IsLess}
+use Rattle.rasn_types.specs.Bytes.{Bytes, fields_of, PartsWritten, NoneUntaggedOpen, Component, ComponentsOf, IsReordered, AreInOrder, ComesBefore, contents_of, Each, AreAscending, IsLess}
 use Rattle.rasn_enc.specs.View.{View, LeavesOthers}
 use Rattle.rasn_enc.specs.Encoding.{AppendsPart, EncodePartFails}
 use Rattle.rasn_enc.specs.Sequence.{EncodesParts}
@@ -20,8 +19,8 @@ WritesInside rule (prefix tag s) t c = Bytes rule s t c
 WritesInside rule (choice ps) t c = ⊥
 WritesInside rule (option tag s) t c = ⊥
 WritesInside rule (seq tag ps) t c = (ts : List Tree) × (bs : List (List ℕ)) × (t ≡ items ts) × PartsWritten (fields_of rule ps) ts bs × (c ≡ joined_lists bs)
-WritesInside rule (set tag ps) t c = (ts : List Tree) × (bs : List (List ℕ)) × (tags : List Tag) × (t ≡ items ts) × PartsWritten (fields_of rule ps) ts bs
-    × NoneUntaggedOpen (fields_of rule ps) ts bs × TagsOf bs tags × AreAscending IsTagBelow tags × (c ≡ joined_lists bs)
+WritesInside rule (set tag ps) t c = (ts : List Tree) × (bs : List (List ℕ)) × (cs : List Component) × (ds : List Component) × (t ≡ items ts) × PartsWritten (fields_of rule ps) ts bs
+    × NoneUntaggedOpen (fields_of rule ps) ts bs × ComponentsOf rule 0 (fields_of rule ps) bs cs × IsReordered cs ds × AreInOrder ComesBefore ds × (c ≡ contents_of ds)
 WritesInside rule (list tag s size) t c = (ts : List Tree) × (bs : List (List ℕ)) × (t ≡ items ts) × Admits ◌≤◌ size (length ts) × Each (Bytes rule s) ts bs × (c ≡ joined_lists bs)
 WritesInside rule unknown t c = ⊥
 WritesInside rule (set_of tag s size) t c = (ts : List Tree) × (bs : List (List ℕ)) × (t ≡ set_elements (items ts)) × Admits ◌≤◌ size (length ts) × Each (Bytes rule s) ts bs

@@ -2,17 +2,17 @@
 use Rattle.std.proofs.Common.{◌≡◌, ◌≢◌, inr, ℕ, zero, suc, Bool, true, false, List, [], ◌∷◌, Option, Some, None, refl, sym, ◌∙◌, subst, true≢false}
 use Rattle.std.specs.Prelude.{slice_get}
 use Rattle.rasn_types.specs.declared.types.tag.Tag.{Tag}
-use Rattle.rasn_types.specs.Tags.{eoc, is_eoc, IsTagBelow}
-use Rattle.rasn_types.specs.Shapes.{Shape, any, choice, own, looked_for, IsFirstOf, IsAlwaysPresent, AreAlwaysPresent, addition}
+use Rattle.rasn_types.specs.Tags.{eoc, is_eoc}
+use Rattle.rasn_types.specs.Shapes.{Shape, any, choice, own, looked_for, IsFirst, IsFirstOf, IsAlwaysPresent, AreAlwaysPresent, addition}
 use Rattle.rasn_types.specs.Shapes.Parts.{none}
-use Rattle.rasn_types.specs.Lawful.{IsLawful, HasTag, MayBeLeftOut, AreLawfulInOrder, AreLawfulByTag}
+use Rattle.rasn_types.specs.Lawful.{AreDisjoint, IsLawful, HasTag, MayBeLeftOut, AreLawfulInOrder, AreLawfulByTag}
 use Rattle.rasn_types.specs.Truth.{IsWhether}
 use Rattle.rasn_schema.specs.declared.types.«Type».{«Type»}
 use Rattle.rasn_schema.specs.declared.types.«Type».TheVariants.{Leaf, Enumerated, Any, Tagged, Choice, Sequence, Set, SequenceOf, SetOf}
 use Rattle.rasn_schema.specs.declared.types.Component.{Component}
 use Rattle.rasn_schema.specs.declared.types.Alternative.{Alternative}
 use Rattle.rasn_schema.specs.Shapes.{nothing, found_by, type_by, alternatives_by, components_by, key_of, presence_by, tag_at, shape_of_type}
-use Rattle.rasn_schema.specs.FirstTags.{EachFirst, EachFirstOf}
+use Rattle.rasn_schema.specs.FirstTags.{EachFirst}
 use Rattle.rasn_schema.proofs.TypeShapes.{not_eoc}
 
 -- ---- values are always present
@@ -136,15 +136,15 @@ module _ (f : ℕ → Shape) where
 
   abbrev pub OneByTag : Component → List Component → Type 0
   OneByTag p ps = (presence_by (key_of (f p.type_id.0)) p.presence ≢ addition) × HasTag (f p.type_id.0) × IsAlwaysPresent (f p.type_id.0) × IsLawful (f p.type_id.0)
-      × EachFirst (f p.type_id.0) (λ m. EachFirstOf (components_by f ps) (λ n. IsTagBelow m n))
+      × AreDisjoint (IsFirst (f p.type_id.0)) (IsFirstOf (components_by f ps))
 
   pub cut_by_tag : (p : Component) (ps : List Component) → ByTag (p ∷ ps) → OneByTag p ps × ByTag ps
   unfolding IsLawful
-  cut_by_tag p ps h = ((h.0, h.1, h.2, h.3, λ m a n b. h.4 m n a b), h.5)
+  cut_by_tag p ps h = ((h.0, h.1, h.2, h.3, h.4), h.5)
 
   pub put_by_tag : (p : Component) (ps : List Component) → OneByTag p ps → ByTag ps → ByTag (p ∷ ps)
   unfolding IsLawful
-  put_by_tag p ps o h = (o.0, o.1, o.2, o.3, (λ m n a b. o.4 m a n b), h)
+  put_by_tag p ps o h = (o.0, o.1, o.2, o.3, o.4, h)
 
   pub none_by_tag : ByTag []
   unfolding IsLawful

@@ -1,9 +1,9 @@
 -- A schema is lawful as deep as it is read.
-use Rattle.std.proofs.Common.{◌≡◌, ◌≢◌, ◌∙◌, ℕ, zero, suc, ◌<◌, ◌≤◌, inl, inr, Bool, true, false, List, [], ◌∷◌, length, Option, Some, None, refl, sym, subst, arith}
+use Rattle.std.proofs.Common.{◌≡◌, ◌∙◌, ℕ, zero, suc, ◌<◌, ◌≤◌, inl, inr, Bool, true, false, List, [], ◌∷◌, length, Option, Some, None, refl, sym, subst, arith}
 use Rattle.std.specs.Prelude.{slice_get}
 use Rattle.std.proofs.lemmas.Option.{slice_get_within}
 use Rattle.rasn_types.specs.declared.types.tag.Tag.{Tag}
-use Rattle.rasn_types.specs.Tags.{eoc, is_eoc, IsTagBelow}
+use Rattle.rasn_types.specs.Tags.{eoc, is_eoc}
 use Rattle.rasn_types.specs.Shapes.Parts.{none}
 use Rattle.rasn_types.specs.Shapes.{Shape, leaf, any, prefix, choice, option, seq, set, list, set_of, unknown, part, own, looked_for, IsTagOf, IsFirst, IsFirstOf, Key, own_tag, first_tags, Presence, required, addition, optional_by, default_by}
 use Rattle.rasn_types.specs.Lawful.{IsLawful, HasTag, IsFirstBehind, MayBeLeftOut, IsDistinguished, IsRecognized, AreLawfulInOrder, AreLawfulByTag}
@@ -14,10 +14,11 @@ use Rattle.rasn_schema.specs.declared.types.Presence.{Presence as ComponentPrese
 use Rattle.rasn_schema.specs.declared.types.Presence.TheVariants.{Required, Optional, Addition, Default}
 use Rattle.rasn_schema.specs.declared.types.Alternative.{Alternative}
 use Rattle.rasn_schema.specs.Shapes.{nothing, found_by, type_by, alternatives_by, components_by, key_of, presence_by, presence_of, tag_at, tag_found, shape_of_type}
-use Rattle.rasn_schema.specs.FirstTags.{EachFirst, EachFirstOf, IsAlwaysThere}
+use Rattle.rasn_schema.specs.FirstTags.{IsAlwaysThere}
 use Rattle.rasn_schema.specs.Schemas.{AreLowerAndTagged, AreDistinctAlternatives, MayFollow, IsToldFrom, AreToldInOrder, AreTagged, AreInOrderOfTags, IsWellFormed, IsSchema, own_at, begin_at}
 use Rattle.rasn_schema.proofs.Presences.{always_by, no_addition_by}
 use Rattle.rasn_schema.proofs.TypeShapes.{looked, own_is}
+use Rattle.rasn_schema.proofs.Firsts.{not_below}
 use Rattle.rasn_schema.proofs.LawfulTypes.{is_present, cut_lawful, none_lawful, open_lawful, put_alternative, put_in_order, put_by_tag, none_in_order, none_by_tag}
 
 -- ---- how a type begins at one depth, and at another
@@ -155,10 +156,10 @@ module _ (f : ℕ → Shape) where
   none_begins n (k ∷ ks) h (inl a) = h 0 k refl a
   none_begins n (k ∷ ks) h (inr a) = none_begins n ks (λ j l e. h (suc j) l e) a
 
-  each_begins : (Q : Tag → Type 0) (ps : List Component) → ((j : ℕ) (q : Component) → Some q ≡ slice_get ps j → EachFirst (f q.type_id.0) Q) → EachFirstOf (components_by f ps) Q
-  each_begins Q [] h n a = absurd a
-  each_begins Q (p ∷ ps) h n (inl a) = h 0 p refl n a
-  each_begins Q (p ∷ ps) h n (inr a) = each_begins Q ps (λ j q e. h (suc j) q e) n a
+  none_among : (n : Tag) (ps : List Component) → ((j : ℕ) (q : Component) → Some q ≡ slice_get ps j → IsFirst (f q.type_id.0) n → ⊥) → IsFirstOf (components_by f ps) n → ⊥
+  none_among n [] h a = a
+  none_among n (p ∷ ps) h (inl a) = h 0 p refl a
+  none_among n (p ∷ ps) h (inr a) = none_among n ps (λ j q e. h (suc j) q e) a
 
   none_behind : (tag : Tag) (ps : List Component)
       → ((j : ℕ) (q : Component) → Some q ≡ slice_get ps j → ((m : ℕ) (p : Component) → m < j → Some p ≡ slice_get ps m → IsAlwaysThere (presence_of p.presence) → ⊥) → IsFirst (f q.type_id.0) tag → ⊥)
@@ -299,7 +300,7 @@ module _ (types : List «Type») (i : ℕ) (w : IsSchema types) (lawful : (k : �
     has_tag_at types i p.type_id.0 (t 0 p refl).1,
     is_present types i p.type_id.0,
     lawful p.type_id.0,
-    λ m a. each_begins (shape_of_type types i) (IsTagBelow m) ps (λ j q e n b. d 0 (suc j) p q (omega arith) refl e m (firsts m p.type_id.0 a) n (firsts n q.type_id.0 b)),
+    λ n a. none_among (shape_of_type types i) n ps (λ j q e b. not_below n (d 0 (suc j) p q (omega arith) refl e n (firsts n p.type_id.0 a) n (firsts n q.type_id.0 b))),
   )
       (by_tag_lawful ps (λ j q e. t (suc j) q e) (λ j m q r l e g. d (suc j) (suc m) q r (omega (arith, l)) e g))
 
