@@ -7,7 +7,7 @@ use Rattle.rasn_types.specs.Calendar.{Day, IsDay, Moment, IsMoment}
 use Rattle.rasn_types.specs.Time.{written_date, written_generalized, written_utc}
 pub use Rattle.rasn_types.specs.Order.{Each, IsLess, AreAscending, IsBeforeAll, AreInOrder, IsReordered}
 pub use Rattle.rasn_types.specs.Shapes.{Same}
-use Rattle.rasn_types.specs.Shapes.{Tree, bits, numbers, instant, on_day, items, set_elements, chosen, absent, Kind, utc_time, generalized_time, date, Bound, Admits, Shape, leaf, any, prefix, choice, option, seq, set, list, set_of, unknown, Parts, part, Presence, required, addition, optional_by, default_by, IsFirst}
+use Rattle.rasn_types.specs.Shapes.{Tree, bits, numbers, instant, on_day, items, set_elements, chosen, absent, Kind, utc_time, generalized_time, date, Bound, Admits, Shape, leaf, any, prefix, choice, open_choice, option, seq, set, list, set_of, unknown, Parts, part, count, Presence, required, addition, optional_by, default_by, IsFirst}
 use Rattle.rasn_types.specs.Shapes.Parts.{none}
 pub use Rattle.rasn_types.specs.Contents.{AllFalse}
 use Rattle.rasn_types.specs.Contents.{IsShortest, Contents, BitSegment, joined_lists}
@@ -164,6 +164,19 @@ abbrev pub WritesSet : Codec → Tag → List Field → Writing Tree
 WritesSet rule tag fs t b = (ts : List Tree) × (bs : List (List ℕ)) × (cs : List Component) × (ds : List Component) × (t ≡ items ts) × PartsWritten fs ts bs
     × NoneUntaggedOpen fs ts bs × ComponentsOf rule 0 fs bs cs × IsReordered cs ds × AreInOrder ComesBefore ds × ConstructedEncoding rule tag (contents_of ds) b
 
+-- Unknown values as components; the first has the number k. Their types aren't known, so each is ordered by its own tag.
+abbrev pub UnknownComponents : ℕ → List (List ℕ) → List Component → Type 0
+UnknownComponents k [] cs = cs ≡ []
+UnknownComponents k (b ∷ bs) cs = (tag : Tag) × (more : List Component) × (cs ≡ record { tag = tag; number = k; octets = b } ∷ more) × Begins b tag × UnknownComponents (suc k) bs more
+
+-- The same of a SET with an extension marker. Unknown values are written where their tags belong; among themselves they
+-- have to be in order.
+abbrev pub WritesOpenSet : Codec → Tag → List Field → Writing Tree
+WritesOpenSet rule tag fs t b = (ts : List Tree) × (us : List Tree) × (bs : List (List ℕ)) × (ls : List (List ℕ)) × (cs : List Component) × (es : List Component) × (ds : List Component)
+    × (t ≡ items (ts ++ (items us ∷ []))) × PartsWritten fs ts bs × NoneUntaggedOpen fs ts bs × ComponentsOf rule 0 fs bs cs
+    × Each (λ u c. u ≡ numbers c) us ls × UnknownComponents (length fs) ls es × AreInOrder ComesBefore es
+    × IsReordered (cs ++ es) ds × AreInOrder ComesBefore ds × ConstructedEncoding rule tag (contents_of ds) b
+
 abbrev pub WritesList : Codec → Tag → Option (Bound ℕ) → Writing Tree → Writing Tree
 WritesList rule tag size writes t b = (ts : List Tree) × (bs : List (List ℕ)) × (t ≡ items ts) × Admits ◌≤◌ size (length ts)
     × Each writes ts bs × ConstructedEncoding rule tag (joined_lists bs) b
@@ -184,6 +197,7 @@ unfoldable mutual
   IsUntaggedOpen (any (Some tag)) t = ⊥
   IsUntaggedOpen (prefix tag s) t = ⊥
   IsUntaggedOpen (choice ps) t = IsUntaggedOpenIn 0 ps t
+  IsUntaggedOpen (open_choice ps) t = IsUntaggedOpenIn 0 ps t ⊎ ((u : Tree) × (t ≡ chosen (count ps) u))
   IsUntaggedOpen (option tag s) t = IsUntaggedOpen s t
   IsUntaggedOpen (seq tag ps) t = ⊥
   IsUntaggedOpen (set tag ps) t = ⊥
@@ -204,6 +218,7 @@ unfoldable mutual
       × (((octets ≡ []) × (b ≡ [])) ⊎ ((octets ≢ []) × ConstructedEncoding rule tag octets b))
   Bytes rule (prefix tag s) = λ t b. (inner : List ℕ) × Bytes rule s t inner × ConstructedEncoding rule tag inner b
   Bytes rule (choice ps) = WritesChoice 0 (fields_of rule ps)
+  Bytes rule (open_choice ps) = λ t b. WritesChoice 0 (fields_of rule ps) t b ⊎ (t ≡ chosen (count ps) (numbers b))
   Bytes rule (option tag s) = λ t b. ((t ≡ absent) × (b ≡ [])) ⊎ ((t ≢ absent) × Bytes rule s t b)
   Bytes rule (seq tag ps) = WritesSeq rule tag (fields_of rule ps)
   Bytes rule (set tag ps) = WritesSet rule tag (fields_of rule ps)

@@ -1,5 +1,5 @@
 -- How readings are combined. A reading relates an input to the value at its front, and to the rest.
-use Rattle.std.specs.Prelude.{◌≡◌, ℕ, suc, ◌⊎◌, ◌≢◌, List, [], ◌∷◌, ◌++◌, Bool, true, false, Option, Some, None}
+use Rattle.std.specs.Prelude.{◌≡◌, ℕ, suc, ◌⊎◌, ◌≢◌, List, [], ◌∷◌, ◌++◌, length, Bool, true, false, Option, Some, None}
 use Rattle.rasn_types.specs.Tags.{Form, form, IsStrict, Codec, Tag, IsTagBelow}
 use Rattle.rasn_types.specs.Framing.{Frame, definite, indefinite, Begins, NextTag, Ended}
 use Rattle.rasn_types.specs.Shapes.{Tree, items, chosen, absent, Same, Presence, required, addition, optional_by, default_by, Sought, one_tag, any_of}
@@ -128,8 +128,24 @@ ByPart k (p ∷ ps) readings ts = (t : Tree) × (us : List Tree) × (ts ≡ t �
 abbrev pub AreInTagOrder : List (List ℕ) → Type 0
 AreInTagOrder bs = (tags : List Tag) × Each Begins bs tags × AreAscending IsTagBelow tags
 
+-- An unknown value, by a reading of any value: P holds of the first tags of the k parts, and not of its tag.
+abbrev pub ReadsUnknown : Codec → (Tag → Type 0) → ℕ → Reading Tree → Reading Tree
+ReadsUnknown rule P k reads input t rest = (u : Tree) × (t ≡ chosen k u) × (next : Tag) × NextTag (form rule) input next × (P next → ⊥) × reads input u rest
+
+-- The trees of the readings of part k, in their order.
+abbrev pub AllOf : ℕ → List Tree → List Tree → Type 0
+AllOf k [] us = us ≡ []
+AllOf k (r ∷ rs) us = ((u : Tree) × (more : List Tree) × (r ≡ chosen k u) × (us ≡ u ∷ more) × AllOf k rs more) ⊎ (((u : Tree) → r ≢ chosen k u) × AllOf k rs us)
+
 -- The contents of a SET whose parts have these presences: components, each of which is read as one of the parts.
 abbrev pub ReadsSet : Codec → List Presence → Reading Tree → Bool → Reading Tree
 ReadsSet rule ps reads closing input t rest = (readings : List Tree) × (ts : List Tree) × (t ≡ items ts)
     × ReadsMany reads closing input readings rest × ByPart 0 ps readings ts
+    × (IsStrict rule → (bs : List (List ℕ)) × ReadsFrom reads input readings rest bs × AreInTagOrder bs)
+
+-- The same of a SET with an extension marker, some of whose components are unknown, anywhere among the others. Their
+-- trees are the last, in the order in which they are read.
+abbrev pub ReadsOpenSet : Codec → List Presence → Reading Tree → Bool → Reading Tree
+ReadsOpenSet rule ps reads closing input t rest = (readings : List Tree) × (ts : List Tree) × (us : List Tree) × (t ≡ items (ts ++ (items us ∷ [])))
+    × ReadsMany reads closing input readings rest × ByPart 0 ps readings ts × AllOf (length ps) readings us
     × (IsStrict rule → (bs : List (List ℕ)) × ReadsFrom reads input readings rest bs × AreInTagOrder bs)

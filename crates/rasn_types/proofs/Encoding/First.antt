@@ -1,11 +1,11 @@
 -- What is written begins with one of the first tags of its shape; and of these tags one is the least.
-use Rattle.std.proofs.Common.{◌≡◌, ◌≢◌, ℕ, suc, ◌⊎◌, inl, inr, List, [], ◌∷◌, ◌++◌, Bool, true, Some, None, refl, subst, arith}
+use Rattle.std.proofs.Common.{◌≡◌, ◌≢◌, ℕ, suc, ◌⊎◌, inl, inr, List, [], ◌∷◌, ◌++◌, Bool, true, Option, Some, None, refl, sym, subst, arith, append_assoc}
 use Rattle.rasn_types.specs.Tags.{Codec, Ber, Cer, Der, Tag, eoc, IsTagBelow}
 use Rattle.rasn_types.specs.Framing.{Begins}
-use Rattle.rasn_types.specs.Shapes.{Tree, Kind, Shape, leaf, any, prefix, choice, option, seq, set, list, set_of, unknown, Parts, part, IsFirst, IsFirstOf}
+use Rattle.rasn_types.specs.Shapes.{Tree, numbers, Kind, Shape, leaf, any, prefix, choice, open_choice, option, seq, set, list, set_of, unknown, Parts, part, count, IsFirst, IsFirstOf}
 use Rattle.rasn_types.specs.Shapes.Parts.{none}
 use Rattle.rasn_types.specs.Grammar.{Family, plain_family, bit_family, named_family, text_family, family}
-use Rattle.rasn_types.specs.Bytes.{Writing, DefiniteForm, ConstructedEncoding, WritesString, WritesIn, WritesChoice, IsUntaggedOpen, IsUntaggedOpenIn, Bytes, fields_of}
+use Rattle.rasn_types.specs.Bytes.{Writing, DefiniteForm, IndefiniteForm, ConstructedEncoding, WritesString, WritesIn, WritesChoice, IsUntaggedOpen, IsUntaggedOpenIn, Bytes, fields_of}
 use Rattle.rasn_types.specs.LawfulTest.{Firsts, firsts}
 use Rattle.rasn_types.proofs.Lawful.{IsAmong, IsIn, DescribesFirsts, firsts_tell}
 use Rattle.rasn_types.proofs.InOrder.{not_below_itself, below_trans, below_or_same}
@@ -42,6 +42,8 @@ mutual
   written_first (any (Some tag)) rule t b (octets, e, inr h) bare some = (tag, constructed_begins rule tag octets b h.1, refl)
   written_first (prefix tag s) rule t b (inner, w, d) bare some = (tag, constructed_begins rule tag inner b d, refl)
   written_first (choice ps) rule t b w bare some = chosen_first ps rule 0 t b w bare some
+  written_first (open_choice ps) rule t b (inl w) bare some = let r = chosen_first ps rule 0 t b w (λ h. bare (inl h)) some in (r.0, r.1, tt)
+  written_first (open_choice ps) rule t b (inr w) bare some = absurd (bare (inr (numbers b, w)))
   written_first (option tag s) rule t b (inl h) bare some = absurd (some h.1)
   written_first (option tag s) rule t b (inr h) bare some = written_first s rule t b h.1 bare some
   written_first (seq tag ps) rule t b (ts, bs, e, w, d) bare some = (tag, constructed_begins rule tag _ b d, refl)

@@ -1,11 +1,11 @@
 -- Trees that are the same have the same octets.
-use Rattle.std.proofs.Common.{◌≡◌, ℕ, suc, ◌<◌, ◌⊎◌, ◌≢◌, inl, inr, List, [], ◌∷◌, refl, sym, ap, ap₂, ◌∙◌, subst, arith, IsPermutation, Some, None}
+use Rattle.std.proofs.Common.{◌≡◌, ℕ, suc, ◌<◌, ◌⊎◌, ◌≢◌, inl, inr, List, [], ◌∷◌, ◌++◌, ◌+◌, refl, sym, ap, ap₂, ◌∙◌, subst, arith, IsPermutation, Some, None}
 use Rattle.std.proofs.lemmas.List.Sorted.{IsPermutation-sym}
-use Rattle.rasn_types.specs.Tags.{Codec, Ber, Cer, Der, Tag}
-use Rattle.rasn_types.specs.Shapes.{Tree, number, bits, numbers, instant, on_day, items, set_elements, chosen, absent, Kind, boolean, null, object_identifier, integer, enumerated, octet_string, fixed, numeric, printable, visible, ia5, any_octets, bmp, utf8, utc_time, generalized_time, date, Shape, leaf, any, prefix, choice, option, seq, set, list, set_of, unknown, Parts, part, Presence, required, optional, addition, optional_by, default_by}
+use Rattle.rasn_types.specs.Tags.{Codec, Ber, Cer, Der, Tag, IsTagBelow}
+use Rattle.rasn_types.specs.Shapes.{Tree, number, bits, numbers, instant, on_day, items, set_elements, chosen, absent, Kind, boolean, null, object_identifier, integer, enumerated, octet_string, fixed, numeric, printable, visible, ia5, any_octets, bmp, utf8, utc_time, generalized_time, date, Shape, leaf, any, prefix, choice, open_choice, option, seq, set, list, set_of, unknown, Parts, part, count, Presence, required, optional, addition, optional_by, default_by}
 use Rattle.rasn_types.specs.Contents.{Contents, joined_lists}
 use Rattle.rasn_types.specs.Grammar.{Family, plain_family, bit_family, named_family, text_family, family}
-use Rattle.rasn_types.specs.Bytes.{Same, Each, ConstructedEncoding, WritesIn, WritesText, WritesPart, PartsWritten, WritesChoice, AreAscending, IsLess, Field, Component, IsPlacedBy, ComponentsOf, contents_of, IsReordered, Bytes, fields_of}
+use Rattle.rasn_types.specs.Bytes.{Same, Each, ConstructedEncoding, WritesIn, WritesText, WritesPart, PartsWritten, WritesChoice, AreAscending, IsLess, Field, Component, IsPlacedBy, ComponentsOf, UnknownComponents, ComesBefore, contents_of, AreInOrder, IsReordered, Bytes, fields_of}
 use Rattle.rasn_types.proofs.SetOf.Same.{items_one, same_sym, same_trans, same_each, each_moved}
 use Rattle.rasn_types.proofs.Encoding.Determined.{numbers_one, cons_one, in_once}
 use Rattle.rasn_types.proofs.SetOf.OneOrder.{ordered_one}
@@ -187,6 +187,57 @@ components_once rule k (f ∷ fs) ([] ∷ bs) cs ds h i = components_once rule (
 components_once rule k (f ∷ fs) ((o ∷ b) ∷ bs) cs ds (s, more, e, p, h) (t, others, g, q, i) =
     e ∙ (ap₂ (λ n l. record { tag = n; number = k; octets = o ∷ b } ∷ l) (place_once rule f.IsFirst (o ∷ b) s t p q) (components_once rule (suc k) fs bs more others h i) ∙ sym g)
 
+-- ---- values with an extension marker
+
+-- The alternative that is written is one of the parts.
+pub written_below : (rule : Codec) (ps : Parts) (k : ℕ) (t : Tree) (b : List ℕ) → WritesChoice k (fields_of rule ps) t b → (j : ℕ) × (u : Tree) × (t ≡ chosen j u) × (j < k + count ps)
+unfolding Bytes fields_of
+written_below rule Parts.none k t b h = absurd h
+written_below rule (part presence s ps) k t b (inl (u, e, w)) = (k, u, e, omega arith)
+written_below rule (part presence s ps) k t b (inr h) = let r = written_below rule ps (suc k) t b h in (r.0, r.1, r.2, omega (arith, r.3))
+
+not_both : (rule : Codec) (ps : Parts) (t u : Tree) (a b : List ℕ) → Same t u → WritesChoice 0 (fields_of rule ps) t a → u ≡ chosen (count ps) (numbers b) → ⊥
+not_both rule ps t u a b same h i =
+    let r = written_below rule ps 0 t a h in
+    let s : Same (chosen r.0 r.1) u = subst (λ z. Same z u) r.2 same in
+    let f = s.1 in
+    let e : r.0 ≡ count ps = cc in
+    omega (arith, r.3, e)
+
+open_choice_once : (rule : Codec) (ps : Parts) → EachOnce rule ps → (t u : Tree) (a b : List ℕ) → Same t u
+    → WritesChoice 0 (fields_of rule ps) t a ⊎ (t ≡ chosen (count ps) (numbers a)) → WritesChoice 0 (fields_of rule ps) u b ⊎ (u ≡ chosen (count ps) (numbers b)) → a ≡ b
+open_choice_once rule ps once t u a b same (inl h) (inl i) = choice_once rule ps once 0 t u a b same h i
+open_choice_once rule ps once t u a b same (inl h) (inr i) = absurd (not_both rule ps t u a b same h i)
+open_choice_once rule ps once t u a b same (inr h) (inl i) = absurd (not_both rule ps u t b a (same_sym t u same) i h)
+open_choice_once rule ps once t u a b same (inr h) (inr i) = go (subst (λ z. Same z u) h same)
+  where
+    go : Same (chosen (count ps) (numbers a)) u → a ≡ b
+    go (v, e, s) = let f : v ≡ numbers b = cc in numbers_one a b (sym s ∙ f)
+
+-- Lists that are related, and end in one element each.
+pub each_ends : {X Y : Type 0} (R : X → Y → Type 0) (xs : List X) (x : X) (ys : List Y) (y : Y) → Each R (xs ++ (x ∷ [])) (ys ++ (y ∷ [])) → Each R xs ys × R x y
+each_ends R [] x [] y (z, more, e, r, h) = let f : z ≡ y = cc in (refl, subst (R x) f r)
+each_ends {Y = Y} R [] x (w ∷ ys) y (z, more, e, r, h) = let f : ys ++ (y ∷ []) ≡ [] = cc in absurd (some ys f)
+  where
+    some : (ys : List Y) → ys ++ (y ∷ []) ≡ [] → ⊥
+    some [] f = cc
+    some (w ∷ ys) f = cc
+each_ends {X} R (v ∷ xs) x [] y (z, more, e, r, h) = let f : more ≡ [] = cc in absurd (none xs (subst (Each R (xs ++ (x ∷ []))) f h))
+  where
+    none : (xs : List X) → Each R (xs ++ (x ∷ [])) [] → ⊥
+    none [] (w, ws, f, s, k) = cc
+    none (v ∷ xs) (w, ws, f, s, k) = cc
+each_ends R (v ∷ xs) x (w ∷ ys) y (z, more, e, r, h) =
+    let f : z ≡ w = cc in
+    let g : more ≡ ys ++ (y ∷ []) = cc in
+    let o = each_ends R xs x ys y (subst (Each R (xs ++ (x ∷ []))) g h) in
+    ((w, ys, refl, subst (R v) f r, o.0), o.1)
+
+unknown_once : (k : ℕ) (bs : List (List ℕ)) (cs ds : List Component) → UnknownComponents k bs cs → UnknownComponents k bs ds → cs ≡ ds
+unknown_once k [] cs ds h i = h ∙ sym i
+unknown_once k (b ∷ bs) cs ds (s, more, e, p, h) (t, others, f, q, i) =
+    e ∙ (ap₂ (λ n l. record { tag = n; number = k; octets = b } ∷ l) (begins_one b s t p q) (unknown_once (suc k) bs more others h i) ∙ sym f)
+
 mutual
   unfolding Bytes fields_of
 
@@ -197,6 +248,7 @@ mutual
   once (any None) rule t u a b same h k = let g : u ≡ numbers a = subst (λ z. Same z u) h same in numbers_one a b (sym g ∙ k)
   once (prefix tag s) rule t u a b same (c, h, i) (d, k, l) = cons_one rule tag c d a b i l (once s rule t u c d same h k)
   once (choice ps) rule t u a b same h k = choice_once rule ps (each_is_once ps rule) 0 t u a b same h k
+  once (open_choice ps) rule t u a b same h k = open_choice_once rule ps (each_is_once ps rule) t u a b same h k
   once (option tag s) rule t u a b same h k = part_once rule s (once s rule) optional t u a b same h k
   once (seq tag ps) rule t u a b same (ts, ls, e, w, c) (us, bs, f, x, d) =
       cons_one rule tag (joined_lists ls) (joined_lists bs) a b c d (ap joined_lists (parts_once rule ps (each_is_once ps rule) ts us ls bs (same_lists t u ts us e f same) w x))
