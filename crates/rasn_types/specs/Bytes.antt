@@ -7,7 +7,7 @@ use Rattle.rasn_types.specs.Calendar.{Day, IsDay, Moment, IsMoment}
 use Rattle.rasn_types.specs.Time.{written_date, written_generalized, written_utc}
 pub use Rattle.rasn_types.specs.Order.{Each, IsLess, AreAscending, IsBeforeAll, AreInOrder, IsReordered}
 pub use Rattle.rasn_types.specs.Shapes.{Same}
-use Rattle.rasn_types.specs.Shapes.{Tree, bits, numbers, instant, on_day, items, set_elements, chosen, absent, Kind, utc_time, generalized_time, date, Bound, Admits, Shape, leaf, any, prefix, choice, open_choice, option, seq, set, list, set_of, unknown, Parts, part, count, Presence, required, addition, optional_by, default_by, IsFirst}
+use Rattle.rasn_types.specs.Shapes.{Tree, bits, numbers, instant, on_day, items, set_elements, chosen, absent, Kind, utc_time, generalized_time, date, Bound, Admits, Shape, leaf, any, prefix, choice, open_choice, option, seq, set, open_set, list, set_of, unknown, Parts, part, count, Presence, required, addition, optional_by, default_by, IsFirst}
 use Rattle.rasn_types.specs.Shapes.Parts.{none}
 pub use Rattle.rasn_types.specs.Contents.{AllFalse}
 use Rattle.rasn_types.specs.Contents.{IsShortest, Contents, BitSegment, joined_lists}
@@ -201,6 +201,7 @@ unfoldable mutual
   IsUntaggedOpen (option tag s) t = IsUntaggedOpen s t
   IsUntaggedOpen (seq tag ps) t = ⊥
   IsUntaggedOpen (set tag ps) t = ⊥
+  IsUntaggedOpen (open_set tag ps) t = ⊥
   IsUntaggedOpen (list tag s size) t = ⊥
   IsUntaggedOpen (set_of tag s size) t = ⊥
   IsUntaggedOpen unknown t = Unit {0}
@@ -222,6 +223,7 @@ unfoldable mutual
   Bytes rule (option tag s) = λ t b. ((t ≡ absent) × (b ≡ [])) ⊎ ((t ≢ absent) × Bytes rule s t b)
   Bytes rule (seq tag ps) = WritesSeq rule tag (fields_of rule ps)
   Bytes rule (set tag ps) = WritesSet rule tag (fields_of rule ps)
+  Bytes rule (open_set tag ps) = WritesOpenSet rule tag (fields_of rule ps)
   Bytes rule (list tag s size) = WritesList rule tag size (Bytes rule s)
   Bytes rule (set_of tag s size) = WritesSetOf rule tag size (Bytes rule s)
   Bytes rule unknown = WritesUnknown

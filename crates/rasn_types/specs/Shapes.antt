@@ -109,7 +109,7 @@ mutual
     choice open_choice : Parts → Shape
     option : Option Tag → Shape → Shape
     seq : Tag → Parts → Shape
-    set : Tag → Parts → Shape
+    set open_set : Tag → Parts → Shape
     list : Tag → Shape → Option (Bound ℕ) → Shape
     set_of : Tag → Shape → Option (Bound ℕ) → Shape
     unknown : Shape
@@ -138,6 +138,7 @@ own (open_choice parts) = None
 own (option tag s) = own s
 own (seq tag parts) = Some tag
 own (set tag parts) = Some tag
+own (open_set tag parts) = Some tag
 own (list tag s size) = Some tag
 own (set_of tag s size) = Some tag
 own unknown = None
@@ -158,6 +159,7 @@ abbrev mutual
   IsFirst (option tag s) n = IsFirst s n
   IsFirst (seq tag parts) n = n ≡ tag
   IsFirst (set tag parts) n = n ≡ tag
+  IsFirst (open_set tag parts) n = n ≡ tag
   IsFirst (list tag s size) n = n ≡ tag
   IsFirst (set_of tag s size) n = n ≡ tag
   IsFirst unknown n = ⊥
@@ -196,6 +198,7 @@ tagged_as t c (open_choice parts) = open_choice parts
 tagged_as t c (option tag s) = option (looked_for t) (tagged_as t c s)
 tagged_as t c (seq tag parts) = seq t parts
 tagged_as t c (set tag parts) = set t parts
+tagged_as t c (open_set tag parts) = open_set t parts
 tagged_as t c (list tag s size) = list t s c.size
 tagged_as t c (set_of tag s size) = set_of t s c.size
 tagged_as t c unknown = unknown
@@ -211,6 +214,7 @@ abbrev mutual
   IsAlwaysPresent (option tag s) = ⊥
   IsAlwaysPresent (seq tag parts) = Unit {0}
   IsAlwaysPresent (set tag parts) = Unit {0}
+  IsAlwaysPresent (open_set tag parts) = Unit {0}
   IsAlwaysPresent (list tag s size) = Unit {0}
   IsAlwaysPresent (set_of tag s size) = Unit {0}
   IsAlwaysPresent unknown = ⊥

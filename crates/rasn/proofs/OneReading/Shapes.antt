@@ -3,16 +3,16 @@ use Rattle.std.proofs.Common.{◌≡◌, ℕ, ◌-◌, ◌⊎◌, inl, inr, Bool
 use Rattle.rasn_types.specs.Tags.{form}
 use Rattle.rasn_types.specs.declared.types.codec.Codec.{Codec}
 use Rattle.rasn_types.specs.declared.types.tag.Tag.{Tag}
-use Rattle.rasn_types.specs.Shapes.{Tree, items, set_elements, absent, Shape, leaf, any, prefix, choice, open_choice, option, seq, set, list, set_of, unknown, Parts, part, count, IsFirstOf, one_tag, presences}
+use Rattle.rasn_types.specs.Shapes.{Tree, items, set_elements, absent, Shape, leaf, any, prefix, choice, open_choice, option, seq, set, open_set, list, set_of, unknown, Parts, part, count, IsFirstOf, one_tag, presences}
 use Rattle.rasn_types.specs.declared.types.constraints.Bound.{Bound}
 use Rattle.rasn_types.specs.Shapes.Parts.{none}
 use Rattle.rasn_types.specs.Readings.{Reading, ReadsSeq, ReadsChoice, ReadsSet, ReadsOpenSet}
 use Rattle.rasn_types.specs.Grammar.{Reads, parts_of, ReadsAny, ReadsOpenChoice, ReadsList, ReadsSetOf}
 use Rattle.rasn_types.specs.Lawful.{AreDistinguished, IsLawful, AreAlternatives, AreLawfulInOrder, AreLawfulByTag}
-use Rattle.rasn.proofs.OneReading.Joined.{IsOne, inside_one, many_one, perhaps_one, EachPart, ReadsOne, seq_one, IsFirstIn, AreApart, choice_one, open_choice_one, set_one}
+use Rattle.rasn.proofs.OneReading.Joined.{IsOne, inside_one, many_one, perhaps_one, EachPart, ReadsOne, seq_one, IsFirstIn, AreApart, choice_one, open_choice_one, set_one, open_set_one}
 use Rattle.rasn.proofs.OneReading.Leaves.{leaf_one}
 use Rattle.rasn.proofs.OneReading.Any.{any_one, open_one}
-use Rattle.rasn.specs.Laws.{IsReadOnce, AreReadOnce, OneLeaf, OneOpen, OnePrefix, OneChoice, OneOption, OneSequence, OneSet, OneOpenChoice, OneSequenceOf, OneSetOf, OneUnknown}
+use Rattle.rasn.specs.Laws.{IsReadOnce, AreReadOnce, OneLeaf, OneOpen, OnePrefix, OneChoice, OneOption, OneSequence, OneSet, OneOpenChoice, OneOpenSet, OneSequenceOf, OneSetOf, OneUnknown}
 
 first_in : (rule : Codec) (ps : Parts) (depth : ℕ) (closing : Bool) (n : Tag) → IsFirstIn (parts_of rule ps depth closing) n → IsFirstOf ps n
 unfolding Reads parts_of
@@ -65,6 +65,12 @@ pub one_open_choice : OneOpenChoice
 unfolding Reads parts_of
 one_open_choice rule ps one told depth closing = open_reading_one rule ps one told depth closing
 
+pub one_open_set : OneOpenSet
+unfolding Reads parts_of
+one_open_set rule tag ps one told depth closing = λ input t u r o h k.
+    inside_one (λ c. ReadsOpenSet rule (presences ps) (ReadsOpenChoice rule (IsFirstOf ps) (count ps) (ReadsChoice rule 0 (parts_of rule ps (depth - 1) c))) c)
+    (λ c. open_set_one rule (presences ps) (ReadsOpenChoice rule (IsFirstOf ps) (count ps) (ReadsChoice rule 0 (parts_of rule ps (depth - 1) c))) (open_reading_one rule ps one told (depth - 1) c) c)
+    input t u r o h.1 k.1
 
 pub one_option : OneOption
 unfolding Reads parts_of
@@ -132,6 +138,7 @@ mutual
   reads_one (option tag s) lawful rule = one_option rule tag s (reads_one s lawful.2 rule)
   reads_one (seq tag ps) lawful rule = one_sequence rule tag ps (each_one ps (in_order_lawful ps lawful.1) rule)
   reads_one (set tag ps) lawful rule = let l = by_tag_lawful ps lawful.1 in one_set rule tag ps (each_one ps l.0 rule) l.1
+  reads_one (open_set tag ps) lawful rule = let l = by_tag_lawful ps lawful.1 in one_open_set rule tag ps (each_one ps l.0 rule) l.1
   reads_one (list tag s size) lawful rule = one_sequence_of rule tag s size (reads_one s lawful.2 rule)
   reads_one (set_of tag s size) lawful rule = one_set_of rule tag s size (reads_one s lawful.2 rule)
   reads_one unknown lawful rule = absurd lawful

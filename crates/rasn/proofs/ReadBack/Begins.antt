@@ -4,7 +4,7 @@ use Rattle.rasn_types.specs.Tags.{Form, form, loose}
 use Rattle.rasn_types.specs.declared.types.codec.Codec.{Codec}
 use Rattle.rasn_types.specs.declared.types.tag.Tag.{Tag}
 use Rattle.rasn_types.specs.Framing.{NextTag}
-use Rattle.rasn_types.specs.Shapes.{Tree, Kind, Shape, leaf, any, prefix, choice, open_choice, option, seq, set, list, set_of, unknown, Parts, part, IsFirst, IsFirstOf, one_tag, IsAlwaysPresent, AreAlwaysPresent}
+use Rattle.rasn_types.specs.Shapes.{Tree, Kind, Shape, leaf, any, prefix, choice, open_choice, option, seq, set, open_set, list, set_of, unknown, Parts, part, IsFirst, IsFirstOf, one_tag, IsAlwaysPresent, AreAlwaysPresent}
 use Rattle.rasn_types.specs.Shapes.Parts.{none}
 use Rattle.rasn_types.specs.Readings.{Reading, ReadsContents, definite_form, indefinite_form, ReadsChoice, IsLeftOut, IsPresent}
 use Rattle.rasn_types.specs.Contents.{ReadsString, primitive, segments, closed_segments, ReadsBitSegment, OctetSegment}
@@ -56,6 +56,7 @@ begins (open_choice ps) solid has rule depth closing input t rest h = absurd has
 begins (option tag s) solid has rule depth closing input t rest h = absurd solid
 begins (seq tag ps) solid has rule depth closing input t rest h = (tag, inside_next h.1, refl)
 begins (set tag ps) solid has rule depth closing input t rest h = (tag, inside_next h.1, refl)
+begins (open_set tag ps) solid has rule depth closing input t rest h = (tag, inside_next h.1, refl)
 begins (list tag s size) solid has rule depth closing input t rest h = (tag, inside_next h.1, refl)
 begins (set_of tag s size) solid has rule depth closing input t rest h = (tag, inside_next h.1, refl)
 begins unknown solid has rule depth closing input t rest h = absurd solid
@@ -67,6 +68,7 @@ IsOpenChoice s = (ps : Parts) × (s ≡ open_choice ps)
 pub tagged : (s : Shape) → IsAlwaysPresent s → HasTag s ⊎ ((s ≡ any None) ⊎ IsOpenChoice s)
 tagged (any None) solid = inr (inl refl)
 tagged (open_choice ps) solid = inr (inr (ps, refl))
+tagged (open_set tag ps) solid = inl tt
 tagged (any (Some tag)) solid = inl tt
 tagged (leaf kind tag bounds) solid = inl tt
 tagged (prefix tag s) solid = inl tt
@@ -134,6 +136,7 @@ mutual
   solid_closing (option tag s) solid rule depth c d input t rest h = absurd solid
   solid_closing (seq tag ps) solid rule depth c d input t rest h = h
   solid_closing (set tag ps) solid rule depth c d input t rest h = h
+  solid_closing (open_set tag ps) solid rule depth c d input t rest h = h
   solid_closing (list tag s size) solid rule depth c d input t rest h = h
   solid_closing (set_of tag s size) solid rule depth c d input t rest h = h
   solid_closing unknown solid rule depth c d input t rest h = absurd solid

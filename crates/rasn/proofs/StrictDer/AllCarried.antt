@@ -7,7 +7,7 @@ use Rattle.rasn_types.specs.Tags.{der_form}
 use Rattle.rasn_types.specs.Framing.{Frame, without_length, NextTag, Ended, CompleteEncoding}
 use Rattle.rasn_types.specs.Calendar.{Moment}
 use Rattle.rasn_types.specs.Time.{CarriedUtc, CarriedDay}
-use Rattle.rasn_types.specs.Shapes.{presences, Tree, number, bits, numbers, instant, on_day, done, joined, items, set_elements, chosen, absent, Same, Kind, utc_time, generalized_time, date, Shape, leaf, any, prefix, choice, open_choice, option, seq, set, list, set_of, unknown, Parts, part, count, IsFirstOf, own, Presence, required, addition, optional_by, default_by, Sought, one_tag, any_of, sought_in}
+use Rattle.rasn_types.specs.Shapes.{presences, Tree, number, bits, numbers, instant, on_day, done, joined, items, set_elements, chosen, absent, Same, Kind, utc_time, generalized_time, date, Shape, leaf, any, prefix, choice, open_choice, option, seq, set, open_set, list, set_of, unknown, Parts, part, count, IsFirstOf, own, Presence, required, addition, optional_by, default_by, Sought, one_tag, any_of, sought_in}
 use Rattle.rasn_types.specs.declared.types.constraints.Bound.{Bound}
 use Rattle.rasn_types.specs.Shapes.Parts.{none}
 use Rattle.rasn_types.specs.Described.{has_required, has_addition}

@@ -2,7 +2,7 @@
 use Rattle.std.proofs.Common.{◌≡◌, ℕ, suc, ◌-◌, ◌<◌, ◌⊎◌, ◌≢◌, inl, inr, List, [], ◌∷◌, ◌++◌, refl, sym, ap, ap₂, ◌∙◌, subst, arith, Some, None}
 use Rattle.rasn_types.specs.declared.types.codec.Codec.TheVariants.{Der}
 use Rattle.rasn_types.specs.declared.types.tag.Tag.{Tag}
-use Rattle.rasn_types.specs.Shapes.{Tree, numbers, joined, items, set_elements, chosen, absent, Shape, leaf, any, prefix, choice, open_choice, option, seq, set, list, set_of, unknown, Parts, part, count, IsFirstOf, Presence, required, optional, addition, optional_by, default_by}
+use Rattle.rasn_types.specs.Shapes.{Tree, numbers, joined, items, set_elements, chosen, absent, Shape, leaf, any, prefix, choice, open_choice, option, seq, set, open_set, list, set_of, unknown, Parts, part, count, IsFirstOf, Presence, required, optional, addition, optional_by, default_by}
 use Rattle.rasn_types.specs.Shapes.Parts.{none}
 use Rattle.rasn_types.specs.Grammar.{family}
 use Rattle.rasn_types.specs.Bytes.{Same, Each, WritesPart, PartsWritten, WritesChoice, Bytes, fields_of}
@@ -28,6 +28,8 @@ unfoldable mutual
   Owes (option tag s) depth t = (t ≡ absent) ⊎ Owes s depth t
   Owes (seq tag ps) depth t = (0 < depth) × (ts : List Tree) × (t ≡ items ts) × OwesParts ps (depth - 1) ts × NoneTaken Der ps ts
   Owes (set tag ps) depth t = (0 < depth) × (ts : List Tree) × (t ≡ items ts) × OwesParts ps (depth - 1) ts
+  Owes (open_set tag ps) depth t = (0 < depth) × (ts : List Tree) × (us : List Tree) × (t ≡ items (ts ++ (items us ∷ []))) × OwesParts ps (depth - 1) ts
+      × EachOf (IsUnknownValue Der (IsFirstOf ps)) us
   Owes (list tag s size) depth t = (0 < depth) × (ts : List Tree) × (t ≡ items ts) × EachOf (Owes s (depth - 2)) ts
   Owes (set_of tag s size) depth t = (0 < depth) × (ts : List Tree) × (t ≡ set_elements (items ts)) × EachOf (Owes s (depth - 2)) ts
   Owes unknown depth t = (us : List Tree) × (t ≡ items us) × EachOf IsOneEncoding us
@@ -75,6 +77,7 @@ mutual
   owed_meets (option tag s) depth t (inr h) = inr (owed_meets s depth t h)
   owed_meets (seq tag ps) depth t h = (h.0, h.1, h.2, parts_meet ps (depth - 1) h.1 h.3, h.4)
   owed_meets (set tag ps) depth t h = (h.0, h.1, h.2, parts_meet ps (depth - 1) h.1 h.3)
+  owed_meets (open_set tag ps) depth t h = (h.0, h.1, h.2, h.3, parts_meet ps (depth - 1) h.1 h.4, h.5)
   owed_meets (list tag s size) depth t h = (h.0, h.1, h.2, each_of (owed_meets s (depth - 2)) h.1 h.3)
   owed_meets (set_of tag s size) depth t h = (h.0, h.1, h.2, each_of (owed_meets s (depth - 2)) h.1 h.3)
   owed_meets unknown depth t h = h
@@ -112,6 +115,7 @@ mutual
   meets_owed (option tag s) own depth t (inr h) = inr (meets_owed s own depth t h)
   meets_owed (seq tag ps) own depth t h = (h.0, h.1, h.2, parts_owe ps own (depth - 1) h.1 h.3, h.4)
   meets_owed (set tag ps) own depth t h = (h.0, h.1, h.2, parts_owe ps own (depth - 1) h.1 h.3)
+  meets_owed (open_set tag ps) own depth t h = (h.0, h.1, h.2, h.3, parts_owe ps own (depth - 1) h.1 h.4, h.5)
   meets_owed (list tag s size) own depth t h = (h.0, h.1, h.2, each_of (meets_owed s own (depth - 2)) h.1 h.3)
   meets_owed (set_of tag s size) own depth t h = (h.0, h.1, h.2, each_of (meets_owed s own (depth - 2)) h.1 h.3)
   meets_owed unknown own depth t h = h
@@ -250,6 +254,17 @@ mutual
   owes_like (set tag ps) depth t u b same (ts, bs, cs, ds, e, w, q, n, p, o, c) (deep, us, f, m) =
       let r = items_alike ts u (subst (λ z. Same z u) e same) in
       (deep, r.0, r.1, parts_like ps (depth - 1) ts r.0 bs r.2 w (subst (AreWithinLimits Der ps (depth - 1)) (items_of t u ts us e f) m))
+  owes_like (open_set tag ps) depth t u b same (ts, vs, bs, ls, cs, es, ds, e, w, q, n, x, y, r, p, o, c) (deep, ts', vs', f, m, ms) =
+      let z = ends_alike ts (items vs) u (subst (λ a. Same a u) e same) in
+      let g = ends_one ts' (items vs') ts (items vs) (sym f ∙ e) in
+      let a = items_alike vs z.1 z.4 in (
+        deep,
+        z.0,
+        a.0,
+        z.2 ∙ ap (λ l. items (z.0 ++ (l ∷ []))) a.1,
+        parts_like ps (depth - 1) ts z.0 bs z.3 w (subst (AreWithinLimits Der ps (depth - 1)) g.0 m),
+        unknown_like (IsFirstOf ps) vs a.0 ls a.2 x (subst (EachOf (IsUnknownValue Der (IsFirstOf ps))) (items_one vs' vs g.1) ms),
+      )
   owes_like (list tag s size) depth t u b same (ts, bs, e, n, w, c) (deep, us, f, m) =
       let r = items_alike ts u (subst (λ z. Same z u) e same) in
       (deep, r.0, r.1, elements_like s (depth - 2) (owes_like s (depth - 2)) ts r.0 bs r.2 w (subst (EachOf (IsWithinLimits Der s (depth - 2))) (items_of t u ts us e f) m))

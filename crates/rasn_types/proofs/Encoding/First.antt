@@ -2,7 +2,7 @@
 use Rattle.std.proofs.Common.{◌≡◌, ◌≢◌, ℕ, suc, ◌⊎◌, inl, inr, List, [], ◌∷◌, ◌++◌, Bool, true, Option, Some, None, refl, sym, subst, arith, append_assoc}
 use Rattle.rasn_types.specs.Tags.{Codec, Ber, Cer, Der, Tag, eoc, IsTagBelow}
 use Rattle.rasn_types.specs.Framing.{Begins}
-use Rattle.rasn_types.specs.Shapes.{Tree, numbers, Kind, Shape, leaf, any, prefix, choice, open_choice, option, seq, set, list, set_of, unknown, Parts, part, count, IsFirst, IsFirstOf}
+use Rattle.rasn_types.specs.Shapes.{Tree, numbers, Kind, Shape, leaf, any, prefix, choice, open_choice, option, seq, set, open_set, list, set_of, unknown, Parts, part, count, IsFirst, IsFirstOf}
 use Rattle.rasn_types.specs.Shapes.Parts.{none}
 use Rattle.rasn_types.specs.Grammar.{Family, plain_family, bit_family, named_family, text_family, family}
 use Rattle.rasn_types.specs.Bytes.{Writing, DefiniteForm, IndefiniteForm, ConstructedEncoding, WritesString, WritesIn, WritesChoice, IsUntaggedOpen, IsUntaggedOpenIn, Bytes, fields_of}
@@ -48,6 +48,7 @@ mutual
   written_first (option tag s) rule t b (inr h) bare some = written_first s rule t b h.1 bare some
   written_first (seq tag ps) rule t b (ts, bs, e, w, d) bare some = (tag, constructed_begins rule tag _ b d, refl)
   written_first (set tag ps) rule t b (ts, bs, cs, ds, e, w, n, m, p, o, d) bare some = (tag, constructed_begins rule tag _ b d, refl)
+  written_first (open_set tag ps) rule t b (ts, us, bs, ls, cs, es, ds, e, w, n, m, x, v, r, p, o, d) bare some = (tag, constructed_begins rule tag _ b d, refl)
   written_first (list tag s size) rule t b (ts, bs, e, m, w, d) bare some = (tag, constructed_begins rule tag _ b d, refl)
   written_first (set_of tag s size) rule t b (ts, bs, e, m, w, o, d) bare some = (tag, constructed_begins rule tag _ b d, refl)
   written_first unknown rule t b w bare some = absurd (bare tt)

@@ -2,7 +2,7 @@
 use Rattle.std.proofs.Common.{◌≡◌, ℕ, suc, inl, inr, List, [], ◌∷◌, ◌++◌, refl, sym, subst, Some, None}
 use Rattle.std.proofs.lemmas.List.Sorted.{IsPermutation-refl}
 use Rattle.rasn_types.specs.Tags.{Codec}
-use Rattle.rasn_types.specs.Shapes.{Tree, numbers, items, absent, Shape, leaf, any, prefix, choice, open_choice, option, seq, set, list, set_of, unknown, Parts, part, Presence, required, addition, optional_by, default_by}
+use Rattle.rasn_types.specs.Shapes.{Tree, numbers, items, absent, Shape, leaf, any, prefix, choice, open_choice, option, seq, set, open_set, list, set_of, unknown, Parts, part, Presence, required, addition, optional_by, default_by}
 use Rattle.rasn_types.specs.Grammar.{family}
 use Rattle.rasn_types.specs.Bytes.{Writing, Same, Each, WritesPart, PartsWritten, WritesChoice, Bytes, fields_of}
 use Rattle.rasn_types.proofs.SetOf.Same.{same_sym, same_trans}
@@ -51,6 +51,10 @@ mutual
   written_same (option tag s) rule t b (inr h) = written_same s rule t b h.1
   written_same (seq tag ps) rule t b (ts, bs, e, w, c) = subst (λ z. Same z z) (sym e) (items_same ts (parts_same ps rule ts bs w))
   written_same (set tag ps) rule t b (ts, bs, cs, ds, e, w, n, m, p, d, c) = subst (λ z. Same z z) (sym e) (items_same ts (parts_same ps rule ts bs w))
+  written_same (open_set tag ps) rule t b (ts, us, bs, ls, cs, es, ds, e, w, n, m, x, v, r, p, o, d) =
+      subst (λ z. Same z z) (sym e)
+      (items_same (ts ++ (items us ∷ [])) (ends_same ts (items us) (parts_same ps rule ts bs w)
+      (items_same us (elements_same (λ u c. u ≡ numbers c) (λ u c g. subst (λ z. Same z z) (sym g) refl) us ls x))))
   written_same (list tag s size) rule t b (ts, bs, e, m, w, c) = subst (λ z. Same z z) (sym e) (items_same ts (elements_same (Bytes rule s) (written_same s rule) ts bs w))
   written_same (set_of tag s size) rule t b (ts, bs, e, m, w, o, c) =
       subst (λ z. Same z z) (sym e) (ts, ts, refl, IsPermutation-refl ts, items_same ts (elements_same (Bytes rule s) (written_same s rule) ts bs w))

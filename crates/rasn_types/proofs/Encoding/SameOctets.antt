@@ -2,7 +2,7 @@
 use Rattle.std.proofs.Common.{◌≡◌, ℕ, suc, ◌<◌, ◌⊎◌, ◌≢◌, inl, inr, List, [], ◌∷◌, ◌++◌, ◌+◌, refl, sym, ap, ap₂, ◌∙◌, subst, arith, IsPermutation, Some, None}
 use Rattle.std.proofs.lemmas.List.Sorted.{IsPermutation-sym}
 use Rattle.rasn_types.specs.Tags.{Codec, Ber, Cer, Der, Tag, IsTagBelow}
-use Rattle.rasn_types.specs.Shapes.{Tree, number, bits, numbers, instant, on_day, items, set_elements, chosen, absent, Kind, boolean, null, object_identifier, integer, enumerated, octet_string, fixed, numeric, printable, visible, ia5, any_octets, bmp, utf8, utc_time, generalized_time, date, Shape, leaf, any, prefix, choice, open_choice, option, seq, set, list, set_of, unknown, Parts, part, count, Presence, required, optional, addition, optional_by, default_by}
+use Rattle.rasn_types.specs.Shapes.{Tree, number, bits, numbers, instant, on_day, items, set_elements, chosen, absent, Kind, boolean, null, object_identifier, integer, enumerated, octet_string, fixed, numeric, printable, visible, ia5, any_octets, bmp, utf8, utc_time, generalized_time, date, Shape, leaf, any, prefix, choice, open_choice, option, seq, set, open_set, list, set_of, unknown, Parts, part, count, Presence, required, optional, addition, optional_by, default_by}
 use Rattle.rasn_types.specs.Contents.{Contents, joined_lists}
 use Rattle.rasn_types.specs.Grammar.{Family, plain_family, bit_family, named_family, text_family, family}
 use Rattle.rasn_types.specs.Bytes.{Same, Each, ConstructedEncoding, WritesIn, WritesText, WritesPart, PartsWritten, WritesChoice, AreAscending, IsLess, Field, Component, IsPlacedBy, ComponentsOf, UnknownComponents, ComesBefore, contents_of, AreInOrder, IsReordered, Bytes, fields_of}
@@ -256,6 +256,13 @@ mutual
       let g : ls ≡ bs = parts_once rule ps (each_is_once ps rule) ts us ls bs (same_lists t u ts us e f same) w x in
       let h : cs ≡ cs' = components_once rule 0 (fields_of rule ps) bs cs cs' (subst (λ l. ComponentsOf rule 0 (fields_of rule ps) l cs) g m) m' in
       cons_one rule tag (contents_of ds) (contents_of ds') a b c d (ap contents_of (one_order_of_components cs' ds ds' (subst (λ l. IsReordered l ds) h p) p' o o'))
+  once (open_set tag ps) rule t u a b same (ts, vs, bs, ls, cs, es, ds, e, w, q, m, x, n, r, p, o, c) (ts', vs', bs', ls', cs', es', ds', e', w', q', m', x', n', r', p', o', d) =
+      let k = each_ends Same ts (items vs) ts' (items vs') (same_lists t u (ts ++ (items vs ∷ [])) (ts' ++ (items vs' ∷ [])) e e' same) in
+      let f : bs ≡ bs' = parts_once rule ps (each_is_once ps rule) ts ts' bs bs' k.0 w w' in
+      let g : ls ≡ ls' = kept_once vs vs' ls ls' (same_each vs vs' k.1) x x' in
+      let h : cs ≡ cs' = components_once rule 0 (fields_of rule ps) bs' cs cs' (subst (λ l. ComponentsOf rule 0 (fields_of rule ps) l cs) f m) m' in
+      let i : es ≡ es' = unknown_once _ ls' es es' (subst (λ l. UnknownComponents _ l es) g n) n' in
+      cons_one rule tag (contents_of ds) (contents_of ds') a b c d (ap contents_of (one_order_of_components (cs' ++ es') ds ds' (subst (λ l. IsReordered l ds) (ap₂ ◌++◌ h i) p) p' o o'))
   once (list tag s size) rule t u a b same (ts, ls, e, n, w, c) (us, bs, f, m, x, d) =
       cons_one rule tag (joined_lists ls) (joined_lists bs) a b c d (ap joined_lists (elements_once rule s (once s rule) ts us ls bs (same_lists t u ts us e f same) w x))
   once (set_of tag s size) rule t u a b same (ts, ls, e, n, w, o, c) (us, bs, f, m, x, q, d) =
