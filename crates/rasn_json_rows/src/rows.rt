@@ -1,6 +1,6 @@
 //! Rows: what is done, a type of a module, the rules, and octets or JSON.
 use crate::octets::octets_of;
-use rasn_compiler::{Module, Modules, Resolved};
+use rasn_compiler::{Modules, Resolved};
 use rasn_json::{Layout, encode, from_json, json, to_json};
 use rasn_schema::Value;
 use rasn_types::types::{Codec, Hexadecimal};
@@ -77,48 +77,9 @@ fn answer_of(alloc: Global, read: &Modules<'_>, line: &str) -> Result<String, Al
     }
 }
 
-/// Returns the module with this name.
-fn module_named<'read, 'text>(
-    read: &'read Modules<'text>,
-    name: &str,
-) -> Option<&'read Module<'text>> {
-    for module in &read.modules {
-        if module.name == name {
-            return Some(module);
-        }
-    }
-    None
-}
-
-/// Returns the name of the assignment with this name, as the module's text has it.
-fn assignment_named<'text>(module: &Module<'text>, name: &str) -> Option<&'text str> {
-    for assignment in &module.assignments {
-        if assignment.name == name {
-            return Some(assignment.name);
-        }
-    }
-    None
-}
-
 /// Returns the result of a row.
 fn answer_to(alloc: Global, read: &Modules<'_>, row: &Row<'_>) -> Result<String, AllocError> {
-    if let Some(module) = module_named(read, row.module) {
-        if let Some(name) = assignment_named(module, row.name) {
-            return answer_by(alloc, read, module.name, name, row);
-        }
-    }
-    String::from_str(alloc, "is of no type of the modules")
-}
-
-/// Returns the result of a row of this type.
-fn answer_by<'text>(
-    alloc: Global,
-    read: &Modules<'text>,
-    module: &'text str,
-    name: &'text str,
-    row: &Row<'_>,
-) -> Result<String, AllocError> {
-    match read.schema(alloc, module, name) {
+    match read.schema(alloc, row.module, row.name) {
         Ok(resolved) => match row.verb {
             "encode" => encoded(alloc, &resolved, row.rules, row.text),
             "json" => printed(alloc, &resolved, row, Layout::Compact),

@@ -1,7 +1,7 @@
 //! Rows of messages: a type of a module, the rules that read, and octets.
 
 use crate::octets::octets_of;
-use rasn_compiler::{Module, Modules, Resolved, Stop};
+use rasn_compiler::{Modules, Resolved};
 use rasn_dynamic::{decode_or_locate, encode};
 use rasn_schema::Value;
 use rasn_types::types::{Codec, Hexadecimal};
@@ -42,93 +42,39 @@ struct Row<'line> {
     /// The name of the type.
     name: &'line str,
     rules: Codec,
-    octets: Vec<u8>,
+    digits: &'line str,
 }
 
-impl<'line> Row<'line> {
-    /// Returns the row of a line `MODULE.TYPE RULES OCTETS`.
-    fn of_line(alloc: Global, line: &'line str) -> Result<Option<Row<'line>>, AllocError> {
-        match words_of(line) {
-            Some((module, name, rules, digits)) => {
-                let octets = octets_of(alloc, digits)?;
-                Ok(octets.map(|octets| Row {
-                    module,
-                    name,
-                    rules,
-                    octets,
-                }))
-            }
-            None => Ok(None),
-        }
-    }
+/// Returns the row of a line `MODULE.TYPE RULES OCTETS`.
+fn row_of(line: &str) -> Option<Row<'_>> {
+    let (name, rest) = line.split_once(' ')?;
+    let (rules, digits) = rest.split_once(' ')?;
+    let (module, name) = name.split_once('.')?;
+    Some(Row {
+        module,
+        name,
+        rules: rules_of(rules)?,
+        digits,
+    })
 }
 
 /// Returns the result of a line.
 fn answer_of(alloc: Global, read: &Modules<'_>, line: &str) -> Result<String, AllocError> {
-    match Row::of_line(alloc, line)? {
+    match row_of(line) {
         Some(row) => answer_to(alloc, read, &row),
         None => String::from_str(alloc, "is no row"),
     }
 }
 
-/// Returns the module with this name.
-fn module_named<'read, 'text>(
-    read: &'read Modules<'text>,
-    name: &str,
-) -> Option<&'read Module<'text>> {
-    for module in &read.modules {
-        if module.name == name {
-            return Some(module);
-        }
-    }
-    None
-}
-
-/// Returns the name of the assignment with this name, as the module's text has it.
-fn assignment_named<'text>(module: &Module<'text>, name: &str) -> Option<&'text str> {
-    for assignment in &module.assignments {
-        if assignment.name == name {
-            return Some(assignment.name);
-        }
-    }
-    None
-}
-
 /// Returns the result of a row.
 fn answer_to(alloc: Global, read: &Modules<'_>, row: &Row<'_>) -> Result<String, AllocError> {
-    if let Some(module) = module_named(read, row.module) {
-        if let Some(name) = assignment_named(module, row.name) {
-            return answer_by(alloc, read, module.name, name, row);
-        }
+    let Some(octets) = octets_of(alloc, row.digits)? else {
+        return String::from_str(alloc, "has no octets");
+    };
+    match read.schema(alloc, row.module, row.name) {
+        Ok(resolved) => read_message(alloc, &resolved, row.rules, &octets),
+        Err(stop) => format!(in alloc; "has no schema: {stop}"),
     }
-    String::from_str(alloc, "is of no type of the modules")
-}
-
-/// Returns the result of a row of this type.
-fn answer_by<'text>(
-    alloc: Global,
-    read: &Modules<'text>,
-    module: &'text str,
-    name: &'text str,
-    row: &Row<'_>,
-) -> Result<String, AllocError> {
-    match read.schema(alloc, module, name) {
-        Ok(resolved) => read_message(alloc, &resolved, row.rules, &row.octets),
-        Err(stop) => missing_schema(alloc, &stop),
-    }
-}
-
-/// Returns why a type has no schema.
-fn missing_schema(alloc: Global, stop: &Stop<'_>) -> Result<String, AllocError> {
-    format!(in alloc; "has no schema: {stop}")
-}
-
-/// Returns the words of a line: a module, a type, rules and digits.
-fn words_of(line: &str) -> Option<(&str, &str, Codec, &str)> {
-    let (name, rest) = line.split_once(' ')?;
-    let (rules, digits) = rest.split_once(' ')?;
-    let (module, name) = name.split_once('.')?;
-    Some((module, name, rules_of(rules)?, digits))
 }
 
 /// Returns the rules of this name.

@@ -3,7 +3,7 @@ use Rattle.std.proofs.Common.{◌≡◌, ◌≢◌, inl, inr, ℕ, zero, suc, Bo
 use Rattle.std.specs.Prelude.{slice_get}
 use Rattle.rasn_types.specs.declared.types.tag.Tag.{Tag}
 use Rattle.rasn_types.specs.Tags.{eoc, is_eoc, IsTagBelow}
-use Rattle.rasn_types.specs.Shapes.{Shape, any, choice, unknown, own, looked_for, IsFirstOf, IsAlwaysPresent, Key, required, addition}
+use Rattle.rasn_types.specs.Shapes.{Shape, any, choice, unknown, looked_for, IsFirstOf, IsAlwaysPresent, Key, required, addition}
 use Rattle.rasn_types.specs.Shapes.Parts.{none}
 use Rattle.rasn_types.specs.Lawful.{IsLawful, HasTag, MayBeLeftOut, AreLawfulInOrder, AreLawfulByTag}
 use Rattle.rasn_types.specs.Truth.{IsWhether}

@@ -1,6 +1,6 @@
 -- What a component is recognized by makes no difference to what it is if it is absent, nor to whether it may be.
-use Rattle.std.proofs.Common.{◌≡◌, ◌≢◌, ℕ, refl}
-use Rattle.rasn_types.specs.Shapes.{Key, Tree, Presence, required, addition, optional_by, default_by}
+use Rattle.std.proofs.Common.{◌≡◌, ◌≢◌, refl}
+use Rattle.rasn_types.specs.Shapes.{Key, Tree, required, addition}
 use Rattle.rasn_types.specs.Readings.{IsMissing, IsNoDefault}
 use Rattle.rasn_schema.specs.declared.types.Presence.{Presence as ComponentPresence}
 use Rattle.rasn_schema.specs.declared.types.Presence.TheVariants.{Required, Optional, Addition, Default}

@@ -19,7 +19,7 @@ use Rattle.rasn_schema.specs.declared.types.«Type».TheVariants.{Leaf, Enumerat
 use Rattle.rasn_schema.specs.declared.types.Presence.{Presence}
 use Rattle.rasn_schema.specs.declared.types.Presence.TheVariants.{Required, Optional, Addition, Default}
 use Rattle.rasn_schema.specs.Shapes.{kind_of}
-use Rattle.rasn_schema.specs.Schemas.{IsUnknown, IsRequired, EndsUnknown, AreDistinct, IsBefore, AreLowerAndTagged, AreDistinctAlternatives, AreDistinctNumbers, IsToldFrom, AreToldInOrder, AreTagged, AreInOrderOfTags, IsWellFormed, HaveFitDefaults, IsSchema, own_at, begin_at}
+use Rattle.rasn_schema.specs.Schemas.{IsRequired, EndsUnknown, AreDistinct, IsBefore, AreLowerAndTagged, AreDistinctAlternatives, AreDistinctNumbers, IsToldFrom, AreToldInOrder, AreTagged, AreInOrderOfTags, IsWellFormed, HaveFitDefaults, IsSchema, own_at, begin_at}
 
 -- ---- facts of several parts
 

@@ -18,7 +18,7 @@ use crate::error::SchemaError;
 use crate::first_tags::{FirstTags, first_tags_at, has_firsts, is_before, is_distinct};
 use crate::type_id::TypeId;
 use crate::types::{
-    Alternative, Component, LeafKind, NamedNumber, Presence, Type, tag_at, type_at,
+    Alternative, Component, LeafKind, NamedNumber, Presence, Type, is_unknown_at, tag_at, type_at,
 };
 use rasn_types::ber::is_always_constructed;
 use rasn_types::types::Tag;
@@ -86,26 +86,6 @@ fn type_is_tagged(ty: &Type) -> bool
     }
 }
 
-/// Returns whether the type with this number is unknown values.
-fn is_unknown(types: &[Type], levels: usize, id: TypeId) -> bool
-    requires { levels ≢ 0 }
-    ensures { IsWhether result (IsUnknown (shape_of_type types.now levels id.0)) }
-{
-    match type_at(types, id) {
-        Some(ty) => type_is_unknown(ty),
-        None => false,
-    }
-}
-
-fn type_is_unknown(ty: &Type) -> bool
-    ensures { (f : _) → IsWhether result (IsUnknown (type_by f ty.now)) }
-{
-    match ty {
-        Type::Unknown => true,
-        _ => false,
-    }
-}
-
 fn is_required(component: &Component) -> bool
     ensures { IsWhether result (IsRequired component.now.presence) }
 {
@@ -149,7 +129,7 @@ fn list_fault(
     if is_no_tag(tag) {
         return Some(SchemaError::ReservedTag { id });
     }
-    if is_unknown(types, levels, element) {
+    if is_unknown_at(types, element) {
         return Some(SchemaError::MisplacedUnknown { id, index: 0 });
     }
     None
@@ -173,7 +153,7 @@ fn tagged_fault(
     if inner >= id && is_tagged(types, levels, inner) {
         return Some(SchemaError::LateInner { id });
     }
-    if is_unknown(types, levels, inner) {
+    if is_unknown_at(types, inner) {
         return Some(SchemaError::MisplacedUnknown { id, index: 0 });
     }
     None
@@ -528,7 +508,7 @@ fn is_well_placed(
     ensures { let f = shape_of_type types.now levels in
         IsWhether result (IsUnknown (f component.now.type_id.0) → (suc index ≡ length components.now) × IsRequired component.now.presence) }
 {
-    if !is_unknown(types, levels, component.type_id) {
+    if !is_unknown_at(types, component.type_id) {
         return true;
     }
     may_be_unknown(components, index, component)

@@ -1,7 +1,8 @@
 //! Types, and the components of those that have some.
-ghost use Rattle.std.specs.Prelude.{◌≡◌, slice_get, option_copied};
-ghost use Rattle.rasn_schema.specs.Shapes.{tag_of_type, tag_at};
-ghost use Rattle.rasn_schema.specs.Schemas.{components_in};
+ghost use Rattle.std.specs.Prelude.{◌≡◌, ◌≢◌, ℕ, slice_get, option_copied};
+ghost use Rattle.rasn_types.specs.Truth.{IsWhether};
+ghost use Rattle.rasn_schema.specs.Shapes.{shape_of_type, tag_of_type, tag_at, type_by};
+ghost use Rattle.rasn_schema.specs.Schemas.{IsUnknown, components_in};
 ghost use Rattle.rasn_schema.specs.Held.{is_unknown, is_unknown_found};
 
 use crate::type_id::TypeId;
@@ -202,7 +203,8 @@ pub fn tag_at(types: &[Type], id: TypeId) -> Tag
 }
 
 fn is_unknown(ty: &Type) -> bool
-    ensures { result ≡ is_unknown ty.now }
+    ensures found { result ≡ is_unknown ty.now }
+    ensures shape { (f : _) → IsWhether result (IsUnknown (type_by f ty.now)) }
 {
     match ty {
         Type::Unknown => true,
@@ -212,7 +214,8 @@ fn is_unknown(ty: &Type) -> bool
 
 /// Returns whether the type with this number is that of unknown values (X.680 25).
 pub fn is_unknown_at(types: &[Type], id: TypeId) -> bool
-    ensures { result ≡ is_unknown_found (slice_get types.now id.0) }
+    ensures found { result ≡ is_unknown_found (slice_get types.now id.0) }
+    ensures shape { (levels : ℕ) → levels ≢ 0 → IsWhether result (IsUnknown (shape_of_type types.now levels id.0)) }
 {
     match type_at(types, id) {
         Some(ty) => is_unknown(ty),

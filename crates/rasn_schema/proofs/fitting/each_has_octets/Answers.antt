@@ -1,4 +1,3 @@
-use Rattle.std.proofs.Common.{arith}
 use Rattle.rasn_schema.specs.Fitting.{AreOctets}
 use Rattle.rasn_schema.proofs.Lists.{split, nothing_left}
 use Rattle.rasn_schema.proofs.Fitted.{each_start, each_more, each_not, each_end}

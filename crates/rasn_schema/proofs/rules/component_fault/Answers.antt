@@ -1,4 +1,4 @@
-use Rattle.std.proofs.Common.{refl, sym}
+use Rattle.std.proofs.Common.{refl}
 use Rattle.rasn_schema.specs.Shapes.{shape_of_type}
 use Rattle.rasn_schema.proofs.Follow.{own_none, own_some, told, untold, untagged_fault_is}
 use Rattle.rasn_schema.proofs.rules.component_fault.Goals as goal

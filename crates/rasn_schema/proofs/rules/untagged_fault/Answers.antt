@@ -1,5 +1,4 @@
 use Rattle.std.proofs.Common.{refl, arith}
-use Rattle.rasn_schema.specs.Shapes.{shape_of_type}
 use Rattle.rasn_schema.proofs.Follow.{none_after, untold_by_firsts}
 use Rattle.rasn_schema.proofs.rules.untagged_fault.Goals as goal
 
