@@ -6,14 +6,15 @@ _soqavise() {
         check | lint) options+=' --outer' ;;
     esac
     case ${COMP_WORDS[1]} in
-        show | check | json | normalise) options+=' --module --type --rules --lines --input' ;;
+        show | check | json | normalise) options+=' --module --type --rules --lines --input --color' ;;
         encode) options+=' --module --type --rules --lines' ;;
-        lint) options+=' --module --type --lines --input' ;;
+        lint) options+=' --module --type --lines --input --color' ;;
         types) options+=' --module' ;;
         dump) options+=' --input' ;;
     esac
     case $before in
         --rules) mapfile -t COMPREPLY < <(compgen -W 'ber cer der' -- "$word") ;;
+        --color) mapfile -t COMPREPLY < <(compgen -W 'auto always never' -- "$word") ;;
         --input) mapfile -t COMPREPLY < <(compgen -W 'der pem hex' -- "$word") ;;
         --type) mapfile -t COMPREPLY < <(compgen -W "$(soqavise types | sed 's/[:].*//; s/^[^.]*[.]//')" -- "$word") ;;
         *)

@@ -26,6 +26,15 @@ pub enum InputForm {
     Hex,
 }
 
+/// When the output is in colour.
+#[derive(Clone, Copy, Debug, PartialEq, Eq)]
+pub enum Color {
+    /// If it is a terminal.
+    Auto,
+    Always,
+    Never,
+}
+
 /// What the command line asks for.
 #[derive(Drop)]
 pub struct Call {
@@ -44,6 +53,7 @@ pub struct Call {
     pub has_offsets: bool,
     /// Whether each line is a message.
     pub has_lines: bool,
+    pub color: Color,
 }
 
 /// Returns the program's command.
@@ -133,6 +143,7 @@ fn messages<'a>(alloc: Global, name: &'a str, about: &'a str) -> Result<Command<
             "Reads a message from each line, in hexadecimal or base64",
         ))?
         .arg(input(alloc))?
+        .arg(color(alloc))?
         .arg(files(alloc))
 }
 
@@ -165,6 +176,14 @@ fn input<'a>(alloc: Global) -> Arg<'a> {
         .value_name("FORM")
         .value_parser(ValueParser::from(["der", "pem", "hex"].as_slice()))
         .help("The form of the input, which is found out otherwise")
+}
+
+fn color<'a>(alloc: Global) -> Arg<'a> {
+    Arg::new(alloc, "color")
+        .long("color")
+        .value_name("WHEN")
+        .value_parser(ValueParser::from(["auto", "always", "never"].as_slice()))
+        .help("When names are in bold: on a terminal, unless this says otherwise")
 }
 
 fn files<'a>(alloc: Global) -> Arg<'a> {
@@ -206,6 +225,7 @@ pub fn call_of(alloc: Global, matches: &ArgMatches<'_>) -> Result<Option<Call>, 
         is_outer: inner.get_flag("outer"),
         has_offsets: inner.get_flag("offsets"),
         has_lines: inner.get_flag("lines"),
+        color: color_of(inner.get_str("color")),
     }))
 }
 
@@ -248,5 +268,13 @@ fn form_of(name: Option<&str>) -> Option<InputForm> {
         "pem" => Some(InputForm::Pem),
         "hex" => Some(InputForm::Hex),
         _ => None,
+    }
+}
+
+fn color_of(name: Option<&str>) -> Color {
+    match name {
+        Some("always") => Color::Always,
+        Some("never") => Color::Never,
+        _ => Color::Auto,
     }
 }

@@ -14,6 +14,10 @@ use rasn_lint::{Departure, LintError, OpenTypes, check as check_der, lint};
 use rasn_types::types::{Codec, Hexadecimal};
 use std::alloc::{AllocError, Global};
 
+/// What makes text bold on a terminal, and what ends it (ECMA-48 8.3.117).
+const BOLD: &str = "\x1b[1m";
+const PLAIN: &str = "\x1b[0m";
+
 /// What every message is worked on with.
 #[derive(Clone, Copy)]
 pub struct Tools<'a, 'text> {
@@ -23,6 +27,8 @@ pub struct Tools<'a, 'text> {
     pub known: &'a Known,
     /// The type that is asked for.
     pub wanted: Option<&'a MessageType<'text>>,
+    /// Whether names are in bold.
+    pub is_colored: bool,
 }
 
 /// In which form a message was handed over, and its octets.
@@ -103,6 +109,9 @@ fn answer_by(
         Work::Encode => encode_answer(tools, wanted, input.octets),
         Work::Check if wanted.rule == Codec::Der => checked(tools, wanted, input.octets),
         _ => match text_of(tools, wanted, input.octets) {
+            Ok(text) if tools.is_colored => {
+                Ok(Answer::Done(colored(tools.alloc, text.as_str())?.into_bytes()))
+            }
             Ok(text) => Ok(Answer::Done(text.into_bytes())),
             Err(ReadError::OutOfMemory) => Err(AllocError),
             Err(ReadError::Refused(refusal)) => refusal_answer(tools.alloc, wanted, &refusal),
@@ -211,6 +220,18 @@ fn text_of(
         return offsets_text(alloc, rule, schema, root, wanted.name, octets);
     }
     Ok(String::new(alloc))
+}
+
+/// Returns a text in which the name that begins each line is in bold (ECMA-48 8.3.117).
+fn colored(alloc: Global, text: &str) -> Result<String, AllocError> {
+    let mut shown = String::new(alloc);
+    for line in text.lines() {
+        match line.split_once(": ") {
+            Some((name, value)) => writeln!(shown, "{BOLD}{name}{PLAIN}: {value}")?,
+            None => writeln!(shown, "{BOLD}{line}{PLAIN}")?,
+        }
+    }
+    Ok(shown)
 }
 
 /// Returns the DER octets of a message, in the form in which it was handed over.

@@ -4,12 +4,12 @@
 use clap::ArgMatches;
 use rasn_compiler::{Modules, Source};
 use rasn_print::{
-    Call, Fault, Known, MessageType, Session, Tools, Work, call_of, command, known_of, modules_of,
+    Call, Color, Fault, Known, MessageType, Session, Tools, Work, call_of, command, known_of, modules_of,
     print_types, wanted_type,
 };
 use std::alloc::{AllocError, Global};
 use std::fs::{self, File};
-use std::io::{BufReader, BufWriter, ErrorKind, Read, Write};
+use std::io::{BufReader, BufWriter, ErrorKind, IsTerminal, Read, Write};
 use std::process::ExitCode;
 use std::{env, io};
 
@@ -18,6 +18,9 @@ const REFUSED: u8 = 1;
 
 /// The exit status of a program that is called wrongly, or can't read or write.
 const USAGE: u8 = 2;
+
+/// What erases a line of a terminal (ECMA-48 8.3.41).
+const ERASED: &str = "\x1b[2K";
 
 fn main(rt: HostRuntime) -> ExitCode {
     match run(&rt) {
@@ -130,8 +133,19 @@ fn run_wanted<'a, 'text>(
         read,
         known,
         wanted,
+        is_colored: is_colored(rt, call.color),
     };
     run_work(rt, tools)
+}
+
+/// Returns whether names are in bold: unless it is asked for, on a terminal where `NO_COLOR` isn't
+/// set.
+fn is_colored(rt: &HostRuntime, color: Color) -> bool {
+    match color {
+        Color::Auto => rt.stdout().is_terminal() && env::var(rt, "NO_COLOR").is_err(),
+        Color::Always => true,
+        Color::Never => false,
+    }
 }
 
 /// Runs the work of a call.
@@ -166,8 +180,12 @@ fn inputs<W: Write + Drop, E: Write + Drop>(
     if files.is_empty() {
         return source(rt, "standard input", rt.stdin(), session);
     }
+    let has_progress = has_progress(rt, session.tools.call.work, files.len());
     let mut status = 0;
-    for name in files {
+    for (index, name) in files.iter().enumerate() {
+        if has_progress {
+            print_progress(rt, index, files.len())?;
+        }
         let answer = match File::open(rt, name.as_str()) {
             Ok(file) => source(rt, name, file, session)?,
             Err(error) => unreadable(rt, name, &error)?,
@@ -176,7 +194,22 @@ fn inputs<W: Write + Drop, E: Write + Drop>(
             status = answer;
         }
     }
+    if has_progress {
+        eprint!(rt; "{ERASED}").map_err(Fault::of_write)?;
+    }
     Ok(status)
+}
+
+/// Returns whether a line says how many files are done: of several, on a terminal on which nothing
+/// else is printed but refusals.
+fn has_progress(rt: &HostRuntime, work: Work, count: usize) -> bool {
+    let is_quiet = work == Work::Check || !rt.stdout().is_terminal();
+    count > 1 && is_quiet && rt.stderr().is_terminal()
+}
+
+/// Prints how many files are done, on a line over which the next output is printed.
+fn print_progress(rt: &HostRuntime, done: usize, count: usize) -> Result<(), Fault> {
+    eprint!(rt; "{ERASED}{done} of {count}\r").map_err(Fault::of_write)
 }
 
 /// Works on what a reader has.

@@ -5,7 +5,7 @@
 use clap::ArgMatches;
 use rasn_compiler::Modules;
 use rasn_print::{
-    Call, Fault, Known, MessageType, Session, Tools, call_of, command, known_of, modules_of,
+    Call, Color, Fault, Known, MessageType, Session, Tools, call_of, command, known_of, modules_of,
     wanted_type,
 };
 use std::alloc::{AllocError, Global};
@@ -104,6 +104,7 @@ fn answer_to_call<'a, 'text>(
         read,
         known,
         wanted,
+        is_colored: call.color == Color::Always,
     };
     run(tools, input)
 }
