@@ -24,6 +24,14 @@ use std::alloc::Global;
 ///
 /// # Errors
 /// Those of `decode_with_remainder`.
+///
+/// # Examples
+/// ```
+/// // VisibleString "Jones" in two segments (X.690 8.23)
+/// let octets: &[u8] = &[0x3A, 0x09, 0x04, 0x03, 0x4A, 0x6F, 0x6E, 0x04, 0x02, 0x65, 0x73];
+/// let name: VisibleString = rasn::ber::decode(alloc, octets)?;
+/// // `name` has the octets 4A 6F 6E 65 73
+/// ```
 #[inline(always)]
 pub fn decode<T: Decode>(alloc: Global, input: &[u8]) -> Result<T, DecodeError>
     ensures exact { AnsweredFirst Ber T.shape T.tree input.now result }
@@ -59,6 +67,12 @@ pub fn decode_with_remainder<T: Decode>(
 /// # Errors
 /// The error of the value's `encode` if the value has no encoding under these rules; `OutOfMemory`
 /// if an allocation fails.
+///
+/// # Examples
+/// ```
+/// let octets = rasn::ber::encode(alloc, &true)?;
+/// // `octets` are 01 01 FF (X.690 8.2)
+/// ```
 #[inline(always)]
 pub fn encode<T: Encode>(alloc: Global, value: &T) -> Result<Vec<u8>, EncodeError>
     ensures ok { IfOk result (λ octets. Bytes Ber T.shape (T.tree value.now) octets.items) }

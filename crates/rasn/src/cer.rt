@@ -19,6 +19,15 @@ use std::alloc::Global;
 ///
 /// # Errors
 /// Those of `decode_with_remainder`.
+///
+/// # Examples
+/// ```
+/// // BOOLEAN TRUE, for which CER has the octet FF alone (X.690 11.1)
+/// let value: bool = rasn::cer::decode(alloc, &[0x01, 0x01, 0xFF])?;
+/// // `value` is true
+/// let refused = rasn::cer::decode::<bool>(alloc, &[0x01, 0x01, 0x05]);
+/// // `refused` is an error
+/// ```
 #[inline(always)]
 pub fn decode<T: Decode>(alloc: Global, input: &[u8]) -> Result<T, DecodeError>
     ensures exact { AnsweredFirst Cer T.shape T.tree input.now result }
@@ -54,6 +63,12 @@ pub fn decode_with_remainder<T: Decode>(
 /// # Errors
 /// The error of the value's `encode` if the value has no encoding under these rules; `OutOfMemory`
 /// if an allocation fails.
+///
+/// # Examples
+/// ```
+/// let octets = rasn::cer::encode(alloc, &true)?;
+/// // `octets` are 01 01 FF (X.690 8.2, 11.1)
+/// ```
 #[inline(always)]
 pub fn encode<T: Encode>(alloc: Global, value: &T) -> Result<Vec<u8>, EncodeError>
     ensures ok { IfOk result (λ octets. Bytes Cer T.shape (T.tree value.now) octets.items) }

@@ -30,6 +30,14 @@ use std::alloc::{AllocError, Global};
 /// # Errors
 /// Those of `decode_with_remainder`; `UnexpectedExtraData` with the number of octets if octets
 /// follow the value (X.690 8.1.1.1).
+///
+/// # Examples
+/// ```
+/// // The BIT STRING '0A3B5F291CD'H (X.690 8.6.4.2)
+/// let octets: &[u8] = &[0x03, 0x07, 0x04, 0x0A, 0x3B, 0x5F, 0x29, 0x1C, 0xD0];
+/// let bits: BitString = rasn::der::decode(alloc, octets)?;
+/// // `bits` has 44 bits
+/// ```
 #[inline(always)]
 pub fn decode<T: Decode>(alloc: Global, input: &[u8]) -> Result<T, DecodeError>
     ensures exact { AnsweredAlone Der T.shape T.tree input.now result }
@@ -71,6 +79,12 @@ pub fn decode_with_remainder<T: Decode>(
 /// # Errors
 /// The error of the value's `encode` if the value has no encoding under these rules; `OutOfMemory`
 /// if an allocation fails.
+///
+/// # Examples
+/// ```
+/// let octets = rasn::der::encode(alloc, &true)?;
+/// // `octets` are 01 01 FF (X.690 8.2, 11.1)
+/// ```
 #[inline(always)]
 pub fn encode<T: Encode>(alloc: Global, value: &T) -> Result<Vec<u8>, EncodeError>
     ensures ok { IfOk result (λ octets. Bytes Der T.shape (T.tree value.now) octets.items) }
@@ -120,6 +134,15 @@ pub fn encode_scope<F: FnOnce(&mut Encoder) -> Result<(), EncodeError>>(
 ///
 /// # Errors
 /// `AllocError` if an allocation fails.
+///
+/// # Examples
+/// ```
+/// // TRUE is FF under DER, and any octet except 00 under BER (X.690 8.2.2, 11.1).
+/// let with_ff = rasn::der::is_canonical::<bool>(alloc, &[0x01, 0x01, 0xFF])?;
+/// // `with_ff` is true
+/// let with_05 = rasn::der::is_canonical::<bool>(alloc, &[0x01, 0x01, 0x05])?;
+/// // `with_05` is false
+/// ```
 pub fn is_canonical<T: Decode + Encode + LawfulEq>(
     alloc: Global,
     octets: &[u8],

@@ -70,6 +70,17 @@ impl Error for NormaliseError {}
 /// `Decode` if the rules don't read the input, with `UnexpectedExtraData` and these rules if octets
 /// follow the value (X.690 8.1.1.1). `Encode` if the value has no DER octets. `NotCanonical` if DER
 /// doesn't read these octets, or reads them as another value.
+///
+/// # Examples
+/// ```
+/// // The BIT STRING '0A3B5F291CD'H in two segments (X.690 8.6.4.2)
+/// let octets: &[u8] = &[
+///     0x23, 0x80, 0x03, 0x03, 0x00, 0x0A, 0x3B, 0x03, 0x05, 0x04, 0x5F, 0x29, 0x1C, 0xD0, 0x00,
+///     0x00,
+/// ];
+/// let normal = rasn::normalise::<BitString>(alloc, Codec::Ber, octets)?;
+/// // `normal` is 03 07 04 0A 3B 5F 29 1C D0
+/// ```
 pub fn normalise<T: Decode + Encode + LawfulEq>(
     alloc: Global,
     rule: Codec,

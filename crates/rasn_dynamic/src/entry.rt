@@ -28,7 +28,16 @@ use std::{fmt, mem};
 /// Reads the value with which the input begins. Returns it and what follows it.
 ///
 /// # Errors
-/// As of the reader of a type written in Rattle.
+/// Those of `rasn::decode_with_remainder` for a type written in Rattle that has the same shape.
+///
+/// # Examples
+/// ```
+/// // `id` is the number of BOOLEAN in `schema`.
+/// let octets: &[u8] = &[0x01, 0x01, 0xFF, 0x05, 0x00];
+/// let (value, rest) =
+///     rasn_dynamic::decode_with_remainder(alloc, Codec::Der, &schema, id, octets)?;
+/// // `value` is Value::Boolean(true), and `rest` is the octets 05 00
+/// ```
 pub fn decode_with_remainder<'input>(
     alloc: Global,
     rule: Codec,
@@ -49,7 +58,19 @@ pub fn decode_with_remainder<'input>(
 /// Reads the value that is all of the input.
 ///
 /// # Errors
-/// Returns `UnexpectedExtraData` with the number of octets that follow the value, if some do.
+/// Those of `decode_with_remainder`; `UnexpectedExtraData` with the number of octets that follow the
+/// value, if some do (X.690 8.1.1.1).
+///
+/// # Examples
+/// ```
+/// // `id` is the number of SEQUENCE { name IA5String, ok BOOLEAN } (X.690 8.9.3) in `schema`.
+/// let octets: &[u8] = &[
+///     0x30, 0x0A, 0x16, 0x05, 0x53, 0x6D, 0x69, 0x74, 0x68, 0x01, 0x01, 0xFF,
+/// ];
+/// let value = rasn_dynamic::decode(alloc, Codec::Der, &schema, id, octets)?;
+/// let ok = schema.view(id, &value).get("ok");
+/// // `ok` has the value Value::Boolean(true)
+/// ```
 pub fn decode<'input>(
     alloc: Global,
     rule: Codec,
@@ -72,6 +93,13 @@ pub fn decode<'input>(
 ///
 /// # Errors
 /// As [`decode`].
+///
+/// # Examples
+/// ```
+/// // `id` is the number of BOOLEAN in `schema`; DER has the octet FF for TRUE (X.690 11.1).
+/// let refused = rasn_dynamic::check(alloc, Codec::Der, &schema, id, &[0x01, 0x01, 0x05]);
+/// // `refused` is an error
+/// ```
 pub fn check(
     alloc: Global,
     rule: Codec,
@@ -121,7 +149,16 @@ impl Error for WriteError {}
 ///
 /// # Errors
 /// - `Unfit` exactly if [`fits`] is false, whatever else is wrong with the value, unless memory for the path runs out.
-/// - `Encode` as the writer of a type written in Rattle, with these rules.
+/// - `Encode` with the error of the writer of a type written in Rattle that has the same shape, with these rules.
+///
+/// # Examples
+/// ```
+/// // `id` is the number of BOOLEAN in `schema`.
+/// let octets = rasn_dynamic::encode(alloc, Codec::Der, &schema, id, &Value::Boolean(true))?;
+/// // `octets` are 01 01 FF
+/// let unfit = rasn_dynamic::encode(alloc, Codec::Der, &schema, id, &Value::Null);
+/// // `unfit` is the error WriteError::Unfit with an empty path
+/// ```
 pub fn encode(
     alloc: Global,
     rule: Codec,
@@ -238,6 +275,14 @@ fn out_of_memory(rule: Codec) -> EncodeError
 /// - `Decode` as [`decode`] by these rules.
 /// - `Encode` if the value has no DER octets.
 /// - `NotCanonical` if DER doesn't read these octets, or reads another value.
+///
+/// # Examples
+/// ```
+/// // `id` is the number of BOOLEAN in `schema`.
+/// let octets: &[u8] = &[0x01, 0x01, 0x05];
+/// let normal = rasn_dynamic::normalise(alloc, Codec::Ber, &schema, id, octets)?;
+/// // `normal` is 01 01 FF (X.690 11.1)
+/// ```
 pub fn normalise(
     alloc: Global,
     rule: Codec,
@@ -328,7 +373,15 @@ fn is_read_back(
 /// Returns whether the octets are the one encoding that DER has of a value of the type (X.690 10, 11).
 ///
 /// # Errors
-/// Returns an error if memory runs out.
+/// `AllocError` if memory runs out.
+///
+/// # Examples
+/// ```
+/// // `id` is the number of BOOLEAN in `schema`.
+/// let octets: &[u8] = &[0x01, 0x01, 0x05];
+/// let is_canonical = rasn_dynamic::is_canonical(alloc, &schema, id, octets)?;
+/// // `is_canonical` is false: DER has the octet FF for TRUE (X.690 11.1)
+/// ```
 pub fn is_canonical(
     alloc: Global,
     schema: &Schema,

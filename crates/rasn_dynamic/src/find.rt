@@ -427,6 +427,14 @@ fn refuse(alloc: Global, rule: Codec, schema: &Schema, id: TypeId, input: &[u8])
 ///
 /// # Errors
 /// If a part before it, or the part itself, can't be read: as [`check_or_locate`].
+///
+/// # Examples
+/// ```
+/// // `id` is the number of SEQUENCE { name IA5String, ok BOOLEAN } in `schema`.
+/// let octets: &[u8] = &[0x30, 0x05, 0x16, 0x00, 0x01, 0x01, 0xFF];
+/// let found = rasn_dynamic::find_part(alloc, Codec::Der, &schema, id, octets, &[1])?;
+/// // `found` is the part with the offset 4 and the octets 01 01 FF
+/// ```
 pub fn find_part<'input>(
     alloc: Global,
     rule: Codec,

@@ -111,6 +111,14 @@ pub(crate) fn read_first<'input, M: Made>(
 ///
 /// # Errors
 /// As `decode_with_remainder`, with the place of the innermost value that can't be read.
+///
+/// # Examples
+/// ```
+/// // `id` is the number of SEQUENCE { name IA5String, ok BOOLEAN } in `schema`.
+/// let octets: &[u8] = &[0x30, 0x05, 0x16, 0x00, 0x01, 0x01, 0x05];
+/// let read = rasn_dynamic::decode_or_locate(alloc, Codec::Der, &schema, id, octets);
+/// // The error has the offset 4 and the steps [1]: `ok` isn't DER (X.690 11.1).
+/// ```
 pub fn decode_or_locate<'input>(
     alloc: Global,
     rule: Codec,

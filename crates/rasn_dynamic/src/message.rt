@@ -32,6 +32,16 @@ pub struct MessageParts<'input> {
 ///
 /// # Errors
 /// As [`check_or_locate`](crate::check_or_locate), or if memory for the list of parts runs out.
+///
+/// # Examples
+/// ```
+/// // `id` is the number of SEQUENCE { name IA5String, ok BOOLEAN } in `schema`.
+/// let octets: &[u8] = &[0x30, 0x05, 0x16, 0x00, 0x01, 0x01, 0xFF];
+/// let mut parts = rasn_dynamic::parts_of(alloc, Codec::Der, &schema, id, octets)?;
+/// while let Some(part) = parts.next(alloc)? {
+///     // The parts have the offsets 0, 2 and 4, and `parts.path` is [], [0] and [1].
+/// }
+/// ```
 pub fn parts_of<'input>(
     alloc: Global,
     rule: Codec,

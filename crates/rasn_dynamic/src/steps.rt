@@ -123,7 +123,14 @@ fn append_part(
 /// 0, and has no name. Returns `None` if a step leads to no part.
 ///
 /// # Errors
-/// If memory runs out.
+/// `AllocError` if memory runs out.
+///
+/// # Examples
+/// ```
+/// // `id` is the number of SEQUENCE { name IA5String, ok BOOLEAN } in `schema`.
+/// let path = rasn_dynamic::path_named(alloc, &schema, id, &[Step::Name("ok")])?;
+/// // `path` is [1]
+/// ```
 pub fn path_named(
     alloc: Global,
     schema: &Schema,

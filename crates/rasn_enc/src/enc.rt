@@ -30,6 +30,9 @@ pub trait Encode: AsnType {
         ensures rules { IfErr result (λ e. e.codec ≡ encoder.old.rule) };
 
     /// Writes the value.
+    ///
+    /// # Errors
+    /// Those of `encode_with_tag_and_constraints`.
     #[inline(always)]
     final fn encode(&self, encoder: &mut Encoder) -> Result<(), EncodeError>
         ensures ok { OnOk result (AppendsEncoding Self.shape (Self.tree self.now) encoder.old encoder.new) }
@@ -46,6 +49,9 @@ pub trait Encode: AsnType {
     }
 
     /// Writes the value under this tag.
+    ///
+    /// # Errors
+    /// Those of `encode_with_tag_and_constraints`.
     final fn encode_with_tag(
         &self,
         encoder: &mut Encoder,
@@ -61,6 +67,9 @@ pub trait Encode: AsnType {
     }
 
     /// Writes the value under these constraints.
+    ///
+    /// # Errors
+    /// Those of `encode_with_tag_and_constraints`.
     final fn encode_with_constraints(
         &self,
         encoder: &mut Encoder,

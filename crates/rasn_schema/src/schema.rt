@@ -36,6 +36,19 @@ impl Schema {
     /// # Errors
     /// Returns the first rule that a type breaks; CHOICEs are checked before other types, and
     /// whether defaults are values of their types last. The types are dropped.
+    ///
+    /// # Examples
+    /// ```
+    /// // One type, BOOLEAN, which has the number 0
+    /// let mut types = Vec::new(alloc);
+    /// types.push(Type::Leaf {
+    ///     kind: LeafKind::Boolean,
+    ///     tag: Tag::BOOL,
+    ///     constraints: Constraints::NONE,
+    ///     names: Vec::new(alloc),
+    /// })?;
+    /// let schema = Schema::new(types)?;
+    /// ```
     pub fn new(types: Vec<Type>) -> Result<Schema, SchemaError>
         ensures ok { IfOk result (λ schema. schema.types ≡ types) }
         ensures names { IfOk result (λ schema. schema.names ≡ None) }

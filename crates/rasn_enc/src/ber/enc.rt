@@ -190,7 +190,10 @@ impl Encoder {
         self.rendered()
     }
 
-    /// Returns an error if a size isn't within the bounds of the constraints.
+    /// Checks that a size is within the bounds of the constraints.
+    ///
+    /// # Errors
+    /// `SizeConstraintNotSatisfied` with the size and its bounds if it isn't.
     #[inline(always)]
     pub fn check_size(&self, constraints: &Constraints, size: usize) -> Result<(), EncodeError>
         ensures ok { OnOk result (Admits ◌≤◌ constraints.now.size size) }

@@ -37,8 +37,11 @@ impl CollectedBits {
         }
     }
 
-    /// Appends the bits of the octets, except the last `unused` ones. If an allocation fails, which
-    /// happens only if there are bits to append, nothing is appended.
+    /// Appends the bits of the octets, except the last `unused` ones.
+    ///
+    /// # Errors
+    /// `AllocError` if an allocation fails, which happens only if there are bits to append. Nothing
+    /// is appended then.
     pub fn append(&mut self, octets: &[u8], unused: usize) -> Result<(), AllocError>
         requires few { unused < 8 }
         requires held { unused ≤ 8 * length octets.now }

@@ -84,6 +84,12 @@ impl<'input> Decoder<'input> {
     /// the length is definite, the header and the contents are consumed, and the inner decoder
     /// reads the contents. If it is indefinite, only the header is consumed, and the inner decoder
     /// reads what follows it.
+    ///
+    /// # Errors
+    /// - `ExceedsMaxParseDepth`, which is checked before the header, and framing errors: nothing is
+    ///   consumed.
+    /// - `InvalidConstructedIdentifier` if the encoding must be constructed and isn't: the value is
+    ///   consumed.
     #[inline(always)]
     pub fn open(
         &mut self,
@@ -113,6 +119,12 @@ impl<'input> Decoder<'input> {
 
     /// Closes a value inside which `left` remains. Definite contents must be read entirely; if the
     /// length is indefinite, end-of-contents octets must follow, and are consumed.
+    ///
+    /// # Errors
+    /// - If the length is definite: `UnexpectedExtraData` with the number of octets of `left`, if
+    ///   there are any. Nothing more is consumed.
+    /// - If it is indefinite: `Incomplete` if `left` is empty or one octet 00, and
+    ///   `MissingEndOfContents` if it begins otherwise. The decoder goes on at `left`.
     #[inline(always)]
     pub fn close(
         &mut self,

@@ -27,6 +27,9 @@ fn is_below_last(tag: Tag, last: Option<Tag>) -> bool
 impl<'input> Decoder<'input> {
     /// Returns, under DER, the next tag, which must not be less than the last one (X.690 10.3).
     /// Under the other rules nothing is examined, and `None` is returned.
+    ///
+    /// # Errors
+    /// Only under DER: the errors of `peek_tag`; then `SetComponentsOutOfOrder`.
     pub fn peek_tag_in_order(&self, last: Option<Tag>) -> Result<Option<Tag>, DecodeError>
         ensures { PeeksInOrder last self.now result }
     {

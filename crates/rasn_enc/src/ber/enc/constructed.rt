@@ -64,6 +64,10 @@ impl Encoder {
     }
 
     /// Closes the value that was opened last, or drops it if `outcome` is an error.
+    ///
+    /// # Errors
+    /// The error of `outcome`; `OutOfMemory` if an allocation fails. On error, nothing is written:
+    /// the value is dropped with its contents.
     #[inline(always)]
     pub fn close(&mut self, tag: Tag, outcome: Result<(), EncodeError>) -> Result<(), EncodeError>
         requires { 0 < length self.old.below }

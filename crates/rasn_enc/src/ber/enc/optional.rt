@@ -64,6 +64,9 @@ impl Encoder {
     }
 
     /// Writes nothing: an optional value is left out.
+    ///
+    /// # Errors
+    /// None.
     pub fn encode_none<E: Encode>(&mut self, identifier: Identifier) -> Result<(), EncodeError>
         ensures accepts { result ≡ Ok tt }
         ensures same { self.new ≡ self.old }
@@ -72,6 +75,9 @@ impl Encoder {
     }
 
     /// Writes nothing: an optional value of this tag is left out.
+    ///
+    /// # Errors
+    /// None.
     pub fn encode_none_with_tag(
         &mut self,
         _tag: Tag,

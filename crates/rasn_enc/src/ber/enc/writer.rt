@@ -130,6 +130,9 @@ impl Encoder {
     }
 
     /// Opens a value, whose contents are all that is written until `close`.
+    ///
+    /// # Errors
+    /// Only `OutOfMemory`. On error, no value is opened.
     #[inline(always)]
     pub fn open(&mut self, keeps_tags: bool) -> Result<(), EncodeError>
         ensures ok { OnOk result (self.new ≡ opened self.old keeps_tags) }

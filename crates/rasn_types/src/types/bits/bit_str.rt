@@ -172,7 +172,10 @@ impl<'a> BitStr<'a> {
     }
 
     /// Appends the bits to octets, packed from the first bit of an octet on. The unused bits of the
-    /// last octet are 0. If an allocation fails, nothing is appended.
+    /// last octet are 0.
+    ///
+    /// # Errors
+    /// `AllocError` if an allocation fails. Nothing is appended then.
     pub fn append_to(&self, out: &mut Vec<u8>) -> Result<(), AllocError>
         ensures ok { OnOk result (Pushes self.now out.old.items out.new.items) }
         ensures err { OnErr result (out.new.items ≡ out.old.items) }
