@@ -1,4 +1,4 @@
-//! Reads, writes and checks one value.
+//! Reading, writing and checking one value.
 ghost use Rattle.std.specs.Prelude.{◌≡◌, [], Result, OnOk, OnErr, IfOk, IfErr};
 ghost use Rattle.rasn_types.specs.declared.error.decode.DecodeError.{DecodeError};
 ghost use Rattle.rasn_schema.specs.declared.value.Value.{Value};
@@ -25,7 +25,7 @@ use std::alloc::{AllocError, Global};
 use std::error::Error;
 use std::{fmt, mem};
 
-/// Reads the value with which the input begins. Returns it and what follows it.
+/// Reads the value at the front of the input, and returns it with the remaining octets.
 ///
 /// # Errors
 /// Those of `rasn::decode_with_remainder` for a type written in Rattle that has the same shape.
@@ -55,7 +55,7 @@ pub fn decode_with_remainder<'input>(
     }
 }
 
-/// Reads the value that is all of the input.
+/// Reads an input that is exactly one value.
 ///
 /// # Errors
 /// Those of `decode_with_remainder`; `UnexpectedExtraData` with the number of octets that follow the
@@ -88,7 +88,7 @@ pub fn decode<'input>(
     Ok(value)
 }
 
-/// Returns whether all of the input is one value of the type, as `decode` reads it. No value is made, except of a component with a default
+/// Checks that the input is exactly one value of the type, as `decode` reads it. No value is made, except of a component with a default
 /// under DER, which is compared with the default.
 ///
 /// # Errors
@@ -267,12 +267,12 @@ fn out_of_memory(rule: Codec) -> EncodeError
 
 /// Returns the DER octets of the value that is all of the input by these rules (X.690 10, 11).
 ///
-/// As `rasn::normalise` does for a type written in Rattle: two inputs of carried values have the same octets exactly if their values mean
-/// the same, the octets of the octets are these again, what DER reads is returned as it is, and such an input is refused only if memory
-/// runs out.
+/// As `rasn::normalise` for a type written in Rattle: two inputs of carried values (docs/GLOSSARY.md) have the same octets exactly if their
+/// values mean the same; normalising the result returns the same octets again; an input that DER reads is returned unchanged; and the only
+/// error of such an input is that memory runs out.
 ///
 /// # Errors
-/// - `Decode` as [`decode`] by these rules.
+/// - `Decode` with the error of [`decode`] by these rules.
 /// - `Encode` if the value has no DER octets.
 /// - `NotCanonical` if DER doesn't read these octets, or reads another value.
 ///

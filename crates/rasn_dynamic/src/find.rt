@@ -1,4 +1,4 @@
-//! Finds a part of a message.
+//! Finding a part of a message.
 ghost use Rattle.std.specs.Prelude.{◌≡◌, ◌≢◌, ◌⊎◌, ◌+◌, ◌≤◌, ◌∷◌, [], length, true, OnOk, IfOk, IfErr, MatchOption, MatchBool};
 ghost use Rattle.rasn_types.specs.Errors.{IsOutOfMemory};
 ghost use Rattle.rasn_types.specs.Lawful.{AreLawfulByTag};
@@ -420,13 +420,14 @@ fn refuse(alloc: Global, rule: Codec, schema: &Schema, id: TypeId, input: &[u8])
     }
 }
 
-/// Finds the part of the message to which a path of indices leads: of a component, an alternative
-/// or an element, counted from 0. An explicit tag is a step of its own, with the index 0. Returns
-/// `None` if there is no such part, as a component that is absent or another alternative. The parts
-/// before it are read and not kept, and those after it aren't read.
+/// Finds the part of the message to which a path leads. Each step of the path is the index of a
+/// component, an alternative or an element, counted from 0; an explicit tag is a step of its own,
+/// with the index 0. Returns `None` if there is no such part, because a component is absent, another
+/// alternative is chosen, or there are fewer elements. The parts before it are read and not kept,
+/// and those after it aren't read.
 ///
 /// # Errors
-/// If a part before it, or the part itself, can't be read: as [`check_or_locate`].
+/// The refusal of [`check_or_locate`] if a part before it, or the part itself, can't be read.
 ///
 /// # Examples
 /// ```

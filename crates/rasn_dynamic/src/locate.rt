@@ -1,4 +1,4 @@
-//! Reads a value, or says where it can't be read.
+//! Reading a value, with the place where it can't be read.
 ghost use Rattle.std.specs.Prelude.{◌≡◌, ◌≤◌, ◌<◌, ◌^◌, length, true, Some, IfOk, IfErr};
 ghost use Rattle.rasn_types.specs.Errors.{IsOutOfMemory};
 ghost use Rattle.rasn.specs.Headline.{Answered};
@@ -107,10 +107,10 @@ pub(crate) fn read_first<'input, M: Made>(
     }
 }
 
-/// Reads the value with which the input begins. Returns it and what follows it.
+/// Reads the value at the front of the input, and returns it with the remaining octets.
 ///
 /// # Errors
-/// As `decode_with_remainder`, with the place of the innermost value that can't be read.
+/// The error of `decode_with_remainder`, with the place of the innermost value that can't be read.
 ///
 /// # Examples
 /// ```
@@ -134,7 +134,8 @@ pub fn decode_or_locate<'input>(
     read_first::<Values>(alloc, rule, schema, id, input, &mut no_list())
 }
 
-/// Returns what follows the value with which the input begins. No value is made, as by `check`.
+/// Checks that a value of the type is at the front of the input, and returns the remaining octets. No
+/// value is made, as by `check`.
 ///
 /// # Errors
 /// As [`decode_or_locate`].

@@ -1,4 +1,4 @@
-//! Goes over the parts of a message.
+//! The parts of a message, one after the other.
 ghost use Rattle.std.specs.Prelude.{◌≡◌, ◌⊎◌, OnOk, OnErr, IfOk, IfErr};
 ghost use Rattle.rasn_types.specs.Errors.{IsOutOfMemory};
 ghost use Rattle.rasn_dynamic.specs.Faults.{IsLocated};
@@ -14,21 +14,21 @@ use rasn_types::error::{DecodeError, DecodeErrorKind};
 use rasn_types::types::Codec;
 use std::alloc::{AllocError, Global};
 
-/// The parts of a message, and how many of them were gone over.
+/// The parts of a message, and how many of them `next` has returned.
 #[derive(Drop)]
 pub struct MessageParts<'input> {
     /// The parts in the order of their octets, each before those inside it.
     pub list: Vec<Span<'input>>,
     /// The message and what follows it.
     pub input: &'input [u8],
-    /// How many parts were gone over.
+    /// How many parts `next` has returned.
     pub next: usize,
-    /// The path of the last of them, for `find_part`.
+    /// The path of the last of those, for `find_part`.
     pub path: Vec<usize>,
 }
 
-/// Reads the value with which the input begins, and returns its parts, itself among them. No value
-/// is made of it, as by `check`.
+/// Reads the value at the front of the input, and returns its parts, the value itself among them. No
+/// value is made, as by `check`.
 ///
 /// # Errors
 /// As [`check_or_locate`](crate::check_or_locate), or if memory for the list of parts runs out.
@@ -92,8 +92,8 @@ impl<'input> MessageParts<'input> {
     /// Goes to the next part and returns it, or `None` after the last one.
     ///
     /// # Errors
-    /// `OutOfMemory` if there is no memory for the path: then the part is not gone over. Else the
-    /// framing error of the part's octets, which the parts of a message don't have.
+    /// `OutOfMemory` if there is no memory for the path: the next call tries the same part again.
+    /// Otherwise the framing error of the part's octets, which the parts of a message don't have.
     pub fn next(&mut self, alloc: Global) -> Result<Option<Part<'input>>, DecodeError>
         ensures next { IfOk result (λ found. IsNextOf self.old found self.new) }
         ensures kept { (self.new.list ≡ self.old.list) × (self.new.input.now ≡ self.old.input.now) }

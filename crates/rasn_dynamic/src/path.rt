@@ -5,8 +5,8 @@ ghost use Rattle.rasn_dynamic.specs.Paths.{point_and_index};
 
 use std::fmt;
 
-/// Leads from a value to a part of it: the index of a component or an element, or that of a
-/// CHOICE's alternative, and so on from there. An explicit tag isn't counted.
+/// The way from a value to a part of it: the index of a component, an element or an alternative at
+/// each step. An explicit tag is no step.
 #[derive(Debug, Drop)]
 pub struct ValuePath {
     /// The indices, counted from 0.

@@ -28,8 +28,8 @@ pub struct Refusal {
 }
 
 impl Refusal {
-    /// Returns the refusal with the names on the way from the type that was asked for, whose number
-    /// this is.
+    /// Returns the refusal to be shown with the names of the components and alternatives on the way.
+    /// `id` is the number of the type that was asked for.
     pub fn with_names<'a>(&'a self, schema: &'a Schema, id: TypeId) -> NamedRefusal<'a>
         ensures { (result.refusal.now ≡ self.now) × (result.schema.now ≡ schema.now) × (result.id ≡ id) }
     {

@@ -9,7 +9,8 @@ ghost use Rattle.rasn_schema.specs.Fitting.{IsLeftOutAs, IsListOf, IsNoList, IsS
 use crate::types::{Component, Presence};
 use crate::value::Value;
 
-/// Returns the values of a list.
+/// Returns the components of a SEQUENCE or a SET, or the elements of a SEQUENCE OF: the values in
+/// `Value::Items`. Returns `None` for any other value.
 #[inline(always)]
 pub fn items_of<'value, 'input>(value: &'value Value<'input>) -> Option<&'value [Value<'input>]>
     ensures { MatchOption result (IsNoList value.now) (λ l. IsListOf l.now value.now) }
@@ -20,7 +21,8 @@ pub fn items_of<'value, 'input>(value: &'value Value<'input>) -> Option<&'value 
     }
 }
 
-/// Returns the values of a set.
+/// Returns the elements of a SET OF: the values in `Value::Elements`. Returns `None` for any other
+/// value.
 #[inline(always)]
 pub fn elements_of<'value, 'input>(value: &'value Value<'input>) -> Option<&'value [Value<'input>]>
     ensures { MatchOption result (IsNoSet value.now) (λ l. IsSetOf l.now value.now) }

@@ -163,7 +163,7 @@ pub enum Presence {
 }
 
 impl Type {
-    /// Returns the type's own tag, or `Tag::EOC` if it has none, as a CHOICE.
+    /// Returns the type's own tag, or `Tag::EOC` if it has none, such as a CHOICE.
     #[inline(always)]
     pub fn tag(&self) -> Tag
         ensures { result ≡ tag_of_type self.now }
@@ -223,7 +223,7 @@ pub fn is_unknown_at(types: &[Type], id: TypeId) -> bool
     }
 }
 
-/// Returns the components of a SEQUENCE or a SET, and of any other type none.
+/// Returns the components of a SEQUENCE or a SET. Any other type has none.
 pub fn components_of(ty: &Type) -> &[Component]
     ensures { result.now ≡ components_in ty.now }
 {

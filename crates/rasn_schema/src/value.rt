@@ -48,11 +48,11 @@ pub enum Value<'input> {
 }
 
 impl Value<'_> {
-    /// Returns a copy of the value, with memory of its own: it means the same, and is a value of
-    /// each type of which this is one.
+    /// Returns a copy of the value, which borrows nothing: it means the same, and is a value of each
+    /// type of which this is one.
     ///
     /// # Errors
-    /// Returns an error if there is no memory.
+    /// `AllocError` if an allocation fails.
     pub fn try_clone<'any>(&self, alloc: Global) -> Result<Value<'any>, AllocError>
         ensures copy { IfOk result (λ copy. IsCopy self.now copy) }
         ensures means { IfOk result (λ copy. tree_of copy ≡ tree_of self.now) }
