@@ -56,11 +56,11 @@ impl<'input> Decoder<'input> {
         }
     }
 
-    /// A BIT STRING within a size in bits, as [`decode_bit_string`](Decoder::decode_bit_string) reads
-    /// it. The bits are borrowed exactly where the encoding is primitive.
+    /// Reads a BIT STRING as [`decode_bit_string`](Decoder::decode_bit_string) does, but borrows the
+    /// bits of a primitive encoding from the input.
     ///
     /// # Errors
-    /// Those of `decode_bit_string`; `OutOfMemory` only while segments are gathered.
+    /// Those of `decode_bit_string`; `OutOfMemory` only while segments are collected.
     pub fn decode_bits(
         &mut self,
         tag: Tag,

@@ -61,7 +61,7 @@ impl<'input> Decoder<'input> {
     /// They are borrowed exactly where the encoding is primitive.
     ///
     /// # Errors
-    /// Those of `decode_named_bits`; `OutOfMemory` only while segments are gathered.
+    /// Those of `decode_named_bits`; `OutOfMemory` only while segments are collected.
     pub fn decode_significant_bits(
         &mut self,
         tag: Tag,

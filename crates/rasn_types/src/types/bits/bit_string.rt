@@ -47,7 +47,7 @@ impl BitString {
     /// Returns a copy of the bits of a view.
     ///
     /// # Errors
-    /// Returns an error if there is no memory.
+    /// If an allocation fails.
     pub fn from_bitstr(alloc: Global, bits: &BitStr<'_>) -> Result<BitString, AllocError>
         ensures { IfOk result (λ s. s ≡ bits.now) }
     {
