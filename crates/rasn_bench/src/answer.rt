@@ -40,6 +40,9 @@ pub enum Answer {
 
 impl Answer {
     /// Returns the result for a line without its line feed.
+    ///
+    /// # Errors
+    /// If an allocation fails for the octets of the line.
     pub fn to_line(alloc: Global, line: &str) -> Result<Answer, AllocError>
         ensures { IfOk result (IsAnswerTo line.now) }
     {

@@ -20,6 +20,10 @@ pub enum CallFault {
 
 /// Prints a result for each line of the file that the program's arguments name, or of standard
 /// input. Returns whether all lines were well-formed.
+///
+/// # Errors
+/// `Usage` if the arguments are wrong; `Run` with the fault of `run_by`, also if the file can't be
+/// opened.
 pub fn answer_call<R: Env + Files + Input + Print + AllocGlobal, A: Answers>(
     rt: &R,
     answers: &A,

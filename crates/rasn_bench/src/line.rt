@@ -136,6 +136,9 @@ impl<'line> Request<'line> {
 
     /// Returns the request of a line and the octets that its digits spell; `None` if the line isn't
     /// well-formed.
+    ///
+    /// # Errors
+    /// If an allocation fails.
     pub fn asked(
         alloc: Global,
         line: &'line str,
@@ -153,6 +156,9 @@ impl<'line> Request<'line> {
 
     /// Returns the octets that the digits spell, none for `-`; `None` if they aren't valid
     /// hexadecimal.
+    ///
+    /// # Errors
+    /// If an allocation fails.
     pub fn octets(&self, alloc: Global) -> Result<Option<Vec<u8>>, AllocError>
         ensures { IfOk result (Spells octets_of_digits self.now.digits.now) }
     {

@@ -28,6 +28,9 @@ pub enum NormalAnswer {
 
 impl NormalAnswer {
     /// Returns the result for a line without its line feed.
+    ///
+    /// # Errors
+    /// If an allocation fails for the octets of the line.
     pub fn to_line(alloc: Global, line: &str) -> Result<NormalAnswer, AllocError>
         ensures { IfOk result (IsNormalAnswerTo line.now) }
     {

@@ -63,10 +63,16 @@ pub trait Answers {
     ghost IsNormalAnswer: { Self → List ℕ → NormalAnswer → Type 0 };
 
     /// Returns the result for a line without its line feed.
+    ///
+    /// # Errors
+    /// If an allocation fails.
     fn answer(&self, alloc: Global, line: &str) -> Result<Self::Answer, AllocError>
         ensures { IfOk result (IsAnswer self.now line.now) };
 
     /// Returns the result for a line without its line feed: the DER octets of its value alone.
+    ///
+    /// # Errors
+    /// If an allocation fails.
     fn normal_answer(&self, alloc: Global, line: &str) -> Result<NormalAnswer, AllocError>
         ensures { IfOk result (IsNormalAnswer self.now line.now) };
 }
@@ -97,6 +103,10 @@ impl Answers for WorkedTypes {
 /// Writes a line to the output for each line of the input, skipping empty ones. Returns whether all
 /// lines were well-formed. A line ends with a line feed, and the last one may end with the input.
 /// One line is held in memory at a time.
+///
+/// # Errors
+/// `Read` if the input can't be read or isn't UTF-8, `Write` if the output can't be written,
+/// `Memory` if an allocation of the program itself fails.
 pub fn run<R: BufRead, W: Write>(
     alloc: Global,
     input: &mut R,
@@ -106,6 +116,9 @@ pub fn run<R: BufRead, W: Write>(
 }
 
 /// Works like `run`, but writes only the DER octets of each line's value.
+///
+/// # Errors
+/// Those of `run`.
 pub fn run_normalise<R: BufRead, W: Write>(
     alloc: Global,
     input: &mut R,
@@ -115,6 +128,9 @@ pub fn run_normalise<R: BufRead, W: Write>(
 }
 
 /// Works like `run`, or like `run_normalise` if `normalises`, with results from `answers`.
+///
+/// # Errors
+/// Those of `run`.
 pub fn run_by<A: Answers, R: BufRead, W: Write>(
     alloc: Global,
     answers: &A,

@@ -33,11 +33,22 @@ pub struct Modules<'text> {
 }
 
 impl<'text> Modules<'text> {
-    /// Reads all modules of some texts (X.680 13), as far as they have no faults. Each has the name
-    /// of its text.
+    /// Reads all modules of these texts (X.680 13). Each has the name of its text. An assignment or
+    /// a module that can't be read is left out, and its fault is in `faults`.
     ///
     /// # Errors
-    /// Returns an error if memory runs out.
+    /// `AllocError` if memory runs out.
+    ///
+    /// # Examples
+    /// ```
+    /// let source = Source {
+    ///     name: "names.asn1",
+    ///     text: "Names DEFINITIONS ::= BEGIN \
+    ///         Person ::= SEQUENCE { name IA5String, ok BOOLEAN } END",
+    /// };
+    /// let modules = Modules::parse(alloc, &[source])?;
+    /// // `modules` has the module Names, and `modules.faults` is empty
+    /// ```
     pub fn parse(alloc: Global, sources: &[Source<'text>]) -> Result<Modules<'text>, AllocError>
         ensures { IfOk result (λ read. AreOf sources.now read.modules.items) }
     {

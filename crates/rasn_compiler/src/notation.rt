@@ -33,7 +33,7 @@ impl Resolved {
     /// asked for.
     ///
     /// # Errors
-    /// Returns an error if memory runs out.
+    /// `AllocError` if memory runs out.
     pub fn notation(&self, alloc: Global) -> Result<Notation<'_>, AllocError> {
         let schema = &self.schema;
         Ok(Notation {

@@ -57,7 +57,14 @@ impl<'text> Modules<'text> {
     /// component: what a newer version of the module has there is kept (X.680 25).
     ///
     /// # Errors
-    /// Returns the first fault that is found in what the type is made of, or that memory ran out.
+    /// `Fault` with the first fault that is found in what the type is made of; `OutOfMemory` if
+    /// memory runs out.
+    ///
+    /// # Examples
+    /// ```
+    /// let person = modules.schema(alloc, "Names", "Person")?;
+    /// let value = rasn_dynamic::decode(alloc, Codec::Der, &person.schema, person.root, octets)?;
+    /// ```
     pub fn schema(&self, alloc: Global, module: &str, name: &str) -> Result<Resolved, Stop<'text>>
         ensures root { IfOk result (λ r. r.root.0 < length r.schema.types.items) }
         ensures named { IfOk result (λ r. (names : _) × (r.schema.names ≡ Some names) × IsNamed names.items name.now r.root) }

@@ -32,6 +32,13 @@ use thiserror::Error;
 /// - `WrongSize` for a BIT STRING that hasn't the one size of its type.
 /// - `TooDeep` if arrays and objects would be nested more than [`MAX_NESTING`] deep.
 /// - `OutOfMemory`.
+///
+/// # Examples
+/// ```
+/// // `value` is one of SEQUENCE { name IA5String, ok BOOLEAN } (X.690 8.9.3), and `id` is its type.
+/// let text = rasn_json::to_json(alloc, &schema, id, &value, Layout::Compact)?;
+/// // `text` is {"name":"Smith","ok":true}
+/// ```
 pub fn to_json(
     alloc: Global,
     schema: &Schema,
@@ -110,8 +117,16 @@ fn text_of(octets: Vec<u8>) -> String
 /// Returns the value that a JSON text is (X.697). It borrows nothing from the text.
 ///
 /// # Errors
-/// Says which part is refused and why: `Syntax` if the text isn't JSON, and else the first part, in
-/// the order of the components, that isn't a value of its type.
+/// `Syntax` if the text isn't JSON; otherwise why the first part, in the order of the components,
+/// isn't a value of its type, with its place; `OutOfMemory`.
+///
+/// # Examples
+/// ```
+/// // `id` is the number of SEQUENCE { name IA5String, ok BOOLEAN } in `schema`.
+/// let value = rasn_json::from_json(alloc, &schema, id, r#"{"name":"Smith","ok":true}"#)?;
+/// let refused = rasn_json::from_json(alloc, &schema, id, r#"{"name":"Smith","ok":1}"#);
+/// // `refused` is an error at the member `ok`
+/// ```
 pub fn from_json<'any>(
     alloc: Global,
     schema: &Schema,
@@ -162,7 +177,17 @@ impl EncodeJsonError {
 /// Returns the JSON text of the value that is all of the input by these rules.
 ///
 /// # Errors
-/// As [`rasn_dynamic::decode`], and as [`to_json`] of what it returns.
+/// `Decode` with the error of [`rasn_dynamic::decode`], or `Json` with that of [`to_json`].
+///
+/// # Examples
+/// ```
+/// // `id` is the number of SEQUENCE { name IA5String, ok BOOLEAN } (X.690 8.9.3) in `schema`.
+/// let octets: &[u8] = &[
+///     0x30, 0x0A, 0x16, 0x05, 0x53, 0x6D, 0x69, 0x74, 0x68, 0x01, 0x01, 0xFF,
+/// ];
+/// let text = rasn_json::json(alloc, Codec::Der, &schema, id, octets, Layout::Compact)?;
+/// // `text` is {"name":"Smith","ok":true}
+/// ```
 pub fn json(
     alloc: Global,
     rule: Codec,
@@ -187,7 +212,15 @@ pub fn json(
 /// Returns the octets, by these rules, of the value that a JSON text is.
 ///
 /// # Errors
-/// As [`from_json`], and as [`rasn_dynamic::encode`] of what it returns.
+/// `Json` with the error of [`from_json`], or `Encode` with that of [`rasn_dynamic::encode`].
+///
+/// # Examples
+/// ```
+/// // `id` is the number of SEQUENCE { name IA5String, ok BOOLEAN } (X.690 8.9.3) in `schema`.
+/// let text = r#"{"name":"Smith","ok":true}"#;
+/// let octets = rasn_json::encode(alloc, Codec::Der, &schema, id, text)?;
+/// // `octets` are 30 0A 16 05 53 6D 69 74 68 01 01 FF
+/// ```
 pub fn encode(
     alloc: Global,
     rule: Codec,

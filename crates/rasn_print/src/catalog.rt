@@ -76,8 +76,12 @@ pub fn wanted_type<'text>(
     }
 }
 
-/// Prints the types that are known: how many constraints of each aren't checked, or why it isn't
-/// known.
+/// Prints a line for each type of the modules: its name, how many of its constraints aren't
+/// checked, or why it has no schema.
+///
+/// # Errors
+/// `Write` if the output can't be written, `Closed` if its reader has gone, `Memory` if memory runs
+/// out.
 pub fn print_types<W: Write>(
     alloc: Global,
     read: &Modules<'_>,

@@ -56,7 +56,10 @@ pub struct Call {
     pub color: Color,
 }
 
-/// Returns the program's command.
+/// Returns the program's command: its subcommands, options and help.
+///
+/// # Errors
+/// `AllocError` if memory runs out.
 pub fn command<'a>(alloc: Global) -> Result<Command<'a>, AllocError> {
     Command::new(alloc, "soqavise")
         .bin_name("soqavise")?
@@ -204,7 +207,10 @@ fn flag<'a>(alloc: Global, name: &'a str, help: &'a str) -> Arg<'a> {
         .help(help)
 }
 
-/// Returns what the command line asks for.
+/// Returns what the command line asks for, or `None` if it has no subcommand of `command`.
+///
+/// # Errors
+/// `AllocError` if memory runs out.
 pub fn call_of(alloc: Global, matches: &ArgMatches<'_>) -> Result<Option<Call>, AllocError> {
     let Some((name, inner)) = matches.subcommand() else {
         return Ok(None);

@@ -255,7 +255,11 @@ fn header_of(alloc: Global, octets: &[u8]) -> Result<Header<'_>, DecodeError> {
 
 /// Returns the octets of BER as lines: where each encoding begins, how many octets its header and
 /// its contents have, its tag, and the value if it is one of a universal type that holds no others.
-/// What follows a fault isn't there.
+/// The lines end before the first encoding whose header can't be read, and the second value says
+/// where that is and why.
+///
+/// # Errors
+/// `AllocError` if memory runs out.
 pub fn dump_text(
     alloc: Global,
     known: &Known,

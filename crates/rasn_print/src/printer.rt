@@ -38,7 +38,10 @@ struct Place<'a> {
     hint: Option<&'static str>,
 }
 
-/// Returns a value as indented lines. The first one is titled so.
+/// Returns a value as indented lines, the first of which has this title.
+///
+/// # Errors
+/// `AllocError` if memory runs out.
 pub fn value_text(
     alloc: Global,
     known: &Known,

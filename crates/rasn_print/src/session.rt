@@ -36,12 +36,20 @@ impl<W: Write + Drop, E: Write + Drop> Session<'_, '_, W, E> {
             .map_err(Fault::of_write)
     }
 
-    /// Flushes what was written.
+    /// Flushes the output.
+    ///
+    /// # Errors
+    /// `Write` if it can't be written, `Closed` if its reader has gone, `Memory` if memory runs
+    /// out.
     pub fn flush(&mut self) -> Result<(), Fault> {
         self.output.flush().map_err(Fault::of_write)
     }
 
-    /// Works on the messages of an input.
+    /// Works on the messages of an input. A message that is refused sets `is_refused` and is no
+    /// error.
+    ///
+    /// # Errors
+    /// As `flush`.
     pub fn input(&mut self, name: &str, octets: &[u8]) -> Result<(), Fault> {
         let alloc = self.tools.alloc;
         if self.tools.call.work == Work::Encode {
@@ -135,7 +143,11 @@ impl<W: Write + Drop, E: Write + Drop> Session<'_, '_, W, E> {
         Ok(())
     }
 
-    /// Works on each line of an input, and prints a line for it.
+    /// Works on each line of an input, and prints a line for it. A line that is refused, and an
+    /// input that can't be read, set `is_refused` and are no errors.
+    ///
+    /// # Errors
+    /// As `flush`.
     pub fn lines<R: BufRead + Drop>(&mut self, name: &str, reader: R) -> Result<(), Fault> {
         for line in reader.lines(self.tools.alloc) {
             match line {

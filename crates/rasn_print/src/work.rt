@@ -16,6 +16,7 @@ use std::alloc::{AllocError, Global};
 
 /// What makes text bold on a terminal, and what ends it (ECMA-48 8.3.117).
 const BOLD: &str = "\x1b[1m";
+
 const PLAIN: &str = "\x1b[0m";
 
 /// What every message is worked on with.
@@ -54,6 +55,9 @@ pub enum Answer {
 
 /// Returns what is printed for a message: of the type that is asked for, or that its label names,
 /// or of the first of the messages of standards that it is.
+///
+/// # Errors
+/// `AllocError` if memory runs out.
 pub fn answer_to(tools: &Tools<'_, '_>, input: &Input<'_>) -> Result<Answer, AllocError> {
     if let Some(wanted) = tools.wanted {
         return answer_by(tools, wanted, input);
