@@ -63,7 +63,7 @@ pub struct Call {
 pub fn command<'a>(alloc: Global) -> Result<Command<'a>, AllocError> {
     Command::new(alloc, "soqavise")
         .bin_name("soqavise")?
-        .version("0.1.0")
+        .version("0.31.0")
         .about("Shows, checks and converts messages of ASN.1 in BER, CER and DER")
         .subcommand_required(true)
         .subcommand(
