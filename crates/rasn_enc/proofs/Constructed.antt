@@ -6,3 +6,4 @@ pub mod Prefix
 pub mod Any
 pub mod Unknown
 pub mod Optional
+pub mod ValueErrors

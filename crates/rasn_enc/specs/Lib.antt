@@ -19,3 +19,4 @@ pub mod Any
 pub mod Unknown
 pub mod Buffer
 pub mod AlternativeTypes
+pub mod ValueErrors

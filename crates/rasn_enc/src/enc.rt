@@ -11,6 +11,15 @@ use rasn_types::types::{AsnType, Constraints, Identifier, Tag};
 /// A value that can be written. The methods that take no tag or no constraints use those of the
 /// type. The name of a field is ignored.
 pub trait Encode: AsnType {
+    ghost use Rattle.rasn_types.specs.declared.types.tag.Tag.{Tag};
+    ghost use Rattle.rasn_types.specs.declared.types.constraints.Constraints.{Constraints};
+    ghost use Rattle.rasn_types.specs.declared.types.codec.Codec.{Codec};
+    ghost use Rattle.rasn_types.specs.declared.error.encode.EncodeError.{EncodeError};
+
+    /// What a contract says of an error besides `refused`: which error a value has under a tag,
+    /// constraints and rules. By default it says nothing.
+    ghost errors: { Tag → Constraints → Self → Codec → EncodeError → Type 0 } = { λ _ _ _ _ _. Unit {0} };
+
     /// Writes the value under this tag and these constraints.
     ///
     /// # Errors
@@ -27,6 +36,7 @@ pub trait Encode: AsnType {
         ensures ok { OnOk result (AppendsEncoding (tagged_as tag constraints.now Self.shape) (Self.tree self.now) encoder.old encoder.new) }
         ensures err { OnErr result (encoder.new ≡ encoder.old) }
         ensures refused { IfErr result (EncodeFails (tagged_as tag constraints.now Self.shape) (Self.tree self.now) encoder.old) }
+        ensures errors { IfErr result (Self.errors tag constraints.now self.now encoder.old.rule) }
         ensures rules { IfErr result (λ e. e.codec ≡ encoder.old.rule) };
 
     /// Writes the value.
@@ -38,6 +48,7 @@ pub trait Encode: AsnType {
         ensures ok { OnOk result (AppendsEncoding Self.shape (Self.tree self.now) encoder.old encoder.new) }
         ensures err { OnErr result (encoder.new ≡ encoder.old) }
         ensures refused { IfErr result (EncodeFails Self.shape (Self.tree self.now) encoder.old) }
+        ensures errors { IfErr result (Self.errors Self.TAG Self.CONSTRAINTS self.now encoder.old.rule) }
         ensures rules { IfErr result (λ e. e.codec ≡ encoder.old.rule) }
     {
         self.encode_with_tag_and_constraints(
@@ -61,6 +72,7 @@ pub trait Encode: AsnType {
         ensures ok { OnOk result (AppendsEncoding (tagged_as tag Self.CONSTRAINTS Self.shape) (Self.tree self.now) encoder.old encoder.new) }
         ensures err { OnErr result (encoder.new ≡ encoder.old) }
         ensures refused { IfErr result (EncodeFails (tagged_as tag Self.CONSTRAINTS Self.shape) (Self.tree self.now) encoder.old) }
+        ensures errors { IfErr result (Self.errors tag Self.CONSTRAINTS self.now encoder.old.rule) }
         ensures rules { IfErr result (λ e. e.codec ≡ encoder.old.rule) }
     {
         self.encode_with_tag_and_constraints(encoder, tag, &Self::CONSTRAINTS, identifier)
@@ -79,6 +91,7 @@ pub trait Encode: AsnType {
         ensures ok { OnOk result (AppendsEncoding (tagged_as Self.TAG constraints.now Self.shape) (Self.tree self.now) encoder.old encoder.new) }
         ensures err { OnErr result (encoder.new ≡ encoder.old) }
         ensures refused { IfErr result (EncodeFails (tagged_as Self.TAG constraints.now Self.shape) (Self.tree self.now) encoder.old) }
+        ensures errors { IfErr result (Self.errors Self.TAG constraints.now self.now encoder.old.rule) }
         ensures rules { IfErr result (λ e. e.codec ≡ encoder.old.rule) }
     {
         self.encode_with_tag_and_constraints(encoder, Self::TAG, constraints, identifier)

@@ -1,5 +1,5 @@
 -- Primitive values after octets, header first.
-use Rattle.std.proofs.Common.{◌≡◌, ℕ, ◌<◌, List, ◌++◌, length, refl, ◌∙◌}
+use Rattle.std.proofs.Common.{◌≡◌, ℕ, ◌<◌, List, ◌++◌, length, ◌∙◌}
 use Rattle.std.proofs.lemmas.List.{append_assoc}
 use Rattle.rasn_types.specs.Tags.{tag_bit}
 use Rattle.rasn_types.specs.declared.types.tag.Tag.{Tag}

@@ -1,11 +1,12 @@
 -- Elements, one after the other.
 use Rattle.std.proofs.Common.{◌≡◌, ◌≢◌, ◌≤◌, ◌-◌, ℕ, List, [], ◌∷◌, ◌++◌, length, map, take, drop, get_or, arith, refl, sym, ap, ◌∙◌, subst, Option, None, option_map, ◌⊎◌, Result, Ok, Err, OnOk, IfErr, false, inl, inr}
-use Rattle.std.proofs.lemmas.List.{append_assoc, append-nil, take_rest}
+use Rattle.std.proofs.lemmas.List.{append_assoc, append-nil, map-append, take_rest}
 use Rattle.std.proofs.lemmas.Result.{on_ok_weaker, IfErr-weaker}
 use Rattle.std.specs.Fn.{FnOnceReturnsAtMut}
 use Rattle.rasn_types.specs.Shapes.{Shape, Tree, items, absent, list, Admits}
 use Rattle.rasn_types.specs.Contents.{joined_lists}
 use Rattle.rasn_types.specs.Bytes.{Bytes, IsUntaggedOpen, ConstructedEncoding, Each}
+use Rattle.rasn_types.specs.declared.types.codec.Codec.{Codec}
 use Rattle.rasn_types.specs.declared.types.tag.Tag.{Tag}
 use Rattle.rasn_types.specs.declared.types.constraints.Bound.{Bound}
 use Rattle.rasn_types.specs.declared.types.constraints.Constraints.{Constraints}
@@ -16,6 +17,7 @@ use Rattle.rasn_enc.specs.Primitive.{IsAllocError}
 use Rattle.rasn_enc.specs.Closures.{EncodeClosure, AppendsEnclosed, MayFail}
 use Rattle.rasn_enc.specs.Encoding.{AppendsEncoding, EncodeFails, NoEncoding}
 use Rattle.rasn_enc.specs.SequenceOf.{AppendsElements, FailsAtElement, FailsAtList}
+use Rattle.rasn_enc.specs.ValueErrors.{IsErrorOfElement}
 use Rattle.rasn_enc.proofs.Leaves.Primitive.{cons_begins, encoded_one}
 use Rattle.rasn_enc.proofs.Leaves.Segments.{each_one, joined_behind, others_more}
 
@@ -27,6 +29,10 @@ list_not_absent (t ∷ ts) e = cc
 pub split_is : {X : Type 0} (f : X → Tree) (l : List X) (x : X) → 1 ≤ length l → x ≡ get_or l 0 x → map f l ≡ f x ∷ map f (take (length l - 1) (drop 1 l))
 split_is f [] x h e = absurd (omega arith)
 split_is f (y ∷ l) x h e = rw e (ap (λ m. f y ∷ map f m) (sym (take_rest (y ∷ l) 1)))
+
+pub split_values : {X : Type 0} (l : List X) (x : X) → 1 ≤ length l → x ≡ get_or l 0 x → l ≡ x ∷ take (length l - 1) (drop 1 l)
+split_values [] x h e = absurd (omega arith)
+split_values (y ∷ l) x h e = rw e (ap (λ m. y ∷ m) (sym (take_rest (y ∷ l) 1)))
 
 -- Elements follow the last list, and the rest of them remains.
 pub record ElementsSoFar (s : Shape) (ts rest : List Tree) (v w : View) : Type 0 where
@@ -79,6 +85,36 @@ module _ (s : Shape) (ts rest after : List Tree) (t : Tree) (v u : View) (k : El
       | inr (inr n) ↦ absurd (n.keeps k.no_tags)
     ];
   }
+
+-- These are the trees of the values before the rest.
+pub record AreTreesBefore {D : Type 0} (tree : D → Tree) (vs rest : List D) (ts : List Tree) : Type 0 where
+  pub front : List D
+  pub is : vs ≡ front ++ rest
+  pub trees : ts ≡ map tree front
+
+module _ {D : Type 0} (tree : D → Tree) (vs : List D) where
+  pub none_before : AreTreesBefore tree vs vs []
+  none_before = record { front = []; is = refl; trees = refl }
+
+  module _ (rest after : List D) (x : D) (is : rest ≡ x ∷ after) where
+    pub one_more_before : (ts : List Tree) → AreTreesBefore tree vs rest ts → AreTreesBefore tree vs after (ts ++ tree x ∷ [])
+    one_more_before ts k = record {
+      front = k.front ++ x ∷ [];
+      is = k.is ∙ (ap (λ l. k.front ++ l) is ∙ sym (append_assoc k.front (x ∷ []) after));
+      trees = ap (λ l. l ++ tree x ∷ []) k.trees ∙ sym (map-append tree k.front (x ∷ []));
+    }
+
+    pub element_error : (s : Shape) (errors : D → Codec → EncodeError → Type 0) (v u : View) (k : ElementsSoFar s (map tree vs) (map tree rest) v u) → AreTreesBefore tree vs rest k.front
+        → (e : EncodeError) → errors x u.rule e → IsErrorOfElement s tree (λ d. errors d v.rule) vs v.rule e
+    element_error s errors v u k b e h = record {
+      front = b.front;
+      value = x;
+      back = after;
+      is = b.is ∙ ap (λ l. b.front ++ l) is;
+      encoded = k.encoded;
+      before = subst (λ l. Each (Bytes v.rule s) l k.encoded) b.trees k.each;
+      error = subst (λ rule. errors x rule e) k.others.rule h;
+    }
 
 abbrev pub elements_end : (s : Shape) (ts : List Tree) (v u : View) → ElementsSoFar s ts [] v u → AppendsElements s ts v u
 elements_end s ts v u k = record {

@@ -38,7 +38,7 @@ between_is whole a b c i j e p q =
     let n : j - i ≡ length b = omega (arith, p, q) in
     rw (n, p, e) (ap (λ l. take (length b) l) (drop-append_seam a (b ++ c)) ∙ take-append_seam b c)
 
-pub set_of_start : (s : Shape) (ts : List Tree) (v : View) (start : ℕ) → v.last.tags ≡ None → start ≡ length v.last.octets → SetOfSoFar s ts ts v v start
+abbrev pub set_of_start : (s : Shape) (ts : List Tree) (v : View) (start : ℕ) → v.last.tags ≡ None → start ≡ length v.last.octets → SetOfSoFar s ts ts v v start
 set_of_start s ts v start n e = record {
   so_far = elements_start s ts v n;
   order = tt;
@@ -55,7 +55,7 @@ set_of_end s ts v u start k = record { wrote = elements_end s ts v u k.so_far; o
 -- One more element is written: its octets, and those before it.
 module _ (s : Shape) (ts rest after : List Tree) (t : Tree) (v u w : View) (start middle : ℕ) (k : SetOfSoFar s ts rest v u start) (is : rest ≡ t ∷ after) (a : AppendsEncoding s t u w)
     (e : middle ≡ length u.last.octets) where
-  more_is : w.last.octets ≡ u.last.octets ++ a.octets
+  pub more_is : w.last.octets ≡ u.last.octets ++ a.octets
   more_is = ap (λ (x : View). x.last.octets) a.appended
 
   pub places_rise : start ≤ middle
@@ -64,14 +64,14 @@ module _ (s : Shape) (ts rest after : List Tree) (t : Tree) (v u w : View) (star
   pub place_within : middle ≤ length w.last.octets
   place_within = let l = ap length more_is ∙ length-append u.last.octets a.octets in omega (arith, e, l)
 
-  next_is : drop middle w.last.octets ≡ a.octets
+  pub next_is : drop middle w.last.octets ≡ a.octets
   next_is = rw (e, more_is) (drop-append_seam u.last.octets a.octets)
 
-  piece_is : take (middle - start) (drop start w.last.octets) ≡ k.piece
+  pub piece_is : take (middle - start) (drop start w.last.octets) ≡ k.piece
   piece_is = between_is w.last.octets k.before k.piece a.octets start middle (more_is ∙ (ap (λ l. l ++ a.octets) k.is ∙ append_assoc k.before k.piece a.octets)) k.starts
       (e ∙ (ap length k.is ∙ length-append k.before k.piece))
 
-  pub set_of_more : (IsLess (drop middle w.last.octets) (take (middle - start) (drop start w.last.octets)) → ⊥) → SetOfSoFar s ts after v w middle
+  abbrev pub set_of_more : (IsLess (drop middle w.last.octets) (take (middle - start) (drop start w.last.octets)) → ⊥) → SetOfSoFar s ts after v w middle
   set_of_more n = record {
     so_far = elements_more s ts rest after t v u k.so_far is w a;
     order = in_order k.so_far.encoded k.piece a.octets k.order k.ends (λ h. n (rw (next_is, piece_is) h));

@@ -1,9 +1,9 @@
 -- Unknown values are written as their octets, one value after the other.
-use Rattle.std.proofs.Common.{◌≡◌, ◌≢◌, ◌≤◌, ◌-◌, ◌||◌, ℕ, suc, List, [], ◌∷◌, ◌++◌, length, map, take, drop, get_or, arith, rules, refl, sym, ap, ap₂, ◌∙◌, subst, Option, Some, None, nat_eq, not, T, Bool, true, false, Result, Ok, Err, OnOk, IfErr, inl, inr, ◌⊎◌}
+use Rattle.std.proofs.Common.{◌≡◌, ◌≢◌, ◌≤◌, ◌-◌, ◌||◌, ℕ, List, [], ◌∷◌, ◌++◌, length, map, take, drop, get_or, arith, rules, refl, sym, ap, ap₂, ◌∙◌, subst, None, nat_eq, not, T, Bool, true, false, Result, IfErr, inl, inr}
 use Rattle.std.proofs.lemmas.Bool.Decides.{nat_tests}
 use Rattle.std.proofs.lemmas.List.{append_assoc, append-nil, take_rest}
-use Rattle.std.proofs.lemmas.Result.{on_ok_weaker, IfErr-weaker}
-use Rattle.rasn_types.specs.Shapes.{Tree, numbers, items, unknown}
+use Rattle.std.proofs.lemmas.Result.{IfErr-weaker}
+use Rattle.rasn_types.specs.Shapes.{Tree, numbers, unknown}
 use Rattle.rasn_types.specs.Trees.{list_tree}
 use Rattle.rasn_types.specs.Contents.{joined_lists}
 use Rattle.rasn_types.specs.Bytes.{Bytes, IsUntaggedOpen, Each, TagsOf}

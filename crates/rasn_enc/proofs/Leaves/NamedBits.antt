@@ -1,13 +1,12 @@
 -- Named bits are written as bits without a constraint.
-use Rattle.std.proofs.Common.{◌≡◌, ◌≤◌, ◌+◌, ℕ, inl, inr, List, Bool, length, Result, OnOk, IfErr, refl, sym, ap, ◌∙◌, subst}
+use Rattle.std.proofs.Common.{◌≡◌, ℕ, inl, inr, List, Bool, length, Result, OnOk, IfErr, sym, ap, ◌∙◌, subst}
 use Rattle.std.proofs.lemmas.Result.{on_ok_weaker, IfErr-weaker}
 use Rattle.rasn_types.specs.declared.types.tag.Tag.{Tag}
 use Rattle.rasn_types.specs.declared.types.codec.Codec.{Codec}
 use Rattle.rasn_types.specs.declared.types.constraints.Constraints.{Constraints}
 use Rattle.rasn_types.specs.declared.error.encode.EncodeError.{EncodeError}
 use Rattle.rasn_types.specs.declared.error.encode.EncodeErrorKind.TheVariants.{SizeConstraintNotSatisfied}
-use Rattle.rasn_types.specs.Tags.{in_universal}
-use Rattle.rasn_types.specs.Shapes.{Tree, bits, leaf, bit_string, named_bits, AdmitsPadded, constraint_of}
+use Rattle.rasn_types.specs.Shapes.{bits, leaf, bit_string, named_bits, AdmitsPadded, constraint_of}
 use Rattle.rasn_types.specs.BitString.{significant}
 use Rattle.rasn_types.specs.NamedBits.{named_bits_tree}
 use Rattle.rasn_types.specs.Trees.{unconstrained}

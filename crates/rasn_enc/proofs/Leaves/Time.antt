@@ -1,5 +1,5 @@
 -- The texts of times in a header are their octets.
-use Rattle.std.proofs.Common.{◌≡◌, ℕ, zero, suc, ◌+◌, ◌-◌, ◌/◌, ◌%◌, ◌^◌, ◌<◌, ◌≤◌, ◌==◌, ◌⊎◌, inl, inr, ap, Bool, true, false, cond, List, [], ◌∷◌, ◌++◌, map, length, refl, Result, OnOk, pos, negsuc, ℤ, arith, subst}
+use Rattle.std.proofs.Common.{◌≡◌, ℕ, zero, suc, ◌+◌, ◌-◌, ◌/◌, ◌%◌, ◌^◌, ◌<◌, ◌≤◌, ◌==◌, inl, ap, Bool, true, false, cond, List, [], ◌∷◌, ◌++◌, map, length, refl, Result, OnOk, pos, negsuc, ℤ, arith, subst}
 use Rattle.std.specs.Prelude.{nat_lt}
 use Rattle.std.proofs.lemmas.Bool.Decides.{nat_tests}
 use Rattle.std.proofs.lemmas.Result.{on_ok_weaker}

@@ -21,7 +21,7 @@ use Rattle.rasn_enc.specs.View.{View, opened, kept_of, AreTagsInOrder}
 use Rattle.rasn_enc.specs.Closures.{EncodeClosure, AppendsEnclosedInOrder, FailsAtEnclosed}
 use Rattle.rasn_enc.specs.Encoding.{AppendsEncoding, NoEncoding, EncodeFails}
 use Rattle.rasn_enc.specs.Sequence.{AppendsParts, EncodesParts, NoEncodingOfParts, HasUntaggedInSet}
-use Rattle.rasn_enc.specs.Set.{FallsInSet, FailsAtSet}
+use Rattle.rasn_enc.specs.Set.{FailsAtSet}
 use Rattle.rasn_enc.proofs.Leaves.Primitive.{cons_begins, encoded_one}
 
 keeps_tags : (v : View) → (opened v true).last.tags ≢ None

@@ -15,6 +15,8 @@ pub trait EncodeAlternative: Drop {
     ghost use Rattle.std.specs.Prelude.{ℕ};
     ghost use Rattle.rasn_types.specs.Shapes.{Parts, Shape, Tree};
     ghost use Rattle.rasn_enc.specs.Choice.{IsAlternative};
+    ghost use Rattle.rasn_types.specs.declared.types.codec.Codec.{Codec};
+    ghost use Rattle.rasn_types.specs.declared.error.encode.EncodeError.{EncodeError};
 
     ghost parts: { Parts };
 
@@ -24,6 +26,9 @@ pub trait EncodeAlternative: Drop {
 
     ghost inner: { Self → Tree };
 
+    /// Which errors the alternative has under these rules.
+    ghost errors: { Self → Codec → EncodeError → Type 0 };
+
     /// Writes the alternative.
     ///
     /// # Errors
@@ -32,6 +37,7 @@ pub trait EncodeAlternative: Drop {
         ensures ok { OnOk result (AppendsEncoding (shape self) (inner self) encoder.old encoder.new) }
         ensures err { OnErr result (encoder.new ≡ encoder.old) }
         ensures refused { IfErr result (EncodeFails (shape self) (inner self) encoder.old) }
+        ensures errors { IfErr result (errors self encoder.old.rule) }
         ensures rules { IfErr result (λ e. e.codec ≡ encoder.old.rule) };
 
     /// The alternative has this number among the parts.
@@ -51,6 +57,8 @@ impl<'a, A: Encode> EncodeAlternative for Last<&'a A> {
 
     ghost inner = { λ v. A.tree v.0.now };
 
+    ghost errors = { λ v. A.errors A.TAG A.CONSTRAINTS v.0.now };
+
     fn encode_alternative(self, encoder: &mut Encoder) -> Result<(), EncodeError> {
         self.0.encode(encoder)
     }
@@ -62,6 +70,7 @@ impl<'a, A: Encode, R: EncodeAlternative> EncodeAlternative for OneOf<&'a A, R> 
     ghost use Rattle.rasn_types.specs.Shapes.{part, required};
     ghost use Rattle.rasn_types.specs.OwnTypes.{one_of_number, one_of_tree};
     ghost use Rattle.rasn_enc.specs.AlternativeTypes.{one_of_shape, one_of_stands};
+    ghost use Rattle.rasn_enc.specs.ValueErrors.{one_of_errors};
 
     ghost parts = { part required A.shape R.parts };
 
@@ -70,6 +79,8 @@ impl<'a, A: Encode, R: EncodeAlternative> EncodeAlternative for OneOf<&'a A, R> 
     ghost shape = { one_of_shape A.shape R.shape };
 
     ghost inner = { one_of_tree (λ a. A.tree a.now) R.inner };
+
+    ghost errors = { one_of_errors (λ a. A.errors A.TAG A.CONSTRAINTS a.now) R.errors };
 
     fn encode_alternative(self, encoder: &mut Encoder) -> Result<(), EncodeError> {
         match self {
@@ -90,6 +101,7 @@ impl Encoder {
         ensures ok { OnOk result (AppendsEncoding (choice P.parts) (chosen (P.number value) (P.inner value)) self.old self.new) }
         ensures err { OnErr result (self.new ≡ self.old) }
         ensures refused { IfErr result (EncodeFails (choice P.parts) (chosen (P.number value) (P.inner value)) self.old) }
+        ensures errors { IfErr result (P.errors value self.old.rule) }
         ensures rules { IfErr result (λ e. e.codec ≡ self.old.rule) }
     {
         value.encode_alternative(self)

@@ -91,6 +91,12 @@ pub(super) fn any_in_set(codec: Codec) -> EncodeError
 }
 
 impl Encode for Any {
+    ghost use Rattle.std.specs.Prelude.{◌⊎◌};
+    ghost use Rattle.rasn_enc.specs.Primitive.{IsAllocError};
+    ghost use Rattle.rasn_enc.specs.Any.{IsUntaggedInSetError};
+
+    ghost errors = { λ tag c v rule e. IsUntaggedInSetError rule e ⊎ IsAllocError rule e };
+
     fn encode_with_tag_and_constraints(
         &self,
         encoder: &mut Encoder,

@@ -99,6 +99,11 @@ impl Encoder {
 }
 
 impl Encode for BitString {
+    ghost use Rattle.std.specs.Prelude.{length};
+    ghost use Rattle.rasn_enc.specs.Errors.{FailsAtString};
+
+    ghost errors = { λ tag c v rule e. FailsAtString c (length v) rule e };
+
     fn encode_with_tag_and_constraints(
         &self,
         encoder: &mut Encoder,

@@ -33,6 +33,10 @@ impl Encoder {
 }
 
 impl Encode for bool {
+    ghost use Rattle.rasn_enc.specs.Primitive.{IsAllocError};
+
+    ghost errors = { λ tag c v rule e. IsAllocError rule e };
+
     #[inline(always)]
     fn encode_with_tag_and_constraints(
         &self,

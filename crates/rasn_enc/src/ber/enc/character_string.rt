@@ -235,6 +235,11 @@ impl Encoder {
 }
 
 impl<S: StringType> Encode for RestrictedString<S> {
+    ghost use Rattle.std.specs.Prelude.{length};
+    ghost use Rattle.rasn_enc.specs.Errors.{FailsAtString};
+
+    ghost errors = { λ tag c v rule e. FailsAtString c (length v) rule e };
+
     fn encode_with_tag_and_constraints(
         &self,
         encoder: &mut Encoder,
@@ -251,6 +256,12 @@ impl<S: StringType> Encode for RestrictedString<S> {
 }
 
 impl Encode for BmpString {
+    ghost use Rattle.std.specs.Prelude.{length};
+    ghost use Rattle.rasn_types.specs.CharacterString.{units_of};
+    ghost use Rattle.rasn_enc.specs.Errors.{FailsAtString};
+
+    ghost errors = { λ tag c v rule e. FailsAtString c (length (units_of v)) rule e };
+
     fn encode_with_tag_and_constraints(
         &self,
         encoder: &mut Encoder,
@@ -267,6 +278,12 @@ impl Encode for BmpString {
 }
 
 impl Encode for String {
+    ghost use Rattle.std.specs.Prelude.{length, chars};
+    ghost use Rattle.std.specs.String.{string_bytes};
+    ghost use Rattle.rasn_enc.specs.Errors.{FailsAtString};
+
+    ghost errors = { λ tag c v rule e. FailsAtString c (length (chars (string_bytes v))) rule e };
+
     fn encode_with_tag_and_constraints(
         &self,
         encoder: &mut Encoder,

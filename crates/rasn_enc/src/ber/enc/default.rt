@@ -1,6 +1,7 @@
 //! Writing values that are left out if they equal their default (X.680 25.8).
 ghost use Rattle.std.specs.Prelude.{◌≡◌, IfErr, OnOk, OnErr};
 ghost use Rattle.rasn_types.specs.Shapes.{tagged_as, prefix};
+ghost use Rattle.rasn_enc.specs.ValueErrors.{IsAllocErrorOr};
 ghost use Rattle.rasn_enc.specs.Default.{AppendsUnlessDefault, FailsUnlessDefault, EncodesDefault};
 
 use crate::ber::enc::{Encoder, out_of_memory};
@@ -26,6 +27,7 @@ impl Encoder {
         ensures err { OnErr result (self.new ≡ self.old) }
         ensures refused { IfErr result (FailsUnlessDefault E.eq (F.post default) E.shape E.tree value.now self.old) }
         ensures writes { EncodesDefault E.eq (F.post default) E.shape E.tree value.now self.old result self.new }
+        ensures errors { IfErr result (IsAllocErrorOr self.old.rule (E.errors E.TAG E.CONSTRAINTS value.now self.old.rule)) }
         ensures rules { IfErr result (λ e. e.codec ≡ self.old.rule) }
     {
         self.encode_default_with_tag_and_constraints(
@@ -56,6 +58,7 @@ impl Encoder {
             IfErr result (FailsUnlessDefault E.eq (F.post default) shape E.tree value.now self.old) }
         ensures writes { let shape = tagged_as tag E.CONSTRAINTS E.shape in
             EncodesDefault E.eq (F.post default) shape E.tree value.now self.old result self.new }
+        ensures errors { IfErr result (IsAllocErrorOr self.old.rule (E.errors tag E.CONSTRAINTS value.now self.old.rule)) }
         ensures rules { IfErr result (λ e. e.codec ≡ self.old.rule) }
     {
         self.encode_default_with_tag_and_constraints(
@@ -90,6 +93,7 @@ impl Encoder {
             IfErr result (FailsUnlessDefault E.eq (F.post default) shape E.tree value.now self.old) }
         ensures writes { let shape = tagged_as E.TAG constraints.now E.shape in
             EncodesDefault E.eq (F.post default) shape E.tree value.now self.old result self.new }
+        ensures errors { IfErr result (IsAllocErrorOr self.old.rule (E.errors E.TAG constraints.now value.now self.old.rule)) }
         ensures rules { IfErr result (λ e. e.codec ≡ self.old.rule) }
     {
         self.encode_default_with_tag_and_constraints(
@@ -125,6 +129,7 @@ impl Encoder {
             IfErr result (FailsUnlessDefault E.eq (F.post default) shape E.tree value.now self.old) }
         ensures writes { let shape = tagged_as tag constraints.now E.shape in
             EncodesDefault E.eq (F.post default) shape E.tree value.now self.old result self.new }
+        ensures errors { IfErr result (IsAllocErrorOr self.old.rule (E.errors tag constraints.now value.now self.old.rule)) }
         ensures rules { IfErr result (λ e. e.codec ≡ self.old.rule) }
     {
         match default() {
@@ -153,6 +158,7 @@ impl Encoder {
         ensures err { OnErr result (self.new ≡ self.old) }
         ensures refused { IfErr result (FailsUnlessDefault E.eq (F.post default) (prefix tag E.shape) E.tree value.now self.old) }
         ensures writes { EncodesDefault E.eq (F.post default) (prefix tag E.shape) E.tree value.now self.old result self.new }
+        ensures errors { IfErr result (IsAllocErrorOr self.old.rule (E.errors E.TAG E.CONSTRAINTS value.now self.old.rule)) }
         ensures rules { IfErr result (λ e. e.codec ≡ self.old.rule) }
     {
         match default() {

@@ -5,6 +5,10 @@ use rasn_types::error::EncodeError;
 use rasn_types::types::{Constraints, Enumerated, Extensible, Identifier, Tag};
 
 impl<E: Enumerated> Encode for Extensible<E> {
+    ghost use Rattle.rasn_enc.specs.Errors.{FailsAtInteger};
+
+    ghost errors = { λ tag c v rule e. FailsAtInteger c v rule e };
+
     /// Writes the number in the fewest octets.
     ///
     /// # Errors

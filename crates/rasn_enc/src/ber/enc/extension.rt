@@ -2,6 +2,7 @@
 ghost use Rattle.std.specs.Prelude.{◌≡◌, IfErr, IsOk, OnOk, OnErr};
 ghost use Rattle.rasn_types.specs.Shapes.{tagged_as, looked_for, option, absent};
 ghost use Rattle.rasn_enc.specs.Extension.{group_tree};
+ghost use Rattle.rasn_enc.specs.ValueErrors.{IsErrorOfOption};
 ghost use Rattle.rasn_enc.specs.Encoding.{AppendsEncoding, EncodeFails};
 
 use crate::ber::enc::Encoder;
@@ -27,6 +28,7 @@ impl Encoder {
         ensures ok { OnOk result (AppendsEncoding (tagged_as tag constraints.now E.shape) (E.tree value) self.old self.new) }
         ensures err { OnErr result (self.new ≡ self.old) }
         ensures refused { IfErr result (EncodeFails (tagged_as tag constraints.now E.shape) (E.tree value) self.old) }
+        ensures errors { IfErr result (E.errors tag constraints.now value self.old.rule) }
         ensures rules { IfErr result (λ e. e.codec ≡ self.old.rule) }
     {
         value.encode_with_tag_and_constraints(self, tag, constraints, identifier)
@@ -46,6 +48,7 @@ impl Encoder {
         ensures err { OnErr result (self.new ≡ self.old) }
         ensures accepts { group_tree E.tree value.entry ≡ absent → IsOk result }
         ensures refused { IfErr result (EncodeFails (option (looked_for E.TAG) E.shape) (group_tree E.tree value.entry) self.old) }
+        ensures errors { IfErr result (IsErrorOfOption (λ v. E.errors E.TAG E.CONSTRAINTS v.now self.old.rule) value.entry) }
         ensures rules { IfErr result (λ e. e.codec ≡ self.old.rule) }
     {
         match value {

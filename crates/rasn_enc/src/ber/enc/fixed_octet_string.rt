@@ -10,6 +10,10 @@ use rasn_types::error::EncodeError;
 use rasn_types::types::{Constraints, FixedOctetString, Identifier, Tag};
 
 impl<const N: usize> Encode for FixedOctetString<N> {
+    ghost use Rattle.rasn_enc.specs.Errors.{FailsAtString};
+
+    ghost errors = { λ tag c v rule e. FailsAtString c N rule e };
+
     /// Writes an OCTET STRING of `N` octets (X.690 8.7).
     ///
     /// # Errors
@@ -24,7 +28,7 @@ impl<const N: usize> Encode for FixedOctetString<N> {
         ensures ok { OnOk result (AppendsEncoding (leaf (fixed N) tag constraints.now) (numbers self.now) encoder.old encoder.new) }
         ensures err { OnErr result (encoder.new ≡ encoder.old) }
         ensures refused { IfErr result (EncodeFails (leaf (fixed N) tag constraints.now) (numbers self.now) encoder.old) }
-        ensures fails { IfErr result (FailsAtString constraints.now N encoder.old.rule) }
+        ensures errors { IfErr result (FailsAtString constraints.now N encoder.old.rule) }
         ensures rules { IfErr result (λ e. e.codec ≡ encoder.old.rule) }
     {
         encoder.encode_octet_string(tag, constraints, self.as_octets(), identifier)

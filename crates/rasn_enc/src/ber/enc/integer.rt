@@ -88,6 +88,10 @@ fn refused_number(
 }
 
 impl Encode for i8 {
+    ghost use Rattle.rasn_enc.specs.Errors.{FailsAtInteger};
+
+    ghost errors = { λ tag c v rule e. FailsAtInteger c v rule e };
+
     #[inline(always)]
     fn encode_with_tag_and_constraints(
         &self,
@@ -105,6 +109,10 @@ impl Encode for i8 {
 }
 
 impl Encode for i16 {
+    ghost use Rattle.rasn_enc.specs.Errors.{FailsAtInteger};
+
+    ghost errors = { λ tag c v rule e. FailsAtInteger c v rule e };
+
     #[inline(always)]
     fn encode_with_tag_and_constraints(
         &self,
@@ -122,6 +130,10 @@ impl Encode for i16 {
 }
 
 impl Encode for i32 {
+    ghost use Rattle.rasn_enc.specs.Errors.{FailsAtInteger};
+
+    ghost errors = { λ tag c v rule e. FailsAtInteger c v rule e };
+
     #[inline(always)]
     fn encode_with_tag_and_constraints(
         &self,
@@ -139,6 +151,10 @@ impl Encode for i32 {
 }
 
 impl Encode for i64 {
+    ghost use Rattle.rasn_enc.specs.Errors.{FailsAtInteger};
+
+    ghost errors = { λ tag c v rule e. FailsAtInteger c v rule e };
+
     #[inline(always)]
     fn encode_with_tag_and_constraints(
         &self,
@@ -156,6 +172,10 @@ impl Encode for i64 {
 }
 
 impl Encode for i128 {
+    ghost use Rattle.rasn_enc.specs.Errors.{FailsAtInteger};
+
+    ghost errors = { λ tag c v rule e. FailsAtInteger c v rule e };
+
     #[inline(always)]
     fn encode_with_tag_and_constraints(
         &self,
@@ -173,6 +193,10 @@ impl Encode for i128 {
 }
 
 impl Encode for isize {
+    ghost use Rattle.rasn_enc.specs.Errors.{FailsAtInteger};
+
+    ghost errors = { λ tag c v rule e. FailsAtInteger c v rule e };
+
     #[inline(always)]
     fn encode_with_tag_and_constraints(
         &self,
@@ -190,6 +214,11 @@ impl Encode for isize {
 }
 
 impl Encode for u8 {
+    ghost use Rattle.std.specs.Prelude.{pos};
+    ghost use Rattle.rasn_enc.specs.Errors.{FailsAtInteger};
+
+    ghost errors = { λ tag c v rule e. FailsAtInteger c (pos v) rule e };
+
     #[inline(always)]
     fn encode_with_tag_and_constraints(
         &self,
@@ -207,6 +236,11 @@ impl Encode for u8 {
 }
 
 impl Encode for u16 {
+    ghost use Rattle.std.specs.Prelude.{pos};
+    ghost use Rattle.rasn_enc.specs.Errors.{FailsAtInteger};
+
+    ghost errors = { λ tag c v rule e. FailsAtInteger c (pos v) rule e };
+
     #[inline(always)]
     fn encode_with_tag_and_constraints(
         &self,
@@ -224,6 +258,11 @@ impl Encode for u16 {
 }
 
 impl Encode for u32 {
+    ghost use Rattle.std.specs.Prelude.{pos};
+    ghost use Rattle.rasn_enc.specs.Errors.{FailsAtInteger};
+
+    ghost errors = { λ tag c v rule e. FailsAtInteger c (pos v) rule e };
+
     #[inline(always)]
     fn encode_with_tag_and_constraints(
         &self,
@@ -241,6 +280,11 @@ impl Encode for u32 {
 }
 
 impl Encode for u64 {
+    ghost use Rattle.std.specs.Prelude.{pos};
+    ghost use Rattle.rasn_enc.specs.Errors.{FailsAtInteger};
+
+    ghost errors = { λ tag c v rule e. FailsAtInteger c (pos v) rule e };
+
     #[inline(always)]
     fn encode_with_tag_and_constraints(
         &self,
@@ -258,6 +302,11 @@ impl Encode for u64 {
 }
 
 impl Encode for u128 {
+    ghost use Rattle.std.specs.Prelude.{pos};
+    ghost use Rattle.rasn_enc.specs.Errors.{FailsAtInteger};
+
+    ghost errors = { λ tag c v rule e. FailsAtInteger c (pos v) rule e };
+
     #[inline(always)]
     fn encode_with_tag_and_constraints(
         &self,
@@ -275,6 +324,11 @@ impl Encode for u128 {
 }
 
 impl Encode for usize {
+    ghost use Rattle.std.specs.Prelude.{pos};
+    ghost use Rattle.rasn_enc.specs.Errors.{FailsAtInteger};
+
+    ghost errors = { λ tag c v rule e. FailsAtInteger c (pos v) rule e };
+
     #[inline(always)]
     fn encode_with_tag_and_constraints(
         &self,
@@ -292,6 +346,10 @@ impl Encode for usize {
 }
 
 impl Encode for Integer {
+    ghost use Rattle.rasn_enc.specs.Errors.{FailsAtInteger};
+
+    ghost errors = { λ tag c v rule e. FailsAtInteger c v rule e };
+
     #[inline(always)]
     fn encode_with_tag_and_constraints(
         &self,

@@ -46,6 +46,11 @@ impl Encoder {
 }
 
 impl Encode for NamedBits {
+    ghost use Rattle.rasn_types.specs.BitString.{significant};
+    ghost use Rattle.rasn_enc.specs.Errors.{FailsAtNamedBits};
+
+    ghost errors = { λ tag c v rule e. FailsAtNamedBits c (significant v) rule e };
+
     fn encode_with_tag_and_constraints(
         &self,
         encoder: &mut Encoder,

@@ -26,6 +26,10 @@ impl Encoder {
 }
 
 impl Encode for () {
+    ghost use Rattle.rasn_enc.specs.Primitive.{IsAllocError};
+
+    ghost errors = { λ tag c v rule e. IsAllocError rule e };
+
     fn encode_with_tag_and_constraints(
         &self,
         encoder: &mut Encoder,

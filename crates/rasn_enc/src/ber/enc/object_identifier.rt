@@ -144,6 +144,12 @@ impl Encoder {
 }
 
 impl Encode for ObjectIdentifier {
+    ghost use Rattle.std.specs.Prelude.{◌⊎◌};
+    ghost use Rattle.rasn_enc.specs.ObjectIdentifier.{FailsAtArcs};
+    ghost use Rattle.rasn_enc.specs.Primitive.{IsAllocError};
+
+    ghost errors = { λ tag c v rule e. FailsAtArcs v rule e ⊎ IsAllocError rule e };
+
     #[inline(always)]
     fn encode_with_tag_and_constraints(
         &self,

@@ -21,6 +21,7 @@ impl Encoder {
         ensures ok { OnOk result (AppendsEncoding E.shape (E.tree value.now) self.old self.new) }
         ensures err { OnErr result (self.new ≡ self.old) }
         ensures refused { IfErr result (EncodeFails E.shape (E.tree value.now) self.old) }
+        ensures errors { IfErr result (E.errors E.TAG E.CONSTRAINTS value.now self.old.rule) }
         ensures rules { IfErr result (λ e. e.codec ≡ self.old.rule) }
     {
         value.encode(self)
@@ -39,6 +40,7 @@ impl Encoder {
         ensures ok { OnOk result (AppendsEncoding (tagged_as tag E.CONSTRAINTS E.shape) (E.tree value.now) self.old self.new) }
         ensures err { OnErr result (self.new ≡ self.old) }
         ensures refused { IfErr result (EncodeFails (tagged_as tag E.CONSTRAINTS E.shape) (E.tree value.now) self.old) }
+        ensures errors { IfErr result (E.errors tag E.CONSTRAINTS value.now self.old.rule) }
         ensures rules { IfErr result (λ e. e.codec ≡ self.old.rule) }
     {
         value.encode_with_tag(self, tag, identifier)
@@ -58,6 +60,7 @@ impl Encoder {
         ensures ok { OnOk result (AppendsEncoding (tagged_as tag constraints.now E.shape) (E.tree value.now) self.old self.new) }
         ensures err { OnErr result (self.new ≡ self.old) }
         ensures refused { IfErr result (EncodeFails (tagged_as tag constraints.now E.shape) (E.tree value.now) self.old) }
+        ensures errors { IfErr result (E.errors tag constraints.now value.now self.old.rule) }
         ensures rules { IfErr result (λ e. e.codec ≡ self.old.rule) }
     {
         value.encode_with_tag_and_constraints(self, tag, constraints, identifier)
@@ -91,6 +94,10 @@ impl Encoder {
 }
 
 impl<T: Encode> Encode for Option<T> {
+    ghost use Rattle.rasn_enc.specs.ValueErrors.{IsErrorOfOption};
+
+    ghost errors = { λ tag c o rule e. IsErrorOfOption (λ v. T.errors tag c v rule) o e };
+
     fn encode_with_tag_and_constraints(
         &self,
         encoder: &mut Encoder,

@@ -1,10 +1,12 @@
 //! Writing a SEQUENCE or a SET whose parts are types (X.690 8.9, 8.11), nested to the right, each
 //! with its presence (X.680 25).
-ghost use Rattle.std.specs.Prelude.{◌≡◌, IfOk, IfErr, OnOk, OnErr};
+ghost use Rattle.std.specs.Prelude.{◌≡◌, ◌⊎◌, IfOk, IfErr, OnOk, OnErr};
 ghost use Rattle.rasn_types.specs.Shapes.{seq, set};
 ghost use Rattle.rasn_enc.specs.Encoding.{AppendsEncoding, EncodeFails};
 ghost use Rattle.rasn_enc.specs.Sequence.{EncodesParts};
 ghost use Rattle.rasn_enc.specs.Set.{FailsAtSet};
+ghost use Rattle.rasn_enc.specs.Primitive.{IsOrderError};
+ghost use Rattle.rasn_enc.specs.ValueErrors.{IsAllocErrorOr};
 
 use crate::ber::enc::Encoder;
 use crate::enc::Encode;
@@ -17,10 +19,15 @@ use std::alloc::AllocError;
 /// parts after it, and [`End`] after the last.
 pub trait EncodeParts: Drop {
     ghost use Rattle.rasn_types.specs.Shapes.{Parts, Tree};
+    ghost use Rattle.rasn_types.specs.declared.types.codec.Codec.{Codec};
+    ghost use Rattle.rasn_types.specs.declared.error.encode.EncodeError.{EncodeError};
 
     ghost parts: { Parts };
 
     ghost tree: { Self → Tree };
+
+    /// Which errors the parts have under these rules.
+    ghost errors: { Self → Codec → EncodeError → Type 0 };
 
     /// Writes the parts.
     ///
@@ -28,6 +35,7 @@ pub trait EncodeParts: Drop {
     /// The error of a part.
     fn encode_parts(self, encoder: &mut Encoder) -> Result<(), EncodeError>
         ensures writes { EncodesParts parts (tree self) encoder.old result encoder.new }
+        ensures errors { IfErr result (errors self encoder.old.rule) }
         ensures rules { IfErr result (λ e. e.codec ≡ encoder.old.rule) };
 }
 
@@ -71,17 +79,22 @@ impl EncodeParts for End {
 
     ghost tree = { λ e. done };
 
+    ghost errors = { λ e rule x. ⊥ };
+
     fn encode_parts(self, _encoder: &mut Encoder) -> Result<(), EncodeError> {
         Ok(())
     }
 }
 
 impl<'a, A: Encode, R: EncodeParts> EncodeParts for Put<'a, A, R> {
+    ghost use Rattle.rasn_enc.specs.ValueErrors.{IsErrorOfParts};
     ghost use Rattle.rasn_types.specs.Shapes.{part, required, joined};
 
     ghost parts = { part required A.shape R.parts };
 
     ghost tree = { λ p. joined (A.tree p.0.now) (R.tree p.1) };
+
+    ghost errors = { λ p rule. IsErrorOfParts rule required A.shape (A.tree p.0.now) (A.errors A.TAG A.CONSTRAINTS p.0.now rule) (R.errors p.1 rule) };
 
     fn encode_parts(self, encoder: &mut Encoder) -> Result<(), EncodeError> {
         let Put(value, rest) = self;
@@ -91,12 +104,15 @@ impl<'a, A: Encode, R: EncodeParts> EncodeParts for Put<'a, A, R> {
 }
 
 impl<'a, A: Encode, R: EncodeParts> EncodeParts for PutOptional<'a, A, R> {
+    ghost use Rattle.rasn_enc.specs.ValueErrors.{IsErrorOfOption, IsErrorOfParts};
     ghost use Rattle.rasn_types.specs.Shapes.{part, optional, joined};
     ghost use Rattle.rasn_types.specs.Trees.{option_tree};
 
     ghost parts = { part optional A.shape R.parts };
 
     ghost tree = { λ p. joined (option_tree A.tree p.0.now) (R.tree p.1) };
+
+    ghost errors = { λ p rule. IsErrorOfParts rule optional A.shape (option_tree A.tree p.0.now) (IsErrorOfOption (λ v. A.errors A.TAG A.CONSTRAINTS v rule) p.0.now) (R.errors p.1 rule) };
 
     fn encode_parts(self, encoder: &mut Encoder) -> Result<(), EncodeError> {
         let PutOptional(value, rest) = self;
@@ -106,12 +122,15 @@ impl<'a, A: Encode, R: EncodeParts> EncodeParts for PutOptional<'a, A, R> {
 }
 
 impl<'a, A: Encode, R: EncodeParts> EncodeParts for PutOptionalChoice<'a, A, R> {
+    ghost use Rattle.rasn_enc.specs.ValueErrors.{IsErrorOfOption, IsErrorOfParts};
     ghost use Rattle.rasn_types.specs.Shapes.{part, optional_choice, joined};
     ghost use Rattle.rasn_types.specs.Trees.{option_tree};
 
     ghost parts = { part optional_choice A.shape R.parts };
 
     ghost tree = { λ p. joined (option_tree A.tree p.0.now) (R.tree p.1) };
+
+    ghost errors = { λ p rule. IsErrorOfParts rule optional_choice A.shape (option_tree A.tree p.0.now) (IsErrorOfOption (λ v. A.errors A.TAG A.CONSTRAINTS v rule) p.0.now) (R.errors p.1 rule) };
 
     fn encode_parts(self, encoder: &mut Encoder) -> Result<(), EncodeError> {
         let PutOptionalChoice(value, rest) = self;
@@ -124,11 +143,14 @@ impl<'a, V: DefaultValue, R: EncodeParts> EncodeParts for PutDefault<'a, V, R>
 where
     V::Value: Encode,
 {
+    ghost use Rattle.rasn_enc.specs.ValueErrors.{IsAllocErrorOr, IsErrorOfParts};
     ghost use Rattle.rasn_types.specs.Shapes.{part, default, joined};
 
     ghost parts = { part (default V.default_tree) V.Value.shape R.parts };
 
     ghost tree = { λ p. joined (V.Value.tree p.0.now) (R.tree p.1) };
+
+    ghost errors = { λ p rule. IsErrorOfParts rule (default V.default_tree) V.Value.shape (V.Value.tree p.0.now) (IsAllocErrorOr rule (V.Value.errors V.Value.TAG V.Value.CONSTRAINTS p.0.now rule)) (R.errors p.1 rule) };
 
     fn encode_parts(self, encoder: &mut Encoder) -> Result<(), EncodeError> {
         let PutDefault(value, rest) = self;
@@ -148,11 +170,14 @@ impl<'a, V: DefaultValue, R: EncodeParts> EncodeParts for PutDefaultChoice<'a, V
 where
     V::Value: Encode,
 {
+    ghost use Rattle.rasn_enc.specs.ValueErrors.{IsAllocErrorOr, IsErrorOfParts};
     ghost use Rattle.rasn_types.specs.Shapes.{part, default_choice, joined};
 
     ghost parts = { part (default_choice V.default_tree) V.Value.shape R.parts };
 
     ghost tree = { λ p. joined (V.Value.tree p.0.now) (R.tree p.1) };
+
+    ghost errors = { λ p rule. IsErrorOfParts rule (default_choice V.default_tree) V.Value.shape (V.Value.tree p.0.now) (IsAllocErrorOr rule (V.Value.errors V.Value.TAG V.Value.CONSTRAINTS p.0.now rule)) (R.errors p.1 rule) };
 
     fn encode_parts(self, encoder: &mut Encoder) -> Result<(), EncodeError> {
         let PutDefaultChoice(value, rest) = self;
@@ -172,11 +197,14 @@ impl<'a, V: ExplicitDefault, R: EncodeParts> EncodeParts for PutDefaultExplicit<
 where
     V::Value: Encode,
 {
+    ghost use Rattle.rasn_enc.specs.ValueErrors.{IsAllocErrorOr, IsErrorOfParts};
     ghost use Rattle.rasn_types.specs.Shapes.{part, default, prefix, joined};
 
     ghost parts = { part (default V.default_tree) (prefix V.Prefix.TAG V.Value.shape) R.parts };
 
     ghost tree = { λ p. joined (V.Value.tree p.0.now) (R.tree p.1) };
+
+    ghost errors = { λ p rule. IsErrorOfParts rule (default V.default_tree) (prefix V.Prefix.TAG V.Value.shape) (V.Value.tree p.0.now) (IsAllocErrorOr rule (V.Value.errors V.Value.TAG V.Value.CONSTRAINTS p.0.now rule)) (R.errors p.1 rule) };
 
     fn encode_parts(self, encoder: &mut Encoder) -> Result<(), EncodeError> {
         let PutDefaultExplicit(value, rest) = self;
@@ -194,12 +222,15 @@ where
 }
 
 impl<'a, A: Encode, R: EncodeParts> EncodeParts for PutAddition<'a, A, R> {
+    ghost use Rattle.rasn_enc.specs.ValueErrors.{IsErrorOfOption, IsErrorOfParts};
     ghost use Rattle.rasn_types.specs.Shapes.{part, addition, joined};
     ghost use Rattle.rasn_types.specs.Trees.{option_tree};
 
     ghost parts = { part addition A.shape R.parts };
 
     ghost tree = { λ p. joined (option_tree A.tree p.0.now) (R.tree p.1) };
+
+    ghost errors = { λ p rule. IsErrorOfParts rule addition A.shape (option_tree A.tree p.0.now) (IsErrorOfOption (λ v. A.errors A.TAG A.CONSTRAINTS v rule) p.0.now) (R.errors p.1 rule) };
 
     fn encode_parts(self, encoder: &mut Encoder) -> Result<(), EncodeError> {
         let PutAddition(value, rest) = self;
@@ -217,6 +248,7 @@ impl Encoder {
         ensures ok { OnOk result (AppendsEncoding (seq tag P.parts) (P.tree parts) self.old self.new) }
         ensures err { OnErr result (self.new ≡ self.old) }
         ensures refused { IfErr result (EncodeFails (seq tag P.parts) (P.tree parts) self.old) }
+        ensures errors { IfErr result (IsAllocErrorOr self.old.rule (P.errors parts self.old.rule)) }
         ensures rules { IfErr result (λ e. e.codec ≡ self.old.rule) }
     {
         self.enclose(
@@ -224,6 +256,7 @@ impl Encoder {
             false,
             |inner: &mut Encoder| -> Result<(), EncodeError>
                 ensures writes { EncodesParts P.parts (P.tree parts) inner.old result inner.new }
+                ensures errors { IfErr result (P.errors parts inner.old.rule) }
                 ensures rules { IfErr result (λ e. e.codec ≡ inner.old.rule) }
             { parts.encode_parts(inner) },
         )
@@ -240,12 +273,14 @@ impl Encoder {
         ensures err { OnErr result (self.new ≡ self.old) }
         ensures refused { IfErr result (EncodeFails (set tag P.parts) (P.tree parts) self.old) }
         ensures fails { IfErr result (FailsAtSet P.parts (P.tree parts) self.old) }
+        ensures errors { IfErr result (IsAllocErrorOr self.old.rule (λ e. IsOrderError self.old.rule e ⊎ P.errors parts self.old.rule e)) }
         ensures rules { IfErr result (λ e. e.codec ≡ self.old.rule) }
     {
         self.enclose_in_order(
             tag,
             |inner: &mut Encoder| -> Result<(), EncodeError>
                 ensures writes { EncodesParts P.parts (P.tree parts) inner.old result inner.new }
+                ensures errors { IfErr result (P.errors parts inner.old.rule) }
                 ensures rules { IfErr result (λ e. e.codec ≡ inner.old.rule) }
             { parts.encode_parts(inner) },
         )

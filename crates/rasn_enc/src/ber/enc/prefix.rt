@@ -1,6 +1,7 @@
 //! Writing values under explicit tags (X.690 8.14.2).
 ghost use Rattle.std.specs.Prelude.{◌≡◌, IfErr, IsOk, OnOk, OnErr};
 ghost use Rattle.rasn_types.specs.Shapes.{prefix, optional, absent};
+ghost use Rattle.rasn_enc.specs.ValueErrors.{IsAllocErrorOr};
 ghost use Rattle.rasn_enc.specs.Encoding.{AppendsEncoding, AppendsPart, EncodeFails, EncodePartFails};
 
 use crate::ber::enc::Encoder;
@@ -25,6 +26,7 @@ impl Encoder {
         ensures err { OnErr result (self.new ≡ self.old) }
         ensures accepts { V.tree value.now ≡ absent → IsOk result }
         ensures refused { IfErr result (EncodePartFails optional (prefix tag V.shape) (V.tree value.now) self.old) }
+        ensures errors { IfErr result (IsAllocErrorOr self.old.rule (V.errors V.TAG V.CONSTRAINTS value.now self.old.rule)) }
         ensures rules { IfErr result (λ e. e.codec ≡ self.old.rule) }
     {
         if value.is_present() {
@@ -43,6 +45,7 @@ impl Encoder {
         ensures ok { OnOk result (AppendsEncoding (prefix tag V.shape) (V.tree value.now) self.old self.new) }
         ensures err { OnErr result (self.new ≡ self.old) }
         ensures refused { IfErr result (EncodeFails (prefix tag V.shape) (V.tree value.now) self.old) }
+        ensures errors { IfErr result (IsAllocErrorOr self.old.rule (V.errors V.TAG V.CONSTRAINTS value.now self.old.rule)) }
         ensures rules { IfErr result (λ e. e.codec ≡ self.old.rule) }
     {
         self.enclose(tag, false, |encoder: &mut Encoder| {
@@ -52,6 +55,8 @@ impl Encoder {
 }
 
 impl<G: AsnType, T: Encode> Encode for Implicit<G, T> {
+    ghost errors = { T.errors };
+
     fn encode_with_tag_and_constraints(
         &self,
         encoder: &mut Encoder,
@@ -71,6 +76,10 @@ impl<G: AsnType, T: Encode> Encode for Implicit<G, T> {
 
 /// The explicit tag is written even if the value is absent, so that the value is read back.
 impl<G: AsnType, T: Encode> Encode for Explicit<G, T> {
+    ghost use Rattle.rasn_enc.specs.ValueErrors.{IsAllocErrorOr};
+
+    ghost errors = { λ tag c v rule e. IsAllocErrorOr rule (T.errors T.TAG T.CONSTRAINTS v rule) e };
+
     fn encode_with_tag_and_constraints(
         &self,
         encoder: &mut Encoder,

@@ -1,9 +1,12 @@
 //! Writing SET OF (X.690 8.12).
-ghost use Rattle.std.specs.Prelude.{◌≡◌, length, None, map, IfErr, OnOk, OnErr};
+ghost use Rattle.std.specs.Prelude.{◌≡◌, ◌⊎◌, length, None, map, IfErr, OnOk, OnErr};
 ghost use Rattle.rasn_types.specs.Shapes.{set_of, set_elements};
 ghost use Rattle.rasn_types.specs.Trees.{list_tree};
 ghost use Rattle.rasn_enc.specs.View.{LeavesOthers};
 ghost use Rattle.rasn_enc.specs.SequenceOf.{AppendsSetOf, FailsAtElements, FailsAtSetOf};
+ghost use Rattle.rasn_enc.specs.Errors.{FailsAtSize};
+ghost use Rattle.rasn_enc.specs.Primitive.{IsOrderError};
+ghost use Rattle.rasn_enc.specs.ValueErrors.{IsAllocErrorOr, IsErrorOfElement};
 ghost use Rattle.rasn_enc.specs.Encoding.{AppendsEncoding, EncodeFails};
 
 use crate::ber::enc::{Encoder, out_of_order};
@@ -34,6 +37,7 @@ impl Encoder {
             IfErr result (EncodeFails (set_of tag E.shape constraints.now.size) tree self.old) }
         ensures named { let trees = map E.tree values.now in
             IfErr result (FailsAtSetOf E.shape trees (length values.now) constraints.now self.old.rule) }
+        ensures errors { IfErr result (λ e. FailsAtSize constraints.now (length values.now) self.old.rule e ⊎ IsAllocErrorOr self.old.rule (λ x. IsOrderError self.old.rule x ⊎ IsErrorOfElement E.shape E.tree (λ v. E.errors E.TAG E.CONSTRAINTS v self.old.rule) values.now self.old.rule x) e) }
         ensures rules { IfErr result (λ e. e.codec ≡ self.old.rule) }
     {
         self.check_size(constraints, values.len())?;
@@ -49,6 +53,7 @@ impl Encoder {
         ensures keeps { LeavesOthers self.old self.new }
         ensures ok { OnOk result (AppendsSetOf E.shape (map E.tree values.now) self.old self.new) }
         ensures refused { IfErr result (FailsAtElements E.shape (map E.tree values.now) self.old.rule) }
+        ensures errors { IfErr result (λ e. IsOrderError self.old.rule e ⊎ IsErrorOfElement E.shape E.tree (λ v. E.errors E.TAG E.CONSTRAINTS v self.old.rule) values.now self.old.rule e) }
         ensures rules { IfErr result (λ e. e.codec ≡ self.old.rule) }
     {
         let mut previous = self.last_len();
@@ -67,6 +72,13 @@ impl Encoder {
 }
 
 impl<T: Encode + Eq> Encode for SetOf<T> {
+    ghost use Rattle.std.specs.Prelude.{◌⊎◌, length};
+    ghost use Rattle.rasn_enc.specs.Errors.{FailsAtSize};
+    ghost use Rattle.rasn_enc.specs.Primitive.{IsOrderError};
+    ghost use Rattle.rasn_enc.specs.ValueErrors.{IsAllocErrorOr, IsErrorOfElement};
+
+    ghost errors = { λ tag c v rule e. FailsAtSize c (length v) rule e ⊎ IsAllocErrorOr rule (λ x. IsOrderError rule x ⊎ IsErrorOfElement T.shape T.tree (λ d. T.errors T.TAG T.CONSTRAINTS d rule) v rule x) e };
+
     fn encode_with_tag_and_constraints(
         &self,
         encoder: &mut Encoder,

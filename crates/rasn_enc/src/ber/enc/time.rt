@@ -195,6 +195,10 @@ impl Encoder {
 }
 
 impl Encode for UtcTime {
+    ghost use Rattle.rasn_enc.specs.Primitive.{IsAllocError};
+
+    ghost errors = { λ tag c v rule e. IsAllocError rule e };
+
     fn encode_with_tag_and_constraints(
         &self,
         encoder: &mut Encoder,
@@ -211,6 +215,10 @@ impl Encode for UtcTime {
 }
 
 impl Encode for GeneralizedTime {
+    ghost use Rattle.rasn_enc.specs.Primitive.{IsAllocError};
+
+    ghost errors = { λ tag c v rule e. IsAllocError rule e };
+
     fn encode_with_tag_and_constraints(
         &self,
         encoder: &mut Encoder,
@@ -227,6 +235,10 @@ impl Encode for GeneralizedTime {
 }
 
 impl Encode for Date {
+    ghost use Rattle.rasn_enc.specs.Primitive.{IsAllocError};
+
+    ghost errors = { λ tag c v rule e. IsAllocError rule e };
+
     fn encode_with_tag_and_constraints(
         &self,
         encoder: &mut Encoder,

@@ -67,6 +67,12 @@ fn some_have_octets(values: &[Any]) -> bool
 }
 
 impl Encode for Unknown {
+    ghost use Rattle.std.specs.Prelude.{◌⊎◌};
+    ghost use Rattle.rasn_enc.specs.Primitive.{IsAllocError};
+    ghost use Rattle.rasn_enc.specs.Any.{IsUntaggedInSetError};
+
+    ghost errors = { λ tag c v rule e. IsUntaggedInSetError rule e ⊎ IsAllocError rule e };
+
     fn encode_with_tag_and_constraints(
         &self,
         encoder: &mut Encoder,

@@ -1,6 +1,6 @@
 use Rattle.std.proofs.Common.{[], ap, ◌∙◌}
 use Rattle.rasn_enc.specs.View.{appended}
-use Rattle.rasn_enc.proofs.Constructed.Unknown.{first_of, values_more, values_end}
+use Rattle.rasn_enc.proofs.Constructed.Unknown.{first_of, values_more}
 use Rattle.rasn_enc.proofs.ber.enc.Encoder.append_values.Goals as goal
 
 pub loop-rest-preserved : goal.loop-rest-preserved

@@ -1,4 +1,4 @@
-use Rattle.std.proofs.Common.{Err, ap, ◌∙◌, ◌≡◌, ◌≤◌, length, take, arith}
+use Rattle.std.proofs.Common.{Err, ap, ◌∙◌, ◌≡◌, take, arith}
 use Rattle.rasn_types.specs.BitString.{significant}
 use Rattle.rasn_types.proofs.BitString.Significant.{significant_le, significant_front}
 use Rattle.rasn_enc.proofs.Leaves.NamedBits.{named_bits_encoded, named_bits_fail, named_bits_misfit, named_bits_refused}

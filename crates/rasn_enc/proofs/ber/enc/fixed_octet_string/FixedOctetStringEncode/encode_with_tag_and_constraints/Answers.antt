@@ -9,5 +9,5 @@ returns-clause-ok g c = rw (← c.as_octets.ensures.octets) (fixed_encoded _ c.a
 pub returns-clause-refused : goal.returns-clause-refused
 returns-clause-refused g c = rw (← c.as_octets.ensures.octets) (text_refused _ (fixed g.row.N) c.args.tag c.args.constraints.now c.as_octets.result.now _ refl c.encode_octet_string.ensures.fails)
 
-pub returns-clause-fails : goal.returns-clause-fails
-returns-clause-fails g c = refused_at _ c.args.constraints.now _ g.row.N _ c.as_octets.ensures.size c.encode_octet_string.ensures.fails
+pub returns-clause-errors : goal.returns-clause-errors
+returns-clause-errors g c = refused_at _ c.args.constraints.now _ g.row.N _ c.as_octets.ensures.size c.encode_octet_string.ensures.fails

@@ -1,3 +1,4 @@
+use Rattle.rasn_enc.proofs.Constructed.ValueErrors.{later_errors}
 use Rattle.rasn_enc.proofs.OwnTypes.Sequence.{part_refused, part_appended, addition_encoded, addition_refused}
 use Rattle.rasn_enc.proofs.ber.enc.parts.PutAdditionEncodeParts.encode_parts.Goals as goal
 
@@ -6,3 +7,6 @@ returns-in_err-encode-clause-writes g c = part_refused _ _ _ _ _ _ _ _ (addition
 
 pub returns-clause-writes : goal.returns-clause-writes
 returns-clause-writes g c = part_appended _ _ _ _ _ _ _ _ (addition_encoded _ _ _ _ c.in_ok-encode.ensures.ok) c.encode_parts.ensures.writes
+
+pub returns-clause-errors : goal.returns-clause-errors
+returns-clause-errors g c = later_errors _ _ _ _ _ _ (g.R.EncodeParts.errors c.args.self.1) _ (addition_encoded _ _ _ _ c.in_ok-encode.ensures.ok) c.encode_parts.ensures.errors
