@@ -10,29 +10,53 @@ use std::alloc::{AllocError, Global};
 /// A type that a line may name.
 #[derive(Clone, Copy, Debug, PartialEq, Eq)]
 pub enum ValueType {
+    /// `bool`: BOOLEAN.
     Bool,
+    /// `i32`: INTEGER (-2147483648..2147483647).
     I32,
+    /// `u32`: INTEGER (0..4294967295).
     U32,
+    /// `octets`: OCTET STRING.
     Octets,
+    /// `pair`: SEQUENCE { INTEGER, BOOLEAN }.
     Pair,
+    /// `integer`: INTEGER of any length.
     Integer,
+    /// `utctime`: UTCTime.
     UtcTime,
+    /// `gentime`: GeneralizedTime.
     GeneralizedTime,
+    /// `date`: DATE.
     Date,
+    /// `null`: NULL.
     Null,
+    /// `oid`: OBJECT IDENTIFIER.
     ObjectIdentifier,
+    /// `bits`: BIT STRING.
     Bits,
+    /// `colour`: ENUMERATED { red (0), green (1), blue (2) }.
     Colour,
+    /// `utf8`: UTF8String.
     Utf8,
+    /// `ia5`: IA5String.
     Ia5,
+    /// `printable`: PrintableString.
     Printable,
+    /// `foo`: SEQUENCE { IA5String, BOOLEAN } (X.690 8.9.3).
     Foo,
+    /// `optbool`: a BOOLEAN that may be absent.
     OptionalBool,
+    /// `validity`: Validity of a certificate (RFC 5280 4.1.2.5).
     Validity,
+    /// `any`: an open type.
     Any,
+    /// `algid`: AlgorithmIdentifier (RFC 5280 4.1.1.2).
     AlgorithmIdentifier,
+    /// `rdn`: RelativeDistinguishedName (RFC 5280 4.1.2.4).
     RelativeDistinguishedName,
+    /// `set3`: SET { \[0\], \[1\], \[2\] INTEGER (0..255) }, with implicit tags.
     Set3,
+    /// `bag`: SET OF OCTET STRING.
     Bag,
 }
 
