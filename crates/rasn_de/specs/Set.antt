@@ -46,11 +46,12 @@ module _ {D : Type 0} (read : Call D) where
   DecodesUpTo fails elements old (Ok v) new = (bs : List (List ℕ)) × DecodesInTagOrder old (elements v) bs new × Ended new.closing new.rest
   DecodesUpTo fails elements old (Err e) new = (vs : List D) × (bs : List (List ℕ)) × (here : State) × DecodesInTagOrder old vs bs here × (Ended here.closing here.rest → ⊥) × FailsAtComponent fails bs here e new
 
-  -- The components are appended to a list, which takes memory.
+  -- Components up to the end, or up to the first one that has no valid tag or is out of order, that can't be read or
+  -- consumes nothing, or after which an allocation fails.
   abbrev pub DecodesComponents : {L : Type 0} → (L → List D) → Call L
   DecodesComponents elements = DecodesUpTo (FailsAtElement read) elements
 
-  -- Each component is put into a slot, which takes no memory.
+  -- The same without the last of these cases.
   abbrev pub DecodesIntoSlots : Call (List D)
   DecodesIntoSlots = DecodesUpTo (RefusesElement read) (λ (l : List D). l)
 

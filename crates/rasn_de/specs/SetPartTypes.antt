@@ -91,7 +91,7 @@ module _ (ps : Parts) (names : List (List ℕ)) (before : List (Option Tree)) (o
   abbrev pub DecodesComponent : ℕ → Tree → State → Type 0
   DecodesComponent k u new = Decodes (choice ps) (λ (t : Tree). t) old (Ok (chosen k u)) new × (length new.rest ≢ length old.rest)
 
-  -- One more component is read in the same way, and consumes octets. After it is read nothing is allocated.
+  -- One more component is read in the same way, and consumes octets; or it can't be read, or consumes nothing.
   abbrev pub DecodesNext : Result (Option (Bor (List ℕ))) DecodeError → State → List (Option Tree) → Type 0
   DecodesNext (Ok None) new held = (k : ℕ) × (u : Tree) × IsPlacedAt before k u held × DecodesComponent k u new
   DecodesNext (Ok (Some repeated)) new held = (k : ℕ) × (u : Tree) × IsFilled before k × (held ≡ before) × (text repeated ≡ name_at names k) × DecodesComponent k u new
@@ -179,7 +179,7 @@ MakesNamed ps tree names rule readings r = MakesOfReadings ps tree names rule re
     × IfErr r (λ e. IsOutOfMemory e.kind → ((k : ℕ) × RepeatsFirst ps k readings) ⊎ LeavesGap 0 (presences ps) readings)
 
 -- Components are read one by one, each as read_choice reads one of the parts, and at the end the parts are made from all
--- of them. No allocation fails between a component and the next one.
+-- of them. An error is one of DecodesIntoSlots or, once all components are read, one of MakesOfReadings.
 abbrev pub DecodesSetPartContents : {D : Type 0} → Parts → (D → Tree) → List (List ℕ) → Call D
 DecodesSetPartContents ps tree names old =
     DecodesSetContents (DecodesIntoSlots (Decodes (choice ps) (λ (t : Tree). t))) (MakesOfReadings ps tree names old.rule) old
