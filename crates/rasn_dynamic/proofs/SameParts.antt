@@ -1,6 +1,6 @@
 -- What is read has one list of parts.
-use Rattle.std.proofs.Common.{◌≡◌, ◌⊎◌, ◌≢◌, inl, inr, ◌<◌, ◌-◌, ℕ, zero, suc, List, [], ◌∷◌, ◌++◌, length, Bool, true, false, Option, Some, None, Ok, refl, sym, ap, ◌∙◌, subst, arith}
-use Rattle.std.specs.Prelude.{slice_get}
+use Rattle.std.proofs.Common.{◌≡◌, ◌⊎◌, ◌≢◌, inl, inr, ◌<◌, ◌-◌, ℕ, zero, suc, List, [], ◌∷◌, ◌++◌, length, Bool, true, false, Some, None, Ok, refl, sym, ap, ◌∙◌, subst, arith}
+use Rattle.std.specs.Prelude.{◌||◌, slice_get}
 use Rattle.std.proofs.lemmas.Bool.{cases_order}
 use Rattle.std.proofs.lemmas.List.{append_cancel_right}
 use Rattle.rasn_types.specs.declared.types.codec.Codec.{Codec}
@@ -8,11 +8,12 @@ use Rattle.rasn_types.specs.declared.types.codec.Codec.TheVariants.{Ber}
 use Rattle.rasn_types.specs.declared.types.tag.Tag.{Tag}
 use Rattle.rasn_types.specs.Tags.{Form, form}
 use Rattle.rasn_types.specs.Framing.{AreOctets, Ended, Frame, NextTag}
-use Rattle.rasn_types.specs.Shapes.{Shape, Tree, leaf, any, prefix, choice, option, seq, set, list, set_of, unknown, Parts, part, Presence, IsFirst, one_tag, any_of, sought_by, looked_for, IsAlwaysPresent, AreAlwaysPresent}
+use Rattle.rasn_types.specs.Shapes.{Shape, Tree, items, numbers, leaf, any, prefix, choice, option, seq, set, list, set_of, unknown, Parts, part, Presence, required, IsFirst, one_tag, any_of, sought_by, IsAlwaysPresent}
 use Rattle.rasn_types.specs.Shapes.Parts.{none}
-use Rattle.rasn_types.specs.Readings.{IsLeftOut}
-use Rattle.rasn_types.specs.Grammar.{Reads}
-use Rattle.rasn_types.specs.Lawful.{IsLawful, HasTag, AreAlternatives, AreDistinguished, AreLawfulByTag}
+use Rattle.rasn_types.specs.Readings.{IsLeftOut, ReadsMany}
+use Rattle.rasn_types.specs.Grammar.{Reads, ReadsAny}
+use Rattle.rasn_types.specs.Lawful.{IsLawful, HasTag, AreAlternatives, AreDistinguished, AreLawfulInOrder, AreLawfulByTag}
+use Rattle.rasn_types.proofs.Encoding.Complete.{whole_one, whole_text_one}
 use Rattle.rasn_types.proofs.Headers.Frames.{frame_one, next_one, not_ended}
 use Rattle.rasn_de.specs.State.{State}
 use Rattle.rasn_de.specs.Choice.{IsOnlyAlternative}
@@ -32,14 +33,18 @@ use Rattle.rasn_schema.specs.declared.types.Component.{Component}
 use Rattle.rasn_schema.specs.declared.types.Alternative.{Alternative}
 use Rattle.rasn_schema.specs.declared.types.«Type».{«Type»}
 use Rattle.rasn_schema.specs.declared.types.«Type».TheVariants.{Leaf, Enumerated, Any, Tagged, Choice, Sequence, Set, SequenceOf, SetOf, Unknown}
-use Rattle.rasn_schema.specs.Shapes.{shape_of_type, type_by, found_by, alternatives_by, components_by, key_of, tag_at}
+use Rattle.rasn_schema.specs.declared.types.Presence.{Presence as PartPresence}
+use Rattle.rasn_schema.specs.declared.types.Presence.TheVariants.{Required, Optional, Addition, Default}
+use Rattle.rasn_schema.specs.FirstTags.{IsAlwaysThere}
+use Rattle.rasn_schema.specs.Shapes.{shape_of_type, type_by, found_by, alternatives_by, components_by, key_of, presence_by, presence_of, presence_in, IsReadable}
 use Rattle.rasn_schema.proofs.Lists.{some_is, same_or_not}
-use Rattle.rasn_schema.proofs.LawfulTypes.{nothing_present}
 use Rattle.rasn_dynamic.specs.declared.span.Span.{Span}
+use Rattle.rasn_dynamic.specs.Calls.{is_required, any_required}
 use Rattle.rasn_dynamic.specs.Inside.{DecodesTree}
 use Rattle.rasn_dynamic.specs.Faults.{octets_after, start}
+use Rattle.rasn_dynamic.specs.Parts.{IsAbsentHere}
 use Rattle.rasn_dynamic.specs.Listed.{capped, GoesInside, GoesInto, InTurn, PartListed, ComponentListed, ComponentAt, ComponentsListed, MemberListed, MembersListed, ElementsListed, AlternativeListed, ContentsListed, ValueListed, PartsInside, Inside}
-use Rattle.rasn_dynamic.specs.SameParts.{IsSamePart, AreSameParts, AreLawfulTypes, PartsAreDetermined}
+use Rattle.rasn_dynamic.specs.SameParts.{IsSamePart, AreSameParts, AreReadableTypes, PartsAreDetermined}
 use Rattle.rasn_dynamic.proofs.Contents.{only_at}
 use Rattle.rasn_dynamic.proofs.Pieces.{only_part, by_tag_distinguished}
 
@@ -69,26 +74,65 @@ record Alike (s z : State) : Type 0 where
 by_ber : (s : Shape) → IsAlwaysPresent s → (old new : State) (t : Tree) → DecodesTree s old (Ok t) new → Reads Ber s old.depth true old.rest t new.rest
 by_ber s solid old new t d = solid_closing s solid Ber old.depth old.closing true old.rest t new.rest (reads_in s old.rule old.depth old.closing old.rest t new.rest d.exact.0)
 
--- What other rules read there is the same.
-pub same_reading : (s : Shape) → IsAlwaysPresent s → IsLawful s → (old new : State) (u : Tree) → DecodesTree s old (Ok u) new
-    → (rule : Codec) (closing : Bool) (t : Tree) (rest : List ℕ) → Reads rule s old.depth closing old.rest t rest → (t ≡ u) × (rest ≡ new.rest)
-same_reading s solid lawful old new u d rule closing t rest r =
-    reads_one s lawful Ber old.depth true old.rest t u rest new.rest (solid_closing s solid Ber old.depth closing true old.rest t rest (reads_in s rule old.depth closing old.rest t rest r)) (by_ber s solid old new u d)
-
--- A value is read up to the same octets.
-read_alike : (s : Shape) → IsAlwaysPresent s → IsLawful s → (old other n m : State) (t u : Tree) → Alike old other → DecodesTree s old (Ok t) n → DecodesTree s other (Ok u) m → Alike n m
-read_alike s solid lawful old other n m t u alike d e =
-    let x = by_ber s solid old n t d in
-    let y = subst (λ l. Reads Ber s old.depth true l u m.rest) (sym alike.rest) (subst (λ k. Reads Ber s k true other.rest u m.rest) (sym alike.depth) (by_ber s solid other m u e)) in
-    record {
-      rest = (reads_one s lawful Ber old.depth true old.rest t u n.rest m.rest x y).1;
-      depth = ap (λ (z : State). z.depth) d.stays ∙ (alike.depth ∙ sym (ap (λ (z : State). z.depth) e.stays));
-      octets = octets_back d.end.0 n.rest (subst AreOctets d.end.1 alike.octets);
-    }
-
 -- No value is read at an end.
 pub not_at_end : (s : Shape) → IsAlwaysPresent s → (rule : Codec) (depth : ℕ) (c closing : Bool) (input : List ℕ) (t : Tree) (rest : List ℕ) → Reads rule s depth c input t rest → Ended closing input → ⊥
 not_at_end s solid rule depth c closing input t rest r e = let n = has_next_tag s solid rule depth c input t rest r in not_ended closing input n.1 n.2 e
+
+-- ---- unknown values
+
+-- So is no encoding.
+no_encoding : (rule : Codec) (closing : Bool) (input : List ℕ) (t : Tree) (rest : List ℕ) → ReadsAny rule input t rest → Ended closing input → ⊥
+unfolding Reads
+no_encoding rule closing input t rest r e = not_at_end (any None) tt rule 0 true closing input t rest r e
+
+-- Encodings up to an end are the same by whichever rules.
+pub encodings_one : (rule other : Codec) (closing ends : Bool) (input : List ℕ) (ts us : List Tree) (rest end : List ℕ) → ReadsMany (ReadsAny rule) closing input ts rest → ReadsMany (ReadsAny other) ends input us end → (ts ≡ us) × (rest ≡ end)
+encodings_one rule other closing ends input [] [] rest end (e, p) (g, q) = (refl, p ∙ sym q)
+encodings_one rule other closing ends input [] (u ∷ us) rest end (e, p) (n, middle, r, more) = absurd (no_encoding other closing input u middle r e)
+encodings_one rule other closing ends input (t ∷ ts) [] rest end (n, middle, r, more) (g, q) = absurd (no_encoding rule ends input t middle r g)
+encodings_one rule other closing ends input (t ∷ ts) (u ∷ us) rest end (n, middle, (a, p, v, e), more) (m, between, (b, q, w, g), others) =
+    let same : a ++ middle ≡ b ++ between = sym e ∙ g in
+    let text : a ≡ b = whole_text_one middle between v w same in
+    let after : middle ≡ between = (whole_one middle between v w same).0 in
+    let tail = encodings_one rule other closing ends middle ts us rest end more (subst (λ l. ReadsMany (ReadsAny other) ends l us end) (sym after) others) in
+    let first : t ≡ u = p ∙ (ap numbers text ∙ sym q) in
+    let list : ts ≡ us = tail.0 in
+    (cc (first, list), tail.1)
+
+-- Unknown values are such encodings.
+pub unknown_read : (rule : Codec) (depth : ℕ) (closing : Bool) (input : List ℕ) (t : Tree) (rest : List ℕ) → Reads rule unknown depth closing input t rest → (ts : List Tree) × (t ≡ items ts) × ReadsMany (ReadsAny rule) closing input ts rest
+unfolding Reads
+unknown_read rule depth closing input t rest (ts, e, size, r) = (ts, e, r)
+
+unknown_one : (rule other : Codec) (depth deep : ℕ) (closing ends : Bool) (input : List ℕ) (t u : Tree) (rest end : List ℕ) → Reads rule unknown depth closing input t rest → Reads other unknown deep ends input u end → (t ≡ u) × (rest ≡ end)
+unknown_one rule other depth deep closing ends input t u rest end r s =
+    let (ts, p, x) = unknown_read rule depth closing input t rest r in
+    let (us, q, y) = unknown_read other deep ends input u end s in
+    let one = encodings_one rule other closing ends input ts us rest end x y in
+    (p ∙ (ap items one.0 ∙ sym q), one.1)
+
+-- ---- what other rules read
+
+abbrev pub IsKnown : Shape → Type 0
+IsKnown s = IsAlwaysPresent s × IsLawful s
+
+-- What other rules read there is the same.
+pub same_reading : (s : Shape) → IsReadable s → (old new : State) (u : Tree) → DecodesTree s old (Ok u) new
+    → (rule : Codec) (closing : Bool) (t : Tree) (rest : List ℕ) → Reads rule s old.depth closing old.rest t rest → (t ≡ u) × (rest ≡ new.rest)
+same_reading s (inl (solid, lawful)) old new u d rule closing t rest r =
+    reads_one s lawful Ber old.depth true old.rest t u rest new.rest (solid_closing s solid Ber old.depth closing true old.rest t rest (reads_in s rule old.depth closing old.rest t rest r)) (by_ber s solid old new u d)
+same_reading s (inr e) old new u d rule closing t rest r =
+    unknown_one rule old.rule old.depth old.depth closing old.closing old.rest t u rest new.rest (subst (λ z. Reads rule z old.depth closing old.rest t rest) e r) (subst (λ z. Reads old.rule z old.depth old.closing old.rest u new.rest) e d.exact.0)
+
+-- A value is read up to the same octets.
+read_alike : (s : Shape) → IsReadable s → (old other n m : State) (t u : Tree) → Alike old other → DecodesTree s old (Ok t) n → DecodesTree s other (Ok u) m → Alike n m
+read_alike s readable old other n m t u alike d e =
+    let y = subst (λ l. Reads other.rule s old.depth other.closing l u m.rest) (sym alike.rest) (subst (λ k. Reads other.rule s k other.closing other.rest u m.rest) (sym alike.depth) e.exact.0) in
+    record {
+      rest = sym (same_reading s readable old n t d other.rule other.closing u m.rest y).1;
+      depth = ap (λ (z : State). z.depth) d.stays ∙ (alike.depth ∙ sym (ap (λ (z : State). z.depth) e.stays));
+      octets = octets_back d.end.0 n.rest (subst AreOctets d.end.1 alike.octets);
+    }
 
 not_read : (s : Shape) → IsAlwaysPresent s → (old new : State) (t : Tree) → DecodesTree s old (Ok t) new → (closing : Bool) → Ended closing old.rest → ⊥
 not_read s solid old new t d closing e = not_at_end s solid old.rule old.depth old.closing closing old.rest t new.rest d.exact.0 e
@@ -190,6 +234,66 @@ member_tagged f [] k p h e = absurd cc
 member_tagged f (q ∷ ps) zero p h e = subst (λ (z : Component). HasTag (f z.type_id.0)) (some_is q p (sym e)) h.1
 member_tagged f (q ∷ ps) (suc k) p h e = member_tagged f ps k p h.5 e
 
+-- What a component of a SEQUENCE is that isn't required. Unknown values are at the end, and required.
+no_components : (f : ℕ → Shape) (ps : List Component) (k : ℕ) (p : Component) → components_by f ps ≡ none → Some p ≡ slice_get ps k → ⊥
+no_components f [] k p n e = cc
+no_components f (q ∷ ps) k p n e = cc
+
+pub component_known : (f : ℕ → Shape) (ps : List Component) (k : ℕ) (p : Component) → AreLawfulInOrder (components_by f ps) → Some p ≡ slice_get ps k → IsKnown (f p.type_id.0) ⊎ (presence_in f p ≡ required)
+unfolding IsLawful
+component_known f [] k p h e = absurd cc
+component_known f (q ∷ ps) zero p (inl (r, u, n)) e = subst (λ (z : Component). IsKnown (f z.type_id.0) ⊎ (presence_in f z ≡ required)) (some_is q p (sym e)) (inr r)
+component_known f (q ∷ ps) zero p (inr (s, l, m, h)) e = subst (λ (z : Component). IsKnown (f z.type_id.0) ⊎ (presence_in f z ≡ required)) (some_is q p (sym e)) (inl (s, l))
+component_known f (q ∷ ps) (suc k) p (inl (r, u, n)) e = absurd (no_components f ps k p n e)
+component_known f (q ∷ ps) (suc k) p (inr (s, l, m, h)) e = component_known f ps k p h e
+
+required_there : (f : ℕ → Shape) (p : Component) → presence_in f p ≡ required → IsAlwaysThere (presence_of p.presence)
+required_there f p e = go p.presence e
+  where
+    go : (q : PartPresence) → presence_by (key_of (f p.type_id.0)) q ≡ required → IsAlwaysThere (presence_of q)
+    go Required e = tt
+    go Optional e = absurd cc
+    go Addition e = absurd cc
+    go (Default v) e = absurd cc
+
+required_found : (f : ℕ → Shape) (p : Component) → presence_in f p ≡ required → is_required p.presence ≡ true
+required_found f p e = go p.presence e
+  where
+    go : (q : PartPresence) → presence_by (key_of (f p.type_id.0)) q ≡ required → is_required q ≡ true
+    go Required e = refl
+    go Optional e = absurd cc
+    go Addition e = absurd cc
+    go (Default v) e = absurd cc
+
+none_required : (ps : List Component) (k : ℕ) (p : Component) → any_required ps ≡ false → Some p ≡ slice_get ps k → is_required p.presence ≡ false
+none_required [] k p n e = absurd cc
+none_required (q ∷ ps) k p n e = go (is_required q.presence) refl n k e (λ m j f. none_required ps j p m f)
+  where
+    go : (b : Bool) → is_required q.presence ≡ b → b || any_required ps ≡ false → (k : ℕ) → Some p ≡ slice_get (q ∷ ps) k → (any_required ps ≡ false → (j : ℕ) → Some p ≡ slice_get ps j → is_required p.presence ≡ false) → is_required p.presence ≡ false
+    go true h n k e more = absurd cc
+    go false h n zero e more = subst (λ (z : Component). is_required z.presence ≡ false) (some_is q p (sym e)) h
+    go false h n (suc k) e more = more n k e
+
+-- Where all may be left out, each is lawful.
+pub left_known : (f : ℕ → Shape) (ps : List Component) → AreLawfulInOrder (components_by f ps) → any_required ps ≡ false → (k : ℕ) (p : Component) → Some p ≡ slice_get ps k → IsKnown (f p.type_id.0)
+left_known f ps are n k p e = go (component_known f ps k p are e)
+  where
+    go : IsKnown (f p.type_id.0) ⊎ (presence_in f p ≡ required) → IsKnown (f p.type_id.0)
+    go (inl h) = h
+    go (inr r) = let x : true ≡ false = sym (required_found f p r) ∙ none_required ps k p n e in absurd cc
+
+pub alternative_known : (f : ℕ → Shape) (ks : List Alternative) (k : ℕ) (a : Alternative) → AreAlternatives (alternatives_by f ks) → Some a ≡ slice_get ks k → IsKnown (f a.type_id.0)
+unfolding IsLawful
+alternative_known f [] k a h e = absurd cc
+alternative_known f (c ∷ ks) zero a h e = subst (λ (z : Alternative). IsKnown (f z.type_id.0)) (some_is c a (sym e)) (h.2, h.3)
+alternative_known f (c ∷ ks) (suc k) a h e = alternative_known f ks k a h.4 e
+
+pub member_known : (f : ℕ → Shape) (ps : List Component) (k : ℕ) (p : Component) → AreLawfulByTag (components_by f ps) → Some p ≡ slice_get ps k → IsKnown (f p.type_id.0)
+unfolding IsLawful
+member_known f [] k p h e = absurd cc
+member_known f (q ∷ ps) zero p h e = subst (λ (z : Component). IsKnown (f z.type_id.0)) (some_is q p (sym e)) (h.2, h.3)
+member_known f (q ∷ ps) (suc k) p h e = member_known f ps k p h.5 e
+
 -- ---- the parts of a value, if those inside its parts are determined
 
 abbrev IsOneInside : (ℕ → ℕ → State → List Span → Type 0) → Type 0
@@ -232,24 +336,39 @@ into_one ty b s z a c inner other alike g h = go ty g h
     go (SequenceOf tag id size) g h = into_header (list_header tag) b s z a c inner other alike g h
     go (SetOf tag id size) g h = into_header (list_header tag) b s z a c inner other alike g h
 
-module _ (f : ℕ → Shape) (solid : (k : ℕ) → IsAlwaysPresent (f k)) (levels : ℕ) (P : ℕ → ℕ → State → List Span → Type 0) where
-  part_not_at_end : (id k b : ℕ) (s n : State) (es : List Span) → PartListed f levels P id k b s n es → (closing : Bool) → Ended closing s.rest → ⊥
-  part_not_at_end id k b s n es x closing e = not_read (f id) (solid id) s n x.tree x.reads closing e
+-- The type is lawful, or it is unknown values.
+pub known_type : (f : ℕ → Shape) (ty : «Type») → IsReadable (type_by f ty) → IsLawful (type_by f ty) ⊎ (ty ≡ Unknown)
+known_type f ty (inl h) = inl h.1
+known_type f (Leaf kind tag c names) (inr e) = absurd cc
+known_type f (Enumerated tag ns) (inr e) = absurd cc
+known_type f (Any tag) (inr e) = absurd cc
+known_type f Unknown (inr e) = inr refl
+known_type f (Tagged tag id) (inr e) = absurd cc
+known_type f (Choice name ks) (inr e) = absurd cc
+known_type f (Sequence tag ps) (inr e) = absurd cc
+known_type f (Set name tag ps) (inr e) = absurd cc
+known_type f (SequenceOf tag id c) (inr e) = absurd cc
+known_type f (SetOf tag id c) (inr e) = absurd cc
+
+module _ (f : ℕ → Shape) (levels : ℕ) (P : ℕ → ℕ → State → List Span → Type 0) where
+  part_not_at_end : (id k b : ℕ) → IsKnown (f id) → (s n : State) (es : List Span) → PartListed f levels P id k b s n es → (closing : Bool) → Ended closing s.rest → ⊥
+  part_not_at_end id k b known s n es x closing e = not_read (f id) known.0 s n x.tree x.reads closing e
 
   -- Nothing is left: each component is absent.
-  pub none_left : (ps : List Component) (b n : ℕ) (s last : State) (es : List Span) → s.rest ≡ [] → InTurn (ComponentAt f levels P ps b) n s last es → (last ≡ s) × (es ≡ [])
-  none_left ps b zero s last es e (p, q) = (p, q)
-  none_left ps b (suc n) s last es e (before, mine, here, is, t, (p, a, inl (h, g, i))) =
-      let r = none_left ps b n s here before e t in
+  pub none_left : (ps : List Component) → ((k : ℕ) (p : Component) → Some p ≡ slice_get ps k → IsKnown (f p.type_id.0))
+      → (b n : ℕ) (s last : State) (es : List Span) → s.rest ≡ [] → InTurn (ComponentAt f levels P ps b) n s last es → (last ≡ s) × (es ≡ [])
+  none_left ps known b zero s last es e (p, q) = (p, q)
+  none_left ps known b (suc n) s last es e (before, mine, here, is, t, (p, a, inl (h, g, i))) =
+      let r = none_left ps known b n s here before e t in
       (g ∙ r.0, is ∙ (ap (λ l. l ++ mine) r.1 ∙ i))
-  none_left ps b (suc n) s last es e (before, mine, here, is, t, (p, a, inr x)) =
-      let r = none_left ps b n s here before e t in
-      absurd (part_not_at_end p.type_id.0 n b here last mine x true (inl (ap (λ (v : State). v.rest) r.0 ∙ e)))
+  none_left ps known b (suc n) s last es e (before, mine, here, is, t, (p, a, inr x)) =
+      let r = none_left ps known b n s here before e t in
+      absurd (part_not_at_end p.type_id.0 n b (known n p a) here last mine x true (inl (ap (λ (v : State). v.rest) r.0 ∙ e)))
 
-module _ (f : ℕ → Shape) (solid : (k : ℕ) → IsAlwaysPresent (f k)) (lawful : (k : ℕ) → IsLawful (f k)) (levels : ℕ) (P : ℕ → ℕ → State → List Span → Type 0) (one : IsOneInside P) where
+module _ (f : ℕ → Shape) (readable : (k : ℕ) → IsReadable (f k)) (levels : ℕ) (P : ℕ → ℕ → State → List Span → Type 0) (one : IsOneInside P) where
   part_one : (id k b : ℕ) → IsOneStep (PartListed f levels P id k b)
   part_one id k b s z n m es fs alike x y =
-      let e = read_alike (f id) (solid id) (lawful id) s z n m x.tree y.tree alike x.reads y.reads in
+      let e = read_alike (f id) (readable id) s z n m x.tree y.tree alike x.reads y.reads in
       let o : x.part.octets.now ++ n.rest ≡ y.part.octets.now ++ n.rest = sym x.octets ∙ (alike.rest ∙ (y.octets ∙ ap (λ l. y.part.octets.now ++ l) (sym e.rest))) in
       let same : IsSamePart x.part y.part = record {
         id = x.id_is ∙ sym y.id_is;
@@ -260,31 +379,35 @@ module _ (f : ℕ → Shape) (solid : (k : ℕ) → IsAlwaysPresent (f k)) (lawf
       } in
       (e, cons_same es fs x.inside y.inside x.part y.part x.is y.is same (one id b s z x.inside y.inside alike x.parts y.parts))
 
-  elements_one : (id b : ℕ) (s z : State) (es fs : List Span) → Alike s z → ElementsListed f levels P id b s es → ElementsListed f levels P id b z fs → AreSameParts es fs
-  elements_one id b s z es fs alike (n, a, t, e) (m, c, u, g) =
-      ended_one (λ k. PartListed f levels P id k b) (λ k. part_one id k b) (λ k. part_not_at_end f solid levels P id k b) n m s z a c es fs alike t e u g
+  elements_one : (id b : ℕ) → IsKnown (f id) → (s z : State) (es fs : List Span) → Alike s z → ElementsListed f levels P id b s es → ElementsListed f levels P id b z fs → AreSameParts es fs
+  elements_one id b known s z es fs alike (n, a, t, e) (m, c, u, g) =
+      ended_one (λ k. PartListed f levels P id k b) (λ k. part_one id k b) (λ k. part_not_at_end f levels P id k b known) n m s z a c es fs alike t e u g
 
-  component_one : (ps : List Component) (b k : ℕ) → IsOneStep (ComponentAt f levels P ps b k)
-  component_one ps b k s z n m es fs alike (p, a, x) (q, c, y) = go x (subst (λ (v : Component). ComponentListed f levels P v k b z m fs) (some_is q p (c ∙ sym a)) y)
+  component_one : (ps : List Component) → AreLawfulInOrder (components_by f ps) → (b k : ℕ) → IsOneStep (ComponentAt f levels P ps b k)
+  component_one ps are b k s z n m es fs alike (p, a, x) (q, c, y) = go x (subst (λ (v : Component). ComponentListed f levels P v k b z m fs) (some_is q p (c ∙ sym a)) y)
     where
+      neither : (here : State) → IsAbsentHere f p here → (there next : State) (rs : List Span) → here.rest ≡ there.rest → PartListed f levels P p.type_id.0 k b there next rs → IsKnown (f p.type_id.0) ⊎ (presence_in f p ≡ required) → ⊥
+      neither here h there next rs e r (inl known) = absent_there (f p.type_id.0) known.0 there here next r.tree e r.reads h.1
+      neither here h there next rs e r (inr needed) = h.0 (required_there f p needed)
+
       go : ComponentListed f levels P p k b s n es → ComponentListed f levels P p k b z m fs → Alike n m × AreSameParts es fs
       go (inl (h, e, i)) (inl (l, g, j)) = (subst (λ v. Alike v m) (sym e) (subst (λ v. Alike s v) (sym g) alike), none_same es fs i j)
-      go (inl (h, e, i)) (inr r) = absurd (absent_there (f p.type_id.0) (solid p.type_id.0) z s m r.tree alike.rest r.reads h.1)
-      go (inr r) (inl (l, g, j)) = absurd (absent_there (f p.type_id.0) (solid p.type_id.0) s z n r.tree (sym alike.rest) r.reads l.1)
+      go (inl (h, e, i)) (inr r) = absurd (neither s h z m fs alike.rest r (component_known f ps k p are a))
+      go (inr r) (inl (l, g, j)) = absurd (neither z l s n es (sym alike.rest) r (component_known f ps k p are a))
       go (inr r) (inr v) = part_one p.type_id.0 k b s z n m es fs alike r v
 
-  components_one : (ps : List Component) (b : ℕ) (s z : State) (es fs : List Span) → Alike s z → ComponentsListed f levels P ps b s es → ComponentsListed f levels P ps b z fs → AreSameParts es fs
-  components_one ps b s z es fs alike (inl (h, p)) (inl (k, q)) = none_same es fs p q
-  components_one ps b s z es fs alike (inl (h, p)) (inr (m, u)) = none_same es fs p (none_left f solid levels P ps b (length ps) z m fs (sym alike.rest ∙ h.2) u).1
-  components_one ps b s z es fs alike (inr (n, t)) (inl (k, q)) = none_same es fs (none_left f solid levels P ps b (length ps) s n es (alike.rest ∙ k.2) t).1 q
-  components_one ps b s z es fs alike (inr (n, t)) (inr (m, u)) = (in_turn_one (ComponentAt f levels P ps b) (component_one ps b) (length ps) s z n m es fs alike t u).1
+  components_one : (ps : List Component) → AreLawfulInOrder (components_by f ps) → (b : ℕ) (s z : State) (es fs : List Span) → Alike s z → ComponentsListed f levels P ps b s es → ComponentsListed f levels P ps b z fs → AreSameParts es fs
+  components_one ps are b s z es fs alike (inl (h, p)) (inl (k, q)) = none_same es fs p q
+  components_one ps are b s z es fs alike (inl (h, p)) (inr (m, u)) = none_same es fs p (none_left f levels P ps (left_known f ps are h.0) b (length ps) z m fs (sym alike.rest ∙ h.2) u).1
+  components_one ps are b s z es fs alike (inr (n, t)) (inl (k, q)) = none_same es fs (none_left f levels P ps (left_known f ps are k.0) b (length ps) s n es (alike.rest ∙ k.2) t).1 q
+  components_one ps are b s z es fs alike (inr (n, t)) (inr (m, u)) = (in_turn_one (ComponentAt f levels P ps b) (component_one ps are b) (length ps) s z n m es fs alike t u).1
 
   -- The next tag says which alternative or component it is.
   alternative_one : (ks : List Alternative) → AreAlternatives (alternatives_by f ks) → AreDistinguished (alternatives_by f ks) → (b : ℕ) (s z : State) (es fs : List Span) → Alike s z
       → AlternativeListed f levels P ks b s es → AlternativeListed f levels P ks b z fs → AreSameParts es fs
   alternative_one ks are apart b s z es fs alike (j, a, p, n, x) (k, c, q, m, y) =
-      let v = tag_read (f a.type_id.0) (solid a.type_id.0) (alternative_tagged f ks j a are p) s n x.tree x.reads in
-      let w = tag_read (f c.type_id.0) (solid c.type_id.0) (alternative_tagged f ks k c are q) z m y.tree y.reads in
+      let v = tag_read (f a.type_id.0) (alternative_known f ks j a are p).0 (alternative_tagged f ks j a are p) s n x.tree x.reads in
+      let w = tag_read (f c.type_id.0) (alternative_known f ks k c are q).0 (alternative_tagged f ks k c are q) z m y.tree y.reads in
       let next = subst (λ l. NextTag (form z.rule) l w.0) (sym alike.rest) w.1 in
       let first = subst (IsFirst (f c.type_id.0)) (next_one s.rest w.0 v.0 next v.1) w.2 in
       let e : j ≡ k = same_index (alternatives_by f ks) v.0 j k _ _ _ _ (only_at f ks j a v.0 apart p v.2) (only_at f ks k c v.0 apart q first) in
@@ -294,8 +417,8 @@ module _ (f : ℕ → Shape) (solid : (k : ℕ) → IsAlwaysPresent (f k)) (lawf
   member_one : (ps : List Component) → AreLawfulByTag (components_by f ps) → (b : ℕ) → IsOneStep (MemberListed f levels P ps b)
   member_one ps are b s z n m es fs alike (j, a, p, x) (k, c, q, y) =
       let apart = by_tag_distinguished (components_by f ps) are in
-      let v = tag_read (f a.type_id.0) (solid a.type_id.0) (member_tagged f ps j a are p) s n x.tree x.reads in
-      let w = tag_read (f c.type_id.0) (solid c.type_id.0) (member_tagged f ps k c are q) z m y.tree y.reads in
+      let v = tag_read (f a.type_id.0) (member_known f ps j a are p).0 (member_tagged f ps j a are p) s n x.tree x.reads in
+      let w = tag_read (f c.type_id.0) (member_known f ps k c are q).0 (member_tagged f ps k c are q) z m y.tree y.reads in
       let next = subst (λ l. NextTag (form z.rule) l w.0) (sym alike.rest) w.1 in
       let first = subst (IsFirst (f c.type_id.0)) (next_one s.rest w.0 v.0 next v.1) w.2 in
       let e : j ≡ k = same_index (components_by f ps) v.0 j k _ _ _ _ (only_part f v.0 ps j a apart (p, v.2)) (only_part f v.0 ps k c apart (q, first)) in
@@ -304,7 +427,7 @@ module _ (f : ℕ → Shape) (solid : (k : ℕ) → IsAlwaysPresent (f k)) (lawf
 
   members_one : (ps : List Component) → AreLawfulByTag (components_by f ps) → (b : ℕ) (s z : State) (es fs : List Span) → Alike s z → MembersListed f levels P ps b s es → MembersListed f levels P ps b z fs → AreSameParts es fs
   members_one ps are b s z es fs alike (n, a, t, e) (m, c, u, g) =
-      ended_one (λ k. MemberListed f levels P ps b) (λ k. member_one ps are b) (λ k v w es (j, p, is, x) closing e. part_not_at_end f solid levels P p.type_id.0 j b v w es x closing e) n m s z a c es fs alike t e u g
+      ended_one (λ k. MemberListed f levels P ps b) (λ k. member_one ps are b) (λ k v w es (j, p, is, x) closing e. part_not_at_end f levels P p.type_id.0 j b (member_known f ps j p are is) v w es x closing e) n m s z a c es fs alike t e u g
 
   contents_one : (ty : «Type») → IsLawful (type_by f ty) → (b : ℕ) (s z : State) (es fs : List Span) → Alike s z → ContentsListed f levels P ty b s es → ContentsListed f levels P ty b z fs → AreSameParts es fs
   unfolding IsLawful
@@ -314,61 +437,38 @@ module _ (f : ℕ → Shape) (solid : (k : ℕ) → IsAlwaysPresent (f k)) (lawf
   contents_one Unknown are b s z es fs alike p q = none_same es fs p q
   contents_one (Tagged tag id) are b s z es fs alike (n, x) (m, y) = (part_one id.0 0 b s z n m es fs alike x y).1
   contents_one (Choice name ks) are b s z es fs alike x y = alternative_one ks.items are.0 are.1 b s z es fs alike x y
-  contents_one (Sequence tag ps) are b s z es fs alike x y = components_one ps.items b s z es fs alike x y
+  contents_one (Sequence tag ps) are b s z es fs alike x y = components_one ps.items are.1 b s z es fs alike x y
   contents_one (Set name tag ps) are b s z es fs alike x y = members_one ps.items are.1 b s z es fs alike x y
-  contents_one (SequenceOf tag id c) are b s z es fs alike x y = elements_one id.0 b s z es fs alike x y
-  contents_one (SetOf tag id c) are b s z es fs alike x y = elements_one id.0 b s z es fs alike x y
+  contents_one (SequenceOf tag id c) are b s z es fs alike x y = elements_one id.0 b (are.1, are.2) s z es fs alike x y
+  contents_one (SetOf tag id c) are b s z es fs alike x y = elements_one id.0 b (are.1, are.2) s z es fs alike x y
 
-  value_one : (ty : «Type») → IsLawful (type_by f ty) → (b : ℕ) (s z : State) (es fs : List Span) → Alike s z → ValueListed f levels P ty b s es → ValueListed f levels P ty b z fs → AreSameParts es fs
-  value_one ty are b s z es fs alike (a, inner, g, x) (c, other, h, y) =
-      let e = into_one ty b s z a c inner other alike g h in
-      contents_one ty are a inner other es fs e.1 x (subst (λ n. ContentsListed f levels P ty n other fs) (sym e.0) y)
+  value_one : (ty : «Type») → IsReadable (type_by f ty) → (b : ℕ) (s z : State) (es fs : List Span) → Alike s z → ValueListed f levels P ty b s es → ValueListed f levels P ty b z fs → AreSameParts es fs
+  value_one ty are b s z es fs alike (a, inner, g, x) (c, other, h, y) = go (known_type f ty are)
+    where
+      go : IsLawful (type_by f ty) ⊎ (ty ≡ Unknown) → AreSameParts es fs
+      go (inl lawful) =
+          let e = into_one ty b s z a c inner other alike g h in
+          contents_one ty lawful a inner other es fs e.1 x (subst (λ n. ContentsListed f levels P ty n other fs) (sym e.0) y)
+      go (inr e) = none_same es fs (subst (λ v. ContentsListed f levels P v a inner es) e x) (subst (λ v. ContentsListed f levels P v c other fs) e y)
 
 -- ---- types by their numbers
 
-all_present : (f : ℕ → Shape) → ((k : ℕ) → IsAlwaysPresent (f k)) → (ks : List Alternative) → AreAlwaysPresent (alternatives_by f ks)
-all_present f h [] = tt
-all_present f h (a ∷ ks) = (h a.type_id.0, all_present f h ks)
-
-type_present : (f : ℕ → Shape) → ((k : ℕ) → IsAlwaysPresent (f k)) → (ty : «Type») → IsLawful (type_by f ty) → IsAlwaysPresent (type_by f ty)
-unfolding IsLawful
-type_present f h (Leaf kind tag c names) l = tt
-type_present f h (Enumerated tag ns) l = tt
-type_present f h (Any tag) l = tt
-type_present f h (Tagged tag k) l = tt
-type_present f h (Choice name ks) l = all_present f h ks.items
-type_present f h (Sequence tag ps) l = tt
-type_present f h (Set name tag ps) l = tt
-type_present f h (SequenceOf tag k c) l = tt
-type_present f h (SetOf tag k c) l = tt
-type_present f h Unknown l = absurd l
-
-found_present : (f : ℕ → Shape) → ((k : ℕ) → IsAlwaysPresent (f k)) → (o : Option «Type») → IsLawful (found_by f o) → IsAlwaysPresent (found_by f o)
-found_present f h None l = tt
-found_present f h (Some ty) l = type_present f h ty l
-
--- Values of lawful types have octets.
-pub is_present : (types : List «Type») → AreLawfulTypes types → (levels k : ℕ) → IsAlwaysPresent (shape_of_type types levels k)
-unfolding shape_of_type
-is_present types lawful zero k = nothing_present (looked_for (tag_at types k))
-is_present types lawful (suc levels) k = found_present (shape_of_type types levels) (is_present types lawful levels) (slice_get types k) (lawful (suc levels) k)
-
-module _ (types : List «Type») (lawful : AreLawfulTypes types) where
-  pub lawful_type : (n id : ℕ) (ty : «Type») → slice_get types id ≡ Some ty → IsLawful (type_by (shape_of_type types n) ty)
+module _ (types : List «Type») (readable : AreReadableTypes types) where
+  pub readable_type : (n id : ℕ) (ty : «Type») → slice_get types id ≡ Some ty → IsReadable (type_by (shape_of_type types n) ty)
   unfolding shape_of_type
-  lawful_type n id ty at = subst (λ z. IsLawful (found_by (λ j. shape_of_type types n j) z)) at (lawful (suc n) id)
+  readable_type n id ty at = subst (λ z. IsReadable (found_by (λ j. shape_of_type types n j) z)) at (readable (suc n) id)
 
   inside_one : (n : ℕ) → IsOneInside (Inside types n)
   unfolding PartsInside
   inside_one zero id b s z es fs alike h k = absurd h
   inside_one (suc n) id b s z es fs alike (ty, p, x) (tz, q, y) =
       let e : tz ≡ ty = some_is tz ty (sym q ∙ p) in
-      value_one (shape_of_type types n) (is_present types lawful n) (lawful n) n (Inside types n) (inside_one n) ty (lawful_type n id ty p) b s z es fs alike x
+      value_one (shape_of_type types n) (readable n) n (Inside types n) (inside_one n) ty (readable_type n id ty p) b s z es fs alike x
       (subst (λ v. ValueListed (shape_of_type types n) n (Inside types n) v b z fs) e y)
 
 pub parts_determined : PartsAreDetermined
-parts_determined types rule other id input ps qs lawful octets x y =
+parts_determined types rule other id input ps qs readable octets x y =
     let n : ℕ = 18446744073709551615 in
     let alike : Alike (start rule input) (start other input) = record { rest = refl; depth = refl; octets = octets } in
-    (part_one (shape_of_type types 18446744073709551615) (is_present types lawful n) (lawful n) n (Inside types n) (inside_one types lawful n)
+    (part_one (shape_of_type types 18446744073709551615) (readable n) n (Inside types n) (inside_one types readable n)
     id 0 0 (start rule input) (start other input) x.last y.last ps.list.items qs.list.items alike x.listed y.listed).1

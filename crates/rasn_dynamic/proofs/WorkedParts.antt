@@ -6,7 +6,12 @@ use Rattle.rasn_types.specs.Tags.{in_universal}
 use Rattle.rasn_de.specs.State.{State}
 use Rattle.rasn_schema.specs.declared.types.Component.{Component}
 use Rattle.rasn_schema.specs.declared.types.«Type».{«Type»}
-use Rattle.rasn_schema.specs.declared.types.«Type».TheVariants.{Sequence}
+use Rattle.rasn_schema.specs.declared.types.«Type».TheVariants.{Sequence, SequenceOf, Unknown}
+use Rattle.rasn_schema.specs.declared.type_id.TypeId.{TypeId}
+use Rattle.rasn_schema.specs.Shapes.{nothing, found_by, tag_found, shape_of_type, IsReadable}
+use Rattle.rasn_types.specs.Lawful.{IsLawful}
+use Rattle.rasn_types.specs.Shapes.{list, unknown, looked_for}
+use Rattle.rasn_types.specs.declared.types.constraints.Constraints.{Constraints}
 use Rattle.rasn_schema.specs.Schemas.{components_in}
 use Rattle.rasn_schema.proofs.Lists.{some_is}
 use Rattle.rasn_schema.proofs.Parts.{not_none}
@@ -17,6 +22,7 @@ use Rattle.rasn_dynamic.specs.Faults.{start}
 use Rattle.rasn_dynamic.specs.Listed.{PartsInside}
 use Rattle.rasn_dynamic.specs.Parts.{AreContents, end_len}
 use Rattle.rasn_dynamic.specs.LeadsTo.{LeadsTo}
+use Rattle.rasn_dynamic.specs.SameParts.{AreReadableTypes}
 use Rattle.rasn_dynamic.specs.WorkedParts.{sequence_alone, WorkedParts}
 
 missing : (levels id b : ℕ) (s : State) (es : List Span) → PartsInside [] levels id b s es → ⊥
@@ -49,6 +55,26 @@ module _ (p : Part) where
       let c = m ∙ ap end_len i in
       omega (arith, a, b, c, h, n)
 
+nothing_at : (types : List «Type») (k : ℕ) → types ≡ [] → slice_get types k ≡ None
+nothing_at [] zero e = refl
+nothing_at [] (suc k) e = refl
+nothing_at (ty ∷ types) k e = absurd cc
+
+alone : AreReadableTypes (Unknown ∷ [])
+unfolding shape_of_type IsLawful
+alone zero zero = inl (tt, (tt, tt))
+alone zero (suc k) = subst (λ o. IsReadable (nothing (looked_for (tag_found o)))) (sym (nothing_at [] k refl)) (inl (tt, (tt, tt)))
+alone (suc n) zero = inr refl
+alone (suc n) (suc k) = subst (λ o. IsReadable (found_by (λ j. shape_of_type (Unknown ∷ []) n j) o)) (sym (nothing_at [] k refl)) (inl (tt, (tt, tt)))
+
+no_list : (id : TypeId) (c : Constraints) → id.0 ≡ 1 → AreReadableTypes (SequenceOf (in_universal 16) id c ∷ Unknown ∷ []) → ⊥
+unfolding shape_of_type IsLawful
+no_list id c e h = go (subst (λ k. IsReadable (list (in_universal 16) (shape_of_type (SequenceOf (in_universal 16) id c ∷ Unknown ∷ []) 1 k) c.size)) e (h 2 0))
+  where
+    go : IsReadable (list (in_universal 16) unknown c.size) → ⊥
+    go (inl x) = x.1.1
+    go (inr q) = cc
+
 pub worked_parts : WorkedParts
 worked_parts = record {
   within_64_bits = omega arith;
@@ -66,5 +92,10 @@ worked_parts = record {
   no_component_without_a_path = no_path;
   contents_of_a_number = λ p e h i. between p (2 ∷ 1 ∷ []) (7 ∷ []) [] e h false i refl;
   not_without_the_last_octet = not_empty_here;
+  same_as_itself = λ e. record { id = refl; index = refl; levels = refl; left = refl; octets = refl };
+  not_of_another_type = λ a b p q h. let n = h.id in omega (arith, n, p, q);
+  not_at_another_place = λ a b p q h. let n = h.left in omega (arith, n, p, q);
+  unknown_values_alone = alone;
+  no_sequence_of_unknown_values = no_list;
   contents_before_their_end = λ p e h i. between p (48 ∷ 128 ∷ []) [] (0 ∷ 0 ∷ []) e h true i refl;
 }

@@ -1,6 +1,7 @@
 -- Errors and places as text.
-use Rattle.std.specs.Prelude.{ℕ, List, [], ◌∷◌, ◌++◌, Bool, true, false, if◌then◌else◌, Option, Some, None, option_map, option_and_then, slice_get, codes}
+use Rattle.std.specs.Prelude.{ℕ, List, [], ◌∷◌, ◌++◌, length, ◌&&◌, ◌==◌, Bool, true, false, if◌then◌else◌, Option, Some, None, option_map, option_and_then, slice_get, codes}
 use Rattle.std.specs.Fmt.{decimal, ◌++?◌}
+use Rattle.std.specs.List.{flat_map}
 use Rattle.rasn_types.specs.ErrorText.{shown_decode_error, shown_encode_error}
 use Rattle.rasn_schema.specs.declared.type_id.TypeId.{TypeId}
 use Rattle.rasn_schema.specs.declared.types.«Type».{«Type»}
@@ -51,18 +52,21 @@ stays_first first _ = false
 abbrev pub step_from : List «Type» → ℕ → ℕ → Option («Type» × TypeId)
 step_from types id k = option_and_then (λ ty. option_map (λ next. (ty, next)) (part_type ty k)) (slice_get types id)
 
--- A comma after the last name.
-abbrev pub end_text : Bool → List ℕ
-end_text first = if first then [] else codes ", "
+-- The indices in brackets, and a comma after them and the names.
+abbrev pub comma_text : Bool → List ℕ
+comma_text none = if none then [] else codes ", "
 
-abbrev pub after_step : List «Type» → Bool → ℕ → (Bool → ℕ → List ℕ) → Option («Type» × TypeId) → List ℕ
-after_step types first k more None = end_text first
-after_step types first k more (Some s) = part_text first s.0 k (slice_get types s.1.0) ++ more (stays_first first s.0) s.1.0
+abbrev pub end_text : List ℕ → Bool → List ℕ
+end_text inner first = flat_map bracketed inner ++ comma_text (first && (length inner == 0))
 
--- The steps from the type with number id, as far as they lead to parts.
-unfoldable pub way_text : List «Type» → Bool → ℕ → List ℕ → List ℕ
-way_text types first id [] = end_text first
-way_text types first id (k ∷ steps) = after_step types first k (λ f n. way_text types f n steps) (step_from types id k)
+abbrev pub after_step : List «Type» → List ℕ → Bool → ℕ → (Bool → ℕ → List ℕ) → Option («Type» × TypeId) → List ℕ
+after_step types inner first k more None = end_text inner first
+after_step types inner first k more (Some s) = part_text first s.0 k (slice_get types s.1.0) ++ more (stays_first first s.0) s.1.0
+
+-- The steps from the type with number id, as far as they lead to parts, and then the inner indices.
+unfoldable pub way_text : List «Type» → List ℕ → Bool → ℕ → List ℕ → List ℕ
+way_text types inner first id [] = end_text inner first
+way_text types inner first id (k ∷ steps) = after_step types inner first k (λ f n. way_text types inner f n steps) (step_from types id k)
 
 -- The names on the way, unless some are missing, and the refusal.
 abbrev pub shown_way : Bool → List ℕ → Option (List ℕ) → Option (List ℕ)
@@ -70,4 +74,4 @@ shown_way true way refusal = refusal
 shown_way false way refusal = Some way ++? refusal
 
 abbrev pub shown_named : NamedRefusal → Option (List ℕ)
-shown_named n = shown_way n.refusal.now.is_cut (way_text n.schema.now.types.items true n.id.0 n.refusal.now.steps.items) (shown_refusal n.refusal.now)
+shown_named n = shown_way n.refusal.now.is_cut (way_text n.schema.now.types.items n.inner.now true n.id.0 n.refusal.now.steps.items) (shown_refusal n.refusal.now)

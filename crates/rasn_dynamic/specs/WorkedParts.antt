@@ -3,11 +3,13 @@ use Rattle.std.specs.Prelude.{◌≡◌, ◌-◌, ◌^◌, ℕ, List, [], ◌∷
 use Rattle.std.specs.Global.{Global}
 use Rattle.rasn_types.specs.declared.types.codec.Codec.TheVariants.{Der}
 use Rattle.rasn_types.specs.Shapes.{Shape}
+use Rattle.rasn_types.specs.declared.types.constraints.Constraints.{Constraints}
 use Rattle.rasn_de.specs.State.{State}
 use Rattle.rasn_types.specs.Tags.{in_universal}
 use Rattle.rasn_schema.specs.declared.types.Component.{Component}
 use Rattle.rasn_schema.specs.declared.types.«Type».{«Type»}
-use Rattle.rasn_schema.specs.declared.types.«Type».TheVariants.{Sequence}
+use Rattle.rasn_schema.specs.declared.types.«Type».TheVariants.{Sequence, SequenceOf, Unknown}
+use Rattle.rasn_schema.specs.declared.type_id.TypeId.{TypeId}
 use Rattle.rasn_dynamic.specs.declared.part.Part.{Part}
 use Rattle.rasn_dynamic.specs.declared.span.Span.{Span}
 use Rattle.rasn_dynamic.specs.Faults.{start}
@@ -15,6 +17,7 @@ use Rattle.rasn_dynamic.specs.Listed.{capped, InTurn, ElementsListed, PartsInsid
 use Rattle.rasn_dynamic.specs.Walk.{path_at_depth}
 use Rattle.rasn_dynamic.specs.Parts.{AreContents}
 use Rattle.rasn_dynamic.specs.LeadsTo.{LeadsTo}
+use Rattle.rasn_dynamic.specs.SameParts.{IsSamePart, AreReadableTypes}
 
 -- A SEQUENCE alone.
 abbrev pub sequence_alone : Vec Component Global → List «Type»
@@ -40,4 +43,9 @@ pub record WorkedParts : Type 0 where
   pub no_component_without_a_path : (types : List «Type») (id : ℕ) (p : Component) → LeadsTo types id [] p → ⊥
   pub contents_of_a_number : (p : Part) → p.octets.now ≡ 2 ∷ 1 ∷ 7 ∷ [] → p.header_len ≡ 2 → p.is_indefinite ≡ false → AreContents p (7 ∷ [])
   pub not_without_the_last_octet : (p : Part) → p.octets.now ≡ 2 ∷ 1 ∷ 7 ∷ [] → p.header_len ≡ 2 → p.is_indefinite ≡ false → AreContents p [] → ⊥
+  pub same_as_itself : (e : Span) → IsSamePart e e
+  pub not_of_another_type : (a b : Span) → a.id.0 ≡ 0 → b.id.0 ≡ 1 → IsSamePart a b → ⊥
+  pub not_at_another_place : (a b : Span) → a.left ≡ 7 → b.left ≡ 5 → IsSamePart a b → ⊥
+  pub unknown_values_alone : AreReadableTypes (Unknown ∷ [])
+  pub no_sequence_of_unknown_values : (id : TypeId) (c : Constraints) → id.0 ≡ 1 → AreReadableTypes (SequenceOf (in_universal 16) id c ∷ Unknown ∷ []) → ⊥
   pub contents_before_their_end : (p : Part) → p.octets.now ≡ 48 ∷ 128 ∷ 0 ∷ 0 ∷ [] → p.header_len ≡ 2 → p.is_indefinite ≡ true → AreContents p []

@@ -22,8 +22,8 @@ pub fn worked_faults()
     ensures { WorkedFaults }
 {}
 
-/// Proves that octets have one list of parts: what is read as a value of a type of a schema, by the
-/// same rules, has no other parts, in no other order. The function does nothing when it runs.
+/// Proves that octets have one list of parts: what is read as a value of a type of a schema has no
+/// other parts, in no other order, by whichever rules. The function does nothing when it runs.
 pub fn parts_determined()
     ensures { PartsAreDetermined }
 {}

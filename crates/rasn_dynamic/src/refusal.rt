@@ -1,7 +1,8 @@
 //! Why an input is refused, and where.
-ghost use Rattle.std.specs.Prelude.{◌≡◌, true, option_copied, slice_get, MatchOption};
+ghost use Rattle.std.specs.Prelude.{◌≡◌, [], true, option_copied, slice_get, MatchOption};
+ghost use Rattle.std.specs.List.{flat_map};
 ghost use Rattle.std.specs.Fmt.{WritesOnOk};
-ghost use Rattle.rasn_dynamic.specs.Shown.{name_text, step_text, part_text, step_from, stays_first, end_text, way_text};
+ghost use Rattle.rasn_dynamic.specs.Shown.{name_text, step_text, part_text, step_from, stays_first, bracketed, end_text, way_text};
 
 use rasn_schema::{Schema, Type, TypeId, is_unknown_at, part_name, part_type, type_at};
 use rasn_types::error::DecodeError;
@@ -31,12 +32,13 @@ impl Refusal {
     /// Returns the refusal to be shown with the names of the components and alternatives on the way.
     /// `id` is the number of the type that was asked for.
     pub fn with_names<'a>(&'a self, schema: &'a Schema, id: TypeId) -> NamedRefusal<'a>
-        ensures { (result.refusal.now ≡ self.now) × (result.schema.now ≡ schema.now) × (result.id ≡ id) }
+        ensures { (result.refusal.now ≡ self.now) × (result.schema.now ≡ schema.now) × (result.id ≡ id) × (result.inner.now ≡ []) }
     {
         NamedRefusal {
             schema,
             id,
             refusal: self,
+            inner: &[],
         }
     }
 }
@@ -63,9 +65,11 @@ pub struct NamedRefusal<'a> {
     pub id: TypeId,
     /// The refusal.
     pub refusal: &'a Refusal,
+    /// If it is one inside an open type: the index of each encoding on the way there.
+    pub inner: &'a [usize],
 }
 
-/// The names, the offset, and what is wrong.
+/// The names, the indices on the way inside an open type in brackets, the offset, and what is wrong.
 impl fmt::Display for NamedRefusal<'_> {
     ghost use Rattle.rasn_dynamic.specs.Shown.{shown_named};
 
@@ -76,7 +80,7 @@ impl fmt::Display for NamedRefusal<'_> {
             return fmt::Display::fmt(self.refusal, f);
         }
         let steps = self.refusal.steps.as_slice();
-        write_steps(f, self.schema.types(), self.id, steps)?;
+        write_steps(f, self.schema.types(), self.id, steps, self.inner)?;
         fmt::Display::fmt(self.refusal, f)
     }
 }
@@ -151,31 +155,49 @@ fn stays_first(is_first: bool, ty: &Type) -> bool
     }
 }
 
-/// Writes a comma after the names, if there are some.
-fn write_end<W: fmt::Write>(f: &mut fmt::Formatter<W>, is_first: bool) -> fmt::Result
-    ensures { WritesOnOk W.write_str_gives f.old result (end_text is_first) f.new }
+/// Writes each index in brackets.
+fn write_indices<W: fmt::Write>(f: &mut fmt::Formatter<W>, indices: &[usize]) -> fmt::Result
+    ensures { WritesOnOk W.write_str_gives f.old result (flat_map bracketed indices.now) f.new }
 {
-    f.write_str(if is_first { "" } else { ", " })
+    for index in indices {
+        write!(f, "[{index}]")?;
+    }
+    Ok(())
 }
 
-/// Writes the steps from the type with this number, and a comma after them, unless there are none.
+/// Writes the inner indices, and a comma after them and the names, if there are some.
+fn write_end<W: fmt::Write>(
+    f: &mut fmt::Formatter<W>,
+    is_first: bool,
+    inner: &[usize],
+) -> fmt::Result
+    ensures { WritesOnOk W.write_str_gives f.old result (end_text inner.now is_first) f.new }
+{
+    write_indices(f, inner)?;
+    let is_none = is_first && inner.is_empty();
+    f.write_str(if is_none { "" } else { ", " })
+}
+
+/// Writes the steps from the type with this number and the inner indices, and a comma after them,
+/// unless there are none.
 fn write_steps<W: fmt::Write>(
     f: &mut fmt::Formatter<W>,
     types: &[Type],
     from: TypeId,
     steps: &[usize],
+    inner: &[usize],
 ) -> fmt::Result
-    ensures { WritesOnOk W.write_str_gives f.old result (way_text types.now true from.0 steps.now) f.new }
+    ensures { WritesOnOk W.write_str_gives f.old result (way_text types.now inner.now true from.0 steps.now) f.new }
 {
     let mut id = from;
     let mut is_first = true;
     for step in steps {
         let Some((ty, next)) = step_from(types, id, *step) else {
-            return write_end(f, is_first);
+            return write_end(f, is_first, inner);
         };
         write_part(f, types, ty, *step, next, is_first)?;
         is_first = stays_first(is_first, ty);
         id = next;
     }
-    write_end(f, is_first)
+    write_end(f, is_first, inner)
 }

@@ -1,5 +1,5 @@
 -- What the list of a message says of its normal encoding, and of the first departure.
-use Rattle.std.proofs.Common.{◌≡◌, inl, inr, ℕ, List, [], ◌∷◌, length, Some, None, refl, sym, ap, ◌∙◌, subst}
+use Rattle.std.proofs.Common.{inl, inr, ℕ, List, [], ◌∷◌, length, Some, None, refl, sym, ap, ◌∙◌, subst}
 use Rattle.std.specs.Prelude.{slice_get}
 use Rattle.std.specs.List.{AllByRecursion}
 use Rattle.rasn_types.specs.declared.types.codec.Codec.{Codec}
@@ -12,14 +12,14 @@ use Rattle.rasn_dynamic.specs.declared.message.MessageParts.{MessageParts}
 use Rattle.rasn_dynamic.specs.declared.span.Span.{Span}
 use Rattle.rasn_dynamic.specs.Entry.{shape_of}
 use Rattle.rasn_dynamic.specs.Faults.{start}
-use Rattle.rasn_dynamic.specs.SameParts.{IsSamePart, AreSameParts, AreLawfulTypes}
+use Rattle.rasn_dynamic.specs.SameParts.{IsSamePart, AreSameParts, AreReadableTypes}
 use Rattle.rasn_dynamic.proofs.SameParts.{parts_determined}
 use Rattle.rasn_lint.specs.declared.by_schema.OpenTypes.{OpenTypes}
 use Rattle.rasn_lint.specs.declared.by_schema.OpenTypes.TheVariants.{Unexamined, Examined}
 use Rattle.rasn.proofs.Normalised.{unchanged}
 use Rattle.rasn_dynamic.specs.Walk.{ArePartsOf, path_after}
 use Rattle.rasn_lint.specs.declared.departure.Departure.{Departure}
-use Rattle.rasn_lint.specs.Lint.{IsDer, HasFormed, AreFormed, IsFirstIn, IsFirstDeparture, IsLint}
+use Rattle.rasn_lint.specs.Lint.{IsDer, HasFormed, AreFormed, IsFirstIn, IsFirstDeparture}
 use Rattle.rasn_lint.specs.Untyped.{HasOpen}
 use Rattle.rasn_lint.specs.WellFormed.{AreEncodings}
 use Rattle.rasn_lint.specs.Laws.{NormalIsClean, FormedIsClean, IsClosed, ClosedIsClean, FirstIsListed, ClosedFirstIsListed, CleanIsNormal}
@@ -30,7 +30,7 @@ pub clean_if_formed : FormedIsClean
 clean_if_formed opens types id rule input octets ds n l all = l.clean.1 ((n.again, n.read_again.0), all)
 
 -- The open types of the normal encoding are those of the input.
-formed_anew : (types : List «Type») (id : ℕ) (rule : Codec) (input octets : List ℕ) (ps qs : MessageParts) → AreLawfulTypes types → AreOctets input → AreOctets octets → IsNormal rule (shape_of types id) input octets
+formed_anew : (types : List «Type») (id : ℕ) (rule : Codec) (input octets : List ℕ) (ps qs : MessageParts) → AreReadableTypes types → AreOctets input → AreOctets octets → IsNormal rule (shape_of types id) input octets
     → ArePartsOf types rule id input ps → ArePartsOf types Ber id octets qs → AllByRecursion (HasFormed types) ps.list.items → AllByRecursion (HasFormed types) qs.list.items
 formed_anew types id rule input octets ps qs lawful are written n p q all =
     let deep : ℕ = 18446744073709551615 in

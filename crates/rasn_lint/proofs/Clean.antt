@@ -24,6 +24,7 @@ use Rattle.rasn_lint.specs.declared.by_schema.OpenTypes.TheVariants.{Unexamined,
 use Rattle.rasn_lint.specs.declared.departure.Departure.{Departure}
 use Rattle.rasn_lint.specs.Lint.{IsDer, HasFormed, IsRemainderOf, IsAtFault, IsDerOrNot, IsClean, AreAll, offset_of, IsLint, IsNoLint, IsIllFormedAt, IsFirstOr, IsFirstDeparture, rest_after}
 use Rattle.rasn_lint.specs.Judged.{AreJudged, AreOpenDepartures}
+use Rattle.rasn_lint.specs.Refusals.{aspect_of}
 use Rattle.rasn_lint.proofs.Judged.{none_typed, none_if_formed, formed_if_none, formed_if}
 
 last_empty : {A : Type 0} (b c : List A) → b ++ c ≡ [] → c ≡ []
@@ -60,6 +61,9 @@ module _ (types : List «Type») (id : ℕ) (input : List ℕ) (parts : List Spa
         );
       }
 
+same_aspect : (d : Departure) (r : Refusal) → d.refusal ≡ r → d.aspect ≡ aspect_of r.error.kind → d.aspect ≡ aspect_of d.refusal.error.kind
+same_aspect d r s a = a ∙ ap (λ (z : Refusal). aspect_of z.error.kind) (sym s)
+
 -- What is found of the parts of a message.
 module _ (opens : OpenTypes) (types : List «Type») (id : ℕ) (input : List ℕ) (parts : List Span) where
   pub some_departures : (o : Option Refusal) (b : Bool) (ds : List Departure) → is_some o ≡ not b → IsDerOrNot types id input o → AreJudged b opens types (length input) [] [] parts ds → ds ≢ [] → AreAll opens types id input parts ds
@@ -69,15 +73,15 @@ module _ (opens : OpenTypes) (types : List «Type») (id : ℕ) (input : List �
   some_departures (Some r) false ds e h j n = inr (h.0, inl (j, n))
 
   pub refusal_alone : (o : Option Refusal) (r : Refusal) (b : Bool) (none ds : List Departure) → o ≡ Some r → is_some o ≡ not b → IsDerOrNot types id input o → AreJudged b opens types (length input) [] [] parts none → none ≡ []
-      → ((d : Departure) × (ds ≡ none ++ d ∷ []) × (d.refusal ≡ r) × (d.inner ≡ None)) → AreAll opens types id input parts ds
-  refusal_alone o r b none ds q e h j n (d, p, s, i) = go b (subst (λ z. is_some z ≡ not b) q e) j
+      → ((d : Departure) × (ds ≡ none ++ d ∷ []) × (d.refusal ≡ r) × (d.inner ≡ None) × (d.aspect ≡ aspect_of r.error.kind)) → AreAll opens types id input parts ds
+  refusal_alone o r b none ds q e h j n (d, p, s, i, a) = go b (subst (λ z. is_some z ≡ not b) q e) j
     where
       go : (b : Bool) → is_some (Some r) ≡ not b → AreJudged b opens types (length input) [] [] parts none → AreAll opens types id input parts ds
       go true e j = cc
       go false e j =
           let k = subst (IsDerOrNot types id input) q h in
           let g = subst (λ z. AreJudged false opens types (length input) [] [] parts z) n j in
-          inr (k.0, inr (g, d, p ∙ ap (λ z. z ++ d ∷ []) n, (subst (IsAtFault types id input) (sym s) k.1, i)))
+          inr (k.0, inr (g, d, p ∙ ap (λ z. z ++ d ∷ []) n, (subst (IsAtFault types id input) (sym s) k.1, i, same_aspect d r s a)))
 
 -- What is looked into, part by part.
 module _ (types : List «Type») (len : ℕ) (parts : List Span) where
@@ -152,10 +156,10 @@ module _ (types : List «Type») (id : ℕ) (input : List ℕ) where
     pub whole_is_read : rest ≡ [] → IsDer types id input
     whole_is_read e = (are.listed.tree, subst (λ z. Reads Der (shape_of types id) 128 (top Der) input are.listed.tree z) e read.0)
 
-    pub remainder_first : (r : Refusal) (d : Departure) → IsRemainderOf input rest r → d.refusal ≡ r → d.inner ≡ None → IsFirstDeparture Examined types id input (Some d)
-    remainder_first r d h e i = inl (
+    pub remainder_first : (r : Refusal) (d : Departure) → IsRemainderOf input rest r → d.refusal ≡ r → d.inner ≡ None → d.aspect ≡ aspect_of r.error.kind → IsFirstDeparture Examined types id input (Some d)
+    remainder_first r d h e i a = inl (
       (λ k. h.extra.some (sym (read.1 k.0 [] k.1).1)),
-      (subst (IsAtFault types id input) (sym e) (inr (are.listed.tree, rest, read.0, h)), i),
+      (subst (IsAtFault types id input) (sym e) (inr (are.listed.tree, rest, read.0, h)), i, same_aspect d r e a),
     )
 
     pub parts_first : rest ≡ [] → (r : Option Departure) → IsFirstOr types (length input) [] ps.list.items r → IsFirstDeparture Examined types id input r

@@ -1,16 +1,18 @@
 -- The parts of a message beside the tree of its value.
-use Rattle.std.proofs.Common.{◌≡◌, ◌≢◌, ◌⊎◌, inl, inr, ◌+◌, ◌-◌, ℕ, zero, suc, List, [], ◌∷◌, ◌++◌, length, drop, append_assoc, append-nil, Bool, true, false, Option, Some, None, refl, sym, ap, ◌∙◌, subst, arith}
-use Rattle.std.specs.Prelude.{◌↔◌, slice_get}
+use Rattle.std.proofs.Common.{◌≡◌, ◌≢◌, ◌⊎◌, inl, inr, ◌+◌, ◌-◌, ℕ, zero, suc, List, [], ◌∷◌, ◌++◌, map, length, drop, append_assoc, append-nil, Bool, true, false, Option, Some, None, refl, sym, ap, ◌∙◌, subst, arith}
+use Rattle.std.specs.Prelude.{◌↔◌, ◌||◌, slice_get}
+use Rattle.std.specs.List.{AllByRecursion}
 use Rattle.std.proofs.lemmas.List.{append_cancel_right}
 use Rattle.rasn_types.specs.declared.types.codec.Codec.{Codec}
 use Rattle.rasn_types.specs.declared.types.codec.Codec.TheVariants.{Ber, Cer, Der}
 use Rattle.rasn_types.specs.declared.types.tag.Tag.{Tag}
 use Rattle.rasn_types.specs.Tags.{Form, form, IsStrict}
-use Rattle.rasn_types.specs.Framing.{AreOctets, Ended, Frame, with_length, without_length, Extent, definite, indefinite, NextTag}
-use Rattle.rasn_types.specs.Shapes.{Shape, Tree, Same, any, numbers, chosen, items, set_elements, absent, Presence as PartPresence, required, addition, optional_by, default_by, Key, looked_for, sought_by, sought_in, presences, IsFirst, IsAlwaysPresent}
-use Rattle.rasn_types.specs.Readings.{Reading, ReadsContents, definite_form, indefinite_form, ReadsMany, IsLeftOut, ReadsPart, ReadsInOrder, ReadsSeq, ReadsSet, ReadsChoice, AllMissing, presences_in, ByPart, IsMissing, IsNoDefault}
-use Rattle.rasn_types.specs.Grammar.{Reads, parts_of, ReadsList, ReadsSetOf}
-use Rattle.rasn_types.specs.Lawful.{IsLawful, AreAlternatives, AreDistinguished, AreLawfulByTag}
+use Rattle.rasn_types.specs.Framing.{AreOctets, Ended, Frame, with_length, without_length, Extent, definite, indefinite, NextTag, CompleteEncoding}
+use Rattle.rasn_types.specs.Contents.{joined_lists}
+use Rattle.rasn_types.specs.Shapes.{Shape, Tree, Same, any, unknown, numbers, chosen, items, set_elements, absent, Presence as PartPresence, required, addition, optional_by, default_by, Key, looked_for, sought_by, sought_in, presences, IsFirst, IsAlwaysPresent}
+use Rattle.rasn_types.specs.Readings.{Reading, ReadsContents, definite_form, indefinite_form, ReadsMany, IsLeftOut, ReadsPart, ReadsInOrder, ReadsSeq, ReadsSet, ReadsChoice, AllMissing, HasRequired, presences_in, ByPart, IsMissing, IsNoDefault}
+use Rattle.rasn_types.specs.Grammar.{Reads, ReadsAny, parts_of, ReadsList, ReadsSetOf}
+use Rattle.rasn_types.specs.Lawful.{IsLawful, AreAlternatives, AreDistinguished, AreLawfulInOrder, AreLawfulByTag}
 use Rattle.rasn_types.proofs.Headers.Frames.{frame_one, next_one, not_ended}
 use Rattle.rasn_de.specs.Any.{ReadsOpenOctets}
 use Rattle.rasn_de.specs.State.{State}
@@ -29,14 +31,16 @@ use Rattle.rasn_schema.specs.declared.types.Presence.{Presence}
 use Rattle.rasn_schema.specs.declared.types.Presence.TheVariants.{Required, Optional, Addition, Default}
 use Rattle.rasn_schema.specs.declared.types.«Type».{«Type»}
 use Rattle.rasn_schema.specs.declared.types.«Type».TheVariants.{Leaf, Enumerated, Any, Tagged, Choice, Sequence, Set, SequenceOf, SetOf, Unknown}
-use Rattle.rasn_schema.specs.Shapes.{shape_of_type, type_by, found_by, alternatives_by, components_by, key_of, presence_by, presence_of, presence_in}
+use Rattle.rasn_schema.specs.Shapes.{shape_of_type, type_by, found_by, alternatives_by, components_by, key_of, presence_by, presence_of, presence_in, IsReadable}
+use Rattle.rasn_schema.specs.FirstTags.{IsAlwaysThere}
 use Rattle.rasn_schema.proofs.Lists.{some_is}
 use Rattle.rasn_dynamic.specs.declared.span.Span.{Span}
 use Rattle.rasn_dynamic.specs.Listed.{GoesInside, InTurn, PartListed, ComponentListed, ComponentAt, ComponentsListed, MemberListed, AlternativeListed, ValueListed, PartsInside, Inside}
-use Rattle.rasn_dynamic.specs.SameParts.{AreLawfulTypes}
+use Rattle.rasn_dynamic.specs.Calls.{is_required, any_required}
+use Rattle.rasn_dynamic.specs.SameParts.{AreReadableTypes}
 use Rattle.rasn_dynamic.proofs.Contents.{only_at}
 use Rattle.rasn_dynamic.proofs.Pieces.{only_part, by_tag_distinguished}
-use Rattle.rasn_dynamic.proofs.SameParts.{same_reading, not_at_end, not_absent, none_left, same_index, alternative_tagged, member_tagged, header_frame, lawful_type, is_present}
+use Rattle.rasn_dynamic.proofs.SameParts.{IsKnown, same_reading, unknown_read, not_at_end, not_absent, none_left, same_index, alternative_tagged, alternative_known, member_tagged, member_known, component_known, left_known, header_frame, known_type, readable_type}
 use Rattle.rasn_lint.specs.Untyped.{HasOpen}
 
 -- ---- what parts hold of a tree
@@ -52,6 +56,10 @@ IsLeft required t = ⊥
 IsLeft addition t = t ≡ absent
 IsLeft (optional_by key) t = t ≡ absent
 IsLeft (default_by key d) t = Same t d
+
+-- The octets are complete encodings, one after the other, and the tree has the octets of each.
+abbrev pub HoldsEncodings : Tree → List ℕ → Type 0
+HoldsEncodings t octets = (xs : List (List ℕ)) × (t ≡ items (map numbers xs)) × (octets ≡ joined_lists xs) × AllByRecursion (CompleteEncoding Ber) xs
 
 -- By these rules, f gives the shape of the type with a number, and H k t es: es are the parts of the tree of a value of it.
 module _ (rule : Codec) (f : ℕ → Shape) (H : ℕ → Tree → List Span → Type 0) where
@@ -74,7 +82,7 @@ module _ (rule : Codec) (f : ℕ → Shape) (H : ℕ → Tree → List Span → 
   HoldsInside (Leaf kind tag c names) e t es = es ≡ []
   HoldsInside (Enumerated tag ns) e t es = es ≡ []
   HoldsInside (Any tag) e t es = (es ≡ []) × ((x : List ℕ) → (t ≡ numbers x) ↔ HasOpen tag e.octets.now x)
-  HoldsInside Unknown e t es = ⊥
+  HoldsInside Unknown e t es = (es ≡ []) × HoldsEncodings t e.octets.now
   HoldsInside (Tagged tag id) e t es = H id.0 t es
   HoldsInside (Choice name ks) e t es = (k : ℕ) × (a : Alternative) × (u : Tree) × (Some a ≡ slice_get ks.items k) × (t ≡ chosen k u) × H a.type_id.0 u es
   HoldsInside (Sequence tag ps) e t es = (ts : List Tree) × (t ≡ items ts) × HoldsComponents ps.items ts es
@@ -226,6 +234,20 @@ opened rule tag octets rest depth c t r x =
       λ (more, exact). (exact.1 t [] n).0,
     )
 
+-- The octets of unknown values are the encodings that are read.
+encodings_read : (closing : Bool) (input : List ℕ) (ts : List Tree) (rest : List ℕ) → ReadsMany (ReadsAny Ber) closing input ts rest
+    → (xs : List (List ℕ)) × (ts ≡ map numbers xs) × (input ≡ joined_lists xs ++ rest) × AllByRecursion (CompleteEncoding Ber) xs
+encodings_read closing input [] rest (e, p) = ([], refl, sym p, tt)
+encodings_read closing input (t ∷ ts) rest (n, middle, (text, e, w, is), more) =
+    let (xs, p, q, all) = encodings_read closing middle ts rest more in
+    (text ∷ xs, ap (λ z. t ∷ z) p ∙ ap (λ z. z ∷ map numbers xs) e, is ∙ (ap (λ l. text ++ l) q ∙ sym (append_assoc text (joined_lists xs) rest)), (w, all))
+
+held_encodings : (rule : Codec) (octets after : List ℕ) (depth : ℕ) (c : Bool) (t : Tree) → Reads rule unknown depth c (octets ++ after) t after → HoldsEncodings t octets
+held_encodings rule octets after depth c t r =
+    let (ts, e, many) = unknown_read Ber depth c (octets ++ after) t after (reads_in unknown rule depth c (octets ++ after) t after r) in
+    let (xs, p, q, all) = encodings_read c (octets ++ after) ts after many in
+    (xs, e ∙ ap items p, append_cancel_right octets (joined_lists xs) after q, all)
+
 -- ---- what a rule reads of a value, beside the parts that are listed of it
 
 -- The header is that of the value.
@@ -246,26 +268,26 @@ into_contents d b a s inner depth input (h, p, q, g) (e, l, o) rule tag bit R t 
     go (definite_form contents f r) = let one = frame_one input F f in (false, contents, [], r, within (definite contents) rest contents one.extent one.rest refl)
     go (indefinite_form body f r) = let one = frame_one input F f in (true, body, 0 ∷ 0 ∷ rest, r, within indefinite body body one.extent one.rest refl)
 
-module _ (rule : Codec) (f : ℕ → Shape) (solid : (k : ℕ) → IsAlwaysPresent (f k)) (lawful : (k : ℕ) → IsLawful (f k)) (levels : ℕ) (P : ℕ → ℕ → State → List Span → Type 0) (H : ℕ → Tree → List Span → Type 0)
+module _ (rule : Codec) (f : ℕ → Shape) (readable : (k : ℕ) → IsReadable (f k)) (levels : ℕ) (P : ℕ → ℕ → State → List Span → Type 0) (H : ℕ → Tree → List Span → Type 0)
     (below : (id k b : ℕ) (s next : State) (es : List Span) → PartListed f levels P id k b s next es → (c : Bool) (t : Tree) (rest : List ℕ) → AreOctets s.rest → Reads rule (f id) s.depth c s.rest t rest → H id t es) where
   part_held : (id k b : ℕ) (s next : State) (es : List Span) (depth : ℕ) (c : Bool) (input : List ℕ) (t : Tree) (rest : List ℕ)
       → PartListed f levels P id k b s next es → At s depth input → Reads rule (f id) depth c input t rest → H id t es × At next depth rest
   part_held id k b s next es depth c input t rest x (d, l, o) r =
       let own : Reads rule (f id) s.depth c s.rest t rest = subst (λ z. Reads rule (f id) z c s.rest t rest) (sym d) (subst (λ z. Reads rule (f id) depth c z t rest) (sym l) r) in
       let octets = subst AreOctets (sym l) o in
-      let same = same_reading (f id) (solid id) (lawful id) s next x.tree x.reads rule c t rest own in
+      let same = same_reading (f id) (readable id) s next x.tree x.reads rule c t rest own in
       let front = x.reads.end.0 in (
         below id k b s next es x c t rest octets own,
         (ap (λ (z : State). z.depth) x.reads.stays ∙ d, sym same.1, octets_back front rest (subst AreOctets (x.reads.end.1 ∙ ap (λ z. front ++ z) (sym same.1)) octets)),
       )
 
-  elements_held : (id b n : ℕ) (s last : State) (es : List Span) (depth : ℕ) (c closing : Bool) (input : List ℕ) (ts : List Tree) (rest : List ℕ)
+  elements_held : (id b n : ℕ) → IsKnown (f id) → (s last : State) (es : List Span) (depth : ℕ) (c closing : Bool) (input : List ℕ) (ts : List Tree) (rest : List ℕ)
       → InTurn (λ k. PartListed f levels P id k b) n s last es → Ended last.closing last.rest → At s depth input → ReadsMany (Reads rule (f id) depth c) closing input ts rest → Along (H id) ts es
-  elements_held id b n s last es depth c closing input ts rest t e at r =
+  elements_held id b n known s last es depth c closing input ts rest t e at r =
       all_along depth (λ k. PartListed f levels P id k b) (Reads rule (f id) depth c) (H id)
       (λ k s next es input t rest x at r. part_held id k b s next es depth c input t rest x at r)
-      (λ k s next es x closing e. not_at_end (f id) (solid id) s.rule s.depth s.closing closing s.rest x.tree next.rest x.reads.exact.0 e)
-      (λ input t rest closing r e. not_at_end (f id) (solid id) rule depth c closing input t rest r e)
+      (λ k s next es x closing e. not_at_end (f id) known.0 s.rule s.depth s.closing closing s.rest x.tree next.rest x.reads.exact.0 e)
+      (λ input t rest closing r e. not_at_end (f id) known.0 rule depth c closing input t rest r e)
       n 0 s last es closing input ts rest (in_front (λ k. PartListed f levels P id k b) n s last es t) e at r
 
   -- ---- components
@@ -274,39 +296,56 @@ module _ (rule : Codec) (f : ℕ → Shape) (solid : (k : ℕ) → IsAlwaysPrese
     abbrev Held : Type 0
     Held = HoldsComponent rule f H p t mine × At next depth middle
 
-    listed_read : ComponentListed f levels P p k b s next mine → Reads rule (f p.type_id.0) depth c input t middle → (IsStrict rule → IsLeft (presence_of p.presence) t → ⊥) → Held
-    listed_read (inl (h, e, i)) r d =
-        absurd (not_absent (f p.type_id.0) (solid p.type_id.0) rule depth c input t middle r (form s.rule) s.closing (subst (λ z. IsLeftOut (form s.rule) (sought_by (key_of (f p.type_id.0)) (f p.type_id.0)) s.closing z) at.1 h.1))
-    listed_read (inr x) r d = let y = part_held p.type_id.0 k b s next mine depth c input t middle x at r in (inr (y.0, d), y.1)
+    there_read : PartListed f levels P p.type_id.0 k b s next mine → Reads rule (f p.type_id.0) depth c input t middle → (IsStrict rule → IsLeft (presence_of p.presence) t → ⊥) → Held
+    there_read x r d = let y = part_held p.type_id.0 k b s next mine depth c input t middle x at r in (inr (y.0, d), y.1)
 
-    listed_absent : ComponentListed f levels P p k b s next mine → IsLeftOut (form rule) (sought_by (key_of (f p.type_id.0)) (f p.type_id.0)) closing input → IsMissing (presence_of p.presence) t → middle ≡ input → Held
-    listed_absent (inl (h, e, i)) l m q =
+    listed_read : IsKnown (f p.type_id.0) → ComponentListed f levels P p k b s next mine → Reads rule (f p.type_id.0) depth c input t middle → (IsStrict rule → IsLeft (presence_of p.presence) t → ⊥) → Held
+    listed_read known (inl (h, e, i)) r d =
+        absurd (not_absent (f p.type_id.0) known.0 rule depth c input t middle r (form s.rule) s.closing (subst (λ z. IsLeftOut (form s.rule) (sought_by (key_of (f p.type_id.0)) (f p.type_id.0)) s.closing z) at.1 h.1))
+    listed_read known (inr x) r d = there_read x r d
+
+    listed_absent : IsKnown (f p.type_id.0) → ComponentListed f levels P p k b s next mine → IsLeftOut (form rule) (sought_by (key_of (f p.type_id.0)) (f p.type_id.0)) closing input → IsMissing (presence_of p.presence) t → middle ≡ input → Held
+    listed_absent known (inl (h, e, i)) l m q =
         (inl (m, i), (ap (λ (z : State). z.depth) e ∙ at.0, ap (λ (z : State). z.rest) e ∙ (at.1 ∙ sym q), subst AreOctets (sym q) at.2))
-    listed_absent (inr x) l m q =
+    listed_absent known (inr x) l m q =
         let r = subst (λ z. IsLeftOut (form rule) (sought_by (key_of (f p.type_id.0)) (f p.type_id.0)) closing z) (sym at.1) l in
-        absurd (not_absent (f p.type_id.0) (solid p.type_id.0) s.rule s.depth s.closing s.rest x.tree next.rest x.reads.exact.0 (form rule) closing r)
+        absurd (not_absent (f p.type_id.0) known.0 s.rule s.depth s.closing s.rest x.tree next.rest x.reads.exact.0 (form rule) closing r)
 
-    component_held : ComponentListed f levels P p k b s next mine → ReadsPart rule (presence_in f p) (sought_in (presence_in f p) (f p.type_id.0)) (Reads rule (f p.type_id.0) depth c) closing input t middle → Held
-    component_held x r = go p.presence refl r
-      where
-        go : (q : Presence) → p.presence ≡ q → ReadsPart rule (presence_by (key_of (f p.type_id.0)) q) (sought_in (presence_by (key_of (f p.type_id.0)) q) (f p.type_id.0)) (Reads rule (f p.type_id.0) depth c) closing input t middle → Held
-        go Required e r = listed_read x r (λ strict. subst (λ q. IsLeft (presence_of q) t → ⊥) (sym e) (λ h. h))
-        go Addition e r = listed_read x r (λ strict. subst (λ q. IsLeft (presence_of q) t → ⊥) (sym e) (never_absent (f p.type_id.0) (solid p.type_id.0) (lawful p.type_id.0) rule strict depth c input t middle r))
-        go Optional e (inl (l, m, q)) = listed_absent x l (subst (λ q. IsMissing (presence_of q) t) (sym e) m) q
-        go Optional e (inr (l, r)) = listed_read x r (λ strict. subst (λ q. IsLeft (presence_of q) t → ⊥) (sym e) (never_absent (f p.type_id.0) (solid p.type_id.0) (lawful p.type_id.0) rule strict depth c input t middle r))
-        go (Default v) e (inl (l, m, q)) = listed_absent x l (subst (λ q. IsMissing (presence_of q) t) (sym e) m) q
-        go (Default v) e (inr (l, (r, d))) = listed_read x r (λ strict. subst (λ q. IsLeft (presence_of q) t → ⊥) (sym e) (d strict))
+    -- One that is required is there.
+    required_held : p.presence ≡ Required → ComponentListed f levels P p k b s next mine → Reads rule (f p.type_id.0) depth c input t middle → Held
+    required_held e (inl (h, i, n)) r = absurd (h.0 (subst (λ q. IsAlwaysThere (presence_of q)) (sym e) tt))
+    required_held e (inr x) r = there_read x r (λ strict. subst (λ q. IsLeft (presence_of q) t → ⊥) (sym e) (λ h. h))
 
-  components_held : (ps : List Component) (b : ℕ) (depth : ℕ) (c closing : Bool) (qs : List Component) (k : ℕ) (s last : State) (es : List Span) (input : List ℕ) (ts : List Tree) (rest : List ℕ)
+    known_held : IsKnown (f p.type_id.0) → ComponentListed f levels P p k b s next mine
+        → (q : Presence) → p.presence ≡ q → ReadsPart rule (presence_by (key_of (f p.type_id.0)) q) (sought_in (presence_by (key_of (f p.type_id.0)) q) (f p.type_id.0)) (Reads rule (f p.type_id.0) depth c) closing input t middle → Held
+    known_held known x Required e r = required_held e x r
+    known_held known x Addition e r = listed_read known x r (λ strict. subst (λ q. IsLeft (presence_of q) t → ⊥) (sym e) (never_absent (f p.type_id.0) known.0 known.1 rule strict depth c input t middle r))
+    known_held known x Optional e (inl (l, m, q)) = listed_absent known x l (subst (λ q. IsMissing (presence_of q) t) (sym e) m) q
+    known_held known x Optional e (inr (l, r)) = listed_read known x r (λ strict. subst (λ q. IsLeft (presence_of q) t → ⊥) (sym e) (never_absent (f p.type_id.0) known.0 known.1 rule strict depth c input t middle r))
+    known_held known x (Default v) e (inl (l, m, q)) = listed_absent known x l (subst (λ q. IsMissing (presence_of q) t) (sym e) m) q
+    known_held known x (Default v) e (inr (l, (r, d))) = listed_read known x r (λ strict. subst (λ q. IsLeft (presence_of q) t → ⊥) (sym e) (d strict))
+
+    needed_held : presence_in f p ≡ required → ComponentListed f levels P p k b s next mine
+        → (q : Presence) → p.presence ≡ q → presence_by (key_of (f p.type_id.0)) q ≡ required → ReadsPart rule (presence_by (key_of (f p.type_id.0)) q) (sought_in (presence_by (key_of (f p.type_id.0)) q) (f p.type_id.0)) (Reads rule (f p.type_id.0) depth c) closing input t middle → Held
+    needed_held n x Required e g r = required_held e x r
+    needed_held n x Addition e g r = absurd cc
+    needed_held n x Optional e g r = absurd cc
+    needed_held n x (Default v) e g r = absurd cc
+
+    component_held : IsKnown (f p.type_id.0) ⊎ (presence_in f p ≡ required) → ComponentListed f levels P p k b s next mine → ReadsPart rule (presence_in f p) (sought_in (presence_in f p) (f p.type_id.0)) (Reads rule (f p.type_id.0) depth c) closing input t middle → Held
+    component_held (inl known) x r = known_held known x p.presence refl r
+    component_held (inr n) x r = needed_held n x p.presence refl n r
+
+  components_held : (ps : List Component) → AreLawfulInOrder (components_by f ps) → (b : ℕ) (depth : ℕ) (c closing : Bool) (qs : List Component) (k : ℕ) (s last : State) (es : List Span) (input : List ℕ) (ts : List Tree) (rest : List ℕ)
       → drop k ps ≡ qs → Front (ComponentAt f levels P ps b) k (length qs) s last es → At s depth input → ReadsInOrder rule (parts_of rule (components_by f qs) depth c) closing input ts rest
       → HoldsComponents rule f H qs ts es
   unfolding parts_of
-  components_held ps b depth c closing [] k s last es input ts rest e (p, q) at r = (r.0, q)
-  components_held ps b depth c closing (p ∷ qs) k s last es input ts rest e (mine, others, next, is, (q, found, x), front) at (t, us, middle, i, r, more) =
+  components_held ps are b depth c closing [] k s last es input ts rest e (p, q) at r = (r.0, q)
+  components_held ps are b depth c closing (p ∷ qs) k s last es input ts rest e (mine, others, next, is, (q, found, x), front) at (t, us, middle, i, r, more) =
       let d = slice_drop ps k p qs e in
       let same : q ≡ p = some_is q p (found ∙ sym d.0) in
-      let y = component_held p k b s next mine depth c closing input t middle at (subst (λ (z : Component). ComponentListed f levels P z k b s next mine) same x) r in
-      (t, us, mine, others, i, is, y.0, components_held ps b depth c closing qs (suc k) next last others middle us rest d.1 front y.1 more)
+      let y = component_held p k b s next mine depth c closing input t middle at (component_known f ps k p are d.0) (subst (λ (z : Component). ComponentListed f levels P z k b s next mine) same x) r in
+      (t, us, mine, others, i, is, y.0, components_held ps are b depth c closing qs (suc k) next last others middle us rest d.1 front y.1 more)
 
   -- All are left out.
   all_missing : (rule : Codec) (depth : ℕ) (c : Bool) (ps : List Component) (ts : List Tree) → AllMissing (presences_in (parts_of rule (components_by f ps) depth c)) ts → HoldsComponents rule f H ps ts []
@@ -322,7 +361,7 @@ module _ (rule : Codec) (f : ℕ → Shape) (solid : (k : ℕ) → IsAlwaysPrese
   choice_held ks are apart b s es depth c input t rest (k, a, p, last, x) at r =
       let (j, d, u, q, e, (begin, own)) = alternative_read rule f depth c input t rest ks 0 r in
       let (tag, next, first) = begin in
-      let v = begins (f a.type_id.0) (solid a.type_id.0) (alternative_tagged f ks k a are p) s.rule s.depth s.closing s.rest x.tree last.rest x.reads.exact.0 in
+      let v = begins (f a.type_id.0) (alternative_known f ks k a are p).0 (alternative_tagged f ks k a are p) s.rule s.depth s.closing s.rest x.tree last.rest x.reads.exact.0 in
       let other = subst (λ l. NextTag (form s.rule) l v.0) at.1 v.1 in
       let mine = subst (IsFirst (f a.type_id.0)) (next_one input v.0 tag other next) v.2 in
       let i : j ≡ k = same_index (alternatives_by f ks) tag j k _ _ _ _ (only_at f ks j d tag apart q first) (only_at f ks k a tag apart p mine) in
@@ -336,13 +375,13 @@ module _ (rule : Codec) (f : ℕ → Shape) (solid : (k : ℕ) → IsAlwaysPrese
       let apart = by_tag_distinguished (components_by f ps) are in
       let (j, d, u, q, e, (begin, own), other_value) = member_read rule f depth c input t rest ps 0 r in
       let (tag, after, first) = begin in
-      let v = begins (f a.type_id.0) (solid a.type_id.0) (member_tagged f ps k a are p) s.rule s.depth s.closing s.rest x.tree next.rest x.reads.exact.0 in
+      let v = begins (f a.type_id.0) (member_known f ps k a are p).0 (member_tagged f ps k a are p) s.rule s.depth s.closing s.rest x.tree next.rest x.reads.exact.0 in
       let other = subst (λ l. NextTag (form s.rule) l v.0) at.1 v.1 in
       let mine = subst (IsFirst (f a.type_id.0)) (next_one input v.0 tag other after) v.2 in
       let i : j ≡ k = same_index (components_by f ps) tag j k _ _ _ _ (only_part f tag ps j d apart (q, first)) (only_part f tag ps k a apart (p, mine)) in
       let same : a ≡ d = some_is a d (p ∙ (ap (slice_get ps) (sym i) ∙ sym q)) in
       let y = part_held d.type_id.0 k b s next es depth c input u rest (subst (λ (z : Component). PartListed f levels P z.type_id.0 k b s next es) same x) at own in
-      ((j, d, u, q, e ∙ ap (λ n. chosen n u) (omega arith), (y.0, λ strict. not_left (key_of (f d.type_id.0)) d.presence u (never_absent (f d.type_id.0) (solid d.type_id.0) (lawful d.type_id.0) rule strict depth c input u rest own) (other_value strict))), y.1)
+      ((j, d, u, q, e ∙ ap (λ n. chosen n u) (omega arith), (y.0, λ strict. not_left (key_of (f d.type_id.0)) d.presence u (never_absent (f d.type_id.0) (member_known f ps j d are q).0 (member_known f ps j d are q).1 rule strict depth c input u rest own) (other_value strict))), y.1)
 
   members_held : (ps : List Component) → AreLawfulByTag (components_by f ps) → (b n : ℕ) (s last : State) (es : List Span) (depth : ℕ) (c closing : Bool) (input : List ℕ) (rs : List Tree) (rest : List ℕ)
       → InTurn (λ k. MemberListed f levels P ps b) n s last es → Ended last.closing last.rest → At s depth input
@@ -350,21 +389,25 @@ module _ (rule : Codec) (f : ℕ → Shape) (solid : (k : ℕ) → IsAlwaysPrese
   members_held ps are b n s last es depth c closing input rs rest t e at r =
       all_along depth (λ k. MemberListed f levels P ps b) (ReadsChoice rule 0 (parts_of rule (components_by f ps) depth c)) (HoldsMember rule f H ps)
       (λ k s next es input t rest x at r. member_held ps are b depth c k s next es input t rest x at r)
-      (λ k s next es (j, p, is, x) closing e. not_at_end (f p.type_id.0) (solid p.type_id.0) s.rule s.depth s.closing closing s.rest x.tree next.rest x.reads.exact.0 e)
+      (λ k s next es (j, p, is, x) closing e. not_at_end (f p.type_id.0) (member_known f ps j p are is).0 s.rule s.depth s.closing closing s.rest x.tree next.rest x.reads.exact.0 e)
       (λ input t rest closing r e. let n = some_choice rule f depth c input t rest ps 0 r in not_ended closing input n.0 n.1 e)
       n 0 s last es closing input rs rest (in_front (λ k. MemberListed f levels P ps b) n s last es t) e at r
 
   -- Nothing is left: each component is absent.
-  in_nothing : (depth : ℕ) (c closing : Bool) (qs : List Component) (input : List ℕ) (ts : List Tree) (rest : List ℕ) → input ≡ [] → ReadsInOrder rule (parts_of rule (components_by f qs) depth c) closing input ts rest
-      → HoldsComponents rule f H qs ts []
+  in_nothing : (depth : ℕ) (c closing : Bool) (qs : List Component) → any_required qs ≡ false → ((k : ℕ) (p : Component) → Some p ≡ slice_get qs k → IsKnown (f p.type_id.0))
+      → (input : List ℕ) (ts : List Tree) (rest : List ℕ) → input ≡ [] → ReadsInOrder rule (parts_of rule (components_by f qs) depth c) closing input ts rest → HoldsComponents rule f H qs ts []
   unfolding parts_of
-  in_nothing depth c closing [] input ts rest e r = (r.0, refl)
-  in_nothing depth c closing (p ∷ qs) input ts rest e (t, us, middle, i, r, more) =
+  in_nothing depth c closing [] n known input ts rest e r = (r.0, refl)
+  in_nothing depth c closing (p ∷ qs) n known input ts rest e (t, us, middle, i, r, more) =
       let y = one p.presence r in
-      (t, us, [], [], i, refl, inl (y.0, refl), in_nothing depth c closing qs middle us rest (y.1 ∙ e) more)
+      (t, us, [], [], i, refl, inl (y.0, refl), in_nothing depth c closing qs (others (is_required p.presence) n) (λ k q at. known (suc k) q at) middle us rest (y.1 ∙ e) more)
     where
+      others : (b : Bool) → b || any_required qs ≡ false → any_required qs ≡ false
+      others true h = absurd cc
+      others false h = h
+
       none_read : Reads rule (f p.type_id.0) depth c input t middle → ⊥
-      none_read r = not_at_end (f p.type_id.0) (solid p.type_id.0) rule depth c true input t middle r (inl e)
+      none_read r = not_at_end (f p.type_id.0) (known 0 p refl).0 rule depth c true input t middle r (inl e)
 
       one : (q : Presence) → ReadsPart rule (presence_by (key_of (f p.type_id.0)) q) (sought_in (presence_by (key_of (f p.type_id.0)) q) (f p.type_id.0)) (Reads rule (f p.type_id.0) depth c) closing input t middle
           → IsMissing (presence_of q) t × (middle ≡ input)
@@ -375,17 +418,29 @@ module _ (rule : Codec) (f : ℕ → Shape) (solid : (k : ℕ) → IsAlwaysPrese
       one (Default v) (inl (l, m, q)) = (m, q)
       one (Default v) (inr (l, (r, d))) = absurd (none_read r)
 
-  sequence_held : (ps : List Component) (b : ℕ) (s : State) (es : List Span) (depth : ℕ) (c : Bool) (input : List ℕ) (t : Tree) (rest : List ℕ)
+  -- No component is required.
+  none_needed : (rule : Codec) (depth : ℕ) (c : Bool) (ps : List Component) → (HasRequired (parts_of rule (components_by f ps) depth c) → ⊥) → any_required ps ≡ false
+  unfolding parts_of
+  none_needed rule depth c [] n = refl
+  none_needed rule depth c (p ∷ ps) n = go p.presence (λ e. n (inl e)) (none_needed rule depth c ps (λ h. n (inr h)))
+    where
+      go : (q : Presence) → (presence_by (key_of (f p.type_id.0)) q ≡ required → ⊥) → any_required ps ≡ false → is_required q || any_required ps ≡ false
+      go Required m e = absurd (m refl)
+      go Optional m e = e
+      go Addition m e = e
+      go (Default v) m e = e
+
+  sequence_held : (ps : List Component) → AreLawfulInOrder (components_by f ps) → (b : ℕ) (s : State) (es : List Span) (depth : ℕ) (c : Bool) (input : List ℕ) (t : Tree) (rest : List ℕ)
       → ComponentsListed f levels P ps b s es → At s depth input → ReadsSeq rule (parts_of rule (components_by f ps) depth c) c input t rest → (ts : List Tree) × (t ≡ items ts) × HoldsComponents rule f H ps ts es
-  sequence_held ps b s es depth c input t rest x at (ts, e, inl ((a, closed, none), m, q)) = (ts, e, subst (λ z. HoldsComponents rule f H ps ts z) (sym (nothing x)) (all_missing rule depth c ps ts m))
+  sequence_held ps are b s es depth c input t rest x at (ts, e, inl ((a, closed, none), m, q)) = (ts, e, subst (λ z. HoldsComponents rule f H ps ts z) (sym (nothing x)) (all_missing rule depth c ps ts m))
     where
       nothing : ComponentsListed f levels P ps b s es → es ≡ []
       nothing (inl (h, p)) = p
-      nothing (inr (last, turns)) = (none_left f solid levels P ps b (length ps) s last es (at.1 ∙ none) turns).1
-  sequence_held ps b s es depth c input t rest (inl (h, p)) at (ts, e, inr (a, m)) =
-      (ts, e, subst (λ z. HoldsComponents rule f H ps ts z) (sym p) (in_nothing depth c c ps input ts rest (sym at.1 ∙ h.2) m))
-  sequence_held ps b s es depth c input t rest (inr (last, turns)) at (ts, e, inr (a, m)) =
-      (ts, e, components_held ps b depth c c ps 0 s last es input ts rest refl (in_front (ComponentAt f levels P ps b) (length ps) s last es turns) at m)
+      nothing (inr (last, turns)) = (none_left f levels P ps (left_known f ps are (none_needed rule depth c ps a)) b (length ps) s last es (at.1 ∙ none) turns).1
+  sequence_held ps are b s es depth c input t rest (inl (h, p)) at (ts, e, inr (a, m)) =
+      (ts, e, subst (λ z. HoldsComponents rule f H ps ts z) (sym p) (in_nothing depth c c ps h.0 (left_known f ps are h.0) input ts rest (sym at.1 ∙ h.2) m))
+  sequence_held ps are b s es depth c input t rest (inr (last, turns)) at (ts, e, inr (a, m)) =
+      (ts, e, components_held ps are b depth c c ps 0 s last es input ts rest refl (in_front (ComponentAt f levels P ps b) (length ps) s last es turns) at m)
 
   -- ---- a value
 
@@ -404,7 +459,7 @@ module _ (rule : Codec) (f : ℕ → Shape) (solid : (k : ℕ) → IsAlwaysPrese
       choice_held ks.items are.0 are.1 a inner es depth c input t rest x (subst (λ z. At z depth input) (sym g) at) r
   value_held (Sequence tag ps) are b s e after es is (a, inner, g, x) depth c input t rest at q r =
       let (k, l, end, own, there) = into_contents (sequence_header tag) b a s inner depth input g at rule tag true (λ c. ReadsSeq rule (parts_of rule (components_by f ps.items) (depth - 1) c) c) t rest r.1 in
-      sequence_held ps.items a inner es (depth - 1) k l t end x there own
+      sequence_held ps.items are.1 a inner es (depth - 1) k l t end x there own
   value_held (Set name tag ps) are b s e after es is (a, inner, g, (n, last, turns, ended)) depth c input t rest at q r =
       let w = into_contents (sequence_header tag) b a s inner depth input g at rule tag true
       (λ c. ReadsSet rule (presences (components_by f ps.items)) (ReadsChoice rule 0 (parts_of rule (components_by f ps.items) (depth - 1) c)) c) t rest r.1 in
@@ -413,15 +468,20 @@ module _ (rule : Codec) (f : ℕ → Shape) (solid : (k : ℕ) → IsAlwaysPrese
   value_held (SequenceOf tag id size) are b s e after es is (a, inner, g, (n, last, turns, ended)) depth c input t rest at q r =
       let w = into_contents (list_header tag) b a s inner depth input g at rule tag true (λ c. ReadsList size.size (Reads rule (f id.0) (depth - 2) c) c) t rest r.1 in
       let own = w.3 in
-      (own.0, own.1, elements_held id.0 a n inner last es (depth - 2) w.0 w.0 w.1 own.0 w.2 turns ended w.4 own.3)
+      (own.0, own.1, elements_held id.0 a n (are.1, are.2) inner last es (depth - 2) w.0 w.0 w.1 own.0 w.2 turns ended w.4 own.3)
   value_held (SetOf tag id size) are b s e after es is (a, inner, g, (n, last, turns, ended)) depth c input t rest at q r =
       let w = into_contents (list_header tag) b a s inner depth input g at rule tag true (λ c. ReadsSetOf rule size.size (Reads rule (f id.0) (depth - 2) c) c) t rest r.1 in
       let own = w.3 in
-      (own.0, own.1, elements_held id.0 a n inner last es (depth - 2) w.0 w.0 w.1 own.0 w.2 turns ended w.4 own.3)
+      (own.0, own.1, elements_held id.0 a n (are.1, are.2) inner last es (depth - 2) w.0 w.0 w.1 own.0 w.2 turns ended w.4 own.3)
+
+  unknown_held : (b : ℕ) (s : State) (e : Span) (after : List ℕ) (es : List Span) → s.rest ≡ e.octets.now ++ after → ValueListed f levels P Unknown b s es
+      → (depth : ℕ) (c : Bool) (input : List ℕ) (t : Tree) (rest : List ℕ) → At s depth input → rest ≡ after → Reads rule unknown depth c input t rest → HoldsInside rule f H Unknown e t es
+  unknown_held b s e after es is (a, inner, g, x) depth c input t rest at q r =
+      (x, held_encodings rule e.octets.now after depth c t (subst (λ l. Reads rule unknown depth c l t after) (sym at.1 ∙ is) (subst (λ l. Reads rule unknown depth c input t l) q r)))
 
 -- ---- types by their numbers
 
-module _ (rule : Codec) (types : List «Type») (lawful : AreLawfulTypes types) where
+module _ (rule : Codec) (types : List «Type») (readable : AreReadableTypes types) where
   shape_is : (n id : ℕ) (ty : «Type») → slice_get types id ≡ Some ty → shape_of_type types (suc n) id ≡ type_by (shape_of_type types n) ty
   unfolding shape_of_type
   shape_is n id ty at = ap (λ z. found_by (λ j. shape_of_type types n j) z) at
@@ -435,17 +495,18 @@ module _ (rule : Codec) (types : List «Type») (lawful : AreLawfulTypes types) 
   unfolding PartsInside Holds
   holds_value n below id k b s next es x c t rest o r =
       let (ty, at, v) = x.parts in
-      let after : rest ≡ next.rest = (same_reading (shape_of_type types (suc n) id) (is_present types lawful (suc n) id) (lawful (suc n) id) s next x.tree x.reads rule c t rest r).1 in
-      let own = subst (λ z. Reads rule z s.depth c s.rest t rest) (shape_is n id ty at) r in (
-        x.part,
-        x.inside,
-        x.is,
-        x.id_is,
-        ty,
-        at,
-        value_held rule (shape_of_type types n) (is_present types lawful n) (lawful n) n (Inside types n) (λ k u more. Holds rule types n k u more) below
-            ty (lawful_type types lawful n id ty at) b s x.part next.rest x.inside x.octets v s.depth c s.rest t rest (refl, refl, o) after own,
-      )
+      let after : rest ≡ next.rest = (same_reading (shape_of_type types (suc n) id) (readable (suc n) id) s next x.tree x.reads rule c t rest r).1 in
+      let own = subst (λ z. Reads rule z s.depth c s.rest t rest) (shape_is n id ty at) r in
+      (x.part, x.inside, x.is, x.id_is, ty, at, go ty v (known_type (shape_of_type types n) ty (readable_type types readable n id ty at)) after own)
+    where
+      go : (ty : «Type») → ValueListed (shape_of_type types n) n (Inside types n) ty b s x.inside → IsLawful (type_by (shape_of_type types n) ty) ⊎ (ty ≡ Unknown) → rest ≡ next.rest → Reads rule (type_by (shape_of_type types n) ty) s.depth c s.rest t rest
+          → HoldsInside rule (shape_of_type types n) (λ k u more. Holds rule types n k u more) ty x.part t x.inside
+      go ty v (inl lawful) after own = value_held rule (shape_of_type types n) (readable n) n (Inside types n) (λ k u more. Holds rule types n k u more) below
+          ty lawful b s x.part next.rest x.inside x.octets v s.depth c s.rest t rest (refl, refl, o) after own
+      go ty v (inr e) after own = subst (λ z. HoldsInside rule (shape_of_type types n) (λ k u more. Holds rule types n k u more) z x.part t x.inside) (sym e)
+          (unknown_held rule (shape_of_type types n) (readable n) n (Inside types n) (λ k u more. Holds rule types n k u more) below
+          b s x.part next.rest x.inside x.octets (subst (λ z. ValueListed (shape_of_type types n) n (Inside types n) z b s x.inside) e v) s.depth c s.rest t rest (refl, refl, o) after
+          (subst (λ z. Reads rule (type_by (shape_of_type types n) z) s.depth c s.rest t rest) e own))
 
   pub holds : (n : ℕ) → HoldsAt n
   unfolding PartsInside

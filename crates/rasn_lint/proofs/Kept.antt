@@ -1,5 +1,5 @@
 -- The open types of a value are well formed, wherever they are written.
-use Rattle.std.proofs.Common.{◌≡◌, ◌⊎◌, inl, inr, ◌+◌, ℕ, zero, suc, List, [], ◌∷◌, ◌++◌, Some, refl, sym, ap, ◌∙◌, subst, arith, IsPermutation}
+use Rattle.std.proofs.Common.{◌≡◌, ◌⊎◌, inl, inr, ◌+◌, ℕ, zero, suc, List, [], ◌∷◌, ◌++◌, map, Some, refl, sym, ap, ◌∙◌, subst, arith, IsPermutation}
 use Rattle.std.specs.Prelude.{slice_get}
 use Rattle.std.specs.List.{AllByRecursion}
 use Rattle.rasn_types.specs.declared.types.codec.Codec.{Codec}
@@ -21,7 +21,8 @@ use Rattle.rasn_schema.proofs.Lists.{some_is}
 use Rattle.rasn_dynamic.specs.declared.span.Span.{Span}
 use Rattle.rasn_lint.specs.Lint.{HasFormed}
 use Rattle.rasn_lint.specs.Untyped.{HasOpen}
-use Rattle.rasn_lint.specs.WellFormed.{IsWellFormed}
+use Rattle.rasn_lint.specs.WellFormed.{IsWellFormed, AreEncodings}
+use Rattle.rasn_lint.proofs.Wholes.{wholes_formed, all_well_formed}
 use Rattle.rasn_lint.proofs.Holding.{Along, IsLeft, HoldsComponent, HoldsComponents, HoldsMember, HoldsInside, Holds, own_missing}
 
 -- ---- lists
@@ -112,6 +113,23 @@ by_part_at f (q ∷ ps) first (suc k) rs ts p at (t, us, e, here, b) =
     let n : suc first + k ≡ first + suc k = omega arith in
     (u, found ∙ ap (λ z. slice_get z (suc k)) (sym e), subst (λ j. OneOf j u rs ⊎ (NoneOf j rs × IsMissing (presence_in f p) u)) n r)
 
+-- ---- unknown values
+
+numbers_one : (xs ys : List (List ℕ)) → map numbers xs ≡ map numbers ys → xs ≡ ys
+numbers_one [] [] e = refl
+numbers_one [] (y ∷ ys) e = cc
+numbers_one (x ∷ xs) [] e = cc
+numbers_one (x ∷ xs) (y ∷ ys) e =
+    let first : x ≡ y = cc in
+    let rest : map numbers xs ≡ map numbers ys = cc in
+    let more : xs ≡ ys = numbers_one xs ys rest in
+    cc
+
+-- Lists of numbers are the same only as themselves.
+same_numbers : (xs : List (List ℕ)) (us : List Tree) → Each Same (map numbers xs) us → us ≡ map numbers xs
+same_numbers [] us h = h
+same_numbers (x ∷ xs) us (u, more, e, s, h) = e ∙ (ap (λ z. z ∷ more) s ∙ ap (λ z. numbers x ∷ z) (same_numbers xs more h))
+
 -- ---- open types in a tree
 
 module _ (F : ℕ → Tree → Type 0) where
@@ -122,7 +140,7 @@ module _ (F : ℕ → Tree → Type 0) where
   FormedIn (Leaf kind tag c names) t = Unit {0}
   FormedIn (Enumerated tag ns) t = Unit {0}
   FormedIn (Any tag) t = (x : List ℕ) → t ≡ numbers x → IsWellFormed x
-  FormedIn Unknown t = Unit {0}
+  FormedIn Unknown t = (xs : List (List ℕ)) → t ≡ items (map numbers xs) → AllByRecursion IsWellFormed xs
   FormedIn (Tagged tag id) t = F id.0 t
   FormedIn (Choice name ks) t = (k : ℕ) (a : Alternative) (u : Tree) → Some a ≡ slice_get ks.items k → t ≡ chosen k u → F a.type_id.0 u
   FormedIn (Sequence tag ps) t = (ts : List Tree) → t ≡ items ts → FormedComponents ps.items ts
@@ -195,29 +213,33 @@ module _ (rule : Codec) (f : ℕ → Shape) (H : ℕ → Tree → List Span → 
       go (t, here, inr (n, m)) = inl (left_same p.presence t u (own_missing (key_of (f p.type_id.0)) p.presence t m) (beside Same ts us k t u each here found))
 
   inside_kept : (ty : «Type») (e : Span) (t : Tree) (es : List Span) → HoldsInside rule f H ty e t es → ((tag : Tag) (x : List ℕ) → ty ≡ Any tag → HasOpen tag e.octets.now x → IsWellFormed x)
-      → AllByRecursion Q es → (u : Tree) → Same t u → FormedIn F ty u
-  inside_kept (Leaf kind tag c names) e t es h w q u s = tt
-  inside_kept (Enumerated tag ns) e t es h w q u s = tt
-  inside_kept (Any tag) e t es h w q u s = λ x i. let back = same_sym t u s in w tag x refl ((h.1 x).0 (subst (λ z. Same z t) i back))
-  inside_kept Unknown e t es h w q u s = tt
-  inside_kept (Tagged tag id) e t es h w q u s = below id.0 t es h q u s
-  inside_kept (Choice name ks) e t es (k, a, v, at, i, h) w q u s = go (subst (λ z. Same z u) i s)
+      → (ty ≡ Unknown → AreEncodings e.octets.now) → AllByRecursion Q es → (u : Tree) → Same t u → FormedIn F ty u
+  inside_kept (Leaf kind tag c names) e t es h w v q u s = tt
+  inside_kept (Enumerated tag ns) e t es h w v q u s = tt
+  inside_kept (Any tag) e t es h w v q u s = λ x i. let back = same_sym t u s in w tag x refl ((h.1 x).0 (subst (λ z. Same z t) i back))
+  inside_kept Unknown e t es (n, (xs, i, p, all)) w v q u s = λ ys g.
+      let (us, j, each) = items_alike (map numbers xs) u (subst (λ z. Same z u) i s) in
+      let same : map numbers xs ≡ map numbers ys = sym (same_numbers xs us each) ∙ items_one us (map numbers ys) (sym j ∙ g) in
+      let (ps, at, formed) = v refl in
+      subst (AllByRecursion IsWellFormed) (numbers_one xs ys same) (wholes_formed xs ps all formed (sym p ∙ at))
+  inside_kept (Tagged tag id) e t es h w v q u s = below id.0 t es h q u s
+  inside_kept (Choice name ks) e t es (k, a, v, at, i, h) w m q u s = go (subst (λ z. Same z u) i s)
     where
       go : Same (chosen k v) u → FormedIn F (Choice name ks) u
       go (z, g, s) = λ j c y found e.
           let o = chosen_one k j z y (sym g ∙ e) in
           let same : a ≡ c = some_is a c (at ∙ (ap (slice_get ks.items) o.0 ∙ sym found)) in
           subst (λ (x : Alternative). F x.type_id.0 y) same (subst (F a.type_id.0) o.1 (below a.type_id.0 v es h q z s))
-  inside_kept (Sequence tag ps) e t es (ts, i, h) w q u s = λ vs g.
+  inside_kept (Sequence tag ps) e t es (ts, i, h) w v q u s = λ vs g.
       let (us, j, each) = items_alike ts u (subst (λ z. Same z u) i s) in
       subst (FormedComponents F ps.items) (items_one us vs (sym j ∙ g)) (components_kept ps.items ts us es h q each)
-  inside_kept (Set name tag ps) e t es (rs, ts, i, by, along) w q u s = λ vs g.
+  inside_kept (Set name tag ps) e t es (rs, ts, i, by, along) w v q u s = λ vs g.
       let (us, j, each) = items_alike ts u (subst (λ z. Same z u) i s) in
       subst (FormedComponents F ps.items) (items_one us vs (sym j ∙ g)) (members_kept ps.items rs ts us es by along q each)
-  inside_kept (SequenceOf tag id c) e t es (ts, i, along) w q u s = λ vs g.
+  inside_kept (SequenceOf tag id c) e t es (ts, i, along) w v q u s = λ vs g.
       let (us, j, each) = items_alike ts u (subst (λ z. Same z u) i s) in
       subst (AllByRecursion (F id.0)) (items_one us vs (sym j ∙ g)) (each_kept id.0 ts us es along q each)
-  inside_kept (SetOf tag id c) e t es (ts, i, along) w q u s = λ vs g. go vs g (subst (λ z. Same z u) i s)
+  inside_kept (SetOf tag id c) e t es (ts, i, along) w v q u s = λ vs g. go vs g (subst (λ z. Same z u) i s)
     where
       go : (vs : List Tree) → u ≡ set_elements (items vs) → Same (set_elements (items ts)) u → AllByRecursion (F id.0) vs
       go vs g (xs, ys, j, order, s) =
@@ -230,6 +252,9 @@ module _ (rule : Codec) (f : ℕ → Shape) (H : ℕ → Tree → List Span → 
 formed_part : (types : List «Type») (id : ℕ) (e : Span) (ty : «Type») → e.id.0 ≡ id → slice_get types id ≡ Some ty → HasFormed types e → (tag : Tag) (x : List ℕ) → ty ≡ Any tag → HasOpen tag e.octets.now x → IsWellFormed x
 formed_part types id e ty i at w tag x g has = w.0 tag x (ap (slice_get types) i ∙ (at ∙ ap Some g)) has
 
+formed_unknown : (types : List «Type») (id : ℕ) (e : Span) (ty : «Type») → e.id.0 ≡ id → slice_get types id ≡ Some ty → HasFormed types e → ty ≡ Unknown → AreEncodings e.octets.now
+formed_unknown types id e ty i at w g = w.1 (ap (slice_get types) i ∙ (at ∙ ap Some g))
+
 pub kept : (rule : Codec) (types : List «Type») (n id : ℕ) (t : Tree) (es : List Span) → Holds rule types n id t es → AllByRecursion (HasFormed types) es → (u : Tree) → Same t u → FormedTree types n id u
 unfolding Holds FormedTree
 kept rule types zero id t es h q u s = tt
@@ -238,7 +263,7 @@ kept rule types (suc n) id t es (e, inside, is, i, ty, at, h) q u s = λ tz foun
     let same : ty ≡ tz = some_is ty tz (sym at ∙ found) in
     subst (λ z. FormedIn (λ k u. FormedTree types n k u) z u) same
     (inside_kept rule (shape_of_type types n) (λ k u more. Holds rule types n k u more) (λ k u. FormedTree types n k u) (HasFormed types) (λ k t es h q u s. kept rule types n k t es h q u s)
-    ty e t inside h (formed_part types id e ty i at all.0) all.1 u s)
+    ty e t inside h (formed_part types id e ty i at all.0) (formed_unknown types id e ty i at all.0) all.1 u s)
 
 -- ---- parts of a value whose open types are well formed, as DER writes them
 
@@ -283,7 +308,7 @@ module _ (f : ℕ → Shape) (H : ℕ → Tree → List Span → Type 0) (F : �
   inside_formed (Leaf kind tag c names) e t es h a = none_formed es h
   inside_formed (Enumerated tag ns) e t es h a = none_formed es h
   inside_formed (Any tag) e t es h a = none_formed es h.0
-  inside_formed Unknown e t es h a = absurd h
+  inside_formed Unknown e t es h a = none_formed es h.0
   inside_formed (Tagged tag id) e t es h a = below id.0 t es h a
   inside_formed (Choice name ks) e t es (k, c, u, at, i, h) a = below c.type_id.0 u es h (a k c u at i)
   inside_formed (Sequence tag ps) e t es (ts, i, h) a = components_formed ps.items ts es h (a ts i)
@@ -306,17 +331,27 @@ open_formed f H F (Set name t0 ps) e t es h a tag x i has = absurd cc
 open_formed f H F (SequenceOf t0 id c) e t es h a tag x i has = absurd cc
 open_formed f H F (SetOf t0 id c) e t es h a tag x i has = absurd cc
 
+unknown_formed : (f : ℕ → Shape) (H : ℕ → Tree → List Span → Type 0) (F : ℕ → Tree → Type 0) (ty : «Type») (e : Span) (t : Tree) (es : List Span) → HoldsInside Der f H ty e t es → FormedIn F ty t → ty ≡ Unknown → AreEncodings e.octets.now
+unknown_formed f H F Unknown e t es (n, (xs, i, p, all)) a g = (xs, p, all_well_formed xs (a xs i))
+unknown_formed f H F (Any own) e t es h a g = absurd cc
+unknown_formed f H F (Leaf kind t0 c names) e t es h a g = absurd cc
+unknown_formed f H F (Enumerated t0 ns) e t es h a g = absurd cc
+unknown_formed f H F (Tagged t0 id) e t es h a g = absurd cc
+unknown_formed f H F (Choice name ks) e t es h a g = absurd cc
+unknown_formed f H F (Sequence t0 ps) e t es h a g = absurd cc
+unknown_formed f H F (Set name t0 ps) e t es h a g = absurd cc
+unknown_formed f H F (SequenceOf t0 id c) e t es h a g = absurd cc
+unknown_formed f H F (SetOf t0 id c) e t es h a g = absurd cc
+
 pub formed : (types : List «Type») (n id : ℕ) (t : Tree) (es : List Span) → Holds Der types n id t es → FormedTree types n id t → AllByRecursion (HasFormed types) es
 unfolding Holds FormedTree
 formed types zero id t es h a = absurd h
 formed types (suc n) id t es (e, inside, is, i, ty, at, h) a =
     let own : FormedIn (λ k u. FormedTree types n k u) ty t = a ty at in
-    let none : slice_get types e.id.0 ≡ Some Unknown → ⊥ = λ found.
-    subst (λ z. HoldsInside Der (shape_of_type types n) (λ k u more. Holds Der types n k u more) z e t inside) (some_is ty Unknown (sym at ∙ (ap (slice_get types) (sym i) ∙ found))) h in
     let mine : HasFormed types e = (
       λ tag x found has. open_formed (shape_of_type types n) (λ k u more. Holds Der types n k u more) (λ k u. FormedTree types n k u) ty e t inside h own tag x
           (some_is ty (Any tag) (sym at ∙ (ap (slice_get types) (sym i) ∙ found))) has,
-      λ found. absurd (none found),
+      λ found. unknown_formed (shape_of_type types n) (λ k u more. Holds Der types n k u more) (λ k u. FormedTree types n k u) ty e t inside h own (some_is ty Unknown (sym at ∙ (ap (slice_get types) (sym i) ∙ found))),
     ) in
     subst (AllByRecursion (HasFormed types)) (sym is)
     (mine, inside_formed (shape_of_type types n) (λ k u more. Holds Der types n k u more) (λ k u. FormedTree types n k u) (HasFormed types) (λ k t es h a. formed types n k t es h a) ty e t inside h own)

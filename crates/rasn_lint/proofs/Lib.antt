@@ -9,10 +9,13 @@ pub mod Worked
 pub mod Judged
 pub mod Unread
 pub mod Reader
+pub mod ReadAs
 pub mod ByRule
 pub mod Noted
 pub mod Mended
 pub mod Opened
+pub mod Wholes
+pub mod Shown
 pub mod Listed
 pub mod Clean
 pub mod Holding

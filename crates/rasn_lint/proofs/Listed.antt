@@ -26,11 +26,13 @@ use Rattle.rasn_lint.specs.declared.judge.Site.{Site}
 use Rattle.rasn_lint.specs.declared.open.Pending.{Pending}
 use Rattle.rasn_lint.specs.Header.{is_constructed, IsTagFault, IsOfLength, IsLengthFault, IsLengthFaultAfter}
 use Rattle.rasn_lint.specs.Judged.{IsCopied, IsSiteAt, AreNoted, AreListed}
-use Rattle.rasn_lint.specs.Listed.{DepartsItself, LeadsToOne, DepartsIn, HasOne, HasAll, OwesAt, Owes, OneOwes, octets_left, AreSome, IsOnlyRest, OwesWithin, IsLookedInto, IsLooked}
+use Rattle.rasn_lint.specs.Listed.{DepartsItself, LeadsToOne, DepartsIn, HasOne, HasAll, OwesAt, Owes, OneOwes, octets_left, AreSome, IsOnlyRest, OwesWithin, IsLookedInto, IsLooked, HasAllOfEach, IsSplit, IsListedUpTo}
 use Rattle.rasn_lint.specs.Open.{AllPending, IsReached, IsExtra, IsAfter, IsKept}
+use Rattle.rasn_lint.specs.Refusals.{form_error, IsContentsError}
 use Rattle.rasn_lint.specs.Universal.{rule_of}
-use Rattle.rasn_lint.specs.Untyped.{HasOpen, HasContents, HasNoContents, HasNoForm, HasWrongContents, IsFollowedBy, IsUnread, FollowsAfter, AreUntypedFaults}
-use Rattle.rasn_lint.specs.WellFormed.{AllowsEncoding}
+use Rattle.rasn_lint.specs.Untyped.{HasOpen, HasContents, HasNoContents, HasNoForm, HasWrongContents, IsFollowedBy, IsUnread, FollowsAfter, IsValueIn, AreUntypedFaults}
+use Rattle.rasn_lint.specs.WellFormed.{IsWellFormed, AllowsEncoding}
+use Rattle.rasn_lint.proofs.Wholes.{first_or_later}
 use Rattle.rasn_lint.proofs.Opened.{cut_shorter, fits_below, definite_parts, indefinite_parts, followed_shorter}
 
 -- ---- encodings
@@ -175,22 +177,22 @@ module _ (len left : ℕ) (e : Span) (path : List ℕ) (indices : Bor (List ℕ)
     by_length e None q h k = absurd (no_length e h k)
     by_length e (Some x) q h k = in_length x (sym q)
 
-    by_form : (o : Option DecodeError) → o ≡ f.form → MatchOption o (HasNoForm (rule_of tag) (is_constructed octets) → ⊥) (λ e. HasNoForm (rule_of tag) (is_constructed octets)) → HasNoForm (rule_of tag) (is_constructed octets) → HasOne indices.now Header ds
+    by_form : (o : Option DecodeError) → o ≡ f.form → MatchOption o (HasNoForm (rule_of tag) (is_constructed octets) → ⊥) (λ e. HasNoForm (rule_of tag) (is_constructed octets) × (e ≡ form_error (rule_of tag) (is_constructed octets))) → HasNoForm (rule_of tag) (is_constructed octets) → HasOne indices.now Header ds
     by_form None q h k = absurd (h k)
     by_form (Some x) q h k = in_form x (sym q)
 
-    by_contents : (o : Option DecodeError) → o ≡ f.contents → MatchOption o (HasWrongContents tag (is_constructed octets) contents → ⊥) (λ e. AllowsEncoding false tag (is_constructed octets) contents)
+    by_contents : (o : Option DecodeError) → o ≡ f.contents → MatchOption o (HasWrongContents tag (is_constructed octets) contents → ⊥) (λ e. AllowsEncoding false tag (is_constructed octets) contents × IsContentsError (rule_of tag) tag (is_constructed octets) contents e)
         → HasWrongContents tag (is_constructed octets) contents → HasOne indices.now Contents ds
     by_contents None q h k = absurd (h k)
     by_contents (Some x) q h k = in_contents x (sym q)
 
     pub own_listed : HasContents tag octets contents → (rest : List ℕ) → IsFollowedBy octets rest → (aspect : Aspect) → DepartsItself aspect octets → HasOne indices.now aspect ds
-    own_listed has rest fo Header (e, inl (inl x)) = by_tag e f.tag refl u.by_tag x
-    own_listed has rest fo Header (e, inl (inr x)) = by_length e f.length refl u.by_length x
-    own_listed has rest fo Header (e, inr (inl (t, c, h, x))) =
+    own_listed has rest fo Header (inl (e, inl x)) = by_tag e f.tag refl u.by_tag x
+    own_listed has rest fo Header (inl (e, inr x)) = by_length e f.length refl u.by_length x
+    own_listed has rest fo Header (inr (inl (t, c, h, x))) =
         by_form f.form refl u.by_form (subst (λ z. HasNoForm (rule_of z) (is_constructed octets)) (same_contents octets t tag c contents h has).0 x)
-    own_listed has rest fo Header (e, inr (inr (inl x))) = absurd (x tag contents has)
-    own_listed has rest fo Header (e, inr (inr (inr x))) = absurd (x rest fo)
+    own_listed has rest fo Header (inr (inr (inl x))) = absurd (x tag contents has)
+    own_listed has rest fo Header (inr (inr (inr x))) = absurd (x rest fo)
     own_listed has rest fo Contents (t, c, h, x) =
         let s = same_contents octets t tag c contents h has in
         by_contents f.contents refl u.in_contents (subst (λ z. HasWrongContents tag (is_constructed octets) z) s.1 (subst (λ z. HasWrongContents z (is_constructed octets) c) s.0 x))
@@ -487,3 +489,33 @@ pub more_listed : (inside : List ℕ) (start list new_list es fs : List Departur
 more_listed inside start list new_list es fs h x y ds q i a w =
     let same : es ++ fs ≡ ds = append_cancel_left start (es ++ fs) ds (sym (y ∙ (ap (λ z. z ++ fs) x ∙ append_assoc start es fs)) ∙ q) in
     subst (HasOne i a) same (one_before i a es fs (h i a w))
+
+-- ---- unknown values
+
+-- One value more is listed.
+pub value_listed : (octets rest first others : List ℕ) (before list new_list es fs : List Departure) → IsListedUpTo octets rest before list → list ≡ before ++ es → new_list ≡ list ++ fs → IsSplit rest first others
+    → ((IsWellFormed first → ⊥) → (ds : List Departure) → new_list ≡ list ++ ds → HasAll first ds) → IsListedUpTo octets others before new_list
+value_listed octets rest first others before list new_list es fs listed p q s own ds e value v n = go (listed es p value v n)
+  where
+    same : es ++ fs ≡ ds
+    same = append_cancel_left before (es ++ fs) ds (sym (q ∙ (ap (λ z. z ++ fs) p ∙ append_assoc before es fs)) ∙ e)
+
+    here : (value ≡ first) ⊎ IsValueIn others value → HasAll value ds ⊎ IsValueIn others value
+    here (inl g) = inl (subst (λ z. HasAll z ds) (sym g) (subst (HasAll first) same (λ i a w. one_after i a es fs (own (subst (λ z. IsWellFormed z → ⊥) g n) fs q i a w))))
+    here (inr h) = inr h
+
+    go : HasAll value es ⊎ IsValueIn rest value → HasAll value ds ⊎ IsValueIn others value
+    go (inl h) = inl (subst (HasAll value) same (λ i a w. one_before i a es fs (h i a w)))
+    go (inr h) = here (first_or_later rest first others value s.is s.only h)
+
+-- No value is left.
+pub values_listed : (octets rest : List ℕ) (before list : List Departure) → IsListedUpTo octets rest before list → ((value : List ℕ) → IsValueIn rest value → ⊥) → (ds : List Departure) → list ≡ before ++ ds → HasAllOfEach octets ds
+values_listed octets rest before list listed none ds e value v n = go (listed ds e value v n)
+  where
+    go : HasAll value ds ⊎ IsValueIn rest value → HasAll value ds
+    go (inl h) = h
+    go (inr h) = absurd (none value h)
+
+-- One is appended to those.
+pub more_of_each : (octets : List ℕ) (start list new_list es fs : List Departure) → HasAllOfEach octets es → list ≡ start ++ es → new_list ≡ list ++ fs → (ds : List Departure) → new_list ≡ start ++ ds → HasAllOfEach octets ds
+more_of_each octets start list new_list es fs h x y ds q value v n = more_listed value start list new_list es fs (h value v n) x y ds q

@@ -14,14 +14,15 @@ use Rattle.rasn_lint.specs.declared.by_schema.OpenTypes.{OpenTypes}
 use Rattle.rasn_lint.specs.declared.by_schema.OpenTypes.TheVariants.{Unexamined, Examined}
 use Rattle.rasn_lint.specs.declared.trail.Step.{Step}
 use Rattle.rasn_lint.specs.declared.judge.Site.{Site}
-use Rattle.rasn_lint.specs.Judged.{IsCopied, IsSiteAt, IsDepartureAt, AreNoted, AreListed, TypedUnless, OpenIf, AreOfPart}
+use Rattle.rasn_lint.specs.Judged.{IsCopied, IsSiteAt, IsDepartureAt, AreNoted, AreListed, AreOfUnknown, TypedUnless, OpenIf, AreOfPart}
 use Rattle.rasn_types.specs.declared.types.tag.Tag.{Tag}
 use Rattle.rasn_lint.specs.Header.{is_constructed, IsTagFault, IsLengthFault}
 use Rattle.rasn_lint.specs.Listed.{HasAllIf}
 use Rattle.rasn_lint.specs.Open.{IsFoundIn, DepartsThere, IsInside, IsOfUnknown, GrowsInside, GrowsUnknown}
+use Rattle.rasn_lint.specs.Refusals.{form_error, IsContentsError}
 use Rattle.rasn_lint.specs.Universal.{rule_of}
-use Rattle.rasn_lint.specs.Untyped.{HasContents, LeadsInto, HasNoForm, HasWrongContents, AreUntypedFaults}
-use Rattle.rasn_lint.specs.WellFormed.{AllowsEncoding}
+use Rattle.rasn_lint.specs.Untyped.{HasContents, IsValueIn, LeadsInto, HasNoForm, HasWrongContents, AreUntypedFaults}
+use Rattle.rasn_lint.specs.WellFormed.{AreEncodings, AllowsEncoding}
 
 folded : {A : Type 0} (l m z a b : List A) → l ≡ m ++ a → z ≡ l ++ b → z ≡ m ++ (a ++ b)
 folded l m z a b p q = q ∙ (ap (λ y. y ++ b) p ∙ append_assoc m a b)
@@ -105,9 +106,17 @@ module _ (len left : ℕ) (e : Span) (path octets : List ℕ) (indices : Bor (Li
       → ((ds : List Departure) × (b ≡ a ++ ds) × AreListed site f ds) → GrowsInside len e path inside a b
   grows_listed f tag contents a b leads has u (ds, p, h) =
       let I = IsInside len e path inside in
-      let by_contents = noted_inside Contents f.contents h.contents (λ x q. inl (leads, (tag, contents, has, subst (λ o. MatchOption o (HasWrongContents tag (is_constructed octets) contents → ⊥) (λ z. AllowsEncoding false tag (is_constructed octets) contents)) q u.in_contents))) h.in_contents in
+      let by_contents = noted_inside Contents f.contents h.contents
+      (λ x q.
+      let y = subst (λ o. MatchOption o (HasWrongContents tag (is_constructed octets) contents → ⊥) (λ z. AllowsEncoding false tag (is_constructed octets) contents × IsContentsError (rule_of tag) tag (is_constructed octets) contents z)) q u.in_contents in
+      inl (leads, (tag, contents, has, y.0, y.1)))
+      h.in_contents in
       let by_length = noted_inside Header f.length h.length (λ x q. inl (leads, inl (inr (subst (IsLengthFault octets) q u.by_length)))) h.by_length in
-      let by_form = noted_inside Header f.form h.form (λ x q. inl (leads, inr (inl (tag, contents, has, subst (λ o. MatchOption o (HasNoForm (rule_of tag) (is_constructed octets) → ⊥) (λ z. HasNoForm (rule_of tag) (is_constructed octets))) q u.by_form)))) h.by_form in
+      let by_form = noted_inside Header f.form h.form
+      (λ x q.
+      let y = subst (λ o. MatchOption o (HasNoForm (rule_of tag) (is_constructed octets) → ⊥) (λ z. HasNoForm (rule_of tag) (is_constructed octets) × (z ≡ form_error (rule_of tag) (is_constructed octets)))) q u.by_form in
+      inl (leads, inr (inl (tag, contents, has, y.0, y.1))))
+      h.by_form in
       let by_tag = noted_inside Header f.tag h.tag (λ x q. inl (leads, inl (inl (subst (IsTagFault octets) q u.by_tag)))) h.by_tag in
       let by_default = noted_inside Place f.default h.default (λ x q. let n = u.default in cc) h.by_default in
       let in_order = noted_inside Place f.order h.order (λ x q. let n = u.order in cc) h.in_order in
@@ -128,12 +137,25 @@ pub grows_more : (len : ℕ) (e : Span) (path inside : List ℕ) (a b c : List D
 grows_more len e path inside a b c (ds, p, h) (es, q, k) = (ds ++ es, folded b a c ds es p q, all_append (IsInside len e path inside) ds es h k)
 
 -- Departures inside one of unknown values are appended after others.
-pub unknown_more : (len : ℕ) (e : Span) (path inside : List ℕ) (a b c ds : List Departure) → GrowsUnknown len e path a b → c ≡ b ++ ds → AllByRecursion (IsInside len e path inside) ds → GrowsUnknown len e path a c
-unknown_more len e path inside a b c ds (es, p, h) q k = (es ++ ds, folded b a c es ds p q, all_append (IsOfUnknown len e path) es ds h (go ds k))
+pub unknown_more : (len : ℕ) (e : Span) (path inside : List ℕ) (a b c ds : List Departure) → IsValueIn e.octets.now inside → GrowsUnknown len e path a b → c ≡ b ++ ds → AllByRecursion (IsInside len e path inside) ds → GrowsUnknown len e path a c
+unknown_more len e path inside a b c ds v (es, p, h) q k = (es ++ ds, folded b a c es ds p q, all_append (IsOfUnknown len e path) es ds h (go ds k))
   where
     go : (xs : List Departure) → AllByRecursion (IsInside len e path inside) xs → AllByRecursion (IsOfUnknown len e path) xs
     go [] k = tt
-    go (x ∷ xs) k = ((inside, k.0), go xs k.1)
+    go (x ∷ xs) k = ((inside, inl v, k.0), go xs k.1)
+
+some_last : (xs : List Departure) (d : Departure) → xs ++ d ∷ [] ≡ [] → ⊥
+some_last [] d e = cc
+some_last (x ∷ xs) d e = cc
+
+-- One of unknown values as a whole.
+pub unknown_whole : (len : ℕ) (e : Span) (path : List ℕ) (a b c : List Departure) → (AreEncodings e.octets.now → ⊥) → GrowsUnknown len e path a b → ((d : Departure) × (c ≡ b ++ d ∷ []) × IsInside len e path e.octets.now d)
+    → (ds : List Departure) × (c ≡ a ++ ds) × AreOfUnknown len path e ds
+unknown_whole len e path a b c n (es, p, h) (d, q, i) = (
+  es ++ d ∷ [],
+  folded b a c es (d ∷ []) p q,
+  ((λ x. absurd (some_last es d x), λ x. absurd (n x)), all_append (IsOfUnknown len e path) es (d ∷ []) h ((e.octets.now, inr refl, i), tt)),
+)
 
 -- What is appended of a part by its type, and then inside it.
 pub both_parts : (is_read : Bool) (opens : OpenTypes) (types : List «Type») (len : ℕ) (trail : List Step) (path : List ℕ) (e : Span) (o : Option «Type») (l0 l1 l2 : List Departure)

@@ -20,7 +20,7 @@ use Rattle.rasn_lint.specs.declared.open.Contents.{Contents}
 use Rattle.rasn_lint.specs.declared.open.Pending.{Pending}
 use Rattle.rasn_de.specs.ParserViews.{peeked_tag}
 use Rattle.rasn_lint.specs.Header.{is_constructed}
-use Rattle.rasn_lint.specs.Open.{IsEndLen, IsEndOf, IsAfterHeader, IsFoundIn, IsThere, IsPending, AllPending, IsReached, IsExtra, IsAfter, IsKept, IsOfWhole}
+use Rattle.rasn_lint.specs.Open.{IsEndLen, IsEndOf, IsAfterHeader, IsFoundIn, IsThere, IsPending, AllPending, IsReached, IsExtra, IsAfter, IsKept}
 use Rattle.rasn_lint.specs.Untyped.{HasOpen, HasNoContents, HasContents, IsFollowedBy, IsUnread, FollowsAfter, HoldsAt, LeadsInto}
 use Rattle.rasn_lint.specs.Listed.{IsOnlyRest}
 use Rattle.rasn_lint.proofs.Noted.{all_append}
@@ -287,12 +287,12 @@ module _ (e : Span) where
         go (suc d) q (b, holder, leads, holds) p = subst (λ z. LeadsInto z inside next.octets.now) (sym p) (leads_more (take d path) next.index inside holder next.octets.now leads holds)
 
     -- Those after the first encoding of the open type.
-    pub extra_follows : (others : List Pending) → IsReached e inside path next others → IsExtra next → (path ≡ []) × IsOfWhole inside next.octets.now
+    pub extra_follows : (others : List Pending) → IsReached e inside path next others → IsExtra next → (path ≡ []) × (next.octets.now ≢ []) × IsFollowedBy inside next.octets.now
     extra_follows others r (d, i) = go (subst (λ z. IsThere inside path z next.index next.octets.now) d r.pending.there)
       where
-        go : ((next.index ≡ 0) × (next.octets.now ≡ inside)) ⊎ ((0 < next.index) × (next.octets.now ≢ []) × IsFollowedBy inside next.octets.now) → (path ≡ []) × IsOfWhole inside next.octets.now
+        go : ((next.index ≡ 0) × (next.octets.now ≡ inside)) ⊎ ((0 < next.index) × (next.octets.now ≢ []) × IsFollowedBy inside next.octets.now) → (path ≡ []) × (next.octets.now ≢ []) × IsFollowedBy inside next.octets.now
         go (inl (q, o)) = absurd (omega (arith, q, i))
-        go (inr (q, s, b)) = (r.path_is ∙ ap (λ z. path_at_depth z path next.index) d, inl (s, b))
+        go (inr (q, s, b)) = (r.path_is ∙ ap (λ z. path_at_depth z path next.index) d, s, b)
 
     after_there : (d : ℕ) (rest : List ℕ) → next.depth ≡ d → (IsExtra next → ⊥) → IsFollowedBy next.octets.now rest → rest ≢ [] → IsThere inside path d next.index next.octets.now → IsThere inside path d (suc next.index) rest
     after_there zero rest q n f s (inl (i, o)) = inr (omega arith, s, subst (λ z. IsFollowedBy z rest) o f)

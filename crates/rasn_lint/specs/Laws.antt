@@ -11,7 +11,7 @@ use Rattle.rasn_schema.specs.declared.types.«Type».TheVariants.{Any, Unknown}
 use Rattle.rasn_dynamic.specs.declared.message.MessageParts.{MessageParts}
 use Rattle.rasn_dynamic.specs.Entry.{shape_of}
 use Rattle.rasn_dynamic.specs.Walk.{ArePartsOf}
-use Rattle.rasn_dynamic.specs.SameParts.{AreLawfulTypes}
+use Rattle.rasn_dynamic.specs.SameParts.{AreReadableTypes}
 use Rattle.rasn_lint.specs.declared.by_schema.OpenTypes.{OpenTypes}
 use Rattle.rasn_lint.specs.declared.by_schema.OpenTypes.TheVariants.{Unexamined, Examined}
 use Rattle.rasn_lint.specs.declared.departure.Departure.{Departure}
@@ -21,7 +21,7 @@ use Rattle.rasn_lint.specs.Lint.{AreFormed, IsLint, IsFirstDeparture}
 -- looked into: the encoding has the same ones. The input is read by any rules.
 abbrev pub NormalIsClean : Type 0
 NormalIsClean = (opens : OpenTypes) (types : List «Type») (id : ℕ) (rule : Codec) (input octets : List ℕ) (ds : List Departure) (parts : MessageParts)
-    → AreLawfulTypes types → AreOctets input → AreOctets octets → IsNormal rule (shape_of types id) input octets
+    → AreReadableTypes types → AreOctets input → AreOctets octets → IsNormal rule (shape_of types id) input octets
     → ArePartsOf types rule id input parts → AreFormed opens types parts.list.items → IsLint opens types id octets ds → ds ≡ []
 
 -- The same where the open types and the unknown values of the encoding itself are well formed, whatever the types are.
@@ -42,7 +42,7 @@ ClosedIsClean = (opens : OpenTypes) (types : List «Type») (id : ℕ) (rule : C
 -- There is a first departure exactly if the list isn't empty.
 abbrev pub FirstIsListed : Type 0
 FirstIsListed = (opens : OpenTypes) (types : List «Type») (id : ℕ) (input : List ℕ) (ds : List Departure) (found : Option Departure)
-    → AreLawfulTypes types → AreOctets input → IsLint opens types id input ds → IsFirstDeparture opens types id input found → (found ≡ None) ↔ (ds ≡ [])
+    → AreReadableTypes types → AreOctets input → IsLint opens types id input ds → IsFirstDeparture opens types id input found → (found ≡ None) ↔ (ds ≡ [])
 
 -- The same whatever the types are, where open types aren't looked into, or none of the types is open.
 abbrev pub ClosedFirstIsListed : Type 0

@@ -8,11 +8,13 @@ pub mod Trail
 pub mod Place
 pub mod Header
 pub mod Leaf
+pub mod Refusals
 pub mod Untyped
 pub mod Open
 pub mod Listed
 pub mod Judged
 pub mod Lint
+pub mod Shown
 pub mod Laws
 pub mod Worked
 pub mod WorkedMessages

@@ -23,6 +23,7 @@ use Rattle.rasn_lint.specs.declared.by_schema.OpenTypes.TheVariants.{Unexamined,
 use Rattle.rasn_lint.specs.declared.departure.Departure.{Departure}
 use Rattle.rasn_lint.specs.Judged.{AreJudged}
 use Rattle.rasn_lint.specs.Open.{IsInside, IsOfUnknown}
+use Rattle.rasn_lint.specs.Refusals.{aspect_of}
 use Rattle.rasn_lint.specs.Untyped.{HasOpen}
 use Rattle.rasn_lint.specs.WellFormed.{IsWellFormed, AreEncodings}
 
@@ -58,9 +59,9 @@ IsAtFault types id input r = IsLocated types Der id input r ⊎ ((t : Tree) × (
 abbrev pub IsDerOrNot : List «Type» → ℕ → List ℕ → Option Refusal → Type 0
 IsDerOrNot types id input found = MatchOption found (IsDer types id input) (λ r. (IsDer types id input → ⊥) × IsAtFault types id input r)
 
--- The departure is that refusal.
+-- The departure is that refusal, of what its error is about.
 abbrev pub IsRefusal : List «Type» → ℕ → List ℕ → Departure → Type 0
-IsRefusal types id input d = IsAtFault types id input d.refusal × (d.inner ≡ None)
+IsRefusal types id input d = IsAtFault types id input d.refusal × (d.inner ≡ None) × (d.aspect ≡ aspect_of d.refusal.error.kind)
 
 -- The departures of the parts, by their types if DER doesn't read the message; if it doesn't although no part departs,
 -- that it doesn't, with the place that its reader has.

@@ -1,10 +1,10 @@
--- That no departure inside a value of an open type is left out.
+-- That no departure inside a value of an open type, or inside unknown values, is left out.
 use Rattle.std.specs.Prelude.{◌≡◌, ◌≢◌, ◌⊎◌, ◌+◌, ◌<◌, ℕ, zero, suc, List, [], ◌∷◌, ◌++◌, length, take, Option, Some, Vec}
 use Rattle.std.specs.Global.{Global}
 use Rattle.rasn_types.specs.declared.types.tag.Tag.{Tag}
 use Rattle.rasn_types.specs.declared.error.decode.DecodeError.{DecodeError}
 use Rattle.rasn_schema.specs.declared.types.«Type».{«Type»}
-use Rattle.rasn_schema.specs.declared.types.«Type».TheVariants.{Any}
+use Rattle.rasn_schema.specs.declared.types.«Type».TheVariants.{Any, Unknown}
 use Rattle.rasn_dynamic.specs.declared.span.Span.{Span}
 use Rattle.rasn_lint.specs.declared.by_schema.OpenTypes.{OpenTypes}
 use Rattle.rasn_lint.specs.declared.by_schema.OpenTypes.TheVariants.{Unexamined, Examined}
@@ -12,13 +12,20 @@ use Rattle.rasn_lint.specs.declared.departure.Departure.{Departure}
 use Rattle.rasn_lint.specs.declared.departure.Aspect.{Aspect}
 use Rattle.rasn_lint.specs.declared.departure.Aspect.TheVariants.{Header, Contents, Place}
 use Rattle.rasn_lint.specs.declared.open.Pending.{Pending}
-use Rattle.rasn_lint.specs.Header.{is_constructed}
-use Rattle.rasn_lint.specs.Untyped.{HasOpen, HasContents, HasWrongContents, IsFollowedBy, FollowsAfter, LeadsInto, DepartsInHeader}
+use Rattle.rasn_lint.specs.Header.{is_constructed, IsTagFault, IsLengthFault}
+use Rattle.rasn_lint.specs.Universal.{rule_of}
+use Rattle.rasn_lint.specs.Untyped.{HasOpen, HasContents, HasNoContents, HasNoForm, HasWrongContents, IsFollowedBy, IsUnread, FollowsAfter, IsValueIn, LeadsInto}
 use Rattle.rasn_lint.specs.WellFormed.{IsWellFormed}
+
+-- Of what the octets begin with the identifier or length octets depart; or the form isn't that of the tag, or BER doesn't
+-- read it.
+abbrev pub HasHeaderFault : List ℕ → Type 0
+HasHeaderFault octets = ((e : DecodeError) × (IsTagFault octets (Some e) ⊎ IsLengthFault octets (Some e)))
+    ⊎ (((tag : Tag) × (contents : List ℕ) × HasContents tag octets contents × HasNoForm (rule_of tag) (is_constructed octets)) ⊎ (HasNoContents octets ⊎ IsUnread octets))
 
 -- Of the encoding that the octets begin with the header departs, or the contents do, although the form is allowed.
 abbrev pub DepartsItself : Aspect → List ℕ → Type 0
-DepartsItself Header octets = (e : DecodeError) × DepartsInHeader octets e
+DepartsItself Header octets = HasHeaderFault octets
 DepartsItself Contents octets = (tag : Tag) × (contents : List ℕ) × HasContents tag octets contents × HasWrongContents tag (is_constructed octets) contents
 DepartsItself Place octets = ⊥
 
@@ -40,14 +47,35 @@ HasOne indices aspect (d ∷ ds) = ((v : Vec ℕ Global) × (d.inner ≡ Some v)
 abbrev pub HasAll : List ℕ → List Departure → Type 0
 HasAll octets ds = (indices : List ℕ) (aspect : Aspect) → DepartsIn octets indices aspect → HasOne indices aspect ds
 
--- The same of a part that is a value of an open type whose octets aren't well formed.
+-- So has whatever departs in one of unknown values with these octets.
+abbrev pub HasAllOfEach : List ℕ → List Departure → Type 0
+HasAllOfEach octets ds = (value : List ℕ) → IsValueIn octets value → (IsWellFormed value → ⊥) → HasAll value ds
+
+-- The same of a part that is a value of an open type whose octets aren't well formed, or unknown values.
 abbrev pub HasAllInside : Span → Option «Type» → List Departure → Type 0
 HasAllInside e (Some (Any tag)) ds = (inside : List ℕ) → HasOpen tag e.octets.now inside → (IsWellFormed inside → ⊥) → HasAll inside ds
+HasAllInside e (Some Unknown) ds = HasAllOfEach e.octets.now ds
 HasAllInside e ty ds = Unit {0}
 
 abbrev pub HasAllIf : OpenTypes → Span → Option «Type» → List Departure → Type 0
 HasAllIf Unexamined e ty ds = Unit {0}
 HasAllIf Examined e ty ds = HasAllInside e ty ds
+
+-- ---- unknown values that are still to be looked at
+
+-- These octets alone follow the encoding.
+abbrev pub IsOnlyRest : List ℕ → List ℕ → Type 0
+IsOnlyRest octets rest = (other : List ℕ) → IsFollowedBy octets other → other ≡ rest
+
+-- The octets begin with the first encoding, as BER skips it, and the others alone follow it.
+pub record IsSplit (octets first others : List ℕ) : Type 0 where
+  pub is : octets ≡ first ++ others
+  pub follows : IsFollowedBy octets others
+  pub only : IsOnlyRest octets others
+
+-- Whatever departs in one of the values has been listed, besides those that were listed before, or is in one of the rest.
+abbrev pub IsListedUpTo : List ℕ → List ℕ → List Departure → List Departure → Type 0
+IsListedUpTo octets rest before list = (ds : List Departure) → list ≡ before ++ ds → (value : List ℕ) → IsValueIn octets value → (IsWellFormed value → ⊥) → HasAll value ds ⊎ IsValueIn rest value
 
 -- ---- encodings that are still to be looked at
 
@@ -72,10 +100,6 @@ octets_left (p ∷ ps) = length p.octets.now + octets_left ps
 abbrev pub AreSome : List Pending → Type 0
 AreSome [] = Unit {0}
 AreSome (p ∷ ps) = (p.octets.now ≢ []) × AreSome ps
-
--- These octets alone follow the encoding.
-abbrev pub IsOnlyRest : List ℕ → List ℕ → Type 0
-IsOnlyRest octets rest = (other : List ℕ) → IsFollowedBy octets other → other ≡ rest
 
 -- From the encoding to which the path leads, these indices lead to what departs.
 abbrev pub OwesWithin : List ℕ → List ℕ → List ℕ → Aspect → Type 0

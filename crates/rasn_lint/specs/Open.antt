@@ -2,9 +2,10 @@
 use Rattle.std.specs.Prelude.{◌≡◌, ◌≢◌, ◌⊎◌, ◌+◌, ◌-◌, ◌^◌, ◌<◌, ◌≤◌, ℕ, zero, suc, List, [], ◌∷◌, ◌++◌, length, take, min, Option, Some, None, Vec}
 use Rattle.std.specs.Global.{Global}
 use Rattle.std.specs.List.{AllByRecursion}
-use Rattle.rasn_types.specs.declared.types.codec.Codec.TheVariants.{Ber}
+use Rattle.rasn_types.specs.declared.types.codec.Codec.TheVariants.{Ber, Der}
 use Rattle.rasn_types.specs.declared.types.tag.Tag.{Tag}
 use Rattle.rasn_types.specs.declared.error.decode.DecodeError.{DecodeError}
+use Rattle.rasn.specs.Headline.{IsExtraData}
 use Rattle.rasn_de.specs.Skipping.{Skipped}
 use Rattle.rasn_dynamic.specs.declared.span.Span.{Span}
 use Rattle.rasn_lint.specs.declared.departure.Departure.{Departure}
@@ -13,7 +14,8 @@ use Rattle.rasn_lint.specs.declared.departure.Aspect.TheVariants.{Contents as Of
 use Rattle.rasn_lint.specs.declared.open.Contents.{Contents}
 use Rattle.rasn_lint.specs.declared.open.Pending.{Pending}
 use Rattle.rasn_dynamic.specs.Walk.{path_at_depth}
-use Rattle.rasn_lint.specs.Untyped.{IsFollowedBy, HoldsAt, LeadsInto, Departs}
+use Rattle.rasn_lint.specs.Refusals.{IsUnreadable}
+use Rattle.rasn_lint.specs.Untyped.{IsFollowedBy, IsValueIn, HoldsAt, LeadsInto, Departs}
 use Rattle.rasn_lint.specs.WellFormed.{IsWellFormed}
 
 -- So many octets end the complete encoding with which the octets begin: two if its length is indefinite, and then
@@ -32,15 +34,15 @@ abbrev pub IsAfterHeader : List ℕ → Contents → Type 0
 IsAfterHeader octets c = (header : List ℕ) × (end : List ℕ) × (octets ≡ header ++ (c.octets.now ++ end)) × (length header ≡ c.header_len)
 
 -- These octets, of which there are some, follow the encoding of the open type with the octets inside; or they are all of
--- them, and no encoding that is well formed.
-abbrev pub IsOfWhole : List ℕ → List ℕ → Type 0
-IsOfWhole inside octets = ((octets ≢ []) × IsFollowedBy inside octets) ⊎ ((octets ≡ inside) × (IsWellFormed inside → ⊥))
+-- them, and no encoding that is well formed. The error is that of octets after a value, or that of the reader.
+abbrev pub IsOfWhole : List ℕ → List ℕ → DecodeError → Type 0
+IsOfWhole inside octets e = ((octets ≢ []) × IsFollowedBy inside octets × IsExtraData Der octets e) ⊎ ((octets ≡ inside) × (IsWellFormed inside → ⊥) × IsUnreadable octets e)
 
 -- The indices lead from the encoding of the open type with the octets inside to what these octets begin with, and that
 -- departs itself; or there are no indices, and it departs by being in the open type.
 abbrev pub DepartsThere : List ℕ → List ℕ → List ℕ → Aspect → DecodeError → Type 0
 DepartsThere inside indices octets aspect e = (LeadsInto indices inside octets × Departs aspect octets e)
-    ⊎ ((indices ≡ []) × (aspect ≡ OfContents) × IsOfWhole inside octets)
+    ⊎ ((indices ≡ []) × (aspect ≡ OfContents) × IsOfWhole inside octets e)
 
 -- The octets are in those of the part, from whose start e.left are left to the end of the message: from theirs so many.
 abbrev pub IsFoundIn : Span → List ℕ → ℕ → Type 0
@@ -59,9 +61,9 @@ pub record IsInside (len : ℕ) (e : Span) (path inside : List ℕ) (d : Departu
   pub offset : d.refusal.offset ≡ len - left
   pub departs : DepartsThere inside indices.items octets d.aspect d.refusal.error
 
--- The departure is inside one of the encodings of unknown values.
+-- The departure is inside one of unknown values; or these aren't encodings, one after the other.
 abbrev pub IsOfUnknown : ℕ → Span → List ℕ → Departure → Type 0
-IsOfUnknown len e path d = (inside : List ℕ) × IsInside len e path inside d
+IsOfUnknown len e path d = (inside : List ℕ) × (IsValueIn e.octets.now inside ⊎ (inside ≡ e.octets.now)) × IsInside len e path inside d
 
 -- Some are appended.
 abbrev pub GrowsInside : ℕ → Span → List ℕ → List ℕ → List Departure → List Departure → Type 0

@@ -1,5 +1,5 @@
 -- Encodings whose type isn't known, and what departs of one of them, whatever departs inside it.
-use Rattle.std.specs.Prelude.{◌≡◌, ◌⊎◌, ℕ, zero, suc, List, [], ◌∷◌, Bool, true, false, Some, None, Ok, MatchOption}
+use Rattle.std.specs.Prelude.{◌≡◌, ◌⊎◌, ℕ, zero, suc, List, [], ◌∷◌, ◌++◌, Bool, true, false, Some, None, Ok, MatchOption}
 use Rattle.rasn_types.specs.declared.types.codec.Codec.TheVariants.{Ber}
 use Rattle.rasn_types.specs.declared.types.tag.Tag.{Tag}
 use Rattle.rasn_types.specs.declared.error.decode.DecodeError.{DecodeError}
@@ -17,6 +17,7 @@ use Rattle.rasn_lint.specs.declared.judge.Faults.{Faults}
 use Rattle.rasn_lint.specs.Contents.{AllowsContents}
 use Rattle.rasn_lint.specs.Header.{is_constructed, IsTagFault, IsLengthFault}
 use Rattle.rasn_lint.specs.Order.{IsInOrder}
+use Rattle.rasn_lint.specs.Refusals.{form_error, IsContentsError, IsUnreadable}
 use Rattle.rasn_lint.specs.Universal.{rule_of}
 use Rattle.rasn_lint.specs.WellFormed.{AllowsParts, AreWellFormed, AreEncodings, AllowsEncoding}
 
@@ -42,6 +43,10 @@ IsUnread octets = (rest : List ℕ) → IsFollowedBy octets rest → ⊥
 abbrev pub FollowsAfter : ℕ → List ℕ → List ℕ → Type 0
 FollowsAfter zero octets rest = rest ≡ octets
 FollowsAfter (suc n) octets rest = (more : List ℕ) × IsFollowedBy octets more × FollowsAfter n more rest
+
+-- This is one of the encodings, one after the other, that BER reads from the octets.
+abbrev pub IsValueIn : List ℕ → List ℕ → Type 0
+IsValueIn octets first = (k : ℕ) × (there : List ℕ) × (more : List ℕ) × FollowsAfter k octets there × (there ≡ first ++ more) × IsFollowedBy there more
 
 -- The encoding at the start of the octets is constructed, and of the encodings in its contents the one with the index k is
 -- at the start of those there.
@@ -73,27 +78,28 @@ abbrev pub HasWrongContents : Tag → Bool → List ℕ → Type 0
 HasWrongContents tag bit contents = (HasNoForm (rule_of tag) bit → ⊥) × (bit ≡ true → AreEncodings contents) × AllowsEncoding false tag bit contents
 
 -- The errors of an encoding with this tag and these contents, of which nothing is said in its place. There is one of the
--- form, and of the contents, exactly if they aren't allowed.
+-- form, and of the contents, exactly if they aren't allowed, and each is the reader's.
 pub record AreUntypedFaults (tag : Tag) (contents octets : List ℕ) (f : Faults) : Type 0 where
   pub order : f.order ≡ None
   pub default : f.default ≡ None
   pub by_tag : IsTagFault octets f.tag
-  pub by_form : MatchOption f.form (HasNoForm (rule_of tag) (is_constructed octets) → ⊥) (λ e. HasNoForm (rule_of tag) (is_constructed octets))
+  pub by_form : MatchOption f.form (HasNoForm (rule_of tag) (is_constructed octets) → ⊥) (λ e. HasNoForm (rule_of tag) (is_constructed octets) × (e ≡ form_error (rule_of tag) (is_constructed octets)))
   pub by_length : IsLengthFault octets f.length
-  pub in_contents : MatchOption f.contents (HasWrongContents tag (is_constructed octets) contents → ⊥) (λ e. AllowsEncoding false tag (is_constructed octets) contents)
+  pub in_contents : MatchOption f.contents (HasWrongContents tag (is_constructed octets) contents → ⊥) (λ e. AllowsEncoding false tag (is_constructed octets) contents × IsContentsError (rule_of tag) tag (is_constructed octets) contents e)
 
--- Of what the octets begin with the identifier or length octets depart, and the error is that of the reader; or the form
--- isn't that of the tag, or BER doesn't read it.
+-- Of what the octets begin with the identifier or length octets depart, or the form isn't that of the tag, or BER doesn't
+-- read it; and the error is that of the reader.
 abbrev pub DepartsInHeader : List ℕ → DecodeError → Type 0
 DepartsInHeader octets e = (IsTagFault octets (Some e) ⊎ IsLengthFault octets (Some e))
-    ⊎ (((tag : Tag) × (contents : List ℕ) × HasContents tag octets contents × HasNoForm (rule_of tag) (is_constructed octets)) ⊎ (HasNoContents octets ⊎ IsUnread octets))
+    ⊎ (((tag : Tag) × (contents : List ℕ) × HasContents tag octets contents × HasNoForm (rule_of tag) (is_constructed octets) × (e ≡ form_error (rule_of tag) (is_constructed octets)))
+    ⊎ ((HasNoContents octets ⊎ IsUnread octets) × IsUnreadable octets e))
 
 -- Of the encoding that the octets begin with the contents aren't allowed for its tag, even if they are well-formed
--- encodings.
-abbrev pub DepartsInContents : List ℕ → Type 0
-DepartsInContents octets = (tag : Tag) × (contents : List ℕ) × HasContents tag octets contents × AllowsEncoding false tag (is_constructed octets) contents
+-- encodings; and the error is that of the reader.
+abbrev pub DepartsInContents : List ℕ → DecodeError → Type 0
+DepartsInContents octets e = (tag : Tag) × (contents : List ℕ) × HasContents tag octets contents × AllowsEncoding false tag (is_constructed octets) contents × IsContentsError (rule_of tag) tag (is_constructed octets) contents e
 
 abbrev pub Departs : Aspect → List ℕ → DecodeError → Type 0
 Departs Header octets e = DepartsInHeader octets e
-Departs Contents octets e = DepartsInContents octets
+Departs Contents octets e = DepartsInContents octets e
 Departs Place octets e = ⊥

@@ -4,6 +4,7 @@ ghost use Rattle.std.specs.List.Sorted.{IsNonDecreasingBy, IsPermutation};
 ghost use Rattle.rasn_lint.specs.declared.departure.Departure.{Departure};
 ghost use Rattle.rasn_lint.specs.Judged.{TypedUnless, OpenIf, AreOfPart, AreJudged};
 ghost use Rattle.rasn_lint.specs.Listed.{HasAllIf};
+ghost use Rattle.rasn_lint.specs.Refusals.{aspect_of};
 ghost use Rattle.rasn_lint.specs.Lint.{IsDerOrNot, IsRemainderOf, AreAll, offset_of, IsLint, IsNoLint, rest_after};
 ghost use Rattle.rasn_lint.specs.Trail.{trail_after};
 ghost use Rattle.rasn_dynamic.specs.Walk.{path_after};
@@ -85,6 +86,7 @@ pub fn der_refusal(
 pub fn departure_of(refusal: Refusal) -> Departure
     ensures refusal { result.refusal ≡ refusal }
     ensures inner { result.inner ≡ None }
+    ensures aspect { result.aspect ≡ aspect_of refusal.error.kind }
 {
     let aspect = aspect_of(&refusal.error.kind);
     Departure {
@@ -96,7 +98,7 @@ pub fn departure_of(refusal: Refusal) -> Departure
 
 /// Appends a refusal of the reader.
 fn push_refusal(list: &mut Vec<Departure>, refusal: Refusal) -> Result<(), AllocError>
-    ensures { OnOk result ((d : Departure) × (list.new.items ≡ list.old.items ++ d ∷ []) × (d.refusal ≡ refusal) × (d.inner ≡ None)) }
+    ensures { OnOk result ((d : Departure) × (list.new.items ≡ list.old.items ++ d ∷ []) × (d.refusal ≡ refusal) × (d.inner ≡ None) × (d.aspect ≡ aspect_of refusal.error.kind)) }
 {
     list.push(departure_of(refusal))?;
     Ok(())

@@ -1,8 +1,10 @@
 //! A departure from DER.
-ghost use Rattle.std.specs.Prelude.{◌≡◌, [], MatchOption};
+ghost use Rattle.std.specs.Prelude.{◌≡◌};
+ghost use Rattle.std.specs.Fmt.{WritesOnOk};
+ghost use Rattle.rasn_lint.specs.Refusals.{aspect_of, der_aspect_of};
+ghost use Rattle.rasn_lint.specs.Shown.{indices_of, aspect_text, der_section, section_of, rule_text};
 
-use crate::names::{write_indices, write_names};
-use rasn_dynamic::Refusal;
+use rasn_dynamic::{NamedRefusal, Refusal};
 use rasn_schema::{Schema, TypeId};
 use rasn_types::error::{
     BerDecodeErrorKind, CodecDecodeError, DecodeErrorKind, DerDecodeErrorKind,
@@ -59,7 +61,7 @@ impl Departure {
 impl Departure {
     /// Returns the index of each encoding on the way inside an open type.
     fn indices(&self) -> &[usize]
-        ensures { MatchOption self.now.inner (result.now ≡ []) (λ v. result.now ≡ v.items) }
+        ensures { result.now ≡ indices_of self.now.inner }
     {
         match &self.inner {
             Some(indices) => indices.as_slice(),
@@ -82,19 +84,18 @@ pub struct NamedPlace<'a> {
 /// The way to the part, as [`Refusal::with_names`] shows it, and on inside an open type: the index
 /// of each encoding there, in brackets. Then the offset and the error.
 impl fmt::Display for NamedPlace<'_> {
+    ghost use Rattle.rasn_lint.specs.Shown.{shown_place};
+
+    ghost output = { shown_place };
+
     fn fmt<W: fmt::Write>(&self, f: &mut fmt::Formatter<W>) -> fmt::Result {
-        let departure = self.departure;
-        let refusal = &departure.refusal;
-        if !refusal.is_cut {
-            let steps = refusal.steps.as_slice();
-            let has_names = write_names(f, self.schema.types(), self.id, steps)?;
-            let inner = departure.indices();
-            write_indices(f, inner)?;
-            if has_names || !inner.is_empty() {
-                f.write_str(", ")?;
-            }
-        }
-        write!(f, "{refusal}")
+        let place = NamedRefusal {
+            schema: self.schema,
+            id: self.id,
+            refusal: &self.departure.refusal,
+            inner: self.departure.indices(),
+        };
+        fmt::Display::fmt(&place, f)
     }
 }
 
@@ -107,6 +108,10 @@ pub struct NamedDeparture<'a> {
 
 /// The place with its names, what departs, and the section of X.690.
 impl fmt::Display for NamedDeparture<'_> {
+    ghost use Rattle.rasn_lint.specs.Shown.{shown_named_departure};
+
+    ghost output = { shown_named_departure };
+
     fn fmt<W: fmt::Write>(&self, f: &mut fmt::Formatter<W>) -> fmt::Result {
         write!(f, "{} ", self.place)?;
         write_rule(f, self.place.departure)
@@ -115,6 +120,10 @@ impl fmt::Display for NamedDeparture<'_> {
 
 /// The offset, the error, what departs, and the section of X.690.
 impl fmt::Display for Departure {
+    ghost use Rattle.rasn_lint.specs.Shown.{shown_departure};
+
+    ghost output = { shown_departure };
+
     fn fmt<W: fmt::Write>(&self, f: &mut fmt::Formatter<W>) -> fmt::Result {
         write!(f, "{} ", self.refusal)?;
         write_rule(f, self)
@@ -122,21 +131,29 @@ impl fmt::Display for Departure {
 }
 
 /// Writes what departs, and the section of X.690.
-fn write_rule<W: fmt::Write>(f: &mut fmt::Formatter<W>, departure: &Departure) -> fmt::Result {
-    let aspect = match departure.aspect {
+fn write_rule<W: fmt::Write>(f: &mut fmt::Formatter<W>, departure: &Departure) -> fmt::Result
+    ensures { WritesOnOk W.write_str_gives f.old result (rule_text departure.now) f.new }
+{
+    let aspect = aspect_text(departure.aspect);
+    let section = section_of(&departure.refusal.error.kind);
+    write!(f, "({aspect}, {section})")
+}
+
+/// Returns what departs as text.
+fn aspect_text(aspect: Aspect) -> &'static str
+    ensures { result.now ≡ aspect_text aspect }
+{
+    match aspect {
         Aspect::Header => "header",
         Aspect::Contents => "contents",
         Aspect::Place => "place",
-    };
-    write!(
-        f,
-        "({aspect}, {})",
-        section_of(&departure.refusal.error.kind)
-    )
+    }
 }
 
 /// Returns what of an encoding an error of the reader of DER is about.
-pub fn aspect_of(kind: &DecodeErrorKind) -> Aspect {
+pub fn aspect_of(kind: &DecodeErrorKind) -> Aspect
+    ensures { result ≡ aspect_of kind.now }
+{
     match kind {
         DecodeErrorKind::CodecSpecific { inner } => match inner {
             CodecDecodeError::Der(kind) => der_aspect_of(*kind),
@@ -148,7 +165,9 @@ pub fn aspect_of(kind: &DecodeErrorKind) -> Aspect {
 }
 
 /// Returns what of an encoding an error kind of DER is about.
-fn der_aspect_of(kind: DerDecodeErrorKind) -> Aspect {
+fn der_aspect_of(kind: DerDecodeErrorKind) -> Aspect
+    ensures { result ≡ der_aspect_of kind }
+{
     match kind {
         DerDecodeErrorKind::ConstructedEncodingNotAllowed
         | DerDecodeErrorKind::NonMinimalTagNumber
@@ -164,7 +183,9 @@ fn der_aspect_of(kind: DerDecodeErrorKind) -> Aspect {
 }
 
 /// Returns the section of X.690 that an error kind is about.
-fn section_of(kind: &DecodeErrorKind) -> &'static str {
+fn section_of(kind: &DecodeErrorKind) -> &'static str
+    ensures { result.now ≡ section_of kind.now }
+{
     match kind {
         DecodeErrorKind::InvalidBool { .. } => "11.1",
         DecodeErrorKind::TrailingZeroBits => "11.2.2",
@@ -182,7 +203,9 @@ fn section_of(kind: &DecodeErrorKind) -> &'static str {
 }
 
 /// Returns the section of X.690 that an error kind of DER is about.
-fn der_section_of(kind: DerDecodeErrorKind) -> &'static str {
+fn der_section_of(kind: DerDecodeErrorKind) -> &'static str
+    ensures { result.now ≡ der_section kind }
+{
     match kind {
         DerDecodeErrorKind::ConstructedEncodingNotAllowed => "10.2",
         DerDecodeErrorKind::NonMinimalTagNumber => "8.1.2.4",

@@ -10,7 +10,6 @@ mod header;
 mod judge;
 pub mod laws;
 mod leaf;
-mod names;
 mod open;
 mod place;
 mod trail;

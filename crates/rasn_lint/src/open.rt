@@ -5,7 +5,7 @@ ghost use Rattle.rasn_types.specs.Shapes.{looked_for};
 ghost use Rattle.rasn_types.specs.Truth.{IsWhether};
 ghost use Rattle.rasn_schema.specs.declared.types.«Type».TheVariants.{Any};
 ghost use Rattle.rasn_lint.specs.Judged.{AreOfUnknown, AreOpenDepartures};
-ghost use Rattle.rasn_lint.specs.Listed.{HasAll, HasAllInside, IsOnlyRest, IsLookedInto, IsLooked};
+ghost use Rattle.rasn_lint.specs.Listed.{HasAll, HasAllInside, HasAllOfEach, IsOnlyRest, IsSplit, IsLookedInto, IsLooked};
 ghost use Rattle.rasn_lint.specs.Open.{IsEndLen, IsEndOf, IsAfterHeader, IsFoundIn, IsExtra, IsAfter, AllPending, IsReached, IsKept, IsInside, GrowsInside, GrowsUnknown};
 ghost use Rattle.rasn_lint.specs.Untyped.{HasOpen, HasContents, HasNoContents, IsFollowedBy, IsUnread};
 ghost use Rattle.rasn_lint.specs.WellFormed.{IsWellFormed};
@@ -13,6 +13,7 @@ ghost use Rattle.rasn_lint.specs.declared.departure.Departure.{Departure};
 ghost use Rattle.rasn_lint.specs.declared.open.Wanted.TheVariants.{All, First};
 
 use crate::departure::{Aspect, Departure};
+use crate::der::encoding::octets_before;
 use crate::der::{are_encodings, is_well_formed};
 use crate::header::is_constructed;
 use crate::judge::{Way, note, note_faults, site_at};
@@ -339,11 +340,10 @@ fn note_any(
 
 /// Returns the octets of the first of these encodings, as BER skips it, and the others.
 fn split_first(alloc: Global, octets: &[u8]) -> Option<(&[u8], &[u8])>
-    ensures { IfSome result (λ s. octets.now ≡ s.0.now ++ s.1.now) }
+    ensures { MatchOption result (IsUnread octets.now) (λ s. IsSplit octets.now s.0.now s.1.now) }
 {
-    let after = after_first(alloc, octets)?;
-    let len = octets.len().saturating_sub(after.len());
-    Some((&octets[..len], &octets[len..]))
+    let others = after_first(alloc, octets)?;
+    Some((octets_before(octets, others), others))
 }
 
 /// Appends what departs inside each of the unknown values, or the first of it.
@@ -353,7 +353,8 @@ fn note_each(
     wanted: Wanted,
     way: Way<'_, '_>,
 ) -> Result<(), AllocError>
-    ensures { OnOk result (GrowsUnknown way.entry.len way.entry.part.now way.entry.path.now list.old.items list.new.items) }
+    ensures grows { OnOk result (GrowsUnknown way.entry.len way.entry.part.now way.entry.path.now list.old.items list.new.items) }
+    ensures complete { OnOk result (wanted ≡ All → (ds : List Departure) → list.new.items ≡ list.old.items ++ ds → HasAllOfEach way.entry.part.now.octets.now ds) }
 {
     let octets = way.part.octets;
     let before = list.len();
@@ -385,7 +386,8 @@ fn note_unknown(
     wanted: Wanted,
     way: Way<'_, '_>,
 ) -> Result<(), AllocError>
-    ensures { OnOk result ((ds : List Departure) × (list.new.items ≡ list.old.items ++ ds) × AreOfUnknown way.entry.len way.entry.path.now way.entry.part.now ds) }
+    ensures listed { OnOk result ((ds : List Departure) × (list.new.items ≡ list.old.items ++ ds) × AreOfUnknown way.entry.len way.entry.path.now way.entry.part.now ds) }
+    ensures complete { OnOk result (wanted ≡ All → (ds : List Departure) → list.new.items ≡ list.old.items ++ ds → HasAllOfEach way.entry.part.now.octets.now ds) }
 {
     let octets = way.part.octets;
     if are_encodings(alloc, octets)? {

@@ -3,17 +3,21 @@ ghost use Rattle.std.specs.Prelude.{◌≡◌, ◌≢◌, [], true, false, IfOk,
 ghost use Rattle.rasn.specs.Headline.{IsExtraData};
 ghost use Rattle.rasn_types.specs.declared.types.codec.Codec.TheVariants.{Der};
 ghost use Rattle.rasn_lint.specs.Contents.{AllowsContents};
+ghost use Rattle.rasn_types.specs.declared.error.decode.DerDecodeErrorKind.TheVariants.{SetOfOutOfOrder};
+ghost use Rattle.rasn_lint.specs.Place.{der_error};
+ghost use Rattle.rasn_lint.specs.Refusals.{IsFaultOf, IsUnreadable, constructed_kind, no_primitive, form_error, last_of, is_low, arcs_error, IsReadError, IsContentsError};
+ghost use Rattle.rasn_lint.specs.Universal.{rule_of};
 ghost use Rattle.rasn_lint.specs.Untyped.{HasNoForm, HasWrongContents, IsUnordered, AreUntypedFaults};
 ghost use Rattle.rasn_lint.specs.WellFormed.{AllowsEncoding, AreEncodings};
 
 use crate::der::contents::allows_contents;
+use crate::der::encoding::decoder_of;
 use crate::der::order::is_in_order;
 use crate::der::universal::{ContentsRule, rule_of};
 use crate::header::{is_constructed, length_fault, tag_fault};
 use crate::judge::Faults;
 use crate::leaf::write_octets;
 use crate::place::der_error;
-use rasn_de::ber::de::{Decoder, DecoderOptions};
 use rasn_types::error::{
     BerDecodeErrorKind, CodecDecodeError, DecodeError, DecodeErrorKind, DerDecodeErrorKind, Needed,
 };
@@ -21,9 +25,10 @@ use rasn_types::types::{Codec, Constraints, Tag};
 use std::alloc::{AllocError, Global};
 
 /// Returns the error of an encoding that BER doesn't read.
-pub fn unreadable(alloc: Global, octets: &[u8]) -> DecodeError {
-    let mut decoder = Decoder::new(alloc, octets, DecoderOptions::der());
-    match decoder.skip_value() {
+pub fn unreadable(alloc: Global, octets: &[u8]) -> DecodeError
+    ensures { IsUnreadable octets.now result }
+{
+    match decoder_of(alloc, octets).skip_value() {
         Ok(_) => der_error(DerDecodeErrorKind::ConstructedBitMismatch),
         Err(error) => error,
     }
@@ -43,7 +48,7 @@ pub fn extra(octets: &[u8]) -> DecodeError
 
 /// Returns the error of a value that isn't constructed although it has to be.
 fn primitive_fault(bit: bool) -> Option<DecodeError>
-    ensures { MatchOption result (bit ≡ true) (λ e. bit ≡ false) }
+    ensures { MatchOption result (bit ≡ true) (λ e. (bit ≡ false) × (e ≡ no_primitive)) }
 {
     if bit {
         return None;
@@ -57,7 +62,9 @@ fn primitive_fault(bit: bool) -> Option<DecodeError>
 }
 
 /// Returns the error kind of a constructed encoding whose universal type is primitive.
-fn constructed_kind(rule: ContentsRule) -> DerDecodeErrorKind {
+fn constructed_kind(rule: ContentsRule) -> DerDecodeErrorKind
+    ensures { result ≡ constructed_kind rule }
+{
     match rule {
         ContentsRule::Boolean
         | ContentsRule::Integer
@@ -71,7 +78,7 @@ fn constructed_kind(rule: ContentsRule) -> DerDecodeErrorKind {
 /// isn't.
 #[tactic(auto, using(crate::proofs::ByRule::any_form, crate::proofs::ByRule::values_constructed, crate::proofs::ByRule::set_constructed, crate::proofs::ByRule::never_constructed, crate::proofs::ByRule::may_be_primitive))]
 fn form_fault(rule: ContentsRule, bit: bool) -> Option<DecodeError>
-    ensures { MatchOption result (HasNoForm rule bit → ⊥) (λ e. HasNoForm rule bit) }
+    ensures { MatchOption result (HasNoForm rule bit → ⊥) (λ e. HasNoForm rule bit × (e ≡ form_error rule bit)) }
 {
     match rule {
         ContentsRule::Unknown => None,
@@ -85,52 +92,90 @@ fn form_fault(rule: ContentsRule, bit: bool) -> Option<DecodeError>
     }
 }
 
-/// Returns the error of subidentifiers.
-fn arcs_error(contents: &[u8]) -> DecodeError {
-    match contents {
-        [.., 0..=0x7F] => der_error(DerDecodeErrorKind::NonMinimalArc),
-        _ => DecodeError {
+/// Returns the last of the octets.
+fn last_of(octets: &[u8]) -> Option<u8>
+    ensures { result ≡ last_of octets.now }
+{
+    octets.get(octets.len().saturating_sub(1)).copied()
+}
+
+/// Returns whether the octet is one that ends a subidentifier (X.690 8.19.2).
+fn is_low(octet: Option<u8>) -> bool
+    ensures { result ≡ is_low octet }
+{
+    match octet {
+        Some(octet) => octet < 0x80,
+        None => false,
+    }
+}
+
+/// Returns the error of octets that aren't subidentifiers.
+fn arcs_error(contents: &[u8]) -> DecodeError
+    ensures { result ≡ arcs_error contents.now }
+{
+    if is_low(last_of(contents)) {
+        der_error(DerDecodeErrorKind::NonMinimalArc)
+    } else {
+        DecodeError {
             kind: DecodeErrorKind::Incomplete {
                 needed: Needed::Size(1),
             },
             codec: Codec::Der,
+        }
+    }
+}
+
+/// Returns the error of a call.
+fn fault_of<T: Drop>(answer: Result<T, DecodeError>) -> Result<Option<DecodeError>, AllocError>
+    ensures { IfOk result (IsFaultOf answer) }
+{
+    match answer {
+        Ok(_) => Ok(None),
+        Err(error) => if error.is_out_of_memory() {
+            Err(AllocError)
+        } else {
+            Ok(Some(error))
         },
     }
 }
 
-/// Returns the error that the reader of DER has for the contents octets of a universal type.
-fn read_error(
+/// Returns the error that the reader of DER has for contents octets of a universal type that may be
+/// primitive.
+fn read_fault(
     alloc: Global,
     rule: ContentsRule,
     tag: Tag,
     contents: &[u8],
-) -> Result<Option<DecodeError>, AllocError> {
+) -> Result<Option<DecodeError>, AllocError>
+    requires { HasNoForm rule false → ⊥ }
+    ensures { IfOk result (λ f. MatchOption f (AllowsContents rule contents.now) (IsReadError rule tag contents.now)) }
+{
     let Ok(octets) = write_octets(alloc, tag, contents) else {
         return Err(AllocError);
     };
     let none = &Constraints::NONE;
-    let mut decoder = Decoder::new(alloc, &octets, DecoderOptions::der());
-    Ok(match rule {
-        ContentsRule::Boolean => decoder.decode_bool(tag).err(),
-        ContentsRule::Integer => decoder.check_integer(tag, none).err(),
-        ContentsRule::BitString => decoder.decode_bits(tag, none).err(),
-        ContentsRule::Null => decoder.decode_null(tag).err(),
-        ContentsRule::Subidentifiers => Some(arcs_error(contents)),
-        ContentsRule::Utf8 => decoder.decode_utf8_text(tag, none).err(),
+    let mut decoder = decoder_of(alloc, &octets);
+    match rule {
+        ContentsRule::Boolean => fault_of(decoder.decode_bool(tag)),
+        ContentsRule::Integer => fault_of(decoder.check_integer(tag, none)),
+        ContentsRule::BitString => fault_of(decoder.decode_bits(tag, none)),
+        ContentsRule::Null => fault_of(decoder.decode_null(tag)),
+        ContentsRule::Subidentifiers => Ok(Some(arcs_error(contents))),
+        ContentsRule::Utf8 => fault_of(decoder.decode_utf8_text(tag, none)),
         ContentsRule::Characters(alphabet) => {
-            decoder.decode_restricted_string(alphabet, tag, none).err()
+            fault_of(decoder.decode_restricted_string(alphabet, tag, none))
         }
-        ContentsRule::Units => decoder.decode_bmp_string(tag, none).err(),
-        ContentsRule::UtcTime => decoder.decode_utc_time(tag).err(),
-        ContentsRule::GeneralizedTime => decoder.decode_generalized_time(tag).err(),
-        ContentsRule::Date => decoder.decode_date(tag).err(),
-        _ => None,
-    })
+        ContentsRule::Units => fault_of(decoder.decode_bmp_string(tag, none)),
+        ContentsRule::UtcTime => fault_of(decoder.decode_utc_time(tag)),
+        ContentsRule::GeneralizedTime => fault_of(decoder.decode_generalized_time(tag)),
+        ContentsRule::Date => fault_of(decoder.decode_date(tag)),
+        _ => Ok(None),
+    }
 }
 
 /// Returns the error of encodings in a SET that aren't in order.
 fn order_fault(alloc: Global, rule: ContentsRule, contents: &[u8]) -> Option<DecodeError>
-    ensures { MatchOption result (AreEncodings contents.now → IsUnordered rule contents.now → ⊥) (λ e. IsUnordered rule contents.now) }
+    ensures { MatchOption result (AreEncodings contents.now → IsUnordered rule contents.now → ⊥) (λ e. IsUnordered rule contents.now × (e ≡ der_error SetOfOutOfOrder)) }
 {
     match rule {
         ContentsRule::Set => if is_in_order(alloc, contents) {
@@ -152,19 +197,11 @@ fn primitive_contents_fault(
     contents: &[u8],
 ) -> Result<Option<DecodeError>, AllocError>
     requires { AllowsContents rule contents.now → ⊥ }
-    ensures { IfOk result (λ f. MatchOption f (HasNoForm rule false) (λ e. Unit {0})) }
+    ensures { IfOk result (λ f. MatchOption f (HasNoForm rule false) (IsReadError rule tag contents.now)) }
 {
     match rule {
-        ContentsRule::Values | ContentsRule::Set => return Ok(None),
-        _ => {}
-    }
-    match read_error(alloc, rule, tag, contents)? {
-        Some(error) => Ok(Some(error)),
-        // The reader refuses whatever isn't allowed.
-        None => Ok(Some(DecodeError {
-            kind: DecodeErrorKind::StringConversionFailed { tag },
-            codec: Codec::Der,
-        })),
+        ContentsRule::Values | ContentsRule::Set => Ok(None),
+        _ => read_fault(alloc, rule, tag, contents),
     }
 }
 
@@ -176,7 +213,7 @@ fn contents_fault(
     bit: bool,
     contents: &[u8],
 ) -> Result<Option<DecodeError>, AllocError>
-    ensures { IfOk result (λ f. MatchOption f (HasWrongContents tag bit contents.now → ⊥) (λ e. AllowsEncoding false tag bit contents.now)) }
+    ensures { IfOk result (λ f. MatchOption f (HasWrongContents tag bit contents.now → ⊥) (λ e. AllowsEncoding false tag bit contents.now × IsContentsError (rule_of tag) tag bit contents.now e)) }
 {
     let rule = rule_of(tag);
     if bit {

@@ -10,7 +10,7 @@ returns-then-is_extra-clause-grows c = if_so c.note.result
     (λ g inside r.
     let x = extra_follows c.args.way.part.now inside c.args.path.now c.args.next _ r c.if-is_extra.ensures in
     grows_one c.args.way.len c.args.next.left c.args.way.part.now c.args.way.path.now c.args.next.octets.now c.args.path c.site_at-site.result c.site_at-site.ensures r.pending.found inside
-    Contents c.extra-error.result _ _ (inr (x.0, refl, x.1)) g)
+    Contents c.extra-error.result _ _ (inr (x.0, refl, inl (x.1, x.2, c.extra-error.ensures x.1))) g)
     c.note.ensures
 
 pub returns-then-is_extra-clause-all : goal.returns-then-is_extra-clause-all
@@ -19,7 +19,7 @@ returns-then-is_extra-clause-all c = if_so c.note.result (λ g inside r. r.all) 
 pub returns-in_default-clause-grows : goal.returns-in_default-clause-grows
 returns-in_default-clause-grows c = if_so c.note-in_default.result
     (λ g inside r. grows_one c.args.way.len c.args.next.left c.args.way.part.now c.args.way.path.now c.args.next.octets.now c.args.path c.site_at-site.result c.site_at-site.ensures r.pending.found inside
-    Header c.unreadable-error.result _ _ (inl (leads_there c.args.way.part.now inside c.args.path.now c.args.next _ r c.if-is_extra.ensures, inr (inr (inr c.in_default.ensures.exact)))) g)
+    Header c.unreadable-error.result _ _ (inl (leads_there c.args.way.part.now inside c.args.path.now c.args.next _ r c.if-is_extra.ensures, inr (inr (inr c.in_default.ensures.exact, c.unreadable-error.ensures)))) g)
     c.note-in_default.ensures
 
 pub returns-in_default-clause-all : goal.returns-in_default-clause-all

@@ -8,7 +8,7 @@ use Rattle.rasn_lint.proofs.open.look_into.Goals as goal
 pub returns-in_default-clause-grows : goal.returns-in_default-clause-grows
 returns-in_default-clause-grows c = if_so c.note.result
     (λ g inside r. grows_one c.args.way.len c.args.next.left c.args.way.part.now c.args.way.path.now c.args.next.octets.now c.args.path c.site_at-site.result c.site_at-site.ensures r.pending.found inside
-    Header c.unreadable-error.result _ _ (inl (leads_there c.args.way.part.now inside c.args.path.now c.args.next _ r c.requires, inr (inr (inl c.in_default.ensures)))) g)
+    Header c.unreadable-error.result _ _ (inl (leads_there c.args.way.part.now inside c.args.path.now c.args.next _ r c.requires, inr (inr (inl c.in_default.ensures, c.unreadable-error.ensures)))) g)
     c.note.ensures
 
 pub returns-in_default-clause-all : goal.returns-in_default-clause-all
