@@ -47,7 +47,7 @@ no_octets : (rest : List ℕ) → IsFollowedBy [] rest → ⊥
 no_octets rest h = let n = followed_shorter [] rest h in omega (arith, n)
 
 -- What BER skips is the encoding in front.
-skipped_whole : (x more rest : List ℕ) → CompleteEncoding Ber x → IsFollowedBy (x ++ more) rest → rest ≡ more
+pub skipped_whole : (x more rest : List ℕ) → CompleteEncoding Ber x → IsFollowedBy (x ++ more) rest → rest ≡ more
 skipped_whole x more rest w (steps, s) = sym (whole_one more rest w s.whole s.is).0
 
 -- Each value of well-formed encodings is one of them.

@@ -2,24 +2,28 @@
 use Rattle.std.specs.Prelude.{◌≡◌, ◌-◌, ◌^◌, ℕ, List, [], ◌∷◌, true, false, Some, None, Vec}
 use Rattle.std.specs.Global.{Global}
 use Rattle.rasn_types.specs.declared.types.constraints.Constraints.{Constraints}
-use Rattle.rasn_types.specs.declared.error.decode.DerDecodeErrorKind.TheVariants.{ConstructedBitMismatch, ConstructedEncodingNotAllowed, SetOfOutOfOrder}
+use Rattle.rasn_types.specs.declared.error.decode.DerDecodeErrorKind.TheVariants.{ConstructedBitMismatch, ConstructedEncodingNotAllowed, NonMinimalArc, SetOfOutOfOrder}
 use Rattle.rasn_types.specs.Tags.{in_universal}
 use Rattle.rasn_schema.specs.declared.types.NamedNumber.{NamedNumber}
 use Rattle.rasn_schema.specs.declared.types.LeafKind.TheVariants.{Integer, OctetString}
-use Rattle.rasn_schema.specs.declared.types.«Type».TheVariants.{Leaf}
+use Rattle.rasn_schema.specs.declared.types.«Type».TheVariants.{Leaf, Unknown}
 use Rattle.rasn_dynamic.specs.declared.span.Span.{Span}
 use Rattle.rasn_lint.specs.declared.departure.Departure.{Departure}
-use Rattle.rasn_lint.specs.declared.departure.Aspect.TheVariants.{Header}
+use Rattle.rasn_lint.specs.declared.departure.Aspect.TheVariants.{Header, Contents, Place}
+use Rattle.rasn_lint.specs.declared.by_schema.OpenTypes.TheVariants.{Examined}
+use Rattle.rasn_lint.specs.declared.der.universal.ContentsRule.TheVariants.{Integer as Number, Octets}
 use Rattle.rasn_lint.specs.declared.judge.Site.{Site}
 use Rattle.rasn_lint.specs.declared.place.Order.TheVariants.{Unordered, ByOctets}
 use Rattle.rasn_lint.specs.declared.trail.Step.{Step}
 use Rattle.rasn_lint.specs.Header.{after_identifier, is_constructed, IsFormFault}
 use Rattle.rasn_lint.specs.Judged.{AreNoted}
-use Rattle.rasn_lint.specs.Listed.{HasOne, HasAll}
+use Rattle.rasn_lint.specs.Lint.{AreFormed, IsLint}
+use Rattle.rasn_lint.specs.Listed.{HasOne, HasAll, HasAllOfEach}
 use Rattle.rasn_lint.specs.Open.{IsFoundIn}
 use Rattle.rasn_lint.specs.Place.{der_error, IsOrderFault}
 use Rattle.rasn_lint.specs.Trail.{trail_after, step_of}
-use Rattle.rasn_lint.specs.Untyped.{LeadsInto}
+use Rattle.rasn_lint.specs.Refusals.{aspect_of, form_error, arcs_error}
+use Rattle.rasn_lint.specs.Untyped.{IsValueIn, LeadsInto}
 
 -- The octets of the INTEGER 1 and of the INTEGER 2.
 abbrev pub one : List ℕ
@@ -49,6 +53,20 @@ pub record WorkedDepartures : Type 0 where
   pub not_the_second_one : LeadsInto (1 ∷ []) (48 ∷ 3 ∷ 1 ∷ 1 ∷ 1 ∷ []) (1 ∷ 1 ∷ 1 ∷ []) → ⊥
   pub nothing_in_no_octets : HasAll [] []
   pub left_out : HasAll (48 ∷ 3 ∷ 1 ∷ 1 ∷ 1 ∷ []) [] → ⊥
+  pub second_of_two_values : IsValueIn (1 ∷ 1 ∷ 255 ∷ 1 ∷ 1 ∷ 1 ∷ []) (1 ∷ 1 ∷ 1 ∷ [])
+  pub not_a_front_of_a_value : IsValueIn (1 ∷ 1 ∷ 255 ∷ []) (1 ∷ 1 ∷ []) → ⊥
+  pub no_values_in_no_octets : HasAllOfEach [] []
+  pub value_left_out : HasAllOfEach (1 ∷ 1 ∷ 1 ∷ []) [] → ⊥
+  pub formed_values : (e : Span) → e.octets.now ≡ 1 ∷ 1 ∷ 255 ∷ [] → AreFormed Examined (Unknown ∷ []) (e ∷ [])
+  pub ill_formed_values : (e : Span) → e.id.0 ≡ 0 → e.octets.now ≡ 1 ∷ 1 ∷ 1 ∷ [] → AreFormed Examined (Unknown ∷ []) (e ∷ []) → ⊥
+  pub ill_formed_values_are_listed : IsLint Examined (Unknown ∷ []) 0 (1 ∷ 1 ∷ 1 ∷ []) [] → ⊥
+  pub of_the_header : aspect_of (der_error ConstructedBitMismatch).kind ≡ Header
+  pub of_the_place : aspect_of (der_error SetOfOutOfOrder).kind ≡ Place
+  pub not_of_the_contents : aspect_of (der_error SetOfOutOfOrder).kind ≡ Contents → ⊥
+  pub bit_of_a_number : form_error Number true ≡ der_error ConstructedBitMismatch
+  pub segments_of_octets : form_error Octets true ≡ der_error ConstructedEncodingNotAllowed
+  pub padded_arc : arcs_error (42 ∷ 128 ∷ 3 ∷ []) ≡ der_error NonMinimalArc
+  pub cut_arc_is_not_padded : arcs_error (42 ∷ 131 ∷ []) ≡ der_error NonMinimalArc → ⊥
   pub at_its_indices : (d : Departure) (v : Vec ℕ Global) → d.inner ≡ Some v → v.items ≡ 0 ∷ [] → HasOne (0 ∷ []) d.aspect (d ∷ [])
   pub not_at_others : (d : Departure) (v : Vec ℕ Global) → d.inner ≡ Some v → v.items ≡ 0 ∷ [] → HasOne (1 ∷ []) d.aspect (d ∷ []) → ⊥
   pub trail_of_the_next_part : (whole first second : Span) → whole.levels ≡ 2 ^ 64 - 1 → first.levels ≡ 2 ^ 64 - 2 → second.levels ≡ 2 ^ 64 - 2
