@@ -1,5 +1,5 @@
 -- Defaults as nodes: a value that holds others is followed by them.
-use Rattle.std.specs.Prelude.{ℕ, suc, max, pos, List, [], ◌∷◌, ◌++◌, length, chars}
+use Rattle.std.specs.Prelude.{ℕ, ◌-◌, ◌<◌, pos, List, [], ◌∷◌, ◌++◌, length, chars}
 use Rattle.std.specs.Cow.{cow_slice_items, cow_str_bytes}
 use Rattle.rasn_types.specs.Shapes.{Tree, number, bits, numbers, instant, on_day, chosen}
 use Rattle.rasn_types.specs.CharacterString.{units_of}
@@ -20,8 +20,8 @@ abbrev mutual
   nodes_of (Arcs a) = chosen 7 (numbers a) ∷ []
   nodes_of (Instant t) = chosen 8 (instant t.moment) ∷ []
   nodes_of (Day d) = chosen 9 (on_day d) ∷ []
-  nodes_of (Items' n row) = chosen 10 (number (pos (length (items-the_row-Value _ row)))) ∷ nodes_in row
-  nodes_of (Elements' n row) = chosen 11 (number (pos (length (items-the_row-Value _ row)))) ∷ nodes_in row
+  nodes_of (Items' _ row) = chosen 10 (number (pos (length (items-the_row-Value _ row)))) ∷ nodes_in row
+  nodes_of (Elements' _ row) = chosen 11 (number (pos (length (items-the_row-Value _ row)))) ∷ nodes_in row
   nodes_of (Chosen' k _ v) = chosen 12 (number (pos k)) ∷ nodes_of v
   nodes_of Absent = chosen 13 (number (pos 0)) ∷ []
 
@@ -30,13 +30,25 @@ abbrev mutual
   nodes_in (more_of-Value v rest) = nodes_of v ++ nodes_in rest
 
 abbrev mutual
-  -- How many values a value is nested in, of those that it is made of.
-  pub depth_of : Value → ℕ
-  depth_of (Items' n row) = suc (depth_in row)
-  depth_of (Elements' n row) = suc (depth_in row)
-  depth_of (Chosen' k _ v) = suc (depth_of v)
-  depth_of _ = 0
+  -- No value of those that the value is made of is nested in more than n others.
+  pub IsWithinDepth : Value → ℕ → Type 0
+  IsWithinDepth (Items' _ row) n = (0 < n) × AreWithinDepth row (n - 1)
+  IsWithinDepth (Elements' _ row) n = (0 < n) × AreWithinDepth row (n - 1)
+  IsWithinDepth (Chosen' k _ v) n = (0 < n) × IsWithinDepth v (n - 1)
+  IsWithinDepth _ n = Unit {0}
 
-  pub depth_in : {n : _} → Row_of-Value n → ℕ
-  depth_in end_of-Value = 0
-  depth_in (more_of-Value v rest) = max (depth_of v) (depth_in rest)
+  pub AreWithinDepth : {m : _} → Row_of-Value m → ℕ → Type 0
+  AreWithinDepth end_of-Value n = Unit {0}
+  AreWithinDepth (more_of-Value v rest) n = IsWithinDepth v n × AreWithinDepth rest n
+
+-- The nodes of values, one after the other.
+abbrev pub all_nodes : List Value → List Tree
+all_nodes [] = []
+all_nodes (v ∷ vs) = nodes_of v ++ all_nodes vs
+
+-- Those of the values that a value holds.
+abbrev pub nodes_held : Value → List Tree
+nodes_held (Items' _ row) = nodes_in row
+nodes_held (Elements' _ row) = nodes_in row
+nodes_held (Chosen' k _ v) = nodes_of v
+nodes_held _ = []

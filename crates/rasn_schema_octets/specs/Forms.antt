@@ -1,5 +1,5 @@
 -- What the types that are read and written are as values of the type of `Shapes`.
-use Rattle.std.specs.Prelude.{ℤ, pos, List, [], ◌∷◌, chars, Vec, map}
+use Rattle.std.specs.Prelude.{ℤ, pos, [], ◌∷◌, Option, Vec}
 use Rattle.std.specs.Global.{Global}
 use Rattle.std.specs.String.{string_bytes}
 use Rattle.rasn_types.specs.Shapes.{Tree, number, numbers, bits, instant, on_day, items, chosen}
@@ -115,6 +115,8 @@ type_form_tree (SequenceOf f) = chosen 7 (elements_form_tree f)
 type_form_tree (SetOf f) = chosen 8 (elements_form_tree f)
 type_form_tree (Unknown n) = chosen 9 (number (pos 0))
 
+abbrev pub names_form_tree : Option (Vec NameForm Global) → Tree
+names_form_tree names = option_tree (λ (ns : Vec NameForm Global). list_tree name_form_tree ns.items) names
+
 abbrev pub schema_form_tree : SchemaForm → Tree
-schema_form_tree f = items (index_tree f.version ∷ index_tree f.root ∷ index_tree f.unchecked ∷ option_tree (λ (ns : Vec NameForm Global). list_tree name_form_tree ns.items) f.names
-    ∷ list_tree type_form_tree f.types.items ∷ [])
+schema_form_tree f = items (index_tree f.version ∷ index_tree f.root ∷ index_tree f.unchecked ∷ names_form_tree f.names ∷ list_tree type_form_tree f.types.items ∷ [])

@@ -1,5 +1,5 @@
 -- The kinds of values that hold no others, by number.
-use Rattle.std.specs.Prelude.{ℕ, ℤ, pos}
+use Rattle.std.specs.Prelude.{ℕ, pos}
 use Rattle.rasn_types.specs.Shapes.{Tree, number, chosen}
 use Rattle.rasn_schema.specs.declared.types.LeafKind.{LeafKind}
 use Rattle.rasn_schema.specs.declared.types.LeafKind.TheVariants.{Boolean, Null, ObjectIdentifier, BitString, NamedBits, OctetString, FixedOctetString, Integer, Signed32, Signed64, Unsigned32, Unsigned64, Numeric, Printable, Visible, Ia5, AnyOctets, Bmp, Utf8, UtcTime, GeneralizedTime, Date}

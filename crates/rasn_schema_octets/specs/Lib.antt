@@ -5,3 +5,7 @@ pub mod Trees
 pub mod Shallow
 pub mod Forms
 pub mod Stops
+pub mod Nodes
+pub mod Mirrors
+pub mod Octets
+pub mod Stopped

@@ -1,11 +1,11 @@
 -- How deep the values of defaults may be nested.
-use Rattle.std.specs.Prelude.{◌≤◌, List, [], ◌∷◌}
+use Rattle.std.specs.Prelude.{List, [], ◌∷◌}
 use Rattle.rasn_schema.specs.declared.types.Presence.{Presence}
 use Rattle.rasn_schema.specs.declared.types.Presence.TheVariants.{Required, Optional, Addition, Default}
 use Rattle.rasn_schema.specs.declared.types.Component.{Component}
 use Rattle.rasn_schema.specs.declared.types.«Type».{«Type»}
 use Rattle.rasn_schema.specs.Schemas.{components_in}
-use Rattle.rasn_schema_octets.specs.Defaults.{depth_of}
+use Rattle.rasn_schema_octets.specs.Defaults.{IsWithinDepth}
 
 -- Each element is such.
 abbrev pub Every : {T : Type 0} → (T → Type 0) → List T → Type 0
@@ -17,7 +17,7 @@ abbrev pub IsShallowPresence : Presence → Type 0
 IsShallowPresence Required = Unit {0}
 IsShallowPresence Optional = Unit {0}
 IsShallowPresence Addition = Unit {0}
-IsShallowPresence (Default v) = depth_of v ≤ 32
+IsShallowPresence (Default v) = IsWithinDepth v 32
 
 abbrev pub IsShallowComponent : Component → Type 0
 IsShallowComponent c = IsShallowPresence c.presence

@@ -1,6 +1,5 @@
 -- Why parts of a schema aren't read or written.
-use Rattle.std.specs.Prelude.{◌≡◌, ℕ}
-use Rattle.rasn_schema.specs.declared.type_id.TypeId.{TypeId}
+use Rattle.std.specs.Prelude.{◌≡◌}
 use Rattle.rasn_schema_octets.specs.declared.fault.Stop.{Stop}
 use Rattle.rasn_schema_octets.specs.declared.fault.Stop.TheVariants.{OutOfMemory, Default}
 use Rattle.rasn_schema_octets.specs.declared.fault.ReadFault.{ReadFault}

@@ -1,5 +1,5 @@
 -- What each part of a schema is as a value of the type of `Shapes`.
-use Rattle.std.specs.Prelude.{ℕ, ◌≤◌, pos, List, [], ◌∷◌, chars, Option, Some, None, Vec}
+use Rattle.std.specs.Prelude.{ℕ, pos, List, [], ◌∷◌, chars, Option, Vec}
 use Rattle.std.specs.Global.{Global}
 use Rattle.std.specs.String.{string_bytes}
 use Rattle.rasn_types.specs.declared.types.tag.Tag.{Tag}
@@ -12,6 +12,7 @@ use Rattle.rasn_types.specs.declared.types.constraints.Bound.{Bound}
 use Rattle.rasn_types.specs.declared.types.constraints.Constraints.{Constraints}
 use Rattle.rasn_types.specs.Trees.{bool_tree, option_tree, list_tree}
 use Rattle.rasn_schema.specs.declared.type_id.TypeId.{TypeId}
+use Rattle.rasn_schema.specs.declared.types.LeafKind.{LeafKind}
 use Rattle.rasn_schema.specs.declared.types.NamedNumber.{NamedNumber}
 use Rattle.rasn_schema.specs.declared.types.Alternative.{Alternative}
 use Rattle.rasn_schema.specs.declared.types.Component.{Component}
@@ -71,8 +72,11 @@ component_tree c = items (text_tree (string_bytes c.name) ∷ index_tree c.type_
 abbrev pub elements_tree : Tag → TypeId → Constraints → Tree
 elements_tree tag element c = items (tag_tree tag ∷ index_tree element.0 ∷ constraints_tree c ∷ [])
 
+abbrev pub leaf_tree : LeafKind → Tag → Constraints → List NamedNumber → Tree
+leaf_tree kind tag c names = items (kind_tree kind ∷ tag_tree tag ∷ constraints_tree c ∷ list_tree number_tree names ∷ [])
+
 abbrev pub type_tree : «Type» → Tree
-type_tree (Leaf kind tag c names) = chosen 0 (items (kind_tree kind ∷ tag_tree tag ∷ constraints_tree c ∷ list_tree number_tree names.items ∷ []))
+type_tree (Leaf kind tag c names) = chosen 0 (leaf_tree kind tag c names.items)
 type_tree (Enumerated tag ns) = chosen 1 (items (tag_tree tag ∷ list_tree number_tree ns.items ∷ []))
 type_tree (Any tag) = chosen 2 (tag_tree tag)
 type_tree (Tagged tag inner) = chosen 3 (items (tag_tree tag ∷ index_tree inner.0 ∷ []))

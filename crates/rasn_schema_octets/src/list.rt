@@ -1,6 +1,6 @@
 //! Lists of parts of a schema.
-ghost use Rattle.std.specs.Prelude.{◌≡◌, ◌⊎◌, List, map, IfOk, IfErr};
-ghost use Rattle.rasn_schema_octets.specs.Stops.{IsMemory};
+ghost use Rattle.std.specs.Prelude.{map};
+ghost use Rattle.rasn_schema_octets.specs.Mirrors.{MakesAll, FormsAll};
 ghost use Rattle.rasn_schema_octets.specs.Shallow.{Every};
 
 use crate::fault::Stop;
@@ -16,9 +16,7 @@ pub(crate) fn parts_of<F: AsnType, T: Mirrored<F>>(
     alloc: Global,
     forms: Vec<F>,
 ) -> Result<Vec<T>, Stop>
-    ensures ok { IfOk result (λ parts. map T.says parts.items ≡ map F.tree forms.items) }
-    ensures shallow { IfOk result (λ parts. Every T.is_shallow parts.items) }
-    ensures refused { IfErr result (λ e. IsMemory e ⊎ ((xs : List T) → Every T.is_shallow xs → map T.says xs ≡ map F.tree forms.items → ⊥)) }
+    ensures { MakesAll T.says T.is_shallow (map F.tree forms.items) result }
 {
     let mut parts = Vec::with_capacity(alloc, forms.len())?;
     let mut coming = forms.into_iter();
@@ -39,8 +37,7 @@ pub(crate) fn forms_of<F: AsnType, T: Mirrored<F>>(
     alloc: Global,
     parts: &[T],
 ) -> Result<Vec<F>, Stop>
-    ensures ok { IfOk result (λ forms. map F.tree forms.items ≡ map T.says parts.now) }
-    ensures refused { IfErr result (λ e. IsMemory e ⊎ (Every T.is_shallow parts.now → ⊥)) }
+    ensures { FormsAll F.tree (map T.says parts.now) (Every T.is_shallow parts.now) result }
 {
     let mut forms = Vec::with_capacity(alloc, parts.len())?;
     for part in parts {

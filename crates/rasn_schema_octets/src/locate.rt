@@ -1,5 +1,9 @@
 //! Where octets that can't be read are damaged.
-ghost use Rattle.std.specs.Prelude.{◌≤◌, length};
+ghost use Rattle.std.specs.Prelude.{◌≡◌, ◌⊎◌, ◌≤◌, length};
+ghost use Rattle.rasn_types.specs.declared.types.codec.Codec.TheVariants.{Der};
+ghost use Rattle.rasn_types.specs.Errors.{IsOutOfMemory};
+ghost use Rattle.rasn_schema_octets.specs.Octets.{IsNoValue, IsReadFault};
+ghost use Rattle.rasn_schema_octets.specs.Stopped.{IsStopped};
 
 use crate::entry::VERSION;
 use crate::fault::{Part, ReadFault};
@@ -21,7 +25,11 @@ enum Stopped {
 }
 
 /// Returns why the octets aren't read, where the error is that of reading them.
-pub(crate) fn read_fault(alloc: Global, octets: &[u8], error: DecodeError) -> ReadFault {
+pub(crate) fn read_fault(alloc: Global, octets: &[u8], error: DecodeError) -> ReadFault
+    requires refused { IsOutOfMemory error.kind ⊎ IsNoValue octets.now }
+    requires rules { error.codec ≡ Der }
+    ensures { IsReadFault octets.now result }
+{
     if error.is_out_of_memory() {
         return ReadFault::OutOfMemory;
     }
@@ -36,7 +44,9 @@ pub(crate) fn read_fault(alloc: Global, octets: &[u8], error: DecodeError) -> Re
 }
 
 /// Returns the first part that can't be read.
-fn first_part(alloc: Global, octets: &[u8]) -> Stopped {
+fn first_part(alloc: Global, octets: &[u8]) -> Stopped
+    ensures { IsStopped (length octets.now) result }
+{
     let mut decoder = Decoder::new(alloc, octets, DecoderOptions::of(Codec::Der));
     let Ok((mut inner, _)) = decoder.open(ConstructedHeader::sequence(Tag::SEQUENCE)) else {
         return Stopped::At(Part::Whole, 0);
@@ -51,7 +61,9 @@ fn first_part(alloc: Global, octets: &[u8]) -> Stopped {
 }
 
 /// Returns the first part after the version that can't be read.
-fn first_after_version(end: usize, inner: &mut Decoder<'_>) -> Stopped {
+fn first_after_version(end: usize, inner: &mut Decoder<'_>) -> Stopped
+    ensures { IsStopped end result }
+{
     let begin = place(end, inner);
     if usize::decode(inner).is_err() {
         return Stopped::At(Part::Root, begin);
@@ -71,21 +83,24 @@ fn first_after_version(end: usize, inner: &mut Decoder<'_>) -> Stopped {
 }
 
 /// Returns the first type that can't be read.
-fn first_type(end: usize, inner: &mut Decoder<'_>) -> Stopped {
+fn first_type(end: usize, inner: &mut Decoder<'_>) -> Stopped
+    ensures { IsStopped end result }
+{
     let begin = place(end, inner);
     let Ok((mut types, _)) = inner.open(ConstructedHeader::list(Tag::SEQUENCE)) else {
         return Stopped::At(Part::Types, begin);
     };
-    let begin = place(end, inner);
-    let mut index = 0;
-    while !types.remaining().is_empty() {
-        let at = place(begin, &types);
-        if TypeForm::decode(&mut types).is_err() {
-            return Stopped::At(Part::Type(TypeId(index)), at);
+    let after = place(end, inner);
+    for index in 0..types.remaining().len() {
+        if types.has_ended() {
+            break;
         }
-        index += 1;
+        let begin = place(after, &types);
+        if TypeForm::decode(&mut types).is_err() {
+            return Stopped::At(Part::Type(TypeId(index)), begin);
+        }
     }
-    Stopped::At(Part::End, begin)
+    Stopped::At(Part::End, after)
 }
 
 /// Returns the offset of what is next, where what the decoder reads ends at this offset.

@@ -1,7 +1,11 @@
 //! Parts of a schema, and the types as which they are read and written.
-ghost use Rattle.std.specs.Prelude.{◌≡◌, OnErr, IfOk};
+ghost use Rattle.std.specs.Prelude.{◌≡◌, IfOk};
 ghost use Rattle.std.specs.String.{string_bytes};
-ghost use Rattle.rasn_schema_octets.specs.Stops.{IsMemory};
+ghost use Rattle.rasn_types.specs.Shapes.{chosen};
+ghost use Rattle.rasn_schema_octets.specs.Trees.{type_tree, elements_tree, leaf_tree};
+ghost use Rattle.rasn_schema_octets.specs.Forms.{leaf_form_tree, enumerated_form_tree, choice_form_tree, sequence_form_tree, set_form_tree, elements_form_tree};
+ghost use Rattle.rasn_schema_octets.specs.Mirrors.{Makes, Forms};
+ghost use Rattle.rasn_schema_octets.specs.Shallow.{IsShallowType};
 
 use crate::component::{ComponentForm, PresenceForm};
 use crate::constraints::ConstraintsForm;
@@ -14,7 +18,7 @@ use crate::types::{
     ChoiceForm, ElementsForm, EnumeratedForm, LeafForm, SequenceForm, SetForm, TaggedForm, TypeForm,
 };
 use crate::value::value_of;
-use crate::value_nodes::nodes_of;
+use crate::value_nodes::value_nodes;
 use rasn::types::{AsnType, Constraints, Explicit, Implicit, Tag};
 use rasn_schema::{
     Alternative, Component, LeafKind, NamedNumber, Presence, Type, TypeId, TypeName,
@@ -23,8 +27,8 @@ use std::alloc::{AllocError, Global};
 
 /// A part of a schema, which is read and written as an `F`.
 pub(crate) trait Mirrored<F: AsnType>: Sized + Drop {
-    ghost use Rattle.std.specs.Prelude.{◌≡◌, ◌⊎◌, IfOk, IfErr};
     ghost use Rattle.rasn_types.specs.Shapes.{Tree};
+    ghost use Rattle.rasn_schema_octets.specs.Mirrors.{Makes, Forms};
     ghost use Rattle.rasn_schema_octets.specs.Stops.{IsMemory};
 
     ghost says: { Self → Tree };
@@ -36,17 +40,14 @@ pub(crate) trait Mirrored<F: AsnType>: Sized + Drop {
     /// # Errors
     /// If memory runs out, or a default isn't one value or is nested too deep.
     fn from_form(alloc: Global, form: F) -> Result<Self, Stop>
-        ensures ok { IfOk result (λ x. says x ≡ F.tree form) }
-        ensures shallow { IfOk result (λ x. is_shallow x) }
-        ensures refused { IfErr result (λ e. IsMemory e ⊎ ((x : Self) → is_shallow x → says x ≡ F.tree form → ⊥)) };
+        ensures { Makes says is_shallow (F.tree form) result };
 
     /// Returns what is written of the part.
     ///
     /// # Errors
     /// If memory runs out, or a default is nested too deep.
     fn form(&self, alloc: Global) -> Result<F, Stop>
-        ensures ok { IfOk result (λ f. F.tree f ≡ says self.now) }
-        ensures refused { IfErr result (λ e. IsMemory e ⊎ (is_shallow self.now → ⊥)) };
+        ensures { Forms F.tree (says self.now) (is_shallow self.now) result };
 
     /// Returns the error with the index of the part in its list.
     fn placed(stop: Stop, index: usize) -> Stop
@@ -160,7 +161,7 @@ impl Mirrored<PresenceForm> for Presence {
             Presence::Optional => Ok(PresenceForm::Optional(Implicit::new(()))),
             Presence::Addition => Ok(PresenceForm::Addition(Implicit::new(()))),
             Presence::Default(value) => {
-                Ok(PresenceForm::Default(Implicit::new(nodes_of(alloc, value)?)))
+                Ok(PresenceForm::Default(Implicit::new(value_nodes(alloc, value)?)))
             }
         }
     }
@@ -207,7 +208,9 @@ impl Mirrored<ComponentForm> for Component {
     }
 }
 
-fn leaf(alloc: Global, form: LeafForm) -> Result<Type, Stop> {
+fn leaf(alloc: Global, form: LeafForm) -> Result<Type, Stop>
+    ensures { Makes type_tree IsShallowType (chosen 0 (leaf_form_tree form)) result }
+{
     let LeafForm {
         kind,
         tag,
@@ -222,7 +225,9 @@ fn leaf(alloc: Global, form: LeafForm) -> Result<Type, Stop> {
     })
 }
 
-fn enumerated(alloc: Global, form: EnumeratedForm) -> Result<Type, Stop> {
+fn enumerated(alloc: Global, form: EnumeratedForm) -> Result<Type, Stop>
+    ensures { Makes type_tree IsShallowType (chosen 1 (enumerated_form_tree form)) result }
+{
     let EnumeratedForm { tag, numbers } = form;
     Ok(Type::Enumerated {
         tag: tag.tag,
@@ -230,7 +235,9 @@ fn enumerated(alloc: Global, form: EnumeratedForm) -> Result<Type, Stop> {
     })
 }
 
-fn choice(alloc: Global, form: ChoiceForm) -> Result<Type, Stop> {
+fn choice(alloc: Global, form: ChoiceForm) -> Result<Type, Stop>
+    ensures { Makes type_tree IsShallowType (chosen 4 (choice_form_tree form)) result }
+{
     let ChoiceForm { name, alternatives } = form;
     Ok(Type::Choice {
         name,
@@ -238,7 +245,9 @@ fn choice(alloc: Global, form: ChoiceForm) -> Result<Type, Stop> {
     })
 }
 
-fn sequence(alloc: Global, form: SequenceForm) -> Result<Type, Stop> {
+fn sequence(alloc: Global, form: SequenceForm) -> Result<Type, Stop>
+    ensures { Makes type_tree IsShallowType (chosen 5 (sequence_form_tree form)) result }
+{
     let SequenceForm { tag, components } = form;
     Ok(Type::Sequence {
         tag: tag.tag,
@@ -246,7 +255,9 @@ fn sequence(alloc: Global, form: SequenceForm) -> Result<Type, Stop> {
     })
 }
 
-fn set(alloc: Global, form: SetForm) -> Result<Type, Stop> {
+fn set(alloc: Global, form: SetForm) -> Result<Type, Stop>
+    ensures { Makes type_tree IsShallowType (chosen 6 (set_form_tree form)) result }
+{
     let SetForm {
         name,
         tag,
@@ -259,7 +270,10 @@ fn set(alloc: Global, form: SetForm) -> Result<Type, Stop> {
     })
 }
 
-fn sequence_of(form: ElementsForm) -> Type {
+fn sequence_of(form: ElementsForm) -> Type
+    ensures says { type_tree result ≡ chosen 7 (elements_form_tree form) }
+    ensures shallow { IsShallowType result }
+{
     Type::SequenceOf {
         tag: form.tag.tag,
         element: TypeId(form.element),
@@ -267,7 +281,10 @@ fn sequence_of(form: ElementsForm) -> Type {
     }
 }
 
-fn set_of(form: ElementsForm) -> Type {
+fn set_of(form: ElementsForm) -> Type
+    ensures says { type_tree result ≡ chosen 8 (elements_form_tree form) }
+    ensures shallow { IsShallowType result }
+{
     Type::SetOf {
         tag: form.tag.tag,
         element: TypeId(form.element),
@@ -281,7 +298,9 @@ fn leaf_form(
     tag: Tag,
     constraints: Constraints,
     names: &Vec<NamedNumber>,
-) -> Result<LeafForm, Stop> {
+) -> Result<LeafForm, Stop>
+    ensures { Forms leaf_form_tree (leaf_tree kind tag constraints names.now.items) (Unit {0}) result }
+{
     Ok(LeafForm {
         kind: KindForm { kind },
         tag: TagForm { tag },
@@ -290,7 +309,9 @@ fn leaf_form(
     })
 }
 
-fn elements_form(tag: Tag, element: TypeId, constraints: Constraints) -> ElementsForm {
+fn elements_form(tag: Tag, element: TypeId, constraints: Constraints) -> ElementsForm
+    ensures { elements_form_tree result ≡ elements_tree tag element constraints }
+{
     ElementsForm {
         tag: TagForm { tag },
         element: element.0,
