@@ -1,0 +1,6 @@
+pub mod Nodes
+pub mod Begins
+pub mod Appended
+pub mod Listed
+pub mod Said
+pub mod Whole

@@ -1,0 +1,11 @@
+pub mod Shapes
+pub mod Kinds
+pub mod Defaults
+pub mod Trees
+pub mod Shallow
+pub mod Forms
+pub mod Stops
+pub mod Nodes
+pub mod Mirrors
+pub mod Octets
+pub mod Stopped
