@@ -17,8 +17,8 @@ use Rattle.rasn_lint.specs.declared.by_schema.OpenTypes.TheVariants.{Unexamined,
 use Rattle.rasn_lint.specs.declared.departure.Departure.{Departure}
 use Rattle.rasn_lint.specs.Lint.{AreFormed, IsLint, IsFirstDeparture}
 
--- The list of a normal encoding is empty if the octets of each open type of the input are well formed, where they are
--- looked into: the encoding has the same ones. The input is read by any rules.
+-- The list of a normal encoding is empty if the octets of each open type and of each unknown value of the input are well
+-- formed, where they are looked into: the encoding has the same ones. The input is read by any rules.
 abbrev pub NormalIsClean : Type 0
 NormalIsClean = (opens : OpenTypes) (types : List «Type») (id : ℕ) (rule : Codec) (input octets : List ℕ) (ds : List Departure) (parts : MessageParts)
     → AreReadableTypes types → AreOctets input → AreOctets octets → IsNormal rule (shape_of types id) input octets
