@@ -4,3 +4,4 @@ pub mod Appended
 pub mod Listed
 pub mod Said
 pub mod Whole
+pub mod Complete

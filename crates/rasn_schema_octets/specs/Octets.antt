@@ -1,8 +1,9 @@
 -- The octets of a schema, and what is wrong with octets that aren't those of one.
-use Rattle.std.specs.Prelude.{◌≡◌, ◌≢◌, ◌⊎◌, ◌≤◌, ℕ, List, [], ◌∷◌, length, Option, Vec}
+use Rattle.std.specs.Prelude.{◌≡◌, ◌≢◌, ◌⊎◌, ◌≤◌, ◌<◌, ℕ, List, [], ◌∷◌, length, Option, Vec}
 use Rattle.std.specs.Global.{Global}
 use Rattle.rasn_types.specs.declared.types.codec.Codec.TheVariants.{Der}
 use Rattle.rasn_types.specs.Bytes.{Bytes}
+use Rattle.rasn_types.specs.Carried.{IsWithinLimits}
 use Rattle.rasn_types.specs.Grammar.{Reads, top}
 use Rattle.rasn_types.specs.Shapes.{Tree, items}
 use Rattle.rasn_types.specs.Trees.{list_tree}
@@ -66,6 +67,21 @@ IsReadFault octets e = IsUnread octets e ⊎ ((t : Tree) × IsRead octets t × I
 abbrev pub IsWrongOr : Tree → ReadFault → Type 0
 IsWrongOr t OutOfMemory = Unit {0}
 IsWrongOr t e = IsWrong t e
+
+-- No schema has the octets whose number is that of a type, whose defaults aren't nested too deep, and what it says is within the limits of carried values.
+abbrev pub HasNoSchema : List ℕ → Type 0
+HasNoSchema octets = (s : Schema) (root : TypeId) (unchecked : ℕ) → root.0 < length s.types.items → Every IsShallowType s.types.items
+    → IsWithinLimits Der octets_shape 128 (schema_tree s root unchecked) → IsSchemaOctets s root unchecked octets → ⊥
+
+-- After an error other than that memory ran out or that the types break a rule, there is no such schema.
+abbrev pub IsRefused : List ℕ → ReadFault → Type 0
+IsRefused octets OutOfMemory = Unit {0}
+IsRefused octets (Rule e) = Unit {0}
+IsRefused octets e = HasNoSchema octets
+
+-- Each error of `read` says this.
+abbrev pub RefusedRightly : Type 0
+RefusedRightly = (octets : List ℕ) (e : ReadFault) → IsReadFault octets e → IsRefused octets e
 
 -- ---- schemas that aren't written
 

@@ -10,6 +10,7 @@ mod entry;
 mod fault;
 mod form;
 mod kind;
+mod laws;
 mod list;
 mod locate;
 mod mirrored;
@@ -22,3 +23,4 @@ mod value_nodes;
 
 pub use entry::{Compiled, VERSION, read, write};
 pub use fault::{Part, ReadFault, WriteFault};
+pub use laws::{has_lawful_shape, refused_rightly};
