@@ -1,17 +1,19 @@
 //! Reads files of modules, all at once, and messages by their types: `rasn-modules FILE..`. Prints
 //! each fault of a text, each type that has no schema with its first fault, each type whose schema
-//! isn't read again from the module that it is shown as, and for each module how many types it has,
-//! how many of them have a schema, and how many schemas are read again; whether two types are those
-//! of the tables of `rasn_schema_bench`; then each row of standard
-//! input with its result.
+//! isn't read again from the module that it is shown as or from its octets, and for each module how
+//! many types it has, how many of them have a schema, and how many schemas are read again; whether
+//! two types are those of the tables of `rasn_schema_bench`; then each row of standard input with
+//! its result.
 #![tactic(auto)]
 
 mod octets;
 mod rows;
 mod same;
+mod schema_octets;
 
 use crate::rows::print_rows;
 use crate::same::are_same;
+use crate::schema_octets::octets_difference;
 use rasn_compiler::{Assigned, Assignment, Module, Modules, Resolved, Source};
 use rasn_schema::{Schema, TypeId};
 use rasn_schema_bench::{CERTIFICATE, CERTIFICATE_TYPES, Definition, FILTER, FILTER_TYPES, types};
@@ -73,7 +75,7 @@ fn print_module<'text>(
 }
 
 /// How many types of a module have a schema, and how many of these schemas are read again from the
-/// module that they are shown as.
+/// module that they are shown as and from their octets.
 #[derive(Clone, Copy)]
 struct Counts {
     loaded: usize,
@@ -89,7 +91,7 @@ fn is_plain_type(assignment: &Assignment<'_>) -> bool {
 }
 
 /// Counts a type, and prints why it has no schema, or why that isn't read again from the module
-/// that it is shown as.
+/// that it is shown as or from its octets.
 fn print_type<'text>(
     rt: &HostRuntime,
     read: &Modules<'text>,
@@ -102,13 +104,14 @@ fn print_type<'text>(
         Err(stop) => return println!(rt; "type\t{module}.{name}\t{stop}"),
     };
     counts.loaded = counts.loaded.saturating_add(1);
-    match difference(rt.alloc(), &resolved, name)? {
-        Some(difference) => println!(rt; "shown\t{module}.{name}\t{difference}"),
-        None => {
-            counts.same = counts.same.saturating_add(1);
-            Ok(())
-        }
+    if let Some(difference) = difference(rt.alloc(), &resolved, name)? {
+        return println!(rt; "shown\t{module}.{name}\t{difference}");
     }
+    if let Some(difference) = octets_difference(rt.alloc(), &resolved)? {
+        return println!(rt; "octets\t{module}.{name}\t{difference}");
+    }
+    counts.same = counts.same.saturating_add(1);
+    Ok(())
 }
 
 /// Returns why the module that a schema is shown as doesn't have the same types, if it hasn't.
