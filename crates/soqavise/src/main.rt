@@ -4,8 +4,8 @@
 use clap::ArgMatches;
 use rasn_compiler::{Modules, Source};
 use rasn_print::{
-    Call, Color, Fault, Known, MessageType, Session, Tools, Work, call_of, command, known_of, modules_of,
-    print_types, wanted_type,
+    Call, Color, Fault, Known, MessageType, Session, Tools, Work, call_of, command, known_of,
+    modules_of, print_types, wanted_type,
 };
 use std::alloc::{AllocError, Global};
 use std::fs::{self, File};
