@@ -20,7 +20,7 @@
 #include <stddef.h>
 #include <stdint.h>
 
-#define SOQ_VERSION "0.30.0"
+#define SOQ_VERSION "0.31.0"
 
 #ifdef __cplusplus
 extern "C" {
