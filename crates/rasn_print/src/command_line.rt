@@ -28,7 +28,7 @@ pub enum InputForm {
 
 /// When the output is in colour.
 #[derive(Clone, Copy, Debug, PartialEq, Eq)]
-pub enum Color {
+pub enum ColorChoice {
     /// If it is a terminal.
     Auto,
     Always,
@@ -53,7 +53,7 @@ pub struct Call {
     pub has_offsets: bool,
     /// Whether each line is a message.
     pub has_lines: bool,
-    pub color: Color,
+    pub color: ColorChoice,
 }
 
 /// Returns the program's command: its subcommands, options and help.
@@ -277,10 +277,10 @@ fn form_of(name: Option<&str>) -> Option<InputForm> {
     }
 }
 
-fn color_of(name: Option<&str>) -> Color {
+fn color_of(name: Option<&str>) -> ColorChoice {
     match name {
-        Some("always") => Color::Always,
-        Some("never") => Color::Never,
-        _ => Color::Auto,
+        Some("always") => ColorChoice::Always,
+        Some("never") => ColorChoice::Never,
+        _ => ColorChoice::Auto,
     }
 }

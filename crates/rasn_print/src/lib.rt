@@ -24,7 +24,7 @@ mod types;
 mod work;
 
 pub use catalog::{known_of, modules_of, print_types, wanted_type};
-pub use command_line::{Call, Color, InputForm, Work, call_of, command};
+pub use command_line::{Call, ColorChoice, InputForm, Work, call_of, command};
 pub use conversion::{NoJson, json_of};
 pub use dump::{DumpError, Entry, dump_text, entries};
 pub use fault::Fault;

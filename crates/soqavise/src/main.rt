@@ -4,7 +4,7 @@
 use clap::ArgMatches;
 use rasn_compiler::{Modules, Source};
 use rasn_print::{
-    Call, Color, Fault, Known, MessageType, Session, Tools, Work, call_of, command, known_of,
+    Call, ColorChoice, Fault, Known, MessageType, Session, Tools, Work, call_of, command, known_of,
     modules_of, print_types, wanted_type,
 };
 use std::alloc::{AllocError, Global};
@@ -140,11 +140,11 @@ fn run_wanted<'a, 'text>(
 
 /// Returns whether names are in bold: unless it is asked for, on a terminal where `NO_COLOR` isn't
 /// set.
-fn is_colored(rt: &HostRuntime, color: Color) -> bool {
+fn is_colored(rt: &HostRuntime, color: ColorChoice) -> bool {
     match color {
-        Color::Auto => rt.stdout().is_terminal() && env::var(rt, "NO_COLOR").is_err(),
-        Color::Always => true,
-        Color::Never => false,
+        ColorChoice::Auto => rt.stdout().is_terminal() && env::var(rt, "NO_COLOR").is_err(),
+        ColorChoice::Always => true,
+        ColorChoice::Never => false,
     }
 }
 

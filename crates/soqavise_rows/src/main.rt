@@ -5,8 +5,8 @@
 use clap::ArgMatches;
 use rasn_compiler::Modules;
 use rasn_print::{
-    Call, Color, Fault, Known, MessageType, Session, Tools, call_of, command, known_of, modules_of,
-    wanted_type,
+    Call, ColorChoice, Fault, Known, MessageType, Session, Tools, call_of, command, known_of,
+    modules_of, wanted_type,
 };
 use std::alloc::{AllocError, Global};
 use std::io::{BufRead, BufReader, BufWriter, Write};
@@ -104,7 +104,7 @@ fn answer_to_call<'a, 'text>(
         read,
         known,
         wanted,
-        is_colored: call.color == Color::Always,
+        is_colored: call.color == ColorChoice::Always,
     };
     run(tools, input)
 }
