@@ -5,7 +5,7 @@ use Rattle.rasn_types.specs.declared.error.decode.DecodeError.{DecodeError}
 use Rattle.rasn_types.specs.Shapes.{Shape}
 use Rattle.rasn_c.specs.declared.errors.Fault.{Fault}
 use Rattle.rasn_c.specs.declared.status.Status.{Status}
-use Rattle.rasn_c.specs.declared.status.Status.TheVariants.{Ok, Refused, OutOfMemory, BufferTooSmall, UnknownType, UnknownRule}
+use Rattle.rasn_c.specs.declared.status.Status.TheVariants.{Ok, Refused, OutOfMemory, BufferTooSmall, UnknownType, UnknownRule, BadSchema, UnknownPath, Absent}
 use Rattle.rasn_c.specs.Normal.{Asks}
 use Rattle.rasn_c.specs.Errors.{IsRefusedAt, IsToldOf, AnswersError}
 
