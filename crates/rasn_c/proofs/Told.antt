@@ -17,3 +17,6 @@ told text fault error Ok asks refused is = absurd is
 told text fault error BufferTooSmall asks refused is = absurd is
 told text fault error UnknownType asks refused is = absurd is
 told text fault error UnknownRule asks refused is = absurd is
+told text fault error BadSchema asks refused is = absurd is
+told text fault error UnknownPath asks refused is = absurd is
+told text fault error Absent asks refused is = absurd is

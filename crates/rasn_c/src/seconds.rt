@@ -1,6 +1,6 @@
 //! Instants as seconds since 1970.
 ghost use Rattle.std.specs.Prelude.{◌≡◌, ◌<◌, ◌≤◌};
-ghost use Rattle.rasn_types.specs.Calendar.{is_leap};
+ghost use Rattle.rasn_types.specs.Calendar.{IsDay, is_leap};
 ghost use Rattle.rasn_c.specs.Status.{IsNumberOf};
 ghost use Rattle.rasn_c.specs.Seconds.{AnswersSeconds, seconds_of, day_number, year_of_era, leap_years_before, common_days_before, leap_day};
 
@@ -90,6 +90,7 @@ fn day_number(date: &Date) -> u64
 fn year_of_era(date: &Date) -> u64
     ensures is { result ≡ year_of_era date.now.year }
     ensures few { result < 200000 }
+    ensures exists { IsDay date.now }
 {
     let year = date.year() + 100_000;
     u64::from(year.unsigned_abs())
