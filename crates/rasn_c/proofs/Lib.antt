@@ -9,3 +9,4 @@ pub mod Found
 pub mod NoStrings
 pub mod Ends
 pub mod Rows
+pub mod Compiled
