@@ -43,14 +43,15 @@ module _ (types : List «Type») (id : ℕ) (input : List ℕ) (parts : List Spa
   clean opens ds (inr (n, inr (j, d, p, i))) = (λ q. let x : d ∷ [] ≡ [] = sym p ∙ q in cc, λ k. absurd (n k.0))
 
   -- What was found, in the order of its places.
-  pub listed : (opens : OpenTypes) (ps : MessageParts) (found ds : List Departure) → ps.list.items ≡ parts → ArePartsOf types Ber id input ps → AreAll opens types id input ps.list.items found → IsPermutation found ds → IsNonDecreasingBy offset_of ds
+  pub listed : (opens : OpenTypes) (ps : MessageParts) (found ds : List Departure) → ps.list.items ≡ parts → (are : ArePartsOf types Ber id input ps) → are.last.rest ≡ [] → AreAll opens types id input ps.list.items found → IsPermutation found ds → IsNonDecreasingBy offset_of ds
       → IsLint opens types id input ds
-  listed opens ps found ds e a all same order =
+  listed opens ps found ds e a whole all same order =
       let c = clean opens found (subst (λ l. AreAll opens types id input l found) e all) in
       let k = length_permutation found ds same in
       record {
         parts = ps;
         are_parts = a;
+        whole = whole;
         found = found;
         all = all;
         same = same;
@@ -178,9 +179,14 @@ pub no_departures : (v : Vec Departure Global) → true ≡ (vec_len v == 0) →
 no_departures v e = none_of v.items (grind (arith, nat_tests))
 
 -- The octets after the first part follow the value.
+pub last_rest : (types : List «Type») (id : ℕ) (input : List ℕ) (ps : MessageParts) (a : ArePartsOf types Ber id input ps) → rest_after ps.list.items input ≡ a.last.rest
+last_rest types id input ps a =
+    let l = a.listed in
+    ap (λ z. rest_after z input) l.is ∙ (ap (λ z. drop (length l.part.octets.now) z) l.octets ∙ drop-append_seam l.part.octets.now a.last.rest)
+
 pub followed : (types : List «Type») (id : ℕ) (input rest : List ℕ) (ps : MessageParts) → ArePartsOf types Ber id input ps → rest ≡ rest_after ps.list.items input → rest ≢ [] → IsNoLint types id input (Remainder (length rest))
 followed types id input rest ps a e some =
     let l = a.listed in
-    let is : rest ≡ a.last.rest = e ∙ (ap (λ z. rest_after z input) l.is ∙ (ap (λ z. drop (length l.part.octets.now) z) l.octets ∙ drop-append_seam l.part.octets.now a.last.rest)) in
+    let is : rest ≡ a.last.rest = e ∙ last_rest types id input ps a in
     let read = read_first Ber (shape_of types id) input (start Ber input) refl l.tree a.last rest (sym is) l.reads in
     (l.tree, rest, read.0, refl, some)

@@ -179,6 +179,7 @@ module _ (names : Vec NamedNumber Global) (shape_is : shape_of (a_boolean names)
   one_listed = record {
     parts = ps;
     are_parts = are_parts;
+    whole = refl;
     found = d ∷ [];
     all = are_all;
     same = IsPermutation-refl (d ∷ []);

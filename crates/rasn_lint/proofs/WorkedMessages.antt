@@ -26,8 +26,10 @@ use Rattle.rasn.proofs.ReadBack.Headers.{no_eoc, short, short_written}
 use Rattle.rasn.proofs.Worked.StrictLeaves.{long_length}
 use Rattle.rasn_lint.specs.Header.{IsOfLength, IsLengthFault, ReadsHeader}
 use Rattle.rasn_lint.specs.Leaf.{IsMended}
-use Rattle.rasn_lint.specs.Lint.{IsDer}
+use Rattle.rasn_lint.specs.Lint.{IsDer, IsLint}
 use Rattle.rasn_lint.specs.Place.{der_error, IsValue}
+use Rattle.rasn_lint.specs.declared.by_schema.OpenTypes.TheVariants.{Unexamined}
+use Rattle.rasn_lint.specs.declared.departure.Departure.{Departure}
 use Rattle.rasn_lint.specs.declared.leaf.Segments.TheVariants.{Whole}
 use Rattle.rasn_lint.proofs.WorkedList.{one_listed}
 use Rattle.rasn_lint.specs.WorkedMessages.{a_boolean, short_true, long_true, WorkedMessages}
@@ -50,6 +52,18 @@ not_read names (t, r) = long_length.1 t [] (subst (λ s. Reads Der s 128 false l
 
 long_read : (names : Vec NamedNumber Global) → IsValue (a_boolean names) 0 long_true (number (pos 1))
 long_read names = subst (λ s. Reads Ber s 128 true long_true (number (pos 1)) []) (sym (shape_is names)) long_length.0
+
+-- An octet follows the value, so there is no list.
+true_followed : Reads Ber (plain boolean 1) 128 true (1 ∷ 1 ∷ 255 ∷ 0 ∷ []) (number (pos 1)) (0 ∷ [])
+unfolding Reads parts_of
+true_followed = ((false, 255 ∷ [], short 1 false (255 ∷ []) (0 ∷ []) (omega arith) (omega arith) (omega arith), (pos 1, refl, inr ((λ e. cc), refl)), λ s. cc), tt)
+
+one_follows : (names : Vec NamedNumber Global) (ds : List Departure) → IsLint Unexamined (a_boolean names) 0 (1 ∷ 1 ∷ 255 ∷ 0 ∷ []) ds → ⊥
+one_follows names ds l =
+    let read = l.are_parts.listed.reads.exact in
+    let one = read.1 (number (pos 1)) (0 ∷ []) (subst (λ s. Reads Ber s 128 true (1 ∷ 1 ∷ 255 ∷ 0 ∷ []) (number (pos 1)) (0 ∷ [])) (sym (shape_is names)) true_followed) in
+    let rest : 0 ∷ [] ≡ [] = one.1 ∙ l.whole in
+    cc
 
 long_frame : Frame basic_form long_true (in_universal 1) false [] (definite (255 ∷ []))
 long_frame = with_length (1 ∷ []) (129 ∷ 1 ∷ []) (255 ∷ []) (record { spells = record { low = 1; leading = refl; number = inl (omega arith, refl, refl) }; is_one = no_eoc 1 (omega arith) })
@@ -135,6 +149,7 @@ worked_messages names = record {
   not_the_default = not_false names;
   one_listed = λ ps e d a o. one_listed names (shape_is names) (not_read names) true_by_der long mended ps e d a o;
   listed = λ l. not_read names (l.clean.0 refl).0;
+  one_follows = one_follows names;
   not_listed = λ ds l. l.clean.1 (read names, tt);
   none_first = (read names, tt);
   one_is_first = λ h. not_read names h.0;

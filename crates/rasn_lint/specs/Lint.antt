@@ -79,10 +79,12 @@ rest_after (e ∷ es) input = drop (length e.octets.now) input
 abbrev pub offset_of : Departure → ℕ
 offset_of d = d.refusal.offset
 
--- The list of a message, whose parts are those of one reading by BER: what was found, in the order of its places.
+-- The list of a message, whose parts are those of one reading by BER of all of its octets: what was found, in the order of
+-- its places.
 pub record IsLint (opens : OpenTypes) (types : List «Type») (id : ℕ) (input : List ℕ) (ds : List Departure) : Type 0 where
   pub parts : MessageParts
   pub are_parts : ArePartsOf types Ber id input parts
+  pub whole : are_parts.last.rest ≡ []
   pub found : List Departure
   pub all : AreAll opens types id input parts.list.items found
   pub same : IsPermutation found ds

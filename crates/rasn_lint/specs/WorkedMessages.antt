@@ -65,6 +65,7 @@ pub record WorkedMessages (names : Vec NamedNumber Global) : Type 0 where
   pub not_the_default : IsDefaultFault (a_boolean names) 0 long_true (Some (BooleanValue false)) None
   pub one_listed : (ps : MessageParts) (e : Span) (d : Departure) → IsLongAlone ps e → IsOfLongLength e d → IsLint Unexamined (a_boolean names) 0 long_true (d ∷ [])
   pub listed : IsLint Unexamined (a_boolean names) 0 long_true [] → ⊥
+  pub one_follows : (ds : List Departure) → IsLint Unexamined (a_boolean names) 0 (1 ∷ 1 ∷ 255 ∷ 0 ∷ []) ds → ⊥
   pub not_listed : (ds : List Departure) → IsLint Unexamined (a_boolean names) 0 short_true ds → ds ≡ []
   pub none_first : IsFirstDeparture Unexamined (a_boolean names) 0 short_true None
   pub one_is_first : IsFirstDeparture Unexamined (a_boolean names) 0 long_true None → ⊥
