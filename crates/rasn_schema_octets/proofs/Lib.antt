@@ -5,3 +5,4 @@ pub mod Listed
 pub mod Said
 pub mod Whole
 pub mod Complete
+pub mod Worked

@@ -9,3 +9,4 @@ pub mod Nodes
 pub mod Mirrors
 pub mod Octets
 pub mod Stopped
+pub mod Worked

@@ -4,6 +4,7 @@ ghost use Rattle.rasn_types.specs.Lawful.{IsLawful};
 ghost use Rattle.rasn.specs.Carries.{carries_all};
 ghost use Rattle.rasn_schema_octets.specs.Octets.{RefusedRightly};
 ghost use Rattle.rasn_schema_octets.specs.Shapes.{octets_shape};
+ghost use Rattle.rasn_schema_octets.specs.Worked.{Worked};
 
 /// Proves that the shape of the form is lawful, and that everything that DER reads of it is
 /// carried.
@@ -17,4 +18,10 @@ pub fn has_lawful_shape()
 /// what is within the limits of carried values.
 pub fn refused_rightly()
     ensures { RefusedRightly }
+{}
+
+/// Proves that the definitions hold of octets and faults that are worked out by hand, and of others
+/// don't.
+pub fn worked_octets()
+    ensures { Worked }
 {}

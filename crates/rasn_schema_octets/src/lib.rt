@@ -23,4 +23,4 @@ mod value_nodes;
 
 pub use entry::{Compiled, VERSION, read, write};
 pub use fault::{Part, ReadFault, WriteFault};
-pub use laws::{has_lawful_shape, refused_rightly};
+pub use laws::{has_lawful_shape, refused_rightly, worked_octets};
