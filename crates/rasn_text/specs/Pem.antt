@@ -5,9 +5,9 @@ use Rattle.std.specs.List.{All, filter, flat_map, suffix_len}
 use Rattle.std.specs.Char.{is_ascii_whitespace}
 use Rattle.base64.specs.Engines.{standard}
 use Rattle.base64.specs.GeneralPurpose.{IsBytes, encode_of}
-use Rattle.rasn_print.specs.declared.pem.Block.{Block}
-use Rattle.rasn_print.specs.declared.pem.PemError.{PemError}
-use Rattle.rasn_print.specs.declared.pem.PemError.TheVariants.{End, Base64}
+use Rattle.rasn_text.specs.declared.pem.Block.{Block}
+use Rattle.rasn_text.specs.declared.pem.PemError.{PemError}
+use Rattle.rasn_text.specs.declared.pem.PemError.TheVariants.{End, Base64}
 
 -- white space: horizontal tab to carriage return, and space
 abbrev pub is_space : ℕ → Bool

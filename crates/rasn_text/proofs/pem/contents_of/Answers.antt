@@ -1,5 +1,5 @@
-use Rattle.rasn_print.proofs.PemContents.{first_rest, goes_on, not_dashes}
-use Rattle.rasn_print.proofs.pem.contents_of.Goals as goal
+use Rattle.rasn_text.proofs.PemContents.{first_rest, goes_on, not_dashes}
+use Rattle.rasn_text.proofs.pem.contents_of.Goals as goal
 
 pub loop-rest-preserved : goal.loop-rest-preserved
 loop-rest-preserved c =

@@ -1,7 +1,7 @@
 use Rattle.std.proofs.Common.{◌++◌, ◌≤◌, ◌-◌, List, drop, length, map}
-use Rattle.rasn_print.specs.declared.pem.Block.{Block}
-use Rattle.rasn_print.specs.Pem.{AreBlocks}
-use Rattle.rasn_print.proofs.pem.blocks_in.Given as goal
+use Rattle.rasn_text.specs.declared.pem.Block.{Block}
+use Rattle.rasn_text.specs.Pem.{AreBlocks}
+use Rattle.rasn_text.proofs.pem.blocks_in.Given as goal
 
 -- Blocks of the lines that are left follow those that were found.
 abbrev pub invariant-loop-place : goal.invariant-loop-place

@@ -1,7 +1,7 @@
 use Rattle.std.proofs.Common.{◌≡◌, ◌++◌, ◌≤◌, ℕ, List, length, map}
 use Rattle.std.specs.List.{All, filter, flat_map}
-use Rattle.rasn_print.specs.Pem.{IsInside, is_symbol}
-use Rattle.rasn_print.proofs.pem.contents_of.Given as goal
+use Rattle.rasn_text.specs.Pem.{IsInside, is_symbol}
+use Rattle.rasn_text.proofs.pem.contents_of.Given as goal
 
 abbrev pub invariant-loop-rest : goal.invariant-loop-rest
 invariant-loop-rest l = (length l.rest ≤ length l.lines)

@@ -7,10 +7,10 @@ use Rattle.std.proofs.lemmas.List.{append_assoc, append-nil, drop_all, drop_at, 
 use Rattle.std.proofs.Math.Seq.{drop-append_seam, take-append_seam}
 use Rattle.rasn_types.specs.Truth.{IsWhether}
 use Rattle.std.specs.Global.{Global}
-use Rattle.rasn_print.specs.declared.pem.Block.{Block}
-use Rattle.rasn_print.specs.declared.pem.PemError.{PemError}
-use Rattle.rasn_print.specs.declared.pem.PemError.TheVariants.{End, Base64}
-use Rattle.rasn_print.specs.Pem.{begin, dashes, end, trimmed, IsBoundary, IsNoBoundary, IsContents, IsNextBlock, AreBlocks}
+use Rattle.rasn_text.specs.declared.pem.Block.{Block}
+use Rattle.rasn_text.specs.declared.pem.PemError.{PemError}
+use Rattle.rasn_text.specs.declared.pem.PemError.TheVariants.{End, Base64}
+use Rattle.rasn_text.specs.Pem.{begin, dashes, end, trimmed, IsBoundary, IsNoBoundary, IsContents, IsNextBlock, AreBlocks}
 
 -- ---- what begins and ends a block
 

@@ -1,6 +1,6 @@
 use Rattle.std.proofs.Common.{rules}
-use Rattle.rasn_print.proofs.PemContents.{undecodable}
-use Rattle.rasn_print.proofs.pem.decoded.Goals as goal
+use Rattle.rasn_text.proofs.PemContents.{undecodable}
+use Rattle.rasn_text.proofs.pem.decoded.Goals as goal
 
 pub returns-in-Err-DecodeError : goal.returns-in-Err-DecodeError
 returns-in-Err-DecodeError c =

@@ -1,7 +1,7 @@
 use Rattle.std.proofs.Common.{map, length, arith}
 use Rattle.std.proofs.lemmas.List.{length-map}
-use Rattle.rasn_print.proofs.PemBlocks.{all_found, found_at, line_and_rest}
-use Rattle.rasn_print.proofs.pem.blocks_in.Goals as goal
+use Rattle.rasn_text.proofs.PemBlocks.{all_found, found_at, line_and_rest}
+use Rattle.rasn_text.proofs.pem.blocks_in.Goals as goal
 
 pub loop-place-preserved : goal.loop-place-preserved
 loop-place-preserved c =

@@ -12,9 +12,9 @@ use Rattle.base64.specs.GeneralPurpose.{IsBytes, IsDecodeFailure, decode_of, enc
 use Rattle.base64.specs.declared.decode.DecodeError.{DecodeError}
 use Rattle.base64.specs.declared.decode.DecodeAllocError.{DecodeAllocError}
 use Rattle.base64.specs.declared.decode.DecodeAllocError.TheVariants.{DecodeError as Failed}
-use Rattle.rasn_print.specs.declared.pem.PemError.{PemError}
-use Rattle.rasn_print.specs.declared.pem.PemError.TheVariants.{End, Base64}
-use Rattle.rasn_print.specs.Pem.{dashes, end, is_symbol, AreLines, IsBoundary, IsInside, IsEnded, IsContents, IsDecoded}
+use Rattle.rasn_text.specs.declared.pem.PemError.{PemError}
+use Rattle.rasn_text.specs.declared.pem.PemError.TheVariants.{End, Base64}
+use Rattle.rasn_text.specs.Pem.{dashes, end, is_symbol, AreLines, IsBoundary, IsInside, IsEnded, IsContents, IsDecoded}
 
 more_flat : {X A : Type 0} (f : X → List A) (xs : List X) (x : X) → flat_map f xs ++ f x ≡ flat_map f (xs ++ x ∷ [])
 more_flat f xs x = flat_map_more f [] xs x

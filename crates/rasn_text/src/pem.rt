@@ -2,7 +2,7 @@
 ghost use Rattle.std.specs.Prelude.{◌≡◌, ◌≢◌, ◌<◌, ◌≤◌, ◌∷◌, ◌++◌, IfOk, IfSome, OnOk, MatchOption, length, map, option_to_list};
 ghost use Rattle.std.specs.List.{All, filter};
 ghost use Rattle.rasn_types.specs.Truth.{IsWhether};
-ghost use Rattle.rasn_print.specs.Pem.{AreLines, IsBoundary, IsNoBoundary, IsContents, AreBlocks, AreBlocksOf, IsDecoded, IsNextBlock, end, is_space, is_symbol};
+ghost use Rattle.rasn_text.specs.Pem.{AreLines, IsBoundary, IsNoBoundary, IsContents, AreBlocks, AreBlocksOf, IsDecoded, IsNextBlock, end, is_space, is_symbol};
 
 use base64::DecodeAllocError;
 use base64::engine::general_purpose::STANDARD;

@@ -1,0 +1,2 @@
+mod PemBlocks
+mod PemContents
