@@ -1,2 +1,4 @@
+mod Escaped
+mod NameTexts
 mod PemBlocks
 mod PemContents

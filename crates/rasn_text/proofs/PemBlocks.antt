@@ -44,19 +44,20 @@ whether_last line last label false bound other = λ is. other (cancel_back last 
 -- ---- blocks
 
 -- A line that begins no block is skipped.
-skip : (l : List ℕ) (ls : List (List ℕ)) (bs : List Block) → IsNoBoundary begin l → AreBlocks ls bs → AreBlocks (l ∷ ls) bs
-skip l ls [] n all = All-cons (IsNoBoundary begin) l ls n all
-skip l ls (b ∷ bs) n (before, first, more, after, is, none, bound, contents, rest) = (l ∷ before, first, more, after, ap (λ z. l ∷ z) is, All-cons (IsNoBoundary begin) l before n none, bound, contents, rest)
+skip : (count : ℕ) (l : List ℕ) (ls : List (List ℕ)) (bs : List Block) → IsNoBoundary begin l → AreBlocks count ls bs → AreBlocks count (l ∷ ls) bs
+skip count l ls [] n all = All-cons (IsNoBoundary begin) l ls n all
+skip count l ls (b ∷ bs) n (before, first, more, after, is, none, bound, contents, number, rest) = (l ∷ before, first, more, after, ap (λ z. l ∷ z) is, All-cons (IsNoBoundary begin) l before n none, bound, contents, number, rest)
 
 -- A line that begins one is its first.
-block : (l : List ℕ) (more after : List (List ℕ)) (b : Block) (bs : List Block) → IsBoundary begin b.label.now l → IsContents b.label.now more b.contents after → AreBlocks after bs → AreBlocks (l ∷ more) (b ∷ bs)
-block l more after b bs bound contents rest = ([], l, more, after, refl, All-nil (IsNoBoundary begin), bound, contents, rest)
+block : (count : ℕ) (l : List ℕ) (more after : List (List ℕ)) (b : Block) (bs : List Block) → IsBoundary begin b.label.now l → IsContents b.label.now more b.contents after → b.line + length more ≡ count → AreBlocks count after bs → AreBlocks count (l ∷ more) (b ∷ bs)
+block count l more after b bs bound contents number rest = ([], l, more, after, refl, All-nil (IsNoBoundary begin), bound, contents, number, rest)
 
-pub onward : (lines : List (List ℕ)) (blocks : List Block) (line : List ℕ) (following remaining : List (List ℕ)) (found : Option Block)
-    → ((bs : List Block) → AreBlocks (line ∷ following) bs → AreBlocks lines (blocks ++ bs)) → IsNextBlock line following found remaining
-    → (bs : List Block) → AreBlocks remaining bs → AreBlocks lines ((blocks ++ option_to_list found) ++ bs)
-onward lines blocks line following remaining None h n bs a = subst (λ z. AreBlocks lines (z ++ bs)) (sym (append-nil blocks)) (h bs (skip line following bs n.0 (subst (λ z. AreBlocks z bs) n.1 a)))
-onward lines blocks line following remaining (Some b) h n bs a = subst (λ z. AreBlocks lines z) (sym (append_assoc blocks (b ∷ []) bs)) (h (b ∷ bs) (block line following remaining b bs n.0 n.1 a))
+pub onward : (count number : ℕ) (lines : List (List ℕ)) (blocks : List Block) (line : List ℕ) (following remaining : List (List ℕ)) (found : Option Block) → number + length following ≡ count
+    → ((bs : List Block) → AreBlocks count (line ∷ following) bs → AreBlocks count lines (blocks ++ bs)) → IsNextBlock number line following found remaining
+    → (bs : List Block) → AreBlocks count remaining bs → AreBlocks count lines ((blocks ++ option_to_list found) ++ bs)
+onward count number lines blocks line following remaining None k h n bs a = subst (λ z. AreBlocks count lines (z ++ bs)) (sym (append-nil blocks)) (h bs (skip count line following bs n.0 (subst (λ z. AreBlocks count z bs) n.1 a)))
+onward count number lines blocks line following remaining (Some b) k h n bs a =
+    subst (λ z. AreBlocks count lines z) (sym (append_assoc blocks (b ∷ []) bs)) (h (b ∷ bs) (block count line following remaining b bs n.0 n.1 (ap (λ z. z + length following) n.2 ∙ k) a))
 
 -- The lines after a block are the last of those after its first.
 after_contents : (label : List ℕ) (lines after : List (List ℕ)) (r : Result (Vec ℕ Global) PemError) → IsContents label lines r after → (front : List (List ℕ)) × (lines ≡ front ++ after)
@@ -64,26 +65,27 @@ after_contents label lines after (Ok octets) (body, (last, is, inside, bound), e
 after_contents label lines after (Err (Base64 e)) (body, (last, is, inside, bound), none) = (body ++ last ∷ [], is ∙ sym (append_assoc body (last ∷ []) after))
 after_contents label lines after (Err End) (body, is, inside, over) = (body, is)
 
-after_next : (line : List ℕ) (following remaining : List (List ℕ)) (found : Option Block) → IsNextBlock line following found remaining → (front : List (List ℕ)) × (following ≡ front ++ remaining)
-after_next line following remaining None n = ([], sym n.1)
-after_next line following remaining (Some b) n = after_contents b.label.now following remaining b.contents n.1
+after_next : (number : ℕ) (line : List ℕ) (following remaining : List (List ℕ)) (found : Option Block) → IsNextBlock number line following found remaining → (front : List (List ℕ)) × (following ≡ front ++ remaining)
+after_next number line following remaining None n = ([], sym n.1)
+after_next number line following remaining (Some b) n = after_contents b.label.now following remaining b.contents n.1
 
 -- The lines that are left are those from where they begin.
 left_over : (lines front remaining : List (List ℕ)) (n : ℕ) → lines ≡ front ++ remaining → n ≡ length lines - length remaining → drop n lines ≡ remaining
 left_over lines front remaining n e is = rw e (drop_at front remaining n (omega (arith, is, ap length e, length-append front remaining)))
 
 -- What is found in the lines that are left goes on what was found before.
-pub found_at : (lines more : List (Bor (List ℕ))) (place : ℕ) (line : List ℕ) (following : List (List ℕ)) (blocks grown : List Block) (found : Option Block) → drop place (map (λ x. x.now) lines) ≡ line ∷ following
-    → ((bs : List Block) → AreBlocks (drop place (map (λ x. x.now) lines)) bs → AreBlocks (map (λ x. x.now) lines) (blocks ++ bs))
-    → IsNextBlock line following found (map (λ x. x.now) more) → grown ≡ blocks ++ option_to_list found
-    → (length lines - length more ≤ length lines) × ((bs : List Block) → AreBlocks (drop (length lines - length more) (map (λ x. x.now) lines)) bs → AreBlocks (map (λ x. x.now) lines) (grown ++ bs))
-found_at lines more place line following blocks grown found e h next g =
+pub found_at : (lines more : List (Bor (List ℕ))) (place : ℕ) (line : List ℕ) (following : List (List ℕ)) (blocks grown : List Block) (found : Option Block) → place < length lines → drop place (map (λ x. x.now) lines) ≡ line ∷ following
+    → ((bs : List Block) → AreBlocks (length lines) (drop place (map (λ x. x.now) lines)) bs → AreBlocks (length lines) (map (λ x. x.now) lines) (blocks ++ bs))
+    → IsNextBlock (place + 1) line following found (map (λ x. x.now) more) → grown ≡ blocks ++ option_to_list found
+    → (length lines - length more ≤ length lines) × ((bs : List Block) → AreBlocks (length lines) (drop (length lines - length more) (map (λ x. x.now) lines)) bs → AreBlocks (length lines) (map (λ x. x.now) lines) (grown ++ bs))
+found_at lines more place line following blocks grown found below e h next g =
     let all : List (List ℕ) = map (λ x. x.now) lines in
     let rest : List (List ℕ) = map (λ x. x.now) more in
-    let (front, is) = after_next line following rest found next in
+    let (front, is) = after_next (place + 1) line following rest found next in
     let whole : all ≡ (take place all ++ line ∷ front) ++ rest = sym (take-append-drop place all) ∙ (ap (λ z. take place all ++ z) (e ∙ ap (λ z. line ∷ z) is) ∙ sym (append_assoc (take place all) (line ∷ front) rest)) in
     let begins : drop (length lines - length more) all ≡ rest = left_over all (take place all ++ line ∷ front) rest (length lines - length more) whole (omega (arith, length-map lines (λ x. x.now), length-map more (λ x. x.now))) in
-    (omega arith, λ bs a. rw g (onward all blocks line following rest found (λ b z. h b (rw e z)) next bs (subst (λ z. AreBlocks z bs) begins a)))
+    let counted : place + 1 + length following ≡ length lines = omega (arith, below, ap length e, length-drop place all, length-map lines (λ x. x.now)) in
+    (omega arith, λ bs a. rw g (onward (length lines) (place + 1) all blocks line following rest found counted (λ b z. h b (rw e z)) next bs (subst (λ z. AreBlocks (length lines) z bs) begins a)))
 
 -- A line, and those after it.
 pub line_and_rest : (lines : List (Bor (List ℕ))) (place : ℕ) (d : Bor (List ℕ)) → place < length lines
@@ -93,6 +95,6 @@ line_and_rest lines place d h =
     drop-map (λ x. x.now) place lines ∙ (ap f (drop_more lines place d h) ∙ ap (λ z. (get_or lines place d).now ∷ f z) (sym (take_all (length lines - (place + 1)) (drop (place + 1) lines) (omega (arith, length-drop (place + 1) lines)))))
 
 -- Where no line is left, all blocks are found.
-pub all_found : (lines : List (List ℕ)) (place : ℕ) (blocks : List Block) → length lines ≤ place
-    → ((bs : List Block) → AreBlocks (drop place lines) bs → AreBlocks lines (blocks ++ bs)) → AreBlocks lines blocks
-all_found lines place blocks past h = subst (λ z. AreBlocks lines z) (append-nil blocks) (h [] (rw (drop_all place lines past) (All-nil (IsNoBoundary begin))))
+pub all_found : (count : ℕ) (lines : List (List ℕ)) (place : ℕ) (blocks : List Block) → length lines ≤ place
+    → ((bs : List Block) → AreBlocks count (drop place lines) bs → AreBlocks count lines (blocks ++ bs)) → AreBlocks count lines blocks
+all_found count lines place blocks past h = subst (λ z. AreBlocks count lines z) (append-nil blocks) (h [] (rw (drop_all place lines past) (All-nil (IsNoBoundary begin))))

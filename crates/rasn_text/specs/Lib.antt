@@ -1,1 +1,4 @@
 pub mod Pem
+pub mod Escapes
+pub mod ShortNames
+pub mod Joined

@@ -1,5 +1,5 @@
 -- Blocks of PEM in a text (RFC 7468).
-use Rattle.std.specs.Prelude.{◌≡◌, ◌≢◌, ◌-◌, ℕ, length, take, Bool, not, ◌||◌, ◌==◌, List, [], ◌∷◌, ◌++◌, codes, Vec, Option, Some, None, Result, Ok, Err}
+use Rattle.std.specs.Prelude.{◌≡◌, ◌≢◌, ◌+◌, ◌-◌, ℕ, length, take, Bool, not, ◌||◌, ◌==◌, List, [], ◌∷◌, ◌++◌, codes, Vec, Option, Some, None, Result, Ok, Err}
 use Rattle.std.specs.Global.{Global}
 use Rattle.std.specs.List.{All, filter, flat_map, suffix_len}
 use Rattle.std.specs.Char.{is_ascii_whitespace}
@@ -63,20 +63,21 @@ IsContents label lines (Err (Base64 e)) after = (body : List (List ℕ)) × IsEn
 IsContents label lines (Err End) after = (body : List (List ℕ)) × (lines ≡ body ++ after) × All IsInside body
     × ((last : List ℕ) (more : List (List ℕ)) → after ≡ last ∷ more → (IsInside last → ⊥) × (IsBoundary end label last → ⊥))
 
--- The block that begins in a line, with the lines after it; or the line begins none.
-abbrev pub IsNextBlock : List ℕ → List (List ℕ) → Option Block → List (List ℕ) → Type 0
-IsNextBlock line more None after = IsNoBoundary begin line × (after ≡ more)
-IsNextBlock line more (Some b) after = IsBoundary begin b.label.now line × IsContents b.label.now more b.contents after
+-- The block that begins in the line with this number, with the lines after it; or the line begins none.
+abbrev pub IsNextBlock : ℕ → List ℕ → List (List ℕ) → Option Block → List (List ℕ) → Type 0
+IsNextBlock number line more None after = IsNoBoundary begin line × (after ≡ more)
+IsNextBlock number line more (Some b) after = IsBoundary begin b.label.now line × IsContents b.label.now more b.contents after × (b.line ≡ number)
 
--- The blocks that begin in the lines, in their order: each with what is in it.
-abbrev pub AreBlocks : List (List ℕ) → List Block → Type 0
-AreBlocks lines [] = All (IsNoBoundary begin) lines
-AreBlocks lines (b ∷ bs) = (before : List (List ℕ)) × (first : List ℕ) × (more : List (List ℕ)) × (after : List (List ℕ)) × (lines ≡ before ++ first ∷ more)
-    × All (IsNoBoundary begin) before × IsBoundary begin b.label.now first × IsContents b.label.now more b.contents after × AreBlocks after bs
+-- The blocks that begin in the last lines of `count`, in their order: each with what is in it, and with the number of its first line, which
+-- is that of all lines without those after it.
+abbrev pub AreBlocks : ℕ → List (List ℕ) → List Block → Type 0
+AreBlocks count lines [] = All (IsNoBoundary begin) lines
+AreBlocks count lines (b ∷ bs) = (before : List (List ℕ)) × (first : List ℕ) × (more : List (List ℕ)) × (after : List (List ℕ)) × (lines ≡ before ++ first ∷ more)
+    × All (IsNoBoundary begin) before × IsBoundary begin b.label.now first × IsContents b.label.now more b.contents after × (b.line + length more ≡ count) × AreBlocks count after bs
 
 -- The blocks of a text.
 abbrev pub AreBlocksOf : List ℕ → List Block → Type 0
-AreBlocksOf text bs = (lines : List (List ℕ)) × AreLines text lines × AreBlocks lines bs
+AreBlocksOf text bs = (lines : List (List ℕ)) × AreLines text lines × AreBlocks (length lines) lines bs
 
 -- The symbols are the base64 of the octets, or of none.
 abbrev pub IsDecoded : List ℕ → Result (Vec ℕ Global) PemError → Type 0

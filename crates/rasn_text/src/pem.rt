@@ -57,7 +57,7 @@ fn blocks_in<'lines, 'text>(
     alloc: Global,
     lines: &'lines [&'text [u8]],
 ) -> Result<Vec<Block<'text>>, AllocError>
-    ensures { IfOk result (λ bs. AreBlocks (map (λ l. l.now) lines.now) bs.items) }
+    ensures { IfOk result (λ bs. AreBlocks (length lines.now) (map (λ l. l.now) lines.now) bs.items) }
 {
     let mut blocks = Vec::new(alloc);
     let mut place = 0;
@@ -93,7 +93,7 @@ fn block_at<'lines, 'text>(
     line: &'text [u8],
     after: &'lines [&'text [u8]],
 ) -> Result<(Option<Block<'text>>, &'lines [&'text [u8]]), AllocError>
-    ensures block { IfOk result (λ r. IsNextBlock line.now (map (λ l. l.now) after.now) r.0 (map (λ l. l.now) r.1.now)) }
+    ensures block { IfOk result (λ r. IsNextBlock number line.now (map (λ l. l.now) after.now) r.0 (map (λ l. l.now) r.1.now)) }
     ensures fewer { IfOk result (λ r. length r.1.now ≤ length after.now) }
 {
     match label_after(line, BEGIN) {
