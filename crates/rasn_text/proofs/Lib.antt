@@ -2,3 +2,5 @@ mod Escaped
 mod NameTexts
 mod PemBlocks
 mod PemContents
+mod PemLines
+mod ValueTexts

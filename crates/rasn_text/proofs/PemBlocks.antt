@@ -1,6 +1,5 @@
 -- Blocks of PEM, one after the other.
 use Rattle.std.proofs.Common.{◌≡◌, ◌≢◌, ◌++◌, ◌∷◌, [], ℕ, Bool, true, false, List, Option, Some, None, Bor, MatchBool, MatchOption, Result, Ok, Err, Vec, ap, drop, get_or, length, map, refl, subst, sym, take, ◌+◌, ◌-◌, ◌<◌, ◌≤◌, ◌∙◌, arith}
-use Rattle.std.specs.List.{All}
 use Rattle.std.specs.Prelude.{option_to_list}
 use Rattle.std.proofs.lemmas.List.Elements.{All-nil, All-cons}
 use Rattle.std.proofs.lemmas.List.{append_assoc, append-nil, drop_all, drop_at, drop_more, drop-map, length-append, length-drop, length-map, take-append-drop, take_all}

@@ -1,5 +1,5 @@
 -- The lines of a text, and those of a block.
-use Rattle.std.proofs.Common.{◌≡◌, ◌≢◌, ◌++◌, ◌∷◌, [], ℕ, Bool, true, false, Bor, List, Vec, Result, Ok, Err, ap, arith, drop, get_or, length, map, nat_eq, refl, subst, sym, take, ◌-◌, ◌≤◌, ◌∙◌, ◌↔◌}
+use Rattle.std.proofs.Common.{◌≡◌, ◌≢◌, ◌++◌, ◌∷◌, [], ℕ, Bool, true, false, Bor, List, Vec, Result, Ok, Err, ap, arith, drop, get_or, length, map, nat_eq, subst, sym, take, ◌-◌, ◌≤◌, ◌∙◌, ◌↔◌}
 use Rattle.std.specs.Global.{Global}
 use Rattle.std.specs.List.{All, filter, flat_map}
 use Rattle.std.proofs.lemmas.List.{append_assoc, drop_more, flat_map_more, length-drop, take_all}
@@ -14,7 +14,7 @@ use Rattle.base64.specs.declared.decode.DecodeAllocError.{DecodeAllocError}
 use Rattle.base64.specs.declared.decode.DecodeAllocError.TheVariants.{DecodeError as Failed}
 use Rattle.rasn_text.specs.declared.pem.PemError.{PemError}
 use Rattle.rasn_text.specs.declared.pem.PemError.TheVariants.{End, Base64}
-use Rattle.rasn_text.specs.Pem.{dashes, end, is_symbol, AreLines, IsBoundary, IsInside, IsEnded, IsContents, IsDecoded}
+use Rattle.rasn_text.specs.Pem.{dashes, is_symbol, AreLines, IsInside, IsEnded, IsContents, IsDecoded}
 
 more_flat : {X A : Type 0} (f : X → List A) (xs : List X) (x : X) → flat_map f xs ++ f x ≡ flat_map f (xs ++ x ∷ [])
 more_flat f xs x = flat_map_more f [] xs x

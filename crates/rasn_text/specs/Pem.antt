@@ -33,6 +33,11 @@ pub record AreLines (text : List ℕ) (lines : List (List ℕ)) : Type 0 where
   pub text_is : text ≡ flat_map (λ l. l ++ 10 ∷ []) front ++ last
   pub none_has : All (All (λ c. c ≢ 10)) lines
 
+-- The text begins with these lines, each with its line feed.
+pub record AreBefore (text : List ℕ) (front : List (List ℕ)) (rest : List ℕ) : Type 0 where
+  pub text_is : text ≡ flat_map (λ l. l ++ 10 ∷ []) front ++ rest
+  pub none_has : All (All (λ c. c ≢ 10)) front
+
 -- a line without white space at its end
 abbrev pub trimmed : List ℕ → List ℕ
 trimmed line = take (length line - suffix_len is_ascii_whitespace line) line

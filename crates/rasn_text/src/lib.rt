@@ -3,7 +3,9 @@
 #![tactic(auto)]
 
 mod escapes;
+mod name;
 mod pem;
 mod short_names;
 
-pub use pem::{Block, PemError, blocks};
+pub use name::name_text;
+pub use pem::{Block, PemError, blocks, line_start};

@@ -1,8 +1,8 @@
 //! PEM, the textual encoding of octets (RFC 7468).
-ghost use Rattle.std.specs.Prelude.{◌≡◌, ◌≢◌, ◌<◌, ◌≤◌, ◌∷◌, ◌++◌, IfOk, IfSome, OnOk, MatchOption, length, map, option_to_list};
+ghost use Rattle.std.specs.Prelude.{◌≡◌, ◌≢◌, ◌+◌, ◌-◌, ◌<◌, ◌≤◌, ◌∷◌, ◌++◌, List, ℕ, IfOk, IfSome, OnOk, MatchOption, length, map, option_to_list};
 ghost use Rattle.std.specs.List.{All, filter};
 ghost use Rattle.rasn_types.specs.Truth.{IsWhether};
-ghost use Rattle.rasn_text.specs.Pem.{AreLines, IsBoundary, IsNoBoundary, IsContents, AreBlocks, AreBlocksOf, IsDecoded, IsNextBlock, end, is_space, is_symbol};
+ghost use Rattle.rasn_text.specs.Pem.{AreLines, AreBefore, IsBoundary, IsNoBoundary, IsContents, AreBlocks, AreBlocksOf, IsDecoded, IsNextBlock, end, is_space, is_symbol};
 
 use base64::DecodeAllocError;
 use base64::engine::general_purpose::STANDARD;
@@ -122,6 +122,26 @@ fn lines_of<'text>(alloc: Global, octets: &'text [u8]) -> Result<Vec<&'text [u8]
     }
     lines.push(rest)?;
     Ok(lines)
+}
+
+/// Returns where the line with this number begins, in octets from the start of the text. If there
+/// are fewer lines, it is some place in the text.
+pub fn line_start(octets: &[u8], number: usize) -> usize
+    ensures start { (front : List (List ℕ)) (rest : List ℕ) → AreBefore octets.now front rest → length front + 1 ≡ number → result ≡ length octets.now - length rest }
+    ensures within { result ≤ length octets.now }
+{
+    let mut rest = octets;
+    let mut line = 1;
+    while line < number {
+        match first_line(rest) {
+            Some((_, after)) => {
+                rest = after;
+                line += 1;
+            }
+            None => return octets.len(),
+        }
+    }
+    octets.len() - rest.len()
 }
 
 /// Returns what is before the first line feed, and what is after it.

@@ -1,4 +1,4 @@
-use Rattle.std.proofs.Common.{map, length, arith}
+use Rattle.std.proofs.Common.{arith}
 use Rattle.std.proofs.lemmas.List.{length-map}
 use Rattle.rasn_text.proofs.PemBlocks.{all_found, found_at, line_and_rest}
 use Rattle.rasn_text.proofs.pem.blocks_in.Goals as goal
