@@ -11,6 +11,7 @@
  *   it frees all that it allocates. It returns SOQ_OUT_OF_MEMORY if an allocation fails.
  * - accepts a null pointer if its length is 0. Otherwise it returns SOQ_NULL_POINTER for a null pointer, SOQ_TOO_LONG for a length that
  *   no object can have, and SOQ_OVERLAP if memory that it would write overlaps other memory of the call. It then writes nothing.
+ *   A `reason` may be null: then it isn't reported.
  *
  * Link libsoqavise.a, which needs only the C library: cc -std=c11 program.c libsoqavise.a. Or link libsoqavise.so: cc program.c -lsoqavise.
  */
@@ -35,6 +36,12 @@ typedef enum soq_status {
     SOQ_BUFFER_TOO_SMALL = 3,
     SOQ_UNKNOWN_TYPE = 4,
     SOQ_UNKNOWN_RULE = 5,
+    /* The octets of a schema aren't those of one. */
+    SOQ_BAD_SCHEMA = 6,
+    /* No value of the type has a part with this path, or the text isn't a path. */
+    SOQ_UNKNOWN_PATH = 7,
+    /* The value doesn't have the part, which others of its type have. */
+    SOQ_ABSENT = 8,
     /* What is wrong with the arguments of a call. */
     SOQ_NULL_POINTER = 16,
     SOQ_OVERLAP = 17,
@@ -165,6 +172,108 @@ typedef struct soq_time_fields {
     uint32_t nanosecond;
 } soq_time_fields;
 
+/* An instant, as seconds since 1970. */
+typedef struct soq_instant {
+    /* Since the start of 1970 in UTC, without leap seconds. */
+    int64_t seconds;
+    /* From 1,000,000,000 on they are in a leap second after the second. */
+    uint32_t nanosecond;
+} soq_instant;
+
+/* A text of modules of ASN.1, and the name that faults have for it, as that of its file. Both are UTF-8. Here no pointer may be null. */
+typedef struct soq_texts {
+    const char *name;
+    size_t name_length;
+    const char *text;
+    size_t text_length;
+} soq_texts;
+
+/* Why a call by a schema has no result. If it has one, all fields are 0. */
+typedef struct soq_reason {
+    /* A soq_kind: why octets are refused. SOQ_KIND_NONE for another reason. */
+    uint32_t kind;
+    /* The line and the column of a fault in a module or in JSON, counted from 1; otherwise 0. */
+    uint32_t line;
+    uint32_t column;
+    /* Where the value begins that is refused, in octets from the start of the message. */
+    size_t offset;
+    /* The text begins with the path to the part, of so many octets, such as `tbsCertificate.validity`. */
+    size_t path_length;
+    /* The length of the text, without the zero at its end. */
+    size_t text_length;
+} soq_reason;
+
+/* The kinds of types: the number of the universal tag (X.680 8.4), and others for a list and for a type that has none. */
+typedef enum soq_part_kind {
+    SOQ_PART_BOOLEAN = 1,
+    SOQ_PART_INTEGER = 2,
+    SOQ_PART_BIT_STRING = 3,
+    SOQ_PART_OCTET_STRING = 4,
+    SOQ_PART_NULL = 5,
+    SOQ_PART_OBJECT_IDENTIFIER = 6,
+    SOQ_PART_ENUMERATED = 10,
+    SOQ_PART_UTF8 = 12,
+    SOQ_PART_SEQUENCE = 16,
+    SOQ_PART_SET = 17,
+    SOQ_PART_NUMERIC = 18,
+    SOQ_PART_PRINTABLE = 19,
+    SOQ_PART_IA5 = 22,
+    SOQ_PART_UTC_TIME = 23,
+    SOQ_PART_GENERALIZED_TIME = 24,
+    SOQ_PART_VISIBLE = 26,
+    /* GeneralString, GraphicString, TeletexString or VideotexString */
+    SOQ_PART_ANY_OCTETS = 27,
+    SOQ_PART_BMP = 30,
+    SOQ_PART_DATE = 31,
+    SOQ_PART_SEQUENCE_OF = 48,
+    SOQ_PART_SET_OF = 49,
+    /* The alternative that is chosen has the octets. */
+    SOQ_PART_CHOICE = 64,
+    /* An explicit tag: its contents are the encoding that it holds. */
+    SOQ_PART_TAGGED = 65,
+    /* An open type: one encoding of any type. */
+    SOQ_PART_ANY = 66,
+    /* The encodings that an extensible SEQUENCE of this version doesn't name, none or some. */
+    SOQ_PART_UNKNOWN = 67
+} soq_part_kind;
+
+/* A part of a message. */
+typedef struct soq_part {
+    /* Where it begins, in octets from the start of the message. */
+    size_t offset;
+    /* The number of its identifier and length octets, that of contents octets after them, and that of all octets. With an indefinite length
+     * two end-of-contents octets follow the contents. */
+    size_t header;
+    size_t contents;
+    size_t length;
+    /* The class of its tag: 0 is universal, 1 application, 2 context-specific, 3 private. */
+    uint32_t tag_class;
+    uint32_t tag_number;
+    /* 1 if it is constructed, otherwise 0. */
+    uint32_t constructed;
+    /* A soq_part_kind. */
+    uint32_t kind;
+} soq_part;
+
+/* A part among all parts of a message. */
+typedef struct soq_listed_part {
+    soq_part part;
+    /* How many parts it is in. */
+    size_t depth;
+    /* Its index in the part that it is in: of a component, an alternative or an element, counted from 0. */
+    size_t index;
+    /* Where its name is among the names, and how many octets it has; 0 for an element and for what an explicit tag holds. A zero follows
+     * each name. */
+    size_t name;
+    size_t name_length;
+} soq_listed_part;
+
+/* How many parts a message has, and how many octets their names have with a zero after each. */
+typedef struct soq_counts {
+    size_t parts;
+    size_t names;
+} soq_counts;
+
 /*
  * Skips the one whole encoding at the front of the octets, of any type and nested to any depth. It doesn't recurse, and doesn't check the
  * contents of a definite length.
@@ -286,6 +395,149 @@ soq_status soq_oid_text(soq_rule rule, const uint8_t *octets, size_t length, cha
  * Contract: AnswersTime (crates/rasn_c/specs/Leaves.antt), from those of `Decoder::decode_utc_time` and `decode_generalized_time`.
  */
 soq_status soq_time(soq_type type, soq_rule rule, const uint8_t *octets, size_t length, soq_time_fields *time);
+
+/*
+ * Returns the instant of the UTCTime or the GeneralizedTime (SOQ_UTCTIME, SOQ_GENTIME) that all of the octets are, as seconds since 1970.
+ * Its tag may be any. The statuses are those of `soq_time`.
+ *
+ * Contract: AnswersSeconds (crates/rasn_c/specs/Seconds.antt).
+ */
+soq_status soq_seconds(soq_type type, soq_rule rule, const uint8_t *octets, size_t length, soq_instant *instant);
+
+/*
+ * Writes the characters of the string that all of the octets are to the buffer, in UTF-8, and a zero. Its tag may be any; `kind` says its
+ * type: SOQ_PART_UTF8, SOQ_PART_NUMERIC, SOQ_PART_PRINTABLE, SOQ_PART_IA5 or SOQ_PART_VISIBLE.
+ *
+ * SOQ_OK: the text has `*needed` octets with its zero. A character of it may be a zero too.
+ * SOQ_BUFFER_TOO_SMALL: it has `*needed` octets, which is more than `capacity`. The buffer is unchanged.
+ * SOQ_REFUSED: the octets aren't such a string under these rules.
+ * SOQ_UNKNOWN_TYPE: the kind is none of these.
+ * For each other status `*needed` is 0 and the buffer is unchanged.
+ *
+ * Contract: AnswersCharacters (crates/rasn_c/specs/Strings.antt).
+ */
+soq_status soq_utf8(soq_part_kind kind, soq_rule rule, const uint8_t *octets, size_t length, char *text, size_t capacity,
+                    size_t *needed);
+
+/*
+ * Writes the bits of the BIT STRING that all of the octets are to the buffer, the first bit of each octet first, and their number. Its tag
+ * may be any. Bits of the last octet that aren't used are 0.
+ *
+ * SOQ_OK: there are `*bits` bits in `*needed` octets.
+ * SOQ_BUFFER_TOO_SMALL: the same, and `*needed` is more than `capacity`. The buffer is unchanged.
+ * SOQ_REFUSED: the octets aren't a BIT STRING under these rules.
+ * For each other status both numbers are 0 and the buffer is unchanged.
+ *
+ * Contract: AnswersBits (crates/rasn_c/specs/Strings.antt).
+ */
+soq_status soq_bits(soq_rule rule, const uint8_t *octets, size_t length, uint8_t *buffer, size_t capacity, size_t *needed,
+                    size_t *bits);
+
+/*
+ * Calls by a schema. A schema is octets in a buffer of the caller's, which `soq_compile` writes. Whenever it is read again, it is checked:
+ * for octets that aren't a schema the calls return SOQ_BAD_SCHEMA, and the text says why. The form of the octets may change with the
+ * version of the library.
+ *
+ * Each call reports in `reason` and `text` why it has no result. The text is truncated if the buffer can't hold it and the zero at its end;
+ * with a capacity of 0 no text is written.
+ */
+
+/*
+ * Writes the schema of a type of modules to the buffer. `type` is `TYPE`, the first of this name in the texts, or `MODULE.TYPE`. A text has
+ * any number of modules; docs/MODULES.md says what of X.680 is read.
+ *
+ * SOQ_OK: the schema has `*needed` octets.
+ * SOQ_BUFFER_TOO_SMALL: it has `*needed` octets, which is more than `capacity`. The buffer is unchanged.
+ * SOQ_REFUSED: the modules have faults. The text has a line `NAME:LINE:COLUMN: what is wrong` for each, and `reason` the place of the first.
+ * SOQ_UNKNOWN_TYPE: no module has a type of this name.
+ * For each other status `*needed` is 0 and the buffer is unchanged.
+ *
+ * Contract: AnswersCompile (crates/rasn_c/specs/Compiling.antt), from those of `Modules::schema` and `rasn_schema_octets::write`.
+ */
+soq_status soq_compile(const soq_texts *texts, size_t count, const char *type, uint8_t *buffer, size_t capacity, size_t *needed,
+                       soq_reason *reason, char *text, size_t text_capacity);
+
+/*
+ * Returns whether all of the octets are one value of the type under these rules. Under SOQ_DER it is then the one DER encoding of its
+ * value. If `open_types` isn't 0, under SOQ_DER the octets inside open types are looked into too, such as the values in a name; under the
+ * other rules the argument is ignored.
+ *
+ * SOQ_OK: they are.
+ * SOQ_REFUSED: they aren't. The text is `PATH, byte OFFSET: RULES: what is wrong`.
+ *
+ * Contract: AnswersCheckBy (crates/rasn_c/specs/Checking.antt), from those of `rasn_lint::check` and `rasn_dynamic::check_or_locate`.
+ */
+soq_status soq_check_by(const uint8_t *schema, size_t schema_length, soq_rule rule, int open_types, const uint8_t *octets,
+                        size_t length, soq_reason *reason, char *text, size_t capacity);
+
+/*
+ * Finds the part of the value at the front of the octets to which a path leads: `tbsCertificate.validity.notAfter`, with names of components
+ * and alternatives, and `extensions[1].extnValue`, with the index of an element counted from 0. The empty path leads to the value itself. An
+ * explicit tag on the way has no name; one at the end is the part, and its contents are the encoding that it holds. Parts after it aren't
+ * read.
+ *
+ * SOQ_OK: the octets at `part->offset` of `part->length` octets are those from which the part at this path of the value was read.
+ * SOQ_ABSENT: a component on the way is absent, another alternative is chosen, or there are fewer elements.
+ * SOQ_UNKNOWN_PATH: no value of the type has a part with this path, or the text isn't a path.
+ * SOQ_REFUSED: a part before it, or the part itself, can't be read. The text is as that of `soq_check_by`.
+ * For each status other than SOQ_OK all fields of `part` are 0.
+ *
+ * Contract: AnswersFind (crates/rasn_c/specs/Finding.antt), from those of `rasn_dynamic::find_part` and `path_named`.
+ */
+soq_status soq_find(const uint8_t *schema, size_t schema_length, soq_rule rule, const uint8_t *octets, size_t length,
+                    const char *path, soq_part *part, soq_reason *reason, char *text, size_t capacity);
+
+/*
+ * Lists all parts of the value at the front of the octets in the order of their octets, each before those inside it, beginning with the
+ * value itself.
+ *
+ * SOQ_OK: there are `counts->parts` parts, and `counts->names` octets of names.
+ * SOQ_BUFFER_TOO_SMALL: the same, and one of the two is more than its buffer holds. Both buffers are unchanged.
+ * SOQ_REFUSED: the octets don't begin with a value. The text is as that of `soq_check_by`.
+ * For each other status both counts are 0 and the buffers are unchanged.
+ *
+ * Contract: AnswersParts (crates/rasn_c/specs/Listing.antt), from that of `rasn_dynamic::parts_of`.
+ */
+soq_status soq_parts(const uint8_t *schema, size_t schema_length, soq_rule rule, const uint8_t *octets, size_t length,
+                     soq_listed_part *parts, size_t count, char *names, size_t names_capacity, soq_counts *counts,
+                     soq_reason *reason, char *text, size_t capacity);
+
+/*
+ * Writes the value that all of the octets are to the buffer as JSON (X.697), in UTF-8, and a zero: with a line for each member and element
+ * if `lines` isn't 0.
+ *
+ * SOQ_OK: the text has `*needed` octets with its zero.
+ * SOQ_BUFFER_TOO_SMALL: it has `*needed` octets, which is more than `capacity`. The buffer is unchanged.
+ * SOQ_REFUSED: the octets aren't one value of the type, or the value has no JSON.
+ * For each other status `*needed` is 0 and the buffer is unchanged.
+ *
+ * Contract: AnswersJson (crates/rasn_c/specs/Converting.antt), from that of `rasn_json::json`.
+ */
+soq_status soq_json(const uint8_t *schema, size_t schema_length, soq_rule rule, int lines, const uint8_t *octets, size_t length,
+                    char *json, size_t capacity, size_t *needed, soq_reason *reason, char *text, size_t text_capacity);
+
+/*
+ * Writes the octets, by these rules, of the value that a JSON text is to the buffer. The text is UTF-8, of `length` octets, without a zero.
+ *
+ * SOQ_OK: there are `*needed` octets.
+ * SOQ_BUFFER_TOO_SMALL: the same, and this is more than `capacity`. The buffer is unchanged.
+ * SOQ_REFUSED: the text isn't the JSON of a value of the type, or the value has no octets. The text begins with the path to the part.
+ * For each other status `*needed` is 0 and the buffer is unchanged.
+ *
+ * Contract: AnswersEncode (crates/rasn_c/specs/Converting.antt), from that of `rasn_json::encode`.
+ */
+soq_status soq_encode(const uint8_t *schema, size_t schema_length, soq_rule rule, const char *json, size_t length,
+                      uint8_t *buffer, size_t capacity, size_t *needed, soq_reason *reason, char *text, size_t text_capacity);
+
+/*
+ * Writes the one DER encoding of the value that all of the octets are by these rules to the buffer. The statuses are those of
+ * `soq_normalise`, with why octets are refused in the text.
+ *
+ * Contract: AnswersNormaliseBy (crates/rasn_c/specs/Converting.antt), from that of `rasn_dynamic::normalise`.
+ */
+soq_status soq_normalise_by(const uint8_t *schema, size_t schema_length, soq_rule rule, const uint8_t *octets, size_t length,
+                            uint8_t *buffer, size_t capacity, size_t *needed, soq_reason *reason, char *text,
+                            size_t text_capacity);
 
 #ifdef __cplusplus
 }

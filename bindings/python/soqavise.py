@@ -12,6 +12,19 @@ the system looks for libraries.
 Traceback (most recent call last):
     ..
 soqavise.Refused: DER: BOOLEAN octet 05 is neither 00 nor FF
+
+With a schema, values of any type of ASN.1 modules are read and written, in the form of JSON (X.697):
+
+>>> module = "Pairs DEFINITIONS ::= BEGIN Pair ::= SEQUENCE { number INTEGER, name UTF8String OPTIONAL } END"
+>>> pair = soqavise.Schema({"pairs.asn1": module}, "Pair")
+>>> pair.loads(bytes.fromhex("3006 020105 0C0161"))
+{'number': 5, 'name': 'a'}
+>>> pair.dumps({"number": 5}).hex()
+'3003020105'
+>>> pair.check(bytes.fromhex("3003 020205"))
+Traceback (most recent call last):
+    ..
+soqavise.Refused: number, byte 2: DER: unexpected end of input, need 1 more octet
 """
 from __future__ import annotations
 
@@ -19,12 +32,13 @@ import ctypes
 import ctypes.util
 import datetime
 import enum
+import json
 import os
 import pathlib
-from typing import Iterator, NamedTuple
+from typing import Any, Iterator, Mapping, NamedTuple, Sequence
 
 __all__ = [
-    "Encoding", "Refused", "Rules", "Type", "check", "encodings", "fault", "identifier", "integer",
+    "Encoding", "Part", "Refused", "Rules", "Schema", "Type", "check", "encodings", "fault", "identifier", "integer",
     "next_encoding", "normalise", "skip", "time",
 ]
 
@@ -63,14 +77,16 @@ class Type(enum.IntEnum):
 class Refused(ValueError):
     """The octets aren't what the call asks for.
 
-    `kind` is the kind of the error (`soq_kind` of soqavise.h), 0 if it isn't known; `offset` is that
-    of octets that follow a value, and 0 if no value is read.
+    `kind` is the kind of the error (`soq_kind` of soqavise.h), 0 if it isn't known. Of a call by a
+    schema, `path` leads to the part of the message or of JSON, as `tbsCertificate.validity`, and
+    `offset` is where the part begins; of another call, `offset` is that of octets that follow a value.
     """
 
-    def __init__(self, text: str, kind: int = 0, offset: int = 0) -> None:
+    def __init__(self, text: str, kind: int = 0, offset: int = 0, path: str = "") -> None:
         super().__init__(text)
         self.kind = kind
         self.offset = offset
+        self.path = path
 
 
 class Encoding(NamedTuple):
@@ -104,6 +120,37 @@ class _Time(ctypes.Structure):
     ]
 
 
+class _Texts(ctypes.Structure):
+    _fields_ = [
+        ("name", ctypes.c_char_p), ("name_length", ctypes.c_size_t),
+        ("text", ctypes.c_char_p), ("text_length", ctypes.c_size_t),
+    ]
+
+
+class _Reason(ctypes.Structure):
+    _fields_ = [
+        ("kind", ctypes.c_uint32), ("line", ctypes.c_uint32), ("column", ctypes.c_uint32),
+        ("offset", ctypes.c_size_t), ("path_length", ctypes.c_size_t), ("text_length", ctypes.c_size_t),
+    ]
+
+
+class _Part(ctypes.Structure):
+    _fields_ = [(name, ctypes.c_size_t) for name in ("offset", "header", "contents", "length")] + [
+        (name, ctypes.c_uint32) for name in ("tag_class", "tag_number", "constructed", "kind")
+    ]
+
+
+class Part(NamedTuple):
+    """A part of a message: where it begins, and its octets."""
+
+    offset: int
+    tag_class: int  # 0 universal, 1 application, 2 context-specific, 3 private
+    tag_number: int
+    kind: int  # soq_part_kind of soqavise.h
+    contents: bytes
+    whole: bytes
+
+
 def _load() -> ctypes.CDLL:
     beside = pathlib.Path(__file__).resolve().parent.parent / "libsoqavise.so"
     name = os.environ.get("SOQAVISE_LIBRARY") or (str(beside) if beside.exists() else None)
@@ -134,6 +181,14 @@ _next = _function("soq_next", _KIND, ctypes.c_void_p, ctypes.c_size_t, ctypes.PO
 _integer_octets = _function("soq_integer_octets", _KIND, *_OCTETS, *_OCTETS, _SIZE)
 _identifier = _function("soq_oid_text", _KIND, *_OCTETS, *_OCTETS, _SIZE)
 _time = _function("soq_time", _KIND, _KIND, *_OCTETS, ctypes.POINTER(_Time))
+_ABSENT = 8
+_REASON = [ctypes.POINTER(_Reason), *_OCTETS]
+_compile = _function("soq_compile", ctypes.POINTER(_Texts), ctypes.c_size_t, ctypes.c_char_p, *_OCTETS, _SIZE, *_REASON)
+_check_by = _function("soq_check_by", *_OCTETS, _KIND, ctypes.c_int, *_OCTETS, *_REASON)
+_find = _function("soq_find", *_OCTETS, _KIND, *_OCTETS, ctypes.c_char_p, ctypes.POINTER(_Part), *_REASON)
+_json = _function("soq_json", *_OCTETS, _KIND, ctypes.c_int, *_OCTETS, *_OCTETS, _SIZE, *_REASON)
+_encode = _function("soq_encode", *_OCTETS, _KIND, *_OCTETS, *_OCTETS, _SIZE, *_REASON)
+_normalise_by = _function("soq_normalise_by", *_OCTETS, _KIND, *_OCTETS, *_OCTETS, _SIZE, *_REASON)
 
 
 def _answer(status: int, text: str) -> None:
@@ -245,3 +300,91 @@ def time(type: Type, rules: Rules, octets: bytes) -> datetime.datetime:
     return datetime.datetime(
         it.year, it.month, it.day, it.hour, it.minute, it.second, microsecond, datetime.timezone.utc
     )
+
+
+def _told(status: int, reason: _Reason, text: ctypes.Array) -> None:
+    """Raises the error of a call by a schema, unless its status is SOQ_OK."""
+    if status == _OUT_OF_MEMORY:
+        raise MemoryError
+    if status != _OK:
+        said = text.raw[: min(reason.text_length, len(text) - 1)]
+        path = said[: reason.path_length].decode("utf-8", "replace")
+        raise Refused(said.decode("utf-8", "replace"), reason.kind, reason.offset, path)
+
+
+def _made(capacity: int, call) -> bytes:
+    """Returns what a call writes, with a larger buffer if it asks for one."""
+    text = ctypes.create_string_buffer(4096)
+    while True:
+        buffer, needed, reason = ctypes.create_string_buffer(max(capacity, 1)), ctypes.c_size_t(), _Reason()
+        status = call(buffer, capacity, needed, reason, text, len(text))
+        if status != _TOO_SMALL:
+            _told(status, reason, text)
+            return buffer.raw[: needed.value]
+        capacity = needed.value
+
+
+class Schema:
+    """A type of ASN.1 modules, with the types that it is made of."""
+
+    def __init__(self, modules: Mapping[str, str] | Sequence[str], type: str) -> None:
+        """Reads modules, which are texts by their names or texts alone, and takes a type of them:
+        `TYPE`, the first of this name, or `MODULE.TYPE`.
+
+        Raises Refused with a line `NAME:LINE:COLUMN: what is wrong` for each fault of the modules.
+        """
+        named = modules.items() if isinstance(modules, Mapping) else ((f"{i + 1}", it) for i, it in enumerate(modules))
+        pairs = [(name.encode(), text.encode()) for name, text in named]
+        texts = (_Texts * max(len(pairs), 1))(*(_Texts(name, len(name), text, len(text)) for name, text in pairs))
+        asked = type.encode()
+        self._octets = _made(1 << 14, lambda *to: _compile(texts, len(pairs), asked, *to))
+
+    def check(self, octets: bytes, rules: Rules = Rules.DER, open_types: bool = True) -> None:
+        """Checks that all of the octets are one value of the type.
+
+        By DER they are then its only encoding; with open_types those inside open types are well formed
+        too. Raises Refused with the path to the part, where it begins, and why it isn't read.
+        """
+        reason, text = _Reason(), ctypes.create_string_buffer(4096)
+        octets = bytes(octets)
+        status = _check_by(self._octets, len(self._octets), rules, open_types, octets, len(octets), reason, text, len(text))
+        _told(status, reason, text)
+
+    def loads(self, octets: bytes, rules: Rules = Rules.DER) -> Any:
+        """Returns the value that all of the octets are, in the form of JSON (X.697): a SEQUENCE as a
+        dict, a SEQUENCE OF as a list, an OCTET STRING and an open type as hexadecimal digits, a time as
+        its text. Raises Refused."""
+        octets = bytes(octets)
+        made = _made(
+            4 * len(octets) + 256,
+            lambda *to: _json(self._octets, len(self._octets), rules, 0, octets, len(octets), *to),
+        )
+        return json.loads(made[:-1])
+
+    def dumps(self, value: Any, rules: Rules = Rules.DER) -> bytes:
+        """Returns the octets of a value in the form of JSON (X.697). Raises Refused with the path to the
+        part that isn't of its type."""
+        text = json.dumps(value, ensure_ascii=False).encode()
+        return _made(len(text), lambda *to: _encode(self._octets, len(self._octets), rules, text, len(text), *to))
+
+    def normalise(self, octets: bytes, rules: Rules = Rules.BER) -> bytes:
+        """Returns the DER octets of the value that all of the octets are. Raises Refused."""
+        octets = bytes(octets)
+        return _made(
+            len(octets),
+            lambda *to: _normalise_by(self._octets, len(self._octets), rules, octets, len(octets), *to),
+        )
+
+    def find(self, octets: bytes, path: str, rules: Rules = Rules.DER) -> Part | None:
+        """Returns the part to which a path leads, as `tbsCertificate.extensions[1].extnValue`, or None
+        if the value doesn't have it. Parts after it aren't read. Raises Refused if a part before it
+        can't be read, or no value of the type has such a part."""
+        part, reason, text = _Part(), _Reason(), ctypes.create_string_buffer(4096)
+        octets = bytes(octets)
+        status = _find(self._octets, len(self._octets), rules, octets, len(octets), path.encode(), part, reason, text, len(text))
+        if status == _ABSENT:
+            return None
+        _told(status, reason, text)
+        whole = octets[part.offset : part.offset + part.length]
+        contents = whole[part.header : part.header + part.contents]
+        return Part(part.offset, part.tag_class, part.tag_number, part.kind, contents, whole)

@@ -2,7 +2,7 @@
 import datetime
 import unittest
 
-from soqavise import Refused, Rules, Type, check, encodings, fault, identifier, integer, next_encoding, normalise, skip, time
+from soqavise import Refused, Rules, Schema, Type, check, encodings, fault, identifier, integer, next_encoding, normalise, skip, time
 
 
 def octets(digits):
@@ -61,6 +61,59 @@ class Calls(unittest.TestCase):
         self.assertEqual(time(Type.GENTIME, Rules.DER, octets("180F32303236313132343132303030305A")), noon)  # 11.7
         with self.assertRaises(Refused):
             time(Type.BOOL, Rules.DER, octets("0101FF"))
+
+
+MODULE = """Rows DEFINITIONS IMPLICIT TAGS ::= BEGIN
+Row ::= SEQUENCE {
+    number INTEGER,
+    name UTF8String OPTIONAL,
+    list SEQUENCE OF BOOLEAN,
+    kind CHOICE { low [0] NULL, high [1] INTEGER }
+}
+END
+"""
+
+
+class Schemas(unittest.TestCase):
+    """The octets are worked out by hand from X.690, the values from X.697."""
+
+    row = octets("3012 020105 0C02C3A9 3006 0101FF 010100 810107")
+    value = {"number": 5, "name": "\u00e9", "list": [True, False], "kind": {"high": 7}}
+
+    def setUp(self):
+        self.schema = Schema({"rows.asn1": MODULE}, "Row")
+
+    def test_reads_and_writes(self):
+        self.assertEqual(self.schema.loads(self.row), self.value)
+        self.assertEqual(self.schema.dumps(self.value), self.row)
+        spelled = octets("3080 020105 2C06 0401C3 0401A9 3080 010105 010100 0000 810107 0000")  # 8.1.3.6, 8.2.2, 8.21
+        self.assertEqual(self.schema.loads(spelled, Rules.BER), self.value)
+        self.assertEqual(self.schema.normalise(spelled), self.row)
+        self.assertEqual(Schema([MODULE], "Rows.Row").loads(self.row), self.value)
+
+    def test_checks(self):
+        self.schema.check(self.row)
+        with self.assertRaises(Refused) as refused:  # 11.1
+            self.schema.check(self.row.replace(octets("0101FF"), octets("010105")))
+        self.assertEqual((refused.exception.path, refused.exception.offset, refused.exception.kind), ("list[0]", 11, 8))
+        with self.assertRaises(Refused) as refused:
+            self.schema.dumps({"number": 5, "list": [True, 0]})
+        self.assertEqual(refused.exception.path, "list[1]")
+
+    def test_finds(self):
+        part = self.schema.find(self.row, "kind.high")
+        self.assertEqual((part.offset, part.tag_class, part.tag_number, part.contents), (17, 2, 1, octets("07")))
+        self.assertEqual(integer(Rules.DER, part.whole), 7)
+        self.assertIsNone(self.schema.find(self.row, "list[2]"))
+        with self.assertRaises(Refused):
+            self.schema.find(self.row, "names")
+
+    def test_reports_faults(self):
+        with self.assertRaises(Refused) as refused:
+            Schema({"m.asn1": "M DEFINITIONS ::= BEGIN\nT ::= SEQUENCE { part Missing }\nEND\n"}, "T")
+        self.assertTrue(str(refused.exception).startswith("m.asn1:2:23: "))
+        with self.assertRaises(Refused):
+            Schema({"rows.asn1": MODULE}, "Other")
 
 
 if __name__ == "__main__":

@@ -1,24 +1,29 @@
-//! Prints the serial number of a certificate in DER, and the time at which its validity ends
-//! (RFC 5280 4.1): `cargo run --example expiry certificate.der`.
-use soqavise::{check, encodings, integer_octets, next, time, Encoding, Error, Rules, TimeType, Type};
+//! Prints the subject of each certificate of a PEM file, and the time at which its validity ends
+//! (RFC 5280 4.1): `cargo run --example expiry certificates.asn1 certificates.pem`.
+use soqavise::{pem, Rules, Schema, Value};
 
-/// Returns the parts in the contents of an encoding.
-fn parts(of: &[u8]) -> Result<Vec<Encoding<'_>>, Error> {
-    encodings(Rules::Der, of).collect()
+/// Returns an attribute, as `CN=example.org`.
+fn attribute(value: &Value<'_>) -> String {
+    let of = value["type"].as_identifier().unwrap_or_default();
+    let names = [("2.5.4.3", "CN"), ("2.5.4.6", "C"), ("2.5.4.7", "L"), ("2.5.4.8", "ST"), ("2.5.4.10", "O"), ("2.5.4.11", "OU")];
+    let name = names.iter().find(|it| it.0 == of).map_or(of.as_str(), |it| it.1);
+    format!("{name}={}", value["value"].as_text().unwrap_or("?".to_owned()))
 }
 
 fn main() -> Result<(), Box<dyn std::error::Error>> {
-    let name = std::env::args().nth(1).ok_or("usage: expiry CERTIFICATE")?;
-    let octets = std::fs::read(name)?;
-    check(Type::Certificate, &octets)?;
-    let certificate = next(Rules::Der, &octets)?;
-    let body = parts(next(Rules::Der, certificate.contents)?.contents)?;
-    let first = usize::from(body[0].tag_class == 2); // after [0] version, if it is there
-    let end = parts(body[first + 3].contents)?[1];
-    let kind = if end.tag_number == 23 { TimeType::Utc } else { TimeType::Generalized };
-    let serial: Vec<String> = integer_octets(Rules::Der, body[first].whole)?.iter().map(|it| format!("{it:02X}")).collect();
-    let until = time(kind, Rules::Der, end.whole)?;
-    println!("serial number 0x{}", serial.concat());
-    println!("valid until {:04}-{:02}-{:02} {:02}:{:02}:{:02}", until.year, until.month, until.day, until.hour, until.minute, until.second);
+    let words: Vec<String> = std::env::args().skip(1).collect();
+    let [modules, file] = words.as_slice() else {
+        return Err("usage: expiry MODULES CERTIFICATES".into());
+    };
+    let schema = Schema::compile(&[(modules, &std::fs::read_to_string(modules)?)], "Certificate")?;
+    for (_, octets) in pem(&std::fs::read_to_string(file)?).into_iter().filter(|it| it.0 == "CERTIFICATE") {
+        let octets = octets.ok_or("not base64")?;
+        let certificate = schema.read(Rules::Der, &octets)?;
+        let body = &certificate["tbsCertificate"];
+        let names = body["subject"]["rdnSequence"].parts().iter().flat_map(|it| it.parts().iter().map(attribute));
+        println!("{}", names.collect::<Vec<_>>().join(", "));
+        let end = body["validity"]["notAfter"].as_time().ok_or("no time")?;
+        println!("valid until {:04}-{:02}-{:02} {:02}:{:02}:{:02}", end.year, end.month, end.day, end.hour, end.minute, end.second);
+    }
     Ok(())
 }

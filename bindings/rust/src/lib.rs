@@ -14,9 +14,29 @@
 //! # }
 //! ```
 //!
+//! With a schema, values of any type of ASN.1 modules are read:
+//!
+//! ```no_run
+//! use soqavise::{Rules, Schema};
+//!
+//! # fn main() -> Result<(), soqavise::Error> {
+//! # let (text, octets): (&str, &[u8]) = ("", &[]);
+//! let schema = Schema::compile(&[("certificates.asn1", text)], "Certificate")?;
+//! let certificate = schema.read(Rules::Der, octets)?;
+//! println!("{:?}", certificate["tbsCertificate"]["serialNumber"].as_i64());
+//! # Ok(())
+//! # }
+//! ```
+//!
 //! References keep what the functions of the archive owe to a caller: that no pointer is null, and
 //! that what is written overlaps nothing else. No proof covers this file.
 #![warn(missing_docs)]
+
+mod pem;
+mod schema;
+
+pub use pem::pem;
+pub use schema::{Kind, Schema, Value};
 
 use std::error;
 use std::fmt;
@@ -29,7 +49,11 @@ pub enum Error {
     Refused {
         /// The kind of the error (`soq_kind` of soqavise.h); 0 if the call doesn't say it.
         kind: u32,
-        /// Where octets follow a value; 0 if no value is read.
+        /// The path to the part of a message or of JSON, as `tbsCertificate.validity`; empty if it is
+        /// the whole, or the call doesn't say it.
+        path: String,
+        /// Where the part begins that isn't read or, of a call without a schema, where octets follow a
+        /// value.
         offset: usize,
         /// The rules, and what is wrong.
         text: String,
@@ -133,6 +157,16 @@ pub struct Time {
     pub nanosecond: u32,
 }
 
+/// An instant, as seconds since 1970.
+#[derive(Clone, Copy, Debug, Default, PartialEq, Eq)]
+#[repr(C)]
+pub struct Instant {
+    /// The seconds since the start of 1970 in UTC, without leap seconds.
+    pub seconds: i64,
+    /// The nanoseconds. From 1,000,000,000 on they are in a leap second after the second.
+    pub nanosecond: u32,
+}
+
 #[derive(Default)]
 #[repr(C)]
 struct Passed {
@@ -212,6 +246,7 @@ fn answer(status: u32, text: &str) -> Result<(), Error> {
         OUT_OF_MEMORY => Err(Error::OutOfMemory),
         _ => Err(Error::Refused {
             kind: 0,
+            path: String::new(),
             offset: 0,
             text: text.to_owned(),
         }),
@@ -236,6 +271,21 @@ fn written(
                 return Ok(buffer);
             }
         }
+    }
+}
+
+/// Returns octets that end with a zero as text, without the zero.
+fn text_of(octets: &[u8]) -> String {
+    let (_zero, text) = octets.split_last().unwrap_or((&0, &[]));
+    String::from_utf8_lossy(text).into_owned()
+}
+
+/// Returns the fields of the time that the octets are, of the type with this universal tag.
+fn time_of_instant(number: u32, rules: Rules, octets: &[u8]) -> Option<Time> {
+    match number {
+        23 => time(TimeType::Utc, rules, octets).ok(),
+        24 => time(TimeType::Generalized, rules, octets).ok(),
+        _ => None,
     }
 }
 
@@ -295,6 +345,7 @@ pub fn check_by(of: Type, rules: Rules, octets: &[u8]) -> Result<(), Error> {
     match answer(status, "") {
         Err(Error::Refused { .. }) => Err(Error::Refused {
             kind: fault.kind,
+            path: String::new(),
             offset: fault.offset,
             text: String::from_utf8_lossy(&text[..fault.text_length.min(text.len() - 1)]).into_owned(),
         }),
@@ -372,8 +423,7 @@ pub fn identifier(rules: Rules, octets: &[u8]) -> Result<String, Error> {
         let (to, capacity) = (buffer.as_mut_ptr(), buffer.len());
         soq_proved_oid_text(rules as u32, at, length, to, capacity, needed)
     })?;
-    let (_zero, dotted) = text.split_last().unwrap_or((&0, &[]));
-    Ok(String::from_utf8_lossy(dotted).into_owned())
+    Ok(text_of(&text))
 }
 
 /// Returns the instant of the UTCTime or the GeneralizedTime that all of the octets are. Its tag may

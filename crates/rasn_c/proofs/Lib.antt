@@ -4,3 +4,9 @@ pub mod Encodings
 pub mod LeafTags
 pub mod LeafMemory
 pub mod Instants
+pub mod Stops
+pub mod Found
+pub mod NoStrings
+pub mod Ends
+pub mod Rows
+pub mod Compiled

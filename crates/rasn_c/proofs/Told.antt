@@ -5,7 +5,7 @@ use Rattle.rasn_types.specs.declared.error.decode.DecodeError.{DecodeError}
 use Rattle.rasn_types.specs.Shapes.{Shape}
 use Rattle.rasn_c.specs.declared.errors.Fault.{Fault}
 use Rattle.rasn_c.specs.declared.status.Status.{Status}
-use Rattle.rasn_c.specs.declared.status.Status.TheVariants.{Ok, Refused, OutOfMemory, BufferTooSmall, UnknownType, UnknownRule}
+use Rattle.rasn_c.specs.declared.status.Status.TheVariants.{Ok, Refused, OutOfMemory, BufferTooSmall, UnknownType, UnknownRule, BadSchema, UnknownPath, Absent}
 use Rattle.rasn_c.specs.Normal.{Asks}
 use Rattle.rasn_c.specs.Errors.{IsRefusedAt, IsToldOf, AnswersError}
 
@@ -17,3 +17,6 @@ told text fault error Ok asks refused is = absurd is
 told text fault error BufferTooSmall asks refused is = absurd is
 told text fault error UnknownType asks refused is = absurd is
 told text fault error UnknownRule asks refused is = absurd is
+told text fault error BadSchema asks refused is = absurd is
+told text fault error UnknownPath asks refused is = absurd is
+told text fault error Absent asks refused is = absurd is

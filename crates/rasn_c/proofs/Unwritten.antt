@@ -6,7 +6,7 @@ use Rattle.rasn.specs.declared.normal.NormaliseError.{NormaliseError}
 use Rattle.rasn.specs.Normal.{IsNoNormal}
 use Rattle.rasn.proofs.Normalised.{no_normal}
 use Rattle.rasn_c.specs.declared.status.Status.{Status}
-use Rattle.rasn_c.specs.declared.status.Status.TheVariants.{Ok, Refused, OutOfMemory, BufferTooSmall, UnknownType, UnknownRule}
+use Rattle.rasn_c.specs.declared.status.Status.TheVariants.{Ok, Refused, OutOfMemory, BufferTooSmall, UnknownType, UnknownRule, BadSchema, UnknownPath, Absent}
 use Rattle.rasn_c.specs.Normal.{Asks, IsRefusal, IsUntouched, AnswersNormalise}
 
 -- What is refused for another cause than memory has none.
@@ -29,3 +29,6 @@ refused input error Ok is asks none same = absurd is
 refused input error BufferTooSmall is asks none same = absurd is
 refused input error UnknownType is asks none same = absurd is
 refused input error UnknownRule is asks none same = absurd is
+refused input error BadSchema is asks none same = absurd is
+refused input error UnknownPath is asks none same = absurd is
+refused input error Absent is asks none same = absurd is

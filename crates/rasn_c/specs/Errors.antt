@@ -76,7 +76,7 @@ AnswersError type number octets fault text Refused = (rule : Codec) × (shape : 
 AnswersError type number octets fault text OutOfMemory = ((rule : Codec) × (shape : Shape) × Asks type number shape rule) × IsNoFault fault
 AnswersError type number octets fault text UnknownType = IsUnknownType type × IsNoFault fault
 AnswersError type number octets fault text UnknownRule = IsUnknownRule number × IsNoFault fault
-AnswersError type number octets fault text BufferTooSmall = ⊥
+AnswersError type number octets fault text _ = ⊥
 
 -- The buffer holds a text of which this is true, truncated if it doesn't fit, and the fault has its length.
 pub record HoldsText (Is : List ℕ → Type 0) (fault : Fault) (old new : List ℕ) : Type 0 where

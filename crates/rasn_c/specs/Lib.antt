@@ -9,3 +9,14 @@ pub mod ErrorKinds
 pub mod Errors
 pub mod Encodings
 pub mod Leaves
+pub mod Reasons
+pub mod Schemas
+pub mod Paths
+pub mod Extents
+pub mod Finding
+pub mod Seconds
+pub mod Strings
+pub mod Checking
+pub mod Converting
+pub mod Compiling
+pub mod Listing

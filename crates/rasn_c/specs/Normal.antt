@@ -37,3 +37,4 @@ AnswersNormalise type number octets old new needed Refused =
 AnswersNormalise type number octets old new needed OutOfMemory = ((rule : Codec) × (shape : Shape) × Asks type number shape rule) × IsUntouched old new needed
 AnswersNormalise type number octets old new needed UnknownType = IsUnknownType type × IsUntouched old new needed
 AnswersNormalise type number octets old new needed UnknownRule = IsUnknownRule number × IsUntouched old new needed
+AnswersNormalise type number octets old new needed _ = ⊥

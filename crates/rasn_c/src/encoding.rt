@@ -105,7 +105,7 @@ fn parts_of(alloc: Global, rule: Codec, octets: &[u8]) -> Encoding
 }
 
 /// Returns the bit of the identifier that is 1 for a constructed encoding (X.690 8.1.2.5).
-fn constructed_bit(octets: &[u8]) -> u32
+pub(crate) fn constructed_bit(octets: &[u8]) -> u32
     ensures { result ≡ constructed_bit octets.now }
 {
     match octets {
@@ -115,14 +115,14 @@ fn constructed_bit(octets: &[u8]) -> u32
 }
 
 /// Returns how many end-of-contents octets there are (X.690 8.1.5).
-fn end_length(is_indefinite: bool) -> usize
+pub(crate) fn end_length(is_indefinite: bool) -> usize
     ensures { result ≡ end_length is_indefinite }
 {
     if is_indefinite { 2 } else { 0 }
 }
 
 /// Returns the number of a class of tags in an identifier (X.690 8.1.2.2).
-fn class_number(class: Class) -> u32
+pub(crate) fn class_number(class: Class) -> u32
     ensures { result ≡ rank class }
 {
     match class {

@@ -9,13 +9,16 @@ ghost use Rattle.rasn_de.specs.Decodes.{Decodes};
 ghost use Rattle.rasn_c.specs.Status.{IsNumberOf};
 ghost use Rattle.rasn_c.specs.Leaves.{IsLeaf, IsNoLeaf, AnswersInteger, AnswersNumber, AnswersIdentifier, dotted_text};
 
-use crate::buffers::put;
+use crate::buffers::fill;
 use crate::rules::rule_numbered;
 use crate::status::Status;
 use rasn::Decoder;
 use rasn::ber::de::DecoderOptions;
 use rasn::error::DecodeError;
-use rasn::types::{Codec, Constraints, GeneralizedTime, Integer, ObjectIdentifier, Tag, UtcTime};
+use rasn::types::{
+    BitString, Codec, Constraints, GeneralizedTime, Ia5String, Integer, NumericString,
+    ObjectIdentifier, PrintableString, Tag, UtcTime, Utf8String, VisibleString,
+};
 use std::alloc::{AllocError, Global};
 
 /// A type whose values hold no others.
@@ -110,6 +113,98 @@ impl Leaf for GeneralizedTime {
     }
 }
 
+impl Leaf for BitString {
+    ghost use Rattle.rasn_c.specs.Leaves.{MayTake};
+    ghost use Rattle.rasn_types.specs.Shapes.{bit_string};
+    ghost use Rattle.rasn_de.specs.BitString.{bits_tree};
+
+    ghost kind = { bit_string };
+
+    ghost tree = { bits_tree };
+
+    ghost Takes = { MayTake };
+
+    fn read(decoder: &mut Decoder<'_>, tag: Tag) -> Result<BitString, DecodeError> {
+        decoder.decode_bit_string(tag, &Constraints::NONE)
+    }
+}
+
+impl Leaf for Utf8String {
+    ghost use Rattle.rasn_c.specs.Leaves.{MayTake};
+    ghost use Rattle.rasn_types.specs.Shapes.{utf8, numbers};
+    ghost use Rattle.std.specs.Prelude.{chars, string_bytes};
+
+    ghost kind = { utf8 };
+
+    ghost tree = { λ s. numbers (chars (string_bytes s)) };
+
+    ghost Takes = { MayTake };
+
+    fn read(decoder: &mut Decoder<'_>, tag: Tag) -> Result<Utf8String, DecodeError> {
+        decoder.decode_utf8_string(tag, &Constraints::NONE)
+    }
+}
+
+impl Leaf for NumericString {
+    ghost use Rattle.rasn_c.specs.Leaves.{MayTake};
+    ghost use Rattle.rasn_types.specs.Shapes.{numeric, numbers};
+
+    ghost kind = { numeric };
+
+    ghost tree = { λ s. numbers s };
+
+    ghost Takes = { MayTake };
+
+    fn read(decoder: &mut Decoder<'_>, tag: Tag) -> Result<NumericString, DecodeError> {
+        decoder.decode_numeric_string(tag, &Constraints::NONE)
+    }
+}
+
+impl Leaf for PrintableString {
+    ghost use Rattle.rasn_c.specs.Leaves.{MayTake};
+    ghost use Rattle.rasn_types.specs.Shapes.{printable, numbers};
+
+    ghost kind = { printable };
+
+    ghost tree = { λ s. numbers s };
+
+    ghost Takes = { MayTake };
+
+    fn read(decoder: &mut Decoder<'_>, tag: Tag) -> Result<PrintableString, DecodeError> {
+        decoder.decode_printable_string(tag, &Constraints::NONE)
+    }
+}
+
+impl Leaf for Ia5String {
+    ghost use Rattle.rasn_c.specs.Leaves.{MayTake};
+    ghost use Rattle.rasn_types.specs.Shapes.{ia5, numbers};
+
+    ghost kind = { ia5 };
+
+    ghost tree = { λ s. numbers s };
+
+    ghost Takes = { MayTake };
+
+    fn read(decoder: &mut Decoder<'_>, tag: Tag) -> Result<Ia5String, DecodeError> {
+        decoder.decode_ia5_string(tag, &Constraints::NONE)
+    }
+}
+
+impl Leaf for VisibleString {
+    ghost use Rattle.rasn_c.specs.Leaves.{MayTake};
+    ghost use Rattle.rasn_types.specs.Shapes.{visible, numbers};
+
+    ghost kind = { visible };
+
+    ghost tree = { λ s. numbers s };
+
+    ghost Takes = { MayTake };
+
+    fn read(decoder: &mut Decoder<'_>, tag: Tag) -> Result<VisibleString, DecodeError> {
+        decoder.decode_visible_string(tag, &Constraints::NONE)
+    }
+}
+
 /// Returns the value that all of the octets are, or the status of a refusal.
 pub(crate) fn leaf_of<L: Leaf>(alloc: Global, rule: Codec, octets: &[u8]) -> Result<L, Status>
     ensures { MatchResult result (λ v. IsLeaf rule L.kind octets.now (L.tree v)) (IsNoLeaf L.Takes rule L.kind octets.now) }
@@ -196,13 +291,7 @@ fn put_number(
         Ok(number) => number,
         Err(status) => return status,
     };
-    let shortest = number.as_octets();
-    *needed = shortest.len();
-    if put(shortest, buffer) {
-        Status::Ok
-    } else {
-        Status::BufferTooSmall
-    }
+    fill(number.as_octets(), buffer, needed)
 }
 
 /// Writes the OBJECT IDENTIFIER that all of the octets are to the buffer, as its numbers with points
@@ -241,12 +330,7 @@ fn put_identifier(
     let Ok(text) = text_of(alloc, &identifier) else {
         return Status::OutOfMemory;
     };
-    *needed = text.len();
-    if put(&text, buffer) {
-        Status::Ok
-    } else {
-        Status::BufferTooSmall
-    }
+    fill(&text, buffer, needed)
 }
 
 /// Returns the numbers of the identifier with points between them, and a zero.

@@ -8,14 +8,25 @@
 
 mod buffers;
 mod canonical;
+mod checking;
+mod compiling;
+mod converting;
 mod encoding;
 mod error_kinds;
 mod errors;
+mod extent;
+mod finding;
 mod leaves;
+mod listing;
 mod normal;
+mod paths;
 mod reading;
+mod reasons;
 mod rules;
+mod schemas;
+mod seconds;
 mod skipping;
 mod status;
+mod strings;
 mod time;
 mod types;

@@ -2,7 +2,7 @@
 ghost use Rattle.rasn_c.specs.Status.{IsNumberOf};
 ghost use Rattle.rasn_c.specs.Normal.{AnswersNormalise, IsRefusal};
 
-use crate::buffers::put;
+use crate::buffers::fill;
 use crate::rules::rule_numbered;
 use crate::status::Status;
 use crate::types::{TypedAnswer, answer_of};
@@ -60,14 +60,7 @@ fn put_normal(
         return Status::UnknownRule;
     };
     match answer_of::<Result<Vec<u8>, NormaliseError>>(alloc, type_number, rule, octets) {
-        Some(Ok(normal)) => {
-            *needed = normal.len();
-            if put(&normal, buffer) {
-                Status::Ok
-            } else {
-                Status::BufferTooSmall
-            }
-        }
+        Some(Ok(normal)) => fill(&normal, buffer, needed),
         Some(Err(error)) => refusal(&error),
         None => Status::UnknownType,
     }

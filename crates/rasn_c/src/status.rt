@@ -17,6 +17,12 @@ pub enum Status {
     UnknownType,
     /// No rules have the number.
     UnknownRule,
+    /// The octets aren't those of a schema.
+    BadSchema,
+    /// No value of the type has a part with this path.
+    UnknownPath,
+    /// The value doesn't have the part, which others of its type have.
+    Absent,
 }
 
 impl Status {
@@ -31,6 +37,9 @@ impl Status {
             Status::BufferTooSmall => 3,
             Status::UnknownType => 4,
             Status::UnknownRule => 5,
+            Status::BadSchema => 6,
+            Status::UnknownPath => 7,
+            Status::Absent => 8,
         }
     }
 }

@@ -74,7 +74,7 @@ fn put_time(alloc: Global, type_number: u32, rule: u32, octets: &[u8], time: &mu
 }
 
 /// Returns the instant that all of the octets are, or the status of a refusal.
-fn instant_of(
+pub(crate) fn instant_of(
     alloc: Global,
     type_number: u32,
     rule: Codec,

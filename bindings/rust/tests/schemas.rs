@@ -1,0 +1,90 @@
+//! Octets are worked out by hand from X.690, whose sections are named, and JSON from X.697.
+use soqavise::{pem, Error, Kind, Rules, Schema};
+
+const MODULE: &str = "Rows DEFINITIONS IMPLICIT TAGS ::= BEGIN
+Row ::= SEQUENCE {
+    number INTEGER,
+    name UTF8String OPTIONAL,
+    list SEQUENCE OF BOOLEAN,
+    kind CHOICE { low [0] NULL, high [1] INTEGER },
+    held [3] EXPLICIT BIT STRING OPTIONAL
+}
+END
+";
+
+/// {number 5, name U+00E9, list {TRUE, FALSE}, kind high: 7, held '101'B}
+const ROW: [u8; 26] = [
+    0x30, 0x18, 0x02, 0x01, 0x05, 0x0C, 0x02, 0xC3, 0xA9, 0x30, 0x06, 0x01, 0x01, 0xFF, 0x01, 0x01, 0x00, 0x81, 0x01, 0x07, 0xA3, 0x04, 0x03, 0x02,
+    0x05, 0xA0,
+];
+
+const JSON: &str = r#"{"number":5,"name":"é","list":[true,false],"kind":{"high":7},"held":{"value":"A0","length":3}}"#;
+
+fn schema() -> Schema {
+    Schema::compile(&[("rows.asn1", MODULE)], "Row").expect("a schema")
+}
+
+#[test]
+fn reads_values() {
+    let row = schema().read(Rules::Der, &ROW).expect("a row");
+    assert_eq!(row.kind(), Kind::Sequence);
+    assert_eq!(row["number"].as_i64(), Some(5));
+    assert_eq!(row["name"].as_text().as_deref(), Some("é"));
+    assert_eq!(row["list"].parts().len(), 2);
+    assert_eq!((row["list"][1].kind(), row["list"][1].octets(), row["list"][1].offset()), (Kind::Boolean, &ROW[14..17], 14));
+    assert_eq!(row["kind"]["high"].as_i64(), Some(7));
+    assert_eq!(row["kind"].as_i64(), Some(7));
+    assert_eq!((row["kind"]["low"].kind(), row["list"][2].kind(), row["x"]["y"].kind()), (Kind::Absent, Kind::Absent, Kind::Absent));
+    assert_eq!(row["held"].as_bits(), Some((vec![0xA0], 3)));
+    assert_eq!(row.parts().iter().map(|it| it.name()).collect::<Vec<_>>(), ["number", "name", "list", "kind", "held"]);
+}
+
+#[test]
+fn finds_parts() {
+    let found = schema().find(Rules::Der, &ROW, "kind.high").expect("a path").expect("a part");
+    assert_eq!((found.offset(), found.contents(), found.as_i64()), (17, &[7][..], Some(7)));
+    assert_eq!(schema().find(Rules::Der, &ROW, "list[2]"), Ok(None));
+    assert!(matches!(schema().find(Rules::Der, &ROW, "names"), Err(Error::Refused { .. })));
+}
+
+#[test]
+fn converts() {
+    assert_eq!(schema().to_json(Rules::Der, &ROW).as_deref(), Ok(JSON));
+    assert_eq!(schema().from_json(Rules::Der, JSON).as_deref(), Ok(&ROW[..]));
+    assert_eq!(schema().normalise(Rules::Der, &ROW).as_deref(), Ok(&ROW[..]));
+    let Err(Error::Refused { path, .. }) = schema().from_json(Rules::Der, r#"{"number":5,"list":[true,0]}"#) else {
+        panic!("X.697");
+    };
+    assert_eq!(path, "list[1]");
+}
+
+#[test]
+fn reports_places() {
+    let mut changed = ROW;
+    changed[13] = 5; // 11.1
+    for result in [schema().check(Rules::Der, &changed), schema().read(Rules::Der, &changed).map(drop)] {
+        let Err(Error::Refused { kind, path, offset, text }) = result else {
+            panic!("11.1");
+        };
+        assert_eq!((kind, path.as_str(), offset), (8, "list[0]", 11));
+        assert!(text.starts_with("list[0], byte 11: DER: "), "{text}");
+    }
+    assert_eq!(schema().check(Rules::Ber, &changed), Ok(())); // 8.2.2
+    let Err(Error::Refused { text, .. }) = Schema::compile(&[("m.asn1", "M DEFINITIONS ::= BEGIN\nT ::= SEQUENCE { part Missing }\nEND\n")], "T") else {
+        panic!("a type that isn't defined");
+    };
+    assert!(text.starts_with("m.asn1:2:23: "), "{text}");
+}
+
+#[test]
+fn refuses_damaged_schemas() {
+    let octets = schema().as_octets().to_vec();
+    assert_eq!(Schema::from_octets(octets.clone()).check(Rules::Der, &ROW), Ok(()));
+    assert!(matches!(Schema::from_octets(octets[1..].to_vec()).check(Rules::Der, &ROW), Err(Error::Refused { .. })));
+}
+
+#[test]
+fn reads_pem() {
+    let text = "before\n-----BEGIN A B-----\nAQID\nBA==\n-----END A B-----\n-----BEGIN C-----\n?\n-----END C-----\n-----BEGIN D-----\n";
+    assert_eq!(pem(text), [("A B", Some(vec![1, 2, 3, 4])), ("C", None)]);
+}

@@ -1,0 +1,12 @@
+use Rattle.rasn_types.specs.declared.types.codec.Codec.TheVariants.{Ber, Cer, Der}
+use Rattle.rasn_c.proofs.Ends.{checked_by}
+use Rattle.rasn_c.proofs.checking.check_by.Goals as goal
+
+pub returns-in-Der : goal.returns-in-Der
+returns-in-Der c = checked_by c.args.schema.now c.args.rule c.args.open_types c.args.octets.now c.in_ok-schema.schema c.in_ok-schema.root c.in_ok-schema.rule Der c.in_ok-schema.ensures c.in-Der.is c.check_der.result c.check_der.ensures
+
+pub returns-in-Ber : goal.returns-in-Ber
+returns-in-Ber c = checked_by c.args.schema.now c.args.rule c.args.open_types c.args.octets.now c.in_ok-schema.schema c.in_ok-schema.root c.in_ok-schema.rule Ber c.in_ok-schema.ensures c.in-Ber.is c.check_whole.result c.check_whole.ensures
+
+pub returns-in-Cer : goal.returns-in-Cer
+returns-in-Cer c = checked_by c.args.schema.now c.args.rule c.args.open_types c.args.octets.now c.in_ok-schema.schema c.in_ok-schema.root c.in_ok-schema.rule Cer c.in_ok-schema.ensures c.in-Cer.is c.check_whole-2.result c.check_whole-2.ensures

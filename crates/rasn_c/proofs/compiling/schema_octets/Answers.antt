@@ -1,0 +1,9 @@
+use Rattle.std.proofs.Common.{ℕ, List, MatchResult, subst}
+use Rattle.std.specs.Prelude.{Vec}
+use Rattle.std.specs.Global.{Global}
+use Rattle.rasn_c.specs.Compiling.{IsSchemaOf, IsNoSchema}
+use Rattle.rasn_c.specs.declared.reasons.Stop.{Stop}
+use Rattle.rasn_c.proofs.compiling.schema_octets.Goals as goal
+
+pub returns : goal.returns
+returns c = subst (λ n. MatchResult c.schema_of.result (λ (v : Vec ℕ Global). IsSchemaOf n v.items) (λ (stop : Stop). IsNoSchema stop.status)) c.in-Ok-from_utf8.ensures.cases.0 c.schema_of.ensures

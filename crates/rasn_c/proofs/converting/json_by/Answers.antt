@@ -1,0 +1,35 @@
+use Rattle.std.proofs.Common.{ℕ, ap, refl, inr, ◌++◌, ◌∷◌, [], List}
+use Rattle.std.specs.Prelude.{Vec, string_bytes}
+use Rattle.std.specs.Global.{Global}
+use Rattle.rasn_c.specs.Converting.{IsNoJsonBy}
+use Rattle.rasn_c.specs.declared.status.Status.TheVariants.{Refused}
+use Rattle.rasn_c.proofs.Ends.{by_status, json_unread, text_of_json}
+use Rattle.rasn_c.proofs.converting.json_by.Goals as goal
+
+pub returns-in-Ok : goal.returns-in-Ok
+returns-in-Ok c = text_of_json c.args.schema.now c.args.rule c.args.lines c.args.octets.now c.into_bytes.result.items (record {
+  schema = c.in_ok-schema.schema;
+  root = c.in_ok-schema.root;
+  rule = c.in_ok-schema.rule;
+  asked = c.in_ok-schema.ensures;
+  value = c.in-Ok.ensures.ok.0;
+  read = c.in-Ok.ensures.ok.1;
+  json = string_bytes c.in-Ok.text;
+  has = c.in-Ok.ensures.ok.2;
+  laid_out = rw c.layout_of.ensures at c.in-Ok.ensures.layout;
+  text = ap (λ (v : Vec ℕ Global). v.items ++ 0 ∷ []) c.into_bytes.ensures.value;
+}) c.with_zero.result c.with_zero.ensures
+
+pub returns-in-Err-Decode : goal.returns-in-Err-Decode
+returns-in-Err-Decode c = json_unread _ _ _ c.unread.result _ _ _ c.in_ok-schema.ensures _ c.unread.ensures
+
+pub returns-in-Err-Json : goal.returns-in-Err-Json
+returns-in-Err-Json c =
+    let had = rw c.in-Err-Json.field-0-is at c.in-Err-Json.ensures.err in
+    by_status (IsNoJsonBy c.args.schema.now c.args.rule c.args.octets.now c.json_stop.result) c.json_stop.result Refused c.json_stop.ensures (record {
+      schema = c.in_ok-schema.schema;
+      root = c.in_ok-schema.root;
+      rule = c.in_ok-schema.rule;
+      asked = c.in_ok-schema.ensures;
+      why = inr had;
+    }) tt

@@ -1,0 +1,83 @@
+-- A message as JSON, JSON as a message, and the DER octets of a message.
+use Rattle.std.specs.Prelude.{◌≡◌, ◌⊎◌, ◌++◌, ◌∷◌, [], ℕ, zero, suc, List, Ok as Made}
+use Rattle.rasn_types.specs.declared.types.codec.Codec.{Codec}
+use Rattle.rasn.specs.Headline.{AnsweredAlone}
+use Rattle.rasn.specs.Normal.{IsNormal}
+use Rattle.rasn_schema.specs.declared.schema.Schema.{Schema}
+use Rattle.rasn_schema.specs.declared.type_id.TypeId.{TypeId}
+use Rattle.rasn_schema.specs.declared.value.Value.{Value}
+use Rattle.rasn_schema.specs.Trees.{tree_of}
+use Rattle.rasn_dynamic.specs.Entry.{IsEncoded, shape_of}
+use Rattle.rasn_json.specs.declared.layout.Layout.{Layout}
+use Rattle.rasn_json.specs.declared.layout.Layout.TheVariants.{Compact, Indented}
+use Rattle.rasn_json.specs.Entry.{HasJson, IsLaidOut, IsReadAs}
+use Rattle.rasn_c.specs.Schemas.{IsAsked, IsNotAsked}
+use Rattle.rasn_c.specs.Checking.{IsUnreadBy}
+use Rattle.rasn_c.specs.declared.reasons.Stop.{Stop}
+use Rattle.rasn_c.specs.declared.status.Status.{Status}
+use Rattle.rasn_c.specs.declared.status.Status.TheVariants.{Refused, OutOfMemory}
+
+-- how JSON is laid out
+abbrev pub layout_of : ℕ → Layout
+layout_of zero = Compact
+layout_of (suc n) = Indented
+
+-- The octets are JSON of the value that all of the message is, and a zero.
+pub record IsJson (octets : List ℕ) (number lines : ℕ) (message made : List ℕ) : Type 0 where
+  pub schema : Schema
+  pub root : TypeId
+  pub rule : Codec
+  pub asked : IsAsked octets number schema root rule
+  pub value : Value
+  pub read : AnsweredAlone rule (shape_of schema.types.items root.0) tree_of message (Made value)
+  pub json : List ℕ
+  pub has : HasJson schema.types.items root.0 value json
+  pub laid_out : IsLaidOut (layout_of lines) json
+  pub text : made ≡ json ++ 0 ∷ []
+
+-- The message isn't read as a value of the type, and this is where and why; or its value has no JSON.
+pub record IsNoJson (octets : List ℕ) (number : ℕ) (message : List ℕ) (stop : Stop) : Type 0 where
+  pub schema : Schema
+  pub root : TypeId
+  pub rule : Codec
+  pub asked : IsAsked octets number schema root rule
+  pub why : IsUnreadBy rule schema root message stop Refused ⊎ ((v : Value) × AnsweredAlone rule (shape_of schema.types.items root.0) tree_of message (Made v))
+
+abbrev pub IsNoJsonBy : List ℕ → ℕ → List ℕ → Stop → Status → Type 0
+IsNoJsonBy octets number message stop Refused = IsNoJson octets number message stop
+IsNoJsonBy octets number message stop status = IsNotAsked number status
+
+-- The octets are those of the value that the text is.
+pub record IsEncodedFrom (octets : List ℕ) (number : ℕ) (text made : List ℕ) : Type 0 where
+  pub schema : Schema
+  pub root : TypeId
+  pub rule : Codec
+  pub asked : IsAsked octets number schema root rule
+  pub value : Value
+  pub read : IsReadAs schema.types.items root.0 text value
+  pub encoded : IsEncoded rule schema.types.items root.0 value made
+
+-- The text is refused, or its value has no octets; or there is no schema.
+abbrev pub IsNotEncodedBy : List ℕ → ℕ → Status → Type 0
+IsNotEncodedBy octets number Refused = (schema : Schema) × (root : TypeId) × (rule : Codec) × IsAsked octets number schema root rule
+IsNotEncodedBy octets number status = IsNotAsked number status
+
+-- The octets are the one DER encoding of the value that all of the message is.
+pub record IsNormalBy (octets : List ℕ) (number : ℕ) (message made : List ℕ) : Type 0 where
+  pub schema : Schema
+  pub root : TypeId
+  pub rule : Codec
+  pub asked : IsAsked octets number schema root rule
+  pub normal : IsNormal rule (shape_of schema.types.items root.0) message made
+
+-- There is none.
+pub record IsNoNormalBy (octets : List ℕ) (number : ℕ) (message : List ℕ) : Type 0 where
+  pub schema : Schema
+  pub root : TypeId
+  pub rule : Codec
+  pub asked : IsAsked octets number schema root rule
+  pub none : (normal : List ℕ) → IsNormal rule (shape_of schema.types.items root.0) message normal → ⊥
+
+abbrev pub IsNotNormalised : List ℕ → ℕ → List ℕ → Status → Type 0
+IsNotNormalised octets number message Refused = IsNoNormalBy octets number message
+IsNotNormalised octets number message status = IsNotAsked number status

@@ -1,0 +1,88 @@
+-- A part of a message by its path.
+use Rattle.std.specs.Prelude.{◌≡◌, ℕ, List, Result, Ok as Made, Err, MatchResult}
+use Rattle.rasn_types.specs.declared.types.codec.Codec.{Codec}
+use Rattle.rasn_types.specs.Errors.{IsOutOfMemory}
+use Rattle.rasn_schema.specs.declared.schema.Schema.{Schema}
+use Rattle.rasn_schema.specs.declared.type_id.TypeId.{TypeId}
+use Rattle.rasn_dynamic.specs.declared.part.Part.{Part}
+use Rattle.rasn_dynamic.specs.declared.refusal.Refusal.{Refusal}
+use Rattle.rasn_dynamic.specs.declared.steps.Step.{Step}
+use Rattle.rasn_dynamic.specs.Faults.{IsLocated, start}
+use Rattle.rasn_dynamic.specs.Parts.{IsPartAt, LacksPath}
+use Rattle.rasn_dynamic.specs.Steps.{IsWay}
+use Rattle.rasn_c.specs.Buffers.{IsCutInto}
+use Rattle.rasn_c.specs.Schemas.{IsAsked, IsNotAsked}
+use Rattle.rasn_c.specs.Paths.{path_text}
+use Rattle.rasn_c.specs.Extents.{IsExtentOf, no_extent}
+use Rattle.rasn_c.specs.Reasons.{IsStopOf, IsStopBy, IsTold}
+use Rattle.rasn_c.specs.declared.extent.Extent.{Extent}
+use Rattle.rasn_c.specs.declared.reasons.Reason.{Reason}
+use Rattle.rasn_c.specs.declared.reasons.Stop.{Stop}
+use Rattle.rasn_c.specs.declared.status.Status.{Status}
+use Rattle.rasn_c.specs.declared.status.Status.TheVariants.{Ok, Refused, OutOfMemory, UnknownPath, Absent}
+
+-- The text is the path that leads along these indices in values of the type.
+pub record IsPathOf (schema : Schema) (root : TypeId) (text indices : List ℕ) : Type 0 where
+  pub steps : List Step
+  pub text_is : path_text steps ≡ text
+  pub way : IsWay schema.types.items 18446744073709551615 root.0 steps indices
+
+-- There is none; or memory ran out.
+abbrev pub IsNoPath : Status → Type 0
+IsNoPath UnknownPath = Unit {0}
+IsNoPath OutOfMemory = Unit {0}
+IsNoPath _ = ⊥
+
+-- The extent is that of the part at the path of the value with which the octets begin.
+pub record IsFound (octets : List ℕ) (number : ℕ) (message path : List ℕ) (e : Extent) : Type 0 where
+  pub schema : Schema
+  pub root : TypeId
+  pub rule : Codec
+  pub asked : IsAsked octets number schema root rule
+  pub indices : List ℕ
+  pub path_is : IsPathOf schema root path indices
+  pub part : Part
+  pub at : IsPartAt schema.types.items rule root.0 message indices part
+  pub extent : IsExtentOf schema.types.items part e
+
+-- The value doesn't have the part.
+pub record IsAbsent (octets : List ℕ) (number : ℕ) (message path : List ℕ) : Type 0 where
+  pub schema : Schema
+  pub root : TypeId
+  pub rule : Codec
+  pub asked : IsAsked octets number schema root rule
+  pub indices : List ℕ
+  pub path_is : IsPathOf schema root path indices
+  pub lacks : LacksPath schema.types.items indices 18446744073709551615 root.0 (start rule message)
+
+-- A value on the way can't be read, and this is where and why.
+pub record IsUnreadable (octets : List ℕ) (number : ℕ) (message : List ℕ) (stop : Stop) : Type 0 where
+  pub schema : Schema
+  pub root : TypeId
+  pub rule : Codec
+  pub asked : IsAsked octets number schema root rule
+  pub refusal : Refusal
+  pub located : IsLocated schema.types.items rule root.0 message refusal
+  pub stops : IsStopOf schema root refusal stop
+
+abbrev pub IsNotFoundBy : List ℕ → ℕ → List ℕ → List ℕ → Stop → Status → Type 0
+IsNotFoundBy octets number message path stop Refused = IsUnreadable octets number message stop
+IsNotFoundBy octets number message path stop Absent = IsAbsent octets number message path
+IsNotFoundBy octets number message path stop UnknownPath = (schema : Schema) × (root : TypeId) × (rule : Codec) × IsAsked octets number schema root rule
+IsNotFoundBy octets number message path stop status = IsNotAsked number status
+
+abbrev pub IsNotFound : List ℕ → ℕ → List ℕ → List ℕ → Stop → Type 0
+IsNotFound octets number message path stop = IsNotFoundBy octets number message path stop stop.status
+
+-- What the caller gets: a part or none, and the status.
+abbrev pub IsGiven : Result Extent Status → Extent → Status → Type 0
+IsGiven (Made found) part status = (part ≡ found) × (status ≡ Ok)
+IsGiven (Err why) part status = (part ≡ no_extent) × (status ≡ why)
+
+-- The status of a search for the part at the path.
+pub record AnswersFind (octets : List ℕ) (number : ℕ) (message path : List ℕ) (part : Extent) (reason : Reason) (old new : List ℕ) (status : Status) : Type 0 where
+  pub made : Result Extent Stop
+  pub is : MatchResult made (IsFound octets number message path) (IsNotFound octets number message path)
+  pub answer : Result Extent Status
+  pub told : IsTold made reason old new answer
+  pub given : IsGiven answer part status

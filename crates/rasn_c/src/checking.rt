@@ -1,0 +1,160 @@
+//! The check of a message by a schema.
+ghost use Rattle.std.specs.Prelude.{◌≡◌, MatchOption, MatchResult};
+ghost use Rattle.rasn_types.specs.declared.types.codec.Codec.TheVariants.{Der};
+ghost use Rattle.rasn_c.specs.Status.{IsNumberOf};
+ghost use Rattle.rasn_c.specs.Checking.{AnswersCheckBy, IsCheckedBy, IsStopped, IsChecked, IsUncheckedBy, IsDepartedOr, IsWhole, IsRefusedAt, IsUnreadBy, opens_of, status_of};
+
+use crate::reasons::{Reason, Stop, path_length, reason_of, tell};
+use crate::schemas::{Query, asked};
+use crate::status::Status;
+use rasn::refuse_remainder;
+use rasn::types::Codec;
+use rasn_dynamic::{Refusal, check_or_locate};
+use rasn_lint::{Departure, OpenTypes, check};
+use rasn_schema::{Schema, TypeId};
+use std::alloc::Global;
+
+/// Checks that all of the octets are one value of the type under the rules of this number. Under DER
+/// the octets of open types are also looked into, if `open_types` isn't 0.
+#[unsafe(no_mangle)]
+pub extern "C" fn soq_proved_check_by(
+    alloc: Global,
+    schema: &[u8],
+    rule: u32,
+    open_types: u32,
+    octets: &[u8],
+    reason: &mut Reason,
+    text: &mut [u8],
+) -> u32
+    ensures { IsNumberOf (AnswersCheckBy schema.now rule open_types octets.now reason.new text.old text.new) result }
+{
+    let checked = check_by(alloc, schema, rule, open_types, octets);
+    status_of(tell(checked, reason, text)).number()
+}
+
+fn status_of(checked: Result<(), Status>) -> Status
+    ensures { result ≡ status_of checked }
+{
+    match checked {
+        Ok(()) => Status::Ok,
+        Err(status) => status,
+    }
+}
+
+fn check_by(
+    alloc: Global,
+    schema: &[u8],
+    rule: u32,
+    open_types: u32,
+    octets: &[u8],
+) -> Result<(), Stop>
+    ensures { MatchResult result (λ u. IsCheckedBy schema.now rule open_types octets.now) (IsStopped schema.now rule open_types octets.now) }
+{
+    let Query { schema, root, rule } = asked(alloc, schema, rule)?;
+    match rule {
+        Codec::Der => check_der(alloc, &schema, root, open_types, octets),
+        Codec::Ber => check_whole(alloc, Codec::Ber, &schema, root, octets),
+        Codec::Cer => check_whole(alloc, Codec::Cer, &schema, root, octets),
+    }
+}
+
+/// Checks a message by DER.
+fn check_der(
+    alloc: Global,
+    schema: &Schema,
+    root: TypeId,
+    open_types: u32,
+    octets: &[u8],
+) -> Result<(), Stop>
+    ensures { MatchResult result (λ u. IsChecked Der (opens_of open_types) schema.now.types.items root.0 octets.now) (λ stop. IsUncheckedBy Der (opens_of open_types) schema.now root octets.now stop stop.status) }
+{
+    match check(alloc, schema, root, octets, opens(open_types)) {
+        Ok(()) => Ok(()),
+        Err(departure) => Err(departed(alloc, schema, root, &departure)),
+    }
+}
+
+/// Checks that all of the octets are one value of the type.
+fn check_whole(
+    alloc: Global,
+    rule: Codec,
+    schema: &Schema,
+    root: TypeId,
+    octets: &[u8],
+) -> Result<(), Stop>
+    ensures { MatchResult result (λ u. IsWhole rule schema.now.types.items root.0 octets.now) (λ stop. IsUnreadBy rule schema.now root octets.now stop stop.status) }
+{
+    match refusal_of(alloc, rule, schema, root, octets) {
+        None => Ok(()),
+        Some(refusal) => Err(Stop::of_refusal(alloc, schema, root, &refusal)),
+    }
+}
+
+/// Returns whether a call looks into open types.
+fn opens(open_types: u32) -> OpenTypes
+    ensures { result ≡ opens_of open_types }
+{
+    if open_types == 0 {
+        OpenTypes::Unexamined
+    } else {
+        OpenTypes::Examined
+    }
+}
+
+/// Returns the end for a departure from DER. Inside an open type the path goes on by indices.
+fn departed(alloc: Global, schema: &Schema, root: TypeId, departure: &Departure) -> Stop
+    ensures { IsDepartedOr schema.now root departure.now result result.status }
+{
+    let refusal = &departure.refusal;
+    if departure.inner.is_none() || refusal.error.is_out_of_memory() {
+        return Stop::of_refusal(alloc, schema, root, refusal);
+    }
+    let place = departure.place_with_names(schema, root);
+    let (Ok(text), Ok(own)) = (format!(in alloc; "{place}"), format!(in alloc; "{refusal}")) else {
+        return Stop::plain(alloc, Status::OutOfMemory);
+    };
+    let reason = reason_of(refusal, path_length(text.len(), own.len()));
+    Stop::of_text(Status::Refused, reason, text)
+}
+
+/// Returns why the octets aren't exactly one value of the type, if they aren't.
+pub(crate) fn refusal_of(
+    alloc: Global,
+    rule: Codec,
+    schema: &Schema,
+    root: TypeId,
+    octets: &[u8],
+) -> Option<Refusal>
+    ensures { MatchOption result (IsWhole rule schema.now.types.items root.0 octets.now) (IsRefusedAt rule schema.now.types.items root.0 octets.now) }
+{
+    match check_or_locate(alloc, rule, schema, root, octets) {
+        Ok(rest) => match refuse_remainder(rule, rest) {
+            Ok(()) => None,
+            Err(error) => Some(Refusal {
+                error,
+                offset: octets.len().saturating_sub(rest.len()),
+                id: root,
+                steps: Vec::new(alloc),
+                is_cut: false,
+            }),
+        },
+        Err(refusal) => Some(refusal),
+    }
+}
+
+/// Returns the end for octets that the reader refuses: why, and where.
+pub(crate) fn unread(
+    alloc: Global,
+    rule: Codec,
+    schema: &Schema,
+    root: TypeId,
+    octets: &[u8],
+) -> Stop
+    ensures { IsUnreadBy rule schema.now root octets.now result result.status }
+{
+    match refusal_of(alloc, rule, schema, root, octets) {
+        Some(refusal) => Stop::of_refusal(alloc, schema, root, &refusal),
+        // Only memory was missing.
+        None => Stop::plain(alloc, Status::OutOfMemory),
+    }
+}

@@ -1,0 +1,185 @@
+//! The schema of a type of modules.
+ghost use Rattle.std.specs.Prelude.{MatchResult};
+ghost use Rattle.rasn_schema_octets.specs.Octets.{IsSchemaOctets};
+ghost use Rattle.rasn_c.specs.Status.{IsNumberOf};
+ghost use Rattle.rasn_c.specs.Reasons.{Delivers};
+ghost use Rattle.rasn_c.specs.Compiling.{IsSchemaOf, IsNoSchema, IsNameOf};
+
+use crate::buffers::deliver;
+use crate::reasons::{NO_REASON, Reason, Stop, stop_of, tell, without_memory};
+use crate::status::Status;
+use rasn_compiler::{Assigned, Fault, Module, Modules, Resolved, Source, Stop as CompilerStop};
+use rasn_schema_octets::{WriteFault, write};
+use std::alloc::{AllocError, Global};
+use std::str;
+
+/// A text of modules, with the name that faults have for it: `soq_modules` of the header. Both are
+/// UTF-8.
+#[repr(C)]
+#[derive(Clone, Copy, Debug)]
+pub struct Texts<'a> {
+    pub name: &'a [u8],
+    pub text: &'a [u8],
+}
+
+/// Writes the schema of a type of the modules of these texts to the buffer. The type is `TYPE`, the
+/// first of this name, or `MODULE.TYPE`.
+#[unsafe(no_mangle)]
+pub extern "C" fn soq_proved_compile(
+    alloc: Global,
+    texts: &[Texts<'_>],
+    name: &[u8],
+    buffer: &mut [u8],
+    needed: &mut usize,
+    reason: &mut Reason,
+    text: &mut [u8],
+) -> u32
+    ensures { IsNumberOf (Delivers (IsSchemaOf name.now) (λ stop. IsNoSchema stop.status) reason.new text.old text.new buffer.old buffer.new needed.new) result }
+{
+    let made = schema_octets(alloc, texts, name);
+    deliver(tell(made, reason, text), buffer, needed).number()
+}
+
+/// Returns the octets of the schema of a type of these modules.
+fn schema_octets(alloc: Global, texts: &[Texts<'_>], name: &[u8]) -> Result<Vec<u8>, Stop>
+    ensures { MatchResult result (λ v. IsSchemaOf name.now v.items) (λ stop. IsNoSchema stop.status) }
+{
+    let sources = match sources_of(alloc, texts) {
+        Ok(sources) => sources,
+        Err(stop) => return Err(stop),
+    };
+    let Ok(name) = str::from_utf8(name) else {
+        return Err(unknown(alloc, "the type's name isn't UTF-8"));
+    };
+    let read = match Modules::parse(alloc, sources.as_slice()) {
+        Ok(read) => read,
+        Err(error) => return Err(without_memory(alloc, error)),
+    };
+    if let Some(first) = read.faults.first() {
+        return Err(faults_stop(alloc, first, read.faults.as_slice()));
+    }
+    schema_of(alloc, &read, name)
+}
+
+/// Returns the octets of the schema of a type of these modules, which have no faults.
+fn schema_of(alloc: Global, read: &Modules<'_>, name: &str) -> Result<Vec<u8>, Stop>
+    ensures { MatchResult result (λ v. IsSchemaOf name.now v.items) (λ stop. IsNoSchema stop.status) }
+{
+    let (module, type_name) = names_in(name);
+    let Some(module) = module_of(read, module, type_name) else {
+        return Err(unknown(alloc, "no module has a type of this name"));
+    };
+    match read.schema(alloc, module, type_name) {
+        Ok(resolved) => octets_of(alloc, &resolved),
+        Err(CompilerStop::OutOfMemory) => Err(Stop::plain(alloc, Status::OutOfMemory)),
+        Err(CompilerStop::Fault(fault)) => Err(faults_stop(alloc, &fault, &[fault])),
+    }
+}
+
+/// Returns the end for a type that isn't known.
+fn unknown(alloc: Global, text: &str) -> Stop
+    ensures { IsNoSchema result.status }
+{
+    stop_of(alloc, Status::UnknownType, text)
+}
+
+/// Returns the name of a module, if one is named, and that of a type: `MODULE.TYPE`.
+fn names_in(name: &str) -> (Option<&str>, &str)
+    ensures { IsNameOf name.now result.1.now }
+{
+    match name.split_once('.') {
+        Some((module, type_name)) => (Some(module), type_name),
+        None => (None, name),
+    }
+}
+
+/// Returns the texts, each with its name.
+fn sources_of<'a>(alloc: Global, texts: &[Texts<'a>]) -> Result<Vec<Source<'a>>, Stop>
+    ensures { MatchResult result (λ _. Unit {0}) (λ stop. IsNoSchema stop.status) }
+{
+    let mut sources = Vec::new(alloc);
+    for of in texts {
+        let Texts { name, text } = *of;
+        let (Ok(name), Ok(text)) = (str::from_utf8(name), str::from_utf8(text)) else {
+            return Err(stop_of(alloc, Status::Refused, "a text of modules isn't UTF-8"));
+        };
+        if sources.push(Source { name, text }).is_err() {
+            return Err(Stop::plain(alloc, Status::OutOfMemory));
+        }
+    }
+    Ok(sources)
+}
+
+/// Returns the octets of a schema.
+fn octets_of(alloc: Global, resolved: &Resolved) -> Result<Vec<u8>, Stop>
+    ensures { MatchResult result (λ v. IsSchemaOctets resolved.now.schema resolved.now.root resolved.now.unchecked v.items) (λ stop. IsNoSchema stop.status) }
+{
+    let Resolved {
+        schema,
+        root,
+        unchecked,
+    } = resolved;
+    match write(alloc, schema, *root, *unchecked) {
+        Ok(octets) => Ok(octets),
+        Err(WriteFault::OutOfMemory) => Err(Stop::plain(alloc, Status::OutOfMemory)),
+        Err(fault) => match format!(in alloc; "{fault}") {
+            Ok(text) => Err(Stop::of_text(Status::Refused, NO_REASON, text)),
+            Err(error) => Err(without_memory(alloc, error)),
+        },
+    }
+}
+
+/// Returns the end for modules with these faults: their lines, and the place of the first.
+fn faults_stop(alloc: Global, first: &Fault<'_>, faults: &[Fault<'_>]) -> Stop
+    ensures { IsNoSchema result.status }
+{
+    let mut reason = NO_REASON;
+    reason.line = first.position.line;
+    reason.column = first.position.column;
+    match lines_of(alloc, faults) {
+        Ok(text) => Stop::of_text(Status::Refused, reason, text),
+        Err(error) => without_memory(alloc, error),
+    }
+}
+
+/// Returns a line for each fault.
+fn lines_of(alloc: Global, faults: &[Fault<'_>]) -> Result<String, AllocError> {
+    let mut lines = String::new(alloc);
+    for fault in faults {
+        if !lines.is_empty() {
+            lines.push('\n')?;
+        }
+        write!(lines, "{fault}")?;
+    }
+    Ok(lines)
+}
+
+/// Returns the name of the first module that has a type of this name, of those of this name if one
+/// is named.
+fn module_of<'text>(
+    read: &Modules<'text>,
+    module_name: Option<&str>,
+    type_name: &str,
+) -> Option<&'text str> {
+    for module in &read.modules {
+        if module_name.is_some_and(|wanted| wanted != module.name) {
+            continue;
+        }
+        if has_type(module, type_name) {
+            return Some(module.name);
+        }
+    }
+    None
+}
+
+/// Returns whether a module has a type of this name, without parameters.
+fn has_type(module: &Module<'_>, name: &str) -> bool {
+    for assignment in &module.assignments {
+        if assignment.name == name && assignment.parameters.is_none() {
+            if let Assigned::Type(_) = assignment.assigned {
+                return true;
+            }
+        }
+    }
+    false
+}

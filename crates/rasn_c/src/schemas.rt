@@ -1,0 +1,50 @@
+//! Schemas as octets.
+ghost use Rattle.std.specs.Prelude.{MatchResult};
+ghost use Rattle.rasn_c.specs.declared.status.Status.TheVariants.{BadSchema};
+ghost use Rattle.rasn_c.specs.Reasons.{IsStatusOr};
+ghost use Rattle.rasn_c.specs.Schemas.{IsAsked, IsNotAsked};
+
+use crate::reasons::{NO_REASON, Stop};
+use crate::rules::rule_numbered;
+use crate::status::Status;
+use rasn::types::Codec;
+use rasn_schema::{Schema, TypeId};
+use rasn_schema_octets::{Compiled, ReadFault, read};
+use std::alloc::Global;
+
+/// What a call by a schema reads: a type, and the rules.
+#[derive(Drop)]
+pub(crate) struct Query {
+    pub schema: Schema,
+    pub root: TypeId,
+    pub rule: Codec,
+}
+
+/// Returns the type whose schema has these octets, and the rules of this number.
+pub(crate) fn asked(alloc: Global, schema: &[u8], rule: u32) -> Result<Query, Stop>
+    ensures { MatchResult result (λ a. IsAsked schema.now rule a.schema a.root a.rule) (λ stop. IsNotAsked rule stop.status) }
+{
+    let Some(rule) = rule_numbered(rule) else {
+        return Err(Stop::plain(alloc, Status::UnknownRule));
+    };
+    match read(alloc, schema) {
+        Ok(compiled) => {
+            let Compiled { schema, root, .. } = compiled;
+            Ok(Query { schema, root, rule })
+        }
+        Err(fault) => Err(bad_schema(alloc, &fault)),
+    }
+}
+
+/// Returns the end of a call whose schema's octets have this fault.
+fn bad_schema(alloc: Global, fault: &ReadFault) -> Stop
+    ensures { IsStatusOr BadSchema result }
+{
+    if matches!(fault, ReadFault::OutOfMemory) {
+        return Stop::plain(alloc, Status::OutOfMemory);
+    }
+    match format!(in alloc; "{fault}") {
+        Ok(text) => Stop::of_text(Status::BadSchema, NO_REASON, text),
+        Err(_) => Stop::plain(alloc, Status::OutOfMemory),
+    }
+}

@@ -1,0 +1,6 @@
+mod Escaped
+mod NameTexts
+mod PemBlocks
+mod PemContents
+mod PemLines
+mod ValueTexts
