@@ -184,6 +184,10 @@ last_rest types id input ps a =
     let l = a.listed in
     ap (λ z. rest_after z input) l.is ∙ (ap (λ z. drop (length l.part.octets.now) z) l.octets ∙ drop-append_seam l.part.octets.now a.last.rest)
 
+pub nothing_left : (types : List «Type») (id : ℕ) (input : List ℕ) (ps : MessageParts) (a : ArePartsOf types Ber id input ps) (empty : Bool) (rest : List ℕ) → rest ≡ rest_after ps.list.items input
+    → empty ≡ (length rest == 0) → empty ≡ true → a.last.rest ≡ []
+nothing_left types id input ps a empty rest e is some = sym (last_rest types id input ps a) ∙ (sym e ∙ none_of rest (grind (arith, nat_tests)))
+
 pub followed : (types : List «Type») (id : ℕ) (input rest : List ℕ) (ps : MessageParts) → ArePartsOf types Ber id input ps → rest ≡ rest_after ps.list.items input → rest ≢ [] → IsNoLint types id input (Remainder (length rest))
 followed types id input rest ps a e some =
     let l = a.listed in

@@ -176,6 +176,7 @@ module _ (names : Vec NamedNumber Global) (shape_is : shape_of (a_boolean names)
   alone_in_order (suc i) (suc j) x h k = absurd (omega (arith, k))
 
   pub one_listed : IsLint Unexamined types 0 long_true (d ∷ [])
+  unfolding are_parts
   one_listed = record {
     parts = ps;
     are_parts = are_parts;

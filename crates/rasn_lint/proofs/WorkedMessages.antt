@@ -56,13 +56,13 @@ long_read names = subst (λ s. Reads Ber s 128 true long_true (number (pos 1)) [
 -- An octet follows the value, so there is no list.
 true_followed : Reads Ber (plain boolean 1) 128 true (1 ∷ 1 ∷ 255 ∷ 0 ∷ []) (number (pos 1)) (0 ∷ [])
 unfolding Reads parts_of
-true_followed = ((false, 255 ∷ [], short 1 false (255 ∷ []) (0 ∷ []) (omega arith) (omega arith) (omega arith), (pos 1, refl, inr ((λ e. cc), refl)), λ s. cc), tt)
+true_followed = ((false, 255 ∷ [], short 1 false (255 ∷ []) (0 ∷ []) (omega arith) (omega arith) (omega arith), (pos 1, refl, (255, refl, inr ((λ e. cc), refl))), λ s. (refl, tt)), tt)
 
 one_follows : (names : Vec NamedNumber Global) (ds : List Departure) → IsLint Unexamined (a_boolean names) 0 (1 ∷ 1 ∷ 255 ∷ 0 ∷ []) ds → ⊥
 one_follows names ds l =
     let read = l.are_parts.listed.reads.exact in
     let one = read.1 (number (pos 1)) (0 ∷ []) (subst (λ s. Reads Ber s 128 true (1 ∷ 1 ∷ 255 ∷ 0 ∷ []) (number (pos 1)) (0 ∷ [])) (sym (shape_is names)) true_followed) in
-    let rest : 0 ∷ [] ≡ [] = one.1 ∙ l.whole in
+    let rest : ◌≡◌ {A = List ℕ} (0 ∷ []) [] = one.1 ∙ l.whole in
     cc
 
 long_frame : Frame basic_form long_true (in_universal 1) false [] (definite (255 ∷ []))
