@@ -3,4 +3,5 @@ mod NameTexts
 mod PemBlocks
 mod PemContents
 mod PemLines
+pub mod PemPlaces
 mod ValueTexts
