@@ -5,3 +5,4 @@ mod PemContents
 mod PemLines
 pub mod PemPlaces
 mod ValueTexts
+mod Worked

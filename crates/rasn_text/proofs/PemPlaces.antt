@@ -1,5 +1,5 @@
 -- Where a block of PEM is in its text.
-use Rattle.std.proofs.Common.{◌≡◌, ◌≢◌, ◌++◌, ◌∷◌, [], ℕ, zero, suc, ◌+◌, ◌-◌, List, Some, None, length, take, drop, refl, sym, ap, subst, ◌∙◌, append_assoc, arith, length-append}
+use Rattle.std.proofs.Common.{◌≡◌, ◌≢◌, ◌++◌, ◌∷◌, [], ℕ, zero, suc, ◌+◌, ◌-◌, List, Some, length, take, drop, refl, sym, ap, subst, ◌∙◌, append_assoc, arith, length-append}
 use Rattle.std.specs.List.{All, flat_map, suffix_len}
 use Rattle.std.specs.Char.{is_ascii_whitespace}
 use Rattle.std.specs.Prelude.{slice_get}
@@ -7,7 +7,7 @@ use Rattle.std.proofs.lemmas.List.{append-nil, take-append-drop}
 use Rattle.std.proofs.lemmas.List.Elements.{All-take}
 use Rattle.std.proofs.Math.Seq.{take-append_seam}
 use Rattle.rasn_text.specs.declared.pem.Block.{Block}
-use Rattle.rasn_text.specs.Pem.{begin, dashes, trimmed, AreLines, AreBefore, IsBoundary, AreBlocks, AreBlocksOf}
+use Rattle.rasn_text.specs.Pem.{begin, dashes, AreBefore, IsBoundary, AreBlocks, AreBlocksOf}
 use Rattle.rasn_text.proofs.PemBlocks.{after_contents}
 
 -- The lines with their line feeds.
@@ -35,8 +35,7 @@ around [] first more (f ∷ front) last e =
 around (b ∷ before) first more [] last e =
     let rest : before ++ first ∷ more ≡ [] = cc in let n : length before + length (first ∷ more) ≡ 0 = sym (length-append before (first ∷ more)) ∙ ap length rest in absurd (omega (arith, n))
 around (b ∷ before) first more (f ∷ front) last e =
-    let same : b ≡ f = cc in let rest : before ++ first ∷ more ≡ front ++ last ∷ [] = cc in let (tail, t) = around before first more front last rest in
-    (
+    let same : b ≡ f = cc in let rest : before ++ first ∷ more ≡ front ++ last ∷ [] = cc in let (tail, t) = around before first more front last rest in (
       tail,
       append_assoc (f ++ 10 ∷ []) (fed front) last ∙ (ap (λ l. (l ++ 10 ∷ []) ++ (fed front ++ last)) (sym same) ∙ (ap (λ l. (b ++ 10 ∷ []) ++ l) t ∙ sym (append_assoc (b ++ 10 ∷ []) (fed before) (first ++ tail)))),
     )
@@ -45,11 +44,10 @@ around (b ∷ before) first more (f ∷ front) last e =
 begun : (label first tail : List ℕ) → IsBoundary begin label first → (after : List ℕ) × (first ++ tail ≡ begin ++ (label ++ after))
 begun label first tail bound =
     let white : List ℕ = drop (length first - suffix_len is_ascii_whitespace first) first in
-    let is : first ≡ (begin ++ (label ++ dashes)) ++ white = sym (take-append-drop (length first - suffix_len is_ascii_whitespace first) first) ∙ ap (λ l. l ++ white) bound in
-    (
+    let is : first ≡ (begin ++ (label ++ dashes)) ++ white = sym (take-append-drop (length first - suffix_len is_ascii_whitespace first) first) ∙ ap (λ l. l ++ white) bound in (
       dashes ++ (white ++ tail),
       ap (λ l. l ++ tail) is
-      ∙ (append_assoc (begin ++ (label ++ dashes)) white tail ∙ (append_assoc begin (label ++ dashes) (white ++ tail) ∙ ap (λ l. begin ++ l) (append_assoc label dashes (white ++ tail)))),
+          ∙ (append_assoc (begin ++ (label ++ dashes)) white tail ∙ (append_assoc begin (label ++ dashes) (white ++ tail) ∙ ap (λ l. begin ++ l) (append_assoc label dashes (white ++ tail)))),
     )
 
 -- The text goes on with the label after the lines before that of the block.
@@ -59,13 +57,12 @@ begins_at text bs index b (lines, are, blocks) s =
     let (before, first, more, e, bound, number) = line_of lines [] lines bs index b refl blocks s in
     let (tail, t) = around before first more are.front are.last (sym e ∙ are.are) in
     let (after, u) = begun b.label.now first tail bound in
-    let P : List (List ℕ) → Type 0 = All (All (λ c. c ≢ 10)) in
-    (
+    let P : List (List ℕ) → Type 0 = All (All (λ c. c ≢ 10)) in (
       before,
       after,
       record {
         text_is = are.text_is ∙ (t ∙ ap (λ l. fed before ++ l) u);
-        none_has = subst P (ap (take (length before)) e ∙ take-append_seam before (first ∷ more)) (All-take (All (λ c. c ≢ 10)) (length before) lines are.none_has)
+        none_has = subst P (ap (take (length before)) e ∙ take-append_seam before (first ∷ more)) (All-take (All (λ c. c ≢ 10)) (length before) lines are.none_has);
       },
       omega (arith, number, ap length e, length-append before (first ∷ more)),
     )
