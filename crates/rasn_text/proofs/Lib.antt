@@ -3,4 +3,6 @@ mod NameTexts
 mod PemBlocks
 mod PemContents
 mod PemLines
+pub mod PemPlaces
 mod ValueTexts
+mod Worked

@@ -59,7 +59,7 @@ onward count number lines blocks line following remaining (Some b) k h n bs a =
     subst (λ z. AreBlocks count lines z) (sym (append_assoc blocks (b ∷ []) bs)) (h (b ∷ bs) (block count line following remaining b bs n.0 n.1 (ap (λ z. z + length following) n.2 ∙ k) a))
 
 -- The lines after a block are the last of those after its first.
-after_contents : (label : List ℕ) (lines after : List (List ℕ)) (r : Result (Vec ℕ Global) PemError) → IsContents label lines r after → (front : List (List ℕ)) × (lines ≡ front ++ after)
+pub after_contents : (label : List ℕ) (lines after : List (List ℕ)) (r : Result (Vec ℕ Global) PemError) → IsContents label lines r after → (front : List (List ℕ)) × (lines ≡ front ++ after)
 after_contents label lines after (Ok octets) (body, (last, is, inside, bound), encode) = (body ++ last ∷ [], is ∙ sym (append_assoc body (last ∷ []) after))
 after_contents label lines after (Err (Base64 e)) (body, (last, is, inside, bound), none) = (body ++ last ∷ [], is ∙ sym (append_assoc body (last ∷ []) after))
 after_contents label lines after (Err End) (body, is, inside, over) = (body, is)

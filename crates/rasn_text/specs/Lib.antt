@@ -3,3 +3,4 @@ pub mod Escapes
 pub mod ShortNames
 pub mod Joined
 pub mod Names
+pub mod WorkedNames

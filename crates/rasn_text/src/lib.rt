@@ -3,9 +3,11 @@
 #![tactic(auto)]
 
 mod escapes;
+mod laws;
 mod name;
 mod pem;
 mod short_names;
 
+pub use laws::worked_names;
 pub use name::name_text;
 pub use pem::{Block, PemError, blocks, line_start};
