@@ -383,3 +383,29 @@ soq_status soq_normalise_by(const uint8_t *schema, size_t schema_length, soq_rul
                                                needed, reason == NULL ? &unread : reason,
                                                soq_buffer(text), text_capacity);
 }
+
+uint32_t soq_proved_name_text(uint32_t rule, const uint8_t *octets, size_t length, uint8_t *buffer,
+                              size_t capacity, size_t *needed);
+uint32_t soq_proved_pem(const uint8_t *text, size_t length, size_t index, soq_block *block,
+                        uint8_t *buffer, size_t capacity, size_t *needed);
+
+soq_status soq_name_text(soq_rule rule, const uint8_t *octets, size_t length, char *text,
+                         size_t capacity, size_t *needed) {
+    soq_status status = soq_ready(octets, length, needed, sizeof *needed, text, capacity);
+    if (status != SOQ_OK) {
+        return status;
+    }
+    return (soq_status)soq_proved_name_text((uint32_t)rule, soq_octets(octets), length,
+                                            soq_buffer(text), capacity, needed);
+}
+
+soq_status soq_pem(const char *text, size_t length, size_t index, soq_block *block, uint8_t *buffer,
+                   size_t capacity, size_t *needed) {
+    soq_piece pieces[] = {{block, sizeof *block}, {buffer, capacity}, {needed, sizeof *needed}, {text, length}};
+    soq_status status = soq_separate(pieces, 3, 4);
+    if (status != SOQ_OK) {
+        return status;
+    }
+    return (soq_status)soq_proved_pem(soq_octets((const uint8_t *)text), length, index, block,
+                                      soq_buffer(buffer), capacity, needed);
+}

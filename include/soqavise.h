@@ -539,6 +539,48 @@ soq_status soq_normalise_by(const uint8_t *schema, size_t schema_length, soq_rul
                             uint8_t *buffer, size_t capacity, size_t *needed, soq_reason *reason, char *text,
                             size_t text_capacity);
 
+/*
+ * Writes the text of the Name (RFC 5280 4.1.2.4) that all of the octets are to the buffer, as RFC 4514 2 has it, in UTF-8 and with a zero:
+ * `CN=example.org,O=Example,C=DE`, the last relative distinguished name first. CN, L, ST, O, OU, C, STREET, DC and UID are short names
+ * (RFC 4514 3), and the value of such an attribute is text if it is a UTF8String, a PrintableString or an IA5String; of its characters
+ * only those of RFC 4514 2.4 and the control characters of ASCII are escaped. Another type is its numbers with points between them, and
+ * another value, such as a TeletexString or one of another type, the hexadecimal digits of its octets after `#`.
+ *
+ * SOQ_OK: the text has `*needed` octets with its zero. The rest of the buffer is unchanged.
+ * SOQ_BUFFER_TOO_SMALL: it has `*needed` octets, which is more than `capacity`. The buffer is unchanged.
+ * SOQ_REFUSED: the octets aren't a Name under these rules.
+ * For SOQ_REFUSED, SOQ_OUT_OF_MEMORY and SOQ_UNKNOWN_RULE `*needed` is 0 and the buffer is unchanged.
+ *
+ * Contract: AnswersName (crates/rasn_c/specs/Names.antt), from that of `rasn_text::name_text`.
+ */
+soq_status soq_name_text(soq_rule rule, const uint8_t *octets, size_t length, char *text, size_t capacity, size_t *needed);
+
+/* Where a block of PEM is in a text. */
+typedef struct soq_block {
+    /* Where its label begins, in octets from the start of the text, and the number of octets of the label. */
+    size_t label;
+    size_t label_length;
+    /* The number of its first line, counted from 1. */
+    size_t line;
+} soq_block;
+
+/*
+ * Writes the octets of the block of PEM (RFC 7468) with this index, counted from 0, to the buffer, and where it is to `block`. The text has
+ * `length` octets, without a zero. A block begins with a line `-----BEGIN LABEL-----`; other lines between blocks are skipped. All blocks of
+ * a text: call with 0, 1 and so on until the status is SOQ_ABSENT.
+ *
+ * SOQ_OK: the block has `*needed` octets. The rest of the buffer is unchanged.
+ * SOQ_BUFFER_TOO_SMALL: it has `*needed` octets, which is more than `capacity`. The buffer is unchanged.
+ * SOQ_REFUSED: there is the block, but no line `-----END LABEL-----` before the next line of dashes, or its lines aren't base64. `*needed`
+ * is 0, and the buffer is unchanged.
+ * SOQ_ABSENT: the text has fewer blocks.
+ * For SOQ_ABSENT and SOQ_OUT_OF_MEMORY `*needed` and all fields of `block` are 0 and the buffer is unchanged.
+ *
+ * Contract: AnswersBlock (crates/rasn_c/specs/Blocks.antt), from that of `rasn_text::blocks`.
+ */
+soq_status soq_pem(const char *text, size_t length, size_t index, soq_block *block, uint8_t *buffer, size_t capacity,
+                   size_t *needed);
+
 #ifdef __cplusplus
 }
 #endif

@@ -32,14 +32,15 @@ import ctypes
 import ctypes.util
 import datetime
 import enum
+import itertools
 import json
 import os
 import pathlib
 from typing import Any, Iterator, Mapping, NamedTuple, Sequence
 
 __all__ = [
-    "Encoding", "Part", "Refused", "Rules", "Schema", "Type", "check", "encodings", "fault", "identifier", "integer",
-    "next_encoding", "normalise", "skip", "time",
+    "Encoding", "Part", "PemBlock", "Refused", "Rules", "Schema", "Type", "check", "encodings", "fault", "identifier",
+    "integer", "name_text", "next_encoding", "normalise", "pem_blocks", "skip", "time",
 ]
 
 
@@ -140,6 +141,18 @@ class _Part(ctypes.Structure):
     ]
 
 
+class _Block(ctypes.Structure):
+    _fields_ = [(name, ctypes.c_size_t) for name in ("label", "label_length", "line")]
+
+
+class PemBlock(NamedTuple):
+    """A block of PEM: its octets are None if its lines aren't base64, or it has no last line."""
+
+    label: bytes
+    line: int  # the number of its first line, from 1
+    octets: bytes | None
+
+
 class Part(NamedTuple):
     """A part of a message: where it begins, and its octets."""
 
@@ -181,6 +194,8 @@ _next = _function("soq_next", _KIND, ctypes.c_void_p, ctypes.c_size_t, ctypes.PO
 _integer_octets = _function("soq_integer_octets", _KIND, *_OCTETS, *_OCTETS, _SIZE)
 _identifier = _function("soq_oid_text", _KIND, *_OCTETS, *_OCTETS, _SIZE)
 _time = _function("soq_time", _KIND, _KIND, *_OCTETS, ctypes.POINTER(_Time))
+_name_text = _function("soq_name_text", _KIND, *_OCTETS, *_OCTETS, _SIZE)
+_pem = _function("soq_pem", *_OCTETS, ctypes.c_size_t, ctypes.POINTER(_Block), *_OCTETS, _SIZE)
 _ABSENT = 8
 _REASON = [ctypes.POINTER(_Reason), *_OCTETS]
 _compile = _function("soq_compile", ctypes.POINTER(_Texts), ctypes.c_size_t, ctypes.c_char_p, *_OCTETS, _SIZE, *_REASON)
@@ -283,6 +298,32 @@ def identifier(rules: Rules, octets: bytes) -> str:
             _answer(status, "the octets aren't one OBJECT IDENTIFIER")
             return buffer.value.decode("ascii")
         capacity = needed.value
+
+
+def name_text(rules: Rules, octets: bytes) -> str:
+    """Returns the text of the Name (RFC 5280 4.1.2.4) that all of the octets are, by RFC 4514."""
+    capacity = 2 * len(octets) + 1
+    while True:
+        buffer, needed = ctypes.create_string_buffer(capacity), ctypes.c_size_t()
+        status = _name_text(rules, octets, len(octets), buffer, capacity, needed)
+        if status != _TOO_SMALL:
+            _answer(status, "the octets aren't one Name")
+            return buffer.raw[:needed.value - 1].decode("utf-8")
+        capacity = needed.value
+
+
+def pem_blocks(text: bytes) -> Iterator[PemBlock]:
+    """Yields the blocks of a text of PEM (RFC 7468). Other lines, before and between them, are skipped."""
+    buffer, needed, found = ctypes.create_string_buffer(max(len(text), 1)), ctypes.c_size_t(), _Block()
+    for index in itertools.count():
+        status = _pem(text, len(text), index, found, buffer, len(text), needed)
+        if status == _ABSENT:
+            return
+        contents = None
+        if status != _REFUSED:
+            _answer(status, "a block has more octets than its text")
+            contents = buffer.raw[:needed.value]
+        yield PemBlock(text[found.label:found.label + found.label_length], found.line, contents)
 
 
 def time(type: Type, rules: Rules, octets: bytes) -> datetime.datetime:

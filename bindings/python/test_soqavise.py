@@ -2,7 +2,7 @@
 import datetime
 import unittest
 
-from soqavise import Refused, Rules, Schema, Type, check, encodings, fault, identifier, integer, next_encoding, normalise, skip, time
+from soqavise import Refused, Rules, Schema, Type, check, encodings, fault, identifier, integer, name_text, next_encoding, normalise, pem_blocks, skip, time
 
 
 def octets(digits):
@@ -54,6 +54,19 @@ class Calls(unittest.TestCase):
         self.assertEqual(identifier(Rules.DER, octets("0603883703")), "2.999.3")  # 8.19.5
         with self.assertRaises(Refused):
             identifier(Rules.DER, octets("0600"))
+
+    def test_writes_names(self):
+        # the first example of RFC 4514 4
+        name = octets("3046 31133011060A0992268993F22C64011916036E6574 31173015060A0992268993F22C64011916076578616D706C65"
+                      "31163014060A0992268993F22C6401010C066A736D697468")
+        self.assertEqual(name_text(Rules.DER, name), "UID=jsmith,DC=example,DC=net")
+        with self.assertRaises(Refused):
+            name_text(Rules.DER, name[1:])
+
+    def test_reads_pem(self):
+        text = b"before\n-----BEGIN A B-----\nAQID\nBA==\n-----END A B-----\n-----BEGIN C-----\n?\n-----END C-----\n"
+        self.assertEqual(list(pem_blocks(text)), [(b"A B", 2, bytes([1, 2, 3, 4])), (b"C", 6, None)])
+        self.assertEqual(list(pem_blocks(b"")), [])
 
     def test_reads_times(self):
         noon = datetime.datetime(2026, 11, 24, 12, tzinfo=datetime.timezone.utc)

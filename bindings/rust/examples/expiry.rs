@@ -16,7 +16,7 @@ fn main() -> Result<(), Box<dyn std::error::Error>> {
         return Err("usage: expiry MODULES CERTIFICATES".into());
     };
     let schema = Schema::compile(&[(modules, &std::fs::read_to_string(modules)?)], "Certificate")?;
-    for (_, octets) in pem(&std::fs::read_to_string(file)?).into_iter().filter(|it| it.0 == "CERTIFICATE") {
+    for (_, octets) in pem(&std::fs::read_to_string(file)?)?.into_iter().filter(|it| it.0 == "CERTIFICATE") {
         let octets = octets.ok_or("not base64")?;
         let certificate = schema.read(Rules::Der, &octets)?;
         let body = &certificate["tbsCertificate"];

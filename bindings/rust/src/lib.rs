@@ -35,7 +35,7 @@
 mod pem;
 mod schema;
 
-pub use pem::pem;
+pub use pem::{name_text, pem};
 pub use schema::{Kind, Schema, Value};
 
 use std::error;

@@ -1,5 +1,5 @@
 //! Octets are worked out by hand from X.690, whose sections are named, and JSON from X.697.
-use soqavise::{pem, Error, Kind, Rules, Schema};
+use soqavise::{name_text, pem, Error, Kind, Rules, Schema};
 
 const MODULE: &str = "Rows DEFINITIONS IMPLICIT TAGS ::= BEGIN
 Row ::= SEQUENCE {
@@ -86,5 +86,17 @@ fn refuses_damaged_schemas() {
 #[test]
 fn reads_pem() {
     let text = "before\n-----BEGIN A B-----\nAQID\nBA==\n-----END A B-----\n-----BEGIN C-----\n?\n-----END C-----\n-----BEGIN D-----\n";
-    assert_eq!(pem(text), [("A B", Some(vec![1, 2, 3, 4])), ("C", None)]);
+    assert_eq!(pem(text).unwrap(), [("A B", Some(vec![1, 2, 3, 4])), ("C", None), ("D", None)]);
+    assert_eq!(pem("").unwrap(), []);
+}
+
+// DC=net, DC=example, UID=jsmith: the first example of RFC 4514 4.
+const NAME: [u8; 72] = *b"\x30\x46\x31\x13\x30\x11\x06\x0a\x09\x92\x26\x89\x93\xf2\x2c\x64\x01\x19\x16\x03net\
+    \x31\x17\x30\x15\x06\x0a\x09\x92\x26\x89\x93\xf2\x2c\x64\x01\x19\x16\x07example\
+    \x31\x16\x30\x14\x06\x0a\x09\x92\x26\x89\x93\xf2\x2c\x64\x01\x01\x0c\x06jsmith";
+
+#[test]
+fn writes_names() {
+    assert_eq!(name_text(Rules::Der, &NAME).unwrap(), "UID=jsmith,DC=example,DC=net");
+    assert!(matches!(name_text(Rules::Der, &NAME[1..]), Err(Error::Refused { .. })));
 }

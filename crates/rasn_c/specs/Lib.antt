@@ -20,3 +20,5 @@ pub mod Checking
 pub mod Converting
 pub mod Compiling
 pub mod Listing
+pub mod Names
+pub mod Blocks

@@ -6,6 +6,7 @@
 //! any other slice or result of the call.
 #![tactic(auto)]
 
+mod blocks;
 mod buffers;
 mod canonical;
 mod checking;
@@ -18,6 +19,7 @@ mod extent;
 mod finding;
 mod leaves;
 mod listing;
+mod names;
 mod normal;
 mod paths;
 mod reading;

@@ -1,2 +1,0 @@
-mod PemBlocks
-mod PemContents

@@ -1,10 +1,10 @@
 //! The form of an input.
 
 use crate::command_line::InputForm;
-use crate::pem::blocks;
 use base64::DecodeAllocError;
 use base64::engine::general_purpose::STANDARD;
 use hex::FromHexError;
+use rasn_text::blocks;
 use std::alloc::{AllocError, Global};
 
 /// Returns the form of octets: PEM if a line begins a block, hexadecimal if there is nothing else

@@ -1,6 +1,0 @@
-use Rattle.std.proofs.Common.{◌≢◌, take}
-use Rattle.std.specs.List.{All}
-use Rattle.rasn_print.proofs.pem.first_line.Given as goal
-
-abbrev pub invariant-loop-place : goal.invariant-loop-place
-invariant-loop-place l = All (λ c. c ≢ 10) (take l.place l.octets)

@@ -1,0 +1,7 @@
+mod Escaped
+mod NameTexts
+mod PemBlocks
+mod PemContents
+mod PemLines
+pub mod PemPlaces
+mod ValueTexts

@@ -1,0 +1,11 @@
+//! Texts of the public-key infrastructure: blocks of PEM (RFC 7468), and distinguished names
+//! (RFC 4514).
+#![tactic(auto)]
+
+mod escapes;
+mod name;
+mod pem;
+mod short_names;
+
+pub use name::name_text;
+pub use pem::{Block, PemError, blocks, line_start};
