@@ -388,6 +388,8 @@ uint32_t soq_proved_name_text(uint32_t rule, const uint8_t *octets, size_t lengt
                               size_t capacity, size_t *needed);
 uint32_t soq_proved_pem(const uint8_t *text, size_t length, size_t index, soq_block *block,
                         uint8_t *buffer, size_t capacity, size_t *needed);
+uint32_t soq_proved_extension(uint32_t rule, const uint8_t *octets, size_t length, const uint8_t *identifier,
+                              size_t identifier_length, uint8_t *buffer, size_t capacity, size_t *needed);
 
 soq_status soq_name_text(soq_rule rule, const uint8_t *octets, size_t length, char *text,
                          size_t capacity, size_t *needed) {
@@ -408,4 +410,17 @@ soq_status soq_pem(const char *text, size_t length, size_t index, soq_block *blo
     }
     return (soq_status)soq_proved_pem(soq_octets((const uint8_t *)text), length, index, block,
                                       soq_buffer(buffer), capacity, needed);
+}
+
+soq_status soq_extension(soq_rule rule, const uint8_t *octets, size_t length, const char *identifier,
+                         uint8_t *buffer, size_t capacity, size_t *needed) {
+    size_t identifier_length = identifier == NULL ? 1 : strlen(identifier);
+    soq_piece pieces[] = {{buffer, capacity}, {needed, sizeof *needed}, {octets, length}, {identifier, identifier_length}};
+    soq_status status = soq_separate(pieces, 2, 4);
+    if (status != SOQ_OK) {
+        return status;
+    }
+    return (soq_status)soq_proved_extension((uint32_t)rule, soq_octets(octets), length,
+                                            (const uint8_t *)identifier, identifier_length,
+                                            soq_buffer(buffer), capacity, needed);
 }

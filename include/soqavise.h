@@ -581,6 +581,21 @@ typedef struct soq_block {
 soq_status soq_pem(const char *text, size_t length, size_t index, soq_block *block, uint8_t *buffer, size_t capacity,
                    size_t *needed);
 
+/*
+ * Writes the octets of `extnValue` of the first extension with this identifier of the Extensions (RFC 5280 4.1) that all of the octets are
+ * to the buffer: for the Extensions of a certificate, the contents of the OCTET STRING. `identifier` is its text with a zero, `2.5.29.17`.
+ *
+ * SOQ_OK: there are `*needed` octets. The rest of the buffer is unchanged.
+ * SOQ_BUFFER_TOO_SMALL: there are `*needed` octets, which is more than `capacity`. The buffer is unchanged.
+ * SOQ_ABSENT: no extension has the identifier.
+ * SOQ_REFUSED: the octets aren't Extensions under these rules.
+ * For SOQ_ABSENT, SOQ_REFUSED, SOQ_OUT_OF_MEMORY and SOQ_UNKNOWN_RULE `*needed` is 0 and the buffer is unchanged.
+ *
+ * Contract: AnswersExtension (crates/rasn_c/specs/Extensions.antt), from that of `rasn::decode`.
+ */
+soq_status soq_extension(soq_rule rule, const uint8_t *octets, size_t length, const char *identifier, uint8_t *buffer,
+                         size_t capacity, size_t *needed);
+
 #ifdef __cplusplus
 }
 #endif

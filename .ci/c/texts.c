@@ -1,5 +1,5 @@
 /*
- * Calls the functions of the library for texts: names (the examples of RFC 4514 4) and blocks of PEM, with buffers of every size, invalid
+ * Calls the functions of the library for texts and extensions: names (the examples of RFC 4514 4) and blocks of PEM, with buffers of every size, invalid
  * arguments and failing allocations. It is linked as test.c is.
  */
 #include "soqavise.h"
@@ -171,6 +171,28 @@ static void blocks_are_found(void) {
     ENSURE(soq_pem(NULL, 0, 0, &block, buffer, 5, &needed) == SOQ_ABSENT && soq_pem(blocks, 6, SIZE_MAX, &block, buffer, 5, &needed) == SOQ_ABSENT);
 }
 
+/* basicConstraints {}, keyUsage twice: 03 02 05 A0 and 03 02 01 06 (RFC 5280 4.2.1). */
+static const uint8_t extensions[] = {0x30, 0x2B, 0x30, 0x0C, 0x06, 0x03, 0x55, 0x1D, 0x13, 0x01, 0x01, 0xFF, 0x04, 0x02, 0x30, 0x00,
+                                     0x30, 0x0B, 0x06, 0x03, 0x55, 0x1D, 0x0F, 0x04, 0x04, 0x03, 0x02, 0x05, 0xA0,
+                                     0x30, 0x0E, 0x06, 0x03, 0x55, 0x1D, 0x0F, 0x01, 0x01, 0xFF, 0x04, 0x04, 0x03, 0x02, 0x01, 0x06};
+
+static void extensions_are_found(void) {
+    static const uint8_t usage[] = {0x03, 0x02, 0x05, 0xA0};
+    uint8_t buffer[5];
+    size_t size, needed = 7;
+    for (size = 0; size <= sizeof buffer; size++) {
+        soq_status wanted = size < sizeof usage ? SOQ_BUFFER_TOO_SMALL : SOQ_OK;
+        memset(buffer, 0xA5, sizeof buffer);
+        ENSURE(soq_extension(SOQ_DER, OF(extensions), "2.5.29.15", buffer, size, &needed) == wanted && needed == sizeof usage);
+        ENSURE(wanted == SOQ_OK ? memcmp(buffer, usage, sizeof usage) == 0 && buffer[4] == 0xA5 : buffer[0] == 0xA5);
+    }
+    ENSURE(soq_extension(SOQ_DER, OF(extensions), "2.5.29.19", buffer, 5, &needed) == SOQ_OK && needed == 2 && buffer[0] == 0x30);
+    ENSURE(soq_extension(SOQ_DER, OF(extensions), "2.5.29.1", buffer, 5, &needed) == SOQ_ABSENT && needed == 0);
+    ENSURE(soq_extension(SOQ_DER, OF(extensions), "", buffer, 5, &needed) == SOQ_ABSENT);
+    ENSURE(soq_extension(SOQ_DER, extensions, sizeof extensions - 1, "2.5.29.15", buffer, 5, &needed) == SOQ_REFUSED && needed == 0);
+    ENSURE(soq_extension((soq_rule)3, OF(extensions), "2.5.29.15", buffer, 5, &needed) == SOQ_UNKNOWN_RULE);
+}
+
 static void wrong_arguments_are_answered(void) {
     union {
         uint8_t octets[256];
@@ -182,6 +204,7 @@ static void wrong_arguments_are_answered(void) {
     char text[64];
     size_t needed = 7;
     soq_block block = {7, 7, 7};
+    memset(&shared, 0, sizeof shared);
     memcpy(shared.octets, smith, sizeof smith);
     ENSURE(soq_name_text(SOQ_DER, NULL, 1, text, 64, &needed) == SOQ_NULL_POINTER && soq_name_text(SOQ_DER, OF(smith), NULL, 64, &needed) == SOQ_NULL_POINTER);
     ENSURE(soq_name_text(SOQ_DER, OF(smith), text, 64, NULL) == SOQ_NULL_POINTER && soq_name_text(SOQ_DER, smith, SIZE_MAX, text, 64, &needed) == SOQ_TOO_LONG);
@@ -192,6 +215,10 @@ static void wrong_arguments_are_answered(void) {
     ENSURE(soq_pem(blocks, SIZE_MAX, 0, &block, out, 64, &needed) == SOQ_TOO_LONG);
     ENSURE(soq_pem(shared.text, 64, 0, &shared.block, out, 64, &needed) == SOQ_OVERLAP && soq_pem(shared.text, 64, 0, &block, shared.octets + 8, 8, &needed) == SOQ_OVERLAP);
     ENSURE(soq_pem(shared.text, 64, 0, &block, out, 64, &shared.needed) == SOQ_OVERLAP && soq_pem(blocks, 8, 0, &block, out, 64, &block.line) == SOQ_OVERLAP);
+    ENSURE(soq_extension(SOQ_DER, NULL, 1, "1.2", out, 64, &needed) == SOQ_NULL_POINTER && soq_extension(SOQ_DER, OF(smith), NULL, out, 64, &needed) == SOQ_NULL_POINTER);
+    ENSURE(soq_extension(SOQ_DER, OF(smith), "1.2", NULL, 64, &needed) == SOQ_NULL_POINTER && soq_extension(SOQ_DER, OF(smith), "1.2", out, 64, NULL) == SOQ_NULL_POINTER);
+    ENSURE(soq_extension(SOQ_DER, shared.octets, sizeof smith, "1.2", shared.octets + 8, 8, &needed) == SOQ_OVERLAP);
+    ENSURE(soq_extension(SOQ_DER, OF(smith), shared.text, shared.octets, 8, &needed) == SOQ_OVERLAP);
     ENSURE(memcmp(shared.octets, smith, sizeof smith) == 0 && needed == 7 && block.label == 7);
 }
 
@@ -203,13 +230,14 @@ static void refused_memory_is_answered(void) {
     for (request = 1; request < 100000; request++) {
         soq_block block;
         size_t needed;
-        soq_status status[2];
+        soq_status status[3];
         int i;
         refused_request = request;
         status[0] = soq_name_text(SOQ_DER, OF(jim), text, sizeof text, &needed);
         ENSURE(needed == (status[0] == SOQ_OK ? strlen(names[2].text) + 1 : 0));
         status[1] = soq_pem(blocks, sizeof blocks - 1, 0, &block, out, sizeof out, &needed);
-        for (i = 0; i < 2; i++) {
+        status[2] = soq_extension(SOQ_DER, OF(extensions), "2.5.29.15", out, sizeof out, &needed);
+        for (i = 0; i < 3; i++) {
             ENSURE(status[i] == SOQ_OK || status[i] == SOQ_OUT_OF_MEMORY);
             failed += status[i] == SOQ_OUT_OF_MEMORY;
         }
@@ -228,6 +256,7 @@ int main(void) {
     memcpy(longer, smith, sizeof smith);
     names_are_written();
     blocks_are_found();
+    extensions_are_found();
     wrong_arguments_are_answered();
     refused_memory_is_answered();
     printf("texts: %zu names, %zu blocks, refusals of memory\n", sizeof names / sizeof *names, sizeof held_blocks / sizeof *held_blocks);

@@ -39,8 +39,8 @@ import pathlib
 from typing import Any, Iterator, Mapping, NamedTuple, Sequence
 
 __all__ = [
-    "Encoding", "Part", "PemBlock", "Refused", "Rules", "Schema", "Type", "check", "encodings", "fault", "identifier",
-    "integer", "name_text", "next_encoding", "normalise", "pem_blocks", "skip", "time",
+    "Encoding", "Part", "PemBlock", "Refused", "Rules", "Schema", "Type", "check", "encodings", "extension", "fault",
+    "identifier", "integer", "name_text", "next_encoding", "normalise", "pem_blocks", "skip", "time",
 ]
 
 
@@ -195,6 +195,7 @@ _integer_octets = _function("soq_integer_octets", _KIND, *_OCTETS, *_OCTETS, _SI
 _identifier = _function("soq_oid_text", _KIND, *_OCTETS, *_OCTETS, _SIZE)
 _time = _function("soq_time", _KIND, _KIND, *_OCTETS, ctypes.POINTER(_Time))
 _name_text = _function("soq_name_text", _KIND, *_OCTETS, *_OCTETS, _SIZE)
+_extension = _function("soq_extension", _KIND, *_OCTETS, ctypes.c_char_p, *_OCTETS, _SIZE)
 _pem = _function("soq_pem", *_OCTETS, ctypes.c_size_t, ctypes.POINTER(_Block), *_OCTETS, _SIZE)
 _ABSENT = 8
 _REASON = [ctypes.POINTER(_Reason), *_OCTETS]
@@ -298,6 +299,19 @@ def identifier(rules: Rules, octets: bytes) -> str:
             _answer(status, "the octets aren't one OBJECT IDENTIFIER")
             return buffer.value.decode("ascii")
         capacity = needed.value
+
+
+def extension(rules: Rules, octets: bytes, identifier: str) -> bytes | None:
+    """Returns the octets of the first extension with this identifier, '2.5.29.17', or None if none has it.
+
+    All of the octets are Extensions (RFC 5280 4.1).
+    """
+    buffer, needed = ctypes.create_string_buffer(max(len(octets), 1)), ctypes.c_size_t()
+    status = _extension(rules, octets, len(octets), identifier.encode("utf-8"), buffer, len(octets), needed)
+    if status == _ABSENT:
+        return None
+    _answer(status, "the octets aren't Extensions")
+    return buffer.raw[:needed.value]
 
 
 def name_text(rules: Rules, octets: bytes) -> str:

@@ -2,7 +2,7 @@
 import datetime
 import unittest
 
-from soqavise import Refused, Rules, Schema, Type, check, encodings, fault, identifier, integer, name_text, next_encoding, normalise, pem_blocks, skip, time
+from soqavise import Refused, Rules, Schema, Type, check, encodings, extension, fault, identifier, integer, name_text, next_encoding, normalise, pem_blocks, skip, time
 
 
 def octets(digits):
@@ -54,6 +54,13 @@ class Calls(unittest.TestCase):
         self.assertEqual(identifier(Rules.DER, octets("0603883703")), "2.999.3")  # 8.19.5
         with self.assertRaises(Refused):
             identifier(Rules.DER, octets("0600"))
+
+    def test_finds_extensions(self):
+        held = octets("300D 300B 0603551D0F 0404 030205A0")  # keyUsage (RFC 5280 4.2.1.3)
+        self.assertEqual(extension(Rules.DER, held, "2.5.29.15"), octets("030205A0"))
+        self.assertIsNone(extension(Rules.DER, held, "2.5.29.19"))
+        with self.assertRaises(Refused):
+            extension(Rules.DER, held[1:], "2.5.29.15")
 
     def test_writes_names(self):
         # the first example of RFC 4514 4

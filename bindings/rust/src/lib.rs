@@ -32,9 +32,11 @@
 //! that what is written overlaps nothing else. No proof covers this file.
 #![warn(missing_docs)]
 
+mod extension;
 mod pem;
 mod schema;
 
+pub use extension::extension;
 pub use pem::{name_text, pem};
 pub use schema::{Kind, Schema, Value};
 

@@ -1,5 +1,5 @@
 //! Octets are worked out by hand from X.690, whose sections are named, and JSON from X.697.
-use soqavise::{name_text, pem, Error, Kind, Rules, Schema};
+use soqavise::{extension, name_text, pem, Error, Kind, Rules, Schema};
 
 const MODULE: &str = "Rows DEFINITIONS IMPLICIT TAGS ::= BEGIN
 Row ::= SEQUENCE {
@@ -99,4 +99,13 @@ const NAME: [u8; 72] = *b"\x30\x46\x31\x13\x30\x11\x06\x0a\x09\x92\x26\x89\x93\x
 fn writes_names() {
     assert_eq!(name_text(Rules::Der, &NAME).unwrap(), "UID=jsmith,DC=example,DC=net");
     assert!(matches!(name_text(Rules::Der, &NAME[1..]), Err(Error::Refused { .. })));
+}
+
+#[test]
+fn finds_extensions() {
+    // keyUsage 03 02 05 A0 (RFC 5280 4.2.1.3).
+    let octets = [0x30, 0x0D, 0x30, 0x0B, 0x06, 0x03, 0x55, 0x1D, 0x0F, 0x04, 0x04, 0x03, 0x02, 0x05, 0xA0];
+    assert_eq!(extension(Rules::Der, &octets, "2.5.29.15"), Ok(Some(vec![0x03, 0x02, 0x05, 0xA0])));
+    assert_eq!(extension(Rules::Der, &octets, "2.5.29.19"), Ok(None));
+    assert!(matches!(extension(Rules::Der, &octets[1..], "2.5.29.15"), Err(Error::Refused { .. })));
 }

@@ -11,3 +11,4 @@ pub mod Ends
 pub mod Rows
 pub mod Compiled
 pub mod Placed
+pub mod FirstWith

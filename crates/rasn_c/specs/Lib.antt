@@ -22,3 +22,4 @@ pub mod Compiling
 pub mod Listing
 pub mod Names
 pub mod Blocks
+pub mod Extensions

@@ -15,6 +15,7 @@ mod converting;
 mod encoding;
 mod error_kinds;
 mod errors;
+mod extensions;
 mod extent;
 mod finding;
 mod leaves;
