@@ -10,3 +10,4 @@ pub mod NoStrings
 pub mod Ends
 pub mod Rows
 pub mod Compiled
+pub mod Counted
