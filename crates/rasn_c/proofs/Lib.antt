@@ -10,3 +10,6 @@ pub mod NoStrings
 pub mod Ends
 pub mod Rows
 pub mod Compiled
+pub mod PathTexts
+pub mod Checked
+pub mod Asked
