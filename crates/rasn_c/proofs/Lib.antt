@@ -11,3 +11,6 @@ pub mod Ends
 pub mod Rows
 pub mod Compiled
 pub mod Counted
+pub mod PathTexts
+pub mod Checked
+pub mod Asked

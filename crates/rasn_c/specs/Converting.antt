@@ -47,7 +47,7 @@ pub record IsNoJson (octets : List ℕ) (number : ℕ) (message : List ℕ) (sto
 
 abbrev pub IsNoJsonBy : List ℕ → ℕ → List ℕ → Stop → Status → Type 0
 IsNoJsonBy octets number message stop Refused = IsNoJson octets number message stop
-IsNoJsonBy octets number message stop status = IsNotAsked number status
+IsNoJsonBy octets number message stop status = IsNotAsked octets number status
 
 -- What a call leaves that writes JSON.
 abbrev pub AnswersJson : List ℕ → ℕ → ℕ → List ℕ → Reason → List ℕ → List ℕ → List ℕ → List ℕ → ℕ → Status → Type 0
@@ -67,7 +67,7 @@ pub record IsEncodedFrom (octets : List ℕ) (number : ℕ) (text made : List �
 -- The text is refused, or its value has no octets; or there is no schema.
 abbrev pub IsNotEncodedBy : List ℕ → ℕ → Status → Type 0
 IsNotEncodedBy octets number Refused = (schema : Schema) × (root : TypeId) × (rule : Codec) × IsAsked octets number schema root rule
-IsNotEncodedBy octets number status = IsNotAsked number status
+IsNotEncodedBy octets number status = IsNotAsked octets number status
 
 -- What a call leaves that encodes JSON.
 abbrev pub AnswersEncode : List ℕ → ℕ → List ℕ → Reason → List ℕ → List ℕ → List ℕ → List ℕ → ℕ → Status → Type 0
@@ -92,7 +92,7 @@ pub record IsNoNormalBy (octets : List ℕ) (number : ℕ) (message : List ℕ) 
 
 abbrev pub IsNotNormalised : List ℕ → ℕ → List ℕ → Status → Type 0
 IsNotNormalised octets number message Refused = IsNoNormalBy octets number message
-IsNotNormalised octets number message status = IsNotAsked number status
+IsNotNormalised octets number message status = IsNotAsked octets number status
 
 -- What a call leaves that normalises a message.
 abbrev pub AnswersNormaliseBy : List ℕ → ℕ → List ℕ → Reason → List ℕ → List ℕ → List ℕ → List ℕ → ℕ → Status → Type 0
