@@ -1,6 +1,6 @@
 -- The schema of a type of modules as octets.
-use Rattle.std.proofs.Common.{ℕ, ◌≡◌, ◌<◌, ◌∷◌, ◌++◌, ◌≢◌, ◌⊎◌, inl, inr, List, length, get_or, Some, None, Option, Result, Ok as Made, Err, MatchResult, MatchOption, refl, sym, subst}
-use Rattle.std.specs.Prelude.{Vec, Bor, IsUtf8, All, Contains}
+use Rattle.std.proofs.Common.{ℕ, ◌≡◌, ◌<◌, ◌∷◌, ◌++◌, ◌≢◌, ◌⊎◌, inl, inr, List, length, get_or, Some, Result, Ok as Made, Err, MatchResult, refl}
+use Rattle.std.specs.Prelude.{Vec, IsUtf8}
 use Rattle.std.specs.Global.{Global}
 use Rattle.std.proofs.lemmas.List.Elements.{All-contains, All-from_get_or}
 use Rattle.rasn_schema.specs.declared.schema.Schema.{Schema}

@@ -1,4 +1,4 @@
-use Rattle.std.specs.Prelude.{AllWithin}
+use Rattle.std.specs.List.{AllWithin}
 use Rattle.rasn_c.specs.Compiling.{IsText}
 use Rattle.rasn_c.proofs.compiling.sources_of.Given as goal
 
