@@ -448,8 +448,9 @@ soq_status soq_bits(soq_rule rule, const uint8_t *octets, size_t length, uint8_t
  *
  * SOQ_OK: the schema has `*needed` octets.
  * SOQ_BUFFER_TOO_SMALL: it has `*needed` octets, which is more than `capacity`. The buffer is unchanged.
- * SOQ_REFUSED: the modules have faults. The text has a line `NAME:LINE:COLUMN: what is wrong` for each, and `reason` the place of the first.
- * SOQ_UNKNOWN_TYPE: no module has a type of this name.
+ * SOQ_REFUSED: a text or its name isn't UTF-8, or the modules have faults. The text then has a line `NAME:LINE:COLUMN: what is wrong` for each
+ * fault, and `reason` the place of the first.
+ * SOQ_UNKNOWN_TYPE: no module has a type of this name, or the name isn't UTF-8.
  * For each other status `*needed` is 0 and the buffer is unchanged.
  *
  * Contract: AnswersCompile (crates/rasn_c/specs/Compiling.antt), from those of `Modules::schema` and `rasn_schema_octets::write`.

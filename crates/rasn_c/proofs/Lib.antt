@@ -12,3 +12,7 @@ pub mod Rows
 pub mod Compiled
 pub mod Placed
 pub mod FirstWith
+pub mod Counted
+pub mod PathTexts
+pub mod Checked
+pub mod Asked

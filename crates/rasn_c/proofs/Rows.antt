@@ -1,17 +1,28 @@
 -- Rows of parts that are gone over in turn.
-use Rattle.std.proofs.Common.{ℕ, ◌≡◌, ◌+◌, ◌≤◌, ◌++◌, ◌∷◌, [], List, length, drop, get_or, Some, append_assoc, sym, ap, ◌∙◌, subst}
+use Rattle.std.proofs.Common.{ℕ, ◌≡◌, ◌⊎◌, inl, inr, ◌+◌, ◌≤◌, ◌++◌, ◌∷◌, [], List, length, drop, get_or, Some, append_assoc, sym, ap, ◌∙◌, subst}
 use Rattle.std.specs.Prelude.{slice_get, Vec}
 use Rattle.std.specs.Global.{Global}
 use Rattle.std.proofs.lemmas.List.{append-nil, drop_more, drop_all}
 use Rattle.std.proofs.lemmas.Option.{slice_get_within, get_or_from_slice_get}
+use Rattle.rasn_types.specs.declared.types.codec.Codec.{Codec}
+use Rattle.rasn_types.specs.Errors.{IsOutOfMemory}
+use Rattle.rasn_schema.specs.declared.schema.Schema.{Schema}
+use Rattle.rasn_schema.specs.declared.type_id.TypeId.{TypeId}
 use Rattle.rasn_schema.specs.declared.types.«Type».{«Type»}
+use Rattle.rasn_dynamic.specs.declared.refusal.Refusal.{Refusal}
+use Rattle.rasn_dynamic.specs.Faults.{IsLocated}
 use Rattle.rasn_dynamic.specs.declared.message.MessageParts.{MessageParts}
 use Rattle.rasn_dynamic.specs.declared.part.Part.{Part}
 use Rattle.rasn_dynamic.specs.declared.span.Span.{Span}
 use Rattle.rasn_dynamic.specs.Walk.{IsNextOf, depth_of}
 use Rattle.rasn_c.specs.Extents.{IsExtentOf}
-use Rattle.rasn_c.specs.Listing.{IsRowOf, AreRows}
+use Rattle.rasn_c.specs.Schemas.{IsAsked}
+use Rattle.rasn_c.specs.Reasons.{IsStopBy}
+use Rattle.rasn_c.specs.Listing.{IsRowOf, AreRows, IsNoListingBy}
 use Rattle.rasn_c.specs.declared.listing.ListedPart.{ListedPart}
+use Rattle.rasn_c.specs.declared.reasons.Stop.{Stop}
+use Rattle.rasn_c.specs.declared.status.Status.{Status}
+use Rattle.rasn_c.specs.declared.status.Status.TheVariants.{Ok, Refused, OutOfMemory, BufferTooSmall, UnknownType, UnknownRule, BadSchema, UnknownPath, Absent}
 
 drop_at : {X : Type 0} (xs : List X) (i : ℕ) (x : X) → slice_get xs i ≡ Some x → drop i xs ≡ x ∷ drop (i + 1) xs
 drop_at xs i x e = drop_more xs i x (slice_get_within xs i x e) ∙ ap (λ z. z ∷ drop (i + 1) xs) (get_or_from_slice_get xs i x x e)
@@ -49,3 +60,27 @@ go_on types old new p s rows more r n list input at extent depth index m c =
 pub all_rows : (types : List «Type») (input : List ℕ) (list : List Span) (rows : List ListedPart) (i : ℕ) → length list ≤ i → Completes types input list i rows → AreRows types input list rows
 unfolding AreRows
 all_rows types input list rows i h c = subst (AreRows types input list) (append-nil rows) (c [] (subst (λ z. AreRows types input z []) (sym (drop_all i list h)) tt))
+
+-- A message whose parts aren't listed.
+pub unlisted : (octets : List ℕ) (number : ℕ) (message : List ℕ) (stop : Stop) (schema : Schema) (root : TypeId) (rule : Codec) (refusal : Refusal) → IsAsked octets number schema root rule
+    → IsOutOfMemory refusal.error.kind ⊎ IsLocated schema.types.items rule root.0 message refusal → (status : Status) → stop.status ≡ status → IsStopBy schema root [] refusal stop status → IsNoListingBy octets number message stop status
+unlisted octets number message stop schema root rule refusal a l Refused e h = record {
+  schema = schema;
+  root = root;
+  rule = rule;
+  asked = a;
+  refusal = refusal;
+  located = elim l [
+    | inl m ↦ absurd (h.memory m)
+    | inr at ↦ at
+  ];
+  stops = subst (IsStopBy schema root [] refusal stop) (sym e) h;
+}
+unlisted octets number message stop schema root rule refusal a l OutOfMemory e h = tt
+unlisted octets number message stop schema root rule refusal a l Ok e h = absurd h
+unlisted octets number message stop schema root rule refusal a l BufferTooSmall e h = absurd h
+unlisted octets number message stop schema root rule refusal a l UnknownType e h = absurd h
+unlisted octets number message stop schema root rule refusal a l UnknownRule e h = absurd h
+unlisted octets number message stop schema root rule refusal a l BadSchema e h = absurd h
+unlisted octets number message stop schema root rule refusal a l UnknownPath e h = absurd h
+unlisted octets number message stop schema root rule refusal a l Absent e h = absurd h

@@ -1,8 +1,7 @@
 -- The check of a message by a schema.
-use Rattle.std.specs.Prelude.{◌≡◌, ◌⊎◌, ◌-◌, ℕ, List, [], length, string_bytes, zero, suc, Option, Some, None, Result, Ok as Made, Err, MatchResult}
+use Rattle.std.specs.Prelude.{◌≡◌, ◌⊎◌, ◌-◌, ℕ, List, [], length, false, zero, suc, Option, Some, None, Result, Ok as Made, Err, MatchResult}
 use Rattle.rasn_types.specs.declared.types.codec.Codec.{Codec}
 use Rattle.rasn_types.specs.declared.types.codec.Codec.TheVariants.{Ber, Cer, Der}
-use Rattle.rasn_types.specs.Errors.{IsOutOfMemory}
 use Rattle.rasn_types.specs.Shapes.{Tree}
 use Rattle.rasn_types.specs.Grammar.{Reads, top}
 use Rattle.rasn_de.specs.Outcomes.{Exact, Got}
@@ -17,8 +16,8 @@ use Rattle.rasn_lint.specs.declared.by_schema.OpenTypes.{OpenTypes}
 use Rattle.rasn_lint.specs.declared.by_schema.OpenTypes.TheVariants.{Unexamined, Examined}
 use Rattle.rasn_lint.specs.declared.departure.Departure.{Departure}
 use Rattle.rasn_lint.specs.Lint.{IsFirstDeparture}
+use Rattle.rasn_lint.specs.Shown.{indices_of}
 use Rattle.rasn_c.specs.Schemas.{IsAsked, IsNotAsked}
-use Rattle.rasn_c.specs.ErrorKinds.{kind_number}
 use Rattle.rasn_c.specs.Reasons.{IsStopOf, IsTold}
 use Rattle.rasn_c.specs.declared.reasons.Reason.{Reason}
 use Rattle.rasn_c.specs.declared.reasons.Stop.{Stop}
@@ -41,6 +40,9 @@ pub record IsFollowed (rule : Codec) (types : List «Type») (id : ℕ) (message
   pub read : Exact (Reads rule (shape_of types id) 128 (top rule)) message (Got tree rest)
   pub extra : IsExtraData rule rest r.error
   pub offset : r.offset ≡ length message - length rest
+  pub id : r.id.0 ≡ id
+  pub steps : r.steps.items ≡ []
+  pub is_cut : r.is_cut ≡ false
 
 -- The octets aren't exactly one value of the type, and this is where and why.
 abbrev pub IsRefusedAt : Codec → List «Type» → ℕ → List ℕ → Refusal → Type 0
@@ -51,28 +53,15 @@ abbrev pub IsChecked : Codec → OpenTypes → List «Type» → ℕ → List �
 IsChecked Der opens types id message = IsFirstDeparture opens types id message None
 IsChecked rule opens types id message = IsWhole rule types id message
 
--- The kind and the place of a departure are reported, and the text as of a refusal if it isn't inside an open type.
-pub record IsDepartedBy (schema : Schema) (root : TypeId) (d : Departure) (stop : Stop) : Type 0 where
-  pub memory : IsOutOfMemory d.refusal.error.kind → ⊥
-  pub kind : stop.reason.kind ≡ kind_number d.refusal.error.kind
-  pub offset : stop.reason.offset ≡ d.refusal.offset
-  pub text_length : stop.reason.text_length ≡ length (string_bytes stop.text)
-  pub outside : d.inner ≡ None → IsStopOf schema root d.refusal stop
-
-abbrev pub IsDepartedOr : Schema → TypeId → Departure → Stop → Status → Type 0
-IsDepartedOr schema root d stop Refused = IsDepartedBy schema root d stop
-IsDepartedOr schema root d stop OutOfMemory = Unit {0}
-IsDepartedOr schema root d stop _ = ⊥
-
 -- Octets that the reader refuses, or there is no memory to say why.
 abbrev pub IsUnreadBy : Codec → Schema → TypeId → List ℕ → Stop → Status → Type 0
-IsUnreadBy rule schema root message stop Refused = (r : Refusal) × IsRefusedAt rule schema.types.items root.0 message r × IsStopOf schema root r stop
+IsUnreadBy rule schema root message stop Refused = (r : Refusal) × IsRefusedAt rule schema.types.items root.0 message r × IsStopOf schema root [] r stop
 IsUnreadBy rule schema root message stop OutOfMemory = Unit {0}
 IsUnreadBy rule schema root message stop _ = ⊥
 
 -- The check doesn't pass, and this is where and why.
 abbrev pub IsDepartedFrom : OpenTypes → Schema → TypeId → List ℕ → Stop → Status → Type 0
-IsDepartedFrom opens schema root message stop Refused = (d : Departure) × IsFirstDeparture opens schema.types.items root.0 message (Some d) × IsDepartedBy schema root d stop
+IsDepartedFrom opens schema root message stop Refused = (d : Departure) × IsFirstDeparture opens schema.types.items root.0 message (Some d) × IsStopOf schema root (indices_of d.inner) d.refusal stop
 IsDepartedFrom opens schema root message stop OutOfMemory = Unit {0}
 IsDepartedFrom opens schema root message stop _ = ⊥
 
@@ -97,7 +86,7 @@ pub record IsNotCheckedBy (octets : List ℕ) (number open_types : ℕ) (message
 
 -- The check doesn't pass, or there is none.
 abbrev pub IsStopped : List ℕ → ℕ → ℕ → List ℕ → Stop → Type 0
-IsStopped octets number open_types message stop = IsNotCheckedBy octets number open_types message stop ⊎ IsNotAsked number stop.status
+IsStopped octets number open_types message stop = IsNotCheckedBy octets number open_types message stop ⊎ IsNotAsked octets number stop.status
 
 abbrev pub status_of : Result (Unit {0}) Status → Status
 status_of (Made u) = Ok

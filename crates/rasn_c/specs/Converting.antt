@@ -13,6 +13,8 @@ use Rattle.rasn_json.specs.declared.layout.Layout.TheVariants.{Compact, Indented
 use Rattle.rasn_json.specs.Entry.{HasJson, IsLaidOut, IsReadAs}
 use Rattle.rasn_c.specs.Schemas.{IsAsked, IsNotAsked}
 use Rattle.rasn_c.specs.Checking.{IsUnreadBy}
+use Rattle.rasn_c.specs.Reasons.{Delivers}
+use Rattle.rasn_c.specs.declared.reasons.Reason.{Reason}
 use Rattle.rasn_c.specs.declared.reasons.Stop.{Stop}
 use Rattle.rasn_c.specs.declared.status.Status.{Status}
 use Rattle.rasn_c.specs.declared.status.Status.TheVariants.{Refused, OutOfMemory}
@@ -45,7 +47,12 @@ pub record IsNoJson (octets : List ℕ) (number : ℕ) (message : List ℕ) (sto
 
 abbrev pub IsNoJsonBy : List ℕ → ℕ → List ℕ → Stop → Status → Type 0
 IsNoJsonBy octets number message stop Refused = IsNoJson octets number message stop
-IsNoJsonBy octets number message stop status = IsNotAsked number status
+IsNoJsonBy octets number message stop status = IsNotAsked octets number status
+
+-- What a call leaves that writes JSON.
+abbrev pub AnswersJson : List ℕ → ℕ → ℕ → List ℕ → Reason → List ℕ → List ℕ → List ℕ → List ℕ → ℕ → Status → Type 0
+AnswersJson octets number lines message reason old_text new_text old new needed status =
+    Delivers (IsJson octets number lines message) (λ stop. IsNoJsonBy octets number message stop stop.status) reason old_text new_text old new needed status
 
 -- The octets are those of the value that the text is.
 pub record IsEncodedFrom (octets : List ℕ) (number : ℕ) (text made : List ℕ) : Type 0 where
@@ -60,7 +67,12 @@ pub record IsEncodedFrom (octets : List ℕ) (number : ℕ) (text made : List �
 -- The text is refused, or its value has no octets; or there is no schema.
 abbrev pub IsNotEncodedBy : List ℕ → ℕ → Status → Type 0
 IsNotEncodedBy octets number Refused = (schema : Schema) × (root : TypeId) × (rule : Codec) × IsAsked octets number schema root rule
-IsNotEncodedBy octets number status = IsNotAsked number status
+IsNotEncodedBy octets number status = IsNotAsked octets number status
+
+-- What a call leaves that encodes JSON.
+abbrev pub AnswersEncode : List ℕ → ℕ → List ℕ → Reason → List ℕ → List ℕ → List ℕ → List ℕ → ℕ → Status → Type 0
+AnswersEncode octets number text reason old_text new_text old new needed status =
+    Delivers (IsEncodedFrom octets number text) (λ stop. IsNotEncodedBy octets number stop.status) reason old_text new_text old new needed status
 
 -- The octets are the one DER encoding of the value that all of the message is.
 pub record IsNormalBy (octets : List ℕ) (number : ℕ) (message made : List ℕ) : Type 0 where
@@ -80,4 +92,9 @@ pub record IsNoNormalBy (octets : List ℕ) (number : ℕ) (message : List ℕ) 
 
 abbrev pub IsNotNormalised : List ℕ → ℕ → List ℕ → Status → Type 0
 IsNotNormalised octets number message Refused = IsNoNormalBy octets number message
-IsNotNormalised octets number message status = IsNotAsked number status
+IsNotNormalised octets number message status = IsNotAsked octets number status
+
+-- What a call leaves that normalises a message.
+abbrev pub AnswersNormaliseBy : List ℕ → ℕ → List ℕ → Reason → List ℕ → List ℕ → List ℕ → List ℕ → ℕ → Status → Type 0
+AnswersNormaliseBy octets number message reason old_text new_text old new needed status =
+    Delivers (IsNormalBy octets number message) (λ stop. IsNotNormalised octets number message stop.status) reason old_text new_text old new needed status

@@ -1,5 +1,5 @@
 -- A part of a message by its path.
-use Rattle.std.specs.Prelude.{◌≡◌, ℕ, List, Result, Ok as Made, Err, MatchResult}
+use Rattle.std.specs.Prelude.{◌≡◌, ℕ, List, [], Result, Ok as Made, Err, MatchResult}
 use Rattle.rasn_types.specs.declared.types.codec.Codec.{Codec}
 use Rattle.rasn_types.specs.Errors.{IsOutOfMemory}
 use Rattle.rasn_schema.specs.declared.schema.Schema.{Schema}
@@ -9,10 +9,10 @@ use Rattle.rasn_dynamic.specs.declared.refusal.Refusal.{Refusal}
 use Rattle.rasn_dynamic.specs.declared.steps.Step.{Step}
 use Rattle.rasn_dynamic.specs.Faults.{IsLocated, start}
 use Rattle.rasn_dynamic.specs.Parts.{IsPartAt, LacksPath}
-use Rattle.rasn_dynamic.specs.Steps.{IsWay}
+use Rattle.rasn_dynamic.specs.Steps.{IsWay, IsNoWay}
 use Rattle.rasn_c.specs.Buffers.{IsCutInto}
 use Rattle.rasn_c.specs.Schemas.{IsAsked, IsNotAsked}
-use Rattle.rasn_c.specs.Paths.{path_text}
+use Rattle.rasn_c.specs.Paths.{AreStepsOf}
 use Rattle.rasn_c.specs.Extents.{IsExtentOf, no_extent}
 use Rattle.rasn_c.specs.Reasons.{IsStopOf, IsStopBy, IsTold}
 use Rattle.rasn_c.specs.declared.extent.Extent.{Extent}
@@ -24,14 +24,18 @@ use Rattle.rasn_c.specs.declared.status.Status.TheVariants.{Ok, Refused, OutOfMe
 -- The text is the path that leads along these indices in values of the type.
 pub record IsPathOf (schema : Schema) (root : TypeId) (text indices : List ℕ) : Type 0 where
   pub steps : List Step
-  pub text_is : path_text steps ≡ text
+  pub of_text : AreStepsOf text steps
   pub way : IsWay schema.types.items 18446744073709551615 root.0 steps indices
 
+-- The text is that of no steps, or its steps lead to no part of the type.
+abbrev pub HasNoPath : Schema → TypeId → List ℕ → Type 0
+HasNoPath schema root text = (steps : List Step) → AreStepsOf text steps → IsNoWay schema.types.items 18446744073709551615 root.0 steps
+
 -- There is none; or memory ran out.
-abbrev pub IsNoPath : Status → Type 0
-IsNoPath UnknownPath = Unit {0}
-IsNoPath OutOfMemory = Unit {0}
-IsNoPath _ = ⊥
+abbrev pub IsNoPath : Schema → TypeId → List ℕ → Status → Type 0
+IsNoPath schema root text UnknownPath = HasNoPath schema root text
+IsNoPath schema root text OutOfMemory = Unit {0}
+IsNoPath schema root text _ = ⊥
 
 -- The extent is that of the part at the path of the value with which the octets begin.
 pub record IsFound (octets : List ℕ) (number : ℕ) (message path : List ℕ) (e : Extent) : Type 0 where
@@ -55,21 +59,31 @@ pub record IsAbsent (octets : List ℕ) (number : ℕ) (message path : List ℕ)
   pub path_is : IsPathOf schema root path indices
   pub lacks : LacksPath schema.types.items indices 18446744073709551615 root.0 (start rule message)
 
--- A value on the way can't be read, and this is where and why.
-pub record IsUnreadable (octets : List ℕ) (number : ℕ) (message : List ℕ) (stop : Stop) : Type 0 where
+-- The type has no part with this path.
+pub record IsUnknown (octets : List ℕ) (number : ℕ) (path : List ℕ) : Type 0 where
   pub schema : Schema
   pub root : TypeId
   pub rule : Codec
   pub asked : IsAsked octets number schema root rule
+  pub none : HasNoPath schema root path
+
+-- The type has a part with this path, but a value of the message can't be read, and this is where and why.
+pub record IsUnreadOnWay (octets : List ℕ) (number : ℕ) (message path : List ℕ) (stop : Stop) : Type 0 where
+  pub schema : Schema
+  pub root : TypeId
+  pub rule : Codec
+  pub asked : IsAsked octets number schema root rule
+  pub indices : List ℕ
+  pub path_is : IsPathOf schema root path indices
   pub refusal : Refusal
   pub located : IsLocated schema.types.items rule root.0 message refusal
-  pub stops : IsStopOf schema root refusal stop
+  pub stops : IsStopOf schema root [] refusal stop
 
 abbrev pub IsNotFoundBy : List ℕ → ℕ → List ℕ → List ℕ → Stop → Status → Type 0
-IsNotFoundBy octets number message path stop Refused = IsUnreadable octets number message stop
+IsNotFoundBy octets number message path stop Refused = IsUnreadOnWay octets number message path stop
 IsNotFoundBy octets number message path stop Absent = IsAbsent octets number message path
-IsNotFoundBy octets number message path stop UnknownPath = (schema : Schema) × (root : TypeId) × (rule : Codec) × IsAsked octets number schema root rule
-IsNotFoundBy octets number message path stop status = IsNotAsked number status
+IsNotFoundBy octets number message path stop UnknownPath = IsUnknown octets number path
+IsNotFoundBy octets number message path stop status = IsNotAsked octets number status
 
 abbrev pub IsNotFound : List ℕ → ℕ → List ℕ → List ℕ → Stop → Type 0
 IsNotFound octets number message path stop = IsNotFoundBy octets number message path stop stop.status

@@ -14,6 +14,7 @@ pub mod Schemas
 pub mod Paths
 pub mod Extents
 pub mod Finding
+pub mod Days
 pub mod Seconds
 pub mod Strings
 pub mod Checking

@@ -1,19 +1,19 @@
 -- All parts of a message.
 use Rattle.std.specs.Prelude.{◌≡◌, ◌<◌, ◌≤◌, ◌⊎◌, ◌++◌, ◌∷◌, [], ◌-◌, ℕ, List, length, drop, Result, Ok as Made, Err, MatchResult}
 use Rattle.rasn_types.specs.declared.types.codec.Codec.{Codec}
-use Rattle.rasn_types.specs.Errors.{IsOutOfMemory}
 use Rattle.rasn_schema.specs.declared.schema.Schema.{Schema}
 use Rattle.rasn_schema.specs.declared.type_id.TypeId.{TypeId}
 use Rattle.rasn_schema.specs.declared.types.«Type».{«Type»}
 use Rattle.rasn_dynamic.specs.declared.message.MessageParts.{MessageParts}
 use Rattle.rasn_dynamic.specs.declared.part.Part.{Part}
 use Rattle.rasn_dynamic.specs.declared.span.Span.{Span}
+use Rattle.rasn_dynamic.specs.declared.refusal.Refusal.{Refusal}
+use Rattle.rasn_dynamic.specs.Faults.{IsLocated}
 use Rattle.rasn_dynamic.specs.Parts.{IsPartHeader}
 use Rattle.rasn_dynamic.specs.Walk.{ArePartsOf, depth_of}
 use Rattle.rasn_c.specs.Schemas.{IsAsked, IsNotAsked}
 use Rattle.rasn_c.specs.Extents.{IsExtentOf}
-use Rattle.rasn_c.specs.Finding.{IsUnreadable}
-use Rattle.rasn_c.specs.Reasons.{IsTold}
+use Rattle.rasn_c.specs.Reasons.{IsStopOf, IsTold}
 use Rattle.rasn_c.specs.declared.listing.Counts.{Counts}
 use Rattle.rasn_c.specs.declared.listing.ListedPart.{ListedPart}
 use Rattle.rasn_c.specs.declared.listing.Listing.{Listing}
@@ -49,9 +49,19 @@ pub record IsListing (octets : List ℕ) (number : ℕ) (message : List ℕ) (ro
   pub are : ArePartsOf schema.types.items rule root.0 message parts
   pub rows_are : AreRows schema.types.items message parts.list.items rows
 
+-- A value of the message can't be read, and this is where and why.
+pub record IsUnreadable (octets : List ℕ) (number : ℕ) (message : List ℕ) (stop : Stop) : Type 0 where
+  pub schema : Schema
+  pub root : TypeId
+  pub rule : Codec
+  pub asked : IsAsked octets number schema root rule
+  pub refusal : Refusal
+  pub located : IsLocated schema.types.items rule root.0 message refusal
+  pub stops : IsStopOf schema root [] refusal stop
+
 abbrev pub IsNoListingBy : List ℕ → ℕ → List ℕ → Stop → Status → Type 0
 IsNoListingBy octets number message stop Refused = IsUnreadable octets number message stop
-IsNoListingBy octets number message stop status = IsNotAsked number status
+IsNoListingBy octets number message stop status = IsNotAsked octets number status
 
 -- The rows and the names are written if both fit, and their numbers in both cases.
 abbrev pub IsPutListing : Listing → List ListedPart → List ListedPart → List ℕ → List ℕ → Counts → Status → Type 0

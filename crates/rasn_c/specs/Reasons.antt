@@ -1,12 +1,11 @@
 -- Why a call by a schema has no result.
-use Rattle.std.specs.Prelude.{◌≡◌, ◌-◌, ◌⊎◌, ℕ, List, [], length, string_bytes, Some, Result, Ok as Made, Err, MatchResult, Vec}
+use Rattle.std.specs.Prelude.{◌≡◌, ◌-◌, ◌⊎◌, ℕ, List, [], length, true, string_bytes, Some, Result, Ok as Made, Err, MatchResult, Vec}
 use Rattle.std.specs.Global.{Global}
 use Rattle.rasn_types.specs.Errors.{IsOutOfMemory}
 use Rattle.rasn_schema.specs.declared.schema.Schema.{Schema}
 use Rattle.rasn_schema.specs.declared.type_id.TypeId.{TypeId}
 use Rattle.rasn_dynamic.specs.declared.refusal.Refusal.{Refusal}
-use Rattle.rasn_dynamic.specs.declared.refusal.NamedRefusal.{NamedRefusal}
-use Rattle.rasn_dynamic.specs.Shown.{shown_refusal, shown_named}
+use Rattle.rasn_dynamic.specs.Shown.{shown_refusal, shown_way, way_text}
 use Rattle.rasn_c.specs.Buffers.{IsCutInto, IsDelivered}
 use Rattle.rasn_c.specs.ErrorKinds.{kind_number}
 use Rattle.rasn_c.specs.declared.reasons.Reason.{Reason}
@@ -26,33 +25,31 @@ IsPlain status stop = (stop.status ≡ status) × (stop.reason ≡ no_reason) ×
 abbrev pub IsStatusOr : Status → Stop → Type 0
 IsStatusOr status stop = (stop.status ≡ status) ⊎ (stop.status ≡ OutOfMemory)
 
--- The text is that of the refusal with the names on the way from the type, and has so many octets before the refusal's own.
-pub record IsNamedText (schema : Schema) (root : TypeId) (refusal : Refusal) (text : List ℕ) (path_length : ℕ) : Type 0 where
-  pub named : NamedRefusal
-  pub of_schema : named.schema.now ≡ schema
-  pub of_root : named.id ≡ root
-  pub of_refusal : named.refusal.now ≡ refusal
-  pub shown : shown_named named ≡ Some text
+-- The text is that of the refusal, after the names on the way from the type and the indices on the way inside an open type. So many octets precede the refusal's own.
+pub record IsNamedText (schema : Schema) (root : TypeId) (inner : List ℕ) (refusal : Refusal) (text : List ℕ) (path_length : ℕ) : Type 0 where
+  pub shown : shown_way refusal.is_cut (way_text schema.types.items inner true root.0 refusal.steps.items) (shown_refusal refusal) ≡ Some text
   pub own : List ℕ
   pub shown_own : shown_refusal refusal ≡ Some own
   pub path : path_length ≡ (length text - length own) - 2
 
 -- The reason and the text are those of a refusal that isn't a failed allocation.
-pub record IsReasonOf (schema : Schema) (root : TypeId) (refusal : Refusal) (reason : Reason) (text : List ℕ) : Type 0 where
+pub record IsReasonOf (schema : Schema) (root : TypeId) (inner : List ℕ) (refusal : Refusal) (reason : Reason) (text : List ℕ) : Type 0 where
   pub memory : IsOutOfMemory refusal.error.kind → ⊥
   pub kind : reason.kind ≡ kind_number refusal.error.kind
+  pub line : reason.line ≡ 0
+  pub column : reason.column ≡ 0
   pub offset : reason.offset ≡ refusal.offset
-  pub named : IsNamedText schema root refusal text reason.path_length
+  pub named : IsNamedText schema root inner refusal text reason.path_length
   pub text_length : reason.text_length ≡ length text
 
 -- The end for a refusal with a status: its reason, or a failed allocation, which may also be that of the text.
-abbrev pub IsStopBy : Schema → TypeId → Refusal → Stop → Status → Type 0
-IsStopBy schema root refusal stop Refused = IsReasonOf schema root refusal stop.reason (string_bytes stop.text)
-IsStopBy schema root refusal stop OutOfMemory = Unit {0}
-IsStopBy schema root refusal stop _ = ⊥
+abbrev pub IsStopBy : Schema → TypeId → List ℕ → Refusal → Stop → Status → Type 0
+IsStopBy schema root inner refusal stop Refused = IsReasonOf schema root inner refusal stop.reason (string_bytes stop.text)
+IsStopBy schema root inner refusal stop OutOfMemory = Unit {0}
+IsStopBy schema root inner refusal stop _ = ⊥
 
-abbrev pub IsStopOf : Schema → TypeId → Refusal → Stop → Type 0
-IsStopOf schema root refusal stop = IsStopBy schema root refusal stop stop.status
+abbrev pub IsStopOf : Schema → TypeId → List ℕ → Refusal → Stop → Type 0
+IsStopOf schema root inner refusal stop = IsStopBy schema root inner refusal stop stop.status
 
 -- What is reported of a call: nothing if it has a result, and else the reason, with as much of its text as fits.
 abbrev pub IsTold : {T : Type 0} → Result T Stop → Reason → List ℕ → List ℕ → Result T Status → Type 0

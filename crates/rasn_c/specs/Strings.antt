@@ -1,5 +1,5 @@
 -- Strings as UTF-8, and the bits of a BIT STRING.
-use Rattle.std.specs.Prelude.{◌≡◌, ◌≢◌, ◌≤◌, ◌<◌, ◌⊎◌, ◌++◌, ◌∷◌, [], ℕ, List, length, chars, Bool}
+use Rattle.std.specs.Prelude.{◌≡◌, ◌≢◌, ◌≤◌, ◌<◌, ◌⊎◌, ◌++◌, ◌∷◌, [], ℕ, List, length, chars, Bool, IsUtf8}
 use Rattle.rasn_types.specs.declared.types.codec.Codec.{Codec}
 use Rattle.rasn_types.specs.Shapes.{bit_string, bits, numbers, Kind, utf8, numeric, printable, ia5, visible}
 use Rattle.rasn_types.specs.BitString.{Packs}
@@ -15,7 +15,7 @@ IsOctetKind number kind = ((number ≡ 18) × (kind ≡ numeric)) ⊎ (((number 
 
 -- All of the octets are a string of the type with this number, and its characters are this text in UTF-8.
 abbrev pub IsString : ℕ → Codec → List ℕ → List ℕ → Type 0
-IsString number rule octets text = ((number ≡ 12) × IsLeaf rule utf8 octets (numbers (chars text))) ⊎ ((kind : Kind) × IsOctetKind number kind × IsLeaf rule kind octets (numbers text))
+IsString number rule octets text = ((number ≡ 12) × IsUtf8 text × IsLeaf rule utf8 octets (numbers (chars text))) ⊎ ((kind : Kind) × IsOctetKind number kind × IsLeaf rule kind octets (numbers text))
 
 -- They are none, or there is no memory for it; or no such type has the number.
 abbrev pub IsNoString : ℕ → Codec → List ℕ → Status → Type 0

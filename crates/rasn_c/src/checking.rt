@@ -1,16 +1,17 @@
 //! The check of a message by a schema.
 ghost use Rattle.std.specs.Prelude.{◌≡◌, MatchOption, MatchResult};
 ghost use Rattle.rasn_types.specs.declared.types.codec.Codec.TheVariants.{Der};
+ghost use Rattle.rasn_lint.specs.Shown.{indices_of};
 ghost use Rattle.rasn_c.specs.Status.{IsNumberOf};
-ghost use Rattle.rasn_c.specs.Checking.{AnswersCheckBy, IsCheckedBy, IsStopped, IsChecked, IsUncheckedBy, IsDepartedOr, IsWhole, IsRefusedAt, IsUnreadBy, opens_of, status_of};
+ghost use Rattle.rasn_c.specs.Checking.{AnswersCheckBy, IsCheckedBy, IsStopped, IsChecked, IsUncheckedBy, IsWhole, IsRefusedAt, IsUnreadBy, opens_of, status_of};
 
-use crate::reasons::{Reason, Stop, path_length, reason_of, tell};
+use crate::reasons::{Reason, Stop, tell};
 use crate::schemas::{Query, asked};
 use crate::status::Status;
 use rasn::refuse_remainder;
 use rasn::types::Codec;
 use rasn_dynamic::{Refusal, check_or_locate};
-use rasn_lint::{Departure, OpenTypes, check};
+use rasn_lint::{OpenTypes, check};
 use rasn_schema::{Schema, TypeId};
 use std::alloc::Global;
 
@@ -70,7 +71,21 @@ fn check_der(
 {
     match check(alloc, schema, root, octets, opens(open_types)) {
         Ok(()) => Ok(()),
-        Err(departure) => Err(departed(alloc, schema, root, &departure)),
+        Err(departure) => {
+            let inner = indices_of(&departure.inner);
+            let refusal = &departure.refusal;
+            Err(Stop::of_refusal(alloc, schema, root, inner, refusal))
+        }
+    }
+}
+
+/// Returns the index of each encoding on the way inside an open type; none if it isn't in one.
+fn indices_of(inner: &Option<Vec<usize>>) -> &[usize]
+    ensures { result.now ≡ indices_of inner.now }
+{
+    match inner {
+        Some(indices) => indices.as_slice(),
+        None => &[],
     }
 }
 
@@ -86,7 +101,7 @@ fn check_whole(
 {
     match refusal_of(alloc, rule, schema, root, octets) {
         None => Ok(()),
-        Some(refusal) => Err(Stop::of_refusal(alloc, schema, root, &refusal)),
+        Some(refusal) => Err(Stop::of_refusal(alloc, schema, root, &[], &refusal)),
     }
 }
 
@@ -99,22 +114,6 @@ fn opens(open_types: u32) -> OpenTypes
     } else {
         OpenTypes::Examined
     }
-}
-
-/// Returns the end for a departure from DER. Inside an open type the path goes on by indices.
-fn departed(alloc: Global, schema: &Schema, root: TypeId, departure: &Departure) -> Stop
-    ensures { IsDepartedOr schema.now root departure.now result result.status }
-{
-    let refusal = &departure.refusal;
-    if departure.inner.is_none() || refusal.error.is_out_of_memory() {
-        return Stop::of_refusal(alloc, schema, root, refusal);
-    }
-    let place = departure.place_with_names(schema, root);
-    let (Ok(text), Ok(own)) = (format!(in alloc; "{place}"), format!(in alloc; "{refusal}")) else {
-        return Stop::plain(alloc, Status::OutOfMemory);
-    };
-    let reason = reason_of(refusal, path_length(text.len(), own.len()));
-    Stop::of_text(Status::Refused, reason, text)
 }
 
 /// Returns why the octets aren't exactly one value of the type, if they aren't.
@@ -153,7 +152,7 @@ pub(crate) fn unread(
     ensures { IsUnreadBy rule schema.now root octets.now result result.status }
 {
     match refusal_of(alloc, rule, schema, root, octets) {
-        Some(refusal) => Stop::of_refusal(alloc, schema, root, &refusal),
+        Some(refusal) => Stop::of_refusal(alloc, schema, root, &[], &refusal),
         // Only memory was missing.
         None => Stop::plain(alloc, Status::OutOfMemory),
     }

@@ -1,9 +1,10 @@
 //! The schema of a type of modules.
-ghost use Rattle.std.specs.Prelude.{MatchResult};
+ghost use Rattle.std.specs.Prelude.{MatchOption, MatchResult};
 ghost use Rattle.rasn_schema_octets.specs.Octets.{IsSchemaOctets};
 ghost use Rattle.rasn_c.specs.Status.{IsNumberOf};
-ghost use Rattle.rasn_c.specs.Reasons.{Delivers};
-ghost use Rattle.rasn_c.specs.Compiling.{IsSchemaOf, IsNoSchema, IsNameOf};
+ghost use Rattle.rasn_c.specs.declared.status.Status.TheVariants.{Refused};
+ghost use Rattle.rasn_c.specs.Reasons.{IsStatusOr};
+ghost use Rattle.rasn_c.specs.Compiling.{AnswersCompile, AreTexts, AreNoTexts, IsText, IsCompiled, IsNotCompiled, IsSchemaOf, IsNoSchema, IsNameOf};
 
 use crate::buffers::deliver;
 use crate::reasons::{NO_REASON, Reason, Stop, stop_of, tell, without_memory};
@@ -34,7 +35,7 @@ pub extern "C" fn soq_proved_compile(
     reason: &mut Reason,
     text: &mut [u8],
 ) -> u32
-    ensures { IsNumberOf (Delivers (IsSchemaOf name.now) (λ stop. IsNoSchema stop.status) reason.new text.old text.new buffer.old buffer.new needed.new) result }
+    ensures { IsNumberOf (AnswersCompile texts.now name.now reason.new text.old text.new buffer.old buffer.new needed.new) result }
 {
     let made = schema_octets(alloc, texts, name);
     deliver(tell(made, reason, text), buffer, needed).number()
@@ -42,14 +43,15 @@ pub extern "C" fn soq_proved_compile(
 
 /// Returns the octets of the schema of a type of these modules.
 fn schema_octets(alloc: Global, texts: &[Texts<'_>], name: &[u8]) -> Result<Vec<u8>, Stop>
-    ensures { MatchResult result (λ v. IsSchemaOf name.now v.items) (λ stop. IsNoSchema stop.status) }
+    ensures { MatchResult result (λ v. IsCompiled texts.now name.now v.items) (λ stop. IsNotCompiled texts.now name.now stop.status) }
 {
     let sources = match sources_of(alloc, texts) {
         Ok(sources) => sources,
         Err(stop) => return Err(stop),
     };
     let Ok(name) = str::from_utf8(name) else {
-        return Err(unknown(alloc, "the type's name isn't UTF-8"));
+        let text = "the type's name isn't UTF-8";
+        return Err(stop_of(alloc, Status::UnknownType, text));
     };
     let read = match Modules::parse(alloc, sources.as_slice()) {
         Ok(read) => read,
@@ -67,20 +69,14 @@ fn schema_of(alloc: Global, read: &Modules<'_>, name: &str) -> Result<Vec<u8>, S
 {
     let (module, type_name) = names_in(name);
     let Some(module) = module_of(read, module, type_name) else {
-        return Err(unknown(alloc, "no module has a type of this name"));
+        let text = "no module has a type of this name";
+        return Err(stop_of(alloc, Status::UnknownType, text));
     };
     match read.schema(alloc, module, type_name) {
         Ok(resolved) => octets_of(alloc, &resolved),
         Err(CompilerStop::OutOfMemory) => Err(Stop::plain(alloc, Status::OutOfMemory)),
         Err(CompilerStop::Fault(fault)) => Err(faults_stop(alloc, &fault, &[fault])),
     }
-}
-
-/// Returns the end for a type that isn't known.
-fn unknown(alloc: Global, text: &str) -> Stop
-    ensures { IsNoSchema result.status }
-{
-    stop_of(alloc, Status::UnknownType, text)
 }
 
 /// Returns the name of a module, if one is named, and that of a type: `MODULE.TYPE`.
@@ -95,24 +91,35 @@ fn names_in(name: &str) -> (Option<&str>, &str)
 
 /// Returns the texts, each with its name.
 fn sources_of<'a>(alloc: Global, texts: &[Texts<'a>]) -> Result<Vec<Source<'a>>, Stop>
-    ensures { MatchResult result (λ _. Unit {0}) (λ stop. IsNoSchema stop.status) }
+    ensures { MatchResult result (λ sources. AreTexts texts.now) (λ stop. AreNoTexts texts.now stop.status) }
 {
     let mut sources = Vec::new(alloc);
-    for of in texts {
-        let Texts { name, text } = *of;
-        let (Ok(name), Ok(text)) = (str::from_utf8(name), str::from_utf8(text)) else {
-            return Err(stop_of(alloc, Status::Refused, "a text of modules isn't UTF-8"));
+    for text in texts {
+        let Some(source) = source_of(text) else {
+            let text = "a text of modules isn't UTF-8";
+            return Err(stop_of(alloc, Status::Refused, text));
         };
-        if sources.push(Source { name, text }).is_err() {
+        if sources.push(source).is_err() {
             return Err(Stop::plain(alloc, Status::OutOfMemory));
         }
     }
     Ok(sources)
 }
 
+/// Returns a text with its name, if both are UTF-8.
+fn source_of<'a>(text: &Texts<'a>) -> Option<Source<'a>>
+    ensures { MatchOption result (IsText text.now → ⊥) (λ source. IsText text.now) }
+{
+    let Texts { name, text } = *text;
+    match (str::from_utf8(name), str::from_utf8(text)) {
+        (Ok(name), Ok(text)) => Some(Source { name, text }),
+        _ => None,
+    }
+}
+
 /// Returns the octets of a schema.
 fn octets_of(alloc: Global, resolved: &Resolved) -> Result<Vec<u8>, Stop>
-    ensures { MatchResult result (λ v. IsSchemaOctets resolved.now.schema resolved.now.root resolved.now.unchecked v.items) (λ stop. IsNoSchema stop.status) }
+    ensures { MatchResult result (λ v. IsSchemaOctets resolved.now.schema resolved.now.root resolved.now.unchecked v.items) (IsStatusOr Refused) }
 {
     let Resolved {
         schema,
@@ -131,7 +138,7 @@ fn octets_of(alloc: Global, resolved: &Resolved) -> Result<Vec<u8>, Stop>
 
 /// Returns the end for modules with these faults: their lines, and the place of the first.
 fn faults_stop(alloc: Global, first: &Fault<'_>, faults: &[Fault<'_>]) -> Stop
-    ensures { IsNoSchema result.status }
+    ensures { IsStatusOr Refused result }
 {
     let mut reason = NO_REASON;
     reason.line = first.position.line;

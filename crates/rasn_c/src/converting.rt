@@ -2,8 +2,8 @@
 ghost use Rattle.std.specs.Prelude.{◌≡◌, ◌++◌, ◌∷◌, [], MatchResult};
 ghost use Rattle.rasn_c.specs.Status.{IsNumberOf};
 ghost use Rattle.rasn_c.specs.declared.status.Status.TheVariants.{OutOfMemory, Refused};
-ghost use Rattle.rasn_c.specs.Reasons.{Delivers, IsPlain, IsStatusOr};
-ghost use Rattle.rasn_c.specs.Converting.{IsJson, IsNoJsonBy, IsEncodedFrom, IsNotEncodedBy, IsNormalBy, IsNotNormalised, layout_of};
+ghost use Rattle.rasn_c.specs.Reasons.{IsPlain, IsStatusOr};
+ghost use Rattle.rasn_c.specs.Converting.{AnswersJson, AnswersEncode, AnswersNormaliseBy, IsJson, IsNoJsonBy, IsEncodedFrom, IsNotEncodedBy, IsNormalBy, IsNotNormalised, layout_of};
 
 use crate::buffers::deliver;
 use crate::checking::unread;
@@ -30,12 +30,13 @@ pub extern "C" fn soq_proved_json(
     reason: &mut Reason,
     text: &mut [u8],
 ) -> u32
-    ensures { IsNumberOf (Delivers (IsJson schema.now rule lines octets.now) (λ stop. IsNoJsonBy schema.now rule octets.now stop stop.status) reason.new text.old text.new buffer.old buffer.new needed.new) result }
+    ensures { IsNumberOf (AnswersJson schema.now rule lines octets.now reason.new text.old text.new buffer.old buffer.new needed.new) result }
 {
     let made = json_by(alloc, schema, rule, lines, octets);
     deliver(tell(made, reason, text), buffer, needed).number()
 }
 
+/// Returns the JSON text of a message, and a zero.
 fn json_by(
     alloc: Global,
     schema: &[u8],
@@ -88,12 +89,13 @@ pub extern "C" fn soq_proved_encode(
     reason: &mut Reason,
     text: &mut [u8],
 ) -> u32
-    ensures { IsNumberOf (Delivers (IsEncodedFrom schema.now rule json.now) (λ stop. IsNotEncodedBy schema.now rule stop.status) reason.new text.old text.new buffer.old buffer.new needed.new) result }
+    ensures { IsNumberOf (AnswersEncode schema.now rule json.now reason.new text.old text.new buffer.old buffer.new needed.new) result }
 {
     let made = encode_by(alloc, schema, rule, json);
     deliver(tell(made, reason, text), buffer, needed).number()
 }
 
+/// Returns the octets of the value of a JSON text.
 fn encode_by(alloc: Global, schema: &[u8], rule: u32, json: &[u8]) -> Result<Vec<u8>, Stop>
     ensures { MatchResult result (λ v. IsEncodedFrom schema.now rule json.now v.items) (λ stop. IsNotEncodedBy schema.now rule stop.status) }
 {
@@ -155,12 +157,13 @@ pub extern "C" fn soq_proved_normalise_by(
     reason: &mut Reason,
     text: &mut [u8],
 ) -> u32
-    ensures { IsNumberOf (Delivers (IsNormalBy schema.now rule octets.now) (λ stop. IsNotNormalised schema.now rule octets.now stop.status) reason.new text.old text.new buffer.old buffer.new needed.new) result }
+    ensures { IsNumberOf (AnswersNormaliseBy schema.now rule octets.now reason.new text.old text.new buffer.old buffer.new needed.new) result }
 {
     let made = normalise_by(alloc, schema, rule, octets);
     deliver(tell(made, reason, text), buffer, needed).number()
 }
 
+/// Returns the DER octets of a message.
 fn normalise_by(alloc: Global, schema: &[u8], rule: u32, octets: &[u8]) -> Result<Vec<u8>, Stop>
     ensures { MatchResult result (λ v. IsNormalBy schema.now rule octets.now v.items) (λ stop. IsNotNormalised schema.now rule octets.now stop.status) }
 {

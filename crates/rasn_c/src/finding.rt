@@ -51,21 +51,18 @@ fn find(alloc: Global, schema: &[u8], rule: u32, octets: &[u8], path: &[u8]) -> 
     ensures { MatchResult result (IsFound schema.now rule octets.now path.now) (IsNotFound schema.now rule octets.now path.now) }
 {
     let asked = asked(alloc, schema, rule)?;
-    let indices = match indices_of(alloc, &asked, path) {
-        Ok(indices) => indices,
-        Err(stop) => return Err(stop),
-    };
+    let indices = indices_of(alloc, &asked, path)?;
     let Query { schema, root, rule } = asked;
     match find_part(alloc, rule, &schema, root, octets, indices.as_slice()) {
         Ok(Some(part)) => Ok(extent_of(alloc, &schema, &part)),
         Ok(None) => Err(Stop::plain(alloc, Status::Absent)),
-        Err(refusal) => Err(Stop::of_refusal(alloc, &schema, root, &refusal)),
+        Err(refusal) => Err(Stop::of_refusal(alloc, &schema, root, &[], &refusal)),
     }
 }
 
 /// Returns the index of each part on the way.
 fn indices_of(alloc: Global, asked: &Query, path: &[u8]) -> Result<Vec<usize>, Stop>
-    ensures { MatchResult result (λ indices. IsPathOf asked.now.schema asked.now.root path.now indices.items) (λ stop. IsNoPath stop.status) }
+    ensures { MatchResult result (λ indices. IsPathOf asked.now.schema asked.now.root path.now indices.items) (λ stop. IsNoPath asked.now.schema asked.now.root path.now stop.status) }
 {
     let Ok(text) = str::from_utf8(path) else {
         return Err(stop_of(alloc, Status::UnknownPath, "the path isn't UTF-8"));

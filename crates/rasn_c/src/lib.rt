@@ -12,6 +12,7 @@ mod canonical;
 mod checking;
 mod compiling;
 mod converting;
+mod days;
 mod encoding;
 mod error_kinds;
 mod errors;

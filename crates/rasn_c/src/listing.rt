@@ -113,7 +113,7 @@ fn list(alloc: Global, schema: &[u8], rule: u32, octets: &[u8]) -> Result<Listin
     let Query { schema, root, rule } = asked(alloc, schema, rule)?;
     let mut parts = match parts_of(alloc, rule, &schema, root, octets) {
         Ok(parts) => parts,
-        Err(refusal) => return Err(Stop::of_refusal(alloc, &schema, root, &refusal)),
+        Err(refusal) => return Err(Stop::of_refusal(alloc, &schema, root, &[], &refusal)),
     };
     match listing_of(alloc, &schema, root, &mut parts) {
         Ok(listing) => Ok(listing),

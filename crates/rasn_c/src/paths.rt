@@ -1,11 +1,13 @@
 //! Paths to parts as text: `extensions[1].extnValue`.
-ghost use Rattle.std.specs.Prelude.{◌≡◌, IfOk, IfSome, OnOk, string_bytes};
-ghost use Rattle.rasn_c.specs.Paths.{path_text, step_after};
+ghost use Rattle.std.specs.Prelude.{◌≡◌, ◌≤◌, ℕ, List, Bool, IfOk, MatchOption, length, take, drop};
+ghost use Rattle.std.specs.List.{AllByRecursion};
+ghost use Rattle.rasn_c.specs.Paths.{AreStepsOf, IsFirstStep, IsFirstName, IsFirstIndex, IsNameOctet, EndsName};
+ghost use Rattle.rasn_dynamic.specs.declared.steps.Step.{Step};
 
 use rasn_dynamic::Step;
 use std::alloc::{AllocError, Global};
 
-/// Returns the steps of a path, of which this is the text. Returns `None` if it is no such text.
+/// Returns the steps of which this is the text. Returns `None` if it is the text of none.
 ///
 /// # Errors
 /// If memory runs out.
@@ -13,87 +15,75 @@ pub(crate) fn steps_of<'text>(
     alloc: Global,
     text: &'text str,
 ) -> Result<Option<Vec<Step<'text>>>, AllocError>
-    ensures { IfOk result (λ found. IfSome found (λ steps. path_text steps.items ≡ text.now)) }
+    ensures { IfOk result (λ found. MatchOption found ((steps : List Step) → AreStepsOf text.now steps → ⊥) (λ steps. AreStepsOf text.now steps.items)) }
 {
-    let Some(steps) = read_steps(alloc, text)? else {
-        return Ok(None);
-    };
-    let written = path_text(alloc, steps.as_slice())?;
-    if written.as_str() == text {
-        Ok(Some(steps))
-    } else {
-        Ok(None)
-    }
-}
-
-/// Returns the steps that a text may be: those whose own text is compared with it.
-fn read_steps<'text>(
-    alloc: Global,
-    text: &'text str,
-) -> Result<Option<Vec<Step<'text>>>, AllocError> {
     let mut steps = Vec::new(alloc);
-    for segment in text.split('.') {
-        if !push_segment(&mut steps, segment)? {
+    let mut rest = text;
+    while !rest.is_empty() {
+        let Some((step, after)) = first_step(rest, steps.is_empty()) else {
             return Ok(None);
-        }
+        };
+        steps.push(step)?;
+        rest = after;
     }
     Ok(Some(steps))
 }
 
-/// Appends the steps of what is between two points: a name, and indices in brackets.
-fn push_segment<'text>(
-    steps: &mut Vec<Step<'text>>,
-    segment: &'text str,
-) -> Result<bool, AllocError> {
-    let (name, indices) = match segment.split_once('[') {
-        Some((name, indices)) => (name, Some(indices)),
-        None => (segment, None),
+/// Returns the step that a text begins with, and the rest of the text.
+fn first_step(text: &str, is_first: bool) -> Option<(Step<'_>, &str)>
+    ensures { MatchOption result ((step : Step) (rest : List ℕ) → IsFirstStep is_first text.now step rest → ⊥) (λ r. IsFirstStep is_first text.now r.0 r.1.now) }
+{
+    if let Some(text) = text.strip_prefix('[') {
+        let (index, rest) = first_index(text)?;
+        return Some((Step::Index(index), rest));
+    }
+    if is_first {
+        let (name, rest) = first_name(text)?;
+        return Some((Step::Name(name), rest));
+    }
+    let (name, rest) = first_name(text.strip_prefix('.')?)?;
+    Some((Step::Name(name), rest))
+}
+
+/// Returns the index that ends at the first closing bracket, and the rest of the text.
+fn first_index(text: &str) -> Option<(usize, &str)>
+    ensures { MatchOption result ((index : ℕ) (rest : List ℕ) → IsFirstIndex text.now index rest → ⊥) (λ r. IsFirstIndex text.now r.0 r.1.now) }
+{
+    let (digits, rest) = text.split_once(']')?;
+    if digits.starts_with('+') {
+        return None;
+    }
+    if digits.starts_with('0') && digits.len() > 1 {
+        return None;
+    }
+    let Ok(index) = digits.parse::<usize>() else {
+        return None;
     };
-    if !name.is_empty() {
-        steps.push(Step::Name(name))?;
-    }
-    match indices {
-        Some(indices) => push_indices(steps, indices),
-        None => Ok(true),
-    }
+    Some((index, rest))
 }
 
-/// Appends the indices of a text that follows the first bracket.
-fn push_indices(steps: &mut Vec<Step<'_>>, text: &str) -> Result<bool, AllocError> {
-    for index in text.split('[') {
-        let Some(digits) = index.strip_suffix(']') else {
-            return Ok(false);
-        };
-        let Ok(number) = digits.parse::<usize>() else {
-            return Ok(false);
-        };
-        steps.push(Step::Index(number))?;
-    }
-    Ok(true)
-}
-
-/// Returns the text of steps: names with a point between two, and indices in brackets.
-fn path_text(alloc: Global, steps: &[Step<'_>]) -> Result<String, AllocError>
-    ensures { IfOk result (λ text. string_bytes text ≡ path_text steps.now) }
+/// Returns the name that ends at the first point or opening bracket, and the rest of the text.
+fn first_name(text: &str) -> Option<(&str, &str)>
+    ensures { MatchOption result ((name : List ℕ) (rest : List ℕ) → IsFirstName text.now name rest → ⊥) (λ r. IsFirstName text.now r.0.now r.1.now) }
 {
-    let mut text = String::new(alloc);
-    for step in steps {
-        push_step(&mut text, step)?;
+    let end = name_length(text);
+    if end == 0 {
+        return None;
     }
-    Ok(text)
+    Some(text.split_at(end))
 }
 
-/// Appends the text of a step.
-fn push_step(text: &mut String, step: &Step<'_>) -> Result<(), AllocError>
-    ensures { OnOk result (string_bytes text.new ≡ step_after (string_bytes text.old) step.now) }
+/// Returns how many octets precede the first point or opening bracket.
+fn name_length(text: &str) -> usize
+    ensures bound { result ≤ length text.now }
+    ensures name { AllByRecursion IsNameOctet (take result text.now) }
+    ensures end { EndsName (drop result text.now) }
 {
-    match step {
-        Step::Name(name) => {
-            if !text.is_empty() {
-                text.push_str(".")?;
-            }
-            text.push_str(name)
+    let octets = text.as_bytes();
+    for end in 0..octets.len() {
+        if matches!(octets[end], b'.' | b'[') {
+            return end;
         }
-        Step::Index(index) => write!(text, "[{index}]"),
     }
+    octets.len()
 }

@@ -7,7 +7,7 @@ ghost use Rattle.rasn_c.specs.Reasons.{IsPlain, IsNamedText, IsStopOf, IsStatusO
 use crate::buffers::put_text;
 use crate::error_kinds::kind_number;
 use crate::status::Status;
-use rasn_dynamic::Refusal;
+use rasn_dynamic::{NamedRefusal, Refusal};
 use rasn_schema::{Schema, TypeId};
 use std::alloc::{AllocError, Global};
 
@@ -74,19 +74,27 @@ impl Stop {
         }
     }
 
-    /// Returns the end for a refusal of a message, whose type has this number.
+    /// Returns the end for a refusal of a message, whose type has this number. Inside an open type
+    /// the path goes on by these indices.
     pub(crate) fn of_refusal(
         alloc: Global,
         schema: &Schema,
         root: TypeId,
+        inner: &[usize],
         refusal: &Refusal,
     ) -> Stop
-        ensures { IsStopOf schema.now root refusal.now result }
+        ensures { IsStopOf schema.now root inner.now refusal.now result }
     {
         if refusal.error.is_out_of_memory() {
             return Stop::plain(alloc, Status::OutOfMemory);
         }
-        match named_text(alloc, schema, root, refusal) {
+        let named = NamedRefusal {
+            schema,
+            id: root,
+            refusal,
+            inner,
+        };
+        match named_text(alloc, &named) {
             Ok((text, path_length)) => {
                 let reason = reason_of(refusal, path_length);
                 Stop::of_text(Status::Refused, reason, text)
@@ -97,23 +105,17 @@ impl Stop {
 }
 
 /// Returns the text of a refusal with the names on the way, and how many octets of it are the path.
-fn named_text(
-    alloc: Global,
-    schema: &Schema,
-    root: TypeId,
-    refusal: &Refusal,
-) -> Result<(String, usize), AllocError>
-    ensures { IfOk result (λ r. IsNamedText schema.now root refusal.now (string_bytes r.0) r.1) }
+fn named_text(alloc: Global, named: &NamedRefusal<'_>) -> Result<(String, usize), AllocError>
+    ensures { IfOk result (λ r. IsNamedText named.now.schema.now named.now.id named.now.inner.now named.now.refusal.now (string_bytes r.0) r.1) }
 {
-    let named = refusal.with_names(schema, root);
     let text = format!(in alloc; "{named}")?;
-    let own = format!(in alloc; "{refusal}")?;
+    let own = format!(in alloc; "{}", named.refusal)?;
     let path_length = path_length(text.len(), own.len());
     Ok((text, path_length))
 }
 
 /// Returns the reason of a refusal, with so many octets of a path.
-pub(crate) fn reason_of(refusal: &Refusal, path_length: usize) -> Reason
+fn reason_of(refusal: &Refusal, path_length: usize) -> Reason
     ensures { result ≡ record no_reason { kind = kind_number refusal.now.error.kind; offset = refusal.now.offset; path_length = path_length } }
 {
     Reason {

@@ -1,8 +1,6 @@
 //! Schemas as octets.
 ghost use Rattle.std.specs.Prelude.{MatchResult};
-ghost use Rattle.rasn_c.specs.declared.status.Status.TheVariants.{BadSchema};
-ghost use Rattle.rasn_c.specs.Reasons.{IsStatusOr};
-ghost use Rattle.rasn_c.specs.Schemas.{IsAsked, IsNotAsked};
+ghost use Rattle.rasn_c.specs.Schemas.{IsAsked, IsNotAsked, IsStatusOf};
 
 use crate::reasons::{NO_REASON, Stop};
 use crate::rules::rule_numbered;
@@ -22,7 +20,7 @@ pub(crate) struct Query {
 
 /// Returns the type whose schema has these octets, and the rules of this number.
 pub(crate) fn asked(alloc: Global, schema: &[u8], rule: u32) -> Result<Query, Stop>
-    ensures { MatchResult result (λ a. IsAsked schema.now rule a.schema a.root a.rule) (λ stop. IsNotAsked rule stop.status) }
+    ensures { MatchResult result (λ a. IsAsked schema.now rule a.schema a.root a.rule) (λ stop. IsNotAsked schema.now rule stop.status) }
 {
     let Some(rule) = rule_numbered(rule) else {
         return Err(Stop::plain(alloc, Status::UnknownRule));
@@ -38,7 +36,7 @@ pub(crate) fn asked(alloc: Global, schema: &[u8], rule: u32) -> Result<Query, St
 
 /// Returns the end of a call whose schema's octets have this fault.
 fn bad_schema(alloc: Global, fault: &ReadFault) -> Stop
-    ensures { IsStatusOr BadSchema result }
+    ensures { IsStatusOf fault.now result.status }
 {
     if matches!(fault, ReadFault::OutOfMemory) {
         return Stop::plain(alloc, Status::OutOfMemory);

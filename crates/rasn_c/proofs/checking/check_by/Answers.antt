@@ -1,5 +1,5 @@
 use Rattle.rasn_types.specs.declared.types.codec.Codec.TheVariants.{Ber, Cer, Der}
-use Rattle.rasn_c.proofs.Ends.{checked_by}
+use Rattle.rasn_c.proofs.Checked.{checked_by}
 use Rattle.rasn_c.proofs.checking.check_by.Goals as goal
 
 pub returns-in-Der : goal.returns-in-Der

@@ -1,5 +1,5 @@
 use Rattle.std.proofs.Common.{refl}
-use Rattle.rasn_c.proofs.Ends.{refused_at}
+use Rattle.rasn_c.proofs.Checked.{refused_at}
 use Rattle.rasn_c.proofs.checking.unread.Goals as goal
 
 pub returns-in-Some : goal.returns-in-Some

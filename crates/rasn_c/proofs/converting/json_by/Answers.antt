@@ -8,9 +8,9 @@ use Rattle.rasn_c.proofs.converting.json_by.Goals as goal
 
 pub returns-in-Ok : goal.returns-in-Ok
 returns-in-Ok c = text_of_json c.args.schema.now c.args.rule c.args.lines c.args.octets.now c.into_bytes.result.items (record {
-  schema = c.in_ok-schema.schema;
-  root = c.in_ok-schema.root;
-  rule = c.in_ok-schema.rule;
+  schema = c.in_ok-schema.field-0.schema;
+  root = c.in_ok-schema.field-0.root;
+  rule = c.in_ok-schema.field-0.rule;
   asked = c.in_ok-schema.ensures;
   value = c.in-Ok.ensures.ok.0;
   read = c.in-Ok.ensures.ok.1;
@@ -23,13 +23,13 @@ returns-in-Ok c = text_of_json c.args.schema.now c.args.rule c.args.lines c.args
 pub returns-in-Err-Decode : goal.returns-in-Err-Decode
 returns-in-Err-Decode c = json_unread _ _ _ c.unread.result _ _ _ c.in_ok-schema.ensures _ c.unread.ensures
 
-pub returns-in-Err-Json : goal.returns-in-Err-Json
-returns-in-Err-Json c =
+pub returns : goal.returns
+returns c =
     let had = rw c.in-Err-Json.field-0-is at c.in-Err-Json.ensures.err in
     by_status (IsNoJsonBy c.args.schema.now c.args.rule c.args.octets.now c.json_stop.result) c.json_stop.result Refused c.json_stop.ensures (record {
-      schema = c.in_ok-schema.schema;
-      root = c.in_ok-schema.root;
-      rule = c.in_ok-schema.rule;
+      schema = c.in_ok-schema.field-0.schema;
+      root = c.in_ok-schema.field-0.root;
+      rule = c.in_ok-schema.field-0.rule;
       asked = c.in_ok-schema.ensures;
       why = inr had;
     }) tt

@@ -1,0 +1,14 @@
+use Rattle.rasn_c.proofs.converting.soq_proved_normalise_by.Goals as goal
+
+pub returns : goal.returns
+returns c = record {
+  status = c.deliver.result;
+  numbered = c.number.ensures;
+  is = record {
+    made = c.normalise_by-made.result;
+    is = c.normalise_by-made.ensures;
+    answer = c.tell.result;
+    told = c.tell.ensures;
+    delivered = c.deliver.ensures;
+  };
+}
