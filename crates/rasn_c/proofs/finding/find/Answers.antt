@@ -1,4 +1,5 @@
 use Rattle.std.proofs.Common.{refl, sym, subst}
+use Rattle.std.proofs.lemmas.Result.{err_from_is_err_and}
 use Rattle.rasn_dynamic.specs.Faults.{start}
 use Rattle.rasn_dynamic.specs.Parts.{IsPartAt, LacksPath}
 use Rattle.rasn_c.specs.Finding.{IsNotFoundBy}
@@ -6,7 +7,9 @@ use Rattle.rasn_c.proofs.Found.{no_path, unread_on_way}
 use Rattle.rasn_c.proofs.finding.find.Goals as goal
 
 pub returns-in_err-indices : goal.returns-in_err-indices
-returns-in_err-indices c = ?
+returns-in_err-indices c =
+    let p = err_from_is_err_and c.from_residual-in_err-indices.result c.from_residual-in_err-indices.ensures.1 in
+    rw (p.1, p.2) (no_path c.args.schema.now c.args.rule c.args.octets.now c.args.path.now c.in_err-indices.field-0.0 c.in_ok-asked.asked.schema c.in_ok-asked.asked.root c.in_ok-asked.asked.rule c.in_ok-asked.ensures c.in_err-indices.field-0.0.status c.in_err-indices.ensures)
 
 pub returns-in-Ok-Some : goal.returns-in-Ok-Some
 returns-in-Ok-Some c = record {
