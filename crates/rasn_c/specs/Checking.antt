@@ -40,7 +40,7 @@ pub record IsFollowed (rule : Codec) (types : List «Type») (id : ℕ) (message
   pub read : Exact (Reads rule (shape_of types id) 128 (top rule)) message (Got tree rest)
   pub extra : IsExtraData rule rest r.error
   pub offset : r.offset ≡ length message - length rest
-  pub id : r.id.0 ≡ id
+  pub type_is : r.id.0 ≡ id
   pub steps : r.steps.items ≡ []
   pub is_cut : r.is_cut ≡ false
 
