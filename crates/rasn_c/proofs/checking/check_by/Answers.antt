@@ -8,5 +8,5 @@ returns-in-Der c = checked_by c.args.schema.now c.args.rule c.args.open_types c.
 pub returns-in-Ber : goal.returns-in-Ber
 returns-in-Ber c = checked_by c.args.schema.now c.args.rule c.args.open_types c.args.octets.now c.in_ok-asked.asked.schema c.in_ok-asked.asked.root c.in_ok-asked.asked.rule Ber c.in_ok-asked.ensures c.in-Ber.is c.check_whole.result c.check_whole.ensures
 
-pub returns-in-Cer : goal.returns-in-Cer
-returns-in-Cer c = checked_by c.args.schema.now c.args.rule c.args.open_types c.args.octets.now c.in_ok-asked.asked.schema c.in_ok-asked.asked.root c.in_ok-asked.asked.rule Cer c.in_ok-asked.ensures c.in-Cer.is c.check_whole-2.result c.check_whole-2.ensures
+pub returns : goal.returns
+returns c = checked_by c.args.schema.now c.args.rule c.args.open_types c.args.octets.now c.in_ok-asked.asked.schema c.in_ok-asked.asked.root c.in_ok-asked.asked.rule Cer c.in_ok-asked.ensures c.in-Cer.is c.check_whole-2.result c.check_whole-2.ensures
