@@ -9,4 +9,4 @@ pub returns-in-Ber : goal.returns-in-Ber
 returns-in-Ber c = checked_by c.args.schema.now c.args.rule c.args.open_types c.args.octets.now c.in_ok-asked.asked.schema c.in_ok-asked.asked.root c.in_ok-asked.asked.rule Ber c.in_ok-asked.ensures c.in-Ber.is c.check_whole.result c.check_whole.ensures
 
 pub returns : goal.returns
-returns c = checked_by c.args.schema.now c.args.rule c.args.open_types c.args.octets.now c.in_ok-asked.asked.schema c.in_ok-asked.asked.root c.in_ok-asked.asked.rule Cer c.in_ok-asked.ensures c.in-Cer.is c.check_whole-2.result c.check_whole-2.ensures
+returns c = checked_by c.args.schema.now c.args.rule c.args.open_types c.args.octets.now c.in_ok-asked.asked.schema c.in_ok-asked.asked.root c.in_ok-asked.asked.rule Cer c.in_ok-asked.ensures c.in-Cer.is c.check_whole-in-Cer.result c.check_whole-in-Cer.ensures
