@@ -388,8 +388,8 @@ no_way types (suc n) id (x ∷ xs) (y ∷ ys) s h =
       refl,
       elim h.3 [
         | inl none ↦ inl none
-        | inr (inl (tag, inner, e, no)) ↦ inr (inl (tag, inner, e, no_way types n inner.0 (x ∷ xs) (y ∷ ys) s no))
-        | inr (inr (ty, e, t, inl no)) ↦ inr (inr (ty, e, t, inl (λ k next is. no k next (subst (λ z. IsStepOf ty z k next) (sym first) (same_step ty x y k next s.0 is)))))
-        | inr (inr (ty, e, t, inr (k, next, is, no))) ↦ inr (inr (ty, e, t, inr (k, next, same_step ty y x k next (same_back x y s.0) (subst (λ z. IsStepOf ty z k next) first is), no_way types n next.0 xs ys s.1 (subst (IsNoWay types n next.0) others no))))
+        | inr (inl (tag, inner, e, gone)) ↦ inr (inl (tag, inner, e, no_way types n inner.0 (x ∷ xs) (y ∷ ys) s gone))
+        | inr (inr (ty, e, t, inl never)) ↦ inr (inr (ty, e, t, inl (λ k next is. never k next (subst (λ z. IsStepOf ty z k next) (sym first) (same_step ty x y k next s.0 is)))))
+        | inr (inr (ty, e, t, inr (k, next, is, gone))) ↦ inr (inr (ty, e, t, inr (k, next, same_step ty y x k next (same_back x y s.0) (subst (λ z. IsStepOf ty z k next) first is), no_way types n next.0 xs ys s.1 (subst (IsNoWay types n next.0) others gone))))
       ],
     )

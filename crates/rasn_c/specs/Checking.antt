@@ -4,7 +4,7 @@ use Rattle.rasn_types.specs.declared.types.codec.Codec.{Codec}
 use Rattle.rasn_types.specs.declared.types.codec.Codec.TheVariants.{Ber, Cer, Der}
 use Rattle.rasn_types.specs.Shapes.{Tree}
 use Rattle.rasn_types.specs.Grammar.{Reads, top}
-use Rattle.rasn_de.specs.Outcomes.{Exact, Got}
+use Rattle.rasn_de.specs.Outcomes.{Exact, Got, refusal}
 use Rattle.rasn.specs.Headline.{IsExtraData}
 use Rattle.rasn_schema.specs.declared.schema.Schema.{Schema}
 use Rattle.rasn_schema.specs.declared.type_id.TypeId.{TypeId}
@@ -40,13 +40,17 @@ pub record IsFollowed (rule : Codec) (types : List «Type») (id : ℕ) (message
   pub read : Exact (Reads rule (shape_of types id) 128 (top rule)) message (Got tree rest)
   pub extra : IsExtraData rule rest r.error
   pub offset : r.offset ≡ length message - length rest
-  pub id : r.id.0 ≡ id
+  pub type_is : r.id.0 ≡ id
   pub steps : r.steps.items ≡ []
   pub is_cut : r.is_cut ≡ false
 
--- The octets aren't exactly one value of the type, and this is where and why.
+-- The octets don't begin with a value of the type, and this is where and why.
+abbrev pub IsUnread : Codec → List «Type» → ℕ → List ℕ → Refusal → Type 0
+IsUnread rule types id message r = Exact (Reads rule (shape_of types id) 128 (top rule)) message (refusal r.error.kind) × IsLocated types rule id message r
+
+-- The octets aren't exactly one value of the type.
 abbrev pub IsRefusedAt : Codec → List «Type» → ℕ → List ℕ → Refusal → Type 0
-IsRefusedAt rule types id message r = IsLocated types rule id message r ⊎ IsFollowed rule types id message r
+IsRefusedAt rule types id message r = IsUnread rule types id message r ⊎ IsFollowed rule types id message r
 
 -- The check passes: by DER nothing departs from it, inside open types too if they are looked into.
 abbrev pub IsChecked : Codec → OpenTypes → List «Type» → ℕ → List ℕ → Type 0

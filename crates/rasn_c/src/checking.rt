@@ -51,7 +51,8 @@ fn check_by(
 ) -> Result<(), Stop>
     ensures { MatchResult result (λ u. IsCheckedBy schema.now rule open_types octets.now) (IsStopped schema.now rule open_types octets.now) }
 {
-    let Query { schema, root, rule } = asked(alloc, schema, rule)?;
+    let asked = asked(alloc, schema, rule)?;
+    let Query { schema, root, rule } = asked;
     match rule {
         Codec::Der => check_der(alloc, &schema, root, open_types, octets),
         Codec::Ber => check_whole(alloc, Codec::Ber, &schema, root, octets),

@@ -110,7 +110,8 @@ fn put_listing(
 fn list(alloc: Global, schema: &[u8], rule: u32, octets: &[u8]) -> Result<Listing, Stop>
     ensures { MatchResult result (λ l. IsListing schema.now rule octets.now l.parts.items) (λ stop. IsNoListingBy schema.now rule octets.now stop stop.status) }
 {
-    let Query { schema, root, rule } = asked(alloc, schema, rule)?;
+    let asked = asked(alloc, schema, rule)?;
+    let Query { schema, root, rule } = asked;
     let mut parts = match parts_of(alloc, rule, &schema, root, octets) {
         Ok(parts) => parts,
         Err(refusal) => return Err(Stop::of_refusal(alloc, &schema, root, &[], &refusal)),
