@@ -22,7 +22,7 @@ found identifier es i e within at others is = record {
   after = drop (i + 1) es;
   are = sym (take-append-drop i es) ∙ ap (λ l. take i es ++ l) (drop_more es i e within ∙ ap (λ x. x ∷ drop (i + 1) es) (sym at));
   others = others;
-  is = is
+  is = is;
 }
 
 pub passed : (identifier : List ℕ) (es : List Extension) (i : ℕ) (e : Extension) → i < length es → e ≡ get_or es i e → All (HasOther identifier) (take i es) → HasOther identifier e → All (HasOther identifier) (take (i + 1) es)

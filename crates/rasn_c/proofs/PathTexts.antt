@@ -381,8 +381,7 @@ no_way types (suc n) id [] ys s h = let e = h.2 in cc
 no_way types (suc n) id (x ∷ xs) [] s h = absurd s
 no_way types (suc n) id (x ∷ xs) (y ∷ ys) s h =
     let first : h.0 ≡ x = let e = h.2 in cc in
-    let others : h.1 ≡ xs = let e = h.2 in cc in
-    (
+    let others : h.1 ≡ xs = let e = h.2 in cc in (
       y,
       ys,
       refl,

@@ -31,7 +31,7 @@ placed text bs index b p are at starts l n =
       text_is = lines.text_is ∙ sym (append_assoc fed begin (b.label.now ++ after));
       label = omega (arith, starts front rest lines k, all, length-append fed begin, eleven);
       label_length = l;
-      line = n ∙ sym k
+      line = n ∙ sym k;
     }
 
 pub filled : (text : List ℕ) (index : ℕ) (p : Place) (octets : Vec ℕ Global) (old new : List ℕ) (needed : ℕ) (status : Status) → Holds text index p (Made octets) → IsFilled octets.items old new needed status
