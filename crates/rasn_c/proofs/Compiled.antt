@@ -1,5 +1,5 @@
 -- The schema of a type of modules as octets.
-use Rattle.std.proofs.Common.{ℕ, ◌≡◌, ◌<◌, ◌∷◌, ◌++◌, ◌≢◌, ◌⊎◌, inl, inr, List, length, get_or, Some, Result, Ok as Made, Err, MatchResult, refl}
+use Rattle.std.proofs.Common.{ℕ, ◌≡◌, ◌<◌, ◌≢◌, inl, inr, List, length, get_or, Some, Result, Ok as Made, Err, MatchResult, refl}
 use Rattle.std.specs.Prelude.{Vec, IsUtf8}
 use Rattle.std.specs.Global.{Global}
 use Rattle.std.proofs.lemmas.List.Elements.{All-contains, All-from_get_or}

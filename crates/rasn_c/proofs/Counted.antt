@@ -1,6 +1,6 @@
 -- Days are counted one by one.
 use Rattle.std.proofs.Common.{ℕ, zero, suc, ℤ, pos, negsuc, ◌≡◌, ◌+◌, ◌-◌, ◌*◌, ◌/◌, ◌%◌, ◌<◌, ◌≤◌, ◌+ℤ◌, ◌≤ℤ◌, Bool, true, false, refl, sym, ap, ◌∙◌, subst, arith}
-use Rattle.std.specs.Prelude.{◌&&◌, ◌||◌, ◌==◌, not, if◌then◌else◌, nat_lt, unsigned_abs}
+use Rattle.std.specs.Prelude.{◌&&◌, ◌||◌, ◌==◌, not, if◌then◌else◌, nat_lt}
 use Rattle.std.proofs.lemmas.Int.{ints}
 use Rattle.rasn_types.specs.Calendar.{Day, IsDay, is_leap, days_of_month, next_day}
 use Rattle.rasn_c.specs.Days.{year_of_era, leap_years_before, common_days_before, leap_day, day_number, AreCounted}

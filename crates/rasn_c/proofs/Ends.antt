@@ -1,5 +1,5 @@
 -- The ends of calls that convert.
-use Rattle.std.proofs.Common.{ℕ, ◌≡◌, ◌⊎◌, ◌↔◌, ◌++◌, ◌∷◌, [], inl, inr, Bool, false, true≢false, List, Result, Ok as Made, Err, MatchResult, sym, ◌∙◌, subst}
+use Rattle.std.proofs.Common.{ℕ, ◌≡◌, ◌↔◌, ◌++◌, ◌∷◌, [], inl, inr, Bool, false, true≢false, List, Result, Ok as Made, Err, MatchResult, sym, ◌∙◌, subst}
 use Rattle.std.specs.Prelude.{Vec, IsTrue}
 use Rattle.std.specs.Global.{Global}
 use Rattle.rasn_types.specs.declared.types.codec.Codec.{Codec}

@@ -9,7 +9,7 @@ use Rattle.rasn_types.specs.Errors.{IsOutOfMemory}
 use Rattle.rasn_types.specs.Inline.{IsLong}
 use Rattle.rasn_types.specs.Shapes.{Interval}
 use Rattle.rasn_types.specs.Trees.{unconstrained}
-use Rattle.rasn_de.specs.Causes.{Cause, fault, out_of_bound}
+use Rattle.rasn_de.specs.Causes.{Cause, out_of_bound}
 use Rattle.rasn_de.specs.Leaves.{FromContents, IntegerIn, IntegerAt, definite_at, IsOutOfBound, TakesThere, AllocMayFail}
 use Rattle.rasn_de.specs.State.{State}
 use Rattle.rasn_de.proofs.Leaves.Memory.{IsPlainCause, Plainly, definite_plain}

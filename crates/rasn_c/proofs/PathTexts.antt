@@ -1,16 +1,15 @@
 -- The steps that texts of paths begin with.
-use Rattle.std.proofs.Common.{arith, rules, true≢false, ℕ, zero, suc, ◌≡◌, ◌≢◌, ◌<◌, ◌≤◌, ◌^◌, ◌+◌, ◌⊎◌, inl, inr, ◌++◌, ◌∷◌, [], List, length, length-append, take, drop, get_or, Bool, true, false, Option, Some, None, Result, Ok, Err, ◌==◌, refl, sym, ap, ◌∙◌, subst, append_assoc}
+use Rattle.std.proofs.Common.{arith, rules, true≢false, ℕ, zero, suc, ◌≡◌, ◌≢◌, ◌<◌, ◌≤◌, ◌^◌, ◌+◌, ◌⊎◌, inl, inr, ◌++◌, ◌∷◌, [], List, length, length-append, take, drop, get_or, Bool, true, false, Option, Some, None, Result, Ok, ◌==◌, refl, sym, ap, ◌∙◌, subst, append_assoc}
 use Rattle.std.specs.Prelude.{MatchOption}
 use Rattle.std.specs.Borrow.{Bor}
 use Rattle.std.specs.Fmt.{decimal}
 use Rattle.std.specs.List.{AllByRecursion}
-use Rattle.std.specs.Int.{IsInRange}
 use Rattle.std.specs.Result.{OkIff}
 use Rattle.std.specs.Str.Pattern.{FindsCharPrefix}
 use Rattle.std.specs.Str.{IsUtf8, IsCharBoundary}
 use Rattle.std.specs.Str.Parse.{ParsesUnsigned, digits_value, AllDigits}
 use Rattle.std.proofs.lemmas.List.{append-nil, drop_more, take_more, drop_all}
-use Rattle.std.proofs.lemmas.Fmt.{parse-decimal, decimal-digits_value, digits_decimal, decimal_nonempty, first_decimal, decimal_digit, decimal_injective}
+use Rattle.std.proofs.lemmas.Fmt.{decimal-digits_value, digits_decimal, decimal_nonempty, first_decimal, decimal_digit, decimal_injective}
 use Rattle.std.proofs.lemmas.Str.{IsCharBoundary-end, IsCharBoundary-before_ascii, IsCharBoundary-after_ascii, IsUtf8-drop}
 use Rattle.std.proofs.Math.Seq.{drop-append_seam}
 use Rattle.std.proofs.lemmas.Str.Parse.{IsNumeralModel, numerals_by_value, tells_digits, parse_plain, digit_at}

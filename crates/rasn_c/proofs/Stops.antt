@@ -24,8 +24,3 @@ stops schema root inner refusal stop reason text n m named r s w t = subst (IsSt
   named = subst (λ z. IsNamedText schema root inner refusal z stop.reason.path_length) (sym t) (subst (IsNamedText schema root inner refusal text) (sym (ap {A = Reason} (λ z. z.path_length) w ∙ ap {A = Reason} (λ z. z.path_length) r)) named);
   text_length = ap {A = Reason} (λ z. z.text_length) w ∙ ap length (sym t);
 })
-
--- What holds of the status and of a failed allocation holds of an end with one of the two.
-pub by_either : (P : Status → Type 0) (stop : Stop) (status : Status) → IsStatusOr status stop → P status → P OutOfMemory → P stop.status
-by_either P stop status (inl e) p m = subst P (sym e) p
-by_either P stop status (inr e) p m = subst P (sym e) m

@@ -1,5 +1,5 @@
 -- The blocks of PEM of a text: where each is, and its octets, in a buffer.
-use Rattle.std.specs.Prelude.{◌≡◌, ◌+◌, ◌≤◌, ◌<◌, ℕ, List, [], ◌∷◌, ◌++◌, length, slice_get, Some, None, Result, Ok as Made, Err, Vec}
+use Rattle.std.specs.Prelude.{◌≡◌, ◌+◌, ◌≤◌, ◌<◌, ℕ, List, ◌++◌, length, slice_get, Some, None, Result, Ok as Made, Err, Vec}
 use Rattle.std.specs.Global.{Global}
 use Rattle.rasn_text.specs.declared.pem.Block.{Block}
 use Rattle.rasn_text.specs.declared.pem.PemError.{PemError}

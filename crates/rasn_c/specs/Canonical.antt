@@ -1,13 +1,12 @@
 -- The check that octets are the one DER encoding of a value of a type.
 use Rattle.std.specs.Prelude.{ℕ, List, Bool, true, false, Option, Some, None, Result, Ok as Answers, Err}
 use Rattle.std.specs.declared.alloc.AllocError.{AllocError}
-use Rattle.rasn_types.specs.declared.types.codec.Codec.{Codec}
 use Rattle.rasn_types.specs.declared.types.codec.Codec.TheVariants.{Der}
 use Rattle.rasn_types.specs.Shapes.{Shape}
 use Rattle.rasn.specs.Normal.{IsNormal}
 use Rattle.rasn_c.specs.Types.{IsShapeOf, IsUnknownType}
 use Rattle.rasn_c.specs.declared.status.Status.{Status}
-use Rattle.rasn_c.specs.declared.status.Status.TheVariants.{Ok, Refused, OutOfMemory, BufferTooSmall, UnknownType, UnknownRule}
+use Rattle.rasn_c.specs.declared.status.Status.TheVariants.{Ok, Refused, OutOfMemory, UnknownType}
 
 -- The status of a check that octets are the one DER encoding of a value of the type with this number.
 abbrev pub AnswersCheck : ℕ → List ℕ → Status → Type 0

@@ -1,7 +1,7 @@
 -- The check of a message by a schema.
-use Rattle.std.specs.Prelude.{◌≡◌, ◌⊎◌, ◌-◌, ℕ, List, [], length, false, zero, suc, Option, Some, None, Result, Ok as Made, Err, MatchResult}
+use Rattle.std.specs.Prelude.{◌≡◌, ◌⊎◌, ◌-◌, ℕ, List, [], length, false, zero, suc, Some, None, Result, Ok as Made, Err, MatchResult}
 use Rattle.rasn_types.specs.declared.types.codec.Codec.{Codec}
-use Rattle.rasn_types.specs.declared.types.codec.Codec.TheVariants.{Ber, Cer, Der}
+use Rattle.rasn_types.specs.declared.types.codec.Codec.TheVariants.{Der}
 use Rattle.rasn_types.specs.Shapes.{Tree}
 use Rattle.rasn_types.specs.Grammar.{Reads, top}
 use Rattle.rasn_de.specs.Outcomes.{Exact, Got, refusal}

@@ -17,7 +17,7 @@ use Rattle.rasn_c.specs.Reasons.{Delivers}
 use Rattle.rasn_c.specs.declared.reasons.Reason.{Reason}
 use Rattle.rasn_c.specs.declared.reasons.Stop.{Stop}
 use Rattle.rasn_c.specs.declared.status.Status.{Status}
-use Rattle.rasn_c.specs.declared.status.Status.TheVariants.{Refused, OutOfMemory}
+use Rattle.rasn_c.specs.declared.status.Status.TheVariants.{Refused}
 
 -- how JSON is laid out
 abbrev pub layout_of : ℕ → Layout

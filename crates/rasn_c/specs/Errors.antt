@@ -17,7 +17,7 @@ use Rattle.rasn_c.specs.declared.errors.Fault.{Fault}
 use Rattle.rasn_c.specs.declared.reading.Reading.{Reading}
 use Rattle.rasn_c.specs.declared.reading.Reading.TheVariants.{Alone, Refused as RefusedAt}
 use Rattle.rasn_c.specs.declared.status.Status.{Status}
-use Rattle.rasn_c.specs.declared.status.Status.TheVariants.{Ok, Refused, OutOfMemory, BufferTooSmall, UnknownType, UnknownRule}
+use Rattle.rasn_c.specs.declared.status.Status.TheVariants.{Ok, Refused, OutOfMemory, UnknownType, UnknownRule}
 
 -- All of the octets are one value.
 abbrev pub IsAlone : Codec → Shape → List ℕ → Type 0

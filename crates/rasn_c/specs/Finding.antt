@@ -1,7 +1,6 @@
 -- A part of a message by its path.
 use Rattle.std.specs.Prelude.{◌≡◌, ℕ, List, [], Result, Ok as Made, Err, MatchResult}
 use Rattle.rasn_types.specs.declared.types.codec.Codec.{Codec}
-use Rattle.rasn_types.specs.Errors.{IsOutOfMemory}
 use Rattle.rasn_schema.specs.declared.schema.Schema.{Schema}
 use Rattle.rasn_schema.specs.declared.type_id.TypeId.{TypeId}
 use Rattle.rasn_dynamic.specs.declared.part.Part.{Part}
@@ -10,11 +9,10 @@ use Rattle.rasn_dynamic.specs.declared.steps.Step.{Step}
 use Rattle.rasn_dynamic.specs.Faults.{IsLocated, start}
 use Rattle.rasn_dynamic.specs.Parts.{IsPartAt, LacksPath}
 use Rattle.rasn_dynamic.specs.Steps.{IsWay, IsNoWay}
-use Rattle.rasn_c.specs.Buffers.{IsCutInto}
 use Rattle.rasn_c.specs.Schemas.{IsAsked, IsNotAsked}
 use Rattle.rasn_c.specs.Paths.{AreStepsOf}
 use Rattle.rasn_c.specs.Extents.{IsExtentOf, no_extent}
-use Rattle.rasn_c.specs.Reasons.{IsStopOf, IsStopBy, IsTold}
+use Rattle.rasn_c.specs.Reasons.{IsStopOf, IsTold}
 use Rattle.rasn_c.specs.declared.extent.Extent.{Extent}
 use Rattle.rasn_c.specs.declared.reasons.Reason.{Reason}
 use Rattle.rasn_c.specs.declared.reasons.Stop.{Stop}

@@ -11,7 +11,7 @@ use Rattle.rasn_c.specs.ErrorKinds.{kind_number}
 use Rattle.rasn_c.specs.declared.reasons.Reason.{Reason}
 use Rattle.rasn_c.specs.declared.reasons.Stop.{Stop}
 use Rattle.rasn_c.specs.declared.status.Status.{Status}
-use Rattle.rasn_c.specs.declared.status.Status.TheVariants.{Ok, Refused, OutOfMemory}
+use Rattle.rasn_c.specs.declared.status.Status.TheVariants.{Refused, OutOfMemory}
 
 -- there is nothing to report
 abbrev pub no_reason : Reason

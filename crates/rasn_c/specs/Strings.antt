@@ -1,5 +1,5 @@
 -- Strings as UTF-8, and the bits of a BIT STRING.
-use Rattle.std.specs.Prelude.{◌≡◌, ◌≢◌, ◌≤◌, ◌<◌, ◌⊎◌, ◌++◌, ◌∷◌, [], ℕ, List, length, chars, Bool, IsUtf8}
+use Rattle.std.specs.Prelude.{◌≡◌, ◌≢◌, ◌⊎◌, ◌++◌, ◌∷◌, [], ℕ, List, length, chars, Bool, IsUtf8}
 use Rattle.rasn_types.specs.declared.types.codec.Codec.{Codec}
 use Rattle.rasn_types.specs.Shapes.{bit_string, bits, numbers, Kind, utf8, numeric, printable, ia5, visible}
 use Rattle.rasn_types.specs.BitString.{Packs}

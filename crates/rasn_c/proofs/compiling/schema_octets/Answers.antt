@@ -1,11 +1,9 @@
-use Rattle.std.proofs.Common.{ℕ, List, MatchResult, inr, subst, sym}
+use Rattle.std.proofs.Common.{ℕ, MatchResult, subst}
 use Rattle.std.specs.Prelude.{Vec}
 use Rattle.std.specs.Global.{Global}
-use Rattle.rasn_c.specs.Compiling.{IsCompiled, IsNotCompiled, IsSchemaOf, IsNoSchema}
+use Rattle.rasn_c.specs.Compiling.{IsSchemaOf, IsNoSchema}
 use Rattle.rasn_c.specs.declared.reasons.Stop.{Stop}
-use Rattle.rasn_c.specs.declared.status.Status.TheVariants.{Refused, UnknownType}
-use Rattle.rasn_c.proofs.Ends.{by_status}
-use Rattle.rasn_c.proofs.Compiled.{no_texts, compiled}
+use Rattle.rasn_c.proofs.Compiled.{compiled}
 use Rattle.rasn_c.proofs.compiling.schema_octets.Goals as goal
 
 pub returns : goal.returns

@@ -1,4 +1,4 @@
-use Rattle.std.proofs.Common.{ℕ, ap, refl, inr, ◌++◌, ◌∷◌, [], List}
+use Rattle.std.proofs.Common.{ℕ, ap, inr, ◌++◌, ◌∷◌, []}
 use Rattle.std.specs.Prelude.{Vec, string_bytes}
 use Rattle.std.specs.Global.{Global}
 use Rattle.rasn_c.specs.Converting.{IsNoJsonBy}

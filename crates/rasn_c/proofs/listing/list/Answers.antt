@@ -1,4 +1,4 @@
-use Rattle.std.proofs.Common.{refl, subst, sym}
+use Rattle.std.proofs.Common.{refl, subst}
 use Rattle.rasn_c.specs.Listing.{AreRows}
 use Rattle.rasn_c.proofs.Rows.{unlisted}
 use Rattle.rasn_c.proofs.listing.list.Goals as goal

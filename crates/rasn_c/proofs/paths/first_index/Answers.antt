@@ -1,4 +1,4 @@
-use Rattle.std.proofs.Common.{rules, arith, ◌≡◌, ◌≢◌, ℕ, sym, subst, ◌∙◌, ap, get_or, length, true≢false}
+use Rattle.std.proofs.Common.{arith, sym, ◌∙◌, ap, length, true≢false}
 use Rattle.std.proofs.lemmas.Fmt.{parse-decimal}
 use Rattle.std.proofs.lemmas.Str.Pattern.{starts_char}
 use Rattle.rasn_c.proofs.PathTexts.{no_bracket, are_digits, parts_are, no_plus, no_zero, one_long, is_index}

@@ -1,7 +1,5 @@
-use Rattle.std.proofs.Common.{arith, rules, ◌≢◌, ◌∷◌, ℕ, List, subst}
-use Rattle.std.specs.Prelude.{MatchOption}
-use Rattle.std.proofs.lemmas.Str.Pattern.{strip_prefix_char}
-use Rattle.rasn_c.proofs.PathTexts.{no_index, no_first_name, no_next_name, no_point, is_there, is_missing}
+use Rattle.std.proofs.Common.{arith}
+use Rattle.rasn_c.proofs.PathTexts.{no_first_name, no_point, is_missing}
 use Rattle.rasn_c.proofs.paths.first_step.Goals as goal
 
 pub returns-in_err-name : goal.returns-in_err-name
