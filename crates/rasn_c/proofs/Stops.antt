@@ -1,16 +1,15 @@
 -- The end of a call for a refusal.
-use Rattle.std.proofs.Common.{ℕ, ◌≡◌, inl, inr, List, length, sym, ap, ◌∙◌, subst}
+use Rattle.std.proofs.Common.{ℕ, ◌≡◌, List, length, sym, ap, ◌∙◌, subst}
 use Rattle.std.specs.Prelude.{string_bytes}
 use Rattle.rasn_types.specs.Errors.{IsOutOfMemory}
 use Rattle.rasn_schema.specs.declared.schema.Schema.{Schema}
 use Rattle.rasn_schema.specs.declared.type_id.TypeId.{TypeId}
 use Rattle.rasn_dynamic.specs.declared.refusal.Refusal.{Refusal}
 use Rattle.rasn_c.specs.ErrorKinds.{kind_number}
-use Rattle.rasn_c.specs.Reasons.{IsNamedText, IsStatusOr, IsStopBy, IsStopOf, no_reason}
+use Rattle.rasn_c.specs.Reasons.{IsNamedText, IsStopBy, IsStopOf, no_reason}
 use Rattle.rasn_c.specs.declared.reasons.Reason.{Reason}
 use Rattle.rasn_c.specs.declared.reasons.Stop.{Stop}
-use Rattle.rasn_c.specs.declared.status.Status.{Status}
-use Rattle.rasn_c.specs.declared.status.Status.TheVariants.{Refused, OutOfMemory}
+use Rattle.rasn_c.specs.declared.status.Status.TheVariants.{Refused}
 
 pub stops : (schema : Schema) (root : TypeId) (inner : List ℕ) (refusal : Refusal) (stop : Stop) (reason : Reason) (text : List ℕ) (n : ℕ) → (IsOutOfMemory refusal.error.kind → ⊥) → IsNamedText schema root inner refusal text n
     → reason ≡ record no_reason { kind = kind_number refusal.error.kind; offset = refusal.offset; path_length = n } → stop.status ≡ Refused → stop.reason ≡ record reason { text_length = length text } → string_bytes stop.text ≡ text
