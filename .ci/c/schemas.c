@@ -9,6 +9,7 @@
 #include <stdio.h>
 #include <stdlib.h>
 #include <string.h>
+#include <sys/resource.h>
 
 #define ENSURE(holds)                                                              \
     do {                                                                           \
@@ -363,6 +364,23 @@ static void refused_memory_is_answered(void) {
     ENSURE(request > 100 && request < 100000 && failed > 100);
 }
 
+static long resident(void) {
+    struct rusage usage;
+    ENSURE(getrusage(RUSAGE_SELF, &usage) == 0);
+    return usage.ru_maxrss;
+}
+
+static void a_million_calls_keep_nothing(void) {
+    long before = held, most, i;
+    ENSURE(call_all() == 0);
+    most = resident();
+    for (i = 0; i < 143000; i++) {
+        ENSURE(call_all() == 0);
+    }
+    ENSURE(held == before);
+    ENSURE(resident() - most < 1024 * 16);
+}
+
 static void *call_in_thread(void *argument) {
     int i;
     for (i = 0; i < 100; i++) {
@@ -395,7 +413,8 @@ int main(void) {
     damaged_schemas_are_refused();
     wrong_arguments_are_answered();
     refused_memory_is_answered();
+    a_million_calls_keep_nothing();
     eight_threads_call();
-    printf("schemas: %zu octets of a schema, searches, lists, JSON, damaged schemas, refusals of memory and threads\n", schema_length);
+    printf("schemas: %zu octets of a schema, searches, lists, JSON, damaged schemas, refusals of memory, threads and a million calls\n", schema_length);
     return 0;
 }
