@@ -326,8 +326,9 @@ def name_text(rules: Rules, octets: bytes) -> str:
         capacity = needed.value
 
 
-def pem_blocks(text: bytes) -> Iterator[PemBlock]:
+def pem_blocks(text: bytes | str) -> Iterator[PemBlock]:
     """Yields the blocks of a text of PEM (RFC 7468). Other lines, before and between them, are skipped."""
+    text = text.encode("utf-8") if isinstance(text, str) else text
     buffer, needed, found = ctypes.create_string_buffer(max(len(text), 1)), ctypes.c_size_t(), _Block()
     for index in itertools.count():
         status = _pem(text, len(text), index, found, buffer, len(text), needed)
@@ -364,7 +365,7 @@ def _told(status: int, reason: _Reason, text: ctypes.Array) -> None:
     if status != _OK:
         said = text.raw[: min(reason.text_length, len(text) - 1)]
         path = said[: reason.path_length].decode("utf-8", "replace")
-        raise Refused(said.decode("utf-8", "replace"), reason.kind, reason.offset, path)
+        raise Refused(said.decode("utf-8", "replace") or f"soq_status {status}", reason.kind, reason.offset, path)
 
 
 def _made(capacity: int, call) -> bytes:

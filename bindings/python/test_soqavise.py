@@ -73,6 +73,7 @@ class Calls(unittest.TestCase):
     def test_reads_pem(self):
         text = b"before\n-----BEGIN A B-----\nAQID\nBA==\n-----END A B-----\n-----BEGIN C-----\n?\n-----END C-----\n"
         self.assertEqual(list(pem_blocks(text)), [(b"A B", 2, bytes([1, 2, 3, 4])), (b"C", 6, None)])
+        self.assertEqual(list(pem_blocks(text.decode("ascii"))), list(pem_blocks(text)))
         self.assertEqual(list(pem_blocks(b"")), [])
 
     def test_reads_times(self):

@@ -1,11 +1,15 @@
 //! Links the archive libsoqavise.a that `include/install` builds: that in the folder which the
-//! variable SOQAVISE_LIB names, or else where the linker finds it.
+//! variable SOQAVISE_LIB names, or else in `/usr/lib`, where the package has it.
+use std::path::Path;
 
 fn main() {
     println!("cargo:rerun-if-env-changed=SOQAVISE_LIB");
-    if let Ok(folder) = std::env::var("SOQAVISE_LIB") {
-        println!("cargo:rustc-link-search=native={folder}");
-        println!("cargo:rerun-if-changed={folder}/libsoqavise.a");
+    let folder = std::env::var("SOQAVISE_LIB").unwrap_or_else(|_| "/usr/lib".to_owned());
+    let archive = Path::new(&folder).join("libsoqavise.a");
+    if !archive.exists() {
+        println!("cargo:warning={} isn't there: SOQAVISE_LIB names its folder", archive.display());
     }
+    println!("cargo:rerun-if-changed={}", archive.display());
+    println!("cargo:rustc-link-search=native={folder}");
     println!("cargo:rustc-link-lib=static=soqavise");
 }

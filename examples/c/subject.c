@@ -11,12 +11,14 @@ static char modules[1 << 16], pem[1 << 16], text[1 << 10];
 static uint8_t octets[1 << 16], schema[1 << 14];
 
 int main(int count, char **words) {
-    FILE *first = fopen(count == 3 ? words[1] : "", "rb"), *second = fopen(count == 3 ? words[2] : "", "rb");
-    size_t size, length, end = second == NULL ? 0 : fread(pem, 1, sizeof pem, second);
-    soq_texts texts = {"modules", 7, modules, first == NULL ? 0 : fread(modules, 1, sizeof modules, first)};
-    soq_block block;
-    soq_part part;
-    soq_instant until;
+    FILE *first = count == 3 ? fopen(words[1], "rb") : NULL, *second = count == 3 ? fopen(words[2], "rb") : NULL;
+    if (first == NULL || second == NULL) {
+        fprintf(stderr, "usage: subject MODULES FILE\n");
+        return 2;
+    }
+    soq_texts texts = {"modules", 7, modules, fread(modules, 1, sizeof modules, first)};
+    size_t size, length, end = fread(pem, 1, sizeof pem, second);
+    soq_block block; soq_part part; soq_instant until;
     if (soq_compile(&texts, 1, "Certificate", schema, sizeof schema, &size, NULL, text, sizeof text) != SOQ_OK
         || soq_pem(pem, end, 0, &block, octets, sizeof octets, &length) != SOQ_OK
         || soq_check_by(schema, size, SOQ_DER, 1, octets, length, NULL, text, sizeof text) != SOQ_OK

@@ -1,26 +1,12 @@
 //! Checks that a file is one certificate in PEM or DER, as `examples/c/check.c` does.
-use soqavise::{check, Error, Type};
+use soqavise::{check, pem, Error, Type};
 use std::process::ExitCode;
 
-const SYMBOLS: &str = "ABCDEFGHIJKLMNOPQRSTUVWXYZabcdefghijklmnopqrstuvwxyz0123456789+/";
-
-/// The octets of the first PEM block (RFC 7468), or the file itself where it has another form.
+/// Returns the octets of the first block of PEM, or those of the file if it has none.
 fn octets_of(file: Vec<u8>) -> Vec<u8> {
-    if !file.starts_with(b"-----BEGIN ") {
-        return file;
-    }
-    let lines = file.split(|&octet| octet == b'\n').skip(1);
-    let body = lines.take_while(|line| !line.starts_with(b"-")).flatten();
-    let (mut octets, mut bits, mut width) = (Vec::new(), 0u32, 0);
-    for value in body.filter_map(|&symbol| SYMBOLS.find(char::from(symbol))) {
-        bits = bits << 6 | value as u32;
-        width += 6;
-        if width >= 8 {
-            width -= 8;
-            octets.push((bits >> width) as u8);
-        }
-    }
-    octets
+    let text = std::str::from_utf8(&file).ok();
+    let block = text.and_then(|text| pem(text).ok()?.into_iter().next()?.1);
+    block.unwrap_or(file)
 }
 
 fn main() -> ExitCode {
