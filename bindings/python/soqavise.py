@@ -215,6 +215,16 @@ def _answer(status: int, text: str) -> None:
         raise Refused(text)
 
 
+def _written(capacity: int, call) -> tuple[int, bytes]:
+    """Returns the status of a call, and what it writes, with a larger buffer if it asks for one."""
+    while True:
+        buffer, needed = ctypes.create_string_buffer(max(capacity, 1)), ctypes.c_size_t()
+        status = call(buffer, capacity, needed)
+        if status != _TOO_SMALL:
+            return status, buffer.raw[: needed.value]
+        capacity = needed.value
+
+
 def fault(type: Type, rules: Rules, octets: bytes) -> Refused | None:
     """Returns why the octets aren't exactly one value of the type, or None if they are one."""
     told, text = _Fault(), ctypes.create_string_buffer(512)
@@ -238,16 +248,11 @@ def check(type: Type, octets: bytes) -> None:
 
 def normalise(type: Type, rules: Rules, octets: bytes) -> bytes:
     """Returns the DER octets of the value that all of the octets encode under these rules."""
-    capacity = len(octets)
-    while True:
-        buffer, needed = ctypes.create_string_buffer(max(capacity, 1)), ctypes.c_size_t()
-        status = _normalise(type, rules, octets, len(octets), buffer, capacity, needed)
-        if status == _REFUSED:
-            raise fault(type, rules, octets) or Refused("its value has no DER encoding")
-        if status != _TOO_SMALL:
-            _answer(status, f"no call has type {type} and rules {rules}")
-            return buffer.raw[:needed.value]
-        capacity = needed.value
+    status, normal = _written(len(octets), lambda *room: _normalise(type, rules, octets, len(octets), *room))
+    if status == _REFUSED:
+        raise fault(type, rules, octets) or Refused("its value has no DER encoding")
+    _answer(status, f"no call has type {type} and rules {rules}")
+    return normal
 
 
 def skip(rules: Rules, octets: bytes) -> int:
@@ -292,13 +297,9 @@ def integer(rules: Rules, octets: bytes) -> int:
 def identifier(rules: Rules, octets: bytes) -> str:
     """Returns the OBJECT IDENTIFIER that all of the octets are, as '1.2.840'. Its tag may be any."""
     capacity = 4 * len(octets) + 8
-    while True:
-        buffer, needed = ctypes.create_string_buffer(capacity), ctypes.c_size_t()
-        status = _identifier(rules, octets, len(octets), buffer, capacity, needed)
-        if status != _TOO_SMALL:
-            _answer(status, "the octets aren't one OBJECT IDENTIFIER")
-            return buffer.value.decode("ascii")
-        capacity = needed.value
+    status, text = _written(capacity, lambda *room: _identifier(rules, octets, len(octets), *room))
+    _answer(status, "the octets aren't one OBJECT IDENTIFIER")
+    return text[:-1].decode("ascii")
 
 
 def extension(rules: Rules, octets: bytes, identifier: str) -> bytes | None:
@@ -317,13 +318,9 @@ def extension(rules: Rules, octets: bytes, identifier: str) -> bytes | None:
 def name_text(rules: Rules, octets: bytes) -> str:
     """Returns the text of the Name (RFC 5280 4.1.2.4) that all of the octets are, by RFC 4514."""
     capacity = 2 * len(octets) + 1
-    while True:
-        buffer, needed = ctypes.create_string_buffer(capacity), ctypes.c_size_t()
-        status = _name_text(rules, octets, len(octets), buffer, capacity, needed)
-        if status != _TOO_SMALL:
-            _answer(status, "the octets aren't one Name")
-            return buffer.raw[:needed.value - 1].decode("utf-8")
-        capacity = needed.value
+    status, text = _written(capacity, lambda *room: _name_text(rules, octets, len(octets), *room))
+    _answer(status, "the octets aren't one Name")
+    return text[:-1].decode("utf-8")
 
 
 def pem_blocks(text: bytes | str) -> Iterator[PemBlock]:
@@ -370,14 +367,10 @@ def _told(status: int, reason: _Reason, text: ctypes.Array) -> None:
 
 def _made(capacity: int, call) -> bytes:
     """Returns what a call writes, with a larger buffer if it asks for one."""
-    text = ctypes.create_string_buffer(4096)
-    while True:
-        buffer, needed, reason = ctypes.create_string_buffer(max(capacity, 1)), ctypes.c_size_t(), _Reason()
-        status = call(buffer, capacity, needed, reason, text, len(text))
-        if status != _TOO_SMALL:
-            _told(status, reason, text)
-            return buffer.raw[: needed.value]
-        capacity = needed.value
+    text, reason = ctypes.create_string_buffer(4096), _Reason()
+    status, octets = _written(capacity, lambda *room: call(*room, reason, text, len(text)))
+    _told(status, reason, text)
+    return octets
 
 
 class Schema:

@@ -1,6 +1,6 @@
 //! Extensions of certificates (RFC 5280 4.1).
 
-use crate::{answer, Error, Rules};
+use crate::{answer, Error, Rules, ABSENT};
 
 unsafe extern "C" {
     fn soq_proved_extension(
@@ -14,8 +14,6 @@ unsafe extern "C" {
         needed: &mut usize,
     ) -> u32;
 }
-
-const ABSENT: u32 = 8;
 
 /// Returns the octets of `extnValue` of the first extension with this identifier, `2.5.29.17`, of
 /// the Extensions that all of the octets are; `None` if no extension has it.

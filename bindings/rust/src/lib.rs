@@ -237,9 +237,15 @@ unsafe extern "C" {
     fn soq_proved_time(of: u32, rules: u32, octets: *const u8, length: usize, time: &mut Time) -> u32;
 }
 
+// The statuses that a function returns (`soq_status` of soqavise.h).
 const OK: u32 = 0;
+const REFUSED: u32 = 1;
 const OUT_OF_MEMORY: u32 = 2;
 const BUFFER_TOO_SMALL: u32 = 3;
+const UNKNOWN_TYPE: u32 = 4;
+const BAD_SCHEMA: u32 = 6;
+const UNKNOWN_PATH: u32 = 7;
+const ABSENT: u32 = 8;
 
 /// Returns what a status says; octets that are refused have this text.
 fn answer(status: u32, text: &str) -> Result<(), Error> {

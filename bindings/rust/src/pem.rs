@@ -1,6 +1,6 @@
 //! Blocks of PEM (RFC 7468), and names as text (RFC 4514).
 
-use crate::{answer, text_of, written, Error, Rules};
+use crate::{answer, text_of, written, Error, Rules, ABSENT, BUFFER_TOO_SMALL, REFUSED};
 
 /// Where a block is: `soq_block` of soqavise.h.
 #[derive(Default)]
@@ -30,10 +30,6 @@ unsafe extern "C" {
         needed: &mut usize,
     ) -> u32;
 }
-
-const REFUSED: u32 = 1;
-const BUFFER_TOO_SMALL: u32 = 3;
-const ABSENT: u32 = 8;
 
 /// Returns the blocks of a text, each with its label and its octets; other lines before and between
 /// them are skipped. A block whose lines aren't base64, or that has no last line, has `None`.

@@ -1,6 +1,7 @@
 //! Values of types of ASN.1 modules, which are read when the program runs.
 
 use crate::{answer, text_of, time_of_instant, Error, Instant, Rules};
+use crate::{ABSENT, BAD_SCHEMA, BUFFER_TOO_SMALL, OK, REFUSED, UNKNOWN_PATH, UNKNOWN_TYPE};
 use std::ops::Index;
 
 #[repr(C)]
@@ -67,10 +68,6 @@ unsafe extern "C" {
     fn soq_proved_bits(rules: u32, octets: *const u8, length: usize, buffer: *mut u8, capacity: usize, needed: &mut usize, bits: &mut usize) -> u32;
 }
 
-const ABSENT: u32 = 8;
-const BUFFER_TOO_SMALL: u32 = 3;
-const OK: u32 = 0;
-
 /// The most octets of a text of an error that are kept.
 const TEXT: usize = 4096;
 
@@ -79,7 +76,7 @@ fn told(status: u32, reason: &Reason, text: &[u8]) -> Result<(), Error> {
     let text = &text[..reason.text_length.min(text.len() - 1)];
     let path = &text[..reason.path_length.min(text.len())];
     match status {
-        1 | 4 | 6 | 7 => Err(Error::Refused {
+        REFUSED | UNKNOWN_TYPE | BAD_SCHEMA | UNKNOWN_PATH => Err(Error::Refused {
             kind: reason.kind,
             path: String::from_utf8_lossy(path).into_owned(),
             offset: reason.offset,
