@@ -2,10 +2,10 @@
  * Calls the functions of the library that read by a schema: with octets worked out by hand from X.690, buffers of every size, damaged
  * schemas, invalid arguments and failing allocations; many times, and from eight threads. It is linked as test.c is.
  */
+#include "memory.h"
 #include "soqavise.h"
 
 #include <pthread.h>
-#include <stdatomic.h>
 #include <stdio.h>
 #include <stdlib.h>
 #include <string.h>
@@ -18,37 +18,6 @@
             exit(1);                                                               \
         }                                                                          \
     } while (0)
-
-void *__real_malloc(size_t size);
-void *__real_realloc(void *block, size_t size);
-void __real_free(void *block);
-void *__wrap_malloc(size_t size);
-void *__wrap_realloc(void *block, size_t size);
-void __wrap_free(void *block);
-
-static _Atomic long held;
-static _Thread_local long refused_request;
-
-static int is_refused(void) {
-    return refused_request > 0 && --refused_request == 0;
-}
-
-void *__wrap_malloc(size_t size) {
-    void *block = is_refused() ? NULL : __real_malloc(size);
-    held += block != NULL;
-    return block;
-}
-
-void *__wrap_realloc(void *block, size_t size) {
-    void *larger = is_refused() ? NULL : __real_realloc(block, size);
-    held += block == NULL && larger != NULL;
-    return larger;
-}
-
-void __wrap_free(void *block) {
-    held -= block != NULL;
-    __real_free(block);
-}
 
 static const char module[] =
     "Rows DEFINITIONS IMPLICIT TAGS ::= BEGIN\n"

@@ -3,10 +3,10 @@
  * inaccessible page, invalid arguments, and failing allocations; a million times; and from eight threads. Its argument is a certificate
  * in DER. It is linked with --wrap=malloc,--wrap=realloc,--wrap=free, to count the library's allocations and make them fail.
  */
+#include "memory.h"
 #include "soqavise.h"
 
 #include <pthread.h>
-#include <stdatomic.h>
 #include <stdio.h>
 #include <stdlib.h>
 #include <string.h>
@@ -23,37 +23,6 @@
     } while (0)
 
 /* Allocations: the number of blocks in use, and which of this thread's next allocations fails. */
-void *__real_malloc(size_t size);
-void *__real_realloc(void *block, size_t size);
-void __real_free(void *block);
-void *__wrap_malloc(size_t size);
-void *__wrap_realloc(void *block, size_t size);
-void __wrap_free(void *block);
-
-static _Atomic long held;
-static _Thread_local long refused_request;
-
-static int is_refused(void) {
-    return refused_request > 0 && --refused_request == 0;
-}
-
-void *__wrap_malloc(size_t size) {
-    void *block = is_refused() ? NULL : __real_malloc(size);
-    held += block != NULL;
-    return block;
-}
-
-void *__wrap_realloc(void *block, size_t size) {
-    void *larger = is_refused() ? NULL : __real_realloc(block, size);
-    held += block == NULL && larger != NULL;
-    return larger;
-}
-
-void __wrap_free(void *block) {
-    held -= block != NULL;
-    __real_free(block);
-}
-
 /* Pieces of memory that end, or begin, at an inaccessible page. */
 static uint8_t *pages;
 static size_t page;

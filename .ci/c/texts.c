@@ -2,6 +2,7 @@
  * Calls the functions of the library for texts and extensions: names (the examples of RFC 4514 4) and blocks of PEM, with buffers of every size, invalid
  * arguments and failing allocations. It is linked as test.c is.
  */
+#include "memory.h"
 #include "soqavise.h"
 
 #include <stdio.h>
@@ -15,37 +16,6 @@
             exit(1);                                                               \
         }                                                                          \
     } while (0)
-
-void *__real_malloc(size_t size);
-void *__real_realloc(void *block, size_t size);
-void __real_free(void *block);
-void *__wrap_malloc(size_t size);
-void *__wrap_realloc(void *block, size_t size);
-void __wrap_free(void *block);
-
-static long held;
-static long refused_request;
-
-static int is_refused(void) {
-    return refused_request > 0 && --refused_request == 0;
-}
-
-void *__wrap_malloc(size_t size) {
-    void *block = is_refused() ? NULL : __real_malloc(size);
-    held += block != NULL;
-    return block;
-}
-
-void *__wrap_realloc(void *block, size_t size) {
-    void *larger = is_refused() ? NULL : __real_realloc(block, size);
-    held += block == NULL && larger != NULL;
-    return larger;
-}
-
-void __wrap_free(void *block) {
-    held -= block != NULL;
-    __real_free(block);
-}
 
 /* The names of the examples of RFC 4514 4 in DER, written out by X.690 8: DC=net, DC=example and a third one, or one alone. */
 static const uint8_t smith[] = {
