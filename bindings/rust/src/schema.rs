@@ -166,8 +166,11 @@ impl Schema {
     /// # Errors
     /// As [`check`](Schema::check), except that open types aren't looked into.
     pub fn read<'a>(&self, rules: Rules, octets: &'a [u8]) -> Result<Value<'a>, Error> {
-        self.check_with(rules, 0, octets)?;
         let (parts, names) = self.parts(rules, octets)?;
+        if parts[0].part.length != octets.len() {
+            // It is refused for the octets that follow.
+            self.check_with(rules, 0, octets)?;
+        }
         let mut values = parts.iter().map(|it| Value::of(it, rules, octets, &names)).rev().collect();
         Ok(nested(&mut values, &mut parts.iter().map(|it| it.depth).rev().collect()))
     }

@@ -84,6 +84,17 @@ fn refuses_damaged_schemas() {
 }
 
 #[test]
+fn refuses_octets_after_the_value() {
+    let longer: Vec<u8> = ROW.iter().copied().chain([0]).collect();
+    for rules in [Rules::Ber, Rules::Der] {
+        let Err(Error::Refused { kind, path, offset, .. }) = schema().read(rules, &longer) else {
+            panic!("an octet follows");
+        };
+        assert_eq!((kind, path.as_str(), offset), (2, "", ROW.len()));
+    }
+}
+
+#[test]
 fn reads_pem() {
     let text = "before\n-----BEGIN A B-----\nAQID\nBA==\n-----END A B-----\n-----BEGIN C-----\n?\n-----END C-----\n-----BEGIN D-----\n";
     assert_eq!(pem(text).unwrap(), [("A B", Some(vec![1, 2, 3, 4])), ("C", None), ("D", None)]);
