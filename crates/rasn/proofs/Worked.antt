@@ -17,3 +17,4 @@ pub mod StrictSets
 pub mod Strings
 pub mod Values
 pub mod Unknown
+pub mod OpenChoice

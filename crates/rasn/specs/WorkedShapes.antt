@@ -3,7 +3,7 @@ use Rattle.std.specs.Prelude.{◌≡◌, ℕ, [], ◌∷◌, pos, Some, None, tr
 use Rattle.rasn_types.specs.Tags.{in_universal}
 use Rattle.rasn_types.specs.declared.types.tag.Tag.{Tag}
 use Rattle.rasn_types.specs.declared.types.tag.Class.TheVariants.{Application, Context}
-use Rattle.rasn_types.specs.Shapes.{number, set_elements, items, absent, every, Kind, boolean, object_identifier, bit_string, octet_string, integer, ia5, utc_time, generalized_time, Shape, Parts, leaf, any, prefix, choice, option, seq, set, list, set_of, unknown, part, required, optional, addition, default, optional_choice, default_choice}
+use Rattle.rasn_types.specs.Shapes.{number, set_elements, items, absent, every, Kind, boolean, object_identifier, bit_string, octet_string, integer, ia5, utc_time, generalized_time, Shape, Parts, leaf, any, prefix, choice, open_choice, option, seq, set, list, set_of, unknown, part, required, optional, addition, default, optional_choice, default_choice}
 use Rattle.rasn_types.specs.Shapes.Parts.{none}
 use Rattle.rasn_types.specs.Trees.{unconstrained, unsigned_range}
 use Rattle.rasn_types.specs.declared.types.codec.Codec.TheVariants.{Der}
@@ -182,6 +182,13 @@ default_choice_between = seq (in_universal 16) (part required truth (part (defau
 abbrev pub extensible : Shape
 extensible = seq (in_universal 16) (part required truth (part optional (tagged (integer every) 0) (part required unknown none)))
 
+-- CHOICE { BOOLEAN, [0] INTEGER, ... }
+abbrev pub known_alternatives : Parts
+known_alternatives = part required truth (part required (tagged (integer every) 0) none)
+
+abbrev pub extensible_choice : Shape
+extensible_choice = open_choice known_alternatives
+
 -- A default that is no value's tree: the elements of a SET OF have to be a list.
 abbrev pub no_value : Shape
 no_value = seq (in_universal 16) (part (default (set_elements (number (pos 0)))) (set_of (in_universal 17) whole_number None) none)
@@ -219,6 +226,11 @@ pub record LawfulShapes : Type 0 where
   pub addition_in_set : IsLawful (set (in_universal 17) (part addition (prefix (contextual 0) whole_number) none)) → ⊥
   pub string_as_sequence : IsLawful (plain octet_string 16) → ⊥
   pub value_of_no_tag : IsLawful (plain (integer every) 0) → ⊥
+  pub extensible_choice : IsLawful extensible_choice
+  pub extensible_alternatives_alike : IsLawful (open_choice two_alike) → ⊥
+  pub extensible_choice_in_choice : IsLawful (choice (part required extensible_choice none)) → ⊥
+  pub extensible_choice_in_set : IsLawful (set (in_universal 17) (part required extensible_choice none)) → ⊥
+  pub before_an_extensible_choice : IsLawful (seq (in_universal 16) (part optional whole_number (part required extensible_choice none))) → ⊥
   pub unknown_at_the_end : IsLawful extensible
   pub unknown_before_a_part : IsLawful (seq (in_universal 16) (part required unknown (part required truth none))) → ⊥
   pub unknown_left_out : IsLawful (seq (in_universal 16) (part required truth (part optional unknown none))) → ⊥

@@ -11,7 +11,7 @@ use Rattle.rasn_types.specs.Trees.{signed_range}
 use Rattle.rasn_types.specs.Bytes.{Bytes}
 use Rattle.rasn_types.specs.Carried.{Carried}
 use Rattle.rasn.specs.Worked.{IsCarriedAs, IsRefusedBy, IsReadAs, one_two_three, three_two_one, rising_octets}
-use Rattle.rasn.specs.WorkedShapes.{plain, contextual, perhaps_bool, validity, three_of_set, turned_round, octets_in_set_of, algorithm, relative_name, extended, extensible, mixed}
+use Rattle.rasn.specs.WorkedShapes.{plain, contextual, perhaps_bool, validity, three_of_set, turned_round, octets_in_set_of, algorithm, relative_name, extended, extensible, extensible_choice, mixed}
 
 abbrev pub on : ℕ → ℕ → ℕ → Day
 on y m d = record { year = pos y; month = m; day = d }
@@ -79,3 +79,12 @@ pub record WorkedUnknown : Type 0 where
   pub one_carried : IsCarriedAs Der extensible (with_unknown ((129 ∷ 1 ∷ 7 ∷ []) ∷ [])) (48 ∷ 6 ∷ 1 ∷ 1 ∷ 255 ∷ 129 ∷ 1 ∷ 7 ∷ [])
   pub known_written : Bytes Der extensible (with_unknown ((128 ∷ 1 ∷ 7 ∷ []) ∷ [])) (48 ∷ 6 ∷ 1 ∷ 1 ∷ 255 ∷ 128 ∷ 1 ∷ 7 ∷ [])
   pub known_not_carried : Carried Der extensible (with_unknown ((128 ∷ 1 ∷ 7 ∷ []) ∷ [])) → ⊥
+
+-- An alternative with another tag than those of the CHOICE is unknown. One with the tag of the BOOLEAN is written as
+-- unknown, but isn't read back as such.
+pub record WorkedOpenChoice : Type 0 where
+  pub known_read : IsReadAs Der extensible_choice (1 ∷ 1 ∷ 255 ∷ []) (chosen 0 (number (pos 1))) []
+  pub unknown_read : IsReadAs Der extensible_choice (129 ∷ 1 ∷ 7 ∷ []) (chosen 2 (numbers (129 ∷ 1 ∷ 7 ∷ []))) []
+  pub unknown_carried : IsCarriedAs Der extensible_choice (chosen 2 (numbers (129 ∷ 1 ∷ 7 ∷ []))) (129 ∷ 1 ∷ 7 ∷ [])
+  pub known_written : Bytes Der extensible_choice (chosen 2 (numbers (1 ∷ 1 ∷ 255 ∷ []))) (1 ∷ 1 ∷ 255 ∷ [])
+  pub known_not_carried : Carried Der extensible_choice (chosen 2 (numbers (1 ∷ 1 ∷ 255 ∷ []))) → ⊥

@@ -4,7 +4,7 @@ use Rattle.std.specs.Bool.{Decides}
 use Rattle.std.specs.List.{list_all, list_any}
 use Rattle.std.proofs.lemmas.Bool.Decides.{Decides-eqb, Decides-ltb, Decides-and, Decides-or, Decides-not, Decides-like, not_from_Decides}
 use Rattle.rasn_types.specs.Tags.{Class, Universal, Application, Context, Private, Tag, tag_bit, rank, eoc, is_universal, is_eoc, IsTagBelow}
-use Rattle.rasn_types.specs.Shapes.{Shape, leaf, any, prefix, choice, option, seq, set, list, set_of, unknown, Parts, part, own, IsFirst, IsFirstOf, IsAlwaysPresent, AreAlwaysPresent, Key, own_tag, first_tags, Presence, required, addition, optional_by, default_by}
+use Rattle.rasn_types.specs.Shapes.{Shape, leaf, any, prefix, choice, open_choice, option, seq, set, list, set_of, unknown, Parts, part, own, IsFirst, IsFirstOf, IsAlwaysPresent, AreAlwaysPresent, Key, own_tag, first_tags, Presence, required, addition, optional_by, default_by}
 use Rattle.rasn_types.specs.Shapes.Parts.{none}
 use Rattle.rasn_types.specs.Grammar.{Family, plain_family, bit_family, named_family, text_family, family}
 use Rattle.rasn_types.specs.Lawful.{AreDisjoint, AreDistinguished, IsFirstBehind, IsDistinguished, IsRecognized, MayBeLeftOut, IsBitFree, HasTag, EndsUnknown, IsLawful, AreAlternatives, AreLawfulInOrder, AreLawfulByTag}
@@ -107,6 +107,7 @@ mutual
   firsts_tell (any (Some tag)) = tells_one tag
   firsts_tell (prefix tag s) = tells_one tag
   firsts_tell (choice ps) = all_tell ps
+  firsts_tell (open_choice ps) = λ n. (λ h. tt, λ h. tt)
   firsts_tell (option tag s) = firsts_tell s
   firsts_tell (seq tag ps) = tells_one tag
   firsts_tell (set tag ps) = tells_one tag
@@ -200,6 +201,7 @@ tagged (any None) = decides_no (λ h. h)
 tagged (any (Some tag)) = decides_yes
 tagged (prefix tag s) = decides_yes
 tagged (choice ps) = decides_yes
+tagged (open_choice ps) = decides_no (λ h. h)
 tagged (option tag s) = decides_yes
 tagged (seq tag ps) = decides_yes
 tagged (set tag ps) = decides_yes
@@ -264,6 +266,7 @@ mutual
   solid (any tag) = decides_yes
   solid (prefix tag s) = decides_yes
   solid (choice ps) = all_solid ps
+  solid (open_choice ps) = all_solid ps
   solid (option tag s) = decides_no (λ h. h)
   solid (seq tag ps) = decides_yes
   solid (set tag ps) = decides_yes
@@ -286,6 +289,7 @@ unknown_told (leaf kind tag bounds) = decides_no (λ e. cc)
 unknown_told (any tag) = decides_no (λ e. cc)
 unknown_told (prefix tag s) = decides_no (λ e. cc)
 unknown_told (choice ps) = decides_no (λ e. cc)
+unknown_told (open_choice ps) = decides_no (λ e. cc)
 unknown_told (option tag s) = decides_no (λ e. cc)
 unknown_told (seq tag ps) = decides_no (λ e. cc)
 unknown_told (set tag ps) = decides_no (λ e. cc)
@@ -322,6 +326,7 @@ mutual
   lawful_decides (any (Some tag)) = no_value tag
   lawful_decides (prefix tag s) = both _ _ _ (no_value tag) (solid s) (lawful_decides s)
   lawful_decides (choice ps) = Decides-and _ _ (alternatives ps) (told_apart ps)
+  lawful_decides (open_choice ps) = Decides-and _ _ (alternatives ps) (told_apart ps)
   lawful_decides (option tag s) = both _ _ _ (same_own tag (own s)) (solid s) (lawful_decides s)
   lawful_decides (seq tag ps) = Decides-and _ _ (no_value tag) (in_order ps)
   lawful_decides (set tag ps) = Decides-and _ _ (no_value tag) (by_tag ps)

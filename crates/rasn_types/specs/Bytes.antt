@@ -7,7 +7,7 @@ use Rattle.rasn_types.specs.Calendar.{Day, IsDay, Moment, IsMoment}
 use Rattle.rasn_types.specs.Time.{written_date, written_generalized, written_utc}
 pub use Rattle.rasn_types.specs.Order.{Each, IsLess, AreAscending}
 pub use Rattle.rasn_types.specs.Shapes.{Same}
-use Rattle.rasn_types.specs.Shapes.{Tree, bits, numbers, instant, on_day, items, set_elements, chosen, absent, Kind, utc_time, generalized_time, date, Bound, Admits, Shape, leaf, any, prefix, choice, option, seq, set, list, set_of, unknown, Parts, part, Presence, required, addition, optional_by, default_by}
+use Rattle.rasn_types.specs.Shapes.{Tree, bits, numbers, instant, on_day, items, set_elements, chosen, absent, Kind, utc_time, generalized_time, date, Bound, Admits, Shape, leaf, any, prefix, choice, open_choice, option, seq, set, list, set_of, unknown, Parts, part, count, Presence, required, addition, optional_by, default_by}
 use Rattle.rasn_types.specs.Shapes.Parts.{none}
 pub use Rattle.rasn_types.specs.Contents.{AllFalse}
 use Rattle.rasn_types.specs.Contents.{IsShortest, Contents, BitSegment, joined_lists}
@@ -151,6 +151,7 @@ unfoldable mutual
   IsUntaggedOpen (any (Some tag)) t = ⊥
   IsUntaggedOpen (prefix tag s) t = ⊥
   IsUntaggedOpen (choice ps) t = IsUntaggedOpenIn 0 ps t
+  IsUntaggedOpen (open_choice ps) t = IsUntaggedOpenIn 0 ps t ⊎ ((u : Tree) × (t ≡ chosen (count ps) u))
   IsUntaggedOpen (option tag s) t = IsUntaggedOpen s t
   IsUntaggedOpen (seq tag ps) t = ⊥
   IsUntaggedOpen (set tag ps) t = ⊥
@@ -171,6 +172,7 @@ unfoldable mutual
       × (((octets ≡ []) × (b ≡ [])) ⊎ ((octets ≢ []) × ConstructedEncoding rule tag octets b))
   Bytes rule (prefix tag s) = λ t b. (inner : List ℕ) × Bytes rule s t inner × ConstructedEncoding rule tag inner b
   Bytes rule (choice ps) = WritesChoice 0 (fields_of rule ps)
+  Bytes rule (open_choice ps) = λ t b. WritesChoice 0 (fields_of rule ps) t b ⊎ (t ≡ chosen (count ps) (numbers b))
   Bytes rule (option tag s) = λ t b. ((t ≡ absent) × (b ≡ [])) ⊎ ((t ≢ absent) × Bytes rule s t b)
   Bytes rule (seq tag ps) = WritesSeq rule tag (fields_of rule ps)
   Bytes rule (set tag ps) = WritesSet rule tag (fields_of rule ps)

@@ -1,10 +1,10 @@
 -- The values that are read back after they are written: those that are carried.
 use Rattle.std.specs.Prelude.{◌≡◌, ℕ, suc, ◌-◌, ◌^◌, ◌<◌, ◌⊎◌, ◌≢◌, List, [], ◌∷◌, length, Bool, false}
 use Rattle.rasn_types.specs.Tags.{loose_form, form, Codec, Tag}
-use Rattle.rasn_types.specs.Framing.{Frame, definite}
+use Rattle.rasn_types.specs.Framing.{Frame, definite, NextTag}
 use Rattle.rasn_types.specs.Calendar.{Day, Moment}
 use Rattle.rasn_types.specs.Time.{CarriedUtc, CarriedDay}
-use Rattle.rasn_types.specs.Shapes.{Tree, bits, numbers, instant, on_day, items, joined, set_elements, chosen, absent, Kind, utc_time, generalized_time, date, Shape, leaf, any, prefix, choice, option, seq, set, list, set_of, unknown, Parts, part, Presence, required, addition, optional_by, default_by, sought_in}
+use Rattle.rasn_types.specs.Shapes.{Tree, bits, numbers, instant, on_day, items, joined, set_elements, chosen, absent, Kind, utc_time, generalized_time, date, Shape, leaf, any, prefix, choice, open_choice, option, seq, set, list, set_of, unknown, Parts, part, count, IsFirstOf, Presence, required, addition, optional_by, default_by, sought_in}
 use Rattle.rasn_types.specs.Shapes.Parts.{none}
 use Rattle.rasn_types.specs.Readings.{IsLeftOut}
 use Rattle.rasn_types.specs.Grammar.{Family, plain_family, bit_family, named_family, text_family, family}
@@ -45,6 +45,13 @@ pub record IsOneEncoding (t : Tree) : Type 0 where
   pub contents : List ℕ
   pub frame : Frame loose_form octets tag bit [] (definite contents)
 
+-- One encoding, whose tag is none for which P holds. The tag is spelled as the rule asks, since a reader has to know it.
+pub record IsUnknownValue (rule : Codec) (P : Tag → Type 0) (u : Tree) : Type 0 where
+  pub one : IsOneEncoding u
+  pub tag : Tag
+  pub next : NextTag (form rule) one.octets tag
+  pub other : P tag → ⊥
+
 -- The tree isn't written.
 abbrev pub IsUnwritten : Presence → Tree → Type 0
 IsUnwritten required t = ⊥
@@ -71,6 +78,7 @@ unfoldable mutual
   IsWithinLimits rule (any tag) depth t = IsOneEncoding t
   IsWithinLimits rule (prefix tag s) depth t = (0 < depth) × IsWithinLimits rule s (depth - 1) t
   IsWithinLimits rule (choice ps) depth t = ChosenIsWithinLimits rule 0 ps depth t
+  IsWithinLimits rule (open_choice ps) depth t = ChosenIsWithinLimits rule 0 ps depth t ⊎ ((u : Tree) × (t ≡ chosen (count ps) u) × IsUnknownValue rule (IsFirstOf ps) u)
   IsWithinLimits rule (option tag s) depth t = (t ≡ absent) ⊎ IsWithinLimits rule s depth t
   IsWithinLimits rule (seq tag ps) depth t = (0 < depth) × (ts : List Tree) × (t ≡ items ts) × AreWithinLimits rule ps (depth - 1) ts × NoneTaken rule ps ts
   IsWithinLimits rule (set tag ps) depth t = (0 < depth) × (ts : List Tree) × (t ≡ items ts) × AreWithinLimits rule ps (depth - 1) ts

@@ -1,5 +1,6 @@
 -- What a constructed type states about its parts and its fields.
-use Rattle.std.specs.Prelude.{ℕ, suc, ◌+◌, Bool, true, false, ◌&&◌, ◌||◌, not, nat_eq}
+use Rattle.std.specs.Prelude.{ℕ, ◌+◌, Bool, true, false, ◌&&◌, ◌||◌, not, nat_eq}
+pub use Rattle.rasn_types.specs.Shapes.{count}
 use Rattle.rasn_types.specs.Shapes.{Parts, part, required, addition, optional_by, default_by}
 use Rattle.rasn_types.specs.Shapes.Parts.{none}
 use Rattle.rasn_types.specs.declared.types.fields.FieldPresence.{FieldPresence}
@@ -18,11 +19,6 @@ has_addition (part required s ps) = has_addition ps
 has_addition (part (optional_by key) s ps) = has_addition ps
 has_addition (part addition s ps) = true
 has_addition (part (default_by key d) s ps) = has_addition ps
-
--- The number of parts.
-abbrev pub count : Parts → ℕ
-count none = 0
-count (part p s ps) = suc (count ps)
 
 abbrev pub same_bool : Bool → Bool → Bool
 same_bool true b = b

@@ -5,12 +5,12 @@ use Rattle.rasn_types.specs.Order.{IsLess, AreAscending}
 use Rattle.rasn_types.specs.Framing.{Frame, definite, indefinite, CompleteEncoding, CompleteEncodings}
 use Rattle.rasn_types.specs.Calendar.{Day, Stamp}
 use Rattle.rasn_types.specs.Time.{GeneralUtc, CanonicalUtc, GeneralGeneralized, CanonicalGeneralized, StrictGeneralized, DateText}
-use Rattle.rasn_types.specs.Shapes.{Tree, number, bits, numbers, instant, on_day, items, set_elements, absent, Kind, boolean, null, object_identifier, bit_string, named_bits, octet_string, integer, enumerated, fixed, numeric, printable, visible, ia5, any_octets, bmp, utf8, utc_time, generalized_time, date, Bound, Constraints, Admits, AdmitsPadded, Shape, leaf, any, prefix, choice, option, seq, set, list, set_of, unknown, Parts, part, IsFirst, one_tag, sought_in, presences}
+use Rattle.rasn_types.specs.Shapes.{Tree, number, bits, numbers, instant, on_day, items, set_elements, absent, Kind, boolean, null, object_identifier, bit_string, named_bits, octet_string, integer, enumerated, fixed, numeric, printable, visible, ia5, any_octets, bmp, utf8, utc_time, generalized_time, date, Bound, Constraints, Admits, AdmitsPadded, Shape, leaf, any, prefix, choice, open_choice, option, seq, set, list, set_of, unknown, Parts, part, count, IsFirst, IsFirstOf, one_tag, sought_in, presences}
 use Rattle.rasn_types.specs.Shapes.Parts.{none}
 use Rattle.rasn_types.specs.declared.types.strings.alphabet.Alphabet.TheVariants.{Numeric, Printable, Visible, Ia5}
 use Rattle.rasn_types.specs.CharacterString.{AreAdmitted}
 use Rattle.rasn_types.specs.BitString.{significant}
-use Rattle.rasn_types.specs.Readings.{Reading, ReadsContents, ReadsMany, ReadsFrom, ReadsOptional, Part, ReadsSeq, ReadsChoice, ReadsSet}
+use Rattle.rasn_types.specs.Readings.{Reading, ReadsContents, ReadsMany, ReadsFrom, ReadsOptional, Part, ReadsSeq, ReadsChoice, ReadsUnknown, ReadsSet}
 use Rattle.rasn_types.specs.Contents.{IsShortest, Contents, ReadsString, ReadsBitSegment, OctetSegment}
 
 -- The texts of times: BER reads the general forms, CER and DER the canonical ones, DER only the shortest of these
@@ -144,6 +144,10 @@ abbrev pub ReadsSetOf : Codec → Option (Bound ℕ) → Reading Tree → Bool �
 ReadsSetOf rule size reads closing input t rest = (ts : List Tree) × (t ≡ set_elements (items ts)) × Admits ◌≤◌ size (length ts) × ReadsMany reads closing input ts rest
     × (IsStrict rule → (bs : List (List ℕ)) × ReadsFrom reads input ts rest bs × AreAscending IsLess bs)
 
+-- An alternative, or an unknown value. Inside, the latter is lenient, as an open type is.
+abbrev pub ReadsOpenChoice : Codec → (Tag → Type 0) → ℕ → Reading Tree → Reading Tree
+ReadsOpenChoice rule P k reads input t rest = reads input t rest ⊎ ReadsUnknown rule P k (ReadsAny rule) input t rest
+
 -- Reads rule shape depth closing input tree rest: the input begins with a value of the shape and this tree, before the
 -- rest.
 unfoldable mutual
@@ -153,6 +157,7 @@ unfoldable mutual
   Reads rule (any (Some tag)) depth closing = ReadsOpen rule tag
   Reads rule (prefix tag s) depth closing = λ input t rest. (0 < depth) × (bit : Bool) × (IsStrict rule → bit ≡ true) × ReadsContents rule tag bit (λ c. Reads rule s (depth - 1) c) input t rest
   Reads rule (choice ps) depth closing = ReadsChoice rule 0 (parts_of rule ps depth closing)
+  Reads rule (open_choice ps) depth closing = ReadsOpenChoice rule (IsFirstOf ps) (count ps) (ReadsChoice rule 0 (parts_of rule ps depth closing))
   Reads rule (option tag s) depth closing = ReadsOptional (form rule) (one_tag tag) absent (Reads rule s depth closing) closing
   Reads rule (seq tag ps) depth closing = λ input t rest. (0 < depth) × ReadsContents rule tag true (λ c. ReadsSeq rule (parts_of rule ps (depth - 1) c) c) input t rest
   Reads rule (set tag ps) depth closing = λ input t rest. (0 < depth) × ReadsContents rule tag true (λ c. ReadsSet rule (presences ps) (ReadsChoice rule 0 (parts_of rule ps (depth - 1) c)) c) input t rest

@@ -1,7 +1,7 @@
 -- Lawful shapes.
 use Rattle.std.specs.Prelude.{◌≡◌, ◌⊎◌, ◌≢◌, false, Option, Some, None}
 use Rattle.rasn_types.specs.Tags.{tag_bit, Tag, eoc, IsTagBelow}
-use Rattle.rasn_types.specs.Shapes.{Shape, leaf, any, prefix, choice, option, seq, set, list, set_of, unknown, Parts, part, own, IsFirst, IsFirstOf, Key, own_tag, first_tags, Presence, required, addition, optional_by, default_by, IsAlwaysPresent}
+use Rattle.rasn_types.specs.Shapes.{Shape, leaf, any, prefix, choice, open_choice, option, seq, set, list, set_of, unknown, Parts, part, own, IsFirst, IsFirstOf, Key, own_tag, first_tags, Presence, required, addition, optional_by, default_by, IsAlwaysPresent}
 use Rattle.rasn_types.specs.Shapes.Parts.{none}
 use Rattle.rasn_types.specs.Grammar.{Family, plain_family, bit_family, named_family, text_family, family}
 
@@ -21,10 +21,12 @@ IsFirstBehind (part addition s ps) n = IsFirst s n
 IsFirstBehind (part (optional_by key) s ps) n = IsFirst s n ⊎ IsFirstBehind ps n
 IsFirstBehind (part (default_by key d) s ps) n = IsFirst s n ⊎ IsFirstBehind ps n
 
--- The shape is no open type without a tag, and no unknown values.
+-- The shape is no open type without a tag, no unknown values, and no CHOICE with an extension marker, whose unknown
+-- alternative has any tag.
 abbrev pub HasTag : Shape → Type 0
 HasTag (any None) = ⊥
 HasTag unknown = ⊥
+HasTag (open_choice ps) = ⊥
 HasTag s = Unit {0}
 
 -- The own tag of a part that may be left out distinguishes it from what follows. A part without an own tag is the last.
@@ -62,6 +64,7 @@ unfoldable mutual
   IsLawful (any (Some tag)) = tag ≢ eoc
   IsLawful (prefix tag s) = (tag ≢ eoc) × IsAlwaysPresent s × IsLawful s
   IsLawful (choice ps) = AreAlternatives ps × AreDistinguished ps
+  IsLawful (open_choice ps) = AreAlternatives ps × AreDistinguished ps
   IsLawful (option tag s) = (tag ≡ own s) × IsAlwaysPresent s × IsLawful s
   IsLawful (seq tag ps) = (tag ≢ eoc) × AreLawfulInOrder ps
   IsLawful (set tag ps) = (tag ≢ eoc) × AreLawfulByTag ps

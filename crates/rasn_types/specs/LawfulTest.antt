@@ -2,7 +2,7 @@
 use Rattle.std.specs.Prelude.{Bool, true, false, not, ◌&&◌, ◌||◌, nat_eq, nat_lt, List, [], ◌∷◌, ◌++◌, Option, Some, None}
 use Rattle.std.specs.List.{list_all, list_any}
 use Rattle.rasn_types.specs.Tags.{tag_bit, Tag, rank, is_eoc}
-use Rattle.rasn_types.specs.Shapes.{Shape, leaf, any, prefix, choice, option, seq, set, list, set_of, unknown, Parts, part, own, Key, own_tag, first_tags, Presence, required, addition, optional_by, default_by}
+use Rattle.rasn_types.specs.Shapes.{Shape, leaf, any, prefix, choice, open_choice, option, seq, set, list, set_of, unknown, Parts, part, own, Key, own_tag, first_tags, Presence, required, addition, optional_by, default_by}
 use Rattle.rasn_types.specs.Shapes.Parts.{none}
 use Rattle.rasn_types.specs.Grammar.{Family, plain_family, bit_family, named_family, text_family, family}
 
@@ -30,6 +30,7 @@ abbrev mutual
   firsts (any (Some tag)) = Some (tag ∷ [])
   firsts (prefix tag s) = Some (tag ∷ [])
   firsts (choice ps) = firsts_of ps
+  firsts (open_choice ps) = None
   firsts (option tag s) = firsts s
   firsts (seq tag ps) = Some (tag ∷ [])
   firsts (set tag ps) = Some (tag ∷ [])
@@ -76,6 +77,7 @@ has_tag (any None) = false
 has_tag (any (Some tag)) = true
 has_tag (prefix tag s) = true
 has_tag (choice ps) = true
+has_tag (open_choice ps) = false
 has_tag (option tag s) = true
 has_tag (seq tag ps) = true
 has_tag (set tag ps) = true
@@ -117,6 +119,7 @@ abbrev mutual
   is_always_present (any tag) = true
   is_always_present (prefix tag s) = true
   is_always_present (choice ps) = are_always_present ps
+  is_always_present (open_choice ps) = are_always_present ps
   is_always_present (option tag s) = false
   is_always_present (seq tag ps) = true
   is_always_present (set tag ps) = true
@@ -156,6 +159,7 @@ abbrev mutual
   is_lawful (any (Some tag)) = not (is_eoc tag)
   is_lawful (prefix tag s) = not (is_eoc tag) && (is_always_present s && is_lawful s)
   is_lawful (choice ps) = are_alternatives ps && are_distinguished ps
+  is_lawful (open_choice ps) = are_alternatives ps && are_distinguished ps
   is_lawful (option tag s) = is_same_own tag (own s) && (is_always_present s && is_lawful s)
   is_lawful (seq tag ps) = not (is_eoc tag) && are_lawful_in_order ps
   is_lawful (set tag ps) = not (is_eoc tag) && are_lawful_by_tag ps

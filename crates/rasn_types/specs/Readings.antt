@@ -128,6 +128,10 @@ ByPart k (p ∷ ps) readings ts = (t : Tree) × (us : List Tree) × (ts ≡ t �
 abbrev pub AreInTagOrder : List (List ℕ) → Type 0
 AreInTagOrder bs = (tags : List Tag) × Each Begins bs tags × AreAscending IsTagBelow tags
 
+-- An unknown value, by a reading of any value: P holds of the first tags of the k parts, and not of its tag.
+abbrev pub ReadsUnknown : Codec → (Tag → Type 0) → ℕ → Reading Tree → Reading Tree
+ReadsUnknown rule P k reads input t rest = (u : Tree) × (t ≡ chosen k u) × (next : Tag) × NextTag (form rule) input next × (P next → ⊥) × reads input u rest
+
 -- The contents of a SET whose parts have these presences: components, each of which is read as one of the parts.
 abbrev pub ReadsSet : Codec → List Presence → Reading Tree → Bool → Reading Tree
 ReadsSet rule ps reads closing input t rest = (readings : List Tree) × (ts : List Tree) × (t ≡ items ts)

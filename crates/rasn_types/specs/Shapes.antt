@@ -1,5 +1,5 @@
 -- Shapes of types and trees of values.
-use Rattle.std.specs.Prelude.{◌≡◌, ℕ, ◌+◌, ◌≤◌, ◌⊎◌, List, [], ◌∷◌, Bool, true, ℤ, ◌≤ℤ◌, Option, Some, None, IfSome, if◌then◌else◌, IsPermutation}
+use Rattle.std.specs.Prelude.{◌≡◌, ℕ, suc, ◌+◌, ◌≤◌, ◌⊎◌, List, [], ◌∷◌, Bool, true, ℤ, ◌≤ℤ◌, Option, Some, None, IfSome, if◌then◌else◌, IsPermutation}
 use Rattle.rasn_types.specs.Calendar.{Day, Moment}
 use Rattle.rasn_types.specs.Tags.{Tag, is_eoc}
 use Rattle.rasn_types.specs.declared.types.constraints.Bounded.{Bounded}
@@ -99,12 +99,13 @@ default_choice d = default_by first_tags d
 
 -- `any None` is an open type without a tag. The tag of `option` is the one that is looked for. `unknown` is any number
 -- of values up to the end of the contents: those that a SEQUENCE with an extension marker doesn't name (X.680 25).
+-- `open_choice` has an extension marker: a value with a tag that is none of its parts' is unknown (X.680 29).
 mutual
   pub data Shape : Type 0 where
     leaf : Kind → Tag → Constraints → Shape
     any : Option Tag → Shape
     prefix : Tag → Shape → Shape
-    choice : Parts → Shape
+    choice open_choice : Parts → Shape
     option : Option Tag → Shape → Shape
     seq : Tag → Parts → Shape
     set : Tag → Parts → Shape
@@ -121,12 +122,18 @@ abbrev pub presences : Parts → List Presence
 presences none = []
 presences (part presence s parts) = presence ∷ presences parts
 
+-- How many parts there are. An unknown value has this number, after those of the parts.
+abbrev pub count : Parts → ℕ
+count none = 0
+count (part presence s parts) = suc (count parts)
+
 -- The tag that all values of the shape begin with, if there is one.
 abbrev pub own : Shape → Option Tag
 own (leaf kind tag bounds) = Some tag
 own (any tag) = tag
 own (prefix tag s) = Some tag
 own (choice parts) = None
+own (open_choice parts) = None
 own (option tag s) = own s
 own (seq tag parts) = Some tag
 own (set tag parts) = Some tag
@@ -138,14 +145,15 @@ abbrev pub IsTagOf : Option Tag → Tag → Type 0
 IsTagOf None n = Unit {0}
 IsTagOf (Some tag) n = n ≡ tag
 
--- The tags that values of the shape may begin with. Unknown values have none of their own: what precedes them isn't told
--- from them by a tag.
+-- The tags that values of the shape may begin with. Unknown values of a SEQUENCE have none of their own: what precedes
+-- them isn't told from them by a tag. An unknown alternative has any tag.
 abbrev mutual
   pub IsFirst : Shape → Tag → Type 0
   IsFirst (leaf kind tag bounds) n = n ≡ tag
   IsFirst (any tag) n = IsTagOf tag n
   IsFirst (prefix tag s) n = n ≡ tag
   IsFirst (choice parts) n = IsFirstOf parts n
+  IsFirst (open_choice parts) n = Unit {0}
   IsFirst (option tag s) n = IsFirst s n
   IsFirst (seq tag parts) n = n ≡ tag
   IsFirst (set tag parts) n = n ≡ tag
@@ -183,6 +191,7 @@ tagged_as t c (leaf kind tag bounds) = leaf kind t c
 tagged_as t c (any tag) = any (looked_for t)
 tagged_as t c (prefix tag s) = prefix t s
 tagged_as t c (choice parts) = choice parts
+tagged_as t c (open_choice parts) = open_choice parts
 tagged_as t c (option tag s) = option (looked_for t) (tagged_as t c s)
 tagged_as t c (seq tag parts) = seq t parts
 tagged_as t c (set tag parts) = set t parts
@@ -197,6 +206,7 @@ abbrev mutual
   IsAlwaysPresent (any tag) = Unit {0}
   IsAlwaysPresent (prefix tag s) = Unit {0}
   IsAlwaysPresent (choice parts) = AreAlwaysPresent parts
+  IsAlwaysPresent (open_choice parts) = AreAlwaysPresent parts
   IsAlwaysPresent (option tag s) = ⊥
   IsAlwaysPresent (seq tag parts) = Unit {0}
   IsAlwaysPresent (set tag parts) = Unit {0}

@@ -5,11 +5,11 @@ use Rattle.rasn_types.specs.declared.types.codec.Codec.{Codec}
 use Rattle.rasn_types.specs.declared.types.codec.Codec.TheVariants.{Ber, Cer, Der}
 use Rattle.rasn_types.specs.declared.types.tag.Tag.{Tag}
 use Rattle.rasn_types.specs.Framing.{Frame, with_length, without_length, Extent, NextTag, CompleteEncoding, plain, closed, CompleteEncodings, none, one_more}
-use Rattle.rasn_types.specs.Shapes.{Tree, absent, Kind, boolean, null, object_identifier, integer, enumerated, octet_string, fixed, numeric, printable, visible, ia5, any_octets, bmp, utf8, utc_time, generalized_time, date, Shape, leaf, any, prefix, choice, option, seq, set, list, set_of, unknown, Parts, part, own, presences, Presence, required, addition, optional_by, default_by, Sought, one_tag, any_of, sought_in, IsAlwaysPresent, AreAlwaysPresent}
+use Rattle.rasn_types.specs.Shapes.{Tree, absent, Kind, boolean, null, object_identifier, integer, enumerated, octet_string, fixed, numeric, printable, visible, ia5, any_octets, bmp, utf8, utc_time, generalized_time, date, Shape, leaf, any, prefix, choice, open_choice, option, seq, set, list, set_of, unknown, Parts, part, count, IsFirstOf, own, presences, Presence, required, addition, optional_by, default_by, Sought, one_tag, any_of, sought_in, IsAlwaysPresent, AreAlwaysPresent}
 use Rattle.rasn_types.specs.declared.types.constraints.Bound.{Bound}
 use Rattle.rasn_types.specs.Readings.{Reading, ReadsContents, definite_form, indefinite_form, ReadsMany, IsLeftOut, IsPresent, ReadsOptional, IsNoDefault, ReadsPart, ReadsInOrder, AllMissing, presences_in, HasRequired, ReadsSeq, ReadsChoice, ReadsSet}
 use Rattle.rasn_types.specs.Contents.{ReadsString, primitive, segments, closed_segments, ReadsSegments, ReadsBitSegment, OctetSegment, Contents, IsBool}
-use Rattle.rasn_types.specs.Grammar.{Reads, parts_of, top, Family, plain_family, bit_family, named_family, text_family, family, ReadsIn, ReadsOpen, ReadsAny, ReadsList, ReadsSetOf, Text}
+use Rattle.rasn_types.specs.Grammar.{Reads, parts_of, top, Family, plain_family, bit_family, named_family, text_family, family, ReadsIn, ReadsOpen, ReadsAny, ReadsOpenChoice, ReadsList, ReadsSetOf, Text}
 use Rattle.rasn_types.specs.Lawful.{IsLawful, AreAlternatives}
 use Rattle.rasn.proofs.Time.Texts.{utc_in, generalized_in}
 use Rattle.rasn.proofs.ReadBack.Begins.{solid_closing, wider}
@@ -177,6 +177,13 @@ set_in ps rule depth c into closing input t rest (rs, ts, e, m, b, z) =
     let wide = ReadsChoice Ber 0 (parts_of Ber ps depth c) in
     (rs, ts, e, many_in reads wide (choice_in ps rule depth c into 0) closing input rs rest m, b, λ s. absurd s)
 
+-- A CHOICE with an extension marker.
+open_choice_in : (ps : Parts) (rule : Codec) (depth : ℕ) (c : Bool) → EachIn rule depth c ps
+    → IsIn (ReadsOpenChoice rule (IsFirstOf ps) (count ps) (ReadsChoice rule 0 (parts_of rule ps depth c))) (ReadsOpenChoice Ber (IsFirstOf ps) (count ps) (ReadsChoice Ber 0 (parts_of Ber ps depth c)))
+open_choice_in ps rule depth c into input t rest (inl h) = inl (choice_in ps rule depth c into 0 input t rest h)
+open_choice_in ps rule depth c into input t rest (inr (u, e, n, next, other, h)) = inr (u, e, n, next_ber next, other, any_in rule input u rest h)
+
+
 list_in : (size : Option (Bound ℕ)) (reads wide : Reading Tree) → IsIn reads wide → (closing : Bool) → IsIn (ReadsList size reads closing) (ReadsList size wide closing)
 list_in size reads wide into closing input t rest (ts, e, b, m) = (ts, e, b, many_in reads wide into closing input ts rest m)
 
@@ -193,6 +200,7 @@ mutual
   reads_in (prefix tag s) rule depth closing = λ input t rest h.
       (h.0, h.1, (λ z. absurd z), inside_in (λ c. Reads rule s (depth - 1) c) (λ c. Reads Ber s (depth - 1) c) (λ c. reads_in s rule (depth - 1) c) input t rest h.3)
   reads_in (choice ps) rule depth closing = choice_in ps rule depth closing (parts_in ps rule depth closing) 0
+  reads_in (open_choice ps) rule depth closing = open_choice_in ps rule depth closing (parts_in ps rule depth closing)
   reads_in (option tag s) rule depth closing = perhaps_in (form rule) (one_tag tag) absent (Reads rule s depth closing) (Reads Ber s depth closing) (reads_in s rule depth closing) closing
   reads_in (seq tag ps) rule depth closing = λ input t rest h. (
     h.0,
@@ -237,6 +245,7 @@ solid_of (leaf kind tag bounds) lawful = inl tt
 solid_of (any tag) lawful = inl tt
 solid_of (prefix tag s) lawful = inl tt
 solid_of (choice ps) lawful = inl (alternatives_solid ps lawful.0)
+solid_of (open_choice ps) lawful = inl (alternatives_solid ps lawful.0)
 solid_of (option tag s) lawful = inr (tag, s, refl, lawful.1)
 solid_of (seq tag ps) lawful = inl tt
 solid_of (set tag ps) lawful = inl tt

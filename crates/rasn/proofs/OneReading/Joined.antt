@@ -5,7 +5,7 @@ use Rattle.rasn_types.specs.declared.types.codec.Codec.{Codec}
 use Rattle.rasn_types.specs.declared.types.tag.Tag.{Tag}
 use Rattle.rasn_types.specs.Framing.{NextTag}
 use Rattle.rasn_types.specs.Shapes.{Tree, items, chosen, absent, Presence, required, addition, optional_by, default_by, Sought}
-use Rattle.rasn_types.specs.Readings.{Reading, ReadsContents, definite_form, indefinite_form, ReadsMany, IsNoDefault, ReadsOptional, Part, ReadsPart, ReadsInOrder, AllMissing, presences_in, AreAllLeftOut, ReadsSeq, ReadsChoice, ByPart, ReadsSet}
+use Rattle.rasn_types.specs.Readings.{Reading, ReadsContents, definite_form, indefinite_form, ReadsMany, IsNoDefault, ReadsOptional, Part, ReadsPart, ReadsInOrder, AllMissing, presences_in, AreAllLeftOut, ReadsSeq, ReadsChoice, ReadsUnknown, ByPart, ReadsSet}
 use Rattle.rasn_types.proofs.Headers.Frames.{frame_one, next_one}
 use Rattle.rasn_de.proofs.Constructed.Optional.{apart}
 use Rattle.rasn_de.proofs.Constructed.OneReading.{all_missing_one, by_part_one}
@@ -105,6 +105,17 @@ choice_one rule (p ∷ ps) one apart k input t u rest other (inr h) (inl l) =
     let r = choice_first rule ps (suc k) input t rest h in
     absurd (apart.0 r.0 (subst p.IsFirst (next_one input l.2 r.0 l.3 r.1) l.4) r.2)
 choice_one rule (p ∷ ps) one apart k input t u rest other (inr h) (inr l) = choice_one rule ps one.1 apart.1 (suc k) input t u rest other h l
+
+-- An unknown value has the tag of no part.
+pub open_choice_one : (rule : Codec) (ps : List Part) (P : Tag → Type 0) (k : ℕ) (reads : Reading Tree) → ((n : Tag) → IsFirstIn ps n → P n) → IsOne (ReadsChoice rule 0 ps) → IsOne reads
+    → IsOne (λ input t rest. ReadsChoice rule 0 ps input t rest ⊎ ReadsUnknown rule P k reads input t rest)
+open_choice_one rule ps P k reads first one whole input t u rest other (inl h) (inl i) = one input t u rest other h i
+open_choice_one rule ps P k reads first one whole input t u rest other (inl h) (inr (v, e, n, next, m, i)) =
+    let r = choice_first rule ps 0 input t rest h in absurd (m (subst P (next_one input r.0 n r.1 next) (first r.0 r.2)))
+open_choice_one rule ps P k reads first one whole input t u rest other (inr (v, e, n, next, m, h)) (inl i) =
+    let r = choice_first rule ps 0 input u other i in absurd (m (subst P (next_one input r.0 n r.1 next) (first r.0 r.2)))
+open_choice_one rule ps P k reads first one whole input t u rest other (inr (v, e, n, next, m, h)) (inr (w, f, l, next', m', i)) =
+    let o = whole input v w rest other h i in (e ∙ (ap (chosen k) o.0 ∙ sym f), o.1)
 
 pub set_one : (rule : Codec) (ps : List Presence) (reads : Reading Tree) → IsOne reads → (closing : Bool) → IsOne (ReadsSet rule ps reads closing)
 set_one rule ps reads one closing input t u rest other h k =

@@ -3,16 +3,16 @@ use Rattle.std.proofs.Common.{◌≡◌, ℕ, ◌-◌, ◌⊎◌, inl, inr, Bool
 use Rattle.rasn_types.specs.Tags.{form, IsTagBelow}
 use Rattle.rasn_types.specs.declared.types.codec.Codec.{Codec}
 use Rattle.rasn_types.specs.declared.types.tag.Tag.{Tag}
-use Rattle.rasn_types.specs.Shapes.{Tree, items, set_elements, absent, Shape, leaf, any, prefix, choice, option, seq, set, list, set_of, unknown, Parts, part, IsFirstOf, one_tag, presences}
+use Rattle.rasn_types.specs.Shapes.{Tree, items, set_elements, absent, Shape, leaf, any, prefix, choice, open_choice, option, seq, set, list, set_of, unknown, Parts, part, count, IsFirstOf, one_tag, presences}
 use Rattle.rasn_types.specs.declared.types.constraints.Bound.{Bound}
 use Rattle.rasn_types.specs.Shapes.Parts.{none}
 use Rattle.rasn_types.specs.Readings.{Reading, ReadsSeq, ReadsChoice, ReadsSet}
-use Rattle.rasn_types.specs.Grammar.{Reads, parts_of, ReadsAny, ReadsList, ReadsSetOf}
+use Rattle.rasn_types.specs.Grammar.{Reads, parts_of, ReadsAny, ReadsOpenChoice, ReadsList, ReadsSetOf}
 use Rattle.rasn_types.specs.Lawful.{AreDistinguished, IsLawful, AreAlternatives, AreLawfulInOrder, AreLawfulByTag}
-use Rattle.rasn.proofs.OneReading.Joined.{IsOne, inside_one, many_one, perhaps_one, EachPart, ReadsOne, seq_one, IsFirstIn, AreApart, choice_one, set_one}
+use Rattle.rasn.proofs.OneReading.Joined.{IsOne, inside_one, many_one, perhaps_one, EachPart, ReadsOne, seq_one, IsFirstIn, AreApart, choice_one, open_choice_one, set_one}
 use Rattle.rasn.proofs.OneReading.Leaves.{leaf_one}
 use Rattle.rasn.proofs.OneReading.Any.{any_one, open_one}
-use Rattle.rasn.specs.Laws.{IsReadOnce, AreReadOnce, OneLeaf, OneOpen, OnePrefix, OneChoice, OneOption, OneSequence, OneSet, OneSequenceOf, OneSetOf, OneUnknown}
+use Rattle.rasn.specs.Laws.{IsReadOnce, AreReadOnce, OneLeaf, OneOpen, OnePrefix, OneChoice, OneOption, OneSequence, OneSet, OneOpenChoice, OneSequenceOf, OneSetOf, OneUnknown}
 
 first_in : (rule : Codec) (ps : Parts) (depth : ℕ) (closing : Bool) (n : Tag) → IsFirstIn (parts_of rule ps depth closing) n → IsFirstOf ps n
 unfolding Reads parts_of
@@ -55,6 +55,16 @@ one_prefix rule tag s one depth closing = λ input t u r o h k.
 pub one_choice : OneChoice
 unfolding Reads parts_of
 one_choice rule ps one told depth closing = choice_one rule (parts_of rule ps depth closing) (parts_one rule ps one depth closing) (apart rule ps depth closing told) 0
+
+open_reading_one : (rule : Codec) (ps : Parts) → AreReadOnce rule ps → AreDistinguished ps → (depth : ℕ) (closing : Bool)
+    → IsOne (ReadsOpenChoice rule (IsFirstOf ps) (count ps) (ReadsChoice rule 0 (parts_of rule ps depth closing)))
+open_reading_one rule ps one told depth closing = open_choice_one rule (parts_of rule ps depth closing) (IsFirstOf ps) (count ps) (ReadsAny rule) (first_in rule ps depth closing)
+    (choice_one rule (parts_of rule ps depth closing) (parts_one rule ps one depth closing) (apart rule ps depth closing told) 0) (any_one rule)
+
+pub one_open_choice : OneOpenChoice
+unfolding Reads parts_of
+one_open_choice rule ps one told depth closing = open_reading_one rule ps one told depth closing
+
 
 pub one_option : OneOption
 unfolding Reads parts_of
@@ -122,6 +132,7 @@ mutual
   reads_one (any tag) lawful rule = one_open rule tag
   reads_one (prefix tag s) lawful rule = one_prefix rule tag s (reads_one s lawful.2 rule)
   reads_one (choice ps) lawful rule = one_choice rule ps (each_one ps (alternatives_lawful ps lawful.0) rule) lawful.1
+  reads_one (open_choice ps) lawful rule = one_open_choice rule ps (each_one ps (alternatives_lawful ps lawful.0) rule) lawful.1
   reads_one (option tag s) lawful rule = one_option rule tag s (reads_one s lawful.2 rule)
   reads_one (seq tag ps) lawful rule = one_sequence rule tag ps (each_one ps (in_order_lawful ps lawful.1) rule)
   reads_one (set tag ps) lawful rule = let l = by_tag_lawful ps lawful.1 in one_set rule tag ps (each_one ps l.0 rule) l.1

@@ -4,7 +4,7 @@ use Rattle.rasn_types.specs.Tags.{Form, form, loose}
 use Rattle.rasn_types.specs.declared.types.codec.Codec.{Codec}
 use Rattle.rasn_types.specs.declared.types.tag.Tag.{Tag}
 use Rattle.rasn_types.specs.Framing.{NextTag}
-use Rattle.rasn_types.specs.Shapes.{Tree, Kind, Shape, leaf, any, prefix, choice, option, seq, set, list, set_of, unknown, Parts, part, IsFirst, IsFirstOf, one_tag, IsAlwaysPresent, AreAlwaysPresent}
+use Rattle.rasn_types.specs.Shapes.{Tree, Kind, Shape, leaf, any, prefix, choice, open_choice, option, seq, set, list, set_of, unknown, Parts, part, IsFirst, IsFirstOf, one_tag, IsAlwaysPresent, AreAlwaysPresent}
 use Rattle.rasn_types.specs.Shapes.Parts.{none}
 use Rattle.rasn_types.specs.Readings.{Reading, ReadsContents, definite_form, indefinite_form, ReadsChoice, IsLeftOut, IsPresent}
 use Rattle.rasn_types.specs.Contents.{ReadsString, primitive, segments, closed_segments, ReadsBitSegment, OctetSegment}
@@ -52,6 +52,7 @@ begins (choice ps) solid has rule depth closing input t rest h = some_begins ps 
     some_begins none k h = absurd h
     some_begins (part presence s ps) k (inl h) = (h.2, h.3, inl h.4)
     some_begins (part presence s ps) k (inr h) = let r = some_begins ps (suc k) h in (r.0, r.1, inr r.2)
+begins (open_choice ps) solid has rule depth closing input t rest h = absurd has
 begins (option tag s) solid has rule depth closing input t rest h = absurd solid
 begins (seq tag ps) solid has rule depth closing input t rest h = (tag, inside_next h.1, refl)
 begins (set tag ps) solid has rule depth closing input t rest h = (tag, inside_next h.1, refl)
@@ -59,8 +60,13 @@ begins (list tag s size) solid has rule depth closing input t rest h = (tag, ins
 begins (set_of tag s size) solid has rule depth closing input t rest h = (tag, inside_next h.1, refl)
 begins unknown solid has rule depth closing input t rest h = absurd solid
 
-pub tagged : (s : Shape) → IsAlwaysPresent s → HasTag s ⊎ (s ≡ any None)
-tagged (any None) solid = inr refl
+-- A CHOICE with an extension marker.
+abbrev pub IsOpenChoice : Shape → Type 0
+IsOpenChoice s = (ps : Parts) × (s ≡ open_choice ps)
+
+pub tagged : (s : Shape) → IsAlwaysPresent s → HasTag s ⊎ ((s ≡ any None) ⊎ IsOpenChoice s)
+tagged (any None) solid = inr (inl refl)
+tagged (open_choice ps) solid = inr (inr (ps, refl))
 tagged (any (Some tag)) solid = inl tt
 tagged (leaf kind tag bounds) solid = inl tt
 tagged (prefix tag s) solid = inl tt
@@ -80,13 +86,25 @@ any_is_next : (rule : Codec) (depth : ℕ) (closing : Bool) (input : List ℕ) (
 unfolding Reads parts_of
 any_is_next rule depth closing input t rest h = let n = whole_next rest h.2 in (loose rule, n.0, subst (λ i. NextTag (loose rule) i n.0) (sym h.3) n.1)
 
+some_is_next : (rule : Codec) (ps : Parts) (k depth : ℕ) (closing : Bool) (input : List ℕ) (t : Tree) (rest : List ℕ) → ReadsChoice rule k (parts_of rule ps depth closing) input t rest → (n : Tag) × NextTag (form rule) input n
+unfolding Reads parts_of
+some_is_next rule none k depth closing input t rest h = absurd h
+some_is_next rule (part presence s ps) k depth closing input t rest (inl h) = (h.2, h.3)
+some_is_next rule (part presence s ps) k depth closing input t rest (inr h) = some_is_next rule ps (suc k) depth closing input t rest h
+
+chosen_is_next : (rule : Codec) (ps : Parts) (depth : ℕ) (closing : Bool) (input : List ℕ) (t : Tree) (rest : List ℕ) → Reads rule (open_choice ps) depth closing input t rest → (n : Tag) × NextTag (form rule) input n
+unfolding Reads parts_of
+chosen_is_next rule ps depth closing input t rest (inl h) = some_is_next rule ps 0 depth closing input t rest h
+chosen_is_next rule ps depth closing input t rest (inr h) = (h.2, h.3)
+
 pub has_next_tag : (s : Shape) → IsAlwaysPresent s → (rule : Codec) (depth : ℕ) (closing : Bool) (input : List ℕ) (t : Tree) (rest : List ℕ)
     → Reads rule s depth closing input t rest → HasNextTag input
 has_next_tag s solid rule depth closing input t rest h = go (tagged s solid)
   where
-    go : HasTag s ⊎ (s ≡ any None) → HasNextTag input
+    go : HasTag s ⊎ ((s ≡ any None) ⊎ IsOpenChoice s) → HasNextTag input
     go (inl has) = let b = begins s solid has rule depth closing input t rest h in (form rule, b.0, b.1)
-    go (inr e) = any_is_next rule depth closing input t rest (subst (λ x. Reads rule x depth closing input t rest) e h)
+    go (inr (inl e)) = any_is_next rule depth closing input t rest (subst (λ x. Reads rule x depth closing input t rest) e h)
+    go (inr (inr (ps, e))) = let n = chosen_is_next rule ps depth closing input t rest (subst (λ x. Reads rule x depth closing input t rest) e h) in (form rule, n.0, n.1)
 
 -- A first tag follows in the form's spelling, or any tag may follow.
 abbrev pub Starts : Form → (Tag → Type 0) → List ℕ → Type 0
@@ -96,9 +114,10 @@ pub starts : (s : Shape) → IsAlwaysPresent s → (rule : Codec) (depth : ℕ) 
     → Reads rule s depth closing input t rest → Starts (form rule) (IsFirst s) input
 starts s solid rule depth closing input t rest h = go (tagged s solid)
   where
-    go : HasTag s ⊎ (s ≡ any None) → Starts (form rule) (IsFirst s) input
+    go : HasTag s ⊎ ((s ≡ any None) ⊎ IsOpenChoice s) → Starts (form rule) (IsFirst s) input
     go (inl has) = inl (begins s solid has rule depth closing input t rest h)
-    go (inr e) = inr (λ n. subst (λ x. IsFirst x n) (sym e) tt)
+    go (inr (inl e)) = inr (λ n. subst (λ x. IsFirst x n) (sym e) tt)
+    go (inr (inr (ps, e))) = inr (λ n. subst (λ x. IsFirst x n) (sym e) tt)
 
 mutual
   unfolding Reads parts_of
@@ -110,6 +129,8 @@ mutual
   solid_closing (any None) solid rule depth c d input t rest h = h
   solid_closing (prefix tag s) solid rule depth c d input t rest h = h
   solid_closing (choice ps) solid rule depth c d input t rest h = some_closing ps solid 0 rule depth c d input t rest h
+  solid_closing (open_choice ps) solid rule depth c d input t rest (inl h) = inl (some_closing ps solid 0 rule depth c d input t rest h)
+  solid_closing (open_choice ps) solid rule depth c d input t rest (inr h) = inr h
   solid_closing (option tag s) solid rule depth c d input t rest h = absurd solid
   solid_closing (seq tag ps) solid rule depth c d input t rest h = h
   solid_closing (set tag ps) solid rule depth c d input t rest h = h

@@ -1,10 +1,10 @@
 -- The parts of a SEQUENCE and the alternatives of a CHOICE are read as they were written.
-use Rattle.std.proofs.Common.{◌≡◌, ℕ, suc, ◌<◌, ◌⊎◌, ◌≢◌, inl, inr, List, [], ◌∷◌, ◌++◌, Bool, true, false, Option, Some, None, refl, sym, ap, ◌∙◌, subst, arith, append_assoc}
+use Rattle.std.proofs.Common.{◌≡◌, ℕ, ◌+◌, suc, ◌<◌, ◌⊎◌, ◌≢◌, inl, inr, List, [], ◌∷◌, ◌++◌, Bool, true, false, Option, Some, None, refl, sym, ap, ◌∙◌, subst, arith, append_assoc}
 use Rattle.rasn_types.specs.Tags.{Form, form, eoc}
 use Rattle.rasn_types.specs.declared.types.codec.Codec.{Codec}
 use Rattle.rasn_types.specs.declared.types.tag.Tag.{Tag}
 use Rattle.rasn_types.specs.Framing.{NextTag, Ended}
-use Rattle.rasn_types.specs.Shapes.{Tree, items, chosen, absent, Shape, leaf, any, prefix, choice, option, seq, set, list, set_of, unknown, Parts, part, own, IsFirst, Key, own_tag, first_tags, Presence, required, addition, optional_by, default_by, Sought, one_tag, any_of, sought_by, sought_in, IsAlwaysPresent}
+use Rattle.rasn_types.specs.Shapes.{Tree, items, chosen, absent, Shape, leaf, any, prefix, choice, open_choice, option, seq, set, list, set_of, unknown, Parts, part, count, own, IsFirst, Key, own_tag, first_tags, Presence, required, addition, optional_by, default_by, Sought, one_tag, any_of, sought_by, sought_in, IsAlwaysPresent}
 use Rattle.rasn_types.specs.Shapes.Parts.{none}
 use Rattle.rasn_types.specs.Readings.{IsLeftOut, IsPresent, Part, IsNoDefault, ReadsPart, ReadsInOrder, IsMissing, AllMissing, presences_in, HasRequired, AreAllLeftOut, ReadsSeq, ReadsChoice}
 use Rattle.rasn_types.specs.Contents.{joined_lists}
@@ -13,7 +13,7 @@ use Rattle.rasn_types.specs.Bytes.{Each, Same, WritesPart, PartsWritten, WritesC
 use Rattle.rasn_types.specs.Carried.{PartIsWithinLimits, IsUnwritten, BeginsUnknown, NoneTaken, IsWithinLimits, AreWithinLimits, ChosenIsWithinLimits}
 use Rattle.rasn_types.specs.Lawful.{HasTag, IsFirstBehind, IsDistinguished, IsRecognized, MayBeLeftOut, EndsUnknown, AreLawfulInOrder}
 use Rattle.rasn_types.proofs.Headers.Frames.{not_ended}
-use Rattle.rasn.proofs.ReadBack.Begins.{begins, HasNextTag, has_next_tag, tagged, Starts, starts}
+use Rattle.rasn.proofs.ReadBack.Begins.{begins, HasNextTag, has_next_tag, tagged, IsOpenChoice, Starts, starts}
 use Rattle.rasn.proofs.ReadBack.Constructed.{IsTail, tail_ended, IsReadAs}
 use Rattle.rasn_types.proofs.SetOf.Same.{each_same, same_trans}
 use Rattle.rasn_types.proofs.Encoding.SameOctets.{other_written}
@@ -38,6 +38,7 @@ own_first (any (Some t)) solid tag n e h = cc
 own_first (any None) solid tag n e h = cc
 own_first (prefix t s) solid tag n e h = cc
 own_first (choice ps) solid tag n e h = cc
+own_first (open_choice ps) solid tag n e h = cc
 own_first (option o s) solid tag n e h = absurd solid
 own_first (seq t ps) solid tag n e h = cc
 own_first (set t ps) solid tag n e h = cc
@@ -113,9 +114,10 @@ is_there s solid rule depth closing input t rest h = go (tagged s solid)
     untagged : HasNextTag input → IsPresent (form rule) (one_tag None) closing input
     untagged (f, n, next) = not_ended closing input n next
 
-    go : HasTag s ⊎ (s ≡ any None) → IsPresent (form rule) (one_tag (own s)) closing input
+    go : HasTag s ⊎ ((s ≡ any None) ⊎ IsOpenChoice s) → IsPresent (form rule) (one_tag (own s)) closing input
     go (inl has) = let b = begins s solid has rule depth closing input t rest h in there (form rule) (own s) closing input b.0 b.1 (λ t e. own_first s solid t b.0 e b.2)
-    go (inr e) = subst (λ x. IsPresent (form rule) (one_tag (own x)) closing input) (sym e) (untagged (has_next_tag s solid rule depth closing input t rest h))
+    go (inr (inl e)) = subst (λ x. IsPresent (form rule) (one_tag (own x)) closing input) (sym e) (untagged (has_next_tag s solid rule depth closing input t rest h))
+    go (inr (inr (ps, e))) = subst (λ x. IsPresent (form rule) (one_tag (own x)) closing input) (sym e) (untagged (has_next_tag s solid rule depth closing input t rest h))
 
 recognized_there : (key : Key) (s : Shape) (ps : Parts) → IsRecognized key s ps → IsAlwaysPresent s → (rule : Codec) (depth : ℕ) (closing : Bool) (input : List ℕ) (t : Tree) (rest : List ℕ)
     → Reads rule s depth closing input t rest → IsPresent (form rule) (sought_by key s) closing input
@@ -397,6 +399,13 @@ other_index rule none depth k j t u h e m = m
 other_index rule (part presence s ps) depth k j t u h e (inl m) =
     let f = m.1 in let g : j ≡ k = cc in omega arith
 other_index rule (part presence s ps) depth k j t u h e (inr m) = other_index rule ps depth (suc k) j t u (omega arith) e m
+
+-- What is within the limits of an alternative isn't beyond the last one.
+pub none_beyond : (rule : Codec) (ps : Parts) (depth k : ℕ) (t v : Tree) → t ≡ chosen (k + count ps) v → ChosenIsWithinLimits rule k ps depth t → ⊥
+unfolding IsWithinLimits
+none_beyond rule none depth k t v e m = m
+none_beyond rule (part presence s ps) depth k t v e (inl (u, f, m)) = let g : k ≡ k + suc (count ps) = cc in omega (arith, g)
+none_beyond rule (part presence s ps) depth k t v e (inr m) = none_beyond rule ps depth (suc k) t v (e ∙ ap (λ n. chosen n v) (omega arith)) m
 
 pub choice_back : (rule : Codec) (depth : ℕ) (ps : Parts) → EachTagged ps → AllRequired ps → EachBack rule depth ps → (k : ℕ) (t : Tree) (b : List ℕ)
     → ChosenIsWithinLimits rule k ps depth t → WritesChoice k (fields_of rule ps) t b

@@ -7,14 +7,14 @@ use Rattle.rasn_types.specs.Tags.{der_form}
 use Rattle.rasn_types.specs.Framing.{Frame, without_length, NextTag, Ended, CompleteEncoding}
 use Rattle.rasn_types.specs.Calendar.{Moment}
 use Rattle.rasn_types.specs.Time.{CarriedUtc, CarriedDay}
-use Rattle.rasn_types.specs.Shapes.{presences, Tree, number, bits, numbers, instant, on_day, done, joined, items, set_elements, chosen, absent, Same, Kind, utc_time, generalized_time, date, Shape, leaf, any, prefix, choice, option, seq, set, list, set_of, unknown, Parts, part, own, Presence, required, addition, optional_by, default_by, Sought, one_tag, any_of, sought_in}
+use Rattle.rasn_types.specs.Shapes.{presences, Tree, number, bits, numbers, instant, on_day, done, joined, items, set_elements, chosen, absent, Same, Kind, utc_time, generalized_time, date, Shape, leaf, any, prefix, choice, open_choice, option, seq, set, list, set_of, unknown, Parts, part, count, IsFirstOf, own, Presence, required, addition, optional_by, default_by, Sought, one_tag, any_of, sought_in}
 use Rattle.rasn_types.specs.declared.types.constraints.Bound.{Bound}
 use Rattle.rasn_types.specs.Shapes.Parts.{none}
 use Rattle.rasn_types.specs.Described.{has_required, has_addition}
 use Rattle.rasn_types.specs.Readings.{Reading, ReadsContents, definite_form, indefinite_form, ReadsMany, IsLeftOut, ReadsPart, ReadsInOrder, IsMissing, AllMissing, presences_in, HasRequired, ReadsSeq, ReadsSet, ReadsChoice, OneOf, ByPart}
 use Rattle.rasn_types.specs.BitString.{significant}
 use Rattle.rasn_types.specs.Grammar.{Reads, parts_of, Family, plain_family, bit_family, named_family, text_family, family, ReadsIn, Text, ReadsAny, ReadsList, ReadsSetOf}
-use Rattle.rasn_types.specs.Carried.{EachOf, PartIsWithinLimits, IsCarriedTime, LeafIsWithinLimits, IsOneEncoding, IsUnwritten, BeginsUnknown, NoneTaken, IsWithinLimits, AreWithinLimits, ChosenIsWithinLimits}
+use Rattle.rasn_types.specs.Carried.{EachOf, PartIsWithinLimits, IsCarriedTime, LeafIsWithinLimits, IsOneEncoding, IsUnwritten, BeginsUnknown, NoneTaken, IsWithinLimits, AreWithinLimits, ChosenIsWithinLimits, IsUnknownValue}
 use Rattle.rasn_types.specs.Lawful.{IsLawful, EndsUnknown, AreLawfulInOrder, AreLawfulByTag}
 use Rattle.rasn_types.proofs.Lawful.{lawful_decides}
 use Rattle.rasn_types.proofs.Headers.Frames.{id_one, frame_next}
@@ -77,6 +77,7 @@ mutual
   own_defaults (any tag) e = tt
   own_defaults (prefix tag s) e = own_defaults s e
   own_defaults (choice ps) e = all_own ps e
+  own_defaults (open_choice ps) e = all_own ps e
   own_defaults (option tag s) e = own_defaults s e
   own_defaults (seq tag ps) e = all_own ps (both_true (has_required ps || not (has_addition ps)) (all_carry ps) e).1
   own_defaults (set tag ps) e = all_own ps e
@@ -338,6 +339,21 @@ missing_taken (part presence s ps) depth c lawful ts (t, us, e, h, hs) =
 
 -- ---- values that hold others
 
+-- An unknown value has the tag of no part.
+unknown_value_met : (P : Tag → Type 0) (input : List ℕ) (u : Tree) (rest : List ℕ) (n : Tag) → NextTag der_form input n → (P n → ⊥) → ReadsAny Der input u rest → IsUnknownValue Der P u
+unknown_value_met P input u rest n next other (text, e, CompleteEncoding.plain tag bit contents frame, f) = record {
+  one = record { octets = text; is = e; tag = tag; bit = bit; contents = contents; frame = frame };
+  tag = n;
+  next = next_alone text rest n (CompleteEncoding.plain tag bit contents frame) (subst (λ i. NextTag der_form i n) f next);
+  other = other;
+}
+unknown_value_met P input u rest n next other (text, e, CompleteEncoding.closed tag bit body nested (without_length id p q r f) w g, h) = absurd r
+
+open_choice_met : (ps : Parts) (depth : ℕ) → EachMet depth ps → IsMet (open_choice ps) depth
+unfolding Reads parts_of IsWithinLimits
+open_choice_met ps depth met closing input t rest (inl h) = inl (choice_met ps depth met 0 closing input t rest h)
+open_choice_met ps depth met closing input t rest (inr (u, e, n, next, other, h)) = inr (u, e, unknown_value_met (IsFirstOf ps) input u rest n next other h)
+
 inside_met : {X : Type 0} {P : Type 0} (tag : Tag) (bit : Bool) (inner : Bool → Reading X) (input : List ℕ) (x : X) (rest : List ℕ)
     → ((contents : List ℕ) → inner false contents x [] → P) → ReadsContents Der tag bit inner input x rest → P
 inside_met tag bit inner input x rest met (definite_form contents f h) = met contents h
@@ -397,6 +413,7 @@ mutual
   all_met (prefix tag s) lawful e depth = λ closing input t rest h.
       (h.0, inside_met tag h.1 (λ c. Reads Der s (depth - 1) c) input t rest (λ contents r. all_met s lawful.2 e (depth - 1) false contents t [] r) h.3)
   all_met (choice ps) lawful e depth = λ closing input t rest h. choice_met ps depth (each_met ps (alternatives_good ps lawful.0) e depth) 0 closing input t rest h
+  all_met (open_choice ps) lawful e depth = open_choice_met ps depth (each_met ps (alternatives_good ps lawful.0) e depth)
   all_met (option tag s) lawful e depth = λ closing input t rest h. elim h [
     | inl r ↦ inl r.1
     | inr r ↦ inr (all_met s lawful.2 e depth closing input t rest r.1)

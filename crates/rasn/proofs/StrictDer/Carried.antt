@@ -5,7 +5,7 @@ use Rattle.rasn_types.specs.Tags.{loose_form, IsTagBelow}
 use Rattle.rasn_types.specs.declared.types.codec.Codec.TheVariants.{Der}
 use Rattle.rasn_types.specs.declared.types.tag.Tag.{Tag}
 use Rattle.rasn_types.specs.Framing.{AreOctets, SpellsAnyIdentifier, Begins, Frame, definite}
-use Rattle.rasn_types.specs.Shapes.{Tree, items, set_elements, chosen, Admits, Shape, leaf, any, prefix, choice, option, seq, set, list, set_of, unknown, Parts, part, own, IsFirst, IsFirstOf, Presence, presences, required, addition, optional_by, default_by, Sought, sought_in, IsAlwaysPresent}
+use Rattle.rasn_types.specs.Shapes.{Tree, items, set_elements, chosen, Admits, Shape, leaf, any, prefix, choice, open_choice, option, seq, set, list, set_of, unknown, Parts, part, count, own, IsFirst, IsFirstOf, Presence, presences, required, addition, optional_by, default_by, Sought, sought_in, IsAlwaysPresent}
 use Rattle.rasn_types.specs.declared.types.constraints.Bound.{Bound}
 use Rattle.rasn_types.specs.Shapes.Parts.{none}
 use Rattle.rasn_types.specs.Readings.{Reading, ReadsContents, definite_form, indefinite_form, ReadsMany, ReadsFrom, IsNoDefault, ReadsPart, ReadsInOrder, IsMissing, AllMissing, presences_in, ReadsChoice, NoneOf, OneOf, ByPart}
@@ -13,7 +13,7 @@ use Rattle.rasn_types.specs.Order.{Each, IsLess, AreAscending}
 use Rattle.rasn_types.specs.Contents.{joined_lists}
 use Rattle.rasn_types.specs.Grammar.{Reads, parts_of, family}
 use Rattle.rasn_types.specs.Bytes.{Same, DefiniteForm, WritesPart, PartsWritten, WritesChoice, TagsOf, NoneUntaggedOpen, IsUntaggedOpen, IsUntaggedOpenIn, Bytes, fields_of}
-use Rattle.rasn_types.specs.Carried.{EachOf}
+use Rattle.rasn_types.specs.Carried.{EachOf, IsWithinLimits}
 use Rattle.rasn_types.specs.Lawful.{HasTag, IsLawful, AreAlternatives, AreLawfulByTag}
 use Rattle.rasn_types.proofs.Headers.Frames.{frame_next, not_ended}
 use Rattle.rasn_types.proofs.SetOf.Same.{items_one}
@@ -21,8 +21,9 @@ use Rattle.rasn.proofs.ReadBack.Shapes.{EachGood, alternatives_good, EachGoodInO
 use Rattle.rasn.proofs.LawsHold.Written.{one_reading, read_again}
 use Rattle.rasn.proofs.StrictDer.Shapes.{there, unknown_there, set_elements_one}
 use Rattle.rasn.proofs.StrictDer.Leaves.{tail_octets, framed, no_open, in_told}
-use Rattle.rasn.proofs.StrictDer.Parts.{IsNeverAbsent, nothing, other_read}
+use Rattle.rasn.proofs.StrictDer.Parts.{IsNeverAbsent, nothing, other_read, not_beyond}
 use Rattle.rasn.proofs.StrictDer.Set.{Components, first_is_next, behind, by_part_less, fewer}
+use Rattle.rasn.proofs.ReadBack.Parts.{none_beyond}
 use Rattle.rasn.proofs.StrictDer.Limits.{PartOwes, Owes, OwesParts, OwesChoice, other_owed, owed_meets, meets_owed, owes_like}
 use Rattle.rasn.specs.Laws.{OnlyCarried, StaysCarried}
 
@@ -245,6 +246,13 @@ in_set_made tag ps depth lawful k closing input t rest o (deep, h) (deep', us, f
     (joined_lists q.0, (vs, q.0, g.2.0, r.2, q.1, q.2, q.3, g.2.2, refl), q.4)) h in
     (r.2, (r.1.0, r.1.1, r.1.2, r.1.3, r.1.4, r.1.5, r.1.6, r.1.7, subst (λ l. DefiniteForm tag true l r.2) r.1.8 r.3), r.4)
 
+open_choice_made : (ps : Parts) (depth : ℕ) → EachMade depth ps → IsMade (open_choice ps) depth
+unfolding Reads parts_of Bytes fields_of Owes IsWithinLimits
+open_choice_made ps depth made closing input t rest o (inl h) (inl m) = let r = choice_made ps depth made 0 closing input t rest o h m in (r.0, inl r.1, r.2)
+open_choice_made ps depth made closing input t rest o (inl h) (inr (u, e, m)) = absurd (not_beyond ps depth closing input t u rest h e)
+open_choice_made ps depth made closing input t rest o (inr (u, e, n, next, other, h)) (inl m) = absurd (none_beyond Der ps depth 0 t u e (owed_meets (choice ps) depth t m))
+open_choice_made ps depth made closing input t rest o (inr (u, e, n, next, other, (text, f, whole, g))) (inr m) = (text, inr (e ∙ ap (chosen (count ps)) f), g)
+
 in_list_made : (tag : Tag) (s : Shape) (size : Option (Bound ℕ)) (depth : ℕ) → IsMade s (depth - 2) → IsMade (list tag s size) depth
 unfolding Reads parts_of Bytes fields_of Owes
 in_list_made tag s size depth made closing input t rest o (deep, h) (deep', us, f, m) =
@@ -307,6 +315,7 @@ mutual
   not_untagged (any (Some tag)) lawful solid has t h = h
   not_untagged (prefix tag s) lawful solid has t h = h
   not_untagged (choice ps) lawful solid has t h = none_untagged ps lawful.0 0 t h
+  not_untagged (open_choice ps) lawful solid has t h = has
   not_untagged (option tag s) lawful solid has t h = solid
   not_untagged (seq tag ps) lawful solid has t h = h
   not_untagged (set tag ps) lawful solid has t h = h
@@ -329,6 +338,7 @@ mutual
   all_made (any (Some tag)) lawful depth = open_made tag depth
   all_made (prefix tag s) lawful depth = prefix_made tag s depth (all_made s lawful.2 (depth - 1))
   all_made (choice ps) lawful depth = λ closing input t rest o h m. choice_made ps depth (each_made ps (alternatives_good ps lawful.0) depth) 0 closing input t rest o h m
+  all_made (open_choice ps) lawful depth = open_choice_made ps depth (each_made ps (alternatives_good ps lawful.0) depth)
   all_made (option tag s) lawful depth =
       option_made tag s depth (record { made = all_made s lawful.2 depth; there = there s lawful.1 lawful.2 depth; not_untagged = λ has t. not_untagged s lawful.2 lawful.1 has t })
   all_made (seq tag ps) lawful depth = in_seq_made tag ps depth (each_made_in_order ps (in_order_good ps lawful.1) (depth - 1))

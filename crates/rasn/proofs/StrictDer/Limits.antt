@@ -1,14 +1,14 @@
 -- What a tree that DER reads needs to be written: it is within the depth, and a default is the same as the value that it replaces.
 use Rattle.std.proofs.Common.{◌≡◌, ℕ, suc, ◌-◌, ◌<◌, ◌⊎◌, ◌≢◌, inl, inr, List, [], ◌∷◌, refl, sym, ap, ◌∙◌, subst, arith, Some, None}
 use Rattle.rasn_types.specs.declared.types.codec.Codec.TheVariants.{Der}
-use Rattle.rasn_types.specs.Shapes.{Tree, numbers, joined, items, set_elements, chosen, absent, Shape, leaf, any, prefix, choice, option, seq, set, list, set_of, unknown, Parts, part, Presence, required, optional, addition, optional_by, default_by}
+use Rattle.rasn_types.specs.Shapes.{Tree, numbers, joined, items, set_elements, chosen, absent, Shape, leaf, any, prefix, choice, open_choice, option, seq, set, list, set_of, unknown, Parts, part, count, IsFirstOf, Presence, required, optional, addition, optional_by, default_by}
 use Rattle.rasn_types.specs.Shapes.Parts.{none}
 use Rattle.rasn_types.specs.Grammar.{family}
 use Rattle.rasn_types.specs.Bytes.{Same, Each, WritesPart, PartsWritten, WritesChoice, Bytes, fields_of}
-use Rattle.rasn_types.specs.Carried.{PartIsWithinLimits, EachOf, LeafIsWithinLimits, IsOneEncoding, IsUnwritten, BeginsUnknown, NoneTaken, IsWithinLimits, AreWithinLimits, ChosenIsWithinLimits}
+use Rattle.rasn_types.specs.Carried.{PartIsWithinLimits, EachOf, LeafIsWithinLimits, IsOneEncoding, IsUnwritten, BeginsUnknown, NoneTaken, IsWithinLimits, AreWithinLimits, ChosenIsWithinLimits, IsUnknownValue}
 use Rattle.rasn_types.proofs.SetOf.Same.{items_one, same_sym, same_trans, each_moved}
-use Rattle.rasn_types.proofs.Encoding.SameOctets.{in_flat, flat_one, other_written}
-use Rattle.rasn.proofs.ReadBack.Parts.{other_index}
+use Rattle.rasn_types.proofs.Encoding.SameOctets.{in_flat, flat_one, other_written, written_below}
+use Rattle.rasn.proofs.ReadBack.Parts.{other_index, none_beyond}
 use Rattle.rasn.specs.Laws.{IsOwnDefault, HasOwnDefaults, HaveOwnDefaults}
 
 abbrev pub PartOwes : Presence → (Tree → Type 0) → Tree → Type 0
@@ -23,6 +23,7 @@ unfoldable mutual
   Owes (any tag) depth t = IsOneEncoding t
   Owes (prefix tag s) depth t = (0 < depth) × Owes s (depth - 1) t
   Owes (choice ps) depth t = OwesChoice 0 ps depth t
+  Owes (open_choice ps) depth t = OwesChoice 0 ps depth t ⊎ ((u : Tree) × (t ≡ chosen (count ps) u) × IsUnknownValue Der (IsFirstOf ps) u)
   Owes (option tag s) depth t = (t ≡ absent) ⊎ Owes s depth t
   Owes (seq tag ps) depth t = (0 < depth) × (ts : List Tree) × (t ≡ items ts) × OwesParts ps (depth - 1) ts × NoneTaken Der ps ts
   Owes (set tag ps) depth t = (0 < depth) × (ts : List Tree) × (t ≡ items ts) × OwesParts ps (depth - 1) ts
@@ -67,6 +68,8 @@ mutual
   owed_meets (any tag) depth t h = h
   owed_meets (prefix tag s) depth t h = (h.0, owed_meets s (depth - 1) t h.1)
   owed_meets (choice ps) depth t h = choice_meets ps depth 0 t h
+  owed_meets (open_choice ps) depth t (inl h) = inl (choice_meets ps depth 0 t h)
+  owed_meets (open_choice ps) depth t (inr h) = inr h
   owed_meets (option tag s) depth t (inl e) = inl e
   owed_meets (option tag s) depth t (inr h) = inr (owed_meets s depth t h)
   owed_meets (seq tag ps) depth t h = (h.0, h.1, h.2, parts_meet ps (depth - 1) h.1 h.3, h.4)
@@ -102,6 +105,8 @@ mutual
   meets_owed (any tag) own depth t h = h
   meets_owed (prefix tag s) own depth t h = (h.0, meets_owed s own (depth - 1) t h.1)
   meets_owed (choice ps) own depth t h = choice_owes ps own depth 0 t h
+  meets_owed (open_choice ps) own depth t (inl h) = inl (choice_owes ps own depth 0 t h)
+  meets_owed (open_choice ps) own depth t (inr h) = inr h
   meets_owed (option tag s) own depth t (inl e) = inl e
   meets_owed (option tag s) own depth t (inr h) = inr (meets_owed s own depth t h)
   meets_owed (seq tag ps) own depth t h = (h.0, h.1, h.2, parts_owe ps own (depth - 1) h.1 h.3, h.4)
@@ -197,6 +202,17 @@ mutual
   owes_like (any (Some tag)) depth t u b same w m = subst IsOneEncoding (w.1 ∙ sym (subst (λ z. Same z u) w.1 same)) m
   owes_like (prefix tag s) depth t u b same w m = (m.0, owes_like s (depth - 1) t u w.0 same w.1 m.1)
   owes_like (choice ps) depth t u b same w m = choice_like ps depth 0 t u b same w m
+  owes_like (open_choice ps) depth t u b same (inl w) (inl m) = inl (choice_like ps depth 0 t u b same w m)
+  owes_like (open_choice ps) depth t u b same (inl w) (inr (v, e, m)) =
+      let r = written_below Der ps 0 t b w in
+      let f = r.2 in
+      let g : r.0 ≡ count ps = cc in
+      absurd (omega (arith, r.3, g))
+  owes_like (open_choice ps) depth t u b same (inr e) (inl m) = absurd (none_beyond Der ps depth 0 t (numbers b) e m)
+  owes_like (open_choice ps) depth t u b same (inr e) (inr (v, f, m)) =
+      let r : Same (chosen (count ps) (numbers b)) u = subst (λ z. Same z u) e same in
+      let g : v ≡ numbers b = cc in
+      inr (r.0, r.1, subst (IsUnknownValue Der (IsFirstOf ps)) (g ∙ sym r.2) m)
   owes_like (option tag s) depth t u b same w m = part_like optional s depth (owes_like s depth) t u b same w m
   owes_like (seq tag ps) depth t u b same (ts, bs, e, w, c) (deep, us, f, m, taken) =
       let r = items_alike ts u (subst (λ z. Same z u) e same) in (

@@ -1,10 +1,10 @@
 -- What DER reads of a carried tree is what is written of it.
-use Rattle.std.proofs.Common.{◌≡◌, ℕ, suc, ◌-◌, ◌≢◌, inl, inr, List, [], ◌∷◌, ◌++◌, Bool, true, false, Option, Some, None, refl, sym, ap, ◌∙◌, subst, append-nil}
+use Rattle.std.proofs.Common.{◌≡◌, ℕ, suc, ◌-◌, ◌≢◌, inl, inr, List, [], ◌∷◌, ◌++◌, Bool, true, false, Option, Some, None, refl, sym, ap, ◌∙◌, subst, arith, append-nil}
 use Rattle.rasn_types.specs.Tags.{loose_form}
 use Rattle.rasn_types.specs.declared.types.codec.Codec.TheVariants.{Der}
 use Rattle.rasn_types.specs.declared.types.tag.Tag.{Tag}
 use Rattle.rasn_types.specs.Framing.{AreOctets, Frame, definite}
-use Rattle.rasn_types.specs.Shapes.{Tree, items, set_elements, absent, Kind, boolean, null, object_identifier, integer, enumerated, octet_string, fixed, numeric, printable, visible, ia5, any_octets, bmp, utf8, utc_time, generalized_time, date, Shape, leaf, any, prefix, choice, option, seq, set, list, set_of, unknown, Parts, part, IsAlwaysPresent}
+use Rattle.rasn_types.specs.Shapes.{Tree, items, set_elements, absent, Kind, boolean, null, object_identifier, integer, enumerated, octet_string, fixed, numeric, printable, visible, ia5, any_octets, bmp, utf8, utc_time, generalized_time, date, Shape, leaf, any, prefix, choice, open_choice, option, seq, set, list, set_of, unknown, Parts, part, count, IsAlwaysPresent}
 use Rattle.rasn_types.specs.declared.types.constraints.Bound.{Bound}
 use Rattle.rasn_types.specs.Shapes.Parts.{none}
 use Rattle.rasn_types.specs.Readings.{ReadsContents, definite_form, indefinite_form, Reading, ReadsChoice}
@@ -18,8 +18,9 @@ use Rattle.rasn_types.proofs.SetOf.Same.{items_one}
 use Rattle.rasn_types.proofs.Encoding.Determined.{definite_one, numbers_one}
 use Rattle.rasn.proofs.ReadBack.Shapes.{EachGood, alternatives_good, EachGoodInOrder, in_order_good, by_tag_good}
 use Rattle.rasn.proofs.StrictDer.Leaves.{framed, no_open, leaf_told}
-use Rattle.rasn.proofs.StrictDer.Parts.{IsTold, IsNeverAbsent, Told, EachTold, in_order_told, all_missing_told, choice_decided, many_told}
+use Rattle.rasn.proofs.StrictDer.Parts.{IsTold, IsNeverAbsent, Told, EachTold, in_order_told, all_missing_told, not_beyond, choice_decided, many_told}
 use Rattle.rasn.proofs.StrictDer.Set.{set_told}
+use Rattle.rasn_types.proofs.Encoding.SameOctets.{written_below}
 
 -- Contents in a value that is written round them.
 enclosed : {X : Type 0} (tag : Tag) (bit : Bool) → bit ≡ true → (inner : Bool → Reading X) (input : List ℕ) (x : X) (rest c b : List ℕ) → AreOctets input → DefiniteForm tag true c b
@@ -57,6 +58,20 @@ option_decided tag s depth k closing input t rest b o (inl (p, q, r)) (inr (e, w
 option_decided tag s depth k closing input t rest b o (inr (p, h)) (inl (e, f)) m = absurd (k.there closing input t rest h e)
 option_decided tag s depth k closing input t rest b o (inr (p, h)) (inr (e, w)) (inl m) = absurd (e m)
 option_decided tag s depth k closing input t rest b o (inr (p, h)) (inr (e, w)) (inr m) = k.told closing input t rest b o h w m
+
+open_choice_told : (ps : Parts) (depth : ℕ) → EachTold depth ps → IsTold (open_choice ps) depth
+unfolding Reads parts_of Bytes fields_of IsWithinLimits
+open_choice_told ps depth told closing input t rest b o (inl h) (inl w) (inl m) = choice_decided ps depth told 0 closing input t rest b o h w m
+open_choice_told ps depth told closing input t rest b o (inl h) w (inr (u, e, m)) = absurd (not_beyond ps depth closing input t u rest h e)
+open_choice_told ps depth told closing input t rest b o (inl h) (inr e) (inl m) = absurd (not_beyond ps depth closing input t _ rest h e)
+open_choice_told ps depth told closing input t rest b o (inr (u, e, n, next, other, h)) (inl w) m =
+    let r = written_below Der ps 0 t b w in
+    let f = r.2 in
+    let g : r.0 ≡ count ps = cc in
+    absurd (omega (arith, r.3, g))
+open_choice_told ps depth told closing input t rest b o (inr (u, e, n, next, other, (text, f, whole, g))) (inr i) m =
+    let k : text ≡ b = cc in
+    g ∙ ap (λ l. l ++ rest) k
 
 in_seq_told : (tag : Tag) (ps : Parts) (depth : ℕ) → EachTold (depth - 1) ps → IsTold (seq tag ps) depth
 unfolding Reads parts_of Bytes fields_of IsWithinLimits
@@ -158,6 +173,8 @@ there (any (Some tag)) solid lawful depth closing input t rest h = λ e. let f =
 there (prefix tag s) solid lawful depth closing input t rest h =
     within (λ x. x ≢ absent) tag h.1 (λ c. Reads Der s (depth - 1) c) input t rest (λ c i r k. there s lawful.1 lawful.2 (depth - 1) c i t r k) h.3
 there (choice ps) solid lawful depth closing input t rest h = choice_there ps depth 0 closing input t rest h
+there (open_choice ps) solid lawful depth closing input t rest (inl h) = choice_there ps depth 0 closing input t rest h
+there (open_choice ps) solid lawful depth closing input t rest (inr h) = λ e. let f = h.1 in cc
 there (option tag s) solid lawful depth closing input t rest h = absurd solid
 there (seq tag ps) solid lawful depth closing input t rest h = within (λ x. x ≢ absent) tag true _ input t rest (λ c i r k. items_there k.0 t k.1) h.1
 there (set tag ps) solid lawful depth closing input t rest h = within (λ x. x ≢ absent) tag true _ input t rest (λ c i r k. items_there k.1 t k.2) h.1
@@ -187,6 +204,7 @@ mutual
   all_told (any (Some tag)) lawful depth = open_told tag depth
   all_told (prefix tag s) lawful depth = prefix_told tag s depth (all_told s lawful.2 (depth - 1))
   all_told (choice ps) lawful depth = λ closing input t rest b o h w m. choice_decided ps depth (each_told ps (alternatives_good ps lawful.0) depth) 0 closing input t rest b o h w m
+  all_told (open_choice ps) lawful depth = open_choice_told ps depth (each_told ps (alternatives_good ps lawful.0) depth)
   all_told (option tag s) lawful depth = option_decided tag s depth (record { told = all_told s lawful.2 depth; there = there s lawful.1 lawful.2 depth })
   all_told (seq tag ps) lawful depth = in_seq_told tag ps depth (each_told_in_order ps (in_order_good ps lawful.1) (depth - 1))
   all_told (set tag ps) lawful depth = in_set_told tag ps depth lawful.1 (each_told ps (by_tag_good ps lawful.1) (depth - 1))

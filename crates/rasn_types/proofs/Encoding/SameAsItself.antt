@@ -2,7 +2,7 @@
 use Rattle.std.proofs.Common.{◌≡◌, ℕ, suc, inl, inr, List, [], ◌∷◌, refl, sym, subst, Some, None}
 use Rattle.std.proofs.lemmas.List.Sorted.{IsPermutation-refl}
 use Rattle.rasn_types.specs.Tags.{Codec}
-use Rattle.rasn_types.specs.Shapes.{Tree, numbers, items, absent, Shape, leaf, any, prefix, choice, option, seq, set, list, set_of, unknown, Parts, part, Presence, required, addition, optional_by, default_by}
+use Rattle.rasn_types.specs.Shapes.{Tree, numbers, items, absent, Shape, leaf, any, prefix, choice, open_choice, option, seq, set, list, set_of, unknown, Parts, part, Presence, required, addition, optional_by, default_by}
 use Rattle.rasn_types.specs.Grammar.{family}
 use Rattle.rasn_types.specs.Bytes.{Writing, Same, Each, WritesPart, PartsWritten, WritesChoice, Bytes, fields_of}
 use Rattle.rasn_types.proofs.SetOf.Same.{same_sym, same_trans}
@@ -41,6 +41,8 @@ mutual
   written_same (any (Some tag)) rule t b h = subst (λ z. Same z z) (sym h.1) refl
   written_same (prefix tag s) rule t b h = written_same s rule t h.0 h.1
   written_same (choice ps) rule t b h = choice_same ps rule 0 t b h
+  written_same (open_choice ps) rule t b (inl h) = choice_same ps rule 0 t b h
+  written_same (open_choice ps) rule t b (inr h) = subst (λ z. Same z z) (sym h) (numbers b, refl, refl)
   written_same (option tag s) rule t b (inl h) = absent_same t h.0
   written_same (option tag s) rule t b (inr h) = written_same s rule t b h.1
   written_same (seq tag ps) rule t b (ts, bs, e, w, c) = subst (λ z. Same z z) (sym e) (items_same ts (parts_same ps rule ts bs w))

@@ -1,8 +1,8 @@
 -- Trees that are the same have the same octets.
-use Rattle.std.proofs.Common.{◌≡◌, ℕ, suc, ◌<◌, ◌⊎◌, ◌≢◌, inl, inr, List, [], ◌∷◌, refl, sym, ap, ap₂, ◌∙◌, subst, arith, IsPermutation, Some, None}
+use Rattle.std.proofs.Common.{◌≡◌, ℕ, suc, ◌<◌, ◌⊎◌, ◌≢◌, inl, inr, List, [], ◌∷◌, ◌++◌, ◌+◌, refl, sym, ap, ap₂, ◌∙◌, subst, arith, IsPermutation, Some, None}
 use Rattle.std.proofs.lemmas.List.Sorted.{IsPermutation-sym}
 use Rattle.rasn_types.specs.Tags.{Codec, Der, Tag}
-use Rattle.rasn_types.specs.Shapes.{Tree, number, bits, numbers, instant, on_day, items, set_elements, chosen, absent, Kind, boolean, null, object_identifier, integer, enumerated, octet_string, fixed, numeric, printable, visible, ia5, any_octets, bmp, utf8, utc_time, generalized_time, date, Shape, leaf, any, prefix, choice, option, seq, set, list, set_of, unknown, Parts, part, Presence, required, optional, addition, optional_by, default_by}
+use Rattle.rasn_types.specs.Shapes.{Tree, number, bits, numbers, instant, on_day, items, set_elements, chosen, absent, Kind, boolean, null, object_identifier, integer, enumerated, octet_string, fixed, numeric, printable, visible, ia5, any_octets, bmp, utf8, utc_time, generalized_time, date, Shape, leaf, any, prefix, choice, open_choice, option, seq, set, list, set_of, unknown, Parts, part, count, Presence, required, optional, addition, optional_by, default_by}
 use Rattle.rasn_types.specs.Contents.{Contents, joined_lists}
 use Rattle.rasn_types.specs.Grammar.{Family, plain_family, bit_family, named_family, text_family, family}
 use Rattle.rasn_types.specs.Bytes.{Same, Each, ConstructedEncoding, WritesIn, WritesText, WritesPart, PartsWritten, WritesChoice, AreAscending, IsLess, Bytes, fields_of}
@@ -172,6 +172,31 @@ kept_once : (ts us : List Tree) (ls bs : List (List ℕ)) → Each Same ts us �
 unfolding Bytes
 kept_once ts us ls bs same w x = elements_once Der (any None) (λ t u a b same h k. let g : u ≡ numbers a = subst (λ z. Same z u) h same in numbers_one a b (sym g ∙ k)) ts us ls bs same w x
 
+-- The alternative that is written is one of the parts.
+pub written_below : (rule : Codec) (ps : Parts) (k : ℕ) (t : Tree) (b : List ℕ) → WritesChoice k (fields_of rule ps) t b → (j : ℕ) × (u : Tree) × (t ≡ chosen j u) × (j < k + count ps)
+unfolding Bytes fields_of
+written_below rule Parts.none k t b h = absurd h
+written_below rule (part presence s ps) k t b (inl (u, e, w)) = (k, u, e, omega arith)
+written_below rule (part presence s ps) k t b (inr h) = let r = written_below rule ps (suc k) t b h in (r.0, r.1, r.2, omega (arith, r.3))
+
+not_both : (rule : Codec) (ps : Parts) (t u : Tree) (a b : List ℕ) → Same t u → WritesChoice 0 (fields_of rule ps) t a → u ≡ chosen (count ps) (numbers b) → ⊥
+not_both rule ps t u a b same h i =
+    let r = written_below rule ps 0 t a h in
+    let s : Same (chosen r.0 r.1) u = subst (λ z. Same z u) r.2 same in
+    let f = s.1 in
+    let e : r.0 ≡ count ps = cc in
+    omega (arith, r.3, e)
+
+open_choice_once : (rule : Codec) (ps : Parts) → EachOnce rule ps → (t u : Tree) (a b : List ℕ) → Same t u
+    → WritesChoice 0 (fields_of rule ps) t a ⊎ (t ≡ chosen (count ps) (numbers a)) → WritesChoice 0 (fields_of rule ps) u b ⊎ (u ≡ chosen (count ps) (numbers b)) → a ≡ b
+open_choice_once rule ps once t u a b same (inl h) (inl i) = choice_once rule ps once 0 t u a b same h i
+open_choice_once rule ps once t u a b same (inl h) (inr i) = absurd (not_both rule ps t u a b same h i)
+open_choice_once rule ps once t u a b same (inr h) (inl i) = absurd (not_both rule ps u t b a (same_sym t u same) i h)
+open_choice_once rule ps once t u a b same (inr h) (inr i) = go (subst (λ z. Same z u) h same)
+  where
+    go : Same (chosen (count ps) (numbers a)) u → a ≡ b
+    go (v, e, s) = let f : v ≡ numbers b = cc in numbers_one a b (sym s ∙ f)
+
 mutual
   unfolding Bytes fields_of
 
@@ -182,6 +207,7 @@ mutual
   once (any None) rule t u a b same h k = let g : u ≡ numbers a = subst (λ z. Same z u) h same in numbers_one a b (sym g ∙ k)
   once (prefix tag s) rule t u a b same (c, h, i) (d, k, l) = cons_one rule tag c d a b i l (once s rule t u c d same h k)
   once (choice ps) rule t u a b same h k = choice_once rule ps (each_is_once ps rule) 0 t u a b same h k
+  once (open_choice ps) rule t u a b same h k = open_choice_once rule ps (each_is_once ps rule) t u a b same h k
   once (option tag s) rule t u a b same h k = part_once rule s (once s rule) optional t u a b same h k
   once (seq tag ps) rule t u a b same (ts, ls, e, w, c) (us, bs, f, x, d) =
       cons_one rule tag (joined_lists ls) (joined_lists bs) a b c d (ap joined_lists (parts_once rule ps (each_is_once ps rule) ts us ls bs (same_lists t u ts us e f same) w x))
