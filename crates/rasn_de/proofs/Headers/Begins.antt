@@ -6,7 +6,7 @@ use Rattle.rasn_types.specs.declared.types.codec.Codec.{Codec}
 use Rattle.rasn_types.specs.declared.types.codec.Codec.TheVariants.{Ber, Cer, Der}
 use Rattle.rasn_types.specs.Tags.{Form, IsStrict, in_universal}
 use Rattle.rasn_types.specs.Framing.{Extent, HasIndefinite, Frame, with_length, without_length, Begins, CompleteEncoding, plain, closed}
-use Rattle.rasn_types.specs.Shapes.{Tree, Kind, Shape, leaf, any, prefix, choice, option, seq, set, list, set_of, unknown, Parts, part}
+use Rattle.rasn_types.specs.Shapes.{Tree, Kind, Shape, leaf, any, prefix, choice, open_choice, option, seq, set, list, set_of, unknown, Parts, part}
 use Rattle.rasn_types.specs.Shapes.Parts.{none}
 use Rattle.rasn_types.specs.Readings.{Reading, ReadsContents, definite_form, indefinite_form, ReadsMany, ReadsChoice}
 use Rattle.rasn_types.specs.Contents.{ReadsString, ReadsBitSegment, OctetSegment}
@@ -80,6 +80,8 @@ mutual
   headed (any (Some tag)) depth closing input t rest b e n (bit, c, g, m, inr (body, without_length id s p h i, w, k)) = absurd h
   headed (prefix tag s) depth closing input t rest b e n (d, bit, m, r) = nested input b rest e tag bit _ t r
   headed (choice ps) depth closing input t rest b e n r = headed_choice ps 0 depth closing input t rest b e n r
+  headed (open_choice ps) depth closing input t rest b e n (inl r) = headed_choice ps 0 depth closing input t rest b e n r
+  headed (open_choice ps) depth closing input t rest b e n (inr (u, f, next, m, g, (text, h, w, i))) = headed_text text b rest w (sym i ∙ e)
   headed (option tag s) depth closing input t rest b e n (inl (a, f, g)) = absurd (n (empty_piece b rest (g ∙ e)))
   headed (option tag s) depth closing input t rest b e n (inr (a, r)) = headed s depth closing input t rest b e n r
   headed (seq tag ps) depth closing input t rest b e n (d, r) = nested input b rest e tag true _ t r

@@ -6,7 +6,7 @@ use Rattle.rasn_types.specs.declared.error.decode.DecodeErrorKind.{DecodeErrorKi
 use Rattle.rasn_types.specs.Tags.{form}
 use Rattle.rasn_types.specs.Framing.{NextTag}
 use Rattle.rasn_types.specs.Truth.{IsWhether}
-use Rattle.rasn_types.specs.Shapes.{Tree, chosen, Shape, leaf, any, prefix, choice, option, seq, set, list, set_of, unknown, Parts, part, Presence, required, own, IsFirst, IsFirstOf}
+use Rattle.rasn_types.specs.Shapes.{Tree, chosen, Shape, leaf, any, prefix, choice, open_choice, option, seq, set, list, set_of, unknown, Parts, part, Presence, required, own, IsFirst, IsFirstOf}
 use Rattle.rasn_types.specs.Shapes.Parts.{none}
 use Rattle.rasn_types.specs.Grammar.{Reads, parts_of}
 use Rattle.rasn_types.proofs.Headers.Frames.{next_one}
@@ -32,6 +32,7 @@ first_own (any None) t n e h = cc
 first_own (any (Some tag)) t n e h = h ∙ cc
 first_own (prefix tag s) t n e h = h ∙ cc
 first_own (choice parts) t n e h = cc
+first_own (open_choice parts) t n e h = cc
 first_own (option tag s) t n e h = first_own s t n e h
 first_own (seq tag parts) t n e h = h ∙ cc
 first_own (set tag parts) t n e h = h ∙ cc
@@ -45,6 +46,7 @@ own_first (any None) t e = cc
 own_first (any (Some tag)) t e = cc
 own_first (prefix tag s) t e = cc
 own_first (choice parts) t e = cc
+own_first (open_choice parts) t e = cc
 own_first (option tag s) t e = own_first s t e
 own_first (seq tag parts) t e = cc
 own_first (set tag parts) t e = cc

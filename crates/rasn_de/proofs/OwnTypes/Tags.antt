@@ -5,7 +5,7 @@ use lib.Dec.{eqb}
 use Rattle.rasn_types.specs.contracts.types.tag.Class.{the_type as the_class}
 use Rattle.rasn_types.specs.declared.types.tag.Tag.{Tag}
 use Rattle.rasn_types.specs.Truth.{IsWhether}
-use Rattle.rasn_types.specs.Shapes.{Shape, leaf, any, prefix, choice, option, seq, set, list, set_of, unknown, Parts, part, Presence, IsTagOf, IsFirst, IsFirstOf}
+use Rattle.rasn_types.specs.Shapes.{Shape, leaf, any, prefix, choice, open_choice, option, seq, set, list, set_of, unknown, Parts, part, Presence, IsTagOf, IsFirst, IsFirstOf}
 use Rattle.rasn_types.specs.Shapes.Parts.{none}
 use Rattle.rasn_types.proofs.Time.Spellings.{both_true}
 use Rattle.rasn_de.specs.Headers.{same_tag}
@@ -23,6 +23,7 @@ abbrev mutual
   begins (any tag) n = has_tag tag n
   begins (prefix tag s) n = same_tag n tag
   begins (choice parts) n = some_begins parts n
+  begins (open_choice parts) n = true
   begins (option tag s) n = begins s n
   begins (seq tag parts) n = same_tag n tag
   begins (set tag parts) n = same_tag n tag
@@ -59,6 +60,7 @@ mutual
   begins_is (any tag) n e = has_tag_is tag n e
   begins_is (prefix tag s) n e = same_tag_is n tag e
   begins_is (choice parts) n e = some_begins_is parts n e
+  begins_is (open_choice parts) n e = tt
   begins_is (option tag s) n e = begins_is s n e
   begins_is (seq tag parts) n e = same_tag_is n tag e
   begins_is (set tag parts) n e = same_tag_is n tag e
@@ -76,6 +78,7 @@ mutual
   first_begins (any tag) n e = has_tag_itself tag n e
   first_begins (prefix tag s) n e = same_tag_self n tag e
   first_begins (choice parts) n e = first_of_begins parts n e
+  first_begins (open_choice parts) n e = refl
   first_begins (option tag s) n e = first_begins s n e
   first_begins (seq tag parts) n e = same_tag_self n tag e
   first_begins (set tag parts) n e = same_tag_self n tag e
