@@ -6,7 +6,7 @@ use Rattle.rasn_types.specs.declared.types.codec.Codec.{Codec}
 use Rattle.rasn_types.specs.declared.types.tag.Tag.{Tag}
 use Rattle.rasn_types.specs.declared.error.encode.EncodeError.{EncodeError}
 use Rattle.rasn_types.specs.Errors.{IsEncodeOutOfMemory}
-use Rattle.rasn_types.specs.Shapes.{Tree, Shape, leaf, any, prefix, choice, option, seq, set, list, set_of, unknown}
+use Rattle.rasn_types.specs.Shapes.{Tree, Shape, leaf, any, prefix, choice, open_choice, option, seq, set, list, set_of, unknown}
 use Rattle.rasn_types.specs.Contents.{joined_lists}
 use Rattle.rasn_types.specs.Bytes.{Bytes, IsUntaggedOpen, ConstructedEncoding}
 use Rattle.rasn_enc.specs.View.{View, IsBelow, opened}
@@ -22,6 +22,7 @@ module _ (rule : Codec) (t : Tree) (u : Tag) (keeps : Bool) where
   bytes_of (any tag) i c o w d = absurd i
   bytes_of (prefix tag s) (e, k) c o w d = (c, w, subst (λ z. ConstructedEncoding rule z c o) e d)
   bytes_of (choice ps) i c o w d = absurd i
+  bytes_of (open_choice ps) i c o w d = absurd i
   bytes_of (option tag s) i c o w d = absurd i
   bytes_of (seq tag ps) (e, k) c o (ts, bs, f, p, j) d = (ts, bs, f, p, subst (λ z. ConstructedEncoding rule z (joined_lists bs) o) e (subst (λ z. ConstructedEncoding rule u z o) j d))
   bytes_of (set tag ps) (e, k) c o (ts, bs, tags, f, p, n, h, a, j) d = (ts, bs, tags, f, p, n, h, a, subst (λ z. ConstructedEncoding rule z (joined_lists bs) o) e (subst (λ z. ConstructedEncoding rule u z o) j d))
@@ -35,6 +36,7 @@ module _ (rule : Codec) (t : Tree) (u : Tag) (keeps : Bool) where
   inside_of (any tag) i o b = absurd i
   inside_of (prefix tag s) i o (c, w, d) = (c, w)
   inside_of (choice ps) i o b = absurd i
+  inside_of (open_choice ps) i o b = absurd i
   inside_of (option tag s) i o b = absurd i
   inside_of (seq tag ps) i o (ts, bs, f, p, d) = (joined_lists bs, (ts, bs, f, p, refl))
   inside_of (set tag ps) i o (ts, bs, tags, f, p, n, h, a, d) = (joined_lists bs, (ts, bs, tags, f, p, n, h, a, refl))
@@ -48,6 +50,7 @@ module _ (rule : Codec) (t : Tree) (u : Tag) (keeps : Bool) where
   not_untagged (any tag) i b = i
   not_untagged (prefix tag s) i b = b
   not_untagged (choice ps) i b = i
+  not_untagged (open_choice ps) i b = i
   not_untagged (option tag s) i b = i
   not_untagged (seq tag ps) i b = b
   not_untagged (set tag ps) i b = b

@@ -3,7 +3,7 @@ use Rattle.std.proofs.Common.{◌≡◌, ◌≢◌, ℕ, ◌-◌, ◌⊎◌, inl
 use Rattle.rasn_types.specs.declared.types.tag.Tag.{Tag}
 use Rattle.rasn_types.specs.declared.error.decode.DecodeError.{DecodeError}
 use Rattle.rasn_types.specs.Framing.{AreOctets}
-use Rattle.rasn_types.specs.Shapes.{Tree, Shape, leaf, any, prefix, choice, option, seq, set, list, set_of, unknown, Parts}
+use Rattle.rasn_types.specs.Shapes.{Tree, Shape, leaf, any, prefix, choice, open_choice, option, seq, set, list, set_of, unknown, Parts}
 use Rattle.rasn_types.specs.Readings.{Reading}
 use Rattle.rasn_types.specs.Grammar.{Reads}
 use Rattle.rasn_de.specs.Headers.{Header}
@@ -55,6 +55,7 @@ module _ (old : State) (o : old.depth ≢ 0 → AreOctets old.rest) (r : Result 
   inside_decodes (any tag) d h k = absurd h
   inside_decodes (prefix tag s) d h k = as_prefix tag s (subst (Call (prefix tag s)) h k)
   inside_decodes (choice ps) d h k = absurd h
+  inside_decodes (open_choice ps) d h k = absurd h
   inside_decodes (option tag s) d h k = absurd h
   inside_decodes (seq tag ps) d h k = as_seq tag ps (subst (Call (seq tag ps)) h k)
   inside_decodes (set tag ps) d h k = as_set tag ps (subst (Call (set tag ps)) h k)

@@ -8,7 +8,7 @@ use Rattle.rasn_types.specs.declared.types.codec.Codec.TheVariants.{Ber}
 use Rattle.rasn_types.specs.declared.types.tag.Tag.{Tag}
 use Rattle.rasn_types.specs.Tags.{Form, form}
 use Rattle.rasn_types.specs.Framing.{AreOctets, Ended, Frame, NextTag}
-use Rattle.rasn_types.specs.Shapes.{Shape, Tree, items, numbers, leaf, any, prefix, choice, option, seq, set, list, set_of, unknown, Parts, part, Presence, required, IsFirst, one_tag, any_of, sought_by, IsAlwaysPresent}
+use Rattle.rasn_types.specs.Shapes.{Shape, Tree, items, numbers, leaf, any, prefix, choice, open_choice, option, seq, set, list, set_of, unknown, Parts, part, Presence, required, IsFirst, one_tag, any_of, sought_by, IsAlwaysPresent}
 use Rattle.rasn_types.specs.Shapes.Parts.{none}
 use Rattle.rasn_types.specs.Readings.{IsLeftOut, ReadsMany}
 use Rattle.rasn_types.specs.Grammar.{Reads, ReadsAny}
@@ -211,6 +211,7 @@ not_absent (any None) solid rule depth c input t rest r other closing l = not_at
 not_absent (any (Some tag)) solid rule depth c input t rest r other closing l = other_tag (form rule) other tag closing input (begins (any (Some tag)) solid tt rule depth c input t rest r) l
 not_absent (prefix tag s) solid rule depth c input t rest r other closing l = other_tag (form rule) other tag closing input (begins (prefix tag s) solid tt rule depth c input t rest r) l
 not_absent (choice ps) solid rule depth c input t rest r other closing l = no_first (form rule) other (IsFirst (choice ps)) closing input (begins (choice ps) solid tt rule depth c input t rest r) l
+not_absent (open_choice ps) solid rule depth c input t rest r other closing l = not_at_end (open_choice ps) solid rule depth c closing input t rest r l
 not_absent (option tag s) solid rule depth c input t rest r other closing l = absurd solid
 not_absent (seq tag ps) solid rule depth c input t rest r other closing l = other_tag (form rule) other tag closing input (begins (seq tag ps) solid tt rule depth c input t rest r) l
 not_absent (set tag ps) solid rule depth c input t rest r other closing l = other_tag (form rule) other tag closing input (begins (set tag ps) solid tt rule depth c input t rest r) l

@@ -1,7 +1,7 @@
 -- The contents of a value that holds others, and its header. Lists and sets of elements are in Typed.antt, since their size is asked after their end.
 use Rattle.std.specs.Prelude.{◌≡◌, ℕ, Bool}
 use Rattle.rasn_types.specs.declared.types.codec.Codec.{Codec}
-use Rattle.rasn_types.specs.Shapes.{Tree, Shape, leaf, any, prefix, choice, option, seq, set, list, set_of, unknown, presences, Parts, Presence, sought_in}
+use Rattle.rasn_types.specs.Shapes.{Tree, Shape, leaf, any, prefix, choice, open_choice, option, seq, set, list, set_of, unknown, presences, Parts, Presence, sought_in}
 use Rattle.rasn_types.specs.Readings.{Reading, ReadsPart, ReadsSeq, ReadsChoice, ReadsSet}
 use Rattle.rasn_types.specs.Grammar.{Reads, parts_of}
 use Rattle.rasn_de.specs.State.{Call}
@@ -14,6 +14,7 @@ ReadsInside (leaf kind tag bounds) rule depth closing = λ input t rest. ⊥
 ReadsInside (any tag) rule depth closing = λ input t rest. ⊥
 ReadsInside (prefix tag s) rule depth closing = Reads rule s depth closing
 ReadsInside (choice ps) rule depth closing = λ input t rest. ⊥
+ReadsInside (open_choice ps) rule depth closing = λ input t rest. ⊥
 ReadsInside (option tag s) rule depth closing = λ input t rest. ⊥
 ReadsInside (seq tag ps) rule depth closing = ReadsSeq rule (parts_of rule ps depth closing) closing
 ReadsInside (set tag ps) rule depth closing = ReadsSet rule (presences ps) (ReadsChoice rule 0 (parts_of rule ps depth closing)) closing
@@ -26,6 +27,7 @@ IsHeaderOf (leaf kind tag bounds) d = ⊥
 IsHeaderOf (any tag) d = ⊥
 IsHeaderOf (prefix tag s) d = d ≡ prefix_header tag
 IsHeaderOf (choice ps) d = ⊥
+IsHeaderOf (open_choice ps) d = ⊥
 IsHeaderOf (option tag s) d = ⊥
 IsHeaderOf (seq tag ps) d = d ≡ sequence_header tag
 IsHeaderOf (set tag ps) d = d ≡ sequence_header tag

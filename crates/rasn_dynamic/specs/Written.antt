@@ -6,7 +6,7 @@ use Rattle.rasn_types.specs.declared.error.encode.EncodeError.{EncodeError}
 use Rattle.rasn_types.specs.Errors.{IsEncodeOutOfMemory}
 use Rattle.rasn_types.specs.Tags.{IsTagBelow}
 use Rattle.rasn_types.specs.Contents.{joined_lists}
-use Rattle.rasn_types.specs.Shapes.{Tree, items, set_elements, Presence, required, Shape, leaf, any, prefix, choice, option, seq, set, list, set_of, unknown, Parts, Admits}
+use Rattle.rasn_types.specs.Shapes.{Tree, items, set_elements, Presence, required, Shape, leaf, any, prefix, choice, open_choice, option, seq, set, list, set_of, unknown, Parts, Admits}
 use Rattle.rasn_types.specs.Bytes.{Bytes, fields_of, PartsWritten, NoneUntaggedOpen, TagsOf, Each, AreAscending, IsLess}
 use Rattle.rasn_enc.specs.View.{View, LeavesOthers}
 use Rattle.rasn_enc.specs.Encoding.{AppendsPart, EncodePartFails}
@@ -18,6 +18,7 @@ WritesInside rule (leaf kind tag bounds) t c = ⊥
 WritesInside rule (any tag) t c = ⊥
 WritesInside rule (prefix tag s) t c = Bytes rule s t c
 WritesInside rule (choice ps) t c = ⊥
+WritesInside rule (open_choice ps) t c = ⊥
 WritesInside rule (option tag s) t c = ⊥
 WritesInside rule (seq tag ps) t c = (ts : List Tree) × (bs : List (List ℕ)) × (t ≡ items ts) × PartsWritten (fields_of rule ps) ts bs × (c ≡ joined_lists bs)
 WritesInside rule (set tag ps) t c = (ts : List Tree) × (bs : List (List ℕ)) × (tags : List Tag) × (t ≡ items ts) × PartsWritten (fields_of rule ps) ts bs
@@ -33,6 +34,7 @@ IsEnclosed (leaf kind tag bounds) u keeps = ⊥
 IsEnclosed (any tag) u keeps = ⊥
 IsEnclosed (prefix tag s) u keeps = (u ≡ tag) × (keeps ≡ false)
 IsEnclosed (choice ps) u keeps = ⊥
+IsEnclosed (open_choice ps) u keeps = ⊥
 IsEnclosed (option tag s) u keeps = ⊥
 IsEnclosed (seq tag ps) u keeps = (u ≡ tag) × (keeps ≡ false)
 IsEnclosed (set tag ps) u keeps = (u ≡ tag) × (keeps ≡ true)
@@ -46,6 +48,7 @@ HoldsOthers (leaf kind tag bounds) = ⊥
 HoldsOthers (any tag) = ⊥
 HoldsOthers (prefix tag s) = Unit {0}
 HoldsOthers (choice ps) = ⊥
+HoldsOthers (open_choice ps) = ⊥
 HoldsOthers (option tag s) = ⊥
 HoldsOthers (seq tag ps) = Unit {0}
 HoldsOthers (set tag ps) = Unit {0}
