@@ -1,5 +1,5 @@
 -- Shapes of types and trees of values.
-use Rattle.std.specs.Prelude.{◌≡◌, ℕ, suc, ◌+◌, ◌≤◌, ◌⊎◌, List, [], ◌∷◌, Bool, true, ℤ, ◌≤ℤ◌, Option, Some, None, IfSome, if◌then◌else◌, IsPermutation}
+use Rattle.std.specs.Prelude.{◌≡◌, ℕ, suc, ◌+◌, ◌≤◌, ◌⊎◌, List, [], ◌∷◌, Bool, true, false, ℤ, ◌≤ℤ◌, Option, Some, None, IfSome, if◌then◌else◌, IsPermutation}
 use Rattle.rasn_types.specs.Calendar.{Day, Moment}
 use Rattle.rasn_types.specs.Tags.{Tag, is_eoc}
 use Rattle.rasn_types.specs.declared.types.constraints.Bounded.{Bounded}
@@ -144,6 +144,11 @@ own unknown = None
 abbrev pub IsTagOf : Option Tag → Tag → Type 0
 IsTagOf None n = Unit {0}
 IsTagOf (Some tag) n = n ≡ tag
+
+-- A CHOICE, with an extension marker or without one.
+abbrev pub choice_by : Bool → Parts → Shape
+choice_by true parts = open_choice parts
+choice_by false parts = choice parts
 
 -- The tags that values of the shape may begin with. Unknown values of a SEQUENCE have none of their own: what precedes
 -- them isn't told from them by a tag. An unknown alternative has any tag.
