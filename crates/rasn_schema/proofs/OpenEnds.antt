@@ -4,7 +4,7 @@ use Rattle.std.specs.Prelude.{if◌then◌else◌, slice_get}
 use Rattle.std.proofs.lemmas.Option.{slice_get_within}
 use Rattle.rasn_types.specs.declared.types.tag.Tag.{Tag}
 use Rattle.rasn_types.specs.Shapes.Parts.{none}
-use Rattle.rasn_types.specs.Shapes.{required, Shape, leaf, any, prefix, choice, open_choice, option, seq, set, list, set_of, unknown, Parts, part, own, own_tag, looked_for, IsFirst, IsFirstOf}
+use Rattle.rasn_types.specs.Shapes.{required, Shape, leaf, any, prefix, choice, open_choice, option, seq, set, list, set_of, unknown, Parts, part, count, own, own_tag, looked_for, IsFirst, IsFirstOf}
 use Rattle.rasn_types.specs.Lawful.{HasTag}
 use Rattle.rasn_types.specs.Truth.{IsWhether}
 use Rattle.rasn_schema.specs.declared.types.Alternative.{Alternative}
@@ -54,6 +54,13 @@ among_key ps = go (ends_open ps) refl
     go : (b : Bool) → ends_open ps ≡ b → IsWhether (not b) (IsByFirstTags (if b then open_choice (before_last ps) else choice ps))
     go true e = λ h. cc
     go false e = refl
+
+pub key_as : (ps qs : Parts) → ends_open ps ≡ ends_open qs → key_of (choice_among ps) ≡ key_of (choice_among qs)
+key_as ps qs e = rw e (go (ends_open qs))
+  where
+    go : (b : Bool) → key_of (if b then open_choice (before_last ps) else choice ps) ≡ key_of (if b then open_choice (before_last qs) else choice qs)
+    go true = refl
+    go false = refl
 
 -- ---- its first tags are those of all alternatives
 
@@ -105,6 +112,10 @@ module _ (f : ℕ → Shape) where
 
   pub end_is : (ks : List Alternative) (a : Alternative) → Some a ≡ slice_get ks (length ks - 1) → is_open (f a.type_id.0) ≡ ends_open (alternatives_by f ks)
   end_is ks a e = end_at ks (length ks - 1) a e (let l : length ks - 1 < length ks = slice_get_within ks (length ks - 1) a (sym e) in omega (arith, l))
+
+  pub count_is : (ks : List Alternative) → count (alternatives_by f ks) ≡ length ks
+  count_is [] = refl
+  count_is (k ∷ ks) = ap suc (count_is ks)
 
   -- the alternatives before the last
   pub before_is : (ks : List Alternative) → before_last (alternatives_by f ks) ≡ alternatives_by f (but_last ks)

@@ -33,7 +33,7 @@ IsBehindOwn id (Some (Choice name ks)) = AreBefore id ks.items
 IsBehindOwn id _ = Unit {0}
 
 module _ (f g : ℕ → Shape) (n : Tag) (id : ℕ) (h : (k : ℕ) → k < id → IsFirst (f k) n → IsFirst (g k) n) where
-  firsts_before : (ks : List Alternative) → AreBefore id ks → IsFirstOf (alternatives_by f ks) n → IsFirstOf (alternatives_by g ks) n
+  pub firsts_before : (ks : List Alternative) → AreBefore id ks → IsFirstOf (alternatives_by f ks) n → IsFirstOf (alternatives_by g ks) n
   firsts_before [] b a = absurd a
   firsts_before (k ∷ ks) b (inl a) = inl (h k.type_id.0 b.0 a)
   firsts_before (k ∷ ks) b (inr a) = inr (firsts_before ks b.1 a)
