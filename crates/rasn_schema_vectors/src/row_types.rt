@@ -43,10 +43,12 @@ pub const ROW_TYPES: &[Definition] = &[
         &[("add", 0), ("delete", 1)],
     ),
     Definition::Unknown,
-    // 30 to 32
+    // 30 to 34
     Definition::Sequence(Tag::SEQUENCE, EXTENSIBLE),
     Definition::SequenceOf(Tag::SEQUENCE, 0, Constraints::NONE),
     Definition::Sequence(Tag::SEQUENCE, WITH_FLAGS),
+    Definition::Any(Tag::EOC),
+    Definition::Choice("Reply", &[("accepted", 0), ("count", 24), ("...", 33)]),
 ];
 
 const EXTENSIBLE: &[Part] = &[
@@ -117,8 +119,35 @@ pub const WRONG_TYPES: &[(&str, &[Definition])] = &[
     (
         "untagged-alternative",
         &[
+            FLAG,
+            Definition::Any(Tag::EOC),
+            Definition::Choice("C", &[("a", 1), ("b", 0)]),
+        ],
+    ),
+    (
+        "extensible-alternative",
+        &[
+            FLAG,
+            Definition::Any(Tag::EOC),
+            Definition::Choice("C", &[("a", 0), ("b", 1)]),
+            Definition::Choice("D", &[("a", 2)]),
+        ],
+    ),
+    (
+        "extensible-in-set",
+        &[
             Definition::Any(Tag::EOC),
             Definition::Choice("C", &[("a", 0)]),
+            Definition::Set("S", Tag::SET, OPEN),
+        ],
+    ),
+    (
+        "extensible-after-optional",
+        &[
+            FLAG,
+            Definition::Any(Tag::EOC),
+            Definition::Choice("C", &[("a", 1)]),
+            Definition::Sequence(Tag::SEQUENCE, AFTER_OPTIONAL),
         ],
     ),
     (
@@ -224,6 +253,11 @@ pub const WRONG_TYPES: &[(&str, &[Definition])] = &[
         "unknown-tagged",
         &[Definition::Unknown, Definition::Tagged(CONTEXT_0, 0)],
     ),
+];
+
+const AFTER_OPTIONAL: &[Part] = &[
+    ("part", Occurrence::Optional, 0),
+    ("part", Occurrence::Required, 2),
 ];
 
 const NOT_LAST: &[Part] = &[
