@@ -183,7 +183,6 @@ open_choice_in : (ps : Parts) (rule : Codec) (depth : ℕ) (c : Bool) → EachIn
 open_choice_in ps rule depth c into input t rest (inl h) = inl (choice_in ps rule depth c into 0 input t rest h)
 open_choice_in ps rule depth c into input t rest (inr (u, e, n, next, other, h)) = inr (u, e, n, next_ber next, other, any_in rule input u rest h)
 
-
 list_in : (size : Option (Bound ℕ)) (reads wide : Reading Tree) → IsIn reads wide → (closing : Bool) → IsIn (ReadsList size reads closing) (ReadsList size wide closing)
 list_in size reads wide into closing input t rest (ts, e, b, m) = (ts, e, b, many_in reads wide into closing input ts rest m)
 

@@ -56,15 +56,10 @@ pub one_choice : OneChoice
 unfolding Reads parts_of
 one_choice rule ps one told depth closing = choice_one rule (parts_of rule ps depth closing) (parts_one rule ps one depth closing) (apart rule ps depth closing told) 0
 
-open_reading_one : (rule : Codec) (ps : Parts) → AreReadOnce rule ps → AreDistinguished ps → (depth : ℕ) (closing : Bool)
-    → IsOne (ReadsOpenChoice rule (IsFirstOf ps) (count ps) (ReadsChoice rule 0 (parts_of rule ps depth closing)))
-open_reading_one rule ps one told depth closing = open_choice_one rule (parts_of rule ps depth closing) (IsFirstOf ps) (count ps) (ReadsAny rule) (first_in rule ps depth closing)
-    (choice_one rule (parts_of rule ps depth closing) (parts_one rule ps one depth closing) (apart rule ps depth closing told) 0) (any_one rule)
-
 pub one_open_choice : OneOpenChoice
 unfolding Reads parts_of
-one_open_choice rule ps one told depth closing = open_reading_one rule ps one told depth closing
-
+one_open_choice rule ps one told depth closing =
+    open_choice_one rule (parts_of rule ps depth closing) (IsFirstOf ps) (count ps) (ReadsAny rule) (first_in rule ps depth closing) (one_choice rule ps one told depth closing) (any_one rule)
 
 pub one_option : OneOption
 unfolding Reads parts_of

@@ -250,7 +250,7 @@ open_choice_made : (ps : Parts) (depth : ℕ) → EachMade depth ps → IsMade (
 unfolding Reads parts_of Bytes fields_of Owes IsWithinLimits
 open_choice_made ps depth made closing input t rest o (inl h) (inl m) = let r = choice_made ps depth made 0 closing input t rest o h m in (r.0, inl r.1, r.2)
 open_choice_made ps depth made closing input t rest o (inl h) (inr (u, e, m)) = absurd (not_beyond ps depth closing input t u rest h e)
-open_choice_made ps depth made closing input t rest o (inr (u, e, n, next, other, h)) (inl m) = absurd (none_beyond Der ps depth 0 t u e (owed_meets (choice ps) depth t m))
+open_choice_made ps depth made closing input t rest o (inr (u, e, n, next, other, h)) (inl m) = absurd (none_beyond Der ps depth t u e (owed_meets (choice ps) depth t m))
 open_choice_made ps depth made closing input t rest o (inr (u, e, n, next, other, (text, f, whole, g))) (inr m) = (text, inr (e ∙ ap (chosen (count ps)) f), g)
 
 in_list_made : (tag : Tag) (s : Shape) (size : Option (Bound ℕ)) (depth : ℕ) → IsMade s (depth - 2) → IsMade (list tag s size) depth

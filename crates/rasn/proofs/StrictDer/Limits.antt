@@ -208,7 +208,7 @@ mutual
       let f = r.2 in
       let g : r.0 ≡ count ps = cc in
       absurd (omega (arith, r.3, g))
-  owes_like (open_choice ps) depth t u b same (inr e) (inl m) = absurd (none_beyond Der ps depth 0 t (numbers b) e m)
+  owes_like (open_choice ps) depth t u b same (inr e) (inl m) = absurd (none_beyond Der ps depth t (numbers b) e m)
   owes_like (open_choice ps) depth t u b same (inr e) (inr (v, f, m)) =
       let r : Same (chosen (count ps) (numbers b)) u = subst (λ z. Same z u) e same in
       let g : v ≡ numbers b = cc in
