@@ -5,7 +5,7 @@ use Rattle.rasn_types.specs.declared.types.codec.Codec.{Codec}
 use Rattle.rasn_types.specs.declared.types.codec.Codec.TheVariants.{Ber, Cer, Der}
 use Rattle.rasn_types.specs.declared.types.tag.Tag.{Tag}
 use Rattle.rasn_types.specs.Framing.{Frame, with_length, without_length, Extent, NextTag, CompleteEncoding, plain, closed, CompleteEncodings, none, one_more}
-use Rattle.rasn_types.specs.Shapes.{Tree, absent, Kind, boolean, null, object_identifier, integer, enumerated, octet_string, fixed, numeric, printable, visible, ia5, any_octets, bmp, utf8, utc_time, generalized_time, date, Shape, leaf, any, prefix, choice, open_choice, option, seq, set, list, set_of, unknown, Parts, part, count, IsFirstOf, own, presences, Presence, required, addition, optional_by, default_by, Sought, one_tag, any_of, sought_in, IsAlwaysPresent, AreAlwaysPresent}
+use Rattle.rasn_types.specs.Shapes.{Tree, absent, Kind, boolean, null, object_identifier, integer, enumerated, octet_string, fixed, numeric, printable, visible, ia5, any_octets, bmp, utf8, utc_time, generalized_time, date, Shape, leaf, any, prefix, choice, open_choice, option, seq, set, list, set_of, unknown, Parts, part, count, IsFirstOf, presences, Presence, required, addition, optional_by, default_by, Sought, one_tag, any_of, sought_in, IsAlwaysPresent, AreAlwaysPresent}
 use Rattle.rasn_types.specs.declared.types.constraints.Bound.{Bound}
 use Rattle.rasn_types.specs.Readings.{Reading, ReadsContents, definite_form, indefinite_form, ReadsMany, IsLeftOut, IsPresent, ReadsOptional, IsNoDefault, ReadsPart, ReadsInOrder, AllMissing, presences_in, HasRequired, ReadsSeq, ReadsChoice, ReadsSet}
 use Rattle.rasn_types.specs.Contents.{ReadsString, primitive, segments, closed_segments, ReadsSegments, ReadsBitSegment, OctetSegment, Contents, IsBool}

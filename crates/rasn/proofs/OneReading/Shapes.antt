@@ -7,7 +7,7 @@ use Rattle.rasn_types.specs.Shapes.{Tree, items, set_elements, absent, Shape, le
 use Rattle.rasn_types.specs.declared.types.constraints.Bound.{Bound}
 use Rattle.rasn_types.specs.Shapes.Parts.{none}
 use Rattle.rasn_types.specs.Readings.{Reading, ReadsSeq, ReadsChoice, ReadsSet}
-use Rattle.rasn_types.specs.Grammar.{Reads, parts_of, ReadsAny, ReadsOpenChoice, ReadsList, ReadsSetOf}
+use Rattle.rasn_types.specs.Grammar.{Reads, parts_of, ReadsAny, ReadsList, ReadsSetOf}
 use Rattle.rasn_types.specs.Lawful.{AreDistinguished, IsLawful, AreAlternatives, AreLawfulInOrder, AreLawfulByTag}
 use Rattle.rasn.proofs.OneReading.Joined.{IsOne, inside_one, many_one, perhaps_one, EachPart, ReadsOne, seq_one, IsFirstIn, AreApart, choice_one, open_choice_one, set_one}
 use Rattle.rasn.proofs.OneReading.Leaves.{leaf_one}

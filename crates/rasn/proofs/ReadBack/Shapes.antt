@@ -6,7 +6,7 @@ use Rattle.rasn_types.specs.declared.types.codec.Codec.{Codec}
 use Rattle.rasn_types.specs.declared.types.codec.Codec.TheVariants.{Ber, Cer, Der}
 use Rattle.rasn_types.specs.declared.types.tag.Tag.{Tag}
 use Rattle.rasn_types.specs.Framing.{NextTag, Frame, with_length, definite, Ended, CompleteEncoding, plain, CompleteEncodings, none, one_more}
-use Rattle.rasn_types.specs.Shapes.{Tree, numbers, items, joined, set_elements, absent, Admits, Shape, leaf, any, prefix, choice, open_choice, option, seq, set, list, set_of, unknown, Parts, part, count, chosen, IsFirstOf, own, one_tag, Presence, required, presences, IsAlwaysPresent}
+use Rattle.rasn_types.specs.Shapes.{Tree, numbers, items, joined, set_elements, absent, Admits, Shape, leaf, any, prefix, choice, open_choice, option, seq, set, list, set_of, unknown, Parts, part, count, chosen, IsFirstOf, own, one_tag, required, presences, IsAlwaysPresent}
 use Rattle.rasn_types.specs.declared.types.constraints.Bound.{Bound}
 use Rattle.rasn_types.specs.Readings.{IsLeftOut, IsPresent, Reading, ReadsMany, ReadsFrom, ReadsSeq, ReadsUnknown, ReadsSet}
 use Rattle.rasn_types.specs.Contents.{joined_lists}

@@ -1,9 +1,8 @@
 -- The octets of parts and elements that DER reads are those that are written.
-use Rattle.std.proofs.Common.{◌≡◌, ℕ, suc, ◌+◌, ◌<◌, ◌≢◌, inl, inr, List, [], ◌∷◌, ◌++◌, Bool, Option, sym, ap, ap₂, ◌∙◌, subst, arith, append_assoc}
+use Rattle.std.proofs.Common.{◌≡◌, ℕ, suc, ◌+◌, ◌<◌, ◌≢◌, inl, inr, List, [], ◌∷◌, ◌++◌, Bool, sym, ap, ap₂, ◌∙◌, subst, arith, append_assoc}
 use Rattle.rasn_types.specs.declared.types.codec.Codec.TheVariants.{Der}
-use Rattle.rasn_types.specs.declared.types.tag.Tag.{Tag}
 use Rattle.rasn_types.specs.Framing.{AreOctets}
-use Rattle.rasn_types.specs.Shapes.{Tree, chosen, absent, Shape, Parts, part, count, own, Presence, required, addition, optional_by, default_by, default, Sought, sought_in}
+use Rattle.rasn_types.specs.Shapes.{Tree, chosen, absent, Shape, Parts, part, count, Presence, required, addition, optional_by, default_by, default, Sought, sought_in}
 use Rattle.rasn_types.specs.Shapes.Parts.{none}
 use Rattle.rasn_types.specs.Readings.{ReadsMany, IsNoDefault, ReadsPart, ReadsInOrder, IsMissing, AllMissing, presences_in, ReadsChoice}
 use Rattle.rasn_types.specs.Order.{Each}

@@ -1,5 +1,5 @@
 -- A CHOICE with an extension marker, with its octets.
-use Rattle.std.proofs.Common.{◌≡◌, ℕ, inl, inr, List, [], ◌∷◌, true, false, pos, refl, sym, ap, ◌∙◌, subst, arith}
+use Rattle.std.proofs.Common.{◌≡◌, inl, inr, [], ◌∷◌, false, pos, refl, sym, ap, subst, arith}
 use Rattle.rasn_types.specs.Tags.{Form, form, HasStrictForm, basic_form, der_form, loose_form, rank, in_universal}
 use Rattle.rasn_types.specs.declared.types.codec.Codec.{Codec}
 use Rattle.rasn_types.specs.declared.types.codec.Codec.TheVariants.{Ber, Der}
@@ -13,7 +13,7 @@ use Rattle.rasn_types.specs.Carried.{IsUnknownValue, IsWithinLimits, Carried}
 use Rattle.rasn_types.proofs.Lawful.{lawful}
 use Rattle.rasn_types.proofs.Headers.Frames.{frame_next, id_one, next_one}
 use Rattle.rasn.specs.Worked.{IsCarriedAs, IsLenient, IsReadAs, IsRefusedBy}
-use Rattle.rasn.specs.WorkedShapes.{plain, contextual, known_alternatives, extensible_choice}
+use Rattle.rasn.specs.WorkedShapes.{contextual, known_alternatives, extensible_choice}
 use Rattle.rasn.specs.WorkedValues.{WorkedOpenChoice}
 use Rattle.rasn.proofs.ReadBack.Begins.{begins, chosen_is_next}
 use Rattle.rasn.proofs.ReadBack.Headers.{short, short_written, plain_read, spelled, context_apart, context_frame}
