@@ -16,7 +16,7 @@ use Rattle.rasn_types.proofs.Headers.Frames.{not_ended}
 use Rattle.rasn.proofs.ReadBack.Begins.{begins, HasNextTag, has_next_tag, tagged, IsOpenChoice, Starts, starts}
 use Rattle.rasn.proofs.ReadBack.Constructed.{IsTail, tail_ended, IsReadAs}
 use Rattle.rasn_types.proofs.SetOf.Same.{each_same, same_trans}
-use Rattle.rasn_types.proofs.Encoding.SameOctets.{other_written}
+use Rattle.rasn_types.proofs.Encoding.SameOctets.{other_written, written_below}
 
 -- What is written of the shape is read again at this depth, as a tree that is the same.
 abbrev pub IsBack : Codec → Shape → ℕ → Type 0
@@ -407,9 +407,16 @@ limits_below rule none depth k n t v e m = absurd m
 limits_below rule (part presence s ps) depth k n t v e (inl (u, f, m)) = let g : n ≡ k = cc in omega (arith, g)
 limits_below rule (part presence s ps) depth k n t v e (inr m) = let l = limits_below rule ps depth (suc k) n t v e m in omega (arith, l)
 
--- The number after theirs is that of no alternative.
-pub none_beyond : (rule : Codec) (ps : Parts) (depth : ℕ) (t v : Tree) → t ≡ chosen (count ps) v → ChosenIsWithinLimits rule 0 ps depth t → ⊥
-none_beyond rule ps depth t v e m = let l = limits_below rule ps depth 0 (count ps) t v e m in omega (arith, l)
+-- The number after those of the alternatives isn't within their limits, and isn't written as one of them.
+pub none_within : (rule : Codec) (ps : Parts) (depth : ℕ) (t v : Tree) → t ≡ chosen (count ps) v → ChosenIsWithinLimits rule 0 ps depth t → ⊥
+none_within rule ps depth t v e m = let l = limits_below rule ps depth 0 (count ps) t v e m in omega (arith, l)
+
+pub none_written : (rule : Codec) (ps : Parts) (t v : Tree) (b : List ℕ) → t ≡ chosen (count ps) v → WritesChoice 0 (fields_of rule ps) t b → ⊥
+none_written rule ps t v b e w =
+    let r = written_below rule ps 0 t b w in
+    let f = r.2 in
+    let g : r.0 ≡ count ps = cc in
+    omega (arith, r.3, g)
 
 pub choice_back : (rule : Codec) (depth : ℕ) (ps : Parts) → EachTagged ps → AllRequired ps → EachBack rule depth ps → (k : ℕ) (t : Tree) (b : List ℕ)
     → ChosenIsWithinLimits rule k ps depth t → WritesChoice k (fields_of rule ps) t b

@@ -1,5 +1,5 @@
 -- What is written of a carried tree is read back.
-use Rattle.std.proofs.Common.{◌≡◌, ℕ, ◌-◌, ◌≤◌, ◌⊎◌, ◌≢◌, inl, inr, List, [], ◌∷◌, ◌++◌, Bool, true, false, Option, Some, None, refl, sym, ◌∙◌, subst, append-nil, append_assoc, ap, arith}
+use Rattle.std.proofs.Common.{◌≡◌, ℕ, ◌-◌, ◌≤◌, ◌⊎◌, ◌≢◌, inl, inr, List, [], ◌∷◌, ◌++◌, Bool, true, false, Option, Some, None, refl, sym, ◌∙◌, subst, append-nil, append_assoc, ap}
 use Rattle.std.proofs.lemmas.List.Sorted.{IsPermutation-refl}
 use Rattle.rasn_types.specs.Tags.{Form, form, eoc, loose_form, loose}
 use Rattle.rasn_types.specs.declared.types.codec.Codec.{Codec}
@@ -20,9 +20,8 @@ use Rattle.rasn.proofs.ReadBack.Begins.{has_next_tag}
 use Rattle.rasn.proofs.ReadBack.Constructed.{IsTail, tail_ended, IsReadAs, definite_back, closed_back, cons_back, EachReadBack, many_back}
 use Rattle.rasn_types.proofs.SetOf.Same.{items_one, each_same, each_length}
 use Rattle.rasn.proofs.ReadBack.Leaves.{leaf_back}
-use Rattle.rasn.proofs.ReadBack.Parts.{EachTagged, AllRequired, is_there, IsBack, EachBack, UnknownBack, IsUnknownNext, EachBackInOrder, seq_back, next_more, none_beyond, choice_back}
+use Rattle.rasn.proofs.ReadBack.Parts.{EachTagged, AllRequired, is_there, IsBack, EachBack, UnknownBack, IsUnknownNext, EachBackInOrder, seq_back, next_more, none_within, none_written, choice_back}
 use Rattle.rasn.proofs.ReadBack.Set.{Component, set_back}
-use Rattle.rasn_types.proofs.Encoding.SameOctets.{written_below}
 
 whole_frame : (rule : Codec) {input rest c : List ℕ} {s : Tag} {b : Bool} → Frame loose_form input s b rest (definite c) → Frame (loose rule) input s b rest (definite c)
 whole_frame Ber (with_length id len c p q z e) = with_length id len c p q (λ h. absurd h) e
@@ -221,12 +220,8 @@ open_choice_back : (rule : Codec) (depth : ℕ) (ps : Parts) → EachTagged ps �
 unfolding Reads parts_of Bytes fields_of IsWithinLimits
 open_choice_back rule depth ps has needed back t b (inl m) (inl w) =
     let r = choice_back rule depth ps has needed back 0 t b m w in (r.0, r.1, λ rest closing. inl (r.2 rest closing))
-open_choice_back rule depth ps has needed back t b (inl m) (inr e) = absurd (none_beyond rule ps depth t (numbers b) e m)
-open_choice_back rule depth ps has needed back t b (inr (u, e, m)) (inl w) =
-    let r = written_below rule ps 0 t b w in
-    let f = r.2 in
-    let g : r.0 ≡ count ps = cc in
-    absurd (omega (arith, r.3, g))
+open_choice_back rule depth ps has needed back t b (inl m) (inr e) = absurd (none_within rule ps depth t (numbers b) e m)
+open_choice_back rule depth ps has needed back t b (inr (u, e, m)) (inl w) = absurd (none_written rule ps t u b e w)
 open_choice_back rule depth ps has needed back t b (inr (u, e, m)) (inr f) =
     let g : u ≡ numbers b = cc in (
       chosen (count ps) u,

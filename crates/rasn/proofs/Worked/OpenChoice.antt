@@ -17,7 +17,7 @@ use Rattle.rasn.specs.WorkedShapes.{contextual, known_alternatives, extensible_c
 use Rattle.rasn.specs.WorkedValues.{WorkedOpenChoice}
 use Rattle.rasn.proofs.ReadBack.Begins.{begins, chosen_is_next}
 use Rattle.rasn.proofs.ReadBack.Headers.{short, short_written, plain_read, spelled, context_apart, context_frame}
-use Rattle.rasn.proofs.ReadBack.Parts.{nothing_is_next, none_beyond}
+use Rattle.rasn.proofs.ReadBack.Parts.{nothing_is_next, none_within}
 use Rattle.rasn.proofs.Worked.Lenient.{lenient}
 
 -- 01 01 FF
@@ -159,7 +159,7 @@ known_not_carried c = none c.within_limits
         m.other (inl g)
 
     none : IsWithinLimits Der extensible_choice 128 (chosen 2 (numbers (1 ∷ 1 ∷ 255 ∷ []))) → ⊥
-    none (inl m) = none_beyond Der known_alternatives 128 (chosen 2 (numbers (1 ∷ 1 ∷ 255 ∷ []))) (numbers (1 ∷ 1 ∷ 255 ∷ [])) refl m
+    none (inl m) = none_within Der known_alternatives 128 (chosen 2 (numbers (1 ∷ 1 ∷ 255 ∷ []))) (numbers (1 ∷ 1 ∷ 255 ∷ [])) refl m
     none (inr (u, e, m)) = let f : u ≡ numbers (1 ∷ 1 ∷ 255 ∷ []) = cc in known u f m
 
 pub worked : WorkedOpenChoice
