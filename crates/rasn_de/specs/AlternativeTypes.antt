@@ -25,7 +25,8 @@ ReadsNumbered k ps rule depth closing = ReadsChoice rule k (parts_of rule ps dep
 -- unknown alternative, which has the number after those of the others.
 abbrev pub ReadsNumberedBy : Bool → ℕ → Parts → Codec → ℕ → Bool → Reading Tree
 ReadsNumberedBy false k ps = ReadsNumbered k ps
-ReadsNumberedBy true k ps = λ rule depth closing. ReadsOpenChoice rule (IsFirstOf ps) (k + count ps) (ReadsNumbered k ps rule depth closing)
+ReadsNumberedBy true k ps =
+    λ rule depth closing. ReadsOpenChoice rule (IsFirstOf ps) (k + count ps) (ReadsNumbered k ps rule depth closing)
 
 -- The value is read as the alternative that has its number, whatever number k the first alternative has.
 pub record DecodesNumbered {T : Type 0} (extensible : Bool) (ps : Parts) (number : T → ℕ) (inner : T → Tree) (old : State) (result : Result T DecodeError) (new : State) : Type 0 where
@@ -61,7 +62,8 @@ FailsAtNoAlternative true name old e new = DecodesOpenType eoc old (Err e) new
 abbrev pub FailsAtAlternativeBy : Bool → Parts → List ℕ → Tag → State → DecodeError → State → Type 0
 FailsAtAlternativeBy extensible none name tag old e new = FailsAtNoAlternative extensible name old e new
 FailsAtAlternativeBy extensible (part p s ps) name tag old e new =
-    ((own s ≡ Some tag) × FailsAtValue p s old e new) ⊎ ((own s ≡ Some tag → ⊥) × FailsAtAlternativeBy extensible ps name tag old e new)
+    ((own s ≡ Some tag) × FailsAtValue p s old e new)
+    ⊎ ((own s ≡ Some tag → ⊥) × FailsAtAlternativeBy extensible ps name tag old e new)
 
 -- The alternative with the next tag is read. An error is that of the look at the tag, which consumes nothing, or one of
 -- FailsAtAlternativeBy.

@@ -9,7 +9,6 @@ use Rattle.rasn_types.specs.Framing.{NextTag}
 use Rattle.rasn_types.specs.Truth.{IsWhether}
 use Rattle.rasn_types.specs.Shapes.{Tree, numbers, chosen, Shape, leaf, any, prefix, choice, open_choice, choice_by, count, option, seq, set, list, set_of, unknown, Parts, part, Presence, required, own, IsFirst, IsFirstOf}
 use Rattle.rasn_types.specs.Shapes.Parts.{none}
-use Rattle.rasn_types.specs.Readings.{Reading}
 use Rattle.rasn_types.specs.Grammar.{Reads, ReadsOpenChoice, parts_of}
 use Rattle.rasn_types.proofs.Headers.Frames.{next_one}
 use Rattle.rasn_types.proofs.Time.Spellings.{both_true}
