@@ -125,6 +125,13 @@ pub const WRONG_TYPES: &[(&str, &[Definition])] = &[
         ],
     ),
     (
+        "open-type-alone",
+        &[
+            Definition::Any(Tag::EOC),
+            Definition::Choice("C", &[("a", 0)]),
+        ],
+    ),
+    (
         "extensible-alternative",
         &[
             FLAG,
@@ -136,17 +143,19 @@ pub const WRONG_TYPES: &[(&str, &[Definition])] = &[
     (
         "extensible-in-set",
         &[
+            FLAG,
             Definition::Any(Tag::EOC),
-            Definition::Choice("C", &[("a", 0)]),
-            Definition::Set("S", Tag::SET, OPEN),
+            Definition::Choice("C", &[("a", 0), ("b", 1)]),
+            Definition::Set("S", Tag::SET, EXTENSIBLE_PART),
         ],
     ),
     (
         "extensible-after-optional",
         &[
-            FLAG,
+            NUMBER,
             Definition::Any(Tag::EOC),
-            Definition::Choice("C", &[("a", 1)]),
+            FLAG,
+            Definition::Choice("C", &[("a", 2), ("b", 1)]),
             Definition::Sequence(Tag::SEQUENCE, AFTER_OPTIONAL),
         ],
     ),
@@ -255,9 +264,11 @@ pub const WRONG_TYPES: &[(&str, &[Definition])] = &[
     ),
 ];
 
+const EXTENSIBLE_PART: &[Part] = &[("part", Occurrence::Required, 2)];
+
 const AFTER_OPTIONAL: &[Part] = &[
     ("part", Occurrence::Optional, 0),
-    ("part", Occurrence::Required, 2),
+    ("part", Occurrence::Required, 3),
 ];
 
 const NOT_LAST: &[Part] = &[
