@@ -4,7 +4,8 @@ use crate::SaslCredentials;
 use rasn::error::{DecodeError, EncodeError};
 use rasn::parts::OneOf;
 use rasn::types::{
-    Any, AsnType, Constraints, ContextTag, Identifier, Implicit, LawfulEq, OctetString, Present, Tag,
+    Any, AsnType, Constraints, ContextTag, Identifier, Implicit, LawfulEq, OctetString, Present,
+    Tag,
 };
 use rasn::{Decode, Decoder, Encode, Encoder};
 
@@ -55,8 +56,10 @@ impl Present for AuthenticationChoice {
 }
 
 /// The alternatives, as they are read.
-type Alternatives =
-    OneOf<Implicit<ContextTag<0>, OctetString>, OneOf<Implicit<ContextTag<3>, SaslCredentials>, Any>>;
+type Alternatives = OneOf<
+    Implicit<ContextTag<0>, OctetString>,
+    OneOf<Implicit<ContextTag<3>, SaslCredentials>, Any>,
+>;
 
 impl Decode for AuthenticationChoice {
     ghost use Rattle.std.specs.Prelude.{◌≡◌, true, IfErr, Err};
