@@ -4,12 +4,13 @@ use Rattle.std.specs.declared.alloc.AllocError.{AllocError}
 use Rattle.rasn_types.specs.declared.types.tag.Tag.{Tag}
 use Rattle.rasn_types.specs.declared.types.constraints.Constraints.{Constraints}
 use Rattle.rasn_types.specs.declared.error.decode.DecodeError.{DecodeError}
+use Rattle.std.specs.Prelude.{IfErr}
 use Rattle.rasn_types.specs.Framing.{AreOctets}
 use Rattle.rasn_types.specs.Shapes.{Tree, Shape, Key, Sought, one_tag, looked_for, prefix, option}
 use Rattle.rasn_types.specs.Trees.{option_tree}
 use Rattle.rasn_de.specs.State.{State, IsEnd, Call, EachCall}
 use Rattle.rasn_de.specs.Decodes.{Decodes, DecodesBy}
-use Rattle.rasn_de.specs.ValueErrors.{Errors, DecodesOr}
+use Rattle.rasn_de.specs.ValueErrors.{Errors, DecodesOr, IsErrorOfAlternative}
 use Rattle.rasn_de.specs.Constructed.{list_header, prefix_header, DecodesInside}
 use Rattle.rasn_de.specs.Optional.{DecodesIfSought, DecodesIfPresent, DecodesSoughtOrDefault, DecodesOrDefault, no_look, no_default, no_read, not_compared, present, DecodesDefault}
 use Rattle.rasn_de.specs.SequenceOf.{DecodesInTurn, DecodesInTurnFrom, FailsAtElement, DecodesElements, IsOutOfOrder, DecodesElementsInOrder, DecodesSized, DecodesSequenceOfBy, DecodesSequenceOf, DecodesSetOfBy, DecodesSetOf}
@@ -130,3 +131,9 @@ module _ {D : Type 0} (s : Shape) (tree : D → Tree) (errors : Errors) where
       let elements = λ (v : List D). v in
       let by = in_order_by (DecodesOr s tree errors) (Decodes s tree) or_decodes elements in
       set_of_decodes s tree tag c old o r new (sized_by (DecodesElementsInOrder (DecodesOr s tree errors) elements) (DecodesElementsInOrder (Decodes s tree) elements) by _ tag c old r new k)
+
+-- An error of the others is one of the alternatives.
+pub other_errors : {X : Type 0} (own : Tag) (first : Errors) (others : Tag → Errors) (tag : Tag) (old new : State) (r : Result X DecodeError) → (tag ≡ own → ⊥) → IfErr r (λ e. others tag old e new)
+    → IfErr r (λ e. IsErrorOfAlternative own first others tag old e new)
+other_errors own first others tag old new (Ok x) n f = tt
+other_errors own first others tag old new (Err e) n f = inr (n, f)
