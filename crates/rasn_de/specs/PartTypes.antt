@@ -50,7 +50,8 @@ FailsAtPart (part p s ps) old e new = FailsAtOnePart p s old e new
 
 -- The error is one of the part; or the part is read, and the error is one of the parts after it.
 abbrev pub IsErrorOfParts : Presence → Shape → Errors → Errors → Errors
-IsErrorOfParts p s first others old e new = first old e new ⊎ ((t : Tree) × (here : State) × DecodesExactly (OnePart p s) old (Got t here.rest) here × others here e new)
+IsErrorOfParts p s first others old e new = first old e new
+    ⊎ ((t : Tree) × (here : State) × DecodesExactly (OnePart p s) old (Got t here.rest) here × others here e new)
 
 -- Parts are read in their order, up to the first one that can't be read, and the error is one of these.
 abbrev pub DecodesInParts : {D : Type 0} → Parts → (D → Tree) → Errors → Call D

@@ -29,8 +29,10 @@ DecodesOr s tree errors old result new = Decodes s tree old result new × IfErr 
 
 -- The error is one of the alternative with this tag of its own, if that is the tag, or else one of the others.
 abbrev pub IsErrorOfAlternative : Tag → Errors → (Tag → Errors) → Tag → Errors
-IsErrorOfAlternative own first others tag old e new = ((tag ≡ own) × first old e new) ⊎ ((tag ≡ own → ⊥) × others tag old e new)
+IsErrorOfAlternative own first others tag old e new =
+    ((tag ≡ own) × first old e new) ⊎ ((tag ≡ own → ⊥) × others tag old e new)
 
 -- The look at the next tag fails, which consumes nothing, or the error is one of those for the next tag.
 abbrev pub IsErrorByTag : (Tag → Errors) → Errors
-IsErrorByTag errors old e new = (PeeksTag old (Err e) × (new ≡ old)) ⊎ ((tag : Tag) × NextTag (form old.rule) old.rest tag × errors tag old e new)
+IsErrorByTag errors old e new =
+    (PeeksTag old (Err e) × (new ≡ old)) ⊎ ((tag : Tag) × NextTag (form old.rule) old.rest tag × errors tag old e new)

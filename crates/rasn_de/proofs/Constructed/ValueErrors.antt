@@ -5,12 +5,13 @@ use Rattle.rasn_types.specs.declared.types.tag.Tag.{Tag}
 use Rattle.rasn_types.specs.declared.types.constraints.Constraints.{Constraints}
 use Rattle.rasn_types.specs.declared.error.decode.DecodeError.{DecodeError}
 use Rattle.std.specs.Prelude.{IfErr}
-use Rattle.rasn_types.specs.Framing.{AreOctets}
+use Rattle.rasn_types.specs.Framing.{AreOctets, NextTag}
+use Rattle.rasn_types.specs.Tags.{form}
 use Rattle.rasn_types.specs.Shapes.{Tree, Shape, Key, Sought, one_tag, looked_for, prefix, option}
 use Rattle.rasn_types.specs.Trees.{option_tree}
 use Rattle.rasn_de.specs.State.{State, IsEnd, Call, EachCall}
 use Rattle.rasn_de.specs.Decodes.{Decodes, DecodesBy}
-use Rattle.rasn_de.specs.ValueErrors.{Errors, DecodesOr, IsErrorOfAlternative}
+use Rattle.rasn_de.specs.ValueErrors.{Errors, DecodesOr, IsErrorOfAlternative, IsErrorByTag}
 use Rattle.rasn_de.specs.Constructed.{list_header, prefix_header, DecodesInside}
 use Rattle.rasn_de.specs.Optional.{DecodesIfSought, DecodesIfPresent, DecodesSoughtOrDefault, DecodesOrDefault, no_look, no_default, no_read, not_compared, present, DecodesDefault}
 use Rattle.rasn_de.specs.SequenceOf.{DecodesInTurn, DecodesInTurnFrom, FailsAtElement, DecodesElements, IsOutOfOrder, DecodesElementsInOrder, DecodesSized, DecodesSequenceOfBy, DecodesSequenceOf, DecodesSetOfBy, DecodesSetOf}
@@ -137,3 +138,8 @@ pub other_errors : {X : Type 0} (own : Tag) (first : Errors) (others : Tag → E
     → IfErr r (λ e. IsErrorOfAlternative own first others tag old e new)
 other_errors own first others tag old new (Ok x) n f = tt
 other_errors own first others tag old new (Err e) n f = inr (n, f)
+
+pub errors_by_tag : {X : Type 0} (errors : Tag → Errors) (tag : Tag) (old new : State) (r : Result X DecodeError) → NextTag (form old.rule) old.rest tag → IfErr r (λ e. errors tag old e new)
+    → IfErr r (λ e. IsErrorByTag errors old e new)
+errors_by_tag errors tag old new (Ok x) n f = tt
+errors_by_tag errors tag old new (Err e) n f = inr (tag, n, f)
