@@ -7,6 +7,7 @@ ghost use Rattle.rasn_types.specs.Shapes.{choice_by, chosen, IsFirstOf};
 ghost use Rattle.rasn_types.specs.Truth.{IsWhether};
 ghost use Rattle.rasn_de.specs.Decodes.{Decodes};
 ghost use Rattle.rasn_de.specs.AlternativeTypes.{DecodesNumbered, FailsAtAlternativeBy, DecodesAlternativeBy};
+ghost use Rattle.rasn_de.specs.ValueErrors.{IsErrorByTag};
 
 use crate::ber::de::Decoder;
 use crate::de::{Decode, Error};
@@ -21,6 +22,8 @@ pub trait DecodeAlternatives: Drop {
     ghost use Rattle.std.specs.Prelude.{Bool, false, ℕ};
     ghost use Rattle.rasn_de.specs.State.{State};
     ghost use Rattle.rasn_types.specs.Shapes.{Parts, Tree};
+    ghost use Rattle.rasn_types.specs.declared.types.tag.Tag.{Tag};
+    ghost use Rattle.rasn_de.specs.ValueErrors.{Errors};
 
     ghost parts: { Parts };
 
@@ -33,6 +36,9 @@ pub trait DecodeAlternatives: Drop {
 
     /// What the alternative keeps of its octets beyond its tree.
     ghost beyond: { State → Self → State → Type 0 } = { λ _ _ _. Unit {0} };
+
+    /// Which errors a call has that reads the alternative with this tag, besides what `fails` says.
+    ghost errors: { Tag → Errors } = { λ _ _ _ _. Unit {0} };
 
     /// Whether each alternative has a tag of its own, which no other has.
     ghost tags_differ: { Bool };
@@ -56,6 +62,7 @@ pub trait DecodeAlternatives: Drop {
         requires differ { tags_differ ≡ true }
         ensures reads { DecodesNumbered extensible parts number inner decoder.old result decoder.new }
         ensures fails { IfErr result (λ e. FailsAtAlternativeBy extensible parts name.now tag decoder.old e decoder.new) }
+        ensures errors { IfErr result (λ e. errors tag decoder.old e decoder.new) }
         ensures beyond { IfOk result (λ v. beyond decoder.old v decoder.new) }
         ensures rules { IfErr result (λ e. e.codec ≡ decoder.old.rule) };
 }
@@ -65,6 +72,7 @@ impl<A: Decode> DecodeAlternatives for Last<A> {
     ghost use Rattle.rasn_types.specs.Shapes.{part, required};
     ghost use Rattle.rasn_types.specs.Shapes.Parts.{none};
     ghost use Rattle.rasn_de.specs.AlternativeTypes.{is_first_alone};
+    ghost use Rattle.rasn_de.specs.ValueErrors.{IsErrorOfAlternative};
 
     ghost parts = { part required A.shape none };
 
@@ -73,6 +81,8 @@ impl<A: Decode> DecodeAlternatives for Last<A> {
     ghost inner = { λ v. A.tree v.0 };
 
     ghost beyond = { λ old v new. A.beyond A.TAG old (Ok v.0) new };
+
+    ghost errors = { IsErrorOfAlternative A.TAG (A.errors A.TAG A.CONSTRAINTS) (λ _ _ _ _. Unit {0}) };
 
     ghost tags_differ = { is_first_alone A.shape A.TAG none && true };
 
@@ -129,6 +139,7 @@ impl<A: Decode, R: DecodeAlternatives> DecodeAlternatives for OneOf<A, R> {
     ghost use Rattle.rasn_types.specs.OwnTypes.{one_of_number, one_of_tree};
     ghost use Rattle.rasn_de.specs.Beyond.{got, BeyondOneOf};
     ghost use Rattle.rasn_de.specs.AlternativeTypes.{is_first_alone};
+    ghost use Rattle.rasn_de.specs.ValueErrors.{IsErrorOfAlternative};
 
     ghost parts = { part required A.shape R.parts };
 
@@ -139,6 +150,8 @@ impl<A: Decode, R: DecodeAlternatives> DecodeAlternatives for OneOf<A, R> {
     ghost inner = { one_of_tree A.tree R.inner };
 
     ghost beyond = { BeyondOneOf (got (A.beyond A.TAG)) R.beyond };
+
+    ghost errors = { IsErrorOfAlternative A.TAG (A.errors A.TAG A.CONSTRAINTS) R.errors };
 
     ghost tags_differ = { is_first_alone A.shape A.TAG R.parts && R.tags_differ };
 
@@ -174,6 +187,7 @@ impl<'input> Decoder<'input> {
         requires { P.tags_differ ≡ true }
         ensures exact { DecodesAlternativeBy P.extensible P.parts (λ v. chosen (P.number v) (P.inner v)) name.now self.old result self.new }
         ensures reads { Decodes (choice_by P.extensible P.parts) (λ v. chosen (P.number v) (P.inner v)) self.old result self.new }
+        ensures errors { IfErr result (λ e. IsErrorByTag P.errors self.old e self.new) }
         ensures beyond { IfOk result (λ v. P.beyond self.old v self.new) }
         ensures rules { IfErr result (λ e. e.codec ≡ self.old.rule) }
     {

@@ -41,6 +41,12 @@ impl<'input> Decoder<'input> {
 }
 
 impl<const N: usize> Decode for FixedOctetString<N> {
+    ghost use Rattle.std.specs.Prelude.{ℕ, List};
+    ghost use Rattle.rasn_de.specs.CharacterString.{ByLength, DecodesString};
+    ghost use Rattle.rasn_de.specs.ValueErrors.{errors_of};
+
+    ghost errors = { λ tag c. errors_of (DecodesString (λ (l : List ℕ). l) (ByLength N c.size) tag) };
+
     fn decode_with_tag_and_constraints(
         decoder: &mut Decoder<'_>,
         tag: Tag,

@@ -1,6 +1,7 @@
 use Rattle.std.proofs.Common.{Err, inl, refl}
 use Rattle.rasn_types.specs.Shapes.{choice_by, chosen}
 use Rattle.rasn_de.proofs.Leaves.Returns.{residual}
+use Rattle.rasn_de.proofs.Constructed.ValueErrors.{errors_by_tag}
 use Rattle.rasn_de.proofs.Constructed.Choice.{choice_by_decodes}
 use Rattle.rasn_de.proofs.OwnTypes.AlternativeTypes.{numbered_decodes, alternative_decodes}
 use Rattle.rasn_de.proofs.Leaves.Rules.{peek_rules}
@@ -13,6 +14,7 @@ returns-in_err-tag g c =
     rw (residual _ c.from_residual.ensures.1) (record {
       exact = inl (c.in_err-tag.ensures.exact, refl);
       reads = choice_by_decodes extensible (choice_by extensible ps) ps refl (λ v. chosen (g.P.DecodeAlternatives.number v) (g.P.DecodeAlternatives.inner v)) c.args.self.now (Err c.in_err-tag.field-0.0) c.args.self.now (inl (c.in_err-tag.ensures.exact, refl));
+      errors = inl (c.in_err-tag.ensures.exact, refl);
       beyond = tt;
       rules = peek_rules c.args.self.now _ c.in_err-tag.ensures.exact;
     })
@@ -23,6 +25,7 @@ returns g c =
     record {
       exact = alternative_decodes g.P.DecodeAlternatives.extensible _ _ _ c.in_ok-tag.tag _ _ _ c.in_ok-tag.ensures.next k c.decode_alternative.ensures.fails;
       reads = k;
+      errors = errors_by_tag g.P.DecodeAlternatives.errors c.in_ok-tag.tag _ _ c.decode_alternative.result c.in_ok-tag.ensures.next c.decode_alternative.ensures.errors;
       beyond = c.decode_alternative.ensures.beyond;
       rules = c.decode_alternative.ensures.rules;
     }

@@ -46,3 +46,14 @@ returns-in_err-other-clause-fails g c =
     let own = first_has g.A.AsnType.shape g.A.AsnType.TAG g.R.DecodeAlternatives.parts g.R.DecodeAlternatives.tags_differ c.requires.differ in
     let h : c.args.tag ≡ g.A.AsnType.TAG → ⊥ = search rules in
     rw (residual _ c.from_residual-in_err-other.ensures.1) (inr (other_tag g.A.AsnType.shape c.args.tag g.A.AsnType.TAG h (first_has g.A.AsnType.shape g.A.AsnType.TAG g.R.DecodeAlternatives.parts g.R.DecodeAlternatives.tags_differ c.requires.differ), c.in_err-other.ensures.fails))
+
+pub returns-in_err-value-clause-errors : goal.returns-in_err-value-clause-errors
+returns-in_err-value-clause-errors g c =
+    let i = c.if-eq.ensures in let j = c.eq.ensures in let t = c.TAG.ensures in let q = c.if-eq.true in
+    let h : c.args.tag ≡ g.A.AsnType.TAG = first_of (search rules, search (rules, i, t), grind (arith, i, j, t, q)) in
+    rw (residual _ c.from_residual.ensures.1) (inl (h, c.in_err-value.ensures.errors))
+
+pub returns-in_err-other-clause-errors : goal.returns-in_err-other-clause-errors
+returns-in_err-other-clause-errors g c =
+    let h : c.args.tag ≡ g.A.AsnType.TAG → ⊥ = search rules in
+    rw (residual _ c.from_residual-in_err-other.ensures.1) (inr (h, c.in_err-other.ensures.errors))
