@@ -7,7 +7,7 @@ ghost use Rattle.rasn_schema.specs.Shapes.{shape_of_type, type_by, alternatives_
 ghost use Rattle.rasn_schema.specs.FirstTags.{IsAlternativeFor};
 
 use crate::type_id::TypeId;
-use crate::types::{Alternative, Type, tag_at, type_at};
+use crate::types::{Alternative, Type, ends_open, tag_at, type_at};
 use rasn_types::types::Tag;
 
 /// Returns whether two tags are the same.
@@ -93,18 +93,17 @@ fn nothing_is_choice(own: Tag) -> bool
 }
 
 /// Returns whether a value of the type is recognized by its first tags.
-#[inline(always)]
-fn type_is_choice(ty: &Type) -> bool
-    ensures { (f : _) → IsWhether result (IsByFirstTags (type_by f ty.now)) }
+fn type_is_choice(types: &[Type], below: usize, ty: &Type) -> bool
+    ensures { IsWhether result (IsByFirstTags (type_by (shape_of_type types.now below) ty.now)) }
 {
     match ty {
-        Type::Choice { .. } => true,
+        Type::Choice { alternatives, .. } => !ends_open(types, below, alternatives),
         _ => false,
     }
 }
 
 /// Returns whether a component that may be absent, and whose type has this number, is recognized by the tags with which its values may
-/// begin, as a CHOICE is, and not by its own tag.
+/// begin, as a CHOICE is that has no unknown values, and not by its own tag.
 pub fn is_choice_at(types: &[Type], levels: usize, id: TypeId) -> bool
     ensures { IsWhether result (IsByFirstTags (shape_of_type types.now levels id.0)) }
 {
@@ -112,7 +111,7 @@ pub fn is_choice_at(types: &[Type], levels: usize, id: TypeId) -> bool
         return nothing_is_choice(tag_at(types, id));
     }
     match type_at(types, id) {
-        Some(ty) => type_is_choice(ty),
+        Some(ty) => type_is_choice(types, levels - 1, ty),
         None => true,
     }
 }
