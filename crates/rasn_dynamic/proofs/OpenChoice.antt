@@ -40,7 +40,7 @@ first_alternative f (b ∷ ks) tag (suc k) a (e, h, n) = ((λ g. n 0 b (omega ar
 
 -- There is one such alternative.
 pub one_alternative : (f : ℕ → Shape) (ks : List Alternative) (tag : Tag) (j k : ℕ) (a b : Alternative) → IsAlternativeFor f ks tag j a → IsAlternativeFor f ks tag k b → j ≡ k
-one_alternative f ks tag j k a b (e, h, n) (g, i, m) = elim cases_order j k [
+one_alternative f ks tag j k a b (e, h, n) (g, i, m) = elim (cases_order j k) [
   | inl same ↦ same
   | inr (inl before) ↦ absurd (m j a before e h)
   | inr (inr before) ↦ absurd (n k b before g i)
@@ -86,7 +86,7 @@ first_of_open none k s tag o h = absurd h
 first_of_open (part presence x none) zero s tag o (r, e, h) = inr (refl, sym e ∙ open_is x o, λ g. g)
 first_of_open (part presence x none) (suc k) s tag o (n, h) = absurd h
 first_of_open (part presence x (part next u ps)) zero s tag o h = inl h
-first_of_open (part presence x (part next u ps)) (suc k) s tag o (n, h) = elim first_of_open (part next u ps) k s tag o h [
+first_of_open (part presence x (part next u ps)) (suc k) s tag o (n, h) = elim (first_of_open (part next u ps) k s tag o h) [
   | inl g ↦ inl (n, g)
   | inr (e, a, m) ↦ inr (ap suc e, a, λ g. either n m g)
 ]
@@ -187,14 +187,14 @@ module _ (qs : Parts) (tag : Tag) (old new : State) (n : NextTag (form old.rule)
 
 module _ (ps : Parts) (k : ℕ) (s : Shape) (tag : Tag) (o : ends_open ps ≡ true) (first : IsFirstAlternative ps k s tag) (apart : AreDistinguished (before_last ps)) (old new : State) (n : NextTag (form old.rule) old.rest tag) where
   pub open_got : (t : Tree) → DecodesExactly (λ rule. Reads rule s) old (Got t new.rest) new → DecodesExactly (λ rule. Reads rule (open_choice (before_last ps))) old (Got (chosen k t) new.rest) new
-  open_got t d = elim first_of_open ps k s tag o first [
+  open_got t d = elim (first_of_open ps k s tag o first) [
     | inl g ↦ named_got (before_last ps) tag old new n (first_there (before_last ps) k s tag g) (chosen k t) (alternative_got (before_last ps) k required s tag n (first_alone (before_last ps) k s tag apart g) d)
     | inr (e, a, others) ↦ subst (λ i. DecodesExactly (λ rule. Reads rule (open_choice (before_last ps))) old (Got (chosen i t) new.rest) new) (sym e)
         (unknown_got (before_last ps) tag old new n others t (subst (λ z. DecodesExactly (λ rule. Reads rule z) old (Got t new.rest) new) a d))
   ]
 
   pub open_refused : (kind : DecodeErrorKind) → DecodesExactly (λ rule. Reads rule s) old (refusal kind) new → DecodesExactly (λ rule. Reads rule (open_choice (before_last ps))) old (refusal kind) new
-  open_refused kind d = elim first_of_open ps k s tag o first [
+  open_refused kind d = elim (first_of_open ps k s tag o first) [
     | inl g ↦ named_refused (before_last ps) tag old new n (first_there (before_last ps) k s tag g) kind (alternative_refused (before_last ps) k required s tag n (first_alone (before_last ps) k s tag apart g) kind d)
     | inr (e, a, others) ↦ unknown_refused (before_last ps) tag old new n others kind (subst (λ z. DecodesExactly (λ rule. Reads rule z) old (refusal kind) new) a d)
   ]

@@ -27,7 +27,7 @@ alternative_of none k s o a = absurd a
 alternative_of (part presence x none) zero s o a = inr (refl, sym a ∙ open_is x o)
 alternative_of (part presence x none) (suc k) s o a = absurd a
 alternative_of (part presence x (part next u ps)) zero s o a = inl a
-alternative_of (part presence x (part next u ps)) (suc k) s o a = elim alternative_of (part next u ps) k s o a [
+alternative_of (part presence x (part next u ps)) (suc k) s o a = elim (alternative_of (part next u ps) k s o a) [
   | inl b ↦ inl b
   | inr (e, b) ↦ inr (ap suc e, b)
 ]
@@ -116,13 +116,13 @@ module _ (qs : Parts) (t : Tree) (v w : View) where
 
 module _ (ps : Parts) (k : ℕ) (s : Shape) (t : Tree) (a : IsAlternative ps k s) (v w : View) where
   open_encoded : ends_open ps ≡ true → AppendsEncoding s t v w → AppendsEncoding (open_choice (before_last ps)) (chosen k t) v w
-  open_encoded o h = elim alternative_of ps k s o a [
+  open_encoded o h = elim (alternative_of ps k s o a) [
     | inl b ↦ named_encoded (before_last ps) k t (counted (before_last ps) k s b) v w (chosen_encoded (before_last ps) k s t b v w h)
     | inr (e, b) ↦ subst (λ i. AppendsEncoding (open_choice (before_last ps)) (chosen i t) v w) (sym e) (unknown_encoded (before_last ps) t v w (subst (λ z. AppendsEncoding z t v w) b h))
   ]
 
   open_refused : ends_open ps ≡ true → (e : EncodeError) → EncodeFails s t v e → EncodeFails (open_choice (before_last ps)) (chosen k t) v e
-  open_refused o x h = elim alternative_of ps k s o a [
+  open_refused o x h = elim (alternative_of ps k s o a) [
     | inl b ↦ named_refused (before_last ps) k t (counted (before_last ps) k s b) v w x (chosen_refused (before_last ps) k s t b v w x h)
     | inr (e, b) ↦ subst (λ i. EncodeFails (open_choice (before_last ps)) (chosen i t) v x) (sym e) (unknown_refused (before_last ps) t v w x (subst (λ z. EncodeFails z t v x) b h))
   ]
