@@ -179,9 +179,9 @@ module _ (f g : ℕ → Shape) (rule : Codec) (depth : ℕ) (closing : Bool) (id
   unfolding Reads
   choice_in ks b input t rest r = among (λ s. Reads rule s depth closing input t rest) (alternatives_by g ks)
       (λ e.
-        let o = among_open (λ s. Reads rule s depth closing input t rest) (alternatives_by f ks) (ends_same ks b ∙ e) r in
-        let p = subst (λ ps. Reads rule (open_choice ps) depth closing input t rest) (before_is f ks) o in
-        subst (λ ps. Reads rule (open_choice ps) depth closing input t rest) (sym (before_is g ks)) (open_in (but_last ks) (lower_but_last id ks b) input t rest p))
+      let o = among_open (λ s. Reads rule s depth closing input t rest) (alternatives_by f ks) (ends_same ks b ∙ e) r in
+      let p = subst (λ ps. Reads rule (open_choice ps) depth closing input t rest) (before_is f ks) o in
+      subst (λ ps. Reads rule (open_choice ps) depth closing input t rest) (sym (before_is g ks)) (open_in (but_last ks) (lower_but_last id ks b) input t rest p))
       (λ e. alternative_in ks b 0 input t rest (among_named (λ s. Reads rule s depth closing input t rest) (alternatives_by f ks) (ends_same ks b ∙ e) r))
 
   found_key : (o : Option «Type») → IsBehindOwn id o → key_of (found_by f o) ≡ key_of (found_by g o)

@@ -10,6 +10,7 @@ use Rattle.rasn_types.specs.Truth.{IsWhether}
 use Rattle.rasn_schema.specs.declared.types.Alternative.{Alternative}
 use Rattle.rasn_schema.specs.Shapes.{key_of, IsByFirstTags, nothing, found_by, tag_at, shape_of_type, alternatives_by, is_open, ends_open, before_last, choice_among}
 use Rattle.rasn_schema.proofs.Lists.{some_is}
+use Rattle.rasn_schema.proofs.Firsts.{whether_by}
 use Rattle.rasn_schema.specs.declared.types.«Type».{«Type»}
 use Rattle.rasn_schema.specs.declared.types.«Type».TheVariants.{Leaf, Enumerated, Any, Tagged, Choice, Sequence, Set, SequenceOf, SetOf, Unknown}
 
@@ -88,6 +89,9 @@ first_of_among ps n = among (λ s. IsFirst s n → IsFirstOf ps n) ps (λ e h. e
 
 pub first_among : (ps : Parts) (n : Tag) → IsFirstOf ps n → IsFirst (choice_among ps) n
 first_among ps n = among (λ s. IsFirstOf ps n → IsFirst s n) ps (λ e h. tt) (λ e h. h)
+
+pub first_told : (b : Bool) (ps : Parts) (n : Tag) → IsWhether b (IsFirstOf ps n) → IsWhether b (IsFirst (choice_among ps) n)
+first_told b ps n w = whether_by b _ _ (first_among ps n) (first_of_among ps n) w
 
 -- ---- the last alternative, and those before it
 
