@@ -41,6 +41,9 @@ OnePrefix = (rule : Codec) (tag : Tag) (s : Shape) → IsReadOnce rule s → IsR
 abbrev pub OneChoice : Type 0
 OneChoice = (rule : Codec) (ps : Parts) → AreReadOnce rule ps → AreDistinguished ps → IsReadOnce rule (choice ps)
 
+abbrev pub OneOpenChoice : Type 0
+OneOpenChoice = (rule : Codec) (ps : Parts) → AreReadOnce rule ps → AreDistinguished ps → IsReadOnce rule (open_choice ps)
+
 abbrev pub OneOption : Type 0
 OneOption = (rule : Codec) (tag : Option Tag) (s : Shape) → IsReadOnce rule s → IsReadOnce rule (option tag s)
 
@@ -49,10 +52,6 @@ OneSequence = (rule : Codec) (tag : Tag) (ps : Parts) → AreReadOnce rule ps �
 
 abbrev pub OneSet : Type 0
 OneSet = (rule : Codec) (tag : Tag) (ps : Parts) → AreReadOnce rule ps → AreDistinguished ps → IsReadOnce rule (set tag ps)
-
-abbrev pub OneOpenChoice : Type 0
-OneOpenChoice = (rule : Codec) (ps : Parts) → AreReadOnce rule ps → AreDistinguished ps → IsReadOnce rule (open_choice ps)
-
 
 abbrev pub OneSequenceOf : Type 0
 OneSequenceOf = (rule : Codec) (tag : Tag) (s : Shape) (size : Option (Bound ℕ)) → IsReadOnce rule s → IsReadOnce rule (list tag s size)

@@ -226,11 +226,11 @@ pub record LawfulShapes : Type 0 where
   pub addition_in_set : IsLawful (set (in_universal 17) (part addition (prefix (contextual 0) whole_number) none)) → ⊥
   pub string_as_sequence : IsLawful (plain octet_string 16) → ⊥
   pub value_of_no_tag : IsLawful (plain (integer every) 0) → ⊥
-  pub extensible_choice : IsLawful extensible_choice
-  pub extensible_alternatives_alike : IsLawful (open_choice two_alike) → ⊥
-  pub extensible_choice_in_choice : IsLawful (choice (part required extensible_choice none)) → ⊥
-  pub extensible_choice_in_set : IsLawful (set (in_universal 17) (part required extensible_choice none)) → ⊥
-  pub before_an_extensible_choice : IsLawful (seq (in_universal 16) (part optional whole_number (part required extensible_choice none))) → ⊥
+  pub unknown_alternative : IsLawful extensible_choice
+  pub two_alike_and_unknown : IsLawful (open_choice two_alike) → ⊥
+  pub unknown_alternative_in_choice : IsLawful (choice (part required extensible_choice none)) → ⊥
+  pub unknown_alternative_in_set : IsLawful (set (in_universal 17) (part required extensible_choice none)) → ⊥
+  pub optional_before_unknown_alternative : IsLawful (seq (in_universal 16) (part optional whole_number (part required extensible_choice none))) → ⊥
   pub unknown_at_the_end : IsLawful extensible
   pub unknown_before_a_part : IsLawful (seq (in_universal 16) (part required unknown (part required truth none))) → ⊥
   pub unknown_left_out : IsLawful (seq (in_universal 16) (part required truth (part optional unknown none))) → ⊥
@@ -246,6 +246,7 @@ pub record CarriedShapes : Type 0 where
   pub default_alone : carries_all seven ≡ true
   pub addition_behind_a_part : carries_all extended ≡ true
   pub unknown_values : carries_all extensible ≡ true
+  pub unknown_alternative : carries_all extensible_choice ≡ true
   pub tagged_open : carries_all (any (Some (contextual 1))) ≡ false
   pub addition_alone : carries_all added_alone ≡ false
   pub default_of_no_value : carries_all no_value ≡ false

@@ -6,12 +6,12 @@ use Rattle.rasn_types.specs.declared.types.codec.Codec.{Codec}
 use Rattle.rasn_types.specs.declared.types.codec.Codec.TheVariants.{Ber, Cer, Der}
 use Rattle.rasn_types.specs.Framing.{AreOctets}
 use Rattle.rasn_types.specs.Calendar.{Day}
-use Rattle.rasn_types.specs.Shapes.{Tree, number, bits, numbers, instant, on_day, items, set_elements, chosen, absent, integer, every, null, object_identifier, bit_string, named_bits, octet_string, date, any, prefix, list}
+use Rattle.rasn_types.specs.Shapes.{Tree, number, bits, numbers, instant, on_day, items, set_elements, chosen, absent, integer, every, null, object_identifier, bit_string, named_bits, octet_string, date, any, prefix, choice, list}
 use Rattle.rasn_types.specs.Trees.{signed_range}
 use Rattle.rasn_types.specs.Bytes.{Bytes}
 use Rattle.rasn_types.specs.Carried.{Carried}
-use Rattle.rasn.specs.Worked.{IsCarriedAs, IsRefusedBy, IsReadAs, one_two_three, three_two_one, rising_octets}
-use Rattle.rasn.specs.WorkedShapes.{plain, contextual, perhaps_bool, validity, three_of_set, turned_round, octets_in_set_of, algorithm, relative_name, extended, extensible, extensible_choice, mixed}
+use Rattle.rasn.specs.Worked.{IsCarriedAs, IsLenient, IsRefusedBy, IsReadAs, one_two_three, three_two_one, rising_octets}
+use Rattle.rasn.specs.WorkedShapes.{plain, contextual, perhaps_bool, validity, three_of_set, turned_round, octets_in_set_of, algorithm, relative_name, extended, extensible, known_alternatives, extensible_choice, mixed}
 
 abbrev pub on : ℕ → ℕ → ℕ → Day
 on y m d = record { year = pos y; month = m; day = d }
@@ -80,11 +80,21 @@ pub record WorkedUnknown : Type 0 where
   pub known_written : Bytes Der extensible (with_unknown ((128 ∷ 1 ∷ 7 ∷ []) ∷ [])) (48 ∷ 6 ∷ 1 ∷ 1 ∷ 255 ∷ 128 ∷ 1 ∷ 7 ∷ [])
   pub known_not_carried : Carried Der extensible (with_unknown ((128 ∷ 1 ∷ 7 ∷ []) ∷ [])) → ⊥
 
--- An alternative with another tag than those of the CHOICE is unknown. One with the tag of the BOOLEAN is written as
--- unknown, but isn't read back as such.
+-- The tree of an unknown value of `extensible_choice` with these octets.
+abbrev pub as_unknown : List ℕ → Tree
+as_unknown octets = chosen 2 (numbers octets)
+
+-- A value with another tag than those of the alternatives is unknown, and one with such a tag isn't, whatever its
+-- contents. Under DER the tag is spelled in the fewest octets, and the rest of an unknown value need not be. A value
+-- with the tag of the BOOLEAN is written as unknown, but isn't read back as such.
 pub record WorkedOpenChoice : Type 0 where
   pub known_read : IsReadAs Der extensible_choice (1 ∷ 1 ∷ 255 ∷ []) (chosen 0 (number (pos 1))) []
-  pub unknown_read : IsReadAs Der extensible_choice (129 ∷ 1 ∷ 7 ∷ []) (chosen 2 (numbers (129 ∷ 1 ∷ 7 ∷ []))) []
-  pub unknown_carried : IsCarriedAs Der extensible_choice (chosen 2 (numbers (129 ∷ 1 ∷ 7 ∷ []))) (129 ∷ 1 ∷ 7 ∷ [])
-  pub known_written : Bytes Der extensible_choice (chosen 2 (numbers (1 ∷ 1 ∷ 255 ∷ []))) (1 ∷ 1 ∷ 255 ∷ [])
-  pub known_not_carried : Carried Der extensible_choice (chosen 2 (numbers (1 ∷ 1 ∷ 255 ∷ []))) → ⊥
+  pub known_refused : IsLenient extensible_choice (1 ∷ 1 ∷ 5 ∷ []) (chosen 0 (number (pos 1)))
+  pub unknown_read : (rule : Codec) → IsReadAs rule extensible_choice (129 ∷ 1 ∷ 7 ∷ []) (as_unknown (129 ∷ 1 ∷ 7 ∷ [])) []
+  pub no_marker : (rule : Codec) → IsRefusedBy rule (choice known_alternatives) (129 ∷ 1 ∷ 7 ∷ [])
+  pub long_tag : IsLenient extensible_choice (159 ∷ 1 ∷ 1 ∷ 7 ∷ []) (as_unknown (159 ∷ 1 ∷ 1 ∷ 7 ∷ []))
+  pub long_length : IsReadAs Der extensible_choice (129 ∷ 129 ∷ 1 ∷ 7 ∷ []) (as_unknown (129 ∷ 129 ∷ 1 ∷ 7 ∷ [])) []
+  pub no_value : (rule : Codec) → IsRefusedBy rule extensible_choice []
+  pub unknown_carried : IsCarriedAs Der extensible_choice (as_unknown (129 ∷ 1 ∷ 7 ∷ [])) (129 ∷ 1 ∷ 7 ∷ [])
+  pub known_written : Bytes Der extensible_choice (as_unknown (1 ∷ 1 ∷ 255 ∷ [])) (1 ∷ 1 ∷ 255 ∷ [])
+  pub known_not_carried : Carried Der extensible_choice (as_unknown (1 ∷ 1 ∷ 255 ∷ [])) → ⊥

@@ -3,13 +3,13 @@
 //! those of docs/GLOSSARY.md.
 #![tactic(auto, using(crate::proofs::AllLaws::laws))]
 
-ghost use Rattle.rasn.specs.Laws.{OneLeaf, OneOpen, OnePrefix, OneChoice, OneOption, OneSequence, OneSet, OneSequenceOf, OneSetOf, OneUnknown};
+ghost use Rattle.rasn.specs.Laws.{OneLeaf, OneOpen, OnePrefix, OneChoice, OneOpenChoice, OneOption, OneSequence, OneSet, OneSequenceOf, OneSetOf, OneUnknown};
 ghost use Rattle.rasn.specs.Worked.{Worked, WorkedStrict};
 ghost use Rattle.rasn.specs.WorkedShapes.{DescribedParts, LawfulShapes, CarriedShapes};
 ghost use Rattle.rasn.specs.WorkedDepths.{WorkedDepths};
 ghost use Rattle.rasn.specs.WorkedHeaders.{WorkedHeaders};
 ghost use Rattle.rasn.specs.WorkedClauses.{WorkedClauses};
-ghost use Rattle.rasn.specs.WorkedValues.{WorkedValues, WorkedSets, WorkedOpens, WorkedUnknown};
+ghost use Rattle.rasn.specs.WorkedValues.{WorkedValues, WorkedSets, WorkedOpens, WorkedUnknown, WorkedOpenChoice};
 ghost use Rattle.rasn.specs.Laws.{OneReading, Included, ReadAgain, Canonical, WrittenOnce, StrictDer, OnlyCarried, AllCarried, StaysCarried, LawfulTested, OneEncoding, EncodingSteps};
 
 /// Proves that an input is read as at most one value of a leaf type, with at most one rest.
@@ -31,6 +31,12 @@ pub fn one_prefix()
 /// begin with the same tag.
 pub fn one_choice()
     ensures { OneChoice }
+{}
+
+/// Proves that a CHOICE with an extension marker is read in at most one way if its alternatives
+/// are, and no two alternatives begin with the same tag.
+pub fn one_open_choice()
+    ensures { OneOpenChoice }
 {}
 
 /// Proves that an optional value is read in at most one way if the value itself is.
@@ -194,6 +200,12 @@ pub fn worked_opens()
 /// Proves facts about unknown values at the end of a SEQUENCE that were worked out by hand.
 pub fn worked_unknown()
     ensures { WorkedUnknown }
+{}
+
+/// Proves which alternatives of a CHOICE with an extension marker are unknown, and which are read,
+/// written and carried.
+pub fn worked_open_choice()
+    ensures { WorkedOpenChoice }
 {}
 
 /// Proves examples and counterexamples of small clauses, such as those for offsets from UTC and for

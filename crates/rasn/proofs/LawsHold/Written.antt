@@ -9,7 +9,7 @@ use Rattle.rasn_types.specs.Lawful.{IsLawful}
 use Rattle.rasn.specs.Headline.{Identify}
 use Rattle.rasn.specs.Laws.{OneReading, Included, ReadAgain, Canonical, WrittenOnce, StrictDer, OneEncoding, EncodingSteps}
 use Rattle.rasn_types.proofs.Encoding.Complete.{whole_one, whole_text_one, steps_twice}
-pub use Rattle.rasn.proofs.OneReading.Shapes.{one_leaf, one_open, one_prefix, one_choice, one_option, one_sequence, one_set, one_sequence_of, one_set_of, one_unknown}
+pub use Rattle.rasn.proofs.OneReading.Shapes.{one_leaf, one_open, one_prefix, one_choice, one_open_choice, one_option, one_sequence, one_set, one_sequence_of, one_set_of, one_unknown}
 use Rattle.rasn_types.proofs.SetOf.Same.{same_sym, same_trans}
 use Rattle.rasn_types.proofs.Encoding.SameOctets.{once}
 use Rattle.rasn.proofs.OneReading.Shapes.{reads_one}

@@ -7,7 +7,7 @@ use Rattle.rasn_types.specs.Shapes.{Tree, items, set_elements, absent, Shape, le
 use Rattle.rasn_types.specs.declared.types.constraints.Bound.{Bound}
 use Rattle.rasn_types.specs.Shapes.Parts.{none}
 use Rattle.rasn_types.specs.Readings.{Reading, ReadsSeq, ReadsChoice, ReadsSet}
-use Rattle.rasn_types.specs.Grammar.{Reads, parts_of, ReadsAny, ReadsOpenChoice, ReadsList, ReadsSetOf}
+use Rattle.rasn_types.specs.Grammar.{Reads, parts_of, ReadsAny, ReadsList, ReadsSetOf}
 use Rattle.rasn_types.specs.Lawful.{AreDistinguished, IsLawful, AreAlternatives, AreLawfulInOrder, AreLawfulByTag}
 use Rattle.rasn.proofs.OneReading.Joined.{IsOne, inside_one, many_one, perhaps_one, EachPart, ReadsOne, seq_one, IsFirstIn, AreApart, choice_one, open_choice_one, set_one}
 use Rattle.rasn.proofs.OneReading.Leaves.{leaf_one}
@@ -56,15 +56,10 @@ pub one_choice : OneChoice
 unfolding Reads parts_of
 one_choice rule ps one told depth closing = choice_one rule (parts_of rule ps depth closing) (parts_one rule ps one depth closing) (apart rule ps depth closing told) 0
 
-open_reading_one : (rule : Codec) (ps : Parts) → AreReadOnce rule ps → AreDistinguished ps → (depth : ℕ) (closing : Bool)
-    → IsOne (ReadsOpenChoice rule (IsFirstOf ps) (count ps) (ReadsChoice rule 0 (parts_of rule ps depth closing)))
-open_reading_one rule ps one told depth closing = open_choice_one rule (parts_of rule ps depth closing) (IsFirstOf ps) (count ps) (ReadsAny rule) (first_in rule ps depth closing)
-    (choice_one rule (parts_of rule ps depth closing) (parts_one rule ps one depth closing) (apart rule ps depth closing told) 0) (any_one rule)
-
 pub one_open_choice : OneOpenChoice
 unfolding Reads parts_of
-one_open_choice rule ps one told depth closing = open_reading_one rule ps one told depth closing
-
+one_open_choice rule ps one told depth closing =
+    open_choice_one rule (parts_of rule ps depth closing) (IsFirstOf ps) (count ps) (ReadsAny rule) (first_in rule ps depth closing) (one_choice rule ps one told depth closing) (any_one rule)
 
 pub one_option : OneOption
 unfolding Reads parts_of

@@ -92,7 +92,7 @@ some_is_next rule none k depth closing input t rest h = absurd h
 some_is_next rule (part presence s ps) k depth closing input t rest (inl h) = (h.2, h.3)
 some_is_next rule (part presence s ps) k depth closing input t rest (inr h) = some_is_next rule ps (suc k) depth closing input t rest h
 
-chosen_is_next : (rule : Codec) (ps : Parts) (depth : ℕ) (closing : Bool) (input : List ℕ) (t : Tree) (rest : List ℕ) → Reads rule (open_choice ps) depth closing input t rest → (n : Tag) × NextTag (form rule) input n
+pub chosen_is_next : (rule : Codec) (ps : Parts) (depth : ℕ) (closing : Bool) (input : List ℕ) (t : Tree) (rest : List ℕ) → Reads rule (open_choice ps) depth closing input t rest → (n : Tag) × NextTag (form rule) input n
 unfolding Reads parts_of
 chosen_is_next rule ps depth closing input t rest (inl h) = some_is_next rule ps 0 depth closing input t rest h
 chosen_is_next rule ps depth closing input t rest (inr h) = (h.2, h.3)

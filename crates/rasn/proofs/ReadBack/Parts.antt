@@ -16,7 +16,7 @@ use Rattle.rasn_types.proofs.Headers.Frames.{not_ended}
 use Rattle.rasn.proofs.ReadBack.Begins.{begins, HasNextTag, has_next_tag, tagged, IsOpenChoice, Starts, starts}
 use Rattle.rasn.proofs.ReadBack.Constructed.{IsTail, tail_ended, IsReadAs}
 use Rattle.rasn_types.proofs.SetOf.Same.{each_same, same_trans}
-use Rattle.rasn_types.proofs.Encoding.SameOctets.{other_written}
+use Rattle.rasn_types.proofs.Encoding.SameOctets.{other_written, written_below}
 
 -- What is written of the shape is read again at this depth, as a tree that is the same.
 abbrev pub IsBack : Codec → Shape → ℕ → Type 0
@@ -76,7 +76,7 @@ not_ended_alone : (o : List ℕ) → o ≢ [] → Ended false o → ⊥
 not_ended_alone o some (inl e) = some e
 not_ended_alone o some (inr h) = let e = h.0 in cc
 
-next_more : {spelling : Form} {o : List ℕ} {n : Tag} (more : List ℕ) → NextTag spelling o n → NextTag spelling (o ++ more) n
+pub next_more : {spelling : Form} {o : List ℕ} {n : Tag} (more : List ℕ) → NextTag spelling o n → NextTag spelling (o ++ more) n
 next_more {o = o} {n = n} more h = record {
   begins = record {
     id = h.begins.id;
@@ -400,12 +400,23 @@ other_index rule (part presence s ps) depth k j t u h e (inl m) =
     let f = m.1 in let g : j ≡ k = cc in omega arith
 other_index rule (part presence s ps) depth k j t u h e (inr m) = other_index rule ps depth (suc k) j t u (omega arith) e m
 
--- What is within the limits of an alternative isn't beyond the last one.
-pub none_beyond : (rule : Codec) (ps : Parts) (depth k : ℕ) (t v : Tree) → t ≡ chosen (k + count ps) v → ChosenIsWithinLimits rule k ps depth t → ⊥
+-- What is within the limits of an alternative has the number of one.
+limits_below : (rule : Codec) (ps : Parts) (depth k n : ℕ) (t v : Tree) → t ≡ chosen n v → ChosenIsWithinLimits rule k ps depth t → n < k + count ps
 unfolding IsWithinLimits
-none_beyond rule none depth k t v e m = m
-none_beyond rule (part presence s ps) depth k t v e (inl (u, f, m)) = let g : k ≡ k + suc (count ps) = cc in omega (arith, g)
-none_beyond rule (part presence s ps) depth k t v e (inr m) = none_beyond rule ps depth (suc k) t v (e ∙ ap (λ n. chosen n v) (omega arith)) m
+limits_below rule none depth k n t v e m = absurd m
+limits_below rule (part presence s ps) depth k n t v e (inl (u, f, m)) = let g : n ≡ k = cc in omega (arith, g)
+limits_below rule (part presence s ps) depth k n t v e (inr m) = let l = limits_below rule ps depth (suc k) n t v e m in omega (arith, l)
+
+-- The number after those of the alternatives isn't within their limits, and isn't written as one of them.
+pub none_within : (rule : Codec) (ps : Parts) (depth : ℕ) (t v : Tree) → t ≡ chosen (count ps) v → ChosenIsWithinLimits rule 0 ps depth t → ⊥
+none_within rule ps depth t v e m = let l = limits_below rule ps depth 0 (count ps) t v e m in omega (arith, l)
+
+pub none_written : (rule : Codec) (ps : Parts) (t v : Tree) (b : List ℕ) → t ≡ chosen (count ps) v → WritesChoice 0 (fields_of rule ps) t b → ⊥
+none_written rule ps t v b e w =
+    let r = written_below rule ps 0 t b w in
+    let f = r.2 in
+    let g : r.0 ≡ count ps = cc in
+    omega (arith, r.3, g)
 
 pub choice_back : (rule : Codec) (depth : ℕ) (ps : Parts) → EachTagged ps → AllRequired ps → EachBack rule depth ps → (k : ℕ) (t : Tree) (b : List ℕ)
     → ChosenIsWithinLimits rule k ps depth t → WritesChoice k (fields_of rule ps) t b

@@ -80,14 +80,14 @@ component_back rule depth s back (default_by key d) t b within_limits (inl (e, f
 component_back rule depth s back (default_by key d) t b (inl e) (inr w) = absurd (w.0 e)
 component_back rule depth s back (default_by key d) t b (inr within_limits) (inr w) = let r = back t b within_limits w.1 in (r.0, r.1, inr ((λ e. w.0 (same_trans t r.0 d r.1 e)), r.2))
 
--- A component, by these readings.
-pub record ReadMore (reads : Bool → Reading Tree) (b : List ℕ) (t : Tree) : Type 0 where
-  pub again : (rest : List ℕ) (closing : Bool) → reads closing (b ++ rest) t rest
+-- A component, among all.
+pub record ReadMore (rule : Codec) (depth : ℕ) (all : Parts) (b : List ℕ) (t : Tree) : Type 0 where
+  pub again : (rest : List ℕ) (closing : Bool) → Component rule depth all closing (b ++ rest) t rest
   pub begins : (rest : List ℕ) → HasNextTag (b ++ rest)
 
 read_more : (rule : Codec) (depth : ℕ) (all : Parts) (k : ℕ) (presence : Presence) (s : Shape) (ps : Parts) → IsAlwaysPresent s → HasTag s
     → IsAmong rule depth all k (part presence s ps) → (v : Tree) (b : List ℕ) → IsNoDefault presence v
-    → ((rest : List ℕ) (closing : Bool) → Reads rule s depth closing (b ++ rest) v rest) → ReadMore (Component rule depth all) b (chosen k v)
+    → ((rest : List ℕ) (closing : Bool) → Reads rule s depth closing (b ++ rest) v rest) → ReadMore rule depth all b (chosen k v)
 unfolding Reads parts_of
 read_more rule depth all k presence s ps solid has among v b differs again = record {
   again = λ rest closing.

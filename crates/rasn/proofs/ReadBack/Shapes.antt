@@ -1,12 +1,12 @@
 -- What is written of a carried tree is read back.
-use Rattle.std.proofs.Common.{◌≡◌, ℕ, ◌-◌, ◌≤◌, ◌⊎◌, ◌≢◌, inl, inr, List, [], ◌∷◌, ◌++◌, Bool, true, false, Option, Some, None, refl, sym, ◌∙◌, subst, append-nil, append_assoc, ap, arith}
+use Rattle.std.proofs.Common.{◌≡◌, ℕ, ◌-◌, ◌≤◌, ◌⊎◌, ◌≢◌, inl, inr, List, [], ◌∷◌, ◌++◌, Bool, true, false, Option, Some, None, refl, sym, ◌∙◌, subst, append-nil, append_assoc, ap}
 use Rattle.std.proofs.lemmas.List.Sorted.{IsPermutation-refl}
 use Rattle.rasn_types.specs.Tags.{Form, form, eoc, loose_form, loose}
 use Rattle.rasn_types.specs.declared.types.codec.Codec.{Codec}
 use Rattle.rasn_types.specs.declared.types.codec.Codec.TheVariants.{Ber, Cer, Der}
 use Rattle.rasn_types.specs.declared.types.tag.Tag.{Tag}
 use Rattle.rasn_types.specs.Framing.{NextTag, Frame, with_length, definite, Ended, CompleteEncoding, plain, CompleteEncodings, none, one_more}
-use Rattle.rasn_types.specs.Shapes.{Tree, numbers, items, joined, set_elements, absent, Admits, Shape, leaf, any, prefix, choice, open_choice, option, seq, set, list, set_of, unknown, Parts, part, count, chosen, IsFirstOf, own, one_tag, Presence, required, presences, IsAlwaysPresent}
+use Rattle.rasn_types.specs.Shapes.{Tree, numbers, items, joined, set_elements, absent, Admits, Shape, leaf, any, prefix, choice, open_choice, option, seq, set, list, set_of, unknown, Parts, part, count, chosen, IsFirstOf, own, one_tag, required, presences, IsAlwaysPresent}
 use Rattle.rasn_types.specs.declared.types.constraints.Bound.{Bound}
 use Rattle.rasn_types.specs.Readings.{IsLeftOut, IsPresent, Reading, ReadsMany, ReadsFrom, ReadsSeq, ReadsUnknown, ReadsSet}
 use Rattle.rasn_types.specs.Contents.{joined_lists}
@@ -16,14 +16,12 @@ use Rattle.rasn_types.specs.Carried.{IsOneEncoding, IsUnknownValue, NoneTaken, I
 use Rattle.rasn_types.specs.Lawful.{IsLawful, AreAlternatives, AreLawfulInOrder, AreLawfulByTag}
 use Rattle.rasn_types.proofs.Headers.Frames.{frame_next, not_ended}
 use Rattle.rasn.proofs.Included.IntoBer.{IsOptional, IsIn, many_in, solid_of}
-use Rattle.rasn_de.proofs.Headers.Begins.{begins_more}
 use Rattle.rasn.proofs.ReadBack.Begins.{has_next_tag}
 use Rattle.rasn.proofs.ReadBack.Constructed.{IsTail, tail_ended, IsReadAs, definite_back, closed_back, cons_back, EachReadBack, many_back}
 use Rattle.rasn_types.proofs.SetOf.Same.{items_one, each_same, each_length}
 use Rattle.rasn.proofs.ReadBack.Leaves.{leaf_back}
-use Rattle.rasn.proofs.ReadBack.Parts.{EachTagged, AllRequired, is_there, IsBack, EachBack, UnknownBack, IsUnknownNext, EachBackInOrder, seq_back, none_beyond, choice_back}
+use Rattle.rasn.proofs.ReadBack.Parts.{EachTagged, AllRequired, is_there, IsBack, EachBack, UnknownBack, IsUnknownNext, EachBackInOrder, seq_back, next_more, none_within, none_written, choice_back}
 use Rattle.rasn.proofs.ReadBack.Set.{Component, set_back}
-use Rattle.rasn_types.proofs.Encoding.SameOctets.{written_below}
 
 whole_frame : (rule : Codec) {input rest c : List ℕ} {s : Tag} {b : Bool} → Frame loose_form input s b rest (definite c) → Frame (loose rule) input s b rest (definite c)
 whole_frame Ber (with_length id len c p q z e) = with_length id len c p q (λ h. absurd h) e
@@ -212,25 +210,18 @@ in_set_back rule tag one ps depth has back t b (deep, us, e, ms) (ts, bs, tags, 
 whole_octets : (rule : Codec) (u : Tree) (b : List ℕ) → IsOneEncoding u → u ≡ numbers b → CompleteEncoding rule b
 whole_octets rule u b m e = let h : m.octets ≡ b = let i = m.is in cc in subst (CompleteEncoding rule) h (plain m.tag m.bit m.contents (whole_frame rule m.frame))
 
-next_more : (spelling : Form) (b rest : List ℕ) (tag : Tag) → NextTag spelling b tag → NextTag spelling (b ++ rest) tag
-next_more spelling b rest tag n = record { begins = begins_more b rest tag n.begins; is_one = n.is_one; shortest = n.shortest }
-
 -- An unknown value is read, whatever follows.
 unknown_read : (rule : Codec) (P : Tag → Type 0) (k : ℕ) (u : Tree) (b : List ℕ) → IsUnknownValue rule P u → u ≡ numbers b → CompleteEncoding rule b → (rest : List ℕ) → ReadsUnknown rule P k (ReadsAny rule) (b ++ rest) (chosen k u) rest
 unknown_read rule P k u b m e whole rest =
     let h : m.one.octets ≡ b = let i = m.one.is in cc in
-    (u, refl, m.tag, next_more (form rule) b rest m.tag (subst (λ l. NextTag (form rule) l m.tag) h m.next), m.other, (b, e, whole, refl))
+    (u, refl, m.tag, next_more rest (subst (λ l. NextTag (form rule) l m.tag) h m.next), m.other, (b, e, whole, refl))
 
 open_choice_back : (rule : Codec) (depth : ℕ) (ps : Parts) → EachTagged ps → AllRequired ps → EachBack rule depth ps → IsBack rule (open_choice ps) depth
 unfolding Reads parts_of Bytes fields_of IsWithinLimits
 open_choice_back rule depth ps has needed back t b (inl m) (inl w) =
     let r = choice_back rule depth ps has needed back 0 t b m w in (r.0, r.1, λ rest closing. inl (r.2 rest closing))
-open_choice_back rule depth ps has needed back t b (inl m) (inr e) = absurd (none_beyond rule ps depth 0 t (numbers b) e m)
-open_choice_back rule depth ps has needed back t b (inr (u, e, m)) (inl w) =
-    let r = written_below rule ps 0 t b w in
-    let f = r.2 in
-    let g : r.0 ≡ count ps = cc in
-    absurd (omega (arith, r.3, g))
+open_choice_back rule depth ps has needed back t b (inl m) (inr e) = absurd (none_within rule ps depth t (numbers b) e m)
+open_choice_back rule depth ps has needed back t b (inr (u, e, m)) (inl w) = absurd (none_written rule ps t u b e w)
 open_choice_back rule depth ps has needed back t b (inr (u, e, m)) (inr f) =
     let g : u ≡ numbers b = cc in (
       chosen (count ps) u,

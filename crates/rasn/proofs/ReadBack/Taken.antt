@@ -1,7 +1,7 @@
 -- Where there are no unknown values, none is taken for a part.
-use Rattle.std.proofs.Common.{◌≡◌, ◌||◌, ℕ, Bool, true, false, List, [], ◌∷◌, inl, inr, refl, sym, ap, subst, ◌∙◌, true≢false}
+use Rattle.std.proofs.Common.{◌≡◌, ◌||◌, ℕ, Bool, true, false, List, [], ◌∷◌, inl, inr, refl, sym, ap, ◌∙◌, true≢false}
 use Rattle.rasn_types.specs.declared.types.codec.Codec.{Codec}
-use Rattle.rasn_types.specs.Shapes.{Tree, Shape, seq, unknown, Parts, part}
+use Rattle.rasn_types.specs.Shapes.{Tree, Shape, seq, Parts, part}
 use Rattle.rasn_types.specs.Shapes.Parts.{none}
 use Rattle.rasn_types.specs.LawfulTest.{is_unknown}
 use Rattle.rasn_types.specs.Carried.{BeginsUnknown, NoneTaken}

@@ -4,10 +4,10 @@ use Rattle.std.proofs.lemmas.List.Sorted.{IsPermutation-refl}
 use Rattle.rasn_types.specs.declared.types.tag.Tag.{Tag}
 use Rattle.rasn_types.specs.declared.types.codec.Codec.TheVariants.{Der}
 use Rattle.rasn_types.specs.Tags.{der_form}
-use Rattle.rasn_types.specs.Framing.{Frame, without_length, NextTag, Ended, CompleteEncoding}
+use Rattle.rasn_types.specs.Framing.{without_length, NextTag, Ended, CompleteEncoding}
 use Rattle.rasn_types.specs.Calendar.{Moment}
 use Rattle.rasn_types.specs.Time.{CarriedUtc, CarriedDay}
-use Rattle.rasn_types.specs.Shapes.{presences, Tree, number, bits, numbers, instant, on_day, done, joined, items, set_elements, chosen, absent, Same, Kind, utc_time, generalized_time, date, Shape, leaf, any, prefix, choice, open_choice, option, seq, set, list, set_of, unknown, Parts, part, count, IsFirstOf, own, Presence, required, addition, optional_by, default_by, Sought, one_tag, any_of, sought_in}
+use Rattle.rasn_types.specs.Shapes.{presences, Tree, number, bits, numbers, instant, on_day, done, joined, items, set_elements, chosen, absent, Same, Kind, utc_time, generalized_time, date, Shape, leaf, any, prefix, choice, open_choice, option, seq, set, list, set_of, unknown, Parts, part, IsFirstOf, own, Presence, required, addition, optional_by, default_by, Sought, one_tag, any_of, sought_in}
 use Rattle.rasn_types.specs.declared.types.constraints.Bound.{Bound}
 use Rattle.rasn_types.specs.Shapes.Parts.{none}
 use Rattle.rasn_types.specs.Described.{has_required, has_addition}
@@ -15,7 +15,7 @@ use Rattle.rasn_types.specs.Readings.{Reading, ReadsContents, definite_form, ind
 use Rattle.rasn_types.specs.BitString.{significant}
 use Rattle.rasn_types.specs.Grammar.{Reads, parts_of, Family, plain_family, bit_family, named_family, text_family, family, ReadsIn, Text, ReadsAny, ReadsList, ReadsSetOf}
 use Rattle.rasn_types.specs.Carried.{EachOf, PartIsWithinLimits, IsCarriedTime, LeafIsWithinLimits, IsOneEncoding, IsUnwritten, BeginsUnknown, NoneTaken, IsWithinLimits, AreWithinLimits, ChosenIsWithinLimits, IsUnknownValue}
-use Rattle.rasn_types.specs.Lawful.{IsLawful, EndsUnknown, AreLawfulInOrder, AreLawfulByTag}
+use Rattle.rasn_types.specs.Lawful.{IsLawful, AreLawfulInOrder, AreLawfulByTag}
 use Rattle.rasn_types.proofs.Lawful.{lawful_decides}
 use Rattle.rasn_types.proofs.Headers.Frames.{id_one, frame_next}
 use Rattle.rasn_types.proofs.Time.Spellings.{both_true}

@@ -21,9 +21,9 @@ use Rattle.rasn.proofs.ReadBack.Shapes.{EachGood, alternatives_good, EachGoodInO
 use Rattle.rasn.proofs.LawsHold.Written.{one_reading, read_again}
 use Rattle.rasn.proofs.StrictDer.Shapes.{there, unknown_there, set_elements_one}
 use Rattle.rasn.proofs.StrictDer.Leaves.{tail_octets, framed, no_open, in_told}
-use Rattle.rasn.proofs.StrictDer.Parts.{IsNeverAbsent, nothing, other_read, not_beyond}
+use Rattle.rasn.proofs.StrictDer.Parts.{IsNeverAbsent, nothing, other_read, none_read}
 use Rattle.rasn.proofs.StrictDer.Set.{Components, first_is_next, behind, by_part_less, fewer}
-use Rattle.rasn.proofs.ReadBack.Parts.{none_beyond}
+use Rattle.rasn.proofs.ReadBack.Parts.{none_within}
 use Rattle.rasn.proofs.StrictDer.Limits.{PartOwes, Owes, OwesParts, OwesChoice, other_owed, owed_meets, meets_owed, owes_like}
 use Rattle.rasn.specs.Laws.{OnlyCarried, StaysCarried}
 
@@ -249,8 +249,8 @@ in_set_made tag ps depth lawful k closing input t rest o (deep, h) (deep', us, f
 open_choice_made : (ps : Parts) (depth : ℕ) → EachMade depth ps → IsMade (open_choice ps) depth
 unfolding Reads parts_of Bytes fields_of Owes IsWithinLimits
 open_choice_made ps depth made closing input t rest o (inl h) (inl m) = let r = choice_made ps depth made 0 closing input t rest o h m in (r.0, inl r.1, r.2)
-open_choice_made ps depth made closing input t rest o (inl h) (inr (u, e, m)) = absurd (not_beyond ps depth closing input t u rest h e)
-open_choice_made ps depth made closing input t rest o (inr (u, e, n, next, other, h)) (inl m) = absurd (none_beyond Der ps depth 0 t u e (owed_meets (choice ps) depth t m))
+open_choice_made ps depth made closing input t rest o (inl h) (inr (u, e, m)) = absurd (none_read ps depth closing input t u rest h e)
+open_choice_made ps depth made closing input t rest o (inr (u, e, n, next, other, h)) (inl m) = absurd (none_within Der ps depth t u e (owed_meets (choice ps) depth t m))
 open_choice_made ps depth made closing input t rest o (inr (u, e, n, next, other, (text, f, whole, g))) (inr m) = (text, inr (e ∙ ap (chosen (count ps)) f), g)
 
 in_list_made : (tag : Tag) (s : Shape) (size : Option (Bound ℕ)) (depth : ℕ) → IsMade s (depth - 2) → IsMade (list tag s size) depth

@@ -7,8 +7,8 @@ use Rattle.rasn_types.specs.Grammar.{family}
 use Rattle.rasn_types.specs.Bytes.{Same, Each, WritesPart, PartsWritten, WritesChoice, Bytes, fields_of}
 use Rattle.rasn_types.specs.Carried.{PartIsWithinLimits, EachOf, LeafIsWithinLimits, IsOneEncoding, IsUnwritten, BeginsUnknown, NoneTaken, IsWithinLimits, AreWithinLimits, ChosenIsWithinLimits, IsUnknownValue}
 use Rattle.rasn_types.proofs.SetOf.Same.{items_one, same_sym, same_trans, each_moved}
-use Rattle.rasn_types.proofs.Encoding.SameOctets.{in_flat, flat_one, other_written, written_below}
-use Rattle.rasn.proofs.ReadBack.Parts.{other_index, none_beyond}
+use Rattle.rasn_types.proofs.Encoding.SameOctets.{in_flat, flat_one, other_written}
+use Rattle.rasn.proofs.ReadBack.Parts.{other_index, none_within, none_written}
 use Rattle.rasn.specs.Laws.{IsOwnDefault, HasOwnDefaults, HaveOwnDefaults}
 
 abbrev pub PartOwes : Presence → (Tree → Type 0) → Tree → Type 0
@@ -203,12 +203,8 @@ mutual
   owes_like (prefix tag s) depth t u b same w m = (m.0, owes_like s (depth - 1) t u w.0 same w.1 m.1)
   owes_like (choice ps) depth t u b same w m = choice_like ps depth 0 t u b same w m
   owes_like (open_choice ps) depth t u b same (inl w) (inl m) = inl (choice_like ps depth 0 t u b same w m)
-  owes_like (open_choice ps) depth t u b same (inl w) (inr (v, e, m)) =
-      let r = written_below Der ps 0 t b w in
-      let f = r.2 in
-      let g : r.0 ≡ count ps = cc in
-      absurd (omega (arith, r.3, g))
-  owes_like (open_choice ps) depth t u b same (inr e) (inl m) = absurd (none_beyond Der ps depth 0 t (numbers b) e m)
+  owes_like (open_choice ps) depth t u b same (inl w) (inr (v, e, m)) = absurd (none_written Der ps t v b e w)
+  owes_like (open_choice ps) depth t u b same (inr e) (inl m) = absurd (none_within Der ps depth t (numbers b) e m)
   owes_like (open_choice ps) depth t u b same (inr e) (inr (v, f, m)) =
       let r : Same (chosen (count ps) (numbers b)) u = subst (λ z. Same z u) e same in
       let g : v ≡ numbers b = cc in

@@ -1,9 +1,8 @@
 -- The octets of parts and elements that DER reads are those that are written.
-use Rattle.std.proofs.Common.{◌≡◌, ℕ, suc, ◌+◌, ◌<◌, ◌≢◌, inl, inr, List, [], ◌∷◌, ◌++◌, Bool, Option, sym, ap, ap₂, ◌∙◌, subst, arith, append_assoc}
+use Rattle.std.proofs.Common.{◌≡◌, ℕ, suc, ◌+◌, ◌<◌, ◌≢◌, inl, inr, List, [], ◌∷◌, ◌++◌, Bool, sym, ap, ap₂, ◌∙◌, subst, arith, append_assoc}
 use Rattle.rasn_types.specs.declared.types.codec.Codec.TheVariants.{Der}
-use Rattle.rasn_types.specs.declared.types.tag.Tag.{Tag}
 use Rattle.rasn_types.specs.Framing.{AreOctets}
-use Rattle.rasn_types.specs.Shapes.{Tree, chosen, absent, Shape, Parts, part, count, own, Presence, required, addition, optional_by, default_by, default, Sought, sought_in}
+use Rattle.rasn_types.specs.Shapes.{Tree, chosen, absent, Shape, Parts, part, count, Presence, required, addition, optional_by, default_by, default, Sought, sought_in}
 use Rattle.rasn_types.specs.Shapes.Parts.{none}
 use Rattle.rasn_types.specs.Readings.{ReadsMany, IsNoDefault, ReadsPart, ReadsInOrder, IsMissing, AllMissing, presences_in, ReadsChoice}
 use Rattle.rasn_types.specs.Order.{Each}
@@ -108,15 +107,15 @@ other_read none depth k j c input t u rest h e m = m
 other_read (part presence s ps) depth k j c input t u rest h e (inl m) = let f = m.1 in let g : j ≡ k = cc in omega arith
 other_read (part presence s ps) depth k j c input t u rest h e (inr m) = other_read ps depth (suc k) j c input t u rest (omega arith) e m
 
--- The alternative that is read is one of the parts.
-pub read_below : (ps : Parts) (depth k : ℕ) (c : Bool) (input : List ℕ) (t : Tree) (rest : List ℕ) → ReadsChoice Der k (parts_of Der ps depth c) input t rest → (j : ℕ) × (u : Tree) × (t ≡ chosen j u) × (j < k + count ps)
+-- The alternative that is read is one of the parts, and isn't the number after theirs.
+read_below : (ps : Parts) (depth k : ℕ) (c : Bool) (input : List ℕ) (t : Tree) (rest : List ℕ) → ReadsChoice Der k (parts_of Der ps depth c) input t rest → (j : ℕ) × (u : Tree) × (t ≡ chosen j u) × (j < k + count ps)
 unfolding Reads parts_of
 read_below none depth k c input t rest h = absurd h
 read_below (part presence s ps) depth k c input t rest (inl h) = (k, h.0, h.1, omega arith)
 read_below (part presence s ps) depth k c input t rest (inr h) = let r = read_below ps depth (suc k) c input t rest h in (r.0, r.1, r.2, omega (arith, r.3))
 
-pub not_beyond : (ps : Parts) (depth : ℕ) (c : Bool) (input : List ℕ) (t v : Tree) (rest : List ℕ) → ReadsChoice Der 0 (parts_of Der ps depth c) input t rest → t ≡ chosen (count ps) v → ⊥
-not_beyond ps depth c input t v rest h e =
+pub none_read : (ps : Parts) (depth : ℕ) (c : Bool) (input : List ℕ) (t v : Tree) (rest : List ℕ) → ReadsChoice Der 0 (parts_of Der ps depth c) input t rest → t ≡ chosen (count ps) v → ⊥
+none_read ps depth c input t v rest h e =
     let r = read_below ps depth 0 c input t rest h in
     let f = r.2 in
     let g : r.0 ≡ count ps = cc in

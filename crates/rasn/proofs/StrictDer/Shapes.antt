@@ -1,10 +1,10 @@
 -- What DER reads of a carried tree is what is written of it.
-use Rattle.std.proofs.Common.{◌≡◌, ℕ, suc, ◌-◌, ◌≢◌, inl, inr, List, [], ◌∷◌, ◌++◌, Bool, true, false, Option, Some, None, refl, sym, ap, ◌∙◌, subst, arith, append-nil}
+use Rattle.std.proofs.Common.{◌≡◌, ℕ, suc, ◌-◌, ◌≢◌, inl, inr, List, [], ◌∷◌, ◌++◌, Bool, true, false, Option, Some, None, refl, sym, ap, ◌∙◌, subst, append-nil}
 use Rattle.rasn_types.specs.Tags.{loose_form}
 use Rattle.rasn_types.specs.declared.types.codec.Codec.TheVariants.{Der}
 use Rattle.rasn_types.specs.declared.types.tag.Tag.{Tag}
 use Rattle.rasn_types.specs.Framing.{AreOctets, Frame, definite}
-use Rattle.rasn_types.specs.Shapes.{Tree, items, set_elements, absent, Kind, boolean, null, object_identifier, integer, enumerated, octet_string, fixed, numeric, printable, visible, ia5, any_octets, bmp, utf8, utc_time, generalized_time, date, Shape, leaf, any, prefix, choice, open_choice, option, seq, set, list, set_of, unknown, Parts, part, count, IsAlwaysPresent}
+use Rattle.rasn_types.specs.Shapes.{Tree, items, set_elements, absent, Kind, boolean, null, object_identifier, integer, enumerated, octet_string, fixed, numeric, printable, visible, ia5, any_octets, bmp, utf8, utc_time, generalized_time, date, Shape, leaf, any, prefix, choice, open_choice, option, seq, set, list, set_of, unknown, Parts, part, IsAlwaysPresent}
 use Rattle.rasn_types.specs.declared.types.constraints.Bound.{Bound}
 use Rattle.rasn_types.specs.Shapes.Parts.{none}
 use Rattle.rasn_types.specs.Readings.{ReadsContents, definite_form, indefinite_form, Reading, ReadsChoice}
@@ -16,11 +16,11 @@ use Rattle.rasn_types.specs.Lawful.{IsLawful, AreLawfulByTag}
 use Rattle.rasn_types.proofs.Headers.Frames.{frame_next, not_ended}
 use Rattle.rasn_types.proofs.SetOf.Same.{items_one}
 use Rattle.rasn_types.proofs.Encoding.Determined.{definite_one, numbers_one}
+use Rattle.rasn.proofs.ReadBack.Parts.{none_written}
 use Rattle.rasn.proofs.ReadBack.Shapes.{EachGood, alternatives_good, EachGoodInOrder, in_order_good, by_tag_good}
 use Rattle.rasn.proofs.StrictDer.Leaves.{framed, no_open, leaf_told}
-use Rattle.rasn.proofs.StrictDer.Parts.{IsTold, IsNeverAbsent, Told, EachTold, in_order_told, all_missing_told, not_beyond, choice_decided, many_told}
+use Rattle.rasn.proofs.StrictDer.Parts.{IsTold, IsNeverAbsent, Told, EachTold, in_order_told, all_missing_told, none_read, choice_decided, many_told}
 use Rattle.rasn.proofs.StrictDer.Set.{set_told}
-use Rattle.rasn_types.proofs.Encoding.SameOctets.{written_below}
 
 -- Contents in a value that is written round them.
 enclosed : {X : Type 0} (tag : Tag) (bit : Bool) → bit ≡ true → (inner : Bool → Reading X) (input : List ℕ) (x : X) (rest c b : List ℕ) → AreOctets input → DefiniteForm tag true c b
@@ -62,13 +62,9 @@ option_decided tag s depth k closing input t rest b o (inr (p, h)) (inr (e, w)) 
 open_choice_told : (ps : Parts) (depth : ℕ) → EachTold depth ps → IsTold (open_choice ps) depth
 unfolding Reads parts_of Bytes fields_of IsWithinLimits
 open_choice_told ps depth told closing input t rest b o (inl h) (inl w) (inl m) = choice_decided ps depth told 0 closing input t rest b o h w m
-open_choice_told ps depth told closing input t rest b o (inl h) w (inr (u, e, m)) = absurd (not_beyond ps depth closing input t u rest h e)
-open_choice_told ps depth told closing input t rest b o (inl h) (inr e) (inl m) = absurd (not_beyond ps depth closing input t _ rest h e)
-open_choice_told ps depth told closing input t rest b o (inr (u, e, n, next, other, h)) (inl w) m =
-    let r = written_below Der ps 0 t b w in
-    let f = r.2 in
-    let g : r.0 ≡ count ps = cc in
-    absurd (omega (arith, r.3, g))
+open_choice_told ps depth told closing input t rest b o (inl h) w (inr (u, e, m)) = absurd (none_read ps depth closing input t u rest h e)
+open_choice_told ps depth told closing input t rest b o (inl h) (inr e) (inl m) = absurd (none_read ps depth closing input t _ rest h e)
+open_choice_told ps depth told closing input t rest b o (inr (u, e, n, next, other, h)) (inl w) m = absurd (none_written Der ps t u b e w)
 open_choice_told ps depth told closing input t rest b o (inr (u, e, n, next, other, (text, f, whole, g))) (inr i) m =
     let k : text ≡ b = cc in
     g ∙ ap (λ l. l ++ rest) k

@@ -1,5 +1,5 @@
 -- An optional CHOICE before another component, read by hand.
-use Rattle.std.proofs.Common.{◌≡◌, ◌⊎◌, inl, inr, List, [], ◌∷◌, true, false, pos, refl, ap, arith}
+use Rattle.std.proofs.Common.{◌≡◌, inl, inr, [], ◌∷◌, true, false, pos, refl, ap, arith}
 use Rattle.rasn_types.specs.Tags.{form, in_universal}
 use Rattle.rasn_types.specs.declared.types.codec.Codec.{Codec}
 use Rattle.rasn_types.specs.declared.types.tag.Tag.{Tag}

@@ -1,5 +1,5 @@
 -- Small clauses that contracts share: what they hold of, and what they don't.
-use Rattle.std.proofs.Common.{◌≡◌, ℕ, ℤ, zero, suc, Some, None, ◌-◌, ◌^◌, ◌<◌, get_or, inl, inr, List, [], ◌∷◌, length, Result, Ok, Err, pos, negsuc, refl, sym, ap, ◌∙◌, arith, rules}
+use Rattle.std.proofs.Common.{◌≡◌, ℕ, ℤ, zero, suc, Some, ◌-◌, ◌^◌, ◌<◌, get_or, inl, inr, List, [], ◌∷◌, length, Result, Ok, Err, pos, negsuc, refl, sym, ap, ◌∙◌, arith, rules}
 use Rattle.rasn_types.specs.Contents.{RepeatsSign}
 use Rattle.rasn_types.specs.Inline.{IsLong}
 use Rattle.rasn_types.specs.Trees.{IsShortestOf}

@@ -17,7 +17,7 @@ use Rattle.rasn_types.proofs.Encoding.SameOctets.{once}
 use Rattle.rasn.specs.WorkedShapes.{plain, contextual, tagged, small, three_of_set, turned_round, octets_in_set_of, relative_name, mixed}
 use Rattle.rasn.specs.WorkedValues.{WorkedSets}
 use Rattle.rasn.specs.Worked.{IsCarriedAs, one_two_three, three_two_one, rising_octets}
-use Rattle.rasn.proofs.ReadBack.Taken.{parts_in, none_taken}
+use Rattle.rasn.proofs.ReadBack.Taken.{none_taken}
 use Rattle.rasn.proofs.ReadBack.Headers.{short, short_written, tag_begins, tag_written}
 use Rattle.rasn.proofs.Worked.Values.{integer_written, octets_written, identifier_written, one_arc, bytes_of, list_of_nine}
 

@@ -3,13 +3,13 @@ use Rattle.std.proofs.Common.{◌≡◌, ◌≢◌, ℕ, inl, inr, List, [], ◌
 use Rattle.rasn_types.specs.Tags.{Form, der_form, loose_form}
 use Rattle.rasn_types.specs.declared.types.codec.Codec.TheVariants.{Der}
 use Rattle.rasn_types.specs.declared.types.tag.Tag.{Tag}
-use Rattle.rasn_types.specs.Framing.{Frame, definite, CompleteEncoding, plain as whole}
-use Rattle.rasn_types.specs.Shapes.{Tree, number, numbers, items, joined, absent, boolean, unknown, part, required, one_tag}
+use Rattle.rasn_types.specs.Framing.{Frame, definite, plain as whole}
+use Rattle.rasn_types.specs.Shapes.{Tree, number, numbers, items, absent, boolean, unknown, part, required, one_tag}
 use Rattle.rasn_types.specs.Shapes.Parts.{none}
 use Rattle.rasn_types.specs.Readings.{definite_form, IsLeftOut}
 use Rattle.rasn_types.specs.Grammar.{Reads, parts_of, ReadsAny}
 use Rattle.rasn_types.specs.Bytes.{Bytes, fields_of}
-use Rattle.rasn_types.specs.Carried.{IsOneEncoding, BeginsUnknown, NoneTaken, IsWithinLimits, Carried}
+use Rattle.rasn_types.specs.Carried.{BeginsUnknown, NoneTaken, IsWithinLimits, Carried}
 use Rattle.rasn_types.proofs.SetOf.Same.{items_one}
 use Rattle.rasn_types.proofs.Headers.Frames.{frame_next, next_one}
 use Rattle.rasn.specs.Worked.{IsCarriedAs, IsReadAs}
