@@ -172,16 +172,3 @@ pub set_lawful : (tag : Tag) (ps : Parts) → IsReadable (set tag ps) → AreLaw
 unfolding IsLawful
 set_lawful tag ps (inl h) = h.1.1
 set_lawful tag ps (inr e) = cc
-
-pub choice_lawful : (ps : Parts) → IsReadable (choice ps) → IsLawful (choice ps)
-choice_lawful ps (inl h) = h.1
-choice_lawful ps (inr e) = cc
-
--- ---- alternatives
-
-module _ (f : ℕ → Shape) where
-  pub alternative_lawful : (ks : List Alternative) (k : ℕ) (a : Alternative) → AreAlternatives (alternatives_by f ks) → Some a ≡ slice_get ks k → IsReadable (f a.type_id.0)
-  unfolding IsLawful
-  alternative_lawful [] k a h e = absurd cc
-  alternative_lawful (b ∷ ks) zero a h e = let same : b ≡ a = cc in subst (λ (x : Alternative). IsReadable (f x.type_id.0)) same (inl (h.2, h.3))
-  alternative_lawful (b ∷ ks) (suc k) a h e = alternative_lawful ks k a h.4 e

@@ -1,30 +1,25 @@
--- A CHOICE whose last alternative is unknown values is read as the first alternative that may begin with the next tag.
+-- A CHOICE, of which the last alternative may be unknown values, is read as the first alternative that may begin with the next tag.
 use Rattle.std.proofs.Common.{◌≡◌, ◌⊎◌, ℕ, zero, suc, Bool, true, List, [], ◌∷◌, Option, Some, None, refl, sym, ap, ◌∙◌, subst, arith, inl, inr}
 use Rattle.std.specs.Prelude.{slice_get}
 use Rattle.std.proofs.lemmas.Bool.{cases_order}
 use Rattle.rasn_types.specs.declared.types.codec.Codec.{Codec}
 use Rattle.rasn_types.specs.declared.types.tag.Tag.{Tag}
-use Rattle.rasn_types.specs.declared.error.decode.DecodeErrorKind.{DecodeErrorKind}
 use Rattle.rasn_types.specs.Tags.{form}
 use Rattle.rasn_types.specs.Framing.{NextTag}
 use Rattle.rasn_types.specs.Shapes.{Tree, chosen, Shape, leaf, any, prefix, choice, open_choice, option, seq, set, list, set_of, unknown, Parts, part, Presence, required, count, IsFirst, IsFirstOf}
 use Rattle.rasn_types.specs.Shapes.Parts.{none}
 use Rattle.rasn_types.specs.Readings.{ReadsChoice}
-use Rattle.rasn_types.specs.Grammar.{Reads, ReadsAny, parts_of}
+use Rattle.rasn_types.specs.Grammar.{Reads, parts_of}
 use Rattle.rasn_types.specs.Lawful.{IsLawful, AreAlternatives, AreDistinguished}
 use Rattle.rasn_types.proofs.Headers.Frames.{next_one}
-use Rattle.rasn_de.specs.State.{State}
-use Rattle.rasn_de.specs.Outcomes.{Got, refusal}
 use Rattle.rasn_de.specs.Choice.{IsOnlyAlternative}
-use Rattle.rasn_de.specs.Decodes.{DecodesExactly}
 use Rattle.rasn_de.proofs.Constructed.Choice.{choice_next}
-use Rattle.rasn_de.proofs.Headers.Ends.{IsEnd-refl}
-use Rattle.rasn_de.proofs.Leaves.Outcomes.{Exact-none, Exact-refusal}
-use Rattle.rasn_de.proofs.OwnTypes.Alternatives.{alternative_got, alternative_refused}
+use Rattle.rasn_de.proofs.OwnTypes.Alternatives.{read_at, alone}
 use Rattle.rasn_schema.specs.declared.types.Alternative.{Alternative}
 use Rattle.rasn_schema.specs.FirstTags.{IsAlternativeFor}
-use Rattle.rasn_schema.specs.Shapes.{alternatives_by, is_open, ends_open, before_last, IsReadable}
+use Rattle.rasn_schema.specs.Shapes.{alternatives_by, is_open, ends_open, before_last, choice_among, IsReadable}
 use Rattle.rasn_schema.proofs.Lists.{some_is}
+use Rattle.rasn_schema.proofs.OpenEnds.{among}
 
 -- ---- the first alternative that may begin with a tag
 
@@ -97,12 +92,23 @@ first_of_open (part presence x (part next u ps)) (suc k) s tag o (n, h) = elim (
 
 -- ---- what is lawful
 
+pub choice_lawful : (ps : Parts) → IsReadable (choice ps) → AreAlternatives ps × AreDistinguished ps
+unfolding IsLawful
+choice_lawful ps (inl h) = h.1
+choice_lawful ps (inr e) = cc
+
 pub open_lawful : (qs : Parts) → IsReadable (open_choice qs) → AreAlternatives qs × AreDistinguished qs
 unfolding IsLawful
 open_lawful qs (inl h) = h.1
 open_lawful qs (inr e) = cc
 
-pub alternative_of_open : (f : ℕ → Shape) (ks : List Alternative) (k : ℕ) (a : Alternative) → ends_open (alternatives_by f ks) ≡ true → AreAlternatives (before_last (alternatives_by f ks)) → Some a ≡ slice_get ks k → IsReadable (f a.type_id.0)
+alternative_of_choice : (f : ℕ → Shape) (ks : List Alternative) (k : ℕ) (a : Alternative) → AreAlternatives (alternatives_by f ks) → Some a ≡ slice_get ks k → IsReadable (f a.type_id.0)
+unfolding IsLawful
+alternative_of_choice f [] k a h e = absurd cc
+alternative_of_choice f (b ∷ ks) zero a h e = subst (λ (x : Alternative). IsReadable (f x.type_id.0)) (some_is b a (sym e)) (inl (h.2, h.3))
+alternative_of_choice f (b ∷ ks) (suc k) a h e = alternative_of_choice f ks k a h.4 e
+
+alternative_of_open : (f : ℕ → Shape) (ks : List Alternative) (k : ℕ) (a : Alternative) → ends_open (alternatives_by f ks) ≡ true → AreAlternatives (before_last (alternatives_by f ks)) → Some a ≡ slice_get ks k → IsReadable (f a.type_id.0)
 unfolding IsLawful
 alternative_of_open f [] k a o h e = absurd cc
 alternative_of_open f (b ∷ []) zero a o h e = subst (λ (x : Alternative). IsReadable (f x.type_id.0)) (some_is b a (sym e)) (subst IsReadable (sym (open_is (f b.type_id.0) o)) (inl (tt, tt)))
@@ -110,91 +116,82 @@ alternative_of_open f (b ∷ []) (suc k) a o h e = absurd cc
 alternative_of_open f (b ∷ (c ∷ ks)) zero a o h e = subst (λ (x : Alternative). IsReadable (f x.type_id.0)) (some_is b a (sym e)) (inl (h.2, h.3))
 alternative_of_open f (b ∷ (c ∷ ks)) (suc k) a o h e = alternative_of_open f (c ∷ ks) k a o h.4 e
 
+pub lawful_at : (f : ℕ → Shape) (ks : List Alternative) (k : ℕ) (a : Alternative) → IsReadable (choice_among (alternatives_by f ks)) → Some a ≡ slice_get ks k → IsReadable (f a.type_id.0)
+lawful_at f ks k a h e = among (λ s. IsReadable s → IsReadable (f a.type_id.0)) (alternatives_by f ks)
+    (λ o r. alternative_of_open f ks k a o (open_lawful (before_last (alternatives_by f ks)) r).0 e)
+    (λ c r. alternative_of_choice f ks k a (choice_lawful (alternatives_by f ks) r).0 e) h
+
 -- ---- what is read
 
--- There is no tag, so nothing.
-pub nothing_open : (qs : Parts) (rule : Codec) (depth : ℕ) (closing : Bool) (input : List ℕ) → ((next : Tag) → NextTag (form rule) input next → ⊥) → (t : Tree) (rest : List ℕ) → Reads rule (open_choice qs) depth closing input t rest → ⊥
+-- It begins with a tag.
+tag_of_choice : (ps : Parts) (rule : Codec) (depth : ℕ) (closing : Bool) (input : List ℕ) (t : Tree) (rest : List ℕ) → Reads rule (choice ps) depth closing input t rest → (tag : Tag) × NextTag (form rule) input tag
 unfolding Reads
-nothing_open qs rule depth closing input n t rest (inl h) = let c = choice_next rule 0 (parts_of rule qs depth closing) input t rest h in n c.0 c.1
-nothing_open qs rule depth closing input n t rest (inr (u, e, next, m, others, r)) = n next m
+tag_of_choice ps rule depth closing input t rest h = choice_next rule 0 (parts_of rule ps depth closing) input t rest h
+
+tag_of_open : (qs : Parts) (rule : Codec) (depth : ℕ) (closing : Bool) (input : List ℕ) (t : Tree) (rest : List ℕ) → Reads rule (open_choice qs) depth closing input t rest → (tag : Tag) × NextTag (form rule) input tag
+unfolding Reads
+tag_of_open qs rule depth closing input t rest (inl h) = choice_next rule 0 (parts_of rule qs depth closing) input t rest h
+tag_of_open qs rule depth closing input t rest (inr (u, e, next, n, others, r)) = (next, n)
+
+pub tag_of_among : (ps : Parts) (rule : Codec) (depth : ℕ) (closing : Bool) (input : List ℕ) (t : Tree) (rest : List ℕ) → Reads rule (choice_among ps) depth closing input t rest → (tag : Tag) × NextTag (form rule) input tag
+tag_of_among ps rule depth closing input t rest = among (λ s. Reads rule s depth closing input t rest → (tag : Tag) × NextTag (form rule) input tag) ps
+    (λ o. tag_of_open (before_last ps) rule depth closing input t rest) (λ c. tag_of_choice ps rule depth closing input t rest)
 
 module _ (rule : Codec) (depth : ℕ) (closing : Bool) (input : List ℕ) (tag : Tag) (n : NextTag (form rule) input tag) where
-  -- What is read as a choice begins with the tag of an alternative.
+  -- An alternative begins with the tag.
   begins_first : (ps : Parts) (j : ℕ) (t : Tree) (rest : List ℕ) → ReadsChoice rule j (parts_of rule ps depth closing) input t rest → IsFirstOf ps tag
   unfolding parts_of
   begins_first none j t rest h = absurd h
   begins_first (part presence s ps) j t rest (inl (u, e, next, m, f, r, z)) = inl (subst (λ x. IsFirst s x) (next_one input next tag m n) f)
   begins_first (part presence s ps) j t rest (inr h) = inr (begins_first ps (suc j) t rest h)
 
-  -- What begins with such a tag is no unknown value.
-  as_named : (qs : Parts) → IsFirstOf qs tag → (t : Tree) (rest : List ℕ) → Reads rule (open_choice qs) depth closing input t rest → Reads rule (choice qs) depth closing input t rest
-  unfolding Reads
-  as_named qs f t rest (inl h) = h
-  as_named qs f t rest (inr (u, e, next, m, others, r)) = absurd (others (subst (IsFirstOf qs) (next_one input tag next n m) f))
+  module _ (ps : Parts) (k : ℕ) (s : Shape) where
+    -- Without unknown values.
+    as_choice : IsOnlyAlternative ps k required s tag → (u : Tree) (rest : List ℕ) → Reads rule s depth closing input u rest → Reads rule (choice ps) depth closing input (chosen k u) rest
+    unfolding Reads
+    as_choice only u rest r = read_at rule depth closing input tag n ps 0 k k required s (omega arith) only u rest (r, λ strict. tt)
 
-  named_as : (qs : Parts) (t : Tree) (rest : List ℕ) → Reads rule (choice qs) depth closing input t rest → Reads rule (open_choice qs) depth closing input t rest
-  unfolding Reads
-  named_as qs t rest h = inl h
+    of_choice : IsOnlyAlternative ps k required s tag → (t : Tree) (rest : List ℕ) → Reads rule (choice ps) depth closing input t rest → (u : Tree) × (t ≡ chosen k u) × Reads rule s depth closing input u rest
+    unfolding Reads
+    of_choice only t rest h = let q = alone rule depth closing input tag n ps 0 k k required s (omega arith) only t rest h in (q.0, q.1, q.2.0)
 
-  -- What begins with another is one.
-  as_unknown : (qs : Parts) → (IsFirstOf qs tag → ⊥) → (t : Tree) (rest : List ℕ) → Reads rule (open_choice qs) depth closing input t rest → (u : Tree) × (t ≡ chosen (count qs) u) × Reads rule (any None) depth closing input u rest
-  unfolding Reads
-  as_unknown qs f t rest (inl h) = absurd (f (begins_first qs 0 t rest h))
-  as_unknown qs f t rest (inr (u, e, next, m, others, r)) = (u, e, r)
+  -- With them, what begins with the tag of an alternative is as without.
+  module _ (qs : Parts) where
+    as_named : (t : Tree) (rest : List ℕ) → Reads rule (choice qs) depth closing input t rest → Reads rule (open_choice qs) depth closing input t rest
+    unfolding Reads
+    as_named t rest h = inl h
 
-  unknown_as : (qs : Parts) → (IsFirstOf qs tag → ⊥) → (u : Tree) (rest : List ℕ) → Reads rule (any None) depth closing input u rest → Reads rule (open_choice qs) depth closing input (chosen (count qs) u) rest
-  unfolding Reads
-  unknown_as qs f u rest r = inr (u, refl, tag, n, f, r)
+    of_named : IsFirstOf qs tag → (t : Tree) (rest : List ℕ) → Reads rule (open_choice qs) depth closing input t rest → Reads rule (choice qs) depth closing input t rest
+    unfolding Reads
+    of_named f t rest (inl h) = h
+    of_named f t rest (inr (u, e, next, m, others, r)) = absurd (others (subst (IsFirstOf qs) (next_one input tag next n m) f))
 
-module _ (qs : Parts) (tag : Tag) (old new : State) (n : NextTag (form old.rule) old.rest tag) where
-  -- An alternative that is named.
-  named_got : IsFirstOf qs tag → (t : Tree) → DecodesExactly (λ rule. Reads rule (choice qs)) old (Got t new.rest) new → DecodesExactly (λ rule. Reads rule (open_choice qs)) old (Got t new.rest) new
-  named_got f t d = record {
-    stays = d.stays;
-    end = d.end;
-    exact = (
-      named_as old.rule old.depth old.closing old.rest tag n qs t new.rest d.exact.0,
-      λ v r h. d.exact.1 v r (as_named old.rule old.depth old.closing old.rest tag n qs f v r h),
-    );
-  }
+    -- What begins with another tag is an unknown value.
+    as_unknown : (IsFirstOf qs tag → ⊥) → (u : Tree) (rest : List ℕ) → Reads rule (any None) depth closing input u rest → Reads rule (open_choice qs) depth closing input (chosen (count qs) u) rest
+    unfolding Reads
+    as_unknown others u rest r = inr (u, refl, tag, n, others, r)
 
-  named_refused : IsFirstOf qs tag → (kind : DecodeErrorKind) → DecodesExactly (λ rule. Reads rule (choice qs)) old (refusal kind) new → DecodesExactly (λ rule. Reads rule (open_choice qs)) old (refusal kind) new
-  named_refused f kind d = record {
-    stays = d.stays;
-    end = d.end;
-    exact = Exact-refusal kind (Reads old.rule (choice qs) old.depth old.closing) (Reads old.rule (open_choice qs) old.depth old.closing) old.rest old.rest
-        (λ nothing v r h. nothing v r (as_named old.rule old.depth old.closing old.rest tag n qs f v r h)) d.exact;
-  }
+    of_unknown : (IsFirstOf qs tag → ⊥) → (t : Tree) (rest : List ℕ) → Reads rule (open_choice qs) depth closing input t rest → (u : Tree) × (t ≡ chosen (count qs) u) × Reads rule (any None) depth closing input u rest
+    unfolding Reads
+    of_unknown others t rest (inl h) = absurd (others (begins_first qs 0 t rest h))
+    of_unknown others t rest (inr (u, e, next, m, f, r)) = (u, e, r)
 
-  -- An unknown one.
-  unknown_got : (IsFirstOf qs tag → ⊥) → (t : Tree) → DecodesExactly (λ rule. Reads rule (any None)) old (Got t new.rest) new → DecodesExactly (λ rule. Reads rule (open_choice qs)) old (Got (chosen (count qs) t) new.rest) new
-  unknown_got f t d = record {
-    stays = d.stays;
-    end = d.end;
-    exact = (
-      unknown_as old.rule old.depth old.closing old.rest tag n qs f t new.rest d.exact.0,
-      λ v r h. let q = as_unknown old.rule old.depth old.closing old.rest tag n qs f v r h in let e = d.exact.1 q.0 r q.2 in (q.1 ∙ ap (λ u. chosen (count qs) u) e.0, e.1),
-    );
-  }
+  module _ (ps : Parts) (k : ℕ) (s : Shape) (lawful : IsReadable (choice_among ps)) (first : IsFirstAlternative ps k s tag) where
+    -- The first alternative that may begin with the tag is read as the CHOICE.
+    pub as_among : (u : Tree) (rest : List ℕ) → Reads rule s depth closing input u rest → Reads rule (choice_among ps) depth closing input (chosen k u) rest
+    as_among u rest r = among (λ z. IsReadable z → Reads rule z depth closing input (chosen k u) rest) ps
+        (λ o h. elim (first_of_open ps k s tag o first) [
+          | inl g ↦ as_named (before_last ps) (chosen k u) rest (as_choice (before_last ps) k s (first_alone (before_last ps) k s tag (open_lawful (before_last ps) h).1 g) u rest r)
+          | inr (e, a, others) ↦ subst (λ i. Reads rule (open_choice (before_last ps)) depth closing input (chosen i u) rest) (sym e)
+              (as_unknown (before_last ps) others u rest (subst (λ z. Reads rule z depth closing input u rest) a r))
+        ])
+        (λ c h. as_choice ps k s (first_alone ps k s tag (choice_lawful ps h).1 first) u rest r) lawful
 
-  unknown_refused : (IsFirstOf qs tag → ⊥) → (kind : DecodeErrorKind) → DecodesExactly (λ rule. Reads rule (any None)) old (refusal kind) new → DecodesExactly (λ rule. Reads rule (open_choice qs)) old (refusal kind) new
-  unknown_refused f kind d = record {
-    stays = d.stays;
-    end = d.end;
-    exact = Exact-refusal kind (Reads old.rule (any None) old.depth old.closing) (Reads old.rule (open_choice qs) old.depth old.closing) old.rest old.rest
-        (λ nothing v r h. let q = as_unknown old.rule old.depth old.closing old.rest tag n qs f v r h in nothing q.0 r q.2) d.exact;
-  }
-
-module _ (ps : Parts) (k : ℕ) (s : Shape) (tag : Tag) (o : ends_open ps ≡ true) (first : IsFirstAlternative ps k s tag) (apart : AreDistinguished (before_last ps)) (old new : State) (n : NextTag (form old.rule) old.rest tag) where
-  pub open_got : (t : Tree) → DecodesExactly (λ rule. Reads rule s) old (Got t new.rest) new → DecodesExactly (λ rule. Reads rule (open_choice (before_last ps))) old (Got (chosen k t) new.rest) new
-  open_got t d = elim (first_of_open ps k s tag o first) [
-    | inl g ↦ named_got (before_last ps) tag old new n (first_there (before_last ps) k s tag g) (chosen k t) (alternative_got (before_last ps) k required s tag n (first_alone (before_last ps) k s tag apart g) d)
-    | inr (e, a, others) ↦ subst (λ i. DecodesExactly (λ rule. Reads rule (open_choice (before_last ps))) old (Got (chosen i t) new.rest) new) (sym e)
-        (unknown_got (before_last ps) tag old new n others t (subst (λ z. DecodesExactly (λ rule. Reads rule z) old (Got t new.rest) new) a d))
-  ]
-
-  pub open_refused : (kind : DecodeErrorKind) → DecodesExactly (λ rule. Reads rule s) old (refusal kind) new → DecodesExactly (λ rule. Reads rule (open_choice (before_last ps))) old (refusal kind) new
-  open_refused kind d = elim (first_of_open ps k s tag o first) [
-    | inl g ↦ named_refused (before_last ps) tag old new n (first_there (before_last ps) k s tag g) kind (alternative_refused (before_last ps) k required s tag n (first_alone (before_last ps) k s tag apart g) kind d)
-    | inr (e, a, others) ↦ unknown_refused (before_last ps) tag old new n others kind (subst (λ z. DecodesExactly (λ rule. Reads rule z) old (refusal kind) new) a d)
-  ]
+    -- Nothing else is.
+    pub of_among : (t : Tree) (rest : List ℕ) → Reads rule (choice_among ps) depth closing input t rest → (u : Tree) × (t ≡ chosen k u) × Reads rule s depth closing input u rest
+    of_among t rest = among (λ z. IsReadable z → Reads rule z depth closing input t rest → (u : Tree) × (t ≡ chosen k u) × Reads rule s depth closing input u rest) ps
+        (λ o h r. elim (first_of_open ps k s tag o first) [
+          | inl g ↦ of_choice (before_last ps) k s (first_alone (before_last ps) k s tag (open_lawful (before_last ps) h).1 g) t rest (of_named (before_last ps) (first_there (before_last ps) k s tag g) t rest r)
+          | inr (e, a, others) ↦ let q = of_unknown (before_last ps) others t rest r in (q.0, q.1 ∙ ap (λ i. chosen i q.0) (sym e), subst (λ z. Reads rule z depth closing input q.0 rest) (sym a) q.2)
+        ])
+        (λ c h r. of_choice ps k s (first_alone ps k s tag (choice_lawful ps h).1 first) t rest r) lawful

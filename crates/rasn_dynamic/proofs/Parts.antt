@@ -32,7 +32,7 @@ use Rattle.rasn_schema.proofs.Lists.{split}
 use Rattle.rasn_dynamic.proofs.Faults.{within_itself, within_short, opened_within, forgotten, turns_keep}
 use Rattle.rasn_dynamic.proofs.Contents.{prefix_lawful, list_lawful, set_of_lawful, seq_lawful, set_lawful}
 use Rattle.rasn_dynamic.proofs.InOrder.{lawful_parts}
-use Rattle.rasn_dynamic.proofs.Chosen.{lawful_at}
+use Rattle.rasn_dynamic.proofs.OpenChoice.{lawful_at}
 use Rattle.rasn_dynamic.proofs.Pieces.{part_lawful}
 
 -- ---- octets among others

@@ -40,7 +40,8 @@ use Rattle.rasn_dynamic.proofs.Making.{made_as, made_fails_as, choice_exact, unc
 use Rattle.rasn_schema.specs.Fitting.{Fits, FitsBy, IsNumber, ComponentsFit, EachFits}
 use Rattle.rasn_dynamic.proofs.FitsRead.{if_ok, fits_below, are_items, are_elements, each_more, fit_more, fit_end, made_fits, gathered_fit, all_left_fit, nones_fit, found_length, found_kept, put_fits}
 use Rattle.rasn_dynamic.proofs.Nothing.{refused_at_zero, refused_not_there, found_here}
-use Rattle.rasn_dynamic.proofs.Chosen.{no_tag, none_for, lawful_at, for_both, chosen_got, chosen_refused}
+use Rattle.rasn_dynamic.proofs.OpenChoice.{lawful_at}
+use Rattle.rasn_dynamic.proofs.Chosen.{no_tag, none_for, for_both, chosen_got, chosen_refused}
 use Rattle.rasn_dynamic.proofs.InOrder.{lawful_parts, all_left_read, in_turn}
 use Rattle.rasn_dynamic.proofs.OnePart.{always, always_fails, looked, looked_fails, made, made_fails, unread, unread_fails, plain, loose, differs, default_is_written, not_required, next_of, made_of}
 use Rattle.rasn_dynamic.proofs.Contents.{prefix_lawful, list_lawful, set_of_lawful, seq_lawful, set_lawful, none_holds, sequence_runs_out, parts_start, parts_more, part_fails, part_fails_at, parts_run_out, parts_end}
