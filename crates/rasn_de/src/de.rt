@@ -78,13 +78,16 @@ pub trait Decode: AsnType {
 }
 
 /// A CHOICE that can be decoded (X.680 29). Its shape consists of the alternatives, none of which
-/// is optional.
+/// is optional, with an extension marker or without one.
 pub trait DecodeChoice: AsnType {
-    ghost use Rattle.std.specs.Prelude.{◌≡◌};
-    ghost use Rattle.rasn_types.specs.Shapes.{Parts, choice};
+    ghost use Rattle.std.specs.Prelude.{◌≡◌, Bool, false};
+    ghost use Rattle.rasn_types.specs.Shapes.{Parts, choice_by};
     ghost use Rattle.rasn_de.specs.State.{Call};
 
     ghost alternatives: { Parts };
+
+    /// Whether the CHOICE has an extension marker.
+    ghost extensible: { Bool } = { false };
 
     /// What a contract says, besides the tree, of a call that reads an alternative, as `beyond` of
     /// `Decode` does. By default it says nothing.
@@ -95,12 +98,13 @@ pub trait DecodeChoice: AsnType {
     /// `Decoder::decode_choice` calls the function in this way.
     ///
     /// # Errors
-    /// `NoValidChoice` if no alternative has the tag; otherwise the error of the alternative.
+    /// The error of the alternative. If no alternative has the tag, `NoValidChoice` or, with an
+    /// extension marker, the error of `Decoder::decode_any` without a tag.
     fn from_tag(decoder: &mut Decoder<'_>, tag: Tag) -> Result<Self, DecodeError>
         requires { NextTag (form decoder.old.rule) decoder.old.rest tag }
         ensures reads { Decodes Self.shape Self.tree decoder.old result decoder.new }
         ensures beyond { Self.beyond decoder.old result decoder.new }
         ensures rules { IfErr result (λ e. e.codec ≡ decoder.old.rule) };
 
-    ghost chooses: { Self.AsnType.shape ≡ choice alternatives };
+    ghost chooses: { Self.AsnType.shape ≡ choice_by extensible alternatives };
 }

@@ -91,19 +91,16 @@ unfolding shape_of_type
 none_first types n k zero e a = rw e at a
 none_first types n k (suc i) e a = rw e at a
 
-lower_later : (f : ℕ → Shape) (id : ℕ) (k : Alternative) (ks : List Alternative) → AreLowerAndTagged f id (k ∷ ks) → AreLowerAndTagged f id ks
-lower_later f id k ks w i a e = ((w (suc i) a e).0, λ n. let h = (w (suc i) a e).1 n in (omega (arith, h.0), h.1))
-
-lower_before : (f : ℕ → Shape) (id : ℕ) (ks : List Alternative) → AreLowerAndTagged f id ks → AreBefore id ks
-lower_before f id [] w = tt
-lower_before f id (k ∷ ks) w = ((w 0 k refl).0, lower_before f id ks (lower_later f id k ks w))
+lower_before : (id : ℕ) (ks : List Alternative) → ((i : ℕ) (a : Alternative) → Some a ≡ slice_get ks i → a.type_id.0 < id) → AreBefore id ks
+lower_before id [] w = tt
+lower_before id (k ∷ ks) w = (w 0 k refl, lower_before id ks (λ i a e. w (suc i) a e))
 
 node_before : (types : List «Type») (k : ℕ) (ty : «Type») → IsWellFormed (own_at types) (begin_at types) k ty → IsBehindOwn k (Some ty)
 node_before types k (Leaf kind tag c names) w = tt
 node_before types k (Enumerated tag ns) w = tt
 node_before types k (Any tag) w = tt
 node_before types k (Tagged tag j) w = tt
-node_before types k (Choice name ks) w = lower_before (begin_at types) k ks.items w.1
+node_before types k (Choice name ks) w = lower_before k ks.items (λ i a e. (w.1 i a e).0)
 node_before types k (Sequence tag ps) w = tt
 node_before types k (Set name tag ps) w = tt
 node_before types k (SequenceOf tag j c) w = tt
@@ -295,14 +292,14 @@ module _ (types : List «Type») (i : ℕ) (w : IsSchema types) (readable : (k :
       where
         go : HasTag (begin_at types a.type_id.0) ⊎ (HasTag (begin_at types a.type_id.0) → ⊥) → HasTag (shape_of_type types i a.type_id.0)
         go (inl h) = has_tag_at types i a.type_id.0 h
-        go (inr h) = let o = (t j a e).1 h in tag_if_cut types a.type_id.0 o.1 i (n o.0)
+        go (inr h) = let o = (t j a e).1 h in tag_if_cut types a.type_id.0 o.2 i (n o.1)
 
     named_apart : (j m : ℕ) (a b : Alternative) → j < m → Some a ≡ slice_get ks j → Some b ≡ slice_get ks m → IsNamed m b → AreDistinct (shape_of_type types i a.type_id.0) (shape_of_type types i b.type_id.0)
     named_apart j m a b l e g n tag x y = go (tag_or_none (begin_at types b.type_id.0))
       where
         go : HasTag (begin_at types b.type_id.0) ⊎ (HasTag (begin_at types b.type_id.0) → ⊥) → ⊥
         go (inl h) = d j m a b l e g h tag (firsts tag a.type_id.0 x) (firsts tag b.type_id.0 y)
-        go (inr h) = let o = (t m b g).1 h in none_if_cut types b.type_id.0 o.1 i (n o.0) tag y
+        go (inr h) = let o = (t m b g).1 h in none_if_cut types b.type_id.0 o.2 i (n o.1) tag y
 
     choice_readable : IsAlwaysPresent (choice_among (alternatives_by (shape_of_type types i) ks)) × IsLawful (choice_among (alternatives_by (shape_of_type types i) ks))
     unfolding IsLawful

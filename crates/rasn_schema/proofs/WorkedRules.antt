@@ -60,19 +60,12 @@ one_component own f p i j q r d e a m = absurd (none_after p r i j m.0 e)
 
 -- ---- a CHOICE that ends with an open type
 
-open_lower : (a : Alternative) → a.type_id.0 ≡ 0 → AreLowerAndTagged (λ k. any None) 1 (a ∷ [])
-open_lower a e i b at = (let f : b.type_id.0 ≡ a.type_id.0 = ap (λ (x : Alternative). x.type_id.0) (of_one a b i at) in omega (arith, e, f), λ n. (last i at, refl))
-  where
-    last : (i : ℕ) → Some b ≡ slice_get (a ∷ []) i → suc i ≡ 1
-    last zero g = refl
-    last (suc i) g = absurd (none_after a b 0 (suc i) (omega arith) g)
-
 module _ (f : ℕ → Shape) (a b : Alternative) (t : HasTag (f a.type_id.0)) (u : f b.type_id.0 ≡ any None) where
   two_lower : (id : ℕ) → a.type_id.0 < id → b.type_id.0 < id → AreLowerAndTagged f id (a ∷ (b ∷ []))
   two_lower id l m zero c e =
       let q : c ≡ a = some_is c a e in (subst (λ (x : Alternative). x.type_id.0 < id) (sym q) l, λ n. absurd (n (subst (λ (x : Alternative). HasTag (f x.type_id.0)) (sym q) t)))
   two_lower id l m (suc zero) c e =
-      let q : c ≡ b = some_is c b e in (subst (λ (x : Alternative). x.type_id.0 < id) (sym q) m, λ n. (refl, subst (λ (x : Alternative). is_open (f x.type_id.0) ≡ true) (sym q) (ap is_open u)))
+      let q : c ≡ b = some_is c b e in (subst (λ (x : Alternative). x.type_id.0 < id) (sym q) m, λ n. (omega arith, refl, subst (λ (x : Alternative). is_open (f x.type_id.0) ≡ true) (sym q) (ap is_open u)))
   two_lower id l m (suc (suc i)) c e = absurd (not_none c None refl e)
 
   two_apart : AreDistinctAlternatives f (a ∷ (b ∷ []))
@@ -83,8 +76,11 @@ module _ (f : ℕ → Shape) (a b : Alternative) (t : HasTag (f a.type_id.0)) (u
 not_open_before_the_end : (a b : Alternative) → AreLowerAndTagged (λ k. any None) 1 (a ∷ (b ∷ [])) → ⊥
 not_open_before_the_end a b h = let l = ((h 0 a refl).1 (λ t. t)).0 in omega (arith, l)
 
-none_that_ends_open : (a : Alternative) → AreLowerAndTagged (λ k. open_choice no_parts) 1 (a ∷ []) → ⊥
-none_that_ends_open a h = let e = ((h 0 a refl).1 (λ t. t)).1 in cc
+not_open_alone : (a : Alternative) → AreLowerAndTagged (λ k. any None) 1 (a ∷ []) → ⊥
+not_open_alone a h = let l = ((h 0 a refl).1 (λ t. t)).0 in omega (arith, l)
+
+none_that_ends_open : (a b : Alternative) → AreLowerAndTagged (λ k. open_choice no_parts) 1 (a ∷ (b ∷ [])) → ⊥
+none_that_ends_open a b h = let e = ((h 1 b refl).1 (λ t. t)).2 in cc
 
 no_components : (g : ℕ → Value → Type 0) (t ty : «Type») (i : ℕ) → components_in t ≡ [] → Some ty ≡ Some t → HasUnfitDefault g ty i → ⊥
 no_components g t ty i n e (c, at, u) = not_none c None refl (at ∙ ap (λ l. slice_get l i) (ap components_in (some_is ty t e) ∙ n))
@@ -156,7 +152,7 @@ worked_rules = record {
   not_tagged = λ h. h;
   lower_and_tagged = lower;
   not_lower = λ a e h. let l = (h 0 a refl).0 in omega (arith, e, l);
-  open_end = open_lower;
+  not_open_alone = not_open_alone;
   not_open_before_the_end = not_open_before_the_end;
   none_that_ends_open = none_that_ends_open;
   open_shape = refl;

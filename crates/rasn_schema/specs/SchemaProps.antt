@@ -69,7 +69,7 @@ bit_free_prop text_family tag = Bool-set _ _
 -- ---- of the rules
 
 lower_prop : (f : ℕ → Shape) (id : ℕ) (ks : List Alternative) → IsProp (AreLowerAndTagged f id ks)
-lower_prop f id ks = each_prop _ (λ i. each_prop _ (λ a. each_prop _ (λ e. ×_prop le_prop (each_prop _ (λ n. ×_prop (ℕ_set _ _) (Bool-set _ _))))))
+lower_prop f id ks = each_prop _ (λ i. each_prop _ (λ a. each_prop _ (λ e. ×_prop le_prop (each_prop _ (λ n. three_prop le_prop (ℕ_set _ _) (Bool-set _ _))))))
 
 distinct_prop : (s t : Shape) → IsProp (AreDistinct s t)
 distinct_prop s t = each_prop _ (λ n. each_prop _ (λ h. not_prop _))

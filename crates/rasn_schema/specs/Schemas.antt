@@ -39,9 +39,9 @@ abbrev pub IsRequired : Presence → Type 0
 IsRequired Required = Unit {0}
 IsRequired _ = ⊥
 
--- Alternative i has a tag, or it is the last one and an open type: the unknown values of an extensible CHOICE (X.680 29).
+-- Alternative i has a tag, or it is the last of several and an open type: the unknown values of an extensible CHOICE (X.680 29).
 abbrev pub IsTaggedOrOpen : (ℕ → Shape) → List Alternative → ℕ → Alternative → Type 0
-IsTaggedOrOpen f ks i a = (HasTag (f a.type_id.0) → ⊥) → (suc i ≡ length ks) × (is_open (f a.type_id.0) ≡ true)
+IsTaggedOrOpen f ks i a = (HasTag (f a.type_id.0) → ⊥) → (0 < i) × (suc i ≡ length ks) × (is_open (f a.type_id.0) ≡ true)
 
 -- Each alternative of the CHOICE with number id has a lower number, and a tag unless it is an open type at the end.
 abbrev pub AreLowerAndTagged : (ℕ → Shape) → ℕ → List Alternative → Type 0

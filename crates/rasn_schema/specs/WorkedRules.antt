@@ -43,9 +43,9 @@ pub record WorkedRules : Type 0 where
   pub not_tagged : IsPrefix truth → ⊥
   pub lower_and_tagged : (a : Alternative) → a.type_id.0 ≡ 0 → AreLowerAndTagged (λ k. truth) 1 (a ∷ [])
   pub not_lower : (a : Alternative) → a.type_id.0 ≡ 1 → AreLowerAndTagged (λ k. truth) 1 (a ∷ []) → ⊥
-  pub open_end : (a : Alternative) → a.type_id.0 ≡ 0 → AreLowerAndTagged (λ k. any None) 1 (a ∷ [])
+  pub not_open_alone : (a : Alternative) → AreLowerAndTagged (λ k. any None) 1 (a ∷ []) → ⊥
   pub not_open_before_the_end : (a b : Alternative) → AreLowerAndTagged (λ k. any None) 1 (a ∷ (b ∷ [])) → ⊥
-  pub none_that_ends_open : (a : Alternative) → AreLowerAndTagged (λ k. open_choice none) 1 (a ∷ []) → ⊥
+  pub none_that_ends_open : (a b : Alternative) → AreLowerAndTagged (λ k. open_choice none) 1 (a ∷ (b ∷ [])) → ⊥
   pub open_shape : choice_among (part required truth (part required (any None) none)) ≡ open_choice (part required truth none)
   pub plain_shape : choice_among (part required truth none) ≡ choice (part required truth none)
   pub one_alternative : (f : ℕ → Shape) (a : Alternative) → AreDistinctAlternatives f (a ∷ [])

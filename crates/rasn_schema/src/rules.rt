@@ -215,7 +215,7 @@ fn numbers_fault(id: TypeId, tag: Tag, numbers: &[NamedNumber]) -> Option<Schema
     None
 }
 
-/// Returns whether an alternative is the last one, and an open type without a tag (X.680 29).
+/// Returns whether an alternative is the last of several, and an open type without a tag (X.680 29).
 fn is_open_end(
     types: &[Type],
     levels: usize,
@@ -224,15 +224,15 @@ fn is_open_end(
     alternative: TypeId,
 ) -> bool
     requires { index < length alternatives.now }
-    ensures { IsWhether result ((suc index ≡ length alternatives.now) × (is_open (shape_of_type types.now levels alternative.0) ≡ true)) }
+    ensures { IsWhether result ((0 < index) × (suc index ≡ length alternatives.now) × (is_open (shape_of_type types.now levels alternative.0) ≡ true)) }
 {
-    if alternatives.len() - index != 1 {
+    if index == 0 || alternatives.len() - index != 1 {
         return false;
     }
     is_open_at(types, levels, alternative)
 }
 
-/// Returns whether an alternative has a tag, or is the last one and an open type.
+/// Returns whether an alternative has a tag, or is the last of several and an open type.
 fn is_tagged_or_open(
     types: &[Type],
     levels: usize,

@@ -85,8 +85,8 @@ pub enum Type {
         inner: TypeId,
     },
     /// A CHOICE (X.680 29), with the name that errors have for it. Each alternative has a lower
-    /// number than the CHOICE. If the CHOICE is extensible, its last alternative may be an open type
-    /// without a tag: that of a value whose tag is none of the other alternatives'.
+    /// number than the CHOICE. After others, the last alternative may be an open type without a tag,
+    /// which is that of values with other tags, since the CHOICE is extensible.
     Choice {
         name: String,
         alternatives: Vec<Alternative>,

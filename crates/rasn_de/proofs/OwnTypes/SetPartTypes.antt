@@ -1,5 +1,5 @@
 -- The parts of a SET as types: components are read one by one, each is put into the slot of its part, and the parts are gathered.
-use Rattle.std.proofs.Common.{◌≡◌, ◌≢◌, ℕ, zero, suc, ◌+◌, ◌-◌, ◌<◌, ◌⊎◌, inl, inr, Bool, List, [], ◌∷◌, ◌++◌, map, length, Option, Some, None, Result, Ok, Err, refl, sym, ap, ◌∙◌, subst, append_assoc, arith}
+use Rattle.std.proofs.Common.{◌≡◌, ◌≢◌, ℕ, zero, suc, ◌+◌, ◌-◌, ◌<◌, ◌⊎◌, inl, inr, Bool, false, List, [], ◌∷◌, ◌++◌, map, length, Option, Some, None, Result, Ok, Err, refl, sym, ap, ◌∙◌, subst, append_assoc, arith}
 use Rattle.std.specs.Option.{option_or}
 use Rattle.std.specs.Borrow.{Bor}
 use Rattle.rasn_types.specs.declared.types.codec.Codec.{Codec}
@@ -63,10 +63,10 @@ module _ (p : Presence) (s : Shape) (ps : Parts) (tag t : Tag) (h : tag ≡ t) (
 module _ (p : Presence) (s : Shape) (ps : Parts) (names more : List (List ℕ)) (behind : (k : ℕ) → name_at more k ≡ name_at names (suc k)) (tag t : Tag) (not_this : tag ≡ t → ⊥) (e : own s ≡ Some t) (old new : State) (n : NextTag (form old.rule) old.rest tag) where
   pub placed_other : (h : Option Tree) (before held : List (Option Tree)) (r : Result (Option (Bor (List ℕ))) DecodeError) → DecodesPlaced ps more before old r new held
       → DecodesPlaced (part p s ps) names (h ∷ before) old r new (h ∷ held)
-  placed_other h before held (Ok None) (k, u, c, a) = (suc k, u, (held, refl, c), record { from = λ j. others_got p s ps tag t not_this e old new n j k u (a.from (suc j)) })
+  placed_other h before held (Ok None) (k, u, c, a) = (suc k, u, (held, refl, c), record { from = λ j. others_got p s ps tag t not_this e old new n false j k u (a.from (suc j)) })
   placed_other h before held (Ok (Some x)) (k, u, c, f, m, a) =
-      (suc k, u, c, ap (λ z. h ∷ z) f, m ∙ behind k, record { from = λ j. others_got p s ps tag t not_this e old new n j k u (a.from (suc j)) })
-  placed_other h before held (Err x) a = record { from = λ j. others_read p s ps tag t not_this e old new n j (refusal x.kind) (a.from (suc j)) }
+      (suc k, u, c, ap (λ z. h ∷ z) f, m ∙ behind k, record { from = λ j. others_got p s ps tag t not_this e old new n false j k u (a.from (suc j)) })
+  placed_other h before held (Err x) a = record { from = λ j. others_read p s ps tag t not_this e old new n false j (refusal x.kind) (a.from (suc j)) }
 
 -- It is refused as one of the others.
 pub others_fail : {X : Type 0} (p : Presence) (s : Shape) (ps : Parts) (name : List ℕ) (tag : Tag) (old new : State) (r : Result X DecodeError) → (own s ≡ Some tag → ⊥) → IfErr r (λ e. FailsAtAlternative ps name tag old e new)

@@ -1,4 +1,4 @@
-use Rattle.std.proofs.Common.{◌-◌, sym, ap, ◌∙◌, refl, arith}
+use Rattle.std.proofs.Common.{◌-◌, sym, ap, ◌∙◌, arith}
 use Rattle.rasn_schema.specs.Shapes.{shape_of_type, is_open}
 use Rattle.rasn_schema.proofs.TypeShapes.{shape_below, shape_none, shape_cut}
 use Rattle.rasn_schema.proofs.OpenEnds.{cut_not_open}

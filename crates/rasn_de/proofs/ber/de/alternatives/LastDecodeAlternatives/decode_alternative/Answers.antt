@@ -1,4 +1,4 @@
-use Rattle.std.proofs.Common.{◌≡◌, rules, suc, arith, true, inl, inr, refl, ◌∙◌}
+use Rattle.std.proofs.Common.{◌≡◌, rules, suc, arith, true, false, inl, inr, refl, ◌∙◌}
 use Rattle.rasn_types.specs.Shapes.{required}
 use Rattle.rasn_types.specs.Shapes.Parts.{none}
 use Rattle.rasn_de.proofs.OwnTypes.Parts.{refused}
@@ -25,7 +25,7 @@ pub returns-clause-reads : goal.returns-clause-reads
 returns-clause-reads g c =
     let own = first_has g.A.AsnType.shape g.A.AsnType.TAG none true c.requires.differ in
     let h : c.args.tag ≡ g.A.AsnType.TAG → ⊥ = search rules in
-    record { from = λ k. others_read _ _ _ _ _ h own _ _ c.requires.next k _ (none_read (suc k) _) }
+    record { from = λ k. others_read _ _ _ _ _ h own _ _ c.requires.next false k _ (none_read (suc k) _) }
 
 pub returns-in_err-value-clause-fails : goal.returns-in_err-value-clause-fails
 returns-in_err-value-clause-fails g c =
