@@ -8,6 +8,7 @@ use Rattle.rasn_types.specs.Tags.{form}
 use Rattle.rasn_types.specs.Framing.{NextTag}
 use Rattle.rasn_types.specs.Shapes.{Tree, chosen, Shape, IsFirstOf}
 use Rattle.rasn_types.specs.Grammar.{Reads}
+use Rattle.rasn_types.specs.Lawful.{IsLawful}
 use Rattle.rasn_de.specs.State.{State}
 use Rattle.rasn_de.specs.Steps.{PeeksTag}
 use Rattle.rasn_de.specs.Outcomes.{Got, refusal}
@@ -20,7 +21,7 @@ use Rattle.rasn_schema.specs.declared.types.Alternative.{Alternative}
 use Rattle.rasn_schema.specs.FirstTags.{IsAlternativeFor}
 use Rattle.rasn_schema.specs.Shapes.{alternatives_by, choice_among, IsReadable}
 use Rattle.rasn_schema.proofs.OpenEnds.{among}
-use Rattle.rasn_dynamic.proofs.OpenChoice.{first_alternative, open_begins, tag_of_among, as_among, of_among}
+use Rattle.rasn_dynamic.proofs.OpenChoice.{first_alternative, open_begins, among_lawful, tag_of_among, as_among, of_among}
 
 module _ (f : ℕ → Shape) (ks : List Alternative) where
   abbrev All : Shape
@@ -46,6 +47,9 @@ module _ (f : ℕ → Shape) (ks : List Alternative) where
   for_both k a b tag h g = let e = h.0 in let same : a ≡ b = cc in subst (IsAlternativeFor f ks tag k) same h
 
   module _ (k : ℕ) (a : Alternative) (tag : Tag) (h : IsReadable All) (first : IsAlternativeFor f ks tag k a) (old new : State) (n : NextTag (form old.rule) old.rest tag) where
+    lawful : IsLawful All
+    lawful = among_lawful (alternatives_by f ks) h
+
     pub chosen_got : (t : Tree) → DecodesExactly (λ rule. Reads rule (f a.type_id.0)) old (Got t new.rest) new → DecodesExactly (λ rule. Reads rule All) old (Got (chosen k t) new.rest) new
     chosen_got t d =
         let g = first_alternative f ks tag k a first in
@@ -53,8 +57,8 @@ module _ (f : ℕ → Shape) (ks : List Alternative) where
           stays = d.stays;
           end = d.end;
           exact = (
-            as_among old.rule old.depth old.closing old.rest tag n (alternatives_by f ks) k (f a.type_id.0) h g t new.rest d.exact.0,
-            λ v r x. let q = of_among old.rule old.depth old.closing old.rest tag n (alternatives_by f ks) k (f a.type_id.0) h g v r x in
+            as_among old.rule old.depth old.closing old.rest tag n (alternatives_by f ks) k (f a.type_id.0) lawful g t new.rest d.exact.0,
+            λ v r x. let q = of_among old.rule old.depth old.closing old.rest tag n (alternatives_by f ks) k (f a.type_id.0) lawful g v r x in
                 let e = d.exact.1 q.0 r q.2 in (q.1 ∙ ap (λ u. chosen k u) e.0, e.1),
           );
         }
@@ -64,5 +68,5 @@ module _ (f : ℕ → Shape) (ks : List Alternative) where
       stays = d.stays;
       end = d.end;
       exact = Exact-refusal kind (Reads old.rule (f a.type_id.0) old.depth old.closing) (Reads old.rule All old.depth old.closing) old.rest old.rest
-          (λ nothing v r x. let q = of_among old.rule old.depth old.closing old.rest tag n (alternatives_by f ks) k (f a.type_id.0) h (first_alternative f ks tag k a first) v r x in nothing q.0 r q.2) d.exact;
+          (λ nothing v r x. let q = of_among old.rule old.depth old.closing old.rest tag n (alternatives_by f ks) k (f a.type_id.0) lawful (first_alternative f ks tag k a first) v r x in nothing q.0 r q.2) d.exact;
     }

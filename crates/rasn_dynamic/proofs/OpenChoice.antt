@@ -19,7 +19,7 @@ use Rattle.rasn_schema.specs.declared.types.Alternative.{Alternative}
 use Rattle.rasn_schema.specs.FirstTags.{IsAlternativeFor}
 use Rattle.rasn_schema.specs.Shapes.{alternatives_by, is_open, ends_open, before_last, choice_among, IsReadable}
 use Rattle.rasn_schema.proofs.Lists.{some_is}
-use Rattle.rasn_schema.proofs.OpenEnds.{among}
+use Rattle.rasn_schema.proofs.OpenEnds.{among, among_known}
 
 -- ---- the first alternative that may begin with a tag
 
@@ -92,15 +92,17 @@ first_of_open (part presence x (part next u ps)) (suc k) s tag o (n, h) = elim (
 
 -- ---- what is lawful
 
-pub choice_lawful : (ps : Parts) → IsReadable (choice ps) → AreAlternatives ps × AreDistinguished ps
-unfolding IsLawful
-choice_lawful ps (inl h) = h.1
-choice_lawful ps (inr e) = cc
+pub among_lawful : (ps : Parts) → IsReadable (choice_among ps) → IsLawful (choice_among ps)
+among_lawful ps (inl h) = h.1
+among_lawful ps (inr e) = absurd (among_known ps e)
 
-pub open_lawful : (qs : Parts) → IsReadable (open_choice qs) → AreAlternatives qs × AreDistinguished qs
+choice_lawful : (ps : Parts) → IsLawful (choice ps) → AreAlternatives ps × AreDistinguished ps
 unfolding IsLawful
-open_lawful qs (inl h) = h.1
-open_lawful qs (inr e) = cc
+choice_lawful ps h = h
+
+open_lawful : (qs : Parts) → IsLawful (open_choice qs) → AreAlternatives qs × AreDistinguished qs
+unfolding IsLawful
+open_lawful qs h = h
 
 alternative_of_choice : (f : ℕ → Shape) (ks : List Alternative) (k : ℕ) (a : Alternative) → AreAlternatives (alternatives_by f ks) → Some a ≡ slice_get ks k → IsReadable (f a.type_id.0)
 unfolding IsLawful
@@ -117,9 +119,9 @@ alternative_of_open f (b ∷ (c ∷ ks)) zero a o h e = subst (λ (x : Alternati
 alternative_of_open f (b ∷ (c ∷ ks)) (suc k) a o h e = alternative_of_open f (c ∷ ks) k a o h.4 e
 
 pub lawful_at : (f : ℕ → Shape) (ks : List Alternative) (k : ℕ) (a : Alternative) → IsReadable (choice_among (alternatives_by f ks)) → Some a ≡ slice_get ks k → IsReadable (f a.type_id.0)
-lawful_at f ks k a h e = among (λ s. IsReadable s → IsReadable (f a.type_id.0)) (alternatives_by f ks)
+lawful_at f ks k a h e = among (λ s. IsLawful s → IsReadable (f a.type_id.0)) (alternatives_by f ks)
     (λ o r. alternative_of_open f ks k a o (open_lawful (before_last (alternatives_by f ks)) r).0 e)
-    (λ c r. alternative_of_choice f ks k a (choice_lawful (alternatives_by f ks) r).0 e) h
+    (λ c r. alternative_of_choice f ks k a (choice_lawful (alternatives_by f ks) r).0 e) (among_lawful (alternatives_by f ks) h)
 
 -- ---- what is read
 
@@ -176,10 +178,10 @@ module _ (rule : Codec) (depth : ℕ) (closing : Bool) (input : List ℕ) (tag :
     of_unknown others t rest (inl h) = absurd (others (begins_first qs 0 t rest h))
     of_unknown others t rest (inr (u, e, next, m, f, r)) = (u, e, r)
 
-  module _ (ps : Parts) (k : ℕ) (s : Shape) (lawful : IsReadable (choice_among ps)) (first : IsFirstAlternative ps k s tag) where
+  module _ (ps : Parts) (k : ℕ) (s : Shape) (lawful : IsLawful (choice_among ps)) (first : IsFirstAlternative ps k s tag) where
     -- The first alternative that may begin with the tag is read as the CHOICE.
     pub as_among : (u : Tree) (rest : List ℕ) → Reads rule s depth closing input u rest → Reads rule (choice_among ps) depth closing input (chosen k u) rest
-    as_among u rest r = among (λ z. IsReadable z → Reads rule z depth closing input (chosen k u) rest) ps
+    as_among u rest r = among (λ z. IsLawful z → Reads rule z depth closing input (chosen k u) rest) ps
         (λ o h. elim (first_of_open ps k s tag o first) [
           | inl g ↦ as_named (before_last ps) (chosen k u) rest (as_choice (before_last ps) k s (first_alone (before_last ps) k s tag (open_lawful (before_last ps) h).1 g) u rest r)
           | inr (e, a, others) ↦ subst (λ i. Reads rule (open_choice (before_last ps)) depth closing input (chosen i u) rest) (sym e)
@@ -189,7 +191,7 @@ module _ (rule : Codec) (depth : ℕ) (closing : Bool) (input : List ℕ) (tag :
 
     -- Nothing else is.
     pub of_among : (t : Tree) (rest : List ℕ) → Reads rule (choice_among ps) depth closing input t rest → (u : Tree) × (t ≡ chosen k u) × Reads rule s depth closing input u rest
-    of_among t rest = among (λ z. IsReadable z → Reads rule z depth closing input t rest → (u : Tree) × (t ≡ chosen k u) × Reads rule s depth closing input u rest) ps
+    of_among t rest = among (λ z. IsLawful z → Reads rule z depth closing input t rest → (u : Tree) × (t ≡ chosen k u) × Reads rule s depth closing input u rest) ps
         (λ o h r. elim (first_of_open ps k s tag o first) [
           | inl g ↦ of_choice (before_last ps) k s (first_alone (before_last ps) k s tag (open_lawful (before_last ps) h).1 g) t rest (of_named (before_last ps) (first_there (before_last ps) k s tag g) t rest r)
           | inr (e, a, others) ↦ let q = of_unknown (before_last ps) others t rest r in (q.0, q.1 ∙ ap (λ i. chosen i q.0) (sym e), subst (λ z. Reads rule z depth closing input q.0 rest) (sym a) q.2)

@@ -12,7 +12,7 @@ use Rattle.rasn_types.specs.Shapes.{Shape, Tree, items, numbers, leaf, any, pref
 use Rattle.rasn_types.specs.Shapes.Parts.{none}
 use Rattle.rasn_types.specs.Readings.{IsLeftOut, ReadsMany}
 use Rattle.rasn_types.specs.Grammar.{Reads, ReadsAny}
-use Rattle.rasn_types.specs.Lawful.{IsLawful, HasTag, AreAlternatives, AreDistinguished, AreLawfulInOrder, AreLawfulByTag}
+use Rattle.rasn_types.specs.Lawful.{IsLawful, HasTag, AreLawfulInOrder, AreLawfulByTag}
 use Rattle.rasn_types.proofs.Encoding.Complete.{whole_one, whole_text_one}
 use Rattle.rasn_types.proofs.Headers.Frames.{frame_one, next_one, not_ended}
 use Rattle.rasn_de.specs.State.{State}
@@ -224,12 +224,6 @@ absent_there : (s : Shape) → IsAlwaysPresent s → (old other new : State) (t 
 absent_there s solid old other new t e d l =
     not_absent s solid old.rule old.depth old.closing old.rest t new.rest d.exact.0 (form other.rule) other.closing (subst (λ z. IsLeftOut (form other.rule) (sought_by (key_of s) s) other.closing z) e l)
 
-pub alternative_tagged : (f : ℕ → Shape) (ks : List Alternative) (k : ℕ) (a : Alternative) → AreAlternatives (alternatives_by f ks) → Some a ≡ slice_get ks k → HasTag (f a.type_id.0)
-unfolding IsLawful
-alternative_tagged f [] k a h e = absurd cc
-alternative_tagged f (c ∷ ks) zero a h e = subst (λ (z : Alternative). HasTag (f z.type_id.0)) (some_is c a (sym e)) h.1
-alternative_tagged f (c ∷ ks) (suc k) a h e = alternative_tagged f ks k a h.4 e
-
 pub member_tagged : (f : ℕ → Shape) (ps : List Component) (k : ℕ) (p : Component) → AreLawfulByTag (components_by f ps) → Some p ≡ slice_get ps k → HasTag (f p.type_id.0)
 unfolding IsLawful
 member_tagged f [] k p h e = absurd cc
@@ -283,12 +277,6 @@ left_known f ps are n k p e = go (component_known f ps k p are e)
     go : IsKnown (f p.type_id.0) ⊎ (presence_in f p ≡ required) → IsKnown (f p.type_id.0)
     go (inl h) = h
     go (inr r) = let x : true ≡ false = sym (required_found f p r) ∙ none_required ps k p n e in absurd cc
-
-pub alternative_known : (f : ℕ → Shape) (ks : List Alternative) (k : ℕ) (a : Alternative) → AreAlternatives (alternatives_by f ks) → Some a ≡ slice_get ks k → IsKnown (f a.type_id.0)
-unfolding IsLawful
-alternative_known f [] k a h e = absurd cc
-alternative_known f (c ∷ ks) zero a h e = subst (λ (z : Alternative). IsKnown (f z.type_id.0)) (some_is c a (sym e)) (h.2, h.3)
-alternative_known f (c ∷ ks) (suc k) a h e = alternative_known f ks k a h.4 e
 
 pub member_known : (f : ℕ → Shape) (ps : List Component) (k : ℕ) (p : Component) → AreLawfulByTag (components_by f ps) → Some p ≡ slice_get ps k → IsKnown (f p.type_id.0)
 unfolding IsLawful
