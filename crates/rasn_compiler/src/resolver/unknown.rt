@@ -63,17 +63,39 @@ fn open_type_node<'text>(alloc: Global, place: Place) -> Node<'text> {
     }
 }
 
-/// Returns of each node whether its type is used where it can't have an unknown alternative.
+/// Returns of each node whether its type can't have an unknown alternative: because of where it is
+/// used, or since its last alternative is an open type.
 fn closed_nodes(alloc: Global, nodes: &[Node<'_>]) -> Result<Vec<bool>, AllocError> {
     let mut closed = vec![in alloc; false; nodes.len()]?;
-    for node in nodes {
+    for (index, node) in nodes.iter().enumerate() {
         match &node.ty {
             Type::Choice { .. } | Type::Set { .. } => close_all(&mut closed, node.parts.as_slice()),
             Type::Sequence { .. } => close_uncertain(&mut closed, node),
             _ => {}
         }
+        if ends_open(nodes, node) {
+            close(&mut closed, index);
+        }
     }
     Ok(closed)
+}
+
+/// Returns whether the last part of a node is of an open type.
+fn ends_open(nodes: &[Node<'_>], node: &Node<'_>) -> bool {
+    let Some(last) = node.parts.last() else {
+        return false;
+    };
+    match nodes.get(last.node) {
+        Some(found) => is_open(&found.ty),
+        None => false,
+    }
+}
+
+fn is_open(ty: &Type) -> bool {
+    match ty {
+        Type::Any { tag } => *tag == Tag::EOC,
+        _ => false,
+    }
 }
 
 /// Closes the types of all parts.
