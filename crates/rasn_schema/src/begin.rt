@@ -1,9 +1,10 @@
 //! With which tags the values of a type may begin.
-ghost use Rattle.std.specs.Prelude.{◌≡◌, Some, slice_get, MatchOption};
+ghost use Rattle.std.specs.Prelude.{◌≡◌, MatchOption};
 ghost use Rattle.rasn_types.specs.Shapes.{IsFirst, IsFirstOf, IsTagOf, looked_for};
 ghost use Rattle.rasn_types.specs.Truth.{IsWhether};
 ghost use Rattle.rasn_schema.specs.declared.types.Alternative.{Alternative};
 ghost use Rattle.rasn_schema.specs.Shapes.{shape_of_type, type_by, alternatives_by, nothing, IsByFirstTags};
+ghost use Rattle.rasn_schema.specs.FirstTags.{IsAlternativeFor};
 
 use crate::type_id::TypeId;
 use crate::types::{Alternative, Type, ends_open, tag_at, type_at};
@@ -123,7 +124,7 @@ pub fn alternative_for(
     tag: Tag,
 ) -> Option<usize>
     ensures { let f = shape_of_type types.now levels in
-        MatchOption result (IsFirstOf (alternatives_by f alternatives.now) tag → ⊥) (λ k. (a : Alternative) × (Some a ≡ slice_get alternatives.now k) × IsFirst (f a.type_id.0) tag) }
+        MatchOption result (IsFirstOf (alternatives_by f alternatives.now) tag → ⊥) (λ k. (a : Alternative) × IsAlternativeFor f alternatives.now tag k a) }
 {
     for (index, alternative) in alternatives.iter().enumerate() {
         if begins(types, levels, alternative.type_id, tag) {
