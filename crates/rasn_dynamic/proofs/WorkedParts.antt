@@ -11,7 +11,6 @@ use Rattle.rasn_schema.specs.declared.type_id.TypeId.{TypeId}
 use Rattle.rasn_schema.specs.Shapes.{nothing, found_by, tag_found, shape_of_type, IsReadable}
 use Rattle.rasn_types.specs.Lawful.{IsLawful}
 use Rattle.rasn_types.specs.Framing.{NextTag}
-use Rattle.rasn_types.specs.declared.types.tag.Tag.{Tag}
 use Rattle.rasn_types.specs.Shapes.{Shape, IsFirst, list, unknown, looked_for}
 use Rattle.rasn_types.proofs.Headers.Frames.{next_one}
 use Rattle.rasn_schema.specs.declared.types.Alternative.{Alternative}
