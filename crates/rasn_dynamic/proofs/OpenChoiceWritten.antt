@@ -63,10 +63,12 @@ module _ (qs : Parts) (k : ℕ) (t : Tree) (low : k < count qs) (v w : View) whe
   named_refused e h = record {
     why = elim h.why [
       | inl m ↦ inl m
-      | inr (inl n) ↦ inr (inl (record { none = λ octets b. elim b [
-        | inl x ↦ n.none octets x
-        | inr g ↦ not_unknown (numbers octets) g
-      ] }))
+      | inr (inl n) ↦ inr (inl (record {
+        none = λ octets b. elim b [
+          | inl x ↦ n.none octets x
+          | inr g ↦ not_unknown (numbers octets) g
+        ];
+      }))
       | inr (inr n) ↦ inr (inr (record {
         bare = inl n.bare;
         some = λ octets b. elim b [

@@ -54,6 +54,7 @@ impl<const N: usize> Decode for FixedOctetString<N> {
     ) -> Result<FixedOctetString<N>, DecodeError>
         ensures reads { Decodes (leaf (fixed N) tag constraints.now) numbers decoder.old result decoder.new }
         ensures exact { DecodesString (λ s. s) (ByLength N constraints.now.size) tag decoder.old result decoder.new }
+        ensures errors { IfErr result (λ e. errors_of (DecodesString (λ (l : List ℕ). l) (ByLength N constraints.now.size) tag) decoder.old e decoder.new) }
         ensures rules { IfErr result (λ e. e.codec ≡ decoder.old.rule) }
     {
         decoder.decode_fixed_octet_string(tag, constraints)
