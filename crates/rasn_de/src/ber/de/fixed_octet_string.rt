@@ -1,8 +1,9 @@
 //! OCTET STRING of a fixed size (X.690 8.7).
-ghost use Rattle.std.specs.Prelude.{◌≡◌, IfErr};
+ghost use Rattle.std.specs.Prelude.{◌≡◌, ℕ, List, IfErr};
 ghost use Rattle.rasn_types.specs.Shapes.{leaf, numbers, fixed};
 ghost use Rattle.rasn_de.specs.Decodes.{Decodes};
 ghost use Rattle.rasn_de.specs.CharacterString.{ByLength, DecodesString};
+ghost use Rattle.rasn_de.specs.ValueErrors.{errors_of};
 
 use crate::ber::de::parser::ParseError;
 use crate::ber::de::{Decoder, check_size};
@@ -54,6 +55,7 @@ impl<const N: usize> Decode for FixedOctetString<N> {
     ) -> Result<FixedOctetString<N>, DecodeError>
         ensures reads { Decodes (leaf (fixed N) tag constraints.now) numbers decoder.old result decoder.new }
         ensures exact { DecodesString (λ s. s) (ByLength N constraints.now.size) tag decoder.old result decoder.new }
+        ensures errors { IfErr result (λ e. errors_of (DecodesString (λ (l : List ℕ). l) (ByLength N constraints.now.size) tag) decoder.old e decoder.new) }
         ensures rules { IfErr result (λ e. e.codec ≡ decoder.old.rule) }
     {
         decoder.decode_fixed_octet_string(tag, constraints)
