@@ -1,9 +1,8 @@
 //! OCTET STRING of a fixed size (X.690 8.7).
-ghost use Rattle.std.specs.Prelude.{◌≡◌, ℕ, List, IfErr};
+ghost use Rattle.std.specs.Prelude.{◌≡◌, IfErr};
 ghost use Rattle.rasn_types.specs.Shapes.{leaf, numbers, fixed};
 ghost use Rattle.rasn_de.specs.Decodes.{Decodes};
 ghost use Rattle.rasn_de.specs.CharacterString.{ByLength, DecodesString};
-ghost use Rattle.rasn_de.specs.ValueErrors.{errors_of};
 
 use crate::ber::de::parser::ParseError;
 use crate::ber::de::{Decoder, check_size};
