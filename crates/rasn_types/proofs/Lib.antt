@@ -4,6 +4,7 @@ pub mod Time
 pub mod Integer
 pub mod Encoding
 pub mod Headers
+pub mod InOrder
 pub mod CharacterString
 pub mod SetOf
 pub mod Enumerated
