@@ -6,7 +6,7 @@ use Rattle.rasn_types.specs.declared.types.tag.Tag.{Tag}
 use Rattle.rasn_types.specs.declared.types.constraints.Bound.{Bound}
 use Rattle.rasn_types.specs.declared.types.constraints.Constraints.{Constraints}
 use Rattle.rasn_types.specs.Framing.{CompleteEncoding, steps_in, AreOctets}
-use Rattle.rasn_types.specs.Shapes.{Tree, Kind, Shape, leaf, any, prefix, choice, open_choice, option, seq, set, list, set_of, unknown, Parts, part, Presence, default_by, IsAlwaysPresent}
+use Rattle.rasn_types.specs.Shapes.{Tree, Kind, Shape, leaf, any, prefix, choice, open_choice, option, seq, set, sorted_set, list, set_of, unknown, Parts, part, Presence, default_by, IsAlwaysPresent}
 use Rattle.rasn_types.specs.Shapes.Parts.{none}
 use Rattle.rasn_types.specs.Grammar.{Reads, top}
 use Rattle.rasn_types.specs.Bytes.{Same, Bytes}
@@ -53,6 +53,9 @@ OneSequence = (rule : Codec) (tag : Tag) (ps : Parts) → AreReadOnce rule ps �
 abbrev pub OneSet : Type 0
 OneSet = (rule : Codec) (tag : Tag) (ps : Parts) → AreReadOnce rule ps → AreDistinguished ps → IsReadOnce rule (set tag ps)
 
+abbrev pub OneSortedSet : Type 0
+OneSortedSet = (rule : Codec) (extensible : Bool) (tag : Tag) (ps : Parts) → AreReadOnce rule ps → AreDistinguished ps → IsReadOnce rule (sorted_set extensible tag ps)
+
 abbrev pub OneSequenceOf : Type 0
 OneSequenceOf = (rule : Codec) (tag : Tag) (s : Shape) (size : Option (Bound ℕ)) → IsReadOnce rule s → IsReadOnce rule (list tag s size)
 
@@ -96,6 +99,7 @@ abbrev mutual
   HasOwnDefaults (option tag s) = HasOwnDefaults s
   HasOwnDefaults (seq tag ps) = HaveOwnDefaults ps
   HasOwnDefaults (set tag ps) = HaveOwnDefaults ps
+  HasOwnDefaults (sorted_set extensible tag ps) = HaveOwnDefaults ps
   HasOwnDefaults (list tag s size) = HasOwnDefaults s
   HasOwnDefaults (set_of tag s size) = HasOwnDefaults s
   HasOwnDefaults unknown = Unit {0}

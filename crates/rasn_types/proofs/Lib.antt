@@ -7,6 +7,7 @@ pub mod Headers
 pub mod InOrder
 pub mod CharacterString
 pub mod SetOf
+pub mod SetTrees
 pub mod Enumerated
 pub mod Dotted
 pub mod PaddedSize

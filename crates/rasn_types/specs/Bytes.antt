@@ -7,7 +7,7 @@ use Rattle.rasn_types.specs.Calendar.{Day, IsDay, Moment, IsMoment}
 use Rattle.rasn_types.specs.Time.{written_date, written_generalized, written_utc}
 pub use Rattle.rasn_types.specs.Order.{Each, IsLess, AreAscending, IsBeforeAll, AreInOrder, IsReordered}
 pub use Rattle.rasn_types.specs.Shapes.{Same}
-use Rattle.rasn_types.specs.Shapes.{Tree, bits, numbers, instant, on_day, items, IsSetOf, set_elements, chosen, absent, Kind, utc_time, generalized_time, date, Bound, Admits, Shape, leaf, any, prefix, choice, open_choice, option, seq, set, sorted_set, list, set_of, unknown, Parts, part, count, IsFirst, Presence, required, addition, optional_by, default_by}
+use Rattle.rasn_types.specs.Shapes.{Tree, bits, numbers, instant, on_day, items, IsSetTree, set_elements, chosen, absent, Kind, utc_time, generalized_time, date, Bound, Admits, Shape, leaf, any, prefix, choice, open_choice, option, seq, set, sorted_set, list, set_of, unknown, Parts, part, count, IsFirst, Presence, required, addition, optional_by, default_by}
 use Rattle.rasn_types.specs.Shapes.Parts.{none}
 pub use Rattle.rasn_types.specs.Contents.{AllFalse}
 use Rattle.rasn_types.specs.Contents.{IsShortest, Contents, BitSegment, joined_lists}
@@ -171,7 +171,7 @@ WritesSet rule tag fs t b = (ts : List Tree) × (bs : List (List ℕ)) × (tags 
 -- The components are in ascending order of their tags, whatever the order of the parts is (9.3, 10.3).
 abbrev pub WritesSortedSet : Codec → Bool → Tag → Parts → List Field → Writing Tree
 WritesSortedSet rule extensible tag ps fs t b = (ts : List Tree) × (us : List Tree) × (bs : List (List ℕ)) × (cs : List Component) × (es : List Component) × (ds : List Component)
-    × IsSetOf extensible ts us t × PartsWritten fs ts bs × ComponentsOf rule 0 ps bs cs × UnknownComponents (count ps) us es
+    × IsSetTree extensible ts us t × PartsWritten fs ts bs × ComponentsOf rule 0 ps bs cs × UnknownComponents (count ps) us es
     × IsReordered (cs ++ es) ds × AreInOrder ComesBefore ds × ConstructedEncoding rule tag (contents_of ds) b
 
 abbrev pub WritesList : Codec → Tag → Option (Bound ℕ) → Writing Tree → Writing Tree

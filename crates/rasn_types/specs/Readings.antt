@@ -2,7 +2,7 @@
 use Rattle.std.specs.Prelude.{◌≡◌, ℕ, suc, ◌⊎◌, ◌≢◌, List, [], ◌∷◌, ◌++◌, Bool, true, false, Option, Some, None}
 use Rattle.rasn_types.specs.Tags.{Form, form, IsStrict, Codec, Tag, IsTagBelow}
 use Rattle.rasn_types.specs.Framing.{Frame, definite, indefinite, Begins, NextTag, Ended}
-use Rattle.rasn_types.specs.Shapes.{Tree, items, IsSetOf, chosen, absent, Same, Presence, required, addition, optional_by, default_by, Sought, one_tag, any_of}
+use Rattle.rasn_types.specs.Shapes.{Tree, items, IsSetTree, chosen, absent, Same, Presence, required, addition, optional_by, default_by, Sought, one_tag, any_of}
 use Rattle.rasn_types.specs.Order.{Each, AreAscending}
 
 abbrev pub Reading : Type 0 → Type 1
@@ -146,6 +146,6 @@ AllOf k (r ∷ rs) us = ((u : Tree) × (more : List Tree) × (r ≡ chosen k u) 
 -- The same of a SET some of whose components may be unknown, anywhere among the others: those that are read as one of
 -- the parts and have the number k, which is that after the last part. Their trees are in the order in which they are read.
 abbrev pub ReadsSortedSet : Codec → Bool → List Presence → ℕ → Reading Tree → Bool → Reading Tree
-ReadsSortedSet rule extensible ps k reads closing input t rest = (readings : List Tree) × (ts : List Tree) × (us : List Tree) × IsSetOf extensible ts us t
+ReadsSortedSet rule extensible ps k reads closing input t rest = (readings : List Tree) × (ts : List Tree) × (us : List Tree) × IsSetTree extensible ts us t
     × ReadsMany reads closing input readings rest × ByPart 0 ps readings ts × AllOf k readings us
     × (IsStrict rule → (bs : List (List ℕ)) × ReadsFrom reads input readings rest bs × AreInTagOrder bs)

@@ -25,9 +25,9 @@ items [] = done
 items (t ∷ ts) = joined t (items ts)
 
 -- The trees of a SET's parts and, last, one of its unknown values. Without an extension marker there are none of these.
-abbrev pub IsSetOf : Bool → List Tree → List Tree → Tree → Type 0
-IsSetOf true ts us t = t ≡ items (ts ++ (items us ∷ []))
-IsSetOf false ts us t = (us ≡ []) × (t ≡ items ts)
+abbrev pub IsSetTree : Bool → List Tree → List Tree → Tree → Type 0
+IsSetTree true ts us t = t ≡ items (ts ++ (items us ∷ []))
+IsSetTree false ts us t = (us ≡ []) × (t ≡ items ts)
 
 -- Equality of trees, except that the order of set elements doesn't count.
 abbrev pub Same : Tree → Tree → Type 0

@@ -2,7 +2,7 @@
 use Rattle.std.proofs.Common.{◌≡◌, ℕ, suc, inl, inr, List, [], ◌∷◌, ◌++◌, Bool, true, false, refl, sym, subst, Some, None}
 use Rattle.std.proofs.lemmas.List.Sorted.{IsPermutation-refl}
 use Rattle.rasn_types.specs.Tags.{Codec}
-use Rattle.rasn_types.specs.Shapes.{Tree, numbers, items, IsSetOf, absent, Shape, leaf, any, prefix, choice, open_choice, option, seq, set, sorted_set, list, set_of, unknown, Parts, part, Presence, required, addition, optional_by, default_by}
+use Rattle.rasn_types.specs.Shapes.{Tree, numbers, items, IsSetTree, absent, Shape, leaf, any, prefix, choice, open_choice, option, seq, set, sorted_set, list, set_of, unknown, Parts, part, Presence, required, addition, optional_by, default_by}
 use Rattle.rasn_types.specs.Grammar.{family}
 use Rattle.rasn_types.specs.Bytes.{Writing, Same, Each, WritesPart, PartsWritten, WritesChoice, Component, UnknownComponents, Bytes, fields_of}
 use Rattle.rasn_types.proofs.SetOf.Same.{same_sym, same_trans}
@@ -24,7 +24,7 @@ unknown_same : (k : ℕ) (us : List Tree) (cs : List Component) → UnknownCompo
 unknown_same k [] cs h = tt
 unknown_same k (u ∷ us) cs (tag, b, more, e, begins, f, h) = (subst (λ z. Same z z) (sym e) refl, unknown_same (suc k) us more h)
 
-set_same : (extensible : Bool) (ts us : List Tree) (t : Tree) → IsSetOf extensible ts us t → AreSame ts → AreSame us → Same t t
+set_same : (extensible : Bool) (ts us : List Tree) (t : Tree) → IsSetTree extensible ts us t → AreSame ts → AreSame us → Same t t
 set_same true ts us t e h k = subst (λ z. Same z z) (sym e) (items_same (ts ++ (items us ∷ [])) (ends_same ts (items us) h (items_same us k)))
 set_same false ts us t e h k = subst (λ z. Same z z) (sym e.1) (items_same ts h)
 

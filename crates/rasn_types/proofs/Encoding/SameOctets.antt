@@ -1,13 +1,14 @@
 -- Trees that are the same have the same octets.
-use Rattle.std.proofs.Common.{◌≡◌, ℕ, suc, ◌<◌, ◌⊎◌, ◌≢◌, inl, inr, List, [], ◌∷◌, ◌++◌, ◌+◌, Bool, true, false, refl, sym, ap, ap₂, ◌∙◌, subst, arith, IsPermutation, Some, None}
+use Rattle.std.proofs.Common.{◌≡◌, ℕ, suc, ◌<◌, ◌⊎◌, ◌≢◌, inl, inr, List, [], ◌∷◌, ◌++◌, ◌+◌, refl, sym, ap, ap₂, ◌∙◌, subst, arith, IsPermutation, Some, None}
 use Rattle.std.proofs.lemmas.List.Sorted.{IsPermutation-sym}
 use Rattle.rasn_types.specs.Tags.{Codec, Ber, Cer, Der, Tag}
-use Rattle.rasn_types.specs.Shapes.{Tree, number, bits, numbers, instant, on_day, items, IsSetOf, set_elements, chosen, absent, Kind, boolean, null, object_identifier, integer, enumerated, octet_string, fixed, numeric, printable, visible, ia5, any_octets, bmp, utf8, utc_time, generalized_time, date, Shape, leaf, any, prefix, choice, open_choice, option, seq, set, sorted_set, list, set_of, unknown, Parts, part, count, IsFirst, Presence, required, optional, addition, optional_by, default_by}
+use Rattle.rasn_types.specs.Shapes.{Tree, number, bits, numbers, instant, on_day, items, set_elements, chosen, absent, Kind, boolean, null, object_identifier, integer, enumerated, octet_string, fixed, numeric, printable, visible, ia5, any_octets, bmp, utf8, utc_time, generalized_time, date, Shape, leaf, any, prefix, choice, open_choice, option, seq, set, sorted_set, list, set_of, unknown, Parts, part, count, IsFirst, Presence, required, optional, addition, optional_by, default_by}
 use Rattle.rasn_types.specs.Framing.{Begins}
 use Rattle.rasn_types.specs.Contents.{Contents, joined_lists}
 use Rattle.rasn_types.specs.Grammar.{Family, plain_family, bit_family, named_family, text_family, family}
 use Rattle.rasn_types.specs.Bytes.{Same, Each, ConstructedEncoding, WritesIn, WritesText, WritesPart, PartsWritten, WritesChoice, AreAscending, IsLess, Component, IsPlacedBy, ComponentsOf, UnknownComponents, contents_of, IsReordered, Bytes, fields_of}
 use Rattle.rasn_types.proofs.SetOf.Same.{items_one, same_sym, same_trans, same_each, each_moved}
+use Rattle.rasn_types.proofs.SetTrees.{same_set_tree}
 use Rattle.rasn_types.proofs.Encoding.Determined.{numbers_one, cons_one, in_once}
 use Rattle.rasn_types.proofs.SetOf.OneOrder.{ordered_one}
 use Rattle.rasn_types.proofs.Headers.Frames.{begins_one}
@@ -200,31 +201,6 @@ unknown_once k (u ∷ us) (v ∷ vs) cs ds (w, ws, e, s, same) (tag, a, more, f,
     let n : tag ≡ other = begins_one b tag other (subst (λ x. Begins x tag) o begins) begins' in
     g ∙ (ap₂ ◌∷◌ (ap₂ (λ x y. record { tag = x; number = k; octets = y }) n o) (unknown_once (suc k) us vs more others (subst (Each Same us) q same) h i) ∙ sym m)
 
--- Lists that are related, and end in one element each.
-each_ends : {X Y : Type 0} (R : X → Y → Type 0) (xs : List X) (x : X) (ys : List Y) (y : Y) → Each R (xs ++ (x ∷ [])) (ys ++ (y ∷ [])) → Each R xs ys × R x y
-each_ends R [] x [] y (z, more, e, r, h) = let f : z ≡ y = cc in (refl, subst (R x) f r)
-each_ends {Y = Y} R [] x (w ∷ ys) y (z, more, e, r, h) = let f : ys ++ (y ∷ []) ≡ [] = cc in absurd (some ys f)
-  where
-    some : (ys : List Y) → ys ++ (y ∷ []) ≡ [] → ⊥
-    some [] f = cc
-    some (w ∷ ys) f = cc
-each_ends {X} R (v ∷ xs) x [] y (z, more, e, r, h) = let f : more ≡ [] = cc in absurd (none xs (subst (Each R (xs ++ (x ∷ []))) f h))
-  where
-    none : (xs : List X) → Each R (xs ++ (x ∷ [])) [] → ⊥
-    none [] (w, ws, f, s, k) = cc
-    none (v ∷ xs) (w, ws, f, s, k) = cc
-each_ends R (v ∷ xs) x (w ∷ ys) y (z, more, e, r, h) =
-    let f : z ≡ w = cc in
-    let g : more ≡ ys ++ (y ∷ []) = cc in
-    let o = each_ends R xs x ys y (subst (Each R (xs ++ (x ∷ []))) g h) in
-    ((w, ys, refl, subst (R v) f r, o.0), o.1)
-
-same_set : (extensible : Bool) (ts us ts' us' : List Tree) (t u : Tree) → IsSetOf extensible ts us t → IsSetOf extensible ts' us' u → Same t u → Each Same ts ts' × Each Same us us'
-same_set true ts us ts' us' t u e f same =
-    let k = each_ends Same ts (items us) ts' (items us') (same_lists t u (ts ++ (items us ∷ [])) (ts' ++ (items us' ∷ [])) e f same) in
-    (k.0, same_each us us' k.1)
-same_set false ts us ts' us' t u e f same = (same_lists t u ts ts' e.1 f.1 same, subst (λ l. Each Same l us') (sym e.0) f.0)
-
 -- The alternative that is written is one of the parts.
 pub written_below : (rule : Codec) (ps : Parts) (k : ℕ) (t : Tree) (b : List ℕ) → WritesChoice k (fields_of rule ps) t b → (j : ℕ) × (u : Tree) × (t ≡ chosen j u) × (j < k + count ps)
 unfolding Bytes fields_of
@@ -267,7 +243,7 @@ mutual
   once (set tag ps) rule t u a b same (ts, ls, tags, e, w, q, n, o, c) (us, bs, tags', f, x, q', n', o', d) =
       cons_one rule tag (joined_lists ls) (joined_lists bs) a b c d (ap joined_lists (parts_once rule ps (each_is_once ps rule) ts us ls bs (same_lists t u ts us e f same) w x))
   once (sorted_set extensible tag ps) rule t u a b same (ts, us, ls, cs, es, ds, e, w, m, n, p, o, c) (ts', us', ls', cs', es', ds', e', w', m', n', p', o', d) =
-      let k = same_set extensible ts us ts' us' t u e e' same in
+      let k = same_set_tree extensible ts us ts' us' t u e e' same in
       let f : ls ≡ ls' = parts_once rule ps (each_is_once ps rule) ts ts' ls ls' k.0 w w' in
       let g : cs ≡ cs' = components_once rule 0 ps ls' cs cs' (subst (λ l. ComponentsOf rule 0 ps l cs) f m) m' in
       let h : es ≡ es' = unknown_once _ us us' es es' k.1 n n' in
