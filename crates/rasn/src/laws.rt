@@ -3,13 +3,13 @@
 //! those of docs/GLOSSARY.md.
 #![tactic(auto, using(crate::proofs::AllLaws::laws))]
 
-ghost use Rattle.rasn.specs.Laws.{OneLeaf, OneOpen, OnePrefix, OneChoice, OneOpenChoice, OneOption, OneSequence, OneSet, OneSequenceOf, OneSetOf, OneUnknown};
+ghost use Rattle.rasn.specs.Laws.{OneLeaf, OneOpen, OnePrefix, OneChoice, OneOpenChoice, OneOption, OneSequence, OneSet, OneSortedSet, OneSequenceOf, OneSetOf, OneUnknown};
 ghost use Rattle.rasn.specs.Worked.{Worked, WorkedStrict};
 ghost use Rattle.rasn.specs.WorkedShapes.{DescribedParts, LawfulShapes, CarriedShapes};
 ghost use Rattle.rasn.specs.WorkedDepths.{WorkedDepths};
 ghost use Rattle.rasn.specs.WorkedHeaders.{WorkedHeaders};
 ghost use Rattle.rasn.specs.WorkedClauses.{WorkedClauses};
-ghost use Rattle.rasn.specs.WorkedValues.{WorkedValues, WorkedSets, WorkedOpens, WorkedUnknown, WorkedOpenChoice};
+ghost use Rattle.rasn.specs.WorkedValues.{WorkedValues, WorkedSets, WorkedOpens, WorkedUnknown, WorkedOpenChoice, WorkedSortedSets};
 ghost use Rattle.rasn.specs.Laws.{OneReading, Included, ReadAgain, Canonical, WrittenOnce, StrictDer, OnlyCarried, AllCarried, StaysCarried, LawfulTested, OneEncoding, EncodingSteps};
 
 /// Proves that an input is read as at most one value of a leaf type, with at most one rest.
@@ -53,6 +53,12 @@ pub fn one_sequence()
 /// same tag.
 pub fn one_set()
     ensures { OneSet }
+{}
+
+/// Proves that a SET in the order of its tags, with an extension marker or without one, is read in at
+/// most one way if its parts are, and no two parts begin with the same tag.
+pub fn one_sorted_set()
+    ensures { OneSortedSet }
 {}
 
 /// Proves that a SEQUENCE OF is read in at most one way if its elements are.
@@ -206,6 +212,12 @@ pub fn worked_unknown()
 /// written and carried.
 pub fn worked_open_choice()
     ensures { WorkedOpenChoice }
+{}
+
+/// Proves where the components of a SET in the order of its tags are, those of a CHOICE and unknown
+/// ones among them, and in which order DER reads them.
+pub fn worked_sorted_sets()
+    ensures { WorkedSortedSets }
 {}
 
 /// Proves examples and counterexamples of small clauses, such as those for offsets from UTC and for

@@ -6,7 +6,7 @@ use Rattle.rasn_types.specs.declared.error.decode.DecodeErrorKind.{DecodeErrorKi
 use Rattle.rasn_types.specs.Tags.{form}
 use Rattle.rasn_types.specs.Framing.{NextTag}
 use Rattle.rasn_types.specs.Truth.{IsWhether}
-use Rattle.rasn_types.specs.Shapes.{Tree, chosen, Shape, leaf, any, prefix, choice, open_choice, option, seq, set, list, set_of, unknown, Parts, part, Presence, required, own, IsFirst, IsFirstOf}
+use Rattle.rasn_types.specs.Shapes.{Tree, chosen, Shape, leaf, any, prefix, choice, open_choice, option, seq, set, sorted_set, list, set_of, unknown, Parts, part, Presence, required, own, IsFirst, IsFirstOf}
 use Rattle.rasn_types.specs.Shapes.Parts.{none}
 use Rattle.rasn_types.specs.Grammar.{Reads, parts_of}
 use Rattle.rasn_types.proofs.Headers.Frames.{next_one}
@@ -36,6 +36,7 @@ first_own (open_choice parts) t n e h = cc
 first_own (option tag s) t n e h = first_own s t n e h
 first_own (seq tag parts) t n e h = h ∙ cc
 first_own (set tag parts) t n e h = h ∙ cc
+first_own (sorted_set extensible tag parts) t n e h = h ∙ cc
 first_own (list tag s size) t n e h = h ∙ cc
 first_own (set_of tag s size) t n e h = h ∙ cc
 first_own unknown t n e h = cc
@@ -50,6 +51,7 @@ own_first (open_choice parts) t e = cc
 own_first (option tag s) t e = own_first s t e
 own_first (seq tag parts) t e = cc
 own_first (set tag parts) t e = cc
+own_first (sorted_set extensible tag parts) t e = cc
 own_first (list tag s size) t e = cc
 own_first (set_of tag s size) t e = cc
 own_first unknown t e = cc
