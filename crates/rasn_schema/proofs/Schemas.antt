@@ -5,7 +5,7 @@ use Rattle.std.proofs.lemmas.Option.{slice_get_within}
 use Rattle.rasn_types.specs.declared.types.tag.Tag.{Tag}
 use Rattle.rasn_types.specs.Tags.{eoc, is_eoc, IsTagBelow}
 use Rattle.rasn_types.specs.Shapes.Parts.{none}
-use Rattle.rasn_types.specs.Shapes.{Shape, leaf, any, prefix, choice, open_choice, option, seq, set, list, set_of, unknown, part, own, looked_for, IsTagOf, IsFirst, IsFirstOf, IsAlwaysPresent, AreAlwaysPresent, Key, own_tag, first_tags, Presence, required, addition, optional_by, default_by}
+use Rattle.rasn_types.specs.Shapes.{Shape, leaf, any, prefix, choice, open_choice, option, seq, set, sorted_set, list, set_of, unknown, part, own, looked_for, IsTagOf, IsFirst, IsFirstOf, IsAlwaysPresent, AreAlwaysPresent, Key, own_tag, first_tags, Presence, required, addition, optional_by, default_by}
 use Rattle.rasn_types.specs.Lawful.{IsLawful, HasTag, IsFirstBehind, MayBeLeftOut, IsDistinguished, IsRecognized, AreLawfulInOrder, AreLawfulByTag}
 use Rattle.rasn_schema.specs.declared.types.«Type».{«Type»}
 use Rattle.rasn_schema.specs.declared.types.«Type».TheVariants.{Leaf, Enumerated, Any, Tagged, Choice, Sequence, Set, SequenceOf, SetOf, Unknown}
@@ -250,6 +250,7 @@ module _ (types : List «Type») (i : ℕ) (w : IsSchema types) (readable : (k :
   choice_own (option tag s) e = cc
   choice_own (seq tag ps) e = cc
   choice_own (set tag ps) e = cc
+  choice_own (sorted_set extensible tag ps) e = cc
   choice_own (list tag s c) e = cc
   choice_own (set_of tag s c) e = cc
   choice_own unknown e = cc

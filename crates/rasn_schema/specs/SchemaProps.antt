@@ -9,7 +9,7 @@ use native.Mathlib.Nat.{ℕ_set}
 use Rattle.rasn_types.specs.declared.types.tag.Tag.{Tag}
 use Rattle.rasn_types.specs.Tags.{eoc, IsTagBelow, rank}
 use Rattle.rasn_types.specs.Grammar.{Family, plain_family, bit_family, named_family, text_family, family}
-use Rattle.rasn_types.specs.Shapes.{Shape, leaf, any, prefix, choice, open_choice, option, seq, set, list, set_of, unknown}
+use Rattle.rasn_types.specs.Shapes.{Shape, leaf, any, prefix, choice, open_choice, option, seq, set, sorted_set, list, set_of, unknown}
 use Rattle.rasn_types.specs.Lawful.{HasTag, IsBitFree}
 use Rattle.rasn_schema.specs.declared.types.Component.{Component}
 use Rattle.rasn_schema.specs.declared.types.Alternative.{Alternative}
@@ -56,6 +56,7 @@ has_tag_prop (open_choice ps) = none_prop
 has_tag_prop (option tag s) = Unit-prop
 has_tag_prop (seq tag ps) = Unit-prop
 has_tag_prop (set tag ps) = Unit-prop
+has_tag_prop (sorted_set extensible tag ps) = Unit-prop
 has_tag_prop (list tag s size) = Unit-prop
 has_tag_prop (set_of tag s size) = Unit-prop
 has_tag_prop unknown = none_prop

@@ -1,11 +1,11 @@
 -- What is written of a carried tree is read back.
 use Rattle.std.proofs.Common.{◌≡◌, ℕ, ◌-◌, ◌≤◌, ◌⊎◌, ◌≢◌, inl, inr, List, [], ◌∷◌, ◌++◌, Bool, true, false, Option, Some, None, refl, sym, ◌∙◌, subst, append-nil, append_assoc, ap}
 use Rattle.std.proofs.lemmas.List.Sorted.{IsPermutation-refl}
-use Rattle.rasn_types.specs.Tags.{Form, form, eoc, loose_form, loose}
+use Rattle.rasn_types.specs.Tags.{Form, form, eoc, loose_form}
 use Rattle.rasn_types.specs.declared.types.codec.Codec.{Codec}
 use Rattle.rasn_types.specs.declared.types.codec.Codec.TheVariants.{Ber, Cer, Der}
 use Rattle.rasn_types.specs.declared.types.tag.Tag.{Tag}
-use Rattle.rasn_types.specs.Framing.{NextTag, Frame, with_length, definite, Ended, CompleteEncoding, plain, CompleteEncodings, none, one_more}
+use Rattle.rasn_types.specs.Framing.{Frame, definite, Ended, CompleteEncoding, plain, CompleteEncodings, none, one_more}
 use Rattle.rasn_types.specs.Shapes.{Tree, numbers, items, joined, set_elements, absent, Admits, Shape, leaf, any, prefix, choice, open_choice, option, seq, set, sorted_set, list, set_of, unknown, Parts, part, count, chosen, IsFirstOf, own, one_tag, required, presences, IsAlwaysPresent}
 use Rattle.rasn_types.specs.declared.types.constraints.Bound.{Bound}
 use Rattle.rasn_types.specs.Readings.{IsLeftOut, IsPresent, Reading, ReadsMany, ReadsFrom, ReadsSeq, ReadsSet, ReadsSortedSet}
@@ -20,7 +20,7 @@ use Rattle.rasn.proofs.ReadBack.Begins.{has_next_tag}
 use Rattle.rasn.proofs.ReadBack.Constructed.{IsTail, tail_ended, IsReadAs, definite_back, closed_back, cons_back, EachReadBack, many_back}
 use Rattle.rasn_types.proofs.SetOf.Same.{items_one, each_same, each_length}
 use Rattle.rasn.proofs.ReadBack.Leaves.{leaf_back}
-use Rattle.rasn.proofs.ReadBack.Parts.{EachTagged, AllRequired, is_there, IsBack, EachBack, UnknownBack, IsUnknownNext, EachBackInOrder, seq_back, next_more, none_within, none_written, choice_back}
+use Rattle.rasn.proofs.ReadBack.Parts.{EachTagged, AllRequired, is_there, IsBack, EachBack, UnknownBack, IsUnknownNext, EachBackInOrder, seq_back, none_within, none_written, choice_back}
 use Rattle.rasn.proofs.ReadBack.Set.{Component, set_back}
 use Rattle.rasn.proofs.ReadBack.SortedSet.{OpenComponent, sorted_set_back}
 use Rattle.rasn.proofs.ReadBack.Unknown.{whole_frame, whole_octets, unknown_read}

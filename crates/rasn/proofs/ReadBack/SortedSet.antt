@@ -6,7 +6,7 @@ use Rattle.rasn_types.specs.declared.types.codec.Codec.{Codec}
 use Rattle.rasn_types.specs.declared.types.codec.Codec.TheVariants.{Ber, Cer, Der}
 use Rattle.rasn_types.specs.declared.types.tag.Tag.{Tag}
 use Rattle.rasn_types.specs.Framing.{Begins}
-use Rattle.rasn_types.specs.Shapes.{Tree, numbers, IsSetTree, chosen, Shape, Parts, part, count, presences, Presence, IsFirst, IsFirstOf}
+use Rattle.rasn_types.specs.Shapes.{Tree, numbers, IsSetTree, chosen, Parts, part, count, presences, IsFirst, IsFirstOf}
 use Rattle.rasn_types.specs.Shapes.Parts.{none}
 use Rattle.rasn_types.specs.Readings.{Reading, ReadsMany, ReadsFrom, IsNoDefault, IsMissing, NoneOf, ByPart, AllOf, ReadsSortedSet}
 use Rattle.rasn_types.specs.Grammar.{Reads, parts_of, ReadsOpenChoice}

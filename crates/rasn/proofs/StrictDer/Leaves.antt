@@ -6,11 +6,10 @@ use Rattle.rasn_types.specs.declared.types.tag.Tag.{Tag}
 use Rattle.rasn_types.specs.Framing.{Frame, with_length, without_length, definite, indefinite, AreOctets}
 use Rattle.rasn_types.specs.Shapes.{Tree, bits, Kind, octet_string, fixed, numeric, printable, visible, ia5, any_octets, bmp, utf8, utc_time, generalized_time, date}
 use Rattle.rasn_types.specs.Contents.{ReadsString, primitive, segments, closed_segments, ReadsBitSegment, OctetSegment}
-use Rattle.rasn_types.specs.Grammar.{Family, plain_family, bit_family, named_family, text_family, family, ReadsIn, Text}
+use Rattle.rasn_types.specs.Grammar.{Family, plain_family, bit_family, named_family, text_family, ReadsIn, Text}
 use Rattle.rasn_types.specs.Bytes.{DefiniteForm, WritesIn, WritesText}
 use Rattle.rasn_types.specs.Lawful.{IsBitFree}
 use Rattle.rasn_types.proofs.Headers.Digits.{front_octets}
-use Rattle.rasn_types.proofs.Encoding.Determined.{in_once}
 use Rattle.rasn.proofs.StrictDer.Time.{utc_written, generalized_written, date_written}
 
 pub tail_octets : (input a b : List ℕ) → input ≡ a ++ b → AreOctets input → AreOctets b

@@ -1,19 +1,13 @@
 -- What DER reads of parts and alternatives.
-use Rattle.std.proofs.Common.{◌≡◌, ℕ, suc, ◌+◌, ◌<◌, ◌≢◌, inl, inr, List, [], ◌∷◌, ◌++◌, Bool, sym, ap, ap₂, ◌∙◌, subst, arith, append_assoc}
+use Rattle.std.proofs.Common.{◌≡◌, ℕ, suc, ◌+◌, ◌<◌, ◌≢◌, inl, inr, List, [], ◌++◌, Bool, sym, ap, ◌∙◌, arith}
 use Rattle.rasn_types.specs.declared.types.codec.Codec.TheVariants.{Der}
 use Rattle.rasn_types.specs.Framing.{AreOctets}
-use Rattle.rasn_types.specs.Shapes.{Tree, chosen, absent, Shape, Parts, part, count, Presence, required, addition, optional_by, default_by, default, Sought, sought_in}
+use Rattle.rasn_types.specs.Shapes.{Tree, chosen, absent, Shape, Parts, part, count}
 use Rattle.rasn_types.specs.Shapes.Parts.{none}
-use Rattle.rasn_types.specs.Readings.{ReadsMany, IsNoDefault, ReadsPart, ReadsInOrder, IsMissing, AllMissing, presences_in, ReadsChoice}
-use Rattle.rasn_types.specs.Order.{Each}
-use Rattle.rasn_types.specs.Contents.{joined_lists}
+use Rattle.rasn_types.specs.Readings.{ReadsChoice}
 use Rattle.rasn_types.specs.Grammar.{Reads, parts_of}
-use Rattle.rasn_types.specs.Bytes.{Same, WritesPart, PartsWritten, WritesChoice, Bytes, fields_of}
-use Rattle.rasn_types.specs.Carried.{PartIsWithinLimits, EachOf, IsWithinLimits, AreWithinLimits, ChosenIsWithinLimits}
-use Rattle.rasn_types.proofs.Encoding.SameOctets.{other_written}
-use Rattle.rasn_types.proofs.Encoding.SameAsItself.{written_same}
-use Rattle.rasn.proofs.ReadBack.Parts.{other_index}
-use Rattle.rasn.proofs.StrictDer.Leaves.{tail_octets}
+use Rattle.rasn_types.specs.Bytes.{Bytes}
+use Rattle.rasn_types.specs.Carried.{IsWithinLimits}
 
 -- What is read of the shape, in octets, are those that are written of the tree, which is within limits.
 abbrev pub IsTold : Shape → ℕ → Type 0

@@ -1,21 +1,16 @@
 -- The components of a SET that DER reads are in the order of its parts.
-use Rattle.std.proofs.Common.{◌≡◌, ℕ, suc, ◌<◌, ◌⊎◌, ◌≢◌, inl, inr, List, [], ◌∷◌, ◌++◌, Bool, sym, ap, ◌∙◌, subst, arith, append_assoc}
+use Rattle.std.proofs.Common.{◌≡◌, ℕ, suc, ◌<◌, ◌≢◌, inl, inr, List, [], ◌∷◌, ◌++◌, Bool, sym, ap, ◌∙◌, subst, arith}
 use Rattle.rasn_types.specs.Tags.{der_form, IsTagBelow}
 use Rattle.rasn_types.specs.declared.types.codec.Codec.TheVariants.{Der}
 use Rattle.rasn_types.specs.declared.types.tag.Tag.{Tag}
-use Rattle.rasn_types.specs.Framing.{AreOctets, Begins, NextTag}
-use Rattle.rasn_types.specs.Shapes.{Tree, chosen, Parts, part, IsFirst, IsFirstOf, Shape, Presence, presences}
+use Rattle.rasn_types.specs.Framing.{Begins, NextTag}
+use Rattle.rasn_types.specs.Shapes.{Tree, chosen, Parts, part, IsFirst, IsFirstOf, Shape, Presence}
 use Rattle.rasn_types.specs.Shapes.Parts.{none}
-use Rattle.rasn_types.specs.Readings.{ReadsFrom, IsNoDefault, IsMissing, ReadsChoice, NoneOf, OneOf, ByPart, AreInTagOrder}
+use Rattle.rasn_types.specs.Readings.{ReadsFrom, ReadsChoice, NoneOf, OneOf, ByPart}
 use Rattle.rasn_types.specs.Order.{Each, AreAscending}
-use Rattle.rasn_types.specs.Contents.{joined_lists}
 use Rattle.rasn_types.specs.Grammar.{Reads, parts_of}
-use Rattle.rasn_types.specs.Bytes.{WritesPart, PartsWritten, Bytes, fields_of}
-use Rattle.rasn_types.specs.Carried.{PartIsWithinLimits, IsWithinLimits, AreWithinLimits}
-use Rattle.rasn_types.specs.Lawful.{AreLawfulByTag}
 use Rattle.rasn_types.proofs.Headers.Frames.{begins_one}
 use Rattle.rasn_de.proofs.Headers.Begins.{begins_more}
-use Rattle.rasn.proofs.StrictDer.Leaves.{tail_octets}
 use Rattle.rasn.proofs.StrictDer.Parts.{other_read}
 
 -- The components of these parts.

@@ -1,21 +1,13 @@
 -- What DER reads of a shape whose values have octets isn't absent.
-use Rattle.std.proofs.Common.{◌≡◌, ℕ, suc, ◌-◌, ◌≢◌, inl, inr, List, [], ◌∷◌, ◌++◌, Bool, true, false, Option, Some, None, refl, sym, ap, ◌∙◌, subst, append-nil}
-use Rattle.rasn_types.specs.Tags.{loose_form}
+use Rattle.std.proofs.Common.{◌≡◌, ℕ, suc, ◌-◌, ◌≢◌, inl, inr, List, [], ◌∷◌, ◌++◌, Bool, true, false, Some, None}
 use Rattle.rasn_types.specs.declared.types.codec.Codec.TheVariants.{Der}
 use Rattle.rasn_types.specs.declared.types.tag.Tag.{Tag}
-use Rattle.rasn_types.specs.Framing.{AreOctets, Frame, definite}
 use Rattle.rasn_types.specs.Shapes.{Tree, items, IsSetTree, set_elements, absent, Kind, boolean, null, object_identifier, integer, enumerated, octet_string, fixed, numeric, printable, visible, ia5, any_octets, bmp, utf8, utc_time, generalized_time, date, Shape, leaf, any, prefix, choice, open_choice, option, seq, set, sorted_set, list, set_of, unknown, Parts, part, IsAlwaysPresent}
-use Rattle.rasn_types.specs.declared.types.constraints.Bound.{Bound}
 use Rattle.rasn_types.specs.Shapes.Parts.{none}
 use Rattle.rasn_types.specs.Readings.{ReadsContents, definite_form, indefinite_form, Reading, ReadsChoice}
-use Rattle.rasn_types.specs.Contents.{Contents, joined_lists}
+use Rattle.rasn_types.specs.Contents.{Contents}
 use Rattle.rasn_types.specs.Grammar.{Reads, parts_of, Family, plain_family, bit_family, named_family, text_family, family, ReadsIn, Text}
-use Rattle.rasn_types.specs.Bytes.{DefiniteForm, Each, PartsWritten, Bytes, fields_of}
-use Rattle.rasn_types.specs.Carried.{IsWithinLimits, AreWithinLimits, EachOf}
-use Rattle.rasn_types.specs.Lawful.{IsLawful, AreLawfulByTag}
-use Rattle.rasn_types.proofs.Headers.Frames.{frame_next, not_ended}
-use Rattle.rasn_types.proofs.SetOf.Same.{items_one}
-use Rattle.rasn_types.proofs.Encoding.Determined.{definite_one, numbers_one}
+use Rattle.rasn_types.specs.Lawful.{IsLawful}
 use Rattle.rasn.proofs.StrictDer.Parts.{IsNeverAbsent}
 
 pub set_elements_one : (ts us : List Tree) → set_elements (items ts) ≡ set_elements (items us) → items ts ≡ items us

@@ -3,10 +3,10 @@ use Rattle.std.proofs.Common.{◌≡◌, ℕ, suc, ◌+◌, ◌<◌, ◌⊎◌, 
 use Rattle.std.proofs.lemmas.List.{append_cancel_right}
 use Rattle.rasn_types.specs.declared.types.codec.Codec.TheVariants.{Der}
 use Rattle.rasn_types.specs.declared.types.tag.Tag.{Tag}
-use Rattle.rasn_types.specs.Framing.{AreOctets, Begins, NextTag}
-use Rattle.rasn_types.specs.Shapes.{Tree, numbers, chosen, Parts, part, count, Shape, Presence, presences, IsFirst, IsFirstOf}
+use Rattle.rasn_types.specs.Framing.{AreOctets, Begins}
+use Rattle.rasn_types.specs.Shapes.{Tree, numbers, chosen, Parts, part, count, Shape, Presence, IsFirst, IsFirstOf}
 use Rattle.rasn_types.specs.Shapes.Parts.{none}
-use Rattle.rasn_types.specs.Readings.{Reading, ReadsFrom, IsNoDefault, ReadsChoice, NoneOf, ByPart, AllOf, AreInTagOrder}
+use Rattle.rasn_types.specs.Readings.{Reading, ReadsFrom, IsNoDefault, ReadsChoice, NoneOf, AllOf, AreInTagOrder}
 use Rattle.rasn_types.specs.Order.{Each, IsBeforeAll, AreInOrder, IsReordered}
 use Rattle.rasn_types.specs.Contents.{joined_lists}
 use Rattle.rasn_types.specs.Grammar.{Reads, parts_of, ReadsOpenChoice}

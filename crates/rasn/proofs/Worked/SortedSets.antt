@@ -1,25 +1,25 @@
 -- SETs in the order of their tags, with their octets.
-use Rattle.std.proofs.Common.{◌≡◌, ℕ, ◌+◌, ◌*◌, ◌<◌, ◌≤◌, inl, inr, List, [], ◌∷◌, ◌++◌, Bool, true, false, pos, rules, refl, sym, ap, ◌∙◌, subst, arith}
-use Rattle.rasn_types.specs.Tags.{Form, in_universal, rank, IsTagBelow}
+use Rattle.std.proofs.Common.{◌≡◌, ℕ, ◌+◌, ◌*◌, ◌<◌, inl, inr, List, [], ◌∷◌, ◌++◌, Bool, true, false, pos, rules, refl, sym, ap, ◌∙◌, subst, arith}
+use Rattle.rasn_types.specs.Tags.{Form, in_universal, IsTagBelow}
 use Rattle.rasn_types.specs.declared.types.codec.Codec.{Codec}
 use Rattle.rasn_types.specs.declared.types.codec.Codec.TheVariants.{Ber, Cer, Der}
 use Rattle.rasn_types.specs.declared.types.tag.Tag.{Tag}
 use Rattle.rasn_types.specs.declared.types.tag.Class.TheVariants.{Universal, Context}
 use Rattle.rasn_types.specs.Framing.{Frame, definite, Begins, plain as whole}
 use Rattle.rasn_types.specs.Shapes.{Tree, number, numbers, items, chosen, IsIn, IsFirst, IsFirstOf, integer, every, sorted_set, Parts}
-use Rattle.rasn_types.specs.Readings.{definite_form, indefinite_form, ReadsFrom, ReadsMany, ByPart, AllOf, AreInTagOrder, ReadsChoice}
+use Rattle.rasn_types.specs.Readings.{definite_form, indefinite_form, AllOf, AreInTagOrder, ReadsChoice}
 use Rattle.rasn_types.specs.Order.{Each, AreAscending}
 use Rattle.rasn_types.specs.Contents.{signed}
 use Rattle.rasn_types.specs.Trees.{unsigned_range}
 use Rattle.rasn_types.specs.Grammar.{Reads, parts_of, top, ReadsOpenChoice}
-use Rattle.rasn_types.specs.Bytes.{AreInOrder, Component as Written, ComesBefore, contents_of, ConstructedEncoding, Bytes, fields_of}
+use Rattle.rasn_types.specs.Bytes.{Component as Written, Bytes, fields_of}
 use Rattle.rasn_types.specs.Carried.{IsWithinLimits, Carried}
 use Rattle.rasn_types.proofs.Lawful.{lawful}
 use Rattle.rasn_types.proofs.Headers.Frames.{frame_next, begins_one}
 use Rattle.rasn_types.proofs.SetTrees.{set_tree_one}
 use Rattle.rasn_types.proofs.Encoding.SameAsItself.{one_writing}
 use Rattle.rasn.specs.Worked.{IsCarriedAs, IsLenient, IsReadAs, IsRefusedBy, three_two_one, rising_octets, falling_octets}
-use Rattle.rasn.specs.WorkedShapes.{plain, contextual, tagged, small, truth, whole_number, truth_or_number, put_in_order, two_of_set, extensible_set, interleaved}
+use Rattle.rasn.specs.WorkedShapes.{contextual, tagged, small, truth, whole_number, truth_or_number, put_in_order, two_of_set, extensible_set, interleaved}
 use Rattle.rasn.specs.WorkedValues.{seven_and_five, one_three_and, WorkedSortedSets}
 use Rattle.rasn.proofs.ReadBack.Headers.{short, going, short_written, closed_written, tag_begins, context_frame}
 use Rattle.rasn.proofs.LawsHold.Written.{one_reading}
