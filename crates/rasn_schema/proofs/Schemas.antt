@@ -1,5 +1,5 @@
 -- A schema's types are lawful, or unknown values, as deep as they are read.
-use Rattle.std.proofs.Common.{◌≡◌, ◌∙◌, ℕ, zero, suc, ◌<◌, ◌≤◌, inl, inr, Bool, true, false, List, [], ◌∷◌, length, Option, Some, None, refl, sym, subst, ◌⊎◌, true≢false, arith}
+use Rattle.std.proofs.Common.{◌≡◌, ◌≢◌, ◌∙◌, ℕ, zero, suc, ◌<◌, ◌≤◌, inl, inr, Bool, true, false, List, [], ◌∷◌, length, Option, Some, None, refl, sym, subst, ◌⊎◌, true≢false, arith}
 use Rattle.std.specs.Prelude.{slice_get}
 use Rattle.std.proofs.lemmas.Option.{slice_get_within}
 use Rattle.rasn_types.specs.declared.types.tag.Tag.{Tag}
@@ -487,7 +487,7 @@ module _ (types : List «Type») (i : ℕ) (w : IsSchema types) (readable : (k :
   type_readable id (Tagged tag k) t = inl (tt, (t.0, (of_known k.0 t.2).0, (of_known k.0 t.2).1))
   type_readable id (Choice name ks) t = inl (choice_readable id ks.items t.1 t.2)
   type_readable id (Sequence tag ps) t = inl (tt, (t.0, in_order_lawful ps.items t.1 t.2))
-  type_readable id (Set name tag ps) t = inl (tt, (t.0, set_lawful ps.items t.1 t.2 t.3))
+  type_readable id (Set name tag ps) t = inl (tt, (t.0, (set_lawful ps.items t.1 t.2 t.3).0, (set_lawful ps.items t.1 t.2 t.3).1))
   type_readable id (SequenceOf tag k c) t = inl (tt, (t.0, (of_known k.0 t.1).0, (of_known k.0 t.1).1))
   type_readable id (SetOf tag k c) t = inl (tt, (t.0, (of_known k.0 t.1).0, (of_known k.0 t.1).1))
   type_readable id Unknown t = inr refl

@@ -32,6 +32,9 @@ not_prop A = each_prop (λ a. ⊥) (λ a. none_prop)
 three_prop : {A B C : Type 0} → IsProp A → IsProp B → IsProp C → IsProp (A × B × C)
 three_prop a b c x y = λ i. (a x.0 y.0 i, b x.1 y.1 i, c x.2 y.2 i)
 
+four_prop : {A B C D : Type 0} → IsProp A → IsProp B → IsProp C → IsProp D → IsProp (A × B × C × D)
+four_prop a b c d x y = λ i. (a x.0 y.0 i, b x.1 y.1 i, c x.2 y.2 i, d x.3 y.3 i)
+
 -- ---- of shapes
 
 has_tag_prop : (s : Shape) → IsProp (HasTag s)
@@ -98,7 +101,7 @@ type_prop own f id (Any tag) = Unit-prop
 type_prop own f id (Tagged tag k) = three_prop (not_prop (tag ≡ eoc)) (each_prop _ (λ h. le_prop)) (not_prop _)
 type_prop own f id (Choice name ks) = three_prop (not_prop (ks.items ≡ [])) (lower_prop f id ks.items) (alternatives_prop f ks.items)
 type_prop own f id (Sequence tag ps) = three_prop (not_prop (tag ≡ eoc)) (in_order_prop own f ps.items) (ends_prop f ps.items)
-type_prop own f id (Set name tag ps) = ×_prop (not_prop (tag ≡ eoc)) (three_prop (tagged_prop f ps.items) (ends_prop f ps.items) (components_prop f ps.items))
+type_prop own f id (Set name tag ps) = four_prop (not_prop (tag ≡ eoc)) (tagged_prop f ps.items) (ends_prop f ps.items) (components_prop f ps.items)
 type_prop own f id (SequenceOf tag k c) = ×_prop (not_prop _) (not_prop _)
 type_prop own f id (SetOf tag k c) = ×_prop (not_prop _) (not_prop _)
 type_prop own f id Unknown = Unit-prop
