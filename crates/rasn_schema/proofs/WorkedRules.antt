@@ -152,14 +152,14 @@ module _ (p q r : Component) where
 
     -- the last one has no first tags, and the first two have one each
     three_distinct : AreDistinctComponents f (p ∷ (q ∷ (r ∷ [])))
-    three_distinct i zero x y l e g t = absurd (omega (arith, l))
+    three_distinct i zero x y l e g t h k = absurd (omega (arith, l))
     three_distinct zero (suc zero) x y l e g t h k =
         let v = subst (λ (z : Component). IsFirst (f z.type_id.0) t) (some_is x p e) h in
         let w = subst (λ (z : Component). IsFirst (f z.type_id.0) t) (some_is y q g) k in
         one_is_not_five (sym (subst (λ s. IsFirst s t) n w) ∙ subst (λ s. IsFirst s t) m v)
-    three_distinct (suc i) (suc zero) x y l e g t = absurd (omega (arith, l))
+    three_distinct (suc i) (suc zero) x y l e g t h k = absurd (omega (arith, l))
     three_distinct i (suc (suc zero)) x y l e g t h k = subst (λ s. IsFirst s t) u (subst (λ (z : Component). IsFirst (f z.type_id.0) t) (some_is y r g) k)
-    three_distinct i (suc (suc (suc j))) x y l e g t = absurd (not_none y None refl g)
+    three_distinct i (suc (suc (suc j))) x y l e g t h k = absurd (not_none y None refl g)
 
 seventeen : in_universal 17 ≡ eoc → ⊥
 seventeen e = let v : 17 ≡ 0 = ap (λ (t : Tag). t.value) e in omega (arith, v)

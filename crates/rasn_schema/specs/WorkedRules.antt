@@ -1,5 +1,5 @@
 -- Types that were worked out by hand: which rules of X.680 they keep, and which they break.
-use Rattle.std.specs.Prelude.{◌≡◌, ℕ, Vec, String, List, [], ◌∷◌, Option, Some, None}
+use Rattle.std.specs.Prelude.{◌≡◌, ℕ, true, false, Vec, String, List, [], ◌∷◌, Option, Some, None}
 use Rattle.std.specs.Global.{Global}
 use Rattle.rasn_types.specs.declared.types.tag.Tag.{Tag}
 use Rattle.rasn_types.specs.Tags.{eoc, in_universal}

@@ -168,7 +168,8 @@ impl fmt::Display for SchemaError {
                 write_both(f, id, "components ", index, " and ", other, back)
             }
             SchemaError::MisplacedUnknown { id, index } => {
-                let back = " is unknown values, and not the last, required component of a SEQUENCE or a SET (X.680 25, 27)";
+                let back =
+                    " is unknown values, and not the last, required component of a SEQUENCE or a SET (X.680 25, 27)";
                 write_one(f, id, "part ", index, back)
             }
             SchemaError::UnfitDefault { id, index } => {
