@@ -6,7 +6,6 @@ use Rattle.rasn_types.specs.Tags.{eoc}
 use Rattle.rasn_types.specs.Grammar.{family}
 use Rattle.rasn_types.specs.Shapes.{Shape}
 use Rattle.rasn_types.specs.Lawful.{IsBitFree}
-use Rattle.rasn_schema.specs.declared.type_id.TypeId.{TypeId}
 use Rattle.rasn_schema.specs.declared.types.Component.{Component}
 use Rattle.rasn_schema.specs.declared.types.Alternative.{Alternative}
 use Rattle.rasn_schema.specs.declared.types.NamedNumber.{NamedNumber}
@@ -16,7 +15,7 @@ use Rattle.rasn_schema.specs.declared.types.«Type».TheVariants.{Leaf, Enumerat
 use Rattle.rasn_schema.specs.declared.error.SchemaError.{SchemaError}
 use Rattle.rasn_schema.specs.declared.error.SchemaError.TheVariants.{ReservedTag, ConstructedTag, LateInner, NumbersClash, NoNumbers, NoAlternatives, LateAlternative, UntaggedAlternative, AlternativesClash, ComponentsClash, UntaggedComponent, AdditionInSet, UntaggedInSet, SetClash, UnfitDefault, MisplacedUnknown}
 use Rattle.rasn_schema.specs.Shapes.{kind_of, presence_of, shape_of_type}
-use Rattle.rasn_schema.specs.Schemas.{IsPrefix, IsUnknown, EndsUnknown, AreDistinct, AreLowerAndTagged, AreDistinctAlternatives, AreDistinctNumbers, AreToldInOrder, IsRecognizable, IsToldFrom, AreTagged, AreDistinctComponents, IsWellFormed, AreWellFormed, AreChoicesWellFormed, AreOthersWellFormed, HaveFitDefaults, IsSchema, own_at, begin_at}
+use Rattle.rasn_schema.specs.Schemas.{IsPrefix, IsUnknown, EndsUnknown, AreLowerAndTagged, AreDistinctAlternatives, AreDistinctNumbers, AreToldInOrder, IsRecognizable, IsToldFrom, AreTagged, AreDistinctComponents, IsWellFormed, AreWellFormed, AreChoicesWellFormed, AreOthersWellFormed, HaveFitDefaults, IsSchema, own_at, begin_at}
 use Rattle.rasn_schema.specs.FirstTags.{IsAlwaysThere}
 use Rattle.rasn_schema.specs.Faults.{IsListFault, IsTaggedFault, IsLeafFault, IsNumbersFault, IsAlternativesFault, IsSequenceFault, IsSetFault, IsFaultOf, SomeFault, IsDefaultFault, IsFault}
 

@@ -1,7 +1,6 @@
 -- A SET whose last component is unknown values.
 use Rattle.std.proofs.Common.{◌≡◌, ℕ, zero, suc, Bool, true, false, List, [], ◌∷◌, length, Option, Some, None, refl, sym, ap, ◌∙◌, arith}
 use Rattle.std.specs.Prelude.{slice_get}
-use Rattle.rasn_types.specs.declared.types.tag.Tag.{Tag}
 use Rattle.rasn_types.specs.Shapes.{Shape, part}
 use Rattle.rasn_schema.specs.declared.types.Component.{Component}
 use Rattle.rasn_schema.specs.declared.types.«Type».{«Type»}
