@@ -19,8 +19,9 @@ pub(crate) fn add_unknown_alternatives(
     let mut place = None;
     for (index, node) in nodes.iter_mut().enumerate() {
         if takes_unknown(node) && closed.get(index) == Some(&false) {
-            node.parts.push(unknown_alternative(node, open_type))?;
             place = Some(node.place);
+            let alternative = unknown_alternative(node, open_type);
+            node.parts.push(alternative)?;
         }
     }
     if let Some(place) = place {
