@@ -224,7 +224,8 @@ impl Notation<'_> {
         self.write_use(f, element)
     }
 
-    /// Writes a CHOICE, a line for each alternative (X.680 29).
+    /// Writes a CHOICE, a line for each alternative (X.680 29). In place of an unknown alternative it
+    /// writes an extension marker.
     fn write_alternatives<W: fmt::Write>(
         &self,
         f: &mut fmt::Formatter<W>,
@@ -232,9 +233,23 @@ impl Notation<'_> {
     ) -> fmt::Result {
         f.write_str("CHOICE {")?;
         for (index, alternative) in alternatives.iter().enumerate() {
-            self.write_part(f, index, alternative.name.as_str(), alternative.type_id)?;
+            self.write_alternative(f, index, alternative)?;
         }
         f.write_str(" }")
+    }
+
+    /// Writes the name and the type of an alternative, or an extension marker.
+    fn write_alternative<W: fmt::Write>(
+        &self,
+        f: &mut fmt::Formatter<W>,
+        index: usize,
+        alternative: &Alternative,
+    ) -> fmt::Result {
+        if alternative.name.as_str() == "..." {
+            f.write_str(separator(index))?;
+            return f.write_str("...");
+        }
+        self.write_part(f, index, alternative.name.as_str(), alternative.type_id)
     }
 
     /// Writes components in braces, a line for each (X.680 25, 27).

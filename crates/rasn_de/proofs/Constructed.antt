@@ -17,3 +17,4 @@ pub mod Prefix
 pub mod Optional
 pub mod Choice
 pub mod Beyond
+pub mod ValueErrors

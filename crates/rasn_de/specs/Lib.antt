@@ -30,3 +30,4 @@ pub mod AlternativeTypes
 pub mod SetPartTypes
 pub mod Unknown
 pub mod Beyond
+pub mod ValueErrors

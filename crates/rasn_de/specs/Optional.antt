@@ -13,6 +13,7 @@ use Rattle.rasn_types.specs.Trees.{option_tree}
 use Rattle.rasn_types.specs.Readings.{Reading, ReadsPart, IsLeftOut, IsPresent}
 use Rattle.rasn_types.specs.Grammar.{Reads}
 use Rattle.rasn_de.specs.Decodes.{Decodes, DecodesBy}
+use Rattle.rasn_de.specs.ValueErrors.{Errors, DecodesOr}
 use Rattle.rasn_de.specs.declared.ber.de.parser.ParseError.TheVariants.{OutOfMemory, Der}
 use Rattle.rasn_de.specs.State.{State, Call}
 use Rattle.rasn_de.specs.Steps.{IsErrorOf, PeeksTag}
@@ -46,9 +47,9 @@ module _ {D : Type 0} (read : Call D) (tags : Sought) (old : State) where
 abbrev pub DecodesIfPresent : {D : Type 0} → Call D → Tag → Call (Option D)
 DecodesIfPresent read tag = DecodesIfSought read (one_tag (looked_for tag))
 
--- A value of the shape that may be left out, with this tag and these constraints.
-abbrev pub DecodesIfPresentAs : {D : Type 0} → Tag → Constraints → Shape → (D → Tree) → Call (Option D)
-DecodesIfPresentAs tag c s tree = DecodesIfPresent (Decodes (tagged_as tag c s) tree) tag
+-- A value of the shape that may be left out, with this tag, these constraints and these errors.
+abbrev pub DecodesIfPresentAs : {D : Type 0} → Tag → Constraints → Shape → (D → Tree) → Errors → Call (Option D)
+DecodesIfPresentAs tag c s tree errors = DecodesIfPresent (DecodesOr (tagged_as tag c s) tree errors) tag
 
 -- A value that may be left out is decoded; in the second definition, with this tag and these constraints.
 abbrev pub DecodesOption : {D : Type 0} → Tag → Shape → (D → Tree) → Call (Option D)
@@ -86,9 +87,9 @@ module _ {D : Type 0} (read : Call D) (tree : D → Tree) (made : Result D Alloc
 abbrev pub DecodesOrDefault : {D : Type 0} → Call D → (D → Tree) → (Result D AllocError → Type 0) → Tag → Call D
 DecodesOrDefault read tree made tag = DecodesSoughtOrDefault read tree made (one_tag (looked_for tag))
 
--- A value of the shape that has a default, with this tag and these constraints.
-abbrev pub DecodesOrDefaultAs : {D : Type 0} → Tag → Constraints → Shape → (D → Tree) → (Result D AllocError → Type 0) → Call D
-DecodesOrDefaultAs tag c s tree made = DecodesOrDefault (Decodes (tagged_as tag c s) tree) tree made tag
+-- A value of the shape that has a default, with this tag, these constraints and these errors.
+abbrev pub DecodesOrDefaultAs : {D : Type 0} → Tag → Constraints → Shape → (D → Tree) → Errors → (Result D AllocError → Type 0) → Call D
+DecodesOrDefaultAs tag c s tree errors made = DecodesOrDefault (DecodesOr (tagged_as tag c s) tree errors) tree made tag
 
 -- The value must be present.
 abbrev pub DecodesAlways : {D : Type 0} → Call D → Call (Option D)

@@ -11,6 +11,7 @@ use Rattle.rasn_de.specs.Outcomes.{Got}
 use Rattle.rasn_de.specs.Decodes.{Decodes, DecodesExactly, DecodesParts}
 pub use Rattle.rasn_de.specs.Optional.{OnePart}
 use Rattle.rasn_de.specs.Optional.{DecodesIfSought, DecodesSoughtOrDefault}
+use Rattle.rasn_de.specs.ValueErrors.{Errors}
 use Rattle.rasn_de.specs.Constructed.{sequence_header, DecodesInside}
 
 abbrev pub same_own : Option Tag → Option Tag → Bool
@@ -47,11 +48,16 @@ FailsAtPart none old e new = ⊥
 FailsAtPart (part p s ps) old e new = FailsAtOnePart p s old e new
     ⊎ ((t : Tree) × (here : State) × DecodesExactly (OnePart p s) old (Got t here.rest) here × FailsAtPart ps here e new)
 
--- Parts are read in their order, up to the first one that can't be read.
-abbrev pub DecodesInParts : {D : Type 0} → Parts → (D → Tree) → Call D
-DecodesInParts ps tree old (Ok v) new = DecodesParts ps tree old (Ok v) new
-DecodesInParts ps tree old (Err e) new = FailsAtPart ps old e new
+-- The error is one of the part; or the part is read, and the error is one of the parts after it.
+abbrev pub IsErrorOfParts : Presence → Shape → Errors → Errors → Errors
+IsErrorOfParts p s first others old e new = first old e new
+    ⊎ ((t : Tree) × (here : State) × DecodesExactly (OnePart p s) old (Got t here.rest) here × others here e new)
 
--- A SEQUENCE of these parts is read.
-abbrev pub DecodesSequenceParts : {D : Type 0} → Parts → (D → Tree) → Tag → Call D
-DecodesSequenceParts ps tree tag = DecodesInside (DecodesInParts ps tree) (sequence_header tag)
+-- Parts are read in their order, up to the first one that can't be read, and the error is one of these.
+abbrev pub DecodesInParts : {D : Type 0} → Parts → (D → Tree) → Errors → Call D
+DecodesInParts ps tree errors old (Ok v) new = DecodesParts ps tree old (Ok v) new
+DecodesInParts ps tree errors old (Err e) new = FailsAtPart ps old e new × errors old e new
+
+-- A SEQUENCE of these parts, which have these errors, is read.
+abbrev pub DecodesSequenceParts : {D : Type 0} → Parts → (D → Tree) → Errors → Tag → Call D
+DecodesSequenceParts ps tree errors tag = DecodesInside (DecodesInParts ps tree errors) (sequence_header tag)

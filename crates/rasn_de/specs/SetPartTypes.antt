@@ -16,6 +16,7 @@ use Rattle.rasn_de.specs.Constructed.{sequence_header, DecodesInside}
 use Rattle.rasn_de.specs.SequenceOf.{RefusesElement, DecodesInTurnFrom}
 use Rattle.rasn_de.specs.Set.{DecodesIntoSlots, DecodesSetContents, AreParts}
 use Rattle.rasn_de.specs.Beyond.{Beyond}
+use Rattle.rasn_de.specs.ValueErrors.{Errors, IsErrorByTag}
 use Rattle.rasn_de.specs.AlternativeTypes.{ReadsNumbered, DecodesAlternative}
 
 -- The tree of the value in a slot.
@@ -76,9 +77,10 @@ IsOrDefault tree d slot (Ok v) = (slot ≡ Some v) ⊎ ((slot ≡ None) × (tree
 IsOrDefault tree d slot (Err e) = IsOutOfMemory e.kind × (slot ≡ None)
 
 -- A component is read as read_choice reads one of these parts. If it is no part, the error contains the name of the
--- type, and nothing of the component is consumed.
-abbrev pub DecodesOneOf : Parts → List ℕ → Call Tree
-DecodesOneOf ps name old r new = Decodes (choice ps) (λ (t : Tree). t) old r new × IfErr r (λ e. DecodesAlternative ps (λ (t : Tree). t) name old (Err e) new)
+-- type, and nothing of the component is consumed. An error of a part is one of those for its tag.
+abbrev pub DecodesOneOf : Parts → List ℕ → (Tag → Errors) → Call Tree
+DecodesOneOf ps name errors old r new = Decodes (choice ps) (λ (t : Tree). t) old r new
+    × IfErr r (λ e. DecodesAlternative ps (λ (t : Tree). t) name old (Err e) new × IsErrorByTag errors old e new)
 
 module _ (ps : Parts) (names : List (List ℕ)) (before : List (Option Tree)) (old : State) where
   -- The next component is read as a part, and fills the slot of the part if that is empty, or else the name of the part
@@ -188,12 +190,12 @@ abbrev pub DecodesSetParts : {D : Type 0} → Parts → (D → Tree) → List (L
 DecodesSetParts ps tree names tag = DecodesInside (DecodesSetPartContents ps tree names) (sequence_header tag)
 
 -- The same, if each component is read as in DecodesOneOf, and the parts are made as in MakesNamed.
-abbrev pub DecodesNamedContents : {D : Type 0} → Parts → (D → Tree) → List ℕ → List (List ℕ) → Call D
-DecodesNamedContents ps tree name names old =
-    DecodesSetContents (DecodesIntoSlots (DecodesOneOf ps name)) (MakesNamed ps tree names old.rule) old
+abbrev pub DecodesNamedContents : {D : Type 0} → Parts → (D → Tree) → List ℕ → List (List ℕ) → (Tag → Errors) → Call D
+DecodesNamedContents ps tree name names errors old =
+    DecodesSetContents (DecodesIntoSlots (DecodesOneOf ps name errors)) (MakesNamed ps tree names old.rule) old
 
-abbrev pub DecodesNamedParts : {D : Type 0} → Parts → (D → Tree) → List ℕ → List (List ℕ) → Tag → Call D
-DecodesNamedParts ps tree name names tag = DecodesInside (DecodesNamedContents ps tree name names) (sequence_header tag)
+abbrev pub DecodesNamedParts : {D : Type 0} → Parts → (D → Tree) → List ℕ → List (List ℕ) → (Tag → Errors) → Tag → Call D
+DecodesNamedParts ps tree name names errors tag = DecodesInside (DecodesNamedContents ps tree name names errors) (sequence_header tag)
 
 -- A component begins here, after these others.
 abbrev pub IsStart : Parts → State → State → Type 0

@@ -17,11 +17,17 @@ mod error;
 /// rest remains.
 pub trait Decode: AsnType {
     ghost use Rattle.rasn_types.specs.declared.types.tag.Tag.{Tag};
+    ghost use Rattle.rasn_types.specs.declared.types.constraints.Constraints.{Constraints};
     ghost use Rattle.rasn_de.specs.State.{Call};
+    ghost use Rattle.rasn_de.specs.ValueErrors.{Errors};
 
     /// What a contract says, besides the tree, of a call that reads a value under a tag: what the
     /// value keeps of its octets, such as the offset of a time. By default it says nothing.
     ghost beyond: { Tag → Call Self } = { λ _ _ _ _. Unit {0} };
+
+    /// What a contract says of an error, besides that the value can't be read or an allocation
+    /// fails: which errors a call has under a tag and constraints. By default it says nothing.
+    ghost errors: { Tag → Constraints → Errors } = { λ _ _ _ _ _. Unit {0} };
 
     /// Reads a value that has this outermost tag and these constraints in place of the type's own.
     ///
@@ -34,6 +40,7 @@ pub trait Decode: AsnType {
     ) -> Result<Self, DecodeError>
         ensures reads { Decodes (tagged_as tag constraints.now Self.shape) Self.tree decoder.old result decoder.new }
         ensures beyond { Self.beyond tag decoder.old result decoder.new }
+        ensures errors { IfErr result (λ e. Self.errors tag constraints.now decoder.old e decoder.new) }
         ensures rules { IfErr result (λ e. e.codec ≡ decoder.old.rule) };
 
     /// Reads a value.
@@ -44,6 +51,7 @@ pub trait Decode: AsnType {
     final fn decode(decoder: &mut Decoder<'_>) -> Result<Self, DecodeError>
         ensures reads { Decodes Self.shape Self.tree decoder.old result decoder.new }
         ensures beyond { Self.beyond Self.TAG decoder.old result decoder.new }
+        ensures errors { IfErr result (λ e. Self.errors Self.TAG Self.CONSTRAINTS decoder.old e decoder.new) }
         ensures rules { IfErr result (λ e. e.codec ≡ decoder.old.rule) }
     {
         Self::decode_with_tag_and_constraints(decoder, Self::TAG, &Self::CONSTRAINTS)
@@ -56,6 +64,7 @@ pub trait Decode: AsnType {
     final fn decode_with_tag(decoder: &mut Decoder<'_>, tag: Tag) -> Result<Self, DecodeError>
         ensures reads { Decodes (tagged_as tag Self.CONSTRAINTS Self.shape) Self.tree decoder.old result decoder.new }
         ensures beyond { Self.beyond tag decoder.old result decoder.new }
+        ensures errors { IfErr result (λ e. Self.errors tag Self.CONSTRAINTS decoder.old e decoder.new) }
         ensures rules { IfErr result (λ e. e.codec ≡ decoder.old.rule) }
     {
         Self::decode_with_tag_and_constraints(decoder, tag, &Self::CONSTRAINTS)
@@ -71,6 +80,7 @@ pub trait Decode: AsnType {
     ) -> Result<Self, DecodeError>
         ensures reads { Decodes (tagged_as Self.TAG constraints.now Self.shape) Self.tree decoder.old result decoder.new }
         ensures beyond { Self.beyond Self.TAG decoder.old result decoder.new }
+        ensures errors { IfErr result (λ e. Self.errors Self.TAG constraints.now decoder.old e decoder.new) }
         ensures rules { IfErr result (λ e. e.codec ≡ decoder.old.rule) }
     {
         Self::decode_with_tag_and_constraints(decoder, Self::TAG, constraints)
@@ -78,29 +88,39 @@ pub trait Decode: AsnType {
 }
 
 /// A CHOICE that can be decoded (X.680 29). Its shape consists of the alternatives, none of which
-/// is optional.
+/// is optional, with an extension marker or without one.
 pub trait DecodeChoice: AsnType {
-    ghost use Rattle.std.specs.Prelude.{◌≡◌};
-    ghost use Rattle.rasn_types.specs.Shapes.{Parts, choice};
+    ghost use Rattle.std.specs.Prelude.{◌≡◌, Bool, false};
+    ghost use Rattle.rasn_types.specs.Shapes.{Parts, choice_by};
     ghost use Rattle.rasn_de.specs.State.{Call};
+    ghost use Rattle.rasn_de.specs.ValueErrors.{Errors};
 
     ghost alternatives: { Parts };
+
+    /// Whether the CHOICE has an extension marker.
+    ghost extensible: { Bool } = { false };
 
     /// What a contract says, besides the tree, of a call that reads an alternative, as `beyond` of
     /// `Decode` does. By default it says nothing.
     ghost beyond: { Call Self } = { λ _ _ _. Unit {0} };
+
+    /// Which errors a call that reads an alternative has, as `errors` of `Decode`. By default it
+    /// says nothing.
+    ghost errors: { Errors } = { λ _ _ _. Unit {0} };
 
     /// Reads the alternative that begins with this tag. The caller has already looked at the tag:
     /// it is that of the next value, as returned by `Decoder::peek_tag`, and isn't universal 0.
     /// `Decoder::decode_choice` calls the function in this way.
     ///
     /// # Errors
-    /// `NoValidChoice` if no alternative has the tag; otherwise the error of the alternative.
+    /// The error of the alternative. If no alternative has the tag, `NoValidChoice` or, with an
+    /// extension marker, the error of `Decoder::decode_any` without a tag.
     fn from_tag(decoder: &mut Decoder<'_>, tag: Tag) -> Result<Self, DecodeError>
         requires { NextTag (form decoder.old.rule) decoder.old.rest tag }
         ensures reads { Decodes Self.shape Self.tree decoder.old result decoder.new }
         ensures beyond { Self.beyond decoder.old result decoder.new }
+        ensures errors { IfErr result (λ e. Self.errors decoder.old e decoder.new) }
         ensures rules { IfErr result (λ e. e.codec ≡ decoder.old.rule) };
 
-    ghost chooses: { Self.AsnType.shape ≡ choice alternatives };
+    ghost chooses: { Self.AsnType.shape ≡ choice_by extensible alternatives };
 }

@@ -172,25 +172,3 @@ pub set_lawful : (tag : Tag) (ps : Parts) → IsReadable (set tag ps) → AreLaw
 unfolding IsLawful
 set_lawful tag ps (inl h) = h.1.1
 set_lawful tag ps (inr e) = cc
-
-pub choice_lawful : (ps : Parts) → IsReadable (choice ps) → IsLawful (choice ps)
-choice_lawful ps (inl h) = h.1
-choice_lawful ps (inr e) = cc
-
--- ---- alternatives
-
-module _ (f : ℕ → Shape) where
-  -- An alternative is the only one that may begin with its first tags.
-  pub only_at : (ks : List Alternative) (k : ℕ) (a : Alternative) (tag : Tag) → AreDistinguished (alternatives_by f ks) → Some a ≡ slice_get ks k → IsFirst (f a.type_id.0) tag
-      → IsOnlyAlternative (alternatives_by f ks) k required (f a.type_id.0) tag
-  only_at [] k a tag d e h = absurd cc
-  only_at (b ∷ ks) zero a tag d e h =
-      let same : b ≡ a = cc in
-      (refl, ap (λ (x : Alternative). f x.type_id.0) same, h, λ g. d.0 tag (subst (λ (x : Alternative). IsFirst (f x.type_id.0) tag) (sym same) h) g)
-  only_at (b ∷ ks) (suc k) a tag d e h = ((λ g. d.0 tag g (first_of_all f tag ks k a e h)), only_at ks k a tag d.1 e h)
-
-  pub alternative_lawful : (ks : List Alternative) (k : ℕ) (a : Alternative) → AreAlternatives (alternatives_by f ks) → Some a ≡ slice_get ks k → IsReadable (f a.type_id.0)
-  unfolding IsLawful
-  alternative_lawful [] k a h e = absurd cc
-  alternative_lawful (b ∷ ks) zero a h e = let same : b ≡ a = cc in subst (λ (x : Alternative). IsReadable (f x.type_id.0)) same (inl (h.2, h.3))
-  alternative_lawful (b ∷ ks) (suc k) a h e = alternative_lawful ks k a h.4 e

@@ -42,7 +42,7 @@ use Rattle.rasn_dynamic.specs.Calls.{IsDefaultOf, IsMade}
 use Rattle.rasn_dynamic.specs.Typed.{element_count}
 use Rattle.rasn_dynamic.specs.declared.trace.Fault.{Fault}
 use Rattle.rasn_dynamic.specs.declared.refusal.Refusal.{Refusal}
-use Rattle.rasn_dynamic.specs.Faults.{IsMarked, IsStepped, IsMoved, octets_after, IsWithin, IsComponentAt, ComponentsInTurn, IsMember, IsMemberAt, IsElementAt, IsAlternativeAt, IsOnly, IsPart, Leads, HasPath, IsFault, IsFaultIn, IsFaultOf, IsFaultInside, Told, TellsOf, IsRefusalOf, IsLocated, FailsAt, FailsItself, ReadsEachPart, StopsAtChoice, StopsInElements, StopsInOrder, StopsInSequence, StopsInSet, StopsAtComponent, IsDefaultWritten, TakesNothing, start}
+use Rattle.rasn_dynamic.specs.Faults.{IsMarked, IsStepped, IsMoved, octets_after, IsWithin, IsComponentAt, ComponentsInTurn, IsMember, IsMemberAt, IsElementAt, IsNextAlternative, IsAlternativeAt, IsOnly, IsPart, Leads, HasPath, IsFault, IsFaultIn, IsFaultOf, IsFaultInside, Told, TellsOf, IsRefusalOf, IsLocated, FailsAt, FailsItself, ReadsEachPart, StopsAtChoice, StopsInElements, StopsInOrder, StopsInSequence, StopsInSet, StopsAtComponent, IsDefaultWritten, TakesNothing, start}
 
 -- ---- lists
 
@@ -256,8 +256,8 @@ tells P Q h (Err e) t (g, i, w) = λ f q. let same : g ≡ f = cc in subst (Q e)
 pub tells_err : (P Q : DecodeError → Fault → Type 0) → ((k : DecodeError) (f : Fault) → P k f → Q k f) → (e : DecodeError) (t : Option Fault) → (f : Fault) × (t ≡ Some f) × P e f → (f : Fault) → t ≡ Some f → Q e f
 tells_err P Q h e t (g, i, w) f q = let same : g ≡ f = cc in subst (Q e) same (h e g w)
 
-pub alternative_there : (ks : List Alternative) (index : ℕ) (a : Alternative) (s : State) → Some a ≡ slice_get ks index → (k next : ℕ) (x : State) → IsOnly index a.type_id.0 s k next x → IsAlternativeAt ks s k next x
-alternative_there ks index a s h k next x (e, f, g) = (a, subst (λ z. Some a ≡ slice_get ks z) (sym e) h, f, g)
+pub alternative_there : (f : ℕ → Shape) (ks : List Alternative) (index : ℕ) (a : Alternative) (s : State) → IsNextAlternative f ks s index a → (k next : ℕ) (x : State) → IsOnly index a.type_id.0 s k next x → IsAlternativeAt f ks s k next x
+alternative_there f ks index a s h k next x (e, n, g) = (a, subst (λ z. IsNextAlternative f ks s z a) (sym e) h, n, g)
 
 pub element_there : (f : ℕ → Shape) (j : ℕ) (s here : State) (ts : List Tree) (number : ℕ) → length ts ≡ number → DecodesInTurn (DecodesTree (f j)) s ts here → (Ended here.closing here.rest → ⊥)
     → (k next : ℕ) (x : State) → IsOnly number j here k next x → IsElementAt f j s k next x

@@ -4,6 +4,8 @@ pub mod Contents
 pub mod Typed
 pub mod Nothing
 pub mod OnePart
+pub mod OpenChoice
+pub mod OpenChoiceWritten
 pub mod Chosen
 pub mod InOrder
 pub mod Pieces

@@ -23,7 +23,7 @@ use Rattle.rasn_dynamic.specs.declared.span.Span.{Span}
 use Rattle.rasn_dynamic.specs.declared.span.Spans.{Spans}
 use Rattle.rasn_dynamic.specs.Inside.{DecodesTree}
 use Rattle.rasn_dynamic.specs.Calls.{LeavesAllOut}
-use Rattle.rasn_dynamic.specs.Faults.{octets_after}
+use Rattle.rasn_dynamic.specs.Faults.{IsNextAlternative, octets_after}
 use Rattle.rasn_dynamic.specs.Parts.{IsAbsentHere}
 use Rattle.rasn_dynamic.specs.Listed.{capped, GoesInside, GoesInto, InTurn, PartListed, ComponentListed, ComponentAt, ComponentsListed, MemberListed, MembersListed, ElementsListed, AlternativeListed, ContentsListed, InsideListed, ValueListed, PartsInside, Inside, Lists, IsNoted, IsCut, IsFinished, IsInside, IsOutside}
 
@@ -216,7 +216,7 @@ module _ (f : ℕ → Shape) (levels : ℕ) (P : ℕ → ℕ → State → List 
       → Lists (λ b es. AlternativeListed f levels P l b s es) o n → Lists (λ b es. ValueListed f levels P ty b s es) o n
   choice_listed ty l s o n h x = lists_map (λ b es. AlternativeListed f levels P l b s es) (λ b es. ValueListed f levels P ty b s es) o n (λ b es q. alternatives_of ty l b s es h q) x
 
-  pub alternative_listed : (ks : List Alternative) (k : ℕ) (a : Alternative) (s last : State) (o n : Spans) → Some a ≡ slice_get ks k
+  pub alternative_listed : (ks : List Alternative) (k : ℕ) (a : Alternative) (s last : State) (o n : Spans) → IsNextAlternative f ks s k a
       → Lists (λ b es. PartListed f levels P a.type_id.0 k b s last es) o n → Lists (λ b es. AlternativeListed f levels P ks b s es) o n
   alternative_listed ks k a s last o n at l = lists_map (λ b es. PartListed f levels P a.type_id.0 k b s last es) (λ b es. AlternativeListed f levels P ks b s es) o n (λ b es q. (k, a, at, last, q)) l
 

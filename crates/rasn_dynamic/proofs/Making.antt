@@ -4,14 +4,14 @@ use Rattle.std.specs.Prelude.{IfOk, IfErr}
 use Rattle.rasn_types.specs.declared.error.decode.DecodeError.{DecodeError}
 use Rattle.rasn_types.specs.Errors.{IsOutOfMemory}
 use Rattle.std.specs.String.{string_bytes}
-use Rattle.rasn_types.specs.Shapes.{Tree, chosen, items, set_elements, Shape, choice}
+use Rattle.rasn_types.specs.Shapes.{Tree, chosen, items, set_elements, Shape}
 use Rattle.rasn_de.specs.State.{State, Call}
 use Rattle.rasn_de.specs.Decodes.{Decodes}
 use Rattle.rasn_schema.specs.declared.value.Value.{Value, Items, Elements, Boolean, Null, Integer, Bits, Octets, Text, Units, Arcs, Instant, Day, Absent, Items', Elements', Chosen'}
 use Rattle.rasn_schema.specs.declared.types.Alternative.{Alternative}
 use Rattle.rasn_schema.specs.declared.types.«Type».{«Type»}
 use Rattle.rasn_schema.specs.declared.types.«Type».TheVariants.{Choice}
-use Rattle.rasn_schema.specs.Shapes.{alternatives_by}
+use Rattle.rasn_schema.specs.Shapes.{alternatives_by, choice_among}
 use Rattle.rasn_schema.specs.Trees.{tree_of}
 use Rattle.rasn_schema.specs.Fitting.{IsChosen}
 use Rattle.rasn_schema.proofs.Values.{tree_items, tree_elements}
@@ -35,13 +35,13 @@ made_fails_as keep view read old (Err x) new f h = f (Err x) h
 
 -- What is read of a CHOICE, and why no alternative is.
 pub choice_exact : (f : ℕ → Shape) (ty : «Type») (keep : Bool) (old : State) (r : Result Value DecodeError) (new : State) (name : String Global) (ks : Vec Alternative Global) (qs : List Alternative) (text : List ℕ)
-    → ty ≡ Choice name ks → qs ≡ ks.items → text ≡ string_bytes name → Making keep tree_of (DecodesTree (choice (alternatives_by f qs))) old r new → IfErr r (λ e. IsNoAlternative (alternatives_by f qs) text old e new)
+    → ty ≡ Choice name ks → qs ≡ ks.items → text ≡ string_bytes name → Making keep tree_of (DecodesTree (choice_among (alternatives_by f qs))) old r new → IfErr r (λ e. IsNoAlternative (alternatives_by f qs) text old e new)
     → Making keep tree_of (DecodesType f ty) old r new
 choice_exact f ty keep old r new name ks qs text i j n h q =
     subst (λ z. Making keep tree_of (DecodesType f z) old r new) (sym i)
-    (both r (subst (λ l. Making keep tree_of (DecodesTree (choice (alternatives_by f l))) old r new) j h) (subst (λ l. IfErr r (λ e. IsNoAlternative (alternatives_by f l) (string_bytes name) old e new)) j (subst (λ t. IfErr r (λ e. IsNoAlternative (alternatives_by f qs) t old e new)) n q)))
+    (both r (subst (λ l. Making keep tree_of (DecodesTree (choice_among (alternatives_by f l))) old r new) j h) (subst (λ l. IfErr r (λ e. IsNoAlternative (alternatives_by f l) (string_bytes name) old e new)) j (subst (λ t. IfErr r (λ e. IsNoAlternative (alternatives_by f qs) t old e new)) n q)))
   where
-    both : (r : Result Value DecodeError) → Making keep tree_of (DecodesTree (choice (alternatives_by f ks.items))) old r new → IfErr r (λ e. IsNoAlternative (alternatives_by f ks.items) (string_bytes name) old e new)
+    both : (r : Result Value DecodeError) → Making keep tree_of (DecodesTree (choice_among (alternatives_by f ks.items))) old r new → IfErr r (λ e. IsNoAlternative (alternatives_by f ks.items) (string_bytes name) old e new)
         → Making keep tree_of (DecodesType f (Choice name ks)) old r new
     both (Ok v) (d, e, h) q = (d, e, (h, tt))
     both (Err x) h q = (h, q)

@@ -32,7 +32,7 @@ use Rattle.rasn_schema.proofs.Lists.{split}
 use Rattle.rasn_dynamic.proofs.Faults.{within_itself, within_short, opened_within, forgotten, turns_keep}
 use Rattle.rasn_dynamic.proofs.Contents.{prefix_lawful, list_lawful, set_of_lawful, seq_lawful, set_lawful}
 use Rattle.rasn_dynamic.proofs.InOrder.{lawful_parts}
-use Rattle.rasn_dynamic.proofs.Chosen.{lawful_at}
+use Rattle.rasn_dynamic.proofs.OpenChoice.{lawful_at}
 use Rattle.rasn_dynamic.proofs.Pieces.{part_lawful}
 
 -- ---- octets among others
@@ -104,7 +104,7 @@ lawful_part f (Enumerated tag ns) h s k next here i = absurd i
 lawful_part f (Any tag) h s k next here i = absurd i
 lawful_part f Unknown h s k next here i = absurd i
 lawful_part f (Tagged tag id) h s k next here (a, b, g) = subst (λ z. IsReadable (f z)) (sym b) (prefix_lawful tag (f id.0) h)
-lawful_part f (Choice name ks) h s k next here (a, e, b, g) = subst (λ z. IsReadable (f z)) (sym b) (lawful_at f ks.items k a h e)
+lawful_part f (Choice name ks) h s k next here (a, (tag, n, e), b, g) = subst (λ z. IsReadable (f z)) (sym b) (lawful_at f ks.items k a h e.0)
 lawful_part f (Sequence tag ps) h s k next here (done, p, after, e, l, b, t) =
     let all = lawful_parts f ps.items (seq_lawful tag (components_by f ps.items) h) in
     subst (λ z. IsReadable (f z)) (sym b) (component_lawful f done p after (subst (λ z. AreReadable (components_by f z)) e all))

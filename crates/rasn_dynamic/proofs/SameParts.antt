@@ -12,7 +12,7 @@ use Rattle.rasn_types.specs.Shapes.{Shape, Tree, items, numbers, leaf, any, pref
 use Rattle.rasn_types.specs.Shapes.Parts.{none}
 use Rattle.rasn_types.specs.Readings.{IsLeftOut, ReadsMany}
 use Rattle.rasn_types.specs.Grammar.{Reads, ReadsAny}
-use Rattle.rasn_types.specs.Lawful.{IsLawful, HasTag, AreAlternatives, AreDistinguished, AreLawfulInOrder, AreLawfulByTag}
+use Rattle.rasn_types.specs.Lawful.{IsLawful, HasTag, AreLawfulInOrder, AreLawfulByTag}
 use Rattle.rasn_types.proofs.Encoding.Complete.{whole_one, whole_text_one}
 use Rattle.rasn_types.proofs.Headers.Frames.{frame_one, next_one, not_ended}
 use Rattle.rasn_de.specs.State.{State}
@@ -35,9 +35,10 @@ use Rattle.rasn_schema.specs.declared.types.«Type».{«Type»}
 use Rattle.rasn_schema.specs.declared.types.«Type».TheVariants.{Leaf, Enumerated, Any, Tagged, Choice, Sequence, Set, SequenceOf, SetOf, Unknown}
 use Rattle.rasn_schema.specs.declared.types.Presence.{Presence as PartPresence}
 use Rattle.rasn_schema.specs.declared.types.Presence.TheVariants.{Required, Optional, Addition, Default}
-use Rattle.rasn_schema.specs.FirstTags.{IsAlwaysThere}
+use Rattle.rasn_schema.specs.FirstTags.{IsAlternativeFor, IsAlwaysThere}
 use Rattle.rasn_schema.specs.Shapes.{shape_of_type, type_by, found_by, alternatives_by, components_by, key_of, presence_by, presence_of, presence_in, IsReadable}
 use Rattle.rasn_schema.proofs.Lists.{some_is, same_or_not}
+use Rattle.rasn_schema.proofs.OpenEnds.{among_known}
 use Rattle.rasn_dynamic.specs.declared.span.Span.{Span}
 use Rattle.rasn_dynamic.specs.Calls.{is_required, any_required}
 use Rattle.rasn_dynamic.specs.Inside.{DecodesTree}
@@ -45,7 +46,7 @@ use Rattle.rasn_dynamic.specs.Faults.{octets_after, start}
 use Rattle.rasn_dynamic.specs.Parts.{IsAbsentHere}
 use Rattle.rasn_dynamic.specs.Listed.{capped, GoesInside, GoesInto, InTurn, PartListed, ComponentListed, ComponentAt, ComponentsListed, MemberListed, MembersListed, ElementsListed, AlternativeListed, ContentsListed, ValueListed, PartsInside, Inside}
 use Rattle.rasn_dynamic.specs.SameParts.{IsSamePart, AreSameParts, AreReadableTypes, PartsAreDetermined}
-use Rattle.rasn_dynamic.proofs.Contents.{only_at}
+use Rattle.rasn_dynamic.proofs.OpenChoice.{one_alternative}
 use Rattle.rasn_dynamic.proofs.Pieces.{only_part, by_tag_distinguished}
 
 -- ---- lists of the same parts
@@ -225,12 +226,6 @@ absent_there : (s : Shape) → IsAlwaysPresent s → (old other new : State) (t 
 absent_there s solid old other new t e d l =
     not_absent s solid old.rule old.depth old.closing old.rest t new.rest d.exact.0 (form other.rule) other.closing (subst (λ z. IsLeftOut (form other.rule) (sought_by (key_of s) s) other.closing z) e l)
 
-pub alternative_tagged : (f : ℕ → Shape) (ks : List Alternative) (k : ℕ) (a : Alternative) → AreAlternatives (alternatives_by f ks) → Some a ≡ slice_get ks k → HasTag (f a.type_id.0)
-unfolding IsLawful
-alternative_tagged f [] k a h e = absurd cc
-alternative_tagged f (c ∷ ks) zero a h e = subst (λ (z : Alternative). HasTag (f z.type_id.0)) (some_is c a (sym e)) h.1
-alternative_tagged f (c ∷ ks) (suc k) a h e = alternative_tagged f ks k a h.4 e
-
 pub member_tagged : (f : ℕ → Shape) (ps : List Component) (k : ℕ) (p : Component) → AreLawfulByTag (components_by f ps) → Some p ≡ slice_get ps k → HasTag (f p.type_id.0)
 unfolding IsLawful
 member_tagged f [] k p h e = absurd cc
@@ -284,12 +279,6 @@ left_known f ps are n k p e = go (component_known f ps k p are e)
     go : IsKnown (f p.type_id.0) ⊎ (presence_in f p ≡ required) → IsKnown (f p.type_id.0)
     go (inl h) = h
     go (inr r) = let x : true ≡ false = sym (required_found f p r) ∙ none_required ps k p n e in absurd cc
-
-pub alternative_known : (f : ℕ → Shape) (ks : List Alternative) (k : ℕ) (a : Alternative) → AreAlternatives (alternatives_by f ks) → Some a ≡ slice_get ks k → IsKnown (f a.type_id.0)
-unfolding IsLawful
-alternative_known f [] k a h e = absurd cc
-alternative_known f (c ∷ ks) zero a h e = subst (λ (z : Alternative). IsKnown (f z.type_id.0)) (some_is c a (sym e)) (h.2, h.3)
-alternative_known f (c ∷ ks) (suc k) a h e = alternative_known f ks k a h.4 e
 
 pub member_known : (f : ℕ → Shape) (ps : List Component) (k : ℕ) (p : Component) → AreLawfulByTag (components_by f ps) → Some p ≡ slice_get ps k → IsKnown (f p.type_id.0)
 unfolding IsLawful
@@ -347,7 +336,7 @@ known_type f (Enumerated tag ns) (inr e) = absurd cc
 known_type f (Any tag) (inr e) = absurd cc
 known_type f Unknown (inr e) = inr refl
 known_type f (Tagged tag id) (inr e) = absurd cc
-known_type f (Choice name ks) (inr e) = absurd cc
+known_type f (Choice name ks) (inr e) = absurd (among_known (alternatives_by f ks.items) e)
 known_type f (Sequence tag ps) (inr e) = absurd cc
 known_type f (Set name tag ps) (inr e) = absurd cc
 known_type f (SequenceOf tag id c) (inr e) = absurd cc
@@ -406,15 +395,13 @@ module _ (f : ℕ → Shape) (readable : (k : ℕ) → IsReadable (f k)) (levels
   components_one ps are b s z es fs alike (inr (n, t)) (inr (m, u)) = (in_turn_one (ComponentAt f levels P ps b) (component_one ps are b) (length ps) s z n m es fs alike t u).1
 
   -- The next tag says which alternative or component it is.
-  alternative_one : (ks : List Alternative) → AreAlternatives (alternatives_by f ks) → AreDistinguished (alternatives_by f ks) → (b : ℕ) (s z : State) (es fs : List Span) → Alike s z
+  alternative_one : (ks : List Alternative) (b : ℕ) (s z : State) (es fs : List Span) → Alike s z
       → AlternativeListed f levels P ks b s es → AlternativeListed f levels P ks b z fs → AreSameParts es fs
-  alternative_one ks are apart b s z es fs alike (j, a, p, n, x) (k, c, q, m, y) =
-      let v = tag_read (f a.type_id.0) (alternative_known f ks j a are p).0 (alternative_tagged f ks j a are p) s n x.tree x.reads in
-      let w = tag_read (f c.type_id.0) (alternative_known f ks k c are q).0 (alternative_tagged f ks k c are q) z m y.tree y.reads in
-      let next = subst (λ l. NextTag (form z.rule) l w.0) (sym alike.rest) w.1 in
-      let first = subst (IsFirst (f c.type_id.0)) (next_one s.rest w.0 v.0 next v.1) w.2 in
-      let e : j ≡ k = same_index (alternatives_by f ks) v.0 j k _ _ _ _ (only_at f ks j a v.0 apart p v.2) (only_at f ks k c v.0 apart q first) in
-      let g : c ≡ a = some_is c a (q ∙ (ap (slice_get ks) (sym e) ∙ sym p)) in
+  alternative_one ks b s z es fs alike (j, a, (tag, next, p), n, x) (k, c, (other, after, q), m, y) =
+      let same : other ≡ tag = next_one s.rest other tag (subst (λ l. NextTag (form z.rule) l other) (sym alike.rest) after) next in
+      let r = subst (λ u. IsAlternativeFor f ks u k c) same q in
+      let e : j ≡ k = one_alternative f ks tag j k a c p r in
+      let g : c ≡ a = some_is c a (r.0 ∙ (ap (slice_get ks) (sym e) ∙ sym p.0)) in
       (part_one a.type_id.0 j b s z n m es fs alike x (subst (λ (i : Alternative). PartListed f levels P i.type_id.0 j b z m fs) g (subst (λ i. PartListed f levels P c.type_id.0 i b z m fs) (sym e) y))).1
 
   member_one : (ps : List Component) → AreLawfulByTag (components_by f ps) → (b : ℕ) → IsOneStep (MemberListed f levels P ps b)
@@ -439,7 +426,7 @@ module _ (f : ℕ → Shape) (readable : (k : ℕ) → IsReadable (f k)) (levels
   contents_one (Any tag) are b s z es fs alike p q = none_same es fs p q
   contents_one Unknown are b s z es fs alike p q = none_same es fs p q
   contents_one (Tagged tag id) are b s z es fs alike (n, x) (m, y) = (part_one id.0 0 b s z n m es fs alike x y).1
-  contents_one (Choice name ks) are b s z es fs alike x y = alternative_one ks.items are.0 are.1 b s z es fs alike x y
+  contents_one (Choice name ks) are b s z es fs alike x y = alternative_one ks.items b s z es fs alike x y
   contents_one (Sequence tag ps) are b s z es fs alike x y = components_one ps.items are.1 b s z es fs alike x y
   contents_one (Set name tag ps) are b s z es fs alike x y = members_one ps.items are.1 b s z es fs alike x y
   contents_one (SequenceOf tag id c) are b s z es fs alike x y = elements_one id.0 b (are.1, are.2) s z es fs alike x y

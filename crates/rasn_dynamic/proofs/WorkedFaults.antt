@@ -11,10 +11,11 @@ use Rattle.rasn_types.specs.Grammar.{Reads, top}
 use Rattle.rasn_de.specs.State.{State}
 use Rattle.rasn_de.specs.Outcomes.{Exact, refusal}
 use Rattle.rasn_schema.specs.declared.types.«Type».{«Type»}
-use Rattle.rasn_schema.specs.Shapes.{shape_of_type}
+use Rattle.rasn_schema.specs.Shapes.{shape_of_type, alternatives_by}
 use Rattle.rasn_dynamic.specs.declared.refusal.Refusal.{Refusal}
 use Rattle.rasn_dynamic.specs.Faults.{Leads, FailsAt, StopsInSequence, IsLocated, start}
 use Rattle.rasn_dynamic.specs.WorkedFaults.{WorkedFaults}
+use Rattle.rasn_dynamic.proofs.OpenChoice.{open_begins}
 
 no_way : (levels : ℕ) (s : State) (id : ℕ) → id ≡ 0 → Leads [] [] levels 0 s levels id s
 unfolding Leads
@@ -66,6 +67,8 @@ worked_faults = record {
   nothing_stops_inside_an_open_type = λ f s e h. h;
   anything_is_said_of_a_missing_type = λ levels s e. no_type levels s e 0;
   no_memory_at_a_choice = λ f ks s e m. inr (inr m);
+  no_tag_is_unknown_to_an_open_choice = λ f ks s o h. h.2 (open_begins (alternatives_by f ks) h.0 o);
+  each_tag_is_unknown_without_alternatives = λ f s tag n. (tag, n, λ h. h);
   no_memory_in_a_sequence = λ f s e m. inl m;
   nothing_stops_without_components = no_components;
   no_memory_between_elements = λ f id s e m. inl m;

@@ -1,8 +1,8 @@
 -- Lists of parts that were worked out by hand.
-use Rattle.std.proofs.Common.{◌≡◌, ℕ, zero, suc, List, [], ◌∷◌, ◌++◌, length, length-append, Bool, true, false, Vec, Global, Some, None, inl, inr, refl, sym, ap, ◌∙◌, subst, arith}
+use Rattle.std.proofs.Common.{◌≡◌, ℕ, zero, suc, ◌<◌, List, [], ◌∷◌, ◌++◌, length, length-append, Bool, true, false, Vec, Global, Some, None, inl, inr, refl, sym, ap, ◌∙◌, subst, arith}
 use Rattle.std.specs.Prelude.{slice_get}
 use Rattle.std.proofs.lemmas.List.{append_cancel_right}
-use Rattle.rasn_types.specs.Tags.{in_universal}
+use Rattle.rasn_types.specs.Tags.{form, in_universal}
 use Rattle.rasn_de.specs.State.{State}
 use Rattle.rasn_schema.specs.declared.types.Component.{Component}
 use Rattle.rasn_schema.specs.declared.types.«Type».{«Type»}
@@ -10,7 +10,12 @@ use Rattle.rasn_schema.specs.declared.types.«Type».TheVariants.{Sequence, Sequ
 use Rattle.rasn_schema.specs.declared.type_id.TypeId.{TypeId}
 use Rattle.rasn_schema.specs.Shapes.{nothing, found_by, tag_found, shape_of_type, IsReadable}
 use Rattle.rasn_types.specs.Lawful.{IsLawful}
-use Rattle.rasn_types.specs.Shapes.{list, unknown, looked_for}
+use Rattle.rasn_types.specs.Framing.{NextTag}
+use Rattle.rasn_types.specs.declared.types.tag.Tag.{Tag}
+use Rattle.rasn_types.specs.Shapes.{Shape, IsFirst, list, unknown, looked_for}
+use Rattle.rasn_types.proofs.Headers.Frames.{next_one}
+use Rattle.rasn_schema.specs.declared.types.Alternative.{Alternative}
+use Rattle.rasn_schema.specs.FirstTags.{IsAlternativeFor}
 use Rattle.rasn_types.specs.declared.types.constraints.Constraints.{Constraints}
 use Rattle.rasn_schema.specs.Schemas.{components_in}
 use Rattle.rasn_schema.proofs.Lists.{some_is}
@@ -20,10 +25,11 @@ use Rattle.rasn_dynamic.specs.declared.span.Span.{Span}
 use Rattle.rasn_types.specs.declared.types.codec.Codec.TheVariants.{Der}
 use Rattle.rasn_dynamic.specs.Faults.{start}
 use Rattle.rasn_dynamic.specs.Listed.{PartsInside}
-use Rattle.rasn_dynamic.specs.Parts.{AreContents, end_len}
+use Rattle.rasn_dynamic.specs.Parts.{AreContents, LacksAlternative, end_len}
 use Rattle.rasn_dynamic.specs.LeadsTo.{LeadsTo}
 use Rattle.rasn_dynamic.specs.SameParts.{AreReadableTypes}
-use Rattle.rasn_dynamic.specs.WorkedParts.{sequence_alone, WorkedParts}
+use Rattle.rasn_dynamic.specs.WorkedParts.{sequence_alone, AreBooleanOrUnknown, WorkedParts}
+use Rattle.rasn_dynamic.proofs.OpenChoice.{one_alternative}
 
 missing : (levels id b : ℕ) (s : State) (es : List Span) → PartsInside [] levels id b s es → ⊥
 unfolding PartsInside
@@ -75,6 +81,32 @@ no_list id c e h = go (subst (λ k. IsReadable (list (in_universal 16) (shape_of
     go (inl x) = x.1.1
     go (inr q) = cc
 
+module _ (f : ℕ → Shape) (a b : Alternative) (h : AreBooleanOrUnknown f a b) where
+  other_tag : IsFirst (f a.type_id.0) (in_universal 2) → ⊥
+  other_tag g = let e : in_universal 2 ≡ in_universal 1 = subst (λ z. IsFirst z (in_universal 2)) h.0 g in cc
+
+  not_before : (j : ℕ) (c : Alternative) → j < 1 → Some c ≡ slice_get (a ∷ (b ∷ [])) j → IsFirst (f c.type_id.0) (in_universal 2) → ⊥
+  not_before zero c m e g = other_tag (subst (λ (z : Alternative). IsFirst (f z.type_id.0) (in_universal 2)) (some_is c a e) g)
+  not_before (suc j) c m e g = absurd (omega (arith, m))
+
+  is_unknown : IsAlternativeFor f (a ∷ (b ∷ [])) (in_universal 2) 1 b
+  is_unknown = (refl, subst (λ z. IsFirst z (in_universal 2)) (sym h.1) tt, not_before)
+
+  is_known : IsAlternativeFor f (a ∷ (b ∷ [])) (in_universal 1) 0 a
+  is_known = (refl, subst (λ z. IsFirst z (in_universal 1)) (sym h.0) refl, λ j c m e g. omega (arith, m))
+
+  not_unknown : IsAlternativeFor f (a ∷ (b ∷ [])) (in_universal 1) 1 b → ⊥
+  not_unknown g = let e = one_alternative f (a ∷ (b ∷ [])) (in_universal 1) 0 1 a b is_known g in omega (arith, e)
+
+  module _ (s : State) (n : NextTag (form s.rule) s.rest (in_universal 1)) where
+    lacks_unknown : LacksAlternative f (a ∷ (b ∷ [])) s 1
+    lacks_unknown = (0, a, (in_universal 1, n, is_known), λ e. omega (arith, e))
+
+    has_known : LacksAlternative f (a ∷ (b ∷ [])) s 0 → ⊥
+    has_known (j, c, (tag, m, g), d) =
+        let same : tag ≡ in_universal 1 = next_one s.rest tag (in_universal 1) m n in
+        d (one_alternative f (a ∷ (b ∷ [])) (in_universal 1) j 0 c a (subst (λ z. IsAlternativeFor f (a ∷ (b ∷ [])) z j c) same g) is_known)
+
 pub worked_parts : WorkedParts
 worked_parts = record {
   within_64_bits = omega arith;
@@ -98,4 +130,9 @@ worked_parts = record {
   unknown_values_alone = alone;
   no_sequence_of_unknown_values = no_list;
   contents_before_their_end = λ p e h i. between p (48 ∷ 128 ∷ []) [] (0 ∷ 0 ∷ []) e h true i refl;
+  unknown_alternative = is_unknown;
+  known_alternative = is_known;
+  not_unknown_with_its_tag = not_unknown;
+  a_boolean_is_not_unknown = λ f a b s h n. lacks_unknown f a b h s n;
+  nor_is_it_missing = λ f a b s h n. has_known f a b h s n;
 }

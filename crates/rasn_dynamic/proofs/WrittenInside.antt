@@ -23,10 +23,9 @@ use Rattle.rasn_schema.specs.Kinds.{kind}
 use Rattle.rasn_schema.proofs.OtherKinds.{is_other, not_chosen}
 use Rattle.rasn_schema.specs.Trees.{tree_of}
 use Rattle.std.proofs.Common.{zero, suc, ◌<◌, arith}
-use Rattle.rasn_types.specs.Shapes.{choice, chosen}
+use Rattle.rasn_types.specs.Shapes.{chosen}
 use Rattle.rasn_enc.specs.Choice.{IsAlternative}
-use Rattle.rasn_enc.proofs.OwnTypes.Choice.{chosen_encoded, chosen_refused}
-use Rattle.rasn_schema.specs.Shapes.{components_by, alternatives_by, presence_by, presence_in, presence_of}
+use Rattle.rasn_schema.specs.Shapes.{components_by, alternatives_by, choice_among, presence_by, presence_in, presence_of}
 use Rattle.rasn_schema.proofs.Presences.{left_out_by}
 use Rattle.rasn_types.specs.Trees.{list_tree}
 use Rattle.std.specs.Prelude.{slice_get}
@@ -38,6 +37,7 @@ use Rattle.rasn_schema.specs.Fitting.{ComponentFits, ComponentsFit, EachFits, Ar
 use Rattle.rasn_dynamic.specs.Written.{WritesInside, EncodesPartIf, Encodes, EncodesIf, EncodesInside, EncodesInsideIf, EncodesPartsIf, EncodesElements, EncodesElementsIf, EncodesSetOf, EncodesSetOfIf, OnlyFitting, IsEnclosed, HoldsOthers, keeps_tags}
 use Rattle.rasn_schema.specs.Fitting.{IsLeftOutAs}
 use Rattle.rasn_dynamic.proofs.OnlyFitting.{fits_as}
+use Rattle.rasn_dynamic.proofs.OpenChoiceWritten.{among_encoded, among_refused}
 use Rattle.rasn_schema.proofs.Fitted.{FitSoFar, EachSoFar}
 use Rattle.rasn_schema.proofs.ListsOf.{list_to}
 
@@ -304,9 +304,9 @@ module _ (f : ℕ → Shape) where
   alternative_at (j ∷ ks) (suc k) a e = alternative_at ks k a e
 
   pub alternative_written : (ks : List Alternative) (k : ℕ) (a : Alternative) (t : Tree) (v w : View) (r : Result (Unit {0}) EncodeError) → Some a ≡ slice_get ks k
-      → Encodes (f a.type_id.0) t v r w → Encodes (choice (alternatives_by f ks)) (chosen k t) v r w
-  alternative_written ks k a t v w (Ok x) e h = record { ok = chosen_encoded (alternatives_by f ks) k (f a.type_id.0) t (alternative_at ks k a e) v w h.ok; refused = tt }
-  alternative_written ks k a t v w (Err x) e h = record { ok = tt; refused = chosen_refused (alternatives_by f ks) k (f a.type_id.0) t (alternative_at ks k a e) v v x h.refused }
+      → Encodes (f a.type_id.0) t v r w → Encodes (choice_among (alternatives_by f ks)) (chosen k t) v r w
+  alternative_written ks k a t v w (Ok x) e h = record { ok = among_encoded (alternatives_by f ks) k (f a.type_id.0) t (alternative_at ks k a e) v w h.ok; refused = tt }
+  alternative_written ks k a t v w (Err x) e h = record { ok = tt; refused = among_refused (alternatives_by f ks) k (f a.type_id.0) t (alternative_at ks k a e) v v x h.refused }
 
 -- A value that isn't an alternative's.
 chosen_kind : (P : ℕ → Value → Type 0) (v : Value) → IsChosen P v → kind (tree_of v) ≡ 7

@@ -76,7 +76,8 @@ DecodesPresent p s old (Ok t) new = DecodesTree s old (Ok t) new × (IsStrict ol
 DecodesPresent p s old (Err e) new = DecodesTree s old (Err e) new
     ⊎ ((t : Tree) × DecodesTree s old (Ok t) new × IsStrict old.rule × IsDefaultOf p t × IsErrorOf (Der DefaultValuePresent) old e)
 
--- If the next tag is no alternative's, the error has this name, and nothing is consumed.
+-- If the next tag is no alternative's, the error has this name, and nothing is consumed. Of alternatives that end with unknown ones, nothing
+-- is said: these have any tag.
 abbrev pub IsNoAlternative : Parts → List ℕ → State → DecodeError → State → Type 0
 IsNoAlternative ps name old e new = (tag : Tag) → NextTag (form old.rule) old.rest tag → (IsFirstOf ps tag → ⊥) → IsNamedError (IsNoValidChoice name) old.rule e × (new ≡ old)
 

@@ -24,7 +24,7 @@ use Rattle.rasn_schema.specs.declared.types.Alternative.{Alternative}
 use Rattle.rasn_schema.specs.declared.types.«Type».{«Type»}
 use Rattle.rasn_schema.specs.declared.types.«Type».TheVariants.{Leaf, Enumerated, Any, Tagged, Choice, Sequence, Set, SequenceOf, SetOf, Unknown}
 use Rattle.rasn_schema.specs.Shapes.{shape_of_type, alternatives_by, components_by, presence_of, presence_in}
-use Rattle.rasn_schema.specs.FirstTags.{IsAlwaysThere}
+use Rattle.rasn_schema.specs.FirstTags.{IsAlternativeFor, IsAlwaysThere}
 use Rattle.rasn_dynamic.specs.Inside.{DecodesTree, DecodesComponent}
 use Rattle.rasn_dynamic.specs.Calls.{IsDefaultOf}
 use Rattle.rasn_dynamic.specs.Typed.{element_count, DecodesContents}
@@ -68,8 +68,12 @@ IsWithin all octets left = (front back : List ℕ) × (all ≡ front ++ (octets 
 abbrev pub IsOnly : ℕ → ℕ → State → ℕ → ℕ → State → Type 0
 IsOnly index id s k next here = (k ≡ index) × (next ≡ id) × (here ≡ s)
 
-abbrev pub IsAlternativeAt : List Alternative → State → ℕ → ℕ → State → Type 0
-IsAlternativeAt ks s k next here = (a : Alternative) × (Some a ≡ slice_get ks k) × (next ≡ a.type_id.0) × (here ≡ s)
+-- Alternative k is the first that may begin with the next tag.
+abbrev pub IsNextAlternative : (ℕ → Shape) → List Alternative → State → ℕ → Alternative → Type 0
+IsNextAlternative f ks s k a = (tag : Tag) × NextTag (form s.rule) s.rest tag × IsAlternativeFor f ks tag k a
+
+abbrev pub IsAlternativeAt : (ℕ → Shape) → List Alternative → State → ℕ → ℕ → State → Type 0
+IsAlternativeAt f ks s k next here = (a : Alternative) × IsNextAlternative f ks s k a × (next ≡ a.type_id.0) × (here ≡ s)
 
 -- So many elements were read before it.
 abbrev pub IsElementAt : (ℕ → Shape) → ℕ → State → ℕ → ℕ → State → Type 0
@@ -97,7 +101,7 @@ IsPart f (Enumerated tag ns) s k next here = ⊥
 IsPart f (Any tag) s k next here = ⊥
 IsPart f Unknown s k next here = ⊥
 IsPart f (Tagged tag id) s k next here = IsOnly 0 id.0 s k next here
-IsPart f (Choice name ks) s k next here = IsAlternativeAt ks.items s k next here
+IsPart f (Choice name ks) s k next here = IsAlternativeAt f ks.items s k next here
 IsPart f (Sequence tag ps) s k next here = IsComponentAt f ps.items s k next here
 IsPart f (Set name tag ps) s k next here = IsMemberAt f ps.items s k next here
 IsPart f (SequenceOf tag id c) s k next here = IsElementAt f id.0 s k next here

@@ -17,7 +17,7 @@ use Rattle.rasn_dynamic.specs.declared.span.Span.{Span}
 use Rattle.rasn_dynamic.specs.declared.span.Spans.{Spans}
 use Rattle.rasn_dynamic.specs.Inside.{DecodesTree}
 use Rattle.rasn_dynamic.specs.Calls.{LeavesAllOut}
-use Rattle.rasn_dynamic.specs.Faults.{octets_after}
+use Rattle.rasn_dynamic.specs.Faults.{IsNextAlternative, octets_after}
 use Rattle.rasn_dynamic.specs.Parts.{IsAbsentHere}
 
 -- the sum, or the greatest number of 64 bits
@@ -86,7 +86,7 @@ module _ (f : ℕ → Shape) (levels : ℕ) (P : ℕ → ℕ → State → List 
 
   -- The alternative of a CHOICE.
   abbrev pub AlternativeListed : List Alternative → ℕ → State → List Span → Type 0
-  AlternativeListed ks b s es = (k : ℕ) × (a : Alternative) × (Some a ≡ slice_get ks k) × (last : State) × PartListed a.type_id.0 k b s last es
+  AlternativeListed ks b s es = (k : ℕ) × (a : Alternative) × IsNextAlternative f ks s k a × (last : State) × PartListed a.type_id.0 k b s last es
 
   -- What is in the contents of a value of the type.
   abbrev pub ContentsListed : «Type» → ℕ → State → List Span → Type 0

@@ -3,9 +3,9 @@ use Rattle.std.specs.Prelude.{[], ◌≡◌, ◌≢◌, ◌⊎◌, ◌+◌, ◌�
 use Rattle.rasn_types.specs.declared.types.codec.Codec.{Codec}
 use Rattle.rasn_types.specs.declared.types.codec.Codec.TheVariants.{Ber}
 use Rattle.rasn_types.specs.declared.types.tag.Tag.{Tag}
-use Rattle.rasn_types.specs.Framing.{Frame, definite, indefinite, NextTag, Ended}
+use Rattle.rasn_types.specs.Framing.{Frame, definite, indefinite, Ended}
 use Rattle.rasn_types.specs.Tags.{form}
-use Rattle.rasn_types.specs.Shapes.{Shape, Tree, choice, Presence, IsFirst, sought_by}
+use Rattle.rasn_types.specs.Shapes.{Shape, Tree, choice, Presence, sought_by}
 use Rattle.rasn_types.specs.Grammar.{Reads}
 use Rattle.rasn_types.specs.Readings.{Reading, NoneOf}
 use Rattle.rasn_de.specs.State.{State}
@@ -23,7 +23,7 @@ use Rattle.rasn_schema.specs.Shapes.{shape_of_type, components_by, presence_of, 
 use Rattle.rasn_schema.specs.FirstTags.{IsAlwaysThere}
 use Rattle.rasn_dynamic.specs.Inside.{DecodesTree}
 use Rattle.rasn_dynamic.specs.Calls.{LeavesAllOut, DecodesPresent}
-use Rattle.rasn_dynamic.specs.Faults.{ComponentsInTurn, Enters, Leads, start}
+use Rattle.rasn_dynamic.specs.Faults.{IsNextAlternative, ComponentsInTurn, Enters, Leads, start}
 use Rattle.rasn_dynamic.specs.declared.part.Part.{Part}
 
 -- The octets begin with a header of so many octets, of the definite or the indefinite form (X.690 8.1.3).
@@ -65,7 +65,7 @@ PassesPresent p s old new = (t : Tree) × DecodesPresent p s old (Ok t) new × (
 
 -- The alternative that follows is another one.
 abbrev pub LacksAlternative : (ℕ → Shape) → List Alternative → State → ℕ → Type 0
-LacksAlternative f ks s k = (tag : Tag) × (j : ℕ) × (a : Alternative) × NextTag (form s.rule) s.rest tag × (Some a ≡ slice_get ks j) × IsFirst (f a.type_id.0) tag × (j ≢ k)
+LacksAlternative f ks s k = (j : ℕ) × (a : Alternative) × IsNextAlternative f ks s j a × (j ≢ k)
 
 -- The component may be absent, and none of the tags that it is recognized by follows.
 abbrev pub IsAbsentHere : (ℕ → Shape) → Component → State → Type 0

@@ -4,7 +4,7 @@ use Rattle.std.specs.String.{string_bytes}
 use Rattle.rasn_types.specs.declared.types.constraints.Constraints.{Constraints}
 use Rattle.rasn_types.specs.declared.error.decode.DecodeError.{DecodeError}
 use Rattle.rasn_types.specs.Errors.{IsOutOfMemory}
-use Rattle.rasn_types.specs.Shapes.{Tree, items, joined, set_elements, Shape, choice, Parts, Admits, constraint_of}
+use Rattle.rasn_types.specs.Shapes.{Tree, items, joined, set_elements, Shape, Parts, Admits, constraint_of}
 use Rattle.rasn_de.specs.declared.ber.de.parser.ParseError.TheVariants.{SizeConstraintNotSatisfied}
 use Rattle.rasn_de.specs.State.{State, Call}
 use Rattle.rasn_de.specs.Steps.{IsErrorOf}
@@ -15,7 +15,7 @@ use Rattle.rasn_de.specs.PartTypes.{FailsAtPart}
 use Rattle.rasn_de.specs.SetPartTypes.{DecodesSetPartContents}
 use Rattle.rasn_schema.specs.declared.types.«Type».{«Type»}
 use Rattle.rasn_schema.specs.declared.types.«Type».TheVariants.{Leaf, Enumerated, Any, Tagged, Choice, Sequence, Set, SequenceOf, SetOf, Unknown}
-use Rattle.rasn_schema.specs.Shapes.{type_by, alternatives_by, components_by}
+use Rattle.rasn_schema.specs.Shapes.{type_by, alternatives_by, choice_among, components_by}
 use Rattle.rasn_dynamic.specs.Inside.{ReadsSequence, DecodesTree}
 use Rattle.rasn_dynamic.specs.Making.{these}
 use Rattle.rasn_dynamic.specs.Calls.{names_of, IsNoAlternative}
@@ -96,7 +96,7 @@ module _ (f : ℕ → Shape) where
   DecodesType Unknown = DecodesTree (type_by f Unknown)
   DecodesType (Tagged tag k) = DecodesInside (DecodesContents (Tagged tag k)) (prefix_header tag)
   DecodesType (Choice name ks) = λ old r new.
-      DecodesTree (choice (alternatives_by f ks.items)) old r new × IfErr r (λ e. IsNoAlternative (alternatives_by f ks.items) (string_bytes name) old e new)
+      DecodesTree (choice_among (alternatives_by f ks.items)) old r new × IfErr r (λ e. IsNoAlternative (alternatives_by f ks.items) (string_bytes name) old e new)
   DecodesType (Sequence tag ps) = DecodesInside (DecodesContents (Sequence tag ps)) (sequence_header tag)
   DecodesType (Set name tag ps) = DecodesInside (DecodesContents (Set name tag ps)) (sequence_header tag)
   DecodesType (SequenceOf tag k c) = DecodesSized (DecodesContents (SequenceOf tag k c)) element_count tag c

@@ -1,17 +1,20 @@
 -- Refusals and faults that were worked out by hand, and what is none.
-use Rattle.std.specs.Prelude.{◌≡◌, ◌<◌, ℕ, List, []}
+use Rattle.std.specs.Prelude.{◌≡◌, ◌<◌, ℕ, true, List, []}
 use Rattle.rasn_types.specs.declared.types.codec.Codec.{Codec}
 use Rattle.rasn_types.specs.declared.types.codec.Codec.TheVariants.{Der}
 use Rattle.rasn_types.specs.declared.error.decode.DecodeError.{DecodeError}
 use Rattle.rasn_types.specs.Errors.{IsOutOfMemory}
-use Rattle.rasn_types.specs.Tags.{eoc}
+use Rattle.rasn_types.specs.declared.types.tag.Tag.{Tag}
+use Rattle.rasn_types.specs.Framing.{NextTag}
+use Rattle.rasn_types.specs.Tags.{form, eoc}
 use Rattle.rasn_types.specs.Shapes.{Shape}
 use Rattle.rasn_de.specs.State.{State}
 use Rattle.rasn_schema.specs.declared.types.Alternative.{Alternative}
 use Rattle.rasn_schema.specs.declared.types.«Type».{«Type»}
 use Rattle.rasn_schema.specs.declared.types.«Type».TheVariants.{Any}
+use Rattle.rasn_schema.specs.Shapes.{alternatives_by, ends_open}
 use Rattle.rasn_dynamic.specs.declared.refusal.Refusal.{Refusal}
-use Rattle.rasn_dynamic.specs.Faults.{StopsAtChoice, StopsInSequence, StopsInElements, StopsInside, FailsItself, FailsAt, IsLocated}
+use Rattle.rasn_dynamic.specs.Faults.{IsUnknown, StopsAtChoice, StopsInSequence, StopsInElements, StopsInside, FailsItself, FailsAt, IsLocated}
 
 pub record WorkedFaults : Type 0 where
   pub no_memory_at_the_start : (r : Refusal) → IsOutOfMemory r.error.kind → r.id.0 ≡ 0 → r.offset ≡ 0 → r.steps.items ≡ [] → IsLocated [] Der 0 [] r
@@ -20,6 +23,8 @@ pub record WorkedFaults : Type 0 where
   pub nothing_stops_inside_an_open_type : (f : ℕ → Shape) (s : State) (e : DecodeError) → StopsInside f (Any eoc) s e → ⊥
   pub anything_is_said_of_a_missing_type : (levels : ℕ) (s : State) (e : DecodeError) → FailsAt [] levels 0 s e
   pub no_memory_at_a_choice : (f : ℕ → Shape) (ks : List Alternative) (s : State) (e : DecodeError) → IsOutOfMemory e.kind → StopsAtChoice f ks s e
+  pub no_tag_is_unknown_to_an_open_choice : (f : ℕ → Shape) (ks : List Alternative) (s : State) → ends_open (alternatives_by f ks) ≡ true → IsUnknown f (alternatives_by f ks) s → ⊥
+  pub each_tag_is_unknown_without_alternatives : (f : ℕ → Shape) (s : State) (tag : Tag) → NextTag (form s.rule) s.rest tag → IsUnknown f (alternatives_by f []) s
   pub no_memory_in_a_sequence : (f : ℕ → Shape) (s : State) (e : DecodeError) → IsOutOfMemory e.kind → StopsInSequence f [] s e
   pub nothing_stops_without_components : (f : ℕ → Shape) (s : State) (e : DecodeError) → (IsOutOfMemory e.kind → ⊥) → StopsInSequence f [] s e → ⊥
   pub no_memory_between_elements : (f : ℕ → Shape) (id : ℕ) (s : State) (e : DecodeError) → IsOutOfMemory e.kind → StopsInElements f id s e

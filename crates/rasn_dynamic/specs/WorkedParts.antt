@@ -1,27 +1,35 @@
 -- Lists of parts that were worked out by hand, and what is none.
-use Rattle.std.specs.Prelude.{◌≡◌, ◌-◌, ◌^◌, ℕ, List, [], ◌∷◌, true, false, Vec}
+use Rattle.std.specs.Prelude.{◌≡◌, ◌-◌, ◌^◌, ℕ, List, [], ◌∷◌, true, false, None, Vec}
 use Rattle.std.specs.Global.{Global}
 use Rattle.rasn_types.specs.declared.types.codec.Codec.TheVariants.{Der}
-use Rattle.rasn_types.specs.Shapes.{Shape}
+use Rattle.rasn_types.specs.Framing.{NextTag}
+use Rattle.rasn_types.specs.Trees.{unconstrained}
+use Rattle.rasn_types.specs.Shapes.{Shape, leaf, any, boolean}
 use Rattle.rasn_types.specs.declared.types.constraints.Constraints.{Constraints}
 use Rattle.rasn_de.specs.State.{State}
-use Rattle.rasn_types.specs.Tags.{in_universal}
+use Rattle.rasn_types.specs.Tags.{form, in_universal}
+use Rattle.rasn_schema.specs.declared.types.Alternative.{Alternative}
 use Rattle.rasn_schema.specs.declared.types.Component.{Component}
 use Rattle.rasn_schema.specs.declared.types.«Type».{«Type»}
 use Rattle.rasn_schema.specs.declared.types.«Type».TheVariants.{Sequence, SequenceOf, Unknown}
 use Rattle.rasn_schema.specs.declared.type_id.TypeId.{TypeId}
+use Rattle.rasn_schema.specs.FirstTags.{IsAlternativeFor}
 use Rattle.rasn_dynamic.specs.declared.part.Part.{Part}
 use Rattle.rasn_dynamic.specs.declared.span.Span.{Span}
 use Rattle.rasn_dynamic.specs.Faults.{start}
 use Rattle.rasn_dynamic.specs.Listed.{capped, InTurn, ElementsListed, PartsInside, Inside, IsCut}
 use Rattle.rasn_dynamic.specs.Walk.{path_at_depth}
-use Rattle.rasn_dynamic.specs.Parts.{AreContents}
+use Rattle.rasn_dynamic.specs.Parts.{AreContents, LacksAlternative}
 use Rattle.rasn_dynamic.specs.LeadsTo.{LeadsTo}
 use Rattle.rasn_dynamic.specs.SameParts.{IsSamePart, AreReadableTypes}
 
 -- A SEQUENCE alone.
 abbrev pub sequence_alone : Vec Component Global → List «Type»
 sequence_alone ps = Sequence (in_universal 16) ps ∷ []
+
+-- A BOOLEAN, and unknown values.
+abbrev pub AreBooleanOrUnknown : (ℕ → Shape) → Alternative → Alternative → Type 0
+AreBooleanOrUnknown f known last = (f known.type_id.0 ≡ leaf boolean (in_universal 1) unconstrained) × (f last.type_id.0 ≡ any None)
 
 -- Nothing is read.
 abbrev pub no_step : ℕ → State → State → List Span → Type 0
@@ -49,3 +57,8 @@ pub record WorkedParts : Type 0 where
   pub unknown_values_alone : AreReadableTypes (Unknown ∷ [])
   pub no_sequence_of_unknown_values : (id : TypeId) (c : Constraints) → id.0 ≡ 1 → AreReadableTypes (SequenceOf (in_universal 16) id c ∷ Unknown ∷ []) → ⊥
   pub contents_before_their_end : (p : Part) → p.octets.now ≡ 48 ∷ 128 ∷ 0 ∷ 0 ∷ [] → p.header_len ≡ 2 → p.is_indefinite ≡ true → AreContents p []
+  pub unknown_alternative : (f : ℕ → Shape) (a b : Alternative) → AreBooleanOrUnknown f a b → IsAlternativeFor f (a ∷ (b ∷ [])) (in_universal 2) 1 b
+  pub known_alternative : (f : ℕ → Shape) (a b : Alternative) → AreBooleanOrUnknown f a b → IsAlternativeFor f (a ∷ (b ∷ [])) (in_universal 1) 0 a
+  pub not_unknown_with_its_tag : (f : ℕ → Shape) (a b : Alternative) → AreBooleanOrUnknown f a b → IsAlternativeFor f (a ∷ (b ∷ [])) (in_universal 1) 1 b → ⊥
+  pub a_boolean_is_not_unknown : (f : ℕ → Shape) (a b : Alternative) (s : State) → AreBooleanOrUnknown f a b → NextTag (form s.rule) s.rest (in_universal 1) → LacksAlternative f (a ∷ (b ∷ [])) s 1
+  pub nor_is_it_missing : (f : ℕ → Shape) (a b : Alternative) (s : State) → AreBooleanOrUnknown f a b → NextTag (form s.rule) s.rest (in_universal 1) → LacksAlternative f (a ∷ (b ∷ [])) s 0 → ⊥

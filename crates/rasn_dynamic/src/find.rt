@@ -73,7 +73,7 @@ fn alternative_here(
     alternatives: &[Alternative],
     index: usize,
 ) -> Result<Option<TypeId>, DecodeError>
-    ensures { IfOk result (λ found. MatchOption found (LacksAlternative (shape_of_type types.now below) alternatives.now decoder.now index) (λ id. IsAlternativeAt alternatives.now decoder.now index id.0 decoder.now)) }
+    ensures { IfOk result (λ found. MatchOption found (LacksAlternative (shape_of_type types.now below) alternatives.now decoder.now index) (λ id. IsAlternativeAt (shape_of_type types.now below) alternatives.now decoder.now index id.0 decoder.now)) }
 {
     let tag = decoder.peek_tag()?;
     let Some(number) = alternative_for(types, below, alternatives, tag) else {

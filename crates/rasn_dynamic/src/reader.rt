@@ -4,7 +4,7 @@ ghost use Rattle.std.specs.String.{string_bytes};
 ghost use Rattle.rasn_types.specs.Framing.{AreOctets};
 ghost use Rattle.rasn_types.specs.Errors.{IsOutOfMemory};
 ghost use Rattle.rasn_types.specs.Lawful.{AreLawfulByTag};
-ghost use Rattle.rasn_types.specs.Shapes.{items, choice, sought_by};
+ghost use Rattle.rasn_types.specs.Shapes.{items, sought_by};
 ghost use Rattle.rasn_de.specs.Decodes.{DecodesBy};
 ghost use Rattle.rasn_de.specs.Constructed.{DecodesInside};
 ghost use Rattle.rasn_de.specs.SequenceOf.{DecodesElements, DecodesElementsInOrder, DecodesSized};
@@ -14,7 +14,7 @@ ghost use Rattle.rasn_de.specs.SetPartTypes.{DecodesSetPartContents};
 ghost use Rattle.rasn_de.specs.Steps.{IsErrorOf};
 ghost use Rattle.rasn_de.specs.declared.ber.de.parser.ParseError.TheVariants.{UnexpectedExtraData, UnexpectedEmptyInput};
 ghost use Rattle.rasn_schema.specs.Trees.{tree_of};
-ghost use Rattle.rasn_schema.specs.Shapes.{shape_of_type, type_by, alternatives_by, components_by, key_of, presence_in, IsReadable, AreReadable};
+ghost use Rattle.rasn_schema.specs.Shapes.{shape_of_type, type_by, alternatives_by, choice_among, components_by, key_of, presence_in, IsReadable, AreReadable};
 ghost use Rattle.rasn_dynamic.specs.Inside.{ReadsSequence, DecodesTree, DecodesComponent};
 ghost use Rattle.rasn_dynamic.specs.Making.{Making, Counting, IsLength, trees_of, these};
 ghost use Rattle.rasn_dynamic.specs.Typed.{element_count, IsSized, HoldsOthers, HoldsElements, CountsElements, DecodesContents, DecodesType};
@@ -349,7 +349,7 @@ fn decode_type<'input, M: Made>(
     }
 }
 
-/// Reads the alternative to which the next tag belongs (X.690 8.13).
+/// Reads the alternative to which the next tag belongs (X.690 8.13). An unknown one, which is the last, has any tag that is no other's.
 ///
 /// # Errors
 /// `NoValidChoice` with the name of the CHOICE if the tag is no alternative's, which consumes nothing.
@@ -363,13 +363,13 @@ fn decode_choice<'input, M: Made>(
     name: &str,
     alternatives: &[Alternative],
 ) -> Result<Value<'input>, DecodeError>
-    requires lawful { IsReadable (choice (alternatives_by (shape_of_type types.now below) alternatives.now)) }
+    requires lawful { IsReadable (choice_among (alternatives_by (shape_of_type types.now below) alternatives.now)) }
     requires clear { trace.old ≡ None }
-    ensures reads { Making M.KEEP tree_of (DecodesTree (choice (alternatives_by (shape_of_type types.now below) alternatives.now))) decoder.old result decoder.new }
+    ensures reads { Making M.KEEP tree_of (DecodesTree (choice_among (alternatives_by (shape_of_type types.now below) alternatives.now))) decoder.old result decoder.new }
     ensures fits { M.KEEP ≡ true → IfOk result (λ v. IsChosen (AlternativeFits (Fits types.now below) alternatives.now) v) }
     ensures unknown { IfErr result (λ e. IsNoAlternative (alternatives_by (shape_of_type types.now below) alternatives.now) name.now decoder.old e decoder.new) }
     ensures rules { IfErr result (λ e. e.codec ≡ decoder.old.rule) }
-    ensures told { Told (IsFaultIn types.now below (IsAlternativeAt alternatives.now decoder.old) decoder.old decoder.old) result trace.new }
+    ensures told { Told (IsFaultIn types.now below (IsAlternativeAt (shape_of_type types.now below) alternatives.now decoder.old) decoder.old decoder.old) result trace.new }
     ensures itself { IfErr result (λ e. trace.new ≡ None → StopsAtChoice (shape_of_type types.now below) alternatives.now decoder.old e) }
     ensures listed { IfOk result (λ v. Lists (λ b es. AlternativeListed (shape_of_type types.now below) below (Inside types.now below) alternatives.now b decoder.old es) spans.old spans.new) }
 {

@@ -1,11 +1,10 @@
 //! Writes a value of a type.
 ghost use Rattle.std.specs.Prelude.{◌≡◌, None, map};
-ghost use Rattle.rasn_types.specs.Shapes.{choice};
 ghost use Rattle.rasn_types.specs.Trees.{list_tree};
 ghost use Rattle.rasn_enc.specs.View.{fresh};
 ghost use Rattle.rasn_enc.specs.Primitive.{IsOrderError};
 ghost use Rattle.rasn_schema.specs.Trees.{tree_of};
-ghost use Rattle.rasn_schema.specs.Shapes.{shape_of_type, type_by, alternatives_by, components_by, presence_in};
+ghost use Rattle.rasn_schema.specs.Shapes.{shape_of_type, type_by, alternatives_by, choice_among, components_by, presence_in};
 ghost use Rattle.rasn_schema.specs.Fitting.{AlternativeFits, IsChosen, ComponentFits, ComponentsFit, EachFits, FitsBy, Fits};
 ghost use Rattle.rasn_dynamic.specs.Written.{EncodesIf, EncodesPartIf, EncodesInsideIf, EncodesPartsIf, EncodesElementsIf, EncodesSetOfIf, IsEnclosed, HoldsOthers, keeps_tags};
 
@@ -100,7 +99,7 @@ fn encode_choice(
     alternatives: &[Alternative],
     value: &Value<'_>,
 ) -> Result<(), EncodeError>
-    ensures { EncodesIf (IsChosen (AlternativeFits (Fits types.now below) alternatives.now) value.now) (choice (alternatives_by (shape_of_type types.now below) alternatives.now)) (tree_of value.now) encoder.old result encoder.new }
+    ensures { EncodesIf (IsChosen (AlternativeFits (Fits types.now below) alternatives.now) value.now) (choice_among (alternatives_by (shape_of_type types.now below) alternatives.now)) (tree_of value.now) encoder.old result encoder.new }
 {
     let Value::Chosen(index, inner) = value else {
         return Err(other_form(encoder));

@@ -2,18 +2,21 @@
 //! (RFC 4511, 4.2).
 use crate::SaslCredentials;
 use rasn::error::{DecodeError, EncodeError};
-use rasn::parts::{Last, OneOf};
+use rasn::parts::OneOf;
 use rasn::types::{
-    AsnType, Constraints, ContextTag, Identifier, Implicit, LawfulEq, OctetString, Present, Tag,
+    Any, AsnType, Constraints, ContextTag, Identifier, Implicit, LawfulEq, OctetString, Present,
+    Tag,
 };
 use rasn::{Decode, Decoder, Encode, Encoder};
 
 /// CHOICE { simple \[0\] OCTET STRING, sasl \[3\] SaslCredentials, ... }: a password, or one step
-/// of a SASL mechanism.
+/// of a SASL mechanism, or a choice of a newer version of the protocol.
 #[derive(Debug, PartialEq, Eq, Drop)]
 pub enum AuthenticationChoice {
     Simple(Implicit<ContextTag<0>, OctetString>),
     Sasl(Implicit<ContextTag<3>, SaslCredentials>),
+    /// The octets of a choice with another tag.
+    Other(Any),
 }
 
 impl AsnType for AuthenticationChoice {
@@ -43,7 +46,7 @@ impl LawfulEq for AuthenticationChoice {
     ghost use Rattle.rasn_ldap.specs.contracts.sasl_credentials.SaslCredentialsLawfulEq.TheImpl.Laws.{decides-law as sasl_law};
     ghost use Rattle.rasn_ldap.specs.Authentication.{authentication_tree};
 
-    ghost decides = { choice_decided authentication_enum _ authentication_tree (alternative (λ x. x.0) octets_decided, (alternative (λ x. x.0) sasl_law, tt)) };
+    ghost decides = { choice_decided authentication_enum _ authentication_tree (alternative (λ x. x.0) octets_decided, (alternative (λ x. x.0) sasl_law, (alternative (λ x. x.0) octets_decided, tt))) };
 }
 
 impl Present for AuthenticationChoice {
@@ -55,13 +58,13 @@ impl Present for AuthenticationChoice {
 /// The alternatives, as they are read.
 type Alternatives = OneOf<
     Implicit<ContextTag<0>, OctetString>,
-    Last<Implicit<ContextTag<3>, SaslCredentials>>,
+    OneOf<Implicit<ContextTag<3>, SaslCredentials>, Any>,
 >;
 
 impl Decode for AuthenticationChoice {
-    ghost use Rattle.std.specs.Prelude.{◌≡◌, IfErr, Err};
+    ghost use Rattle.std.specs.Prelude.{◌≡◌, true, IfErr, Err};
     ghost use Rattle.rasn_de.specs.Decodes.{Decodes};
-    ghost use Rattle.rasn_de.specs.AlternativeTypes.{DecodesAlternative};
+    ghost use Rattle.rasn_de.specs.AlternativeTypes.{DecodesAlternativeBy};
     ghost use Rattle.rasn_ldap.specs.Authentication.{authentication_alternatives, authentication_shape, authentication_tree, authentication_name};
 
     fn decode_with_tag_and_constraints(
@@ -71,11 +74,12 @@ impl Decode for AuthenticationChoice {
     ) -> Result<AuthenticationChoice, DecodeError>
         ensures reads { Decodes authentication_shape authentication_tree decoder.old result decoder.new }
         ensures rules { IfErr result (λ e. e.codec ≡ decoder.old.rule) }
-        ensures fails { IfErr result (λ e. DecodesAlternative authentication_alternatives authentication_tree authentication_name decoder.old (Err e) decoder.new) }
+        ensures fails { IfErr result (λ e. DecodesAlternativeBy true authentication_alternatives authentication_tree authentication_name decoder.old (Err e) decoder.new) }
     {
         match decoder.read_choice::<Alternatives>("AuthenticationChoice")? {
             OneOf::This(password) => Ok(AuthenticationChoice::Simple(password)),
-            OneOf::Other(Last(credentials)) => Ok(AuthenticationChoice::Sasl(credentials)),
+            OneOf::Other(OneOf::This(credentials)) => Ok(AuthenticationChoice::Sasl(credentials)),
+            OneOf::Other(OneOf::Other(other)) => Ok(AuthenticationChoice::Other(other)),
         }
     }
 }
@@ -83,7 +87,7 @@ impl Decode for AuthenticationChoice {
 /// The alternatives, as they are written.
 type Written<'a> = OneOf<
     &'a Implicit<ContextTag<0>, OctetString>,
-    Last<&'a Implicit<ContextTag<3>, SaslCredentials>>,
+    OneOf<&'a Implicit<ContextTag<3>, SaslCredentials>, &'a Any>,
 >;
 
 impl Encode for AuthenticationChoice {
@@ -99,7 +103,10 @@ impl Encode for AuthenticationChoice {
                 encoder.write_choice::<Written<'_>>(OneOf::This(password))
             }
             AuthenticationChoice::Sasl(credentials) => {
-                encoder.write_choice::<Written<'_>>(OneOf::Other(Last(credentials)))
+                encoder.write_choice::<Written<'_>>(OneOf::Other(OneOf::This(credentials)))
+            }
+            AuthenticationChoice::Other(other) => {
+                encoder.write_choice::<Written<'_>>(OneOf::Other(OneOf::Other(other)))
             }
         }
     }

@@ -12,7 +12,7 @@ use Rattle.rasn_types.specs.Contents.{joined_lists}
 use Rattle.rasn_types.specs.Shapes.{Shape, Tree, Same, any, unknown, numbers, chosen, items, set_elements, absent, Presence as PartPresence, required, addition, optional_by, default_by, Key, looked_for, sought_by, sought_in, presences, IsFirst, IsAlwaysPresent}
 use Rattle.rasn_types.specs.Readings.{Reading, ReadsContents, definite_form, indefinite_form, ReadsMany, IsLeftOut, ReadsPart, ReadsInOrder, ReadsSeq, ReadsSet, ReadsChoice, AllMissing, HasRequired, presences_in, ByPart, IsMissing, IsNoDefault}
 use Rattle.rasn_types.specs.Grammar.{Reads, ReadsAny, parts_of, ReadsList, ReadsSetOf}
-use Rattle.rasn_types.specs.Lawful.{IsLawful, AreAlternatives, AreDistinguished, AreLawfulInOrder, AreLawfulByTag}
+use Rattle.rasn_types.specs.Lawful.{IsLawful, AreLawfulInOrder, AreLawfulByTag}
 use Rattle.rasn_types.proofs.Headers.Frames.{frame_one, next_one, not_ended}
 use Rattle.rasn_de.specs.Any.{ReadsOpenOctets}
 use Rattle.rasn_de.specs.State.{State}
@@ -31,16 +31,16 @@ use Rattle.rasn_schema.specs.declared.types.Presence.{Presence}
 use Rattle.rasn_schema.specs.declared.types.Presence.TheVariants.{Required, Optional, Addition, Default}
 use Rattle.rasn_schema.specs.declared.types.«Type».{«Type»}
 use Rattle.rasn_schema.specs.declared.types.«Type».TheVariants.{Leaf, Enumerated, Any, Tagged, Choice, Sequence, Set, SequenceOf, SetOf, Unknown}
-use Rattle.rasn_schema.specs.Shapes.{shape_of_type, type_by, found_by, alternatives_by, components_by, key_of, presence_by, presence_of, presence_in, IsReadable}
+use Rattle.rasn_schema.specs.Shapes.{shape_of_type, type_by, found_by, alternatives_by, choice_among, components_by, key_of, presence_by, presence_of, presence_in, IsReadable}
 use Rattle.rasn_schema.specs.FirstTags.{IsAlwaysThere}
 use Rattle.rasn_schema.proofs.Lists.{some_is}
 use Rattle.rasn_dynamic.specs.declared.span.Span.{Span}
 use Rattle.rasn_dynamic.specs.Listed.{GoesInside, InTurn, PartListed, ComponentListed, ComponentAt, ComponentsListed, MemberListed, AlternativeListed, ValueListed, PartsInside, Inside}
 use Rattle.rasn_dynamic.specs.Calls.{is_required, any_required}
 use Rattle.rasn_dynamic.specs.SameParts.{AreReadableTypes}
-use Rattle.rasn_dynamic.proofs.Contents.{only_at}
+use Rattle.rasn_dynamic.proofs.OpenChoice.{first_alternative, tag_of_among, of_among}
 use Rattle.rasn_dynamic.proofs.Pieces.{only_part, by_tag_distinguished}
-use Rattle.rasn_dynamic.proofs.SameParts.{IsKnown, same_reading, unknown_read, not_at_end, not_absent, none_left, same_index, alternative_tagged, alternative_known, member_tagged, member_known, component_known, left_known, header_frame, known_type, readable_type}
+use Rattle.rasn_dynamic.proofs.SameParts.{IsKnown, same_reading, unknown_read, not_at_end, not_absent, none_left, same_index, member_tagged, member_known, component_known, left_known, header_frame, known_type, readable_type}
 use Rattle.rasn_lint.specs.Untyped.{HasOpen}
 
 -- ---- what parts hold of a tree
@@ -144,7 +144,7 @@ slice_drop [] (suc k) x m e = absurd cc
 slice_drop (y ∷ l) zero x m e = (let same : x ≡ y = cc in ap Some same, cc)
 slice_drop (y ∷ l) (suc k) x m e = slice_drop l k x m e
 
--- The alternative that is read.
+-- The component that is read.
 abbrev ReadsAs : Codec → (ℕ → Shape) → ℕ → Bool → ℕ → List ℕ → Tree → List ℕ → Type 0
 ReadsAs rule f depth c id input u rest = ((tag : Tag) × NextTag (form rule) input tag × IsFirst (f id) tag) × Reads rule (f id) depth c input u rest
 
@@ -155,13 +155,6 @@ first_later : (k : ℕ) (t u : Tree) → t ≡ chosen k u → t ≡ chosen (k + 
 first_later k t u e = e ∙ ap (λ n. chosen n u) (omega arith)
 
 module _ (rule : Codec) (f : ℕ → Shape) (depth : ℕ) (c : Bool) (input : List ℕ) (t : Tree) (rest : List ℕ) where
-  alternative_read : (ks : List Alternative) (k : ℕ) → ReadsChoice rule k (parts_of rule (alternatives_by f ks) depth c) input t rest
-      → (j : ℕ) × (a : Alternative) × (u : Tree) × (Some a ≡ slice_get ks j) × (t ≡ chosen (k + j) u) × ReadsAs rule f depth c a.type_id.0 input u rest
-  unfolding parts_of
-  alternative_read [] k h = absurd h
-  alternative_read (a ∷ ks) k (inl (u, e, tag, next, first, r, d)) = (0, a, u, refl, first_later k t u e, ((tag, next, first), r))
-  alternative_read (a ∷ ks) k (inr h) = let (j, b, u, at, e, r) = alternative_read ks (suc k) h in (suc j, b, u, at, one_later k j t u e, r)
-
   member_read : (ps : List Component) (k : ℕ) → ReadsChoice rule k (parts_of rule (components_by f ps) depth c) input t rest
       → (j : ℕ) × (p : Component) × (u : Tree) × (Some p ≡ slice_get ps j) × (t ≡ chosen (k + j) u) × ReadsAs rule f depth c p.type_id.0 input u rest × (IsStrict rule → IsNoDefault (presence_in f p) u)
   unfolding parts_of
@@ -355,19 +348,14 @@ module _ (rule : Codec) (f : ℕ → Shape) (readable : (k : ℕ) → IsReadable
 
   -- ---- alternatives and members
 
-  choice_held : (ks : List Alternative) → AreAlternatives (alternatives_by f ks) → AreDistinguished (alternatives_by f ks) → (b : ℕ) (s : State) (es : List Span) (depth : ℕ) (c : Bool) (input : List ℕ) (t : Tree) (rest : List ℕ)
-      → AlternativeListed f levels P ks b s es → At s depth input → ReadsChoice rule 0 (parts_of rule (alternatives_by f ks) depth c) input t rest
+  choice_held : (ks : List Alternative) → IsLawful (choice_among (alternatives_by f ks)) → (b : ℕ) (s : State) (es : List Span) (depth : ℕ) (c : Bool) (input : List ℕ) (t : Tree) (rest : List ℕ)
+      → AlternativeListed f levels P ks b s es → At s depth input → Reads rule (choice_among (alternatives_by f ks)) depth c input t rest
       → (k : ℕ) × (a : Alternative) × (u : Tree) × (Some a ≡ slice_get ks k) × (t ≡ chosen k u) × H a.type_id.0 u es
-  choice_held ks are apart b s es depth c input t rest (k, a, p, last, x) at r =
-      let (j, d, u, q, e, (begin, own)) = alternative_read rule f depth c input t rest ks 0 r in
-      let (tag, next, first) = begin in
-      let v = begins (f a.type_id.0) (alternative_known f ks k a are p).0 (alternative_tagged f ks k a are p) s.rule s.depth s.closing s.rest x.tree last.rest x.reads.exact.0 in
-      let other = subst (λ l. NextTag (form s.rule) l v.0) at.1 v.1 in
-      let mine = subst (IsFirst (f a.type_id.0)) (next_one input v.0 tag other next) v.2 in
-      let i : j ≡ k = same_index (alternatives_by f ks) tag j k _ _ _ _ (only_at f ks j d tag apart q first) (only_at f ks k a tag apart p mine) in
-      let same : a ≡ d = some_is a d (p ∙ (ap (slice_get ks) (sym i) ∙ sym q)) in
-      let y = part_held d.type_id.0 k b s last es depth c input u rest (subst (λ (z : Alternative). PartListed f levels P z.type_id.0 k b s last es) same x) at own in
-      (j, d, u, q, e ∙ ap (λ n. chosen n u) (omega arith), y.0)
+  choice_held ks lawful b s es depth c input t rest (k, a, (tag, next, first), last, x) at r =
+      let n = tag_of_among (alternatives_by f ks) rule depth c input t rest r in
+      let same : n.0 ≡ tag = next_one input n.0 tag n.1 (subst (λ l. NextTag (form s.rule) l tag) at.1 next) in
+      let (u, e, own) = of_among rule depth c input tag (subst (NextTag (form rule) input) same n.1) (alternatives_by f ks) k (f a.type_id.0) lawful (first_alternative f ks tag k a first) t rest r in
+      (k, a, u, first.0, e, (part_held a.type_id.0 k b s last es depth c input u rest x at own).0)
 
   member_held : (ps : List Component) → AreLawfulByTag (components_by f ps) → (b : ℕ) (depth : ℕ) (c : Bool) (k0 : ℕ) (s next : State) (es : List Span) (input : List ℕ) (t : Tree) (rest : List ℕ)
       → MemberListed f levels P ps b s next es → At s depth input → ReadsChoice rule 0 (parts_of rule (components_by f ps) depth c) input t rest → HoldsMember rule f H ps t es × At next depth rest
@@ -456,7 +444,7 @@ module _ (rule : Codec) (f : ℕ → Shape) (readable : (k : ℕ) → IsReadable
       let (k, l, end, own, there) = into_contents (prefix_header tag) b a s inner depth input g at rule tag r.1 (λ c. Reads rule (f id.0) (depth - 1) c) t rest r.3 in
       (part_held id.0 0 a inner last es (depth - 1) k l t end x there own).0
   value_held (Choice name ks) are b s e after es is (a, inner, (p, g), x) depth c input t rest at q r =
-      choice_held ks.items are.0 are.1 a inner es depth c input t rest x (subst (λ z. At z depth input) (sym g) at) r
+      choice_held ks.items are a inner es depth c input t rest x (subst (λ z. At z depth input) (sym g) at) r
   value_held (Sequence tag ps) are b s e after es is (a, inner, g, x) depth c input t rest at q r =
       let (k, l, end, own, there) = into_contents (sequence_header tag) b a s inner depth input g at rule tag true (λ c. ReadsSeq rule (parts_of rule (components_by f ps.items) (depth - 1) c) c) t rest r.1 in
       sequence_held ps.items are.1 a inner es (depth - 1) k l t end x there own

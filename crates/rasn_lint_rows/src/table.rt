@@ -65,6 +65,7 @@ pub const TYPES: &[Definition] = &[
     Definition::Any(CONTEXT_3),
     Definition::Unknown,
     Definition::Sequence(Tag::SEQUENCE, EXTENSIBLE),
+    Definition::Choice("Reply", &[("flag", 0), ("...", 9)]),
 ];
 
 /// The names of the types that rows have.
@@ -90,4 +91,5 @@ pub const NAMES: &[(&str, usize)] = &[
     ("Attributes", 20),
     ("OpenTagged", 21),
     ("Extensible", 23),
+    ("Reply", 24),
 ];

@@ -3,7 +3,8 @@
 use crate::types::NamedType;
 use rasn_types::types::Codec;
 
-/// The modules and the types of the messages, in the order in which they are tried.
+/// The modules and the types of the messages, in the order in which they are tried: that of LDAP, whose
+/// operations are extensible, is the last.
 pub const MESSAGES: &[(&str, &str)] = &[
     ("Certificates", "Certificate"),
     ("Revocation", "CertificateList"),
@@ -21,7 +22,6 @@ pub const MESSAGES: &[(&str, &str)] = &[
     ("OCSP", "OCSPResponse"),
     ("TimeStamps", "TimeStampReq"),
     ("TimeStamps", "TimeStampResp"),
-    ("LDAP", "LDAPMessage"),
     ("SNMP", "Message"),
     ("SNMP", "SNMPv3Message"),
     ("Kerberos", "AS-REQ"),
@@ -32,6 +32,7 @@ pub const MESSAGES: &[(&str, &str)] = &[
     ("Kerberos", "AP-REP"),
     ("Kerberos", "KRB-ERROR"),
     ("CMP", "PKIMessage"),
+    ("LDAP", "LDAPMessage"),
 ];
 
 /// Returns the type of the message that a label of PEM names: a label of RFC 7468, or another one

@@ -83,7 +83,9 @@ fn answer_by_trial(tools: &Tools<'_, '_>, input: &Input<'_>) -> Result<Answer, A
         }
         tried.push_str(name)?;
     }
-    Ok(Answer::Refused(format!(in tools.alloc; "none of the messages that are known: {tried}")?))
+    Ok(Answer::Refused(format!(in tools.alloc;
+        "none of the messages that are known: {tried}; --type names another type, and dump shows any BER"
+    )?))
 }
 
 /// Returns what is printed for a message of this type of the modules.
@@ -244,13 +246,13 @@ fn normalised(
     wanted: &MessageType<'_>,
     input: &Input<'_>,
 ) -> Result<Answer, AllocError> {
-    match normalise(
-        alloc,
-        wanted.rule,
-        &wanted.schema,
-        wanted.root,
-        input.octets,
-    ) {
+    let (rule, schema, root) = (wanted.rule, &wanted.schema, wanted.root);
+    match check(alloc, rule, schema, root, input.octets) {
+        Ok(()) => {}
+        Err(ReadError::OutOfMemory) => return Err(AllocError),
+        Err(ReadError::Refused(refusal)) => return refusal_answer(alloc, wanted, &refusal),
+    }
+    match normalise(alloc, rule, schema, root, input.octets) {
         Ok(octets) => Ok(Answer::Done(in_form(alloc, input, octets)?)),
         Err(error) if error.is_out_of_memory() => Err(AllocError),
         Err(error) => Ok(Answer::Refused(format!(in alloc; "{error}")?)),

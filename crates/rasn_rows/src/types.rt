@@ -7,6 +7,7 @@ mod levelled;
 mod padding;
 mod profile;
 mod renewed;
+mod reply;
 
 pub use counted::Counted;
 pub use eight::Eight;
@@ -15,3 +16,4 @@ pub use levelled::Levelled;
 pub use padding::Padding;
 pub use profile::Profile;
 pub use renewed::Renewed;
+pub use reply::Reply;

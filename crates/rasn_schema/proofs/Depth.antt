@@ -7,19 +7,20 @@ use Rattle.rasn_types.specs.declared.types.codec.Codec.{Codec}
 use Rattle.rasn_types.specs.declared.types.tag.Tag.{Tag}
 use Rattle.rasn_types.specs.Tags.{IsStrict, form}
 use Rattle.rasn_types.specs.Shapes.Parts.{none}
-use Rattle.rasn_types.specs.Shapes.{Tree, absent, Shape, choice, own, IsFirst, Key, own_tag, first_tags, presences, Presence, required, addition, optional_by, default_by, Sought, one_tag, sought_by, sought_in}
+use Rattle.rasn_types.specs.Shapes.{Tree, chosen, absent, Shape, choice, open_choice, own, IsFirst, Key, own_tag, first_tags, presences, Presence, required, addition, optional_by, default_by, Sought, one_tag, sought_by, sought_in}
 use Rattle.rasn_types.specs.Readings.{Reading, ReadsContents, definite_form, indefinite_form, ReadsMany, ReadsFrom, ReadsOptional, IsNoDefault, ReadsPart, ReadsInOrder, AllMissing, presences_in, HasRequired, ReadsSeq, ReadsChoice, ByPart, ReadsSet}
 use Rattle.rasn_types.specs.Grammar.{Reads, parts_of, ReadsList, ReadsSetOf}
 use Rattle.rasn_schema.specs.declared.types.«Type».{«Type»}
 use Rattle.rasn_schema.specs.declared.types.«Type».TheVariants.{Leaf, Enumerated, Any, Tagged, Choice, Sequence, Set, SequenceOf, SetOf, Unknown}
 use Rattle.rasn_schema.specs.declared.types.Component.{Component}
 use Rattle.rasn_schema.specs.declared.types.Alternative.{Alternative}
-use Rattle.rasn_schema.specs.Shapes.{found_by, type_by, alternatives_by, components_by, key_of, presence_by, shape_of_type}
+use Rattle.rasn_schema.specs.Shapes.{found_by, type_by, alternatives_by, is_open, ends_open, choice_among, components_by, key_of, presence_by, shape_of_type}
 use Rattle.rasn_schema.specs.Schemas.{IsSchema}
 use Rattle.rasn_schema.specs.Depth.{AreDeep, AreReadAlike}
 use Rattle.rasn_schema.proofs.Presences.{missing_by, no_default_by, required_by}
 use Rattle.rasn_schema.proofs.TypeShapes.{own_is}
-use Rattle.rasn_schema.proofs.Schemas.{AreBefore, IsBehindOwn, all_before, settled, schema_readable}
+use Rattle.rasn_schema.proofs.OpenEnds.{among, among_open, among_named, key_as, count_is, but_last, before_is, open_alike}
+use Rattle.rasn_schema.proofs.Schemas.{AreBefore, IsBehindOwn, firsts_before, all_before, settled, schema_readable}
 
 -- Each reading by the one is a reading by the other.
 abbrev IsIn : {X : Type 0} → Reading X → Reading X → Type 0
@@ -86,6 +87,7 @@ part_moved (default_by key d) s u b reads rule closing input t rest h =
 -- The types named here are read by g as by f.
 record Follows (f g : ℕ → Shape) (rule : Codec) (depth : ℕ) (k : ℕ) : Type 0 where
   keys : key_of (f k) ≡ key_of (g k)
+  opens : is_open (f k) ≡ is_open (g k)
   begins : Begins (f k) (g k)
   reads : (closing : Bool) → IsIn (Reads rule (f k) depth closing) (Reads rule (g k) depth closing)
 
@@ -147,6 +149,11 @@ module _ (f g : ℕ → Shape) (rule : Codec) (depth : ℕ) (closing : Bool) (h 
     (λ s. let (bs, p, q) = o s in (bs, from_in _ _ (component_in ps 0) input readings rest bs p, q)),
   )
 
+lower_but_last : (id : ℕ) (ks : List Alternative) → AreBefore id ks → AreBefore id (but_last ks)
+lower_but_last id [] b = b
+lower_but_last id (a ∷ []) b = b.1
+lower_but_last id (a ∷ (c ∷ ks)) b = (b.0, lower_but_last id (c ∷ ks) b.1)
+
 module _ (f g : ℕ → Shape) (rule : Codec) (depth : ℕ) (closing : Bool) (id : ℕ) (h : (k : ℕ) → k < id → Follows f g rule depth k) where
   alternative_in : (ks : List Alternative) → AreBefore id ks → (n : ℕ) → IsIn (ReadsChoice rule n (parts_of rule (alternatives_by f ks) depth closing)) (ReadsChoice rule n (parts_of rule (alternatives_by g ks) depth closing))
   unfolding parts_of
@@ -155,6 +162,40 @@ module _ (f g : ℕ → Shape) (rule : Codec) (depth : ℕ) (closing : Bool) (id
       let w = h a.type_id.0 b.0 in
       inl (u, e, next, p, w.begins.firsts next q, w.reads closing input u rest r, s)
   alternative_in (a ∷ ks) b n input t rest (inr r) = inr (alternative_in ks b.1 (suc n) input t rest r)
+
+  ends_same : (ks : List Alternative) → AreBefore id ks → ends_open (alternatives_by f ks) ≡ ends_open (alternatives_by g ks)
+  ends_same [] b = refl
+  ends_same (a ∷ []) b = (h a.type_id.0 b.0).opens
+  ends_same (a ∷ (c ∷ ks)) b = ends_same (c ∷ ks) b.1
+
+  -- with one unknown alternative
+  open_in : (ks : List Alternative) → AreBefore id ks → IsIn (Reads rule (open_choice (alternatives_by f ks)) depth closing) (Reads rule (open_choice (alternatives_by g ks)) depth closing)
+  unfolding Reads
+  open_in ks b input t rest (inl r) = inl (alternative_in ks b 0 input t rest r)
+  open_in ks b input t rest (inr (u, e, next, n, other, r)) =
+      inr (u, e ∙ ap (λ m. chosen m u) (count_is f ks ∙ sym (count_is g ks)), next, n, (λ q. other (firsts_before g f next id (λ k l. (h k l).begins.back next) ks b q)), r)
+
+  choice_in : (ks : List Alternative) → AreBefore id ks → IsIn (Reads rule (choice_among (alternatives_by f ks)) depth closing) (Reads rule (choice_among (alternatives_by g ks)) depth closing)
+  unfolding Reads
+  choice_in ks b input t rest r = among (λ s. Reads rule s depth closing input t rest) (alternatives_by g ks)
+      (λ e.
+      let o = among_open (λ s. Reads rule s depth closing input t rest) (alternatives_by f ks) (ends_same ks b ∙ e) r in
+      let p = subst (λ ps. Reads rule (open_choice ps) depth closing input t rest) (before_is f ks) o in
+      subst (λ ps. Reads rule (open_choice ps) depth closing input t rest) (sym (before_is g ks)) (open_in (but_last ks) (lower_but_last id ks b) input t rest p))
+      (λ e. alternative_in ks b 0 input t rest (among_named (λ s. Reads rule s depth closing input t rest) (alternatives_by f ks) (ends_same ks b ∙ e) r))
+
+  found_key : (o : Option «Type») → IsBehindOwn id o → key_of (found_by f o) ≡ key_of (found_by g o)
+  found_key None b = refl
+  found_key (Some (Leaf kind tag c names)) b = refl
+  found_key (Some (Enumerated tag ns)) b = refl
+  found_key (Some (Any tag)) b = refl
+  found_key (Some (Tagged tag k)) b = refl
+  found_key (Some (Choice name ks)) b = key_as (alternatives_by f ks.items) (alternatives_by g ks.items) (ends_same ks.items b)
+  found_key (Some (Sequence tag ps)) b = refl
+  found_key (Some (Set name tag ps)) b = refl
+  found_key (Some (SequenceOf tag k c)) b = refl
+  found_key (Some (SetOf tag k c)) b = refl
+  found_key (Some Unknown) b = refl
 
 -- ---- types
 
@@ -166,7 +207,7 @@ module _ (f g : ℕ → Shape) (rule : Codec) (depth id : ℕ) (low : (k : ℕ) 
   type_in (Enumerated tag ns) b input t rest r = r
   type_in (Any tag) b input t rest r = r
   type_in (Tagged tag k) b input t rest (p, bit, s, r) = (p, bit, s, inside_in _ _ (λ c. (one p k.0).reads c) rule tag bit input t rest r)
-  type_in (Choice name ks) b input t rest r = alternative_in f g rule depth closing id low ks.items b 0 input t rest r
+  type_in (Choice name ks) b input t rest r = choice_in f g rule depth closing id low ks.items b input t rest r
   type_in (Sequence tag ps) b input t rest (p, r) = (p, inside_in _ _ (λ c. sequence_in f g rule (depth - 1) c (one p) ps.items) rule tag true input t rest r)
   type_in (Set name tag ps) b input t rest (p, r) = (p, inside_in _ _ (λ c. set_in f g rule (depth - 1) c (one p) ps.items) rule tag true input t rest r)
   type_in (SequenceOf tag k c) b input t rest (p, r) = (p, inside_in _ _ (λ e. list_in _ _ ((two p k.0).reads e) c.size e) rule tag true input t rest r)
@@ -179,19 +220,6 @@ module _ (f g : ℕ → Shape) (rule : Codec) (depth id : ℕ) (low : (k : ℕ) 
   found_in (Some ty) b input t rest r = type_in ty b input t rest r
 
 -- ---- levels
-
-found_key : (f g : ℕ → Shape) (o : Option «Type») → key_of (found_by f o) ≡ key_of (found_by g o)
-found_key f g None = refl
-found_key f g (Some (Leaf kind tag c names)) = refl
-found_key f g (Some (Enumerated tag ns)) = refl
-found_key f g (Some (Any tag)) = refl
-found_key f g (Some (Tagged tag k)) = refl
-found_key f g (Some (Choice name ks)) = refl
-found_key f g (Some (Sequence tag ps)) = refl
-found_key f g (Some (Set name tag ps)) = refl
-found_key f g (Some (SequenceOf tag k c)) = refl
-found_key f g (Some (SetOf tag k c)) = refl
-found_key f g (Some Unknown) = refl
 
 -- The type with a number is followed deep enough for so many values in one another.
 abbrev IsDeep : List «Type» → ℕ → ℕ → ℕ → Type 0
@@ -218,6 +246,7 @@ module _ (types : List «Type») (w : IsSchema types) (rule : Codec) where
   none_follows : (i j depth k : ℕ) → None ≡ slice_get types k → Follows (shape_of_type types i) (shape_of_type types j) rule depth k
   none_follows i j depth k e = record {
     keys = sym (ap key_of (absent_at i k e)) ∙ ap key_of (absent_at j k e);
+    opens = sym (ap is_open (absent_at i k e)) ∙ ap is_open (absent_at j k e);
     begins = record {
       owns = sym (ap own (absent_at i k e)) ∙ ap own (absent_at j k e);
       firsts = λ n a. subst (λ s. IsFirst s n) (sym (absent_at i k e) ∙ absent_at j k e) a;
@@ -228,10 +257,6 @@ module _ (types : List «Type») (w : IsSchema types) (rule : Codec) where
 
   own_alike : (i j k : ℕ) → own (shape_of_type types i k) ≡ own (shape_of_type types j k)
   own_alike i j k = own_is types i k (schema_readable types w i k) ∙ sym (own_is types j k (schema_readable types w j k))
-
-  keys_alike : (i j k : ℕ) → key_of (shape_of_type types (suc i) k) ≡ key_of (shape_of_type types (suc j) k)
-  unfolding shape_of_type
-  keys_alike i j k = found_key (shape_of_type types i) (shape_of_type types j) (slice_get types k)
 
   firsts_alike : (i b k : ℕ) → k ≤ b → (n : Tag) → IsFirst (shape_of_type types i k) n → IsFirst (shape_of_type types (suc b) k) n
   firsts_alike i b k l n a = settled types (all_before types w) n b k i l a
@@ -251,15 +276,23 @@ module _ (types : List «Type») (w : IsSchema types) (rule : Codec) where
     inner_in inner p m =
         ih inner m (λ ty q. further (length types) depth inner m k i a p (slice_get_within types m ty (sym q))) (λ ty q. further (length types) depth inner m k j b p (slice_get_within types m ty (sym q)))
 
+    lower_in : (m : ℕ) → m < k → Follows (shape_of_type types i) (shape_of_type types j) rule depth m
+    lower_in m l = ih depth m (λ ty e. omega (arith, a, l)) (λ ty e. omega (arith, b, l))
+
+    keys_alike : key_of (shape_of_type types (suc i) k) ≡ key_of (shape_of_type types (suc j) k)
+    unfolding shape_of_type
+    keys_alike = found_key (shape_of_type types i) (shape_of_type types j) rule depth false k lower_in (slice_get types k) (all_before types w k)
+
     reads_alike : (closing : Bool) → IsIn (Reads rule (shape_of_type types (suc i) k) depth closing) (Reads rule (shape_of_type types (suc j) k) depth closing)
     unfolding shape_of_type
     reads_alike closing =
-        found_in (shape_of_type types i) (shape_of_type types j) rule depth k (λ m l. ih depth m (λ ty e. omega (arith, a, l)) (λ ty e. omega (arith, b, l)))
+        found_in (shape_of_type types i) (shape_of_type types j) rule depth k lower_in
         (λ p m. inner_in (depth - 1) (omega (arith, p)) m) (λ p m. inner_in (depth - 2) (omega (arith, p)) m) closing (slice_get types k) (all_before types w k)
 
     one_further : Follows (shape_of_type types (suc i)) (shape_of_type types (suc j)) rule depth k
     one_further = record {
-      keys = keys_alike i j k;
+      keys = keys_alike;
+      opens = open_alike types i j k;
       begins = record {
         owns = own_alike (suc i) (suc j) k;
         firsts = firsts_alike (suc i) j k (omega (arith, b));

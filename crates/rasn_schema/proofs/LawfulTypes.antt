@@ -1,22 +1,21 @@
 -- Lawful types.
-use Rattle.std.proofs.Common.{◌≡◌, ◌≢◌, inl, inr, ℕ, zero, suc, Bool, true, false, List, [], ◌∷◌, length, Option, Some, None, refl, sym, ap, ◌∙◌, subst, true≢false}
+use Rattle.std.proofs.Common.{◌≡◌, ◌≢◌, inl, inr, ℕ, zero, suc, Bool, true, false, List, [], ◌∷◌, length, Option, Some, None, refl, ap, subst}
 use Rattle.std.specs.Prelude.{slice_get}
 use Rattle.rasn_types.specs.declared.types.tag.Tag.{Tag}
 use Rattle.rasn_types.specs.Tags.{eoc, is_eoc, IsTagBelow}
 use Rattle.rasn_types.specs.Shapes.{Shape, any, choice, unknown, looked_for, IsFirstOf, IsAlwaysPresent, Key, required, addition}
 use Rattle.rasn_types.specs.Shapes.Parts.{none}
 use Rattle.rasn_types.specs.Lawful.{IsLawful, HasTag, MayBeLeftOut, AreLawfulInOrder, AreLawfulByTag}
-use Rattle.rasn_types.specs.Truth.{IsWhether}
 use Rattle.rasn_schema.specs.declared.types.«Type».{«Type»}
 use Rattle.rasn_schema.specs.declared.types.«Type».TheVariants.{Leaf, Enumerated, Any, Tagged, Choice, Sequence, Set, SequenceOf, SetOf, Unknown}
 use Rattle.rasn_schema.specs.declared.types.Component.{Component}
 use Rattle.rasn_schema.specs.declared.types.Alternative.{Alternative}
-use Rattle.rasn_schema.specs.Shapes.{nothing, found_by, type_by, alternatives_by, components_by, key_of, presence_by, tag_at, shape_of_type, IsReadable}
+use Rattle.rasn_schema.specs.Shapes.{nothing, found_by, alternatives_by, components_by, key_of, presence_by, tag_at, shape_of_type, IsReadable}
 use Rattle.rasn_schema.specs.declared.types.Presence.{Presence}
 use Rattle.rasn_schema.specs.declared.types.Presence.TheVariants.{Required, Optional, Addition, Default}
 use Rattle.rasn_schema.specs.FirstTags.{EachFirst, EachFirstOf}
 use Rattle.rasn_schema.specs.Schemas.{IsUnknown, IsRequired, begin_at}
-use Rattle.rasn_schema.proofs.TypeShapes.{not_eoc}
+use Rattle.rasn_schema.proofs.OpenEnds.{among_known}
 
 -- ---- values are always present
 
@@ -39,7 +38,7 @@ found_unknown f g (Some (Leaf kind tag c names)) e = cc
 found_unknown f g (Some (Enumerated tag ns)) e = cc
 found_unknown f g (Some (Any tag)) e = cc
 found_unknown f g (Some (Tagged tag k)) e = cc
-found_unknown f g (Some (Choice name ks)) e = cc
+found_unknown f g (Some (Choice name ks)) e = absurd (among_known (alternatives_by f ks.items) e)
 found_unknown f g (Some (Sequence tag ps)) e = cc
 found_unknown f g (Some (Set name tag ps)) e = cc
 found_unknown f g (Some (SequenceOf tag k c)) e = cc
@@ -83,27 +82,6 @@ nothing_has_tag (Some tag) = tt
 
 pub cut_has_tag : (types : List «Type») (k : ℕ) → HasTag (nothing (looked_for (tag_at types k)))
 cut_has_tag types k = nothing_has_tag (looked_for (tag_at types k))
-
-open_has_tag : (tag : Tag) (b : Bool) → is_eoc tag ≡ b → tag ≢ eoc → HasTag (any (looked_for tag))
-open_has_tag tag true e n = absurd (true≢false (sym e ∙ not_eoc tag n))
-open_has_tag tag false e n = rw e tt
-
-pub open_tag_told : (f : ℕ → Shape) (tag : Tag) (b : Bool) → IsWhether b (tag ≢ eoc) → IsWhether b (HasTag (any (looked_for tag)))
-open_tag_told f tag true w = open_has_tag tag (is_eoc tag) refl w
-open_tag_told f tag false w = λ h. w (λ e. subst (λ t. HasTag (any (looked_for t))) e h)
-
-module _ (f : ℕ → Shape) where
-  pub others_have_tag : (ty : «Type») → ((tag : Tag) → ty ≡ Any tag → ⊥) → (ty ≡ Unknown → ⊥) → HasTag (type_by f ty)
-  others_have_tag (Leaf kind tag c names) n u = tt
-  others_have_tag (Enumerated tag ns) n u = tt
-  others_have_tag (Any tag) n u = absurd (n tag refl)
-  others_have_tag (Tagged tag k) n u = tt
-  others_have_tag (Choice name ks) n u = tt
-  others_have_tag (Sequence tag ps) n u = tt
-  others_have_tag (Set name tag ps) n u = tt
-  others_have_tag (SequenceOf tag k c) n u = tt
-  others_have_tag (SetOf tag k c) n u = tt
-  others_have_tag Unknown n u = absurd (u refl)
 
 -- ---- lists of alternatives and components
 

@@ -1,6 +1,7 @@
 pub mod Values
 pub mod TypeShapes
 pub mod Alternatives
+pub mod OpenEnds
 pub mod Lists
 pub mod Firsts
 pub mod LawfulTypes

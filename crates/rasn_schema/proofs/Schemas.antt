@@ -1,5 +1,5 @@
 -- A schema's types are lawful, or unknown values, as deep as they are read.
-use Rattle.std.proofs.Common.{◌≡◌, ◌∙◌, ℕ, zero, suc, ◌<◌, ◌≤◌, inl, inr, Bool, true, false, List, [], ◌∷◌, length, Option, Some, None, refl, sym, subst, arith}
+use Rattle.std.proofs.Common.{◌≡◌, ◌∙◌, ℕ, zero, suc, ◌<◌, ◌≤◌, inl, inr, Bool, true, false, List, [], ◌∷◌, length, Option, Some, None, refl, sym, subst, ◌⊎◌, true≢false, arith}
 use Rattle.std.specs.Prelude.{slice_get}
 use Rattle.std.proofs.lemmas.Option.{slice_get_within}
 use Rattle.rasn_types.specs.declared.types.tag.Tag.{Tag}
@@ -13,11 +13,12 @@ use Rattle.rasn_schema.specs.declared.types.Component.{Component}
 use Rattle.rasn_schema.specs.declared.types.Presence.{Presence as ComponentPresence}
 use Rattle.rasn_schema.specs.declared.types.Presence.TheVariants.{Required, Optional, Addition, Default}
 use Rattle.rasn_schema.specs.declared.types.Alternative.{Alternative}
-use Rattle.rasn_schema.specs.Shapes.{nothing, found_by, type_by, alternatives_by, components_by, key_of, presence_by, presence_of, tag_at, tag_found, shape_of_type, IsReadable}
+use Rattle.rasn_schema.specs.Shapes.{nothing, found_by, type_by, alternatives_by, is_open, ends_open, before_last, choice_among, components_by, key_of, presence_by, presence_of, tag_at, tag_found, shape_of_type, IsReadable}
 use Rattle.rasn_schema.specs.FirstTags.{EachFirst, EachFirstOf, IsAlwaysThere}
-use Rattle.rasn_schema.specs.Schemas.{IsUnknown, EndsUnknown, AreLowerAndTagged, AreDistinctAlternatives, MayFollow, IsToldFrom, AreToldInOrder, AreTagged, AreInOrderOfTags, IsWellFormed, IsSchema, own_at, begin_at}
+use Rattle.rasn_schema.specs.Schemas.{IsUnknown, EndsUnknown, AreDistinct, AreLowerAndTagged, AreDistinctAlternatives, MayFollow, IsToldFrom, AreToldInOrder, AreTagged, AreInOrderOfTags, IsWellFormed, IsSchema, own_at, begin_at}
 use Rattle.rasn_schema.proofs.Presences.{always_by, no_addition_by}
 use Rattle.rasn_schema.proofs.TypeShapes.{looked, own_is}
+use Rattle.rasn_schema.proofs.OpenEnds.{among, among_open, first_of_among, first_among, end_at, but_last, in_but_last, before_is, ends_alike, open_alike, open_settled}
 use Rattle.rasn_schema.proofs.LawfulTypes.{nothing_present, known, unknown_at, put_unknown, cut_lawful, none_lawful, open_lawful, put_alternative, put_in_order, put_by_tag, none_in_order, none_by_tag}
 
 -- ---- how a type begins at one depth, and at another
@@ -32,7 +33,7 @@ IsBehindOwn id (Some (Choice name ks)) = AreBefore id ks.items
 IsBehindOwn id _ = Unit {0}
 
 module _ (f g : ℕ → Shape) (n : Tag) (id : ℕ) (h : (k : ℕ) → k < id → IsFirst (f k) n → IsFirst (g k) n) where
-  firsts_before : (ks : List Alternative) → AreBefore id ks → IsFirstOf (alternatives_by f ks) n → IsFirstOf (alternatives_by g ks) n
+  pub firsts_before : (ks : List Alternative) → AreBefore id ks → IsFirstOf (alternatives_by f ks) n → IsFirstOf (alternatives_by g ks) n
   firsts_before [] b a = absurd a
   firsts_before (k ∷ ks) b (inl a) = inl (h k.type_id.0 b.0 a)
   firsts_before (k ∷ ks) b (inr a) = inr (firsts_before ks b.1 a)
@@ -43,7 +44,7 @@ module _ (f g : ℕ → Shape) (n : Tag) (id : ℕ) (h : (k : ℕ) → k < id �
   found_firsts (Some (Enumerated tag ns)) b a = a
   found_firsts (Some (Any tag)) b a = a
   found_firsts (Some (Tagged tag k)) b a = a
-  found_firsts (Some (Choice name ks)) b a = firsts_before ks.items b a
+  found_firsts (Some (Choice name ks)) b a = first_among (alternatives_by g ks.items) n (firsts_before ks.items b (first_of_among (alternatives_by f ks.items) n a))
   found_firsts (Some (Sequence tag ps)) b a = a
   found_firsts (Some (Set name tag ps)) b a = a
   found_firsts (Some (SequenceOf tag k c)) b a = a
@@ -90,16 +91,16 @@ unfolding shape_of_type
 none_first types n k zero e a = rw e at a
 none_first types n k (suc i) e a = rw e at a
 
-lower_before : (f : ℕ → Shape) (id : ℕ) (ks : List Alternative) → AreLowerAndTagged f id ks → AreBefore id ks
-lower_before f id [] w = tt
-lower_before f id (k ∷ ks) w = ((w 0 k refl).0, lower_before f id ks (λ i j e. w (suc i) j e))
+lower_before : (id : ℕ) (ks : List Alternative) → ((i : ℕ) (a : Alternative) → Some a ≡ slice_get ks i → a.type_id.0 < id) → AreBefore id ks
+lower_before id [] w = tt
+lower_before id (k ∷ ks) w = (w 0 k refl, lower_before id ks (λ i a e. w (suc i) a e))
 
 node_before : (types : List «Type») (k : ℕ) (ty : «Type») → IsWellFormed (own_at types) (begin_at types) k ty → IsBehindOwn k (Some ty)
 node_before types k (Leaf kind tag c names) w = tt
 node_before types k (Enumerated tag ns) w = tt
 node_before types k (Any tag) w = tt
 node_before types k (Tagged tag j) w = tt
-node_before types k (Choice name ks) w = lower_before (begin_at types) k ks.items w.1
+node_before types k (Choice name ks) w = lower_before k ks.items (λ i a e. (w.1 i a e).0)
 node_before types k (Sequence tag ps) w = tt
 node_before types k (Set name tag ps) w = tt
 node_before types k (SequenceOf tag j c) w = tt
@@ -123,27 +124,75 @@ begins_as_told types w i k n a = go (slice_get types k) refl
 
 -- ---- lawful types
 
+tag_or_none : (s : Shape) → HasTag s ⊎ (HasTag s → ⊥)
+tag_or_none (leaf kind tag c) = inl tt
+tag_or_none (any None) = inr (λ h. h)
+tag_or_none (any (Some tag)) = inl tt
+tag_or_none (prefix tag s) = inl tt
+tag_or_none (choice ps) = inl tt
+tag_or_none (open_choice ps) = inr (λ h. h)
+tag_or_none (option tag s) = inl tt
+tag_or_none (seq tag ps) = inl tt
+tag_or_none (set tag ps) = inl tt
+tag_or_none (list tag s c) = inl tt
+tag_or_none (set_of tag s c) = inl tt
+tag_or_none unknown = inr (λ h. h)
+
 nothing_has_tag : (o : Option Tag) → HasTag (nothing o)
 nothing_has_tag None = tt
 nothing_has_tag (Some tag) = tt
 
-found_has_tag : (f g : ℕ → Shape) (o : Option «Type») → HasTag (found_by g o) → HasTag (found_by f o)
-found_has_tag f g None w = tt
-found_has_tag f g (Some (Leaf kind tag c names)) w = tt
-found_has_tag f g (Some (Enumerated tag ns)) w = tt
-found_has_tag f g (Some (Any tag)) w = w
-found_has_tag f g (Some (Tagged tag k)) w = tt
-found_has_tag f g (Some (Choice name ks)) w = tt
-found_has_tag f g (Some (Sequence tag ps)) w = tt
-found_has_tag f g (Some (Set name tag ps)) w = tt
-found_has_tag f g (Some (SequenceOf tag k c)) w = tt
-found_has_tag f g (Some (SetOf tag k c)) w = tt
-found_has_tag f g (Some Unknown) w = w
+module _ (f g : ℕ → Shape) (opens : (k : ℕ) → is_open (f k) ≡ true → is_open (g k) ≡ true) where
+  among_has_tag : (ks : List Alternative) → HasTag (choice_among (alternatives_by g ks)) → HasTag (choice_among (alternatives_by f ks))
+  among_has_tag ks w = among HasTag (alternatives_by f ks) (λ e. absurd (among_open HasTag (alternatives_by g ks) (ends_alike f g opens ks e) w)) (λ e. tt)
+
+  found_has_tag : (o : Option «Type») → HasTag (found_by g o) → HasTag (found_by f o)
+  found_has_tag None w = tt
+  found_has_tag (Some (Leaf kind tag c names)) w = tt
+  found_has_tag (Some (Enumerated tag ns)) w = tt
+  found_has_tag (Some (Any tag)) w = w
+  found_has_tag (Some (Tagged tag k)) w = tt
+  found_has_tag (Some (Choice name ks)) w = among_has_tag ks.items w
+  found_has_tag (Some (Sequence tag ps)) w = tt
+  found_has_tag (Some (Set name tag ps)) w = tt
+  found_has_tag (Some (SequenceOf tag k c)) w = tt
+  found_has_tag (Some (SetOf tag k c)) w = tt
+  found_has_tag (Some Unknown) w = w
 
 has_tag_at : (types : List «Type») (i k : ℕ) → HasTag (begin_at types k) → HasTag (shape_of_type types i k)
 unfolding shape_of_type
 has_tag_at types zero k w = nothing_has_tag (looked_for (tag_at types k))
-has_tag_at types (suc i) k w = found_has_tag (shape_of_type types i) (shape_of_type types (length types)) (slice_get types k) w
+has_tag_at types (suc i) k w = found_has_tag (shape_of_type types i) (shape_of_type types (length types)) (λ j e. open_settled types i j e) (slice_get types k) w
+
+-- An open type of which nothing is read has no first tags.
+cut_open : (n : Tag) (g : ℕ → Shape) (o : Option «Type») → is_open (found_by g o) ≡ true → IsFirst (nothing (looked_for (tag_found o))) n → ⊥
+cut_open n g None e a = cc
+cut_open n g (Some (Leaf kind tag c names)) e a = cc
+cut_open n g (Some (Enumerated tag ns)) e a = cc
+cut_open n g (Some (Any tag)) e a = go (looked_for tag) e a
+  where
+    go : (t : Option Tag) → is_open (any t) ≡ true → IsFirst (nothing t) n → ⊥
+    go None e a = a
+    go (Some t) e a = cc
+cut_open n g (Some (Tagged tag k)) e a = cc
+cut_open n g (Some (Choice name ks)) e a = a
+cut_open n g (Some (Sequence tag ps)) e a = cc
+cut_open n g (Some (Set name tag ps)) e a = cc
+cut_open n g (Some (SequenceOf tag k c)) e a = cc
+cut_open n g (Some (SetOf tag k c)) e a = cc
+cut_open n g (Some Unknown) e a = a
+
+-- An open type that isn't followed as far as one is a CHOICE without alternatives.
+module _ (types : List «Type») (k : ℕ) (opens : is_open (begin_at types k) ≡ true) where
+  tag_if_cut : (i : ℕ) → is_open (shape_of_type types i k) ≡ false → HasTag (shape_of_type types i k)
+  unfolding shape_of_type
+  tag_if_cut zero e = nothing_has_tag (looked_for (tag_at types k))
+  tag_if_cut (suc i) e = absurd (true≢false (sym opens ∙ open_alike types (length types) i k ∙ e))
+
+  none_if_cut : (i : ℕ) → is_open (shape_of_type types i k) ≡ false → (n : Tag) → IsFirst (shape_of_type types i k) n → ⊥
+  unfolding shape_of_type
+  none_if_cut zero e n a = cut_open n (shape_of_type types (length types)) (slice_get types k) opens a
+  none_if_cut (suc i) e n a = absurd (true≢false (sym opens ∙ open_alike types (length types) i k ∙ e))
 
 -- ---- from indices to lists
 
@@ -209,37 +258,90 @@ module _ (types : List «Type») (i : ℕ) (w : IsSchema types) (readable : (k :
   of_known : (k : ℕ) → (IsUnknown (begin_at types k) → ⊥) → IsAlwaysPresent (shape_of_type types i k) × IsLawful (shape_of_type types i k)
   of_known k n = known (shape_of_type types i k) (readable k) (λ e. n (unknown_at types i k e))
 
-  alternatives_present : (id : ℕ) (ks : List Alternative) → AreLowerAndTagged (begin_at types) id ks → AreAlwaysPresent (alternatives_by (shape_of_type types i) ks)
-  alternatives_present id [] t = tt
-  alternatives_present id (k ∷ ks) t = ((of_tagged k.type_id.0 (t 0 k refl).1).0, alternatives_present id ks (λ j l e. t (suc j) l e))
+  tagged_known : (k : ℕ) → HasTag (shape_of_type types i k) → IsAlwaysPresent (shape_of_type types i k) × IsLawful (shape_of_type types i k)
+  tagged_known k t = known (shape_of_type types i k) (readable k) (λ e. subst HasTag e t)
 
-  alternatives_lawful : (id : ℕ) (ks : List Alternative) → AreLowerAndTagged (begin_at types) id ks → AreDistinctAlternatives (begin_at types) ks → IsLawful (choice (alternatives_by (shape_of_type types i) ks))
-  alternatives_lawful id [] t d = none_lawful
-  alternatives_lawful id (k ∷ ks) t d = put_alternative (shape_of_type types i) k ks
-      (has_tag_at types i k.type_id.0 (t 0 k refl).1, (of_tagged k.type_id.0 (t 0 k refl).1).0, (of_tagged k.type_id.0 (t 0 k refl).1).1, λ n a. none_begins (shape_of_type types i) n ks (λ j l e b. d 0 (suc j) k l (omega arith) refl e n (firsts n k.type_id.0 a) (firsts n l.type_id.0 b)))
-      (alternatives_lawful id ks (λ j l e. t (suc j) l e) (λ j m a b l e g. d (suc j) (suc m) a b (omega (arith, l)) e g))
+  -- ---- alternatives that have tags
 
-  -- A type without a tag of its own, and which isn't a CHOICE, is an open type.
+  module _ (ks : List Alternative) where
+    abbrev AreAllTagged : Type 0
+    AreAllTagged = (j : ℕ) (a : Alternative) → Some a ≡ slice_get ks j → HasTag (shape_of_type types i a.type_id.0)
+
+    abbrev AreAllApart : Type 0
+    AreAllApart = (j m : ℕ) (a b : Alternative) → j < m → Some a ≡ slice_get ks j → Some b ≡ slice_get ks m → AreDistinct (shape_of_type types i a.type_id.0) (shape_of_type types i b.type_id.0)
+
+  alternatives_present : (ks : List Alternative) → AreAllTagged ks → AreAlwaysPresent (alternatives_by (shape_of_type types i) ks)
+  alternatives_present [] t = tt
+  alternatives_present (k ∷ ks) t = ((tagged_known k.type_id.0 (t 0 k refl)).0, alternatives_present ks (λ j l e. t (suc j) l e))
+
+  alternatives_lawful : (ks : List Alternative) → AreAllTagged ks → AreAllApart ks → IsLawful (choice (alternatives_by (shape_of_type types i) ks))
+  alternatives_lawful [] t d = none_lawful
+  alternatives_lawful (k ∷ ks) t d = put_alternative (shape_of_type types i) k ks
+      (t 0 k refl, (tagged_known k.type_id.0 (t 0 k refl)).0, (tagged_known k.type_id.0 (t 0 k refl)).1, λ n a. none_begins (shape_of_type types i) n ks (λ j l e b. d 0 (suc j) k l (omega arith) refl e n a b))
+      (alternatives_lawful ks (λ j l e. t (suc j) l e) (λ j m a b l e g. d (suc j) (suc m) a b (omega (arith, l)) e g))
+
+  -- ---- a CHOICE, whose last alternative may be an open type
+
+  module _ (id : ℕ) (ks : List Alternative) (t : AreLowerAndTagged (begin_at types) id ks) (d : AreDistinctAlternatives (begin_at types) ks) where
+    -- An alternative that isn't an open type at the end.
+    abbrev IsNamed : ℕ → Alternative → Type 0
+    IsNamed j a = suc j ≡ length ks → is_open (shape_of_type types i a.type_id.0) ≡ false
+
+    named_tag : (j : ℕ) (a : Alternative) → Some a ≡ slice_get ks j → IsNamed j a → HasTag (shape_of_type types i a.type_id.0)
+    named_tag j a e n = go (tag_or_none (begin_at types a.type_id.0))
+      where
+        go : HasTag (begin_at types a.type_id.0) ⊎ (HasTag (begin_at types a.type_id.0) → ⊥) → HasTag (shape_of_type types i a.type_id.0)
+        go (inl h) = has_tag_at types i a.type_id.0 h
+        go (inr h) = let o = (t j a e).1 h in tag_if_cut types a.type_id.0 o.2 i (n o.1)
+
+    named_apart : (j m : ℕ) (a b : Alternative) → j < m → Some a ≡ slice_get ks j → Some b ≡ slice_get ks m → IsNamed m b → AreDistinct (shape_of_type types i a.type_id.0) (shape_of_type types i b.type_id.0)
+    named_apart j m a b l e g n tag x y = go (tag_or_none (begin_at types b.type_id.0))
+      where
+        go : HasTag (begin_at types b.type_id.0) ⊎ (HasTag (begin_at types b.type_id.0) → ⊥) → ⊥
+        go (inl h) = d j m a b l e g h tag (firsts tag a.type_id.0 x) (firsts tag b.type_id.0 y)
+        go (inr h) = let o = (t m b g).1 h in none_if_cut types b.type_id.0 o.2 i (n o.1) tag y
+
+    choice_readable : IsAlwaysPresent (choice_among (alternatives_by (shape_of_type types i) ks)) × IsLawful (choice_among (alternatives_by (shape_of_type types i) ks))
+    unfolding IsLawful
+    choice_readable = among (λ s. IsAlwaysPresent s × IsLawful s) (alternatives_by (shape_of_type types i) ks) opens named
+      where
+        before : (j : ℕ) (a : Alternative) → Some a ≡ slice_get (but_last ks) j → (Some a ≡ slice_get ks j) × IsNamed j a
+        before j a e = let h = in_but_last ks j a e in (h.0, λ q. absurd (omega (arith, q, h.1)))
+
+        opens : ends_open (alternatives_by (shape_of_type types i) ks) ≡ true → AreAlwaysPresent (before_last (alternatives_by (shape_of_type types i) ks)) × IsLawful (open_choice (before_last (alternatives_by (shape_of_type types i) ks)))
+        opens e =
+            let tagged : AreAllTagged (but_last ks) = λ j a g. let h = before j a g in named_tag j a h.0 h.1 in
+            let apart : AreAllApart (but_last ks) = λ j m a b l g p. let h = before m b p in named_apart j m a b l (before j a g).0 h.0 h.1 in
+            rw (before_is (shape_of_type types i) ks) (alternatives_present (but_last ks) tagged, alternatives_lawful (but_last ks) tagged apart)
+
+        named : ends_open (alternatives_by (shape_of_type types i) ks) ≡ false → AreAlwaysPresent (alternatives_by (shape_of_type types i) ks) × IsLawful (choice (alternatives_by (shape_of_type types i) ks))
+        named e =
+            let last : (j : ℕ) (a : Alternative) → Some a ≡ slice_get ks j → IsNamed j a = λ j a g q. end_at (shape_of_type types i) ks j a g q ∙ e in
+            let tagged : AreAllTagged ks = λ j a g. named_tag j a g (last j a g) in
+            let apart : AreAllApart ks = λ j m a b l g p. named_apart j m a b l g p (last m b p) in
+            (alternatives_present ks tagged, alternatives_lawful ks tagged apart)
+
+  -- A type without a tag of its own, and which isn't a CHOICE that is recognized by its first tags, is an open type or ends with one.
   untagged_open : (k : ℕ) → key_of (shape_of_type types i k) ≡ own_tag → own_at types k ≡ None → HasTag (begin_at types k) → ⊥
   unfolding shape_of_type
   untagged_open k e n h = by_levels i e
     where
-      by_type : (f g : ℕ → Shape) (o : Option «Type») → slice_get types k ≡ o → key_of (found_by f o) ≡ own_tag → looked_for (tag_found o) ≡ None → HasTag (found_by g o) → ⊥
-      by_type f g None q e n h = cc
-      by_type f g (Some (Leaf kind tag c names)) q e n h = let l = looked tag (w.0 k (Leaf kind tag c names) (sym q)).0 in cc
-      by_type f g (Some (Enumerated tag ns)) q e n h = let l = looked tag (w.0 k (Enumerated tag ns) (sym q)).0 in cc
-      by_type f g (Some (Any tag)) q e n h = subst (λ o. HasTag (any o)) n h
-      by_type f g (Some (Tagged tag j)) q e n h = let l = looked tag (w.0 k (Tagged tag j) (sym q)).0 in cc
-      by_type f g (Some (Choice name ks)) q e n h = cc
-      by_type f g (Some (Sequence tag ps)) q e n h = let l = looked tag (w.0 k (Sequence tag ps) (sym q)).0 in cc
-      by_type f g (Some (Set name tag ps)) q e n h = let l = looked tag (w.0 k (Set name tag ps) (sym q)).0 in cc
-      by_type f g (Some (SequenceOf tag j c)) q e n h = let l = looked tag (w.0 k (SequenceOf tag j c) (sym q)).0 in cc
-      by_type f g (Some (SetOf tag j c)) q e n h = let l = looked tag (w.0 k (SetOf tag j c) (sym q)).0 in cc
-      by_type f g (Some Unknown) q e n h = h
+      by_type : (f g : ℕ → Shape) → ((j : ℕ) → is_open (f j) ≡ true → is_open (g j) ≡ true) → (o : Option «Type») → slice_get types k ≡ o → key_of (found_by f o) ≡ own_tag → looked_for (tag_found o) ≡ None → HasTag (found_by g o) → ⊥
+      by_type f g u None q e n h = cc
+      by_type f g u (Some (Leaf kind tag c names)) q e n h = let l = looked tag (w.0 k (Leaf kind tag c names) (sym q)).0 in cc
+      by_type f g u (Some (Enumerated tag ns)) q e n h = let l = looked tag (w.0 k (Enumerated tag ns) (sym q)).0 in cc
+      by_type f g u (Some (Any tag)) q e n h = subst (λ o. HasTag (any o)) n h
+      by_type f g u (Some (Tagged tag j)) q e n h = let l = looked tag (w.0 k (Tagged tag j) (sym q)).0 in cc
+      by_type f g u (Some (Choice name ks)) q e n h = among (λ s. key_of s ≡ own_tag → ⊥) (alternatives_by f ks.items) (λ o e. among_open HasTag (alternatives_by g ks.items) (ends_alike f g u ks.items o) h) (λ o e. cc) e
+      by_type f g u (Some (Sequence tag ps)) q e n h = let l = looked tag (w.0 k (Sequence tag ps) (sym q)).0 in cc
+      by_type f g u (Some (Set name tag ps)) q e n h = let l = looked tag (w.0 k (Set name tag ps) (sym q)).0 in cc
+      by_type f g u (Some (SequenceOf tag j c)) q e n h = let l = looked tag (w.0 k (SequenceOf tag j c) (sym q)).0 in cc
+      by_type f g u (Some (SetOf tag j c)) q e n h = let l = looked tag (w.0 k (SetOf tag j c) (sym q)).0 in cc
+      by_type f g u (Some Unknown) q e n h = h
 
       by_levels : (i : ℕ) → key_of (shape_of_type types i k) ≡ own_tag → ⊥
       by_levels zero e = let f : key_of (nothing None) ≡ own_tag = subst (λ o. key_of (nothing o) ≡ own_tag) n e in cc
-      by_levels (suc i) e = by_type (shape_of_type types i) (shape_of_type types (length types)) (slice_get types k) refl e n h
+      by_levels (suc i) e = by_type (shape_of_type types i) (shape_of_type types (length types)) (λ j o. open_settled types i j o) (slice_get types k) refl e n h
 
   choice_own : (s : Shape) → key_of s ≡ first_tags → (own s ≡ None) × HasTag s
   choice_own (leaf kind tag c) e = cc
@@ -337,7 +439,7 @@ module _ (types : List «Type») (i : ℕ) (w : IsSchema types) (readable : (k :
   type_readable id (Enumerated tag ns) t = inl (tt, (t.0, tt))
   type_readable id (Any tag) t = inl (tt, open_lawful tag)
   type_readable id (Tagged tag k) t = inl (tt, (t.0, (of_known k.0 t.2).0, (of_known k.0 t.2).1))
-  type_readable id (Choice name ks) t = inl (alternatives_present id ks.items t.1, alternatives_lawful id ks.items t.1 t.2)
+  type_readable id (Choice name ks) t = inl (choice_readable id ks.items t.1 t.2)
   type_readable id (Sequence tag ps) t = inl (tt, (t.0, in_order_lawful ps.items t.1 t.2))
   type_readable id (Set name tag ps) t = inl (tt, (t.0, by_tag_lawful ps.items t.1 t.2))
   type_readable id (SequenceOf tag k c) t = inl (tt, (t.0, (of_known k.0 t.1).0, (of_known k.0 t.1).1))

@@ -10,7 +10,8 @@ use Rattle.rasn_types.specs.Shapes.{Shape, own, looked_for, leaf, any, prefix, c
 use Rattle.rasn_types.specs.Lawful.{IsLawful}
 use Rattle.rasn_schema.specs.declared.types.«Type».{«Type»}
 use Rattle.rasn_schema.specs.declared.types.«Type».TheVariants.{Leaf, Enumerated, Any, Tagged, Choice, Sequence, Set, SequenceOf, SetOf, Unknown}
-use Rattle.rasn_schema.specs.Shapes.{type_by, found_by, nothing, tag_of_type, tag_found, tag_at, shape_of_type, IsReadable}
+use Rattle.rasn_schema.specs.Shapes.{type_by, found_by, nothing, alternatives_by, tag_of_type, tag_found, tag_at, shape_of_type, IsReadable}
+use Rattle.rasn_schema.proofs.OpenEnds.{own_among, among_known}
 
 tag_is : (s t : Tag) → s.class ≡ t.class → s.value ≡ t.value → s ≡ t
 tag_is s t p q = ap₂ make p q
@@ -42,7 +43,7 @@ node_own f (Leaf kind tag c names) h = looked tag h.0
 node_own f (Enumerated tag ns) h = looked tag h.0
 node_own f (Any tag) h = refl
 node_own f (Tagged tag k) h = looked tag h.0
-node_own f (Choice name ks) h = refl
+node_own f (Choice name ks) h = own_among (alternatives_by f ks.items)
 node_own f (Sequence tag ps) h = looked tag h.0
 node_own f (Set name tag ps) h = looked tag h.0
 node_own f (SequenceOf tag k c) h = looked tag h.0
@@ -59,7 +60,7 @@ unknown_own f (Some (Leaf kind tag c names)) e = cc
 unknown_own f (Some (Enumerated tag ns)) e = cc
 unknown_own f (Some (Any tag)) e = cc
 unknown_own f (Some (Tagged tag k)) e = cc
-unknown_own f (Some (Choice name ks)) e = cc
+unknown_own f (Some (Choice name ks)) e = absurd (among_known (alternatives_by f ks.items) e)
 unknown_own f (Some (Sequence tag ps)) e = cc
 unknown_own f (Some (Set name tag ps)) e = cc
 unknown_own f (Some (SequenceOf tag k c)) e = cc

@@ -1,19 +1,22 @@
 -- Types that were worked out by hand.
-use Rattle.std.proofs.Common.{◌≡◌, ℕ, zero, suc, ◌<◌, [], ◌∷◌, Option, Some, None, inl, inr, refl, sym, ap, ◌∙◌, subst, arith}
+use Rattle.std.proofs.Common.{◌≡◌, Vec, String, Global, ℕ, zero, suc, ◌<◌, true, [], ◌∷◌, Option, Some, None, inl, inr, refl, sym, ap, ◌∙◌, subst, arith}
 use Rattle.std.specs.Prelude.{slice_get}
 use Rattle.rasn_types.specs.declared.types.tag.Tag.{Tag}
 use Rattle.rasn_types.specs.Tags.{eoc, in_universal, IsTagBelow}
-use Rattle.rasn_types.specs.Shapes.{Shape}
+use Rattle.rasn_types.specs.Shapes.{Shape, any, open_choice}
+use Rattle.rasn_types.specs.Shapes.Parts.{none as no_parts}
+use Rattle.rasn_types.specs.Lawful.{HasTag}
 use Rattle.rasn_schema.specs.declared.types.Alternative.{Alternative}
 use Rattle.rasn_schema.specs.declared.types.Component.{Component}
 use Rattle.rasn_schema.specs.declared.types.NamedNumber.{NamedNumber}
 use Rattle.rasn_schema.specs.declared.types.«Type».{«Type»}
-use Rattle.rasn_schema.specs.declared.types.«Type».TheVariants.{Any, Tagged}
+use Rattle.rasn_schema.specs.declared.types.«Type».TheVariants.{Any, Tagged, Choice}
 use Rattle.rasn_schema.specs.declared.error.SchemaError.TheVariants.{ReservedTag}
 use Rattle.rasn_schema.specs.declared.value.Value.{Value}
-use Rattle.rasn_schema.specs.Schemas.{AreLowerAndTagged, AreDistinctAlternatives, AreDistinctNumbers, MayFollow, AreToldInOrder, IsWellFormed, AreWellFormed, HasUnfitDefault}
+use Rattle.rasn_schema.specs.Shapes.{shape_of_type, is_open}
+use Rattle.rasn_schema.specs.Schemas.{IsPrefix, IsUnknown, AreLowerAndTagged, AreDistinctAlternatives, AreDistinctNumbers, MayFollow, AreToldInOrder, IsWellFormed, AreWellFormed, components_in, HasUnfitDefault, HaveFitDefaults, IsSchema, own_at, begin_at}
 use Rattle.rasn_schema.specs.Faults.{IsFaultOf, SomeFault, IsFault}
-use Rattle.rasn_schema.specs.WorkedRules.{truth, WorkedRules}
+use Rattle.rasn_schema.specs.WorkedRules.{truth, after_open, WorkedRules}
 use Rattle.rasn_schema.proofs.Lists.{some_is}
 use Rattle.rasn_schema.proofs.Parts.{not_none}
 
@@ -41,10 +44,10 @@ none_after x y i zero l e = omega (arith, l)
 none_after x y i (suc j) l e = not_none y None refl e
 
 lower : (a : Alternative) → a.type_id.0 ≡ 0 → AreLowerAndTagged (λ k. truth) 1 (a ∷ [])
-lower a e i b at = (let f : b.type_id.0 ≡ a.type_id.0 = ap (λ (x : Alternative). x.type_id.0) (of_one a b i at) in omega (arith, e, f), tt)
+lower a e i b at = (let f : b.type_id.0 ≡ a.type_id.0 = ap (λ (x : Alternative). x.type_id.0) (of_one a b i at) in omega (arith, e, f), λ n. absurd (n tt))
 
 one_alternative : (f : ℕ → Shape) (a : Alternative) → AreDistinctAlternatives f (a ∷ [])
-one_alternative f a i j b c l d e = absurd (none_after a c i j l e)
+one_alternative f a i j b c l d e t = absurd (none_after a c i j l e)
 
 one_number : (n : NamedNumber) → AreDistinctNumbers (n ∷ [])
 one_number n i j b c l d e = absurd (none_after n c i j l e)
@@ -54,6 +57,72 @@ next p q = (omega arith, λ m x a b e s. omega (arith, a, b))
 
 one_component : (own : ℕ → Option Tag) (f : ℕ → Shape) (p : Component) → AreToldInOrder own f (p ∷ [])
 one_component own f p i j q r d e a m = absurd (none_after p r i j m.0 e)
+
+-- ---- a CHOICE that ends with an open type
+
+module _ (f : ℕ → Shape) (a b : Alternative) (t : HasTag (f a.type_id.0)) (u : f b.type_id.0 ≡ any None) where
+  two_lower : (id : ℕ) → a.type_id.0 < id → b.type_id.0 < id → AreLowerAndTagged f id (a ∷ (b ∷ []))
+  two_lower id l m zero c e =
+      let q : c ≡ a = some_is c a e in (subst (λ (x : Alternative). x.type_id.0 < id) (sym q) l, λ n. absurd (n (subst (λ (x : Alternative). HasTag (f x.type_id.0)) (sym q) t)))
+  two_lower id l m (suc zero) c e =
+      let q : c ≡ b = some_is c b e in (subst (λ (x : Alternative). x.type_id.0 < id) (sym q) m, λ n. (omega arith, refl, subst (λ (x : Alternative). is_open (f x.type_id.0) ≡ true) (sym q) (ap is_open u)))
+  two_lower id l m (suc (suc i)) c e = absurd (not_none c None refl e)
+
+  two_apart : AreDistinctAlternatives f (a ∷ (b ∷ []))
+  two_apart i zero c d l e g h = absurd (omega (arith, l))
+  two_apart i (suc zero) c d l e g h = absurd (subst HasTag u (subst (λ (x : Alternative). HasTag (f x.type_id.0)) (some_is d b g) h))
+  two_apart i (suc (suc j)) c d l e g h = absurd (not_none d None refl g)
+
+not_open_before_the_end : (a b : Alternative) → AreLowerAndTagged (λ k. any None) 1 (a ∷ (b ∷ [])) → ⊥
+not_open_before_the_end a b h = let l = ((h 0 a refl).1 (λ t. t)).0 in omega (arith, l)
+
+not_open_alone : (a : Alternative) → AreLowerAndTagged (λ k. any None) 1 (a ∷ []) → ⊥
+not_open_alone a h = let l = ((h 0 a refl).1 (λ t. t)).0 in omega (arith, l)
+
+none_that_ends_open : (a b : Alternative) → AreLowerAndTagged (λ k. open_choice no_parts) 1 (a ∷ (b ∷ [])) → ⊥
+none_that_ends_open a b h = let e = ((h 1 b refl).1 (λ t. t)).2 in cc
+
+no_components : (g : ℕ → Value → Type 0) (t ty : «Type») (i : ℕ) → components_in t ≡ [] → Some ty ≡ Some t → HasUnfitDefault g ty i → ⊥
+no_components g t ty i n e (c, at, u) = not_none c None refl (at ∙ ap (λ l. slice_get l i) (ap components_in (some_is ty t e) ∙ n))
+
+module _ (name : String Global) (ks : Vec Alternative Global) (a b : Alternative) (s : ks.items ≡ a ∷ (b ∷ [])) where
+  abbrev begin : ℕ → Shape
+  begin k = begin_at (after_open (Choice name ks)) k
+
+  begin_open : begin 0 ≡ any None
+  unfolding shape_of_type
+  begin_open = refl
+
+  begin_tagged : HasTag (begin 1) × (IsUnknown (begin 0) → ⊥) × (IsPrefix (begin 0) → 0 < 1)
+  unfolding shape_of_type
+  begin_tagged = (tt, (λ h. h), λ h. omega arith)
+
+  extensible_formed : a.type_id.0 ≡ 1 → b.type_id.0 ≡ 0 → AreWellFormed (own_at (after_open (Choice name ks))) begin (after_open (Choice name ks))
+  extensible_formed p q zero ty e = subst (IsWellFormed _ begin 0) (sym (some_is ty _ e)) tt
+  extensible_formed p q (suc zero) ty e = subst (IsWellFormed _ begin 1) (sym (some_is ty _ e)) ((λ g. let v : 5 ≡ 0 = ap (λ (t : Tag). t.value) g in omega (arith, v)), begin_tagged.2, begin_tagged.1)
+  extensible_formed p q (suc (suc zero)) ty e = subst (IsWellFormed _ begin 2) (sym (some_is ty _ e)) (
+    (λ n. let g : a ∷ (b ∷ []) ≡ [] = sym s ∙ n in cc),
+    subst (AreLowerAndTagged begin 2) (sym s) (two_lower begin a b tagged opens 2 (omega (arith, p)) (omega (arith, q))),
+    subst (AreDistinctAlternatives begin) (sym s) (two_apart begin a b tagged opens),
+  )
+    where
+      tagged : HasTag (begin a.type_id.0)
+      tagged = subst (λ k. HasTag (begin k)) (sym p) begin_tagged.0
+
+      opens : begin b.type_id.0 ≡ any None
+      opens = ap begin q ∙ begin_open
+  extensible_formed p q (suc (suc (suc k))) ty e = absurd (not_none ty None refl e)
+
+  extensible_defaults : HaveFitDefaults (after_open (Choice name ks))
+  extensible_defaults zero ty e i h = no_components _ (Any eoc) ty i refl e h
+  extensible_defaults (suc zero) ty e i h = no_components _ (Tagged (in_universal 5) (record { 0 = 0 })) ty i refl e h
+  extensible_defaults (suc (suc zero)) ty e i h = no_components _ (Choice name ks) ty i refl e h
+  extensible_defaults (suc (suc (suc k))) ty e i h = absurd (not_none ty None refl e)
+
+  not_open_first : a.type_id.0 ≡ 0 → IsSchema (after_open (Choice name ks)) → ⊥
+  not_open_first p w =
+      let l = subst (AreLowerAndTagged begin 2) s (w.0 2 (Choice name ks) refl).1 in
+      let q = ((l 0 a refl).1 (λ t. subst HasTag (ap begin p ∙ begin_open) t)).0 in omega (arith, q)
 
 -- ---- schemas
 
@@ -83,8 +152,13 @@ worked_rules = record {
   not_tagged = λ h. h;
   lower_and_tagged = lower;
   not_lower = λ a e h. let l = (h 0 a refl).0 in omega (arith, e, l);
+  not_open_alone = not_open_alone;
+  not_open_before_the_end = not_open_before_the_end;
+  none_that_ends_open = none_that_ends_open;
+  open_shape = refl;
+  plain_shape = refl;
   one_alternative = one_alternative;
-  alternatives_clash = λ a b h. h 0 1 a b (omega arith) refl refl (in_universal 1) refl refl;
+  alternatives_clash = λ a b h. h 0 1 a b (omega arith) refl refl tt (in_universal 1) refl refl;
   one_number = one_number;
   numbers_clash = λ m n e h. h 0 1 m n (omega arith) refl refl e;
   next_follows = next;
@@ -101,6 +175,8 @@ worked_rules = record {
   deep = omega arith;
   not_deep = λ h. omega (arith, h);
   schema = (well_formed _ _, λ k ty e i h. fit_defaults _ ty k i e h);
+  extensible = λ name ks a b s p q. (extensible_formed name ks a b s p q, extensible_defaults name ks a b s);
+  not_open_first = λ name ks a b s p w. not_open_first name ks a b s p w;
   no_schema = λ h. (h.0 0 (Tagged eoc (record { 0 = 0 })) refl).0 refl;
   fault = inl (0, Tagged eoc (record { 0 = 0 }), refl, (refl, refl));
   no_fault = no_fault_at_all;

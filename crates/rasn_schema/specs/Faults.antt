@@ -16,7 +16,7 @@ use Rattle.rasn_schema.specs.declared.error.SchemaError.TheVariants.{ReservedTag
 use Rattle.rasn_schema.specs.Shapes.{presence_of, kind_of}
 use Rattle.rasn_schema.specs.FirstTags.{IsAlwaysThere}
 use Rattle.rasn_schema.specs.Fitting.{Fits}
-use Rattle.rasn_schema.specs.Schemas.{IsPrefix, IsUnknown, IsRequired, AreDistinct, IsBefore, MayFollow, IsRecognizable, IsToldFrom, HasUnfitDefault, own_at, begin_at}
+use Rattle.rasn_schema.specs.Schemas.{IsPrefix, IsUnknown, IsRequired, AreDistinct, IsTaggedOrOpen, IsBefore, MayFollow, IsRecognizable, IsToldFrom, HasUnfitDefault, own_at, begin_at}
 
 -- The tag is universal 0, or the elements of the list are unknown values.
 abbrev pub IsListFault : (ℕ → Shape) → ℕ → Tag → ℕ → SchemaError → Type 0
@@ -43,12 +43,12 @@ IsNumbersFault id tag ns (NoNumbers k) = (k.0 ≡ id) × (ns ≡ [])
 IsNumbersFault id tag ns (NumbersClash k i j) = (k.0 ≡ id) × (i < j) × ((m n : NamedNumber) × (Some m ≡ slice_get ns i) × (Some n ≡ slice_get ns j) × (m.number ≡ n.number))
 IsNumbersFault id tag ns _ = ⊥
 
--- Alternatives i and j, which is after it, may begin with the same tag; or alternative i breaks another rule.
+-- Alternatives i and j, which is after it and has a tag, may begin with the same tag; or alternative i breaks another rule.
 abbrev pub IsAlternativesFault : (ℕ → Shape) → ℕ → List Alternative → SchemaError → Type 0
 IsAlternativesFault f id ks (NoAlternatives k) = (k.0 ≡ id) × (ks ≡ [])
 IsAlternativesFault f id ks (LateAlternative k i) = (k.0 ≡ id) × ((a : Alternative) × (Some a ≡ slice_get ks i) × (a.type_id.0 < id → ⊥))
-IsAlternativesFault f id ks (UntaggedAlternative k i) = (k.0 ≡ id) × ((a : Alternative) × (Some a ≡ slice_get ks i) × (HasTag (f a.type_id.0) → ⊥))
-IsAlternativesFault f id ks (AlternativesClash k i j) = (k.0 ≡ id) × (i < j) × ((a b : Alternative) × (Some a ≡ slice_get ks i) × (Some b ≡ slice_get ks j) × (AreDistinct (f a.type_id.0) (f b.type_id.0) → ⊥))
+IsAlternativesFault f id ks (UntaggedAlternative k i) = (k.0 ≡ id) × ((a : Alternative) × (Some a ≡ slice_get ks i) × (IsTaggedOrOpen f ks i a → ⊥))
+IsAlternativesFault f id ks (AlternativesClash k i j) = (k.0 ≡ id) × (i < j) × ((a b : Alternative) × (Some a ≡ slice_get ks i) × (Some b ≡ slice_get ks j) × HasTag (f b.type_id.0) × (AreDistinct (f a.type_id.0) (f b.type_id.0) → ⊥))
 IsAlternativesFault f id ks _ = ⊥
 
 -- Component i is unknown values, and isn't the last or may be absent; or it may be absent, and isn't distinguished from component j, which may follow then; or no tag tells that it follows, and it isn't the last.

@@ -70,13 +70,13 @@ bit_free_prop text_family tag = Bool-set _ _
 -- ---- of the rules
 
 lower_prop : (f : ℕ → Shape) (id : ℕ) (ks : List Alternative) → IsProp (AreLowerAndTagged f id ks)
-lower_prop f id ks = each_prop _ (λ i. each_prop _ (λ a. each_prop _ (λ e. ×_prop le_prop (has_tag_prop (f a.type_id.0)))))
+lower_prop f id ks = each_prop _ (λ i. each_prop _ (λ a. each_prop _ (λ e. ×_prop le_prop (each_prop _ (λ n. three_prop le_prop (ℕ_set _ _) (Bool-set _ _))))))
 
 distinct_prop : (s t : Shape) → IsProp (AreDistinct s t)
 distinct_prop s t = each_prop _ (λ n. each_prop _ (λ h. not_prop _))
 
 alternatives_prop : (f : ℕ → Shape) (ks : List Alternative) → IsProp (AreDistinctAlternatives f ks)
-alternatives_prop f ks = each_prop _ (λ i. each_prop _ (λ j. each_prop _ (λ a. each_prop _ (λ b. each_prop _ (λ h. each_prop _ (λ d. each_prop _ (λ e. distinct_prop (f a.type_id.0) (f b.type_id.0))))))))
+alternatives_prop f ks = each_prop _ (λ i. each_prop _ (λ j. each_prop _ (λ a. each_prop _ (λ b. each_prop _ (λ h. each_prop _ (λ d. each_prop _ (λ e. each_prop _ (λ t. distinct_prop (f a.type_id.0) (f b.type_id.0)))))))))
 
 numbers_prop : (ns : List NamedNumber) → IsProp (AreDistinctNumbers ns)
 numbers_prop ns = each_prop _ (λ i. each_prop _ (λ j. each_prop _ (λ m. each_prop _ (λ n. each_prop _ (λ h. each_prop _ (λ d. each_prop _ (λ e. not_prop (m.number ≡ n.number))))))))

@@ -1,5 +1,5 @@
 -- What a schema has to be: the rules that each type keeps.
-use Rattle.std.specs.Prelude.{◌≡◌, ◌≢◌, ℕ, suc, ◌<◌, List, [], length, Option, Some, None, slice_get}
+use Rattle.std.specs.Prelude.{◌≡◌, ◌≢◌, ℕ, suc, ◌<◌, true, List, [], length, Option, Some, None, slice_get}
 use Rattle.rasn_types.specs.declared.types.tag.Tag.{Tag}
 use Rattle.rasn_types.specs.Tags.{eoc, IsTagBelow}
 use Rattle.rasn_types.specs.Grammar.{family}
@@ -10,7 +10,7 @@ use Rattle.rasn_schema.specs.declared.types.Alternative.{Alternative}
 use Rattle.rasn_schema.specs.declared.types.NamedNumber.{NamedNumber}
 use Rattle.rasn_schema.specs.declared.types.«Type».{«Type»}
 use Rattle.rasn_schema.specs.declared.types.«Type».TheVariants.{Leaf, Enumerated, Any, Tagged, Choice, Sequence, Set, SequenceOf, SetOf, Unknown}
-use Rattle.rasn_schema.specs.Shapes.{presence_of, kind_of, tag_at, shape_of_type}
+use Rattle.rasn_schema.specs.Shapes.{presence_of, kind_of, is_open, tag_at, shape_of_type}
 use Rattle.rasn_schema.specs.FirstTags.{EachFirst, IsAlwaysThere}
 use Rattle.rasn_schema.specs.declared.types.Presence.{Presence}
 use Rattle.rasn_schema.specs.declared.types.Presence.TheVariants.{Required, Default}
@@ -39,13 +39,17 @@ abbrev pub IsRequired : Presence → Type 0
 IsRequired Required = Unit {0}
 IsRequired _ = ⊥
 
--- Each alternative of the CHOICE with number id has a lower number, and a tag.
-abbrev pub AreLowerAndTagged : (ℕ → Shape) → ℕ → List Alternative → Type 0
-AreLowerAndTagged f id ks = (i : ℕ) (a : Alternative) → Some a ≡ slice_get ks i → (a.type_id.0 < id) × HasTag (f a.type_id.0)
+-- Alternative i has a tag, or it is the last of several and an open type: the unknown values of an extensible CHOICE (X.680 29).
+abbrev pub IsTaggedOrOpen : (ℕ → Shape) → List Alternative → ℕ → Alternative → Type 0
+IsTaggedOrOpen f ks i a = (HasTag (f a.type_id.0) → ⊥) → (0 < i) × (suc i ≡ length ks) × (is_open (f a.type_id.0) ≡ true)
 
--- No two alternatives begin with the same tag (X.680 29.3).
+-- Each alternative of the CHOICE with number id has a lower number, and a tag unless it is an open type at the end.
+abbrev pub AreLowerAndTagged : (ℕ → Shape) → ℕ → List Alternative → Type 0
+AreLowerAndTagged f id ks = (i : ℕ) (a : Alternative) → Some a ≡ slice_get ks i → (a.type_id.0 < id) × IsTaggedOrOpen f ks i a
+
+-- No two alternatives that have tags begin with the same tag (X.680 29.3). One without a tag is the last.
 abbrev pub AreDistinctAlternatives : (ℕ → Shape) → List Alternative → Type 0
-AreDistinctAlternatives f ks = (i j : ℕ) (a b : Alternative) → i < j → Some a ≡ slice_get ks i → Some b ≡ slice_get ks j → AreDistinct (f a.type_id.0) (f b.type_id.0)
+AreDistinctAlternatives f ks = (i j : ℕ) (a b : Alternative) → i < j → Some a ≡ slice_get ks i → Some b ≡ slice_get ks j → HasTag (f b.type_id.0) → AreDistinct (f a.type_id.0) (f b.type_id.0)
 
 -- No two numbers of an ENUMERATED are the same (X.680 20.3).
 abbrev pub AreDistinctNumbers : List NamedNumber → Type 0

@@ -1,8 +1,8 @@
 -- The shapes that a schema has.
-use Rattle.std.specs.Prelude.{◌≡◌, ℕ, ℤ, zero, suc, List, [], ◌∷◌, Option, Some, None, slice_get, ◌⊎◌}
+use Rattle.std.specs.Prelude.{◌≡◌, ℕ, ℤ, zero, suc, Bool, true, false, if◌then◌else◌, List, [], ◌∷◌, Option, Some, None, slice_get, ◌⊎◌}
 use Rattle.rasn_types.specs.declared.types.tag.Tag.{Tag}
 use Rattle.rasn_types.specs.Tags.{eoc}
-use Rattle.rasn_types.specs.Shapes.{Shape, leaf, any, prefix, choice, seq, set, list, set_of, unknown, IsAlwaysPresent, Parts, part, looked_for, Kind, boolean, null, object_identifier, bit_string, named_bits, octet_string, fixed, integer, enumerated, every, numeric, printable, visible, ia5, any_octets, bmp, utf8, utc_time, generalized_time, date, Key, own_tag, first_tags, required, addition, optional_by, default_by, Presence as PartPresence}
+use Rattle.rasn_types.specs.Shapes.{Shape, leaf, any, prefix, choice, open_choice, seq, set, list, set_of, unknown, IsAlwaysPresent, Parts, part, looked_for, Kind, boolean, null, object_identifier, bit_string, named_bits, octet_string, fixed, integer, enumerated, every, numeric, printable, visible, ia5, any_octets, bmp, utf8, utc_time, generalized_time, date, Key, own_tag, first_tags, required, addition, optional_by, default_by, Presence as PartPresence}
 use Rattle.rasn_types.specs.Shapes.Parts.{none}
 use Rattle.rasn_types.specs.Lawful.{IsLawful}
 use Rattle.rasn_types.specs.Trees.{signed_range, unsigned_range, unconstrained}
@@ -46,7 +46,7 @@ abbrev pub numbers_of : List NamedNumber → List ℤ
 numbers_of [] = []
 numbers_of (n ∷ ns) = n.number ∷ numbers_of ns
 
--- A CHOICE that may be absent is recognized by its first tags, and any other component by its own tag.
+-- A CHOICE that may be absent is recognized by its first tags, if these aren't all tags, and any other component by its own tag.
 abbrev pub key_of : Shape → Key
 key_of (choice ps) = first_tags
 key_of s = own_tag
@@ -76,12 +76,33 @@ abbrev pub alternatives_by : (ℕ → Shape) → List Alternative → Parts
 alternatives_by f [] = none
 alternatives_by f (a ∷ ks) = part required (f a.type_id.0) (alternatives_by f ks)
 
+-- ---- a CHOICE whose last alternative is an open type without a tag: its values are the unknown ones (X.680 29)
+
+abbrev pub is_open : Shape → Bool
+is_open (any None) = true
+is_open s = false
+
+abbrev pub ends_open : Parts → Bool
+ends_open none = false
+ends_open (part presence s none) = is_open s
+ends_open (part presence s (part next u ps)) = ends_open (part next u ps)
+
+abbrev pub before_last : Parts → Parts
+before_last none = none
+before_last (part presence s none) = none
+before_last (part presence s (part next u ps)) = part presence s (before_last (part next u ps))
+
+abbrev pub choice_among : Parts → Shape
+choice_among ps = if ends_open ps then open_choice (before_last ps) else choice ps
+
+-- ---- types
+
 abbrev pub type_by : (ℕ → Shape) → «Type» → Shape
 type_by f (Leaf kind tag c names) = leaf (kind_of kind) tag c
 type_by f (Enumerated tag ns) = leaf (enumerated (numbers_of ns.items)) tag unconstrained
 type_by f (Any tag) = any (looked_for tag)
 type_by f (Tagged tag k) = prefix tag (f k.0)
-type_by f (Choice name ks) = choice (alternatives_by f ks.items)
+type_by f (Choice name ks) = choice_among (alternatives_by f ks.items)
 type_by f (Sequence tag ps) = seq tag (components_by f ps.items)
 type_by f (Set name tag ps) = set tag (components_by f ps.items)
 type_by f (SequenceOf tag k c) = list tag (f k.0) c.size

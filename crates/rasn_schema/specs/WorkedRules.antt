@@ -1,17 +1,19 @@
 -- Types that were worked out by hand: which rules of X.680 they keep, and which they break.
-use Rattle.std.specs.Prelude.{◌≡◌, ℕ, List, [], ◌∷◌, Option, Some, None}
+use Rattle.std.specs.Prelude.{◌≡◌, ℕ, Vec, String, List, [], ◌∷◌, Option, Some, None}
+use Rattle.std.specs.Global.{Global}
 use Rattle.rasn_types.specs.declared.types.tag.Tag.{Tag}
 use Rattle.rasn_types.specs.Tags.{eoc, in_universal}
-use Rattle.rasn_types.specs.Shapes.{Shape, leaf, any, prefix, boolean, null}
+use Rattle.rasn_types.specs.Shapes.{Shape, leaf, any, prefix, choice, open_choice, part, required, boolean, null}
+use Rattle.rasn_types.specs.Shapes.Parts.{none}
 use Rattle.rasn_types.specs.Trees.{unconstrained}
 use Rattle.rasn_schema.specs.declared.types.Alternative.{Alternative}
 use Rattle.rasn_schema.specs.declared.types.Component.{Component}
 use Rattle.rasn_schema.specs.declared.types.NamedNumber.{NamedNumber}
 use Rattle.rasn_schema.specs.declared.types.«Type».{«Type»}
-use Rattle.rasn_schema.specs.declared.types.«Type».TheVariants.{Any, Tagged}
+use Rattle.rasn_schema.specs.declared.types.«Type».TheVariants.{Any, Tagged, Choice}
 use Rattle.rasn_schema.specs.declared.first_tags.FirstTags.TheVariants.{Nothing, One}
 use Rattle.rasn_schema.specs.declared.error.SchemaError.TheVariants.{ReservedTag}
-use Rattle.rasn_schema.specs.Shapes.{presence_of}
+use Rattle.rasn_schema.specs.Shapes.{presence_of, choice_among}
 use Rattle.rasn_schema.specs.FirstTags.{AreFirstTags, IsAlwaysThere}
 use Rattle.rasn_schema.specs.Depth.{AreDeep}
 use Rattle.rasn_schema.specs.Schemas.{AreDistinct, IsBefore, IsPrefix, AreLowerAndTagged, AreDistinctAlternatives, AreDistinctNumbers, MayFollow, IsRecognizable, IsToldFrom, AreToldInOrder, IsSchema}
@@ -28,6 +30,10 @@ nothing = leaf null (in_universal 5) unconstrained
 abbrev pub reserved_alone : List «Type»
 reserved_alone = Tagged eoc (record { 0 = 0 }) ∷ []
 
+-- An open type, one with an explicit tag, and a type after them.
+abbrev pub after_open : «Type» → List «Type»
+after_open ty = Any eoc ∷ (Tagged (in_universal 5) (record { 0 = 0 }) ∷ (ty ∷ []))
+
 pub record WorkedRules : Type 0 where
   pub distinct : AreDistinct truth nothing
   pub not_distinct : AreDistinct truth truth → ⊥
@@ -37,6 +43,11 @@ pub record WorkedRules : Type 0 where
   pub not_tagged : IsPrefix truth → ⊥
   pub lower_and_tagged : (a : Alternative) → a.type_id.0 ≡ 0 → AreLowerAndTagged (λ k. truth) 1 (a ∷ [])
   pub not_lower : (a : Alternative) → a.type_id.0 ≡ 1 → AreLowerAndTagged (λ k. truth) 1 (a ∷ []) → ⊥
+  pub not_open_alone : (a : Alternative) → AreLowerAndTagged (λ k. any None) 1 (a ∷ []) → ⊥
+  pub not_open_before_the_end : (a b : Alternative) → AreLowerAndTagged (λ k. any None) 1 (a ∷ (b ∷ [])) → ⊥
+  pub none_that_ends_open : (a b : Alternative) → AreLowerAndTagged (λ k. open_choice none) 1 (a ∷ (b ∷ [])) → ⊥
+  pub open_shape : choice_among (part required truth (part required (any None) none)) ≡ open_choice (part required truth none)
+  pub plain_shape : choice_among (part required truth none) ≡ choice (part required truth none)
   pub one_alternative : (f : ℕ → Shape) (a : Alternative) → AreDistinctAlternatives f (a ∷ [])
   pub alternatives_clash : (a b : Alternative) → AreDistinctAlternatives (λ k. truth) (a ∷ (b ∷ [])) → ⊥
   pub one_number : (n : NamedNumber) → AreDistinctNumbers (n ∷ [])
@@ -55,6 +66,8 @@ pub record WorkedRules : Type 0 where
   pub deep : AreDeep [] 0 1
   pub not_deep : AreDeep [] 0 0 → ⊥
   pub schema : IsSchema (Any eoc ∷ [])
+  pub extensible : (name : String Global) (ks : Vec Alternative Global) (a b : Alternative) → ks.items ≡ a ∷ (b ∷ []) → a.type_id.0 ≡ 1 → b.type_id.0 ≡ 0 → IsSchema (after_open (Choice name ks))
+  pub not_open_first : (name : String Global) (ks : Vec Alternative Global) (a b : Alternative) → ks.items ≡ a ∷ (b ∷ []) → a.type_id.0 ≡ 0 → IsSchema (after_open (Choice name ks)) → ⊥
   pub no_schema : IsSchema reserved_alone → ⊥
   pub fault : IsFault reserved_alone (ReservedTag (record { 0 = 0 }))
   pub no_fault : IsFault (Any eoc ∷ []) (ReservedTag (record { 0 = 0 })) → ⊥

@@ -1,12 +1,13 @@
 //! With which tags the values of a type may begin.
-ghost use Rattle.std.specs.Prelude.{◌≡◌, Some, slice_get, MatchOption};
+ghost use Rattle.std.specs.Prelude.{◌≡◌, MatchOption};
 ghost use Rattle.rasn_types.specs.Shapes.{IsFirst, IsFirstOf, IsTagOf, looked_for};
 ghost use Rattle.rasn_types.specs.Truth.{IsWhether};
 ghost use Rattle.rasn_schema.specs.declared.types.Alternative.{Alternative};
 ghost use Rattle.rasn_schema.specs.Shapes.{shape_of_type, type_by, alternatives_by, nothing, IsByFirstTags};
+ghost use Rattle.rasn_schema.specs.FirstTags.{IsAlternativeFor};
 
 use crate::type_id::TypeId;
-use crate::types::{Alternative, Type, tag_at, type_at};
+use crate::types::{Alternative, Type, ends_open, tag_at, type_at};
 use rasn_types::types::Tag;
 
 /// Returns whether two tags are the same.
@@ -92,18 +93,17 @@ fn nothing_is_choice(own: Tag) -> bool
 }
 
 /// Returns whether a value of the type is recognized by its first tags.
-#[inline(always)]
-fn type_is_choice(ty: &Type) -> bool
-    ensures { (f : _) → IsWhether result (IsByFirstTags (type_by f ty.now)) }
+fn type_is_choice(types: &[Type], below: usize, ty: &Type) -> bool
+    ensures { IsWhether result (IsByFirstTags (type_by (shape_of_type types.now below) ty.now)) }
 {
     match ty {
-        Type::Choice { .. } => true,
+        Type::Choice { alternatives, .. } => !ends_open(types, below, alternatives),
         _ => false,
     }
 }
 
 /// Returns whether a component that may be absent, and whose type has this number, is recognized by the tags with which its values may
-/// begin, as a CHOICE is, and not by its own tag.
+/// begin, as a CHOICE is that has no unknown values, and not by its own tag.
 pub fn is_choice_at(types: &[Type], levels: usize, id: TypeId) -> bool
     ensures { IsWhether result (IsByFirstTags (shape_of_type types.now levels id.0)) }
 {
@@ -111,7 +111,7 @@ pub fn is_choice_at(types: &[Type], levels: usize, id: TypeId) -> bool
         return nothing_is_choice(tag_at(types, id));
     }
     match type_at(types, id) {
-        Some(ty) => type_is_choice(ty),
+        Some(ty) => type_is_choice(types, levels - 1, ty),
         None => true,
     }
 }
@@ -124,7 +124,7 @@ pub fn alternative_for(
     tag: Tag,
 ) -> Option<usize>
     ensures { let f = shape_of_type types.now levels in
-        MatchOption result (IsFirstOf (alternatives_by f alternatives.now) tag → ⊥) (λ k. (a : Alternative) × (Some a ≡ slice_get alternatives.now k) × IsFirst (f a.type_id.0) tag) }
+        MatchOption result (IsFirstOf (alternatives_by f alternatives.now) tag → ⊥) (λ k. (a : Alternative) × IsAlternativeFor f alternatives.now tag k a) }
 {
     for (index, alternative) in alternatives.iter().enumerate() {
         if begins(types, levels, alternative.type_id, tag) {

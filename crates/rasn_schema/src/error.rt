@@ -40,7 +40,8 @@ pub enum SchemaError {
         id: TypeId,
         index: usize,
     },
-    /// An alternative is an open type without a tag (X.680 29.3).
+    /// An alternative may begin with any tag, and isn't an open type at the end of the CHOICE, after
+    /// others (X.680 29.3).
     UntaggedAlternative {
         id: TypeId,
         index: usize,
@@ -67,7 +68,7 @@ pub enum SchemaError {
         id: TypeId,
         index: usize,
     },
-    /// A component of a SET is an open type without a tag (X.680 27.3).
+    /// A component of a SET may begin with any tag (X.680 27.3).
     UntaggedInSet {
         id: TypeId,
         index: usize,
@@ -139,7 +140,7 @@ impl fmt::Display for SchemaError {
                 write_one(f, id, "the number of alternative ", index, back)
             }
             SchemaError::UntaggedAlternative { id, index } => {
-                let back = " is an open type without a tag (X.680 29.3)";
+                let back = " may begin with any tag (X.680 29.3)";
                 write_one(f, id, "alternative ", index, back)
             }
             SchemaError::AlternativesClash { id, index, other } => {
@@ -165,7 +166,7 @@ impl fmt::Display for SchemaError {
                 )
             }
             SchemaError::UntaggedInSet { id, index } => {
-                let back = " of a SET is an open type without a tag (X.680 27.3)";
+                let back = " of a SET may begin with any tag (X.680 27.3)";
                 write_one(f, id, "component ", index, back)
             }
             SchemaError::SetClash { id, index, other } => {

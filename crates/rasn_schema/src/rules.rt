@@ -1,5 +1,5 @@
 //! The rules that each type of a schema keeps: it is looked at once, however deep values are nested (X.680 25.6, 27.3, 29.3).
-ghost use Rattle.std.specs.Prelude.{◌≡◌, ◌≢◌, [], ◌<◌, ℕ, suc, length, slice_get, Some, None, MatchOption};
+ghost use Rattle.std.specs.Prelude.{◌≡◌, ◌≢◌, [], ◌<◌, ℕ, suc, true, length, slice_get, Some, None, MatchOption};
 ghost use Rattle.rasn_types.specs.Tags.{eoc};
 ghost use Rattle.rasn_types.specs.Grammar.{family};
 ghost use Rattle.rasn_types.specs.Shapes.{IsFirst, addition};
@@ -9,8 +9,8 @@ ghost use Rattle.rasn_schema.specs.declared.types.NamedNumber.{NamedNumber};
 ghost use Rattle.rasn_types.specs.Lawful.{IsBitFree, HasTag};
 ghost use Rattle.rasn_types.specs.Truth.{IsWhether};
 ghost use Rattle.rasn_schema.specs.FirstTags.{IsAlwaysThere};
-ghost use Rattle.rasn_schema.specs.Shapes.{shape_of_type, type_by, presence_of, kind_of};
-ghost use Rattle.rasn_schema.specs.Schemas.{IsPrefix, IsUnknown, IsRequired, EndsUnknown, AreLowerAndTagged, AreDistinctAlternatives, AreDistinctNumbers, AreDistinct, AreToldInOrder, MayFollow, IsRecognizable, IsToldFrom, AreTagged, AreInOrderOfTags, IsBefore, IsWellFormed, AreOthersWellFormed, AreChoicesWellFormed, IsChoice, own_at};
+ghost use Rattle.rasn_schema.specs.Shapes.{shape_of_type, type_by, presence_of, kind_of, is_open};
+ghost use Rattle.rasn_schema.specs.Schemas.{IsPrefix, IsUnknown, IsRequired, EndsUnknown, IsTaggedOrOpen, AreLowerAndTagged, AreDistinctAlternatives, AreDistinctNumbers, AreDistinct, AreToldInOrder, MayFollow, IsRecognizable, IsToldFrom, AreTagged, AreInOrderOfTags, IsBefore, IsWellFormed, AreOthersWellFormed, AreChoicesWellFormed, IsChoice, own_at};
 ghost use Rattle.rasn_schema.specs.Faults.{IsListFault, IsTaggedFault, IsLeafFault, IsNumbersFault, IsAlternativesFault, IsSequenceFault, IsSetFault, IsFaultOf, SomeFault};
 
 use crate::begin::begins;
@@ -18,7 +18,8 @@ use crate::error::SchemaError;
 use crate::first_tags::{FirstTags, first_tags_at, has_firsts, is_before, is_distinct};
 use crate::type_id::TypeId;
 use crate::types::{
-    Alternative, Component, LeafKind, NamedNumber, Presence, Type, is_unknown_at, tag_at, type_at,
+    Alternative, Component, LeafKind, NamedNumber, Presence, Type, ends_open, is_open_at,
+    is_unknown_at, tag_at, type_at,
 };
 use rasn_types::ber::is_always_constructed;
 use rasn_types::types::Tag;
@@ -43,7 +44,8 @@ fn is_no_tag(tag: Tag) -> bool
     tag == Tag::EOC
 }
 
-/// Returns whether the type with this number isn't an open type without a tag.
+/// Returns whether the type with this number isn't an open type without a tag, nor a CHOICE that
+/// ends with one.
 fn has_tag(types: &[Type], levels: usize, id: TypeId) -> bool
     ensures { IsWhether result (HasTag (shape_of_type types.now levels id.0)) }
 {
@@ -51,16 +53,17 @@ fn has_tag(types: &[Type], levels: usize, id: TypeId) -> bool
         return true;
     }
     match type_at(types, id) {
-        Some(ty) => type_has_tag(ty),
+        Some(ty) => type_has_tag(types, levels - 1, ty),
         None => true,
     }
 }
 
-fn type_has_tag(ty: &Type) -> bool
-    ensures { (f : _) → IsWhether result (HasTag (type_by f ty.now)) }
+fn type_has_tag(types: &[Type], below: usize, ty: &Type) -> bool
+    ensures { IsWhether result (HasTag (type_by (shape_of_type types.now below) ty.now)) }
 {
     match ty {
         Type::Any { tag } => *tag != Tag::EOC,
+        Type::Choice { alternatives, .. } => !ends_open(types, below, alternatives),
         Type::Unknown => false,
         _ => true,
     }
@@ -212,7 +215,42 @@ fn numbers_fault(id: TypeId, tag: Tag, numbers: &[NamedNumber]) -> Option<Schema
     None
 }
 
-/// Returns the first alternative whose number isn't below `id`, or which has no tag.
+/// Returns whether an alternative is the last of several, and an open type without a tag (X.680 29).
+fn is_open_end(
+    types: &[Type],
+    levels: usize,
+    alternatives: &[Alternative],
+    index: usize,
+    alternative: TypeId,
+) -> bool
+    requires { index < length alternatives.now }
+    ensures { IsWhether result ((0 < index) × (suc index ≡ length alternatives.now) × (is_open (shape_of_type types.now levels alternative.0) ≡ true)) }
+{
+    if index == 0 || alternatives.len() - index != 1 {
+        return false;
+    }
+    is_open_at(types, levels, alternative)
+}
+
+/// Returns whether an alternative has a tag, or is the last of several and an open type.
+fn is_tagged_or_open(
+    types: &[Type],
+    levels: usize,
+    alternatives: &[Alternative],
+    index: usize,
+    alternative: &Alternative,
+) -> bool
+    requires { index < length alternatives.now }
+    ensures { IsWhether result (IsTaggedOrOpen (shape_of_type types.now levels) alternatives.now index alternative.now) }
+{
+    if has_tag(types, levels, alternative.type_id) {
+        return true;
+    }
+    is_open_end(types, levels, alternatives, index, alternative.type_id)
+}
+
+/// Returns the first alternative whose number isn't below `id`, or which has no tag and isn't an
+/// open type at the end.
 fn late_or_untagged(
     types: &[Type],
     levels: usize,
@@ -226,14 +264,14 @@ fn late_or_untagged(
         if alternative.type_id.0 >= id.0 {
             return Some(SchemaError::LateAlternative { id, index });
         }
-        if !has_tag(types, levels, alternative.type_id) {
+        if !is_tagged_or_open(types, levels, alternatives, index, alternative) {
             return Some(SchemaError::UntaggedAlternative { id, index });
         }
     }
     None
 }
 
-/// Returns the index of the first alternative after `index` that may begin with the tag.
+/// Returns the index of the first alternative after `index` that has a tag and may begin with this one.
 fn alternative_with(
     types: &[Type],
     levels: usize,
@@ -244,19 +282,20 @@ fn alternative_with(
     requires { index < length alternatives.now }
     ensures { let f = shape_of_type types.now levels in
         MatchOption result
-        ((j : ℕ) (a : Alternative) → index < j → Some a ≡ slice_get alternatives.now j → IsFirst (f a.type_id.0) tag → ⊥)
-        (λ j. (index < j) × ((a : Alternative) × (Some a ≡ slice_get alternatives.now j) × IsFirst (f a.type_id.0) tag)) }
+        ((j : ℕ) (a : Alternative) → index < j → Some a ≡ slice_get alternatives.now j → HasTag (f a.type_id.0) → IsFirst (f a.type_id.0) tag → ⊥)
+        (λ j. (index < j) × ((a : Alternative) × (Some a ≡ slice_get alternatives.now j) × HasTag (f a.type_id.0) × IsFirst (f a.type_id.0) tag)) }
 {
     for other in index + 1..alternatives.len() {
         let next = &alternatives[other];
-        if begins(types, levels, next.type_id, tag) {
+        if begins(types, levels, next.type_id, tag) && has_tag(types, levels, next.type_id) {
             return Some(other);
         }
     }
     None
 }
 
-/// Returns the index of the first alternative after `index` that may begin with one of the tags with which `alternative` begins.
+/// Returns the index of the first alternative after `index` that has a tag and may begin with one of the tags with which `alternative`
+/// begins.
 fn overlapping_alternative(
     types: &[Type],
     levels: usize,
@@ -267,19 +306,21 @@ fn overlapping_alternative(
     requires { index < length alternatives.now }
     ensures { let f = shape_of_type types.now levels in
         MatchOption result
-        ((j : ℕ) (a : Alternative) → index < j → Some a ≡ slice_get alternatives.now j → AreDistinct (f alternative.0) (f a.type_id.0))
-        (λ j. (index < j) × ((a : Alternative) × (Some a ≡ slice_get alternatives.now j) × (AreDistinct (f alternative.0) (f a.type_id.0) → ⊥))) }
+        ((j : ℕ) (a : Alternative) → index < j → Some a ≡ slice_get alternatives.now j → HasTag (f a.type_id.0) → AreDistinct (f alternative.0) (f a.type_id.0))
+        (λ j. (index < j) × ((a : Alternative) × (Some a ≡ slice_get alternatives.now j) × HasTag (f a.type_id.0) × (AreDistinct (f alternative.0) (f a.type_id.0) → ⊥))) }
 {
     for other in index + 1..alternatives.len() {
         let next = &alternatives[other];
-        if !is_distinct(types, levels, alternative, levels, next.type_id) {
+        if has_tag(types, levels, next.type_id)
+            && !is_distinct(types, levels, alternative, levels, next.type_id)
+        {
             return Some(other);
         }
     }
     None
 }
 
-/// Returns the index of the first alternative after `index` that may begin with a tag with which `alternative` begins.
+/// Returns the index of the first alternative after `index` that has a tag and may begin with a tag with which `alternative` begins.
 fn same_alternative(
     types: &[Type],
     levels: usize,
@@ -290,8 +331,8 @@ fn same_alternative(
     requires { index < length alternatives.now }
     ensures { let f = shape_of_type types.now levels in
         MatchOption result
-        ((j : ℕ) (a : Alternative) → index < j → Some a ≡ slice_get alternatives.now j → AreDistinct (f alternative.0) (f a.type_id.0))
-        (λ j. (index < j) × ((a : Alternative) × (Some a ≡ slice_get alternatives.now j) × (AreDistinct (f alternative.0) (f a.type_id.0) → ⊥))) }
+        ((j : ℕ) (a : Alternative) → index < j → Some a ≡ slice_get alternatives.now j → HasTag (f a.type_id.0) → AreDistinct (f alternative.0) (f a.type_id.0))
+        (λ j. (index < j) × ((a : Alternative) × (Some a ≡ slice_get alternatives.now j) × HasTag (f a.type_id.0) × (AreDistinct (f alternative.0) (f a.type_id.0) → ⊥))) }
 {
     match first_tags_at(types, levels, alternative) {
         FirstTags::One(tag) => alternative_with(types, levels, alternatives, index, tag),
@@ -299,7 +340,7 @@ fn same_alternative(
     }
 }
 
-/// Returns the first two alternatives that may begin with the same tag (X.680 29.3).
+/// Returns the first two alternatives with tags that may begin with the same tag (X.680 29.3).
 fn alternatives_clash(
     types: &[Type],
     levels: usize,

@@ -1,7 +1,7 @@
 //! Types, and the components of those that have some.
 ghost use Rattle.std.specs.Prelude.{◌≡◌, ◌≢◌, ℕ, slice_get, option_copied};
 ghost use Rattle.rasn_types.specs.Truth.{IsWhether};
-ghost use Rattle.rasn_schema.specs.Shapes.{shape_of_type, tag_of_type, tag_at, type_by};
+ghost use Rattle.rasn_schema.specs.Shapes.{shape_of_type, tag_of_type, tag_at, type_by, alternatives_by, is_open, ends_open};
 ghost use Rattle.rasn_schema.specs.Schemas.{IsUnknown, components_in};
 ghost use Rattle.rasn_schema.specs.Held.{is_unknown, is_unknown_found};
 
@@ -85,7 +85,8 @@ pub enum Type {
         inner: TypeId,
     },
     /// A CHOICE (X.680 29), with the name that errors have for it. Each alternative has a lower
-    /// number than the CHOICE.
+    /// number than the CHOICE. After others, the last alternative may be an open type without a tag,
+    /// which is that of values with other tags, since the CHOICE is extensible.
     Choice {
         name: String,
         alternatives: Vec<Alternative>,
@@ -199,6 +200,38 @@ pub fn tag_at(types: &[Type], id: TypeId) -> Tag
     match type_at(types, id) {
         Some(ty) => ty.tag(),
         None => Tag::EOC,
+    }
+}
+
+/// Returns whether the type with this number is an open type without a tag.
+pub fn is_open_at(types: &[Type], levels: usize, id: TypeId) -> bool
+    ensures { result ≡ is_open (shape_of_type types.now levels id.0) }
+{
+    if levels == 0 {
+        return false;
+    }
+    match type_at(types, id) {
+        Some(ty) => is_open(ty),
+        None => false,
+    }
+}
+
+fn is_open(ty: &Type) -> bool
+    ensures { (f : _) → result ≡ is_open (type_by f ty.now) }
+{
+    match ty {
+        Type::Any { tag } => *tag == Tag::EOC,
+        _ => false,
+    }
+}
+
+/// Returns whether the last of the alternatives is an open type without a tag (X.680 29).
+pub fn ends_open(types: &[Type], levels: usize, alternatives: &[Alternative]) -> bool
+    ensures { result ≡ ends_open (alternatives_by (shape_of_type types.now levels) alternatives.now) }
+{
+    match alternatives.last() {
+        Some(last) => is_open_at(types, levels, last.type_id),
+        None => false,
     }
 }
 

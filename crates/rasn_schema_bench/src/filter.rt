@@ -11,9 +11,9 @@ use rasn_types::types::Tag;
 /// Filter and the types that it is made of, itself among them.
 pub const FILTER_TYPES: &[Definition] = &[
     // 0 to 9
-    Definition::SetOf(CONTEXT_0, 18, ONE_OR_MORE),
-    Definition::SetOf(CONTEXT_1, 18, ONE_OR_MORE),
-    Definition::Tagged(CONTEXT_2, 18),
+    Definition::SetOf(CONTEXT_0, 19, ONE_OR_MORE),
+    Definition::SetOf(CONTEXT_1, 19, ONE_OR_MORE),
+    Definition::Tagged(CONTEXT_2, 19),
     Definition::Sequence(CONTEXT_3, ATTRIBUTE_VALUE_ASSERTION),
     Definition::Sequence(CONTEXT_4, SUBSTRING_FILTER),
     Definition::Sequence(CONTEXT_5, ATTRIBUTE_VALUE_ASSERTION),
@@ -21,13 +21,14 @@ pub const FILTER_TYPES: &[Definition] = &[
     Definition::Leaf(LeafKind::OctetString, CONTEXT_7),
     Definition::Sequence(CONTEXT_8, ATTRIBUTE_VALUE_ASSERTION),
     Definition::Sequence(CONTEXT_9, MATCHING_RULE_ASSERTION),
-    // 10 to 19: AttributeDescription, AssertionValue and the like are OCTET STRINGs
+    // 10 to 20: AttributeDescription, AssertionValue and the like are OCTET STRINGs
     Definition::Leaf(LeafKind::OctetString, Tag::OCTET_STRING),
     Definition::Leaf(LeafKind::OctetString, CONTEXT_0),
     Definition::Leaf(LeafKind::OctetString, CONTEXT_1),
     Definition::Leaf(LeafKind::OctetString, CONTEXT_2),
+    Definition::Any(Tag::EOC),
     Definition::Choice("substring", SUBSTRING),
-    Definition::SequenceOf(Tag::SEQUENCE, 14, ONE_OR_MORE),
+    Definition::SequenceOf(Tag::SEQUENCE, 15, ONE_OR_MORE),
     Definition::Leaf(LeafKind::OctetString, CONTEXT_3),
     Definition::Leaf(LeafKind::Boolean, CONTEXT_4),
     Definition::Choice("Filter", FILTER_ALTERNATIVES),
@@ -35,7 +36,7 @@ pub const FILTER_TYPES: &[Definition] = &[
 ];
 
 /// The number of Filter.
-pub const FILTER: TypeId = TypeId(18);
+pub const FILTER: TypeId = TypeId(19);
 
 const FILTER_ALTERNATIVES: &[(&str, usize)] = &[
     ("and", 0),
@@ -48,10 +49,14 @@ const FILTER_ALTERNATIVES: &[(&str, usize)] = &[
     ("present", 7),
     ("approxMatch", 8),
     ("extensibleMatch", 9),
+    OTHER,
 ];
 
 /// What a newer version of a SEQUENCE has at its end (RFC 4511 4).
-const UNKNOWN: Part = ("...", Occurrence::Required, 19);
+const UNKNOWN: Part = ("...", Occurrence::Required, 20);
+
+/// What a newer version of a CHOICE has (RFC 4511 4).
+const OTHER: (&str, usize) = ("...", 14);
 
 const ATTRIBUTE_VALUE_ASSERTION: &[Part] = &[
     ("attributeDesc", Occurrence::Required, 10),
@@ -61,16 +66,16 @@ const ATTRIBUTE_VALUE_ASSERTION: &[Part] = &[
 
 const SUBSTRING_FILTER: &[Part] = &[
     ("type", Occurrence::Required, 10),
-    ("substrings", Occurrence::Required, 15),
+    ("substrings", Occurrence::Required, 16),
     UNKNOWN,
 ];
 
-const SUBSTRING: &[(&str, usize)] = &[("initial", 11), ("any", 12), ("final", 13)];
+const SUBSTRING: &[(&str, usize)] = &[("initial", 11), ("any", 12), ("final", 13), OTHER];
 
 const MATCHING_RULE_ASSERTION: &[Part] = &[
     ("matchingRule", Occurrence::Optional, 12),
     ("type", Occurrence::Optional, 13),
-    ("matchValue", Occurrence::Required, 16),
-    ("dnAttributes", Occurrence::False, 17),
+    ("matchValue", Occurrence::Required, 17),
+    ("dnAttributes", Occurrence::False, 18),
     UNKNOWN,
 ];

@@ -56,6 +56,7 @@ fn types_named(name: &str) -> Option<(&'static [Definition], TypeId)> {
         "operation" => Some((ROW_TYPES, TypeId(28))),
         "extensible" => Some((ROW_TYPES, TypeId(30))),
         "with-flags" => Some((ROW_TYPES, TypeId(32))),
+        "reply" => Some((ROW_TYPES, TypeId(34))),
         _ => Some((LINE_TYPES, type_id(ValueType::of_name(name)?))),
     }
 }

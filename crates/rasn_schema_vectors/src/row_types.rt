@@ -43,10 +43,12 @@ pub const ROW_TYPES: &[Definition] = &[
         &[("add", 0), ("delete", 1)],
     ),
     Definition::Unknown,
-    // 30 to 32
+    // 30 to 34
     Definition::Sequence(Tag::SEQUENCE, EXTENSIBLE),
     Definition::SequenceOf(Tag::SEQUENCE, 0, Constraints::NONE),
     Definition::Sequence(Tag::SEQUENCE, WITH_FLAGS),
+    Definition::Any(Tag::EOC),
+    Definition::Choice("Reply", &[("accepted", 0), ("count", 24), ("...", 33)]),
 ];
 
 const EXTENSIBLE: &[Part] = &[
@@ -117,8 +119,44 @@ pub const WRONG_TYPES: &[(&str, &[Definition])] = &[
     (
         "untagged-alternative",
         &[
+            FLAG,
+            Definition::Any(Tag::EOC),
+            Definition::Choice("C", &[("a", 1), ("b", 0)]),
+        ],
+    ),
+    (
+        "open-type-alone",
+        &[
             Definition::Any(Tag::EOC),
             Definition::Choice("C", &[("a", 0)]),
+        ],
+    ),
+    (
+        "extensible-alternative",
+        &[
+            FLAG,
+            Definition::Any(Tag::EOC),
+            Definition::Choice("C", &[("a", 0), ("b", 1)]),
+            Definition::Choice("D", &[("a", 2)]),
+        ],
+    ),
+    (
+        "extensible-in-set",
+        &[
+            FLAG,
+            Definition::Any(Tag::EOC),
+            Definition::Choice("C", &[("a", 0), ("b", 1)]),
+            Definition::Set("S", Tag::SET, EXTENSIBLE_PART),
+        ],
+    ),
+    (
+        "extensible-after-optional",
+        &[
+            NUMBER,
+            Definition::Any(Tag::EOC),
+            FLAG,
+            Definition::Choice("C", &[("a", 2), ("b", 1)]),
+            Definition::Sequence(Tag::SEQUENCE, AFTER_OPTIONAL),
         ],
     ),
     (
@@ -224,6 +262,13 @@ pub const WRONG_TYPES: &[(&str, &[Definition])] = &[
         "unknown-tagged",
         &[Definition::Unknown, Definition::Tagged(CONTEXT_0, 0)],
     ),
+];
+
+const EXTENSIBLE_PART: &[Part] = &[("part", Occurrence::Required, 2)];
+
+const AFTER_OPTIONAL: &[Part] = &[
+    ("part", Occurrence::Optional, 0),
+    ("part", Occurrence::Required, 3),
 ];
 
 const NOT_LAST: &[Part] = &[

@@ -238,8 +238,8 @@ impl<'modules, 'text> Resolver<'modules, 'text> {
     }
 }
 
-/// Returns whether unknown values follow such components: where a SEQUENCE has its additions at its
-/// end, and a module may imply a marker there (X.680 13.4, 25).
+/// Returns whether unknown values follow such components or alternatives: where a SEQUENCE or a CHOICE
+/// has its additions at its end, and a module may imply a marker there (X.680 13.4, 25, 29).
 pub(crate) fn has_unknown(
     modules: &Modules<'_>,
     place: Place,
@@ -247,7 +247,7 @@ pub(crate) fn has_unknown(
     within: Within,
 ) -> bool {
     let is_implied = modules.is_extensible(place.module);
-    within == Within::Sequence && ends_open(list, is_implied)
+    within != Within::Set && ends_open(list, is_implied)
 }
 
 /// Returns whether additions come after all components: after the only marker, or before a second one

@@ -10,6 +10,7 @@ use crate::resolver::Resolved;
 use crate::resolver::node::{Node, Part};
 use crate::resolver::order::{Order, first_of, first_tags, ordered};
 use crate::resolver::schema_fault::schema_fault;
+use crate::resolver::unknown::add_unknown_alternatives;
 use rasn_schema::{Alternative, Component, Presence, Schema, Type, TypeId, TypeName};
 use rasn_types::types::Tag;
 use std::alloc::{AllocError, Global};
@@ -27,6 +28,7 @@ pub(crate) fn emit<'text>(
     ensures named { IfOk result (λ r. (names : _) × (r.schema.names ≡ Some names) × IsNamed names.items name.now r.root) }
 {
     let mut nodes = nodes;
+    add_unknown_alternatives(alloc, &mut nodes)?;
     let order = ordered(alloc, modules, nodes.as_slice())?;
     let root = order.type_id(0);
     let names = names(alloc, nodes.as_slice(), &order, name, root)?;
@@ -68,14 +70,22 @@ fn filled(
     for index in &order.nodes {
         if let Some(node) = nodes.get_mut(*index) {
             fill(alloc, node, order, firsts.as_slice())?;
+            has_unknown = has_unknown || ends_unknown(node);
             types.push(mem::replace(&mut node.ty, Type::Any { tag: Tag::EOC }))?;
-            has_unknown = has_unknown || node.is_extensible;
         }
     }
     if has_unknown {
         types.push(Type::Unknown)?;
     }
     Ok(types)
+}
+
+/// Returns whether unknown values are the last component of a type.
+fn ends_unknown(node: &Node<'_>) -> bool {
+    match &node.ty {
+        Type::Sequence { .. } => node.is_extensible,
+        _ => false,
+    }
 }
 
 /// Puts the numbers of types in place of those of nodes, and the parts into their type.

@@ -91,7 +91,7 @@ pub(crate) struct Shape<'text> {
     pub(crate) ty: Type,
     /// Its components or alternatives.
     pub(crate) parts: Vec<Part<'text>>,
-    /// Whether unknown values follow the components (X.680 25).
+    /// Whether unknown values follow the components, or an unknown alternative the others (X.680 25, 29).
     pub(crate) is_extensible: bool,
     /// The type within its explicit tag, or of its elements.
     pub(crate) inner: Option<Use>,
@@ -114,7 +114,7 @@ impl<'text> Shape<'text> {
 pub(crate) struct Node<'text> {
     pub(crate) ty: Type,
     pub(crate) parts: Vec<Part<'text>>,
-    /// Whether unknown values follow the components (X.680 25).
+    /// Whether unknown values follow the components, or an unknown alternative the others (X.680 25, 29).
     pub(crate) is_extensible: bool,
     /// The node of the type within its explicit tag, or of its elements.
     pub(crate) inner: usize,

@@ -40,10 +40,11 @@ module _ {F : Type 0} (s : Shape) (piece : F → Tree) where
   collects_leaves elements by old (Err e) new (inl (vs, bs, here, (p, o), n, u)) = IsEnd-trans old.rest here.rest new.rest (passed_leaves old here vs bs p) (unread_leaves bs here e new u)
   collects_leaves elements by old (Err e) new (inr (fields, p, m)) = passed_leaves old new (elements fields) p.0 p.1.0
 
-  pub collects_called : {S L : Type 0} (elements : L → List F) (by : L → Result S DecodeError → Type 0) (old : State) (fields : L) (r : Result S DecodeError) (new : State)
-      → DecodesComponents (Decodes s piece) elements old (Ok fields) new → by fields r → DecodesSetContents (DecodesComponents (Decodes s piece) elements) by old r new
-  collects_called elements by old fields (Ok v) new h m = (fields, h, m)
-  collects_called elements by old fields (Err e) new h m = inr (fields, h, m)
+-- A function is called on components that are read.
+pub collects_called : {F S L : Type 0} (read : Call F) (elements : L → List F) (by : L → Result S DecodeError → Type 0) (old : State) (fields : L) (r : Result S DecodeError) (new : State)
+    → DecodesComponents read elements old (Ok fields) new → by fields r → DecodesSetContents (DecodesComponents read elements) by old r new
+collects_called read elements by old fields (Ok v) new h m = (fields, h, m)
+collects_called read elements by old fields (Err e) new h m = inr (fields, h, m)
 
 module _ {F S L : Type 0} (s : Shape) (ps : Parts) (same : s ≡ choice ps) (piece : F → Tree) (tree : S → Tree) (elements : L → List F) (by : L → Result S DecodeError → Type 0)
     (tag : Tag) (old : State) (o : old.depth ≢ 0 → AreOctets old.rest) (H : (fs : L) (r : Result S DecodeError) → by fs r → MakesSet ps tree (map piece (elements fs)) r) where

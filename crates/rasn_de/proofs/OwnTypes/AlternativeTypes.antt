@@ -3,25 +3,28 @@ use Rattle.std.proofs.Common.{◌≡◌, ◌+◌, ◌&&◌, ℕ, suc, Bool, true
 use Rattle.rasn_types.specs.declared.types.tag.Tag.{Tag}
 use Rattle.rasn_types.specs.declared.error.decode.DecodeError.{DecodeError}
 use Rattle.rasn_types.specs.declared.error.decode.DecodeErrorKind.{DecodeErrorKind}
-use Rattle.rasn_types.specs.Tags.{form}
+use Rattle.rasn_types.specs.declared.types.any.Any.{Any}
+use Rattle.rasn_types.specs.Tags.{form, eoc}
 use Rattle.rasn_types.specs.Framing.{NextTag}
 use Rattle.rasn_types.specs.Truth.{IsWhether}
-use Rattle.rasn_types.specs.Shapes.{Tree, chosen, Shape, leaf, any, prefix, choice, open_choice, option, seq, set, sorted_set, list, set_of, unknown, Parts, part, Presence, required, own, IsFirst, IsFirstOf}
+use Rattle.rasn_types.specs.Shapes.{Tree, numbers, chosen, Shape, leaf, any, prefix, choice, open_choice, choice_by, count, option, seq, set, sorted_set, list, set_of, unknown, Parts, part, Presence, required, own, IsFirst, IsFirstOf}
 use Rattle.rasn_types.specs.Shapes.Parts.{none}
-use Rattle.rasn_types.specs.Grammar.{Reads, parts_of}
+use Rattle.rasn_types.specs.Grammar.{Reads, ReadsOpenChoice, parts_of}
 use Rattle.rasn_types.proofs.Headers.Frames.{next_one}
 use Rattle.rasn_types.proofs.Time.Spellings.{both_true}
 use Rattle.rasn_de.specs.State.{State}
-use Rattle.rasn_de.specs.Outcomes.{Outcome, Got, refusal, outcome}
-use Rattle.rasn_de.specs.Decodes.{DecodesExactly, Decodes}
+use Rattle.rasn_de.specs.Outcomes.{Exact, Outcome, Got, refusal, outcome}
+use Rattle.rasn_de.specs.Decodes.{DecodesExactly, DecodesBy, Decodes}
+use Rattle.rasn_de.specs.Any.{DecodesOpenType}
 use Rattle.rasn_de.specs.Choice.{IsOnlyAlternative}
 use Rattle.rasn_de.specs.PartTypes.{same_own}
 use Rattle.std.specs.Prelude.{IfErr}
-use Rattle.rasn_de.specs.AlternativeTypes.{FailsAtAlternative, DecodesAlternative, ReadsNumbered, DecodesNumbered, is_other, none_begins, is_first_alone}
+use Rattle.rasn_de.specs.AlternativeTypes.{FailsAtAlternativeBy, DecodesAlternativeBy, ReadsNumbered, ReadsNumberedBy, DecodesNumbered, is_other, none_begins, is_first_alone}
 use Rattle.rasn_de.proofs.Leaves.Outcomes.{Exact-none, Exact-refusal}
 use Rattle.rasn_de.proofs.Headers.Ends.{IsEnd-refl}
 use Rattle.rasn_de.proofs.Headers.Frames.{same_tag_self}
 use Rattle.rasn_de.proofs.Constructed.Reads.{Exact-same}
+use Rattle.rasn_de.proofs.Any.Reads.{open_decodes}
 use Rattle.rasn_de.proofs.OwnTypes.PartTypes.{same_own_is}
 use Rattle.rasn_de.proofs.OwnTypes.Alternatives.{OneAlternative, read_at, alone, no_default, as_read}
 
@@ -99,10 +102,24 @@ others_whether s ps tag t true e n h = inr h
 others_whether s ps tag t false e n h = λ f. elim f [ inl g ↦ n (first_own s t tag e g) | inr i ↦ h i ]
 
 -- A refusal of alternatives is one of the CHOICE.
-pub alternative_decodes : {D : Type 0} (ps : Parts) (tree : D → Tree) (name : List ℕ) (tag : Tag) (old : State) (r : Result D DecodeError) (new : State) → NextTag (form old.rule) old.rest tag → Decodes (choice ps) tree old r new
-    → IfErr r (λ e. FailsAtAlternative ps name tag old e new) → DecodesAlternative ps tree name old r new
-alternative_decodes ps tree name tag old (Ok v) new n a f = a
-alternative_decodes ps tree name tag old (Err e) new n a f = inr (tag, n, f)
+pub alternative_decodes : {D : Type 0} (extensible : Bool) (ps : Parts) (tree : D → Tree) (name : List ℕ) (tag : Tag) (old : State) (r : Result D DecodeError) (new : State) → NextTag (form old.rule) old.rest tag
+    → Decodes (choice_by extensible ps) tree old r new → IfErr r (λ e. FailsAtAlternativeBy extensible ps name tag old e new) → DecodesAlternativeBy extensible ps tree name old r new
+alternative_decodes extensible ps tree name tag old (Ok v) new n a f = a
+alternative_decodes extensible ps tree name tag old (Err e) new n a f = inr (tag, n, f)
+
+-- If an alternative has the next tag, no unknown value is read.
+known_read : (extensible : Bool) (ps : Parts) (tag : Tag) (old new : State) (o : Outcome) (k : ℕ) → NextTag (form old.rule) old.rest tag → IsFirstOf ps tag → DecodesExactly (ReadsNumbered k ps) old o new
+    → DecodesExactly (ReadsNumberedBy extensible k ps) old o new
+known_read false ps tag old new o k n f a = record { stays = a.stays; end = a.end; exact = a.exact }
+known_read true ps tag old new o k n f a = record {
+  stays = a.stays;
+  end = a.end;
+  exact = Exact-same (ReadsNumbered k ps old.rule old.depth old.closing) (ReadsNumberedBy true k ps old.rule old.depth old.closing) old.rest o (λ v r w. inl w) back a.exact;
+}
+  where
+    back : (v : Tree) (r : List ℕ) → ReadsNumberedBy true k ps old.rule old.depth old.closing old.rest v r → ReadsNumbered k ps old.rule old.depth old.closing old.rest v r
+    back v r (inl w) = w
+    back v r (inr (u, e, next, m, others, x)) = absurd (others (subst (IsFirstOf ps) (sym (next_one old.rest next tag m n)) f))
 
 module _ (p : Presence) (s : Shape) (ps : Parts) (tag t : Tag) (h : tag ≡ t) (e : own s ≡ Some t) (others : IsFirstOf ps t → ⊥) where
   only_first : IsOnlyAlternative (part p s ps) 0 p s tag
@@ -110,6 +127,10 @@ module _ (p : Presence) (s : Shape) (ps : Parts) (tag t : Tag) (h : tag ≡ t) (
 
   first_is : IsFirst s tag
   first_is = own_first s tag (e ∙ ap (λ x. Some x) (sym h))
+
+  pub first_known : (extensible : Bool) (old new : State) (o : Outcome) → NextTag (form old.rule) old.rest tag → (k : ℕ) → DecodesExactly (ReadsNumbered k (part p s ps)) old o new
+      → DecodesExactly (ReadsNumberedBy extensible k (part p s ps)) old o new
+  first_known extensible old new o n k a = known_read extensible (part p s ps) tag old new o k n (inl first_is) a
 
   -- The first alternative is read.
   pub first_got : (old new : State) → NextTag (form old.rule) old.rest tag → (u : Tree) → DecodesExactly (OneAlternative p s) old (Got u new.rest) new → (k : ℕ)
@@ -136,32 +157,79 @@ module _ (p : Presence) (s : Shape) (ps : Parts) (tag t : Tag) (h : tag ≡ t) (
 
 -- The tag is another one, and the other alternatives are read.
 module _ (p : Presence) (s : Shape) (ps : Parts) (tag t : Tag) (not_this : tag ≡ t → ⊥) (e : own s ≡ Some t) (old new : State) (n : NextTag (form old.rule) old.rest tag) where
-  pub others_read : (k : ℕ) (o : Outcome) → DecodesExactly (ReadsNumbered (suc k) ps) old o new → DecodesExactly (ReadsNumbered k (part p s ps)) old o new
+  not_first : (next : Tag) → NextTag (form old.rule) old.rest next → IsFirst s next → ⊥
+  not_first next m g = not_this (first_own s t tag e (subst (λ z. IsFirst s z) (next_one old.rest next tag m n) g))
+
+  there : (extensible : Bool) (k : ℕ) (v : Tree) (r : List ℕ) → ReadsNumberedBy extensible (suc k) ps old.rule old.depth old.closing old.rest v r
+      → ReadsNumberedBy extensible k (part p s ps) old.rule old.depth old.closing old.rest v r
   unfolding parts_of
-  others_read k o a = record {
+  there false k v r w = inr w
+  there true k v r (inl w) = inl (inr w)
+  there true k v r (inr (u, f, next, m, others, x)) =
+      inr (u, f ∙ ap (λ i. chosen i u) (omega arith), next, m, λ g. elim g [ inl h ↦ not_first next m h | inr h ↦ others h ], x)
+
+  back : (extensible : Bool) (k : ℕ) (v : Tree) (r : List ℕ) → ReadsNumberedBy extensible k (part p s ps) old.rule old.depth old.closing old.rest v r
+      → ReadsNumberedBy extensible (suc k) ps old.rule old.depth old.closing old.rest v r
+  unfolding parts_of
+  back false k v r (inl (u, f, next, m, g, x, z)) = absurd (not_first next m g)
+  back false k v r (inr w) = w
+  back true k v r (inl (inl (u, f, next, m, g, x, z))) = absurd (not_first next m g)
+  back true k v r (inl (inr w)) = inl w
+  back true k v r (inr (u, f, next, m, others, x)) = inr (u, f ∙ ap (λ i. chosen i u) (omega arith), next, m, λ g. others (inr g), x)
+
+  pub others_read : (extensible : Bool) (k : ℕ) (o : Outcome) → DecodesExactly (ReadsNumberedBy extensible (suc k) ps) old o new → DecodesExactly (ReadsNumberedBy extensible k (part p s ps)) old o new
+  others_read extensible k o a = record {
     stays = a.stays;
     end = a.end;
-    exact = Exact-same (ReadsNumbered (suc k) ps old.rule old.depth old.closing) (ReadsNumbered k (part p s ps) old.rule old.depth old.closing) old.rest o there back a.exact;
+    exact = Exact-same (ReadsNumberedBy extensible (suc k) ps old.rule old.depth old.closing) (ReadsNumberedBy extensible k (part p s ps) old.rule old.depth old.closing) old.rest o (there extensible k) (back extensible k) a.exact;
   }
-    where
-      there : (v : Tree) (r : List ℕ) → ReadsNumbered (suc k) ps old.rule old.depth old.closing old.rest v r → ReadsNumbered k (part p s ps) old.rule old.depth old.closing old.rest v r
-      there v r w = inr w
 
-      back : (v : Tree) (r : List ℕ) → ReadsNumbered k (part p s ps) old.rule old.depth old.closing old.rest v r → ReadsNumbered (suc k) ps old.rule old.depth old.closing old.rest v r
-      back v r (inl (u, f, next, m, g, x, z)) = absurd (not_this (first_own s t tag e (subst (λ z. IsFirst s z) (next_one old.rest next tag m n) g)))
-      back v r (inr w) = w
-
-  pub others_got : (k i : ℕ) (u : Tree) → DecodesExactly (ReadsNumbered (suc k) ps) old (Got (chosen (suc k + i) u) new.rest) new → DecodesExactly (ReadsNumbered k (part p s ps)) old (Got (chosen (k + suc i) u) new.rest) new
-  others_got k i u a =
+  pub others_got : (extensible : Bool) (k i : ℕ) (u : Tree) → DecodesExactly (ReadsNumberedBy extensible (suc k) ps) old (Got (chosen (suc k + i) u) new.rest) new
+      → DecodesExactly (ReadsNumberedBy extensible k (part p s ps)) old (Got (chosen (k + suc i) u) new.rest) new
+  others_got extensible k i u a =
       let f : suc k + i ≡ k + suc i = omega arith in
-      others_read k (Got (chosen (k + suc i) u) new.rest) (subst (λ m. DecodesExactly (ReadsNumbered (suc k) ps) old (Got (chosen m u) new.rest) new) f a)
+      others_read extensible k (Got (chosen (k + suc i) u) new.rest) (subst (λ m. DecodesExactly (ReadsNumberedBy extensible (suc k) ps) old (Got (chosen m u) new.rest) new) f a)
 
 -- There is no alternative.
 pub none_read : (k : ℕ) (kind : DecodeErrorKind) {old : State} → DecodesExactly (ReadsNumbered k none) old (refusal kind) old
 unfolding parts_of
 none_read k kind {old} = record { stays = refl; end = IsEnd-refl old.rest; exact = Exact-none kind (ReadsNumbered k none old.rule old.depth old.closing) old.rest (λ t r h. h) }
 
+-- The value is unknown, and is read as an open type without a tag.
+pub unknown_read : (tag : Tag) (old : State) (r : Result Any DecodeError) (new : State) → NextTag (form old.rule) old.rest tag → DecodesOpenType eoc old r new → (k : ℕ)
+    → DecodesBy (ReadsNumberedBy true k none) (λ (a : Any). chosen (k + 0) (numbers a)) old r new
+unfolding Reads parts_of
+unknown_read tag old (Ok a) new n d k =
+    let x = open_decodes eoc old new (Ok a) d in
+    record {
+      stays = x.stays;
+      end = x.end;
+      exact = (
+        inr (numbers a, refl, tag, n, (λ f. f), x.exact.0),
+        λ v r w. elim w [ inl z ↦ absurd z | inr z ↦ (let q = x.exact.1 z.0 r z.5 in (z.1 ∙ ap (λ u. chosen (k + 0) u) q.0, q.1)) ],
+      );
+    }
+unknown_read tag old (Err e) new n d k =
+    let x = open_decodes eoc old new (Err e) d in
+    record {
+      stays = x.stays;
+      end = x.end;
+      exact = Exact-refusal e.kind (Reads old.rule (any None) old.depth old.closing) (ReadsNumberedBy true k none old.rule old.depth old.closing) old.rest old.rest
+          (λ nothing v r w. elim w [ inl z ↦ absurd z | inr z ↦ nothing z.0 r z.5 ]) x.exact;
+    }
+
 -- The alternatives of a CHOICE are counted from 0.
+choice_by_read : (extensible : Bool) (ps : Parts) {old new : State} {o : Outcome} → DecodesExactly (ReadsNumberedBy extensible 0 ps) old o new → DecodesExactly (λ rule. Reads rule (choice_by extensible ps)) old o new
+unfolding Reads
+choice_by_read false ps {old} {new} {o} a = record { stays = a.stays; end = a.end; exact = a.exact }
+choice_by_read true ps {old} {new} {o} a =
+    let f : 0 + count ps ≡ count ps = omega arith in
+    record {
+      stays = a.stays;
+      end = a.end;
+      exact = subst (λ n. Exact (ReadsOpenChoice old.rule (IsFirstOf ps) n (ReadsNumbered 0 ps old.rule old.depth old.closing)) old.rest o) f a.exact;
+    }
+
 pub choice_read : (ps : Parts) {old new : State} {o : Outcome} → DecodesExactly (ReadsNumbered 0 ps) old o new → DecodesExactly (λ rule. Reads rule (choice ps)) old o new
 unfolding Reads
 choice_read ps {old} {new} {o} a = record { stays = a.stays; end = a.end; exact = a.exact }
@@ -170,6 +238,7 @@ counted : {T : Type 0} (number : T → ℕ) (inner : T → Tree) (r : Result T D
 counted number inner (Ok v) l = let f : 0 + number v ≡ number v = omega arith in ap (λ m. Got (chosen m (inner v)) l) f
 counted number inner (Err e) l = refl
 
-pub numbered_decodes : {T : Type 0} (ps : Parts) (number : T → ℕ) (inner : T → Tree) (old : State) (r : Result T DecodeError) (new : State) → DecodesNumbered ps number inner old r new
-    → Decodes (choice ps) (λ v. chosen (number v) (inner v)) old r new
-numbered_decodes ps number inner old r new a = choice_read ps (subst (λ o. DecodesExactly (ReadsNumbered 0 ps) old o new) (counted number inner r new.rest) (a.from 0))
+pub numbered_decodes : {T : Type 0} (extensible : Bool) (ps : Parts) (number : T → ℕ) (inner : T → Tree) (old : State) (r : Result T DecodeError) (new : State) → DecodesNumbered extensible ps number inner old r new
+    → Decodes (choice_by extensible ps) (λ v. chosen (number v) (inner v)) old r new
+numbered_decodes extensible ps number inner old r new a =
+    choice_by_read extensible ps (subst (λ o. DecodesExactly (ReadsNumberedBy extensible 0 ps) old o new) (counted number inner r new.rest) (a.from 0))

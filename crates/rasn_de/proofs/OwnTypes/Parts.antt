@@ -27,6 +27,7 @@ use Rattle.rasn_de.specs.Outcomes.{Exact, Outcome, Got, refusal, outcome}
 use Rattle.rasn_de.specs.Decodes.{DecodesExactly, Decodes, ReadsParts, DecodesParts}
 use Rattle.rasn_de.specs.Optional.{ReadsDefault, DecodesIfSought, DecodesSoughtOrDefault, no_look, no_default, no_read, not_compared, present}
 use Rattle.rasn_de.specs.PartTypes.{DecodesTree, FailsAtPart, DecodesInParts}
+use Rattle.rasn_de.specs.ValueErrors.{Errors}
 pub use Rattle.rasn_de.specs.PartTypes.{OnePart}
 use Rattle.rasn_de.proofs.Leaves.Returns.{residual}
 use Rattle.rasn_de.proofs.Leaves.Outcomes.{Exact-refusal}
@@ -144,9 +145,10 @@ pub refused : {X : Type 0} {R : Codec → ℕ → Bool → Reading Tree} {old ne
 refused {X} {R} {old} {new} tree r e h a = subst (λ z. DecodesExactly R old (outcome tree z new.rest) new) (sym (residual r h)) a
 
 -- Parts are read, or the first that isn't is known.
-pub in_parts : {D : Type 0} (ps : Parts) (tree : D → Tree) (old : State) (r : Result D DecodeError) (new : State) → DecodesParts ps tree old r new → IfErr r (λ e. FailsAtPart ps old e new) → DecodesInParts ps tree old r new
-in_parts ps tree old (Ok v) new a f = a
-in_parts ps tree old (Err e) new a f = f
+pub in_parts : {D : Type 0} (ps : Parts) (tree : D → Tree) (errors : Errors) (old : State) (r : Result D DecodeError) (new : State)
+    → DecodesParts ps tree old r new → IfErr r (λ e. FailsAtPart ps old e new) → IfErr r (λ e. errors old e new) → DecodesInParts ps tree errors old r new
+in_parts ps tree errors old (Ok v) new a f x = a
+in_parts ps tree errors old (Err e) new a f x = (f, x)
 
 -- What a reading closure has to keep by any calls: each one keeps it, and so do two, one after the other.
 pub call_keeps : {R : Codec → ℕ → Bool → Reading Tree} {o : Outcome} {old new : State} → DecodesExactly R old o new → Keeps old new

@@ -1,5 +1,5 @@
 -- The parts of a SET as types: components are read one by one, each is put into the slot of its part, and the parts are gathered.
-use Rattle.std.proofs.Common.{◌≡◌, ◌≢◌, ℕ, zero, suc, ◌+◌, ◌-◌, ◌<◌, ◌⊎◌, inl, inr, Bool, List, [], ◌∷◌, ◌++◌, map, length, Option, Some, None, Result, Ok, Err, refl, sym, ap, ◌∙◌, subst, append_assoc, arith}
+use Rattle.std.proofs.Common.{◌≡◌, ◌≢◌, ℕ, zero, suc, ◌+◌, ◌-◌, ◌<◌, ◌⊎◌, inl, inr, Bool, false, List, [], ◌∷◌, ◌++◌, map, length, Option, Some, None, Result, Ok, Err, refl, sym, ap, ◌∙◌, subst, append_assoc, arith}
 use Rattle.std.specs.Option.{option_or}
 use Rattle.std.specs.Borrow.{Bor}
 use Rattle.rasn_types.specs.declared.types.codec.Codec.{Codec}
@@ -26,6 +26,7 @@ use Rattle.rasn_de.specs.Steps.{IsErrorOf}
 use Rattle.rasn_de.specs.SequenceOf.{DecodesInTurnFrom, RefusesElement}
 use Rattle.rasn_de.specs.Set.{FailsAtComponent, not_read, DecodesIntoSlots, DecodesSetContents, AreParts, MakesSet, PeeksInOrder}
 use Rattle.rasn_de.specs.AlternativeTypes.{ReadsNumbered, FailsAtAlternative}
+use Rattle.rasn_de.specs.ValueErrors.{Errors}
 use Rattle.rasn_de.specs.SetPartTypes.{held_tree, text, name_at, IsPart, AreEmpty, IsFilled, IsPlacedAt, ReadsPartAt, RefusesPart, IsPlaced, IsOrDefault, DecodesPlaced, DecodesNext, AreGathered, IsGathered, LacksSlot, IsLackOf, HasGap, MakesParts, AreOnce, RepeatsFirst, LacksFirst, MakesOfReadings, LeavesGap, MakesNamed, DecodesOneOf, DecodesSetPartContents, DecodesNamedContents}
 use Rattle.rasn_de.proofs.Leaves.Outcomes.{Exact-none}
 use Rattle.rasn_de.proofs.Headers.Tags.{Tagged, tagged_order, look_refused, look_follows, look_kept}
@@ -63,10 +64,10 @@ module _ (p : Presence) (s : Shape) (ps : Parts) (tag t : Tag) (h : tag ≡ t) (
 module _ (p : Presence) (s : Shape) (ps : Parts) (names more : List (List ℕ)) (behind : (k : ℕ) → name_at more k ≡ name_at names (suc k)) (tag t : Tag) (not_this : tag ≡ t → ⊥) (e : own s ≡ Some t) (old new : State) (n : NextTag (form old.rule) old.rest tag) where
   pub placed_other : (h : Option Tree) (before held : List (Option Tree)) (r : Result (Option (Bor (List ℕ))) DecodeError) → DecodesPlaced ps more before old r new held
       → DecodesPlaced (part p s ps) names (h ∷ before) old r new (h ∷ held)
-  placed_other h before held (Ok None) (k, u, c, a) = (suc k, u, (held, refl, c), record { from = λ j. others_got p s ps tag t not_this e old new n j k u (a.from (suc j)) })
+  placed_other h before held (Ok None) (k, u, c, a) = (suc k, u, (held, refl, c), record { from = λ j. others_got p s ps tag t not_this e old new n false j k u (a.from (suc j)) })
   placed_other h before held (Ok (Some x)) (k, u, c, f, m, a) =
-      (suc k, u, c, ap (λ z. h ∷ z) f, m ∙ behind k, record { from = λ j. others_got p s ps tag t not_this e old new n j k u (a.from (suc j)) })
-  placed_other h before held (Err x) a = record { from = λ j. others_read p s ps tag t not_this e old new n j (refusal x.kind) (a.from (suc j)) }
+      (suc k, u, c, ap (λ z. h ∷ z) f, m ∙ behind k, record { from = λ j. others_got p s ps tag t not_this e old new n false j k u (a.from (suc j)) })
+  placed_other h before held (Err x) a = record { from = λ j. others_read p s ps tag t not_this e old new n false j (refusal x.kind) (a.from (suc j)) }
 
 -- It is refused as one of the others.
 pub others_fail : {X : Type 0} (p : Presence) (s : Shape) (ps : Parts) (name : List ℕ) (tag : Tag) (old new : State) (r : Result X DecodeError) → (own s ≡ Some tag → ⊥) → IfErr r (λ e. FailsAtAlternative ps name tag old e new)
@@ -83,9 +84,9 @@ placed_decodes ps k u old new a =
 pub next_refused : (ps : Parts) (old new : State) (e : DecodeError) → RefusesPart ps e old new → RefusesElement (Decodes (choice ps) (λ (t : Tree). t)) old e new
 next_refused ps old new e a = inl (choice_read ps (a.from 0))
 
-pub named_refused : (ps : Parts) (name : List ℕ) (tag : Tag) (old new : State) (e : DecodeError) → NextTag (form old.rule) old.rest tag → RefusesPart ps e old new → FailsAtAlternative ps name tag old e new
-    → RefusesElement (DecodesOneOf ps name) old e new
-named_refused ps name tag old new e n a f = inl (choice_read ps (a.from 0), inr (tag, n, f))
+pub named_refused : (ps : Parts) (name : List ℕ) (errors : Tag → Errors) (tag : Tag) (old new : State) (e : DecodeError) → NextTag (form old.rule) old.rest tag → RefusesPart ps e old new → FailsAtAlternative ps name tag old e new
+    → errors tag old e new → RefusesElement (DecodesOneOf ps name errors) old e new
+named_refused ps name errors tag old new e n a f x = inl (choice_read ps (a.from 0), (inr (tag, n, f), inr (tag, n, x)))
 
 module _ (ps : Parts) (names : List (List ℕ)) (before held : List (Option Tree)) (old new : State) where
   pub next_read : (r : Option (Bor (List ℕ))) → DecodesPlaced ps names before old (Ok r) new held → length new.rest ≢ length old.rest → DecodesNext ps names before old (Ok r) new held
@@ -103,16 +104,16 @@ module _ (ps : Parts) (names : List (List ℕ)) (before held : List (Option Tree
   next_takes_nothing None (k, u, c, a) = took_nothing k u a
   next_takes_nothing (Some x) (k, u, c, f, m, a) = took_nothing k u a
 
-  named_takes_nothing_at : (name : List ℕ) (k : ℕ) (u : Tree) → ReadsPartAt ps k u old new → length new.rest ≡ length old.rest → (left : ℕ) → left ≡ length old.rest → (e : DecodeError)
-      → IsErrorOf (UnexpectedExtraData left) new e → RefusesElement (DecodesOneOf ps name) old e new
-  named_takes_nothing_at name k u a n left f e w =
+  named_takes_nothing_at : (name : List ℕ) (errors : Tag → Errors) (k : ℕ) (u : Tree) → ReadsPartAt ps k u old new → length new.rest ≡ length old.rest → (left : ℕ) → left ≡ length old.rest → (e : DecodeError)
+      → IsErrorOf (UnexpectedExtraData left) new e → RefusesElement (DecodesOneOf ps name errors) old e new
+  named_takes_nothing_at name errors k u a n left f e w =
       let d = placed_decodes ps k u old new a in
       inr (chosen k u, (d, tt), (n, rules_same old new (UnexpectedExtraData (length old.rest)) e (call_keeps d) (subst (λ m. IsErrorOf (UnexpectedExtraData m) new e) f w)))
 
-  pub named_takes_nothing : (name : List ℕ) (r : Option (Bor (List ℕ))) → DecodesPlaced ps names before old (Ok r) new held → length new.rest ≡ length old.rest → (left : ℕ) → left ≡ length old.rest → (e : DecodeError)
-      → IsErrorOf (UnexpectedExtraData left) new e → RefusesElement (DecodesOneOf ps name) old e new
-  named_takes_nothing name None (k, u, c, a) = named_takes_nothing_at name k u a
-  named_takes_nothing name (Some x) (k, u, c, f, m, a) = named_takes_nothing_at name k u a
+  pub named_takes_nothing : (name : List ℕ) (errors : Tag → Errors) (r : Option (Bor (List ℕ))) → DecodesPlaced ps names before old (Ok r) new held → length new.rest ≡ length old.rest → (left : ℕ) → left ≡ length old.rest → (e : DecodeError)
+      → IsErrorOf (UnexpectedExtraData left) new e → RefusesElement (DecodesOneOf ps name errors) old e new
+  named_takes_nothing name errors None (k, u, c, a) = named_takes_nothing_at name errors k u a
+  named_takes_nothing name errors (Some x) (k, u, c, f, m, a) = named_takes_nothing_at name errors k u a
 
   -- The rules stay.
   pub placed_rules : (r : Option (Bor (List ℕ))) → DecodesPlaced ps names before old (Ok r) new held → new.rule ≡ old.rule
@@ -379,23 +380,23 @@ module _ (ps : Parts) (names : List (List ℕ)) where
     one_twice x k e w = made_exact (Err e) (made_twice x k e w)
 
 -- The same of components that are each read as one of the parts.
-module _ {D : Type 0} (ps : Parts) (tree : D → Tree) (name : List ℕ) (names : List (List ℕ)) where
-  turn_named : (old here : State) (vs : List Tree) (bs : List (List ℕ)) → DecodesInTurnFrom (Read ps names) old vs bs here → DecodesInTurnFrom (DecodesOneOf ps name) old vs bs here
+module _ {D : Type 0} (ps : Parts) (tree : D → Tree) (name : List ℕ) (names : List (List ℕ)) (errors : Tag → Errors) where
+  turn_named : (old here : State) (vs : List Tree) (bs : List (List ℕ)) → DecodesInTurnFrom (Read ps names) old vs bs here → DecodesInTurnFrom (DecodesOneOf ps name errors) old vs bs here
   turn_named old here [] bs p = p
   turn_named old here (v ∷ vs) bs (b, more, next, e, f, d, r, n, p) = (b, more, next, e, f, d, (r, tt), n, turn_named next here vs more p)
 
-  pub made_named : (old here : State) (r : Result D DecodeError) → Made ps names tree old here r → DecodesNamedContents ps tree name names old r here
-  made_named old here r (fields, (bs, (p, o), n), m) = made_contents (MakesNamed ps tree names old.rule) old here r (DecodesOneOf ps name) (fields, (bs, (turn_named old here fields bs p, o), n), m)
+  pub made_named : (old here : State) (r : Result D DecodeError) → Made ps names tree old here r → DecodesNamedContents ps tree name names errors old r here
+  made_named old here r (fields, (bs, (p, o), n), m) = made_contents (MakesNamed ps tree names old.rule) old here r (DecodesOneOf ps name errors) (fields, (bs, (turn_named old here fields bs p, o), n), m)
 
   module _ (old here : State) (last : Option Tag) (twice : Option (Bor (List ℕ))) (held : List (Option Tree)) (k : ReadTo ps names old here last twice held) where
-    unread_named : (Ended here.closing here.rest → ⊥) → (e : DecodeError) (new : State) → FailsAtComponent (RefusesElement (DecodesOneOf ps name)) k.1 here e new → DecodesNamedContents ps tree name names old (Err e) new
+    unread_named : (Ended here.closing here.rest → ⊥) → (e : DecodeError) (new : State) → FailsAtComponent (RefusesElement (DecodesOneOf ps name errors)) k.1 here e new → DecodesNamedContents ps tree name names errors old (Err e) new
     unread_named n e new f = inl (k.0, k.1, here, (turn_named old here k.0 k.1 k.2, tagged_order old k.1 last k.3), n, f)
 
-    pub untold_named : (Ended here.closing here.rest → ⊥) → (e : DecodeError) → PeeksInOrder last here (Err e) → DecodesNamedContents ps tree name names old (Err e) here
-    untold_named n e p = unread_named n e here (look_refused old here (stays_here ps names old here last twice held k) k.1 last k.3 (RefusesElement (DecodesOneOf ps name)) e p)
+    pub untold_named : (Ended here.closing here.rest → ⊥) → (e : DecodeError) → PeeksInOrder last here (Err e) → DecodesNamedContents ps tree name names errors old (Err e) here
+    untold_named n e p = unread_named n e here (look_refused old here (stays_here ps names old here last twice held k) k.1 last k.3 (RefusesElement (DecodesOneOf ps name errors)) e p)
 
-    pub named_fails : (Ended here.closing here.rest → ⊥) → (found : Option Tag) → PeeksInOrder last here (Ok found) → (e : DecodeError) (new : State) → RefusesElement (DecodesOneOf ps name) here e new
-        → DecodesNamedContents ps tree name names old (Err e) new
+    pub named_fails : (Ended here.closing here.rest → ⊥) → (found : Option Tag) → PeeksInOrder last here (Ok found) → (e : DecodeError) (new : State) → RefusesElement (DecodesOneOf ps name errors) here e new
+        → DecodesNamedContents ps tree name names errors old (Err e) new
     named_fails n found p e new f = unread_named n e new (not_read (look_follows old here (stays_here ps names old here last twice held k) k.1 last k.3 found p) f)
 
 -- A SET is read where its parts are read inside.

@@ -24,21 +24,21 @@
 --
 -- The closure answers `alternative_refused` for each `?` and `alternative_appended` for each `Ok`; the method that hands it over answers
 -- `choice_ok` and `choice_refused`.
-use Rattle.std.proofs.Common.{◌≡◌, ◌<◌, ◌+◌, ℕ, zero, suc, List, [], refl, sym, ap, ◌∙◌, subst, arith, Result, Ok, Err, OnOk, IfErr, inl, inr}
+use Rattle.std.proofs.Common.{◌≡◌, ◌<◌, ◌+◌, ℕ, zero, suc, Bool, true, false, None, List, [], refl, sym, ap, ◌∙◌, subst, arith, Result, Ok, Err, OnOk, IfErr, inl, inr}
 use Rattle.std.proofs.lemmas.Result.{on_ok_weaker, IfErr-weaker, err_from_is_err_and}
 use Rattle.std.specs.Result.{IsErrAnd}
 use Rattle.std.specs.Fn.{FnOnceReturnsAtMut}
-use Rattle.rasn_types.specs.Shapes.{Shape, Tree, chosen, choice, Parts, part}
+use Rattle.rasn_types.specs.Shapes.{Shape, Tree, numbers, chosen, any, choice, open_choice, choice_by, Parts, part, count}
 use Rattle.rasn_types.specs.Shapes.Parts.{none}
 use Rattle.rasn_types.specs.Bytes.{Bytes, fields_of, WritesChoice, IsUntaggedOpen, IsUntaggedOpenIn}
 use Rattle.rasn_types.specs.declared.types.codec.Codec.{Codec}
 use Rattle.rasn_types.specs.declared.types.tag.Tag.{Tag}
 use Rattle.rasn_types.specs.declared.error.encode.EncodeError.{EncodeError}
-use Rattle.rasn_types.proofs.Encoding.SameOctets.{other_written}
+use Rattle.rasn_types.proofs.Encoding.SameOctets.{other_written, written_below}
 use Rattle.rasn_enc.specs.View.{View}
 use Rattle.rasn_enc.specs.Encoding.{AppendsEncoding, EncodeFails}
 use Rattle.rasn_enc.specs.Closures.{EncodeClosure, MaySucceed, MayFail}
-use Rattle.rasn_enc.specs.Choice.{IsAlternative, EncodesAlternative}
+use Rattle.rasn_enc.specs.Choice.{IsAlternative, IsAlternativeBy, EncodesAlternative}
 use Rattle.rasn_enc.proofs.OwnTypes.Sequence.{appended-nil}
 
 -- What is written of the alternative is written of the choice, and nothing else is.
@@ -76,6 +76,20 @@ untagged_alone (part presence x ps) j zero n s t e a (inr h) = absurd (other_unt
 untagged_alone (part presence x ps) j (suc k) n s t e a (inl (u, f, h)) = let g : n ≡ j = cc in absurd (omega arith)
 untagged_alone (part presence x ps) j (suc k) n s t e a (inr h) = untagged_alone ps (suc j) k n s t (omega arith) a h
 
+-- The unknown alternative comes after the others.
+alternative_below : (ps : Parts) (k : ℕ) (s : Shape) → IsAlternative ps k s → k < count ps
+alternative_below none k s a = absurd a
+alternative_below (part presence x ps) zero s a = omega arith
+alternative_below (part presence x ps) (suc k) s a = let h = alternative_below ps k s a in omega (arith, h)
+
+not_unknown : (ps : Parts) (k : ℕ) (s : Shape) (t u : Tree) → IsAlternative ps k s → chosen k t ≡ chosen (count ps) u → ⊥
+not_unknown ps k s t u a e = let h = alternative_below ps k s a in let f : k ≡ count ps = cc in omega (arith, h, f)
+
+unknown_alone : (rule : Codec) (ps : Parts) (t : Tree) (b : List ℕ) → WritesChoice 0 (fields_of rule ps) (chosen (count ps) t) b → ⊥
+unknown_alone rule ps t b h =
+    let r = written_below rule ps 0 (chosen (count ps) t) b h in
+    let e = r.2 in let n : count ps ≡ r.0 = cc in let l = r.3 in omega (arith, l, n)
+
 module _ (ps : Parts) (k : ℕ) (s : Shape) (t : Tree) (a : IsAlternative ps k s) (v w : View) where
   pub chosen_encoded : AppendsEncoding s t v w → AppendsEncoding (choice ps) (chosen k t) v w
   unfolding Bytes IsUntaggedOpen
@@ -102,6 +116,36 @@ module _ (ps : Parts) (k : ℕ) (s : Shape) (t : Tree) (a : IsAlternative ps k s
     ];
   }
 
+  -- The same of a CHOICE with an extension marker.
+  pub known_encoded : AppendsEncoding s t v w → AppendsEncoding (open_choice ps) (chosen k t) v w
+  unfolding Bytes IsUntaggedOpen
+  known_encoded h =
+      let c = chosen_encoded h in
+      record {
+        octets = c.octets;
+        defined = inl c.defined;
+        tags = c.tags;
+        heads = c.heads;
+        tagged = λ m b. elim b [ inl n ↦ c.tagged m n | inr n ↦ absurd (not_unknown ps k s t n.0 a n.1) ];
+        appended = c.appended;
+      }
+
+  pub known_refused : (e : EncodeError) → EncodeFails s t v e → EncodeFails (open_choice ps) (chosen k t) v e
+  unfolding Bytes IsUntaggedOpen
+  known_refused e h =
+      let c = chosen_refused e h in
+      record {
+        why = elim c.why [
+          | inl m ↦ inl m
+          | inr (inl n) ↦ inr (inl (record { none = λ octets b. elim b [ inl i ↦ n.none octets i | inr i ↦ not_unknown ps k s t (numbers octets) a i ] }))
+          | inr (inr n) ↦ inr (inr (record {
+            bare = inl n.bare;
+            some = λ octets b. elim b [ inl i ↦ n.some octets i | inr i ↦ absurd (not_unknown ps k s t (numbers octets) a i) ];
+            keeps = n.keeps;
+          }))
+        ];
+      }
+
   -- The alternative is written, and the closure accepts.
   pub alternative_appended : (tag : Tag) → AppendsEncoding s t v w → EncodesAlternative ps (chosen k t) v (Ok tag) w
   alternative_appended tag h = record { keeps = record { octets = h.octets; tags = h.tags; appended = h.appended }; ok = chosen_encoded h; refused = tt }
@@ -114,6 +158,51 @@ module _ (ps : Parts) (k : ℕ) (s : Shape) (t : Tree) (a : IsAlternative ps k s
   alternative_refused r e h i q =
       let x = err_from_is_err_and r q in
       refused_by r e h i (x.1 ∙ ap (λ (y : EncodeError). (let z : Result Tag EncodeError = Err y in z)) x.2)
+
+-- The octets of an unknown alternative are those of an open type without a tag.
+module _ (ps : Parts) (t : Tree) (v w : View) where
+  pub unknown_encoded : AppendsEncoding (any None) t v w → AppendsEncoding (open_choice ps) (chosen (count ps) t) v w
+  unfolding Bytes IsUntaggedOpen
+  unknown_encoded h = record {
+    octets = h.octets;
+    defined = inr (ap (λ u. chosen (count ps) u) h.defined);
+    tags = h.tags;
+    heads = h.heads;
+    tagged = λ m b. h.tagged m tt;
+    appended = h.appended;
+  }
+
+  unknown_is : (b : List ℕ) → chosen (count ps) t ≡ chosen (count ps) (numbers b) → t ≡ numbers b
+  unknown_is b e = cc
+
+  pub unknown_refused : (e : EncodeError) → EncodeFails (any None) t v e → EncodeFails (open_choice ps) (chosen (count ps) t) v e
+  unfolding Bytes IsUntaggedOpen
+  unknown_refused e h = record {
+    why = elim h.why [
+      | inl m ↦ inl m
+      | inr (inl n) ↦ inr (inl (record { none = λ octets b. elim b [ inl i ↦ unknown_alone v.rule ps t octets i | inr i ↦ n.none octets (unknown_is octets i) ] }))
+      | inr (inr n) ↦ inr (inr (record {
+        bare = inr (t, refl);
+        some = λ octets b. elim b [ inl i ↦ absurd (unknown_alone v.rule ps t octets i) | inr i ↦ n.some octets (unknown_is octets i) ];
+        keeps = n.keeps;
+      }))
+    ];
+  }
+
+-- An alternative of a CHOICE with or without an extension marker.
+pub chosen_by_encoded : (extensible : Bool) (ps : Parts) (k : ℕ) (s : Shape) (t : Tree) → IsAlternativeBy extensible ps k s → (v w : View) → AppendsEncoding s t v w → AppendsEncoding (choice_by extensible ps) (chosen k t) v w
+chosen_by_encoded false ps k s t (inl a) v w h = chosen_encoded ps k s t a v w h
+chosen_by_encoded false ps k s t (inr a) v w h = absurd a
+chosen_by_encoded true ps k s t (inl a) v w h = known_encoded ps k s t a v w h
+chosen_by_encoded true ps k s t (inr (e, f)) v w h =
+    subst (λ n. AppendsEncoding (open_choice ps) (chosen n t) v w) (sym e) (unknown_encoded ps t v w (subst (λ z. AppendsEncoding z t v w) f h))
+
+pub chosen_by_refused : (extensible : Bool) (ps : Parts) (k : ℕ) (s : Shape) (t : Tree) → IsAlternativeBy extensible ps k s → (v : View) (e : EncodeError) → EncodeFails s t v e → EncodeFails (choice_by extensible ps) (chosen k t) v e
+chosen_by_refused false ps k s t (inl a) v e h = chosen_refused ps k s t a v v e h
+chosen_by_refused false ps k s t (inr a) v e h = absurd a
+chosen_by_refused true ps k s t (inl a) v e h = known_refused ps k s t a v v e h
+chosen_by_refused true ps k s t (inr (i, f)) v e h =
+    subst (λ n. EncodeFails (open_choice ps) (chosen n t) v e) (sym i) (unknown_refused ps t v v e (subst (λ z. EncodeFails z t v e) f h))
 
 -- For the clause on success.
 pub choice_ok : {F : Type 0} (g : EncodeClosure F Tag) (f : F) (v w : View) (ps : Parts) (tree : Tree) (r : Result (Unit {0}) EncodeError) → OnOk r (MaySucceed g f v w)

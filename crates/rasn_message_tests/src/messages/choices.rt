@@ -4,23 +4,15 @@
 use crate::asserts::{Answer, assert_decodes, decoded};
 use rasn::error::DecodeError;
 use rasn::types::Codec;
-use rasn_ldap::AuthenticationChoice;
 use rasn_messages::cms::SignerIdentifier;
 use rasn_x509::Time;
 
-// A BOOLEAN is neither `simple [0]` nor `sasl [3]` (RFC 4511, 4.2), neither a SEQUENCE nor `[0]`
-// (RFC 5652, 5.3), and not a time (RFC 5280, 4.1).
+// A BOOLEAN is neither a SEQUENCE nor `[0]` (RFC 5652, 5.3), and not a time (RFC 5280, 4.1).
 #[test]
 fn a_boolean_is_no_alternative(rt: HostRuntime) {
     const BOOLEAN: &[u8] = &[0x01, 0x01, 0xFF];
-    const NO_AUTHENTICATION: &str = "NoValidChoice { name: \"AuthenticationChoice\" }";
     const NO_SIGNER: &str = "NoValidChoice { name: \"SignerIdentifier\" }";
     const NO_TIME: &str = "NoValidChoice { name: \"Time\" }";
-    const AUTHENTICATION: &[Answer<'static>] = &[
-        (BOOLEAN, Codec::Ber, NO_AUTHENTICATION),
-        (BOOLEAN, Codec::Cer, NO_AUTHENTICATION),
-        (BOOLEAN, Codec::Der, NO_AUTHENTICATION),
-    ];
     const SIGNER: &[Answer<'static>] = &[
         (BOOLEAN, Codec::Ber, NO_SIGNER),
         (BOOLEAN, Codec::Cer, NO_SIGNER),
@@ -32,7 +24,6 @@ fn a_boolean_is_no_alternative(rt: HostRuntime) {
         (BOOLEAN, Codec::Der, NO_TIME),
     ];
     let alloc = rt.alloc();
-    assert_decodes::<AuthenticationChoice>(&rt, alloc, AUTHENTICATION);
     assert_decodes::<SignerIdentifier>(&rt, alloc, SIGNER);
     assert_decodes::<Time>(&rt, alloc, TIME);
 }

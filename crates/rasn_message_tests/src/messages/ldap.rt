@@ -110,9 +110,10 @@ fn has_unknown_null(message: &LdapMessage) -> bool {
 }
 
 // All SEQUENCEs of LDAP are extensible (RFC 4511, 4): UNBIND, the success of a bind and a control,
-// each with one more component, which is written as it was read.
+// each with one more component, which is written as it was read; and a bind with `[1]`, which is
+// neither `simple [0]` nor `sasl [3]` (4.2).
 #[test]
-fn unknown_components_are_kept(rt: HostRuntime) {
+fn what_is_unknown_is_kept(rt: HostRuntime) {
     const NEWER: &[u8] = &[0x30, 0x07, 0x02, 0x01, 0x03, 0x42, 0x00, 0x05, 0x00];
     const ROWS: &[&[u8]] = &[
         NEWER,
@@ -123,6 +124,9 @@ fn unknown_components_are_kept(rt: HostRuntime) {
         &[
             0x30, 0x0F, 0x02, 0x01, 0x03, 0x42, 0x00, 0xA0, 0x08, 0x30, 0x06, 0x04, 0x01, 0x31,
             0x82, 0x01, 0x05,
+        ],
+        &[
+            0x30, 0x0C, 0x02, 0x01, 0x01, 0x60, 0x07, 0x02, 0x01, 0x03, 0x04, 0x00, 0x81, 0x00,
         ],
     ];
     let alloc = rt.alloc();

@@ -87,6 +87,11 @@ impl<'input> Decoder<'input> {
 }
 
 impl Decode for Any {
+    ghost use Rattle.rasn_de.specs.Any.{DecodesOpenType};
+    ghost use Rattle.rasn_de.specs.ValueErrors.{errors_of};
+
+    ghost errors = { λ tag c. errors_of (DecodesOpenType tag) };
+
     #[tactic(auto, unfolding(rasn_types::specs::Grammar::Reads))]
     fn decode_with_tag_and_constraints(
         decoder: &mut Decoder<'_>,

@@ -53,6 +53,10 @@ impl<'input> Decoder<'input> {
 }
 
 impl Decode for bool {
+    ghost use Rattle.rasn_de.specs.Leaves.{BoolAt, FailsAs};
+
+    ghost errors = { λ tag c old. FailsAs (BoolAt old.rule tag old.rest) old };
+
     #[tactic(auto, unfolding(rasn_types::specs::Grammar::Reads))]
     #[inline(always)]
     fn decode_with_tag_and_constraints(

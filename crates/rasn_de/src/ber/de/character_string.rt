@@ -372,6 +372,12 @@ impl<'input> Decoder<'input> {
 }
 
 impl<S: StringType> Decode for RestrictedString<S> {
+    ghost use Rattle.std.specs.Prelude.{ℕ, List};
+    ghost use Rattle.rasn_de.specs.CharacterString.{ByAlphabet, DecodesString};
+    ghost use Rattle.rasn_de.specs.ValueErrors.{errors_of};
+
+    ghost errors = { λ tag c. errors_of (DecodesString (λ (l : List ℕ). l) (ByAlphabet S.ALPHABET c.size) tag) };
+
     #[inline(always)]
     fn decode_with_tag_and_constraints(
         decoder: &mut Decoder<'_>,
@@ -383,6 +389,12 @@ impl<S: StringType> Decode for RestrictedString<S> {
 }
 
 impl Decode for BmpString {
+    ghost use Rattle.std.specs.Prelude.{ℕ, List};
+    ghost use Rattle.rasn_de.specs.CharacterString.{ByUnits, DecodesString};
+    ghost use Rattle.rasn_de.specs.ValueErrors.{errors_of};
+
+    ghost errors = { λ tag c. errors_of (DecodesString (λ (l : List ℕ). l) (ByUnits c.size) tag) };
+
     fn decode_with_tag_and_constraints(
         decoder: &mut Decoder<'_>,
         tag: Tag,
@@ -393,6 +405,12 @@ impl Decode for BmpString {
 }
 
 impl Decode for String {
+    ghost use Rattle.std.specs.Prelude.{ℕ, List};
+    ghost use Rattle.rasn_de.specs.CharacterString.{ByUtf8, DecodesString};
+    ghost use Rattle.rasn_de.specs.ValueErrors.{errors_of};
+
+    ghost errors = { λ tag c. errors_of (DecodesString (λ (l : List ℕ). l) (ByUtf8 c.size) tag) };
+
     #[inline(always)]
     fn decode_with_tag_and_constraints(
         decoder: &mut Decoder<'_>,

@@ -3,6 +3,7 @@ ghost use Rattle.std.specs.Prelude.{◌≡◌, IfOk, IfErr};
 ghost use Rattle.rasn_de.specs.Decodes.{Decodes};
 ghost use Rattle.rasn_de.specs.Choice.{DecodesChosen};
 ghost use Rattle.rasn_de.specs.Beyond.{got};
+ghost use Rattle.rasn_de.specs.ValueErrors.{DecodesOr};
 
 use crate::ber::de::Decoder;
 use crate::de::DecodeChoice;
@@ -18,7 +19,7 @@ impl<'input> Decoder<'input> {
         &mut self,
         _constraints: &Constraints,
     ) -> Result<D, DecodeError>
-        ensures exact { DecodesChosen (Decodes D.shape D.tree) self.old result self.new }
+        ensures exact { DecodesChosen (DecodesOr D.shape D.tree D.errors) self.old result self.new }
         ensures reads { Decodes D.shape D.tree self.old result self.new }
         ensures beyond { IfOk result (λ v. got D.beyond self.old v self.new) }
         ensures rules { IfErr result (λ e. e.codec ≡ self.old.rule) }

@@ -5,6 +5,7 @@ ghost use Rattle.rasn_de.specs.Decodes.{Decodes};
 ghost use Rattle.rasn_de.specs.Optional.{MakesValue, DecodesSoughtOrDefault, DecodesOrDefault, DecodesOrDefaultAs, DecodesDefault, DecodesDefaultAs, DecodesDefaultChoice};
 ghost use Rattle.rasn_de.specs.Beyond.{got, BeyondDefault, BeyondPrefix};
 ghost use Rattle.rasn_de.specs.Prefix.{DecodesPrefixBy};
+ghost use Rattle.rasn_de.specs.ValueErrors.{DecodesOr};
 
 use crate::ber::de::Decoder;
 use crate::ber::de::parser::ParseError;
@@ -29,7 +30,7 @@ impl<'input> Decoder<'input> {
         default: F,
     ) -> Result<D, DecodeError>
         requires { F.IsAlwaysCallable default }
-        ensures exact { DecodesOrDefault (Decodes D.shape D.tree) D.tree (F.post default) D.TAG self.old result self.new }
+        ensures exact { DecodesOrDefault (DecodesOr D.shape D.tree (D.errors D.TAG D.CONSTRAINTS)) D.tree (F.post default) D.TAG self.old result self.new }
         ensures reads { DecodesDefault D.TAG D.shape D.tree (F.post default) self.old result self.new }
         ensures beyond { IfOk result (λ v. BeyondDefault (got (D.beyond D.TAG)) self.old v self.new) }
         ensures rules { IfErr result (λ e. e.codec ≡ self.old.rule) }
@@ -48,7 +49,7 @@ impl<'input> Decoder<'input> {
         default: F,
     ) -> Result<D, DecodeError>
         requires { F.IsAlwaysCallable default }
-        ensures exact { DecodesOrDefaultAs tag D.CONSTRAINTS D.shape D.tree (F.post default) self.old result self.new }
+        ensures exact { DecodesOrDefaultAs tag D.CONSTRAINTS D.shape D.tree (D.errors tag D.CONSTRAINTS) (F.post default) self.old result self.new }
         ensures reads { DecodesDefaultAs tag D.CONSTRAINTS D.shape D.tree (F.post default) self.old result self.new }
         ensures beyond { IfOk result (λ v. BeyondDefault (got (D.beyond tag)) self.old v self.new) }
         ensures rules { IfErr result (λ e. e.codec ≡ self.old.rule) }
@@ -66,7 +67,7 @@ impl<'input> Decoder<'input> {
         F: FnOnce() -> Result<D, AllocError>,
     >(&mut self, default: F, constraints: &Constraints) -> Result<D, DecodeError>
         requires { F.IsAlwaysCallable default }
-        ensures exact { DecodesOrDefaultAs D.TAG constraints.now D.shape D.tree (F.post default) self.old result self.new }
+        ensures exact { DecodesOrDefaultAs D.TAG constraints.now D.shape D.tree (D.errors D.TAG constraints.now) (F.post default) self.old result self.new }
         ensures reads { DecodesDefaultAs D.TAG constraints.now D.shape D.tree (F.post default) self.old result self.new }
         ensures beyond { IfOk result (λ v. BeyondDefault (got (D.beyond D.TAG)) self.old v self.new) }
         ensures rules { IfErr result (λ e. e.codec ≡ self.old.rule) }
@@ -84,7 +85,7 @@ impl<'input> Decoder<'input> {
         F: FnOnce() -> Result<D, AllocError>,
     >(&mut self, tag: Tag, default: F, constraints: &Constraints) -> Result<D, DecodeError>
         requires { F.IsAlwaysCallable default }
-        ensures exact { DecodesOrDefaultAs tag constraints.now D.shape D.tree (F.post default) self.old result self.new }
+        ensures exact { DecodesOrDefaultAs tag constraints.now D.shape D.tree (D.errors tag constraints.now) (F.post default) self.old result self.new }
         ensures reads { DecodesDefaultAs tag constraints.now D.shape D.tree (F.post default) self.old result self.new }
         ensures beyond { IfOk result (λ v. BeyondDefault (got (D.beyond tag)) self.old v self.new) }
         ensures rules { IfErr result (λ e. e.codec ≡ self.old.rule) }
@@ -114,7 +115,7 @@ impl<'input> Decoder<'input> {
         F: FnOnce() -> Result<D, AllocError>,
     >(&mut self, tag: Tag, default: F) -> Result<D, DecodeError>
         requires { F.IsAlwaysCallable default }
-        ensures exact { DecodesOrDefault (DecodesPrefixBy D.shape D.tree tag) D.tree (F.post default) tag self.old result self.new }
+        ensures exact { DecodesOrDefault (DecodesPrefixBy D.shape D.tree (D.errors D.TAG D.CONSTRAINTS) tag) D.tree (F.post default) tag self.old result self.new }
         ensures shaped { DecodesOrDefault (Decodes (prefix tag D.shape) D.tree) D.tree (F.post default) tag self.old result self.new }
         ensures reads { DecodesDefault tag (prefix tag D.shape) D.tree (F.post default) self.old result self.new }
         ensures beyond { IfOk result (λ v. BeyondDefault (BeyondPrefix (got (D.beyond D.TAG)) tag) self.old v self.new) }
@@ -146,7 +147,7 @@ impl<'input> Decoder<'input> {
         F: FnOnce() -> Result<D, AllocError>,
     >(&mut self, default: F) -> Result<D, DecodeError>
         requires { F.IsAlwaysCallable default }
-        ensures exact { DecodesSoughtOrDefault (Decodes D.shape D.tree) D.tree (F.post default) (any_of (IsFirst D.shape)) self.old result self.new }
+        ensures exact { DecodesSoughtOrDefault (DecodesOr D.shape D.tree (D.errors D.TAG D.CONSTRAINTS)) D.tree (F.post default) (any_of (IsFirst D.shape)) self.old result self.new }
         ensures reads { DecodesDefaultChoice D.shape D.tree (F.post default) self.old result self.new }
         ensures beyond { IfOk result (λ v. BeyondDefault (got (D.beyond D.TAG)) self.old v self.new) }
         ensures rules { IfErr result (λ e. e.codec ≡ self.old.rule) }

@@ -5,6 +5,11 @@ use rasn_types::error::DecodeError;
 use rasn_types::types::{Constraints, Enumerated, Extensible, Tag};
 
 impl<E: Enumerated> Decode for Extensible<E> {
+    ghost use Rattle.rasn_types.specs.Trees.{signed_range};
+    ghost use Rattle.rasn_de.specs.ValueErrors.{integer_errors};
+
+    ghost errors = { integer_errors (λ z. ⊥) 64 (signed_range 64) };
+
     /// Reads a number of an ENUMERATED, whether `E` names it or not.
     ///
     /// # Errors

@@ -6,6 +6,7 @@ ghost use Rattle.rasn_de.specs.Decodes.{Decodes};
 ghost use Rattle.rasn_de.specs.Optional.{DecodesAlways, DecodesIfPresent, DecodesIfPresentAs, DecodesOption, DecodesOptionAs};
 ghost use Rattle.rasn_de.specs.Beyond.{got, BeyondOptional, BeyondPrefix};
 ghost use Rattle.rasn_de.specs.Prefix.{DecodesPrefixBy};
+ghost use Rattle.rasn_de.specs.ValueErrors.{DecodesOr};
 
 use crate::ber::de::Decoder;
 use crate::de::Decode;
@@ -23,7 +24,7 @@ impl<'input> Decoder<'input> {
         tag: Tag,
         _constraints: &Constraints,
     ) -> Result<Option<D>, DecodeError>
-        ensures exact { DecodesIfPresentAs tag D.CONSTRAINTS D.shape D.tree self.old result self.new }
+        ensures exact { DecodesIfPresentAs tag D.CONSTRAINTS D.shape D.tree (D.errors tag D.CONSTRAINTS) self.old result self.new }
         ensures reads { DecodesOptionAs tag D.CONSTRAINTS D.shape D.tree self.old result self.new }
         ensures beyond { IfOk result (λ v. BeyondOptional (got (D.beyond tag)) self.old v self.new) }
         ensures rules { IfErr result (λ e. e.codec ≡ self.old.rule) }
@@ -41,7 +42,7 @@ impl<'input> Decoder<'input> {
         tag: Tag,
         _constraints: &Constraints,
     ) -> Result<Option<D>, DecodeError>
-        ensures exact { DecodesAlways (DecodesPrefixBy D.shape D.tree tag) self.old result self.new }
+        ensures exact { DecodesAlways (DecodesPrefixBy D.shape D.tree (D.errors D.TAG D.CONSTRAINTS) tag) self.old result self.new }
         ensures reads { Decodes (prefix tag D.shape) (option_tree D.tree) self.old result self.new }
         ensures beyond { IfOk result (λ v. BeyondOptional (BeyondPrefix (got (D.beyond D.TAG)) tag) self.old v self.new) }
         ensures rules { IfErr result (λ e. e.codec ≡ self.old.rule) }
@@ -60,7 +61,7 @@ impl<'input> Decoder<'input> {
         const EC: usize,
         D: Decode + Constructed<RC, EC>,
     >(&mut self) -> Result<Option<D>, DecodeError>
-        ensures exact { DecodesIfPresent (Decodes D.shape D.tree) D.TAG self.old result self.new }
+        ensures exact { DecodesIfPresent (DecodesOr D.shape D.tree (D.errors D.TAG D.CONSTRAINTS)) D.TAG self.old result self.new }
         ensures reads { DecodesOption D.TAG D.shape D.tree self.old result self.new }
         ensures beyond { IfOk result (λ v. BeyondOptional (got (D.beyond D.TAG)) self.old v self.new) }
         ensures rules { IfErr result (λ e. e.codec ≡ self.old.rule) }

@@ -41,6 +41,12 @@ impl<'input> Decoder<'input> {
 }
 
 impl<const N: usize> Decode for FixedOctetString<N> {
+    ghost use Rattle.std.specs.Prelude.{ℕ, List};
+    ghost use Rattle.rasn_de.specs.CharacterString.{ByLength, DecodesString};
+    ghost use Rattle.rasn_de.specs.ValueErrors.{errors_of};
+
+    ghost errors = { λ tag c. errors_of (DecodesString (λ (l : List ℕ). l) (ByLength N c.size) tag) };
+
     fn decode_with_tag_and_constraints(
         decoder: &mut Decoder<'_>,
         tag: Tag,
@@ -48,6 +54,7 @@ impl<const N: usize> Decode for FixedOctetString<N> {
     ) -> Result<FixedOctetString<N>, DecodeError>
         ensures reads { Decodes (leaf (fixed N) tag constraints.now) numbers decoder.old result decoder.new }
         ensures exact { DecodesString (λ s. s) (ByLength N constraints.now.size) tag decoder.old result decoder.new }
+        ensures errors { IfErr result (λ e. errors_of (DecodesString (λ (l : List ℕ). l) (ByLength N constraints.now.size) tag) decoder.old e decoder.new) }
         ensures rules { IfErr result (λ e. e.codec ≡ decoder.old.rule) }
     {
         decoder.decode_fixed_octet_string(tag, constraints)

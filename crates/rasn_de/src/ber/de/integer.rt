@@ -110,6 +110,11 @@ impl<'input> Decoder<'input> {
 }
 
 impl Decode for i8 {
+    ghost use Rattle.rasn_types.specs.Trees.{signed_range};
+    ghost use Rattle.rasn_de.specs.ValueErrors.{integer_errors};
+
+    ghost errors = { integer_errors (λ z. ⊥) 8 (signed_range 8) };
+
     #[inline(always)]
     fn decode_with_tag_and_constraints(
         decoder: &mut Decoder<'_>,
@@ -121,6 +126,11 @@ impl Decode for i8 {
 }
 
 impl Decode for i16 {
+    ghost use Rattle.rasn_types.specs.Trees.{signed_range};
+    ghost use Rattle.rasn_de.specs.ValueErrors.{integer_errors};
+
+    ghost errors = { integer_errors (λ z. ⊥) 16 (signed_range 16) };
+
     #[inline(always)]
     fn decode_with_tag_and_constraints(
         decoder: &mut Decoder<'_>,
@@ -132,6 +142,11 @@ impl Decode for i16 {
 }
 
 impl Decode for i32 {
+    ghost use Rattle.rasn_types.specs.Trees.{signed_range};
+    ghost use Rattle.rasn_de.specs.ValueErrors.{integer_errors};
+
+    ghost errors = { integer_errors (λ z. ⊥) 32 (signed_range 32) };
+
     #[inline(always)]
     fn decode_with_tag_and_constraints(
         decoder: &mut Decoder<'_>,
@@ -143,6 +158,11 @@ impl Decode for i32 {
 }
 
 impl Decode for i64 {
+    ghost use Rattle.rasn_types.specs.Trees.{signed_range};
+    ghost use Rattle.rasn_de.specs.ValueErrors.{integer_errors};
+
+    ghost errors = { integer_errors (λ z. ⊥) 64 (signed_range 64) };
+
     #[inline(always)]
     fn decode_with_tag_and_constraints(
         decoder: &mut Decoder<'_>,
@@ -154,6 +174,11 @@ impl Decode for i64 {
 }
 
 impl Decode for i128 {
+    ghost use Rattle.rasn_types.specs.Trees.{signed_range};
+    ghost use Rattle.rasn_de.specs.ValueErrors.{integer_errors};
+
+    ghost errors = { integer_errors (λ z. ⊥) 128 (signed_range 128) };
+
     #[inline(always)]
     fn decode_with_tag_and_constraints(
         decoder: &mut Decoder<'_>,
@@ -165,6 +190,11 @@ impl Decode for i128 {
 }
 
 impl Decode for isize {
+    ghost use Rattle.rasn_types.specs.Trees.{signed_range};
+    ghost use Rattle.rasn_de.specs.ValueErrors.{integer_errors};
+
+    ghost errors = { integer_errors (λ z. ⊥) 64 (signed_range 64) };
+
     #[inline(always)]
     fn decode_with_tag_and_constraints(
         decoder: &mut Decoder<'_>,
@@ -176,6 +206,11 @@ impl Decode for isize {
 }
 
 impl Decode for u8 {
+    ghost use Rattle.rasn_types.specs.Trees.{unsigned_range};
+    ghost use Rattle.rasn_de.specs.ValueErrors.{integer_errors};
+
+    ghost errors = { integer_errors (λ z. ⊥) 8 (unsigned_range 8) };
+
     #[inline(always)]
     fn decode_with_tag_and_constraints(
         decoder: &mut Decoder<'_>,
@@ -187,6 +222,11 @@ impl Decode for u8 {
 }
 
 impl Decode for u16 {
+    ghost use Rattle.rasn_types.specs.Trees.{unsigned_range};
+    ghost use Rattle.rasn_de.specs.ValueErrors.{integer_errors};
+
+    ghost errors = { integer_errors (λ z. ⊥) 16 (unsigned_range 16) };
+
     #[inline(always)]
     fn decode_with_tag_and_constraints(
         decoder: &mut Decoder<'_>,
@@ -198,6 +238,11 @@ impl Decode for u16 {
 }
 
 impl Decode for u32 {
+    ghost use Rattle.rasn_types.specs.Trees.{unsigned_range};
+    ghost use Rattle.rasn_de.specs.ValueErrors.{integer_errors};
+
+    ghost errors = { integer_errors (λ z. ⊥) 32 (unsigned_range 32) };
+
     #[inline(always)]
     fn decode_with_tag_and_constraints(
         decoder: &mut Decoder<'_>,
@@ -209,6 +254,11 @@ impl Decode for u32 {
 }
 
 impl Decode for u64 {
+    ghost use Rattle.rasn_types.specs.Trees.{unsigned_range};
+    ghost use Rattle.rasn_de.specs.ValueErrors.{integer_errors};
+
+    ghost errors = { integer_errors (λ z. ⊥) 64 (unsigned_range 64) };
+
     #[inline(always)]
     fn decode_with_tag_and_constraints(
         decoder: &mut Decoder<'_>,
@@ -220,6 +270,11 @@ impl Decode for u64 {
 }
 
 impl Decode for u128 {
+    ghost use Rattle.rasn_types.specs.Trees.{unsigned_range};
+    ghost use Rattle.rasn_de.specs.ValueErrors.{integer_errors};
+
+    ghost errors = { integer_errors (λ z. ⊥) 128 (unsigned_range 128) };
+
     #[inline(always)]
     fn decode_with_tag_and_constraints(
         decoder: &mut Decoder<'_>,
@@ -231,6 +286,11 @@ impl Decode for u128 {
 }
 
 impl Decode for usize {
+    ghost use Rattle.rasn_types.specs.Trees.{unsigned_range};
+    ghost use Rattle.rasn_de.specs.ValueErrors.{integer_errors};
+
+    ghost errors = { integer_errors (λ z. ⊥) 64 (unsigned_range 64) };
+
     #[inline(always)]
     fn decode_with_tag_and_constraints(
         decoder: &mut Decoder<'_>,
@@ -242,6 +302,12 @@ impl Decode for usize {
 }
 
 impl Decode for Integer {
+    ghost use Rattle.rasn_types.specs.Shapes.{every};
+    ghost use Rattle.rasn_types.specs.Inline.{IsLong};
+    ghost use Rattle.rasn_de.specs.ValueErrors.{integer_errors};
+
+    ghost errors = { integer_errors IsLong 0 every };
+
     #[inline(always)]
     fn decode_with_tag_and_constraints(
         decoder: &mut Decoder<'_>,

@@ -82,6 +82,11 @@ impl<'input> Decoder<'input> {
 }
 
 impl Decode for NamedBits {
+    ghost use Rattle.rasn_de.specs.NamedBits.{DecodesNamedBits};
+    ghost use Rattle.rasn_de.specs.ValueErrors.{errors_of};
+
+    ghost errors = { λ tag c. errors_of (DecodesNamedBits tag c) };
+
     #[tactic(auto, unfolding(rasn_types::specs::Grammar::Reads))]
     fn decode_with_tag_and_constraints(
         decoder: &mut Decoder<'_>,

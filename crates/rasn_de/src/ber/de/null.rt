@@ -38,6 +38,11 @@ impl<'input> Decoder<'input> {
 }
 
 impl Decode for () {
+    ghost use Rattle.rasn_de.specs.Leaves.{FailsAs};
+    ghost use Rattle.rasn_de.specs.Enumerated.{NullAt};
+
+    ghost errors = { λ tag c old. FailsAs (NullAt old.rule tag old.rest) old };
+
     #[tactic(auto, unfolding(rasn_types::specs::Grammar::Reads))]
     fn decode_with_tag_and_constraints(
         decoder: &mut Decoder<'_>,

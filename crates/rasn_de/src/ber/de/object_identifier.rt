@@ -86,6 +86,11 @@ impl<'input> Decoder<'input> {
 }
 
 impl Decode for ObjectIdentifier {
+    ghost use Rattle.rasn_de.specs.ObjectIdentifier.{DecodesObjectIdentifier};
+    ghost use Rattle.rasn_de.specs.ValueErrors.{errors_of};
+
+    ghost errors = { λ tag c. errors_of (DecodesObjectIdentifier tag) };
+
     #[tactic(auto, unfolding(rasn_types::specs::Grammar::Reads))]
     #[inline(always)]
     fn decode_with_tag_and_constraints(

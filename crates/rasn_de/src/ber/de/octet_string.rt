@@ -89,6 +89,12 @@ impl<'input> Decoder<'input> {
 }
 
 impl Decode for OctetString {
+    ghost use Rattle.std.specs.Prelude.{ℕ, List};
+    ghost use Rattle.rasn_de.specs.CharacterString.{BySize, DecodesString};
+    ghost use Rattle.rasn_de.specs.ValueErrors.{errors_of};
+
+    ghost errors = { λ tag c. errors_of (DecodesString (λ (l : List ℕ). l) (BySize c.size) tag) };
+
     #[tactic(auto, unfolding(rasn_types::specs::Grammar::Reads))]
     #[inline(always)]
     fn decode_with_tag_and_constraints(

@@ -4,6 +4,7 @@ ghost use Rattle.rasn_types.specs.Shapes.{prefix, IsFirst, any_of};
 ghost use Rattle.rasn_de.specs.Decodes.{Decodes};
 ghost use Rattle.rasn_de.specs.Optional.{NextIs, NextTagIs, DecodesIfSought, DecodesIfPresent, DecodesIfPresentAs, DecodesOption, DecodesOptionAs, DecodesOptionalChoice};
 ghost use Rattle.rasn_de.specs.Prefix.{DecodesPrefixBy};
+ghost use Rattle.rasn_de.specs.ValueErrors.{DecodesOr};
 ghost use Rattle.rasn_de.specs.Beyond.{got, BeyondOptional, BeyondPrefix};
 
 use crate::ber::de::Decoder;
@@ -46,7 +47,7 @@ impl<'input> Decoder<'input> {
     /// # Errors
     /// An error in the next identifier, which consumes nothing, or the error of the value.
     pub fn decode_optional<D: Decode>(&mut self) -> Result<Option<D>, DecodeError>
-        ensures exact { DecodesIfPresent (Decodes D.shape D.tree) D.TAG self.old result self.new }
+        ensures exact { DecodesIfPresent (DecodesOr D.shape D.tree (D.errors D.TAG D.CONSTRAINTS)) D.TAG self.old result self.new }
         ensures reads { DecodesOption D.TAG D.shape D.tree self.old result self.new }
         ensures beyond { IfOk result (λ v. BeyondOptional (got (D.beyond D.TAG)) self.old v self.new) }
         ensures rules { IfErr result (λ e. e.codec ≡ self.old.rule) }
@@ -63,7 +64,7 @@ impl<'input> Decoder<'input> {
         &mut self,
         tag: Tag,
     ) -> Result<Option<D>, DecodeError>
-        ensures exact { DecodesIfPresentAs tag D.CONSTRAINTS D.shape D.tree self.old result self.new }
+        ensures exact { DecodesIfPresentAs tag D.CONSTRAINTS D.shape D.tree (D.errors tag D.CONSTRAINTS) self.old result self.new }
         ensures reads { DecodesOptionAs tag D.CONSTRAINTS D.shape D.tree self.old result self.new }
         ensures beyond { IfOk result (λ v. BeyondOptional (got (D.beyond tag)) self.old v self.new) }
         ensures rules { IfErr result (λ e. e.codec ≡ self.old.rule) }
@@ -80,7 +81,7 @@ impl<'input> Decoder<'input> {
         &mut self,
         constraints: &Constraints,
     ) -> Result<Option<D>, DecodeError>
-        ensures exact { DecodesIfPresentAs D.TAG constraints.now D.shape D.tree self.old result self.new }
+        ensures exact { DecodesIfPresentAs D.TAG constraints.now D.shape D.tree (D.errors D.TAG constraints.now) self.old result self.new }
         ensures reads { DecodesOptionAs D.TAG constraints.now D.shape D.tree self.old result self.new }
         ensures beyond { IfOk result (λ v. BeyondOptional (got (D.beyond D.TAG)) self.old v self.new) }
         ensures rules { IfErr result (λ e. e.codec ≡ self.old.rule) }
@@ -99,7 +100,7 @@ impl<'input> Decoder<'input> {
         tag: Tag,
         constraints: &Constraints,
     ) -> Result<Option<D>, DecodeError>
-        ensures exact { DecodesIfPresentAs tag constraints.now D.shape D.tree self.old result self.new }
+        ensures exact { DecodesIfPresentAs tag constraints.now D.shape D.tree (D.errors tag constraints.now) self.old result self.new }
         ensures reads { DecodesOptionAs tag constraints.now D.shape D.tree self.old result self.new }
         ensures beyond { IfOk result (λ v. BeyondOptional (got (D.beyond tag)) self.old v self.new) }
         ensures rules { IfErr result (λ e. e.codec ≡ self.old.rule) }
@@ -121,7 +122,7 @@ impl<'input> Decoder<'input> {
         &mut self,
         tag: Tag,
     ) -> Result<Option<D>, DecodeError>
-        ensures exact { DecodesIfPresent (DecodesPrefixBy D.shape D.tree tag) tag self.old result self.new }
+        ensures exact { DecodesIfPresent (DecodesPrefixBy D.shape D.tree (D.errors D.TAG D.CONSTRAINTS) tag) tag self.old result self.new }
         ensures reads { DecodesOption tag (prefix tag D.shape) D.tree self.old result self.new }
         ensures beyond { IfOk result (λ v. BeyondOptional (BeyondPrefix (got (D.beyond D.TAG)) tag) self.old v self.new) }
         ensures rules { IfErr result (λ e. e.codec ≡ self.old.rule) }
@@ -141,7 +142,7 @@ impl<'input> Decoder<'input> {
     pub fn decode_optional_choice<D: Decode + FirstTags>(
         &mut self,
     ) -> Result<Option<D>, DecodeError>
-        ensures exact { DecodesIfSought (Decodes D.shape D.tree) (any_of (IsFirst D.shape)) self.old result self.new }
+        ensures exact { DecodesIfSought (DecodesOr D.shape D.tree (D.errors D.TAG D.CONSTRAINTS)) (any_of (IsFirst D.shape)) self.old result self.new }
         ensures reads { DecodesOptionalChoice D.shape D.tree self.old result self.new }
         ensures beyond { IfOk result (λ v. BeyondOptional (got (D.beyond D.TAG)) self.old v self.new) }
         ensures rules { IfErr result (λ e. e.codec ≡ self.old.rule) }
@@ -157,8 +158,12 @@ impl<'input> Decoder<'input> {
 impl<T: Decode> Decode for Option<T> {
     ghost use Rattle.rasn_de.specs.Beyond.{got, BeyondOptional};
     ghost use Rattle.std.specs.Prelude.{IfOk};
+    ghost use Rattle.rasn_de.specs.Optional.{DecodesIfPresentAs};
+    ghost use Rattle.rasn_de.specs.ValueErrors.{errors_of};
 
     ghost beyond = { λ tag old result new. IfOk result (λ v. BeyondOptional (got (T.beyond tag)) old v new) };
+
+    ghost errors = { λ tag c. errors_of (DecodesIfPresentAs tag c T.shape T.tree (T.errors tag c)) };
 
     fn decode_with_tag_and_constraints(
         decoder: &mut Decoder<'_>,

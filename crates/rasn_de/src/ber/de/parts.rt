@@ -21,6 +21,7 @@ pub trait DecodeParts: Drop {
     ghost use Rattle.std.specs.Prelude.{Bool};
     ghost use Rattle.rasn_types.specs.Shapes.{Parts, Tree};
     ghost use Rattle.rasn_de.specs.State.{State};
+    ghost use Rattle.rasn_de.specs.ValueErrors.{Errors};
 
     ghost parts: { Parts };
 
@@ -28,6 +29,9 @@ pub trait DecodeParts: Drop {
 
     /// What the parts keep of their octets beyond their trees.
     ghost beyond: { State → Self → State → Type 0 } = { λ _ _ _. Unit {0} };
+
+    /// Which errors a call that reads the parts has, besides what `fails` says.
+    ghost errors: { Errors } = { λ _ _ _. Unit {0} };
 
     /// Whether each part that may be left out is looked for by its own tag, unless it is a CHOICE
     /// that is looked for by its first tags.
@@ -41,6 +45,7 @@ pub trait DecodeParts: Drop {
         requires { tags_agree ≡ true }
         ensures reads { DecodesParts parts tree decoder.old result decoder.new }
         ensures fails { IfErr result (λ e. FailsAtPart parts decoder.old e decoder.new) }
+        ensures errors { IfErr result (λ e. errors decoder.old e decoder.new) }
         ensures beyond { IfOk result (λ v. beyond decoder.old v decoder.new) }
         ensures rules { IfErr result (λ e. e.codec ≡ decoder.old.rule) };
 }
@@ -86,6 +91,8 @@ impl DecodeParts for End {
 
     ghost tree = { λ e. done };
 
+    ghost errors = { λ _ _ _. ⊥ };
+
     ghost tags_agree = { true };
 
     #[inline(always)]
@@ -97,12 +104,15 @@ impl DecodeParts for End {
 impl<A: Decode, R: DecodeParts> DecodeParts for Required<A, R> {
     ghost use Rattle.rasn_de.specs.Beyond.{got, BeyondPart};
     ghost use Rattle.rasn_types.specs.Shapes.{part, required, joined};
+    ghost use Rattle.rasn_de.specs.PartTypes.{IsErrorOfParts};
 
     ghost parts = { part required A.shape R.parts };
 
     ghost tree = { λ p. joined (A.tree p.0) (R.tree p.1) };
 
     ghost beyond = { λ old p new. BeyondPart required A.shape A.tree (got (A.beyond A.TAG)) R.beyond old p.0 p.1 new };
+
+    ghost errors = { IsErrorOfParts required A.shape (A.errors A.TAG A.CONSTRAINTS) R.errors };
 
     ghost tags_agree = { R.tags_agree };
 
@@ -119,13 +129,17 @@ impl<A: Decode, R: DecodeParts> DecodeParts for Optional<A, R> {
     ghost use Rattle.std.specs.Prelude.{◌&&◌};
     ghost use Rattle.rasn_types.specs.Shapes.{part, optional, joined};
     ghost use Rattle.rasn_types.specs.Trees.{option_tree};
-    ghost use Rattle.rasn_de.specs.PartTypes.{is_looked_for};
+    ghost use Rattle.rasn_de.specs.PartTypes.{is_looked_for, IsErrorOfParts};
+    ghost use Rattle.rasn_de.specs.Optional.{DecodesIfPresent};
+    ghost use Rattle.rasn_de.specs.ValueErrors.{errors_of, DecodesOr};
 
     ghost parts = { part optional A.shape R.parts };
 
     ghost tree = { λ p. joined (option_tree A.tree p.0) (R.tree p.1) };
 
     ghost beyond = { λ old p new. BeyondPart optional A.shape (option_tree A.tree) (BeyondOptional (got (A.beyond A.TAG))) R.beyond old p.0 p.1 new };
+
+    ghost errors = { IsErrorOfParts optional A.shape (errors_of (DecodesIfPresent (DecodesOr A.shape A.tree (A.errors A.TAG A.CONSTRAINTS)) A.TAG)) R.errors };
 
     ghost tags_agree = { is_looked_for A.shape A.TAG && R.tags_agree };
 
@@ -138,14 +152,19 @@ impl<A: Decode, R: DecodeParts> DecodeParts for Optional<A, R> {
 
 impl<A: Decode + FirstTags, R: DecodeParts> DecodeParts for OptionalChoice<A, R> {
     ghost use Rattle.rasn_de.specs.Beyond.{got, BeyondOptional, BeyondPart};
-    ghost use Rattle.rasn_types.specs.Shapes.{part, optional_choice, joined};
+    ghost use Rattle.rasn_types.specs.Shapes.{part, optional_choice, joined, IsFirst, any_of};
     ghost use Rattle.rasn_types.specs.Trees.{option_tree};
+    ghost use Rattle.rasn_de.specs.Optional.{DecodesIfSought};
+    ghost use Rattle.rasn_de.specs.PartTypes.{IsErrorOfParts};
+    ghost use Rattle.rasn_de.specs.ValueErrors.{errors_of, DecodesOr};
 
     ghost parts = { part optional_choice A.shape R.parts };
 
     ghost tree = { λ p. joined (option_tree A.tree p.0) (R.tree p.1) };
 
     ghost beyond = { λ old p new. BeyondPart optional_choice A.shape (option_tree A.tree) (BeyondOptional (got (A.beyond A.TAG))) R.beyond old p.0 p.1 new };
+
+    ghost errors = { IsErrorOfParts optional_choice A.shape (errors_of (DecodesIfSought (DecodesOr A.shape A.tree (A.errors A.TAG A.CONSTRAINTS)) (any_of (IsFirst A.shape)))) R.errors };
 
     ghost tags_agree = { R.tags_agree };
 
@@ -161,15 +180,19 @@ where
     V::Value: Decode,
 {
     ghost use Rattle.rasn_de.specs.Beyond.{got, BeyondDefault, BeyondPart};
-    ghost use Rattle.std.specs.Prelude.{◌&&◌};
+    ghost use Rattle.std.specs.Prelude.{◌&&◌, ◌≡◌, IfOk};
     ghost use Rattle.rasn_types.specs.Shapes.{part, default, joined};
-    ghost use Rattle.rasn_de.specs.PartTypes.{is_looked_for};
+    ghost use Rattle.rasn_de.specs.PartTypes.{is_looked_for, IsErrorOfParts};
+    ghost use Rattle.rasn_de.specs.Optional.{DecodesOrDefault};
+    ghost use Rattle.rasn_de.specs.ValueErrors.{errors_of, DecodesOr};
 
     ghost parts = { part (default V.default_tree) V.Value.shape R.parts };
 
     ghost tree = { λ p. joined (V.Value.tree p.0) (R.tree p.1) };
 
     ghost beyond = { λ old p new. BeyondPart (default V.default_tree) V.Value.shape V.Value.tree (BeyondDefault (got (V.Value.beyond V.Value.TAG))) R.beyond old p.0 p.1 new };
+
+    ghost errors = { IsErrorOfParts (default V.default_tree) V.Value.shape (errors_of (DecodesOrDefault (DecodesOr V.Value.shape V.Value.tree (V.Value.errors V.Value.TAG V.Value.CONSTRAINTS)) V.Value.tree (λ made. IfOk made (λ v. V.Value.tree v ≡ V.default_tree)) V.Value.TAG)) R.errors };
 
     ghost tags_agree = { is_looked_for V.Value.shape V.Value.TAG && R.tags_agree };
 
@@ -190,13 +213,19 @@ where
     V::Value: Decode + FirstTags,
 {
     ghost use Rattle.rasn_de.specs.Beyond.{got, BeyondDefault, BeyondPart};
-    ghost use Rattle.rasn_types.specs.Shapes.{part, default_choice, joined};
+    ghost use Rattle.rasn_types.specs.Shapes.{part, default_choice, joined, IsFirst, any_of};
+    ghost use Rattle.std.specs.Prelude.{◌≡◌, IfOk};
+    ghost use Rattle.rasn_de.specs.Optional.{DecodesSoughtOrDefault};
+    ghost use Rattle.rasn_de.specs.PartTypes.{IsErrorOfParts};
+    ghost use Rattle.rasn_de.specs.ValueErrors.{errors_of, DecodesOr};
 
     ghost parts = { part (default_choice V.default_tree) V.Value.shape R.parts };
 
     ghost tree = { λ p. joined (V.Value.tree p.0) (R.tree p.1) };
 
     ghost beyond = { λ old p new. BeyondPart (default_choice V.default_tree) V.Value.shape V.Value.tree (BeyondDefault (got (V.Value.beyond V.Value.TAG))) R.beyond old p.0 p.1 new };
+
+    ghost errors = { IsErrorOfParts (default_choice V.default_tree) V.Value.shape (errors_of (DecodesSoughtOrDefault (DecodesOr V.Value.shape V.Value.tree (V.Value.errors V.Value.TAG V.Value.CONSTRAINTS)) V.Value.tree (λ made. IfOk made (λ v. V.Value.tree v ≡ V.default_tree)) (any_of (IsFirst V.Value.shape)))) R.errors };
 
     ghost tags_agree = { R.tags_agree };
 
@@ -217,15 +246,20 @@ where
     V::Value: Decode,
 {
     ghost use Rattle.rasn_de.specs.Beyond.{got, BeyondDefault, BeyondPart, BeyondPrefix};
-    ghost use Rattle.std.specs.Prelude.{◌&&◌};
+    ghost use Rattle.std.specs.Prelude.{◌&&◌, ◌≡◌, IfOk};
     ghost use Rattle.rasn_types.specs.Shapes.{part, default, prefix, joined};
-    ghost use Rattle.rasn_de.specs.PartTypes.{is_looked_for};
+    ghost use Rattle.rasn_de.specs.PartTypes.{is_looked_for, IsErrorOfParts};
+    ghost use Rattle.rasn_de.specs.Optional.{DecodesOrDefault};
+    ghost use Rattle.rasn_de.specs.Prefix.{DecodesPrefixBy};
+    ghost use Rattle.rasn_de.specs.ValueErrors.{errors_of};
 
     ghost parts = { part (default V.default_tree) (prefix V.Prefix.TAG V.Value.shape) R.parts };
 
     ghost tree = { λ p. joined (V.Value.tree p.0) (R.tree p.1) };
 
     ghost beyond = { λ old p new. BeyondPart (default V.default_tree) (prefix V.Prefix.TAG V.Value.shape) V.Value.tree (BeyondDefault (BeyondPrefix (got (V.Value.beyond V.Value.TAG)) V.Prefix.TAG)) R.beyond old p.0 p.1 new };
+
+    ghost errors = { IsErrorOfParts (default V.default_tree) (prefix V.Prefix.TAG V.Value.shape) (errors_of (DecodesOrDefault (DecodesPrefixBy V.Value.shape V.Value.tree (V.Value.errors V.Value.TAG V.Value.CONSTRAINTS) V.Prefix.TAG) V.Value.tree (λ made. IfOk made (λ v. V.Value.tree v ≡ V.default_tree)) V.Prefix.TAG)) R.errors };
 
     ghost tags_agree = { is_looked_for (prefix V.Prefix.TAG V.Value.shape) V.Prefix.TAG && R.tags_agree };
 
@@ -246,12 +280,15 @@ impl<A: Decode, R: DecodeParts> DecodeParts for Addition<A, R> {
     ghost use Rattle.rasn_de.specs.Beyond.{got, BeyondOptional, BeyondPart};
     ghost use Rattle.rasn_types.specs.Shapes.{part, addition, joined};
     ghost use Rattle.rasn_types.specs.Trees.{option_tree};
+    ghost use Rattle.rasn_de.specs.PartTypes.{IsErrorOfParts};
 
     ghost parts = { part addition A.shape R.parts };
 
     ghost tree = { λ p. joined (option_tree A.tree p.0) (R.tree p.1) };
 
     ghost beyond = { λ old p new. BeyondPart addition A.shape (option_tree A.tree) (BeyondOptional (got (A.beyond A.TAG))) R.beyond old p.0 p.1 new };
+
+    ghost errors = { IsErrorOfParts addition A.shape (A.errors A.TAG A.CONSTRAINTS) R.errors };
 
     ghost tags_agree = { R.tags_agree };
 
@@ -278,7 +315,7 @@ impl<'input> Decoder<'input> {
     pub fn read_sequence<P: DecodeParts>(&mut self, tag: Tag) -> Result<P, DecodeError>
         requires tags_agree { P.tags_agree ≡ true }
         requires no_initializer { needs_no_initializer P.parts ≡ true }
-        ensures exact { DecodesSequenceParts P.parts P.tree tag self.old result self.new }
+        ensures exact { DecodesSequenceParts P.parts P.tree P.errors tag self.old result self.new }
         ensures reads { Decodes (seq tag P.parts) P.tree self.old result self.new }
         ensures beyond { IfOk result (λ v. BeyondInside P.beyond (sequence_header tag) self.old v) }
         ensures rules { IfErr result (λ e. e.codec ≡ self.old.rule) }
@@ -287,7 +324,7 @@ impl<'input> Decoder<'input> {
             ConstructedHeader::sequence(tag),
             |inner| -> Result<P, DecodeError>
                 requires { P.tags_agree ≡ true }
-                ensures exact { DecodesInParts P.parts P.tree inner.old result inner.new }
+                ensures exact { DecodesInParts P.parts P.tree P.errors inner.old result inner.new }
                 ensures reads { DecodesParts P.parts P.tree inner.old result inner.new }
                 ensures rules { IfErr result (λ e. e.codec ≡ inner.old.rule) }
                 ensures beyond { IfOk result (λ v. P.beyond inner.old v inner.new) }

@@ -4,6 +4,7 @@ ghost use Rattle.rasn_types.specs.Shapes.{prefix};
 ghost use Rattle.rasn_de.specs.Decodes.{Decodes};
 ghost use Rattle.rasn_de.specs.Beyond.{got, BeyondPrefix};
 ghost use Rattle.rasn_de.specs.Prefix.{DecodesPrefixBy};
+ghost use Rattle.rasn_de.specs.ValueErrors.{DecodesOr};
 
 use crate::ber::de::Decoder;
 use crate::ber::de::constructed::ConstructedHeader;
@@ -24,7 +25,7 @@ impl<'input> Decoder<'input> {
     /// - Missing end-of-contents octets (`Incomplete`, `MissingEndOfContents`): what was read
     ///   inside is consumed too.
     pub fn decode_explicit_prefix<D: Decode>(&mut self, tag: Tag) -> Result<D, DecodeError>
-        ensures exact { DecodesPrefixBy D.shape D.tree tag self.old result self.new }
+        ensures exact { DecodesPrefixBy D.shape D.tree (D.errors D.TAG D.CONSTRAINTS) tag self.old result self.new }
         ensures reads { Decodes (prefix tag D.shape) D.tree self.old result self.new }
         ensures beyond { IfOk result (λ v. BeyondPrefix (got (D.beyond D.TAG)) tag self.old v self.new) }
         ensures rules { IfErr result (λ e. e.codec ≡ self.old.rule) }
@@ -32,7 +33,7 @@ impl<'input> Decoder<'input> {
         self.inside(
             ConstructedHeader::prefix(tag),
             |inner| -> Result<D, DecodeError>
-                ensures reads { Decodes D.shape D.tree inner.old result inner.new }
+                ensures exact { DecodesOr D.shape D.tree (D.errors D.TAG D.CONSTRAINTS) inner.old result inner.new }
                 ensures rules { IfErr result (λ e. e.codec ≡ inner.old.rule) }
                 ensures beyond { D.beyond D.TAG inner.old result inner.new }
             { D::decode(inner) },
@@ -44,6 +45,8 @@ impl<G: AsnType, T: Decode> Decode for Implicit<G, T> {
     ghost use Rattle.std.specs.Prelude.{IfOk, Ok};
 
     ghost beyond = { λ tag old result new. IfOk result (λ v. T.beyond tag old (Ok v) new) };
+
+    ghost errors = { T.errors };
 
     fn decode_with_tag_and_constraints(
         decoder: &mut Decoder<'_>,
@@ -58,8 +61,12 @@ impl<G: AsnType, T: Decode> Decode for Implicit<G, T> {
 impl<G: AsnType, T: Decode> Decode for Explicit<G, T> {
     ghost use Rattle.std.specs.Prelude.{IfOk};
     ghost use Rattle.rasn_de.specs.Beyond.{got, BeyondPrefix};
+    ghost use Rattle.rasn_de.specs.Prefix.{DecodesPrefixBy};
+    ghost use Rattle.rasn_de.specs.ValueErrors.{errors_of};
 
     ghost beyond = { λ tag old result new. IfOk result (λ v. BeyondPrefix (got (T.beyond T.TAG)) tag old v new) };
+
+    ghost errors = { λ tag c. errors_of (DecodesPrefixBy T.shape T.tree (T.errors T.TAG T.CONSTRAINTS) tag) };
 
     fn decode_with_tag_and_constraints(
         decoder: &mut Decoder<'_>,

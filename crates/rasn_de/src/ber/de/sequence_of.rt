@@ -1,6 +1,6 @@
 //! SEQUENCE OF (X.690 8.10).
 ghost use Rattle.std.specs.Prelude.{◌≡◌, IfOk, IfErr, OnOk};
-ghost use Rattle.rasn_de.specs.Decodes.{Decodes};
+ghost use Rattle.rasn_de.specs.ValueErrors.{DecodesOr};
 ghost use Rattle.rasn_de.specs.Beyond.{Held, BeyondElement, BeyondElements, BeyondInside};
 ghost use Rattle.rasn_de.specs.Constructed.{list_header};
 ghost use Rattle.rasn_de.specs.SequenceOf.{DecodesElement, DecodesElements, DecodesSequenceOfBy, DecodesSequenceOf};
@@ -16,7 +16,7 @@ impl<'input> Decoder<'input> {
     /// Reads one more element, which must consume octets, and appends it to the others.
     #[inline(always)]
     pub(super) fn push_element<D: Decode>(&mut self, values: &mut Vec<D>) -> Result<(), DecodeError>
-        ensures exact { DecodesElement (Decodes D.shape D.tree) self.old values.old.items result self.new values.new.items }
+        ensures exact { DecodesElement (DecodesOr D.shape D.tree (D.errors D.TAG D.CONSTRAINTS)) self.old values.old.items result self.new values.new.items }
         ensures beyond { OnOk result (BeyondElement (Held D.shape D.tree (D.beyond D.TAG)) self.old values.old.items values.new.items self.new) }
         ensures rules { IfErr result (λ e. e.codec ≡ self.old.rule) }
     {
@@ -34,7 +34,7 @@ impl<'input> Decoder<'input> {
     /// Reads elements up to the end of the contents.
     #[inline(always)]
     fn elements<D: Decode>(&mut self) -> Result<Vec<D>, DecodeError>
-        ensures exact { DecodesElements (Decodes D.shape D.tree) (λ v. v.items) self.old result self.new }
+        ensures exact { DecodesElements (DecodesOr D.shape D.tree (D.errors D.TAG D.CONSTRAINTS)) (λ v. v.items) self.old result self.new }
         ensures beyond { IfOk result (λ v. BeyondElements (Held D.shape D.tree (D.beyond D.TAG)) self.old v.items self.new) }
         ensures rules { IfErr result (λ e. e.codec ≡ self.old.rule) }
     {
@@ -62,7 +62,7 @@ impl<'input> Decoder<'input> {
         tag: Tag,
         constraints: &Constraints,
     ) -> Result<Vec<D>, DecodeError>
-        ensures exact { DecodesSequenceOfBy (Decodes D.shape D.tree) tag constraints.now self.old result self.new }
+        ensures exact { DecodesSequenceOfBy (DecodesOr D.shape D.tree (D.errors D.TAG D.CONSTRAINTS)) tag constraints.now self.old result self.new }
         ensures reads { DecodesSequenceOf D.shape D.tree tag constraints.now self.old result self.new }
         ensures beyond { IfOk result (λ v. BeyondInside (BeyondElements (Held D.shape D.tree (D.beyond D.TAG))) (list_header tag) self.old v.items) }
         ensures rules { IfErr result (λ e. e.codec ≡ self.old.rule) }
@@ -70,7 +70,7 @@ impl<'input> Decoder<'input> {
         let values = self.inside(
             ConstructedHeader::list(tag),
             |inner| -> Result<Vec<D>, DecodeError>
-                ensures exact { DecodesElements (Decodes D.shape D.tree) (λ v. v.items) inner.old result inner.new }
+                ensures exact { DecodesElements (DecodesOr D.shape D.tree (D.errors D.TAG D.CONSTRAINTS)) (λ v. v.items) inner.old result inner.new }
                 ensures rules { IfErr result (λ e. e.codec ≡ inner.old.rule) }
                 ensures beyond { IfOk result (λ v. BeyondElements (Held D.shape D.tree (D.beyond D.TAG)) inner.old v.items inner.new) }
             { inner.elements() },
@@ -86,8 +86,12 @@ impl<T: Decode> Decode for Vec<T> {
     ghost use Rattle.std.specs.Prelude.{IfOk};
     ghost use Rattle.rasn_de.specs.Beyond.{Held, BeyondElements, BeyondInside};
     ghost use Rattle.rasn_de.specs.Constructed.{list_header};
+    ghost use Rattle.rasn_de.specs.SequenceOf.{DecodesSequenceOfBy};
+    ghost use Rattle.rasn_de.specs.ValueErrors.{errors_of, DecodesOr};
 
     ghost beyond = { λ tag old result new. IfOk result (λ v. BeyondInside (BeyondElements (Held T.shape T.tree (T.beyond T.TAG))) (list_header tag) old v.items) };
+
+    ghost errors = { λ tag c. errors_of (DecodesSequenceOfBy (DecodesOr T.shape T.tree (T.errors T.TAG T.CONSTRAINTS)) tag c) };
 
     #[inline(always)]
     fn decode_with_tag_and_constraints(

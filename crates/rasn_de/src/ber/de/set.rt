@@ -1,7 +1,7 @@
 //! SET (X.690 8.11).
 ghost use Rattle.std.specs.Prelude.{Vec, ◌≡◌, IfOk, IfErr};
 ghost use Rattle.std.specs.Global.{Global};
-ghost use Rattle.rasn_de.specs.Decodes.{Decodes};
+ghost use Rattle.rasn_de.specs.ValueErrors.{DecodesOr};
 ghost use Rattle.rasn_de.specs.Beyond.{Held, BeyondElements, BeyondInside, BeyondMade};
 ghost use Rattle.rasn_de.specs.Constructed.{sequence_header};
 ghost use Rattle.rasn_de.specs.Set.{IsBelowLast, PeeksInOrder, DecodesComponents, DecodesSetContents, DecodesSetBy, DecodesSet, MakesByRules};
@@ -46,7 +46,7 @@ impl<'input> Decoder<'input> {
     /// Reads components up to the end of the contents. Under DER their tags must be in ascending
     /// order (X.690 10.3).
     fn components<FIELDS: Decode>(&mut self) -> Result<Vec<FIELDS>, DecodeError>
-        ensures exact { DecodesComponents (Decodes FIELDS.shape FIELDS.tree) (λ v. v.items) self.old result self.new }
+        ensures exact { DecodesComponents (DecodesOr FIELDS.shape FIELDS.tree (FIELDS.errors FIELDS.TAG FIELDS.CONSTRAINTS)) (λ v. v.items) self.old result self.new }
         ensures beyond { IfOk result (λ v. BeyondElements (Held FIELDS.shape FIELDS.tree (FIELDS.beyond FIELDS.TAG)) self.old v.items self.new) }
         ensures rules { IfErr result (λ e. e.codec ≡ self.old.rule) }
     {
@@ -82,7 +82,7 @@ impl<'input> Decoder<'input> {
         F: FnOnce(Vec<FIELDS>) -> Result<SET, DecodeError>,
     >(&mut self, tag: Tag, _decode: D, f: F) -> Result<SET, DecodeError>
         requires callable { F.IsAlwaysCallable f }
-        ensures exact { DecodesSetBy (Decodes FIELDS.shape FIELDS.tree) (F.post f) tag self.old result self.new }
+        ensures exact { DecodesSetBy (DecodesOr FIELDS.shape FIELDS.tree (FIELDS.errors FIELDS.TAG FIELDS.CONSTRAINTS)) (F.post f) tag self.old result self.new }
         ensures reads { DecodesSet FIELDS.shape FIELDS.tree (F.post f) SET.parts SET.tree tag self.old result self.new }
         ensures beyond { IfOk result (λ v. BeyondInside (BeyondMade (Held FIELDS.shape FIELDS.tree (FIELDS.beyond FIELDS.TAG)) (F.post f)) (sequence_header tag) self.old v) }
         ensures rules { MakesByRules self.old.rule (F.post f) → IfErr result (λ e. e.codec ≡ self.old.rule) }
@@ -91,7 +91,7 @@ impl<'input> Decoder<'input> {
             ConstructedHeader::sequence(tag),
             |inner| -> Result<SET, DecodeError>
                 requires { F.IsAlwaysCallable f }
-                ensures exact { DecodesSetContents (DecodesComponents (Decodes FIELDS.shape FIELDS.tree) (λ (v : Vec FIELDS Global). v.items)) (F.post f) inner.old result inner.new }
+                ensures exact { DecodesSetContents (DecodesComponents (DecodesOr FIELDS.shape FIELDS.tree (FIELDS.errors FIELDS.TAG FIELDS.CONSTRAINTS)) (λ (v : Vec FIELDS Global). v.items)) (F.post f) inner.old result inner.new }
                 ensures rules { MakesByRules inner.old.rule (F.post f) → IfErr result (λ e. e.codec ≡ inner.old.rule) }
                 ensures beyond { IfOk result (λ v. BeyondMade (Held FIELDS.shape FIELDS.tree (FIELDS.beyond FIELDS.TAG)) (F.post f) inner.old v inner.new) }
             {

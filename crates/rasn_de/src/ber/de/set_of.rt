@@ -1,7 +1,7 @@
 //! SET OF (X.690 8.12).
 ghost use Rattle.std.specs.Prelude.{◌≡◌, ◌++◌, IfOk, IfErr};
 ghost use Rattle.rasn_types.specs.Order.{IsLess};
-ghost use Rattle.rasn_de.specs.Decodes.{Decodes};
+ghost use Rattle.rasn_de.specs.ValueErrors.{DecodesOr};
 ghost use Rattle.rasn_de.specs.Beyond.{Held, BeyondElements, BeyondInside};
 ghost use Rattle.rasn_de.specs.Constructed.{list_header};
 ghost use Rattle.rasn_de.specs.SequenceOf.{DecodesElementsInOrder, DecodesSetOfBy, DecodesSetOf};
@@ -37,7 +37,7 @@ impl<'input> Decoder<'input> {
     /// Reads elements up to the end of the contents. Under DER their octets must be in ascending
     /// order (X.690 11.6).
     fn elements_in_order<D: Decode>(&mut self) -> Result<SetOf<D>, DecodeError>
-        ensures exact { DecodesElementsInOrder (Decodes D.shape D.tree) (λ v. v) self.old result self.new }
+        ensures exact { DecodesElementsInOrder (DecodesOr D.shape D.tree (D.errors D.TAG D.CONSTRAINTS)) (λ v. v) self.old result self.new }
         ensures beyond { IfOk result (λ v. BeyondElements (Held D.shape D.tree (D.beyond D.TAG)) self.old v self.new) }
         ensures rules { IfErr result (λ e. e.codec ≡ self.old.rule) }
     {
@@ -68,7 +68,7 @@ impl<'input> Decoder<'input> {
         tag: Tag,
         constraints: &Constraints,
     ) -> Result<SetOf<D>, DecodeError>
-        ensures exact { DecodesSetOfBy (Decodes D.shape D.tree) tag constraints.now self.old result self.new }
+        ensures exact { DecodesSetOfBy (DecodesOr D.shape D.tree (D.errors D.TAG D.CONSTRAINTS)) tag constraints.now self.old result self.new }
         ensures reads { DecodesSetOf D.shape D.tree tag constraints.now self.old result self.new }
         ensures beyond { IfOk result (λ v. BeyondInside (BeyondElements (Held D.shape D.tree (D.beyond D.TAG))) (list_header tag) self.old v) }
         ensures rules { IfErr result (λ e. e.codec ≡ self.old.rule) }
@@ -76,7 +76,7 @@ impl<'input> Decoder<'input> {
         let values = self.inside(
             ConstructedHeader::list(tag),
             |inner| -> Result<SetOf<D>, DecodeError>
-                ensures exact { DecodesElementsInOrder (Decodes D.shape D.tree) (λ v. v) inner.old result inner.new }
+                ensures exact { DecodesElementsInOrder (DecodesOr D.shape D.tree (D.errors D.TAG D.CONSTRAINTS)) (λ v. v) inner.old result inner.new }
                 ensures rules { IfErr result (λ e. e.codec ≡ inner.old.rule) }
                 ensures beyond { IfOk result (λ v. BeyondElements (Held D.shape D.tree (D.beyond D.TAG)) inner.old v inner.new) }
             { inner.elements_in_order() },
@@ -92,8 +92,12 @@ impl<T: Decode + Eq> Decode for SetOf<T> {
     ghost use Rattle.std.specs.Prelude.{IfOk};
     ghost use Rattle.rasn_de.specs.Beyond.{Held, BeyondElements, BeyondInside};
     ghost use Rattle.rasn_de.specs.Constructed.{list_header};
+    ghost use Rattle.rasn_de.specs.SequenceOf.{DecodesSetOfBy};
+    ghost use Rattle.rasn_de.specs.ValueErrors.{errors_of, DecodesOr};
 
     ghost beyond = { λ tag old result new. IfOk result (λ v. BeyondInside (BeyondElements (Held T.shape T.tree (T.beyond T.TAG))) (list_header tag) old v) };
+
+    ghost errors = { λ tag c. errors_of (DecodesSetOfBy (DecodesOr T.shape T.tree (T.errors T.TAG T.CONSTRAINTS)) tag c) };
 
     fn decode_with_tag_and_constraints(
         decoder: &mut Decoder<'_>,

@@ -26,6 +26,8 @@ use std::alloc::AllocError;
 /// and [`Defaulted`], each with those after it, and [`End`] after the last.
 pub trait DecodeSetParts: Drop {
     ghost use Rattle.std.specs.Prelude.{Bool, List, Option};
+    ghost use Rattle.rasn_types.specs.declared.types.tag.Tag.{Tag};
+    ghost use Rattle.rasn_de.specs.ValueErrors.{Errors};
     ghost use Rattle.rasn_types.specs.Shapes.{Parts, Tree};
     ghost use Rattle.rasn_de.specs.State.{State};
 
@@ -44,6 +46,9 @@ pub trait DecodeSetParts: Drop {
 
     /// What the parts keep of them.
     ghost beyond: { List State → Self → Type 0 };
+
+    /// Which errors a call has that reads the part with this tag, besides what `fails` says.
+    ghost errors: { Tag → Errors } = { λ _ _ _ _. Unit {0} };
 
     /// Whether each part has a tag of its own, which no other has.
     ghost tags_differ: { Bool };
@@ -70,6 +75,7 @@ pub trait DecodeSetParts: Drop {
         requires differ { tags_differ ≡ true }
         ensures reads { DecodesPlaced parts (map text names.now) (held slots.old) decoder.old result decoder.new (held slots.new) }
         ensures fails { IfErr result (λ e. FailsAtAlternative parts name.now tag decoder.old e decoder.new) }
+        ensures errors { IfErr result (λ e. errors tag decoder.old e decoder.new) }
         ensures kept { (starts : List State) → Contains starts decoder.old → kept starts slots.old → length decoder.new.rest ≢ length decoder.old.rest → IfOk result (λ r. kept starts slots.new) }
         ensures rules { IfErr result (λ e. e.codec ≡ decoder.old.rule) };
 
@@ -188,6 +194,7 @@ impl<A: Decode, R: DecodeSetParts> DecodeSetParts for Required<A, R> {
     ghost use Rattle.rasn_de.specs.AlternativeTypes.{is_first_alone};
     ghost use Rattle.rasn_de.specs.SetPartTypes.{held_tree};
     ghost use Rattle.rasn_de.specs.Beyond.{got, BeyondSlot};
+    ghost use Rattle.rasn_de.specs.ValueErrors.{IsErrorOfAlternative};
 
     type Slots = (Option<A>, R::Slots);
 
@@ -200,6 +207,8 @@ impl<A: Decode, R: DecodeSetParts> DecodeSetParts for Required<A, R> {
     ghost kept = { λ starts c. BeyondSlot (got (A.beyond A.TAG)) starts c.0 × R.kept starts c.1 };
 
     ghost beyond = { λ starts p. BeyondSlot (got (A.beyond A.TAG)) starts (Some p.0) × R.beyond starts p.1 };
+
+    ghost errors = { IsErrorOfAlternative A.TAG (A.errors A.TAG A.CONSTRAINTS) R.errors };
 
     ghost tags_differ = { is_first_alone A.shape A.TAG R.parts && R.tags_differ };
 
@@ -246,6 +255,7 @@ impl<A: Decode, R: DecodeSetParts> DecodeSetParts for Optional<A, R> {
     ghost use Rattle.rasn_de.specs.AlternativeTypes.{is_first_alone};
     ghost use Rattle.rasn_de.specs.SetPartTypes.{held_tree};
     ghost use Rattle.rasn_de.specs.Beyond.{got, BeyondSlot};
+    ghost use Rattle.rasn_de.specs.ValueErrors.{IsErrorOfAlternative};
 
     type Slots = (Option<A>, R::Slots);
 
@@ -258,6 +268,8 @@ impl<A: Decode, R: DecodeSetParts> DecodeSetParts for Optional<A, R> {
     ghost kept = { λ starts c. BeyondSlot (got (A.beyond A.TAG)) starts c.0 × R.kept starts c.1 };
 
     ghost beyond = { λ starts p. BeyondSlot (got (A.beyond A.TAG)) starts p.0 × R.beyond starts p.1 };
+
+    ghost errors = { IsErrorOfAlternative A.TAG (A.errors A.TAG A.CONSTRAINTS) R.errors };
 
     ghost tags_differ = { is_first_alone A.shape A.TAG R.parts && R.tags_differ };
 
@@ -293,12 +305,14 @@ impl<V: DefaultValue, R: DecodeSetParts> DecodeSetParts for Defaulted<V, R>
 where
     V::Value: Decode,
 {
-    ghost use Rattle.std.specs.Prelude.{◌&&◌, ◌∷◌, ◌≡◌, ◌⊎◌, Some};
+    ghost use Rattle.std.specs.Prelude.{◌&&◌, ◌∷◌, ◌≡◌, ◌⊎◌, Some, IfOk};
     ghost use Rattle.rasn_types.specs.Shapes.{part, default, joined};
     ghost use Rattle.rasn_de.specs.PartTypes.{is_looked_for};
     ghost use Rattle.rasn_de.specs.AlternativeTypes.{is_first_alone};
     ghost use Rattle.rasn_de.specs.SetPartTypes.{held_tree};
     ghost use Rattle.rasn_de.specs.Beyond.{got, BeyondSlot};
+    ghost use Rattle.rasn_de.specs.Optional.{DecodesOrDefault};
+    ghost use Rattle.rasn_de.specs.ValueErrors.{errors_of, DecodesOr, IsErrorOfAlternative};
 
     type Slots = (Option<V::Value>, R::Slots);
 
@@ -311,6 +325,8 @@ where
     ghost kept = { λ starts c. BeyondSlot (got (V.Value.beyond V.Value.TAG)) starts c.0 × R.kept starts c.1 };
 
     ghost beyond = { λ starts p. (BeyondSlot (got (V.Value.beyond V.Value.TAG)) starts (Some p.0) ⊎ (V.Value.tree p.0 ≡ V.default_tree)) × R.beyond starts p.1 };
+
+    ghost errors = { IsErrorOfAlternative V.Value.TAG (errors_of (DecodesOrDefault (DecodesOr V.Value.shape V.Value.tree (V.Value.errors V.Value.TAG V.Value.CONSTRAINTS)) V.Value.tree (λ made. IfOk made (λ v. V.Value.tree v ≡ V.default_tree)) V.Value.TAG)) R.errors };
 
     ghost tags_differ = { is_first_alone V.Value.shape V.Value.TAG R.parts && (is_looked_for V.Value.shape V.Value.TAG && R.tags_differ) };
 
@@ -359,7 +375,7 @@ impl<'input> Decoder<'input> {
     ) -> Result<Option<&'names str>, DecodeError>
         requires { P.tags_differ ≡ true }
         ensures exact { DecodesNext P.parts (map text names.now) (P.held slots.old) self.old result self.new (P.held slots.new) }
-        ensures fails { IfErr result (λ e. RefusesElement (DecodesOneOf P.parts name.now) self.old e self.new) }
+        ensures fails { IfErr result (λ e. RefusesElement (DecodesOneOf P.parts name.now P.errors) self.old e self.new) }
         ensures kept { (starts : List State) → Contains starts self.old → P.kept starts slots.old → IfOk result (λ r. P.kept starts slots.new) }
         ensures rules { IfErr result (λ e. e.codec ≡ self.old.rule) }
     {
@@ -377,7 +393,7 @@ impl<'input> Decoder<'input> {
     fn set_parts<P: DecodeSetParts>(&mut self, name: &str, names: &[&str]) -> Result<P, DecodeError>
         requires { P.tags_differ ≡ true }
         ensures exact { DecodesSetPartContents P.parts P.tree (map text names.now) self.old result self.new }
-        ensures fails { DecodesNamedContents P.parts P.tree name.now (map text names.now) self.old result self.new }
+        ensures fails { DecodesNamedContents P.parts P.tree name.now (map text names.now) P.errors self.old result self.new }
         ensures beyond { IfOk result (λ v. BeyondSet P.parts P.beyond self.old v self.new) }
         ensures rules { IfErr result (λ e. e.codec ≡ self.old.rule) }
     {
@@ -422,7 +438,7 @@ impl<'input> Decoder<'input> {
     ) -> Result<P, DecodeError>
         requires { P.tags_differ ≡ true }
         ensures exact { DecodesSetParts P.parts P.tree (map text names.now) tag self.old result self.new }
-        ensures fails { DecodesNamedParts P.parts P.tree name.now (map text names.now) tag self.old result self.new }
+        ensures fails { DecodesNamedParts P.parts P.tree name.now (map text names.now) P.errors tag self.old result self.new }
         ensures reads { Decodes (set tag P.parts) P.tree self.old result self.new }
         ensures beyond { IfOk result (λ v. BeyondInside (BeyondSet P.parts P.beyond) (sequence_header tag) self.old v) }
         ensures rules { IfErr result (λ e. e.codec ≡ self.old.rule) }
@@ -432,7 +448,7 @@ impl<'input> Decoder<'input> {
             |inner| -> Result<P, DecodeError>
                 requires { P.tags_differ ≡ true }
                 ensures exact { DecodesSetPartContents P.parts P.tree (map text names.entry.now) inner.old result inner.new }
-                ensures fails { DecodesNamedContents P.parts P.tree name.entry.now (map text names.entry.now) inner.old result inner.new }
+                ensures fails { DecodesNamedContents P.parts P.tree name.entry.now (map text names.entry.now) P.errors inner.old result inner.new }
                 ensures rules { IfErr result (λ e. e.codec ≡ inner.old.rule) }
                 ensures beyond { IfOk result (λ v. BeyondSet P.parts P.beyond inner.old v inner.new) }
             { inner.set_parts::<P>(name, names) },

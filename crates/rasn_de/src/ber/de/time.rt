@@ -210,6 +210,12 @@ impl<'input> Decoder<'input> {
 }
 
 impl Decode for UtcTime {
+    ghost use Rattle.rasn_types.specs.Grammar.{UtcText};
+    ghost use Rattle.rasn_de.specs.Time.{AtAnyOffset, DecodesTime};
+    ghost use Rattle.rasn_de.specs.ValueErrors.{errors_of};
+
+    ghost errors = { λ tag c old. errors_of (DecodesTime (AtAnyOffset (UtcText old.rule)) tag) old };
+
     fn decode_with_tag_and_constraints(
         decoder: &mut Decoder<'_>,
         tag: Tag,
@@ -223,8 +229,11 @@ impl Decode for UtcTime {
 impl Decode for GeneralizedTime {
     ghost use Rattle.rasn_types.specs.Grammar.{GeneralizedText};
     ghost use Rattle.rasn_de.specs.Time.{DecodesTime};
+    ghost use Rattle.rasn_de.specs.ValueErrors.{errors_of};
 
     ghost beyond = { λ tag old. DecodesTime (GeneralizedText old.rule) tag old };
+
+    ghost errors = { λ tag c old. errors_of (DecodesTime (GeneralizedText old.rule) tag) old };
 
     fn decode_with_tag_and_constraints(
         decoder: &mut Decoder<'_>,
@@ -240,6 +249,12 @@ impl Decode for GeneralizedTime {
 }
 
 impl Decode for Date {
+    ghost use Rattle.rasn_types.specs.Time.{DateText};
+    ghost use Rattle.rasn_de.specs.Time.{DecodesTime};
+    ghost use Rattle.rasn_de.specs.ValueErrors.{errors_of};
+
+    ghost errors = { λ tag c. errors_of (DecodesTime DateText tag) };
+
     fn decode_with_tag_and_constraints(
         decoder: &mut Decoder<'_>,
         tag: Tag,

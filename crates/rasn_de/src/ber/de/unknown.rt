@@ -47,6 +47,11 @@ impl<'input> Decoder<'input> {
 }
 
 impl Decode for Unknown {
+    ghost use Rattle.rasn_de.specs.Unknown.{DecodesUnknown};
+    ghost use Rattle.rasn_de.specs.ValueErrors.{errors_of};
+
+    ghost errors = { λ tag c. errors_of DecodesUnknown };
+
     fn decode_with_tag_and_constraints(
         decoder: &mut Decoder<'_>,
         _tag: Tag,

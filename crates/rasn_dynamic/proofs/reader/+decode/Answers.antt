@@ -1,7 +1,7 @@
 use Rattle.std.proofs.Common.{rules, arith, append_assoc, length-append, ◌≡◌, ◌+◌, ◌-◌, [], ◌∷◌, ◌++◌, length, true, false, Some, None, Ok, Err, refl, sym, ap, ◌∙◌, subst, inl, inr}
 use Rattle.std.specs.Prelude.{get_or, slice_get, IfOk, IfErr}
 use Rattle.std.proofs.lemmas.Option.{slice_get_within}
-use Rattle.rasn_types.specs.Shapes.{Tree, Same, items, choice, IsFirstOf, own_tag, sought_by}
+use Rattle.rasn_types.specs.Shapes.{Tree, Same, items, IsFirstOf, own_tag, sought_by}
 use Rattle.rasn_types.proofs.Headers.Frames.{next_one}
 use Rattle.rasn_de.specs.NamedErrors.{IsNamedError, IsDuplicateField}
 use Rattle.rasn_de.specs.SetPartTypes.{text, DecodesSetPartContents}
@@ -18,7 +18,6 @@ use Rattle.rasn_de.specs.declared.ber.de.parser.ParseError.TheVariants.{Der, Une
 use Rattle.rasn_de.specs.Steps.{IsErrorOf}
 use Rattle.rasn_de.specs.Optional.{NextIs}
 use Rattle.rasn_de.proofs.Leaves.Returns.{residual}
-use Rattle.rasn_de.proofs.OwnTypes.Alternatives.{no_alternative}
 use Rattle.rasn_de.proofs.Constructed.NextElement.{passes_more, turn_rules}
 use Rattle.rasn_de.proofs.Leaves.Rules.{codec_is, same_rules, peek_rules, look_rules, order_rules}
 use Rattle.rasn_de.proofs.Constructed.SetOfElements.{passes_from, came_stays}
@@ -28,7 +27,7 @@ use Rattle.rasn_de.proofs.OwnTypes.Parts.{call_keeps}
 use Rattle.rasn_schema.specs.declared.types.Alternative.{Alternative}
 use Rattle.rasn_schema.specs.declared.value.Value.{Value}
 use Rattle.rasn_schema.specs.Trees.{tree_of}
-use Rattle.rasn_schema.specs.Shapes.{numbers_of, shape_of_type, type_by, alternatives_by, components_by, key_of, presence_in, AreReadable, IsReadable}
+use Rattle.rasn_schema.specs.Shapes.{numbers_of, shape_of_type, type_by, alternatives_by, choice_among, components_by, key_of, presence_in, AreReadable, IsReadable}
 use Rattle.rasn_schema.proofs.Presences.{always_by}
 use Rattle.rasn_schema.proofs.TypeShapes.{shape_below, own_is}
 use Rattle.rasn_schema.proofs.Lists.{split, nothing_left, read_at}
@@ -41,7 +40,8 @@ use Rattle.rasn_dynamic.proofs.Making.{made_as, made_fails_as, choice_exact, unc
 use Rattle.rasn_schema.specs.Fitting.{Fits, FitsBy, IsNumber, ComponentsFit, EachFits}
 use Rattle.rasn_dynamic.proofs.FitsRead.{if_ok, fits_below, are_items, are_elements, each_more, fit_more, fit_end, made_fits, gathered_fit, all_left_fit, nones_fit, found_length, found_kept, put_fits}
 use Rattle.rasn_dynamic.proofs.Nothing.{refused_at_zero, refused_not_there, found_here}
-use Rattle.rasn_dynamic.proofs.Chosen.{no_tag, lawful_at, first_at, chosen_got, chosen_refused}
+use Rattle.rasn_dynamic.proofs.OpenChoice.{lawful_at}
+use Rattle.rasn_dynamic.proofs.Chosen.{no_tag, none_for, for_both, chosen_got, chosen_refused}
 use Rattle.rasn_dynamic.proofs.InOrder.{lawful_parts, all_left_read, in_turn}
 use Rattle.rasn_dynamic.proofs.OnePart.{always, always_fails, looked, looked_fails, made, made_fails, unread, unread_fails, plain, loose, differs, default_is_written, not_required, next_of, made_of}
 use Rattle.rasn_dynamic.proofs.Contents.{prefix_lawful, list_lawful, set_of_lawful, seq_lawful, set_lawful, none_holds, sequence_runs_out, parts_start, parts_more, part_fails, part_fails_at, parts_run_out, parts_end}
@@ -101,7 +101,7 @@ pub decode_choice-returns-in_err-tag-clause-rules : goal.decode_choice-returns-i
 decode_choice-returns-in_err-tag-clause-rules g t c = rw (residual _ c.from_residual.ensures.1) (peek_rules c.args.decoder.now _ c.in_err-tag.ensures.exact)
 
 pub decode_choice-returns-in_default-clause-reads : goal.decode_choice-returns-in_default-clause-reads
-decode_choice-returns-in_default-clause-reads g t c = no_alternative (alternatives_by (shape_of_type c.args.types.now c.args.below) c.args.alternatives.now) c.in_ok-tag.tag c.in_ok-tag.ensures.next c.in_default.ensures _
+decode_choice-returns-in_default-clause-reads g t c = none_for (shape_of_type c.args.types.now c.args.below) c.args.alternatives.now c.in_ok-tag.tag _ c.in_ok-tag.ensures.next c.in_default.ensures _
 
 pub decode_choice-returns-in_default-clause-unknown : goal.decode_choice-returns-in_default-clause-unknown
 decode_choice-returns-in_default-clause-unknown g t c = λ tag n others. (rw (← c.codec.ensures) c.no_valid_choice.ensures, refl)
@@ -110,33 +110,33 @@ pub decode_choice-returns-in_default-clause-rules : goal.decode_choice-returns-i
 decode_choice-returns-in_default-clause-rules g t c = c.no_valid_choice.ensures.0 ∙ c.codec.ensures
 
 pub decode_choice-bounds-alternatives-number : goal.decode_choice-bounds-alternatives-number
-decode_choice-bounds-alternatives-number g t c = slice_get_within c.args.alternatives.now c.in-Some.number c.in-Some.ensures.0 (sym c.in-Some.ensures.1)
+decode_choice-bounds-alternatives-number g t c = slice_get_within c.args.alternatives.now c.in-Some.number c.in-Some.ensures.0 (sym c.in-Some.ensures.1.0)
 
 pub decode_choice-decode_part-requires : goal.decode_choice-decode_part-requires
 decode_choice-decode_part-requires g t c =
     let el = get_or c.args.alternatives.now c.in-Some.number c.index-alternatives-number.result in
     let at : Some el ≡ slice_get c.args.alternatives.now c.in-Some.number = subst (λ (a : Alternative). Some a ≡ slice_get c.args.alternatives.now c.in-Some.number) c.index-alternatives-number.is
-    (read_at c.args.alternatives.now c.in-Some.number c.index-alternatives-number.result (slice_get_within c.args.alternatives.now c.in-Some.number c.in-Some.ensures.0 (sym c.in-Some.ensures.1)) c.index-alternatives-number.is) in
+    (read_at c.args.alternatives.now c.in-Some.number c.index-alternatives-number.result (slice_get_within c.args.alternatives.now c.in-Some.number c.in-Some.ensures.0 (sym c.in-Some.ensures.1.0)) c.index-alternatives-number.is) in
     λ κs o. (search rules, (search rules, (lawful_at (shape_of_type c.args.types.now c.args.below) c.args.alternatives.now c.in-Some.number el c.requires.1.1.1.0 at, c.requires.1.1.1.1)))
 
 pub decode_choice-returns-in_err-value-clause-reads : goal.decode_choice-returns-in_err-value-clause-reads
 decode_choice-returns-in_err-value-clause-reads g t c =
     let el = get_or c.args.alternatives.now c.in-Some.number c.index-alternatives-number.result in
     let at : Some el ≡ slice_get c.args.alternatives.now c.in-Some.number = subst (λ (a : Alternative). Some a ≡ slice_get c.args.alternatives.now c.in-Some.number) c.index-alternatives-number.is
-    (read_at c.args.alternatives.now c.in-Some.number c.index-alternatives-number.result (slice_get_within c.args.alternatives.now c.in-Some.number c.in-Some.ensures.0 (sym c.in-Some.ensures.1)) c.index-alternatives-number.is) in
+    (read_at c.args.alternatives.now c.in-Some.number c.index-alternatives-number.result (slice_get_within c.args.alternatives.now c.in-Some.number c.in-Some.ensures.0 (sym c.in-Some.ensures.1.0)) c.index-alternatives-number.is) in
     rw (residual _ c.from_residual-in_err-value.ensures.1)
     (chosen_refused (shape_of_type c.args.types.now c.args.below) c.args.alternatives.now c.in-Some.number el c.in_ok-tag.tag c.requires.1.1.1.0 at
-    (first_at (shape_of_type c.args.types.now c.args.below) c.args.alternatives.now c.in-Some.number c.in-Some.ensures.0 _ c.in_ok-tag.tag c.in-Some.ensures.1 at c.in-Some.ensures.2) _ _ c.in_ok-tag.ensures.next _ c.in_err-value.ensures.reads)
+    (for_both (shape_of_type c.args.types.now c.args.below) c.args.alternatives.now c.in-Some.number c.in-Some.ensures.0 _ c.in_ok-tag.tag c.in-Some.ensures.1 at) _ _ c.in_ok-tag.ensures.next _ c.in_err-value.ensures.reads)
 
 pub decode_choice-returns-in_err-value-clause-unknown : goal.decode_choice-returns-in_err-value-clause-unknown
 decode_choice-returns-in_err-value-clause-unknown g t c = rw (residual _ c.from_residual-in_err-value.ensures.1) (λ tag n others.
     absurd (others (subst (IsFirstOf (alternatives_by (shape_of_type c.args.types.now c.args.below) c.args.alternatives.now)) (next_one c.args.decoder.now.rest c.in_ok-tag.tag tag c.in_ok-tag.ensures.next n)
-    (first_of_all (shape_of_type c.args.types.now c.args.below) c.in_ok-tag.tag c.args.alternatives.now c.in-Some.number c.in-Some.ensures.0 c.in-Some.ensures.1 c.in-Some.ensures.2))))
+    (first_of_all (shape_of_type c.args.types.now c.args.below) c.in_ok-tag.tag c.args.alternatives.now c.in-Some.number c.in-Some.ensures.0 c.in-Some.ensures.1.0 c.in-Some.ensures.1.1))))
 
 pub decode_choice-returns-clause-unknown : goal.decode_choice-returns-clause-unknown
 decode_choice-returns-clause-unknown g t c = any_err _ (λ e tag n others.
     absurd (others (subst (IsFirstOf (alternatives_by (shape_of_type c.args.types.now c.args.below) c.args.alternatives.now)) (next_one c.args.decoder.now.rest c.in_ok-tag.tag tag c.in_ok-tag.ensures.next n)
-    (first_of_all (shape_of_type c.args.types.now c.args.below) c.in_ok-tag.tag c.args.alternatives.now c.in-Some.number c.in-Some.ensures.0 c.in-Some.ensures.1 c.in-Some.ensures.2)))) c.choose.result
+    (first_of_all (shape_of_type c.args.types.now c.args.below) c.in_ok-tag.tag c.args.alternatives.now c.in-Some.number c.in-Some.ensures.0 c.in-Some.ensures.1.0 c.in-Some.ensures.1.1)))) c.choose.result
 
 pub decode_choice-returns-clause-told : goal.decode_choice-returns-clause-told
 decode_choice-returns-clause-told g t c = unnamed _ c.choose.result _ c.in_ok-value.ensures.told
@@ -146,7 +146,7 @@ decode_choice-returns-clause-rules g t c = subst (λ z. IfErr c.choose.result (�
 
 pub decode_choice-returns-clause-fits : goal.decode_choice-returns-clause-fits
 decode_choice-returns-clause-fits g t c =
-    let at = read_at c.args.alternatives.now c.in-Some.number c.index-alternatives-number.result (slice_get_within c.args.alternatives.now c.in-Some.number c.in-Some.ensures.0 (sym c.in-Some.ensures.1)) c.index-alternatives-number.is in
+    let at = read_at c.args.alternatives.now c.in-Some.number c.index-alternatives-number.result (slice_get_within c.args.alternatives.now c.in-Some.number c.in-Some.ensures.0 (sym c.in-Some.ensures.1.0)) c.index-alternatives-number.is in
     choice_fits _ c.in-Some.number c.in_ok-value.value _ c.choose.result c.choose.ensures.ok
     (λ k. (c.index-alternatives-number.result, at, subst (λ (a : Alternative). Fits c.args.types.now c.args.below a.type_id.0 c.in_ok-value.value) (sym c.index-alternatives-number.is) (c.in_ok-value.ensures.fits k)))
 
@@ -154,11 +154,11 @@ pub decode_choice-returns-clause-reads : goal.decode_choice-returns-clause-reads
 decode_choice-returns-clause-reads g t c =
     let el = get_or c.args.alternatives.now c.in-Some.number c.index-alternatives-number.result in
     let at : Some el ≡ slice_get c.args.alternatives.now c.in-Some.number = subst (λ (a : Alternative). Some a ≡ slice_get c.args.alternatives.now c.in-Some.number) c.index-alternatives-number.is
-    (read_at c.args.alternatives.now c.in-Some.number c.index-alternatives-number.result (slice_get_within c.args.alternatives.now c.in-Some.number c.in-Some.ensures.0 (sym c.in-Some.ensures.1)) c.index-alternatives-number.is) in
+    (read_at c.args.alternatives.now c.in-Some.number c.index-alternatives-number.result (slice_get_within c.args.alternatives.now c.in-Some.number c.in-Some.ensures.0 (sym c.in-Some.ensures.1.0)) c.index-alternatives-number.is) in
     let w = c.in_ok-value.ensures.reads in
-    choice_made _ c.in-Some.number c.in_ok-value.value (DecodesTree (choice (alternatives_by (shape_of_type c.args.types.now c.args.below) c.args.alternatives.now))) c.args.decoder.now w.0 c.choose.result _ w.1 c.choose.ensures.ok c.choose.ensures.kind
+    choice_made _ c.in-Some.number c.in_ok-value.value (DecodesTree (choice_among (alternatives_by (shape_of_type c.args.types.now c.args.below) c.args.alternatives.now))) c.args.decoder.now w.0 c.choose.result _ w.1 c.choose.ensures.ok c.choose.ensures.kind
     (chosen_got (shape_of_type c.args.types.now c.args.below) c.args.alternatives.now c.in-Some.number el c.in_ok-tag.tag c.requires.1.1.1.0 at
-    (first_at (shape_of_type c.args.types.now c.args.below) c.args.alternatives.now c.in-Some.number c.in-Some.ensures.0 _ c.in_ok-tag.tag c.in-Some.ensures.1 at c.in-Some.ensures.2) _ _ c.in_ok-tag.ensures.next w.0 w.2)
+    (for_both (shape_of_type c.args.types.now c.args.below) c.args.alternatives.now c.in-Some.number c.in-Some.ensures.0 _ c.in_ok-tag.tag c.in-Some.ensures.1 at) _ _ c.in_ok-tag.ensures.next w.0 w.2)
     (λ e m. alloc_failed _ (λ (z : Tree). z) c.args.decoder.now _ e m w.2.stays w.2.end)
 
 -- ---- contents
@@ -980,15 +980,16 @@ decode_found-returns-in-Some-clause-told g t c =
 pub decode_type-returns-in-Choice-clause-told : goal.decode_type-returns-in-Choice-clause-told
 decode_type-returns-in-Choice-clause-told g t c =
     told_map _ _ (λ k f i. subst (λ n. IsFaultOf c.args.types.now c.args.below n c.args.decoder.now k f) (sym c.in-Choice.is)
-    (c.args.decoder.now, refl, subst (λ l. IsFaultIn c.args.types.now c.args.below (IsAlternativeAt l c.args.decoder.now) c.args.decoder.now c.args.decoder.now k f) c.deref-in-Choice.ensures.value i)) _ _ c.decode_choice.ensures.told
+    (c.args.decoder.now, refl, subst (λ l. IsFaultIn c.args.types.now c.args.below (IsAlternativeAt (shape_of_type c.args.types.now c.args.below) l c.args.decoder.now) c.args.decoder.now c.args.decoder.now k f) c.deref-in-Choice.ensures.value i)) _ _ c.decode_choice.ensures.told
 
 pub decode_choice-returns-in_err-value-clause-told : goal.decode_choice-returns-in_err-value-clause-told
 decode_choice-returns-in_err-value-clause-told g t c =
     let el = get_or c.args.alternatives.now c.in-Some.number c.index-alternatives-number.result in
     let at : Some el ≡ slice_get c.args.alternatives.now c.in-Some.number = subst (λ (a : Alternative). Some a ≡ slice_get c.args.alternatives.now c.in-Some.number) c.index-alternatives-number.is
-    (read_at c.args.alternatives.now c.in-Some.number c.index-alternatives-number.result (slice_get_within c.args.alternatives.now c.in-Some.number c.in-Some.ensures.0 (sym c.in-Some.ensures.1)) c.index-alternatives-number.is) in
+    (read_at c.args.alternatives.now c.in-Some.number c.index-alternatives-number.result (slice_get_within c.args.alternatives.now c.in-Some.number c.in-Some.ensures.0 (sym c.in-Some.ensures.1.0)) c.index-alternatives-number.is) in
     rw (residual _ c.from_residual-in_err-value.ensures.1)
-    (tells_err _ _ (λ k f. weaker c.args.types.now c.args.below _ _ c.args.decoder.now c.args.decoder.now (alternative_there c.args.alternatives.now c.in-Some.number el c.args.decoder.now at) k f) c.in_err-value.field-0.0 _ c.in_err-value.ensures.told)
+    (tells_err _ _ (λ k f. weaker c.args.types.now c.args.below _ _ c.args.decoder.now c.args.decoder.now (alternative_there (shape_of_type c.args.types.now c.args.below) c.args.alternatives.now c.in-Some.number el c.args.decoder.now
+    (c.in_ok-tag.tag, c.in_ok-tag.ensures.next, for_both (shape_of_type c.args.types.now c.args.below) c.args.alternatives.now c.in-Some.number c.in-Some.ensures.0 el c.in_ok-tag.tag c.in-Some.ensures.1 at)) k f) c.in_err-value.field-0.0 _ c.in_err-value.ensures.told)
 
 pub decode_inside-add_after-requires : goal.decode_inside-add_after-requires
 decode_inside-add_after-requires g t c =
@@ -1364,8 +1365,9 @@ pub decode_choice-returns-clause-listed : goal.decode_choice-returns-clause-list
 decode_choice-returns-clause-listed g t c =
     let el = get_or c.args.alternatives.now c.in-Some.number c.index-alternatives-number.result in
     let at : Some el ≡ slice_get c.args.alternatives.now c.in-Some.number = subst (λ (a : Alternative). Some a ≡ slice_get c.args.alternatives.now c.in-Some.number) c.index-alternatives-number.is
-    (read_at c.args.alternatives.now c.in-Some.number c.index-alternatives-number.result (slice_get_within c.args.alternatives.now c.in-Some.number c.in-Some.ensures.0 (sym c.in-Some.ensures.1)) c.index-alternatives-number.is) in
-    if_any _ (alternative_listed (shape_of_type c.args.types.now c.args.below) c.args.below (Inside c.args.types.now c.args.below) c.args.alternatives.now c.in-Some.number el c.args.decoder.now _ _ _ at c.in_ok-value.ensures.listed)
+    (read_at c.args.alternatives.now c.in-Some.number c.index-alternatives-number.result (slice_get_within c.args.alternatives.now c.in-Some.number c.in-Some.ensures.0 (sym c.in-Some.ensures.1.0)) c.index-alternatives-number.is) in
+    if_any _ (alternative_listed (shape_of_type c.args.types.now c.args.below) c.args.below (Inside c.args.types.now c.args.below) c.args.alternatives.now c.in-Some.number el c.args.decoder.now _ _ _
+    (c.in_ok-tag.tag, c.in_ok-tag.ensures.next, for_both (shape_of_type c.args.types.now c.args.below) c.args.alternatives.now c.in-Some.number c.in-Some.ensures.0 el c.in_ok-tag.tag c.in-Some.ensures.1 at) c.in_ok-value.ensures.listed)
 
 pub decode_list-returns-clause-listed : goal.decode_list-returns-clause-listed
 decode_list-returns-clause-listed g t c =

@@ -1,8 +1,9 @@
 use Rattle.std.proofs.Common.{◌-◌, sym, subst, arith}
 use Rattle.rasn_types.specs.Shapes.{IsFirst}
-use Rattle.rasn_schema.specs.Shapes.{shape_of_type}
+use Rattle.rasn_schema.specs.Shapes.{shape_of_type, alternatives_by}
 use Rattle.rasn_schema.proofs.TypeShapes.{shape_below, shape_none, shape_cut}
 use Rattle.rasn_schema.proofs.Alternatives.{first_of_all, first_of_none}
+use Rattle.rasn_schema.proofs.OpenEnds.{first_told}
 use Rattle.rasn_schema.proofs.Lists.{so_far_more, so_far_end, read_at}
 use Rattle.rasn_schema.proofs.begin.+begins.Goals as goal
 
@@ -14,6 +15,9 @@ begins-returns-in-Some t c = rw (shape_below c.args.types.now c.args.levels (c.a
 
 pub begins-returns-in-None : goal.begins-returns-in-None
 begins-returns-in-None t c h = subst (λ s. IsFirst s c.args.tag) (sym (shape_none c.args.types.now c.args.levels c.args.id.0 c.if-levels-eq0.false c.in-None.ensures)) h
+
+pub type_begins-returns-in-Choice : goal.type_begins-returns-in-Choice
+type_begins-returns-in-Choice t c = rw (c.in-Choice.is, ← c.deref.ensures.value) (first_told c.some_begins.result (alternatives_by (shape_of_type c.args.types.now c.args.below) c.deref.result.now) c.args.tag c.some_begins.ensures)
 
 pub some_begins-returns-then-begins : goal.some_begins-returns-then-begins
 some_begins-returns-then-begins t c = first_of_all (shape_of_type c.args.types.now c.args.levels) c.args.tag c.args.alternatives.now c.loop-alternative.alternative-index c.alternative-item.result (read_at c.args.alternatives.now c.loop-alternative.alternative-index c.alternative-item.result (let n = c.loop-alternative-test.true in omega arith) c.alternative-item.is) c.if-begins.ensures

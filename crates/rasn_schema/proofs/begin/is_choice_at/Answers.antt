@@ -1,5 +1,5 @@
 use Rattle.std.proofs.Common.{arith, ◌-◌, refl, subst}
-use Rattle.rasn_schema.specs.Shapes.{shape_of_type, IsByFirstTags}
+use Rattle.rasn_schema.specs.Shapes.{IsByFirstTags}
 use Rattle.rasn_schema.proofs.TypeShapes.{shape_below, shape_none, shape_cut}
 use Rattle.rasn_schema.proofs.begin.is_choice_at.Goals as goal
 
@@ -7,7 +7,7 @@ pub returns-then-levels-eq0 : goal.returns-then-levels-eq0
 returns-then-levels-eq0 c = rw (shape_cut c.args.types.now c.args.levels c.args.id.0 c.if-levels-eq0.true, ← c.tag_at.ensures) c.nothing_is_choice.ensures
 
 pub returns-in-Some : goal.returns-in-Some
-returns-in-Some c = rw (shape_below c.args.types.now c.args.levels (c.args.levels - 1) c.args.id.0 c.in-Some.ty.now (let n = c.if-levels-eq0.false in omega arith) c.in-Some.ensures) (c.type_is_choice.ensures (shape_of_type c.args.types.now (c.args.levels - 1)))
+returns-in-Some c = rw (shape_below c.args.types.now c.args.levels (c.args.levels - 1) c.args.id.0 c.in-Some.ty.now (let n = c.if-levels-eq0.false in omega arith) c.in-Some.ensures) c.type_is_choice.ensures
 
 pub returns-in-None : goal.returns-in-None
 returns-in-None c = subst IsByFirstTags (shape_none c.args.types.now c.args.levels c.args.id.0 c.if-levels-eq0.false c.in-None.ensures) refl

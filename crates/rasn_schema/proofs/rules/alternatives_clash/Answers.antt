@@ -3,7 +3,7 @@ use Rattle.rasn_schema.proofs.Lists.{so_far_more, so_far_end, read_at}
 use Rattle.rasn_schema.proofs.rules.alternatives_clash.Goals as goal
 
 pub returns-in-Some : goal.returns-in-Some
-returns-in-Some c = (refl, c.in-Some.ensures.0, (c.index-alternatives-index.result, c.in-Some.ensures.1.0, (read_at c.args.alternatives.now c.loop-index.index c.index-alternatives-index.result (let n = c.loop-index-test.true in omega arith) c.index-alternatives-index.is), c.in-Some.ensures.1.1, c.in-Some.ensures.1.2))
+returns-in-Some c = (refl, c.in-Some.ensures.0, (c.index-alternatives-index.result, c.in-Some.ensures.1.0, (read_at c.args.alternatives.now c.loop-index.index c.index-alternatives-index.result (let n = c.loop-index-test.true in omega arith) c.index-alternatives-index.is), c.in-Some.ensures.1.1, c.in-Some.ensures.1.2, c.in-Some.ensures.1.3))
 
 pub loop-index-preserved : goal.loop-index-preserved
 loop-index-preserved c = so_far_more _ c.args.alternatives.now c.loop-index.index c.index-alternatives-index.result (read_at c.args.alternatives.now c.loop-index.index c.index-alternatives-index.result (let n = c.loop-index-test.true in omega arith) c.index-alternatives-index.is) c.in_default.ensures c.loop-index.invariant

@@ -22,7 +22,7 @@ returns-in_err-next_tag_is g c =
 pub returns-then-not-branch : goal.returns-then-not-branch
 returns-then-not-branch g c =
     let t = parsed_out (one_tag (looked_for c.args.tag)) c.args.self.now c.in_ok-next_tag_is.field-0 c.if-not-branch.true c.in_ok-next_tag_is.ensures in
-    also_shaped (default_decodes (prefix c.args.tag g.D.AsnType.shape) g.D.AsnType.tree (goal.F-post g c.args.default) c.args.tag c.args.self.now _ _) (or_made (DecodesPrefixBy g.D.AsnType.shape g.D.AsnType.tree c.args.tag) g.D.AsnType.tree (goal.F-post g c.args.default) (one_tag (looked_for c.args.tag)) c.args.self.now _ t c.default_value.ensures) (default_beyond (BeyondPrefix (got (g.D.Decode.beyond g.D.AsnType.TAG)) c.args.tag) c.args.self.now _) (made_rules (goal.F-post g c.args.default) c.args.self.now _ c.default_value.ensures)
+    also_shaped (default_decodes (prefix c.args.tag g.D.AsnType.shape) g.D.AsnType.tree (goal.F-post g c.args.default) c.args.tag c.args.self.now _ _) (or_made (DecodesPrefixBy g.D.AsnType.shape g.D.AsnType.tree (g.D.Decode.errors g.D.AsnType.TAG g.D.AsnType.CONSTRAINTS) c.args.tag) g.D.AsnType.tree (goal.F-post g c.args.default) (one_tag (looked_for c.args.tag)) c.args.self.now _ t c.default_value.ensures) (default_beyond (BeyondPrefix (got (g.D.Decode.beyond g.D.AsnType.TAG)) c.args.tag) c.args.self.now _) (made_rules (goal.F-post g c.args.default) c.args.self.now _ c.default_value.ensures)
     (or_made (Decodes (prefix c.args.tag g.D.AsnType.shape) g.D.AsnType.tree) g.D.AsnType.tree (goal.F-post g c.args.default) (one_tag (looked_for c.args.tag)) c.args.self.now _ t c.default_value.ensures)
 
 pub returns-in_err-value : goal.returns-in_err-value

@@ -1,6 +1,7 @@
 use Rattle.std.proofs.Common.{Some, None, Ok, Err, inl, inr, refl}
 use Rattle.rasn_types.specs.Shapes.{tagged_as, one_tag, looked_for}
-use Rattle.rasn_de.proofs.Constructed.Optional.{perhaps_decodes, parsed_out, parsed_there}
+use Rattle.rasn_de.proofs.Constructed.Optional.{parsed_out, parsed_there}
+use Rattle.rasn_de.proofs.Constructed.ValueErrors.{perhaps_or}
 use Rattle.rasn_de.proofs.Leaves.Returns.{residual, also_beyond}
 use Rattle.rasn_de.proofs.Leaves.Rules.{look_rules}
 use Rattle.rasn_de.proofs.ber.de.Decoder.decode_optional_with_tag_and_constraints.Goals as goal
@@ -8,20 +9,20 @@ use Rattle.rasn_de.proofs.ber.de.Decoder.decode_optional_with_tag_and_constraint
 pub returns-in_err-next_tag_is : goal.returns-in_err-next_tag_is
 returns-in_err-next_tag_is g c =
     rw (residual _ c.from_residual.ensures.1)
-    (also_beyond (perhaps_decodes (tagged_as c.args.tag c.args.constraints.now g.D.AsnType.shape) g.D.AsnType.tree c.args.tag c.args.self.now (Err c.in_err-next_tag_is.field-0.0) _) tt (look_rules (one_tag (looked_for c.args.tag)) c.args.self.now _ c.in_err-next_tag_is.ensures) (inl (c.in_err-next_tag_is.ensures, refl)))
+    (also_beyond (perhaps_or (tagged_as c.args.tag c.args.constraints.now g.D.AsnType.shape) g.D.AsnType.tree (g.D.Decode.errors c.args.tag c.args.constraints.now) c.args.tag c.args.self.now (Err c.in_err-next_tag_is.field-0.0) _) tt (look_rules (one_tag (looked_for c.args.tag)) c.args.self.now _ c.in_err-next_tag_is.ensures) (inl (c.in_err-next_tag_is.ensures, refl)))
 
 pub returns-then-not-branch : goal.returns-then-not-branch
 returns-then-not-branch g c =
-    also_beyond (perhaps_decodes (tagged_as c.args.tag c.args.constraints.now g.D.AsnType.shape) g.D.AsnType.tree c.args.tag c.args.self.now (Ok None) _) refl tt
+    also_beyond (perhaps_or (tagged_as c.args.tag c.args.constraints.now g.D.AsnType.shape) g.D.AsnType.tree (g.D.Decode.errors c.args.tag c.args.constraints.now) c.args.tag c.args.self.now (Ok None) _) refl tt
     (parsed_out (one_tag (looked_for c.args.tag)) c.args.self.now c.in_ok-next_tag_is.field-0 c.if-not-branch.true c.in_ok-next_tag_is.ensures, refl)
 
 pub returns-in_err-value : goal.returns-in_err-value
 returns-in_err-value g c =
     rw (residual _ c.from_residual-in_err-value.ensures.1)
-    (also_beyond (perhaps_decodes (tagged_as c.args.tag c.args.constraints.now g.D.AsnType.shape) g.D.AsnType.tree c.args.tag c.args.self.now (Err c.in_err-value.field-0.0) _) tt c.in_err-value.ensures.rules
-    (inr (parsed_there (one_tag (looked_for c.args.tag)) c.args.self.now c.in_ok-next_tag_is.field-0 c.if-not-branch.false c.in_ok-next_tag_is.ensures, c.in_err-value.ensures.reads)))
+    (also_beyond (perhaps_or (tagged_as c.args.tag c.args.constraints.now g.D.AsnType.shape) g.D.AsnType.tree (g.D.Decode.errors c.args.tag c.args.constraints.now) c.args.tag c.args.self.now (Err c.in_err-value.field-0.0) _) tt c.in_err-value.ensures.rules
+    (inr (parsed_there (one_tag (looked_for c.args.tag)) c.args.self.now c.in_ok-next_tag_is.field-0 c.if-not-branch.false c.in_ok-next_tag_is.ensures, (c.in_err-value.ensures.reads, c.in_err-value.ensures.errors))))
 
 pub returns : goal.returns
 returns g c =
-    also_beyond (perhaps_decodes (tagged_as c.args.tag c.args.constraints.now g.D.AsnType.shape) g.D.AsnType.tree c.args.tag c.args.self.now (Ok (Some c.in_ok-value.value)) _) c.in_ok-value.ensures.beyond tt
-    (parsed_there (one_tag (looked_for c.args.tag)) c.args.self.now c.in_ok-next_tag_is.field-0 c.if-not-branch.false c.in_ok-next_tag_is.ensures, c.in_ok-value.ensures.reads)
+    also_beyond (perhaps_or (tagged_as c.args.tag c.args.constraints.now g.D.AsnType.shape) g.D.AsnType.tree (g.D.Decode.errors c.args.tag c.args.constraints.now) c.args.tag c.args.self.now (Ok (Some c.in_ok-value.value)) _) c.in_ok-value.ensures.beyond tt
+    (parsed_there (one_tag (looked_for c.args.tag)) c.args.self.now c.in_ok-next_tag_is.field-0 c.if-not-branch.false c.in_ok-next_tag_is.ensures, (c.in_ok-value.ensures.reads, tt))

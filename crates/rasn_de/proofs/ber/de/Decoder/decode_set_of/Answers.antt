@@ -1,9 +1,8 @@
 use Rattle.std.proofs.Common.{Ok, Err, inl, List, length, ◌∙◌}
-use Rattle.rasn_de.specs.Decodes.{Decodes}
+use Rattle.rasn_de.specs.ValueErrors.{DecodesOr}
 use Rattle.rasn_de.specs.SequenceOf.{DecodesElementsInOrder}
 use Rattle.rasn_de.proofs.Constructed.Steps.{closure_leaves, closure_inside, closure_rules}
-use Rattle.rasn_de.proofs.Constructed.SetOfElements.{in_order_leaves}
-use Rattle.rasn_de.proofs.Constructed.SequenceOf.{set_of_decodes}
+use Rattle.rasn_de.proofs.Constructed.ValueErrors.{in_order_or_leaves, set_of_or}
 use Rattle.rasn_de.proofs.Leaves.Returns.{residual, also_beyond}
 use Rattle.std.specs.Prelude.{IfOk}
 use Rattle.rasn_de.specs.Constructed.{list_header}
@@ -15,26 +14,26 @@ use Rattle.rasn_de.proofs.ber.de.Decoder.decode_set_of.Goals as goal
 
 pub inside-requires-clause-leaves : goal.inside-requires-clause-leaves
 inside-requires-clause-leaves g c =
-    closure_leaves _ _ (DecodesElementsInOrder (Decodes g.D.AsnType.shape g.D.AsnType.tree) (λ (v : List g.row.D.Denot). v)) (λ p r q m. m.0) (in_order_leaves g.D.AsnType.shape g.D.AsnType.tree (λ (v : List g.row.D.Denot). v))
+    closure_leaves _ _ (DecodesElementsInOrder (DecodesOr g.D.AsnType.shape g.D.AsnType.tree (g.D.Decode.errors g.D.AsnType.TAG g.D.AsnType.CONSTRAINTS)) (λ (v : List g.row.D.Denot). v)) (λ p r q m. m.0) (in_order_or_leaves g.D.AsnType.shape g.D.AsnType.tree (g.D.Decode.errors g.D.AsnType.TAG g.D.AsnType.CONSTRAINTS) (λ (v : List g.row.D.Denot). v))
 
 pub returns-in_err-values : goal.returns-in_err-values
 returns-in_err-values g c =
-    let read = DecodesElementsInOrder (Decodes g.D.AsnType.shape g.D.AsnType.tree) (λ (v : List g.row.D.Denot). v) in
+    let read = DecodesElementsInOrder (DecodesOr g.D.AsnType.shape g.D.AsnType.tree (g.D.Decode.errors g.D.AsnType.TAG g.D.AsnType.CONSTRAINTS)) (λ (v : List g.row.D.Denot). v) in
     let k = closure_inside _ _ read (λ p r q m. m.0) _ _ c.list.ensures c.args.self.now (Err c.in_err-values.field-0.0) c.inside.new.self c.in_err-values.ensures.exact in
-    rw (residual _ c.from_residual.ensures.1) (also_beyond (set_of_decodes g.D.AsnType.shape g.D.AsnType.tree c.args.tag c.args.constraints.now c.args.self.now c.inside.ensures.octets (Err c.in_err-values.field-0.0) _) tt (closure_rules c.args.self.now _ _ (λ p r q m same. m.1.0) _ (Err c.in_err-values.field-0.0) _ c.in_err-values.ensures.exact) (inl k))
+    rw (residual _ c.from_residual.ensures.1) (also_beyond (set_of_or g.D.AsnType.shape g.D.AsnType.tree (g.D.Decode.errors g.D.AsnType.TAG g.D.AsnType.CONSTRAINTS) c.args.tag c.args.constraints.now c.args.self.now c.inside.ensures.octets (Err c.in_err-values.field-0.0) _) tt (closure_rules c.args.self.now _ _ (λ p r q m same. m.1.0) _ (Err c.in_err-values.field-0.0) _ c.in_err-values.ensures.exact) (inl k))
 
 pub returns-in-Ok : goal.returns-in-Ok
 returns-in-Ok g c =
-    let read = DecodesElementsInOrder (Decodes g.D.AsnType.shape g.D.AsnType.tree) (λ (v : List g.row.D.Denot). v) in
+    let read = DecodesElementsInOrder (DecodesOr g.D.AsnType.shape g.D.AsnType.tree (g.D.Decode.errors g.D.AsnType.TAG g.D.AsnType.CONSTRAINTS)) (λ (v : List g.row.D.Denot). v) in
     let k = closure_inside _ _ read (λ p r q m. m.0) _ _ c.list.ensures c.args.self.now (Ok c.in_ok-values.values) c.inside.new.self c.in_ok-values.ensures.exact in
-    also_beyond (set_of_decodes g.D.AsnType.shape g.D.AsnType.tree c.args.tag c.args.constraints.now c.args.self.now c.inside.ensures.octets (Ok c.in_ok-values.values) _)
+    also_beyond (set_of_or g.D.AsnType.shape g.D.AsnType.tree (g.D.Decode.errors g.D.AsnType.TAG g.D.AsnType.CONSTRAINTS) c.args.tag c.args.constraints.now c.args.self.now c.inside.ensures.octets (Ok c.in_ok-values.values) _)
     (inside_beyond (λ o (v : List g.row.D.Denot) n. BeyondElements (Held g.D.AsnType.shape g.D.AsnType.tree (g.D.Decode.beyond g.D.AsnType.TAG)) o v n) (list_header c.args.tag) c.args.self.now (Ok c.in_ok-values.values) c.inside.new.self
     (closure_inside _ _ (λ o r n. IfOk r (λ (v : List g.row.D.Denot). BeyondElements (Held g.D.AsnType.shape g.D.AsnType.tree (g.D.Decode.beyond g.D.AsnType.TAG)) o v n)) (λ p r q m. m.1.1) _ _ c.list.ensures c.args.self.now (Ok c.in_ok-values.values) c.inside.new.self c.in_ok-values.ensures.exact))
     tt (rw (← c.len.ensures) c.in-Ok.ensures, k)
 
 pub returns-in-Err : goal.returns-in-Err
 returns-in-Err g c =
-    let read = DecodesElementsInOrder (Decodes g.D.AsnType.shape g.D.AsnType.tree) (λ (v : List g.row.D.Denot). v) in
+    let read = DecodesElementsInOrder (DecodesOr g.D.AsnType.shape g.D.AsnType.tree (g.D.Decode.errors g.D.AsnType.TAG g.D.AsnType.CONSTRAINTS)) (λ (v : List g.row.D.Denot). v) in
     let k = closure_inside _ _ read (λ p r q m. m.0) _ _ c.list.ensures c.args.self.now (Ok c.in_ok-values.values) c.inside.new.self c.in_ok-values.ensures.exact in
-    also_beyond (set_of_decodes g.D.AsnType.shape g.D.AsnType.tree c.args.tag c.args.constraints.now c.args.self.now c.inside.ensures.octets (Err c.error.result) _) tt (codec_is c.error.ensures ∙ same_rules k.0.stays)
+    also_beyond (set_of_or g.D.AsnType.shape g.D.AsnType.tree (g.D.Decode.errors g.D.AsnType.TAG g.D.AsnType.CONSTRAINTS) c.args.tag c.args.constraints.now c.args.self.now c.inside.ensures.octets (Err c.error.result) _) tt (codec_is c.error.ensures ∙ same_rules k.0.stays)
     (unsized read (λ (v : List g.row.D.Denot). length v) c.args.tag c.args.constraints.now c.args.self.now _ c.in_ok-values.values _ _ k (rw (← c.len.ensures) c.in-Err.ensures) c.error.ensures)

@@ -34,15 +34,15 @@ returns-then-self-left-clause-rules g c = (codec_is c.error.ensures) ∙ (placed
 pub returns-in_err-tag-clause-fails : goal.returns-in_err-tag-clause-fails
 returns-in_err-tag-clause-fails g c =
     let ps = g.P.DecodeSetParts.parts in
-    rw (residual _ c.from_residual.ensures.1) (inl (choice_decodes (choice ps) ps refl (λ (t : Tree). t) c.args.self.now (Err c.in_err-tag.field-0.0) c.args.self.now (inl (c.in_err-tag.ensures.exact, refl)), inl (c.in_err-tag.ensures.exact, refl)))
+    rw (residual _ c.from_residual.ensures.1) (inl (choice_decodes (choice ps) ps refl (λ (t : Tree). t) c.args.self.now (Err c.in_err-tag.field-0.0) c.args.self.now (inl (c.in_err-tag.ensures.exact, refl)), (inl (c.in_err-tag.ensures.exact, refl), inl (c.in_err-tag.ensures.exact, refl))))
 
 pub returns-in_err-twice-clause-fails : goal.returns-in_err-twice-clause-fails
 returns-in_err-twice-clause-fails g c =
-    rw (residual _ c.from_residual-in_err-twice.ensures.1) (named_refused g.P.DecodeSetParts.parts _ _ _ _ _ c.in_ok-tag.ensures.next c.in_err-twice.ensures.reads c.in_err-twice.ensures.fails)
+    rw (residual _ c.from_residual-in_err-twice.ensures.1) (named_refused g.P.DecodeSetParts.parts _ g.P.DecodeSetParts.errors _ _ _ _ c.in_ok-tag.ensures.next c.in_err-twice.ensures.reads c.in_err-twice.ensures.fails c.in_err-twice.ensures.errors)
 
 pub returns-then-self-left-clause-fails : goal.returns-then-self-left-clause-fails
 returns-then-self-left-clause-fails g c =
-    named_takes_nothing g.P.DecodeSetParts.parts _ (g.P.DecodeSetParts.held c.args.slots.now) (g.P.DecodeSetParts.held c.decode_component.new.slots) _ _ c.args.name.now
+    named_takes_nothing g.P.DecodeSetParts.parts _ (g.P.DecodeSetParts.held c.args.slots.now) (g.P.DecodeSetParts.held c.decode_component.new.slots) _ _ c.args.name.now g.P.DecodeSetParts.errors
     c.in_ok-twice.twice c.in_ok-twice.ensures.reads (search rules) (length c.self.inside.rest.now)
     (ap (λ (s : State). length s.rest) c.self.view_is) _ c.error.ensures
 

@@ -14,7 +14,7 @@ pub returns : goal.returns
 returns g c =
     let read = DecodesParts g.P.DecodeParts.parts g.P.DecodeParts.tree in
     record {
-      exact = closure_inside _ _ (DecodesInParts g.P.DecodeParts.parts g.P.DecodeParts.tree) (λ p r q m. m.0) _ _ c.sequence.ensures _ _ _ c.inside.ensures.exact;
+      exact = closure_inside _ _ (DecodesInParts g.P.DecodeParts.parts g.P.DecodeParts.tree g.P.DecodeParts.errors) (λ p r q m. m.0) _ _ c.sequence.ensures _ _ _ c.inside.ensures.exact;
       reads = parts_decode g.P.DecodeParts.parts c.requires.no_initializer g.P.DecodeParts.tree read c.args.tag c.args.self.now c.inside.ensures.octets (λ s r n k. k) _ _
           (closure_inside _ _ read (λ p r q m. m.1.0) _ _ c.sequence.ensures _ _ _ c.inside.ensures.exact);
       beyond = inside_beyond g.P.DecodeParts.beyond (sequence_header c.args.tag) c.args.self.now _ _

@@ -29,7 +29,7 @@ returns g c =
     let k = closure_inside _ _ (DecodesSetPartContents ps tree names) (λ p r q m. m.0) _ _ c.sequence.ensures _ _ _ c.inside.ensures.exact in
     record {
       exact = k;
-      fails = closure_inside _ _ (DecodesNamedContents ps tree c.args.name.now names) (λ p r q m. m.1.0) _ _ c.sequence.ensures _ _ _ c.inside.ensures.exact;
+      fails = closure_inside _ _ (DecodesNamedContents ps tree c.args.name.now names g.P.DecodeSetParts.errors) (λ p r q m. m.1.0) _ _ c.sequence.ensures _ _ _ c.inside.ensures.exact;
       reads = set_parts_decode ps tree names c.args.tag c.args.self.now c.inside.ensures.octets _ _ k;
       rules = closure_rules c.args.self.now _ _ (λ p r q m same. m.1.1.0) _ _ _ c.inside.ensures.exact;
       beyond = inside_beyond (BeyondSet ps g.P.DecodeSetParts.beyond) (sequence_header c.args.tag) c.args.self.now _ _

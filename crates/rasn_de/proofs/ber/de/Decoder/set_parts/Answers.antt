@@ -66,20 +66,20 @@ returns-clause-rules g c = subst (λ z. IfErr c.gather.result (λ e. e.codec ≡
 pub returns-in_err-last-clause-fails : goal.returns-in_err-last-clause-fails
 returns-in_err-last-clause-fails g c =
     let at = c.loop-last in
-    rw (residual _ c.from_residual.ensures.1) (untold_named g.P.DecodeSetParts.parts g.P.DecodeSetParts.tree _ _ c.args.self.now at.self at.last at.twice _ at.invariant.read c.loop-last-test.ensures _ c.in_err-last.ensures)
+    rw (residual _ c.from_residual.ensures.1) (untold_named g.P.DecodeSetParts.parts g.P.DecodeSetParts.tree _ _ g.P.DecodeSetParts.errors c.args.self.now at.self at.last at.twice _ at.invariant.read c.loop-last-test.ensures _ c.in_err-last.ensures)
 
 pub returns-in_err-next-clause-fails : goal.returns-in_err-next-clause-fails
 returns-in_err-next-clause-fails g c =
     let at = c.loop-last in
     rw (residual _ c.from_residual-in_err-next.ensures.1)
-    (named_fails g.P.DecodeSetParts.parts g.P.DecodeSetParts.tree _ _ c.args.self.now at.self at.last at.twice _ at.invariant.read c.loop-last-test.ensures _ c.in_ok-last.ensures _ _ c.in_err-next.ensures.fails)
+    (named_fails g.P.DecodeSetParts.parts g.P.DecodeSetParts.tree _ _ g.P.DecodeSetParts.errors c.args.self.now at.self at.last at.twice _ at.invariant.read c.loop-last-test.ensures _ c.in_ok-last.ensures _ _ c.in_err-next.ensures.fails)
 
 pub returns-in-Some-clause-fails : goal.returns-in-Some-clause-fails
 returns-in-Some-clause-fails g c =
     let at = c.loop-last in
     let names = map text c.args.names.now in
     let h : at.twice ≡ Some c.in-Some.part = search rules in
-    made_named g.P.DecodeSetParts.parts g.P.DecodeSetParts.tree c.args.name.now names c.args.self.now at.self (Err c.duplicate_field.result) (made_twice g.P.DecodeSetParts.parts names g.P.DecodeSetParts.tree c.args.self.now at.self at.last (g.P.DecodeSetParts.held at.slots) c.loop-last-test.ensures c.in-Some.part
+    made_named g.P.DecodeSetParts.parts g.P.DecodeSetParts.tree c.args.name.now names g.P.DecodeSetParts.errors c.args.self.now at.self (Err c.duplicate_field.result) (made_twice g.P.DecodeSetParts.parts names g.P.DecodeSetParts.tree c.args.self.now at.self at.last (g.P.DecodeSetParts.held at.slots) c.loop-last-test.ensures c.in-Some.part
     (subst (λ z. ReadTo g.P.DecodeSetParts.parts names c.args.self.now at.self at.last z (g.P.DecodeSetParts.held at.slots)) h at.invariant.read) _
     (subst (λ z. IsNamedError (IsDuplicateField (text c.in-Some.part)) z c.duplicate_field.result) c.codec.ensures c.duplicate_field.ensures))
 
@@ -88,7 +88,7 @@ returns-clause-fails g c =
     let at = c.loop-last in
     let names = map text c.args.names.now in
     let h : at.twice ≡ None = search rules in
-    made_named g.P.DecodeSetParts.parts g.P.DecodeSetParts.tree c.args.name.now names c.args.self.now at.self c.gather.result (all_made g.P.DecodeSetParts.parts names g.P.DecodeSetParts.tree c.args.self.now at.self at.last (g.P.DecodeSetParts.held at.slots) c.loop-last-test.ensures
+    made_named g.P.DecodeSetParts.parts g.P.DecodeSetParts.tree c.args.name.now names g.P.DecodeSetParts.errors c.args.self.now at.self c.gather.result (all_made g.P.DecodeSetParts.parts names g.P.DecodeSetParts.tree c.args.self.now at.self at.last (g.P.DecodeSetParts.held at.slots) c.loop-last-test.ensures
     (subst (λ z. ReadTo g.P.DecodeSetParts.parts names c.args.self.now at.self at.last z (g.P.DecodeSetParts.held at.slots)) h at.invariant.read) _ c.gather.ensures.makes c.gather.ensures.memory)
 
 pub returns-clause-beyond : goal.returns-clause-beyond

@@ -1,4 +1,4 @@
-use Rattle.std.proofs.Common.{◌≡◌, rules, suc, arith, true, inl, inr, refl, ◌∙◌}
+use Rattle.std.proofs.Common.{◌≡◌, rules, suc, arith, true, false, inl, inr, refl, ◌∙◌}
 use Rattle.rasn_types.specs.Shapes.{required}
 use Rattle.rasn_types.specs.Shapes.Parts.{none}
 use Rattle.rasn_de.proofs.OwnTypes.Parts.{refused}
@@ -25,7 +25,7 @@ pub returns-clause-reads : goal.returns-clause-reads
 returns-clause-reads g c =
     let own = first_has g.A.AsnType.shape g.A.AsnType.TAG none true c.requires.differ in
     let h : c.args.tag ≡ g.A.AsnType.TAG → ⊥ = search rules in
-    record { from = λ k. others_read _ _ _ _ _ h own _ _ c.requires.next k _ (none_read (suc k) _) }
+    record { from = λ k. others_read _ _ _ _ _ h own _ _ c.requires.next false k _ (none_read (suc k) _) }
 
 pub returns-in_err-value-clause-fails : goal.returns-in_err-value-clause-fails
 returns-in_err-value-clause-fails g c =
@@ -40,3 +40,14 @@ returns-clause-fails g c =
 
 pub returns-clause-rules : goal.returns-clause-rules
 returns-clause-rules g c = c.no_valid_choice.ensures.0 ∙ c.codec.ensures
+
+pub returns-in_err-value-clause-errors : goal.returns-in_err-value-clause-errors
+returns-in_err-value-clause-errors g c =
+    let i = c.if-eq.ensures in let j = c.eq.ensures in let t = c.TAG.ensures in let q = c.if-eq.true in
+    let h : c.args.tag ≡ g.A.AsnType.TAG = first_of (search rules, search (rules, i, t), grind (arith, i, j, t, q)) in
+    rw (residual _ c.from_residual.ensures.1) (inl (h, c.in_err-value.ensures.errors))
+
+pub returns-clause-errors : goal.returns-clause-errors
+returns-clause-errors g c =
+    let h : c.args.tag ≡ g.A.AsnType.TAG → ⊥ = search rules in
+    inr (h, tt)

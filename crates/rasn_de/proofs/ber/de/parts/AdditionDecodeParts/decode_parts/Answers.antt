@@ -26,3 +26,10 @@ returns-in_err-rest-clause-rules g c =
 
 pub returns-clause-beyond : goal.returns-clause-beyond
 returns-clause-beyond g c = (_, c.in_ok-value.ensures.reads, c.in_ok-value.ensures.beyond, c.in_ok-rest.ensures.beyond)
+
+pub returns-in_err-value-clause-errors : goal.returns-in_err-value-clause-errors
+returns-in_err-value-clause-errors g c = rw (residual _ c.from_residual.ensures.1) (inl c.in_err-value.ensures.errors)
+
+pub returns-in_err-rest-clause-errors : goal.returns-in_err-rest-clause-errors
+returns-in_err-rest-clause-errors g c =
+    rw (residual _ c.from_residual-in_err-rest.ensures.1) (inr (_, _, c.in_ok-value.ensures.reads, c.in_err-rest.ensures.errors))

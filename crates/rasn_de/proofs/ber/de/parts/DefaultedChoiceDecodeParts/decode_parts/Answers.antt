@@ -1,5 +1,6 @@
 use Rattle.rasn_de.proofs.OwnTypes.Parts.{refused, default_fails, part_refused, after_part_refused, part_got}
 use Rattle.std.proofs.Common.{inl, inr, ◌∙◌}
+use Rattle.rasn_de.proofs.Constructed.ValueErrors.{default_failed}
 use Rattle.rasn_de.proofs.Leaves.Returns.{residual}
 use Rattle.rasn_de.proofs.Leaves.Rules.{same_rules}
 use Rattle.rasn_de.proofs.ber.de.parts.DefaultedChoiceDecodeParts.decode_parts.Goals as goal
@@ -16,7 +17,7 @@ pub returns-clause-reads : goal.returns-clause-reads
 returns-clause-reads g c = part_got _ _ _ (c.in_ok-value.ensures.reads g.V.DefaultValue.default_tree (λ v h. h)) c.in_ok-rest.ensures.reads
 
 pub returns-in_err-value-clause-fails : goal.returns-in_err-value-clause-fails
-returns-in_err-value-clause-fails g c = rw (residual _ c.from_residual.ensures.1) (inl ((default_fails _ g.V.Value.AsnType.tree _ g.V.DefaultValue.default_tree _ _ _ _ (λ v h. h) c.in_err-value.ensures.exact)))
+returns-in_err-value-clause-fails g c = rw (residual _ c.from_residual.ensures.1) (inl ((default_fails _ g.V.Value.AsnType.tree _ g.V.DefaultValue.default_tree _ _ _ _ (λ v h. h) (default_failed g.V.Value.AsnType.shape g.V.Value.AsnType.tree (g.V.Value.Decode.errors g.V.Value.AsnType.TAG g.V.Value.AsnType.CONSTRAINTS) _ _ _ _ _ c.in_err-value.ensures.exact))))
 
 pub returns-in_err-rest-clause-fails : goal.returns-in_err-rest-clause-fails
 returns-in_err-rest-clause-fails g c =
@@ -28,3 +29,10 @@ returns-in_err-rest-clause-rules g c =
 
 pub returns-clause-beyond : goal.returns-clause-beyond
 returns-clause-beyond g c = (_, c.in_ok-value.ensures.reads g.V.DefaultValue.default_tree (λ v h. h), c.in_ok-value.ensures.beyond, c.in_ok-rest.ensures.beyond)
+
+pub returns-in_err-value-clause-errors : goal.returns-in_err-value-clause-errors
+returns-in_err-value-clause-errors g c = rw (residual _ c.from_residual.ensures.1) (inl c.in_err-value.ensures.exact)
+
+pub returns-in_err-rest-clause-errors : goal.returns-in_err-rest-clause-errors
+returns-in_err-rest-clause-errors g c =
+    rw (residual _ c.from_residual-in_err-rest.ensures.1) (inr (_, _, ((c.in_ok-value.ensures.reads g.V.DefaultValue.default_tree (λ v h. h))), c.in_err-rest.ensures.errors))

@@ -37,3 +37,10 @@ returns-in_err-rest-clause-rules g c =
 
 pub returns-clause-beyond : goal.returns-clause-beyond
 returns-clause-beyond g c = (_, default_part g.V.Prefix.AsnType.TAG _ _ (first_agrees (prefix g.V.Prefix.AsnType.TAG g.V.Value.AsnType.shape) g.V.Prefix.AsnType.TAG g.R.DecodeParts.tags_agree c.requires) (under_tag c.TAG.ensures _ _ (c.in_ok-value.ensures.reads g.V.DefaultValue.default_tree (λ v h. h))), rw (← c.TAG.ensures) c.in_ok-value.ensures.beyond, c.in_ok-rest.ensures.beyond)
+
+pub returns-in_err-value-clause-errors : goal.returns-in_err-value-clause-errors
+returns-in_err-value-clause-errors g c = rw (residual _ c.from_residual.ensures.1) (inl (rw (← c.TAG.ensures) c.in_err-value.ensures.exact))
+
+pub returns-in_err-rest-clause-errors : goal.returns-in_err-rest-clause-errors
+returns-in_err-rest-clause-errors g c =
+    rw (residual _ c.from_residual-in_err-rest.ensures.1) (inr (_, _, (default_part g.V.Prefix.AsnType.TAG _ _ (first_agrees (prefix g.V.Prefix.AsnType.TAG g.V.Value.AsnType.shape) g.V.Prefix.AsnType.TAG g.R.DecodeParts.tags_agree c.requires) (under_tag c.TAG.ensures _ _ (c.in_ok-value.ensures.reads g.V.DefaultValue.default_tree (λ v h. h)))), c.in_err-rest.ensures.errors))

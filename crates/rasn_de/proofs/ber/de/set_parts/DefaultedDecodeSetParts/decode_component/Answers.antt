@@ -1,5 +1,8 @@
 use Rattle.std.proofs.Common.{◌≡◌, ◌&&◌, rules, ◌∙◌, inl}
+use Rattle.std.specs.Prelude.{IfOk}
 use Rattle.rasn_types.specs.Shapes.{default}
+use Rattle.rasn_de.specs.ValueErrors.{errors_of, DecodesOr}
+use Rattle.rasn_de.specs.Optional.{DecodesOrDefault}
 use Rattle.rasn_de.specs.PartTypes.{is_looked_for}
 use Rattle.rasn_de.proofs.Leaves.Returns.{residual}
 use Rattle.rasn_de.proofs.OwnTypes.Parts.{default_part, default_fails, own_default_fails}
@@ -9,6 +12,7 @@ use Rattle.rasn_de.proofs.OwnTypes.Tags.{tag_is}
 use Rattle.rasn_de.proofs.OwnTypes.SetPartTypes.{placed_here, placed_refused, placed_other, others_fail}
 use Rattle.rasn_de.specs.Beyond.{got, BeyondSlot}
 use Rattle.rasn_de.proofs.Constructed.Beyond.{slot_placed, default_read, ok_also}
+use Rattle.rasn_de.proofs.Constructed.ValueErrors.{other_errors, default_failed}
 use Rattle.rasn_de.proofs.ber.de.set_parts.DefaultedDecodeSetParts.decode_component.Goals as goal
 
 pub decode_component-requires-clause-differ : goal.decode_component-requires-clause-differ
@@ -41,7 +45,7 @@ returns-in_err-value-clause-fails g c =
       own_tag g.V.Value.AsnType.shape c.args.tag g.V.Value.AsnType.TAG h (first_has g.V.Value.AsnType.shape g.V.Value.AsnType.TAG g.R.DecodeSetParts.parts (is_looked_for g.V.Value.AsnType.shape g.V.Value.AsnType.TAG && g.R.DecodeSetParts.tags_differ) c.requires.differ),
       own_default_fails g.V.Value.AsnType.shape g.V.DefaultValue.default_tree
           (first_agrees g.V.Value.AsnType.shape g.V.Value.AsnType.TAG g.R.DecodeSetParts.tags_differ (others_differ g.V.Value.AsnType.shape g.V.Value.AsnType.TAG g.R.DecodeSetParts.parts (is_looked_for g.V.Value.AsnType.shape g.V.Value.AsnType.TAG && g.R.DecodeSetParts.tags_differ) c.requires.differ))
-          (default_fails _ g.V.Value.AsnType.tree _ g.V.DefaultValue.default_tree _ _ _ _ (λ v h. h) c.in_err-value.ensures.exact),
+          (default_fails _ g.V.Value.AsnType.tree _ g.V.DefaultValue.default_tree _ _ _ _ (λ v h. h) (default_failed g.V.Value.AsnType.shape g.V.Value.AsnType.tree (g.V.Value.Decode.errors g.V.Value.AsnType.TAG g.V.Value.AsnType.CONSTRAINTS) _ _ _ _ _ c.in_err-value.ensures.exact)),
     ))
 
 pub returns-clause-fails : goal.returns-clause-fails
@@ -57,3 +61,13 @@ returns-then-eq-clause-kept g c = λ starts m k n.
 pub returns-clause-kept : goal.returns-clause-kept
 returns-clause-kept g c = λ starts m k n.
     ok_also (BeyondSlot (got (g.V.Value.Decode.beyond g.V.Value.AsnType.TAG)) starts c.args.slots.now.0) (g.R.DecodeSetParts.kept starts c.decode_component.new.slots) c.decode_component.result k.0 (c.decode_component.ensures.kept starts m k.1 n)
+
+pub returns-in_err-value-clause-errors : goal.returns-in_err-value-clause-errors
+returns-in_err-value-clause-errors g c =
+    let h : c.args.tag ≡ g.V.Value.AsnType.TAG = tag_is c.args.tag c.TAG.result c.if-eq.ensures ∙ c.TAG.ensures in
+    rw (residual _ c.from_residual.ensures.1) (inl (h, c.in_err-value.ensures.exact))
+
+pub returns-clause-errors : goal.returns-clause-errors
+returns-clause-errors g c =
+    let h : c.args.tag ≡ g.V.Value.AsnType.TAG → ⊥ = search rules in
+    other_errors g.V.Value.AsnType.TAG (errors_of (DecodesOrDefault (DecodesOr g.V.Value.AsnType.shape g.V.Value.AsnType.tree (g.V.Value.Decode.errors g.V.Value.AsnType.TAG g.V.Value.AsnType.CONSTRAINTS)) g.V.Value.AsnType.tree (λ made. IfOk made (λ v. g.V.Value.AsnType.tree v ≡ g.V.DefaultValue.default_tree)) g.V.Value.AsnType.TAG)) g.R.DecodeSetParts.errors c.args.tag _ _ c.decode_component.result h c.decode_component.ensures.errors

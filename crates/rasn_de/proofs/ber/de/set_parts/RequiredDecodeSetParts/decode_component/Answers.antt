@@ -5,6 +5,7 @@ use Rattle.rasn_de.proofs.OwnTypes.AlternativeTypes.{first_has, others_have_not,
 use Rattle.rasn_de.proofs.OwnTypes.SetPartTypes.{placed_here, placed_refused, placed_other, others_fail}
 use Rattle.rasn_de.specs.Beyond.{got, BeyondSlot}
 use Rattle.rasn_de.proofs.Constructed.Beyond.{slot_placed, ok_also}
+use Rattle.rasn_de.proofs.Constructed.ValueErrors.{other_errors}
 use Rattle.rasn_de.proofs.ber.de.set_parts.RequiredDecodeSetParts.decode_component.Goals as goal
 
 pub decode_component-requires-clause-differ : goal.decode_component-requires-clause-differ
@@ -50,3 +51,14 @@ returns-then-eq-clause-kept g c = λ starts m k n.
 pub returns-clause-kept : goal.returns-clause-kept
 returns-clause-kept g c = λ starts m k n.
     ok_also (BeyondSlot (got (g.A.Decode.beyond g.A.AsnType.TAG)) starts c.args.slots.now.0) (g.R.DecodeSetParts.kept starts c.decode_component.new.slots) c.decode_component.result k.0 (c.decode_component.ensures.kept starts m k.1 n)
+
+pub returns-in_err-value-clause-errors : goal.returns-in_err-value-clause-errors
+returns-in_err-value-clause-errors g c =
+    let i = c.if-eq.ensures in let j = c.eq.ensures in let t = c.TAG.ensures in let q = c.if-eq.true in
+    let h : c.args.tag ≡ g.A.AsnType.TAG = first_of (search rules, search (rules, i, t), grind (arith, i, j, t, q)) in
+    rw (residual _ c.from_residual.ensures.1) (inl (h, c.in_err-value.ensures.errors))
+
+pub returns-clause-errors : goal.returns-clause-errors
+returns-clause-errors g c =
+    let h : c.args.tag ≡ g.A.AsnType.TAG → ⊥ = search rules in
+    other_errors g.A.AsnType.TAG (g.A.Decode.errors g.A.AsnType.TAG g.A.AsnType.CONSTRAINTS) g.R.DecodeSetParts.errors c.args.tag _ _ c.decode_component.result h c.decode_component.ensures.errors
