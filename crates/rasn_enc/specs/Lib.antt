@@ -20,3 +20,4 @@ pub mod Unknown
 pub mod Buffer
 pub mod AlternativeTypes
 pub mod ValueErrors
+pub mod SortedSet
