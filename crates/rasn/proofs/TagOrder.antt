@@ -67,11 +67,14 @@ InTurn c d = c.tag ≡ d.tag → c.number < d.number
 
 below_before : (c : Component) (cs : List Component) → IsBeforeAll InTurn c cs → IsBeforeAll IsNotComponentAbove c cs → IsBeforeAll ComesBefore c cs
 below_before c [] h k = tt
-below_before c (d ∷ cs) h k = (elim (below_or_same c.tag d.tag) [
-  | inl l ↦ inl l
-  | inr (inl l) ↦ absurd (k.0 l)
-  | inr (inr e) ↦ inr (e, h.0 e)
-], below_before c cs h.1 k.1)
+below_before c (d ∷ cs) h k = (
+  elim (below_or_same c.tag d.tag) [
+    | inl l ↦ inl l
+    | inr (inl l) ↦ absurd (k.0 l)
+    | inr (inr e) ↦ inr (e, h.0 e)
+  ],
+  below_before c cs h.1 k.1,
+)
 
 pub all_before : (cs : List Component) → AreInOrder InTurn cs → AreInOrder IsNotComponentAbove cs → AreInOrder ComesBefore cs
 all_before [] h k = tt

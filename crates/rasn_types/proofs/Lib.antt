@@ -8,6 +8,7 @@ pub mod InOrder
 pub mod CharacterString
 pub mod SetOf
 pub mod SetTrees
+pub mod SortedSets
 pub mod Enumerated
 pub mod Dotted
 pub mod PaddedSize

@@ -1,5 +1,5 @@
 -- The tree of a SET determines those of its parts and of its unknown values.
-use Rattle.std.proofs.Common.{◌≡◌, inl, inr, List, [], ◌∷◌, ◌++◌, Bool, true, false, refl, sym, ap, ap₂, ◌∙◌, subst}
+use Rattle.std.proofs.Common.{◌≡◌, List, [], ◌∷◌, ◌++◌, Bool, true, false, refl, sym, ap, ap₂, ◌∙◌, subst}
 use Rattle.rasn_types.specs.Order.{Each}
 use Rattle.rasn_types.specs.Shapes.{Tree, items, IsSetTree, Same}
 use Rattle.rasn_types.proofs.SetOf.Same.{items_one, same_each, each_same}

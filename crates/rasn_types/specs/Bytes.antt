@@ -168,7 +168,8 @@ abbrev pub WritesSet : Codec → Tag → List Field → Writing Tree
 WritesSet rule tag fs t b = (ts : List Tree) × (bs : List (List ℕ)) × (tags : List Tag) × (t ≡ items ts) × PartsWritten fs ts bs
     × NoneUntaggedOpen fs ts bs × TagsOf bs tags × AreAscending IsTagBelow tags × ConstructedEncoding rule tag (joined_lists bs) b
 
--- The components are in ascending order of their tags, whatever the order of the parts is (9.3, 10.3).
+-- The components, unknown ones among them, are in ascending order of their tags, whatever the order of the parts is
+-- (9.3, 10.3).
 abbrev pub WritesSortedSet : Codec → Bool → Tag → Parts → List Field → Writing Tree
 WritesSortedSet rule extensible tag ps fs t b = (ts : List Tree) × (us : List Tree) × (bs : List (List ℕ)) × (cs : List Component) × (es : List Component) × (ds : List Component)
     × IsSetTree extensible ts us t × PartsWritten fs ts bs × ComponentsOf rule 0 ps bs cs × UnknownComponents (count ps) us es

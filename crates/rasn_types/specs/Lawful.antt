@@ -87,6 +87,7 @@ unfoldable mutual
   AreLawfulByTag (part presence s ps) = (presence ≢ addition) × HasTag s × IsAlwaysPresent s × IsLawful s
       × ((m n : Tag) → IsFirst s m → IsFirstOf ps n → IsTagBelow m n) × AreLawfulByTag ps
 
+  -- Parts in any order, each of which has a tag.
   pub AreComponents : Parts → Type 0
   AreComponents none = Unit {0}
   AreComponents (part presence s ps) = (presence ≢ addition) × HasTag s × IsAlwaysPresent s × IsLawful s × AreComponents ps

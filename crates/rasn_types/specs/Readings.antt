@@ -143,8 +143,8 @@ abbrev pub AllOf : ℕ → List Tree → List Tree → Type 0
 AllOf k [] us = us ≡ []
 AllOf k (r ∷ rs) us = ((u : Tree) × (more : List Tree) × (r ≡ chosen k u) × (us ≡ u ∷ more) × AllOf k rs more) ⊎ (((u : Tree) → r ≢ chosen k u) × AllOf k rs us)
 
--- The same of a SET some of whose components may be unknown, anywhere among the others: those that are read as one of
--- the parts and have the number k, which is that after the last part. Their trees are in the order in which they are read.
+-- The same of a SET with unknown components, anywhere among the others, which have the number k, after those of the
+-- parts. Their trees are in the order in which they are read; without an extension marker there are none.
 abbrev pub ReadsSortedSet : Codec → Bool → List Presence → ℕ → Reading Tree → Bool → Reading Tree
 ReadsSortedSet rule extensible ps k reads closing input t rest = (readings : List Tree) × (ts : List Tree) × (us : List Tree) × IsSetTree extensible ts us t
     × ReadsMany reads closing input readings rest × ByPart 0 ps readings ts × AllOf k readings us
