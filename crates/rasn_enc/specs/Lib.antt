@@ -21,3 +21,4 @@ pub mod Buffer
 pub mod AlternativeTypes
 pub mod ValueErrors
 pub mod SortedSet
+pub mod LeadingTag

@@ -1,10 +1,16 @@
 -- Components that are put in the order of their tags: those of parts, which are written one by one, and of unknown
 -- values.
-use Rattle.std.proofs.Common.{◌≡◌, ◌≢◌, ℕ, suc, ◌+◌, ◌<◌, ◌≤◌, ◌⊎◌, inl, inr, Bool, true, false, ◌||◌, ◌&&◌, if◌then◌else◌, List, [], ◌∷◌, ◌++◌, map, length, take, drop, Option, Some, None, refl, sym, ap, ap₂, ◌∙◌, subst, arith, nat_lt, nat_eq, Result, Ok, Err, OnOk, IfOk, IfErr}
+use Rattle.std.proofs.Common.{◌≡◌, ◌≢◌, ℕ, zero, suc, ◌+◌, ◌-◌, ◌<◌, ◌≤◌, ◌⊎◌, inl, inr, Bool, true, false, ◌||◌, ◌&&◌, if◌then◌else◌, List, [], ◌∷◌, ◌++◌, map, length, take, drop, get_or, Option, Some, None, refl, sym, ap, ap₂, ◌∙◌, subst, arith, nat_lt, nat_eq, Result, Ok, Err, OnOk, IfOk, IfErr}
+use Rattle.std.specs.List.{insert}
 use Rattle.std.proofs.lemmas.Bool.Decides.{nat_tests}
+use Rattle.std.proofs.lemmas.Grind.{common_steps}
+use Rattle.std.proofs.Math.Seq.{take-suc, drop-cons}
 use Rattle.std.proofs.lemmas.List.{append-nil, append_assoc}
 use Rattle.std.proofs.lemmas.Result.{on_ok_weaker, IfErr-weaker}
-use Rattle.rasn_types.specs.Tags.{Codec, Ber, Cer, Der, Tag, rank, IsTagBelow}
+use Rattle.rasn_types.specs.Tags.{rank, IsTagBelow}
+use Rattle.rasn_types.specs.declared.types.codec.Codec.{Codec}
+use Rattle.rasn_types.specs.declared.types.codec.Codec.TheVariants.{Ber, Cer, Der}
+use Rattle.rasn_types.specs.declared.types.tag.Tag.{Tag}
 use Rattle.rasn_types.specs.Framing.{Begins}
 use Rattle.rasn_types.specs.Contents.{joined_lists}
 use Rattle.rasn_types.specs.Shapes.{Shape, leaf, any, prefix, choice, open_choice, option, seq, set, sorted_set, list, set_of, unknown, own, IsFirst, Kind, Tree, numbers, items, done, joined, IsSetTree, Parts, part, count, Presence, required, optional_by, default_by, addition}
@@ -21,7 +27,7 @@ use Rattle.rasn_enc.specs.View.{View, appended, started}
 use Rattle.rasn_enc.specs.Primitive.{Appends}
 use Rattle.rasn_enc.specs.Encoding.{AppendsEncoding, EncodeFails, NoEncodingOfPart}
 use Rattle.rasn_enc.specs.Sequence.{AppendsParts, EncodePartsFails, NoEncodingOfParts, HasUntaggedInSet}
-use Rattle.rasn_enc.specs.ValueErrors.{IsErrorOfParts}
+use Rattle.rasn_enc.specs.ValueErrors.{IsAllocErrorOr, IsErrorOfParts}
 use Rattle.rasn_enc.specs.SortedSet.{is_this, is_own, with_component, octets_in, IsWrittenAlone, IsHeldAs, AreFrom, HoldsInOrder, HoldsParts, HaveNoPlaces, FailsAtComponents, IsPartAlone, HoldsUnknown, LackTag}
 use Rattle.rasn_enc.specs.declared.ber.enc.set_parts.SetComponent.{SetComponent}
 use Rattle.rasn_enc.proofs.Leaves.Primitive.{definite_begins, cons_begins, encoded_one}
@@ -91,7 +97,7 @@ not_lower k c d n m h = elim (below_or_same c.tag d.tag) [
 among : (k : ℕ) (c : Component) (x : SetComponent) (xs : List SetComponent) (ds : List Component) → IsHeldAs x c → c.number ≡ k
     → Each IsHeldAs xs ds → AreInOrder ComesBefore ds → AreFrom (suc k) ds → IsAmong k c x xs ds
 among k c x [] ds h n e o f = record { front = []; back = []; is = e; held = (c, [], refl, h, refl); order = (tt, tt); from = (omega arith, tt) }
-among k c x (y ∷ xs) ds h n (d, more, e, r, m) o f = go (is_tag_below y.tag x.tag) refl
+among k c x (y ∷ xs) ds h n (d, more, e, r, m) o f = go (λ u v. among k c x xs more h n m u v) (is_tag_below y.tag x.tag) refl
   where
     o' : AreInOrder ComesBefore (d ∷ more)
     o' = subst (AreInOrder ComesBefore) e o
@@ -99,9 +105,9 @@ among k c x (y ∷ xs) ds h n (d, more, e, r, m) o f = go (is_tag_below y.tag x.
     f' : AreFrom (suc k) (d ∷ more)
     f' = subst (AreFrom (suc k)) e f
 
-    go : (b : Bool) → is_tag_below y.tag x.tag ≡ b → IsAmong k c x (y ∷ xs) ds
-    go true t =
-        let w = among k c x xs more h n m o'.1 f'.1 in
+    go : (AreInOrder ComesBefore more → AreFrom (suc k) more → IsAmong k c x xs more) → (b : Bool) → is_tag_below y.tag x.tag ≡ b → IsAmong k c x (y ∷ xs) ds
+    go further true t =
+        let w = further o'.1 f'.1 in
         let l : IsTagBelow d.tag c.tag = subst (λ a. IsTagBelow a c.tag) r.0 (subst (IsTagBelow y.tag) h.0 (is_below y.tag x.tag t)) in
         record {
           front = d ∷ w.front;
@@ -111,7 +117,7 @@ among k c x (y ∷ xs) ds h n (d, more, e, r, m) o f = go (is_tag_below y.tag x.
           order = (before_more d c w.front w.back (inl l) (subst (IsBeforeAll ComesBefore d) w.is o'.0), w.order);
           from = (omega (arith, f'.0), w.from);
         }
-    go false t =
+    go further false t =
         let l : ComesBefore c d = not_lower k c d n f'.0 (λ b. isnt_below y.tag x.tag t (subst (IsTagBelow y.tag) (sym h.0) (subst (λ a. IsTagBelow a c.tag) (sym r.0) b))) in
         record {
           front = [];
@@ -134,6 +140,61 @@ held_more k c x cs xs h n q =
 
 held_less : (k : ℕ) (cs : List Component) (xs : List SetComponent) → HoldsInOrder (suc k) cs xs → HoldsInOrder k cs xs
 held_less k cs xs q = record { sorted = q.sorted; held = q.held; reordered = q.reordered; order = q.order; from = from_less k q.sorted q.from }
+
+-- The components before this number have tags below this one.
+pub record IsPlaceFrom (tag : Tag) (xs : List SetComponent) (at : ℕ) : Type 0 where
+  pub within : at ≤ length xs
+  pub is : (x : SetComponent) → x.tag ≡ tag → with_component x xs ≡ take at xs ++ with_component x (drop at xs)
+
+pub place_start : (tag : Tag) (xs : List SetComponent) → IsPlaceFrom tag xs 0
+place_start tag xs = record { within = omega arith; is = λ x e. refl }
+
+-- A component whose tag is below is passed.
+passes : (x y : SetComponent) (ys : List SetComponent) → IsTagBelow y.tag x.tag → with_component x (y ∷ ys) ≡ y ∷ with_component x ys
+passes x y ys b = go (is_tag_below y.tag x.tag) refl
+  where
+    go : (t : Bool) → is_tag_below y.tag x.tag ≡ t → (if t then y ∷ with_component x ys else x ∷ y ∷ ys) ≡ y ∷ with_component x ys
+    go true e = refl
+    go false e = absurd (isnt_below y.tag x.tag e b)
+
+stops : (x y : SetComponent) (ys : List SetComponent) → (IsTagBelow y.tag x.tag → ⊥) → with_component x (y ∷ ys) ≡ x ∷ y ∷ ys
+stops x y ys b = go (is_tag_below y.tag x.tag) refl
+  where
+    go : (t : Bool) → is_tag_below y.tag x.tag ≡ t → (if t then y ∷ with_component x ys else x ∷ y ∷ ys) ≡ x ∷ y ∷ ys
+    go true e = absurd (b (is_below y.tag x.tag e))
+    go false e = refl
+
+dropped_is : (xs : List SetComponent) (at : ℕ) (y : SetComponent) → at < length xs → y ≡ get_or xs at y → drop at xs ≡ y ∷ drop (suc at) xs
+dropped_is xs at y h e = drop-cons xs at y h ∙ ap (λ z. z ∷ drop (suc at) xs) (sym e)
+
+pub place_more : (tag : Tag) (xs : List SetComponent) (at : ℕ) (y : SetComponent) → IsPlaceFrom tag xs at → at < length xs → y ≡ get_or xs at y → IsTagBelow y.tag tag → IsPlaceFrom tag xs (at + 1)
+place_more tag xs at y p h e b = record {
+  within = omega arith;
+  is = λ x f.
+      let i : with_component x (drop at xs) ≡ y ∷ with_component x (drop (suc at) xs) = ap (with_component x) (dropped_is xs at y h e) ∙ passes x y (drop (suc at) xs) (subst (IsTagBelow y.tag) (sym f) b) in
+      let j : take (suc at) xs ≡ take at xs ++ (y ∷ []) = take-suc xs at y h ∙ ap (λ z. take at xs ++ (z ∷ [])) (sym e) in
+      let k : at + 1 ≡ suc at = omega arith in
+      let l : take at xs ++ with_component x (drop at xs) ≡ take (suc at) xs ++ with_component x (drop (suc at) xs) =
+          ap (λ l. take at xs ++ l) i ∙ (sym (append_assoc (take at xs) (y ∷ []) (with_component x (drop (suc at) xs))) ∙ ap (λ l. l ++ with_component x (drop (suc at) xs)) (sym j)) in
+      p.is x f ∙ (l ∙ ap (λ n. take n xs ++ with_component x (drop n xs)) (sym k));
+}
+
+pub place_here : (tag : Tag) (xs : List SetComponent) (at : ℕ) (y : SetComponent) → IsPlaceFrom tag xs at → at < length xs → y ≡ get_or xs at y → (IsTagBelow y.tag tag → ⊥)
+    → (x : SetComponent) → x.tag ≡ tag → insert xs at x ≡ with_component x xs
+place_here tag xs at y p h e b x f =
+    let d = dropped_is xs at y h e in
+    let i : with_component x (drop at xs) ≡ x ∷ drop at xs =
+        ap (with_component x) d ∙ (stops x y (drop (suc at) xs) (λ n. b (subst (IsTagBelow y.tag) f n)) ∙ ap (λ l. x ∷ l) (sym d)) in
+    ap (λ l. take at xs ++ l) (sym i) ∙ sym (p.is x f)
+
+pub place_end : (tag : Tag) (xs : List SetComponent) (at : ℕ) → IsPlaceFrom tag xs at → length xs ≤ at → (x : SetComponent) → x.tag ≡ tag → insert xs at x ≡ with_component x xs
+place_end tag xs at p h x f =
+    let d : drop at xs ≡ [] = all_dropped xs at h in
+    let i : with_component x (drop at xs) ≡ x ∷ drop at xs = ap (with_component x) d ∙ ap (λ l. x ∷ l) (sym d) in
+    ap (λ l. take at xs ++ l) (sym i) ∙ sym (p.is x f)
+  where
+    all_dropped : (xs : List SetComponent) (at : ℕ) → length xs ≤ at → drop at xs ≡ []
+    all_dropped xs at h = grind (arith, common_steps)
 
 -- ---- octets that begin with the own tag of their shape
 
@@ -197,6 +258,16 @@ part_is addition writes t b (inl h) n = absurd (n h.1)
 part_is addition writes t b (inr h) n = h.1
 part_is (default_by key d) writes t b (inl h) n = absurd (n h.1)
 part_is (default_by key d) writes t b (inr h) n = h.1
+
+-- A vector without octets, by its length.
+pub no_octets : (l : List ℕ) (n : ℕ) (b : Bool) → n ≡ length l → b ≡ nat_eq n 0 → b ≡ true → l ≡ []
+no_octets [] n b e f g = refl
+no_octets (x ∷ l) n b e f g = let k : n ≡ 0 = grind (arith, nat_tests) in absurd (omega (arith, e, k))
+
+pub some_octets : (l : List ℕ) (n : ℕ) (b : Bool) → n ≡ length l → b ≡ nat_eq n 0 → b ≡ false → l ≢ []
+some_octets l n b e f g h =
+    let k : n ≡ 0 = e ∙ ap length h in
+    grind (arith, nat_tests)
 
 -- ---- one part and those after it
 
@@ -294,10 +365,30 @@ module _ (p : Presence) (s : Shape) (t : Tree) (tag : Tag) (alone : Parts) (tree
   others_fail extensible ps others e (inl m) = inl m
   others_fail extensible ps others e (inr n) = inr (others_lack extensible p s ps t others rule n)
 
+-- What is known of a result is used where it is given.
+pub ok_given : {V : Type 0} (r : Result V EncodeError) (P Q : V → Type 0) → IfOk r P → ((v : V) → P v → Q v) → IfOk r Q
+ok_given (Ok v) P Q h f = f v h
+ok_given (Err e) P Q h f = tt
+
+pub err_given : {V : Type 0} (r : Result V EncodeError) (P Q : EncodeError → Type 0) → IfErr r P → ((e : EncodeError) → P e → Q e) → IfErr r Q
+err_given (Ok v) P Q h f = tt
+err_given (Err e) P Q h f = f e h
+
+pub alone : (p : Presence) (s : Shape) (t : Tree) (tag own_tag : Tag) → own s ≡ Some own_tag → tag ≡ own_tag → IsPartAlone p s t tag (part p s none) (joined t done)
+alone p s t tag own_tag e f = record { parts = refl; tree_is = refl; own_is = e ∙ ap Some (sym f) }
+
 -- An error of a part alone is one of the part.
-pub error_alone : (rule : Codec) (p : Presence) (s : Shape) (t : Tree) (first : EncodeError → Type 0) (e : EncodeError) → IsErrorOfParts rule p s t first (λ x. ⊥) e → first e
-error_alone rule p s t first e (inl h) = h
-error_alone rule p s t first e (inr h) = absurd h.2
+pub errors_of_part : (rule : Codec) (p : Presence) (s : Shape) (t : Tree) (first others : EncodeError → Type 0) (e : EncodeError)
+    → IsAllocErrorOr rule (IsErrorOfParts rule p s t (IsErrorOfParts rule p s t first (λ x. ⊥)) others) e → IsAllocErrorOr rule (IsErrorOfParts rule p s t first others) e
+errors_of_part rule p s t first others e (inl m) = inl m
+errors_of_part rule p s t first others e (inr (inl (inl h))) = inr (inl h)
+errors_of_part rule p s t first others e (inr (inl (inr h))) = absurd h.2
+errors_of_part rule p s t first others e (inr (inr h)) = inr (inr h)
+
+pub errors_of_others : (rule : Codec) (p : Presence) (s : Shape) (t : Tree) (first others : EncodeError → Type 0) (octets : List ℕ) (e : EncodeError)
+    → WritesPart p (Bytes rule s) t octets → IsAllocErrorOr rule others e → IsAllocErrorOr rule (IsErrorOfParts rule p s t first others) e
+errors_of_others rule p s t first others octets e w (inl m) = inl m
+errors_of_others rule p s t first others octets e w (inr h) = inr (inr (octets, w, h))
 
 pub no_parts : (rule : Codec) → HoldsParts false none done rule []
 unfolding fields_of
@@ -322,6 +413,20 @@ unknown_more v values x xs q (e, b) = record {
       let c : Component = record { tag = x.tag; number = n; octets = v } in
       (c ∷ h.0, (x.tag, v, h.0, refl, b, refl, h.1), held_more n c x h.0 xs (refl, e) refl h.2);
 }
+
+-- One more value before those that are held already.
+pub unknown_at : (values : List (List ℕ)) (left : ℕ) (v : List ℕ) (x : SetComponent) (xs ys : List SetComponent) → 0 < left → left ≤ length values → v ≡ get_or values (left - 1) v
+    → (x.octets.items ≡ v) × Begins v x.tag → ys ≡ with_component x xs → HoldsUnknown (drop left values) xs → HoldsUnknown (drop (left - 1) values) ys
+unknown_at values zero v x xs ys h l e b f q = absurd (omega (arith, h))
+unknown_at values (suc k) v x xs ys h l e b f q =
+    let i : suc k - 1 ≡ k = omega arith in
+    let d : drop k values ≡ v ∷ drop (suc k) values = drop-cons values k v l ∙ ap (λ z. z ∷ drop (suc k) values) (sym (e ∙ ap (λ n. get_or values n v) i)) in
+    subst (λ n. HoldsUnknown (drop n values) ys) (sym i) (subst (λ z. HoldsUnknown z ys) (sym d) (subst (HoldsUnknown (v ∷ drop (suc k) values)) (sym f) (unknown_more v (drop (suc k) values) x xs q b)))
+
+pub lack_at : (values : List (List ℕ)) (k : ℕ) (v : List ℕ) → k < length values → v ≡ get_or values k v → ((tag : Tag) → Begins v tag → ⊥) → LackTag values
+lack_at [] k v h e n = absurd (omega (arith, h))
+lack_at (w ∷ values) zero v h e n = inl (subst (λ l. (tag : Tag) → Begins l tag → ⊥) e n)
+lack_at (w ∷ values) (suc k) v h e n = inr (lack_at values k v (omega (arith, h)) e n)
 
 pub unknown_parts : (values : List (List ℕ)) (rule : Codec) (xs : List SetComponent) → HoldsUnknown values xs → HoldsParts true none (joined (items (map numbers values)) done) rule xs
 unfolding fields_of
@@ -380,5 +485,5 @@ module _ (extensible : Bool) (tag : Tag) (ps : Parts) (tree : Tree) (v : View) w
   unfolding Bytes
   sorted_refused e (inl m) = record { why = inl m }
   sorted_refused e (inr n) = record {
-    why = inr (inl (record { none = λ octets (ts, us, bs, cs, es, ds, is, w, c, u, more). n.none ts us bs 0 (count ps) cs es is w c u }));
+    why = inr (inl (record { none = λ octets (ts, us, bs, cs, es, ds, is, w, c, u, r, o, d). n.none ts us bs 0 (count ps) cs es is w c u }));
   }

@@ -1,6 +1,6 @@
 //! Writing a SET whose components are put in the order of their tags (X.690 9.3, 10.3), whatever
 //! the order of its parts.
-ghost use Rattle.std.specs.Prelude.{◌≡◌, ◌⊎◌, ℕ, List, true, false, [], IfOk, IfErr, OnOk, OnErr, MatchOption};
+ghost use Rattle.std.specs.Prelude.{◌≡◌, ◌≤◌, ◌⊎◌, ℕ, List, true, false, [], length, IfOk, IfErr, OnOk, OnErr, MatchOption};
 ghost use Rattle.std.specs.List.{insert};
 ghost use Rattle.rasn_types.specs.declared.types.tag.Tag.{Tag};
 ghost use Rattle.rasn_types.specs.Truth.{IsWhether};
@@ -8,14 +8,14 @@ ghost use Rattle.rasn_types.specs.Tags.{IsTagBelow};
 ghost use Rattle.rasn_types.specs.Framing.{Begins};
 ghost use Rattle.rasn_types.specs.Contents.{joined_lists};
 ghost use Rattle.rasn_types.specs.Bytes.{ConstructedEncoding};
-ghost use Rattle.rasn_types.specs.Shapes.{sorted_set, Presence, Shape, Tree, part, joined};
+ghost use Rattle.rasn_types.specs.Shapes.{sorted_set, Presence, Shape, Tree, part as part_first, joined};
 ghost use Rattle.rasn_enc.specs.View.{started, appended, Extends};
 ghost use Rattle.rasn_enc.specs.Primitive.{Appends, IsAllocError};
 ghost use Rattle.rasn_enc.specs.Any.{IsUntaggedInSetError};
 ghost use Rattle.rasn_enc.specs.Encoding.{AppendsEncoding, EncodeFails};
 ghost use Rattle.rasn_enc.specs.Sequence.{EncodePartsFails};
 ghost use Rattle.rasn_enc.specs.ValueErrors.{IsAllocErrorOr, IsErrorOfParts};
-ghost use Rattle.rasn_enc.specs.SortedSet.{with_component, octets_in, IsWrittenAlone, HoldsParts, FailsAtComponents, IsPartAlone};
+ghost use Rattle.rasn_enc.specs.SortedSet.{with_component, octets_in, IsWrittenAlone, HoldsParts, FailsAtComponents, IsPartAlone, HoldsUnknown, LackTag};
 
 use crate::ber::enc::any::any_in_set;
 use crate::ber::enc::parts::{
@@ -41,7 +41,7 @@ pub struct SetComponent {
 /// ends with a reference to [`Unknown`] in place of `End`: components that the type doesn't name,
 /// each of which is written where its tag belongs.
 pub trait EncodeSetParts: Drop {
-    ghost use Rattle.std.specs.Prelude.{Bool, false};
+    ghost use Rattle.std.specs.Prelude.{Bool};
     ghost use Rattle.rasn_types.specs.Shapes.{Parts, Tree};
     ghost use Rattle.rasn_types.specs.declared.types.codec.Codec.{Codec};
     ghost use Rattle.rasn_types.specs.declared.error.encode.EncodeError.{EncodeError};
@@ -49,7 +49,7 @@ pub trait EncodeSetParts: Drop {
     ghost parts: { Parts };
 
     /// Whether the SET has an extension marker.
-    ghost extensible: { Bool } = { false };
+    ghost extensible: { Bool };
 
     ghost tree: { Self → Tree };
 
@@ -85,7 +85,8 @@ fn is_below(tag: Tag, other: Tag) -> bool
 /// Returns the number of the first component whose tag isn't below this one, or the number of
 /// components.
 fn place_of(components: &[SetComponent], tag: Tag) -> usize
-    ensures { (x : SetComponent) → x.tag ≡ tag → insert components.now result x ≡ with_component x components.now }
+    ensures within { result ≤ length components.now }
+    ensures is { (x : SetComponent) → x.tag ≡ tag → insert components.now result x ≡ with_component x components.now }
 {
     let mut at = 0;
     while at < components.len() {
@@ -134,8 +135,8 @@ fn with_part<P: EncodeParts, R: EncodeSetParts>(
     others: R,
 ) -> Result<Vec<SetComponent>, EncodeError>
     requires { R.tags_known ≡ true }
-    ensures ok { IfOk result (λ v. (p : Presence) (s : Shape) (t : Tree) → IsPartAlone p s t tag P.parts (P.tree part) → HoldsParts R.extensible (Rattle.rasn_types.specs.Shapes.part p s R.parts) (joined t (R.tree others)) rule v.items) }
-    ensures refused { IfErr result (λ e. (p : Presence) (s : Shape) (t : Tree) → IsPartAlone p s t tag P.parts (P.tree part) → FailsAtComponents R.extensible (Rattle.rasn_types.specs.Shapes.part p s R.parts) (joined t (R.tree others)) rule e) }
+    ensures ok { IfOk result (λ v. (p : Presence) (s : Shape) (t : Tree) → IsPartAlone p s t tag P.parts (P.tree part) → HoldsParts R.extensible (part_first p s R.parts) (joined t (R.tree others)) rule v.items) }
+    ensures refused { IfErr result (λ e. (p : Presence) (s : Shape) (t : Tree) → IsPartAlone p s t tag P.parts (P.tree part) → FailsAtComponents R.extensible (part_first p s R.parts) (joined t (R.tree others)) rule e) }
     ensures errors { IfErr result (λ e. (p : Presence) (s : Shape) (t : Tree) → IsPartAlone p s t tag P.parts (P.tree part) → IsAllocErrorOr rule (IsErrorOfParts rule p s t (P.errors part rule) (R.errors others rule)) e) }
     ensures rules { IfErr result (λ e. e.codec ≡ rule) }
 {
@@ -172,7 +173,7 @@ fn unknown_components(
     values: &[Any],
 ) -> Result<Vec<SetComponent>, EncodeError>
     ensures ok { IfOk result (λ v. HoldsUnknown values.now v.items) }
-    ensures refused { IfErr result (λ e. IsAllocError rule e ⊎ (IsUntaggedInSetError rule e × LacksTag values.now)) }
+    ensures refused { IfErr result (λ e. IsAllocError rule e ⊎ (IsUntaggedInSetError rule e × LackTag values.now)) }
 {
     let mut components = Vec::new(alloc);
     let mut left = values.len();
@@ -182,4 +183,243 @@ fn unknown_components(
         insert_component(&mut components, component, rule)?;
     }
     Ok(components)
+}
+
+impl EncodeSetParts for End {
+    ghost use Rattle.std.specs.Prelude.{true, false};
+    ghost use Rattle.rasn_types.specs.Shapes.{done};
+    ghost use Rattle.rasn_types.specs.Shapes.Parts.{none};
+
+    ghost parts = { none };
+
+    ghost extensible = { false };
+
+    ghost tree = { λ e. done };
+
+    ghost errors = { λ e rule x. ⊥ };
+
+    ghost tags_known = { true };
+
+    fn encode_components(
+        self,
+        alloc: Global,
+        _rule: Codec,
+    ) -> Result<Vec<SetComponent>, EncodeError> {
+        Ok(Vec::new(alloc))
+    }
+}
+
+/// The components of a SET with an extension marker that its type doesn't name (X.680 27), written
+/// as their octets.
+impl<'a> EncodeSetParts for &'a Unknown {
+    ghost use Rattle.std.specs.Prelude.{true};
+    ghost use Rattle.rasn_types.specs.Shapes.{numbers, joined, done};
+    ghost use Rattle.rasn_types.specs.Shapes.Parts.{none};
+    ghost use Rattle.rasn_types.specs.Trees.{list_tree};
+    ghost use Rattle.rasn_enc.specs.Any.{IsUntaggedInSetError};
+
+    ghost parts = { none };
+
+    ghost extensible = { true };
+
+    ghost tree = { λ u. joined (list_tree numbers u.now.values.items) done };
+
+    ghost errors = { λ u rule. IsUntaggedInSetError rule };
+
+    ghost tags_known = { true };
+
+    fn encode_components(
+        self,
+        alloc: Global,
+        rule: Codec,
+    ) -> Result<Vec<SetComponent>, EncodeError> {
+        unknown_components(alloc, rule, &self.values)
+    }
+}
+
+impl<'a, A: Encode, R: EncodeSetParts> EncodeSetParts for Put<'a, A, R> {
+    ghost use Rattle.std.specs.Prelude.{◌&&◌};
+    ghost use Rattle.rasn_types.specs.Shapes.{part, required, joined};
+    ghost use Rattle.rasn_enc.specs.SortedSet.{is_own};
+    ghost use Rattle.rasn_enc.specs.ValueErrors.{IsErrorOfParts};
+
+    ghost parts = { part required A.shape R.parts };
+
+    ghost extensible = { R.extensible };
+
+    ghost tree = { λ p. joined (A.tree p.0.now) (R.tree p.1) };
+
+    ghost errors = { λ p rule. IsErrorOfParts rule required A.shape (A.tree p.0.now) (A.errors A.TAG A.CONSTRAINTS p.0.now rule) (R.errors p.1 rule) };
+
+    ghost tags_known = { is_own A.shape A.TAG && R.tags_known };
+
+    fn encode_components(
+        self,
+        alloc: Global,
+        rule: Codec,
+    ) -> Result<Vec<SetComponent>, EncodeError> {
+        let Put(value, others) = self;
+        with_part(alloc, rule, A::TAG, Put(value, End), others)
+    }
+}
+
+impl<'a, A: Encode, R: EncodeSetParts> EncodeSetParts for PutOptional<'a, A, R> {
+    ghost use Rattle.std.specs.Prelude.{◌&&◌};
+    ghost use Rattle.rasn_types.specs.Shapes.{part, optional, joined};
+    ghost use Rattle.rasn_types.specs.Trees.{option_tree};
+    ghost use Rattle.rasn_enc.specs.SortedSet.{is_own};
+    ghost use Rattle.rasn_enc.specs.ValueErrors.{IsErrorOfOption, IsErrorOfParts};
+
+    ghost parts = { part optional A.shape R.parts };
+
+    ghost extensible = { R.extensible };
+
+    ghost tree = { λ p. joined (option_tree A.tree p.0.now) (R.tree p.1) };
+
+    ghost errors = { λ p rule. IsErrorOfParts rule optional A.shape (option_tree A.tree p.0.now) (IsErrorOfOption (λ v. A.errors A.TAG A.CONSTRAINTS v rule) p.0.now) (R.errors p.1 rule) };
+
+    ghost tags_known = { is_own A.shape A.TAG && R.tags_known };
+
+    fn encode_components(
+        self,
+        alloc: Global,
+        rule: Codec,
+    ) -> Result<Vec<SetComponent>, EncodeError> {
+        let PutOptional(value, others) = self;
+        with_part(alloc, rule, A::TAG, PutOptional(value, End), others)
+    }
+}
+
+impl<'a, V: DefaultValue, R: EncodeSetParts> EncodeSetParts for PutDefault<'a, V, R>
+where
+    V::Value: Encode,
+{
+    ghost use Rattle.std.specs.Prelude.{◌&&◌};
+    ghost use Rattle.rasn_types.specs.Shapes.{part, default, joined};
+    ghost use Rattle.rasn_enc.specs.SortedSet.{is_own};
+    ghost use Rattle.rasn_enc.specs.ValueErrors.{IsAllocErrorOr, IsErrorOfParts};
+
+    ghost parts = { part (default V.default_tree) V.Value.shape R.parts };
+
+    ghost extensible = { R.extensible };
+
+    ghost tree = { λ p. joined (V.Value.tree p.0.now) (R.tree p.1) };
+
+    ghost errors = { λ p rule. IsErrorOfParts rule (default V.default_tree) V.Value.shape (V.Value.tree p.0.now) (IsAllocErrorOr rule (V.Value.errors V.Value.TAG V.Value.CONSTRAINTS p.0.now rule)) (R.errors p.1 rule) };
+
+    ghost tags_known = { is_own V.Value.shape V.Value.TAG && R.tags_known };
+
+    fn encode_components(
+        self,
+        alloc: Global,
+        rule: Codec,
+    ) -> Result<Vec<SetComponent>, EncodeError> {
+        let PutDefault(value, others) = self;
+        with_part(alloc, rule, V::Value::TAG, PutDefault::<V, End>(value, End), others)
+    }
+}
+
+impl<'a, V: ExplicitDefault, R: EncodeSetParts> EncodeSetParts for PutDefaultExplicit<'a, V, R>
+where
+    V::Value: Encode,
+{
+    ghost use Rattle.rasn_types.specs.Shapes.{part, default, prefix, joined};
+    ghost use Rattle.rasn_enc.specs.ValueErrors.{IsAllocErrorOr, IsErrorOfParts};
+
+    ghost parts = { part (default V.default_tree) (prefix V.Prefix.TAG V.Value.shape) R.parts };
+
+    ghost extensible = { R.extensible };
+
+    ghost tree = { λ p. joined (V.Value.tree p.0.now) (R.tree p.1) };
+
+    ghost errors = { λ p rule. IsErrorOfParts rule (default V.default_tree) (prefix V.Prefix.TAG V.Value.shape) (V.Value.tree p.0.now) (IsAllocErrorOr rule (V.Value.errors V.Value.TAG V.Value.CONSTRAINTS p.0.now rule)) (R.errors p.1 rule) };
+
+    ghost tags_known = { R.tags_known };
+
+    fn encode_components(
+        self,
+        alloc: Global,
+        rule: Codec,
+    ) -> Result<Vec<SetComponent>, EncodeError> {
+        let PutDefaultExplicit(value, others) = self;
+        with_part(alloc, rule, V::Prefix::TAG, PutDefaultExplicit::<V, End>(value, End), others)
+    }
+}
+
+impl<'a, A: Encode, R: EncodeSetParts> EncodeSetParts for PutAddition<'a, A, R> {
+    ghost use Rattle.std.specs.Prelude.{◌&&◌};
+    ghost use Rattle.rasn_types.specs.Shapes.{part, addition, joined};
+    ghost use Rattle.rasn_types.specs.Trees.{option_tree};
+    ghost use Rattle.rasn_enc.specs.SortedSet.{is_own};
+    ghost use Rattle.rasn_enc.specs.ValueErrors.{IsErrorOfOption, IsErrorOfParts};
+
+    ghost parts = { part addition A.shape R.parts };
+
+    ghost extensible = { R.extensible };
+
+    ghost tree = { λ p. joined (option_tree A.tree p.0.now) (R.tree p.1) };
+
+    ghost errors = { λ p rule. IsErrorOfParts rule addition A.shape (option_tree A.tree p.0.now) (IsErrorOfOption (λ v. A.errors A.TAG A.CONSTRAINTS v rule) p.0.now) (R.errors p.1 rule) };
+
+    ghost tags_known = { is_own A.shape A.TAG && R.tags_known };
+
+    fn encode_components(
+        self,
+        alloc: Global,
+        rule: Codec,
+    ) -> Result<Vec<SetComponent>, EncodeError> {
+        let PutAddition(value, others) = self;
+        with_part(alloc, rule, A::TAG, PutAddition(value, End), others)
+    }
+}
+
+impl Encoder {
+    /// Writes a SET (X.690 8.11) of these parts, in the order of their outermost tags
+    /// (X.690 9.3, 10.3; X.680 8.6), whatever their own order. If they end with a reference to
+    /// [`Unknown`], the SET has an extension marker (X.680 27), and each of the values is written
+    /// where its tag belongs.
+    ///
+    /// # Errors
+    /// The error of a part, `AnyInSet` for an unknown value that doesn't begin with an identifier;
+    /// otherwise only `OutOfMemory`. On error, nothing is written.
+    pub fn write_sorted_set<P: EncodeSetParts>(
+        &mut self,
+        tag: Tag,
+        parts: P,
+    ) -> Result<(), EncodeError>
+        requires { P.tags_known ≡ true }
+        ensures ok { OnOk result (AppendsEncoding (sorted_set P.extensible tag P.parts) (P.tree parts) self.old self.new) }
+        ensures err { OnErr result (self.new ≡ self.old) }
+        ensures refused { IfErr result (EncodeFails (sorted_set P.extensible tag P.parts) (P.tree parts) self.old) }
+        ensures errors { IfErr result (IsAllocErrorOr self.old.rule (P.errors parts self.old.rule)) }
+        ensures rules { IfErr result (λ e. e.codec ≡ self.old.rule) }
+    {
+        let components = parts.encode_components(self.alloc(), self.codec())?;
+        self.append_set(tag, &components)
+    }
+
+    /// Writes a constructed value whose contents are these components, one after the other.
+    fn append_set(&mut self, tag: Tag, components: &[SetComponent]) -> Result<(), EncodeError>
+        ensures ok { OnOk result (Appends (ConstructedEncoding self.old.rule tag (joined_lists (octets_in components.now))) tag self.old self.new) }
+        ensures err { OnErr result (self.new ≡ self.old) }
+        ensures memory_alone { IfErr result (IsAllocError self.old.rule) }
+    {
+        self.open(false)?;
+        let outcome = self.append_components(components);
+        self.close(tag, outcome)
+    }
+
+    /// Appends the octets of the components to the last list.
+    fn append_components(&mut self, components: &[SetComponent]) -> Result<(), EncodeError>
+        ensures ok { OnOk result (self.new ≡ appended self.old (joined_lists (octets_in components.now)) []) }
+        ensures extends { Extends self.old self.new }
+        ensures memory_alone { IfErr result (IsAllocError self.old.rule) }
+    {
+        let mut rest = components;
+        while let [component, after @ ..] = rest {
+            self.append_encoded(&component.octets)?;
+            rest = after;
+        }
+        Ok(())
+    }
 }
