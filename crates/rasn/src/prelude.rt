@@ -2,7 +2,7 @@
 
 pub use crate::parts::{
     Addition, DecodeAlternatives, DecodeParts, DecodeSetParts, DefaultValue, Defaulted,
-    DefaultedChoice, DefaultedExplicit, EncodeAlternative, EncodeParts, End, ExplicitDefault, Last,
+    DefaultedChoice, DefaultedExplicit, EncodeAlternative, EncodeParts, EncodeSetParts, End, ExplicitDefault, Last,
     OneOf, Optional, OptionalChoice, Put, PutAddition, PutDefault, PutDefaultChoice,
     PutDefaultExplicit, PutOptional, PutOptionalChoice, Required,
 };

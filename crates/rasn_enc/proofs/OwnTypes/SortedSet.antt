@@ -1,6 +1,6 @@
 -- Components that are put in the order of their tags: those of parts, which are written one by one, and of unknown
 -- values.
-use Rattle.std.proofs.Common.{◌≡◌, ◌≢◌, ℕ, zero, suc, ◌+◌, ◌-◌, ◌<◌, ◌≤◌, ◌⊎◌, inl, inr, Bool, true, false, ◌||◌, ◌&&◌, if◌then◌else◌, List, [], ◌∷◌, ◌++◌, map, length, take, drop, get_or, Option, Some, None, refl, sym, ap, ap₂, ◌∙◌, subst, arith, nat_lt, nat_eq, Result, Ok, Err, OnOk, IfOk, IfErr}
+use Rattle.std.proofs.Common.{◌≡◌, ◌≢◌, ℕ, zero, suc, ◌+◌, ◌-◌, ◌<◌, ◌≤◌, ◌⊎◌, inl, inr, Bool, true, false, ◌||◌, ◌&&◌, if◌then◌else◌, List, [], ◌∷◌, ◌++◌, map, length, take, drop, get_or, Option, Some, None, refl, sym, ap, ap₂, ◌∙◌, subst, arith, nat_lt, nat_eq, Vec, Result, Ok, Err, OnOk, IfOk, IfErr}
 use Rattle.std.specs.List.{insert}
 use Rattle.std.proofs.lemmas.Bool.Decides.{nat_tests}
 use Rattle.std.proofs.lemmas.Grind.{common_steps}
@@ -24,7 +24,8 @@ use Rattle.rasn_types.proofs.Headers.Frames.{tag_one}
 use Rattle.rasn_types.proofs.SetOf.Same.{items_one}
 use Rattle.rasn_types.proofs.InOrder.{below_or_same, below_trans, not_below_itself}
 use Rattle.rasn_enc.specs.View.{View, appended, started}
-use Rattle.rasn_enc.specs.Primitive.{Appends}
+use Rattle.rasn_enc.specs.Primitive.{Appends, IsAllocError}
+use Rattle.rasn_enc.specs.Any.{IsUntaggedInSetError}
 use Rattle.rasn_enc.specs.Encoding.{AppendsEncoding, EncodeFails, NoEncodingOfPart}
 use Rattle.rasn_enc.specs.Sequence.{AppendsParts, EncodePartsFails, NoEncodingOfParts, HasUntaggedInSet}
 use Rattle.rasn_enc.specs.ValueErrors.{IsAllocErrorOr, IsErrorOfParts}
@@ -365,20 +366,11 @@ module _ (p : Presence) (s : Shape) (t : Tree) (tag : Tag) (alone : Parts) (tree
   others_fail extensible ps others e (inl m) = inl m
   others_fail extensible ps others e (inr n) = inr (others_lack extensible p s ps t others rule n)
 
--- What is known of a result is used where it is given.
-pub ok_given : {V : Type 0} (r : Result V EncodeError) (P Q : V → Type 0) → IfOk r P → ((v : V) → P v → Q v) → IfOk r Q
-ok_given (Ok v) P Q h f = f v h
-ok_given (Err e) P Q h f = tt
-
-pub err_given : {V : Type 0} (r : Result V EncodeError) (P Q : EncodeError → Type 0) → IfErr r P → ((e : EncodeError) → P e → Q e) → IfErr r Q
-err_given (Ok v) P Q h f = tt
-err_given (Err e) P Q h f = f e h
-
-pub alone : (p : Presence) (s : Shape) (t : Tree) (tag own_tag : Tag) → own s ≡ Some own_tag → tag ≡ own_tag → IsPartAlone p s t tag (part p s none) (joined t done)
+alone : (p : Presence) (s : Shape) (t : Tree) (tag own_tag : Tag) → own s ≡ Some own_tag → tag ≡ own_tag → IsPartAlone p s t tag (part p s none) (joined t done)
 alone p s t tag own_tag e f = record { parts = refl; tree_is = refl; own_is = e ∙ ap Some (sym f) }
 
 -- An error of a part alone is one of the part.
-pub errors_of_part : (rule : Codec) (p : Presence) (s : Shape) (t : Tree) (first others : EncodeError → Type 0) (e : EncodeError)
+errors_of_part : (rule : Codec) (p : Presence) (s : Shape) (t : Tree) (first others : EncodeError → Type 0) (e : EncodeError)
     → IsAllocErrorOr rule (IsErrorOfParts rule p s t (IsErrorOfParts rule p s t first (λ x. ⊥)) others) e → IsAllocErrorOr rule (IsErrorOfParts rule p s t first others) e
 errors_of_part rule p s t first others e (inl m) = inl m
 errors_of_part rule p s t first others e (inr (inl (inl h))) = inr (inl h)
@@ -389,6 +381,28 @@ pub errors_of_others : (rule : Codec) (p : Presence) (s : Shape) (t : Tree) (fir
     → WritesPart p (Bytes rule s) t octets → IsAllocErrorOr rule others e → IsAllocErrorOr rule (IsErrorOfParts rule p s t first others) e
 errors_of_others rule p s t first others octets e w (inl m) = inl m
 errors_of_others rule p s t first others octets e w (inr h) = inr (inr (octets, w, h))
+
+-- What is known of the call that writes a part and those after it, at the part itself.
+module _ {A : Type 0} (p : Presence) (s : Shape) (t : Tree) (tag own_tag : Tag) (extensible : Bool) (ps : Parts) (others : Tree) (rule : Codec) (is_own : own s ≡ Some own_tag) (tag_is : tag ≡ own_tag) where
+  pub held_alone : (r : Result (Vec SetComponent A) EncodeError)
+      → IfOk r (λ v. (q : Presence) (z : Shape) (w : Tree) → IsPartAlone q z w tag (part p s none) (joined t done) → HoldsParts extensible (part q z ps) (joined w others) rule v.items)
+      → IfOk r (λ v. HoldsParts extensible (part p s ps) (joined t others) rule v.items)
+  held_alone (Ok v) h = h p s t (alone p s t tag own_tag is_own tag_is)
+  held_alone (Err e) h = tt
+
+  pub fails_alone : (r : Result (Vec SetComponent A) EncodeError)
+      → IfErr r (λ e. (q : Presence) (z : Shape) (w : Tree) → IsPartAlone q z w tag (part p s none) (joined t done) → FailsAtComponents extensible (part q z ps) (joined w others) rule e)
+      → IfErr r (FailsAtComponents extensible (part p s ps) (joined t others) rule)
+  fails_alone (Ok v) h = tt
+  fails_alone (Err e) h = h p s t (alone p s t tag own_tag is_own tag_is)
+
+module _ {A : Type 0} (p : Presence) (s : Shape) (t : Tree) (tag own_tag : Tag) (rule : Codec) (first rest : EncodeError → Type 0) (is_own : own s ≡ Some own_tag) (tag_is : tag ≡ own_tag) where
+  pub errors_alone : (r : Result (Vec SetComponent A) EncodeError)
+      → IfErr r (λ e. (q : Presence) (z : Shape) (w : Tree) → IsPartAlone q z w tag (part p s none) (joined t done)
+      → IsAllocErrorOr rule (IsErrorOfParts rule q z w (IsErrorOfParts rule p s t first (λ x. ⊥)) rest) e)
+      → IfErr r (IsAllocErrorOr rule (IsErrorOfParts rule p s t first rest))
+  errors_alone (Ok v) h = tt
+  errors_alone (Err e) h = errors_of_part rule p s t first rest e (h p s t (alone p s t tag own_tag is_own tag_is))
 
 pub no_parts : (rule : Codec) → HoldsParts false none done rule []
 unfolding fields_of
@@ -457,6 +471,17 @@ unknown_lack values rule h = record {
       let j : items unknowns ≡ items (map numbers values) = cc in
       lack_places values n es h (subst (λ us. UnknownComponents n us es) (items_one unknowns (map numbers values) j) u);
 }
+
+pub unknown_held : {A : Type 0} (r : Result (Vec SetComponent A) EncodeError) (values given : List (List ℕ)) (rule : Codec) → given ≡ values → IfOk r (λ v. HoldsUnknown given v.items)
+    → IfOk r (λ v. HoldsParts true none (joined (items (map numbers values)) done) rule v.items)
+unknown_held (Ok v) values given rule e h = unknown_parts values rule v.items (subst (λ l. HoldsUnknown l v.items) e h)
+unknown_held (Err x) values given rule e h = tt
+
+pub unknown_fails : {A : Type 0} (r : Result (Vec SetComponent A) EncodeError) (values given : List (List ℕ)) (rule : Codec) → given ≡ values
+    → IfErr r (λ e. IsAllocError rule e ⊎ (IsUntaggedInSetError rule e × LackTag given)) → IfErr r (FailsAtComponents true none (joined (items (map numbers values)) done) rule)
+unknown_fails (Ok v) values given rule e h = tt
+unknown_fails (Err x) values given rule e (inl m) = inl (ap (λ (y : EncodeError). y.kind) m)
+unknown_fails (Err x) values given rule e (inr h) = inr (unknown_lack values rule (subst LackTag e h.1))
 
 -- ---- the whole
 
