@@ -176,7 +176,7 @@ place_more tag xs at y p h e b = record {
       let j : take (suc at) xs ≡ take at xs ++ (y ∷ []) = take-suc xs at y h ∙ ap (λ z. take at xs ++ (z ∷ [])) (sym e) in
       let k : at + 1 ≡ suc at = omega arith in
       let l : take at xs ++ with_component x (drop at xs) ≡ take (suc at) xs ++ with_component x (drop (suc at) xs) =
-          ap (λ l. take at xs ++ l) i ∙ (sym (append_assoc (take at xs) (y ∷ []) (with_component x (drop (suc at) xs))) ∙ ap (λ l. l ++ with_component x (drop (suc at) xs)) (sym j)) in
+      ap (λ l. take at xs ++ l) i ∙ (sym (append_assoc (take at xs) (y ∷ []) (with_component x (drop (suc at) xs))) ∙ ap (λ l. l ++ with_component x (drop (suc at) xs)) (sym j)) in
       p.is x f ∙ (l ∙ ap (λ n. take n xs ++ with_component x (drop n xs)) (sym k));
 }
 
@@ -185,7 +185,7 @@ pub place_here : (tag : Tag) (xs : List SetComponent) (at : ℕ) (y : SetCompone
 place_here tag xs at y p h e b x f =
     let d = dropped_is xs at y h e in
     let i : with_component x (drop at xs) ≡ x ∷ drop at xs =
-        ap (with_component x) d ∙ (stops x y (drop (suc at) xs) (λ n. b (subst (IsTagBelow y.tag) f n)) ∙ ap (λ l. x ∷ l) (sym d)) in
+    ap (with_component x) d ∙ (stops x y (drop (suc at) xs) (λ n. b (subst (IsTagBelow y.tag) f n)) ∙ ap (λ l. x ∷ l) (sym d)) in
     ap (λ l. take at xs ++ l) (sym i) ∙ sym (p.is x f)
 
 pub place_end : (tag : Tag) (xs : List SetComponent) (at : ℕ) → IsPlaceFrom tag xs at → length xs ≤ at → (x : SetComponent) → x.tag ≡ tag → insert xs at x ≡ with_component x xs
@@ -495,7 +495,18 @@ module _ (extensible : Bool) (tag : Tag) (ps : Parts) (tree : Tree) (v : View) w
   unfolding Bytes
   set_bytes xs q octets d =
       let h = q.holds 0 (count ps) (omega arith) in (
-        q.trees, q.unknowns, q.encoded, h.0, h.1, h.4.sorted, q.is, q.written, h.2, h.3, h.4.reordered, h.4.order,
+        q.trees,
+        q.unknowns,
+        q.encoded,
+        h.0,
+        h.1,
+        h.4.sorted,
+        q.is,
+        q.written,
+        h.2,
+        h.3,
+        h.4.reordered,
+        h.4.order,
         subst (λ l. ConstructedEncoding v.rule tag l octets) (contents_held xs h.4.sorted h.4.held) d,
       )
 

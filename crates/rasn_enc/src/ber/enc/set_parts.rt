@@ -63,11 +63,7 @@ pub trait EncodeSetParts: Drop {
     ///
     /// # Errors
     /// The error of a part, otherwise only `OutOfMemory`.
-    fn encode_components(
-        self,
-        alloc: Global,
-        rule: Codec,
-    ) -> Result<Vec<SetComponent>, EncodeError>
+    fn encode_components(self, alloc: Global, rule: Codec) -> Result<Vec<SetComponent>, EncodeError>
         requires { tags_known ≡ true }
         ensures ok { IfOk result (λ v. HoldsParts extensible parts (tree self) rule v.items) }
         ensures refused { IfErr result (FailsAtComponents extensible parts (tree self) rule) }
@@ -315,7 +311,13 @@ where
         rule: Codec,
     ) -> Result<Vec<SetComponent>, EncodeError> {
         let PutDefault(value, others) = self;
-        with_part(alloc, rule, V::Value::TAG, PutDefault::<V, End>(value, End), others)
+        with_part(
+            alloc,
+            rule,
+            V::Value::TAG,
+            PutDefault::<V, End>(value, End),
+            others,
+        )
     }
 }
 
@@ -342,7 +344,13 @@ where
         rule: Codec,
     ) -> Result<Vec<SetComponent>, EncodeError> {
         let PutDefaultExplicit(value, others) = self;
-        with_part(alloc, rule, V::Prefix::TAG, PutDefaultExplicit::<V, End>(value, End), others)
+        with_part(
+            alloc,
+            rule,
+            V::Prefix::TAG,
+            PutDefaultExplicit::<V, End>(value, End),
+            others,
+        )
     }
 }
 
