@@ -1,8 +1,9 @@
 -- The components of a SET that is written in the order of its tags: where the writer puts them, and why they can't be
 -- written.
 use Rattle.std.specs.Prelude.{ℕ, ◌≡◌, ◌+◌, ◌≤◌, ◌⊎◌, Bool, true, false, if◌then◌else◌, List, [], ◌∷◌, ◌++◌, map, Option, Some, None}
+use Rattle.rasn_types.specs.Tags.{IsTagBelow}
 use Rattle.rasn_types.specs.Framing.{Begins}
-use Rattle.rasn_types.specs.Shapes.{Shape, own, Tree, numbers, done, joined, IsSetTree, Parts, part, count, Presence}
+use Rattle.rasn_types.specs.Shapes.{Shape, own, IsFirst, Tree, numbers, done, joined, IsSetTree, Parts, part, count, Presence}
 use Rattle.rasn_types.specs.Shapes.Parts.{none}
 use Rattle.rasn_types.specs.LawfulTest.{is_same_tag, is_tag_below}
 use Rattle.rasn_types.specs.Bytes.{Each, Component, ComesBefore, AreInOrder, IsReordered, fields_of, PartsWritten, ComponentsOf, UnknownComponents}
@@ -73,11 +74,19 @@ pub record HaveNoPlaces (extensible : Bool) (ps : Parts) (tree : Tree) (rule : C
 abbrev pub FailsAtComponents : Bool → Parts → Tree → Codec → EncodeError → Type 0
 FailsAtComponents extensible ps tree rule e = IsEncodeOutOfMemory e.kind ⊎ HaveNoPlaces extensible ps tree rule
 
--- A part alone, whose values begin with this tag.
-pub record IsPartAlone (p : Presence) (s : Shape) (t : Tree) (tag : Tag) (ps : Parts) (tree : Tree) : Type 0 where
+-- All values of the shape begin with this tag.
+abbrev pub HasOwn : Tag → Shape → Type 0
+HasOwn tag s = own s ≡ Some tag
+
+-- Of the tags that values of the shape may begin with, this is the least.
+abbrev pub HasLeast : Tag → Shape → Type 0
+HasLeast tag s = IsFirst s tag × ((n : Tag) → IsFirst s n → IsTagBelow n tag → ⊥)
+
+-- A part alone, of whose shape this is known.
+pub record IsPartAlone (Known : Shape → Type 0) (p : Presence) (s : Shape) (t : Tree) (ps : Parts) (tree : Tree) : Type 0 where
   pub parts : ps ≡ part p s none
   pub tree_is : tree ≡ joined t done
-  pub own_is : own s ≡ Some tag
+  pub known : Known s
 
 -- The writer holds these unknown values as components, in the order of their tags, whatever number the first has.
 pub record HoldsUnknown (values : List (List ℕ)) (xs : List SetComponent) : Type 0 where

@@ -1,6 +1,6 @@
 -- Components that are put in the order of their tags: those of parts, which are written one by one, and of unknown
 -- values.
-use Rattle.std.proofs.Common.{◌≡◌, ◌≢◌, ℕ, zero, suc, ◌+◌, ◌-◌, ◌<◌, ◌≤◌, ◌⊎◌, inl, inr, Bool, true, false, ◌||◌, ◌&&◌, if◌then◌else◌, List, [], ◌∷◌, ◌++◌, map, length, take, drop, get_or, Option, Some, None, refl, sym, ap, ap₂, ◌∙◌, subst, arith, nat_lt, nat_eq, Vec, Result, Ok, Err, OnOk, IfOk, IfErr}
+use Rattle.std.proofs.Common.{◌≡◌, ◌≢◌, ℕ, zero, suc, ◌+◌, ◌-◌, ◌<◌, ◌≤◌, ◌⊎◌, inl, inr, Bool, true, false, ◌||◌, ◌&&◌, if◌then◌else◌, List, [], ◌∷◌, ◌++◌, map, length, take, drop, get_or, Option, Some, None, MatchOption, refl, sym, ap, ap₂, ◌∙◌, subst, arith, nat_lt, nat_eq, Vec, Result, Ok, Err, OnOk, IfOk, IfErr}
 use Rattle.std.specs.List.{insert}
 use Rattle.std.proofs.lemmas.Bool.Decides.{nat_tests}
 use Rattle.std.proofs.lemmas.Grind.{common_steps}
@@ -22,6 +22,8 @@ use Rattle.rasn_types.specs.Errors.{IsEncodeOutOfMemory}
 use Rattle.rasn_types.specs.declared.error.encode.EncodeError.{EncodeError}
 use Rattle.rasn_types.proofs.Headers.Frames.{tag_one}
 use Rattle.rasn_types.proofs.SetOf.Same.{items_one}
+use Rattle.rasn_types.proofs.Encoding.SameAsItself.{parts_one_writing}
+use Rattle.rasn_types.proofs.Time.Spellings.{both_true}
 use Rattle.rasn_types.proofs.InOrder.{below_or_same, below_trans, not_below_itself}
 use Rattle.rasn_enc.specs.View.{View, appended, started}
 use Rattle.rasn_enc.specs.Primitive.{Appends, IsAllocError}
@@ -29,7 +31,7 @@ use Rattle.rasn_enc.specs.Any.{IsUntaggedInSetError}
 use Rattle.rasn_enc.specs.Encoding.{AppendsEncoding, EncodeFails, NoEncodingOfPart}
 use Rattle.rasn_enc.specs.Sequence.{AppendsParts, EncodePartsFails, NoEncodingOfParts, HasUntaggedInSet}
 use Rattle.rasn_enc.specs.ValueErrors.{IsAllocErrorOr, IsErrorOfParts}
-use Rattle.rasn_enc.specs.SortedSet.{is_this, is_own, with_component, octets_in, IsWrittenAlone, IsHeldAs, AreFrom, HoldsInOrder, HoldsParts, HaveNoPlaces, FailsAtComponents, IsPartAlone, HoldsUnknown, LackTag}
+use Rattle.rasn_enc.specs.SortedSet.{is_this, is_own, HasOwn, HasLeast, with_component, octets_in, IsWrittenAlone, IsHeldAs, AreFrom, HoldsInOrder, HoldsParts, HaveNoPlaces, FailsAtComponents, IsPartAlone, HoldsUnknown, LackTag}
 use Rattle.rasn_enc.specs.declared.ber.enc.set_parts.SetComponent.{SetComponent}
 use Rattle.rasn_enc.proofs.Leaves.Primitive.{definite_begins, cons_begins, encoded_one}
 
@@ -52,12 +54,15 @@ same_is : (a b c d : ℕ) → nat_eq a b && nat_eq c d ≡ true → (a ≡ b) ×
 same_is a b c d e = grind (arith, nat_tests)
 
 -- The tag is the shape's own.
-pub own_tag_is : (s : Shape) (tag : Tag) → is_own s tag ≡ true → own s ≡ Some tag
+own_tag_is : (s : Shape) (tag : Tag) → is_own s tag ≡ true → own s ≡ Some tag
 own_tag_is s tag e = go (own s) e
   where
     go : (o : Option Tag) → is_this o tag ≡ true → o ≡ Some tag
     go None f = cc
     go (Some t) f = let h = same_is (rank t.class) (rank tag.class) t.value tag.value f in ap Some (tag_one t tag h.0 h.1)
+
+pub own_of : (s : Shape) (tag own_tag : Tag) (rest : Bool) → is_own s own_tag && rest ≡ true → tag ≡ own_tag → HasOwn tag s
+own_of s tag own_tag rest e f = own_tag_is s own_tag (both_true (is_own s own_tag) rest e).0 ∙ ap Some (sym f)
 
 -- ---- a component at its place
 
@@ -260,6 +265,19 @@ part_is addition writes t b (inr h) n = h.1
 part_is (default_by key d) writes t b (inl h) n = absurd (n h.1)
 part_is (default_by key d) writes t b (inr h) n = h.1
 
+pub own_place : (rule : Codec) (p : Presence) (s : Shape) (tag : Tag) (t : Tree) (octets : List ℕ) → HasOwn tag s → WritesPart p (Bytes rule s) t octets → octets ≢ [] → IsPlacedBy rule (IsFirst s) octets tag
+own_place rule p s tag t octets o w m = placed_own rule s tag t octets o (part_is p (Bytes rule s) t octets w m) m
+
+-- Where a CHOICE is: under CER where its least first tag is, otherwise where the tag is that its octets begin with.
+pub places_of_choice : (rule : Codec) (least : Tag) (octets : List ℕ) (o : Option Tag) → (rule ≡ Cer → o ≡ Some least) → ((rule ≡ Cer → ⊥) → MatchOption o ((tag : Tag) → Begins octets tag → ⊥) (Begins octets))
+    → MatchOption o ((s : Shape) (tag : Tag) → HasLeast least s → IsPlacedBy rule (IsFirst s) octets tag → ⊥) (λ tag. (s : Shape) → HasLeast least s → IsPlacedBy rule (IsFirst s) octets tag)
+places_of_choice Ber least octets None c b = λ s tag h k. b (λ e. cc) tag k
+places_of_choice Ber least octets (Some tag) c b = λ s h. b (λ e. cc)
+places_of_choice Cer least octets None c b = let e = c refl in cc
+places_of_choice Cer least octets (Some tag) c b = let e = c refl in let f : least ≡ tag = cc in λ s h. subst (λ z. IsPlacedBy Cer (IsFirst s) octets z) f h
+places_of_choice Der least octets None c b = λ s tag h k. b (λ e. cc) tag k
+places_of_choice Der least octets (Some tag) c b = λ s h. b (λ e. cc)
+
 -- A vector without octets, by its length.
 pub no_octets : (l : List ℕ) (n : ℕ) (b : Bool) → n ≡ length l → b ≡ nat_eq n 0 → b ≡ true → l ≡ []
 no_octets [] n b e f g = refl
@@ -294,7 +312,7 @@ module _ (extensible : Bool) (p : Presence) (s : Shape) (ps : Parts) (t tree : T
         (h.0, h.1, h.2, h.3, held_less k (h.0 ++ h.1) xs h.4);
   }
 
-  pub holds_present : (tag : Tag) (octets : List ℕ) (x : SetComponent) → own s ≡ Some tag → WritesPart p (Bytes rule s) t octets → octets ≢ [] → x.tag ≡ tag → x.octets.items ≡ octets
+  pub holds_present : (tag : Tag) (octets : List ℕ) (x : SetComponent) → IsPlacedBy rule (IsFirst s) octets tag → WritesPart p (Bytes rule s) t octets → octets ≢ [] → x.tag ≡ tag → x.octets.items ≡ octets
       → HoldsParts extensible (part p s ps) (joined t tree) rule (with_component x xs)
   unfolding fields_of
   holds_present tag [] x o w m e f = absurd (m refl)
@@ -307,7 +325,7 @@ module _ (extensible : Bool) (p : Presence) (s : Shape) (ps : Parts) (t tree : T
     holds = λ k n i.
         let h = q.holds (suc k) n (omega (arith, i)) in
         let c : Component = record { tag = tag; number = k; octets = b ∷ l } in
-        (c ∷ h.0, h.1, (tag, h.0, refl, placed_own rule s tag t (b ∷ l) o (part_is p (Bytes rule s) t (b ∷ l) w m) m, h.2), h.3, held_more k c x (h.0 ++ h.1) xs (e, f) refl h.4);
+        (c ∷ h.0, h.1, (tag, h.0, refl, o, h.2), h.3, held_more k c x (h.0 ++ h.1) xs (e, f) refl h.4);
   }
 
 module _ (extensible : Bool) (p : Presence) (s : Shape) (ps : Parts) (t tree : Tree) (rule : Codec) where
@@ -318,6 +336,24 @@ module _ (extensible : Bool) (p : Presence) (s : Shape) (ps : Parts) (t tree : T
         let i = tree_less extensible t tree x us unknowns (subst (λ l. IsSetTree extensible l unknowns (joined t tree)) e is) in
         h.none b (subst (λ y. WritesPart p (Bytes rule s) y b) i.0 w);
   }
+
+  -- The part is written, and has no place in the order of tags.
+  pub place_lacks : (octets : List ℕ) → WritesPart p (Bytes rule s) t octets → octets ≢ [] → ((tag : Tag) → IsPlacedBy rule (IsFirst s) octets tag → ⊥)
+      → HaveNoPlaces extensible (part p s ps) (joined t tree) rule
+  unfolding fields_of
+  place_lacks octets v some lacks = record {
+    none = λ trees unknowns encoded k n cs es is (x, us, b, bs, e, f, w, ws) c u.
+        let i = tree_less extensible t tree x us unknowns (subst (λ l. IsSetTree extensible l unknowns (joined t tree)) e is) in
+        let w' : WritesPart p (Bytes rule s) t b = subst (λ y. WritesPart p (Bytes rule s) y b) i.0 w in
+        let j : octets ∷ [] ≡ b ∷ [] = parts_one_writing (part p s none) rule (t ∷ []) (octets ∷ []) (b ∷ [])
+        (t, [], octets, [], refl, refl, v, (refl, refl)) (t, [], b, [], refl, refl, w', (refl, refl)) in
+        let m : octets ≡ b = cc in
+        unplaced k b bs cs m (subst (λ l. ComponentsOf rule k (part p s ps) l cs) f c);
+  }
+    where
+      unplaced : (k : ℕ) (b : List ℕ) (bs : List (List ℕ)) (cs : List Component) → octets ≡ b → ComponentsOf rule k (part p s ps) (b ∷ bs) cs → ⊥
+      unplaced k [] bs cs m c = some m
+      unplaced k (o ∷ b) bs cs m (tag, more, e, placed, c) = lacks tag (subst (λ l. IsPlacedBy rule (IsFirst s) l tag) (sym m) placed)
 
   components_less : (k : ℕ) (b : List ℕ) (bs : List (List ℕ)) (cs : List Component) → ComponentsOf rule k (part p s ps) (b ∷ bs) cs → (more : List Component) × ComponentsOf rule (suc k) ps bs more
   components_less k [] bs cs c = (cs, c)
@@ -345,7 +381,7 @@ alone_part p s t rule octets q = go q.wrote.trees q.wrote.encoded q.wrote.is q.w
         let k : octets ≡ b = o ∙ (ap joined_lists (f ∙ ap (λ l. b ∷ l) h) ∙ append-nil b) in
         subst (λ y. WritesPart p (Bytes rule s) y octets) j (subst (WritesPart p (Bytes rule s) x) (sym k) w)
 
-module _ (p : Presence) (s : Shape) (t : Tree) (tag : Tag) (alone : Parts) (tree : Tree) (i : IsPartAlone p s t tag alone tree) (rule : Codec) where
+module _ (p : Presence) (s : Shape) (t : Tree) (Known : Shape → Type 0) (alone : Parts) (tree : Tree) (i : IsPartAlone Known p s t alone tree) (rule : Codec) where
   pub part_written : (octets : List ℕ) → IsWrittenAlone alone tree rule octets → WritesPart p (Bytes rule s) t octets
   part_written octets q = alone_part p s t rule octets
       (subst (λ z. IsWrittenAlone (part p s none) z rule octets) i.tree_is (subst (λ z. IsWrittenAlone z tree rule octets) i.parts q))
@@ -366,8 +402,8 @@ module _ (p : Presence) (s : Shape) (t : Tree) (tag : Tag) (alone : Parts) (tree
   others_fail extensible ps others e (inl m) = inl m
   others_fail extensible ps others e (inr n) = inr (others_lack extensible p s ps t others rule n)
 
-alone : (p : Presence) (s : Shape) (t : Tree) (tag own_tag : Tag) → own s ≡ Some own_tag → tag ≡ own_tag → IsPartAlone p s t tag (part p s none) (joined t done)
-alone p s t tag own_tag e f = record { parts = refl; tree_is = refl; own_is = e ∙ ap Some (sym f) }
+alone : (p : Presence) (s : Shape) (t : Tree) (Known : Shape → Type 0) → Known s → IsPartAlone Known p s t (part p s none) (joined t done)
+alone p s t Known k = record { parts = refl; tree_is = refl; known = k }
 
 -- An error of a part alone is one of the part.
 errors_of_part : (rule : Codec) (p : Presence) (s : Shape) (t : Tree) (first others : EncodeError → Type 0) (e : EncodeError)
@@ -383,26 +419,41 @@ errors_of_others rule p s t first others octets e w (inl m) = inl m
 errors_of_others rule p s t first others octets e w (inr h) = inr (inr (octets, w, h))
 
 -- What is known of the call that writes a part and those after it, at the part itself.
-module _ {A : Type 0} (p : Presence) (s : Shape) (t : Tree) (tag own_tag : Tag) (extensible : Bool) (ps : Parts) (others : Tree) (rule : Codec) (is_own : own s ≡ Some own_tag) (tag_is : tag ≡ own_tag) where
+module _ {A : Type 0} (p : Presence) (s : Shape) (t : Tree) (Known : Shape → Type 0) (extensible : Bool) (ps : Parts) (others : Tree) (rule : Codec) (known : Known s) where
   pub held_alone : (r : Result (Vec SetComponent A) EncodeError)
-      → IfOk r (λ v. (q : Presence) (z : Shape) (w : Tree) → IsPartAlone q z w tag (part p s none) (joined t done) → HoldsParts extensible (part q z ps) (joined w others) rule v.items)
+      → IfOk r (λ v. (q : Presence) (z : Shape) (w : Tree) → IsPartAlone Known q z w (part p s none) (joined t done) → HoldsParts extensible (part q z ps) (joined w others) rule v.items)
       → IfOk r (λ v. HoldsParts extensible (part p s ps) (joined t others) rule v.items)
-  held_alone (Ok v) h = h p s t (alone p s t tag own_tag is_own tag_is)
+  held_alone (Ok v) h = h p s t (alone p s t Known known)
   held_alone (Err e) h = tt
 
   pub fails_alone : (r : Result (Vec SetComponent A) EncodeError)
-      → IfErr r (λ e. (q : Presence) (z : Shape) (w : Tree) → IsPartAlone q z w tag (part p s none) (joined t done) → FailsAtComponents extensible (part q z ps) (joined w others) rule e)
+      → IfErr r (λ e. (q : Presence) (z : Shape) (w : Tree) → IsPartAlone Known q z w (part p s none) (joined t done) → FailsAtComponents extensible (part q z ps) (joined w others) rule e)
       → IfErr r (FailsAtComponents extensible (part p s ps) (joined t others) rule)
   fails_alone (Ok v) h = tt
-  fails_alone (Err e) h = h p s t (alone p s t tag own_tag is_own tag_is)
+  fails_alone (Err e) h = h p s t (alone p s t Known known)
 
-module _ {A : Type 0} (p : Presence) (s : Shape) (t : Tree) (tag own_tag : Tag) (rule : Codec) (first rest : EncodeError → Type 0) (is_own : own s ≡ Some own_tag) (tag_is : tag ≡ own_tag) where
+module _ {A : Type 0} (p : Presence) (s : Shape) (t : Tree) (Known : Shape → Type 0) (rule : Codec) (first rest : EncodeError → Type 0) (known : Known s) where
   pub errors_alone : (r : Result (Vec SetComponent A) EncodeError)
-      → IfErr r (λ e. (q : Presence) (z : Shape) (w : Tree) → IsPartAlone q z w tag (part p s none) (joined t done)
+      → IfErr r (λ e. (q : Presence) (z : Shape) (w : Tree) → IsPartAlone Known q z w (part p s none) (joined t done)
       → IsAllocErrorOr rule (IsErrorOfParts rule q z w (IsErrorOfParts rule p s t first (λ x. ⊥)) rest) e)
       → IfErr r (IsAllocErrorOr rule (IsErrorOfParts rule p s t first rest))
   errors_alone (Ok v) h = tt
-  errors_alone (Err e) h = errors_of_part rule p s t first rest e (h p s t (alone p s t tag own_tag is_own tag_is))
+  errors_alone (Err e) h = errors_of_part rule p s t first rest e (h p s t (alone p s t Known known))
+
+  pub choice_errors_alone : (r : Result (Vec SetComponent A) EncodeError)
+      → IfErr r (λ e. (q : Presence) (z : Shape) (w : Tree) → IsPartAlone Known q z w (part p s none) (joined t done)
+      → IsAllocErrorOr rule (IsErrorOfParts rule q z w (λ x. IsErrorOfParts rule p s t first (λ y. ⊥) x ⊎ IsUntaggedInSetError rule x) rest) e)
+      → IfErr r (IsAllocErrorOr rule (IsErrorOfParts rule p s t (λ x. first x ⊎ IsUntaggedInSetError rule x) rest))
+  choice_errors_alone (Ok v) h = tt
+  choice_errors_alone (Err e) h = go (h p s t (alone p s t Known known))
+    where
+      go : IsAllocErrorOr rule (IsErrorOfParts rule p s t (λ x. IsErrorOfParts rule p s t first (λ y. ⊥) x ⊎ IsUntaggedInSetError rule x) rest) e
+          → IsAllocErrorOr rule (IsErrorOfParts rule p s t (λ x. first x ⊎ IsUntaggedInSetError rule x) rest) e
+      go (inl m) = inl m
+      go (inr (inl (inl (inl k)))) = inr (inl (inl k))
+      go (inr (inl (inl (inr k)))) = absurd k.2
+      go (inr (inl (inr k))) = inr (inl (inr k))
+      go (inr (inr k)) = inr (inr k)
 
 pub no_parts : (rule : Codec) → HoldsParts false none done rule []
 unfolding fields_of

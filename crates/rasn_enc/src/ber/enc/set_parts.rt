@@ -7,23 +7,25 @@ ghost use Rattle.rasn_types.specs.Truth.{IsWhether};
 ghost use Rattle.rasn_types.specs.Tags.{IsTagBelow};
 ghost use Rattle.rasn_types.specs.Framing.{Begins};
 ghost use Rattle.rasn_types.specs.Contents.{joined_lists};
-ghost use Rattle.rasn_types.specs.Bytes.{ConstructedEncoding};
-ghost use Rattle.rasn_types.specs.Shapes.{sorted_set, Presence, Shape, Tree, part as part_first, joined};
+ghost use Rattle.rasn_types.specs.Bytes.{ConstructedEncoding, IsPlacedBy};
+ghost use Rattle.rasn_types.specs.Shapes.{sorted_set, Presence, Shape, Tree, IsFirst, part as part_first, joined};
 ghost use Rattle.rasn_enc.specs.View.{started, appended, Extends};
 ghost use Rattle.rasn_enc.specs.Primitive.{Appends, IsAllocError};
 ghost use Rattle.rasn_enc.specs.Any.{IsUntaggedInSetError};
 ghost use Rattle.rasn_enc.specs.Encoding.{AppendsEncoding, EncodeFails};
 ghost use Rattle.rasn_enc.specs.Sequence.{EncodePartsFails};
 ghost use Rattle.rasn_enc.specs.ValueErrors.{IsAllocErrorOr, IsErrorOfParts};
-ghost use Rattle.rasn_enc.specs.SortedSet.{with_component, octets_in, IsWrittenAlone, HoldsParts, FailsAtComponents, IsPartAlone, HoldsUnknown, LackTag};
+ghost use Rattle.rasn_enc.specs.SortedSet.{with_component, octets_in, IsWrittenAlone, HoldsParts, FailsAtComponents, HasOwn, HasLeast, IsPartAlone, HoldsUnknown, LackTag};
 
 use crate::ber::enc::any::any_in_set;
 use crate::ber::enc::parts::{
-    EncodeParts, Put, PutAddition, PutDefault, PutDefaultExplicit, PutOptional,
+    EncodeParts, Put, PutAddition, PutDefault, PutDefaultChoice, PutDefaultExplicit, PutOptional,
+    PutOptionalChoice,
 };
 use crate::ber::enc::writer::leading_tag::leading_tag;
 use crate::ber::enc::{Encoder, out_of_memory};
 use crate::enc::Encode;
+use rasn_types::ber::rules::EncodingRules;
 use rasn_types::error::EncodeError;
 use rasn_types::types::{Any, AsnType, Codec, DefaultValue, End, ExplicitDefault, Tag, Unknown};
 use std::alloc::Global;
@@ -35,8 +37,23 @@ pub struct SetComponent {
     pub octets: Vec<u8>,
 }
 
+/// A type without a tag of its own, as a CHOICE (X.680 29), that returns the least of the tags its
+/// values begin with. Under CER it is put in a SET where this tag belongs (X.690 9.3).
+pub trait LeastTag: AsnType {
+    ghost use Rattle.rasn_enc.specs.SortedSet.{HasLeast};
+
+    /// Returns the least tag with which a value of the type may begin.
+    fn least_tag() -> Tag
+        ensures { HasLeast result Self.shape };
+}
+
+/// A required CHOICE, and the parts after it.
+#[derive(Drop)]
+pub struct PutChoice<'a, A, R>(pub &'a A, pub R);
+
 /// Parts that are written in the order of their tags, whatever their own order: [`Put`],
-/// [`PutOptional`], [`PutDefault`], [`PutDefaultExplicit`] and [`PutAddition`], each with the parts
+/// [`PutOptional`], [`PutDefault`], [`PutDefaultExplicit`] and [`PutAddition`], and for CHOICEs
+/// without a tag [`PutChoice`], [`PutOptionalChoice`] and [`PutDefaultChoice`], each with the parts
 /// after it, and [`End`] after the last. If the SET has an extension marker (X.680 27), the list
 /// ends with a reference to [`Unknown`] in place of `End`: components that the type doesn't name,
 /// each of which is written where its tag belongs.
@@ -131,9 +148,9 @@ fn with_part<P: EncodeParts, R: EncodeSetParts>(
     others: R,
 ) -> Result<Vec<SetComponent>, EncodeError>
     requires { R.tags_known ≡ true }
-    ensures ok { IfOk result (λ v. (p : Presence) (s : Shape) (t : Tree) → IsPartAlone p s t tag P.parts (P.tree part) → HoldsParts R.extensible (part_first p s R.parts) (joined t (R.tree others)) rule v.items) }
-    ensures refused { IfErr result (λ e. (p : Presence) (s : Shape) (t : Tree) → IsPartAlone p s t tag P.parts (P.tree part) → FailsAtComponents R.extensible (part_first p s R.parts) (joined t (R.tree others)) rule e) }
-    ensures errors { IfErr result (λ e. (p : Presence) (s : Shape) (t : Tree) → IsPartAlone p s t tag P.parts (P.tree part) → IsAllocErrorOr rule (IsErrorOfParts rule p s t (P.errors part rule) (R.errors others rule)) e) }
+    ensures ok { IfOk result (λ v. (p : Presence) (s : Shape) (t : Tree) → IsPartAlone (HasOwn tag) p s t P.parts (P.tree part) → HoldsParts R.extensible (part_first p s R.parts) (joined t (R.tree others)) rule v.items) }
+    ensures refused { IfErr result (λ e. (p : Presence) (s : Shape) (t : Tree) → IsPartAlone (HasOwn tag) p s t P.parts (P.tree part) → FailsAtComponents R.extensible (part_first p s R.parts) (joined t (R.tree others)) rule e) }
+    ensures errors { IfErr result (λ e. (p : Presence) (s : Shape) (t : Tree) → IsPartAlone (HasOwn tag) p s t P.parts (P.tree part) → IsAllocErrorOr rule (IsErrorOfParts rule p s t (P.errors part rule) (R.errors others rule)) e) }
     ensures rules { IfErr result (λ e. e.codec ≡ rule) }
 {
     let octets = octets_of(alloc, rule, part)?;
@@ -141,6 +158,45 @@ fn with_part<P: EncodeParts, R: EncodeSetParts>(
     if octets.is_empty() {
         return Ok(components);
     }
+    insert_component(&mut components, SetComponent { tag, octets }, rule)?;
+    Ok(components)
+}
+
+/// Returns the tag that decides where a part without a tag of its own is, if it has these octets
+/// and may begin with no tag below `least`: under CER `least` (X.690 9.3), otherwise the tag that
+/// it begins with (10.3).
+fn place_of_choice(rule: Codec, least: Tag, octets: &[u8]) -> Option<Tag>
+    ensures { MatchOption result ((s : Shape) (tag : Tag) → HasLeast least s → IsPlacedBy rule (IsFirst s) octets.now tag → ⊥) (λ tag. (s : Shape) → HasLeast least s → IsPlacedBy rule (IsFirst s) octets.now tag) }
+{
+    if EncodingRules::of_codec(rule).is_cer() {
+        return Some(least);
+    }
+    leading_tag(octets)
+}
+
+/// Writes one part, which may begin with no tag below `least`, and then the others, and puts the
+/// one among them.
+fn with_choice<P: EncodeParts, R: EncodeSetParts>(
+    alloc: Global,
+    rule: Codec,
+    least: Tag,
+    part: P,
+    others: R,
+) -> Result<Vec<SetComponent>, EncodeError>
+    requires { R.tags_known ≡ true }
+    ensures ok { IfOk result (λ v. (p : Presence) (s : Shape) (t : Tree) → IsPartAlone (HasLeast least) p s t P.parts (P.tree part) → HoldsParts R.extensible (part_first p s R.parts) (joined t (R.tree others)) rule v.items) }
+    ensures refused { IfErr result (λ e. (p : Presence) (s : Shape) (t : Tree) → IsPartAlone (HasLeast least) p s t P.parts (P.tree part) → FailsAtComponents R.extensible (part_first p s R.parts) (joined t (R.tree others)) rule e) }
+    ensures errors { IfErr result (λ e. (p : Presence) (s : Shape) (t : Tree) → IsPartAlone (HasLeast least) p s t P.parts (P.tree part) → IsAllocErrorOr rule (IsErrorOfParts rule p s t (λ x. P.errors part rule x ⊎ IsUntaggedInSetError rule x) (R.errors others rule)) e) }
+    ensures rules { IfErr result (λ e. e.codec ≡ rule) }
+{
+    let octets = octets_of(alloc, rule, part)?;
+    let mut components = others.encode_components(alloc, rule)?;
+    if octets.is_empty() {
+        return Ok(components);
+    }
+    let Some(tag) = place_of_choice(rule, least, &octets) else {
+        return Err(any_in_set(rule));
+    };
     insert_component(&mut components, SetComponent { tag, octets }, rule)?;
     Ok(components)
 }
@@ -378,6 +434,100 @@ impl<'a, A: Encode, R: EncodeSetParts> EncodeSetParts for PutAddition<'a, A, R> 
     ) -> Result<Vec<SetComponent>, EncodeError> {
         let PutAddition(value, others) = self;
         with_part(alloc, rule, A::TAG, PutAddition(value, End), others)
+    }
+}
+
+impl<'a, A: Encode + LeastTag, R: EncodeSetParts> EncodeSetParts for PutChoice<'a, A, R> {
+    ghost use Rattle.std.specs.Prelude.{◌⊎◌};
+    ghost use Rattle.rasn_types.specs.Shapes.{part, required, joined};
+    ghost use Rattle.rasn_enc.specs.ValueErrors.{IsErrorOfParts};
+    ghost use Rattle.rasn_enc.specs.Any.{IsUntaggedInSetError};
+
+    ghost parts = { part required A.shape R.parts };
+
+    ghost extensible = { R.extensible };
+
+    ghost tree = { λ p. joined (A.tree p.0.now) (R.tree p.1) };
+
+    ghost errors = { λ p rule. IsErrorOfParts rule required A.shape (A.tree p.0.now) (λ x. A.errors A.TAG A.CONSTRAINTS p.0.now rule x ⊎ IsUntaggedInSetError rule x) (R.errors p.1 rule) };
+
+    ghost tags_known = { R.tags_known };
+
+    fn encode_components(
+        self,
+        alloc: Global,
+        rule: Codec,
+    ) -> Result<Vec<SetComponent>, EncodeError> {
+        let PutChoice(value, others) = self;
+        with_choice(alloc, rule, A::least_tag(), Put(value, End), others)
+    }
+}
+
+impl<'a, A: Encode + LeastTag, R: EncodeSetParts> EncodeSetParts for PutOptionalChoice<'a, A, R> {
+    ghost use Rattle.std.specs.Prelude.{◌⊎◌};
+    ghost use Rattle.rasn_types.specs.Shapes.{part, optional_choice, joined};
+    ghost use Rattle.rasn_types.specs.Trees.{option_tree};
+    ghost use Rattle.rasn_enc.specs.ValueErrors.{IsErrorOfOption, IsErrorOfParts};
+    ghost use Rattle.rasn_enc.specs.Any.{IsUntaggedInSetError};
+
+    ghost parts = { part optional_choice A.shape R.parts };
+
+    ghost extensible = { R.extensible };
+
+    ghost tree = { λ p. joined (option_tree A.tree p.0.now) (R.tree p.1) };
+
+    ghost errors = { λ p rule. IsErrorOfParts rule optional_choice A.shape (option_tree A.tree p.0.now) (λ x. IsErrorOfOption (λ v. A.errors A.TAG A.CONSTRAINTS v rule) p.0.now x ⊎ IsUntaggedInSetError rule x) (R.errors p.1 rule) };
+
+    ghost tags_known = { R.tags_known };
+
+    fn encode_components(
+        self,
+        alloc: Global,
+        rule: Codec,
+    ) -> Result<Vec<SetComponent>, EncodeError> {
+        let PutOptionalChoice(value, others) = self;
+        with_choice(
+            alloc,
+            rule,
+            A::least_tag(),
+            PutOptionalChoice(value, End),
+            others,
+        )
+    }
+}
+
+impl<'a, V: DefaultValue, R: EncodeSetParts> EncodeSetParts for PutDefaultChoice<'a, V, R>
+where
+    V::Value: Encode + LeastTag,
+{
+    ghost use Rattle.std.specs.Prelude.{◌⊎◌};
+    ghost use Rattle.rasn_types.specs.Shapes.{part, default_choice, joined};
+    ghost use Rattle.rasn_enc.specs.ValueErrors.{IsAllocErrorOr, IsErrorOfParts};
+    ghost use Rattle.rasn_enc.specs.Any.{IsUntaggedInSetError};
+
+    ghost parts = { part (default_choice V.default_tree) V.Value.shape R.parts };
+
+    ghost extensible = { R.extensible };
+
+    ghost tree = { λ p. joined (V.Value.tree p.0.now) (R.tree p.1) };
+
+    ghost errors = { λ p rule. IsErrorOfParts rule (default_choice V.default_tree) V.Value.shape (V.Value.tree p.0.now) (λ x. IsAllocErrorOr rule (V.Value.errors V.Value.TAG V.Value.CONSTRAINTS p.0.now rule) x ⊎ IsUntaggedInSetError rule x) (R.errors p.1 rule) };
+
+    ghost tags_known = { R.tags_known };
+
+    fn encode_components(
+        self,
+        alloc: Global,
+        rule: Codec,
+    ) -> Result<Vec<SetComponent>, EncodeError> {
+        let PutDefaultChoice(value, others) = self;
+        with_choice(
+            alloc,
+            rule,
+            V::Value::least_tag(),
+            PutDefaultChoice::<V, End>(value, End),
+            others,
+        )
     }
 }
 
