@@ -1,6 +1,6 @@
 -- The components of a SET that is written in the order of its tags: where the writer puts them, and why they can't be
 -- written.
-use Rattle.std.specs.Prelude.{ℕ, ◌≡◌, ◌+◌, ◌≤◌, ◌⊎◌, Bool, true, false, if◌then◌else◌, List, [], ◌∷◌, ◌++◌, map, Option, Some, None}
+use Rattle.std.specs.Prelude.{ℕ, ◌≡◌, ◌+◌, ◌≤◌, ◌⊎◌, Bool, false, if◌then◌else◌, List, [], ◌∷◌, ◌++◌, map, Option, Some, None}
 use Rattle.rasn_types.specs.Tags.{IsTagBelow}
 use Rattle.rasn_types.specs.Framing.{Begins}
 use Rattle.rasn_types.specs.Shapes.{Shape, own, IsFirst, Tree, numbers, done, joined, IsSetTree, Parts, part, count, Presence}

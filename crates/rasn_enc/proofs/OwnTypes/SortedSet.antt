@@ -6,7 +6,7 @@ use Rattle.std.proofs.lemmas.Bool.Decides.{nat_tests}
 use Rattle.std.proofs.lemmas.Grind.{common_steps}
 use Rattle.std.proofs.Math.Seq.{take-suc, drop-cons}
 use Rattle.std.proofs.lemmas.List.{append-nil, append_assoc}
-use Rattle.std.proofs.lemmas.Result.{on_ok_weaker, IfErr-weaker}
+use Rattle.std.proofs.lemmas.Result.{on_ok_weaker}
 use Rattle.rasn_types.specs.Tags.{rank, IsTagBelow}
 use Rattle.rasn_types.specs.declared.types.codec.Codec.{Codec}
 use Rattle.rasn_types.specs.declared.types.codec.Codec.TheVariants.{Ber, Cer, Der}
@@ -15,21 +15,20 @@ use Rattle.rasn_types.specs.Framing.{Begins}
 use Rattle.rasn_types.specs.Contents.{joined_lists}
 use Rattle.rasn_types.specs.Shapes.{Shape, leaf, any, prefix, choice, open_choice, option, seq, set, sorted_set, list, set_of, unknown, own, IsFirst, Kind, Tree, numbers, items, done, joined, IsSetTree, Parts, part, count, Presence, required, optional_by, default_by, addition}
 use Rattle.rasn_types.specs.Shapes.Parts.{none}
-use Rattle.rasn_types.specs.LawfulTest.{is_same_tag, is_tag_below}
+use Rattle.rasn_types.specs.LawfulTest.{is_tag_below}
 use Rattle.rasn_types.specs.Grammar.{Family, plain_family, bit_family, named_family, text_family, family}
 use Rattle.rasn_types.specs.Bytes.{Bytes, Writing, WritesPart, WritesIn, WritesString, ConstructedEncoding, IsUntaggedOpen, Each, Component, ComesBefore, IsPlacedBy, IsBeforeAll, AreInOrder, IsReordered, fields_of, PartsWritten, ComponentsOf, UnknownComponents, contents_of}
-use Rattle.rasn_types.specs.Errors.{IsEncodeOutOfMemory}
 use Rattle.rasn_types.specs.declared.error.encode.EncodeError.{EncodeError}
 use Rattle.rasn_types.proofs.Headers.Frames.{tag_one}
 use Rattle.rasn_types.proofs.SetOf.Same.{items_one}
 use Rattle.rasn_types.proofs.Encoding.SameAsItself.{parts_one_writing}
 use Rattle.rasn_types.proofs.Time.Spellings.{both_true}
 use Rattle.rasn_types.proofs.InOrder.{below_or_same, below_trans, not_below_itself}
-use Rattle.rasn_enc.specs.View.{View, appended, started}
+use Rattle.rasn_enc.specs.View.{View, started}
 use Rattle.rasn_enc.specs.Primitive.{Appends, IsAllocError}
 use Rattle.rasn_enc.specs.Any.{IsUntaggedInSetError}
 use Rattle.rasn_enc.specs.Encoding.{AppendsEncoding, EncodeFails, NoEncodingOfPart}
-use Rattle.rasn_enc.specs.Sequence.{AppendsParts, EncodePartsFails, NoEncodingOfParts, HasUntaggedInSet}
+use Rattle.rasn_enc.specs.Sequence.{EncodePartsFails, NoEncodingOfParts}
 use Rattle.rasn_enc.specs.ValueErrors.{IsAllocErrorOr, IsErrorOfParts}
 use Rattle.rasn_enc.specs.SortedSet.{is_this, is_own, HasOwn, HasLeast, with_component, octets_in, IsWrittenAlone, IsHeldAs, AreFrom, HoldsInOrder, HoldsParts, HaveNoPlaces, FailsAtComponents, IsPartAlone, HoldsUnknown, LackTag}
 use Rattle.rasn_enc.specs.declared.ber.enc.set_parts.SetComponent.{SetComponent}

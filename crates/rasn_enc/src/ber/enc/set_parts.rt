@@ -73,13 +73,14 @@ pub trait EncodeSetParts: Drop {
     /// Which errors the parts have under these rules, besides `OutOfMemory`.
     ghost errors: { Self → Codec → EncodeError → Type 0 };
 
-    /// Whether each part has a tag of its own.
+    /// Whether each part that isn't a CHOICE has a tag of its own.
     ghost tags_known: { Bool };
 
     /// Writes each part alone, and returns the components in the order of their tags.
     ///
     /// # Errors
-    /// The error of a part, otherwise only `OutOfMemory`.
+    /// The error of a part; `AnyInSet` if a CHOICE or an unknown value doesn't begin with an
+    /// identifier; otherwise only `OutOfMemory`.
     fn encode_components(self, alloc: Global, rule: Codec) -> Result<Vec<SetComponent>, EncodeError>
         requires { tags_known ≡ true }
         ensures ok { IfOk result (λ v. HoldsParts extensible parts (tree self) rule v.items) }
@@ -538,8 +539,8 @@ impl Encoder {
     /// where its tag belongs.
     ///
     /// # Errors
-    /// The error of a part, `AnyInSet` for an unknown value that doesn't begin with an identifier;
-    /// otherwise only `OutOfMemory`. On error, nothing is written.
+    /// The error of a part; `AnyInSet` if a CHOICE or an unknown value doesn't begin with an
+    /// identifier; otherwise only `OutOfMemory`. On error, nothing is written.
     pub fn write_sorted_set<P: EncodeSetParts>(
         &mut self,
         tag: Tag,

@@ -1,4 +1,4 @@
-use Rattle.rasn_enc.proofs.OwnTypes.SortedSet.{place_start, place_more, place_here, place_end}
+use Rattle.rasn_enc.proofs.OwnTypes.SortedSet.{place_start}
 use Rattle.rasn_enc.proofs.ber.enc.set_parts.place_of.Goals as goal
 
 pub loop-at-init : goal.loop-at-init

@@ -1,6 +1,4 @@
-use Rattle.std.proofs.Common.{◌≡◌, ◌≤◌, ◌-◌, ◌++◌, length, take, drop}
-use Rattle.rasn_enc.specs.SortedSet.{with_component}
-use Rattle.rasn_enc.specs.declared.ber.enc.set_parts.SetComponent.{SetComponent}
+use Rattle.std.proofs.Common.{◌-◌, length}
 use Rattle.rasn_enc.proofs.OwnTypes.SortedSet.{IsPlaceFrom}
 use Rattle.rasn_enc.proofs.ber.enc.set_parts.place_of.Given as goal
 
