@@ -2,3 +2,4 @@ pub mod Determined
 pub mod SameOctets
 pub mod SameAsItself
 pub mod Complete
+pub mod First
