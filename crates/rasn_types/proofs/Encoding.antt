@@ -3,3 +3,4 @@ pub mod SameOctets
 pub mod SameAsItself
 pub mod Complete
 pub mod First
+pub mod Listed

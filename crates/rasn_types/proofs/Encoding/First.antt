@@ -74,14 +74,26 @@ least_among t (u ∷ ts) = go (least_among u ts)
   where
     go : (m : Tag) × IsLeast (IsAmong (u ∷ ts)) m → (m : Tag) × IsLeast (IsAmong (t ∷ u ∷ ts)) m
     go (m, (i, least)) = elim (below_or_same t m) [
-      | inl l ↦ (t, (inl refl, λ n a b. elim a [
-        | inl e ↦ not_below_itself t (subst (λ x. IsTagBelow x t) e b)
-        | inr o ↦ least n o (below_trans n t m b l)
-      ]))
-      | inr h ↦ (m, (inr i, λ n a b. elim a [
-        | inl e ↦ not_first h (subst (λ x. IsTagBelow x m) e b)
-        | inr o ↦ least n o b
-      ]))
+      | inl l ↦ (
+        t,
+        (
+          inl refl,
+          λ n a b. elim a [
+            | inl e ↦ not_below_itself t (subst (λ x. IsTagBelow x t) e b)
+            | inr o ↦ least n o (below_trans n t m b l)
+          ],
+        ),
+      )
+      | inr h ↦ (
+        m,
+        (
+          inr i,
+          λ n a b. elim a [
+            | inl e ↦ not_first h (subst (λ x. IsTagBelow x m) e b)
+            | inr o ↦ least n o b
+          ],
+        ),
+      )
     ]
       where
         not_first : IsTagBelow m t ⊎ (t ≡ m) → IsTagBelow t m → ⊥
