@@ -1,5 +1,5 @@
 -- The laws of the grammar.
-use Rattle.std.specs.Prelude.{◌≡◌, ◌↔◌, ℕ, ◌*◌, ◌≤◌, List, [], ◌++◌, length, Bool, true, Option}
+use Rattle.std.specs.Prelude.{◌≡◌, ◌↔◌, ℕ, ◌*◌, ◌≤◌, List, [], ◌++◌, length, Bool, true, false, Option}
 use Rattle.rasn_types.specs.declared.types.codec.Codec.{Codec}
 use Rattle.rasn_types.specs.declared.types.codec.Codec.TheVariants.{Ber, Der}
 use Rattle.rasn_types.specs.declared.types.tag.Tag.{Tag}
@@ -83,6 +83,12 @@ Canonical = (s : Shape) → IsLawful s → (t u : Tree) (c : Carried Der s t) (d
 
 abbrev pub WrittenOnce : Type 0
 WrittenOnce = (s : Shape) (rule : Codec) (t u : Tree) (a b : List ℕ) → Same t u → Bytes rule s t a → Bytes rule s u b → a ≡ b
+
+-- A lawful SET whose parts are listed in the order of their tags is read and written as one that is put in this order.
+abbrev pub ListedAlike : Type 0
+ListedAlike = (rule : Codec) (tag : Tag) (ps : Parts) → IsLawful (set tag ps)
+    → ((depth : ℕ) (closing : Bool) (input : List ℕ) (t : Tree) (rest : List ℕ) → (Reads rule (set tag ps) depth closing input t rest ↔ Reads rule (sorted_set false tag ps) depth closing input t rest))
+    × ((t : Tree) (b : List ℕ) → (Bytes rule (set tag ps) t b ↔ Bytes rule (sorted_set false tag ps) t b))
 
 -- Each default is the same as itself, as the tree of every value is.
 abbrev pub IsOwnDefault : Presence → Type 0

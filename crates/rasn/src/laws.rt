@@ -10,7 +10,7 @@ ghost use Rattle.rasn.specs.WorkedDepths.{WorkedDepths};
 ghost use Rattle.rasn.specs.WorkedHeaders.{WorkedHeaders};
 ghost use Rattle.rasn.specs.WorkedClauses.{WorkedClauses};
 ghost use Rattle.rasn.specs.WorkedValues.{WorkedValues, WorkedSets, WorkedOpens, WorkedUnknown, WorkedOpenChoice, WorkedSortedSets};
-ghost use Rattle.rasn.specs.Laws.{OneReading, Included, ReadAgain, Canonical, WrittenOnce, StrictDer, OnlyCarried, AllCarried, StaysCarried, LawfulTested, OneEncoding, EncodingSteps};
+ghost use Rattle.rasn.specs.Laws.{OneReading, Included, ReadAgain, Canonical, WrittenOnce, StrictDer, OnlyCarried, AllCarried, StaysCarried, LawfulTested, ListedAlike, OneEncoding, EncodingSteps};
 
 /// Proves that an input is read as at most one value of a leaf type, with at most one rest.
 pub fn one_leaf()
@@ -103,6 +103,12 @@ pub fn canonical()
 /// Proves that values that are the same are written as the same octets, whatever their shape.
 pub fn written_once()
     ensures { WrittenOnce }
+{}
+
+/// Proves that a SET whose parts are listed in the order of their tags is read and written as one
+/// that is put in this order.
+pub fn listed_alike()
+    ensures { ListedAlike }
 {}
 
 /// Proves that if DER reads a carried value of a lawful shape, the octets that are consumed are the

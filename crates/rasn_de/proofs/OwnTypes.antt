@@ -7,3 +7,4 @@ pub mod PartTypes
 pub mod AlternativeTypes
 pub mod SetPartTypes
 pub mod Beyond
+pub mod SortedSets

@@ -63,16 +63,16 @@ no_value tag = Decides-not (is_eoc tag) (Decides-like (is_eoc tag) (λ h. ap₂ 
 
 -- ---- first tags
 
-abbrev IsAmong : List Tag → Tag → Type 0
+abbrev pub IsAmong : List Tag → Tag → Type 0
 IsAmong [] n = ⊥
 IsAmong (t ∷ ts) n = (n ≡ t) ⊎ IsAmong ts n
 
-abbrev IsIn : Firsts → Tag → Type 0
+abbrev pub IsIn : Firsts → Tag → Type 0
 IsIn None n = Unit {0}
 IsIn (Some tags) n = IsAmong tags n
 
 -- The list has the tags for which P holds.
-abbrev DescribesFirsts : Firsts → (Tag → Type 0) → Type 0
+abbrev pub DescribesFirsts : Firsts → (Tag → Type 0) → Type 0
 DescribesFirsts f P = (n : Tag) → (P n → IsIn f n) × (IsIn f n → P n)
 
 among_left : (a b : List Tag) (n : Tag) → IsAmong a n → IsAmong (a ++ b) n
@@ -101,7 +101,7 @@ tells_one : (tag : Tag) → DescribesFirsts (Some (tag ∷ [])) (λ n. n ≡ tag
 tells_one tag n = (λ e. inl e, λ h. elim h [ inl e ↦ e | inr x ↦ absurd x ])
 
 mutual
-  firsts_tell : (s : Shape) → DescribesFirsts (firsts s) (IsFirst s)
+  pub firsts_tell : (s : Shape) → DescribesFirsts (firsts s) (IsFirst s)
   firsts_tell (leaf kind tag bounds) = tells_one tag
   firsts_tell (any None) = λ n. (λ h. tt, λ h. tt)
   firsts_tell (any (Some tag)) = tells_one tag

@@ -1,5 +1,5 @@
 -- How readings are combined. A reading relates an input to the value at its front, and to the rest.
-use Rattle.std.specs.Prelude.{◌≡◌, ℕ, suc, ◌⊎◌, ◌≢◌, List, [], ◌∷◌, ◌++◌, Bool, true, false, Option, Some, None}
+use Rattle.std.specs.Prelude.{◌≡◌, ℕ, suc, ◌⊎◌, ◌≢◌, List, [], ◌∷◌, ◌++◌, Bool, true, false, Some, None}
 use Rattle.rasn_types.specs.Tags.{Form, form, IsStrict, Codec, Tag, IsTagBelow}
 use Rattle.rasn_types.specs.Framing.{Frame, definite, indefinite, Begins, NextTag, Ended}
 use Rattle.rasn_types.specs.Shapes.{Tree, items, IsSetTree, chosen, absent, Same, Presence, required, addition, optional_by, default_by, Sought, one_tag, any_of}
@@ -143,8 +143,8 @@ abbrev pub AllOf : ℕ → List Tree → List Tree → Type 0
 AllOf k [] us = us ≡ []
 AllOf k (r ∷ rs) us = ((u : Tree) × (more : List Tree) × (r ≡ chosen k u) × (us ≡ u ∷ more) × AllOf k rs more) ⊎ (((u : Tree) → r ≢ chosen k u) × AllOf k rs us)
 
--- The same of a SET with unknown components, anywhere among the others, which have the number k, after those of the
--- parts. Their trees are in the order in which they are read; without an extension marker there are none.
+-- The contents of a SET that may have an extension marker: unknown components are anywhere among the others, and have
+-- the number k, after those of the parts. Their trees are in the order in which they are read.
 abbrev pub ReadsSortedSet : Codec → Bool → List Presence → ℕ → Reading Tree → Bool → Reading Tree
 ReadsSortedSet rule extensible ps k reads closing input t rest = (readings : List Tree) × (ts : List Tree) × (us : List Tree) × IsSetTree extensible ts us t
     × ReadsMany reads closing input readings rest × ByPart 0 ps readings ts × AllOf k readings us

@@ -5,20 +5,21 @@ use Rattle.rasn_types.specs.Tags.{loose_form, IsTagBelow}
 use Rattle.rasn_types.specs.declared.types.codec.Codec.TheVariants.{Der}
 use Rattle.rasn_types.specs.declared.types.tag.Tag.{Tag}
 use Rattle.rasn_types.specs.Framing.{AreOctets, Begins, Frame, definite}
-use Rattle.rasn_types.specs.Shapes.{Tree, items, IsSetTree, set_elements, chosen, Admits, Shape, leaf, any, prefix, choice, open_choice, option, seq, set, sorted_set, list, set_of, unknown, Parts, part, count, own, IsFirst, IsFirstOf, Presence, presences, required, addition, optional_by, default_by, Sought, sought_in, IsAlwaysPresent}
+use Rattle.rasn_types.specs.Shapes.{Tree, items, IsSetTree, set_elements, chosen, Admits, Shape, leaf, any, prefix, choice, open_choice, option, seq, set, sorted_set, list, set_of, unknown, Parts, part, count, own, IsFirst, IsFirstOf, Presence, presences, required, addition, optional_by, default_by, Sought, sought_in}
 use Rattle.rasn_types.specs.declared.types.constraints.Bound.{Bound}
 use Rattle.rasn_types.specs.Shapes.Parts.{none}
 use Rattle.rasn_types.specs.Readings.{Reading, ReadsContents, definite_form, indefinite_form, ReadsMany, ReadsFrom, IsNoDefault, ReadsPart, ReadsInOrder, IsMissing, AllMissing, presences_in, ReadsChoice, NoneOf, OneOf, ByPart, AllOf}
 use Rattle.rasn_types.specs.Order.{Each, IsLess, AreAscending, AreInOrder, IsReordered}
 use Rattle.rasn_types.specs.Contents.{joined_lists}
 use Rattle.rasn_types.specs.Grammar.{Reads, parts_of, family}
-use Rattle.rasn_types.specs.Bytes.{Same, DefiniteForm, WritesPart, PartsWritten, WritesChoice, TagsOf, NoneUntaggedOpen, Component, ComponentsOf, UnknownComponents, ComesBefore, contents_of, IsUntaggedOpen, IsUntaggedOpenIn, Bytes, fields_of}
+use Rattle.rasn_types.specs.Bytes.{Same, DefiniteForm, WritesPart, PartsWritten, WritesChoice, TagsOf, NoneUntaggedOpen, Component, ComponentsOf, UnknownComponents, ComesBefore, contents_of, IsUntaggedOpen, Bytes, fields_of}
 use Rattle.rasn_types.specs.Carried.{EachOf, IsWithinLimits}
-use Rattle.rasn_types.specs.Lawful.{HasTag, AreDistinguished, IsLawful, AreAlternatives, AreLawfulByTag, AreComponents}
+use Rattle.rasn_types.specs.Lawful.{HasTag, AreDistinguished, IsLawful, AreLawfulByTag, AreComponents}
 use Rattle.rasn_types.proofs.Headers.Frames.{frame_next, not_ended}
 use Rattle.rasn_types.proofs.SetOf.Same.{items_one}
 use Rattle.rasn_types.proofs.SetTrees.{set_tree_one}
 use Rattle.rasn_types.proofs.Encoding.SameAsItself.{written_same, one_writing}
+use Rattle.rasn_types.proofs.Encoding.Listed.{not_untagged}
 use Rattle.rasn.proofs.ReadBack.Shapes.{EachGood, alternatives_good, EachGoodInOrder, in_order_good, by_tag_good, components_good}
 use Rattle.rasn.proofs.LawsHold.Written.{one_reading, read_again}
 use Rattle.rasn.proofs.StrictDer.Shapes.{there, unknown_there, set_elements_one}
@@ -387,30 +388,6 @@ unknown_made depth closing input t rest o (vs, e, z, h) (us, f, m) =
 
 unknown_is_made : (depth : ℕ) → Made unknown depth
 unknown_is_made depth = record { made = unknown_made depth; there = unknown_there depth; not_untagged = λ has t. absurd has }
-
--- What is written of a lawful shape that has a tag isn't bare.
-mutual
-  unfolding IsUntaggedOpen IsLawful
-
-  not_untagged : (s : Shape) → IsLawful s → IsAlwaysPresent s → HasTag s → (t : Tree) → IsUntaggedOpen s t → ⊥
-  not_untagged (leaf kind tag bounds) lawful solid has t h = h
-  not_untagged (any None) lawful solid has t h = has
-  not_untagged (any (Some tag)) lawful solid has t h = h
-  not_untagged (prefix tag s) lawful solid has t h = h
-  not_untagged (choice ps) lawful solid has t h = none_untagged ps lawful.0 0 t h
-  not_untagged (open_choice ps) lawful solid has t h = has
-  not_untagged (option tag s) lawful solid has t h = solid
-  not_untagged (seq tag ps) lawful solid has t h = h
-  not_untagged (set tag ps) lawful solid has t h = h
-  not_untagged (sorted_set extensible tag ps) lawful solid has t h = h
-  not_untagged (list tag s size) lawful solid has t h = h
-  not_untagged (set_of tag s size) lawful solid has t h = h
-  not_untagged unknown lawful solid has t h = solid
-
-  none_untagged : (ps : Parts) → AreAlternatives ps → (k : ℕ) (t : Tree) → IsUntaggedOpenIn k ps t → ⊥
-  none_untagged none lawful k t h = h
-  none_untagged (part presence s ps) lawful k t (inl h) = not_untagged s lawful.3 lawful.2 lawful.1 h.0 h.2
-  none_untagged (part presence s ps) lawful k t (inr h) = none_untagged ps lawful.4 (suc k) t h
 
 mutual
   unfolding Reads parts_of Bytes fields_of Owes IsLawful

@@ -36,6 +36,7 @@ mod sequence;
 mod sequence_of;
 mod set;
 mod set_of;
+pub mod set_parts;
 mod time;
 mod unknown;
 mod writer;
