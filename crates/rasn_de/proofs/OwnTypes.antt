@@ -8,3 +8,4 @@ pub mod AlternativeTypes
 pub mod SetPartTypes
 pub mod Beyond
 pub mod SortedSets
+pub mod SortedSetParts
