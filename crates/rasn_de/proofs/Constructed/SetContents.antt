@@ -9,7 +9,7 @@ use Rattle.rasn_types.specs.Framing.{Begins, NextTag, Ended}
 use Rattle.rasn_types.specs.Tags.{form, IsStrict, IsTagBelow}
 use Rattle.rasn_types.specs.Order.{Each, AreAscending}
 use Rattle.rasn_types.specs.Shapes.{Tree, Shape, items, choice, Parts, presences}
-use Rattle.rasn_types.specs.Readings.{Reading, ReadsMany, ReadsFrom, ReadsChoice, ByPart, AreInTagOrder, ReadsSet}
+use Rattle.rasn_types.specs.Readings.{Reading, ReadsMany, ReadsFrom, ReadsChoice, AreInTagOrder, ReadsSet}
 use Rattle.rasn_types.specs.Grammar.{Reads, parts_of}
 use Rattle.rasn_types.specs.Trees.{list_tree}
 use Rattle.rasn_de.specs.State.{State, Call}

@@ -1,23 +1,19 @@
 -- A SET with an extension marker is read where its components are read inside.
-use Rattle.std.proofs.Common.{◌≡◌, ◌≢◌, ℕ, ◌-◌, ◌⊎◌, inl, inr, Bool, List, map, Result, Ok, Err, subst, true}
+use Rattle.std.proofs.Common.{◌≡◌, ◌≢◌, ◌-◌, ◌⊎◌, inl, Bool, List, map, Result, Ok, true}
 use Rattle.rasn_types.specs.declared.types.tag.Tag.{Tag}
 use Rattle.rasn_types.specs.declared.error.decode.DecodeError.{DecodeError}
 use Rattle.rasn_types.specs.Framing.{AreOctets}
-use Rattle.rasn_types.specs.Shapes.{Tree, Shape, choice, set, Parts}
+use Rattle.rasn_types.specs.Shapes.{Tree, Parts}
 use Rattle.rasn_types.specs.Readings.{Reading}
 use Rattle.rasn_types.specs.Grammar.{Reads}
 use Rattle.rasn_de.specs.Headers.{Header}
 use Rattle.rasn_de.specs.Segments.{octets_inside}
-use Rattle.rasn_de.specs.State.{State, IsEnd, Call}
+use Rattle.rasn_de.specs.State.{State, Call}
 use Rattle.rasn_de.specs.Outcomes.{Exact, outcome}
 use Rattle.rasn_de.specs.Decodes.{Decodes}
 use Rattle.rasn_de.specs.Constructed.{sequence_header, constructed_header_at, is_indefinite_extent, contents_state, DecodesInside}
-use Rattle.rasn_de.specs.SequenceOf.{DecodesInTurnFrom, FailsAtElement}
-use Rattle.rasn_de.specs.Set.{FailsAtComponent, no_tag, falls, not_read, DecodesComponents, DecodesSetContents, MakesSet, AreSortedParts}
+use Rattle.rasn_de.specs.Set.{DecodesComponents, DecodesSetContents, AreSortedParts}
 use Rattle.rasn_de.proofs.Constructed.Reads.{IsCut, held_decodes, held_constructed, constructed_held}
-use Rattle.rasn_de.proofs.Constructed.SetOfElements.{came}
-use Rattle.rasn_de.proofs.Constructed.Opening.{kept_same}
-use Rattle.rasn_de.proofs.Headers.Ends.{IsEnd-trans}
 use Rattle.rasn_de.proofs.Constructed.SortedSetContents.{SortedSetReads, sorted_collects}
 use Rattle.rasn_de.proofs.Constructed.SetContents.{MakesBy}
 use Rattle.rasn_types.specs.Shapes.{open_choice, sorted_set}

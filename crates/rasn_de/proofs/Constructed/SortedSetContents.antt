@@ -1,15 +1,15 @@
 -- The components of a SET with an extension marker are read one by one, and by part, with the unknown ones in the order
 -- in which they are read, they are the SET's contents.
-use Rattle.std.proofs.Common.{◌≡◌, inl, inr, ℕ, Bool, true, List, [], ◌∷◌, ◌++◌, map, Result, Ok, Err, refl, sym, ap, ◌∙◌, subst}
+use Rattle.std.proofs.Common.{◌≡◌, inl, inr, ℕ, Bool, true, List, [], ◌∷◌, ◌++◌, map, Result, sym, ap, ◌∙◌}
 use Rattle.rasn_types.specs.declared.types.codec.Codec.{Codec}
 use Rattle.rasn_types.specs.declared.error.decode.DecodeError.{DecodeError}
-use Rattle.rasn_types.specs.Shapes.{Tree, items, chosen, open_choice, Parts, count, presences, IsFirstOf, IsSetTree}
-use Rattle.rasn_types.specs.Readings.{Reading, ReadsChoice, ByPart, AllOf, ReadsSortedSet}
+use Rattle.rasn_types.specs.Shapes.{Tree, items, chosen, open_choice, Parts, count, presences, IsFirstOf}
+use Rattle.rasn_types.specs.Readings.{Reading, ReadsChoice, AllOf, ReadsSortedSet}
 use Rattle.rasn_types.specs.Grammar.{Reads, ReadsOpenChoice, parts_of}
 use Rattle.rasn_de.specs.State.{State}
 use Rattle.rasn_de.specs.Decodes.{Decodes, DecodesBy}
 use Rattle.rasn_de.specs.Set.{DecodesComponents, DecodesSetContents, AreSortedParts}
-use Rattle.rasn_de.specs.Outcomes.{Exact, outcome}
+use Rattle.rasn_de.specs.Outcomes.{outcome}
 use Rattle.rasn_de.proofs.Constructed.Choice.{choice_by_next}
 use Rattle.rasn_de.proofs.Constructed.OneReading.{by_part_one}
 use Rattle.rasn_de.proofs.Constructed.Reads.{Exact-same}

@@ -1,45 +1,24 @@
 -- The parts of a SET with an extension marker: what is made of them, and that the SET is read so.
-use Rattle.std.proofs.Common.{◌≡◌, ◌≢◌, ℕ, zero, suc, ◌+◌, ◌-◌, ◌<◌, ◌⊎◌, inl, inr, Bool, false, List, [], ◌∷◌, ◌++◌, map, length, Option, Some, None, Result, Ok, Err, refl, sym, ap, ◌∙◌, subst, append_assoc, arith, true}
-use Rattle.std.specs.Option.{option_or}
-use Rattle.std.specs.Borrow.{Bor}
+use Rattle.std.proofs.Common.{◌≡◌, ◌≢◌, ℕ, ◌-◌, ◌⊎◌, inl, inr, Bool, List, [], map, Result, Ok, Err, refl, sym, subst, true}
 use Rattle.rasn_types.specs.declared.types.codec.Codec.{Codec}
 use Rattle.rasn_types.specs.declared.types.tag.Tag.{Tag}
 use Rattle.rasn_types.specs.declared.error.decode.DecodeError.{DecodeError}
-use Rattle.rasn_types.specs.declared.error.decode.DecodeErrorKind.{DecodeErrorKind}
-use Rattle.rasn_types.specs.Tags.{form}
-use Rattle.rasn_types.specs.Framing.{NextTag, Ended, AreOctets}
-use Rattle.rasn_types.specs.Errors.{IsOutOfMemory}
-use Rattle.rasn_types.specs.Shapes.{Tree, chosen, joined, items, absent, Shape, choice, set, Parts, part, own, IsFirstOf, Presence, presences, required, optional, default}
-use Rattle.rasn_types.specs.Shapes.Parts.{none}
-use Rattle.rasn_types.specs.Readings.{Reading, IsMissing, NoneOf, OneOf, ByPart}
+use Rattle.rasn_types.specs.Framing.{AreOctets}
+use Rattle.rasn_types.specs.Shapes.{Tree, items, Parts, presences}
+use Rattle.rasn_types.specs.Readings.{Reading}
 use Rattle.rasn_types.specs.Grammar.{Reads}
-use Rattle.rasn_types.specs.Trees.{option_tree}
-use Rattle.rasn_de.specs.declared.ber.de.parser.ParseError.TheVariants.{UnexpectedExtraData}
 use Rattle.rasn_de.specs.Headers.{Header}
 use Rattle.rasn_de.specs.Segments.{octets_inside}
 use Rattle.rasn_de.specs.State.{State, Call}
-use Rattle.rasn_de.specs.Outcomes.{Exact, Got, refusal, outcome}
-use Rattle.rasn_de.specs.NamedErrors.{IsNamedError, IsMissingField, IsDuplicateField}
-use Rattle.rasn_de.specs.Decodes.{DecodesExactly, Decodes}
+use Rattle.rasn_de.specs.Outcomes.{Exact, refusal, outcome}
+use Rattle.rasn_de.specs.Decodes.{Decodes}
 use Rattle.rasn_de.specs.Constructed.{sequence_header, constructed_header_at, is_indefinite_extent, contents_state, DecodesInside}
-use Rattle.rasn_de.specs.Steps.{IsErrorOf}
-use Rattle.rasn_de.specs.SequenceOf.{DecodesInTurnFrom, RefusesElement}
-use Rattle.rasn_de.specs.Set.{FailsAtComponent, not_read, DecodesIntoSlots, DecodesSetContents, AreParts, AreSortedParts, MakesSet, PeeksInOrder}
-use Rattle.rasn_de.specs.AlternativeTypes.{ReadsNumbered, FailsAtAlternative}
-use Rattle.rasn_de.specs.ValueErrors.{Errors}
-use Rattle.rasn_de.specs.SetPartTypes.{MakesOfSortedReadings, DecodesSetPartContentsBy, DecodesSetPartsBy, held_tree, text, name_at, IsPart, AreEmpty, IsFilled, IsPlacedAt, ReadsPartAt, RefusesPart, IsPlaced, IsOrDefault, DecodesPlaced, DecodesNext, AreGathered, IsGathered, LacksSlot, IsLackOf, HasGap, MakesParts, AreOnce, RepeatsFirst, LacksFirst, MakesOfReadings, LeavesGap, MakesNamed, DecodesOneOf, DecodesSetPartContents, DecodesNamedContents}
+use Rattle.rasn_de.specs.Set.{AreSortedParts}
+use Rattle.rasn_de.specs.SetPartTypes.{MakesOfSortedReadings, DecodesSetPartContentsBy}
 use Rattle.rasn_de.proofs.Leaves.Outcomes.{Exact-none}
-use Rattle.rasn_de.proofs.Headers.Tags.{Tagged, tagged_order, look_refused, look_follows, look_kept}
 use Rattle.rasn_de.proofs.Constructed.Reads.{IsCut, held_decodes, held_constructed, constructed_held}
-use Rattle.rasn_de.proofs.Constructed.SetOfElements.{came_stays, passes_from}
-use Rattle.rasn_de.proofs.Constructed.SetContents.{SetReads, set_collects, slots_collected}
-use Rattle.rasn_de.proofs.Constructed.Steps.{rules_same}
-use Rattle.rasn_de.proofs.OwnTypes.Parts.{call_keeps}
-use Rattle.rasn_de.proofs.OwnTypes.Alternatives.{OneAlternative}
-use Rattle.rasn_de.proofs.OwnTypes.AlternativeTypes.{first_got, first_refused, others_read, others_got, choice_read}
-use Rattle.rasn_de.proofs.OwnTypes.Components.{Slot, one_more, kept_more, not_none, no_parts_twice}
-use Rattle.rasn_de.proofs.Leaves.Errors.{rule_is}
-use Rattle.std.specs.Prelude.{IfErr}
+use Rattle.rasn_de.proofs.Constructed.SetContents.{slots_collected}
+use Rattle.rasn_de.proofs.OwnTypes.Components.{no_parts_twice}
 use Rattle.rasn_types.specs.Shapes.{open_choice, sorted_set}
 use Rattle.rasn_de.proofs.Constructed.SetContents.{MakesBy}
 use Rattle.rasn_de.proofs.Constructed.SortedSetContents.{SortedSetReads, sorted_collects}

@@ -6,8 +6,6 @@ use Rattle.rasn_de.specs.SetPartTypes.{text, MakesOfReadings, DecodesSetPartCont
 use Rattle.rasn_de.proofs.Constructed.Beyond.{inside_beyond}
 use Rattle.rasn_de.proofs.Constructed.Set.{collects_leaves}
 use Rattle.rasn_de.proofs.Constructed.SetContents.{slots_collected}
-use Rattle.rasn_de.proofs.Constructed.SortedSet.{sorted_set_decodes}
-use Rattle.rasn_de.proofs.OwnTypes.SortedSetParts.{sorted_parts_decode}
 use Rattle.rasn_de.specs.Decodes.{Decodes}
 use Rattle.rasn_de.proofs.Constructed.Steps.{closure_leaves, closure_inside, closure_rules}
 use Rattle.rasn_de.proofs.OwnTypes.SetPartTypes.{set_parts_decode}
