@@ -1,5 +1,6 @@
 //! Where the components of a SET are written: in the order of their tags (X.690 9.3, 10.3).
-ghost use Rattle.std.specs.Prelude.{◌≡◌, ℕ, List, MatchOption};
+ghost use Rattle.std.specs.Prelude.{◌≡◌, ◌≤◌, ℕ, List, length, MatchOption};
+ghost use Rattle.rasn_enc.specs.Any.{IsUntaggedInSetError};
 ghost use Rattle.rasn_types.specs.Framing.{Begins};
 ghost use Rattle.rasn_types.specs.Shapes.{IsFirst, IsFirstOf};
 ghost use Rattle.rasn_types.specs.Bytes.{Bytes, IsPlacedBy};
@@ -10,10 +11,114 @@ ghost use Rattle.rasn_schema.specs.Trees.{tree_of};
 ghost use Rattle.rasn_schema.specs.Shapes.{shape_of_type, alternatives_by};
 ghost use Rattle.rasn_dynamic.specs.Placed.{HasLeastOf};
 
-use rasn_enc::ber::enc::leading_tag;
-use rasn_schema::{Alternative, Type, TypeId, Value, tag_at, type_at};
+use crate::write_leaf::out_of_room;
+use rasn_enc::ber::enc::{Encoder, leading_tag};
+use rasn_schema::{Alternative, Component, Type, TypeId, Value, is_left_out, tag_at, type_at};
 use rasn_types::ber::rules::EncodingRules;
+use rasn_types::error::{BerEncodeErrorKind, CodecEncodeError, EncodeError, EncodeErrorKind};
 use rasn_types::types::{Codec, Tag};
+
+/// A component of a SET that is written: the tag that decides where, and its number. Unknown values have the numbers after those of the
+/// components that the SET names.
+#[derive(Drop)]
+pub struct Place {
+    pub tag: Tag,
+    pub number: usize,
+}
+
+/// Returns the error that a component doesn't begin with an identifier, so that its place isn't known.
+fn no_place(encoder: &Encoder) -> EncodeError
+    ensures { IsUntaggedInSetError encoder.now.rule result }
+{
+    EncodeError {
+        kind: EncodeErrorKind::CodecSpecific {
+            inner: CodecEncodeError::Ber(BerEncodeErrorKind::AnyInSet),
+        },
+        codec: encoder.codec(),
+    }
+}
+
+/// Returns the number of the first place whose tag isn't below this one, or the number of places.
+fn index_for(places: &[Place], tag: Tag) -> usize
+    ensures { result ≤ length places.now }
+{
+    let mut at = 0;
+    while at < places.len() {
+        if !is_below(places[at].tag, tag) {
+            return at;
+        }
+        at += 1;
+    }
+    at
+}
+
+/// Puts a component before the first whose tag isn't below its own.
+fn add_place(
+    encoder: &Encoder,
+    places: &mut Vec<Place>,
+    tag: Option<Tag>,
+    number: usize,
+) -> Result<(), EncodeError> {
+    let Some(tag) = tag else {
+        return Err(no_place(encoder));
+    };
+    let at = index_for(places, tag);
+    match places.insert(at, Place { tag, number }) {
+        Ok(()) => Ok(()),
+        Err(_) => Err(out_of_room(encoder)),
+    }
+}
+
+/// Returns the places of unknown values in the order of their tags. The first of them has the number `first`.
+pub fn places_of_unknown(
+    encoder: &Encoder,
+    first: usize,
+    values: &[Value<'_>],
+) -> Result<Vec<Place>, EncodeError> {
+    let mut places = Vec::new(encoder.alloc());
+    let mut left = values.len();
+    while left > 0 {
+        left -= 1;
+        let tag = match &values[left] {
+            Value::Octets(octets) => leading_tag(octets.as_slice()),
+            _ => None,
+        };
+        let Some(number) = first.checked_add(left) else {
+            return Err(out_of_room(encoder));
+        };
+        add_place(encoder, &mut places, tag, number)?;
+    }
+    Ok(places)
+}
+
+/// Puts the components that are written among these places, in the order of their tags.
+pub fn add_places(
+    encoder: &Encoder,
+    types: &[Type],
+    levels: usize,
+    components: &[Component],
+    values: &[Value<'_>],
+    places: &mut Vec<Place>,
+) -> Result<(), EncodeError>
+    requires { length components.now ≤ length values.now }
+{
+    let mut left = components.len();
+    while left > 0 {
+        left -= 1;
+        let component = &components[left];
+        let value = &values[left];
+        if !is_left_out(component, value) {
+            let tag = place_tag(types, levels, encoder.codec(), component.type_id, value);
+            add_place(encoder, places, tag, left)?;
+        }
+    }
+    Ok(())
+}
+
+/// Returns which of the unknown values has this number, if it is one of theirs, the first of which is `first`.
+pub fn unknown_number(number: usize, first: usize) -> Option<usize> {
+    number.checked_sub(first)
+}
 
 /// Returns whether a tag is below another (X.680 8.6).
 pub fn is_below(tag: Tag, other: Tag) -> bool

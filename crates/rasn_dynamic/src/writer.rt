@@ -8,6 +8,8 @@ ghost use Rattle.rasn_schema.specs.Shapes.{shape_of_type, type_by, alternatives_
 ghost use Rattle.rasn_schema.specs.Fitting.{AlternativeFits, IsChosen, ComponentFits, ComponentsFit, EachFits, FitsBy, Fits};
 ghost use Rattle.rasn_dynamic.specs.Written.{EncodesIf, EncodesPartIf, EncodesInsideIf, EncodesPartsIf, EncodesElementsIf, EncodesSetOfIf, IsEnclosed, HoldsOthers, keeps_tags};
 
+use crate::place::{add_places, places_of_unknown, unknown_number};
+use crate::set::named_components;
 use crate::write_leaf::{
     encode_leaf, encode_number, encode_open_value, encode_unknown_values, other_form,
 };
@@ -18,17 +20,6 @@ use rasn_schema::{
 use rasn_types::error::{BerEncodeErrorKind, CodecEncodeError, EncodeError, EncodeErrorKind};
 use rasn_types::types::Tag;
 
-/// Returns the error that the octets of a set aren't in ascending order.
-fn out_of_order(encoder: &Encoder) -> EncodeError
-    ensures { IsOrderError encoder.now.rule result }
-{
-    EncodeError {
-        kind: EncodeErrorKind::CodecSpecific {
-            inner: CodecEncodeError::Ber(BerEncodeErrorKind::SetOutOfOrder),
-        },
-        codec: encoder.codec(),
-    }
-}
 
 /// Writes a value of the type with this number, if it is one. Types are followed `levels` deep.
 #[cycle(encode)]
@@ -82,7 +73,7 @@ fn encode_type(
         Type::Sequence { tag, .. } => {
             encode_inside(encoder, types, below, ty, *tag, false, value)
         }
-        Type::Set { tag, .. } => encode_inside(encoder, types, below, ty, *tag, true, value),
+        Type::Set { tag, .. } => encode_inside(encoder, types, below, ty, *tag, false, value),
         Type::SequenceOf { tag, .. } => {
             encode_inside(encoder, types, below, ty, *tag, false, value)
         }
@@ -149,13 +140,7 @@ fn encode_contents(
             None => Err(other_form(encoder)),
         },
         Type::Set { components, .. } => match items_of(value) {
-            Some(values) => {
-                encode_components(encoder, types, below, components, values)?;
-                if encoder.kept_tags_out_of_order() {
-                    return Err(out_of_order(encoder));
-                }
-                Ok(())
-            }
+            Some(values) => encode_set(encoder, types, below, components, values),
             None => Err(other_form(encoder)),
         },
         Type::SequenceOf {
@@ -226,6 +211,44 @@ fn encode_component(
         return Ok(());
     }
     encode_at(encoder, types, below, component.type_id, value)
+}
+
+/// Writes the components of a SET in the order of their tags (X.690 9.3, 10.3). If the SET is extensible, the last value is the list of
+/// unknown components, each of which is written where its tag belongs.
+#[cycle(encode)]
+fn encode_set(
+    encoder: &mut Encoder,
+    types: &[Type],
+    below: usize,
+    components: &[Component],
+    values: &[Value<'_>],
+) -> Result<(), EncodeError>
+    requires { encoder.old.last ≡ fresh false }
+    ensures { EncodesInsideIf (ComponentsFit (Fits types.now below) components.now values.now) (set_among eoc (components_by (shape_of_type types.now below) components.now)) (list_tree tree_of values.now) encoder.old result encoder.new }
+{
+    if values.len() != components.len() {
+        return Err(other_form(encoder));
+    }
+    let (named, extensible) = named_components(types, below, components);
+    let mut unknown: &[Value<'_>] = &[];
+    if extensible {
+        let Some(found) = items_of(&values[named.len()]) else {
+            return Err(other_form(encoder));
+        };
+        unknown = found;
+    }
+    let mut places = places_of_unknown(encoder, named.len(), unknown)?;
+    add_places(encoder, types, below, named, values, &mut places)?;
+    for place in &places {
+        match unknown_number(place.number, named.len()) {
+            Some(number) => encode_open_value(encoder, Tag::EOC, &unknown[number])?,
+            None => {
+                let id = named[place.number].type_id;
+                encode_at(encoder, types, below, id, &values[place.number])?;
+            }
+        }
+    }
+    Ok(())
 }
 
 /// Writes elements, one after the other.
