@@ -21,6 +21,7 @@ use crate::trace::octets_after;
 use rasn_de::ber::de::{ConstructedHeader, Decoder, DecoderOptions};
 use rasn_schema::{Alternative, Component, Schema, Type, TypeId, alternative_for, type_at};
 use rasn_types::error::DecodeError;
+use rasn_types::types::Tag;
 use rasn_types::types::Codec;
 use std::alloc::Global;
 

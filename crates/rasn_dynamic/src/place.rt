@@ -179,7 +179,7 @@ fn own_tag(types: &[Type], id: TypeId) -> Option<Tag> {
 /// Returns the tag that the octets of a value begin with: of a CHOICE, that of the alternative that was chosen.
 #[cycle(first)]
 fn first_tag(types: &[Type], levels: usize, id: TypeId, value: &Value<'_>) -> Option<Tag>
-    ensures { MatchOption result Unit (λ tag. (rule : Codec) (b : List ℕ) → Bytes rule (shape_of_type types.now levels id.0) (tree_of value.now) b → Begins b tag) }
+    ensures { MatchOption result (Unit {0}) (λ tag. (rule : Codec) (b : List ℕ) → Bytes rule (shape_of_type types.now levels id.0) (tree_of value.now) b → Begins b tag) }
 {
     if levels == 0 {
         return own_tag(types, id);
@@ -203,7 +203,7 @@ pub fn place_tag(
     id: TypeId,
     value: &Value<'_>,
 ) -> Option<Tag>
-    ensures { MatchOption result Unit (λ tag. (b : List ℕ) → Bytes rule (shape_of_type types.now levels id.0) (tree_of value.now) b → IsPlacedBy rule (IsFirst (shape_of_type types.now levels id.0)) b tag) }
+    ensures { MatchOption result (Unit {0}) (λ tag. (b : List ℕ) → Bytes rule (shape_of_type types.now levels id.0) (tree_of value.now) b → IsPlacedBy rule (IsFirst (shape_of_type types.now levels id.0)) b tag) }
 {
     if EncodingRules::of_codec(rule).is_cer() {
         return least_tag(types, levels, id);

@@ -1,10 +1,11 @@
 //! Writes a value of a type.
 ghost use Rattle.std.specs.Prelude.{◌≡◌, None, map};
+ghost use Rattle.rasn_types.specs.Tags.{eoc};
 ghost use Rattle.rasn_types.specs.Trees.{list_tree};
 ghost use Rattle.rasn_enc.specs.View.{fresh};
 ghost use Rattle.rasn_enc.specs.Primitive.{IsOrderError};
 ghost use Rattle.rasn_schema.specs.Trees.{tree_of};
-ghost use Rattle.rasn_schema.specs.Shapes.{shape_of_type, type_by, alternatives_by, choice_among, components_by, presence_in};
+ghost use Rattle.rasn_schema.specs.Shapes.{shape_of_type, type_by, alternatives_by, choice_among, set_among, components_by, presence_in};
 ghost use Rattle.rasn_schema.specs.Fitting.{AlternativeFits, IsChosen, ComponentFits, ComponentsFit, EachFits, FitsBy, Fits};
 ghost use Rattle.rasn_dynamic.specs.Written.{EncodesIf, EncodesPartIf, EncodesInsideIf, EncodesPartsIf, EncodesElementsIf, EncodesSetOfIf, IsEnclosed, HoldsOthers, keeps_tags};
 
@@ -20,6 +21,18 @@ use rasn_schema::{
 use rasn_types::error::{BerEncodeErrorKind, CodecEncodeError, EncodeError, EncodeErrorKind};
 use rasn_types::types::Tag;
 
+
+/// Returns the error that the octets of a set aren't in ascending order.
+fn out_of_order(encoder: &Encoder) -> EncodeError
+    ensures { IsOrderError encoder.now.rule result }
+{
+    EncodeError {
+        kind: EncodeErrorKind::CodecSpecific {
+            inner: CodecEncodeError::Ber(BerEncodeErrorKind::SetOutOfOrder),
+        },
+        codec: encoder.codec(),
+    }
+}
 
 /// Writes a value of the type with this number, if it is one. Types are followed `levels` deep.
 #[cycle(encode)]
