@@ -12,8 +12,8 @@ use crate::locate::{check_or_locate, out_of_memory};
 use crate::made::Nothing;
 use crate::order::octets_before;
 use crate::part::{Part, part_header};
-use crate::reader::{decode_at, decode_component, decode_present, extra, is_next, no_value};
 use crate::read_leaf::decode_any_value;
+use crate::reader::{decode_at, decode_component, decode_present, extra, is_next, no_value};
 use crate::refusal::Refusal;
 use crate::set::{component_for, named_components};
 use crate::span::no_list;
@@ -21,8 +21,7 @@ use crate::trace::octets_after;
 use rasn_de::ber::de::{ConstructedHeader, Decoder, DecoderOptions};
 use rasn_schema::{Alternative, Component, Schema, Type, TypeId, alternative_for, type_at};
 use rasn_types::error::DecodeError;
-use rasn_types::types::Tag;
-use rasn_types::types::Codec;
+use rasn_types::types::{Codec, Tag};
 use std::alloc::Global;
 
 /// Where a value begins.

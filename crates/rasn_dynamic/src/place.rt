@@ -146,7 +146,9 @@ fn lesser(one: Option<Tag>, other: Option<Tag>) -> Option<Tag> {
 pub fn least_tag(types: &[Type], levels: usize, id: TypeId) -> Option<Tag>
     ensures { MatchOption result ((n : Tag) → IsFirst (shape_of_type types.now levels id.0) n → ⊥) (λ tag. HasLeast tag (shape_of_type types.now levels id.0)) }
 {
-    if levels > 0 && let Some(Type::Choice { alternatives, .. }) = type_at(types, id) {
+    if levels > 0
+        && let Some(Type::Choice { alternatives, .. }) = type_at(types, id)
+    {
         return least_of(types, levels - 1, alternatives);
     }
     if levels > 0 && matches!(type_at(types, id), Some(Type::Any { .. })) {
@@ -189,7 +191,9 @@ fn first_tag(types: &[Type], levels: usize, id: TypeId, value: &Value<'_>) -> Op
             let alternative = alternatives.get(*index)?;
             first_tag(types, levels - 1, alternative.type_id, inner)
         }
-        (Some(Type::Any { tag: Tag::EOC }), Value::Octets(octets)) => leading_tag(octets.as_slice()),
+        (Some(Type::Any { tag: Tag::EOC }), Value::Octets(octets)) => leading_tag(
+            octets.as_slice(),
+        ),
         _ => own_tag(types, id),
     }
 }

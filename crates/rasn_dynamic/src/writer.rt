@@ -21,7 +21,6 @@ use rasn_schema::{
 use rasn_types::error::{BerEncodeErrorKind, CodecEncodeError, EncodeError, EncodeErrorKind};
 use rasn_types::types::Tag;
 
-
 /// Returns the error that the octets of a set aren't in ascending order.
 fn out_of_order(encoder: &Encoder) -> EncodeError
     ensures { IsOrderError encoder.now.rule result }
