@@ -57,6 +57,8 @@ fn types_named(name: &str) -> Option<(&'static [Definition], TypeId)> {
         "extensible" => Some((ROW_TYPES, TypeId(30))),
         "with-flags" => Some((ROW_TYPES, TypeId(32))),
         "reply" => Some((ROW_TYPES, TypeId(34))),
+        "open-set" => Some((ROW_TYPES, TypeId(35))),
+        "mixed" => Some((ROW_TYPES, TypeId(36))),
         _ => Some((LINE_TYPES, type_id(ValueType::of_name(name)?))),
     }
 }

@@ -43,12 +43,19 @@ pub const ROW_TYPES: &[Definition] = &[
         &[("add", 0), ("delete", 1)],
     ),
     Definition::Unknown,
-    // 30 to 34
+    // 30 to 36
     Definition::Sequence(Tag::SEQUENCE, EXTENSIBLE),
     Definition::SequenceOf(Tag::SEQUENCE, 0, Constraints::NONE),
     Definition::Sequence(Tag::SEQUENCE, WITH_FLAGS),
     Definition::Any(Tag::EOC),
     Definition::Choice("Reply", &[("accepted", 0), ("count", 24), ("...", 33)]),
+    Definition::Set("OpenSet", Tag::SET, EXTENSIBLE),
+    Definition::Set("Mixed", Tag::SET, MIXED),
+];
+
+const MIXED: &[Part] = &[
+    ("either", Occurrence::Required, 13),
+    ("number", Occurrence::Required, 20),
 ];
 
 const EXTENSIBLE: &[Part] = &[

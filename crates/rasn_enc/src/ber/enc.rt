@@ -43,6 +43,7 @@ mod writer;
 
 pub use config::EncoderOptions;
 pub use object_identifier::object_identifier_as_bytes;
+pub use writer::leading_tag::leading_tag;
 use rasn_types::error::{BerEncodeErrorKind, CodecEncodeError, EncodeError, EncodeErrorKind};
 use rasn_types::types::{Codec, Constraints, Tag};
 use std::alloc::Global;
