@@ -1,18 +1,17 @@
--- What is read inside values that hold others: elements, components and alternatives.
-use Rattle.std.proofs.Common.{◌≡◌, ℕ, zero, suc, inl, inr, List, String, [], ◌∷◌, ◌++◌, map, Vec, Global, Result, Ok, Err, refl, sym, ap, ◌∙◌, subst}
-use Rattle.std.specs.Prelude.{Option, Some, slice_get}
+-- What is read inside values that hold others: elements and components.
+use Rattle.std.proofs.Common.{◌≡◌, ℕ, inl, inr, List, String, [], ◌∷◌, ◌++◌, map, Vec, Global, Result, Ok, Err, refl, sym, ap, ◌∙◌, subst}
+use Rattle.std.specs.Prelude.{Option, Some}
 use Rattle.rasn_types.specs.declared.types.tag.Tag.{Tag}
 use Rattle.rasn_types.specs.declared.types.constraints.Bound.{Bound}
 use Rattle.rasn_types.specs.declared.error.decode.DecodeError.{DecodeError}
 use Rattle.rasn_types.specs.declared.error.decode.DecodeErrorKind.{DecodeErrorKind}
-use Rattle.rasn_types.specs.Shapes.{Tree, items, done, joined, Shape, prefix, seq, choice, set, list, set_of, Parts, part, required, Presence, IsFirst}
+use Rattle.rasn_types.specs.Shapes.{Tree, items, done, joined, Shape, prefix, seq, choice, set, list, set_of, Parts, part, Presence}
 use Rattle.rasn_types.specs.Shapes.Parts.{none}
-use Rattle.rasn_types.specs.Lawful.{IsLawful, AreDistinguished, AreAlternatives, AreLawfulInOrder, AreLawfulByTag}
+use Rattle.rasn_types.specs.Lawful.{IsLawful, AreLawfulInOrder, AreLawfulByTag}
 use Rattle.rasn_types.specs.Grammar.{Reads}
 use Rattle.rasn_de.specs.State.{State}
 use Rattle.rasn_de.specs.Outcomes.{Outcome, Got, refusal}
 use Rattle.rasn_de.specs.Decodes.{Decodes, DecodesBy, DecodesExactly, ReadsParts}
-use Rattle.rasn_de.specs.Choice.{IsOnlyAlternative}
 use Rattle.rasn_de.specs.Constructed.{Keeps}
 use Rattle.rasn_types.specs.Errors.{IsOutOfMemory}
 use Rattle.rasn_de.proofs.Leaves.Outcomes.{Exact-none, alloc_failed}
@@ -26,16 +25,14 @@ use Rattle.rasn_types.specs.declared.types.constraints.Constraints.{Constraints}
 use Rattle.rasn_schema.specs.declared.types.«Type».{«Type»}
 use Rattle.rasn_schema.specs.declared.types.«Type».TheVariants.{Leaf, Enumerated, Any, Tagged, Choice, Sequence, Set, SequenceOf, SetOf, Unknown}
 use Rattle.rasn_schema.specs.declared.type_id.TypeId.{TypeId}
-use Rattle.rasn_schema.specs.declared.types.Alternative.{Alternative}
 use Rattle.rasn_schema.specs.declared.types.Component.{Component}
-use Rattle.rasn_schema.specs.Shapes.{alternatives_by, IsReadable}
+use Rattle.rasn_schema.specs.Shapes.{IsReadable}
 use Rattle.rasn_dynamic.specs.Inside.{ReadsInside, ReadsSequence}
 use Rattle.rasn_de.specs.SetPartTypes.{MakesOfReadings, DecodesSetPartContents}
 use Rattle.rasn_de.proofs.Constructed.SetContents.{SetReads, set_collects, slots_collected}
 use Rattle.rasn_de.proofs.OwnTypes.SetPartTypes.{makes_set}
 use Rattle.rasn_dynamic.specs.Typed.{HoldsOthers}
 use Rattle.rasn_de.specs.PartTypes.{FailsAtOnePart, FailsAtPart}
-use Rattle.rasn_schema.proofs.Alternatives.{first_of_all}
 
 -- ---- nothing
 

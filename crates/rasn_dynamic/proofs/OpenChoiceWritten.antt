@@ -1,5 +1,5 @@
 -- A CHOICE whose last alternative is unknown values: these are written as their octets are.
-use Rattle.std.proofs.Common.{◌≡◌, ◌⊎◌, ◌<◌, ◌+◌, ℕ, zero, suc, true, List, Option, None, Result, Ok, Err, refl, sym, ap, ◌∙◌, subst, arith, inl, inr}
+use Rattle.std.proofs.Common.{◌≡◌, ◌⊎◌, ◌<◌, ◌+◌, ℕ, zero, suc, true, List, None, refl, sym, ap, ◌∙◌, subst, arith, inl, inr}
 use Rattle.rasn_types.specs.declared.types.codec.Codec.{Codec}
 use Rattle.rasn_types.specs.declared.error.encode.EncodeError.{EncodeError}
 use Rattle.rasn_types.specs.Shapes.{Tree, chosen, numbers, Shape, any, choice, open_choice, Parts, part, count}
@@ -11,7 +11,6 @@ use Rattle.rasn_enc.specs.Encoding.{AppendsEncoding, EncodeFails}
 use Rattle.rasn_enc.proofs.OwnTypes.Choice.{chosen_encoded, chosen_refused}
 use Rattle.rasn_schema.specs.Shapes.{ends_open, before_last, choice_among}
 use Rattle.rasn_schema.proofs.OpenEnds.{among}
-use Rattle.rasn_dynamic.specs.Written.{Encodes}
 use Rattle.rasn_dynamic.proofs.OpenChoice.{open_is}
 
 -- ---- which alternative
@@ -64,10 +63,12 @@ module _ (qs : Parts) (k : ℕ) (t : Tree) (low : k < count qs) (v w : View) whe
   named_refused e h = record {
     why = elim h.why [
       | inl m ↦ inl m
-      | inr (inl n) ↦ inr (inl (record { none = λ octets b. elim b [
-        | inl x ↦ n.none octets x
-        | inr g ↦ not_unknown (numbers octets) g
-      ] }))
+      | inr (inl n) ↦ inr (inl (record {
+        none = λ octets b. elim b [
+          | inl x ↦ n.none octets x
+          | inr g ↦ not_unknown (numbers octets) g
+        ];
+      }))
       | inr (inr n) ↦ inr (inr (record {
         bare = inl n.bare;
         some = λ octets b. elim b [

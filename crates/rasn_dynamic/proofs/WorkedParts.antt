@@ -83,7 +83,7 @@ no_list id c e h = go (subst (λ k. IsReadable (list (in_universal 16) (shape_of
 
 module _ (f : ℕ → Shape) (a b : Alternative) (h : AreBooleanOrUnknown f a b) where
   other_tag : IsFirst (f a.type_id.0) (in_universal 2) → ⊥
-  other_tag g = let e : in_universal 2 ≡ in_universal 1 = subst (λ z. IsFirst z (in_universal 2)) h.0 g in cc
+  other_tag g = let e : in_universal 2 ≡ in_universal 1 = subst (λ z. IsFirst z (in_universal 2)) h.0 g in let n : 2 ≡ 1 = ap (λ (t : Tag). t.value) e in omega (arith, n)
 
   not_before : (j : ℕ) (c : Alternative) → j < 1 → Some c ≡ slice_get (a ∷ (b ∷ [])) j → IsFirst (f c.type_id.0) (in_universal 2) → ⊥
   not_before zero c m e g = other_tag (subst (λ (z : Alternative). IsFirst (f z.type_id.0) (in_universal 2)) (some_is c a e) g)

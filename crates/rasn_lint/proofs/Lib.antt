@@ -24,3 +24,4 @@ pub mod Anew
 pub mod WorkedDepartures
 pub mod WorkedList
 pub mod WorkedMessages
+pub mod WorkedReplies

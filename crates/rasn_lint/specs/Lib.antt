@@ -18,3 +18,4 @@ pub mod Shown
 pub mod Laws
 pub mod Worked
 pub mod WorkedMessages
+pub mod WorkedReplies

@@ -1,10 +1,12 @@
 //! Facts about lists of departures. The functions do nothing when they run.
 ghost use Rattle.rasn_lint.specs.Laws.{NormalIsClean, FormedIsClean, ClosedIsClean, FirstIsListed, ClosedFirstIsListed, CleanIsNormal};
-ghost use Rattle.std.specs.Prelude.{Vec};
+ghost use Rattle.std.specs.Prelude.{List, Vec};
 ghost use Rattle.std.specs.Global.{Global};
 ghost use Rattle.rasn_schema.specs.declared.types.NamedNumber.{NamedNumber};
 ghost use Rattle.rasn_lint.specs.Worked.{WorkedDepartures};
 ghost use Rattle.rasn_lint.specs.WorkedMessages.{WorkedMessages};
+ghost use Rattle.rasn_lint.specs.WorkedReplies.{AreOfReply, WorkedReplies};
+ghost use Rattle.rasn_schema.specs.declared.types.«Type».{«Type»};
 
 /// Proves what the list of a message says of the value written anew, as `rasn_dynamic::normalise`
 /// does it: what is written has no departures if the open types of the message, or its own, are well
@@ -32,4 +34,10 @@ pub fn worked_departures()
 /// departures.
 pub fn worked_messages()
     ensures { (names : Vec NamedNumber Global) → WorkedMessages names }
+{}
+
+/// Proves what departs of an unknown alternative of an extensible CHOICE: its tag number in more
+/// octets than it needs, and nothing else where open types aren't looked into.
+pub fn worked_replies()
+    ensures { (types : List «Type») → AreOfReply types → WorkedReplies types }
 {}

@@ -1,7 +1,7 @@
 use Rattle.std.proofs.Common.{rules, arith, append_assoc, length-append, ◌≡◌, ◌+◌, ◌-◌, [], ◌∷◌, ◌++◌, length, true, false, Some, None, Ok, Err, refl, sym, ap, ◌∙◌, subst, inl, inr}
 use Rattle.std.specs.Prelude.{get_or, slice_get, IfOk, IfErr}
 use Rattle.std.proofs.lemmas.Option.{slice_get_within}
-use Rattle.rasn_types.specs.Shapes.{Tree, Same, items, IsFirstOf, own_tag, sought_by}
+use Rattle.rasn_types.specs.Shapes.{Tree, Same, items, choice, IsFirstOf, own_tag, sought_by}
 use Rattle.rasn_types.proofs.Headers.Frames.{next_one}
 use Rattle.rasn_de.specs.NamedErrors.{IsNamedError, IsDuplicateField}
 use Rattle.rasn_de.specs.SetPartTypes.{text, DecodesSetPartContents}
@@ -92,7 +92,7 @@ decode_found-returns-in-None-clause-reads g t c = refused_not_there _ _ _ _ _ c.
 -- ---- CHOICE
 
 pub decode_choice-returns-in_err-tag-clause-reads : goal.decode_choice-returns-in_err-tag-clause-reads
-decode_choice-returns-in_err-tag-clause-reads g t c = rw (residual _ c.from_residual.ensures.1) (no_tag _ _ _ _ c.in_err-tag.ensures.exact)
+decode_choice-returns-in_err-tag-clause-reads g t c = rw (residual _ c.from_residual.ensures.1) (no_tag (shape_of_type c.args.types.now c.args.below) c.args.alternatives.now _ _ c.in_err-tag.ensures.exact)
 
 pub decode_choice-returns-in_err-tag-clause-unknown : goal.decode_choice-returns-in_err-tag-clause-unknown
 decode_choice-returns-in_err-tag-clause-unknown g t c = rw (residual _ c.from_residual.ensures.1) (λ tag n others. absurd (c.in_err-tag.ensures.next tag n))
@@ -125,7 +125,7 @@ decode_choice-returns-in_err-value-clause-reads g t c =
     let at : Some el ≡ slice_get c.args.alternatives.now c.in-Some.number = subst (λ (a : Alternative). Some a ≡ slice_get c.args.alternatives.now c.in-Some.number) c.index-alternatives-number.is
     (read_at c.args.alternatives.now c.in-Some.number c.index-alternatives-number.result (slice_get_within c.args.alternatives.now c.in-Some.number c.in-Some.ensures.0 (sym c.in-Some.ensures.1.0)) c.index-alternatives-number.is) in
     rw (residual _ c.from_residual-in_err-value.ensures.1)
-    (chosen_refused (shape_of_type c.args.types.now c.args.below) c.args.alternatives.now c.in-Some.number el c.in_ok-tag.tag c.requires.1.1.1.0 at
+    (chosen_refused (shape_of_type c.args.types.now c.args.below) c.args.alternatives.now c.in-Some.number el c.in_ok-tag.tag c.requires.1.1.1.0
     (for_both (shape_of_type c.args.types.now c.args.below) c.args.alternatives.now c.in-Some.number c.in-Some.ensures.0 _ c.in_ok-tag.tag c.in-Some.ensures.1 at) _ _ c.in_ok-tag.ensures.next _ c.in_err-value.ensures.reads)
 
 pub decode_choice-returns-in_err-value-clause-unknown : goal.decode_choice-returns-in_err-value-clause-unknown
@@ -157,7 +157,7 @@ decode_choice-returns-clause-reads g t c =
     (read_at c.args.alternatives.now c.in-Some.number c.index-alternatives-number.result (slice_get_within c.args.alternatives.now c.in-Some.number c.in-Some.ensures.0 (sym c.in-Some.ensures.1.0)) c.index-alternatives-number.is) in
     let w = c.in_ok-value.ensures.reads in
     choice_made _ c.in-Some.number c.in_ok-value.value (DecodesTree (choice_among (alternatives_by (shape_of_type c.args.types.now c.args.below) c.args.alternatives.now))) c.args.decoder.now w.0 c.choose.result _ w.1 c.choose.ensures.ok c.choose.ensures.kind
-    (chosen_got (shape_of_type c.args.types.now c.args.below) c.args.alternatives.now c.in-Some.number el c.in_ok-tag.tag c.requires.1.1.1.0 at
+    (chosen_got (shape_of_type c.args.types.now c.args.below) c.args.alternatives.now c.in-Some.number el c.in_ok-tag.tag c.requires.1.1.1.0
     (for_both (shape_of_type c.args.types.now c.args.below) c.args.alternatives.now c.in-Some.number c.in-Some.ensures.0 _ c.in_ok-tag.tag c.in-Some.ensures.1 at) _ _ c.in_ok-tag.ensures.next w.0 w.2)
     (λ e m. alloc_failed _ (λ (z : Tree). z) c.args.decoder.now _ e m w.2.stays w.2.end)
 
