@@ -3,6 +3,7 @@ pub mod Worked
 pub mod OneReading
 pub mod LawsHold
 pub mod Included
+pub mod TagOrder
 pub mod ReadBack
 pub mod StrictDer
 pub mod Time

@@ -1,6 +1,10 @@
 pub mod Shapes
 pub mod Begins
 pub mod Set
+pub mod Reordered
+pub mod Unknown
+pub mod Late
+pub mod SortedSet
 pub mod Constructed
 pub mod Headers
 pub mod Parts

@@ -3,6 +3,7 @@ pub mod Leaves
 pub mod Carried
 pub mod Parts
 pub mod Set
+pub mod SortedSet
 pub mod Time
 pub mod Limits
 pub mod AllCarried

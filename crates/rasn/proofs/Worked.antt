@@ -10,6 +10,7 @@ pub mod Nested
 pub mod Any
 pub mod Parts
 pub mod Sets
+pub mod SortedSets
 pub mod Shapes
 pub mod Strict
 pub mod StrictLeaves

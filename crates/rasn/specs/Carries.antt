@@ -1,6 +1,6 @@
 -- The test for shapes of which every value that DER reads is carried.
 use Rattle.std.specs.Prelude.{Bool, true, false, not, ◌&&◌, ◌||◌, Some, None}
-use Rattle.rasn_types.specs.Shapes.{Tree, number, bits, numbers, instant, on_day, done, joined, set_elements, chosen, absent, Shape, leaf, any, prefix, choice, open_choice, option, seq, set, list, set_of, unknown, Parts, part, Presence, required, addition, optional_by, default_by}
+use Rattle.rasn_types.specs.Shapes.{Tree, number, bits, numbers, instant, on_day, done, joined, set_elements, chosen, absent, Shape, leaf, any, prefix, choice, open_choice, option, seq, set, sorted_set, list, set_of, unknown, Parts, part, Presence, required, addition, optional_by, default_by}
 use Rattle.rasn_types.specs.Shapes.Parts.{none}
 use Rattle.rasn_types.specs.Described.{has_required, has_addition}
 
@@ -48,6 +48,7 @@ abbrev mutual
   carries_all (option tag s) = carries_all s
   carries_all (seq tag ps) = (has_required ps || not (has_addition ps)) && all_carry ps
   carries_all (set tag ps) = all_carry ps
+  carries_all (sorted_set extensible tag ps) = all_carry ps
   carries_all (list tag s size) = carries_all s
   carries_all (set_of tag s size) = carries_all s
   carries_all unknown = true

@@ -1,12 +1,12 @@
 -- The laws of the grammar.
-use Rattle.std.specs.Prelude.{◌≡◌, ◌↔◌, ℕ, ◌*◌, ◌≤◌, List, [], ◌++◌, length, Bool, true, Option}
+use Rattle.std.specs.Prelude.{◌≡◌, ◌↔◌, ℕ, ◌*◌, ◌≤◌, List, [], ◌++◌, length, Bool, true, false, Option}
 use Rattle.rasn_types.specs.declared.types.codec.Codec.{Codec}
 use Rattle.rasn_types.specs.declared.types.codec.Codec.TheVariants.{Ber, Der}
 use Rattle.rasn_types.specs.declared.types.tag.Tag.{Tag}
 use Rattle.rasn_types.specs.declared.types.constraints.Bound.{Bound}
 use Rattle.rasn_types.specs.declared.types.constraints.Constraints.{Constraints}
 use Rattle.rasn_types.specs.Framing.{CompleteEncoding, steps_in, AreOctets}
-use Rattle.rasn_types.specs.Shapes.{Tree, Kind, Shape, leaf, any, prefix, choice, open_choice, option, seq, set, list, set_of, unknown, Parts, part, Presence, default_by, IsAlwaysPresent}
+use Rattle.rasn_types.specs.Shapes.{Tree, Kind, Shape, leaf, any, prefix, choice, open_choice, option, seq, set, sorted_set, list, set_of, unknown, Parts, part, Presence, default_by, IsAlwaysPresent}
 use Rattle.rasn_types.specs.Shapes.Parts.{none}
 use Rattle.rasn_types.specs.Grammar.{Reads, top}
 use Rattle.rasn_types.specs.Bytes.{Same, Bytes}
@@ -53,6 +53,9 @@ OneSequence = (rule : Codec) (tag : Tag) (ps : Parts) → AreReadOnce rule ps �
 abbrev pub OneSet : Type 0
 OneSet = (rule : Codec) (tag : Tag) (ps : Parts) → AreReadOnce rule ps → AreDistinguished ps → IsReadOnce rule (set tag ps)
 
+abbrev pub OneSortedSet : Type 0
+OneSortedSet = (rule : Codec) (extensible : Bool) (tag : Tag) (ps : Parts) → AreReadOnce rule ps → AreDistinguished ps → IsReadOnce rule (sorted_set extensible tag ps)
+
 abbrev pub OneSequenceOf : Type 0
 OneSequenceOf = (rule : Codec) (tag : Tag) (s : Shape) (size : Option (Bound ℕ)) → IsReadOnce rule s → IsReadOnce rule (list tag s size)
 
@@ -81,6 +84,12 @@ Canonical = (s : Shape) → IsLawful s → (t u : Tree) (c : Carried Der s t) (d
 abbrev pub WrittenOnce : Type 0
 WrittenOnce = (s : Shape) (rule : Codec) (t u : Tree) (a b : List ℕ) → Same t u → Bytes rule s t a → Bytes rule s u b → a ≡ b
 
+-- A lawful SET whose parts are listed in the order of their tags is read and written as one that is put in this order.
+abbrev pub ListedAlike : Type 0
+ListedAlike = (rule : Codec) (tag : Tag) (ps : Parts) → IsLawful (set tag ps)
+    → ((depth : ℕ) (closing : Bool) (input : List ℕ) (t : Tree) (rest : List ℕ) → (Reads rule (set tag ps) depth closing input t rest ↔ Reads rule (sorted_set false tag ps) depth closing input t rest))
+    × ((t : Tree) (b : List ℕ) → (Bytes rule (set tag ps) t b ↔ Bytes rule (sorted_set false tag ps) t b))
+
 -- Each default is the same as itself, as the tree of every value is.
 abbrev pub IsOwnDefault : Presence → Type 0
 IsOwnDefault (default_by key d) = Same d d
@@ -96,6 +105,7 @@ abbrev mutual
   HasOwnDefaults (option tag s) = HasOwnDefaults s
   HasOwnDefaults (seq tag ps) = HaveOwnDefaults ps
   HasOwnDefaults (set tag ps) = HaveOwnDefaults ps
+  HasOwnDefaults (sorted_set extensible tag ps) = HaveOwnDefaults ps
   HasOwnDefaults (list tag s size) = HasOwnDefaults s
   HasOwnDefaults (set_of tag s size) = HasOwnDefaults s
   HasOwnDefaults unknown = Unit {0}

@@ -3,7 +3,7 @@ use Rattle.std.specs.Prelude.{◌≡◌, ℕ, [], ◌∷◌, pos, Some, None, tr
 use Rattle.rasn_types.specs.Tags.{in_universal}
 use Rattle.rasn_types.specs.declared.types.tag.Tag.{Tag}
 use Rattle.rasn_types.specs.declared.types.tag.Class.TheVariants.{Application, Context}
-use Rattle.rasn_types.specs.Shapes.{number, set_elements, items, absent, every, Kind, boolean, object_identifier, bit_string, octet_string, integer, ia5, utc_time, generalized_time, Shape, Parts, leaf, any, prefix, choice, open_choice, option, seq, set, list, set_of, unknown, part, required, optional, addition, default, optional_choice, default_choice}
+use Rattle.rasn_types.specs.Shapes.{number, set_elements, items, absent, every, Kind, boolean, object_identifier, bit_string, octet_string, integer, ia5, utc_time, generalized_time, Shape, Parts, leaf, any, prefix, choice, open_choice, option, seq, set, sorted_set, list, set_of, unknown, part, required, optional, addition, default, optional_choice, default_choice}
 use Rattle.rasn_types.specs.Shapes.Parts.{none}
 use Rattle.rasn_types.specs.Trees.{unconstrained, unsigned_range}
 use Rattle.rasn_types.specs.declared.types.codec.Codec.TheVariants.{Der}
@@ -53,6 +53,17 @@ three_of_set = set (in_universal 17) (part required (small 0) (part required (sm
 
 abbrev pub turned_round : Shape
 turned_round = set (in_universal 17) (part required (small 2) (part required (small 1) (part required (small 0) none)))
+
+-- The same components as of `turned_round`, which are put in order.
+abbrev pub put_in_order : Shape
+put_in_order = sorted_set false (in_universal 17) (part required (small 2) (part required (small 1) (part required (small 0) none)))
+
+-- SET { [0] INTEGER (0..255), [2] INTEGER (0..255), ... }
+abbrev pub two_of_set : Parts
+two_of_set = part required (small 0) (part required (small 2) none)
+
+abbrev pub extensible_set : Shape
+extensible_set = sorted_set true (in_universal 17) two_of_set
 
 -- SET OF OCTET STRING
 abbrev pub octets_in_set_of : Shape
@@ -169,6 +180,10 @@ added_alone = seq (in_universal 16) (part addition (prefix (contextual 0) whole_
 abbrev pub truth_or_number : Shape
 truth_or_number = choice (part required truth (part required (tagged (integer every) 0) none))
 
+-- SET { CHOICE { BOOLEAN, [0] INTEGER }, INTEGER }, as `overlapping`, in the order of the tags
+abbrev pub interleaved : Shape
+interleaved = sorted_set false (in_universal 17) (part required truth_or_number (part required whole_number none))
+
 -- SEQUENCE { CHOICE { BOOLEAN, [0] INTEGER } OPTIONAL, INTEGER }, where the CHOICE is recognized by its first tags
 abbrev pub choice_before : Shape
 choice_before = seq (in_universal 16) (part optional_choice truth_or_number (part required whole_number none))
@@ -231,6 +246,16 @@ pub record LawfulShapes : Type 0 where
   pub unknown_alternative_in_choice : IsLawful (choice (part required extensible_choice none)) → ⊥
   pub unknown_alternative_in_set : IsLawful (set (in_universal 17) (part required extensible_choice none)) → ⊥
   pub optional_before_unknown_alternative : IsLawful (seq (in_universal 16) (part optional whole_number (part required extensible_choice none))) → ⊥
+  pub put_in_order : IsLawful put_in_order
+  pub interleaved : IsLawful interleaved
+  pub extensible_set : IsLawful extensible_set
+  pub two_alike_in_sorted : IsLawful (sorted_set false (in_universal 17) two_alike) → ⊥
+  pub choice_and_its_tag : IsLawful (sorted_set true (in_universal 17) (part required truth_or_number (part required truth none))) → ⊥
+  pub open_in_sorted : IsLawful (sorted_set true (in_universal 17) (part required (any None) none)) → ⊥
+  pub unknown_in_sorted : IsLawful (sorted_set true (in_universal 17) (part required unknown none)) → ⊥
+  pub unknown_alternative_in_sorted : IsLawful (sorted_set true (in_universal 17) (part required extensible_choice none)) → ⊥
+  pub addition_in_sorted : IsLawful (sorted_set true (in_universal 17) (part addition (prefix (contextual 0) whole_number) none)) → ⊥
+  pub sorted_of_no_tag : IsLawful (sorted_set true (in_universal 0) two_of_set) → ⊥
   pub unknown_at_the_end : IsLawful extensible
   pub unknown_before_a_part : IsLawful (seq (in_universal 16) (part required unknown (part required truth none))) → ⊥
   pub unknown_left_out : IsLawful (seq (in_universal 16) (part required truth (part optional unknown none))) → ⊥
@@ -247,6 +272,7 @@ pub record CarriedShapes : Type 0 where
   pub addition_behind_a_part : carries_all extended ≡ true
   pub unknown_values : carries_all extensible ≡ true
   pub unknown_alternative : carries_all extensible_choice ≡ true
+  pub unknown_components : carries_all extensible_set ≡ true
   pub tagged_open : carries_all (any (Some (contextual 1))) ≡ false
   pub addition_alone : carries_all added_alone ≡ false
   pub default_of_no_value : carries_all no_value ≡ false

@@ -6,12 +6,12 @@ use Rattle.rasn_types.specs.declared.types.codec.Codec.{Codec}
 use Rattle.rasn_types.specs.declared.types.codec.Codec.TheVariants.{Ber, Cer, Der}
 use Rattle.rasn_types.specs.Framing.{AreOctets}
 use Rattle.rasn_types.specs.Calendar.{Day}
-use Rattle.rasn_types.specs.Shapes.{Tree, number, bits, numbers, instant, on_day, items, set_elements, chosen, absent, integer, every, null, object_identifier, bit_string, named_bits, octet_string, date, any, prefix, choice, list}
+use Rattle.rasn_types.specs.Shapes.{Tree, number, bits, numbers, instant, on_day, items, set_elements, chosen, absent, integer, every, null, object_identifier, bit_string, named_bits, octet_string, date, any, prefix, choice, sorted_set, list}
 use Rattle.rasn_types.specs.Trees.{signed_range}
 use Rattle.rasn_types.specs.Bytes.{Bytes}
 use Rattle.rasn_types.specs.Carried.{Carried}
-use Rattle.rasn.specs.Worked.{IsCarriedAs, IsLenient, IsRefusedBy, IsReadAs, one_two_three, three_two_one, rising_octets}
-use Rattle.rasn.specs.WorkedShapes.{plain, contextual, perhaps_bool, validity, three_of_set, turned_round, octets_in_set_of, algorithm, relative_name, extended, extensible, known_alternatives, extensible_choice, mixed}
+use Rattle.rasn.specs.Worked.{IsCarriedAs, IsLenient, IsRefusedBy, IsReadAs, one_two_three, three_two_one, rising_octets, falling_octets}
+use Rattle.rasn.specs.WorkedShapes.{plain, contextual, perhaps_bool, validity, three_of_set, turned_round, put_in_order, two_of_set, extensible_set, interleaved, octets_in_set_of, algorithm, relative_name, extended, extensible, known_alternatives, extensible_choice, mixed}
 
 abbrev pub on : ℕ → ℕ → ℕ → Day
 on y m d = record { year = pos y; month = m; day = d }
@@ -98,3 +98,30 @@ pub record WorkedOpenChoice : Type 0 where
   pub unknown_carried : IsCarriedAs Der extensible_choice (as_unknown (129 ∷ 1 ∷ 7 ∷ [])) (129 ∷ 1 ∷ 7 ∷ [])
   pub known_written : Bytes Der extensible_choice (as_unknown (1 ∷ 1 ∷ 255 ∷ [])) (1 ∷ 1 ∷ 255 ∷ [])
   pub known_not_carried : Carried Der extensible_choice (as_unknown (1 ∷ 1 ∷ 255 ∷ [])) → ⊥
+
+-- The tree of a value of `interleaved`: the CHOICE's INTEGER 7, and 5.
+abbrev pub seven_and_five : Tree
+seven_and_five = items (chosen 1 (number (pos 7)) ∷ number (pos 5) ∷ [])
+
+-- The tree of a value of `extensible_set`: 1, 3 and unknown values of these octets.
+abbrev pub one_three_and : List (List ℕ) → Tree
+one_three_and values = items (number (pos 1) ∷ number (pos 3) ∷ items (map numbers values) ∷ [])
+
+-- A SET in the order of its tags. Where a CHOICE is depends on the alternative under DER, and on the least of its tags
+-- under CER. An unknown value is read wherever it is, and written where its tag belongs; DER reads no order but this.
+-- Unknown values that aren't listed in the order of their tags are put in order, and so aren't read back as listed.
+pub record WorkedSortedSets : Type 0 where
+  pub components_in_order : IsCarriedAs Der put_in_order three_two_one rising_octets
+  pub never_out_of_order : Bytes Der put_in_order three_two_one falling_octets → ⊥
+  pub choice_before : IsCarriedAs Der interleaved (items (chosen 0 (number (pos 1)) ∷ number (pos 5) ∷ [])) (49 ∷ 6 ∷ 1 ∷ 1 ∷ 255 ∷ 2 ∷ 1 ∷ 5 ∷ [])
+  pub choice_after : IsCarriedAs Der interleaved seven_and_five (49 ∷ 6 ∷ 2 ∷ 1 ∷ 5 ∷ 128 ∷ 1 ∷ 7 ∷ [])
+  pub choice_never_before : Bytes Der interleaved seven_and_five (49 ∷ 6 ∷ 128 ∷ 1 ∷ 7 ∷ 2 ∷ 1 ∷ 5 ∷ []) → ⊥
+  pub choice_in_one_place : IsCarriedAs Cer interleaved seven_and_five (49 ∷ 128 ∷ 128 ∷ 1 ∷ 7 ∷ 2 ∷ 1 ∷ 5 ∷ 0 ∷ 0 ∷ [])
+  pub choice_never_after : Bytes Cer interleaved seven_and_five (49 ∷ 128 ∷ 2 ∷ 1 ∷ 5 ∷ 128 ∷ 1 ∷ 7 ∷ 0 ∷ 0 ∷ []) → ⊥
+  pub unknown_between : IsReadAs Der extensible_set (49 ∷ 9 ∷ 128 ∷ 1 ∷ 1 ∷ 129 ∷ 1 ∷ 7 ∷ 130 ∷ 1 ∷ 3 ∷ []) (one_three_and ((129 ∷ 1 ∷ 7 ∷ []) ∷ [])) []
+  pub unknown_carried : IsCarriedAs Der extensible_set (one_three_and ((129 ∷ 1 ∷ 7 ∷ []) ∷ [])) (49 ∷ 9 ∷ 128 ∷ 1 ∷ 1 ∷ 129 ∷ 1 ∷ 7 ∷ 130 ∷ 1 ∷ 3 ∷ [])
+  pub unknown_falls : IsLenient extensible_set (49 ∷ 9 ∷ 128 ∷ 1 ∷ 1 ∷ 130 ∷ 1 ∷ 3 ∷ 129 ∷ 1 ∷ 7 ∷ []) (one_three_and ((129 ∷ 1 ∷ 7 ∷ []) ∷ []))
+  pub no_marker : (rule : Codec) → IsRefusedBy rule (sorted_set false (in_universal 17) two_of_set) (49 ∷ 9 ∷ 128 ∷ 1 ∷ 1 ∷ 129 ∷ 1 ∷ 7 ∷ 130 ∷ 1 ∷ 3 ∷ [])
+  pub unknown_put_in_order : Bytes Der extensible_set (one_three_and ((131 ∷ 1 ∷ 9 ∷ []) ∷ (129 ∷ 1 ∷ 7 ∷ []) ∷ []))
+      (49 ∷ 12 ∷ 128 ∷ 1 ∷ 1 ∷ 129 ∷ 1 ∷ 7 ∷ 130 ∷ 1 ∷ 3 ∷ 131 ∷ 1 ∷ 9 ∷ [])
+  pub falling_not_carried : (rule : Codec) → Carried rule extensible_set (one_three_and ((131 ∷ 1 ∷ 9 ∷ []) ∷ (129 ∷ 1 ∷ 7 ∷ []) ∷ [])) → ⊥

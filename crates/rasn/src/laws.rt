@@ -3,14 +3,14 @@
 //! those of docs/GLOSSARY.md.
 #![tactic(auto, using(crate::proofs::AllLaws::laws))]
 
-ghost use Rattle.rasn.specs.Laws.{OneLeaf, OneOpen, OnePrefix, OneChoice, OneOpenChoice, OneOption, OneSequence, OneSet, OneSequenceOf, OneSetOf, OneUnknown};
+ghost use Rattle.rasn.specs.Laws.{OneLeaf, OneOpen, OnePrefix, OneChoice, OneOpenChoice, OneOption, OneSequence, OneSet, OneSortedSet, OneSequenceOf, OneSetOf, OneUnknown};
 ghost use Rattle.rasn.specs.Worked.{Worked, WorkedStrict};
 ghost use Rattle.rasn.specs.WorkedShapes.{DescribedParts, LawfulShapes, CarriedShapes};
 ghost use Rattle.rasn.specs.WorkedDepths.{WorkedDepths};
 ghost use Rattle.rasn.specs.WorkedHeaders.{WorkedHeaders};
 ghost use Rattle.rasn.specs.WorkedClauses.{WorkedClauses};
-ghost use Rattle.rasn.specs.WorkedValues.{WorkedValues, WorkedSets, WorkedOpens, WorkedUnknown, WorkedOpenChoice};
-ghost use Rattle.rasn.specs.Laws.{OneReading, Included, ReadAgain, Canonical, WrittenOnce, StrictDer, OnlyCarried, AllCarried, StaysCarried, LawfulTested, OneEncoding, EncodingSteps};
+ghost use Rattle.rasn.specs.WorkedValues.{WorkedValues, WorkedSets, WorkedOpens, WorkedUnknown, WorkedOpenChoice, WorkedSortedSets};
+ghost use Rattle.rasn.specs.Laws.{OneReading, Included, ReadAgain, Canonical, WrittenOnce, StrictDer, OnlyCarried, AllCarried, StaysCarried, LawfulTested, ListedAlike, OneEncoding, EncodingSteps};
 
 /// Proves that an input is read as at most one value of a leaf type, with at most one rest.
 pub fn one_leaf()
@@ -55,6 +55,12 @@ pub fn one_set()
     ensures { OneSet }
 {}
 
+/// Proves that a SET in the order of its tags, with an extension marker or without one, is read in at
+/// most one way if its parts are, and no two parts begin with the same tag.
+pub fn one_sorted_set()
+    ensures { OneSortedSet }
+{}
+
 /// Proves that a SEQUENCE OF is read in at most one way if its elements are.
 pub fn one_sequence_of()
     ensures { OneSequenceOf }
@@ -97,6 +103,12 @@ pub fn canonical()
 /// Proves that values that are the same are written as the same octets, whatever their shape.
 pub fn written_once()
     ensures { WrittenOnce }
+{}
+
+/// Proves that a SET whose parts are listed in the order of their tags is read and written as one
+/// that is put in this order.
+pub fn listed_alike()
+    ensures { ListedAlike }
 {}
 
 /// Proves that if DER reads a carried value of a lawful shape, the octets that are consumed are the
@@ -206,6 +218,12 @@ pub fn worked_unknown()
 /// written and carried.
 pub fn worked_open_choice()
     ensures { WorkedOpenChoice }
+{}
+
+/// Proves where the components of a SET in the order of its tags are, those of a CHOICE and unknown
+/// ones among them, and in which order DER reads them.
+pub fn worked_sorted_sets()
+    ensures { WorkedSortedSets }
 {}
 
 /// Proves examples and counterexamples of small clauses, such as those for offsets from UTC and for

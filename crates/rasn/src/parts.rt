@@ -11,4 +11,5 @@ pub use rasn_enc::ber::enc::parts::{
     EncodeParts, Put, PutAddition, PutDefault, PutDefaultChoice, PutDefaultExplicit, PutOptional,
     PutOptionalChoice,
 };
+pub use rasn_enc::ber::enc::set_parts::{EncodeSetParts, LeastTag, PutChoice};
 pub use rasn_types::types::{DefaultValue, End, ExplicitDefault, Last, OneOf};

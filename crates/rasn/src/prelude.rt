@@ -2,9 +2,9 @@
 
 pub use crate::parts::{
     Addition, DecodeAlternatives, DecodeParts, DecodeSetParts, DefaultValue, Defaulted,
-    DefaultedChoice, DefaultedExplicit, EncodeAlternative, EncodeParts, End, ExplicitDefault, Last,
-    OneOf, Optional, OptionalChoice, Put, PutAddition, PutDefault, PutDefaultChoice,
-    PutDefaultExplicit, PutOptional, PutOptionalChoice, Required,
+    DefaultedChoice, DefaultedExplicit, EncodeAlternative, EncodeParts, EncodeSetParts, End,
+    ExplicitDefault, Last, LeastTag, OneOf, Optional, OptionalChoice, Put, PutAddition, PutChoice,
+    PutDefault, PutDefaultChoice, PutDefaultExplicit, PutOptional, PutOptionalChoice, Required,
 };
 pub use crate::types::{
     Alphabet, Any, ApplicationTag, AsnType, BitStr, BitString, BmpString, Bound, Bounded, Class,

@@ -14,7 +14,7 @@ use std::fmt;
 ///
 /// Each type of the schema that has a name, and each that is made of others, is a type of the
 /// module; one without a name is called `Type-` and its number. Tags are written as they are
-/// encoded, and a SET's components in the order of their tags (X.680 8.6).
+/// encoded.
 ///
 /// # Examples
 /// ```

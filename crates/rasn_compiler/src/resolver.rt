@@ -26,7 +26,6 @@ mod order;
 mod reference;
 mod schema_fault;
 mod scope;
-mod set_order;
 mod shape;
 mod unfold;
 mod unknown;
@@ -55,9 +54,9 @@ pub struct Resolved {
 impl<'text> Modules<'text> {
     /// Returns a schema of a type of a module (X.680 16.2), in which the type has its name. A SEQUENCE
     /// with an extension marker, whose additions are at its end, has unknown values as its last
-    /// component: what a newer version of the module has there is kept (X.680 25). A CHOICE with such
-    /// a marker has an open type as its last alternative, unless its type is used where a tag
-    /// couldn't tell an unknown alternative from another part (X.680 29).
+    /// component, and so has a SET with such a marker: what a newer version of the module has there is
+    /// kept (X.680 25, 27). A CHOICE with a marker has an open type as its last alternative, unless
+    /// its type is used where a tag couldn't tell an unknown alternative from another part (X.680 29).
     ///
     /// # Errors
     /// `Fault` with the first fault that is found in what the type is made of; `OutOfMemory` if

@@ -18,3 +18,5 @@ pub mod Optional
 pub mod Choice
 pub mod Beyond
 pub mod ValueErrors
+pub mod SortedSetContents
+pub mod SortedSet

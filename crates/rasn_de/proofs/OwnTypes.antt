@@ -7,3 +7,5 @@ pub mod PartTypes
 pub mod AlternativeTypes
 pub mod SetPartTypes
 pub mod Beyond
+pub mod SortedSets
+pub mod SortedSetParts

@@ -5,7 +5,7 @@ use Rattle.rasn_types.specs.declared.types.tag.Tag.{Tag}
 use Rattle.rasn_types.specs.declared.error.decode.DecodeError.{DecodeError}
 use Rattle.rasn_types.specs.Tags.{form, eoc}
 use Rattle.rasn_types.specs.Framing.{NextTag}
-use Rattle.rasn_types.specs.Shapes.{Shape, Tree, chosen, choice_by, Parts, part, own, count, IsFirstOf, Presence, required, addition, optional_by, default_by}
+use Rattle.rasn_types.specs.Shapes.{Shape, Tree, chosen, choice, open_choice, Parts, part, own, count, IsFirstOf, Presence, required, addition, optional_by, default_by}
 use Rattle.rasn_types.specs.Shapes.Parts.{none}
 use Rattle.rasn_types.specs.Readings.{Reading, ReadsChoice}
 use Rattle.rasn_types.specs.Grammar.{ReadsOpenChoice, parts_of}
@@ -52,30 +52,30 @@ FailsAtValue (optional_by key) s old e new = DecodesTree s old (Err e) new
 FailsAtValue addition s old e new = DecodesTree s old (Err e) new
 FailsAtValue (default_by key d) s old e new = FailsAtOnePart (default_by key d) s old e new
 
--- No alternative has the next tag: the error contains the name, and nothing is consumed. With an extension marker, the
--- value is read as an open type without a tag, and the error is one of that.
-abbrev pub FailsAtNoAlternative : Bool → List ℕ → State → DecodeError → State → Type 0
-FailsAtNoAlternative false name old e new = IsNamedError (IsNoValidChoice name) old.rule e × (new ≡ old)
-FailsAtNoAlternative true name old e new = DecodesOpenType eoc old (Err e) new
-
--- The first alternative with this tag can't be read; or no alternative has the tag.
-abbrev pub FailsAtAlternativeBy : Bool → Parts → List ℕ → Tag → State → DecodeError → State → Type 0
-FailsAtAlternativeBy extensible none name tag old e new = FailsAtNoAlternative extensible name old e new
-FailsAtAlternativeBy extensible (part p s ps) name tag old e new =
-    ((own s ≡ Some tag) × FailsAtValue p s old e new)
-    ⊎ ((own s ≡ Some tag → ⊥) × FailsAtAlternativeBy extensible ps name tag old e new)
-
--- The alternative with the next tag is read. An error is that of the look at the tag, which consumes nothing, or one of
--- FailsAtAlternativeBy.
-abbrev pub DecodesAlternativeBy : {D : Type 0} → Bool → Parts → (D → Tree) → List ℕ → Call D
-DecodesAlternativeBy extensible ps tree name old (Ok v) new = Decodes (choice_by extensible ps) tree old (Ok v) new
-DecodesAlternativeBy extensible ps tree name old (Err e) new = (PeeksTag old (Err e) × (new ≡ old))
-    ⊎ ((tag : Tag) × NextTag (form old.rule) old.rest tag × FailsAtAlternativeBy extensible ps name tag old e new)
-
--- The same for a CHOICE without an extension marker: if no alternative has the tag, the error contains the name, and
+-- The first alternative with this tag can't be read; or no alternative has the tag, the error contains the name, and
 -- nothing is consumed.
 abbrev pub FailsAtAlternative : Parts → List ℕ → Tag → State → DecodeError → State → Type 0
-FailsAtAlternative = FailsAtAlternativeBy false
+FailsAtAlternative none name tag old e new = IsNamedError (IsNoValidChoice name) old.rule e × (new ≡ old)
+FailsAtAlternative (part p s ps) name tag old e new =
+    ((own s ≡ Some tag) × FailsAtValue p s old e new) ⊎ ((own s ≡ Some tag → ⊥) × FailsAtAlternative ps name tag old e new)
 
+-- The alternative with the next tag is read. An error is that of the look at the tag, which consumes nothing, or one of
+-- FailsAtAlternative.
 abbrev pub DecodesAlternative : {D : Type 0} → Parts → (D → Tree) → List ℕ → Call D
-DecodesAlternative ps tree name = DecodesAlternativeBy false ps tree name
+DecodesAlternative ps tree name old (Ok v) new = Decodes (choice ps) tree old (Ok v) new
+DecodesAlternative ps tree name old (Err e) new = (PeeksTag old (Err e) × (new ≡ old))
+    ⊎ ((tag : Tag) × NextTag (form old.rule) old.rest tag × FailsAtAlternative ps name tag old e new)
+
+-- The same, with an extension marker or without one. With one, a value with the tag of no alternative is read as an open
+-- type without a tag, and the error is one of that.
+abbrev pub FailsAtAlternativeBy : Bool → Parts → List ℕ → Tag → State → DecodeError → State → Type 0
+FailsAtAlternativeBy false ps name tag old e new = FailsAtAlternative ps name tag old e new
+FailsAtAlternativeBy true none name tag old e new = DecodesOpenType eoc old (Err e) new
+FailsAtAlternativeBy true (part p s ps) name tag old e new =
+    ((own s ≡ Some tag) × FailsAtValue p s old e new) ⊎ ((own s ≡ Some tag → ⊥) × FailsAtAlternativeBy true ps name tag old e new)
+
+abbrev pub DecodesAlternativeBy : {D : Type 0} → Bool → Parts → (D → Tree) → List ℕ → Call D
+DecodesAlternativeBy false ps tree name old r new = DecodesAlternative ps tree name old r new
+DecodesAlternativeBy true ps tree name old (Ok v) new = Decodes (open_choice ps) tree old (Ok v) new
+DecodesAlternativeBy true ps tree name old (Err e) new = (PeeksTag old (Err e) × (new ≡ old))
+    ⊎ ((tag : Tag) × NextTag (form old.rule) old.rest tag × FailsAtAlternativeBy true ps name tag old e new)

@@ -1,5 +1,5 @@
 -- SET: components in any order, from which a function makes the value.
-use Rattle.std.specs.Prelude.{◌≡◌, ◌⊎◌, ℕ, List, [], ◌∷◌, ◌++◌, map, Vec, Option, Some, None, Result, Ok, Err, IfErr}
+use Rattle.std.specs.Prelude.{◌≡◌, ◌⊎◌, ℕ, true, List, [], ◌∷◌, ◌++◌, map, Vec, Option, Some, None, Result, Ok, Err, IfErr}
 use Rattle.std.specs.Global.{Global}
 use Rattle.rasn_types.specs.declared.types.codec.Codec.{Codec}
 use Rattle.rasn_types.specs.declared.types.tag.Tag.{Tag}
@@ -7,8 +7,8 @@ use Rattle.rasn_types.specs.declared.error.decode.DecodeError.{DecodeError}
 use Rattle.rasn_types.specs.declared.error.decode.DerDecodeErrorKind.TheVariants.{SetComponentsOutOfOrder}
 use Rattle.rasn_types.specs.Tags.{form, IsStrict, IsTagBelow}
 use Rattle.rasn_types.specs.Framing.{NextTag, Ended}
-use Rattle.rasn_types.specs.Shapes.{Tree, Shape, items, choice, set, Parts, presences}
-use Rattle.rasn_types.specs.Readings.{ByPart, AreInTagOrder}
+use Rattle.rasn_types.specs.Shapes.{Tree, Shape, items, choice, set, Parts, presences, count, IsSetTree}
+use Rattle.rasn_types.specs.Readings.{ByPart, AllOf, AreInTagOrder}
 use Rattle.rasn_de.specs.declared.ber.de.parser.ParseError.TheVariants.{Der}
 use Rattle.rasn_de.specs.State.{State, Call}
 use Rattle.rasn_de.specs.Decodes.{Decodes}
@@ -71,6 +71,10 @@ DecodesSetBy {F} read made tag = DecodesInside (DecodesSetContents (DecodesCompo
 -- The readings of the components, in any order, are these parts, and t is their tree.
 abbrev pub AreParts : Parts → List Tree → Tree → Type 0
 AreParts parts readings t = (ts : List Tree) × (t ≡ items ts) × ByPart 0 (presences parts) readings ts
+
+-- The same with an extension marker: the unknown components, in the order in which they are read, are the last part.
+abbrev pub AreSortedParts : Parts → List Tree → Tree → Type 0
+AreSortedParts parts readings t = (ts : List Tree) × (us : List Tree) × IsSetTree true ts us t × ByPart 0 (presences parts) readings ts × AllOf (count parts) readings us
 
 -- What a function makes from components, given their readings: the parts, or an error if they aren't parts.
 abbrev pub MakesSet : {D : Type 0} → Parts → (D → Tree) → List Tree → Result D DecodeError → Type 0

@@ -1,11 +1,11 @@
 -- The parts of a SET as types: what their slots contain while components are read, and what is made from them.
-use Rattle.std.specs.Prelude.{◌≡◌, ◌≢◌, ◌⊎◌, ℕ, zero, suc, ◌+◌, List, [], ◌∷◌, ◌++◌, length, Contains, IfErr, Option, Some, None, Result, Ok, Err}
+use Rattle.std.specs.Prelude.{◌≡◌, ◌≢◌, ◌⊎◌, ℕ, Bool, true, false, zero, suc, ◌+◌, List, [], ◌∷◌, ◌++◌, length, Contains, IfErr, Option, Some, None, Result, Ok, Err}
 use Rattle.std.specs.Borrow.{Bor}
 use Rattle.rasn_types.specs.declared.types.codec.Codec.{Codec}
 use Rattle.rasn_types.specs.declared.types.tag.Tag.{Tag}
 use Rattle.rasn_types.specs.declared.error.decode.DecodeError.{DecodeError}
 use Rattle.rasn_types.specs.Errors.{IsOutOfMemory}
-use Rattle.rasn_types.specs.Shapes.{Tree, chosen, items, choice, Parts, part, Presence, required, default_by, presences}
+use Rattle.rasn_types.specs.Shapes.{Tree, chosen, items, choice, open_choice, Parts, part, Presence, required, default_by, presences}
 use Rattle.rasn_types.specs.Shapes.Parts.{none}
 use Rattle.rasn_types.specs.Readings.{IsMissing, NoneOf, OneOf}
 use Rattle.rasn_de.specs.State.{State, Call}
@@ -14,10 +14,15 @@ use Rattle.rasn_de.specs.NamedErrors.{IsNamedError, IsMissingField, IsDuplicateF
 use Rattle.rasn_de.specs.Decodes.{DecodesExactly, Decodes}
 use Rattle.rasn_de.specs.Constructed.{sequence_header, DecodesInside}
 use Rattle.rasn_de.specs.SequenceOf.{RefusesElement, DecodesInTurnFrom}
-use Rattle.rasn_de.specs.Set.{DecodesIntoSlots, DecodesSetContents, AreParts}
+use Rattle.rasn_de.specs.Set.{DecodesIntoSlots, DecodesSetContents, AreParts, AreSortedParts}
 use Rattle.rasn_de.specs.Beyond.{Beyond}
+use Rattle.rasn_types.specs.declared.types.any.Any.{Any}
+use Rattle.rasn_types.specs.Tags.{eoc}
+use Rattle.rasn_de.specs.declared.ber.de.parser.ParseError.TheVariants.{OutOfMemory}
+use Rattle.rasn_de.specs.Any.{DecodesOpenType}
+use Rattle.rasn_de.specs.Steps.{IsErrorOf}
 use Rattle.rasn_de.specs.ValueErrors.{Errors, IsErrorByTag}
-use Rattle.rasn_de.specs.AlternativeTypes.{ReadsNumbered, DecodesAlternative}
+use Rattle.rasn_de.specs.AlternativeTypes.{ReadsNumbered, DecodesAlternative, DecodesAlternativeBy}
 
 -- The tree of the value in a slot.
 abbrev pub held_tree : {T : Type 0} → (T → Tree) → Option T → Option Tree
@@ -204,3 +209,39 @@ IsStart ps old here = (before : List Tree) × (bs : List (List ℕ)) × DecodesI
 -- What is said of the parts of a SET, each of which was read where a component begins.
 abbrev pub BeyondSet : {D : Type 0} → Parts → (List State → D → Type 0) → Beyond D
 BeyondSet ps beyond old v new = (starts : List State) × ((here : State) → Contains starts here → IsStart ps old here) × beyond starts v
+
+-- A SET with an extension marker: a component with the tag of no part is unknown, and is read as an open type without a
+-- tag. It is kept after those before it, for which an allocation may fail.
+abbrev pub FailsToKeep : State → DecodeError → State → Type 0
+FailsToKeep old e new = (a : Any) × DecodesOpenType eoc old (Ok a) new × IsErrorOf OutOfMemory new e
+
+abbrev pub DecodesOneOfSorted : Parts → List ℕ → (Tag → Errors) → Call Tree
+DecodesOneOfSorted ps name errors old r new = Decodes (open_choice ps) (λ (t : Tree). t) old r new
+    × IfErr r (λ e. (DecodesAlternativeBy true ps (λ (t : Tree). t) name old (Err e) new ⊎ FailsToKeep old e new) × IsErrorByTag errors old e new)
+
+abbrev pub MakesOfSortedReadings : {D : Type 0} → Parts → (D → Tree) → List (List ℕ) → Codec → List Tree → Result D DecodeError → Type 0
+MakesOfSortedReadings ps tree names rule readings (Ok v) = AreSortedParts ps readings (tree v)
+MakesOfSortedReadings ps tree names rule readings (Err e) = MakesOfReadings ps tree names rule readings (Err e)
+
+abbrev pub MakesNamedSorted : {D : Type 0} → Parts → (D → Tree) → List (List ℕ) → Codec → List Tree → Result D DecodeError → Type 0
+MakesNamedSorted ps tree names rule readings r = MakesOfSortedReadings ps tree names rule readings r
+    × IfErr r (λ e. IsOutOfMemory e.kind → ((k : ℕ) × RepeatsFirst ps k readings) ⊎ LeavesGap 0 (presences ps) readings)
+
+-- A SET with an extension marker or without one. Without one, these are the definitions above.
+abbrev pub DecodesSetPartContentsBy : {D : Type 0} → Bool → Parts → (D → Tree) → List (List ℕ) → Call D
+DecodesSetPartContentsBy false ps tree names old r new = DecodesSetPartContents ps tree names old r new
+DecodesSetPartContentsBy true ps tree names old r new =
+    DecodesSetContents (DecodesIntoSlots (Decodes (open_choice ps) (λ (t : Tree). t))) (MakesOfSortedReadings ps tree names old.rule) old r new
+
+abbrev pub DecodesSetPartsBy : {D : Type 0} → Bool → Parts → (D → Tree) → List (List ℕ) → Tag → Call D
+DecodesSetPartsBy false ps tree names tag old r new = DecodesSetParts ps tree names tag old r new
+DecodesSetPartsBy true ps tree names tag old r new = DecodesInside (DecodesSetPartContentsBy true ps tree names) (sequence_header tag) old r new
+
+abbrev pub DecodesNamedContentsBy : {D : Type 0} → Bool → Parts → (D → Tree) → List ℕ → List (List ℕ) → (Tag → Errors) → Call D
+DecodesNamedContentsBy false ps tree name names errors old r new = DecodesNamedContents ps tree name names errors old r new
+DecodesNamedContentsBy true ps tree name names errors old r new =
+    DecodesSetContents (DecodesIntoSlots (DecodesOneOfSorted ps name errors)) (MakesNamedSorted ps tree names old.rule) old r new
+
+abbrev pub DecodesNamedPartsBy : {D : Type 0} → Bool → Parts → (D → Tree) → List ℕ → List (List ℕ) → (Tag → Errors) → Tag → Call D
+DecodesNamedPartsBy false ps tree name names errors tag old r new = DecodesNamedParts ps tree name names errors tag old r new
+DecodesNamedPartsBy true ps tree name names errors tag old r new = DecodesInside (DecodesNamedContentsBy true ps tree name names errors) (sequence_header tag) old r new

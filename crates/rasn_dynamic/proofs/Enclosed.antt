@@ -6,9 +6,9 @@ use Rattle.rasn_types.specs.declared.types.codec.Codec.{Codec}
 use Rattle.rasn_types.specs.declared.types.tag.Tag.{Tag}
 use Rattle.rasn_types.specs.declared.error.encode.EncodeError.{EncodeError}
 use Rattle.rasn_types.specs.Errors.{IsEncodeOutOfMemory}
-use Rattle.rasn_types.specs.Shapes.{Tree, Shape, leaf, any, prefix, choice, open_choice, option, seq, set, list, set_of, unknown}
+use Rattle.rasn_types.specs.Shapes.{Tree, Shape, leaf, any, prefix, choice, open_choice, option, seq, set, sorted_set, list, set_of, unknown}
 use Rattle.rasn_types.specs.Contents.{joined_lists}
-use Rattle.rasn_types.specs.Bytes.{Bytes, IsUntaggedOpen, ConstructedEncoding}
+use Rattle.rasn_types.specs.Bytes.{Bytes, contents_of, IsUntaggedOpen, ConstructedEncoding}
 use Rattle.rasn_enc.specs.View.{View, IsBelow, opened}
 use Rattle.rasn_enc.specs.Primitive.{Appends, IsAllocError}
 use Rattle.rasn_enc.specs.Encoding.{AppendsEncoding, EncodeFails}
@@ -26,6 +26,8 @@ module _ (rule : Codec) (t : Tree) (u : Tag) (keeps : Bool) where
   bytes_of (option tag s) i c o w d = absurd i
   bytes_of (seq tag ps) (e, k) c o (ts, bs, f, p, j) d = (ts, bs, f, p, subst (λ z. ConstructedEncoding rule z (joined_lists bs) o) e (subst (λ z. ConstructedEncoding rule u z o) j d))
   bytes_of (set tag ps) (e, k) c o (ts, bs, tags, f, p, n, h, a, j) d = (ts, bs, tags, f, p, n, h, a, subst (λ z. ConstructedEncoding rule z (joined_lists bs) o) e (subst (λ z. ConstructedEncoding rule u z o) j d))
+  bytes_of (sorted_set extensible tag ps) (e, k) c o (ts, us, bs, cs, es, ds, f, p, m, n, q, a, j) d =
+      (ts, us, bs, cs, es, ds, f, p, m, n, q, a, subst (λ z. ConstructedEncoding rule z (contents_of ds) o) e (subst (λ z. ConstructedEncoding rule u z o) j d))
   bytes_of (list tag s size) (e, k) c o (ts, bs, f, m, p, j) d = (ts, bs, f, m, p, subst (λ z. ConstructedEncoding rule z (joined_lists bs) o) e (subst (λ z. ConstructedEncoding rule u z o) j d))
   bytes_of (set_of tag s size) (e, k) c o (ts, bs, f, m, p, a, j) d = (ts, bs, f, m, p, a, subst (λ z. ConstructedEncoding rule z (joined_lists bs) o) e (subst (λ z. ConstructedEncoding rule u z o) j d))
   bytes_of unknown i c o w d = absurd i
@@ -40,6 +42,7 @@ module _ (rule : Codec) (t : Tree) (u : Tag) (keeps : Bool) where
   inside_of (option tag s) i o b = absurd i
   inside_of (seq tag ps) i o (ts, bs, f, p, d) = (joined_lists bs, (ts, bs, f, p, refl))
   inside_of (set tag ps) i o (ts, bs, tags, f, p, n, h, a, d) = (joined_lists bs, (ts, bs, tags, f, p, n, h, a, refl))
+  inside_of (sorted_set extensible tag ps) i o (ts, us, bs, cs, es, ds, f, p, m, n, q, a, d) = (contents_of ds, (ts, us, bs, cs, es, ds, f, p, m, n, q, a, refl))
   inside_of (list tag s size) i o (ts, bs, f, m, p, d) = (joined_lists bs, (ts, bs, f, m, p, refl))
   inside_of (set_of tag s size) i o (ts, bs, f, m, p, a, d) = (joined_lists bs, (ts, bs, f, m, p, a, refl))
   inside_of unknown i o b = absurd i
@@ -54,6 +57,7 @@ module _ (rule : Codec) (t : Tree) (u : Tag) (keeps : Bool) where
   not_untagged (option tag s) i b = i
   not_untagged (seq tag ps) i b = b
   not_untagged (set tag ps) i b = b
+  not_untagged (sorted_set extensible tag ps) i b = b
   not_untagged (list tag s size) i b = b
   not_untagged (set_of tag s size) i b = b
   not_untagged unknown i b = i

@@ -3,7 +3,7 @@ use Rattle.std.proofs.Common.{◌≡◌, ◌≢◌, ℕ, ◌-◌, ◌⊎◌, inl
 use Rattle.rasn_types.specs.declared.types.tag.Tag.{Tag}
 use Rattle.rasn_types.specs.declared.error.decode.DecodeError.{DecodeError}
 use Rattle.rasn_types.specs.Framing.{AreOctets}
-use Rattle.rasn_types.specs.Shapes.{Tree, Shape, leaf, any, prefix, choice, open_choice, option, seq, set, list, set_of, unknown, Parts}
+use Rattle.rasn_types.specs.Shapes.{Tree, Shape, leaf, any, prefix, choice, open_choice, option, seq, set, sorted_set, list, set_of, unknown, Parts}
 use Rattle.rasn_types.specs.Readings.{Reading}
 use Rattle.rasn_types.specs.Grammar.{Reads}
 use Rattle.rasn_de.specs.Headers.{Header}
@@ -50,6 +50,14 @@ module _ (old : State) (o : old.depth ≢ 0 → AreOctets old.rest) (r : Result 
       held_decodes (sequence_header tag) R old o itself (DecodesBy (ReadsInside (set tag ps)) itself) (answers (set tag ps) (sequence_header tag)) (λ rule. Reads rule (set tag ps))
       (held_constructed tag 1 R old o old.rest) (constructed_held tag 1 R old o old.rest) r new k
 
+  as_sorted_set : (extensible : Bool) (tag : Tag) (ps : Parts) → Call (sorted_set extensible tag ps) (sequence_header tag) → Decodes (sorted_set extensible tag ps) itself old r new
+  unfolding Reads ReadsInside
+  as_sorted_set extensible tag ps k =
+      let s = sorted_set extensible tag ps in
+      let R = Inner s 1 in
+      held_decodes (sequence_header tag) R old o itself (DecodesBy (ReadsInside s) itself) (answers s (sequence_header tag)) (λ rule. Reads rule s)
+      (held_constructed tag 1 R old o old.rest) (constructed_held tag 1 R old o old.rest) r new k
+
   pub inside_decodes : (s : Shape) (d : ConstructedHeader) → IsHeaderOf s d → Call s d → Decodes s itself old r new
   inside_decodes (leaf kind tag bounds) d h k = absurd h
   inside_decodes (any tag) d h k = absurd h
@@ -59,6 +67,7 @@ module _ (old : State) (o : old.depth ≢ 0 → AreOctets old.rest) (r : Result 
   inside_decodes (option tag s) d h k = absurd h
   inside_decodes (seq tag ps) d h k = as_seq tag ps (subst (Call (seq tag ps)) h k)
   inside_decodes (set tag ps) d h k = as_set tag ps (subst (Call (set tag ps)) h k)
+  inside_decodes (sorted_set extensible tag ps) d h k = as_sorted_set extensible tag ps (subst (Call (sorted_set extensible tag ps)) h k)
   inside_decodes (list tag s size) d h k = absurd h
   inside_decodes (set_of tag s size) d h k = absurd h
   inside_decodes unknown d h k = absurd h

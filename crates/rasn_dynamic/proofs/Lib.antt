@@ -33,3 +33,4 @@ pub mod CheckedLeaves
 pub mod LeadsTo
 pub mod WorkedFaults
 pub mod Shown
+pub mod Named

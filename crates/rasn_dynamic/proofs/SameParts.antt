@@ -8,7 +8,7 @@ use Rattle.rasn_types.specs.declared.types.codec.Codec.TheVariants.{Ber}
 use Rattle.rasn_types.specs.declared.types.tag.Tag.{Tag}
 use Rattle.rasn_types.specs.Tags.{Form, form}
 use Rattle.rasn_types.specs.Framing.{AreOctets, Ended, Frame, NextTag}
-use Rattle.rasn_types.specs.Shapes.{Shape, Tree, items, numbers, leaf, any, prefix, choice, open_choice, option, seq, set, list, set_of, unknown, Parts, part, Presence, required, IsFirst, one_tag, any_of, sought_by, IsAlwaysPresent}
+use Rattle.rasn_types.specs.Shapes.{Shape, Tree, items, numbers, leaf, any, prefix, choice, open_choice, option, seq, set, sorted_set, list, set_of, unknown, Parts, part, Presence, required, IsFirst, one_tag, any_of, sought_by, IsAlwaysPresent}
 use Rattle.rasn_types.specs.Shapes.Parts.{none}
 use Rattle.rasn_types.specs.Readings.{IsLeftOut, ReadsMany}
 use Rattle.rasn_types.specs.Grammar.{Reads, ReadsAny}
@@ -216,6 +216,8 @@ not_absent (open_choice ps) solid rule depth c input t rest r other closing l = 
 not_absent (option tag s) solid rule depth c input t rest r other closing l = absurd solid
 not_absent (seq tag ps) solid rule depth c input t rest r other closing l = other_tag (form rule) other tag closing input (begins (seq tag ps) solid tt rule depth c input t rest r) l
 not_absent (set tag ps) solid rule depth c input t rest r other closing l = other_tag (form rule) other tag closing input (begins (set tag ps) solid tt rule depth c input t rest r) l
+not_absent (sorted_set extensible tag ps) solid rule depth c input t rest r other closing l =
+    other_tag (form rule) other tag closing input (begins (sorted_set extensible tag ps) solid tt rule depth c input t rest r) l
 not_absent (list tag s size) solid rule depth c input t rest r other closing l = other_tag (form rule) other tag closing input (begins (list tag s size) solid tt rule depth c input t rest r) l
 not_absent (set_of tag s size) solid rule depth c input t rest r other closing l = other_tag (form rule) other tag closing input (begins (set_of tag s size) solid tt rule depth c input t rest r) l
 not_absent unknown solid rule depth c input t rest r other closing l = absurd solid

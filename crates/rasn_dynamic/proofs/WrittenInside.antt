@@ -5,7 +5,7 @@ use Rattle.rasn_types.specs.declared.types.constraints.Constraints.{Constraints}
 use Rattle.rasn_types.specs.declared.error.encode.EncodeError.{EncodeError}
 use Rattle.rasn_types.specs.Errors.{IsEncodeOutOfMemory}
 use Rattle.rasn_types.specs.Contents.{joined_lists}
-use Rattle.rasn_types.specs.Shapes.{Tree, items, joined, set_elements, Shape, prefix, seq, set, list, set_of, Parts, part, own_tag, Key, Presence, required, addition, optional_by, default_by, Admits}
+use Rattle.rasn_types.specs.Shapes.{Tree, items, joined, set_elements, Shape, prefix, seq, set, sorted_set, list, set_of, Parts, part, own_tag, Key, Presence, required, addition, optional_by, default_by, Admits}
 use Rattle.rasn_types.specs.Bytes.{Bytes, WritesPart, fields_of, PartsWritten, TagsOf, Each, AreAscending, IsLess}
 use Rattle.rasn_types.proofs.SetOf.Same.{items_one}
 use Rattle.rasn_types.proofs.Encoding.SameAsItself.{one_writing, parts_one_writing}
@@ -346,6 +346,7 @@ pub holds_others : (s : Shape) (tag : Tag) (keeps : Bool) → IsEnclosed s tag k
 holds_others (prefix tag s) u k h = tt
 holds_others (seq tag ps) u k h = tt
 holds_others (set tag ps) u k h = tt
+holds_others (sorted_set extensible tag ps) u k h = tt
 holds_others (list tag s size) u k h = tt
 holds_others (set_of tag s size) u k h = tt
 holds_others _ u k h = absurd h
@@ -354,6 +355,7 @@ pub keeps_as : (s : Shape) (tag : Tag) (keeps : Bool) → IsEnclosed s tag keeps
 keeps_as (prefix tag s) u k h = sym h.1
 keeps_as (seq tag ps) u k h = sym h.1
 keeps_as (set tag ps) u k h = sym h.1
+keeps_as (sorted_set extensible tag ps) u k h = sym h.1
 keeps_as (list tag s size) u k h = sym h.1
 keeps_as (set_of tag s size) u k h = sym h.1
 keeps_as _ u k h = absurd h

@@ -8,7 +8,7 @@ use Rattle.rasn_types.specs.declared.error.decode.DerDecodeErrorKind.TheVariants
 use Rattle.rasn_types.specs.declared.types.tag.Tag.{Tag}
 use Rattle.rasn_types.specs.Tags.{form, IsStrict}
 use Rattle.rasn_types.specs.Errors.{IsOutOfMemory}
-use Rattle.rasn_types.specs.Shapes.{Shape, Tree, Parts, choice, IsFirstOf}
+use Rattle.rasn_types.specs.Shapes.{Shape, Tree, Parts, choice_by, IsFirstOf}
 use Rattle.rasn_de.specs.Headers.{Header}
 use Rattle.rasn_de.specs.declared.ber.de.parser.ParseError.TheVariants.{Der}
 use Rattle.rasn_de.specs.State.{State, at, IsEnd, Call}
@@ -26,6 +26,7 @@ use Rattle.rasn_schema.specs.declared.types.«Type».TheVariants.{Leaf, Enumerat
 use Rattle.rasn_schema.specs.Shapes.{shape_of_type, alternatives_by, components_by, presence_of, presence_in}
 use Rattle.rasn_schema.specs.FirstTags.{IsAlternativeFor, IsAlwaysThere}
 use Rattle.rasn_dynamic.specs.Inside.{DecodesTree, DecodesComponent}
+use Rattle.rasn_dynamic.specs.Sets.{is_extensible, named_components, PassesUnknown}
 use Rattle.rasn_dynamic.specs.Calls.{IsDefaultOf}
 use Rattle.rasn_dynamic.specs.Typed.{element_count, DecodesContents}
 use Rattle.rasn_dynamic.specs.declared.trace.Fault.{Fault}
@@ -91,9 +92,9 @@ abbrev pub IsMember : List Component → State → ℕ → ℕ → State → Typ
 IsMember ps s k next here = (p : Component) × (Some p ≡ slice_get ps k) × (next ≡ p.type_id.0) × (here ≡ s)
 
 -- Other components of the SET were read before it.
-abbrev pub IsMemberAt : (ℕ → Shape) → List Component → State → ℕ → ℕ → State → Type 0
-IsMemberAt f ps s k next here = (p : Component) × (Some p ≡ slice_get ps k) × (next ≡ p.type_id.0)
-    × (done : List Tree) × (bs : List (List ℕ)) × DecodesInTurnFrom (DecodesTree (choice (components_by f ps))) s done bs here
+abbrev pub IsMemberAt : (ℕ → Shape) → Bool → List Component → State → ℕ → ℕ → State → Type 0
+IsMemberAt f extensible ps s k next here = (p : Component) × (Some p ≡ slice_get ps k) × (next ≡ p.type_id.0)
+    × (done : List Tree) × (bs : List (List ℕ)) × DecodesInTurnFrom (DecodesTree (choice_by extensible (components_by f ps))) s done bs here
 
 abbrev pub IsPart : (ℕ → Shape) → «Type» → State → ℕ → ℕ → State → Type 0
 IsPart f (Leaf kind tag c names) s k next here = ⊥
@@ -103,7 +104,7 @@ IsPart f Unknown s k next here = ⊥
 IsPart f (Tagged tag id) s k next here = IsOnly 0 id.0 s k next here
 IsPart f (Choice name ks) s k next here = IsAlternativeAt f ks.items s k next here
 IsPart f (Sequence tag ps) s k next here = IsComponentAt f ps.items s k next here
-IsPart f (Set name tag ps) s k next here = IsMemberAt f ps.items s k next here
+IsPart f (Set name tag ps) s k next here = IsMemberAt f (is_extensible f ps.items) (named_components f ps.items) s k next here
 IsPart f (SequenceOf tag id c) s k next here = IsElementAt f id.0 s k next here
 IsPart f (SetOf tag id c) s k next here = IsElementAt f id.0 s k next here
 
@@ -135,15 +136,15 @@ module _ (f : ℕ → Shape) where
   StopsInSequence ps s e = IsOutOfMemory e.kind
       ⊎ ((done : List Component) × (p : Component) × (after : List Component) × (here : State) × (ps ≡ done ++ p ∷ after) × ComponentsInTurn f done s here × StopsAtComponent p here e)
 
-  -- No tag follows, or none of a component of the SET; or the component is its default, or takes nothing.
-  abbrev pub StopsAtMember : List Component → State → DecodeError → Type 0
-  StopsAtMember ps s e = PeeksTag s (Err e) ⊎ (IsUnknown (components_by f ps) s
+  -- No tag follows, or none of a component of the SET, and no unknown value is read; or the component is its default, or takes nothing.
+  abbrev pub StopsAtMember : Bool → List Component → State → DecodeError → Type 0
+  StopsAtMember extensible ps s e = PeeksTag s (Err e) ⊎ ((IsUnknown (components_by f ps) s × ((next : State) → PassesUnknown extensible (components_by f ps) s next → IsOutOfMemory e.kind))
       ⊎ ((k : ℕ) × (p : Component) × (Some p ≡ slice_get ps k) × (IsDefaultWritten p s e ⊎ TakesNothing p.type_id.0 s)))
 
   -- Components of a SET were read up to there, or all were: then one is missing, or is there twice; or an allocation fails.
-  abbrev pub StopsInSet : List Component → State → DecodeError → Type 0
-  StopsInSet ps s e = IsOutOfMemory e.kind ⊎ ((done : List Tree) × (bs : List (List ℕ)) × (here : State) × DecodesInTurnFrom (DecodesTree (choice (components_by f ps))) s done bs here
-      × (Ended here.closing here.rest ⊎ ((new : State) × FailsAtComponent (λ there x after. StopsAtMember ps there x) bs here e new)))
+  abbrev pub StopsInSet : Bool → List Component → State → DecodeError → Type 0
+  StopsInSet extensible ps s e = IsOutOfMemory e.kind ⊎ ((done : List Tree) × (bs : List (List ℕ)) × (here : State) × DecodesInTurnFrom (DecodesTree (choice_by extensible (components_by f ps))) s done bs here
+      × (Ended here.closing here.rest ⊎ ((new : State) × FailsAtComponent (λ there x after. StopsAtMember extensible ps there x) bs here e new)))
 
   -- Elements were read up to there, and the next one takes nothing; or memory runs out.
   abbrev pub StopsInElements : ℕ → State → DecodeError → Type 0
@@ -163,7 +164,7 @@ module _ (f : ℕ → Shape) where
   StopsInside (Tagged tag id) s e = ⊥
   StopsInside (Choice name ks) s e = ⊥
   StopsInside (Sequence tag ps) s e = StopsInSequence ps.items s e
-  StopsInside (Set name tag ps) s e = StopsInSet ps.items s e
+  StopsInside (Set name tag ps) s e = StopsInSet (is_extensible f ps.items) (named_components f ps.items) s e
   StopsInside (SequenceOf tag id c) s e = StopsInElements id.0 s e
   StopsInside (SetOf tag id c) s e = StopsInOrder id.0 s e
 

@@ -1,6 +1,8 @@
 pub mod Inside
 pub mod Making
 pub mod Typed
+pub mod Sets
+pub mod Placed
 pub mod Calls
 pub mod Written
 pub mod Entry

@@ -12,10 +12,11 @@ use Rattle.rasn_schema.specs.declared.types.Component.{Component}
 use Rattle.rasn_schema.specs.declared.types.Alternative.{Alternative}
 use Rattle.rasn_schema.specs.declared.types.«Type».{«Type»}
 use Rattle.rasn_schema.specs.declared.types.«Type».TheVariants.{Leaf, Enumerated, Any, Tagged, Choice, Sequence, Set, SequenceOf, SetOf, Unknown}
-use Rattle.rasn_schema.specs.Shapes.{shape_of_type}
+use Rattle.rasn_schema.specs.Shapes.{shape_of_type, components_by}
 use Rattle.rasn_dynamic.specs.declared.span.Span.{Span}
 use Rattle.rasn_dynamic.specs.declared.span.Spans.{Spans}
 use Rattle.rasn_dynamic.specs.Inside.{DecodesTree}
+use Rattle.rasn_dynamic.specs.Sets.{is_extensible, named_components, PassesUnknown}
 use Rattle.rasn_dynamic.specs.Calls.{LeavesAllOut}
 use Rattle.rasn_dynamic.specs.Faults.{IsNextAlternative, octets_after}
 use Rattle.rasn_dynamic.specs.Parts.{IsAbsentHere}
@@ -73,12 +74,13 @@ module _ (f : ℕ → Shape) (levels : ℕ) (P : ℕ → ℕ → State → List 
   abbrev pub ComponentsListed : List Component → ℕ → State → List Span → Type 0
   ComponentsListed ps b s es = (LeavesAllOut ps s × (es ≡ [])) ⊎ ((last : State) × InTurn (ComponentAt ps b) (length ps) s last es)
 
-  -- A component of a SET; and those of a SET, in any order, up to the end.
-  abbrev pub MemberListed : List Component → ℕ → State → State → List Span → Type 0
-  MemberListed ps b s next es = (k : ℕ) × (p : Component) × (Some p ≡ slice_get ps k) × PartListed p.type_id.0 k b s next es
+  -- A component of a SET, unless it is an unknown value; and those of a SET, in any order, up to the end.
+  abbrev pub MemberListed : Bool → List Component → ℕ → State → State → List Span → Type 0
+  MemberListed extensible ps b s next es = (PassesUnknown extensible (components_by f ps) s next × (es ≡ []))
+      ⊎ ((k : ℕ) × (p : Component) × (Some p ≡ slice_get ps k) × PartListed p.type_id.0 k b s next es)
 
-  abbrev pub MembersListed : List Component → ℕ → State → List Span → Type 0
-  MembersListed ps b s es = (n : ℕ) × (last : State) × InTurn (λ k. MemberListed ps b) n s last es × Ended last.closing last.rest
+  abbrev pub MembersListed : Bool → List Component → ℕ → State → List Span → Type 0
+  MembersListed extensible ps b s es = (n : ℕ) × (last : State) × InTurn (λ k. MemberListed extensible ps b) n s last es × Ended last.closing last.rest
 
   -- Elements, up to the end.
   abbrev pub ElementsListed : ℕ → ℕ → State → List Span → Type 0
@@ -97,7 +99,7 @@ module _ (f : ℕ → Shape) (levels : ℕ) (P : ℕ → ℕ → State → List 
   ContentsListed (Tagged tag id) b s es = (last : State) × PartListed id.0 0 b s last es
   ContentsListed (Choice name ks) b s es = AlternativeListed ks.items b s es
   ContentsListed (Sequence tag ps) b s es = ComponentsListed ps.items b s es
-  ContentsListed (Set name tag ps) b s es = MembersListed ps.items b s es
+  ContentsListed (Set name tag ps) b s es = MembersListed (is_extensible f ps.items) (named_components f ps.items) b s es
   ContentsListed (SequenceOf tag id c) b s es = ElementsListed id.0 b s es
   ContentsListed (SetOf tag id c) b s es = ElementsListed id.0 b s es
 

@@ -5,7 +5,7 @@ use Rattle.rasn_types.specs.declared.types.codec.Codec.TheVariants.{Ber}
 use Rattle.rasn_types.specs.declared.types.tag.Tag.{Tag}
 use Rattle.rasn_types.specs.Framing.{Frame, definite, indefinite, Ended}
 use Rattle.rasn_types.specs.Tags.{form}
-use Rattle.rasn_types.specs.Shapes.{Shape, Tree, choice, Presence, sought_by}
+use Rattle.rasn_types.specs.Shapes.{Shape, Tree, choice_by, Presence, sought_by}
 use Rattle.rasn_types.specs.Grammar.{Reads}
 use Rattle.rasn_types.specs.Readings.{Reading, NoneOf}
 use Rattle.rasn_de.specs.State.{State}
@@ -22,6 +22,7 @@ use Rattle.rasn_schema.specs.declared.types.Alternative.{Alternative}
 use Rattle.rasn_schema.specs.Shapes.{shape_of_type, components_by, presence_of, key_of}
 use Rattle.rasn_schema.specs.FirstTags.{IsAlwaysThere}
 use Rattle.rasn_dynamic.specs.Inside.{DecodesTree}
+use Rattle.rasn_dynamic.specs.Sets.{is_extensible, named_components}
 use Rattle.rasn_dynamic.specs.Calls.{LeavesAllOut, DecodesPresent}
 use Rattle.rasn_dynamic.specs.Faults.{IsNextAlternative, ComponentsInTurn, Enters, Leads, start}
 use Rattle.rasn_dynamic.specs.declared.part.Part.{Part}
@@ -76,9 +77,9 @@ abbrev pub LacksComponent : (ℕ → Shape) → List Component → State → ℕ
 LacksComponent f ps s k = LeavesAllOut ps s ⊎ ((length ps ≤ k)
     ⊎ ((done : List Component) × (p : Component) × (after : List Component) × (here : State) × (ps ≡ done ++ p ∷ after) × (length done ≡ k) × ComponentsInTurn f done s here × IsAbsentHere f p here))
 
--- Other components of the SET are read up to the end.
-abbrev pub LacksMember : (ℕ → Shape) → List Component → State → ℕ → Type 0
-LacksMember f ps s k = (done : List Tree) × (bs : List (List ℕ)) × (here : State) × DecodesInTurnFrom (DecodesTree (choice (components_by f ps))) s done bs here × NoneOf k done × Ended here.closing here.rest
+-- Other components of the SET are read up to the end. Unknown ones are no part: each is where its tag is.
+abbrev pub LacksMember : (ℕ → Shape) → Bool → List Component → State → ℕ → Type 0
+LacksMember f extensible ps s k = (done : List Tree) × (bs : List (List ℕ)) × (here : State) × DecodesInTurnFrom (DecodesTree (choice_by extensible (components_by f ps))) s done bs here × (NoneOf k done ⊎ (length ps ≤ k)) × Ended here.closing here.rest
 
 -- There are no more elements.
 abbrev pub LacksElement : (ℕ → Shape) → ℕ → State → ℕ → Type 0
@@ -92,7 +93,7 @@ LacksPart f Unknown s k = Unit {0}
 LacksPart f (Tagged tag id) s k = k ≢ 0
 LacksPart f (Choice name ks) s k = LacksAlternative f ks.items s k
 LacksPart f (Sequence tag ps) s k = LacksComponent f ps.items s k
-LacksPart f (Set name tag ps) s k = LacksMember f ps.items s k
+LacksPart f (Set name tag ps) s k = LacksMember f (is_extensible f ps.items) (named_components f ps.items) s k
 LacksPart f (SequenceOf tag id c) s k = LacksElement f id.0 s k
 LacksPart f (SetOf tag id c) s k = LacksElement f id.0 s k
 

@@ -1,13 +1,13 @@
 -- The contents of a value that holds others, as they are written.
-use Rattle.std.specs.Prelude.{◌≡◌, ◌⊎◌, ◌≤◌, ℕ, List, Bool, true, false, length, Result, OnOk, OnErr, IfErr}
+use Rattle.std.specs.Prelude.{◌≡◌, ◌⊎◌, ◌≤◌, ℕ, List, ◌++◌, Bool, true, false, length, Result, OnOk, OnErr, IfErr}
 use Rattle.rasn_types.specs.declared.types.codec.Codec.{Codec}
 use Rattle.rasn_types.specs.declared.types.tag.Tag.{Tag}
 use Rattle.rasn_types.specs.declared.error.encode.EncodeError.{EncodeError}
 use Rattle.rasn_types.specs.Errors.{IsEncodeOutOfMemory}
 use Rattle.rasn_types.specs.Tags.{IsTagBelow}
 use Rattle.rasn_types.specs.Contents.{joined_lists}
-use Rattle.rasn_types.specs.Shapes.{Tree, items, set_elements, Presence, required, Shape, leaf, any, prefix, choice, open_choice, option, seq, set, list, set_of, unknown, Parts, Admits}
-use Rattle.rasn_types.specs.Bytes.{Bytes, fields_of, PartsWritten, NoneUntaggedOpen, TagsOf, Each, AreAscending, IsLess}
+use Rattle.rasn_types.specs.Shapes.{Tree, items, IsSetTree, set_elements, count, Presence, required, Shape, leaf, any, prefix, choice, open_choice, option, seq, set, sorted_set, list, set_of, unknown, Parts, Admits}
+use Rattle.rasn_types.specs.Bytes.{Bytes, fields_of, PartsWritten, NoneUntaggedOpen, TagsOf, Component, ComponentsOf, UnknownComponents, ComesBefore, contents_of, Each, AreAscending, AreInOrder, IsReordered, IsLess}
 use Rattle.rasn_enc.specs.View.{View, LeavesOthers}
 use Rattle.rasn_enc.specs.Encoding.{AppendsPart, EncodePartFails}
 use Rattle.rasn_enc.specs.Sequence.{EncodesParts}
@@ -23,6 +23,9 @@ WritesInside rule (option tag s) t c = ⊥
 WritesInside rule (seq tag ps) t c = (ts : List Tree) × (bs : List (List ℕ)) × (t ≡ items ts) × PartsWritten (fields_of rule ps) ts bs × (c ≡ joined_lists bs)
 WritesInside rule (set tag ps) t c = (ts : List Tree) × (bs : List (List ℕ)) × (tags : List Tag) × (t ≡ items ts) × PartsWritten (fields_of rule ps) ts bs
     × NoneUntaggedOpen (fields_of rule ps) ts bs × TagsOf bs tags × AreAscending IsTagBelow tags × (c ≡ joined_lists bs)
+WritesInside rule (sorted_set extensible tag ps) t c = (ts : List Tree) × (us : List Tree) × (bs : List (List ℕ)) × (cs : List Component) × (es : List Component) × (ds : List Component)
+    × IsSetTree extensible ts us t × PartsWritten (fields_of rule ps) ts bs × ComponentsOf rule 0 ps bs cs × UnknownComponents (count ps) us es
+    × IsReordered (cs ++ es) ds × AreInOrder ComesBefore ds × (c ≡ contents_of ds)
 WritesInside rule (list tag s size) t c = (ts : List Tree) × (bs : List (List ℕ)) × (t ≡ items ts) × Admits ◌≤◌ size (length ts) × Each (Bytes rule s) ts bs × (c ≡ joined_lists bs)
 WritesInside rule unknown t c = ⊥
 WritesInside rule (set_of tag s size) t c = (ts : List Tree) × (bs : List (List ℕ)) × (t ≡ set_elements (items ts)) × Admits ◌≤◌ size (length ts) × Each (Bytes rule s) ts bs
@@ -38,6 +41,7 @@ IsEnclosed (open_choice ps) u keeps = ⊥
 IsEnclosed (option tag s) u keeps = ⊥
 IsEnclosed (seq tag ps) u keeps = (u ≡ tag) × (keeps ≡ false)
 IsEnclosed (set tag ps) u keeps = (u ≡ tag) × (keeps ≡ true)
+IsEnclosed (sorted_set extensible tag ps) u keeps = (u ≡ tag) × (keeps ≡ false)
 IsEnclosed (list tag s size) u keeps = (u ≡ tag) × (keeps ≡ false)
 IsEnclosed (set_of tag s size) u keeps = (u ≡ tag) × (keeps ≡ false)
 IsEnclosed unknown u keeps = ⊥
@@ -52,6 +56,7 @@ HoldsOthers (open_choice ps) = ⊥
 HoldsOthers (option tag s) = ⊥
 HoldsOthers (seq tag ps) = Unit {0}
 HoldsOthers (set tag ps) = Unit {0}
+HoldsOthers (sorted_set extensible tag ps) = Unit {0}
 HoldsOthers (list tag s size) = Unit {0}
 HoldsOthers (set_of tag s size) = Unit {0}
 HoldsOthers unknown = ⊥

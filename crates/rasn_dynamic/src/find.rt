@@ -1,9 +1,9 @@
 //! Finding a part of a message.
 ghost use Rattle.std.specs.Prelude.{◌≡◌, ◌≢◌, ◌⊎◌, ◌+◌, ◌≤◌, ◌∷◌, [], length, true, OnOk, IfOk, IfErr, MatchOption, MatchBool};
 ghost use Rattle.rasn_types.specs.Errors.{IsOutOfMemory};
-ghost use Rattle.rasn_types.specs.Lawful.{AreLawfulByTag};
-ghost use Rattle.rasn_schema.specs.Shapes.{shape_of_type, type_by, components_by, presence_in, IsReadable, AreReadable};
+ghost use Rattle.rasn_schema.specs.Shapes.{shape_of_type, type_by, components_by, known_parts, presence_in, IsReadable, AreReadable};
 ghost use Rattle.rasn_dynamic.specs.Inside.{ReadsComponent};
+ghost use Rattle.rasn_dynamic.specs.Sets.{is_extensible, named_components as named_in, AreLawfulMembers};
 ghost use Rattle.rasn_dynamic.specs.Faults.{IsAlternativeAt, IsComponentAt, IsMemberAt, IsElementAt, IsPart, Leads, IsLocated, start};
 ghost use Rattle.rasn_dynamic.specs.Parts.{IsSeen, LacksAlternative, IsAbsentHere, LacksComponent, LacksMember, LacksElement, LacksPart, IsEntered, LacksPartAt, LacksPath, IsReadHere, IsPartAt, IsHeaderOf, PassesBy, PassesPresent, PassesElement};
 
@@ -12,15 +12,16 @@ use crate::locate::{check_or_locate, out_of_memory};
 use crate::made::Nothing;
 use crate::order::octets_before;
 use crate::part::{Part, part_header};
+use crate::read_leaf::decode_any_value;
 use crate::reader::{decode_at, decode_component, decode_present, extra, is_next, no_value};
 use crate::refusal::Refusal;
-use crate::set::component_for;
+use crate::set::{component_for, named_components};
 use crate::span::no_list;
 use crate::trace::octets_after;
 use rasn_de::ber::de::{ConstructedHeader, Decoder, DecoderOptions};
 use rasn_schema::{Alternative, Component, Schema, Type, TypeId, alternative_for, type_at};
 use rasn_types::error::DecodeError;
-use rasn_types::types::Codec;
+use rasn_types::types::{Codec, Tag};
 use std::alloc::Global;
 
 /// Where a value begins.
@@ -208,18 +209,27 @@ fn go_to_member(
     components: &[Component],
     index: usize,
 ) -> Result<Option<TypeId>, DecodeError>
-    requires lawful { AreLawfulByTag (components_by (shape_of_type types.now below) components.now) }
-    ensures found { IfOk result (λ found. MatchOption found (LacksMember (shape_of_type types.now below) components.now decoder.old index) (λ id. IsMemberAt (shape_of_type types.now below) components.now decoder.old index id.0 decoder.new)) }
+    requires lawful { AreLawfulMembers (known_parts (components_by (shape_of_type types.now below) components.now)) }
+    ensures found { let f = shape_of_type types.now below in
+        IfOk result (λ found. MatchOption found (LacksMember f (is_extensible f components.now) (named_in f components.now) decoder.old index) (λ id. IsMemberAt f (is_extensible f components.now) (named_in f components.now) decoder.old index id.0 decoder.new)) }
 {
+    let (named, extensible) = named_components(types, below, components);
     while !decoder.has_ended() {
         let tag = decoder.peek_tag()?;
-        let Some((number, component)) = component_for(types, below, components, tag) else {
-            return Err(no_value(decoder));
-        };
-        if number == index {
-            return Ok(Some(component.type_id));
+        match component_for(types, below, named, tag) {
+            Some((number, component)) => {
+                if number == index {
+                    return Ok(Some(component.type_id));
+                }
+                pass_member(decoder, types, below, component)?;
+            }
+            None => {
+                if !extensible {
+                    return Err(no_value(decoder));
+                }
+                let _ = decode_any_value(decoder, Tag::EOC)?;
+            }
         }
-        pass_member(decoder, types, below, component)?;
     }
     Ok(None)
 }

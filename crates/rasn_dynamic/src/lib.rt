@@ -14,6 +14,7 @@ mod message;
 mod order;
 mod part;
 mod path;
+mod place;
 mod read_leaf;
 mod reader;
 mod refusal;

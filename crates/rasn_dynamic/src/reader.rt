@@ -3,24 +3,23 @@ ghost use Rattle.std.specs.Prelude.{◌≡◌, ◌≢◌, ◌⊎◌, [], true, s
 ghost use Rattle.std.specs.String.{string_bytes};
 ghost use Rattle.rasn_types.specs.Framing.{AreOctets};
 ghost use Rattle.rasn_types.specs.Errors.{IsOutOfMemory};
-ghost use Rattle.rasn_types.specs.Lawful.{AreLawfulByTag};
 ghost use Rattle.rasn_types.specs.Shapes.{items, sought_by};
 ghost use Rattle.rasn_de.specs.Decodes.{DecodesBy};
 ghost use Rattle.rasn_de.specs.Constructed.{DecodesInside};
 ghost use Rattle.rasn_de.specs.SequenceOf.{DecodesElements, DecodesElementsInOrder, DecodesSized};
 ghost use Rattle.rasn_de.specs.Optional.{NextIs};
 ghost use Rattle.rasn_de.specs.PartTypes.{FailsAtPart, FailsAtOnePart};
-ghost use Rattle.rasn_de.specs.SetPartTypes.{DecodesSetPartContents};
+ghost use Rattle.rasn_dynamic.specs.Sets.{DecodesMembers, AreLawfulMembers};
 ghost use Rattle.rasn_de.specs.Steps.{IsErrorOf};
 ghost use Rattle.rasn_de.specs.declared.ber.de.parser.ParseError.TheVariants.{UnexpectedExtraData, UnexpectedEmptyInput};
 ghost use Rattle.rasn_schema.specs.Trees.{tree_of};
 ghost use Rattle.rasn_schema.specs.Shapes.{shape_of_type, type_by, alternatives_by, choice_among, components_by, key_of, presence_in, IsReadable, AreReadable};
 ghost use Rattle.rasn_dynamic.specs.Inside.{ReadsSequence, DecodesTree, DecodesComponent};
 ghost use Rattle.rasn_dynamic.specs.Making.{Making, Counting, IsLength, trees_of, these};
-ghost use Rattle.rasn_dynamic.specs.Typed.{element_count, IsSized, HoldsOthers, HoldsElements, CountsElements, DecodesContents, DecodesType};
-ghost use Rattle.rasn_dynamic.specs.Calls.{nones, names_of, IsKept, DecodesPresent, DecodesMember, IsNoAlternative};
-ghost use Rattle.rasn_schema.specs.Fitting.{Fits, FitsBy, IsChosen, AlternativeFits, ComponentFits, ComponentsFit, EachFits};
-ghost use Rattle.rasn_dynamic.specs.Found.{FoundFit};
+ghost use Rattle.rasn_dynamic.specs.Typed.{element_count, IsSized, HoldsOthers, HoldsElements, CountsElements, MayRunOut, DecodesContents, DecodesType};
+ghost use Rattle.rasn_dynamic.specs.Calls.{nones, names_of, IsKept, DecodesPresent, DecodesMember, IsNoAlternative, IsNoMember};
+ghost use Rattle.rasn_schema.specs.Fitting.{Fits, FitsBy, IsChosen, AlternativeFits, ComponentFits, ComponentsFit, EachFits, AreOctets as AreOctetsValue};
+ghost use Rattle.rasn_dynamic.specs.Found.{FoundFit, MembersFit};
 ghost use Rattle.rasn_dynamic.specs.Faults.{IsFault, IsFaultIn, IsFaultOf, IsFaultInside, IsOnly, IsAlternativeAt, IsElementAt, IsComponentAt, IsMember, IsMemberAt, IsPart, Told, TellsOf, FailsAt, FailsItself, ReadsEachPart, StopsAtChoice, StopsInside, StopsInElements, StopsInOrder, StopsInSequence, StopsAtComponent, IsDefaultWritten, StopsInSet, StopsAtMember};
 ghost use Rattle.rasn_dynamic.specs.Listed.{Lists, Inside, PartsInside, PartListed, ValueListed, AlternativeListed, InsideListed, ContentsListed, ElementsListed, ComponentsListed, ComponentListed, MembersListed, MemberListed};
 ghost use Rattle.rasn_de.specs.Constructed.{list_header};
@@ -31,7 +30,7 @@ use crate::order::{is_less, octets_before, out_of_order};
 use crate::read_leaf::{
     decode_any_value, decode_number, decode_unknown_values, leaf_value, out_of_memory, push,
 };
-use crate::set::{all_absent, component_for, gather, no_components, put};
+use crate::set::{all_absent, component_for, gather, named_components, no_components, put};
 use crate::span::{Spans, finish, go_inside, go_outside, note};
 use crate::trace::{Fault, add_after, mark, octets_after, octets_left, step};
 use rasn_de::ber::de::{ConstructedHeader, Decoder};
@@ -510,7 +509,8 @@ fn decode_contents<'input, M: Made>(
             components,
             ..
         } => {
-            let found = no_components(decoder, components)?;
+            let (named, extensible) = named_components(types, below, components);
+            let found = no_components(decoder, named)?;
             let values = decode_set::<M>(
                 decoder,
                 trace,
@@ -518,7 +518,8 @@ fn decode_contents<'input, M: Made>(
                 types,
                 below,
                 name.as_str(),
-                components,
+                named,
+                extensible,
                 found,
             )?;
             Ok(Value::Items(values))
@@ -744,10 +745,11 @@ pub fn decode_present<'input, M: Made>(
     Ok(value)
 }
 
-/// Reads the components of a SET, in any order, up to the end of the contents (X.690 8.11). None was found yet.
+/// Reads the components of a SET, in any order, up to the end of the contents (X.690 8.11). None was found yet. If the SET is
+/// extensible, unknown components are last in what is returned, as one value.
 ///
 /// # Errors
-/// Those of the first component that isn't read, `NoValidChoice` with the name of the SET for a tag that is no component's. Once all are read, `DuplicateField` with the name of the first component that was
+/// Those of the first component that isn't read, `NoValidChoice` with the name of the SET for a tag that is no component's, unless the SET is extensible. Once all are read, `DuplicateField` with the name of the first component that was
 /// read before, else `MissingField` with that of the first required one that is missing.
 #[cycle(decode)]
 fn decode_set<'input, M: Made>(
@@ -758,38 +760,53 @@ fn decode_set<'input, M: Made>(
     below: usize,
     name: &str,
     components: &[Component],
+    extensible: bool,
     mut found: Vec<Option<Value<'input>>>,
 ) -> Result<Vec<Value<'input>>, DecodeError>
-    requires lawful { AreLawfulByTag (components_by (shape_of_type types.now below) components.now) }
+    requires lawful { AreLawfulMembers (components_by (shape_of_type types.now below) components.now) }
     requires none { found.items ≡ nones components.now }
     requires clear { trace.old ≡ None }
-    ensures exact { Making M.KEEP trees_of (DecodesSetPartContents (components_by (shape_of_type types.now below) components.now) items (names_of components.now)) decoder.old result decoder.new }
-    ensures fits { M.KEEP ≡ true → IfOk result (λ v. ComponentsFit (Fits types.now below) components.now v.items) }
+    ensures exact { Making M.KEEP trees_of (MayRunOut (DecodesMembers extensible (components_by (shape_of_type types.now below) components.now) (names_of components.now))) decoder.old result decoder.new }
+    ensures fits { M.KEEP ≡ true → IfOk result (λ v. MembersFit (Fits types.now below) extensible components.now v.items) }
     ensures rules { IfErr result (λ e. e.codec ≡ decoder.old.rule) }
-    ensures told { Told (IsFaultIn types.now below (IsMemberAt (shape_of_type types.now below) components.now decoder.old) decoder.old decoder.old) result trace.new }
-    ensures itself { IfErr result (λ e. trace.new ≡ None → StopsInSet (shape_of_type types.now below) components.now decoder.old e) }
-    ensures listed { IfOk result (λ v. Lists (λ b es. MembersListed (shape_of_type types.now below) below (Inside types.now below) components.now b decoder.old es) spans.old spans.new) }
+    ensures told { Told (IsFaultIn types.now below (IsMemberAt (shape_of_type types.now below) extensible components.now decoder.old) decoder.old decoder.old) result trace.new }
+    ensures itself { IfErr result (λ e. trace.new ≡ None → StopsInSet (shape_of_type types.now below) extensible components.now decoder.old e) }
+    ensures listed { IfOk result (λ v. Lists (λ b es. MembersListed (shape_of_type types.now below) below (Inside types.now below) extensible components.now b decoder.old es) spans.old spans.new) }
 {
+    let mut unknown = Vec::new(decoder.alloc());
     let mut twice = None;
     let mut last = None;
     while !decoder.has_ended() {
         last = decoder.peek_tag_in_order(last)?;
         let next = decode_set_component::<M>(
-            decoder, trace, spans, types, below, name, components, &mut found,
+            decoder,
+            trace,
+            spans,
+            types,
+            below,
+            name,
+            components,
+            extensible,
+            &mut found,
+            &mut unknown,
         )?;
         twice = twice.or(next);
     }
     if let Some(repeated) = twice {
         return Err(DecodeError::duplicate_field(decoder.alloc(), repeated, decoder.codec()));
     }
-    gather::<M>(decoder, components, found)
+    let mut values = gather::<M>(decoder, components, found)?;
+    if extensible {
+        push::<M>(decoder, &mut values, Value::Items(unknown))?;
+    }
+    Ok(values)
 }
 
 /// Reads one component of a SET, which must take some of the input, and puts it in its place. If that isn't empty, returns the
-/// component's name.
+/// component's name. If the next tag is no component's and the SET is extensible, an unknown value is read, and appended to those.
 ///
 /// # Errors
-/// `NoValidChoice` with the name of the SET if the next tag is no component's, which consumes nothing.
+/// `NoValidChoice` with the name of the SET if the next tag is no component's and the SET isn't extensible, which consumes nothing.
 #[cycle(decode)]
 fn decode_set_component<'input, 'names, M: Made>(
     decoder: &mut Decoder<'input>,
@@ -799,23 +816,31 @@ fn decode_set_component<'input, 'names, M: Made>(
     below: usize,
     name: &str,
     components: &'names [Component],
+    extensible: bool,
     found: &mut Vec<Option<Value<'input>>>,
+    unknown: &mut Vec<Value<'input>>,
 ) -> Result<Option<&'names str>, DecodeError>
-    requires lawful { AreLawfulByTag (components_by (shape_of_type types.now below) components.now) }
+    requires lawful { AreLawfulMembers (components_by (shape_of_type types.now below) components.now) }
     requires found { FoundFit (λ k v. M.KEEP ≡ true → Fits types.now below k v) components.now found.old.items }
     requires clear { trace.old ≡ None }
-    ensures next { DecodesMember M.KEEP (components_by (shape_of_type types.now below) components.now) (names_of components.now) found.old.items decoder.old result decoder.new found.new.items }
+    ensures next { DecodesMember M.KEEP extensible (components_by (shape_of_type types.now below) components.now) (names_of components.now) found.old.items unknown.old.items decoder.old result decoder.new found.new.items unknown.new.items }
     ensures found { FoundFit (λ k v. M.KEEP ≡ true → Fits types.now below k v) components.now found.new.items }
-    ensures unknown { IfErr result (λ e. IsNoAlternative (components_by (shape_of_type types.now below) components.now) name.now decoder.old e decoder.new) }
+    ensures octets { M.KEEP ≡ true → EachFits AreOctetsValue unknown.old.items → EachFits AreOctetsValue unknown.new.items }
+    ensures unknown { IfErr result (λ e. IsNoMember extensible (components_by (shape_of_type types.now below) components.now) name.now decoder.old e decoder.new) }
     ensures rules { IfErr result (λ e. e.codec ≡ decoder.old.rule) }
     ensures told { Told (IsFaultIn types.now below (IsMember components.now decoder.old) decoder.old decoder.old) result trace.new }
-    ensures itself { IfErr result (λ e. trace.new ≡ None → StopsAtMember (shape_of_type types.now below) components.now decoder.old e) }
-    ensures listed { IfOk result (λ v. Lists (λ b es. MemberListed (shape_of_type types.now below) below (Inside types.now below) components.now b decoder.old decoder.new es) spans.old spans.new) }
+    ensures itself { IfErr result (λ e. trace.new ≡ None → StopsAtMember (shape_of_type types.now below) extensible components.now decoder.old e) }
+    ensures listed { IfOk result (λ v. Lists (λ b es. MemberListed (shape_of_type types.now below) below (Inside types.now below) extensible components.now b decoder.old decoder.new es) spans.old spans.new) }
 {
     let left = decoder.remaining().len();
     let tag = decoder.peek_tag()?;
     let Some((number, component)) = component_for(types, below, components, tag) else {
-        return Err(DecodeError::no_valid_choice(decoder.alloc(), name, decoder.codec()));
+        if !extensible {
+            return Err(DecodeError::no_valid_choice(decoder.alloc(), name, decoder.codec()));
+        }
+        let value = decode_any_value(decoder, Tag::EOC)?;
+        push::<M>(decoder, unknown, value)?;
+        return Ok(None);
     };
     let value = decode_present::<M>(decoder, trace, spans, types, below, component, number)?;
     if decoder.remaining().len() == left {

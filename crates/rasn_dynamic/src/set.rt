@@ -4,6 +4,7 @@ ghost use Rattle.rasn_types.specs.Shapes.{IsFirstOf};
 ghost use Rattle.rasn_types.specs.Errors.{IsOutOfMemory};
 ghost use Rattle.rasn_schema.specs.Shapes.{shape_of_type, components_by, presence_of};
 ghost use Rattle.rasn_dynamic.specs.Calls.{any_required, nones, IsPut, IsComponentFor, IsSettled, AreSettled, Gathers};
+ghost use Rattle.rasn_dynamic.specs.Sets.{named_components as named_in, is_extensible};
 ghost use Rattle.std.specs.String.{string_bytes};
 
 use crate::components::missing;
@@ -11,9 +12,28 @@ use crate::made::Made;
 use crate::read_leaf::{out_of_memory, push};
 use rasn_de::ber::de::Decoder;
 use rasn_de::de::Error;
-use rasn_schema::{Component, Presence, Type, Value, begins};
+use rasn_schema::{Component, Presence, Type, Value, begins, is_unknown_at};
 use rasn_types::error::DecodeError;
 use rasn_types::types::Tag;
+
+/// Returns the components that a SET names, and whether there may be unknown ones among them: then its
+/// last component is unknown values (X.680 27).
+pub fn named_components<'components>(
+    types: &[Type],
+    levels: usize,
+    components: &'components [Component],
+) -> (&'components [Component], bool)
+    ensures named { result.0.now ≡ named_in (shape_of_type types.now levels) components.now }
+    ensures extensible { result.1 ≡ is_extensible (shape_of_type types.now levels) components.now }
+{
+    let Some(before) = components.len().checked_sub(1) else {
+        return (components, false);
+    };
+    if levels == 0 || !is_unknown_at(types, components[before].type_id) {
+        return (components, false);
+    }
+    (&components[..before], true)
+}
 
 /// Returns the component that may begin with the tag, and its index.
 pub fn component_for<'components>(

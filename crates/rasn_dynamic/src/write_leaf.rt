@@ -5,6 +5,7 @@ ghost use Rattle.rasn_types.specs.Trees.{unconstrained};
 ghost use Rattle.rasn_schema.specs.Trees.{tree_of};
 ghost use Rattle.rasn_schema.specs.Shapes.{kind_of, numbers_of};
 ghost use Rattle.rasn_schema.specs.Fitting.{BitsFit, FitsLeaf, IsNumber, AreOctets, AreItems, EachFits};
+ghost use Rattle.rasn_enc.specs.Primitive.{IsAllocError};
 ghost use Rattle.rasn_dynamic.specs.Written.{Encodes, EncodesIf};
 
 use rasn_enc::ber::enc::Encoder;
@@ -21,6 +22,16 @@ pub fn other_form(encoder: &Encoder) -> EncodeError
 {
     EncodeError {
         kind: EncodeErrorKind::RealNotSupported,
+        codec: encoder.codec(),
+    }
+}
+
+/// Returns the error that an allocation failed.
+pub fn out_of_room(encoder: &Encoder) -> EncodeError
+    ensures { IsAllocError encoder.now.rule result }
+{
+    EncodeError {
+        kind: EncodeErrorKind::OutOfMemory,
         codec: encoder.codec(),
     }
 }
@@ -164,9 +175,6 @@ pub fn encode_unknown_values(encoder: &mut Encoder, value: &Value<'_>) -> Result
     match copy_unknown(encoder.alloc(), values) {
         Ok(Some(values)) => encoder.encode_unknown(&values),
         Ok(None) => Err(other_form(encoder)),
-        Err(_) => Err(EncodeError {
-            kind: EncodeErrorKind::OutOfMemory,
-            codec: encoder.codec(),
-        }),
+        Err(_) => Err(out_of_room(encoder)),
     }
 }

@@ -1,13 +1,16 @@
 //! Writes a value of a type.
 ghost use Rattle.std.specs.Prelude.{◌≡◌, None, map};
+ghost use Rattle.rasn_types.specs.Tags.{eoc};
 ghost use Rattle.rasn_types.specs.Trees.{list_tree};
 ghost use Rattle.rasn_enc.specs.View.{fresh};
 ghost use Rattle.rasn_enc.specs.Primitive.{IsOrderError};
 ghost use Rattle.rasn_schema.specs.Trees.{tree_of};
-ghost use Rattle.rasn_schema.specs.Shapes.{shape_of_type, type_by, alternatives_by, choice_among, components_by, presence_in};
+ghost use Rattle.rasn_schema.specs.Shapes.{shape_of_type, type_by, alternatives_by, choice_among, set_among, components_by, presence_in};
 ghost use Rattle.rasn_schema.specs.Fitting.{AlternativeFits, IsChosen, ComponentFits, ComponentsFit, EachFits, FitsBy, Fits};
 ghost use Rattle.rasn_dynamic.specs.Written.{EncodesIf, EncodesPartIf, EncodesInsideIf, EncodesPartsIf, EncodesElementsIf, EncodesSetOfIf, IsEnclosed, HoldsOthers, keeps_tags};
 
+use crate::place::{add_places, places_of_unknown, unknown_number};
+use crate::set::named_components;
 use crate::write_leaf::{
     encode_leaf, encode_number, encode_open_value, encode_unknown_values, other_form,
 };
@@ -82,7 +85,7 @@ fn encode_type(
         Type::Sequence { tag, .. } => {
             encode_inside(encoder, types, below, ty, *tag, false, value)
         }
-        Type::Set { tag, .. } => encode_inside(encoder, types, below, ty, *tag, true, value),
+        Type::Set { tag, .. } => encode_inside(encoder, types, below, ty, *tag, false, value),
         Type::SequenceOf { tag, .. } => {
             encode_inside(encoder, types, below, ty, *tag, false, value)
         }
@@ -149,13 +152,7 @@ fn encode_contents(
             None => Err(other_form(encoder)),
         },
         Type::Set { components, .. } => match items_of(value) {
-            Some(values) => {
-                encode_components(encoder, types, below, components, values)?;
-                if encoder.kept_tags_out_of_order() {
-                    return Err(out_of_order(encoder));
-                }
-                Ok(())
-            }
+            Some(values) => encode_set(encoder, types, below, components, values),
             None => Err(other_form(encoder)),
         },
         Type::SequenceOf {
@@ -226,6 +223,44 @@ fn encode_component(
         return Ok(());
     }
     encode_at(encoder, types, below, component.type_id, value)
+}
+
+/// Writes the components of a SET in the order of their tags (X.690 9.3, 10.3). If the SET is extensible, the last value is the list of
+/// unknown components, each of which is written where its tag belongs.
+#[cycle(encode)]
+fn encode_set(
+    encoder: &mut Encoder,
+    types: &[Type],
+    below: usize,
+    components: &[Component],
+    values: &[Value<'_>],
+) -> Result<(), EncodeError>
+    requires { encoder.old.last ≡ fresh false }
+    ensures { EncodesInsideIf (ComponentsFit (Fits types.now below) components.now values.now) (set_among eoc (components_by (shape_of_type types.now below) components.now)) (list_tree tree_of values.now) encoder.old result encoder.new }
+{
+    if values.len() != components.len() {
+        return Err(other_form(encoder));
+    }
+    let (named, extensible) = named_components(types, below, components);
+    let mut unknown: &[Value<'_>] = &[];
+    if extensible {
+        let Some(found) = items_of(&values[named.len()]) else {
+            return Err(other_form(encoder));
+        };
+        unknown = found;
+    }
+    let mut places = places_of_unknown(encoder, named.len(), unknown)?;
+    add_places(encoder, types, below, named, values, &mut places)?;
+    for place in &places {
+        match unknown_number(place.number, named.len()) {
+            Some(number) => encode_open_value(encoder, Tag::EOC, &unknown[number])?,
+            None => {
+                let id = named[place.number].type_id;
+                encode_at(encoder, types, below, id, &values[place.number])?;
+            }
+        }
+    }
+    Ok(())
 }
 
 /// Writes elements, one after the other.

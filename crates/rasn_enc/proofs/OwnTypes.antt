@@ -2,3 +2,4 @@ pub mod Tagging
 pub mod Choice
 pub mod Sequence
 pub mod Set
+pub mod SortedSet

@@ -20,3 +20,5 @@ pub mod Unknown
 pub mod Buffer
 pub mod AlternativeTypes
 pub mod ValueErrors
+pub mod SortedSet
+pub mod LeadingTag

@@ -6,7 +6,6 @@ use Rattle.rasn_types.specs.Tags.{eoc}
 use Rattle.rasn_types.specs.Grammar.{family}
 use Rattle.rasn_types.specs.Shapes.{Shape}
 use Rattle.rasn_types.specs.Lawful.{IsBitFree}
-use Rattle.rasn_schema.specs.declared.type_id.TypeId.{TypeId}
 use Rattle.rasn_schema.specs.declared.types.Component.{Component}
 use Rattle.rasn_schema.specs.declared.types.Alternative.{Alternative}
 use Rattle.rasn_schema.specs.declared.types.NamedNumber.{NamedNumber}
@@ -14,11 +13,10 @@ use Rattle.rasn_schema.specs.declared.types.LeafKind.{LeafKind}
 use Rattle.rasn_schema.specs.declared.types.«Type».{«Type»}
 use Rattle.rasn_schema.specs.declared.types.«Type».TheVariants.{Leaf, Enumerated, Any, Tagged, Choice, Sequence, Set, SequenceOf, SetOf, Unknown}
 use Rattle.rasn_schema.specs.declared.error.SchemaError.{SchemaError}
-use Rattle.rasn_schema.specs.declared.error.SchemaError.TheVariants.{ReservedTag, ConstructedTag, LateInner, NumbersClash, NoNumbers, NoAlternatives, LateAlternative, UntaggedAlternative, AlternativesClash, ComponentsClash, UntaggedComponent, AdditionInSet, UntaggedInSet, SetClash, SetOutOfOrder, UnfitDefault, MisplacedUnknown}
+use Rattle.rasn_schema.specs.declared.error.SchemaError.TheVariants.{ReservedTag, ConstructedTag, LateInner, NumbersClash, NoNumbers, NoAlternatives, LateAlternative, UntaggedAlternative, AlternativesClash, ComponentsClash, UntaggedComponent, AdditionInSet, UntaggedInSet, SetClash, UnfitDefault, MisplacedUnknown}
 use Rattle.rasn_schema.specs.Shapes.{kind_of, presence_of, shape_of_type}
-use Rattle.rasn_schema.specs.Schemas.{IsPrefix, IsUnknown, EndsUnknown, AreDistinct, IsBefore, AreLowerAndTagged, AreDistinctAlternatives, AreDistinctNumbers, AreToldInOrder, IsRecognizable, IsToldFrom, AreTagged, AreInOrderOfTags, IsWellFormed, AreWellFormed, AreChoicesWellFormed, AreOthersWellFormed, HaveFitDefaults, IsSchema, own_at, begin_at}
+use Rattle.rasn_schema.specs.Schemas.{IsPrefix, IsUnknown, EndsUnknown, AreLowerAndTagged, AreDistinctAlternatives, AreDistinctNumbers, AreToldInOrder, IsRecognizable, IsToldFrom, AreTagged, AreDistinctComponents, IsWellFormed, AreWellFormed, AreChoicesWellFormed, AreOthersWellFormed, HaveFitDefaults, IsSchema, own_at, begin_at}
 use Rattle.rasn_schema.specs.FirstTags.{IsAlwaysThere}
-use Rattle.rasn_schema.proofs.Firsts.{not_below}
 use Rattle.rasn_schema.specs.Faults.{IsListFault, IsTaggedFault, IsLeafFault, IsNumbersFault, IsAlternativesFault, IsSequenceFault, IsSetFault, IsFaultOf, SomeFault, IsDefaultFault, IsFault}
 
 -- the element at an index that is within the list
@@ -42,7 +40,6 @@ list_broken f id tag m (UntaggedComponent k i) h w = h
 list_broken f id tag m (AdditionInSet k i) h w = h
 list_broken f id tag m (UntaggedInSet k i) h w = h
 list_broken f id tag m (SetClash k i j) h w = h
-list_broken f id tag m (SetOutOfOrder k i j) h w = h
 list_broken f id tag m (UnfitDefault k i) h w = h
 list_broken f id tag m (MisplacedUnknown k i) h w = w.1 h.1
 
@@ -61,7 +58,6 @@ tagged_broken f id tag m (UntaggedComponent k i) h w = h
 tagged_broken f id tag m (AdditionInSet k i) h w = h
 tagged_broken f id tag m (UntaggedInSet k i) h w = h
 tagged_broken f id tag m (SetClash k i j) h w = h
-tagged_broken f id tag m (SetOutOfOrder k i j) h w = h
 tagged_broken f id tag m (UnfitDefault k i) h w = h
 tagged_broken f id tag m (MisplacedUnknown k i) h w = w.2 h.1
 
@@ -80,7 +76,6 @@ leaf_broken id kind tag (UntaggedComponent k i) h w = h
 leaf_broken id kind tag (AdditionInSet k i) h w = h
 leaf_broken id kind tag (UntaggedInSet k i) h w = h
 leaf_broken id kind tag (SetClash k i j) h w = h
-leaf_broken id kind tag (SetOutOfOrder k i j) h w = h
 leaf_broken id kind tag (UnfitDefault k i) h w = h
 leaf_broken id kind tag (MisplacedUnknown k i) h w = h
 
@@ -99,7 +94,6 @@ numbers_broken id tag ns (UntaggedComponent k i) h w = h
 numbers_broken id tag ns (AdditionInSet k i) h w = h
 numbers_broken id tag ns (UntaggedInSet k i) h w = h
 numbers_broken id tag ns (SetClash k i j) h w = h
-numbers_broken id tag ns (SetOutOfOrder k i j) h w = h
 numbers_broken id tag ns (UnfitDefault k i) h w = h
 numbers_broken id tag ns (MisplacedUnknown k i) h w = h
 
@@ -118,7 +112,6 @@ choice_broken f id ks (UntaggedComponent k i) h w = h
 choice_broken f id ks (AdditionInSet k i) h w = h
 choice_broken f id ks (UntaggedInSet k i) h w = h
 choice_broken f id ks (SetClash k i j) h w = h
-choice_broken f id ks (SetOutOfOrder k i j) h w = h
 choice_broken f id ks (UnfitDefault k i) h w = h
 choice_broken f id ks (MisplacedUnknown k i) h w = h
 
@@ -142,11 +135,10 @@ sequence_broken own f id tag ps (UntaggedComponent k i) (g, l, (p, d, a, n, r)) 
 sequence_broken own f id tag ps (AdditionInSet k i) h w = h
 sequence_broken own f id tag ps (UntaggedInSet k i) h w = h
 sequence_broken own f id tag ps (SetClash k i j) h w = h
-sequence_broken own f id tag ps (SetOutOfOrder k i j) h w = h
 sequence_broken own f id tag ps (UnfitDefault k i) h w = h
 sequence_broken own f id tag ps (MisplacedUnknown k i) (g, (p, d, n)) w = n (w.2 i p d)
 
-set_broken : (f : ℕ → Shape) (id : ℕ) (tag : Tag) (ps : List Component) (e : SchemaError) → IsSetFault f id tag ps e → (tag ≢ eoc) × AreTagged f ps × AreInOrderOfTags f ps → ⊥
+set_broken : (f : ℕ → Shape) (id : ℕ) (tag : Tag) (ps : List Component) (e : SchemaError) → IsSetFault f id tag ps e → (tag ≢ eoc) × AreTagged f ps × EndsUnknown f ps × AreDistinctComponents f ps → ⊥
 set_broken f id tag ps (ReservedTag k) h w = w.0 h.1
 set_broken f id tag ps (ConstructedTag k) h w = h
 set_broken f id tag ps (LateInner k) h w = h
@@ -160,10 +152,9 @@ set_broken f id tag ps (ComponentsClash k i j) h w = h
 set_broken f id tag ps (UntaggedComponent k i) h w = h
 set_broken f id tag ps (AdditionInSet k i) (g, (p, e, n)) w = (w.1 i p e).0 n
 set_broken f id tag ps (UntaggedInSet k i) (g, (p, e, n)) w = n (w.1 i p e).1
-set_broken f id tag ps (SetClash k i j) (g, l, (p, q, d, e, n)) w = n (λ t a b. not_below t (w.2 i j p q l d e t a t b))
-set_broken f id tag ps (SetOutOfOrder k i j) (g, l, (p, q, d, e, n)) w = n (w.2 i j p q l d e)
+set_broken f id tag ps (SetClash k i j) (g, l, (p, q, d, e, n)) w = n (w.3 i j p q l d e)
 set_broken f id tag ps (UnfitDefault k i) h w = h
-set_broken f id tag ps (MisplacedUnknown k i) h w = h
+set_broken f id tag ps (MisplacedUnknown k i) (g, (p, d, n)) w = n (w.2 i p d)
 
 type_broken : (own : ℕ → Option Tag) (f : ℕ → Shape) (id : ℕ) (ty : «Type») (e : SchemaError) → IsFaultOf own f id ty e → IsWellFormed own f id ty → ⊥
 type_broken own f id (Leaf kind tag c names) e h w = leaf_broken id kind tag e h w
@@ -192,7 +183,6 @@ default_broken types (UntaggedComponent k i) h w = h
 default_broken types (AdditionInSet k i) h w = h
 default_broken types (UntaggedInSet k i) h w = h
 default_broken types (SetClash k i j) h w = h
-default_broken types (SetOutOfOrder k i j) h w = h
 default_broken types (UnfitDefault k i) (ty, e, h) w = w k.0 ty e i h
 default_broken types (MisplacedUnknown k i) h w = h
 
@@ -215,15 +205,6 @@ module _ (types ts : List «Type») (levels : ℕ) (s : ts ≡ types) (n : level
 
 pub default_fault_of : (types ts : List «Type») → ts ≡ types → (e : SchemaError) → IsDefaultFault ts e → IsFault types e
 default_fault_of types ts s e h = inr (subst (λ l. IsDefaultFault l e) s h)
-
--- Two components of a SET that aren't in order.
-module _ (f : ℕ → Shape) (k : TypeId) (tag : Tag) (ps : List Component) (i j : ℕ) (p : Component) (h : Some p ≡ slice_get ps i) (next : TypeId)
-    (n : (i < j) × ((q : Component) × (Some q ≡ slice_get ps j) × (q.type_id ≡ next) × (IsBefore (f p.type_id.0) (f q.type_id.0) → ⊥))) where
-  pub set_clash_at : (AreDistinct (f p.type_id.0) (f next.0) → ⊥) → IsSetFault f k.0 tag ps (SetClash k i j)
-  set_clash_at d = (refl, n.0, (p, n.1.0, h, n.1.1, λ a. d (subst (λ m. AreDistinct (f p.type_id.0) (f m.0)) n.1.2 a)))
-
-  pub set_order_at : IsSetFault f k.0 tag ps (SetOutOfOrder k i j)
-  set_order_at = (refl, n.0, (p, n.1.0, h, n.1.1, n.1.3))
 
 module _ (own : ℕ → Option Tag) (f : ℕ → Shape) (types : List «Type») where
   -- Types keep the rules if CHOICEs and the others do.

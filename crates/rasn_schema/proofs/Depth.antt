@@ -7,19 +7,21 @@ use Rattle.rasn_types.specs.declared.types.codec.Codec.{Codec}
 use Rattle.rasn_types.specs.declared.types.tag.Tag.{Tag}
 use Rattle.rasn_types.specs.Tags.{IsStrict, form}
 use Rattle.rasn_types.specs.Shapes.Parts.{none}
-use Rattle.rasn_types.specs.Shapes.{Tree, chosen, absent, Shape, choice, open_choice, own, IsFirst, Key, own_tag, first_tags, presences, Presence, required, addition, optional_by, default_by, Sought, one_tag, sought_by, sought_in}
-use Rattle.rasn_types.specs.Readings.{Reading, ReadsContents, definite_form, indefinite_form, ReadsMany, ReadsFrom, ReadsOptional, IsNoDefault, ReadsPart, ReadsInOrder, AllMissing, presences_in, HasRequired, ReadsSeq, ReadsChoice, ByPart, ReadsSet}
-use Rattle.rasn_types.specs.Grammar.{Reads, parts_of, ReadsList, ReadsSetOf}
+use Rattle.rasn_types.specs.Shapes.{Tree, chosen, absent, Shape, Parts, choice, open_choice, count, own, IsFirst, IsFirstOf, Key, own_tag, first_tags, presences, Presence, required, addition, optional_by, default_by, Sought, one_tag, sought_by, sought_in}
+use Rattle.rasn_types.specs.Readings.{Reading, ReadsContents, definite_form, indefinite_form, ReadsMany, ReadsFrom, ReadsOptional, IsNoDefault, ReadsPart, ReadsInOrder, AllMissing, presences_in, HasRequired, ReadsSeq, ReadsChoice, ByPart, AllOf, ReadsSortedSet}
+use Rattle.rasn_types.specs.Grammar.{Reads, parts_of, ReadsList, ReadsSetOf, ReadsOpenChoice}
 use Rattle.rasn_schema.specs.declared.types.«Type».{«Type»}
 use Rattle.rasn_schema.specs.declared.types.«Type».TheVariants.{Leaf, Enumerated, Any, Tagged, Choice, Sequence, Set, SequenceOf, SetOf, Unknown}
 use Rattle.rasn_schema.specs.declared.types.Component.{Component}
 use Rattle.rasn_schema.specs.declared.types.Alternative.{Alternative}
-use Rattle.rasn_schema.specs.Shapes.{found_by, type_by, alternatives_by, is_open, ends_open, choice_among, components_by, key_of, presence_by, shape_of_type}
+use Rattle.rasn_schema.specs.Shapes.{found_by, type_by, alternatives_by, is_open, ends_open, choice_among, is_unknown, ends_unknown, known_parts, components_by, key_of, presence_by, shape_of_type}
 use Rattle.rasn_schema.specs.Schemas.{IsSchema}
 use Rattle.rasn_schema.specs.Depth.{AreDeep, AreReadAlike}
 use Rattle.rasn_schema.proofs.Presences.{missing_by, no_default_by, required_by}
 use Rattle.rasn_schema.proofs.TypeShapes.{own_is}
-use Rattle.rasn_schema.proofs.OpenEnds.{among, among_open, among_named, key_as, count_is, but_last, before_is, open_alike}
+use Rattle.rasn_schema.proofs.OpenEnds.{among, among_open, among_named, key_as, count_is, before_is, open_alike}
+use Rattle.rasn_schema.proofs.Lists.{but_last}
+use Rattle.rasn_schema.proofs.UnknownEnds.{unknown_alike, known_of, known_is}
 use Rattle.rasn_schema.proofs.Schemas.{AreBefore, IsBehindOwn, firsts_before, all_before, settled, schema_readable}
 
 -- Each reading by the one is a reading by the other.
@@ -88,6 +90,7 @@ part_moved (default_by key d) s u b reads rule closing input t rest h =
 record Follows (f g : ℕ → Shape) (rule : Codec) (depth : ℕ) (k : ℕ) : Type 0 where
   keys : key_of (f k) ≡ key_of (g k)
   opens : is_open (f k) ≡ is_open (g k)
+  unknowns : is_unknown (f k) ≡ is_unknown (g k)
   begins : Begins (f k) (g k)
   reads : (closing : Bool) → IsIn (Reads rule (f k) depth closing) (Reads rule (g k) depth closing)
 
@@ -139,15 +142,51 @@ module _ (f g : ℕ → Shape) (rule : Codec) (depth : ℕ) (closing : Bool) (h 
       inl (u, e, next, a, (h k).begins.firsts next b, (h k).reads closing input u rest r, λ z. no_default_by (key_of (f k)) (key_of (g k)) p.presence u (s z))
   component_in (p ∷ ps) n input t rest (inr r) = inr (component_in ps (suc n) input t rest r)
 
-  set_in : (ps : List Component) → IsIn (ReadsSet rule (presences (components_by f ps)) (ReadsChoice rule 0 (parts_of rule (components_by f ps) depth closing)) closing) (ReadsSet rule (presences (components_by g ps)) (ReadsChoice rule 0 (parts_of rule (components_by g ps) depth closing)) closing)
-  set_in ps input t rest (readings, ts, e, m, b, o) = (
+  -- ---- a SET, whose last component may be unknown values
+
+  firsts_back : (ps : List Component) (n : Tag) → IsFirstOf (components_by g ps) n → IsFirstOf (components_by f ps) n
+  firsts_back [] n a = a
+  firsts_back (p ∷ ps) n (inl a) = inl ((h p.type_id.0).begins.back n a)
+  firsts_back (p ∷ ps) n (inr a) = inr (firsts_back ps n a)
+
+  count_alike : (ps : List Component) → count (components_by f ps) ≡ count (components_by g ps)
+  count_alike [] = refl
+  count_alike (p ∷ ps) = ap suc (count_alike ps)
+
+  unknown_end : (ps : List Component) → ends_unknown (components_by f ps) ≡ ends_unknown (components_by g ps)
+  unknown_end [] = refl
+  unknown_end (p ∷ []) = (h p.type_id.0).unknowns
+  unknown_end (p ∷ (q ∷ ps)) = unknown_end (q ∷ ps)
+
+  -- one component, known or unknown, and the contents
+  abbrev OneOf : Parts → Reading Tree
+  OneOf ps = ReadsOpenChoice rule (IsFirstOf ps) (count ps) (ReadsChoice rule 0 (parts_of rule ps depth closing))
+
+  abbrev SetContents : Bool → Parts → Reading Tree
+  SetContents extensible ps = ReadsSortedSet rule extensible (presences ps) (count ps) (OneOf ps) closing
+
+  one_in : (ps : List Component) → IsIn (OneOf (components_by f ps)) (OneOf (components_by g ps))
+  one_in ps input t rest (inl r) = inl (component_in ps 0 input t rest r)
+  one_in ps input t rest (inr (u, e, next, n, other, r)) = inr (u, e ∙ ap (λ m. chosen m u) (count_alike ps), next, n, (λ q. other (firsts_back ps next q)), r)
+
+  known_in : (extensible : Bool) (ps : List Component) → IsIn (SetContents extensible (components_by f ps)) (SetContents extensible (components_by g ps))
+  known_in extensible ps input t rest (readings, ts, us, e, m, b, a, o) = (
     readings,
     ts,
+    us,
     e,
-    many_in _ _ (component_in ps 0) closing input readings rest m,
+    many_in _ _ (one_in ps) closing input readings rest m,
     by_part f g rule depth closing ps 0 readings ts b,
-    (λ s. let (bs, p, q) = o s in (bs, from_in _ _ (component_in ps 0) input readings rest bs p, q)),
+    subst (λ k. AllOf k readings us) (count_alike ps) a,
+    (λ s. let (bs, p, q) = o s in (bs, from_in _ _ (one_in ps) input readings rest bs p, q)),
   )
+
+  set_in : (ps : List Component) → IsIn (SetContents (ends_unknown (components_by f ps)) (known_parts (components_by f ps))) (SetContents (ends_unknown (components_by g ps)) (known_parts (components_by g ps)))
+  set_in ps input t rest r =
+      let b = ends_unknown (components_by f ps) in
+      let named = subst (λ qs. SetContents b qs input t rest) (known_is f ps b refl) r in
+      let moved = subst (λ x. SetContents x (components_by g (known_of b ps)) input t rest) (unknown_end ps) (known_in b (known_of b ps) input t rest named) in
+      subst (λ qs. SetContents (ends_unknown (components_by g ps)) qs input t rest) (sym (known_is g ps b (sym (unknown_end ps)))) moved
 
 lower_but_last : (id : ℕ) (ks : List Alternative) → AreBefore id ks → AreBefore id (but_last ks)
 lower_but_last id [] b = b
@@ -247,6 +286,7 @@ module _ (types : List «Type») (w : IsSchema types) (rule : Codec) where
   none_follows i j depth k e = record {
     keys = sym (ap key_of (absent_at i k e)) ∙ ap key_of (absent_at j k e);
     opens = sym (ap is_open (absent_at i k e)) ∙ ap is_open (absent_at j k e);
+    unknowns = sym (ap is_unknown (absent_at i k e)) ∙ ap is_unknown (absent_at j k e);
     begins = record {
       owns = sym (ap own (absent_at i k e)) ∙ ap own (absent_at j k e);
       firsts = λ n a. subst (λ s. IsFirst s n) (sym (absent_at i k e) ∙ absent_at j k e) a;
@@ -293,6 +333,7 @@ module _ (types : List «Type») (w : IsSchema types) (rule : Codec) where
     one_further = record {
       keys = keys_alike;
       opens = open_alike types i j k;
+      unknowns = unknown_alike types i j k;
       begins = record {
         owns = own_alike (suc i) (suc j) k;
         firsts = firsts_alike (suc i) j k (omega (arith, b));

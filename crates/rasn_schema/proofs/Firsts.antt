@@ -1,20 +1,15 @@
 -- What holds of all tags with which a type begins.
-use Rattle.std.proofs.Common.{◌≡◌, ℕ, suc, inl, inr, Bool, true, false, not, List, [], ◌∷◌, Some, refl, sym, subst, arith}
+use Rattle.std.proofs.Common.{◌≡◌, ℕ, suc, inl, inr, Bool, true, false, not, List, [], ◌∷◌, Some, refl, sym, subst}
 use Rattle.std.specs.Prelude.{slice_get}
 use Rattle.rasn_types.specs.declared.types.tag.Tag.{Tag}
-use Rattle.rasn_types.specs.Tags.{IsTagBelow}
 use Rattle.rasn_types.specs.Shapes.{Shape, Parts, IsFirst, IsFirstOf}
 use Rattle.rasn_types.specs.Truth.{IsWhether}
-use Rattle.rasn_schema.specs.declared.first_tags.FirstTags.TheVariants.{Nothing, One, Every, Of}
+use Rattle.rasn_schema.specs.declared.first_tags.FirstTags.TheVariants.{Nothing, One, Of}
 use Rattle.rasn_schema.specs.declared.types.Alternative.{Alternative}
 use Rattle.rasn_schema.specs.Shapes.{alternatives_by}
 use Rattle.rasn_schema.proofs.Alternatives.{first_of_all, first_of_none}
 use Rattle.rasn_schema.specs.FirstTags.{EachFirst, EachFirstOf, AreFirstTags}
 use Rattle.std.proofs.Common.{Bor}
-
-pub not_below : (n : Tag) → IsTagBelow n n → ⊥
-not_below n (inl h) = omega arith
-not_below n (inr h) = omega (arith, h.1)
 
 pub is_not : (b : Bool) (P : Type 0) → IsWhether b P → IsWhether (not b) (P → ⊥)
 is_not true P h = λ n. n h
@@ -30,9 +25,6 @@ module _ (f : ℕ → Shape) (s : Shape) (Q : Tag → Type 0) where
 
   pub each_one : (t : Tag) (b : Bool) → AreFirstTags f s (One t) → IsWhether b (Q t) → IsWhether b (EachFirst s Q)
   each_one t b h w = whether_by b (Q t) (EachFirst s Q) (λ q n k. subst Q (sym (h.1 n k)) q) (λ e. e t h.0) w
-
-  pub each_every : (b : Bool) → AreFirstTags f s Every → IsWhether b ((n : Tag) → Q n) → IsWhether b (EachFirst s Q)
-  each_every b h w = whether_by b ((n : Tag) → Q n) (EachFirst s Q) (λ q n k. q n) (λ e n. e n (h n)) w
 
   pub each_of : (ks : Bor (List Alternative)) (b : Bool) → AreFirstTags f s (Of ks) → IsWhether b (EachFirstOf (alternatives_by f ks.now) Q) → IsWhether b (EachFirst s Q)
   each_of ks b h w = whether_by b (EachFirstOf (alternatives_by f ks.now) Q) (EachFirst s Q) (λ q n k. q n (h.0 n k)) (λ e n k. e n (h.1 n k)) w
@@ -62,7 +54,3 @@ module _ (f : ℕ → Shape) where
 
   pub none_of : (ks : List Alternative) → ((k : ℕ) (a : Alternative) → Some a ≡ slice_get ks k → HasFirst (f a.type_id.0) → ⊥) → HasFirstOf (alternatives_by f ks) → ⊥
   none_of ks n h = first_of_none f h.0 ks (λ k a e g. n k a e (h.0, g)) h.1
-
-pub every_before : (s : Shape) (b : Bool) → IsWhether b (HasFirst s) → IsWhether (not b) ((m : Tag) → EachFirst s (λ n. IsTagBelow m n))
-every_before s true h = λ k. not_below h.0 (k h.0 h.0 h.1)
-every_before s false h = λ m n k. absurd (h (n, k))

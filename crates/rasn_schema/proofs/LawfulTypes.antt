@@ -1,21 +1,19 @@
 -- Lawful types.
-use Rattle.std.proofs.Common.{◌≡◌, ◌≢◌, inl, inr, ℕ, zero, suc, Bool, true, false, List, [], ◌∷◌, length, Option, Some, None, refl, ap, subst}
-use Rattle.std.specs.Prelude.{slice_get}
+use Rattle.std.proofs.Common.{◌≡◌, ◌≢◌, inl, inr, ℕ, zero, suc, Bool, true, false, List, [], ◌∷◌, length, Option, Some, None, refl, ap, ◌∙◌, subst}
 use Rattle.rasn_types.specs.declared.types.tag.Tag.{Tag}
-use Rattle.rasn_types.specs.Tags.{eoc, is_eoc, IsTagBelow}
+use Rattle.rasn_types.specs.Tags.{eoc, is_eoc}
 use Rattle.rasn_types.specs.Shapes.{Shape, any, choice, unknown, looked_for, IsFirstOf, IsAlwaysPresent, Key, required, addition}
 use Rattle.rasn_types.specs.Shapes.Parts.{none}
-use Rattle.rasn_types.specs.Lawful.{IsLawful, HasTag, MayBeLeftOut, AreLawfulInOrder, AreLawfulByTag}
+use Rattle.rasn_types.specs.Lawful.{IsLawful, HasTag, MayBeLeftOut, AreLawfulInOrder, AreComponents}
 use Rattle.rasn_schema.specs.declared.types.«Type».{«Type»}
-use Rattle.rasn_schema.specs.declared.types.«Type».TheVariants.{Leaf, Enumerated, Any, Tagged, Choice, Sequence, Set, SequenceOf, SetOf, Unknown}
 use Rattle.rasn_schema.specs.declared.types.Component.{Component}
 use Rattle.rasn_schema.specs.declared.types.Alternative.{Alternative}
-use Rattle.rasn_schema.specs.Shapes.{nothing, found_by, alternatives_by, components_by, key_of, presence_by, tag_at, shape_of_type, IsReadable}
+use Rattle.rasn_schema.specs.Shapes.{nothing, alternatives_by, components_by, key_of, presence_by, is_unknown, tag_at, shape_of_type, IsReadable}
 use Rattle.rasn_schema.specs.declared.types.Presence.{Presence}
 use Rattle.rasn_schema.specs.declared.types.Presence.TheVariants.{Required, Optional, Addition, Default}
-use Rattle.rasn_schema.specs.FirstTags.{EachFirst, EachFirstOf}
+use Rattle.rasn_schema.specs.FirstTags.{EachFirst}
 use Rattle.rasn_schema.specs.Schemas.{IsUnknown, IsRequired, begin_at}
-use Rattle.rasn_schema.proofs.OpenEnds.{among_known}
+use Rattle.rasn_schema.proofs.UnknownEnds.{unknown_alike}
 
 -- ---- values are always present
 
@@ -32,24 +30,11 @@ nothing_known : (tag : Option Tag) → nothing tag ≡ unknown → ⊥
 nothing_known None e = cc
 nothing_known (Some tag) e = cc
 
-found_unknown : (f g : ℕ → Shape) (o : Option «Type») → found_by f o ≡ unknown → IsUnknown (found_by g o)
-found_unknown f g None e = cc
-found_unknown f g (Some (Leaf kind tag c names)) e = cc
-found_unknown f g (Some (Enumerated tag ns)) e = cc
-found_unknown f g (Some (Any tag)) e = cc
-found_unknown f g (Some (Tagged tag k)) e = cc
-found_unknown f g (Some (Choice name ks)) e = absurd (among_known (alternatives_by f ks.items) e)
-found_unknown f g (Some (Sequence tag ps)) e = cc
-found_unknown f g (Some (Set name tag ps)) e = cc
-found_unknown f g (Some (SequenceOf tag k c)) e = cc
-found_unknown f g (Some (SetOf tag k c)) e = cc
-found_unknown f g (Some Unknown) e = tt
-
 -- At any depth a type is unknown values only if the check sees that.
 pub unknown_at : (types : List «Type») (i k : ℕ) → shape_of_type types i k ≡ unknown → IsUnknown (begin_at types k)
 unfolding shape_of_type
 unknown_at types zero k e = absurd (nothing_known (looked_for (tag_at types k)) e)
-unknown_at types (suc i) k e = found_unknown (shape_of_type types i) (shape_of_type types (length types)) (slice_get types k) e
+unknown_at types (suc i) k e = unknown_alike types (length types) i k ∙ ap is_unknown e
 
 -- ---- types that are too deep, or not there
 
@@ -127,21 +112,13 @@ module _ (f : ℕ → Shape) where
   none_in_order = tt
 
   -- of a SET
-  abbrev pub ByTag : List Component → Type 0
-  ByTag ps = AreLawfulByTag (components_by f ps)
+  abbrev pub OneComponent : Component → Type 0
+  OneComponent p = (presence_by (key_of (f p.type_id.0)) p.presence ≢ addition) × HasTag (f p.type_id.0) × IsAlwaysPresent (f p.type_id.0) × IsLawful (f p.type_id.0)
 
-  abbrev pub OneByTag : Component → List Component → Type 0
-  OneByTag p ps = (presence_by (key_of (f p.type_id.0)) p.presence ≢ addition) × HasTag (f p.type_id.0) × IsAlwaysPresent (f p.type_id.0) × IsLawful (f p.type_id.0)
-      × EachFirst (f p.type_id.0) (λ m. EachFirstOf (components_by f ps) (λ n. IsTagBelow m n))
-
-  pub cut_by_tag : (p : Component) (ps : List Component) → ByTag (p ∷ ps) → OneByTag p ps × ByTag ps
+  pub put_component : (p : Component) (ps : List Component) → OneComponent p → AreComponents (components_by f ps) → AreComponents (components_by f (p ∷ ps))
   unfolding IsLawful
-  cut_by_tag p ps h = ((h.0, h.1, h.2, h.3, λ m a n b. h.4 m n a b), h.5)
+  put_component p ps o h = (o.0, o.1, o.2, o.3, h)
 
-  pub put_by_tag : (p : Component) (ps : List Component) → OneByTag p ps → ByTag ps → ByTag (p ∷ ps)
+  pub no_components : AreComponents (components_by f [])
   unfolding IsLawful
-  put_by_tag p ps o h = (o.0, o.1, o.2, o.3, (λ m n a b. o.4 m a n b), h)
-
-  pub none_by_tag : ByTag []
-  unfolding IsLawful
-  none_by_tag = tt
+  no_components = tt

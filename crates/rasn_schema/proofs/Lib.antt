@@ -1,9 +1,10 @@
 pub mod Values
 pub mod TypeShapes
 pub mod Alternatives
-pub mod OpenEnds
 pub mod Lists
 pub mod Firsts
+pub mod OpenEnds
+pub mod UnknownEnds
 pub mod LawfulTypes
 pub mod Schemas
 pub mod Broken

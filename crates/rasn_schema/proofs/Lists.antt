@@ -49,3 +49,16 @@ read_at l i x h e = sym (slice_get_read l (length l) i x refl h e)
 pub not_empty : {X : Type 0} (l : List X) → false ≡ nat_eq (length l) 0 → l ≢ []
 not_empty [] h e = true≢false (sym h)
 not_empty (x ∷ l) h e = cc
+
+-- ---- all elements except the last
+
+abbrev pub but_last : {X : Type 0} → List X → List X
+but_last [] = []
+but_last (x ∷ []) = []
+but_last (x ∷ (y ∷ l)) = x ∷ but_last (y ∷ l)
+
+pub in_but_last : {X : Type 0} (l : List X) (i : ℕ) (x : X) → Some x ≡ slice_get (but_last l) i → (Some x ≡ slice_get l i) × (suc i < length l)
+in_but_last [] i x e = cc
+in_but_last (y ∷ []) i x e = cc
+in_but_last (y ∷ (z ∷ l)) zero x e = (e, omega arith)
+in_but_last (y ∷ (z ∷ l)) (suc i) x e = let h = in_but_last (z ∷ l) i x e in (h.0, omega (arith, h.1))

@@ -4,12 +4,12 @@ use Rattle.std.specs.Prelude.{if◌then◌else◌, slice_get}
 use Rattle.std.proofs.lemmas.Option.{slice_get_within}
 use Rattle.rasn_types.specs.declared.types.tag.Tag.{Tag}
 use Rattle.rasn_types.specs.Shapes.Parts.{none}
-use Rattle.rasn_types.specs.Shapes.{required, Shape, leaf, any, prefix, choice, open_choice, option, seq, set, list, set_of, unknown, Parts, part, count, own, looked_for, IsFirst, IsFirstOf}
+use Rattle.rasn_types.specs.Shapes.{required, Shape, leaf, any, prefix, choice, open_choice, option, seq, set, sorted_set, list, set_of, unknown, Parts, part, count, own, looked_for, IsFirst, IsFirstOf}
 use Rattle.rasn_types.specs.Lawful.{HasTag}
 use Rattle.rasn_types.specs.Truth.{IsWhether}
 use Rattle.rasn_schema.specs.declared.types.Alternative.{Alternative}
-use Rattle.rasn_schema.specs.Shapes.{key_of, IsByFirstTags, nothing, found_by, tag_at, shape_of_type, alternatives_by, is_open, ends_open, before_last, choice_among}
-use Rattle.rasn_schema.proofs.Lists.{some_is}
+use Rattle.rasn_schema.specs.Shapes.{key_of, IsByFirstTags, nothing, found_by, tag_at, shape_of_type, alternatives_by, is_open, ends_open, before_last, choice_among, is_unknown}
+use Rattle.rasn_schema.proofs.Lists.{some_is, but_last}
 use Rattle.rasn_schema.proofs.Firsts.{whether_by}
 use Rattle.rasn_schema.specs.declared.types.«Type».{«Type»}
 use Rattle.rasn_schema.specs.declared.types.«Type».TheVariants.{Leaf, Enumerated, Any, Tagged, Choice, Sequence, Set, SequenceOf, SetOf, Unknown}
@@ -41,6 +41,9 @@ among_not_open ps = among (λ s. is_open s ≡ false) ps (λ e. refl) (λ e. ref
 
 pub among_known : (ps : Parts) → choice_among ps ≡ unknown → ⊥
 among_known ps = among (λ s. s ≡ unknown → ⊥) ps (λ e f. cc) (λ e f. cc)
+
+pub among_not_unknown : (ps : Parts) → is_unknown (choice_among ps) ≡ false
+among_not_unknown ps = among (λ s. is_unknown s ≡ false) ps (λ e. refl) (λ e. refl)
 
 pub among_tag : (ps : Parts) → IsWhether (not (ends_open ps)) (HasTag (choice_among ps))
 among_tag ps = go (ends_open ps) refl
@@ -75,6 +78,7 @@ open_first (open_choice ps) n e = cc
 open_first (option tag s) n e = cc
 open_first (seq tag ps) n e = cc
 open_first (set tag ps) n e = cc
+open_first (sorted_set extensible tag ps) n e = cc
 open_first (list tag s c) n e = cc
 open_first (set_of tag s c) n e = cc
 open_first unknown n e = cc
@@ -94,17 +98,6 @@ pub first_told : (b : Bool) (ps : Parts) (n : Tag) → IsWhether b (IsFirstOf ps
 first_told b ps n w = whether_by b _ _ (first_among ps n) (first_of_among ps n) w
 
 -- ---- the last alternative, and those before it
-
-abbrev pub but_last : List Alternative → List Alternative
-but_last [] = []
-but_last (k ∷ []) = []
-but_last (k ∷ (m ∷ ks)) = k ∷ but_last (m ∷ ks)
-
-pub in_but_last : (ks : List Alternative) (i : ℕ) (a : Alternative) → Some a ≡ slice_get (but_last ks) i → (Some a ≡ slice_get ks i) × (suc i < length ks)
-in_but_last [] i a e = cc
-in_but_last (k ∷ []) i a e = cc
-in_but_last (k ∷ (m ∷ ks)) zero a e = (e, omega arith)
-in_but_last (k ∷ (m ∷ ks)) (suc i) a e = let h = in_but_last (m ∷ ks) i a e in (h.0, omega (arith, h.1))
 
 module _ (f : ℕ → Shape) where
   pub end_at : (ks : List Alternative) (i : ℕ) (a : Alternative) → Some a ≡ slice_get ks i → suc i ≡ length ks → is_open (f a.type_id.0) ≡ ends_open (alternatives_by f ks)

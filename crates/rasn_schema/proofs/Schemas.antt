@@ -1,25 +1,27 @@
 -- A schema's types are lawful, or unknown values, as deep as they are read.
-use Rattle.std.proofs.Common.{◌≡◌, ◌∙◌, ℕ, zero, suc, ◌<◌, ◌≤◌, inl, inr, Bool, true, false, List, [], ◌∷◌, length, Option, Some, None, refl, sym, subst, ◌⊎◌, true≢false, arith}
+use Rattle.std.proofs.Common.{◌≡◌, ◌≢◌, ◌∙◌, ℕ, zero, suc, ◌<◌, ◌≤◌, inl, inr, Bool, true, false, List, [], ◌∷◌, length, Option, Some, None, refl, sym, subst, ◌⊎◌, true≢false, arith}
 use Rattle.std.specs.Prelude.{slice_get}
 use Rattle.std.proofs.lemmas.Option.{slice_get_within}
 use Rattle.rasn_types.specs.declared.types.tag.Tag.{Tag}
-use Rattle.rasn_types.specs.Tags.{eoc, is_eoc, IsTagBelow}
+use Rattle.rasn_types.specs.Tags.{eoc, is_eoc}
 use Rattle.rasn_types.specs.Shapes.Parts.{none}
-use Rattle.rasn_types.specs.Shapes.{Shape, leaf, any, prefix, choice, open_choice, option, seq, set, list, set_of, unknown, part, own, looked_for, IsTagOf, IsFirst, IsFirstOf, IsAlwaysPresent, AreAlwaysPresent, Key, own_tag, first_tags, Presence, required, addition, optional_by, default_by}
-use Rattle.rasn_types.specs.Lawful.{IsLawful, HasTag, IsFirstBehind, MayBeLeftOut, IsDistinguished, IsRecognized, AreLawfulInOrder, AreLawfulByTag}
+use Rattle.rasn_types.specs.Shapes.{Shape, leaf, any, prefix, choice, open_choice, option, seq, set, sorted_set, list, set_of, unknown, part, own, looked_for, IsTagOf, IsFirst, IsFirstOf, IsAlwaysPresent, AreAlwaysPresent, Key, own_tag, first_tags, Presence, required, addition, optional_by, default_by}
+use Rattle.rasn_types.specs.Lawful.{IsLawful, HasTag, AreDistinguished, IsFirstBehind, MayBeLeftOut, IsDistinguished, IsRecognized, AreLawfulInOrder, AreComponents}
 use Rattle.rasn_schema.specs.declared.types.«Type».{«Type»}
 use Rattle.rasn_schema.specs.declared.types.«Type».TheVariants.{Leaf, Enumerated, Any, Tagged, Choice, Sequence, Set, SequenceOf, SetOf, Unknown}
 use Rattle.rasn_schema.specs.declared.types.Component.{Component}
 use Rattle.rasn_schema.specs.declared.types.Presence.{Presence as ComponentPresence}
 use Rattle.rasn_schema.specs.declared.types.Presence.TheVariants.{Required, Optional, Addition, Default}
 use Rattle.rasn_schema.specs.declared.types.Alternative.{Alternative}
-use Rattle.rasn_schema.specs.Shapes.{nothing, found_by, type_by, alternatives_by, is_open, ends_open, before_last, choice_among, components_by, key_of, presence_by, presence_of, tag_at, tag_found, shape_of_type, IsReadable}
+use Rattle.rasn_schema.specs.Shapes.{nothing, found_by, type_by, alternatives_by, is_open, ends_open, before_last, choice_among, is_unknown, ends_unknown, known_parts, components_by, key_of, presence_by, presence_of, tag_at, tag_found, shape_of_type, IsReadable}
 use Rattle.rasn_schema.specs.FirstTags.{EachFirst, EachFirstOf, IsAlwaysThere}
-use Rattle.rasn_schema.specs.Schemas.{IsUnknown, EndsUnknown, AreDistinct, AreLowerAndTagged, AreDistinctAlternatives, MayFollow, IsToldFrom, AreToldInOrder, AreTagged, AreInOrderOfTags, IsWellFormed, IsSchema, own_at, begin_at}
+use Rattle.rasn_schema.specs.Schemas.{IsUnknown, EndsUnknown, AreDistinct, AreLowerAndTagged, AreDistinctAlternatives, MayFollow, IsToldFrom, AreToldInOrder, AreTagged, AreDistinctComponents, IsWellFormed, IsSchema, own_at, begin_at}
 use Rattle.rasn_schema.proofs.Presences.{always_by, no_addition_by}
 use Rattle.rasn_schema.proofs.TypeShapes.{looked, own_is}
-use Rattle.rasn_schema.proofs.OpenEnds.{among, among_open, first_of_among, first_among, end_at, but_last, in_but_last, before_is, ends_alike, open_alike, open_settled}
-use Rattle.rasn_schema.proofs.LawfulTypes.{nothing_present, known, unknown_at, put_unknown, cut_lawful, none_lawful, open_lawful, put_alternative, put_in_order, put_by_tag, none_in_order, none_by_tag}
+use Rattle.rasn_schema.proofs.OpenEnds.{among, among_open, first_of_among, first_among, end_at, before_is, ends_alike, open_alike, open_settled}
+use Rattle.rasn_schema.proofs.Lists.{but_last, in_but_last}
+use Rattle.rasn_schema.proofs.UnknownEnds.{unknown_alike, known_of, known_is, in_known}
+use Rattle.rasn_schema.proofs.LawfulTypes.{nothing_present, known, unknown_at, put_unknown, cut_lawful, none_lawful, open_lawful, put_alternative, put_in_order, put_component, none_in_order, no_components}
 
 -- ---- how a type begins at one depth, and at another
 
@@ -134,6 +136,7 @@ tag_or_none (open_choice ps) = inr (λ h. h)
 tag_or_none (option tag s) = inl tt
 tag_or_none (seq tag ps) = inl tt
 tag_or_none (set tag ps) = inl tt
+tag_or_none (sorted_set extensible tag ps) = inl tt
 tag_or_none (list tag s c) = inl tt
 tag_or_none (set_of tag s c) = inl tt
 tag_or_none unknown = inr (λ h. h)
@@ -193,6 +196,12 @@ module _ (types : List «Type») (k : ℕ) (opens : is_open (begin_at types k) �
   unfolding shape_of_type
   none_if_cut zero e n a = cut_open n (shape_of_type types (length types)) (slice_get types k) opens a
   none_if_cut (suc i) e n a = absurd (true≢false (sym opens ∙ open_alike types (length types) i k ∙ e))
+
+-- Unknown values that aren't followed as far as those have a tag.
+tag_if_unknown : (types : List «Type») (k : ℕ) → is_unknown (begin_at types k) ≡ true → (i : ℕ) → is_unknown (shape_of_type types i k) ≡ false → HasTag (shape_of_type types i k)
+unfolding shape_of_type
+tag_if_unknown types k u zero e = nothing_has_tag (looked_for (tag_at types k))
+tag_if_unknown types k u (suc i) e = absurd (true≢false (sym u ∙ unknown_alike types (length types) i k ∙ e))
 
 -- ---- from indices to lists
 
@@ -352,6 +361,7 @@ module _ (types : List «Type») (i : ℕ) (w : IsSchema types) (readable : (k :
   choice_own (option tag s) e = cc
   choice_own (seq tag ps) e = cc
   choice_own (set tag ps) e = cc
+  choice_own (sorted_set extensible tag ps) e = cc
   choice_own (list tag s c) e = cc
   choice_own (set_of tag s c) e = cc
   choice_own unknown e = cc
@@ -421,16 +431,53 @@ module _ (types : List «Type») (i : ℕ) (w : IsSchema types) (readable : (k :
   in_order_lawful (p ∷ ps) t u = one_in_order p ps t u (readable p.type_id.0)
       (in_order_lawful ps (λ j m q r d e a f. t (suc j) (suc m) q r d e a (follow_later p ps j m f)) (λ j q e a. let h = u (suc j) q e a in (omega (arith, h.0), h.1)))
 
-  by_tag_lawful : (ps : List Component) → AreTagged (begin_at types) ps → AreInOrderOfTags (begin_at types) ps → AreLawfulByTag (components_by (shape_of_type types i) ps)
-  by_tag_lawful [] t d = none_by_tag (shape_of_type types i)
-  by_tag_lawful (p ∷ ps) t d = put_by_tag (shape_of_type types i) p ps (
-    no_addition_by (key_of (shape_of_type types i p.type_id.0)) p.presence (t 0 p refl).0,
-    has_tag_at types i p.type_id.0 (t 0 p refl).1,
-    (of_tagged p.type_id.0 (t 0 p refl).1).0,
-    (of_tagged p.type_id.0 (t 0 p refl).1).1,
-    λ m a. each_begins (shape_of_type types i) (IsTagBelow m) ps (λ j q e n b. d 0 (suc j) p q (omega arith) refl e m (firsts m p.type_id.0 a) n (firsts n q.type_id.0 b)),
+  -- ---- components of a SET that are no unknown values
+
+  module _ (ps : List Component) where
+    abbrev AreAllKnown : Type 0
+    AreAllKnown = (j : ℕ) (p : Component) → Some p ≡ slice_get ps j → (presence_of p.presence ≢ addition) × HasTag (shape_of_type types i p.type_id.0)
+
+    abbrev AreAllDistinct : Type 0
+    AreAllDistinct = (j m : ℕ) (p q : Component) → j < m → Some p ≡ slice_get ps j → Some q ≡ slice_get ps m → AreDistinct (shape_of_type types i p.type_id.0) (shape_of_type types i q.type_id.0)
+
+  components_lawful : (ps : List Component) → AreAllKnown ps → AreComponents (components_by (shape_of_type types i) ps)
+  components_lawful [] t = no_components (shape_of_type types i)
+  components_lawful (p ∷ ps) t =
+      let k = p.type_id.0 in
+      let h = t 0 p refl in
+      let l = tagged_known k h.1 in
+      put_component (shape_of_type types i) p ps (no_addition_by (key_of (shape_of_type types i k)) p.presence h.0, h.1, l.0, l.1) (components_lawful ps (λ j q e. t (suc j) q e))
+
+  components_distinguished : (ps : List Component) → AreAllDistinct ps → AreDistinguished (components_by (shape_of_type types i) ps)
+  components_distinguished [] d = tt
+  components_distinguished (p ∷ ps) d = (
+    λ n a b. each_begins (shape_of_type types i) (λ m. IsFirst (shape_of_type types i p.type_id.0) m → ⊥) ps (λ j q e m c x. d 0 (suc j) p q (omega arith) refl e m x c) n b a,
+    components_distinguished ps (λ j m q r l e g. d (suc j) (suc m) q r (omega (arith, l)) e g),
   )
-      (by_tag_lawful ps (λ j q e. t (suc j) q e) (λ j m q r l e g. d (suc j) (suc m) q r (omega (arith, l)) e g))
+
+  -- ---- a SET, whose last component may be unknown values
+
+  module _ (ps : List Component) (t : AreTagged (begin_at types) ps) (u : EndsUnknown (begin_at types) ps) (d : AreDistinctComponents (begin_at types) ps) where
+    known_tag : (j : ℕ) (p : Component) → Some p ≡ slice_get ps j → (suc j ≡ length ps → is_unknown (shape_of_type types i p.type_id.0) ≡ false) → HasTag (shape_of_type types i p.type_id.0)
+    known_tag j p e n = go (is_unknown (begin_at types p.type_id.0)) refl
+      where
+        go : (b : Bool) → is_unknown (begin_at types p.type_id.0) ≡ b → HasTag (shape_of_type types i p.type_id.0)
+        go true h = tag_if_unknown types p.type_id.0 h i (n (u j p e h).0)
+        go false h = has_tag_at types i p.type_id.0 ((t j p e).1 (λ k. true≢false (sym k ∙ h)))
+
+    set_by : (b : Bool) → ends_unknown (components_by (shape_of_type types i) ps) ≡ b
+        → AreComponents (known_parts (components_by (shape_of_type types i) ps)) × AreDistinguished (known_parts (components_by (shape_of_type types i) ps))
+    set_by b e = subst (λ qs. AreComponents qs × AreDistinguished qs) (sym (known_is (shape_of_type types i) ps b e)) (components_lawful (known_of b ps) tagged, components_distinguished (known_of b ps) distinct)
+      where
+        tagged : AreAllKnown (known_of b ps)
+        tagged j p g = let h = in_known (shape_of_type types i) ps b e j p g in ((t j p h.0).0, known_tag j p h.0 h.1)
+
+        distinct : AreAllDistinct (known_of b ps)
+        distinct j m p q l g h n x y =
+            d j m p q l (in_known (shape_of_type types i) ps b e j p g).0 (in_known (shape_of_type types i) ps b e m q h).0 n (firsts n p.type_id.0 x) (firsts n q.type_id.0 y)
+
+    set_lawful : AreComponents (known_parts (components_by (shape_of_type types i) ps)) × AreDistinguished (known_parts (components_by (shape_of_type types i) ps))
+    set_lawful = set_by (ends_unknown (components_by (shape_of_type types i) ps)) refl
 
   type_readable : (id : ℕ) (ty : «Type») → IsWellFormed (own_at types) (begin_at types) id ty → IsReadable (type_by (shape_of_type types i) ty)
   unfolding IsLawful
@@ -440,7 +487,7 @@ module _ (types : List «Type») (i : ℕ) (w : IsSchema types) (readable : (k :
   type_readable id (Tagged tag k) t = inl (tt, (t.0, (of_known k.0 t.2).0, (of_known k.0 t.2).1))
   type_readable id (Choice name ks) t = inl (choice_readable id ks.items t.1 t.2)
   type_readable id (Sequence tag ps) t = inl (tt, (t.0, in_order_lawful ps.items t.1 t.2))
-  type_readable id (Set name tag ps) t = inl (tt, (t.0, by_tag_lawful ps.items t.1 t.2))
+  type_readable id (Set name tag ps) t = inl (tt, (t.0, (set_lawful ps.items t.1 t.2 t.3).0, (set_lawful ps.items t.1 t.2 t.3).1))
   type_readable id (SequenceOf tag k c) t = inl (tt, (t.0, (of_known k.0 t.1).0, (of_known k.0 t.1).1))
   type_readable id (SetOf tag k c) t = inl (tt, (t.0, (of_known k.0 t.1).0, (of_known k.0 t.1).1))
   type_readable id Unknown t = inr refl

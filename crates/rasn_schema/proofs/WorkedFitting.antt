@@ -1,5 +1,5 @@
 -- Values and types that were worked out by hand.
-use Rattle.std.proofs.Common.{◌≡◌, ℕ, zero, suc, pos, List, [], ◌∷◌, Contains, inl, inr, refl, arith}
+use Rattle.std.proofs.Common.{◌≡◌, ◌⊎◌, Vec, String, Global, ℕ, zero, suc, pos, List, [], ◌∷◌, Contains, inl, inr, refl, sym, ap, subst, arith}
 use Rattle.std.proofs.lemmas.Int.{ints}
 use Rattle.rasn_types.specs.Tags.{eoc}
 use Rattle.rasn_types.specs.Shapes.{number}
@@ -8,8 +8,13 @@ use Rattle.rasn_schema.specs.declared.types.LeafKind.TheVariants.{Numeric}
 use Rattle.rasn_schema.specs.declared.types.«Type».{«Type»}
 use Rattle.rasn_schema.specs.declared.types.«Type».TheVariants.{Any}
 use Rattle.rasn_schema.specs.declared.value.Value.{Value, Null, Octets}
-use Rattle.rasn_schema.specs.Fitting.{OctetsFit, Fits}
-use Rattle.rasn_schema.specs.WorkedFitting.{WorkedFitting}
+use Rattle.rasn_schema.specs.declared.types.Presence.TheVariants.{Required}
+use Rattle.rasn_schema.specs.declared.types.Component.{Component}
+use Rattle.rasn_schema.specs.Shapes.{presence_of}
+use Rattle.rasn_schema.specs.Trees.{tree_of}
+use Rattle.rasn_schema.specs.Fitting.{OctetsFit, AreOctets, IsListOf, IsLeftOutAs, ComponentsFit, EachFits, Fits}
+use Rattle.rasn_schema.specs.WorkedFitting.{unknown_and_set, WorkedFitting}
+use Rattle.rasn_schema.proofs.ListsOf.{list_to, list_from}
 
 digits : OctetsFit Numeric (49 ∷ (32 ∷ []))
 digits zero d l = inl (omega arith, omega arith)
@@ -42,6 +47,24 @@ not_listed (suc (suc k), l, e) = omega (arith, l)
 nothing : (types : List «Type») (v : Value) → Fits types 0 0 v → ⊥
 unfolding Fits
 nothing types v h = h
+
+module _ (name : String Global) (ps : Vec Component Global) (c : Component) (v w : Value) (s : ps.items ≡ c ∷ []) (r : c.presence ≡ Required) (k : c.type_id.0 ≡ 0) (l : IsListOf (w ∷ []) v) where
+  abbrev Inner : ℕ → Value → Type 0
+  Inner j x = Fits (unknown_and_set name ps) 1 j x
+
+  unknown_in_a_set : (o : _) → IsListOf (Octets o ∷ []) w → Fits (unknown_and_set name ps) 2 1 v
+  unfolding Fits
+  unknown_in_a_set o m =
+      let inner : Inner 0 w = list_to (EachFits AreOctets) (Octets o ∷ []) w m (tt, tt) in
+      list_to (ComponentsFit Inner ps.items) (w ∷ []) v l (subst (λ qs. ComponentsFit Inner qs (w ∷ [])) (sym s) (inr (subst (λ j. Inner j w) (sym k) inner), tt))
+
+  only_octets_are_unknown : IsListOf (Null ∷ []) w → Fits (unknown_and_set name ps) 2 1 v → ⊥
+  unfolding Fits
+  only_octets_are_unknown m h = go (subst (λ qs. ComponentsFit Inner qs (w ∷ [])) s (list_from (ComponentsFit Inner ps.items) (w ∷ []) v l h)).0
+    where
+      go : IsLeftOutAs (presence_of c.presence) (tree_of w) ⊎ Inner c.type_id.0 w → ⊥
+      go (inl a) = subst (λ p. IsLeftOutAs p (tree_of w)) (ap presence_of r) a
+      go (inr a) = (list_from (EachFits AreOctets) (Null ∷ []) w m (subst (λ j. Inner j w) k a)).0
 
 six_is_not_five : number (pos 5) ≡ number (pos 6) → ⊥
 six_is_not_five e = cc
@@ -77,6 +100,8 @@ worked_fitting = record {
   not_each = λ h. let e = h.1.0 in cc;
   open_value = open_value;
   no_open_null = no_open_null;
+  unknown_in_a_set = λ name ps c v w o s r k l m. unknown_in_a_set name ps c v w s r k l o m;
+  only_octets_are_unknown = λ name ps c v w s r k l m h. only_octets_are_unknown name ps c v w s r k l m h;
   nothing_of_a_missing_type = missing;
   nothing_at_no_level = nothing;
 }

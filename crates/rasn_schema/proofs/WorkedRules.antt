@@ -1,22 +1,23 @@
 -- Types that were worked out by hand.
-use Rattle.std.proofs.Common.{◌≡◌, Vec, String, Global, ℕ, zero, suc, ◌<◌, true, [], ◌∷◌, Option, Some, None, inl, inr, refl, sym, ap, ◌∙◌, subst, arith}
+use Rattle.std.proofs.Common.{◌≡◌, ◌≢◌, Vec, String, Global, ℕ, zero, suc, ◌<◌, true, [], ◌∷◌, Option, Some, None, inl, inr, refl, sym, ap, ◌∙◌, subst, true≢false, arith}
 use Rattle.std.specs.Prelude.{slice_get}
 use Rattle.rasn_types.specs.declared.types.tag.Tag.{Tag}
-use Rattle.rasn_types.specs.Tags.{eoc, in_universal, IsTagBelow}
-use Rattle.rasn_types.specs.Shapes.{Shape, any, open_choice}
+use Rattle.rasn_types.specs.Tags.{eoc, in_universal}
+use Rattle.rasn_types.specs.Shapes.{Shape, any, unknown, open_choice, IsFirst, required, addition}
 use Rattle.rasn_types.specs.Shapes.Parts.{none as no_parts}
 use Rattle.rasn_types.specs.Lawful.{HasTag}
 use Rattle.rasn_schema.specs.declared.types.Alternative.{Alternative}
 use Rattle.rasn_schema.specs.declared.types.Component.{Component}
 use Rattle.rasn_schema.specs.declared.types.NamedNumber.{NamedNumber}
 use Rattle.rasn_schema.specs.declared.types.«Type».{«Type»}
-use Rattle.rasn_schema.specs.declared.types.«Type».TheVariants.{Any, Tagged, Choice}
+use Rattle.rasn_schema.specs.declared.types.«Type».TheVariants.{Any, Tagged, Choice, Set, Unknown}
 use Rattle.rasn_schema.specs.declared.error.SchemaError.TheVariants.{ReservedTag}
+use Rattle.rasn_schema.specs.declared.types.Presence.TheVariants.{Required}
 use Rattle.rasn_schema.specs.declared.value.Value.{Value}
-use Rattle.rasn_schema.specs.Shapes.{shape_of_type, is_open}
-use Rattle.rasn_schema.specs.Schemas.{IsPrefix, IsUnknown, AreLowerAndTagged, AreDistinctAlternatives, AreDistinctNumbers, MayFollow, AreToldInOrder, IsWellFormed, AreWellFormed, components_in, HasUnfitDefault, HaveFitDefaults, IsSchema, own_at, begin_at}
+use Rattle.rasn_schema.specs.Shapes.{shape_of_type, presence_of, is_open, is_unknown}
+use Rattle.rasn_schema.specs.Schemas.{IsPrefix, IsUnknown, IsRequired, IsTaggedOrUnknown, AreLowerAndTagged, AreDistinctAlternatives, AreDistinctNumbers, MayFollow, AreToldInOrder, EndsUnknown, AreTagged, AreDistinctComponents, IsWellFormed, AreWellFormed, components_in, IsDefaultWithout, HasUnfitDefault, HaveFitDefaults, IsSchema, own_at, begin_at}
 use Rattle.rasn_schema.specs.Faults.{IsFaultOf, SomeFault, IsFault}
-use Rattle.rasn_schema.specs.WorkedRules.{truth, after_open, WorkedRules}
+use Rattle.rasn_schema.specs.WorkedRules.{truth, after_open, before_set, WorkedRules}
 use Rattle.rasn_schema.proofs.Lists.{some_is}
 use Rattle.rasn_schema.proofs.Parts.{not_none}
 
@@ -24,13 +25,6 @@ use Rattle.rasn_schema.proofs.Parts.{not_none}
 
 one_is_not_five : in_universal 1 ≡ in_universal 5 → ⊥
 one_is_not_five e = let v : 1 ≡ 5 = ap (λ (t : Tag). t.value) e in omega (arith, v)
-
-five_is_not_below : IsTagBelow (in_universal 5) (in_universal 1) → ⊥
-five_is_not_below (inl l) = omega (arith, l)
-five_is_not_below (inr (e, l)) = omega (arith, l)
-
-one_is_below : (m n : Tag) → m ≡ in_universal 1 → n ≡ in_universal 5 → IsTagBelow m n
-one_is_below m n d e = subst (λ x. IsTagBelow x n) (sym d) (subst (IsTagBelow (in_universal 1)) (sym e) (inr (refl, omega arith)))
 
 -- ---- lists of one
 
@@ -42,6 +36,15 @@ of_one x y (suc i) e = absurd (not_none y None refl e)
 none_after : {X : Type 0} (x y : X) (i j : ℕ) → i < j → Some y ≡ slice_get (x ∷ []) j → ⊥
 none_after x y i zero l e = omega (arith, l)
 none_after x y i (suc j) l e = not_none y None refl e
+
+required_no_addition : required ≡ addition → ⊥
+required_no_addition e = cc
+
+no_addition : (p : Component) → p.presence ≡ Required → presence_of p.presence ≡ addition → ⊥
+no_addition p e g = required_no_addition (sym (ap presence_of e) ∙ g)
+
+no_default : (p : Component) → p.presence ≡ Required → (P : Value → Type 0) → IsDefaultWithout P p.presence → ⊥
+no_default p e P d = subst (IsDefaultWithout P) e d
 
 lower : (a : Alternative) → a.type_id.0 ≡ 0 → AreLowerAndTagged (λ k. truth) 1 (a ∷ [])
 lower a e i b at = (let f : b.type_id.0 ≡ a.type_id.0 = ap (λ (x : Alternative). x.type_id.0) (of_one a b i at) in omega (arith, e, f), λ n. absurd (n tt))
@@ -95,7 +98,7 @@ module _ (name : String Global) (ks : Vec Alternative Global) (a b : Alternative
 
   begin_tagged : HasTag (begin 1) × (IsUnknown (begin 0) → ⊥) × (IsPrefix (begin 0) → 0 < 1)
   unfolding shape_of_type
-  begin_tagged = (tt, (λ h. h), λ h. omega arith)
+  begin_tagged = (tt, (λ h. true≢false (sym h)), λ h. omega arith)
 
   extensible_formed : a.type_id.0 ≡ 1 → b.type_id.0 ≡ 0 → AreWellFormed (own_at (after_open (Choice name ks))) begin (after_open (Choice name ks))
   extensible_formed p q zero ty e = subst (IsWellFormed _ begin 0) (sym (some_is ty _ e)) tt
@@ -124,6 +127,86 @@ module _ (name : String Global) (ks : Vec Alternative Global) (a b : Alternative
       let l = subst (AreLowerAndTagged begin 2) s (w.0 2 (Choice name ks) refl).1 in
       let q = ((l 0 a refl).1 (λ t. subst HasTag (ap begin p ∙ begin_open) t)).0 in omega (arith, q)
 
+-- ---- a SET with unknown values at its end
+
+unknown_in_set : (p : Component) → p.presence ≡ Required → AreTagged (λ k. unknown) (p ∷ [])
+unknown_in_set p e i q at = (no_addition q (ap (λ (x : Component). x.presence) (of_one p q i at) ∙ e), λ n. absurd (n refl))
+
+module _ (p q r : Component) where
+  -- what holds of each of three components
+  of_three : (P : ℕ → Component → Type 0) → P 0 p → P 1 q → P 2 r → (i : ℕ) (x : Component) → Some x ≡ slice_get (p ∷ (q ∷ (r ∷ []))) i → P i x
+  of_three P a b c zero x e = subst (P 0) (sym (some_is x p e)) a
+  of_three P a b c (suc zero) x e = subst (P 1) (sym (some_is x q e)) b
+  of_three P a b c (suc (suc zero)) x e = subst (P 2) (sym (some_is x r e)) c
+  of_three P a b c (suc (suc (suc i))) x e = absurd (not_none x None refl e)
+
+  module _ (f : ℕ → Shape) (a : p.presence ≡ Required) (b : q.presence ≡ Required) (c : r.presence ≡ Required)
+      (m : f p.type_id.0 ≡ any (Some (in_universal 5))) (n : f q.type_id.0 ≡ any (Some (in_universal 1))) (u : f r.type_id.0 ≡ unknown) where
+    three_tagged : AreTagged f (p ∷ (q ∷ (r ∷ [])))
+    three_tagged = of_three (λ i x. (presence_of x.presence ≢ addition) × IsTaggedOrUnknown (f x.type_id.0))
+        (no_addition p a, λ k. subst HasTag (sym m) tt) (no_addition q b, λ k. subst HasTag (sym n) tt) (no_addition r c, λ k. absurd (k (ap is_unknown u)))
+
+    three_end : EndsUnknown f (p ∷ (q ∷ (r ∷ [])))
+    three_end = of_three (λ i x. IsUnknown (f x.type_id.0) → (suc i ≡ 3) × IsRequired x.presence)
+        (λ k. absurd (true≢false (sym k ∙ ap is_unknown m))) (λ k. absurd (true≢false (sym k ∙ ap is_unknown n))) (λ k. (refl, subst IsRequired (sym c) tt))
+
+    -- the last one has no first tags, and the first two have one each
+    three_distinct : AreDistinctComponents f (p ∷ (q ∷ (r ∷ [])))
+    three_distinct i zero x y l e g t h k = absurd (omega (arith, l))
+    three_distinct zero (suc zero) x y l e g t h k =
+        let v = subst (λ (z : Component). IsFirst (f z.type_id.0) t) (some_is x p e) h in
+        let w = subst (λ (z : Component). IsFirst (f z.type_id.0) t) (some_is y q g) k in
+        one_is_not_five (sym (subst (λ s. IsFirst s t) n w) ∙ subst (λ s. IsFirst s t) m v)
+    three_distinct (suc i) (suc zero) x y l e g t h k = absurd (omega (arith, l))
+    three_distinct i (suc (suc zero)) x y l e g t h k = subst (λ s. IsFirst s t) u (subst (λ (z : Component). IsFirst (f z.type_id.0) t) (some_is y r g) k)
+    three_distinct i (suc (suc (suc j))) x y l e g t h k = absurd (not_none y None refl g)
+
+seventeen : in_universal 17 ≡ eoc → ⊥
+seventeen e = let v : 17 ≡ 0 = ap (λ (t : Tag). t.value) e in omega (arith, v)
+
+module _ (name : String Global) (ps : Vec Component Global) where
+  abbrev set_begin : ℕ → Shape
+  set_begin k = begin_at (before_set name ps) k
+
+  begin_unknown : set_begin 0 ≡ unknown
+  unfolding shape_of_type
+  begin_unknown = refl
+
+  begin_five : set_begin 1 ≡ any (Some (in_universal 5))
+  unfolding shape_of_type
+  begin_five = refl
+
+  begin_one : set_begin 2 ≡ any (Some (in_universal 1))
+  unfolding shape_of_type
+  begin_one = refl
+
+  one_tag_twice : (p q : Component) → ps.items ≡ p ∷ (q ∷ []) → p.type_id.0 ≡ 1 → q.type_id.0 ≡ 1 → IsSchema (before_set name ps) → ⊥
+  one_tag_twice p q s i j w =
+      let d = subst (AreDistinctComponents set_begin) s (w.0 3 (Set name (in_universal 17) ps) refl).3 in
+      d 0 1 p q (omega arith) refl refl (in_universal 5) (subst (λ t. IsFirst t (in_universal 5)) (sym (ap set_begin i ∙ begin_five)) refl) (subst (λ t. IsFirst t (in_universal 5)) (sym (ap set_begin j ∙ begin_five)) refl)
+
+  module _ (p q r : Component) (s : ps.items ≡ p ∷ (q ∷ (r ∷ []))) (a : p.presence ≡ Required) (b : q.presence ≡ Required) (c : r.presence ≡ Required) where
+    set_formed : p.type_id.0 ≡ 1 → q.type_id.0 ≡ 2 → r.type_id.0 ≡ 0 → AreWellFormed (own_at (before_set name ps)) set_begin (before_set name ps)
+    set_formed i j k zero ty e = subst (IsWellFormed _ set_begin 0) (sym (some_is ty _ e)) tt
+    set_formed i j k (suc zero) ty e = subst (IsWellFormed _ set_begin 1) (sym (some_is ty _ e)) tt
+    set_formed i j k (suc (suc zero)) ty e = subst (IsWellFormed _ set_begin 2) (sym (some_is ty _ e)) tt
+    set_formed i j k (suc (suc (suc zero))) ty e = subst (IsWellFormed _ set_begin 3) (sym (some_is ty _ e)) (
+      seventeen,
+      subst (AreTagged set_begin) (sym s) (three_tagged p q r set_begin a b c (ap set_begin i ∙ begin_five) (ap set_begin j ∙ begin_one) (ap set_begin k ∙ begin_unknown)),
+      subst (EndsUnknown set_begin) (sym s) (three_end p q r set_begin a b c (ap set_begin i ∙ begin_five) (ap set_begin j ∙ begin_one) (ap set_begin k ∙ begin_unknown)),
+      subst (AreDistinctComponents set_begin) (sym s) (three_distinct p q r set_begin a b c (ap set_begin i ∙ begin_five) (ap set_begin j ∙ begin_one) (ap set_begin k ∙ begin_unknown)),
+    )
+    set_formed i j k (suc (suc (suc (suc m)))) ty e = absurd (not_none ty None refl e)
+
+    set_defaults : HaveFitDefaults (before_set name ps)
+    set_defaults zero ty e i h = no_components _ Unknown ty i refl e h
+    set_defaults (suc zero) ty e i h = no_components _ (Any (in_universal 5)) ty i refl e h
+    set_defaults (suc (suc zero)) ty e i h = no_components _ (Any (in_universal 1)) ty i refl e h
+    set_defaults (suc (suc (suc zero))) ty e i (x, at, d) =
+        let g : Some x ≡ slice_get (p ∷ (q ∷ (r ∷ []))) i = at ∙ ap (λ l. slice_get l i) (ap components_in (some_is ty (Set name (in_universal 17) ps) e) ∙ s) in
+        no_default x (of_three p q r (λ j y. y.presence ≡ Required) a b c i x g) _ d
+    set_defaults (suc (suc (suc (suc m)))) ty e i h = absurd (not_none ty None refl e)
+
 -- ---- schemas
 
 well_formed : (own : ℕ → Option Tag) (f : ℕ → Shape) → AreWellFormed own f (Any eoc ∷ [])
@@ -146,8 +229,6 @@ pub worked_rules : WorkedRules
 worked_rules = record {
   distinct = λ n a b. one_is_not_five (sym a ∙ b);
   not_distinct = λ h. h (in_universal 1) refl refl;
-  before = λ m a n b. one_is_below m n a b;
-  not_before = λ h. five_is_not_below (h (in_universal 5) refl (in_universal 1) refl);
   tagged = tt;
   not_tagged = λ h. h;
   lower_and_tagged = lower;
@@ -170,6 +251,13 @@ worked_rules = record {
   not_told = λ h. h refl;
   one_component = one_component;
   components_clash = λ p q n h. h 0 1 p q refl refl n (next p q) refl;
+  extensible_shape = λ tag. refl;
+  closed_shape = λ tag. refl;
+  unknown_in_set = unknown_in_set;
+  untagged_in_set = λ p h. (h 0 p refl).1 (λ u. true≢false (sym u));
+  addition_in_set = λ p e h. (h 0 p refl).0 (ap presence_of e);
+  not_unknown_first = λ p q h. let l = (h 0 p refl refl).0 in omega (arith, l);
+  set_clash = λ p q h. h 0 1 p q (omega arith) refl refl (in_universal 1) refl refl;
   first_tag = λ f. (refl, λ n h. h);
   not_no_tag = λ f h. h (in_universal 1) refl;
   deep = omega arith;
@@ -177,6 +265,8 @@ worked_rules = record {
   schema = (well_formed _ _, λ k ty e i h. fit_defaults _ ty k i e h);
   extensible = λ name ks a b s p q. (extensible_formed name ks a b s p q, extensible_defaults name ks a b s);
   not_open_first = λ name ks a b s p w. not_open_first name ks a b s p w;
+  extensible_set = λ name ps p q r s a b c i j k. (set_formed name ps p q r s a b c i j k, set_defaults name ps p q r s a b c);
+  no_set_with_one_tag_twice = one_tag_twice;
   no_schema = λ h. (h.0 0 (Tagged eoc (record { 0 = 0 })) refl).0 refl;
   fault = inl (0, Tagged eoc (record { 0 = 0 }), refl, (refl, refl));
   no_fault = no_fault_at_all;

@@ -12,11 +12,11 @@ use Rattle.rasn_schema.specs.declared.types.LeafKind.{LeafKind}
 use Rattle.rasn_schema.specs.declared.types.«Type».{«Type»}
 use Rattle.rasn_schema.specs.declared.types.«Type».TheVariants.{Leaf, Enumerated, Any, Tagged, Choice, Sequence, Set, SequenceOf, SetOf, Unknown}
 use Rattle.rasn_schema.specs.declared.error.SchemaError.{SchemaError}
-use Rattle.rasn_schema.specs.declared.error.SchemaError.TheVariants.{ReservedTag, ConstructedTag, LateInner, NumbersClash, NoNumbers, NoAlternatives, LateAlternative, UntaggedAlternative, AlternativesClash, ComponentsClash, UntaggedComponent, AdditionInSet, UntaggedInSet, SetClash, SetOutOfOrder, UnfitDefault, MisplacedUnknown}
+use Rattle.rasn_schema.specs.declared.error.SchemaError.TheVariants.{ReservedTag, ConstructedTag, LateInner, NumbersClash, NoNumbers, NoAlternatives, LateAlternative, UntaggedAlternative, AlternativesClash, ComponentsClash, UntaggedComponent, AdditionInSet, UntaggedInSet, SetClash, UnfitDefault, MisplacedUnknown}
 use Rattle.rasn_schema.specs.Shapes.{presence_of, kind_of}
 use Rattle.rasn_schema.specs.FirstTags.{IsAlwaysThere}
 use Rattle.rasn_schema.specs.Fitting.{Fits}
-use Rattle.rasn_schema.specs.Schemas.{IsPrefix, IsUnknown, IsRequired, AreDistinct, IsTaggedOrOpen, IsBefore, MayFollow, IsRecognizable, IsToldFrom, HasUnfitDefault, own_at, begin_at}
+use Rattle.rasn_schema.specs.Schemas.{IsPrefix, IsUnknown, IsRequired, IsTaggedOrUnknown, AreDistinct, IsTaggedOrOpen, MayFollow, IsRecognizable, IsToldFrom, HasUnfitDefault, own_at, begin_at}
 
 -- The tag is universal 0, or the elements of the list are unknown values.
 abbrev pub IsListFault : (ℕ → Shape) → ℕ → Tag → ℕ → SchemaError → Type 0
@@ -51,23 +51,27 @@ IsAlternativesFault f id ks (UntaggedAlternative k i) = (k.0 ≡ id) × ((a : Al
 IsAlternativesFault f id ks (AlternativesClash k i j) = (k.0 ≡ id) × (i < j) × ((a b : Alternative) × (Some a ≡ slice_get ks i) × (Some b ≡ slice_get ks j) × HasTag (f b.type_id.0) × (AreDistinct (f a.type_id.0) (f b.type_id.0) → ⊥))
 IsAlternativesFault f id ks _ = ⊥
 
--- Component i is unknown values, and isn't the last or may be absent; or it may be absent, and isn't distinguished from component j, which may follow then; or no tag tells that it follows, and it isn't the last.
+-- Component i is unknown values, and isn't the last or may be absent.
+abbrev pub IsMisplaced : (ℕ → Shape) → List Component → ℕ → Type 0
+IsMisplaced f ps i = (p : Component) × (Some p ≡ slice_get ps i) × ((IsUnknown (f p.type_id.0) → (suc i ≡ length ps) × IsRequired p.presence) → ⊥)
+
+-- Component i is misplaced unknown values; or it may be absent, and isn't distinguished from component j, which may follow then; or no tag tells that it follows, and it isn't the last.
 abbrev pub IsSequenceFault : (ℕ → Option Tag) → (ℕ → Shape) → ℕ → Tag → List Component → SchemaError → Type 0
 IsSequenceFault own f id tag ps (ReservedTag k) = (k.0 ≡ id) × (tag ≡ eoc)
 IsSequenceFault own f id tag ps (ComponentsClash k i j) = (k.0 ≡ id) × MayFollow ps i j × ((p q : Component) × (Some p ≡ slice_get ps i) × (Some q ≡ slice_get ps j)
     × (IsAlwaysThere (presence_of p.presence) → ⊥) × (IsToldFrom (own p.type_id.0) (f p.type_id.0) (f q.type_id.0) → ⊥))
 IsSequenceFault own f id tag ps (UntaggedComponent k i) = (k.0 ≡ id) × (i + 1 < length ps) × ((p : Component) × (Some p ≡ slice_get ps i) × (IsAlwaysThere (presence_of p.presence) → ⊥) × (own p.type_id.0 ≡ None)
     × (IsRecognizable (f p.type_id.0) → ⊥))
-IsSequenceFault own f id tag ps (MisplacedUnknown k i) = (k.0 ≡ id) × ((p : Component) × (Some p ≡ slice_get ps i) × ((IsUnknown (f p.type_id.0) → (suc i ≡ length ps) × IsRequired p.presence) → ⊥))
+IsSequenceFault own f id tag ps (MisplacedUnknown k i) = (k.0 ≡ id) × IsMisplaced f ps i
 IsSequenceFault own f id tag ps _ = ⊥
 
--- Components i and j of a SET, which is after it, clash or aren't in order; or component i breaks another rule.
+-- Components i and j of a SET, which is after it, may begin with the same tag; or component i breaks another rule.
 abbrev pub IsSetFault : (ℕ → Shape) → ℕ → Tag → List Component → SchemaError → Type 0
 IsSetFault f id tag ps (ReservedTag k) = (k.0 ≡ id) × (tag ≡ eoc)
 IsSetFault f id tag ps (AdditionInSet k i) = (k.0 ≡ id) × ((p : Component) × (Some p ≡ slice_get ps i) × (presence_of p.presence ≡ addition))
-IsSetFault f id tag ps (UntaggedInSet k i) = (k.0 ≡ id) × ((p : Component) × (Some p ≡ slice_get ps i) × (HasTag (f p.type_id.0) → ⊥))
+IsSetFault f id tag ps (UntaggedInSet k i) = (k.0 ≡ id) × ((p : Component) × (Some p ≡ slice_get ps i) × (IsTaggedOrUnknown (f p.type_id.0) → ⊥))
 IsSetFault f id tag ps (SetClash k i j) = (k.0 ≡ id) × (i < j) × ((p q : Component) × (Some p ≡ slice_get ps i) × (Some q ≡ slice_get ps j) × (AreDistinct (f p.type_id.0) (f q.type_id.0) → ⊥))
-IsSetFault f id tag ps (SetOutOfOrder k i j) = (k.0 ≡ id) × (i < j) × ((p q : Component) × (Some p ≡ slice_get ps i) × (Some q ≡ slice_get ps j) × (IsBefore (f p.type_id.0) (f q.type_id.0) → ⊥))
+IsSetFault f id tag ps (MisplacedUnknown k i) = (k.0 ≡ id) × IsMisplaced f ps i
 IsSetFault f id tag ps _ = ⊥
 
 -- The error names a rule that the type with number id breaks.

@@ -1,15 +1,12 @@
 -- That types are a schema has at most one proof.
-use Rattle.std.specs.Prelude.{◌≡◌, ℕ, ◌<◌, ◌⊎◌, List, [], Option, Some, None}
+use Rattle.std.specs.Prelude.{◌≡◌, ℕ, List, [], Option, Some, None}
 use Rattle.std.specs.Coded.{×_prop, Unit-prop, le_prop}
-use Rattle.std.specs.Cmp.{below_irrefl}
 use mathlib.Core.Bool.{Bool-set}
-use mathlib.Core.Logic.{inl, inr}
-use mathlib.Core.Path.{ap, subst}
 use native.Mathlib.Nat.{ℕ_set}
 use Rattle.rasn_types.specs.declared.types.tag.Tag.{Tag}
-use Rattle.rasn_types.specs.Tags.{eoc, IsTagBelow, rank}
+use Rattle.rasn_types.specs.Tags.{eoc}
 use Rattle.rasn_types.specs.Grammar.{Family, plain_family, bit_family, named_family, text_family, family}
-use Rattle.rasn_types.specs.Shapes.{Shape, leaf, any, prefix, choice, open_choice, option, seq, set, list, set_of, unknown}
+use Rattle.rasn_types.specs.Shapes.{Shape, leaf, any, prefix, choice, open_choice, option, seq, set, sorted_set, list, set_of, unknown}
 use Rattle.rasn_types.specs.Lawful.{HasTag, IsBitFree}
 use Rattle.rasn_schema.specs.declared.types.Component.{Component}
 use Rattle.rasn_schema.specs.declared.types.Alternative.{Alternative}
@@ -19,7 +16,7 @@ use Rattle.rasn_schema.specs.declared.types.«Type».TheVariants.{Leaf, Enumerat
 use Rattle.rasn_schema.specs.declared.types.Presence.{Presence}
 use Rattle.rasn_schema.specs.declared.types.Presence.TheVariants.{Required, Optional, Addition, Default}
 use Rattle.rasn_schema.specs.Shapes.{kind_of}
-use Rattle.rasn_schema.specs.Schemas.{IsRequired, EndsUnknown, AreDistinct, IsBefore, AreLowerAndTagged, AreDistinctAlternatives, AreDistinctNumbers, IsToldFrom, AreToldInOrder, AreTagged, AreInOrderOfTags, IsWellFormed, HaveFitDefaults, IsSchema, own_at, begin_at}
+use Rattle.rasn_schema.specs.Schemas.{IsRequired, EndsUnknown, AreDistinct, AreLowerAndTagged, AreDistinctAlternatives, AreDistinctNumbers, IsToldFrom, AreToldInOrder, AreTagged, AreDistinctComponents, IsWellFormed, HaveFitDefaults, IsSchema, own_at, begin_at}
 
 -- ---- facts of several parts
 
@@ -35,16 +32,10 @@ not_prop A = each_prop (λ a. ⊥) (λ a. none_prop)
 three_prop : {A B C : Type 0} → IsProp A → IsProp B → IsProp C → IsProp (A × B × C)
 three_prop a b c x y = λ i. (a x.0 y.0 i, b x.1 y.1 i, c x.2 y.2 i)
 
-either_prop : {A B : Type 0} → IsProp A → IsProp B → (A → B → ⊥) → IsProp (A ⊎ B)
-either_prop a b n (inl x) (inl y) = ap inl (a x y)
-either_prop a b n (inl x) (inr y) = absurd (n x y)
-either_prop a b n (inr x) (inl y) = absurd (n y x)
-either_prop a b n (inr x) (inr y) = ap inr (b x y)
+four_prop : {A B C D : Type 0} → IsProp A → IsProp B → IsProp C → IsProp D → IsProp (A × B × C × D)
+four_prop a b c d x y = λ i. (a x.0 y.0 i, b x.1 y.1 i, c x.2 y.2 i, d x.3 y.3 i)
 
--- ---- of tags and shapes
-
-below_prop : (s t : Tag) → IsProp (IsTagBelow s t)
-below_prop s t = either_prop le_prop (×_prop (ℕ_set (rank s.class) (rank t.class)) le_prop) (λ a b. below_irrefl (rank t.class) (subst (λ n. n < rank t.class) b.0 a))
+-- ---- of shapes
 
 has_tag_prop : (s : Shape) → IsProp (HasTag s)
 has_tag_prop (leaf kind tag bounds) = Unit-prop
@@ -56,6 +47,7 @@ has_tag_prop (open_choice ps) = none_prop
 has_tag_prop (option tag s) = Unit-prop
 has_tag_prop (seq tag ps) = Unit-prop
 has_tag_prop (set tag ps) = Unit-prop
+has_tag_prop (sorted_set extensible tag ps) = Unit-prop
 has_tag_prop (list tag s size) = Unit-prop
 has_tag_prop (set_of tag s size) = Unit-prop
 has_tag_prop unknown = none_prop
@@ -97,13 +89,10 @@ ends_prop : (f : ℕ → Shape) (ps : List Component) → IsProp (EndsUnknown f 
 ends_prop f ps = each_prop _ (λ i. each_prop _ (λ p. each_prop _ (λ e. each_prop _ (λ a. ×_prop (ℕ_set _ _) (required_prop p.presence)))))
 
 tagged_prop : (f : ℕ → Shape) (ps : List Component) → IsProp (AreTagged f ps)
-tagged_prop f ps = each_prop _ (λ i. each_prop _ (λ p. each_prop _ (λ e. ×_prop (not_prop _) (has_tag_prop (f p.type_id.0)))))
+tagged_prop f ps = each_prop _ (λ i. each_prop _ (λ p. each_prop _ (λ e. ×_prop (not_prop _) (each_prop _ (λ n. has_tag_prop (f p.type_id.0))))))
 
-before_prop : (s t : Shape) → IsProp (IsBefore s t)
-before_prop s t = each_prop _ (λ m. each_prop _ (λ a. each_prop _ (λ n. each_prop _ (λ b. below_prop m n))))
-
-of_tags_prop : (f : ℕ → Shape) (ps : List Component) → IsProp (AreInOrderOfTags f ps)
-of_tags_prop f ps = each_prop _ (λ i. each_prop _ (λ j. each_prop _ (λ p. each_prop _ (λ q. each_prop _ (λ h. each_prop _ (λ d. each_prop _ (λ e. before_prop (f p.type_id.0) (f q.type_id.0))))))))
+components_prop : (f : ℕ → Shape) (ps : List Component) → IsProp (AreDistinctComponents f ps)
+components_prop f ps = each_prop _ (λ i. each_prop _ (λ j. each_prop _ (λ p. each_prop _ (λ q. each_prop _ (λ h. each_prop _ (λ d. each_prop _ (λ e. distinct_prop (f p.type_id.0) (f q.type_id.0))))))))
 
 type_prop : (own : ℕ → Option Tag) (f : ℕ → Shape) (id : ℕ) (ty : «Type») → IsProp (IsWellFormed own f id ty)
 type_prop own f id (Leaf kind tag c names) = ×_prop (not_prop (tag ≡ eoc)) (bit_free_prop (family (kind_of kind)) tag)
@@ -112,7 +101,7 @@ type_prop own f id (Any tag) = Unit-prop
 type_prop own f id (Tagged tag k) = three_prop (not_prop (tag ≡ eoc)) (each_prop _ (λ h. le_prop)) (not_prop _)
 type_prop own f id (Choice name ks) = three_prop (not_prop (ks.items ≡ [])) (lower_prop f id ks.items) (alternatives_prop f ks.items)
 type_prop own f id (Sequence tag ps) = three_prop (not_prop (tag ≡ eoc)) (in_order_prop own f ps.items) (ends_prop f ps.items)
-type_prop own f id (Set name tag ps) = three_prop (not_prop (tag ≡ eoc)) (tagged_prop f ps.items) (of_tags_prop f ps.items)
+type_prop own f id (Set name tag ps) = four_prop (not_prop (tag ≡ eoc)) (tagged_prop f ps.items) (ends_prop f ps.items) (components_prop f ps.items)
 type_prop own f id (SequenceOf tag k c) = ×_prop (not_prop _) (not_prop _)
 type_prop own f id (SetOf tag k c) = ×_prop (not_prop _) (not_prop _)
 type_prop own f id Unknown = Unit-prop

@@ -1,16 +1,16 @@
 -- What a schema has to be: the rules that each type keeps.
 use Rattle.std.specs.Prelude.{◌≡◌, ◌≢◌, ℕ, suc, ◌<◌, true, List, [], length, Option, Some, None, slice_get}
 use Rattle.rasn_types.specs.declared.types.tag.Tag.{Tag}
-use Rattle.rasn_types.specs.Tags.{eoc, IsTagBelow}
+use Rattle.rasn_types.specs.Tags.{eoc}
 use Rattle.rasn_types.specs.Grammar.{family}
-use Rattle.rasn_types.specs.Shapes.{Shape, prefix, unknown, IsFirst, looked_for, addition}
+use Rattle.rasn_types.specs.Shapes.{Shape, prefix, IsFirst, looked_for, addition}
 use Rattle.rasn_types.specs.Lawful.{IsBitFree, HasTag}
 use Rattle.rasn_schema.specs.declared.types.Component.{Component}
 use Rattle.rasn_schema.specs.declared.types.Alternative.{Alternative}
 use Rattle.rasn_schema.specs.declared.types.NamedNumber.{NamedNumber}
 use Rattle.rasn_schema.specs.declared.types.«Type».{«Type»}
 use Rattle.rasn_schema.specs.declared.types.«Type».TheVariants.{Leaf, Enumerated, Any, Tagged, Choice, Sequence, Set, SequenceOf, SetOf, Unknown}
-use Rattle.rasn_schema.specs.Shapes.{presence_of, kind_of, is_open, tag_at, shape_of_type}
+use Rattle.rasn_schema.specs.Shapes.{presence_of, kind_of, is_open, is_unknown, tag_at, shape_of_type}
 use Rattle.rasn_schema.specs.FirstTags.{EachFirst, IsAlwaysThere}
 use Rattle.rasn_schema.specs.declared.types.Presence.{Presence}
 use Rattle.rasn_schema.specs.declared.types.Presence.TheVariants.{Required, Default}
@@ -23,17 +23,15 @@ use Rattle.rasn_schema.specs.Fitting.{Fits}
 abbrev pub AreDistinct : Shape → Shape → Type 0
 AreDistinct s t = EachFirst s (λ n. IsFirst t n → ⊥)
 
--- Each tag of the one is below each of the other (X.680 8.6).
-abbrev pub IsBefore : Shape → Shape → Type 0
-IsBefore s t = EachFirst s (λ m. EachFirst t (λ n. IsTagBelow m n))
-
 abbrev pub IsPrefix : Shape → Type 0
 IsPrefix (prefix tag s) = Unit {0}
 IsPrefix _ = ⊥
 
 abbrev pub IsUnknown : Shape → Type 0
-IsUnknown unknown = Unit {0}
-IsUnknown _ = ⊥
+IsUnknown s = is_unknown s ≡ true
+
+abbrev pub IsTaggedOrUnknown : Shape → Type 0
+IsTaggedOrUnknown s = (IsUnknown s → ⊥) → HasTag s
 
 abbrev pub IsRequired : Presence → Type 0
 IsRequired Required = Unit {0}
@@ -76,13 +74,13 @@ AreToldInOrder own f ps = (i j : ℕ) (p q : Component) → Some p ≡ slice_get
 abbrev pub EndsUnknown : (ℕ → Shape) → List Component → Type 0
 EndsUnknown f ps = (i : ℕ) (p : Component) → Some p ≡ slice_get ps i → IsUnknown (f p.type_id.0) → (suc i ≡ length ps) × IsRequired p.presence
 
--- Each component of a SET has a tag, and none is an extension addition.
+-- Each component of a SET has a tag, except unknown values, and none is an extension addition.
 abbrev pub AreTagged : (ℕ → Shape) → List Component → Type 0
-AreTagged f ps = (i : ℕ) (p : Component) → Some p ≡ slice_get ps i → (presence_of p.presence ≢ addition) × HasTag (f p.type_id.0)
+AreTagged f ps = (i : ℕ) (p : Component) → Some p ≡ slice_get ps i → (presence_of p.presence ≢ addition) × IsTaggedOrUnknown (f p.type_id.0)
 
--- The components of a SET are in the order of their tags, which are distinct (X.680 27.3).
-abbrev pub AreInOrderOfTags : (ℕ → Shape) → List Component → Type 0
-AreInOrderOfTags f ps = (i j : ℕ) (p q : Component) → i < j → Some p ≡ slice_get ps i → Some q ≡ slice_get ps j → IsBefore (f p.type_id.0) (f q.type_id.0)
+-- No two components of a SET begin with the same tag (X.680 27.3).
+abbrev pub AreDistinctComponents : (ℕ → Shape) → List Component → Type 0
+AreDistinctComponents f ps = (i j : ℕ) (p q : Component) → i < j → Some p ≡ slice_get ps i → Some q ≡ slice_get ps j → AreDistinct (f p.type_id.0) (f q.type_id.0)
 
 -- What is asked of the type with number id. An explicit tag within another one has a lower number, so that tags end. Of the types that it names, f tells how they begin.
 abbrev pub IsWellFormed : (ℕ → Option Tag) → (ℕ → Shape) → ℕ → «Type» → Type 0
@@ -92,7 +90,7 @@ IsWellFormed own f id (Any tag) = Unit {0}
 IsWellFormed own f id (Tagged tag k) = (tag ≢ eoc) × (IsPrefix (f k.0) → k.0 < id) × (IsUnknown (f k.0) → ⊥)
 IsWellFormed own f id (Choice name ks) = (ks.items ≢ []) × AreLowerAndTagged f id ks.items × AreDistinctAlternatives f ks.items
 IsWellFormed own f id (Sequence tag ps) = (tag ≢ eoc) × AreToldInOrder own f ps.items × EndsUnknown f ps.items
-IsWellFormed own f id (Set name tag ps) = (tag ≢ eoc) × AreTagged f ps.items × AreInOrderOfTags f ps.items
+IsWellFormed own f id (Set name tag ps) = (tag ≢ eoc) × AreTagged f ps.items × EndsUnknown f ps.items × AreDistinctComponents f ps.items
 IsWellFormed own f id (SequenceOf tag k c) = (tag ≢ eoc) × (IsUnknown (f k.0) → ⊥)
 IsWellFormed own f id (SetOf tag k c) = (tag ≢ eoc) × (IsUnknown (f k.0) → ⊥)
 IsWellFormed own f id Unknown = Unit {0}

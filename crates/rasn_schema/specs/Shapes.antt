@@ -2,7 +2,7 @@
 use Rattle.std.specs.Prelude.{◌≡◌, ℕ, ℤ, zero, suc, Bool, true, false, if◌then◌else◌, List, [], ◌∷◌, Option, Some, None, slice_get, ◌⊎◌}
 use Rattle.rasn_types.specs.declared.types.tag.Tag.{Tag}
 use Rattle.rasn_types.specs.Tags.{eoc}
-use Rattle.rasn_types.specs.Shapes.{Shape, leaf, any, prefix, choice, open_choice, seq, set, list, set_of, unknown, IsAlwaysPresent, Parts, part, looked_for, Kind, boolean, null, object_identifier, bit_string, named_bits, octet_string, fixed, integer, enumerated, every, numeric, printable, visible, ia5, any_octets, bmp, utf8, utc_time, generalized_time, date, Key, own_tag, first_tags, required, addition, optional_by, default_by, Presence as PartPresence}
+use Rattle.rasn_types.specs.Shapes.{Shape, leaf, any, prefix, choice, open_choice, seq, sorted_set, list, set_of, unknown, IsAlwaysPresent, Parts, part, looked_for, Kind, boolean, null, object_identifier, bit_string, named_bits, octet_string, fixed, integer, enumerated, every, numeric, printable, visible, ia5, any_octets, bmp, utf8, utc_time, generalized_time, date, Key, own_tag, first_tags, required, addition, optional_by, default_by, Presence as PartPresence}
 use Rattle.rasn_types.specs.Shapes.Parts.{none}
 use Rattle.rasn_types.specs.Lawful.{IsLawful}
 use Rattle.rasn_types.specs.Trees.{signed_range, unsigned_range, unconstrained}
@@ -95,6 +95,24 @@ before_last (part presence s (part next u ps)) = part presence s (before_last (p
 abbrev pub choice_among : Parts → Shape
 choice_among ps = if ends_open ps then open_choice (before_last ps) else choice ps
 
+-- ---- a SET whose last component is unknown values: those with other tags, anywhere among the others (X.680 27)
+
+abbrev pub is_unknown : Shape → Bool
+is_unknown unknown = true
+is_unknown s = false
+
+abbrev pub ends_unknown : Parts → Bool
+ends_unknown none = false
+ends_unknown (part presence s none) = is_unknown s
+ends_unknown (part presence s (part next u ps)) = ends_unknown (part next u ps)
+
+abbrev pub known_parts : Parts → Parts
+known_parts ps = if ends_unknown ps then before_last ps else ps
+
+-- The components of a value are in any order, and are written in that of their tags, whatever the order of the schema is (X.690 9.3, 10.3).
+abbrev pub set_among : Tag → Parts → Shape
+set_among tag ps = sorted_set (ends_unknown ps) tag (known_parts ps)
+
 -- ---- types
 
 abbrev pub type_by : (ℕ → Shape) → «Type» → Shape
@@ -104,7 +122,7 @@ type_by f (Any tag) = any (looked_for tag)
 type_by f (Tagged tag k) = prefix tag (f k.0)
 type_by f (Choice name ks) = choice_among (alternatives_by f ks.items)
 type_by f (Sequence tag ps) = seq tag (components_by f ps.items)
-type_by f (Set name tag ps) = set tag (components_by f ps.items)
+type_by f (Set name tag ps) = set_among tag (components_by f ps.items)
 type_by f (SequenceOf tag k c) = list tag (f k.0) c.size
 type_by f (SetOf tag k c) = set_of tag (f k.0) c.size
 type_by f Unknown = unknown

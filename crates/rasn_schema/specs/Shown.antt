@@ -3,7 +3,7 @@ use Rattle.std.specs.Prelude.{ℕ, List, ◌++◌, codes}
 use Rattle.std.specs.Fmt.{decimal}
 use Rattle.rasn_schema.specs.declared.type_id.TypeId.{TypeId}
 use Rattle.rasn_schema.specs.declared.error.SchemaError.{SchemaError}
-use Rattle.rasn_schema.specs.declared.error.SchemaError.TheVariants.{ReservedTag, ConstructedTag, LateInner, NumbersClash, NoNumbers, NoAlternatives, LateAlternative, UntaggedAlternative, AlternativesClash, ComponentsClash, UntaggedComponent, AdditionInSet, UntaggedInSet, SetClash, SetOutOfOrder, MisplacedUnknown, UnfitDefault}
+use Rattle.rasn_schema.specs.declared.error.SchemaError.TheVariants.{ReservedTag, ConstructedTag, LateInner, NumbersClash, NoNumbers, NoAlternatives, LateAlternative, UntaggedAlternative, AlternativesClash, ComponentsClash, UntaggedComponent, AdditionInSet, UntaggedInSet, SetClash, MisplacedUnknown, UnfitDefault}
 
 -- A text about the type with this number.
 abbrev pub about : TypeId → List ℕ → List ℕ
@@ -32,6 +32,5 @@ shown_fault (UntaggedComponent id i) = about id (with_index (codes "component ")
 shown_fault (AdditionInSet id i) = about id (with_index (codes "component ") i (codes " of a SET is an extension addition"))
 shown_fault (UntaggedInSet id i) = about id (with_index (codes "component ") i (codes " of a SET may begin with any tag (X.680 27.3)"))
 shown_fault (SetClash id i j) = about id (with_indices (codes "components ") i (codes " and ") j (codes " of a SET may begin with the same tag (X.680 27.3)"))
-shown_fault (SetOutOfOrder id i j) = about id (with_indices (codes "components ") i (codes " and ") j (codes " of a SET aren't in the order of their tags (X.680 8.6)"))
-shown_fault (MisplacedUnknown id i) = about id (with_index (codes "part ") i (codes " is unknown values, and not the last, required component of a SEQUENCE (X.680 25)"))
+shown_fault (MisplacedUnknown id i) = about id (with_index (codes "part ") i (codes " is unknown values, and not the last, required component of a SEQUENCE or a SET (X.680 25, 27)"))
 shown_fault (UnfitDefault id i) = about id (with_index (codes "the default of component ") i (codes " isn't a value of its type (X.680 25)"))

@@ -1,13 +1,19 @@
 -- Values and types that were worked out by hand: which are values of which.
-use Rattle.std.specs.Prelude.{ℕ, pos, negsuc, List, [], ◌∷◌, true, false}
+use Rattle.std.specs.Prelude.{◌≡◌, ℕ, pos, negsuc, Vec, String, List, [], ◌∷◌, true, false}
+use Rattle.std.specs.Global.{Global}
 use Rattle.rasn_types.specs.Tags.{eoc}
 use Rattle.rasn_types.specs.Shapes.{number, absent, required, optional_by, default_by, own_tag}
 use Rattle.rasn_schema.specs.declared.types.LeafKind.TheVariants.{Boolean as BooleanKind, NamedBits, BitString, FixedOctetString, Signed32, Unsigned32, Numeric, Utf8}
+use Rattle.rasn_schema.specs.declared.types.Presence.TheVariants.{Required}
 use Rattle.rasn_schema.specs.declared.types.Component.{Component}
 use Rattle.rasn_schema.specs.declared.types.«Type».{«Type»}
-use Rattle.rasn_schema.specs.declared.types.«Type».TheVariants.{Any}
+use Rattle.rasn_schema.specs.declared.types.«Type».TheVariants.{Any, Set, Unknown}
 use Rattle.rasn_schema.specs.declared.value.Value.{Value, Boolean, Null, Integer, Octets}
 use Rattle.rasn_schema.specs.Fitting.{NumberFits, OctetsFit, BitsFit, FitsLeaf, IsNumber, IsListOf, IsNoList, IsChosen, IsLeftOutAs, ComponentsFit, EachFits, Fits}
+
+-- Unknown values, and a SET.
+abbrev pub unknown_and_set : String Global → Vec Component Global → List «Type»
+unknown_and_set name ps = Unknown ∷ (Set name eoc ps ∷ [])
 
 pub record WorkedFitting : Type 0 where
   pub most_of_32_bits : NumberFits Signed32 (pos 2147483647)
@@ -39,5 +45,9 @@ pub record WorkedFitting : Type 0 where
   pub not_each : EachFits (FitsLeaf BooleanKind) (Boolean true ∷ (Null ∷ [])) → ⊥
   pub open_value : (o : _) → Fits (Any eoc ∷ []) 1 0 (Octets o)
   pub no_open_null : (levels : ℕ) → Fits (Any eoc ∷ []) levels 0 Null → ⊥
+  pub unknown_in_a_set : (name : String Global) (ps : Vec Component Global) (c : Component) (v w : Value) (o : _) → ps.items ≡ c ∷ [] → c.presence ≡ Required → c.type_id.0 ≡ 0
+      → IsListOf (w ∷ []) v → IsListOf (Octets o ∷ []) w → Fits (unknown_and_set name ps) 2 1 v
+  pub only_octets_are_unknown : (name : String Global) (ps : Vec Component Global) (c : Component) (v w : Value) → ps.items ≡ c ∷ [] → c.presence ≡ Required → c.type_id.0 ≡ 0
+      → IsListOf (w ∷ []) v → IsListOf (Null ∷ []) w → Fits (unknown_and_set name ps) 2 1 v → ⊥
   pub nothing_of_a_missing_type : (levels : ℕ) (v : Value) → Fits [] levels 0 v → ⊥
   pub nothing_at_no_level : (types : List «Type») (v : Value) → Fits types 0 0 v → ⊥

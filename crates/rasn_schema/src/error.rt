@@ -68,7 +68,7 @@ pub enum SchemaError {
         id: TypeId,
         index: usize,
     },
-    /// A component of a SET may begin with any tag (X.680 27.3).
+    /// A component of a SET may begin with any tag, and isn't unknown values (X.680 27.3).
     UntaggedInSet {
         id: TypeId,
         index: usize,
@@ -79,14 +79,8 @@ pub enum SchemaError {
         index: usize,
         other: usize,
     },
-    /// Two components of a SET aren't in the order of their tags (X.680 8.6).
-    SetOutOfOrder {
-        id: TypeId,
-        index: usize,
-        other: usize,
-    },
-    /// A part is unknown values, which only the last component of a SEQUENCE may be, where it is
-    /// required (X.680 25).
+    /// A part is unknown values, which only the last component of a SEQUENCE or a SET may be, where
+    /// it is required (X.680 25, 27).
     MisplacedUnknown {
         id: TypeId,
         index: usize,
@@ -173,13 +167,9 @@ impl fmt::Display for SchemaError {
                 let back = " of a SET may begin with the same tag (X.680 27.3)";
                 write_both(f, id, "components ", index, " and ", other, back)
             }
-            SchemaError::SetOutOfOrder { id, index, other } => {
-                let back = " of a SET aren't in the order of their tags (X.680 8.6)";
-                write_both(f, id, "components ", index, " and ", other, back)
-            }
             SchemaError::MisplacedUnknown { id, index } => {
                 let back =
-                    " is unknown values, and not the last, required component of a SEQUENCE (X.680 25)";
+                    " is unknown values, and not the last, required component of a SEQUENCE or a SET (X.680 25, 27)";
                 write_one(f, id, "part ", index, back)
             }
             SchemaError::UnfitDefault { id, index } => {

@@ -1,7 +1,6 @@
 //! The tags with which the values of a type may begin, compared with those of another type.
 ghost use Rattle.std.specs.Prelude.{◌-◌};
 ghost use Rattle.rasn_types.specs.declared.types.tag.Tag.{Tag};
-ghost use Rattle.rasn_types.specs.Tags.{IsTagBelow};
 ghost use Rattle.rasn_types.specs.Shapes.{IsFirst, IsFirstOf, looked_for};
 ghost use Rattle.rasn_types.specs.Truth.{IsWhether};
 ghost use Rattle.rasn_schema.specs.Shapes.{shape_of_type, type_by, alternatives_by, nothing};
@@ -137,71 +136,6 @@ fn all_distinct(
 {
     for alternative in alternatives {
         if !is_distinct(types, levels, alternative.type_id, outer, other) {
-            return false;
-        }
-    }
-    true
-}
-
-/// Returns whether the tag is below each with which the type with this number may begin (X.680 8.6).
-#[cycle(above)]
-fn is_above(types: &[Type], levels: usize, id: TypeId, tag: Tag) -> bool
-    ensures { IsWhether result (EachFirst (shape_of_type types.now levels id.0) (λ n. IsTagBelow tag n)) }
-{
-    match first_tags_at(types, levels, id) {
-        FirstTags::Nothing => true,
-        FirstTags::One(own) => is_tag_below(tag, own),
-        FirstTags::Every => false,
-        FirstTags::Of(alternatives) => all_above(types, levels - 1, alternatives, tag),
-    }
-}
-
-/// Returns whether the tag is below each with which one of the types may begin.
-#[cycle(above)]
-fn all_above(types: &[Type], levels: usize, alternatives: &[Alternative], tag: Tag) -> bool
-    ensures { IsWhether result (EachFirstOf (alternatives_by (shape_of_type types.now levels) alternatives.now) (λ n. IsTagBelow tag n)) }
-{
-    for alternative in alternatives {
-        if !is_above(types, levels, alternative.type_id, tag) {
-            return false;
-        }
-    }
-    true
-}
-
-#[inline(always)]
-fn is_tag_below(tag: Tag, other: Tag) -> bool
-    ensures { IsWhether result (IsTagBelow tag other) }
-{
-    tag < other
-}
-
-/// Returns whether each tag with which the type with this number may begin is below each of the other type (X.680 8.6).
-#[cycle(before)]
-pub fn is_before(types: &[Type], levels: usize, id: TypeId, outer: usize, other: TypeId) -> bool
-    ensures { IsWhether result (EachFirst (shape_of_type types.now levels id.0) (λ m. EachFirst (shape_of_type types.now outer other.0) (λ n. IsTagBelow m n))) }
-{
-    match first_tags_at(types, levels, id) {
-        FirstTags::Nothing => true,
-        FirstTags::One(tag) => is_above(types, outer, other, tag),
-        FirstTags::Every => !has_firsts(types, outer, other),
-        FirstTags::Of(alternatives) => all_before(types, levels - 1, alternatives, outer, other),
-    }
-}
-
-/// Returns whether each tag with which one of the types may begin is below each of the other type.
-#[cycle(before)]
-fn all_before(
-    types: &[Type],
-    levels: usize,
-    alternatives: &[Alternative],
-    outer: usize,
-    other: TypeId,
-) -> bool
-    ensures { IsWhether result (EachFirstOf (alternatives_by (shape_of_type types.now levels) alternatives.now) (λ m. EachFirst (shape_of_type types.now outer other.0) (λ n. IsTagBelow m n))) }
-{
-    for alternative in alternatives {
-        if !is_before(types, levels, alternative.type_id, outer, other) {
             return false;
         }
     }

@@ -10,12 +10,12 @@ ghost use Rattle.rasn_types.specs.Lawful.{IsBitFree, HasTag};
 ghost use Rattle.rasn_types.specs.Truth.{IsWhether};
 ghost use Rattle.rasn_schema.specs.FirstTags.{IsAlwaysThere};
 ghost use Rattle.rasn_schema.specs.Shapes.{shape_of_type, type_by, presence_of, kind_of, is_open};
-ghost use Rattle.rasn_schema.specs.Schemas.{IsPrefix, IsUnknown, IsRequired, EndsUnknown, IsTaggedOrOpen, AreLowerAndTagged, AreDistinctAlternatives, AreDistinctNumbers, AreDistinct, AreToldInOrder, MayFollow, IsRecognizable, IsToldFrom, AreTagged, AreInOrderOfTags, IsBefore, IsWellFormed, AreOthersWellFormed, AreChoicesWellFormed, IsChoice, own_at};
-ghost use Rattle.rasn_schema.specs.Faults.{IsListFault, IsTaggedFault, IsLeafFault, IsNumbersFault, IsAlternativesFault, IsSequenceFault, IsSetFault, IsFaultOf, SomeFault};
+ghost use Rattle.rasn_schema.specs.Schemas.{IsPrefix, IsUnknown, IsRequired, EndsUnknown, IsTaggedOrOpen, AreLowerAndTagged, AreDistinctAlternatives, AreDistinctNumbers, AreDistinct, AreToldInOrder, MayFollow, IsRecognizable, IsToldFrom, IsTaggedOrUnknown, AreTagged, AreDistinctComponents, IsWellFormed, AreOthersWellFormed, AreChoicesWellFormed, IsChoice, own_at};
+ghost use Rattle.rasn_schema.specs.Faults.{IsListFault, IsTaggedFault, IsLeafFault, IsNumbersFault, IsAlternativesFault, IsMisplaced, IsSequenceFault, IsSetFault, IsFaultOf, SomeFault};
 
 use crate::begin::begins;
 use crate::error::SchemaError;
-use crate::first_tags::{FirstTags, first_tags_at, has_firsts, is_before, is_distinct};
+use crate::first_tags::{FirstTags, first_tags_at, has_firsts, is_distinct};
 use crate::type_id::TypeId;
 use crate::types::{
     Alternative, Component, LeafKind, NamedNumber, Presence, Type, ends_open, is_open_at,
@@ -555,21 +555,16 @@ fn is_well_placed(
     may_be_unknown(components, index, component)
 }
 
-/// Returns the first component of a SEQUENCE that is unknown values, and isn't the last or may be
-/// absent (X.680 25).
-fn misplaced_unknown(
-    types: &[Type],
-    levels: usize,
-    id: TypeId,
-    components: &[Component],
-) -> Option<SchemaError>
+/// Returns the index of the first component that is unknown values, and isn't the last or may be
+/// absent (X.680 25, 27).
+fn misplaced_unknown(types: &[Type], levels: usize, components: &[Component]) -> Option<usize>
     requires { levels ≢ 0 }
     ensures { let f = shape_of_type types.now levels in
-        MatchOption result (EndsUnknown f components.now) (λ e. (own : _) (tag : _) → IsSequenceFault own f id.0 tag components.now e) }
+        MatchOption result (EndsUnknown f components.now) (λ i. IsMisplaced f components.now i) }
 {
     for (index, component) in components.iter().enumerate() {
         if !is_well_placed(types, levels, components, index, component) {
-            return Some(SchemaError::MisplacedUnknown { id, index });
+            return Some(index);
         }
     }
     None
@@ -590,19 +585,32 @@ fn sequence_fault(
     if is_no_tag(tag) {
         return Some(SchemaError::ReservedTag { id });
     }
-    if let Some(fault) = misplaced_unknown(types, levels, id, components) {
-        return Some(fault);
+    if let Some(index) = misplaced_unknown(types, levels, components) {
+        return Some(SchemaError::MisplacedUnknown { id, index });
     }
     components_clash(types, levels, id, components)
 }
 
-/// Returns the first component of a SET that is an extension addition, or has no tag.
+/// Returns whether a type has a tag, or is that of unknown values.
+fn is_tagged_or_unknown(types: &[Type], levels: usize, id: TypeId) -> bool
+    requires { levels ≢ 0 }
+    ensures { IsWhether result (IsTaggedOrUnknown (shape_of_type types.now levels id.0)) }
+{
+    if is_unknown_at(types, id) {
+        return true;
+    }
+    has_tag(types, levels, id)
+}
+
+/// Returns the first component of a SET that is an extension addition, or that has no tag and isn't
+/// unknown values.
 fn addition_or_untagged(
     types: &[Type],
     levels: usize,
     id: TypeId,
     components: &[Component],
 ) -> Option<SchemaError>
+    requires { levels ≢ 0 }
     ensures { let f = shape_of_type types.now levels in
         MatchOption result (AreTagged f components.now) (λ e. (tag : _) → IsSetFault f id.0 tag components.now e) }
 {
@@ -610,37 +618,38 @@ fn addition_or_untagged(
         if is_addition(component) {
             return Some(SchemaError::AdditionInSet { id, index });
         }
-        if !has_tag(types, levels, component.type_id) {
+        if !is_tagged_or_unknown(types, levels, component.type_id) {
             return Some(SchemaError::UntaggedInSet { id, index });
         }
     }
     None
 }
 
-/// Returns the index of the first component after `index` that isn't after `component` in the order of tags.
-fn not_after(
+/// Returns the index of the first component after `index` that may begin with one of the tags with
+/// which the type begins.
+fn clashing_component(
     types: &[Type],
     levels: usize,
     components: &[Component],
     index: usize,
-    component: &Component,
-) -> Option<(usize, TypeId)>
+    ty: TypeId,
+) -> Option<usize>
     requires { index < length components.now }
     ensures { let f = shape_of_type types.now levels in
         MatchOption result
-        ((j : ℕ) (q : _) → index < j → Some q ≡ slice_get components.now j → IsBefore (f component.now.type_id.0) (f q.type_id.0))
-        (λ r. (index < r.0) × ((q : Component) × (Some q ≡ slice_get components.now r.0) × (q.type_id ≡ r.1) × (IsBefore (f component.now.type_id.0) (f q.type_id.0) → ⊥))) }
+        ((j : ℕ) (q : _) → index < j → Some q ≡ slice_get components.now j → AreDistinct (f ty.0) (f q.type_id.0))
+        (λ j. (index < j) × ((q : Component) × (Some q ≡ slice_get components.now j) × (AreDistinct (f ty.0) (f q.type_id.0) → ⊥))) }
 {
     for other in index + 1..components.len() {
         let next = &components[other];
-        if !is_before(types, levels, component.type_id, levels, next.type_id) {
-            return Some((other, next.type_id));
+        if !is_distinct(types, levels, ty, levels, next.type_id) {
+            return Some(other);
         }
     }
     None
 }
 
-/// Returns the first two components of a SET that may begin with the same tag, or aren't in the order of their tags (X.680 8.6, 27.3).
+/// Returns the first two components of a SET that may begin with the same tag (X.680 27.3).
 fn set_clash(
     types: &[Type],
     levels: usize,
@@ -648,13 +657,16 @@ fn set_clash(
     components: &[Component],
 ) -> Option<SchemaError>
     ensures { let f = shape_of_type types.now levels in
-        MatchOption result (AreInOrderOfTags f components.now) (λ e. (tag : _) → IsSetFault f id.0 tag components.now e) }
+        MatchOption result (AreDistinctComponents f components.now) (λ e. (tag : _) → IsSetFault f id.0 tag components.now e) }
 {
     for (index, component) in components.iter().enumerate() {
-        if let Some((other, next)) = not_after(types, levels, components, index, component) {
-            if is_distinct(types, levels, component.type_id, levels, next) {
-                return Some(SchemaError::SetOutOfOrder { id, index, other });
-            }
+        if let Some(other) = clashing_component(
+            types,
+            levels,
+            components,
+            index,
+            component.type_id,
+        ) {
             return Some(SchemaError::SetClash { id, index, other });
         }
     }
@@ -669,14 +681,20 @@ fn set_fault(
     tag: Tag,
     components: &[Component],
 ) -> Option<SchemaError>
+    requires { levels ≢ 0 }
     ensures { let f = shape_of_type types.now levels in
-        MatchOption result ((tag ≢ eoc) × AreTagged f components.now × AreInOrderOfTags f components.now) (λ e. IsSetFault f id.0 tag components.now e) }
+        MatchOption result
+        ((tag ≢ eoc) × AreTagged f components.now × EndsUnknown f components.now × AreDistinctComponents f components.now)
+        (λ e. IsSetFault f id.0 tag components.now e) }
 {
     if is_no_tag(tag) {
         return Some(SchemaError::ReservedTag { id });
     }
     if let Some(fault) = addition_or_untagged(types, levels, id, components) {
         return Some(fault);
+    }
+    if let Some(index) = misplaced_unknown(types, levels, components) {
+        return Some(SchemaError::MisplacedUnknown { id, index });
     }
     set_clash(types, levels, id, components)
 }

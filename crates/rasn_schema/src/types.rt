@@ -96,8 +96,8 @@ pub enum Type {
         tag: Tag,
         components: Vec<Component>,
     },
-    /// A SET (X.680 27), with the name that errors have for it, and its components in the order of
-    /// their tags (X.680 8.6).
+    /// A SET (X.680 27), with the name that errors have for it. Its components may be listed in any
+    /// order: values are written in the order of their tags (X.690 9.3, 10.3).
     Set {
         name: String,
         tag: Tag,
@@ -115,9 +115,9 @@ pub enum Type {
         element: TypeId,
         constraints: Constraints,
     },
-    /// Values that the type of an extensible SEQUENCE doesn't name, up to the end of its contents
-    /// (X.680 25). Only its last component may be such, which is required. The value is a list of
-    /// the octets of each.
+    /// Values that the type of an extensible SEQUENCE or SET doesn't name (X.680 25, 27): those of a
+    /// SEQUENCE come after all others, those of a SET may be anywhere among them. Only the last
+    /// component may be such, which is required. The value is a list of the octets of each.
     Unknown,
 }
 

@@ -2,7 +2,7 @@
 
 use crate::line_types::{LINE_TYPES, type_id};
 use crate::row::{Row, Verb};
-use crate::row_types::{ROW_TYPES, WRONG_TYPES};
+use crate::row_types::{ROW_TYPES, TRIED_TYPES};
 use rasn_bench::ValueType;
 use rasn_dynamic::{check, decode, encode, is_canonical, normalise};
 use rasn_schema::{Schema, TypeId, Value};
@@ -25,9 +25,9 @@ pub fn text_of_row(alloc: Global, line: &str) -> Result<Option<String>, AllocErr
     Ok(Some(format!(in alloc; "{line} {answer}")?))
 }
 
-/// Returns why the types of this name aren't a schema.
+/// Returns why the types of this name aren't a schema, or that they are one.
 fn fault_of(alloc: Global, name: &str) -> Result<String, AllocError> {
-    for (own, definitions) in WRONG_TYPES {
+    for (own, definitions) in TRIED_TYPES {
         if *own == name {
             return match Schema::new(types(alloc, definitions)?) {
                 Ok(_) => String::from_str(alloc, "= a schema"),
@@ -57,6 +57,8 @@ fn types_named(name: &str) -> Option<(&'static [Definition], TypeId)> {
         "extensible" => Some((ROW_TYPES, TypeId(30))),
         "with-flags" => Some((ROW_TYPES, TypeId(32))),
         "reply" => Some((ROW_TYPES, TypeId(34))),
+        "open-set" => Some((ROW_TYPES, TypeId(35))),
+        "mixed" => Some((ROW_TYPES, TypeId(36))),
         _ => Some((LINE_TYPES, type_id(ValueType::of_name(name)?))),
     }
 }

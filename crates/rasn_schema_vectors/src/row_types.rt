@@ -1,4 +1,4 @@
-//! The types that rows name beside those of lines, and types that aren't a schema.
+//! The types that rows name beside those of lines, and types that may be no schema.
 
 use rasn_schema::LeafKind;
 use rasn_schema_bench::{CONTEXT_0, CONTEXT_1, Definition, Occurrence, Part};
@@ -43,12 +43,19 @@ pub const ROW_TYPES: &[Definition] = &[
         &[("add", 0), ("delete", 1)],
     ),
     Definition::Unknown,
-    // 30 to 34
+    // 30 to 36
     Definition::Sequence(Tag::SEQUENCE, EXTENSIBLE),
     Definition::SequenceOf(Tag::SEQUENCE, 0, Constraints::NONE),
     Definition::Sequence(Tag::SEQUENCE, WITH_FLAGS),
     Definition::Any(Tag::EOC),
     Definition::Choice("Reply", &[("accepted", 0), ("count", 24), ("...", 33)]),
+    Definition::Set("OpenSet", Tag::SET, EXTENSIBLE),
+    Definition::Set("Mixed", Tag::SET, MIXED),
+];
+
+const MIXED: &[Part] = &[
+    ("either", Occurrence::Required, 13),
+    ("number", Occurrence::Required, 20),
 ];
 
 const EXTENSIBLE: &[Part] = &[
@@ -100,8 +107,8 @@ const EACH_KIND: &[Part] = &[
 
 const FLAG: Definition = Definition::Leaf(LeafKind::Boolean, Tag::BOOL);
 
-/// Types that aren't a schema, with their names.
-pub const WRONG_TYPES: &[(&str, &[Definition])] = &[
+/// Types of which rows ask whether they are a schema, with their names.
+pub const TRIED_TYPES: &[(&str, &[Definition])] = &[
     (
         "reserved-tag",
         &[Definition::SetOf(Tag::EOC, 0, Constraints::NONE)],
@@ -204,11 +211,21 @@ pub const WRONG_TYPES: &[(&str, &[Definition])] = &[
         &[FLAG, Definition::Set("Both", Tag::SET, TWICE)],
     ),
     (
-        "set-out-of-order",
+        "set-in-any-order",
         &[
             FLAG,
             Definition::Leaf(LeafKind::Integer, Tag::INTEGER),
             Definition::Set("Both", Tag::SET, FALLING),
+        ],
+    ),
+    (
+        "set-around-a-tag",
+        &[
+            FLAG,
+            Definition::Leaf(LeafKind::Boolean, CONTEXT_0),
+            Definition::Leaf(LeafKind::Boolean, CONTEXT_1),
+            Definition::Choice("C", &[("a", 0), ("b", 2)]),
+            Definition::Set("Both", Tag::SET, AROUND),
         ],
     ),
     (
@@ -248,6 +265,30 @@ pub const WRONG_TYPES: &[(&str, &[Definition])] = &[
         ],
     ),
     (
+        "unknown-at-the-end-of-set",
+        &[
+            FLAG,
+            Definition::Unknown,
+            Definition::Set("Both", Tag::SET, ENDS_UNKNOWN),
+        ],
+    ),
+    (
+        "unknown-first-in-set",
+        &[
+            FLAG,
+            Definition::Unknown,
+            Definition::Set("Both", Tag::SET, NOT_LAST),
+        ],
+    ),
+    (
+        "unknown-optional-in-set",
+        &[
+            FLAG,
+            Definition::Unknown,
+            Definition::Set("Both", Tag::SET, MAY_BE_ABSENT),
+        ],
+    ),
+    (
         "unknown-alternative",
         &[Definition::Unknown, Definition::Choice("C", &[("a", 0)])],
     ),
@@ -274,6 +315,16 @@ const AFTER_OPTIONAL: &[Part] = &[
 const NOT_LAST: &[Part] = &[
     ("part", Occurrence::Required, 1),
     ("part", Occurrence::Required, 0),
+];
+
+const ENDS_UNKNOWN: &[Part] = &[
+    ("part", Occurrence::Required, 0),
+    ("part", Occurrence::Required, 1),
+];
+
+const AROUND: &[Part] = &[
+    ("part", Occurrence::Required, 1),
+    ("part", Occurrence::Required, 3),
 ];
 
 const MAY_BE_ABSENT: &[Part] = &[

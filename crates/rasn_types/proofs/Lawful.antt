@@ -4,11 +4,11 @@ use Rattle.std.specs.Bool.{Decides}
 use Rattle.std.specs.List.{list_all, list_any}
 use Rattle.std.proofs.lemmas.Bool.Decides.{Decides-eqb, Decides-ltb, Decides-and, Decides-or, Decides-not, Decides-like, not_from_Decides}
 use Rattle.rasn_types.specs.Tags.{Class, Universal, Application, Context, Private, Tag, tag_bit, rank, eoc, is_universal, is_eoc, IsTagBelow}
-use Rattle.rasn_types.specs.Shapes.{Shape, leaf, any, prefix, choice, open_choice, option, seq, set, list, set_of, unknown, Parts, part, own, IsFirst, IsFirstOf, IsAlwaysPresent, AreAlwaysPresent, Key, own_tag, first_tags, Presence, required, addition, optional_by, default_by}
+use Rattle.rasn_types.specs.Shapes.{Shape, leaf, any, prefix, choice, open_choice, option, seq, set, sorted_set, list, set_of, unknown, Parts, part, own, IsFirst, IsFirstOf, IsAlwaysPresent, AreAlwaysPresent, Key, own_tag, first_tags, Presence, required, addition, optional_by, default_by}
 use Rattle.rasn_types.specs.Shapes.Parts.{none}
 use Rattle.rasn_types.specs.Grammar.{Family, plain_family, bit_family, named_family, text_family, family}
-use Rattle.rasn_types.specs.Lawful.{AreDisjoint, AreDistinguished, IsFirstBehind, IsDistinguished, IsRecognized, MayBeLeftOut, IsBitFree, HasTag, EndsUnknown, IsLawful, AreAlternatives, AreLawfulInOrder, AreLawfulByTag}
-use Rattle.rasn_types.specs.LawfulTest.{is_same_tag, is_other_tag, is_tag_below, Firsts, either_first, firsts, firsts_of, firsts_behind, is_first, holds_between, are_distinguished, is_none, is_distinguished, is_every, is_recognized, may_be_left_out, is_bit_free, has_tag, is_unknown, ends_unknown, is_always_present, are_always_present, is_required, is_addition, is_same_own, is_lawful, are_alternatives, are_lawful_in_order, are_lawful_by_tag}
+use Rattle.rasn_types.specs.Lawful.{AreDisjoint, AreDistinguished, IsFirstBehind, IsDistinguished, IsRecognized, MayBeLeftOut, IsBitFree, HasTag, EndsUnknown, IsLawful, AreAlternatives, AreLawfulInOrder, AreLawfulByTag, AreComponents}
+use Rattle.rasn_types.specs.LawfulTest.{is_same_tag, is_other_tag, is_tag_below, Firsts, either_first, firsts, firsts_of, firsts_behind, is_first, holds_between, are_distinguished, is_none, is_distinguished, is_every, is_recognized, may_be_left_out, is_bit_free, has_tag, is_unknown, ends_unknown, is_always_present, are_always_present, is_required, is_addition, is_same_own, is_lawful, are_alternatives, are_lawful_in_order, are_lawful_by_tag, are_components}
 
 -- ---- constant tests
 
@@ -63,16 +63,16 @@ no_value tag = Decides-not (is_eoc tag) (Decides-like (is_eoc tag) (λ h. ap₂ 
 
 -- ---- first tags
 
-abbrev IsAmong : List Tag → Tag → Type 0
+abbrev pub IsAmong : List Tag → Tag → Type 0
 IsAmong [] n = ⊥
 IsAmong (t ∷ ts) n = (n ≡ t) ⊎ IsAmong ts n
 
-abbrev IsIn : Firsts → Tag → Type 0
+abbrev pub IsIn : Firsts → Tag → Type 0
 IsIn None n = Unit {0}
 IsIn (Some tags) n = IsAmong tags n
 
 -- The list has the tags for which P holds.
-abbrev DescribesFirsts : Firsts → (Tag → Type 0) → Type 0
+abbrev pub DescribesFirsts : Firsts → (Tag → Type 0) → Type 0
 DescribesFirsts f P = (n : Tag) → (P n → IsIn f n) × (IsIn f n → P n)
 
 among_left : (a b : List Tag) (n : Tag) → IsAmong a n → IsAmong (a ++ b) n
@@ -101,7 +101,7 @@ tells_one : (tag : Tag) → DescribesFirsts (Some (tag ∷ [])) (λ n. n ≡ tag
 tells_one tag n = (λ e. inl e, λ h. elim h [ inl e ↦ e | inr x ↦ absurd x ])
 
 mutual
-  firsts_tell : (s : Shape) → DescribesFirsts (firsts s) (IsFirst s)
+  pub firsts_tell : (s : Shape) → DescribesFirsts (firsts s) (IsFirst s)
   firsts_tell (leaf kind tag bounds) = tells_one tag
   firsts_tell (any None) = λ n. (λ h. tt, λ h. tt)
   firsts_tell (any (Some tag)) = tells_one tag
@@ -111,6 +111,7 @@ mutual
   firsts_tell (option tag s) = firsts_tell s
   firsts_tell (seq tag ps) = tells_one tag
   firsts_tell (set tag ps) = tells_one tag
+  firsts_tell (sorted_set extensible tag ps) = tells_one tag
   firsts_tell (list tag s size) = tells_one tag
   firsts_tell (set_of tag s size) = tells_one tag
   firsts_tell unknown = λ n. (λ h. h, λ h. h)
@@ -205,6 +206,7 @@ tagged (open_choice ps) = decides_no (λ h. h)
 tagged (option tag s) = decides_yes
 tagged (seq tag ps) = decides_yes
 tagged (set tag ps) = decides_yes
+tagged (sorted_set extensible tag ps) = decides_yes
 tagged (list tag s size) = decides_yes
 tagged (set_of tag s size) = decides_yes
 tagged unknown = decides_no (λ h. h)
@@ -270,6 +272,7 @@ mutual
   solid (option tag s) = decides_no (λ h. h)
   solid (seq tag ps) = decides_yes
   solid (set tag ps) = decides_yes
+  solid (sorted_set extensible tag ps) = decides_yes
   solid (list tag s size) = decides_yes
   solid (set_of tag s size) = decides_yes
   solid unknown = decides_no (λ h. h)
@@ -293,6 +296,7 @@ unknown_told (open_choice ps) = decides_no (λ e. cc)
 unknown_told (option tag s) = decides_no (λ e. cc)
 unknown_told (seq tag ps) = decides_no (λ e. cc)
 unknown_told (set tag ps) = decides_no (λ e. cc)
+unknown_told (sorted_set extensible tag ps) = decides_no (λ e. cc)
 unknown_told (list tag s size) = decides_no (λ e. cc)
 unknown_told (set_of tag s size) = decides_no (λ e. cc)
 unknown_told unknown = (λ e. refl, λ e. refl)
@@ -330,6 +334,7 @@ mutual
   lawful_decides (option tag s) = both _ _ _ (same_own tag (own s)) (solid s) (lawful_decides s)
   lawful_decides (seq tag ps) = Decides-and _ _ (no_value tag) (in_order ps)
   lawful_decides (set tag ps) = Decides-and _ _ (no_value tag) (by_tag ps)
+  lawful_decides (sorted_set extensible tag ps) = both _ _ _ (no_value tag) (components ps) (told_apart ps)
   lawful_decides (list tag s size) = both _ _ _ (no_value tag) (solid s) (lawful_decides s)
   lawful_decides (set_of tag s size) = both _ _ _ (no_value tag) (solid s) (lawful_decides s)
   lawful_decides unknown = decides_no (λ h. h)
@@ -349,6 +354,11 @@ mutual
   by_tag none = decides_yes
   by_tag (part presence s ps) = Decides-like (are_lawful_by_tag (part presence s ps)) (λ h. (h.0, h.1, h.2.0, h.2.1, h.2.2.0, h.2.2.1)) (λ h. (h.0, h.1, (h.2, h.3, (h.4, h.5))))
       (both _ _ _ (no_addition presence) (tagged s) (both _ _ _ (solid s) (lawful_decides s) (Decides-and _ _ (rising s ps) (by_tag ps))))
+
+  components : (ps : Parts) → Decides (are_components ps) (AreComponents ps)
+  components none = decides_yes
+  components (part presence s ps) = Decides-like (are_components (part presence s ps)) (λ h. (h.0, h.1, h.2.0, h.2.1, h.2.2)) (λ h. (h.0, h.1, (h.2, h.3, h.4)))
+      (both _ _ _ (no_addition presence) (tagged s) (both _ _ _ (solid s) (lawful_decides s) (components ps)))
 
 -- A shape that passes the test is lawful, and one that doesn't isn't.
 pub lawful : (s : Shape) → is_lawful s ≡ true → IsLawful s

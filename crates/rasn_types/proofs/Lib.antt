@@ -4,8 +4,11 @@ pub mod Time
 pub mod Integer
 pub mod Encoding
 pub mod Headers
+pub mod InOrder
 pub mod CharacterString
 pub mod SetOf
+pub mod SetTrees
+pub mod SortedSets
 pub mod Enumerated
 pub mod Dotted
 pub mod PaddedSize

@@ -5,9 +5,9 @@ use Rattle.rasn_types.specs.Tags.{tag_bit, Codec, Ber, Cer, Der, Tag, in_univers
 use Rattle.rasn_types.specs.Framing.{SpellsAnyIdentifier, SpellsLength, IsShortestIdentifier, IsShortestLength, Begins, AreOctets}
 use Rattle.rasn_types.specs.Calendar.{Day, IsDay, Moment, IsMoment}
 use Rattle.rasn_types.specs.Time.{written_date, written_generalized, written_utc}
-pub use Rattle.rasn_types.specs.Order.{Each, IsLess, AreAscending}
+pub use Rattle.rasn_types.specs.Order.{Each, IsLess, AreAscending, IsBeforeAll, AreInOrder, IsReordered}
 pub use Rattle.rasn_types.specs.Shapes.{Same}
-use Rattle.rasn_types.specs.Shapes.{Tree, bits, numbers, instant, on_day, items, set_elements, chosen, absent, Kind, utc_time, generalized_time, date, Bound, Admits, Shape, leaf, any, prefix, choice, open_choice, option, seq, set, list, set_of, unknown, Parts, part, count, Presence, required, addition, optional_by, default_by}
+use Rattle.rasn_types.specs.Shapes.{Tree, bits, numbers, instant, on_day, items, IsSetTree, set_elements, chosen, absent, Kind, utc_time, generalized_time, date, Bound, Admits, Shape, leaf, any, prefix, choice, open_choice, option, seq, set, sorted_set, list, set_of, unknown, Parts, part, count, IsFirst, Presence, required, addition, optional_by, default_by}
 use Rattle.rasn_types.specs.Shapes.Parts.{none}
 pub use Rattle.rasn_types.specs.Contents.{AllFalse}
 use Rattle.rasn_types.specs.Contents.{IsShortest, Contents, BitSegment, joined_lists}
@@ -74,6 +74,43 @@ abbrev pub NoneUntaggedOpen : List Field → List Tree → List (List ℕ) → T
 NoneUntaggedOpen (f ∷ fs) (t ∷ ts) (b ∷ bs) = (f.is_untagged_open t → b ≡ []) × NoneUntaggedOpen fs ts bs
 NoneUntaggedOpen fs ts bs = Unit {0}
 
+-- A component of a SET: its octets, the tag that decides where it is, and its number among the parts. Unknown values
+-- have the numbers after those of the parts.
+pub record Component : Type 0 where
+  pub tag : Tag
+  pub number : ℕ
+  pub octets : List ℕ
+
+-- A component is ordered by the tag that it begins with (10.3) or, under CER, by the least of those that values of its
+-- type may begin with (9.3). The two are one unless the type is a CHOICE without a tag.
+abbrev pub IsPlacedBy : Codec → (Tag → Type 0) → List ℕ → Tag → Type 0
+IsPlacedBy Ber P b tag = Begins b tag
+IsPlacedBy Cer P b tag = P tag × ((n : Tag) → P n → IsTagBelow n tag → ⊥)
+IsPlacedBy Der P b tag = Begins b tag
+
+-- The components that these octets of the parts are; the first part has the number k. A part that is left out has no
+-- octets.
+abbrev pub ComponentsOf : Codec → ℕ → Parts → List (List ℕ) → List Component → Type 0
+ComponentsOf rule k (part presence s ps) ([] ∷ bs) cs = ComponentsOf rule (suc k) ps bs cs
+ComponentsOf rule k (part presence s ps) ((o ∷ b) ∷ bs) cs = (tag : Tag) × (more : List Component) × (cs ≡ record { tag = tag; number = k; octets = o ∷ b } ∷ more)
+    × IsPlacedBy rule (IsFirst s) (o ∷ b) tag × ComponentsOf rule (suc k) ps bs more
+ComponentsOf rule k ps bs cs = cs ≡ []
+
+-- The components that unknown values are. The first has the number k.
+abbrev pub UnknownComponents : ℕ → List Tree → List Component → Type 0
+UnknownComponents k [] cs = cs ≡ []
+UnknownComponents k (u ∷ us) cs = (tag : Tag) × (b : List ℕ) × (more : List Component) × (u ≡ numbers b) × Begins b tag
+    × (cs ≡ record { tag = tag; number = k; octets = b } ∷ more) × UnknownComponents (suc k) us more
+
+-- Components are in ascending order of their tags. Those with the same tag, which no two parts of a lawful shape have,
+-- are in the order of their numbers.
+abbrev pub ComesBefore : Component → Component → Type 0
+ComesBefore c d = IsTagBelow c.tag d.tag ⊎ ((c.tag ≡ d.tag) × (c.number < d.number))
+
+abbrev pub contents_of : List Component → List ℕ
+contents_of [] = []
+contents_of (c ∷ cs) = c.octets ++ contents_of cs
+
 -- Contents octets as they are written: under DER, and in the fewest octets.
 pub record Written (kind : Kind) (t : Tree) (l : List ℕ) : Type 0 where
   pub is : Contents Der kind l t
@@ -131,6 +168,13 @@ abbrev pub WritesSet : Codec → Tag → List Field → Writing Tree
 WritesSet rule tag fs t b = (ts : List Tree) × (bs : List (List ℕ)) × (tags : List Tag) × (t ≡ items ts) × PartsWritten fs ts bs
     × NoneUntaggedOpen fs ts bs × TagsOf bs tags × AreAscending IsTagBelow tags × ConstructedEncoding rule tag (joined_lists bs) b
 
+-- The components, unknown ones among them, are in ascending order of their tags, whatever the order of the parts is
+-- (9.3, 10.3).
+abbrev pub WritesSortedSet : Codec → Bool → Tag → Parts → List Field → Writing Tree
+WritesSortedSet rule extensible tag ps fs t b = (ts : List Tree) × (us : List Tree) × (bs : List (List ℕ)) × (cs : List Component) × (es : List Component) × (ds : List Component)
+    × IsSetTree extensible ts us t × PartsWritten fs ts bs × ComponentsOf rule 0 ps bs cs × UnknownComponents (count ps) us es
+    × IsReordered (cs ++ es) ds × AreInOrder ComesBefore ds × ConstructedEncoding rule tag (contents_of ds) b
+
 abbrev pub WritesList : Codec → Tag → Option (Bound ℕ) → Writing Tree → Writing Tree
 WritesList rule tag size writes t b = (ts : List Tree) × (bs : List (List ℕ)) × (t ≡ items ts) × Admits ◌≤◌ size (length ts)
     × Each writes ts bs × ConstructedEncoding rule tag (joined_lists bs) b
@@ -155,6 +199,7 @@ unfoldable mutual
   IsUntaggedOpen (option tag s) t = IsUntaggedOpen s t
   IsUntaggedOpen (seq tag ps) t = ⊥
   IsUntaggedOpen (set tag ps) t = ⊥
+  IsUntaggedOpen (sorted_set extensible tag ps) t = ⊥
   IsUntaggedOpen (list tag s size) t = ⊥
   IsUntaggedOpen (set_of tag s size) t = ⊥
   IsUntaggedOpen unknown t = Unit {0}
@@ -176,6 +221,7 @@ unfoldable mutual
   Bytes rule (option tag s) = λ t b. ((t ≡ absent) × (b ≡ [])) ⊎ ((t ≢ absent) × Bytes rule s t b)
   Bytes rule (seq tag ps) = WritesSeq rule tag (fields_of rule ps)
   Bytes rule (set tag ps) = WritesSet rule tag (fields_of rule ps)
+  Bytes rule (sorted_set extensible tag ps) = WritesSortedSet rule extensible tag ps (fields_of rule ps)
   Bytes rule (list tag s size) = WritesList rule tag size (Bytes rule s)
   Bytes rule (set_of tag s size) = WritesSetOf rule tag size (Bytes rule s)
   Bytes rule unknown = WritesUnknown

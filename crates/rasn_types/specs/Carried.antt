@@ -4,11 +4,11 @@ use Rattle.rasn_types.specs.Tags.{loose_form, form, Codec, Tag}
 use Rattle.rasn_types.specs.Framing.{Frame, definite, NextTag}
 use Rattle.rasn_types.specs.Calendar.{Day, Moment}
 use Rattle.rasn_types.specs.Time.{CarriedUtc, CarriedDay}
-use Rattle.rasn_types.specs.Shapes.{Tree, bits, numbers, instant, on_day, items, joined, set_elements, chosen, absent, Kind, utc_time, generalized_time, date, Shape, leaf, any, prefix, choice, open_choice, option, seq, set, list, set_of, unknown, Parts, part, count, IsFirstOf, Presence, required, addition, optional_by, default_by, sought_in}
+use Rattle.rasn_types.specs.Shapes.{Tree, bits, numbers, instant, on_day, items, IsSetTree, joined, set_elements, chosen, absent, Kind, utc_time, generalized_time, date, Shape, leaf, any, prefix, choice, open_choice, option, seq, set, sorted_set, list, set_of, unknown, Parts, part, count, IsFirstOf, Presence, required, addition, optional_by, default_by, sought_in}
 use Rattle.rasn_types.specs.Shapes.Parts.{none}
-use Rattle.rasn_types.specs.Readings.{IsLeftOut}
+use Rattle.rasn_types.specs.Readings.{IsLeftOut, AreInTagOrder}
 use Rattle.rasn_types.specs.Grammar.{Family, plain_family, bit_family, named_family, text_family, family}
-use Rattle.rasn_types.specs.Bytes.{Same, IsCer, WritesText, Bytes}
+use Rattle.rasn_types.specs.Bytes.{Each, Same, IsCer, WritesText, Bytes}
 
 abbrev pub EachOf : (Tree → Type 0) → List Tree → Type 0
 EachOf P [] = Unit {0}
@@ -52,6 +52,10 @@ pub record IsUnknownValue (rule : Codec) (P : Tag → Type 0) (u : Tree) : Type 
   pub next : NextTag (form rule) one.octets tag
   pub other : P tag → ⊥
 
+-- Unknown values of a SET, in the order of their tags, in which they are read back.
+abbrev pub AreUnknownValues : Codec → (Tag → Type 0) → List Tree → Type 0
+AreUnknownValues rule P us = EachOf (IsUnknownValue rule P) us × ((bs : List (List ℕ)) × Each (λ u b. u ≡ numbers b) us bs × AreInTagOrder bs)
+
 -- The tree isn't written.
 abbrev pub IsUnwritten : Presence → Tree → Type 0
 IsUnwritten required t = ⊥
@@ -82,6 +86,8 @@ unfoldable mutual
   IsWithinLimits rule (option tag s) depth t = (t ≡ absent) ⊎ IsWithinLimits rule s depth t
   IsWithinLimits rule (seq tag ps) depth t = (0 < depth) × (ts : List Tree) × (t ≡ items ts) × AreWithinLimits rule ps (depth - 1) ts × NoneTaken rule ps ts
   IsWithinLimits rule (set tag ps) depth t = (0 < depth) × (ts : List Tree) × (t ≡ items ts) × AreWithinLimits rule ps (depth - 1) ts
+  IsWithinLimits rule (sorted_set extensible tag ps) depth t = (0 < depth) × (ts : List Tree) × (us : List Tree) × IsSetTree extensible ts us t × AreWithinLimits rule ps (depth - 1) ts
+      × AreUnknownValues rule (IsFirstOf ps) us
   IsWithinLimits rule (list tag s size) depth t = (0 < depth) × (ts : List Tree) × (t ≡ items ts) × EachOf (IsWithinLimits rule s (depth - 2)) ts
   IsWithinLimits rule (set_of tag s size) depth t = (0 < depth) × (ts : List Tree) × (t ≡ set_elements (items ts)) × EachOf (IsWithinLimits rule s (depth - 2)) ts
   IsWithinLimits rule unknown depth t = (us : List Tree) × (t ≡ items us) × EachOf IsOneEncoding us

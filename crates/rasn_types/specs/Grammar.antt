@@ -5,12 +5,12 @@ use Rattle.rasn_types.specs.Order.{IsLess, AreAscending}
 use Rattle.rasn_types.specs.Framing.{Frame, definite, indefinite, CompleteEncoding, CompleteEncodings}
 use Rattle.rasn_types.specs.Calendar.{Day, Stamp}
 use Rattle.rasn_types.specs.Time.{GeneralUtc, CanonicalUtc, GeneralGeneralized, CanonicalGeneralized, StrictGeneralized, DateText}
-use Rattle.rasn_types.specs.Shapes.{Tree, number, bits, numbers, instant, on_day, items, set_elements, absent, Kind, boolean, null, object_identifier, bit_string, named_bits, octet_string, integer, enumerated, fixed, numeric, printable, visible, ia5, any_octets, bmp, utf8, utc_time, generalized_time, date, Bound, Constraints, Admits, AdmitsPadded, Shape, leaf, any, prefix, choice, open_choice, option, seq, set, list, set_of, unknown, Parts, part, count, IsFirst, IsFirstOf, one_tag, sought_in, presences}
+use Rattle.rasn_types.specs.Shapes.{Tree, number, bits, numbers, instant, on_day, items, set_elements, absent, Kind, boolean, null, object_identifier, bit_string, named_bits, octet_string, integer, enumerated, fixed, numeric, printable, visible, ia5, any_octets, bmp, utf8, utc_time, generalized_time, date, Bound, Constraints, Admits, AdmitsPadded, Shape, leaf, any, prefix, choice, open_choice, option, seq, set, sorted_set, list, set_of, unknown, Parts, part, count, IsFirst, IsFirstOf, one_tag, sought_in, presences}
 use Rattle.rasn_types.specs.Shapes.Parts.{none}
 use Rattle.rasn_types.specs.declared.types.strings.alphabet.Alphabet.TheVariants.{Numeric, Printable, Visible, Ia5}
 use Rattle.rasn_types.specs.CharacterString.{AreAdmitted}
 use Rattle.rasn_types.specs.BitString.{significant}
-use Rattle.rasn_types.specs.Readings.{Reading, ReadsContents, ReadsMany, ReadsFrom, ReadsOptional, Part, ReadsSeq, ReadsChoice, ReadsUnknown, ReadsSet}
+use Rattle.rasn_types.specs.Readings.{Reading, ReadsContents, ReadsMany, ReadsFrom, ReadsOptional, Part, ReadsSeq, ReadsChoice, ReadsUnknown, ReadsSet, ReadsSortedSet}
 use Rattle.rasn_types.specs.Contents.{IsShortest, Contents, ReadsString, ReadsBitSegment, OctetSegment}
 
 -- The texts of times: BER reads the general forms, CER and DER the canonical ones, DER only the shortest of these
@@ -161,6 +161,8 @@ unfoldable mutual
   Reads rule (option tag s) depth closing = ReadsOptional (form rule) (one_tag tag) absent (Reads rule s depth closing) closing
   Reads rule (seq tag ps) depth closing = λ input t rest. (0 < depth) × ReadsContents rule tag true (λ c. ReadsSeq rule (parts_of rule ps (depth - 1) c) c) input t rest
   Reads rule (set tag ps) depth closing = λ input t rest. (0 < depth) × ReadsContents rule tag true (λ c. ReadsSet rule (presences ps) (ReadsChoice rule 0 (parts_of rule ps (depth - 1) c)) c) input t rest
+  Reads rule (sorted_set extensible tag ps) depth closing = λ input t rest. (0 < depth)
+      × ReadsContents rule tag true (λ c. ReadsSortedSet rule extensible (presences ps) (count ps) (ReadsOpenChoice rule (IsFirstOf ps) (count ps) (ReadsChoice rule 0 (parts_of rule ps (depth - 1) c))) c) input t rest
   Reads rule (list tag s size) depth closing = λ input t rest. (0 < depth) × ReadsContents rule tag true (λ c. ReadsList size (Reads rule s (depth - 2) c) c) input t rest
   Reads rule (set_of tag s size) depth closing = λ input t rest. (0 < depth) × ReadsContents rule tag true (λ c. ReadsSetOf rule size (Reads rule s (depth - 2) c) c) input t rest
   Reads rule unknown depth closing = ReadsList None (ReadsAny rule) closing

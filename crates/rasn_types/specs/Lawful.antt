@@ -1,7 +1,7 @@
 -- Lawful shapes.
 use Rattle.std.specs.Prelude.{◌≡◌, ◌⊎◌, ◌≢◌, false, Option, Some, None}
 use Rattle.rasn_types.specs.Tags.{tag_bit, Tag, eoc, IsTagBelow}
-use Rattle.rasn_types.specs.Shapes.{Shape, leaf, any, prefix, choice, open_choice, option, seq, set, list, set_of, unknown, Parts, part, own, IsFirst, IsFirstOf, Key, own_tag, first_tags, Presence, required, addition, optional_by, default_by, IsAlwaysPresent}
+use Rattle.rasn_types.specs.Shapes.{Shape, leaf, any, prefix, choice, open_choice, option, seq, set, sorted_set, list, set_of, unknown, Parts, part, own, IsFirst, IsFirstOf, Key, own_tag, first_tags, Presence, required, addition, optional_by, default_by, IsAlwaysPresent}
 use Rattle.rasn_types.specs.Shapes.Parts.{none}
 use Rattle.rasn_types.specs.Grammar.{Family, plain_family, bit_family, named_family, text_family, family}
 
@@ -68,6 +68,7 @@ unfoldable mutual
   IsLawful (option tag s) = (tag ≡ own s) × IsAlwaysPresent s × IsLawful s
   IsLawful (seq tag ps) = (tag ≢ eoc) × AreLawfulInOrder ps
   IsLawful (set tag ps) = (tag ≢ eoc) × AreLawfulByTag ps
+  IsLawful (sorted_set extensible tag ps) = (tag ≢ eoc) × AreComponents ps × AreDistinguished ps
   IsLawful (list tag s size) = (tag ≢ eoc) × IsAlwaysPresent s × IsLawful s
   IsLawful (set_of tag s size) = (tag ≢ eoc) × IsAlwaysPresent s × IsLawful s
   IsLawful unknown = ⊥
@@ -85,3 +86,8 @@ unfoldable mutual
   AreLawfulByTag none = Unit {0}
   AreLawfulByTag (part presence s ps) = (presence ≢ addition) × HasTag s × IsAlwaysPresent s × IsLawful s
       × ((m n : Tag) → IsFirst s m → IsFirstOf ps n → IsTagBelow m n) × AreLawfulByTag ps
+
+  -- Parts in any order, each of which has a tag.
+  pub AreComponents : Parts → Type 0
+  AreComponents none = Unit {0}
+  AreComponents (part presence s ps) = (presence ≢ addition) × HasTag s × IsAlwaysPresent s × IsLawful s × AreComponents ps

@@ -2,7 +2,7 @@
 use Rattle.std.specs.Prelude.{Bool, true, false, not, ◌&&◌, ◌||◌, nat_eq, nat_lt, List, [], ◌∷◌, ◌++◌, Option, Some, None}
 use Rattle.std.specs.List.{list_all, list_any}
 use Rattle.rasn_types.specs.Tags.{tag_bit, Tag, rank, is_eoc}
-use Rattle.rasn_types.specs.Shapes.{Shape, leaf, any, prefix, choice, open_choice, option, seq, set, list, set_of, unknown, Parts, part, own, Key, own_tag, first_tags, Presence, required, addition, optional_by, default_by}
+use Rattle.rasn_types.specs.Shapes.{Shape, leaf, any, prefix, choice, open_choice, option, seq, set, sorted_set, list, set_of, unknown, Parts, part, own, Key, own_tag, first_tags, Presence, required, addition, optional_by, default_by}
 use Rattle.rasn_types.specs.Shapes.Parts.{none}
 use Rattle.rasn_types.specs.Grammar.{Family, plain_family, bit_family, named_family, text_family, family}
 
@@ -34,6 +34,7 @@ abbrev mutual
   firsts (option tag s) = firsts s
   firsts (seq tag ps) = Some (tag ∷ [])
   firsts (set tag ps) = Some (tag ∷ [])
+  firsts (sorted_set extensible tag ps) = Some (tag ∷ [])
   firsts (list tag s size) = Some (tag ∷ [])
   firsts (set_of tag s size) = Some (tag ∷ [])
   firsts unknown = Some []
@@ -81,6 +82,7 @@ has_tag (open_choice ps) = false
 has_tag (option tag s) = true
 has_tag (seq tag ps) = true
 has_tag (set tag ps) = true
+has_tag (sorted_set extensible tag ps) = true
 has_tag (list tag s size) = true
 has_tag (set_of tag s size) = true
 has_tag unknown = false
@@ -123,6 +125,7 @@ abbrev mutual
   is_always_present (option tag s) = false
   is_always_present (seq tag ps) = true
   is_always_present (set tag ps) = true
+  is_always_present (sorted_set extensible tag ps) = true
   is_always_present (list tag s size) = true
   is_always_present (set_of tag s size) = true
   is_always_present unknown = false
@@ -163,6 +166,7 @@ abbrev mutual
   is_lawful (option tag s) = is_same_own tag (own s) && (is_always_present s && is_lawful s)
   is_lawful (seq tag ps) = not (is_eoc tag) && are_lawful_in_order ps
   is_lawful (set tag ps) = not (is_eoc tag) && are_lawful_by_tag ps
+  is_lawful (sorted_set extensible tag ps) = not (is_eoc tag) && (are_components ps && are_distinguished ps)
   is_lawful (list tag s size) = not (is_eoc tag) && (is_always_present s && is_lawful s)
   is_lawful (set_of tag s size) = not (is_eoc tag) && (is_always_present s && is_lawful s)
   is_lawful unknown = false
@@ -179,3 +183,7 @@ abbrev mutual
   are_lawful_by_tag none = true
   are_lawful_by_tag (part presence s ps) = not (is_addition presence) && (has_tag s && (is_always_present s && (is_lawful s
       && (holds_between is_tag_below (firsts s) (firsts_of ps) && are_lawful_by_tag ps))))
+
+  pub are_components : Parts → Bool
+  are_components none = true
+  are_components (part presence s ps) = not (is_addition presence) && (has_tag s && (is_always_present s && (is_lawful s && are_components ps)))

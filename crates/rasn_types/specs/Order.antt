@@ -1,5 +1,5 @@
 -- Relations of lists element by element, and order (X.690 9.3, 10.3, 11.6).
-use Rattle.std.specs.Prelude.{◌≡◌, ℕ, ◌<◌, ◌⊎◌, List, [], ◌∷◌}
+use Rattle.std.specs.Prelude.{◌≡◌, ℕ, ◌<◌, ◌⊎◌, List, [], ◌∷◌, ◌++◌}
 
 -- The lists have the same length, and R relates each two elements at the same position.
 abbrev pub Each : {X Y : Type 0} → (X → Y → Type 0) → List X → List Y → Type 0
@@ -16,3 +16,18 @@ abbrev pub AreAscending : {X : Type 0} → (X → X → Type 0) → List X → T
 AreAscending less [] = Unit {0}
 AreAscending less (x ∷ []) = Unit {0}
 AreAscending less (x ∷ y ∷ xs) = (less y x → ⊥) × AreAscending less (y ∷ xs)
+
+-- R relates x to each element.
+abbrev pub IsBeforeAll : {X : Type 0} → (X → X → Type 0) → X → List X → Type 0
+IsBeforeAll R x [] = Unit {0}
+IsBeforeAll R x (y ∷ ys) = R x y × IsBeforeAll R x ys
+
+-- R relates each element to all those after it.
+abbrev pub AreInOrder : {X : Type 0} → (X → X → Type 0) → List X → Type 0
+AreInOrder R [] = Unit {0}
+AreInOrder R (x ∷ xs) = IsBeforeAll R x xs × AreInOrder R xs
+
+-- `ys` has the elements of `xs`, in any order.
+abbrev pub IsReordered : {X : Type 0} → List X → List X → Type 0
+IsReordered [] ys = ys ≡ []
+IsReordered {X} (x ∷ xs) ys = (before : List X) × (after : List X) × (ys ≡ before ++ (x ∷ after)) × IsReordered xs (before ++ after)

@@ -1,8 +1,8 @@
 -- How readings are combined. A reading relates an input to the value at its front, and to the rest.
-use Rattle.std.specs.Prelude.{◌≡◌, ℕ, suc, ◌⊎◌, ◌≢◌, List, [], ◌∷◌, ◌++◌, Bool, true, false, Option, Some, None}
+use Rattle.std.specs.Prelude.{◌≡◌, ℕ, suc, ◌⊎◌, ◌≢◌, List, [], ◌∷◌, ◌++◌, Bool, true, false, Some, None}
 use Rattle.rasn_types.specs.Tags.{Form, form, IsStrict, Codec, Tag, IsTagBelow}
 use Rattle.rasn_types.specs.Framing.{Frame, definite, indefinite, Begins, NextTag, Ended}
-use Rattle.rasn_types.specs.Shapes.{Tree, items, chosen, absent, Same, Presence, required, addition, optional_by, default_by, Sought, one_tag, any_of}
+use Rattle.rasn_types.specs.Shapes.{Tree, items, IsSetTree, chosen, absent, Same, Presence, required, addition, optional_by, default_by, Sought, one_tag, any_of}
 use Rattle.rasn_types.specs.Order.{Each, AreAscending}
 
 abbrev pub Reading : Type 0 → Type 1
@@ -136,4 +136,16 @@ ReadsUnknown rule P k reads input t rest = (u : Tree) × (t ≡ chosen k u) × (
 abbrev pub ReadsSet : Codec → List Presence → Reading Tree → Bool → Reading Tree
 ReadsSet rule ps reads closing input t rest = (readings : List Tree) × (ts : List Tree) × (t ≡ items ts)
     × ReadsMany reads closing input readings rest × ByPart 0 ps readings ts
+    × (IsStrict rule → (bs : List (List ℕ)) × ReadsFrom reads input readings rest bs × AreInTagOrder bs)
+
+-- The trees of the readings of part k, in their order.
+abbrev pub AllOf : ℕ → List Tree → List Tree → Type 0
+AllOf k [] us = us ≡ []
+AllOf k (r ∷ rs) us = ((u : Tree) × (more : List Tree) × (r ≡ chosen k u) × (us ≡ u ∷ more) × AllOf k rs more) ⊎ (((u : Tree) → r ≢ chosen k u) × AllOf k rs us)
+
+-- The contents of a SET that may have an extension marker: unknown components are anywhere among the others, and have
+-- the number k, after those of the parts. Their trees are in the order in which they are read.
+abbrev pub ReadsSortedSet : Codec → Bool → List Presence → ℕ → Reading Tree → Bool → Reading Tree
+ReadsSortedSet rule extensible ps k reads closing input t rest = (readings : List Tree) × (ts : List Tree) × (us : List Tree) × IsSetTree extensible ts us t
+    × ReadsMany reads closing input readings rest × ByPart 0 ps readings ts × AllOf k readings us
     × (IsStrict rule → (bs : List (List ℕ)) × ReadsFrom reads input readings rest bs × AreInTagOrder bs)

@@ -1,5 +1,5 @@
 -- Shapes of types and trees of values.
-use Rattle.std.specs.Prelude.{◌≡◌, ℕ, suc, ◌+◌, ◌≤◌, ◌⊎◌, List, [], ◌∷◌, Bool, true, false, ℤ, ◌≤ℤ◌, Option, Some, None, IfSome, if◌then◌else◌, IsPermutation}
+use Rattle.std.specs.Prelude.{◌≡◌, ℕ, suc, ◌+◌, ◌≤◌, ◌⊎◌, List, [], ◌∷◌, ◌++◌, Bool, true, false, ℤ, ◌≤ℤ◌, Option, Some, None, IfSome, if◌then◌else◌, IsPermutation}
 use Rattle.rasn_types.specs.Calendar.{Day, Moment}
 use Rattle.rasn_types.specs.Tags.{Tag, is_eoc}
 use Rattle.rasn_types.specs.declared.types.constraints.Bounded.{Bounded}
@@ -23,6 +23,11 @@ pub data Tree : Type 0 where
 abbrev pub items : List Tree → Tree
 items [] = done
 items (t ∷ ts) = joined t (items ts)
+
+-- The trees of a SET's parts and, last, one of its unknown values. Without an extension marker there are none of these.
+abbrev pub IsSetTree : Bool → List Tree → List Tree → Tree → Type 0
+IsSetTree true ts us t = t ≡ items (ts ++ (items us ∷ []))
+IsSetTree false ts us t = (us ≡ []) × (t ≡ items ts)
 
 -- Equality of trees, except that the order of set elements doesn't count.
 abbrev pub Same : Tree → Tree → Type 0
@@ -100,6 +105,8 @@ default_choice d = default_by first_tags d
 -- `any None` is an open type without a tag. The tag of `option` is the one that is looked for. `unknown` is any number
 -- of values up to the end of the contents: those that a SEQUENCE with an extension marker doesn't name (X.680 25).
 -- `open_choice` has an extension marker: a value with a tag that is none of its parts' is unknown (X.680 29).
+-- `sorted_set` is a SET that is written in the order of its tags, whatever the order of its parts. It may have an
+-- extension marker: components with a tag that is none of its parts' are unknown then (X.680 27).
 mutual
   pub data Shape : Type 0 where
     leaf : Kind → Tag → Constraints → Shape
@@ -109,6 +116,7 @@ mutual
     option : Option Tag → Shape → Shape
     seq : Tag → Parts → Shape
     set : Tag → Parts → Shape
+    sorted_set : Bool → Tag → Parts → Shape
     list : Tag → Shape → Option (Bound ℕ) → Shape
     set_of : Tag → Shape → Option (Bound ℕ) → Shape
     unknown : Shape
@@ -137,6 +145,7 @@ own (open_choice parts) = None
 own (option tag s) = own s
 own (seq tag parts) = Some tag
 own (set tag parts) = Some tag
+own (sorted_set extensible tag parts) = Some tag
 own (list tag s size) = Some tag
 own (set_of tag s size) = Some tag
 own unknown = None
@@ -162,6 +171,7 @@ abbrev mutual
   IsFirst (option tag s) n = IsFirst s n
   IsFirst (seq tag parts) n = n ≡ tag
   IsFirst (set tag parts) n = n ≡ tag
+  IsFirst (sorted_set extensible tag parts) n = n ≡ tag
   IsFirst (list tag s size) n = n ≡ tag
   IsFirst (set_of tag s size) n = n ≡ tag
   IsFirst unknown n = ⊥
@@ -200,6 +210,7 @@ tagged_as t c (open_choice parts) = open_choice parts
 tagged_as t c (option tag s) = option (looked_for t) (tagged_as t c s)
 tagged_as t c (seq tag parts) = seq t parts
 tagged_as t c (set tag parts) = set t parts
+tagged_as t c (sorted_set extensible tag parts) = sorted_set extensible t parts
 tagged_as t c (list tag s size) = list t s c.size
 tagged_as t c (set_of tag s size) = set_of t s c.size
 tagged_as t c unknown = unknown
@@ -215,6 +226,7 @@ abbrev mutual
   IsAlwaysPresent (option tag s) = ⊥
   IsAlwaysPresent (seq tag parts) = Unit {0}
   IsAlwaysPresent (set tag parts) = Unit {0}
+  IsAlwaysPresent (sorted_set extensible tag parts) = Unit {0}
   IsAlwaysPresent (list tag s size) = Unit {0}
   IsAlwaysPresent (set_of tag s size) = Unit {0}
   IsAlwaysPresent unknown = ⊥

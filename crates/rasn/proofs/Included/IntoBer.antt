@@ -5,9 +5,9 @@ use Rattle.rasn_types.specs.declared.types.codec.Codec.{Codec}
 use Rattle.rasn_types.specs.declared.types.codec.Codec.TheVariants.{Ber, Cer, Der}
 use Rattle.rasn_types.specs.declared.types.tag.Tag.{Tag}
 use Rattle.rasn_types.specs.Framing.{Frame, with_length, without_length, Extent, NextTag, CompleteEncoding, plain, closed, CompleteEncodings, none, one_more}
-use Rattle.rasn_types.specs.Shapes.{Tree, absent, Kind, boolean, null, object_identifier, integer, enumerated, octet_string, fixed, numeric, printable, visible, ia5, any_octets, bmp, utf8, utc_time, generalized_time, date, Shape, leaf, any, prefix, choice, open_choice, option, seq, set, list, set_of, unknown, Parts, part, count, IsFirstOf, presences, Presence, required, addition, optional_by, default_by, Sought, one_tag, any_of, sought_in, IsAlwaysPresent, AreAlwaysPresent}
+use Rattle.rasn_types.specs.Shapes.{Tree, absent, Kind, boolean, null, object_identifier, integer, enumerated, octet_string, fixed, numeric, printable, visible, ia5, any_octets, bmp, utf8, utc_time, generalized_time, date, Shape, leaf, any, prefix, choice, open_choice, option, seq, set, sorted_set, list, set_of, unknown, Parts, part, count, IsFirstOf, presences, Presence, required, addition, optional_by, default_by, Sought, one_tag, any_of, sought_in, IsAlwaysPresent, AreAlwaysPresent}
 use Rattle.rasn_types.specs.declared.types.constraints.Bound.{Bound}
-use Rattle.rasn_types.specs.Readings.{Reading, ReadsContents, definite_form, indefinite_form, ReadsMany, IsLeftOut, IsPresent, ReadsOptional, IsNoDefault, ReadsPart, ReadsInOrder, AllMissing, presences_in, HasRequired, ReadsSeq, ReadsChoice, ReadsSet}
+use Rattle.rasn_types.specs.Readings.{Reading, ReadsContents, definite_form, indefinite_form, ReadsMany, IsLeftOut, IsPresent, ReadsOptional, IsNoDefault, ReadsPart, ReadsInOrder, AllMissing, presences_in, HasRequired, ReadsSeq, ReadsChoice, ReadsSet, ReadsSortedSet}
 use Rattle.rasn_types.specs.Contents.{ReadsString, primitive, segments, closed_segments, ReadsSegments, ReadsBitSegment, OctetSegment, Contents, IsBool}
 use Rattle.rasn_types.specs.Grammar.{Reads, parts_of, top, Family, plain_family, bit_family, named_family, text_family, family, ReadsIn, ReadsOpen, ReadsAny, ReadsOpenChoice, ReadsList, ReadsSetOf, Text}
 use Rattle.rasn_types.specs.Lawful.{IsLawful, AreAlternatives}
@@ -183,6 +183,15 @@ open_choice_in : (ps : Parts) (rule : Codec) (depth : ℕ) (c : Bool) → EachIn
 open_choice_in ps rule depth c into input t rest (inl h) = inl (choice_in ps rule depth c into 0 input t rest h)
 open_choice_in ps rule depth c into input t rest (inr (u, e, n, next, other, h)) = inr (u, e, n, next_ber next, other, any_in rule input u rest h)
 
+-- A SET in the order of its tags.
+sorted_set_in : (extensible : Bool) (ps : Parts) (rule : Codec) (depth : ℕ) (c : Bool) → EachIn rule depth c ps → (closing : Bool)
+    → IsIn (ReadsSortedSet rule extensible (presences ps) (count ps) (ReadsOpenChoice rule (IsFirstOf ps) (count ps) (ReadsChoice rule 0 (parts_of rule ps depth c))) closing)
+    (ReadsSortedSet Ber extensible (presences ps) (count ps) (ReadsOpenChoice Ber (IsFirstOf ps) (count ps) (ReadsChoice Ber 0 (parts_of Ber ps depth c))) closing)
+sorted_set_in extensible ps rule depth c into closing input t rest (rs, ts, us, e, m, b, a, z) =
+    let reads = ReadsOpenChoice rule (IsFirstOf ps) (count ps) (ReadsChoice rule 0 (parts_of rule ps depth c)) in
+    let wide = ReadsOpenChoice Ber (IsFirstOf ps) (count ps) (ReadsChoice Ber 0 (parts_of Ber ps depth c)) in
+    (rs, ts, us, e, many_in reads wide (open_choice_in ps rule depth c into) closing input rs rest m, b, a, λ s. absurd s)
+
 list_in : (size : Option (Bound ℕ)) (reads wide : Reading Tree) → IsIn reads wide → (closing : Bool) → IsIn (ReadsList size reads closing) (ReadsList size wide closing)
 list_in size reads wide into closing input t rest (ts, e, b, m) = (ts, e, b, many_in reads wide into closing input ts rest m)
 
@@ -210,6 +219,12 @@ mutual
     h.0,
     inside_in (λ c. ReadsSet rule (presences ps) (ReadsChoice rule 0 (parts_of rule ps (depth - 1) c)) c) (λ c. ReadsSet Ber (presences ps) (ReadsChoice Ber 0 (parts_of Ber ps (depth - 1) c)) c)
         (λ c. set_in ps rule (depth - 1) c (parts_in ps rule (depth - 1) c) c) input t rest h.1,
+  )
+  reads_in (sorted_set extensible tag ps) rule depth closing = λ input t rest h. (
+    h.0,
+    inside_in (λ c. ReadsSortedSet rule extensible (presences ps) (count ps) (ReadsOpenChoice rule (IsFirstOf ps) (count ps) (ReadsChoice rule 0 (parts_of rule ps (depth - 1) c))) c)
+        (λ c. ReadsSortedSet Ber extensible (presences ps) (count ps) (ReadsOpenChoice Ber (IsFirstOf ps) (count ps) (ReadsChoice Ber 0 (parts_of Ber ps (depth - 1) c))) c)
+        (λ c. sorted_set_in extensible ps rule (depth - 1) c (parts_in ps rule (depth - 1) c) c) input t rest h.1,
   )
   reads_in (list tag s size) rule depth closing = λ input t rest h. (
     h.0,
@@ -248,6 +263,7 @@ solid_of (open_choice ps) lawful = inl (alternatives_solid ps lawful.0)
 solid_of (option tag s) lawful = inr (tag, s, refl, lawful.1)
 solid_of (seq tag ps) lawful = inl tt
 solid_of (set tag ps) lawful = inl tt
+solid_of (sorted_set extensible tag ps) lawful = inl tt
 solid_of (list tag s size) lawful = inl tt
 solid_of (set_of tag s size) lawful = inl tt
 solid_of unknown lawful = absurd lawful

@@ -7,15 +7,16 @@ use Rattle.rasn_types.specs.Bytes.{Same, Bytes}
 use Rattle.rasn_types.specs.Carried.{Carried}
 use Rattle.rasn_types.specs.Lawful.{IsLawful}
 use Rattle.rasn.specs.Headline.{Identify}
-use Rattle.rasn.specs.Laws.{OneReading, Included, ReadAgain, Canonical, WrittenOnce, StrictDer, OneEncoding, EncodingSteps}
+use Rattle.rasn.specs.Laws.{OneReading, Included, ReadAgain, Canonical, WrittenOnce, ListedAlike, OneEncoding, EncodingSteps}
 use Rattle.rasn_types.proofs.Encoding.Complete.{whole_one, whole_text_one, steps_twice}
-pub use Rattle.rasn.proofs.OneReading.Shapes.{one_leaf, one_open, one_prefix, one_choice, one_open_choice, one_option, one_sequence, one_set, one_sequence_of, one_set_of, one_unknown}
+pub use Rattle.rasn.proofs.OneReading.Shapes.{one_leaf, one_open, one_prefix, one_choice, one_open_choice, one_option, one_sequence, one_set, one_sorted_set, one_sequence_of, one_set_of, one_unknown}
 use Rattle.rasn_types.proofs.SetOf.Same.{same_sym, same_trans}
 use Rattle.rasn_types.proofs.Encoding.SameOctets.{once}
+use Rattle.rasn_types.proofs.Encoding.Listed.{set_written_sorted, sorted_written_listed}
+use Rattle.rasn_types.proofs.SortedSets.{set_sorted, sorted_listed}
 use Rattle.rasn.proofs.OneReading.Shapes.{reads_one}
 use Rattle.rasn.proofs.Included.IntoBer.{IsOptional, solid_of, included as into_ber}
 use Rattle.rasn.proofs.ReadBack.Shapes.{carried_back, back}
-use Rattle.rasn.proofs.StrictDer.Shapes.{all_told}
 
 pub one_reading : OneReading
 one_reading s lawful rule depth closing input t u rest other h k = reads_one s lawful rule depth closing input t u rest other h k
@@ -51,8 +52,12 @@ canonical s lawful t u c d = (λ h. once s Der t u c.octets d.octets h c.is d.is
 pub identify : (s : Shape) (t : Tree) (octets : List ℕ) → Bytes Der s t octets → Identify s t octets
 identify s t octets is lawful within_limits u c = canonical s lawful t u (record { octets = octets; is = is; within_limits = within_limits }) c
 
-pub strict_der : StrictDer
-strict_der s lawful input o t rest h c = (c.octets, c.is, all_told s lawful 128 false input t rest c.octets o h c.is c.within_limits)
+pub listed_alike : ListedAlike
+unfolding IsLawful
+listed_alike rule tag ps lawful = (
+  λ depth closing input t rest. (set_sorted rule tag ps depth closing input t rest, sorted_listed rule tag ps depth closing input t rest),
+  λ t b. (set_written_sorted rule tag ps lawful.1 t b, sorted_written_listed rule tag ps lawful.1 t b),
+)
 
 pub one_encoding : OneEncoding
 one_encoding rule other a b x y v w e = let o = whole_one x y v w e in (whole_text_one x y v w e, o.0, o.1)

@@ -1,11 +1,11 @@
 -- Readings that relate an input to one value and one rest stay so when they are joined.
-use Rattle.std.proofs.Common.{◌≡◌, ℕ, suc, ◌⊎◌, inl, inr, List, [], ◌∷◌, Bool, true, false, refl, sym, ap, ap₂, ◌∙◌, subst}
+use Rattle.std.proofs.Common.{◌≡◌, ℕ, suc, ◌⊎◌, inl, inr, List, [], ◌∷◌, ◌++◌, Bool, true, false, refl, sym, ap, ap₂, ◌∙◌, subst}
 use Rattle.rasn_types.specs.Tags.{Form, form, IsStrict}
 use Rattle.rasn_types.specs.declared.types.codec.Codec.{Codec}
 use Rattle.rasn_types.specs.declared.types.tag.Tag.{Tag}
 use Rattle.rasn_types.specs.Framing.{NextTag}
-use Rattle.rasn_types.specs.Shapes.{Tree, items, chosen, absent, Presence, required, addition, optional_by, default_by, Sought}
-use Rattle.rasn_types.specs.Readings.{Reading, ReadsContents, definite_form, indefinite_form, ReadsMany, IsNoDefault, ReadsOptional, Part, ReadsPart, ReadsInOrder, AllMissing, presences_in, AreAllLeftOut, ReadsSeq, ReadsChoice, ReadsUnknown, ByPart, ReadsSet}
+use Rattle.rasn_types.specs.Shapes.{Tree, items, IsSetTree, chosen, absent, Presence, required, addition, optional_by, default_by, Sought}
+use Rattle.rasn_types.specs.Readings.{Reading, ReadsContents, definite_form, indefinite_form, ReadsMany, IsNoDefault, ReadsOptional, Part, ReadsPart, ReadsInOrder, AllMissing, presences_in, AreAllLeftOut, ReadsSeq, ReadsChoice, ReadsUnknown, ByPart, AllOf, ReadsSet, ReadsSortedSet}
 use Rattle.rasn_types.proofs.Headers.Frames.{frame_one, next_one}
 use Rattle.rasn_de.proofs.Constructed.Optional.{apart}
 use Rattle.rasn_de.proofs.Constructed.OneReading.{all_missing_one, by_part_one}
@@ -122,3 +122,21 @@ set_one rule ps reads one closing input t u rest other h k =
     let m = many_one reads one closing input h.0 k.0 rest other h.3 k.3 in
     let b = by_part_one ps 0 k.0 h.1 k.1 (subst (λ r. ByPart 0 ps r h.1) m.0 h.4) k.4 in
     (h.2 ∙ (ap items b ∙ sym k.2), m.1)
+
+all_of_one : (k : ℕ) (rs us vs : List Tree) → AllOf k rs us → AllOf k rs vs → us ≡ vs
+all_of_one k [] us vs h i = h ∙ sym i
+all_of_one k (r ∷ rs) us vs (inl (u, more, e, f, h)) (inl (v, others, g, l, i)) = let d : u ≡ v = cc in f ∙ (ap₂ ◌∷◌ d (all_of_one k rs more others h i) ∙ sym l)
+all_of_one k (r ∷ rs) us vs (inl (u, more, e, f, h)) (inr (d, i)) = absurd (d u e)
+all_of_one k (r ∷ rs) us vs (inr (d, h)) (inl (v, others, g, l, i)) = absurd (d v g)
+all_of_one k (r ∷ rs) us vs (inr (d, h)) (inr (d', i)) = all_of_one k rs us vs h i
+
+set_tree_of : (extensible : Bool) (ts us ts' us' : List Tree) (t u : Tree) → ts ≡ ts' → us ≡ us' → IsSetTree extensible ts us t → IsSetTree extensible ts' us' u → t ≡ u
+set_tree_of true ts us ts' us' t u e f h k = h ∙ (ap₂ (λ x y. items (x ++ (items y ∷ []))) e f ∙ sym k)
+set_tree_of false ts us ts' us' t u e f h k = h.1 ∙ (ap items e ∙ sym k.1)
+
+pub sorted_set_one : (rule : Codec) (extensible : Bool) (ps : List Presence) (k : ℕ) (reads : Reading Tree) → IsOne reads → (closing : Bool) → IsOne (ReadsSortedSet rule extensible ps k reads closing)
+sorted_set_one rule extensible ps k reads one closing input t u rest other (rs, ts, us, e, m, b, a, z) (rs', ts', us', e', m', b', a', z') =
+    let o = many_one reads one closing input rs rs' rest other m m' in
+    let p = by_part_one ps 0 rs' ts ts' (subst (λ r. ByPart 0 ps r ts) o.0 b) b' in
+    let q = all_of_one k rs' us us' (subst (λ r. AllOf k r us) o.0 a) a' in
+    (set_tree_of extensible ts us ts' us' t u p q e e', o.1)

@@ -3,16 +3,16 @@ use Rattle.std.proofs.Common.{◌≡◌, ℕ, ◌-◌, ◌⊎◌, inl, inr, Bool
 use Rattle.rasn_types.specs.Tags.{form, IsTagBelow}
 use Rattle.rasn_types.specs.declared.types.codec.Codec.{Codec}
 use Rattle.rasn_types.specs.declared.types.tag.Tag.{Tag}
-use Rattle.rasn_types.specs.Shapes.{Tree, items, set_elements, absent, Shape, leaf, any, prefix, choice, open_choice, option, seq, set, list, set_of, unknown, Parts, part, count, IsFirstOf, one_tag, presences}
+use Rattle.rasn_types.specs.Shapes.{Tree, items, set_elements, absent, Shape, leaf, any, prefix, choice, open_choice, option, seq, set, sorted_set, list, set_of, unknown, Parts, part, count, IsFirstOf, one_tag, presences}
 use Rattle.rasn_types.specs.declared.types.constraints.Bound.{Bound}
 use Rattle.rasn_types.specs.Shapes.Parts.{none}
-use Rattle.rasn_types.specs.Readings.{Reading, ReadsSeq, ReadsChoice, ReadsSet}
-use Rattle.rasn_types.specs.Grammar.{Reads, parts_of, ReadsAny, ReadsList, ReadsSetOf}
-use Rattle.rasn_types.specs.Lawful.{AreDistinguished, IsLawful, AreAlternatives, AreLawfulInOrder, AreLawfulByTag}
-use Rattle.rasn.proofs.OneReading.Joined.{IsOne, inside_one, many_one, perhaps_one, EachPart, ReadsOne, seq_one, IsFirstIn, AreApart, choice_one, open_choice_one, set_one}
+use Rattle.rasn_types.specs.Readings.{Reading, ReadsSeq, ReadsChoice, ReadsSet, ReadsSortedSet}
+use Rattle.rasn_types.specs.Grammar.{Reads, parts_of, ReadsAny, ReadsOpenChoice, ReadsList, ReadsSetOf}
+use Rattle.rasn_types.specs.Lawful.{AreDistinguished, IsLawful, AreAlternatives, AreLawfulInOrder, AreLawfulByTag, AreComponents}
+use Rattle.rasn.proofs.OneReading.Joined.{IsOne, inside_one, many_one, perhaps_one, EachPart, ReadsOne, seq_one, IsFirstIn, AreApart, choice_one, open_choice_one, set_one, sorted_set_one}
 use Rattle.rasn.proofs.OneReading.Leaves.{leaf_one}
 use Rattle.rasn.proofs.OneReading.Any.{any_one, open_one}
-use Rattle.rasn.specs.Laws.{IsReadOnce, AreReadOnce, OneLeaf, OneOpen, OnePrefix, OneChoice, OneOption, OneSequence, OneSet, OneOpenChoice, OneSequenceOf, OneSetOf, OneUnknown}
+use Rattle.rasn.specs.Laws.{IsReadOnce, AreReadOnce, OneLeaf, OneOpen, OnePrefix, OneChoice, OneOption, OneSequence, OneSet, OneSortedSet, OneOpenChoice, OneSequenceOf, OneSetOf, OneUnknown}
 
 first_in : (rule : Codec) (ps : Parts) (depth : ℕ) (closing : Bool) (n : Tag) → IsFirstIn (parts_of rule ps depth closing) n → IsFirstOf ps n
 unfolding Reads parts_of
@@ -78,6 +78,13 @@ one_set rule tag ps one told depth closing = λ input t u r o h k.
     (λ c. set_one rule (presences ps) (ReadsChoice rule 0 (parts_of rule ps (depth - 1) c))
     (choice_one rule (parts_of rule ps (depth - 1) c) (parts_one rule ps one (depth - 1) c) (apart rule ps (depth - 1) c told) 0) c) input t u r o h.1 k.1
 
+pub one_sorted_set : OneSortedSet
+unfolding Reads parts_of
+one_sorted_set rule extensible tag ps one told depth closing = λ input t u r o h k.
+    inside_one (λ c. ReadsSortedSet rule extensible (presences ps) (count ps) (ReadsOpenChoice rule (IsFirstOf ps) (count ps) (ReadsChoice rule 0 (parts_of rule ps (depth - 1) c))) c)
+    (λ c. sorted_set_one rule extensible (presences ps) (count ps) (ReadsOpenChoice rule (IsFirstOf ps) (count ps) (ReadsChoice rule 0 (parts_of rule ps (depth - 1) c))) (one_open_choice rule ps one told (depth - 1) c) c)
+    input t u r o h.1 k.1
+
 pub one_sequence_of : OneSequenceOf
 unfolding Reads parts_of
 one_sequence_of rule tag s size one depth closing = λ input t u r o h k.
@@ -119,6 +126,11 @@ unfolding IsLawful
 by_tag_lawful none h = (tt, tt)
 by_tag_lawful (part presence s ps) h = let r = by_tag_lawful ps h.5 in ((inl h.3, r.0), (λ n p q. not_below_itself n (h.4 n n p q), r.1))
 
+components_lawful : (ps : Parts) → AreComponents ps → EachLawful ps
+unfolding IsLawful
+components_lawful none h = tt
+components_lawful (part presence s ps) h = (inl h.3, components_lawful ps h.4)
+
 mutual
   unfolding IsLawful
 
@@ -131,6 +143,7 @@ mutual
   reads_one (option tag s) lawful rule = one_option rule tag s (reads_one s lawful.2 rule)
   reads_one (seq tag ps) lawful rule = one_sequence rule tag ps (each_one ps (in_order_lawful ps lawful.1) rule)
   reads_one (set tag ps) lawful rule = let l = by_tag_lawful ps lawful.1 in one_set rule tag ps (each_one ps l.0 rule) l.1
+  reads_one (sorted_set extensible tag ps) lawful rule = one_sorted_set rule extensible tag ps (each_one ps (components_lawful ps lawful.1) rule) lawful.2
   reads_one (list tag s size) lawful rule = one_sequence_of rule tag s size (reads_one s lawful.2 rule)
   reads_one (set_of tag s size) lawful rule = one_set_of rule tag s size (reads_one s lawful.2 rule)
   reads_one unknown lawful rule = absurd lawful

@@ -4,7 +4,7 @@ use Rattle.rasn_types.specs.Tags.{Form, form, loose}
 use Rattle.rasn_types.specs.declared.types.codec.Codec.{Codec}
 use Rattle.rasn_types.specs.declared.types.tag.Tag.{Tag}
 use Rattle.rasn_types.specs.Framing.{NextTag}
-use Rattle.rasn_types.specs.Shapes.{Tree, Kind, Shape, leaf, any, prefix, choice, open_choice, option, seq, set, list, set_of, unknown, Parts, part, IsFirst, IsFirstOf, one_tag, IsAlwaysPresent, AreAlwaysPresent}
+use Rattle.rasn_types.specs.Shapes.{Tree, Kind, Shape, leaf, any, prefix, choice, open_choice, option, seq, set, sorted_set, list, set_of, unknown, Parts, part, IsFirst, IsFirstOf, one_tag, IsAlwaysPresent, AreAlwaysPresent}
 use Rattle.rasn_types.specs.Shapes.Parts.{none}
 use Rattle.rasn_types.specs.Readings.{Reading, ReadsContents, definite_form, indefinite_form, ReadsChoice, IsLeftOut, IsPresent}
 use Rattle.rasn_types.specs.Contents.{ReadsString, primitive, segments, closed_segments, ReadsBitSegment, OctetSegment}
@@ -56,6 +56,7 @@ begins (open_choice ps) solid has rule depth closing input t rest h = absurd has
 begins (option tag s) solid has rule depth closing input t rest h = absurd solid
 begins (seq tag ps) solid has rule depth closing input t rest h = (tag, inside_next h.1, refl)
 begins (set tag ps) solid has rule depth closing input t rest h = (tag, inside_next h.1, refl)
+begins (sorted_set extensible tag ps) solid has rule depth closing input t rest h = (tag, inside_next h.1, refl)
 begins (list tag s size) solid has rule depth closing input t rest h = (tag, inside_next h.1, refl)
 begins (set_of tag s size) solid has rule depth closing input t rest h = (tag, inside_next h.1, refl)
 begins unknown solid has rule depth closing input t rest h = absurd solid
@@ -74,6 +75,7 @@ tagged (choice ps) solid = inl tt
 tagged (option tag s) solid = inl tt
 tagged (seq tag ps) solid = inl tt
 tagged (set tag ps) solid = inl tt
+tagged (sorted_set extensible tag ps) solid = inl tt
 tagged (list tag s size) solid = inl tt
 tagged (set_of tag s size) solid = inl tt
 tagged unknown solid = absurd solid
@@ -134,6 +136,7 @@ mutual
   solid_closing (option tag s) solid rule depth c d input t rest h = absurd solid
   solid_closing (seq tag ps) solid rule depth c d input t rest h = h
   solid_closing (set tag ps) solid rule depth c d input t rest h = h
+  solid_closing (sorted_set extensible tag ps) solid rule depth c d input t rest h = h
   solid_closing (list tag s size) solid rule depth c d input t rest h = h
   solid_closing (set_of tag s size) solid rule depth c d input t rest h = h
   solid_closing unknown solid rule depth c d input t rest h = absurd solid

@@ -4,7 +4,7 @@ use Rattle.rasn_types.specs.Tags.{Form, form, eoc}
 use Rattle.rasn_types.specs.declared.types.codec.Codec.{Codec}
 use Rattle.rasn_types.specs.declared.types.tag.Tag.{Tag}
 use Rattle.rasn_types.specs.Framing.{NextTag, Ended}
-use Rattle.rasn_types.specs.Shapes.{Tree, items, chosen, absent, Shape, leaf, any, prefix, choice, open_choice, option, seq, set, list, set_of, unknown, Parts, part, count, own, IsFirst, Key, own_tag, first_tags, Presence, required, addition, optional_by, default_by, Sought, one_tag, any_of, sought_by, sought_in, IsAlwaysPresent}
+use Rattle.rasn_types.specs.Shapes.{Tree, items, chosen, absent, Shape, leaf, any, prefix, choice, open_choice, option, seq, set, sorted_set, list, set_of, unknown, Parts, part, count, own, IsFirst, Key, own_tag, first_tags, Presence, required, addition, optional_by, default_by, Sought, one_tag, any_of, sought_by, sought_in, IsAlwaysPresent}
 use Rattle.rasn_types.specs.Shapes.Parts.{none}
 use Rattle.rasn_types.specs.Readings.{IsLeftOut, IsPresent, Part, IsNoDefault, ReadsPart, ReadsInOrder, IsMissing, AllMissing, presences_in, HasRequired, AreAllLeftOut, ReadsSeq, ReadsChoice}
 use Rattle.rasn_types.specs.Contents.{joined_lists}
@@ -42,6 +42,7 @@ own_first (open_choice ps) solid tag n e h = cc
 own_first (option o s) solid tag n e h = absurd solid
 own_first (seq t ps) solid tag n e h = cc
 own_first (set t ps) solid tag n e h = cc
+own_first (sorted_set extensible t ps) solid tag n e h = cc
 own_first (list t s size) solid tag n e h = cc
 own_first (set_of t s size) solid tag n e h = cc
 own_first unknown solid tag n e h = absurd solid

@@ -68,7 +68,7 @@ abbrev pub ComponentBack : Codec → ℕ → Presence → Shape → Tree → Lis
 ComponentBack rule depth presence s t b = (v : Tree) × Same t v
     × (((b ≡ []) × IsMissing presence v) ⊎ (IsNoDefault presence v × ((rest : List ℕ) (closing : Bool) → Reads rule s depth closing (b ++ rest) v rest)))
 
-component_back : (rule : Codec) (depth : ℕ) (s : Shape) → IsBack rule s depth → (presence : Presence) (t : Tree) (b : List ℕ)
+pub component_back : (rule : Codec) (depth : ℕ) (s : Shape) → IsBack rule s depth → (presence : Presence) (t : Tree) (b : List ℕ)
     → PartIsWithinLimits presence (IsWithinLimits rule s depth) t → WritesPart presence (Bytes rule s) t b → ComponentBack rule depth presence s t b
 component_back rule depth s back required t b within_limits w = let r = back t b within_limits w in (r.0, r.1, inr (tt, r.2))
 component_back rule depth s back addition t b within_limits (inl w) = absurd (within_limits.0 w.0)
@@ -85,7 +85,7 @@ pub record ReadMore (rule : Codec) (depth : ℕ) (all : Parts) (b : List ℕ) (t
   pub again : (rest : List ℕ) (closing : Bool) → Component rule depth all closing (b ++ rest) t rest
   pub begins : (rest : List ℕ) → HasNextTag (b ++ rest)
 
-read_more : (rule : Codec) (depth : ℕ) (all : Parts) (k : ℕ) (presence : Presence) (s : Shape) (ps : Parts) → IsAlwaysPresent s → HasTag s
+pub read_more : (rule : Codec) (depth : ℕ) (all : Parts) (k : ℕ) (presence : Presence) (s : Shape) (ps : Parts) → IsAlwaysPresent s → HasTag s
     → IsAmong rule depth all k (part presence s ps) → (v : Tree) (b : List ℕ) → IsNoDefault presence v
     → ((rest : List ℕ) (closing : Bool) → Reads rule s depth closing (b ++ rest) v rest) → ReadMore rule depth all b (chosen k v)
 unfolding Reads parts_of

@@ -1,32 +1,30 @@
 -- What is written of a carried tree is read back.
 use Rattle.std.proofs.Common.{◌≡◌, ℕ, ◌-◌, ◌≤◌, ◌⊎◌, ◌≢◌, inl, inr, List, [], ◌∷◌, ◌++◌, Bool, true, false, Option, Some, None, refl, sym, ◌∙◌, subst, append-nil, append_assoc, ap}
 use Rattle.std.proofs.lemmas.List.Sorted.{IsPermutation-refl}
-use Rattle.rasn_types.specs.Tags.{Form, form, eoc, loose_form, loose}
+use Rattle.rasn_types.specs.Tags.{Form, form, eoc, loose_form}
 use Rattle.rasn_types.specs.declared.types.codec.Codec.{Codec}
 use Rattle.rasn_types.specs.declared.types.codec.Codec.TheVariants.{Ber, Cer, Der}
 use Rattle.rasn_types.specs.declared.types.tag.Tag.{Tag}
-use Rattle.rasn_types.specs.Framing.{NextTag, Frame, with_length, definite, Ended, CompleteEncoding, plain, CompleteEncodings, none, one_more}
-use Rattle.rasn_types.specs.Shapes.{Tree, numbers, items, joined, set_elements, absent, Admits, Shape, leaf, any, prefix, choice, open_choice, option, seq, set, list, set_of, unknown, Parts, part, count, chosen, IsFirstOf, own, one_tag, required, presences, IsAlwaysPresent}
+use Rattle.rasn_types.specs.Framing.{Frame, definite, Ended, CompleteEncoding, plain, CompleteEncodings, none, one_more}
+use Rattle.rasn_types.specs.Shapes.{Tree, numbers, items, joined, set_elements, absent, Admits, Shape, leaf, any, prefix, choice, open_choice, option, seq, set, sorted_set, list, set_of, unknown, Parts, part, count, chosen, IsFirstOf, own, one_tag, required, presences, IsAlwaysPresent}
 use Rattle.rasn_types.specs.declared.types.constraints.Bound.{Bound}
-use Rattle.rasn_types.specs.Readings.{IsLeftOut, IsPresent, Reading, ReadsMany, ReadsFrom, ReadsSeq, ReadsUnknown, ReadsSet}
+use Rattle.rasn_types.specs.Readings.{IsLeftOut, IsPresent, Reading, ReadsMany, ReadsFrom, ReadsSeq, ReadsSet, ReadsSortedSet}
 use Rattle.rasn_types.specs.Contents.{joined_lists}
 use Rattle.rasn_types.specs.Grammar.{Reads, parts_of, ReadsOpen, ReadsAny, ReadsList, ReadsSetOf}
-use Rattle.rasn_types.specs.Bytes.{Same, ConstructedEncoding, Each, Bytes, fields_of}
-use Rattle.rasn_types.specs.Carried.{IsOneEncoding, IsUnknownValue, NoneTaken, IsWithinLimits, AreWithinLimits, EachOf, Carried}
-use Rattle.rasn_types.specs.Lawful.{IsLawful, AreAlternatives, AreLawfulInOrder, AreLawfulByTag}
+use Rattle.rasn_types.specs.Bytes.{Same, ConstructedEncoding, Each, contents_of, Bytes, fields_of}
+use Rattle.rasn_types.specs.Carried.{IsOneEncoding, AreUnknownValues, NoneTaken, IsWithinLimits, AreWithinLimits, EachOf, Carried}
+use Rattle.rasn_types.specs.Lawful.{IsLawful, AreAlternatives, AreLawfulInOrder, AreLawfulByTag, AreComponents}
 use Rattle.rasn_types.proofs.Headers.Frames.{frame_next, not_ended}
 use Rattle.rasn.proofs.Included.IntoBer.{IsOptional, IsIn, many_in, solid_of}
 use Rattle.rasn.proofs.ReadBack.Begins.{has_next_tag}
 use Rattle.rasn.proofs.ReadBack.Constructed.{IsTail, tail_ended, IsReadAs, definite_back, closed_back, cons_back, EachReadBack, many_back}
 use Rattle.rasn_types.proofs.SetOf.Same.{items_one, each_same, each_length}
 use Rattle.rasn.proofs.ReadBack.Leaves.{leaf_back}
-use Rattle.rasn.proofs.ReadBack.Parts.{EachTagged, AllRequired, is_there, IsBack, EachBack, UnknownBack, IsUnknownNext, EachBackInOrder, seq_back, next_more, none_within, none_written, choice_back}
+use Rattle.rasn.proofs.ReadBack.Parts.{EachTagged, AllRequired, is_there, IsBack, EachBack, UnknownBack, IsUnknownNext, EachBackInOrder, seq_back, none_within, none_written, choice_back}
 use Rattle.rasn.proofs.ReadBack.Set.{Component, set_back}
-
-whole_frame : (rule : Codec) {input rest c : List ℕ} {s : Tag} {b : Bool} → Frame loose_form input s b rest (definite c) → Frame (loose rule) input s b rest (definite c)
-whole_frame Ber (with_length id len c p q z e) = with_length id len c p q (λ h. absurd h) e
-whole_frame Cer (with_length id len c p q z e) = with_length id len c p q (λ h. absurd h) e
-whole_frame Der (with_length id len c p q z e) = with_length id len c p q (λ h. absurd h) e
+use Rattle.rasn.proofs.ReadBack.SortedSet.{OpenComponent, sorted_set_back}
+use Rattle.rasn.proofs.ReadBack.Unknown.{whole_frame, whole_octets, unknown_read}
+use Rattle.rasn_types.proofs.SetTrees.{set_tree_one}
 
 -- Octets in a constructed value of the tag.
 enclosed_back : (rule : Codec) (tag : Tag) → tag ≢ eoc → (octets b rest : List ℕ) → CompleteEncodings rule octets → ConstructedEncoding rule tag octets b → ReadsOpen rule tag (b ++ rest) (numbers octets) rest
@@ -206,16 +204,20 @@ in_set_back rule tag one ps depth has back t b (deep, us, e, ms) (ts, bs, tags, 
       ),
     )
 
+in_sorted_set_back : (rule : Codec) (extensible : Bool) (tag : Tag) → tag ≢ eoc → (ps : Parts) (depth : ℕ) → EachTagged ps → EachBack rule (depth - 1) ps → IsBack rule (sorted_set extensible tag ps) depth
+unfolding Reads parts_of Bytes fields_of IsWithinLimits
+in_sorted_set_back rule extensible tag one ps depth has back t b (deep, vs, ws, tree', ms, others) (ts, us, bs, cs, es, ds, tree, w, m, n, p, order, c) =
+    let g = set_tree_one extensible vs ws ts us t tree' tree in
+    let r = sorted_set_back rule (depth - 1) extensible ps has back t ts us bs cs es ds tree (subst (AreWithinLimits rule ps (depth - 1)) g.0 ms) (subst (AreUnknownValues rule (IsFirstOf ps)) g.1 others) w m n p order in (
+      r.0,
+      r.1,
+      λ rest closing. (
+        deep,
+        cons_back rule tag one (contents_of ds) b c (λ c. ReadsSortedSet rule extensible (presences ps) (count ps) (OpenComponent rule (depth - 1) ps c) c) r.0 r.2 rest,
+      ),
+    )
+
 -- A CHOICE with an extension marker.
-whole_octets : (rule : Codec) (u : Tree) (b : List ℕ) → IsOneEncoding u → u ≡ numbers b → CompleteEncoding rule b
-whole_octets rule u b m e = let h : m.octets ≡ b = let i = m.is in cc in subst (CompleteEncoding rule) h (plain m.tag m.bit m.contents (whole_frame rule m.frame))
-
--- An unknown value is read, whatever follows.
-unknown_read : (rule : Codec) (P : Tag → Type 0) (k : ℕ) (u : Tree) (b : List ℕ) → IsUnknownValue rule P u → u ≡ numbers b → CompleteEncoding rule b → (rest : List ℕ) → ReadsUnknown rule P k (ReadsAny rule) (b ++ rest) (chosen k u) rest
-unknown_read rule P k u b m e whole rest =
-    let h : m.one.octets ≡ b = let i = m.one.is in cc in
-    (u, refl, m.tag, next_more rest (subst (λ l. NextTag (form rule) l m.tag) h m.next), m.other, (b, e, whole, refl))
-
 open_choice_back : (rule : Codec) (depth : ℕ) (ps : Parts) → EachTagged ps → AllRequired ps → EachBack rule depth ps → IsBack rule (open_choice ps) depth
 unfolding Reads parts_of Bytes fields_of IsWithinLimits
 open_choice_back rule depth ps has needed back t b (inl m) (inl w) =
@@ -269,6 +271,16 @@ unfolding IsLawful
 by_tag_tagged Parts.none h = tt
 by_tag_tagged (part presence s ps) h = (h.1, by_tag_tagged ps h.5)
 
+pub components_good : (ps : Parts) → AreComponents ps → EachGood ps
+unfolding IsLawful
+components_good Parts.none h = tt
+components_good (part presence s ps) h = (h.2, h.3, components_good ps h.4)
+
+components_tagged : (ps : Parts) → AreComponents ps → EachTagged ps
+unfolding IsLawful
+components_tagged Parts.none h = tt
+components_tagged (part presence s ps) h = (h.1, components_tagged ps h.4)
+
 mutual
   unfolding Reads parts_of Bytes fields_of IsWithinLimits IsLawful
 
@@ -284,6 +296,7 @@ mutual
   back (option tag s) solid lawful rule depth = absurd solid
   back (seq tag ps) solid lawful rule depth = in_seq_back rule tag lawful.0 ps depth lawful.1 (each_back_in_order ps (in_order_good ps lawful.1) rule (depth - 1))
   back (set tag ps) solid lawful rule depth = in_set_back rule tag lawful.0 ps depth (by_tag_tagged ps lawful.1) (each_back ps (by_tag_good ps lawful.1) rule (depth - 1))
+  back (sorted_set extensible tag ps) solid lawful rule depth = in_sorted_set_back rule extensible tag lawful.0 ps depth (components_tagged ps lawful.1) (each_back ps (components_good ps lawful.1) rule (depth - 1))
   back (list tag s size) solid lawful rule depth = list_back rule tag lawful.0 s size lawful.1 depth (back s lawful.1 lawful.2 rule (depth - 2))
   back (set_of tag s size) solid lawful rule depth = set_of_back rule tag lawful.0 s size lawful.1 depth (back s lawful.1 lawful.2 rule (depth - 2))
   back unknown solid lawful rule depth = absurd solid

@@ -1,32 +1,36 @@
 -- What DER reads of a shape that passes the test meets all that a carried value must.
-use Rattle.std.proofs.Common.{◌≡◌, ◌≢◌, ◌^◌, ℕ, suc, ◌-◌, ◌<◌, ◌≤◌, inl, inr, List, [], ◌∷◌, ◌++◌, length, Bool, true, false, not, ◌&&◌, ◌||◌, Option, Some, None, refl, sym, ap, subst, arith, ◌∙◌, append_assoc}
+use Rattle.std.proofs.Common.{◌≡◌, ◌≢◌, ◌^◌, ℕ, suc, ◌+◌, ◌-◌, ◌<◌, ◌≤◌, inl, inr, List, [], ◌∷◌, ◌++◌, length, Bool, true, false, not, ◌&&◌, ◌||◌, Option, Some, None, refl, sym, ap, subst, arith, ◌∙◌, append_assoc}
 use Rattle.std.proofs.lemmas.List.Sorted.{IsPermutation-refl}
+use Rattle.std.proofs.lemmas.List.{append_cancel_right}
 use Rattle.rasn_types.specs.declared.types.tag.Tag.{Tag}
 use Rattle.rasn_types.specs.declared.types.codec.Codec.TheVariants.{Der}
 use Rattle.rasn_types.specs.Tags.{der_form}
-use Rattle.rasn_types.specs.Framing.{without_length, NextTag, Ended, CompleteEncoding}
+use Rattle.rasn_types.specs.Framing.{Begins, without_length, NextTag, Ended, CompleteEncoding}
 use Rattle.rasn_types.specs.Calendar.{Moment}
 use Rattle.rasn_types.specs.Time.{CarriedUtc, CarriedDay}
-use Rattle.rasn_types.specs.Shapes.{presences, Tree, number, bits, numbers, instant, on_day, done, joined, items, set_elements, chosen, absent, Same, Kind, utc_time, generalized_time, date, Shape, leaf, any, prefix, choice, open_choice, option, seq, set, list, set_of, unknown, Parts, part, IsFirstOf, own, Presence, required, addition, optional_by, default_by, Sought, one_tag, any_of, sought_in}
+use Rattle.rasn_types.specs.Shapes.{presences, Tree, number, bits, numbers, instant, on_day, done, joined, items, IsSetTree, set_elements, chosen, absent, Same, Kind, utc_time, generalized_time, date, Shape, leaf, any, prefix, choice, open_choice, option, seq, set, sorted_set, list, set_of, unknown, Parts, part, count, IsFirstOf, own, Presence, required, addition, optional_by, default_by, Sought, one_tag, any_of, sought_in}
 use Rattle.rasn_types.specs.declared.types.constraints.Bound.{Bound}
 use Rattle.rasn_types.specs.Shapes.Parts.{none}
 use Rattle.rasn_types.specs.Described.{has_required, has_addition}
-use Rattle.rasn_types.specs.Readings.{Reading, ReadsContents, definite_form, indefinite_form, ReadsMany, IsLeftOut, ReadsPart, ReadsInOrder, IsMissing, AllMissing, presences_in, HasRequired, ReadsSeq, ReadsSet, ReadsChoice, OneOf, ByPart}
+use Rattle.rasn_types.specs.Readings.{Reading, ReadsContents, definite_form, indefinite_form, ReadsMany, IsLeftOut, ReadsPart, ReadsInOrder, IsMissing, AllMissing, presences_in, HasRequired, ReadsFrom, ReadsSeq, ReadsSet, ReadsSortedSet, ReadsChoice, OneOf, ByPart, AllOf}
+use Rattle.rasn_types.specs.Order.{Each, IsBeforeAll, AreInOrder}
 use Rattle.rasn_types.specs.BitString.{significant}
 use Rattle.rasn_types.specs.Grammar.{Reads, parts_of, Family, plain_family, bit_family, named_family, text_family, family, ReadsIn, Text, ReadsAny, ReadsList, ReadsSetOf}
-use Rattle.rasn_types.specs.Carried.{EachOf, PartIsWithinLimits, IsCarriedTime, LeafIsWithinLimits, IsOneEncoding, IsUnwritten, BeginsUnknown, NoneTaken, IsWithinLimits, AreWithinLimits, ChosenIsWithinLimits, IsUnknownValue}
-use Rattle.rasn_types.specs.Lawful.{IsLawful, AreLawfulInOrder, AreLawfulByTag}
+use Rattle.rasn_types.specs.Carried.{EachOf, PartIsWithinLimits, IsCarriedTime, LeafIsWithinLimits, IsOneEncoding, IsUnwritten, BeginsUnknown, NoneTaken, IsWithinLimits, AreWithinLimits, ChosenIsWithinLimits, IsUnknownValue, AreUnknownValues}
+use Rattle.rasn_types.specs.Lawful.{IsLawful, AreLawfulInOrder, AreLawfulByTag, AreComponents}
 use Rattle.rasn_types.proofs.Lawful.{lawful_decides}
 use Rattle.rasn_types.proofs.Headers.Frames.{id_one, frame_next}
 use Rattle.rasn_types.proofs.Time.Spellings.{both_true}
 use Rattle.rasn.specs.Carries.{is_list, is_same_as_itself, is_own_default, carries_all, all_carry}
 use Rattle.rasn.specs.Laws.{LawfulTested, AllCarried, IsOwnDefault, HasOwnDefaults, HaveOwnDefaults}
-use Rattle.rasn.proofs.ReadBack.Shapes.{EachGood, alternatives_good, EachGoodInOrder, in_order_good, by_tag_good}
-use Rattle.rasn.proofs.ReadBack.Parts.{other_index}
+use Rattle.rasn.proofs.ReadBack.Shapes.{EachGood, alternatives_good, EachGoodInOrder, in_order_good, by_tag_good, components_good}
+use Rattle.rasn.proofs.ReadBack.Parts.{other_index, none_within}
+use Rattle.rasn.proofs.TagOrder.{IsNotAbove, ascending_all, all_ascending}
+use Rattle.rasn.proofs.StrictDer.SortedSet.{Components}
 use Rattle.rasn.proofs.StrictDer.Shapes.{there, unknown_there}
 use Rattle.rasn.proofs.StrictDer.Leaves.{no_open}
 use Rattle.rasn.proofs.StrictDer.Carried.{only_carried}
-use Rattle.rasn.proofs.StrictDer.Parts.{IsNeverAbsent}
+use Rattle.rasn.proofs.StrictDer.Parts.{IsNeverAbsent, none_read}
 use Rattle.rasn.proofs.StrictDer.Time.{utc_carried, generalized_carried, date_carried}
 
 pub lawful_tested : LawfulTested
@@ -81,6 +85,7 @@ mutual
   own_defaults (option tag s) e = own_defaults s e
   own_defaults (seq tag ps) e = all_own ps (both_true (has_required ps || not (has_addition ps)) (all_carry ps) e).1
   own_defaults (set tag ps) e = all_own ps e
+  own_defaults (sorted_set extensible tag ps) e = all_own ps e
   own_defaults (list tag s size) e = own_defaults s e
   own_defaults (set_of tag s size) e = own_defaults s e
   own_defaults unknown e = tt
@@ -196,7 +201,7 @@ one_met P [] t after h = h.0
 one_met P (x ∷ before) t after h = one_met P before t after h.1
 
 abbrev ComponentsMet : Parts → ℕ → ℕ → List Tree → Type 0
-ComponentsMet ps depth k readings = (j : ℕ) (t : Tree) → k ≤ j → OneOf j t readings → ChosenIsWithinLimits Der k ps depth (chosen j t)
+ComponentsMet ps depth k readings = (j : ℕ) (t : Tree) → k ≤ j → j < k + count ps → OneOf j t readings → ChosenIsWithinLimits Der k ps depth (chosen j t)
 
 by_part_met : (ps : Parts) (depth : ℕ) → EachMet depth ps → HasNoAddition ps → (k : ℕ) (c : Bool) (readings ts : List Tree) → ComponentsMet ps depth k readings
     → ByPart k (presences ps) readings ts → AreWithinLimits Der ps depth ts
@@ -205,7 +210,7 @@ by_part_met none depth met n k c readings ts one h = h
 by_part_met (part presence s ps) depth met n k c readings ts one (t, us, e, h, hs) = (t, us, e, elim h [ inl o ↦ come presence n.0 (first o) | inr o ↦ missing_met s depth presence n.0 met.0.own_default t o.1 ], by_part_met ps depth met.1 n.1 (suc k) c readings us behind hs)
   where
     first : OneOf k t readings → IsWithinLimits Der s depth t
-    first o = elim (one k t (omega arith) o) [
+    first o = elim (one k t (omega arith) (omega arith) o) [
       | inl m ↦ let f = m.1 in let g : m.0 ≡ t = cc in subst (IsWithinLimits Der s depth) g m.2
       | inr m ↦ absurd (other_index Der ps depth (suc k) k (chosen k t) t (omega arith) refl m)
     ]
@@ -217,7 +222,7 @@ by_part_met (part presence s ps) depth met n k c readings ts one (t, us, e, h, h
     come (default_by key d) n m = inr m
 
     behind : ComponentsMet ps depth (suc k) readings
-    behind j x l o = elim (one j x (omega arith) o) [
+    behind j x l low o = elim (one j x (omega arith) (omega (arith, low)) o) [
       | inl m ↦ let f = m.1 in let g : j ≡ k = cc in absurd (omega (arith, l, g))
       | inr m ↦ m
     ]
@@ -382,7 +387,81 @@ in_set_met tag ps depth met n closing input t rest (deep, h) = let r = inside_me
           r.1,
           r.2,
           by_part_met ps (depth - 1) met n 0 false r.0 r.1
-              (λ j x l o. one_met (ChosenIsWithinLimits Der 0 ps (depth - 1)) o.before (chosen j x) o.after (subst (EachOf (ChosenIsWithinLimits Der 0 ps (depth - 1))) o.is each)) r.4,
+              (λ j x l low o. one_met (ChosenIsWithinLimits Der 0 ps (depth - 1)) o.before (chosen j x) o.after (subst (EachOf (ChosenIsWithinLimits Der 0 ps (depth - 1))) o.is each)) r.4,
+        )
+
+components_have_none : (ps : Parts) → AreComponents ps → HasNoAddition ps
+unfolding AreComponents
+components_have_none none h = tt
+components_have_none (part presence s ps) h = (h.0, components_have_none ps h.4)
+
+-- Unknown values among components.
+all_of_met : (P Q : Tree → Type 0) (n : ℕ) → ((v : Tree) → P (chosen n v) → Q v) → (rs us : List Tree) → EachOf P rs → AllOf n rs us → EachOf Q us
+all_of_met P Q n met [] us h a = subst (EachOf Q) (sym a) tt
+all_of_met P Q n met (r ∷ rs) us h (inl (u, more, e, f, a)) = subst (EachOf Q) (sym f) (met u (subst P e h.0), all_of_met P Q n met rs more h.1 a)
+all_of_met P Q n met (r ∷ rs) us h (inr (d, a)) = all_of_met P Q n met rs us h.1 a
+
+chosen_met : (ps : Parts) (depth : ℕ) (v : Tree) → IsWithinLimits Der (open_choice ps) depth (chosen (count ps) v) → IsUnknownValue Der (IsFirstOf ps) v
+unfolding IsWithinLimits
+chosen_met ps depth v (inl m) = absurd (none_within Der ps depth (chosen (count ps) v) v refl m)
+chosen_met ps depth v (inr (u, e, m)) = let f : u ≡ v = cc in subst (IsUnknownValue Der (IsFirstOf ps)) f m
+
+part_chosen_met : (ps : Parts) (depth j : ℕ) (t : Tree) → j < count ps → IsWithinLimits Der (open_choice ps) depth (chosen j t) → ChosenIsWithinLimits Der 0 ps depth (chosen j t)
+unfolding IsWithinLimits
+part_chosen_met ps depth j t low (inl m) = m
+part_chosen_met ps depth j t low (inr (u, e, m)) = let f : j ≡ count ps = cc in absurd (omega (arith, low, f))
+
+-- Their octets, and the tags of these, which don't fall.
+abbrev UnknownOctets : List Tag → List Tree → Type 0
+UnknownOctets tags us = (bs : List (List ℕ)) × (more : List Tag) × Each (λ u b. u ≡ numbers b) us bs × Each Begins bs more × AreInOrder IsNotAbove more
+    × ((s : Tag) → IsBeforeAll IsNotAbove s tags → IsBeforeAll IsNotAbove s more)
+
+unknown_octets : (ps : Parts) (depth : ℕ) (c : Bool) (input : List ℕ) (rs : List Tree) (rest : List ℕ) (os : List (List ℕ)) (tags : List Tag) (us : List Tree)
+    → ReadsFrom (Components ps ps depth 0 c) input rs rest os → Each Begins os tags → AreInOrder IsNotAbove tags → AllOf (count ps) rs us → UnknownOctets tags us
+unknown_octets ps depth c input [] rest os tags us h b order a = ([], [], subst (λ l. Each (λ u b. u ≡ numbers b) l []) (sym a) refl, refl, tt, λ s h. tt)
+unknown_octets ps depth c input (r ∷ rs) rest os tags us (o, more, middle, e, f, h, hs) b order a =
+    go (λ ts us b order a. unknown_octets ps depth c middle rs rest more ts us hs b order a) (subst (λ l. Each Begins l tags) e b) a
+  where
+    Later : Type 0
+    Later = (ts : List Tag) (us : List Tree) → Each Begins more ts → AreInOrder IsNotAbove ts → AllOf (count ps) rs us → UnknownOctets ts us
+
+    go : Later → Each Begins (o ∷ more) tags → AllOf (count ps) (r ∷ rs) us → UnknownOctets tags us
+    go later (t, ts, g, bt, bts) (inr (d, a)) =
+        let z = later ts us bts (subst (AreInOrder IsNotAbove) g order).1 a in
+        (z.0, z.1, z.2, z.3, z.4, λ s k. z.5 s (subst (IsBeforeAll IsNotAbove s) g k).1)
+    go later (t, ts, g, bt, bts) (inl (u, others, i, j, a)) = this h
+      where
+        this : Components ps ps depth 0 c input r middle → UnknownOctets tags us
+        this (inl x) = absurd (none_read ps depth c input r u middle x i)
+        this (inr (v, k, n, next, other, (text, is, whole, l))) =
+            let order' = subst (AreInOrder IsNotAbove) g order in
+            let z = later ts others bts order'.1 a in
+            let p : u ≡ v = cc in
+            let q : text ≡ o = append_cancel_right text o middle (sym l ∙ f) in (
+              o ∷ z.0,
+              t ∷ z.1,
+              subst (λ l. Each (λ u b. u ≡ numbers b) l (o ∷ z.0)) (sym j) (o, z.0, refl, p ∙ (is ∙ ap numbers q), z.2),
+              (t, z.1, refl, bt, z.3),
+              (z.5 t order'.0, z.4),
+              λ s k. let m = subst (IsBeforeAll IsNotAbove s) g k in (m.0, z.5 s m.1),
+            )
+
+in_sorted_set_met : (extensible : Bool) (tag : Tag) (ps : Parts) (depth : ℕ) → EachMet (depth - 1) ps → HasNoAddition ps → IsMet (sorted_set extensible tag ps) depth
+unfolding Reads parts_of IsWithinLimits
+in_sorted_set_met extensible tag ps depth met n closing input t rest (deep, h) = let r = inside_met tag true _ input t rest within h in (deep, r.0, r.1, r.2, r.3, r.4)
+  where
+    within : (contents : List ℕ) → ReadsSortedSet Der extensible (presences ps) (count ps) (Components ps ps (depth - 1) 0 false) false contents t []
+        → (ts : List Tree) × (us : List Tree) × IsSetTree extensible ts us t × AreWithinLimits Der ps (depth - 1) ts × AreUnknownValues Der (IsFirstOf ps) us
+    within contents (rs, ts, us, tree, m, by, a, z) =
+        let P = IsWithinLimits Der (open_choice ps) (depth - 1) in
+        let each = many_met P (Components ps ps (depth - 1) 0 false) (λ i x l k. open_choice_met ps (depth - 1) met false i x l k) false contents rs [] m in
+        let g = z tt in
+        let o = unknown_octets ps (depth - 1) false contents rs [] g.0 g.2.0 us g.1 g.2.1 (ascending_all g.2.0 g.2.2) a in (
+          ts,
+          us,
+          tree,
+          by_part_met ps (depth - 1) met n 0 false rs ts (λ j x l low o. part_chosen_met ps (depth - 1) j x (omega (arith, low)) (one_met P o.before (chosen j x) o.after (subst (EachOf P) o.is each))) by,
+          (all_of_met P (IsUnknownValue Der (IsFirstOf ps)) (count ps) (λ v k. chosen_met ps (depth - 1) v k) rs us each a, (o.0, o.2, (o.1, o.3, all_ascending o.1 o.4))),
         )
 
 in_list_met : (tag : Tag) (s : Shape) (size : Option (Bound ℕ)) (depth : ℕ) → IsMet s (depth - 2) → IsMet (list tag s size) depth
@@ -422,6 +501,7 @@ mutual
       let p = both_true (has_required ps || not (has_addition ps)) (all_carry ps) e in
       in_seq_met tag ps depth lawful.1 (each_met_in_order ps (in_order_good ps lawful.1) p.1 (depth - 1)) p.0
   all_met (set tag ps) lawful e depth = in_set_met tag ps depth (each_met ps (by_tag_good ps lawful.1) e (depth - 1)) (by_tag_has_none ps lawful.1)
+  all_met (sorted_set extensible tag ps) lawful e depth = in_sorted_set_met extensible tag ps depth (each_met ps (components_good ps lawful.1) e (depth - 1)) (components_have_none ps lawful.1)
   all_met (list tag s size) lawful e depth = in_list_met tag s size depth (all_met s lawful.2 e (depth - 2))
   all_met (set_of tag s size) lawful e depth = in_set_of_met tag s size depth (all_met s lawful.2 e (depth - 2))
   all_met unknown lawful e depth = absurd lawful

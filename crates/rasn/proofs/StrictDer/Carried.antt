@@ -1,31 +1,37 @@
 -- What DER reads of a tree that owes no more is written of it: its octets need not be given.
-use Rattle.std.proofs.Common.{◌≡◌, ℕ, suc, ◌-◌, ◌≤◌, inl, inr, List, [], ◌∷◌, ◌++◌, length, Bool, true, false, Option, Some, None, refl, sym, ap, ◌∙◌, subst, arith, append_assoc, append-nil}
+use Rattle.std.proofs.Common.{◌≡◌, ℕ, suc, ◌+◌, ◌-◌, ◌<◌, ◌≤◌, ◌⊎◌, inl, inr, List, [], ◌∷◌, ◌++◌, length, Bool, true, false, Option, Some, None, refl, sym, ap, ◌∙◌, subst, arith, append_assoc, append-nil}
 use Rattle.std.proofs.lemmas.List.{append_cancel_right}
 use Rattle.rasn_types.specs.Tags.{loose_form, IsTagBelow}
 use Rattle.rasn_types.specs.declared.types.codec.Codec.TheVariants.{Der}
 use Rattle.rasn_types.specs.declared.types.tag.Tag.{Tag}
-use Rattle.rasn_types.specs.Framing.{AreOctets, SpellsAnyIdentifier, Begins, Frame, definite}
-use Rattle.rasn_types.specs.Shapes.{Tree, items, set_elements, chosen, Admits, Shape, leaf, any, prefix, choice, open_choice, option, seq, set, list, set_of, unknown, Parts, part, count, own, IsFirst, IsFirstOf, Presence, presences, required, addition, optional_by, default_by, Sought, sought_in, IsAlwaysPresent}
+use Rattle.rasn_types.specs.Framing.{AreOctets, Begins, Frame, definite}
+use Rattle.rasn_types.specs.Shapes.{Tree, items, IsSetTree, set_elements, chosen, Admits, Shape, leaf, any, prefix, choice, open_choice, option, seq, set, sorted_set, list, set_of, unknown, Parts, part, count, own, IsFirst, IsFirstOf, Presence, presences, required, addition, optional_by, default_by, Sought, sought_in}
 use Rattle.rasn_types.specs.declared.types.constraints.Bound.{Bound}
 use Rattle.rasn_types.specs.Shapes.Parts.{none}
-use Rattle.rasn_types.specs.Readings.{Reading, ReadsContents, definite_form, indefinite_form, ReadsMany, ReadsFrom, IsNoDefault, ReadsPart, ReadsInOrder, IsMissing, AllMissing, presences_in, ReadsChoice, NoneOf, OneOf, ByPart}
-use Rattle.rasn_types.specs.Order.{Each, IsLess, AreAscending}
+use Rattle.rasn_types.specs.Readings.{Reading, ReadsContents, definite_form, indefinite_form, ReadsMany, ReadsFrom, IsNoDefault, ReadsPart, ReadsInOrder, IsMissing, AllMissing, presences_in, ReadsChoice, NoneOf, OneOf, ByPart, AllOf}
+use Rattle.rasn_types.specs.Order.{Each, IsLess, AreAscending, AreInOrder, IsReordered}
 use Rattle.rasn_types.specs.Contents.{joined_lists}
 use Rattle.rasn_types.specs.Grammar.{Reads, parts_of, family}
-use Rattle.rasn_types.specs.Bytes.{Same, DefiniteForm, WritesPart, PartsWritten, WritesChoice, TagsOf, NoneUntaggedOpen, IsUntaggedOpen, IsUntaggedOpenIn, Bytes, fields_of}
+use Rattle.rasn_types.specs.Bytes.{Same, DefiniteForm, WritesPart, PartsWritten, WritesChoice, TagsOf, NoneUntaggedOpen, Component, ComponentsOf, UnknownComponents, ComesBefore, contents_of, IsUntaggedOpen, Bytes, fields_of}
 use Rattle.rasn_types.specs.Carried.{EachOf, IsWithinLimits}
-use Rattle.rasn_types.specs.Lawful.{HasTag, IsLawful, AreAlternatives, AreLawfulByTag}
+use Rattle.rasn_types.specs.Lawful.{HasTag, AreDistinguished, IsLawful, AreLawfulByTag, AreComponents}
 use Rattle.rasn_types.proofs.Headers.Frames.{frame_next, not_ended}
 use Rattle.rasn_types.proofs.SetOf.Same.{items_one}
-use Rattle.rasn.proofs.ReadBack.Shapes.{EachGood, alternatives_good, EachGoodInOrder, in_order_good, by_tag_good}
+use Rattle.rasn_types.proofs.SetTrees.{set_tree_one}
+use Rattle.rasn_types.proofs.Encoding.SameAsItself.{written_same, one_writing}
+use Rattle.rasn_types.proofs.Encoding.Listed.{not_untagged}
+use Rattle.rasn.proofs.ReadBack.Shapes.{EachGood, alternatives_good, EachGoodInOrder, in_order_good, by_tag_good, components_good}
 use Rattle.rasn.proofs.LawsHold.Written.{one_reading, read_again}
 use Rattle.rasn.proofs.StrictDer.Shapes.{there, unknown_there, set_elements_one}
-use Rattle.rasn.proofs.StrictDer.Leaves.{tail_octets, framed, no_open, in_told}
-use Rattle.rasn.proofs.StrictDer.Parts.{IsNeverAbsent, nothing, other_read, none_read}
+use Rattle.rasn.proofs.StrictDer.Leaves.{tail_octets, framed, no_open, in_made}
+use Rattle.rasn.proofs.StrictDer.Parts.{IsTold, IsNeverAbsent, nothing, other_read, none_read}
 use Rattle.rasn.proofs.StrictDer.Set.{Components, first_is_next, behind, by_part_less, fewer}
+use Rattle.rasn.proofs.TagOrder.{begins_some, joined_contents}
+use Rattle.rasn.proofs.ReadBack.Reordered.{none_join, by_part_less as by_part_without}
+use Rattle.rasn.proofs.StrictDer.SortedSet.{IsReadFrom, each_read, each_at, behind as left_behind, all_of_less, AreAmong, InReadOrder, read_later, put_in, read_in_order, first_read, rest_in_order}
 use Rattle.rasn.proofs.ReadBack.Parts.{none_within}
 use Rattle.rasn.proofs.StrictDer.Limits.{PartOwes, Owes, OwesParts, OwesChoice, other_owed, owed_meets, meets_owed, owes_like}
-use Rattle.rasn.specs.Laws.{OnlyCarried, StaysCarried}
+use Rattle.rasn.specs.Laws.{StrictDer, OnlyCarried, StaysCarried}
 
 abbrev pub IsMade : Shape → ℕ → Type 0
 IsMade s depth = (closing : Bool) (input : List ℕ) (t : Tree) (rest : List ℕ) → AreOctets input → Reads Der s depth closing input t rest → Owes s depth t
@@ -125,13 +131,6 @@ from_made s depth made c input (t ∷ ts) rest bs o (b, cs, middle, e, f, h, hs)
     ((b, cs, e, subst (Bytes Der s t) p a.1, r.0), f ∙ (ap (λ l. b ++ l) r.1 ∙ (sym (append_assoc b (joined_lists cs) rest) ∙ ap (λ l. joined_lists l ++ rest) (sym e))))
 
 -- SETs.
-begins_some : (m : Tag) → Begins [] m → ⊥
-begins_some m h = go h.id h.spells h.is
-  where
-    go : (id : List ℕ) → SpellsAnyIdentifier id m h.bit → [] ≡ id ++ h.more → ⊥
-    go [] s e = s
-    go (x ∷ l) s e = cc
-
 tags_cons : (b : List ℕ) (cs : List (List ℕ)) (tags ms : List Tag) (m : Tag) → tags ≡ m ∷ ms → Begins b m → TagsOf cs ms → TagsOf (b ∷ cs) tags
 tags_cons [] cs tags ms m e h t = absurd (begins_some m h)
 tags_cons (x ∷ b) cs tags ms m e h t = (m, ms, e, h, t)
@@ -195,6 +194,73 @@ set_made (part presence s ps) depth lawful made k c input rs rest os tags ts o h
       r.4,
     )
 
+-- SETs in the order of their tags: the parts of components that are read, as they are written.
+abbrev pub SortedMade : Parts → Parts → ℕ → List (List ℕ) → List Tree → List Tree → Type 0
+SortedMade all ps k os ts us = (bs : List (List ℕ)) × (cs : List Component) × (es : List Component) × PartsWritten (fields_of Der ps) ts bs
+    × ComponentsOf Der k ps bs cs × UnknownComponents (count all) us es × InReadOrder all ps cs es os
+
+abbrev pub IsSortedMade : Parts → Parts → ℕ → Type 0
+IsSortedMade all ps depth = (k : ℕ) (c : Bool) (rs : List Tree) (os : List (List ℕ)) (ts us : List Tree) → k + count ps ≤ count all → Each (IsReadFrom all ps depth k c) rs os
+    → ByPart k (presences ps) rs ts → AllOf (count all) rs us → OwesParts ps depth ts → SortedMade all ps k os ts us
+
+sorted_made : (all ps : Parts) (depth : ℕ) → AreComponents ps → AreDistinguished ps → AreAmong all ps → EachMade depth ps → IsSortedMade all ps depth
+unfolding Reads parts_of Bytes fields_of Owes IsLawful
+sorted_made all none depth lawful told among made k c rs os ts us fits h by a m =
+    let r = rest_in_order all depth k c rs os us h a in ([], [], r.0, (by, refl), refl, r.1, r.2)
+sorted_made all (part presence s ps) depth lawful told among made k c rs os ts us fits h (t, vs, e, x, by) a (t', vs', e', m, ms) =
+    go (sorted_made all ps depth lawful.4 told.1 (λ n i. among n (inr i)) made.1) x
+  where
+    low : k < count all
+    low = omega (arith, fits)
+
+    p : t' ≡ t
+    p = let x : t' ∷ vs' ≡ t ∷ vs = sym e' ∙ e in cc
+
+    q : vs' ≡ vs
+    q = let x : t' ∷ vs' ≡ t ∷ vs = sym e' ∙ e in cc
+
+    owes : PartOwes presence (Owes s depth) t
+    owes = subst (PartOwes presence (Owes s depth)) p m
+
+    owe : OwesParts ps depth vs
+    owe = subst (OwesParts ps depth) q ms
+
+    -- The octets of a component are written of its part.
+    writes : (o : List ℕ) → IsReadFrom all (part presence s ps) depth k c (chosen k t) o → WritesPart presence (Bytes Der s) t o
+    writes o r =
+        let z = first_read all presence s ps depth k c t o low r in
+        let w = next_made s depth made.0 presence c r.input t r.rest r.octets z.1 z.2 owes in
+        subst (WritesPart presence (Bytes Der s) t) (append_cancel_right w.0 o r.rest (sym w.2 ∙ r.is)) w.1
+
+    there_made : (o : List ℕ) (front back : List (List ℕ)) → IsReadFrom all (part presence s ps) depth k c (chosen k t) o → SortedMade all ps (suc k) (front ++ back) vs us
+        → SortedMade all (part presence s ps) k (front ++ (o ∷ back)) ts us
+    there_made [] front back r later = absurd (begins_some r.tag r.begins)
+    there_made (x ∷ o) front back r (bs, cs, es, written, placed, others, read) = (
+      (x ∷ o) ∷ bs,
+      record { tag = r.tag; number = k; octets = x ∷ o } ∷ cs,
+      es,
+      (t, vs, x ∷ o, bs, e, refl, writes (x ∷ o) r, written),
+      (r.tag, cs, refl, r.begins, placed),
+      others,
+      put_in all presence s ps told.0 among (record { tag = r.tag; number = k; octets = x ∷ o }) cs es front (x ∷ o) back (refl, r.begins) (first_read all presence s ps depth k c t (x ∷ o) low r).0 read,
+    )
+
+    missing : IsMissing presence t → SortedMade all ps (suc k) os vs us → SortedMade all (part presence s ps) k os ts us
+    missing z (bs, cs, es, written, placed, others, read) =
+        ([] ∷ bs, cs, es, (t, vs, [], bs, e, refl, missing_made s depth presence t z owes, written), placed, others, read_later all presence s ps cs es os read)
+
+    go : IsSortedMade all ps depth → OneOf k t rs ⊎ (NoneOf k rs × IsMissing presence t) → SortedMade all (part presence s ps) k os ts us
+    go later (inl o) =
+        let h' : Each (IsReadFrom all (part presence s ps) depth k c) (o.before ++ (chosen k t ∷ o.after)) os = subst (λ l. Each (IsReadFrom all (part presence s ps) depth k c) l os) o.is h in
+        let i = each_at (IsReadFrom all (part presence s ps) depth k c) o.before (chosen k t) o.after os h' in
+        let others = o.before ++ o.after in
+        subst (λ l. SortedMade all (part presence s ps) k l ts us) (sym i.3)
+        (there_made i.1 i.0 i.2 i.4
+        (later (suc k) c others (i.0 ++ i.2) vs us (omega (arith, fits)) (left_behind all presence s ps depth k c others (i.0 ++ i.2) i.5 (none_join k o.before o.after o.none_before o.none_after))
+        (by_part_without (presences ps) (suc k) k t o.before o.after vs (omega arith) (subst (λ l. ByPart (suc k) (presences ps) l vs) o.is by))
+        (all_of_less (count all) k t o.before o.after us low (subst (λ l. AllOf (count all) l us) o.is a)) owe))
+    go later (inr (n, z)) = missing z (later (suc k) c rs os vs us (omega (arith, fits)) (left_behind all presence s ps depth k c rs os h n) by a owe)
+
 -- A value that is written round contents.
 abbrev pub Enclosed : Tag → (List ℕ → Type 0) → List ℕ → List ℕ → Type 0
 Enclosed tag P input rest = (c : List ℕ) × P c × (b : List ℕ) × DefiniteForm tag true c b × (input ≡ b ++ rest)
@@ -245,6 +311,24 @@ in_set_made tag ps depth lawful k closing input t rest o (deep, h) (deep', us, f
     let q = set_made ps (depth - 1) lawful k 0 false contents r.0 [] g.0 g.2.0 vs p g.1 r.4 g.2.1 g.2.2 (subst (OwesParts ps (depth - 1)) y m) in
     (joined_lists q.0, (vs, q.0, g.2.0, r.2, q.1, q.2, q.3, g.2.2, refl), q.4)) h in
     (r.2, (r.1.0, r.1.1, r.1.2, r.1.3, r.1.4, r.1.5, r.1.6, r.1.7, subst (λ l. DefiniteForm tag true l r.2) r.1.8 r.3), r.4)
+
+in_sorted_set_made : (extensible : Bool) (tag : Tag) (ps : Parts) (depth : ℕ) → AreComponents ps → AreDistinguished ps → EachMade (depth - 1) ps → IsMade (sorted_set extensible tag ps) depth
+unfolding Reads parts_of Bytes fields_of Owes
+in_sorted_set_made extensible tag ps depth lawful told made closing input t rest o (deep, h) (deep', vs, ws, f, m, others) =
+    let r = enclosed_made tag true refl _ (λ c. (ts : List Tree) × (us : List Tree) × (bs : List (List ℕ)) × (cs : List Component) × (es : List Component) × (ds : List Component)
+    × IsSetTree extensible ts us t × PartsWritten (fields_of Der ps) ts bs × ComponentsOf Der 0 ps bs cs × UnknownComponents (count ps) us es
+    × IsReordered (cs ++ es) ds × AreInOrder ComesBefore ds × (c ≡ contents_of ds)) input t rest o
+    (λ contents p r.
+    let g = r.7 tt in
+    let y = set_tree_one extensible vs ws r.1 r.2 t f r.3 in
+    let i = each_read ps ps (depth - 1) 0 false contents r.0 [] g.0 g.2.0 p g.1 g.2.1 in
+    let q = sorted_made ps ps (depth - 1) lawful told (λ n i. i) made 0 false r.0 g.0 r.1 r.2 (omega arith) i.0 r.5 r.6 (subst (OwesParts ps (depth - 1)) y.0 m) in
+    let ds = q.6 in (
+      contents_of ds.0,
+      (r.1, r.2, q.0, q.1, q.2, ds.0, r.3, q.3, q.4, q.5, ds.1, read_in_order ps ps q.1 q.2 g.0 g.2 ds, refl),
+      i.1 ∙ ap (λ l. l ++ []) (joined_contents g.0 ds.0 ds.2),
+    )) h in
+    (r.2, (r.1.0, r.1.1, r.1.2, r.1.3, r.1.4, r.1.5, r.1.6, r.1.7, r.1.8, r.1.9, r.1.10, r.1.11, subst (λ l. DefiniteForm tag true l r.2) r.1.12 r.3), r.4)
 
 open_choice_made : (ps : Parts) (depth : ℕ) → EachMade depth ps → IsMade (open_choice ps) depth
 unfolding Reads parts_of Bytes fields_of Owes IsWithinLimits
@@ -305,35 +389,12 @@ unknown_made depth closing input t rest o (vs, e, z, h) (us, f, m) =
 unknown_is_made : (depth : ℕ) → Made unknown depth
 unknown_is_made depth = record { made = unknown_made depth; there = unknown_there depth; not_untagged = λ has t. absurd has }
 
--- What is written of a lawful shape that has a tag isn't bare.
-mutual
-  unfolding IsUntaggedOpen IsLawful
-
-  not_untagged : (s : Shape) → IsLawful s → IsAlwaysPresent s → HasTag s → (t : Tree) → IsUntaggedOpen s t → ⊥
-  not_untagged (leaf kind tag bounds) lawful solid has t h = h
-  not_untagged (any None) lawful solid has t h = has
-  not_untagged (any (Some tag)) lawful solid has t h = h
-  not_untagged (prefix tag s) lawful solid has t h = h
-  not_untagged (choice ps) lawful solid has t h = none_untagged ps lawful.0 0 t h
-  not_untagged (open_choice ps) lawful solid has t h = has
-  not_untagged (option tag s) lawful solid has t h = solid
-  not_untagged (seq tag ps) lawful solid has t h = h
-  not_untagged (set tag ps) lawful solid has t h = h
-  not_untagged (list tag s size) lawful solid has t h = h
-  not_untagged (set_of tag s size) lawful solid has t h = h
-  not_untagged unknown lawful solid has t h = solid
-
-  none_untagged : (ps : Parts) → AreAlternatives ps → (k : ℕ) (t : Tree) → IsUntaggedOpenIn k ps t → ⊥
-  none_untagged none lawful k t h = h
-  none_untagged (part presence s ps) lawful k t (inl h) = not_untagged s lawful.3 lawful.2 lawful.1 h.0 h.2
-  none_untagged (part presence s ps) lawful k t (inr h) = none_untagged ps lawful.4 (suc k) t h
-
 mutual
   unfolding Reads parts_of Bytes fields_of Owes IsLawful
 
   pub all_made : (s : Shape) → IsLawful s → (depth : ℕ) → IsMade s depth
   all_made (leaf kind tag bounds) lawful depth = λ closing input t rest o h m.
-      let r = in_told (family kind) kind tag lawful.1 depth input t rest o h.0 in (r.0, (h.1, r.1), r.2)
+      let r = in_made (family kind) kind tag lawful.1 depth input t rest o h.0 in (r.0, (h.1, r.1), r.2)
   all_made (any None) lawful depth = any_made depth
   all_made (any (Some tag)) lawful depth = open_made tag depth
   all_made (prefix tag s) lawful depth = prefix_made tag s depth (all_made s lawful.2 (depth - 1))
@@ -343,6 +404,7 @@ mutual
       option_made tag s depth (record { made = all_made s lawful.2 depth; there = there s lawful.1 lawful.2 depth; not_untagged = λ has t. not_untagged s lawful.2 lawful.1 has t })
   all_made (seq tag ps) lawful depth = in_seq_made tag ps depth (each_made_in_order ps (in_order_good ps lawful.1) (depth - 1))
   all_made (set tag ps) lawful depth = in_set_made tag ps depth lawful.1 (each_made ps (by_tag_good ps lawful.1) (depth - 1))
+  all_made (sorted_set extensible tag ps) lawful depth = in_sorted_set_made extensible tag ps depth lawful.1 lawful.2 (each_made ps (components_good ps lawful.1) (depth - 1))
   all_made (list tag s size) lawful depth = in_list_made tag s size depth (all_made s lawful.2 (depth - 2))
   all_made (set_of tag s size) lawful depth = in_set_of_made tag s size depth (all_made s lawful.2 (depth - 2))
   all_made unknown lawful depth = absurd lawful
@@ -357,6 +419,16 @@ mutual
   each_made none good depth = tt
   each_made (part presence s ps) good depth =
       (record { made = all_made s good.1 depth; there = there s good.0 good.1 depth; not_untagged = λ has t. not_untagged s good.1 good.0 has t }, each_made ps good.2 depth)
+
+-- What DER reads of a tree that is written and within limits is what is written of it: the tree is the same as itself,
+-- so it owes no more.
+pub all_told : (s : Shape) → IsLawful s → (depth : ℕ) → IsTold s depth
+all_told s lawful depth closing input t rest b o h w m =
+    let r = all_made s lawful depth closing input t rest o h (owes_like s depth t t b (written_same s Der t b w) w m) in
+    r.2 ∙ ap (λ l. l ++ rest) (one_writing s Der t r.0 b r.1 w)
+
+pub strict_der : StrictDer
+strict_der s lawful input o t rest h c = (c.octets, c.is, all_told s lawful 128 false input t rest c.octets o h c.is c.within_limits)
 
 pub only_carried : OnlyCarried
 only_carried s lawful own input o t rest h m =

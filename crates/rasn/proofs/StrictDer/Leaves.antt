@@ -1,4 +1,4 @@
--- The octets of a leaf that DER reads are those that are written.
+-- What DER reads of a leaf is written of it.
 use Rattle.std.proofs.Common.{◌≡◌, ℕ, inl, List, ◌++◌, Bool, false, refl, sym, ap, ◌∙◌, subst, append_assoc}
 use Rattle.rasn_types.specs.Tags.{der_form, in_universal}
 use Rattle.rasn_types.specs.declared.types.codec.Codec.TheVariants.{Der}
@@ -6,11 +6,10 @@ use Rattle.rasn_types.specs.declared.types.tag.Tag.{Tag}
 use Rattle.rasn_types.specs.Framing.{Frame, with_length, without_length, definite, indefinite, AreOctets}
 use Rattle.rasn_types.specs.Shapes.{Tree, bits, Kind, octet_string, fixed, numeric, printable, visible, ia5, any_octets, bmp, utf8, utc_time, generalized_time, date}
 use Rattle.rasn_types.specs.Contents.{ReadsString, primitive, segments, closed_segments, ReadsBitSegment, OctetSegment}
-use Rattle.rasn_types.specs.Grammar.{Family, plain_family, bit_family, named_family, text_family, family, ReadsIn, Text}
+use Rattle.rasn_types.specs.Grammar.{Family, plain_family, bit_family, named_family, text_family, ReadsIn, Text}
 use Rattle.rasn_types.specs.Bytes.{DefiniteForm, WritesIn, WritesText}
 use Rattle.rasn_types.specs.Lawful.{IsBitFree}
 use Rattle.rasn_types.proofs.Headers.Digits.{front_octets}
-use Rattle.rasn_types.proofs.Encoding.Determined.{in_once}
 use Rattle.rasn.proofs.StrictDer.Time.{utc_written, generalized_written, date_written}
 
 pub tail_octets : (input a b : List ℕ) → input ≡ a ++ b → AreOctets input → AreOctets b
@@ -62,30 +61,24 @@ str_whole segment inner depth tag input xs rest (primitive c f s) = (c, f, s)
 str_whole segment inner depth tag input xs rest (segments c has f m) = absurd (has tt)
 str_whole segment inner depth tag input xs rest (closed_segments c has f m) = absurd (has tt)
 
-pub in_told : (which : Family) (kind : Kind) (tag : Tag) → IsBitFree which tag → (depth : ℕ) (input : List ℕ) (t : Tree) (rest : List ℕ) → AreOctets input
+pub in_made : (which : Family) (kind : Kind) (tag : Tag) → IsBitFree which tag → (depth : ℕ) (input : List ℕ) (t : Tree) (rest : List ℕ) → AreOctets input
     → ReadsIn which Der kind tag depth input t rest → (text : List ℕ) × WritesIn which Der kind tag t text × (input ≡ text ++ rest)
-in_told plain_family kind tag free depth input t rest o (bit, c, f, h, z) =
+in_made plain_family kind tag free depth input t rest o (bit, c, f, h, z) =
     let s = z tt in
     let w = framed o f in
     (w.text, (c, record { is = h; octets = w.octets; shortest = s.1 }, subst (λ b. DefiniteForm tag b c w.text) s.0 w.is), w.input_is)
-in_told bit_family kind tag free depth input t rest o (bs, e, n, h) =
+in_made bit_family kind tag free depth input t rest o (bs, e, n, h) =
     let p = str_whole (ReadsBitSegment Der) (in_universal 3) depth tag input bs rest h in
     let w = framed o p.1 in
     (w.text, (bs, e, inl ((λ z. absurd z), p.0, record { is = p.2.0; zeros = p.2.1 tt; octets = w.octets }, subst (λ b. DefiniteForm tag b p.0 w.text) (sym free) w.is)), w.input_is)
-in_told named_family kind tag free depth input t rest o (bs, e, n, h, z) =
+in_made named_family kind tag free depth input t rest o (bs, e, n, h, z) =
     let p = str_whole (ReadsBitSegment Der) (in_universal 3) depth tag input bs rest h in
     let w = framed o p.1 in (
       w.text,
       (bs, e ∙ ap bits (z tt), z tt, inl ((λ z. absurd z), p.0, record { is = p.2.0; zeros = p.2.1 tt; octets = w.octets }, subst (λ b. DefiniteForm tag b p.0 w.text) (sym free) w.is)),
       w.input_is,
     )
-in_told text_family kind tag free depth input t rest o (l, h, x) =
+in_made text_family kind tag free depth input t rest o (l, h, x) =
     let p = str_whole OctetSegment (in_universal 4) depth tag input l rest h in
     let w = framed o p.1 in
     (w.text, (l, text_written kind l t x, inl ((λ z. absurd z), p.0, (sym p.2, w.octets), subst (λ b. DefiniteForm tag b p.0 w.text) (sym free) w.is)), w.input_is)
-
-pub leaf_told : (kind : Kind) (tag : Tag) → IsBitFree (family kind) tag → (depth : ℕ) (input : List ℕ) (t : Tree) (rest b : List ℕ) → AreOctets input
-    → ReadsIn (family kind) Der kind tag depth input t rest → WritesIn (family kind) Der kind tag t b → input ≡ b ++ rest
-leaf_told kind tag free depth input t rest b o h w =
-    let r = in_told (family kind) kind tag free depth input t rest o h in
-    r.2 ∙ ap (λ l. l ++ rest) (in_once (family kind) Der kind tag t r.0 b r.1 w)

@@ -1,12 +1,13 @@
 -- What a tree that DER reads needs to be written: it is within the depth, and a default is the same as the value that it replaces.
-use Rattle.std.proofs.Common.{◌≡◌, ℕ, suc, ◌-◌, ◌<◌, ◌⊎◌, ◌≢◌, inl, inr, List, [], ◌∷◌, refl, sym, ap, ◌∙◌, subst, arith, Some, None}
+use Rattle.std.proofs.Common.{◌≡◌, ℕ, suc, ◌-◌, ◌<◌, ◌⊎◌, ◌≢◌, inl, inr, List, [], ◌∷◌, ◌++◌, Bool, true, false, refl, sym, ap, ap₂, ◌∙◌, subst, arith, Some, None}
 use Rattle.rasn_types.specs.declared.types.codec.Codec.TheVariants.{Der}
-use Rattle.rasn_types.specs.Shapes.{Tree, numbers, joined, items, set_elements, chosen, absent, Shape, leaf, any, prefix, choice, open_choice, option, seq, set, list, set_of, unknown, Parts, part, count, IsFirstOf, Presence, required, optional, addition, optional_by, default_by}
+use Rattle.rasn_types.specs.Shapes.{Tree, numbers, joined, items, IsSetTree, set_elements, chosen, absent, Shape, leaf, any, prefix, choice, open_choice, option, seq, set, sorted_set, list, set_of, unknown, Parts, part, count, IsFirstOf, Presence, required, optional, addition, optional_by, default_by}
 use Rattle.rasn_types.specs.Shapes.Parts.{none}
 use Rattle.rasn_types.specs.Grammar.{family}
-use Rattle.rasn_types.specs.Bytes.{Same, Each, WritesPart, PartsWritten, WritesChoice, Bytes, fields_of}
-use Rattle.rasn_types.specs.Carried.{PartIsWithinLimits, EachOf, LeafIsWithinLimits, IsOneEncoding, IsUnwritten, BeginsUnknown, NoneTaken, IsWithinLimits, AreWithinLimits, ChosenIsWithinLimits, IsUnknownValue}
+use Rattle.rasn_types.specs.Bytes.{Same, Each, WritesPart, PartsWritten, WritesChoice, Component, UnknownComponents, Bytes, fields_of}
+use Rattle.rasn_types.specs.Carried.{PartIsWithinLimits, EachOf, LeafIsWithinLimits, IsOneEncoding, IsUnwritten, BeginsUnknown, NoneTaken, IsWithinLimits, AreWithinLimits, ChosenIsWithinLimits, IsUnknownValue, AreUnknownValues}
 use Rattle.rasn_types.proofs.SetOf.Same.{items_one, same_sym, same_trans, each_moved}
+use Rattle.rasn_types.proofs.SetTrees.{set_tree_one}
 use Rattle.rasn_types.proofs.Encoding.SameOctets.{in_flat, flat_one, other_written}
 use Rattle.rasn.proofs.ReadBack.Parts.{other_index, none_within, none_written}
 use Rattle.rasn.specs.Laws.{IsOwnDefault, HasOwnDefaults, HaveOwnDefaults}
@@ -27,6 +28,7 @@ unfoldable mutual
   Owes (option tag s) depth t = (t ≡ absent) ⊎ Owes s depth t
   Owes (seq tag ps) depth t = (0 < depth) × (ts : List Tree) × (t ≡ items ts) × OwesParts ps (depth - 1) ts × NoneTaken Der ps ts
   Owes (set tag ps) depth t = (0 < depth) × (ts : List Tree) × (t ≡ items ts) × OwesParts ps (depth - 1) ts
+  Owes (sorted_set extensible tag ps) depth t = (0 < depth) × (ts : List Tree) × (us : List Tree) × IsSetTree extensible ts us t × OwesParts ps (depth - 1) ts × AreUnknownValues Der (IsFirstOf ps) us
   Owes (list tag s size) depth t = (0 < depth) × (ts : List Tree) × (t ≡ items ts) × EachOf (Owes s (depth - 2)) ts
   Owes (set_of tag s size) depth t = (0 < depth) × (ts : List Tree) × (t ≡ set_elements (items ts)) × EachOf (Owes s (depth - 2)) ts
   Owes unknown depth t = (us : List Tree) × (t ≡ items us) × EachOf IsOneEncoding us
@@ -74,6 +76,7 @@ mutual
   owed_meets (option tag s) depth t (inr h) = inr (owed_meets s depth t h)
   owed_meets (seq tag ps) depth t h = (h.0, h.1, h.2, parts_meet ps (depth - 1) h.1 h.3, h.4)
   owed_meets (set tag ps) depth t h = (h.0, h.1, h.2, parts_meet ps (depth - 1) h.1 h.3)
+  owed_meets (sorted_set extensible tag ps) depth t h = (h.0, h.1, h.2, h.3, parts_meet ps (depth - 1) h.1 h.4, h.5)
   owed_meets (list tag s size) depth t h = (h.0, h.1, h.2, each_of (owed_meets s (depth - 2)) h.1 h.3)
   owed_meets (set_of tag s size) depth t h = (h.0, h.1, h.2, each_of (owed_meets s (depth - 2)) h.1 h.3)
   owed_meets unknown depth t h = h
@@ -111,6 +114,7 @@ mutual
   meets_owed (option tag s) own depth t (inr h) = inr (meets_owed s own depth t h)
   meets_owed (seq tag ps) own depth t h = (h.0, h.1, h.2, parts_owe ps own (depth - 1) h.1 h.3, h.4)
   meets_owed (set tag ps) own depth t h = (h.0, h.1, h.2, parts_owe ps own (depth - 1) h.1 h.3)
+  meets_owed (sorted_set extensible tag ps) own depth t h = (h.0, h.1, h.2, h.3, parts_owe ps own (depth - 1) h.1 h.4, h.5)
   meets_owed (list tag s size) own depth t h = (h.0, h.1, h.2, each_of (meets_owed s own (depth - 2)) h.1 h.3)
   meets_owed (set_of tag s size) own depth t h = (h.0, h.1, h.2, each_of (meets_owed s own (depth - 2)) h.1 h.3)
   meets_owed unknown own depth t h = h
@@ -131,6 +135,24 @@ items_alike [] u h = ([], h, refl)
 items_alike (t ∷ ts) u (v, vs, e, s, h) =
     let r = items_alike ts vs h in
     (v ∷ r.0, subst (λ z. u ≡ joined v z) r.1 e, (v, r.0, refl, s, r.2))
+
+-- What is the same as a SET has the same unknown values.
+split_alike : (ts : List Tree) (x : Tree) (vs : List Tree) → Each Same (ts ++ (x ∷ [])) vs → (ts' : List Tree) × (y : Tree) × (vs ≡ ts' ++ (y ∷ [])) × Each Same ts ts' × Same x y
+split_alike [] x vs (y, more, e, s, h) = ([], y, e ∙ ap (λ l. y ∷ l) h, refl, s)
+split_alike (t ∷ ts) x vs (v, more, e, s, h) = let r = split_alike ts x more h in (v ∷ r.0, r.1, e ∙ ap (λ l. v ∷ l) r.2, (v, r.0, refl, s, r.3), r.4)
+
+unknown_alike : (k : ℕ) (us vs : List Tree) (es : List Component) → UnknownComponents k us es → Each Same us vs → vs ≡ us
+unknown_alike k [] vs es h same = same
+unknown_alike k (u ∷ us) vs es (tag, b, more, e, begins, f, h) (v, rest, g, s, same) =
+    g ∙ ap₂ ◌∷◌ (subst (λ z. Same z v) e s ∙ sym e) (unknown_alike (suc k) us rest more h same)
+
+set_tree_alike : (extensible : Bool) (ts us : List Tree) (t u : Tree) (k : ℕ) (es : List Component) → UnknownComponents k us es → IsSetTree extensible ts us t → Same t u → (ts' : List Tree) × IsSetTree extensible ts' us u × Each Same ts ts'
+set_tree_alike true ts us t u k es h tree same =
+    let r = items_alike (ts ++ (items us ∷ [])) u (subst (λ z. Same z u) tree same) in
+    let q = split_alike ts (items us) r.0 r.2 in
+    let w = items_alike us q.1 q.4 in
+    (q.0, r.1 ∙ (ap items q.2 ∙ ap (λ y. items (q.0 ++ (y ∷ []))) (w.1 ∙ ap items (unknown_alike k us w.0 es h w.2))), q.3)
+set_tree_alike false ts us t u k es h tree same = let r = items_alike ts u (subst (λ z. Same z u) tree.1 same) in (r.0, (tree.0, r.1), r.2)
 
 items_of : (t u : Tree) (ts us : List Tree) → t ≡ items ts → t ≡ items us → us ≡ ts
 items_of t u ts us e f = items_one us ts (sym f ∙ e)
@@ -221,6 +243,16 @@ mutual
   owes_like (set tag ps) depth t u b same (ts, bs, tags, e, w, q, n, o, c) (deep, us, f, m) =
       let r = items_alike ts u (subst (λ z. Same z u) e same) in
       (deep, r.0, r.1, parts_like ps (depth - 1) ts r.0 bs r.2 w (subst (AreWithinLimits Der ps (depth - 1)) (items_of t u ts us e f) m))
+  owes_like (sorted_set extensible tag ps) depth t u b same (ts, us, bs, cs, es, ds, e, w, m, n, p, o, c) (deep, vs, ws, f, limits, others) =
+      let r = set_tree_alike extensible ts us t u (count ps) es n e same in
+      let q = set_tree_one extensible vs ws ts us t f e in (
+        deep,
+        r.0,
+        us,
+        r.1,
+        parts_like ps (depth - 1) ts r.0 bs r.2 w (subst (AreWithinLimits Der ps (depth - 1)) q.0 limits),
+        subst (AreUnknownValues Der (IsFirstOf ps)) q.1 others,
+      )
   owes_like (list tag s size) depth t u b same (ts, bs, e, n, w, c) (deep, us, f, m) =
       let r = items_alike ts u (subst (λ z. Same z u) e same) in
       (deep, r.0, r.1, elements_like s (depth - 2) (owes_like s (depth - 2)) ts r.0 bs r.2 w (subst (EachOf (IsWithinLimits Der s (depth - 2))) (items_of t u ts us e f) m))

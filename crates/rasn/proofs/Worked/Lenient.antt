@@ -8,7 +8,7 @@ use Rattle.rasn_types.specs.Carried.{Carried}
 use Rattle.rasn_types.specs.Lawful.{IsLawful}
 use Rattle.rasn.specs.Worked.{IsRefusedBy, IsLenient}
 use Rattle.rasn.proofs.LawsHold.Written.{included, one_reading}
-use Rattle.rasn.proofs.StrictDer.Shapes.{all_told}
+use Rattle.rasn.proofs.StrictDer.Carried.{all_told}
 
 -- What BER reads as a carried tree, and DER writes otherwise, DER doesn't read.
 refused : (s : Shape) → IsLawful s → (input : List ℕ) → AreOctets input → (t : Tree) → Reads Ber s 128 true input t [] → (c : Carried Der s t) → c.octets ≢ input → IsRefusedBy Der s input

@@ -27,7 +27,8 @@ use Rattle.rasn.specs.Worked.{one_two_three, falling_octets}
 use Rattle.rasn.proofs.Worked.Shapes.{seven_lawful, octets_lawful, set_of_lawful, three_lawful}
 use Rattle.rasn.proofs.Worked.Sets.{set_rises}
 use Rattle.rasn.proofs.LawsHold.Written.{included, one_reading}
-use Rattle.rasn.proofs.StrictDer.Shapes.{all_told, set_elements_one}
+use Rattle.rasn.proofs.StrictDer.Shapes.{set_elements_one}
+use Rattle.rasn.proofs.StrictDer.Carried.{all_told}
 
 pub default_there : IsLenient seven (48 ∷ 3 ∷ 2 ∷ 1 ∷ 7 ∷ []) (items (number (pos 7) ∷ []))
 unfolding IsWithinLimits

@@ -7,7 +7,6 @@ use crate::resolver::node::{Part, Place, Use};
 use crate::resolver::shape::Resolver;
 use crate::tree::{Component, Presence as Written, Tagging, TypeIndex};
 use rasn_schema::Presence;
-use rasn_types::types::Tag;
 use std::alloc::Global;
 use std::collections::BTreeSet;
 
@@ -151,7 +150,6 @@ impl<'modules, 'text> Resolver<'modules, 'text> {
                     },
                     node: 0,
                     presence: self.presence(place, of, presence, is_addition)?,
-                    first: Tag::EOC,
                 }))
             }
             Component::Marker(position) => {
@@ -238,8 +236,9 @@ impl<'modules, 'text> Resolver<'modules, 'text> {
     }
 }
 
-/// Returns whether unknown values follow such components or alternatives: where a SEQUENCE or a CHOICE
-/// has its additions at its end, and a module may imply a marker there (X.680 13.4, 25, 29).
+/// Returns whether such components or alternatives have unknown ones after them: where a SEQUENCE or a
+/// CHOICE has its additions at its end, and where a SET has some anywhere. A module may imply a marker
+/// (X.680 13.4, 25, 27, 29).
 pub(crate) fn has_unknown(
     modules: &Modules<'_>,
     place: Place,
@@ -247,7 +246,20 @@ pub(crate) fn has_unknown(
     within: Within,
 ) -> bool {
     let is_implied = modules.is_extensible(place.module);
-    within != Within::Set && ends_open(list, is_implied)
+    match within {
+        Within::Set => is_implied || has_marker(list),
+        Within::Sequence | Within::Choice => ends_open(list, is_implied),
+    }
+}
+
+/// Returns whether a list has an extension marker.
+fn has_marker(list: &[Listed<'_>]) -> bool {
+    for listed in list {
+        if let Component::Marker(_) = listed.component {
+            return true;
+        }
+    }
+    false
 }
 
 /// Returns whether additions come after all components: after the only marker, or before a second one

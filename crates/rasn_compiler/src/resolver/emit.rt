@@ -8,7 +8,7 @@ use crate::modules::Modules;
 use crate::position::Position;
 use crate::resolver::Resolved;
 use crate::resolver::node::{Node, Part};
-use crate::resolver::order::{Order, first_of, first_tags, ordered};
+use crate::resolver::order::{Order, ordered};
 use crate::resolver::schema_fault::schema_fault;
 use crate::resolver::unknown::add_unknown_alternatives;
 use rasn_schema::{Alternative, Component, Presence, Schema, Type, TypeId, TypeName};
@@ -64,12 +64,11 @@ fn filled(
     nodes: &mut Vec<Node<'_>>,
     order: &Order,
 ) -> Result<Vec<Type>, AllocError> {
-    let firsts = first_tags(alloc, nodes.as_slice(), order)?;
     let mut types = Vec::with_capacity(alloc, order.nodes.len())?;
     let mut has_unknown = false;
     for index in &order.nodes {
         if let Some(node) = nodes.get_mut(*index) {
-            fill(alloc, node, order, firsts.as_slice())?;
+            fill(alloc, node, order)?;
             has_unknown = has_unknown || ends_unknown(node);
             types.push(mem::replace(&mut node.ty, Type::Any { tag: Tag::EOC }))?;
         }
@@ -83,33 +82,22 @@ fn filled(
 /// Returns whether unknown values are the last component of a type.
 fn ends_unknown(node: &Node<'_>) -> bool {
     match &node.ty {
-        Type::Sequence { .. } => node.is_extensible,
+        Type::Sequence { .. } | Type::Set { .. } => node.is_extensible,
         _ => false,
     }
 }
 
 /// Puts the numbers of types in place of those of nodes, and the parts into their type.
-fn fill(
-    alloc: Global,
-    node: &mut Node<'_>,
-    order: &Order,
-    firsts: &[Tag],
-) -> Result<(), AllocError> {
-    if is_set(&node.ty) {
-        sort(&mut node.parts, firsts);
-    }
+fn fill(alloc: Global, node: &mut Node<'_>, order: &Order) -> Result<(), AllocError> {
     match &mut node.ty {
         Type::Tagged { inner, .. } => *inner = order.type_id(node.inner),
         Type::SequenceOf { element, .. } => *element = order.type_id(node.inner),
         Type::SetOf { element, .. } => *element = order.type_id(node.inner),
-        Type::Sequence { components, .. } => {
+        Type::Sequence { components, .. } | Type::Set { components, .. } => {
             *components = components_of(alloc, &mut node.parts, order)?;
             if node.is_extensible {
                 components.push(unknown_values(alloc, order)?)?;
             }
-        }
-        Type::Set { components, .. } => {
-            *components = components_of(alloc, &mut node.parts, order)?;
         }
         Type::Choice { alternatives, .. } => {
             *alternatives = alternatives_of(alloc, node.parts.as_slice(), order)?;
@@ -117,14 +105,6 @@ fn fill(
         _ => {}
     }
     Ok(())
-}
-
-/// Puts the components of a SET into the order of their tags (X.680 8.6).
-fn sort(parts: &mut Vec<Part<'_>>, firsts: &[Tag]) {
-    for part in parts.iter_mut() {
-        part.first = first_of(firsts, part.node);
-    }
-    parts.sort_unstable_by_key(|part| part.first);
 }
 
 /// Returns the components of a type.
@@ -146,7 +126,7 @@ fn components_of(
     Ok(components)
 }
 
-/// Returns the last component of an extensible SEQUENCE, whose type follows all others.
+/// Returns the last component of an extensible SEQUENCE or SET, whose type follows all others.
 fn unknown_values(alloc: Global, order: &Order) -> Result<Component, AllocError> {
     Ok(Component {
         name: String::from_str(alloc, "...")?,
@@ -170,13 +150,6 @@ fn alternatives_of(
         })?;
     }
     Ok(alternatives)
-}
-
-fn is_set(ty: &Type) -> bool {
-    match ty {
-        Type::Set { .. } => true,
-        _ => false,
-    }
 }
 
 /// Returns the names of types. The first is that of the root.

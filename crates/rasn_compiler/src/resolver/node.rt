@@ -80,8 +80,6 @@ pub(crate) struct Part<'text> {
     /// The index of its type's node.
     pub(crate) node: usize,
     pub(crate) presence: Presence,
-    /// The least tag that it begins with.
-    pub(crate) first: Tag,
 }
 
 /// A type whose references were followed, without the numbers of other types.
@@ -91,7 +89,8 @@ pub(crate) struct Shape<'text> {
     pub(crate) ty: Type,
     /// Its components or alternatives.
     pub(crate) parts: Vec<Part<'text>>,
-    /// Whether unknown values follow the components, or an unknown alternative the others (X.680 25, 29).
+    /// Whether unknown values come after the components, or an unknown alternative after the others
+    /// (X.680 25, 27, 29).
     pub(crate) is_extensible: bool,
     /// The type within its explicit tag, or of its elements.
     pub(crate) inner: Option<Use>,
@@ -114,7 +113,8 @@ impl<'text> Shape<'text> {
 pub(crate) struct Node<'text> {
     pub(crate) ty: Type,
     pub(crate) parts: Vec<Part<'text>>,
-    /// Whether unknown values follow the components, or an unknown alternative the others (X.680 25, 29).
+    /// Whether unknown values come after the components, or an unknown alternative after the others
+    /// (X.680 25, 27, 29).
     pub(crate) is_extensible: bool,
     /// The node of the type within its explicit tag, or of its elements.
     pub(crate) inner: usize,

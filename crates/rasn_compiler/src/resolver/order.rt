@@ -4,7 +4,6 @@ use crate::modules::Modules;
 use crate::position::Position;
 use crate::resolver::node::Node;
 use rasn_schema::{Type, TypeId};
-use rasn_types::types::Tag;
 use std::alloc::{AllocError, Global};
 
 /// How often the types are gone through: CHOICEs that are nested deeper than this have no order.
@@ -115,44 +114,4 @@ fn endless<'text>(modules: &Modules<'text>, nodes: &[Node<'text>], order: &Order
         }
     }
     modules.fault(0, Position::START, Problem::TooLarge)
-}
-
-/// Returns the least tag that each node's values begin with (X.680 8.6).
-pub(crate) fn first_tags(
-    alloc: Global,
-    nodes: &[Node<'_>],
-    order: &Order,
-) -> Result<Vec<Tag>, AllocError> {
-    let mut firsts = vec![in alloc; Tag::EOC; nodes.len()]?;
-    for index in &order.nodes {
-        let Some(node) = nodes.get(*index) else {
-            continue;
-        };
-        let first = match &node.ty {
-            Type::Choice { .. } => least(node, firsts.as_slice()),
-            other => other.tag(),
-        };
-        if let Some(place) = firsts.get_mut(*index) {
-            *place = first;
-        }
-    }
-    Ok(firsts)
-}
-
-/// Returns the least tag of a CHOICE's alternatives.
-fn least(node: &Node<'_>, firsts: &[Tag]) -> Tag {
-    let mut least: Option<Tag> = None;
-    for part in &node.parts {
-        let first = first_of(firsts, part.node);
-        least = match least {
-            Some(tag) if tag < first => Some(tag),
-            _ => Some(first),
-        };
-    }
-    least.unwrap_or(Tag::EOC)
-}
-
-/// Returns the least tag of a node.
-pub(crate) fn first_of(firsts: &[Tag], node: usize) -> Tag {
-    firsts.get(node).copied().unwrap_or(Tag::EOC)
 }

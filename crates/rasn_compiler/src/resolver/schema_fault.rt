@@ -52,8 +52,7 @@ fn place(error: SchemaError) -> (TypeId, Option<usize>, Option<usize>) {
         | SchemaError::UnfitDefault { id, index } => (id, Some(index), None),
         SchemaError::AlternativesClash { id, index, other }
         | SchemaError::ComponentsClash { id, index, other }
-        | SchemaError::SetClash { id, index, other }
-        | SchemaError::SetOutOfOrder { id, index, other } => (id, Some(index), Some(other)),
+        | SchemaError::SetClash { id, index, other } => (id, Some(index), Some(other)),
     }
 }
 
@@ -65,9 +64,6 @@ fn problem<'text>(error: SchemaError, one: &'text str, other: &'text str) -> Pro
         | SchemaError::SetClash { .. } => Problem::Clash(one, other),
         SchemaError::UntaggedComponent { .. } => {
             Problem::Unsupported("a component that may be absent, has no tag and isn't the last")
-        }
-        SchemaError::SetOutOfOrder { .. } => {
-            Problem::Unsupported("a CHOICE in a SET between whose tags others are")
         }
         SchemaError::LateAlternative { .. } | SchemaError::LateInner { .. } => {
             Problem::Unsupported("such an order of types")

@@ -46,7 +46,6 @@ fn unknown_alternative<'text>(node: &Node<'text>, open_type: usize) -> Part<'tex
         of: Use::of(node.place, 0),
         node: open_type,
         presence: Presence::Required,
-        first: Tag::EOC,
     }
 }
 

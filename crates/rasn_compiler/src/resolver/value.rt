@@ -90,10 +90,7 @@ impl<'modules, 'text> Resolver<'modules, 'text> {
     ) -> Result<Value<'static>, Stop<'text>> {
         let meant = self.meant(spelled)?;
         let members = self.member_values(meant)?;
-        let mut listed = self.listed(at, list, within, true)?;
-        if within == Within::Set && (!members.is_empty() || has_default(listed.as_slice())) {
-            listed = self.in_order(at, list, listed, spelled)?;
-        }
+        let listed = self.listed(at, list, within, true)?;
         self.check_members(members.as_slice(), listed.as_slice())?;
         *left = left.saturating_sub(listed.len());
         let mut values = Vec::new(self.alloc);
@@ -329,20 +326,6 @@ fn member_named<'text>(members: &[Member<'text>], name: &str) -> Option<Spelled<
         }
     }
     None
-}
-
-/// Returns whether a component has a value where it is absent.
-fn has_default(listed: &[Listed<'_>]) -> bool {
-    for listed in listed {
-        if let Component::Named {
-            presence: Presence::Default(_, _),
-            ..
-        } = listed.component
-        {
-            return true;
-        }
-    }
-    false
 }
 
 /// Returns whether a component of a list has this name.

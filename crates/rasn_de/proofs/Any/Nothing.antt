@@ -4,7 +4,7 @@ use Rattle.rasn_types.specs.declared.types.tag.Tag.{Tag}
 use Rattle.rasn_types.specs.declared.types.codec.Codec.{Codec}
 use Rattle.rasn_types.specs.Tags.{Form, form, IsStrict, in_universal}
 use Rattle.rasn_types.specs.Framing.{Extent, Frame, NextTag, SpellsAnyIdentifier, CompleteEncoding, plain, closed}
-use Rattle.rasn_types.specs.Shapes.{Tree, absent, Kind, Shape, leaf, any, prefix, choice, open_choice, option, seq, set, list, set_of, unknown, Parts, part, Presence, required, addition, optional_by, default_by, Sought, one_tag, any_of, sought_by, sought_in}
+use Rattle.rasn_types.specs.Shapes.{Tree, absent, Kind, Shape, leaf, any, prefix, choice, open_choice, option, seq, set, sorted_set, list, set_of, unknown, Parts, part, Presence, required, addition, optional_by, default_by, Sought, one_tag, any_of, sought_by, sought_in}
 use Rattle.rasn_types.specs.Shapes.Parts.{none}
 use Rattle.rasn_types.specs.Readings.{Reading, ReadsContents, definite_form, indefinite_form, ReadsMany, ReadsOptional, Part, IsNoDefault, ReadsPart, ReadsInOrder, ReadsChoice}
 use Rattle.rasn_types.specs.Contents.{ReadsString, ReadsBitSegment, OctetSegment}
@@ -68,6 +68,7 @@ shape_nothing rule (open_choice ps) depth closing t rest (inr (u, e, n, s, m, r)
 shape_nothing rule (option tag s) depth closing t rest r = perhaps_nothing (form rule) (one_tag tag) absent (Reads rule s depth closing) closing t rest r
 shape_nothing rule (seq tag ps) depth closing t rest (d, r) = no_inside rule tag true _ t rest r
 shape_nothing rule (set tag ps) depth closing t rest (d, r) = no_inside rule tag true _ t rest r
+shape_nothing rule (sorted_set extensible tag ps) depth closing t rest (d, r) = no_inside rule tag true _ t rest r
 shape_nothing rule (list tag s size) depth closing t rest (d, r) = no_inside rule tag true _ t rest r
 shape_nothing rule (set_of tag s size) depth closing t rest (d, r) = no_inside rule tag true _ t rest r
 shape_nothing rule unknown depth closing t rest (ts, e, w, r) = none_after ts r

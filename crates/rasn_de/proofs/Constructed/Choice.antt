@@ -20,7 +20,7 @@ choice_next rule k [] input t rest h = absurd h
 choice_next rule k (p ∷ ps) input t rest (inl (u, e, next, n, f, r, z)) = (next, n)
 choice_next rule k (p ∷ ps) input t rest (inr h) = choice_next rule (suc k) ps input t rest h
 
-choice_by_next : (extensible : Bool) (rule : Codec) (ps : Parts) (depth : ℕ) (closing : Bool) (input : List ℕ) (t : Tree) (rest : List ℕ) → Reads rule (choice_by extensible ps) depth closing input t rest
+pub choice_by_next : (extensible : Bool) (rule : Codec) (ps : Parts) (depth : ℕ) (closing : Bool) (input : List ℕ) (t : Tree) (rest : List ℕ) → Reads rule (choice_by extensible ps) depth closing input t rest
     → (next : Tag) × NextTag (form rule) input next
 unfolding Reads
 choice_by_next false rule ps depth closing input t rest h = choice_next rule 0 (parts_of rule ps depth closing) input t rest h

@@ -8,74 +8,85 @@ use Rattle.rasn_types.specs.declared.error.decode.DecodeError.{DecodeError}
 use Rattle.rasn_types.specs.Framing.{Begins, NextTag, Ended}
 use Rattle.rasn_types.specs.Tags.{form, IsStrict, IsTagBelow}
 use Rattle.rasn_types.specs.Order.{Each, AreAscending}
-use Rattle.rasn_types.specs.Shapes.{Tree, items, choice, Parts, presences}
-use Rattle.rasn_types.specs.Readings.{Reading, ReadsMany, ReadsFrom, ReadsChoice, ByPart, AreInTagOrder, ReadsSet}
+use Rattle.rasn_types.specs.Shapes.{Tree, Shape, items, choice, Parts, presences}
+use Rattle.rasn_types.specs.Readings.{Reading, ReadsMany, ReadsFrom, ReadsChoice, AreInTagOrder, ReadsSet}
 use Rattle.rasn_types.specs.Grammar.{Reads, parts_of}
 use Rattle.rasn_types.specs.Trees.{list_tree}
 use Rattle.rasn_de.specs.State.{State, Call}
 use Rattle.rasn_de.specs.Decodes.{Decodes, DecodesBy}
 use Rattle.rasn_de.specs.SequenceOf.{ReadsElements, RefusesElement, FailsAtElement}
 use Rattle.rasn_de.specs.Set.{FailsAtComponent, no_tag, falls, not_read, DecodesComponents, DecodesIntoSlots, DecodesSetContents, AreParts, MakesSet}
-use Rattle.rasn_de.specs.Outcomes.{Exact, refusal}
+use Rattle.rasn_de.specs.Outcomes.{Exact, refusal, outcome}
 use Rattle.rasn_de.specs.Steps.{PeeksTag}
 use Rattle.rasn_de.proofs.Leaves.Outcomes.{Exact-none, Exact-refusal}
 use Rattle.rasn_de.proofs.Constructed.SetOfElements.{Came, came}
 use Rattle.rasn_de.proofs.Constructed.Choice.{choice_next}
+use Rattle.rasn_de.proofs.Constructed.Reads.{Exact-same}
 use Rattle.rasn_de.proofs.Constructed.Elements.{Come, element_stops, elements_end}
 use Rattle.rasn_de.proofs.Constructed.OneReading.{by_part_one}
 use Rattle.rasn_de.proofs.Constructed.Optional.{peeks_none}
 use Rattle.rasn_de.proofs.Headers.Begins.{begins_more}
 use Rattle.rasn_de.proofs.Headers.Tags.{tags_split, tags_more, front_in_order}
 
--- The contents of a SET of these parts.
-abbrev pub SetReads : Parts → Codec → ℕ → Bool → Reading Tree
-SetReads ps rule depth closing = ReadsSet rule (presences ps) (ReadsChoice rule 0 (parts_of rule ps depth closing)) closing
+-- Components of this shape in any order, whose readings make a tree.
+abbrev pub ReadsComponents : Shape → (List Tree → Tree → Type 0) → Codec → ℕ → Bool → Reading Tree
+ReadsComponents s makes rule depth closing input t rest = (readings : List Tree) × makes readings t × ReadsMany (Reads rule s depth closing) closing input readings rest
+    × (IsStrict rule → (bs : List (List ℕ)) × ReadsFrom (Reads rule s depth closing) input readings rest bs × AreInTagOrder bs)
 
-module _ {F S : Type 0} (ps : Parts) (piece : F → Tree) (tree : S → Tree) (old : State) where
+-- What is made from components, given their readings; or an error if they make nothing.
+abbrev pub MakesBy : {S : Type 0} → (List Tree → Tree → Type 0) → (S → Tree) → List Tree → Result S DecodeError → Type 0
+MakesBy makes tree readings (Ok v) = makes readings (tree v)
+MakesBy makes tree readings (Err e) = Exact (λ input t rest. makes readings t) [] (refusal e.kind)
+
+-- Each value of the shape begins with a tag.
+abbrev pub HasNextTag : Shape → Type 0
+HasNextTag s = (rule : Codec) (depth : ℕ) (closing : Bool) (input : List ℕ) (t : Tree) (r : List ℕ) → Reads rule s depth closing input t r → (tag : Tag) × NextTag (form rule) input tag
+
+module _ {F S : Type 0} (s : Shape) (makes : List Tree → Tree → Type 0) (one : (readings : List Tree) (t u : Tree) → makes readings t → makes readings u → t ≡ u) (tagged : HasNextTag s) (piece : F → Tree) (tree : S → Tree) (old : State) where
   abbrev pub CompleteEncoding : Reading Tree
-  CompleteEncoding = SetReads ps old.rule old.depth old.closing
+  CompleteEncoding = ReadsComponents s makes old.rule old.depth old.closing
 
   abbrev pub R : Reading Tree
-  R = Reads old.rule (choice ps) old.depth old.closing
+  R = Reads old.rule s old.depth old.closing
 
-  as_list : (input : List ℕ) (t : Tree) (r : List ℕ) → CompleteEncoding input t r → (us : List Tree) × ReadsElements (choice ps) old.rule old.depth old.closing input (items us) r
+  as_list : (input : List ℕ) (t : Tree) (r : List ℕ) → CompleteEncoding input t r → (us : List Tree) × ReadsElements s old.rule old.depth old.closing input (items us) r
   unfolding ReadsElements Reads
-  as_list input t r w = (w.0, (w.0, refl, w.3))
+  as_list input t r w = (w.0, (w.0, refl, w.2))
 
   -- what is refused as a list is refused as a SET
-  from_list : (e : DecodeError) (new : State) → DecodesBy (ReadsElements (choice ps)) (λ (l : List F). list_tree piece l) old (Err e) new → DecodesBy (SetReads ps) tree old (Err e) new
+  from_list : (e : DecodeError) (new : State) → DecodesBy (ReadsElements s) (λ (l : List F). list_tree piece l) old (Err e) new → DecodesBy (ReadsComponents s makes) tree old (Err e) new
   from_list e new k = record {
     stays = k.stays;
     end = k.end;
-    exact = Exact-refusal e.kind (ReadsElements (choice ps) old.rule old.depth old.closing) CompleteEncoding old.rest old.rest (λ none t r w. let l = as_list old.rest t r w in none (items l.0) r l.1) k.exact;
+    exact = Exact-refusal e.kind (ReadsElements s old.rule old.depth old.closing) CompleteEncoding old.rest old.rest (λ none t r w. let l = as_list old.rest t r w in none (items l.0) r l.1) k.exact;
   }
 
   -- what would be read goes on here
-  goes_on : (here : State) (vs : List F) (bs : List (List ℕ)) → Came (choice ps) piece old here vs bs → (t : Tree) (r : List ℕ) → CompleteEncoding old.rest t r → IsStrict old.rule
+  goes_on : (here : State) (vs : List F) (bs : List (List ℕ)) → Came s piece old here vs bs → (t : Tree) (r : List ℕ) → CompleteEncoding old.rest t r → IsStrict old.rule
       → (us : List Tree) × (more : List (List ℕ)) × ReadsMany R old.closing here.rest us r × ReadsFrom R here.rest us r more × AreInTagOrder (bs ++ more)
   unfolding Reads
   goes_on here vs bs k t r x strict =
-      let w = x.5 strict in
-      let g = k.come.2.back x.0 r x.3 in
+      let w = x.3 strict in
+      let g = k.come.2.back x.0 r x.2 in
       let m = k.ran.back g.0 r w.0 (subst (λ y. ReadsFrom R old.rest y r w.0) g.1 w.1) in
       (g.0, m.0, g.2, m.2, subst AreInTagOrder m.1 w.2)
 
-  strict_there : (here : State) (vs : List F) (bs : List (List ℕ)) → Came (choice ps) piece old here vs bs → IsStrict here.rule → IsStrict old.rule
+  strict_there : (here : State) (vs : List F) (bs : List (List ℕ)) → Came s piece old here vs bs → IsStrict here.rule → IsStrict old.rule
   strict_there here vs bs k s = subst (λ (z : State). IsStrict z.rule) k.come.0 s
 
-  ended_there : (here : State) (vs : List F) (bs : List (List ℕ)) → Came (choice ps) piece old here vs bs → (Ended here.closing here.rest → ⊥) → Ended old.closing here.rest → ⊥
+  ended_there : (here : State) (vs : List F) (bs : List (List ℕ)) → Came s piece old here vs bs → (Ended here.closing here.rest → ⊥) → Ended old.closing here.rest → ⊥
   ended_there here vs bs k n e = n (subst (λ (z : State). Ended z.closing here.rest) (sym k.come.0) e)
 
-  next_there : (here : State) (vs : List F) (bs : List (List ℕ)) → Came (choice ps) piece old here vs bs → (Ended here.closing here.rest → ⊥) → ((tag : Tag) → NextTag (form here.rule) here.rest tag → ⊥)
+  next_there : (here : State) (vs : List F) (bs : List (List ℕ)) → Came s piece old here vs bs → (Ended here.closing here.rest → ⊥) → ((tag : Tag) → NextTag (form here.rule) here.rest tag → ⊥)
       → (us : List Tree) (r : List ℕ) → ReadsMany R old.closing here.rest us r → ⊥
   unfolding Reads
   next_there here vs bs k n nothing [] r m = ended_there here vs bs k n m.0
   next_there here vs bs k n nothing (u ∷ us) r (e, mid, x, m) =
-      let c = choice_next old.rule 0 (parts_of old.rule ps old.depth old.closing) here.rest u mid x in
+      let c = tagged old.rule old.depth old.closing here.rest u mid x in
       nothing c.0 (subst (λ (z : State). NextTag (form z.rule) here.rest c.0) (sym k.come.0) c.1)
 
-  untold : (here : State) (vs : List F) (bs : List (List ℕ)) → Came (choice ps) piece old here vs bs → (Ended here.closing here.rest → ⊥) → (e : DecodeError) → PeeksTag here (Err e) → IsStrict here.rule
-      → DecodesBy (SetReads ps) tree old (Err e) here
+  untold : (here : State) (vs : List F) (bs : List (List ℕ)) → Came s piece old here vs bs → (Ended here.closing here.rest → ⊥) → (e : DecodeError) → PeeksTag here (Err e) → IsStrict here.rule
+      → DecodesBy (ReadsComponents s makes) tree old (Err e) here
   untold here vs bs k n e p strict = record {
     stays = k.come.0;
     end = k.come.1;
@@ -84,7 +95,7 @@ module _ {F S : Type 0} (ps : Parts) (piece : F → Tree) (tree : S → Tree) (o
         next_there here vs bs k n (peeks_none here e p) g.0 r g.2);
   }
 
-  clash : (here : State) (vs : List F) (bs : List (List ℕ)) → Came (choice ps) piece old here vs bs → (Ended here.closing here.rest → ⊥) → (AreInTagOrder (bs ++ here.rest ∷ []) → ⊥)
+  clash : (here : State) (vs : List F) (bs : List (List ℕ)) → Came s piece old here vs bs → (Ended here.closing here.rest → ⊥) → (AreInTagOrder (bs ++ here.rest ∷ []) → ⊥)
       → (us : List Tree) (r : List ℕ) (more : List (List ℕ)) → ReadsMany R old.closing here.rest us r → ReadsFrom R here.rest us r more → AreInTagOrder (bs ++ more) → ⊥
   clash here vs bs k n f [] r more m x o = ended_there here vs bs k n m.0
   clash here vs bs k n f (u ∷ us) r more m (b, rest, mid, e, g, y, z) (all, h, order) =
@@ -97,8 +108,8 @@ module _ {F S : Type 0} (ps : Parts) (piece : F → Tree) (tree : S → Tree) (o
         front_in_order IsTagBelow (s.0 ++ q.0 ∷ []) q.1 (subst (AreAscending IsTagBelow) (sym (append_assoc s.0 (q.0 ∷ []) q.1)) w),
       )
 
-  fell : (here : State) (vs : List F) (bs : List (List ℕ)) → Came (choice ps) piece old here vs bs → (Ended here.closing here.rest → ⊥) → (e : DecodeError) → (AreInTagOrder (bs ++ here.rest ∷ []) → ⊥)
-      → IsStrict here.rule → DecodesBy (SetReads ps) tree old (Err e) here
+  fell : (here : State) (vs : List F) (bs : List (List ℕ)) → Came s piece old here vs bs → (Ended here.closing here.rest → ⊥) → (e : DecodeError) → (AreInTagOrder (bs ++ here.rest ∷ []) → ⊥)
+      → IsStrict here.rule → DecodesBy (ReadsComponents s makes) tree old (Err e) here
   fell here vs bs k n e f strict = record {
     stays = k.come.0;
     end = k.come.1;
@@ -107,38 +118,35 @@ module _ {F S : Type 0} (ps : Parts) (piece : F → Tree) (tree : S → Tree) (o
         clash here vs bs k n f g.0 r g.1 g.2 g.3 g.4);
   }
 
-  stopped : (here : State) (vs : List F) → Come (choice ps) piece old here vs → (Ended here.closing here.rest → ⊥) → (e : DecodeError) (new : State) → FailsAtElement (Decodes (choice ps) piece) here e new
-      → DecodesBy (SetReads ps) tree old (Err e) new
-  stopped here vs a n e new k = from_list e new (element_stops (choice ps) piece old (λ (l : List F). list_tree piece l) here vs a n e new k)
+  stopped : (here : State) (vs : List F) → Come s piece old here vs → (Ended here.closing here.rest → ⊥) → (e : DecodeError) (new : State) → FailsAtElement (Decodes s piece) here e new
+      → DecodesBy (ReadsComponents s makes) tree old (Err e) new
+  stopped here vs a n e new k = from_list e new (element_stops s piece old (λ (l : List F). list_tree piece l) here vs a n e new k)
 
-  unread : (here : State) (vs : List F) (bs : List (List ℕ)) → Came (choice ps) piece old here vs bs → (Ended here.closing here.rest → ⊥) → (e : DecodeError) (new : State)
-      → FailsAtComponent (FailsAtElement (Decodes (choice ps) piece)) bs here e new → DecodesBy (SetReads ps) tree old (Err e) new
-  unread here vs bs k n e new (no_tag s p q) = subst (DecodesBy (SetReads ps) tree old (Err e)) (sym q) (untold here vs bs k n e p s)
-  unread here vs bs k n e new (falls s t i f w q) = subst (DecodesBy (SetReads ps) tree old (Err e)) (sym q) (fell here vs bs k n e f s)
+  unread : (here : State) (vs : List F) (bs : List (List ℕ)) → Came s piece old here vs bs → (Ended here.closing here.rest → ⊥) → (e : DecodeError) (new : State)
+      → FailsAtComponent (FailsAtElement (Decodes s piece)) bs here e new → DecodesBy (ReadsComponents s makes) tree old (Err e) new
+  unread here vs bs k n e new (no_tag strict p q) = subst (DecodesBy (ReadsComponents s makes) tree old (Err e)) (sym q) (untold here vs bs k n e p strict)
+  unread here vs bs k n e new (falls strict t i f w q) = subst (DecodesBy (ReadsComponents s makes) tree old (Err e)) (sym q) (fell here vs bs k n e f strict)
   unread here vs bs k n e new (not_read f w) = stopped here vs k.come n e new w
 
   -- All components were read.
-  module _ (new : State) (fs : List F) (bs : List (List ℕ)) (k : Came (choice ps) piece old new fs bs) (order : IsStrict old.rule → AreInTagOrder bs) (end : Ended new.closing new.rest) where
-    listed : DecodesBy (ReadsElements (choice ps)) (λ (l : List F). list_tree piece l) old (Ok fs) new
-    listed = elements_end (choice ps) piece old (λ (l : List F). list_tree piece l) new fs k.come end fs refl
+  module _ (new : State) (fs : List F) (bs : List (List ℕ)) (k : Came s piece old new fs bs) (order : IsStrict old.rule → AreInTagOrder bs) (end : Ended new.closing new.rest) where
+    listed : DecodesBy (ReadsElements s) (λ (l : List F). list_tree piece l) old (Ok fs) new
+    listed = elements_end s piece old (λ (l : List F). list_tree piece l) new fs k.come end fs refl
 
     -- what is read as a SET has these readings
-    only : (t : Tree) (r : List ℕ) → CompleteEncoding old.rest t r → (ts : List Tree) × (t ≡ items ts) × ByPart 0 (presences ps) (map piece fs) ts × (r ≡ new.rest)
+    only : (t : Tree) (r : List ℕ) → CompleteEncoding old.rest t r → makes (map piece fs) t × (r ≡ new.rest)
     unfolding as_list
     only t r w =
         let l = as_list old.rest t r w in
         let y = listed.exact.1 (items l.0) r l.1 in
         let q : w.0 ≡ map piece fs = items_one w.0 (map piece fs) y.0 in
-        (w.1, w.2, subst (λ z. ByPart 0 (presences ps) z w.1) q w.4, y.1)
+        (subst (λ z. makes z t) q w.1, y.1)
 
-    there : (many : ReadsMany R old.closing old.rest (map piece fs) new.rest) (t : Tree) → AreParts ps (map piece fs) t → CompleteEncoding old.rest t new.rest
-    unfolding Reads
-    there many t (ts, e, by) = (
+    there : (many : ReadsMany R old.closing old.rest (map piece fs) new.rest) (t : Tree) → makes (map piece fs) t → CompleteEncoding old.rest t new.rest
+    there many t a = (
       map piece fs,
-      ts,
-      e,
+      a,
       many,
-      by,
       λ strict. (
         bs,
         subst (λ z. ReadsFrom R old.rest z new.rest bs) (append-nil (map piece fs))
@@ -153,7 +161,7 @@ module _ {F S : Type 0} (ps : Parts) (piece : F → Tree) (tree : S → Tree) (o
         let x = listed.exact.0 in
         subst (λ z. ReadsMany R old.closing old.rest z new.rest) (sym (items_one (map piece fs) x.0 x.1)) x.2
 
-    pub made : (v : S) → AreParts ps (map piece fs) (tree v) → DecodesBy (SetReads ps) tree old (Ok v) new
+    pub made : (v : S) → makes (map piece fs) (tree v) → DecodesBy (ReadsComponents s makes) tree old (Ok v) new
     made v a = record {
       stays = k.come.0;
       end = k.come.1;
@@ -161,24 +169,59 @@ module _ {F S : Type 0} (ps : Parts) (piece : F → Tree) (tree : S → Tree) (o
         there many_read (tree v) a,
         λ t r w.
             let o = only t r w in
-            (o.1 ∙ ap items (by_part_one (presences ps) 0 (map piece fs) o.0 a.0 o.2 a.2) ∙ sym a.1, o.3),
+            (one (map piece fs) t (tree v) o.0 a, o.1),
       );
     }
 
-    pub not_made : (e : DecodeError) → Exact (λ input t rest. AreParts ps (map piece fs) t) [] (refusal e.kind) → DecodesBy (SetReads ps) tree old (Err e) new
+    pub not_made : (e : DecodeError) → Exact (λ input t rest. makes (map piece fs) t) [] (refusal e.kind) → DecodesBy (ReadsComponents s makes) tree old (Err e) new
     not_made e x = record {
       stays = k.come.0;
       end = k.come.1;
-      exact = Exact-refusal e.kind (λ input t rest. AreParts ps (map piece fs) t) CompleteEncoding [] old.rest
-          (λ none t r w. let o = only t r w in none t [] (o.0, o.1, o.2)) x;
+      exact = Exact-refusal e.kind (λ input t rest. makes (map piece fs) t) CompleteEncoding [] old.rest
+          (λ none t r w. let o = only t r w in none t [] o.0) x;
     }
+
+  pub components_collect : {L : Type 0} (elements : L → List F) (by : L → Result S DecodeError → Type 0)
+      → ((fs : L) (r : Result S DecodeError) → by fs r → MakesBy makes tree (map piece (elements fs)) r)
+      → (result : Result S DecodeError) (new : State) → DecodesSetContents (DecodesComponents (Decodes s piece) elements) by old result new → DecodesBy (ReadsComponents s makes) tree old result new
+  components_collect elements by H (Ok v) new (fs, (bs, (p, order), end), m) = made new (elements fs) bs (came s piece old new (elements fs) bs p) order end v (H fs (Ok v) m)
+  components_collect elements by H (Err e) new (inl (vs, bs, here, (p, order), n, u)) = unread here vs bs (came s piece old here vs bs p) n e new u
+  components_collect elements by H (Err e) new (inr (fs, (bs, (p, order), end), m)) = not_made new (elements fs) bs (came s piece old new (elements fs) bs p) order end e (H fs (Err e) m)
+
+-- The contents of a SET of these parts.
+abbrev pub SetReads : Parts → Codec → ℕ → Bool → Reading Tree
+SetReads ps rule depth closing = ReadsSet rule (presences ps) (ReadsChoice rule 0 (parts_of rule ps depth closing)) closing
+
+one_tree : (ps : Parts) (readings : List Tree) (t u : Tree) → AreParts ps readings t → AreParts ps readings u → t ≡ u
+one_tree ps readings t u a b = a.1 ∙ ap items (by_part_one (presences ps) 0 readings a.0 b.0 a.2 b.2) ∙ sym b.1
+
+choice_tagged : (ps : Parts) → HasNextTag (choice ps)
+unfolding Reads
+choice_tagged ps rule depth closing input t r w = let c = choice_next rule 0 (parts_of rule ps depth closing) input t r w in (c.0, c.1)
+
+module _ {F S : Type 0} (ps : Parts) (piece : F → Tree) (tree : S → Tree) (old : State) where
+  made_by : (readings : List Tree) (r : Result S DecodeError) → MakesSet ps tree readings r → MakesBy (AreParts ps) tree readings r
+  made_by readings (Ok v) m = m
+  made_by readings (Err e) m = m
+
+  to_set : (t : Tree) (r : List ℕ) → ReadsComponents (choice ps) (AreParts ps) old.rule old.depth old.closing old.rest t r → SetReads ps old.rule old.depth old.closing old.rest t r
+  unfolding Reads
+  to_set t r w = (w.0, w.1.0, w.1.1, w.2, w.1.2, w.3)
+
+  from_set : (t : Tree) (r : List ℕ) → SetReads ps old.rule old.depth old.closing old.rest t r → ReadsComponents (choice ps) (AreParts ps) old.rule old.depth old.closing old.rest t r
+  unfolding Reads
+  from_set t r w = (w.0, (w.1, w.2, w.4), w.3, w.5)
 
   pub set_collects : {L : Type 0} (elements : L → List F) (by : L → Result S DecodeError → Type 0)
       → ((fs : L) (r : Result S DecodeError) → by fs r → MakesSet ps tree (map piece (elements fs)) r)
       → (result : Result S DecodeError) (new : State) → DecodesSetContents (DecodesComponents (Decodes (choice ps) piece) elements) by old result new → DecodesBy (SetReads ps) tree old result new
-  set_collects elements by H (Ok v) new (fs, (bs, (p, order), end), m) = made new (elements fs) bs (came (choice ps) piece old new (elements fs) bs p) order end v (H fs (Ok v) m)
-  set_collects elements by H (Err e) new (inl (vs, bs, here, (p, order), n, u)) = unread here vs bs (came (choice ps) piece old here vs bs p) n e new u
-  set_collects elements by H (Err e) new (inr (fs, (bs, (p, order), end), m)) = not_made new (elements fs) bs (came (choice ps) piece old new (elements fs) bs p) order end e (H fs (Err e) m)
+  set_collects elements by H result new k =
+      let d = components_collect (choice ps) (AreParts ps) (one_tree ps) (choice_tagged ps) piece tree old elements by (λ fs r m. made_by (map piece (elements fs)) r (H fs r m)) result new k in
+      record {
+        stays = d.stays;
+        end = d.end;
+        exact = Exact-same (ReadsComponents (choice ps) (AreParts ps) old.rule old.depth old.closing) (SetReads ps old.rule old.depth old.closing) old.rest (outcome tree result new.rest) to_set from_set d.exact;
+      }
 
 -- What is put into slots is read as what is appended to a list.
 module _ {D S : Type 0} (read : Call D) (by : List D → Result S DecodeError → Type 0) where

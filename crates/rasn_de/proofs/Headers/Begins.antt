@@ -6,7 +6,7 @@ use Rattle.rasn_types.specs.declared.types.codec.Codec.{Codec}
 use Rattle.rasn_types.specs.declared.types.codec.Codec.TheVariants.{Ber, Cer, Der}
 use Rattle.rasn_types.specs.Tags.{Form, IsStrict, in_universal}
 use Rattle.rasn_types.specs.Framing.{Extent, HasIndefinite, Frame, with_length, without_length, Begins, CompleteEncoding, plain, closed}
-use Rattle.rasn_types.specs.Shapes.{Tree, Kind, Shape, leaf, any, prefix, choice, open_choice, option, seq, set, list, set_of, unknown, Parts, part}
+use Rattle.rasn_types.specs.Shapes.{Tree, Kind, Shape, leaf, any, prefix, choice, open_choice, option, seq, set, sorted_set, list, set_of, unknown, Parts, part}
 use Rattle.rasn_types.specs.Shapes.Parts.{none}
 use Rattle.rasn_types.specs.Readings.{Reading, ReadsContents, definite_form, indefinite_form, ReadsMany, ReadsChoice}
 use Rattle.rasn_types.specs.Contents.{ReadsString, ReadsBitSegment, OctetSegment}
@@ -86,6 +86,7 @@ mutual
   headed (option tag s) depth closing input t rest b e n (inr (a, r)) = headed s depth closing input t rest b e n r
   headed (seq tag ps) depth closing input t rest b e n (d, r) = nested input b rest e tag true _ t r
   headed (set tag ps) depth closing input t rest b e n (d, r) = nested input b rest e tag true _ t r
+  headed (sorted_set extensible tag ps) depth closing input t rest b e n (d, r) = nested input b rest e tag true _ t r
   headed (list tag s size) depth closing input t rest b e n (d, r) = nested input b rest e tag true _ t r
   headed (set_of tag s size) depth closing input t rest b e n (d, r) = nested input b rest e tag true _ t r
   headed unknown depth closing input t rest b e n (ts, f, w, r) = many_headed closing input ts rest b e n r

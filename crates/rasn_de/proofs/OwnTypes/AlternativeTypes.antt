@@ -7,19 +7,20 @@ use Rattle.rasn_types.specs.declared.types.any.Any.{Any}
 use Rattle.rasn_types.specs.Tags.{form, eoc}
 use Rattle.rasn_types.specs.Framing.{NextTag}
 use Rattle.rasn_types.specs.Truth.{IsWhether}
-use Rattle.rasn_types.specs.Shapes.{Tree, numbers, chosen, Shape, leaf, any, prefix, choice, open_choice, choice_by, count, option, seq, set, list, set_of, unknown, Parts, part, Presence, required, own, IsFirst, IsFirstOf}
+use Rattle.rasn_types.specs.Shapes.{Tree, numbers, chosen, Shape, leaf, any, prefix, choice, open_choice, choice_by, count, option, seq, set, sorted_set, list, set_of, unknown, Parts, part, Presence, required, own, IsFirst, IsFirstOf}
 use Rattle.rasn_types.specs.Shapes.Parts.{none}
 use Rattle.rasn_types.specs.Grammar.{Reads, ReadsOpenChoice, parts_of}
 use Rattle.rasn_types.proofs.Headers.Frames.{next_one}
 use Rattle.rasn_types.proofs.Time.Spellings.{both_true}
 use Rattle.rasn_de.specs.State.{State}
+use Rattle.rasn_de.specs.Steps.{PeeksTag}
 use Rattle.rasn_de.specs.Outcomes.{Exact, Outcome, Got, refusal, outcome}
 use Rattle.rasn_de.specs.Decodes.{DecodesExactly, DecodesBy, Decodes}
 use Rattle.rasn_de.specs.Any.{DecodesOpenType}
 use Rattle.rasn_de.specs.Choice.{IsOnlyAlternative}
 use Rattle.rasn_de.specs.PartTypes.{same_own}
 use Rattle.std.specs.Prelude.{IfErr}
-use Rattle.rasn_de.specs.AlternativeTypes.{FailsAtAlternativeBy, DecodesAlternativeBy, ReadsNumbered, ReadsNumberedBy, DecodesNumbered, is_other, none_begins, is_first_alone}
+use Rattle.rasn_de.specs.AlternativeTypes.{FailsAtValue, FailsAtAlternativeBy, DecodesAlternativeBy, ReadsNumbered, ReadsNumberedBy, DecodesNumbered, is_other, none_begins, is_first_alone}
 use Rattle.rasn_de.proofs.Leaves.Outcomes.{Exact-none, Exact-refusal}
 use Rattle.rasn_de.proofs.Headers.Ends.{IsEnd-refl}
 use Rattle.rasn_de.proofs.Headers.Frames.{same_tag_self}
@@ -39,6 +40,7 @@ first_own (open_choice parts) t n e h = cc
 first_own (option tag s) t n e h = first_own s t n e h
 first_own (seq tag parts) t n e h = h ∙ cc
 first_own (set tag parts) t n e h = h ∙ cc
+first_own (sorted_set extensible tag parts) t n e h = h ∙ cc
 first_own (list tag s size) t n e h = h ∙ cc
 first_own (set_of tag s size) t n e h = h ∙ cc
 first_own unknown t n e h = cc
@@ -53,6 +55,7 @@ own_first (open_choice parts) t e = cc
 own_first (option tag s) t e = own_first s t e
 own_first (seq tag parts) t e = cc
 own_first (set tag parts) t e = cc
+own_first (sorted_set extensible tag parts) t e = cc
 own_first (list tag s size) t e = cc
 own_first (set_of tag s size) t e = cc
 own_first unknown t e = cc
@@ -102,8 +105,26 @@ others_whether s ps tag t false e n h = λ f. elim f [ inl g ↦ n (first_own s 
 -- A refusal of alternatives is one of the CHOICE.
 pub alternative_decodes : {D : Type 0} (extensible : Bool) (ps : Parts) (tree : D → Tree) (name : List ℕ) (tag : Tag) (old : State) (r : Result D DecodeError) (new : State) → NextTag (form old.rule) old.rest tag
     → Decodes (choice_by extensible ps) tree old r new → IfErr r (λ e. FailsAtAlternativeBy extensible ps name tag old e new) → DecodesAlternativeBy extensible ps tree name old r new
-alternative_decodes extensible ps tree name tag old (Ok v) new n a f = a
-alternative_decodes extensible ps tree name tag old (Err e) new n a f = inr (tag, n, f)
+alternative_decodes false ps tree name tag old (Ok v) new n a f = a
+alternative_decodes false ps tree name tag old (Err e) new n a f = inr (tag, n, f)
+alternative_decodes true ps tree name tag old (Ok v) new n a f = a
+alternative_decodes true ps tree name tag old (Err e) new n a f = inr (tag, n, f)
+
+-- The next tag can't be read.
+pub no_next_tag : {D : Type 0} (extensible : Bool) (ps : Parts) (tree : D → Tree) (name : List ℕ) (old : State) (e : DecodeError) → PeeksTag old (Err e) → DecodesAlternativeBy extensible ps tree name old (Err e) old
+no_next_tag false ps tree name old e p = inl (p, refl)
+no_next_tag true ps tree name old e p = inl (p, refl)
+
+-- The first alternative can't be read, or the others can't.
+pub first_fails_by : (extensible : Bool) (p : Presence) (s : Shape) (ps : Parts) (name : List ℕ) (tag : Tag) (old new : State) (e : DecodeError) → own s ≡ Some tag → FailsAtValue p s old e new
+    → FailsAtAlternativeBy extensible (part p s ps) name tag old e new
+first_fails_by false p s ps name tag old new e h f = inl (h, f)
+first_fails_by true p s ps name tag old new e h f = inl (h, f)
+
+pub others_fail_by : (extensible : Bool) (p : Presence) (s : Shape) (ps : Parts) (name : List ℕ) (tag : Tag) (old new : State) (e : DecodeError) → (own s ≡ Some tag → ⊥) → FailsAtAlternativeBy extensible ps name tag old e new
+    → FailsAtAlternativeBy extensible (part p s ps) name tag old e new
+others_fail_by false p s ps name tag old new e n f = inr (n, f)
+others_fail_by true p s ps name tag old new e n f = inr (n, f)
 
 -- If an alternative has the next tag, no unknown value is read.
 known_read : (extensible : Bool) (ps : Parts) (tag : Tag) (old new : State) (o : Outcome) (k : ℕ) → NextTag (form old.rule) old.rest tag → IsFirstOf ps tag → DecodesExactly (ReadsNumbered k ps) old o new

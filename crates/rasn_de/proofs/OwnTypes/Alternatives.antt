@@ -15,7 +15,7 @@ use Rattle.rasn_types.specs.declared.types.tag.Tag.{Tag}
 use Rattle.rasn_types.specs.declared.error.decode.DecodeErrorKind.{DecodeErrorKind}
 use Rattle.rasn_types.specs.Tags.{form, IsStrict}
 use Rattle.rasn_types.specs.Framing.{NextTag}
-use Rattle.rasn_types.specs.Shapes.{Tree, chosen, Shape, leaf, any, prefix, choice, open_choice, option, seq, set, list, set_of, unknown, Parts, part, Presence, required, addition, Key, own_tag, first_tags, optional_by, default_by, own, IsTagOf, IsFirst, IsFirstOf, one_tag, sought_by}
+use Rattle.rasn_types.specs.Shapes.{Tree, chosen, Shape, leaf, any, prefix, choice, open_choice, option, seq, set, sorted_set, list, set_of, unknown, Parts, part, Presence, required, addition, Key, own_tag, first_tags, optional_by, default_by, own, IsTagOf, IsFirst, IsFirstOf, one_tag, sought_by}
 use Rattle.rasn_types.specs.Shapes.Parts.{none}
 use Rattle.rasn_types.specs.Readings.{Reading, IsPresent, IsNoDefault, ReadsChoice}
 use Rattle.rasn_types.specs.Grammar.{Reads, parts_of}
@@ -48,6 +48,7 @@ first_own (open_choice ps) n h = tt
 first_own (option tag s) n h = first_own s n h
 first_own (seq tag ps) n h = h
 first_own (set tag ps) n h = h
+first_own (sorted_set extensible tag ps) n h = h
 first_own (list tag s size) n h = h
 first_own (set_of tag s size) n h = h
 first_own unknown n h = tt

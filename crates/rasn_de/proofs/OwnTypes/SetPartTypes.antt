@@ -220,7 +220,7 @@ named_of_held ps tree names rule held readings h (Ok v) m g = (m, tt)
 named_of_held ps tree names rule held readings h (Err e) m g = (m, λ o. inr (gap_of_held (presences ps) 0 held readings h (g o)))
 
 -- Where a required part isn't read, the readings are no parts.
-lacks_none : (ps : List Presence) (j k : ℕ) (readings ts : List Tree) → LacksFirst j ps readings k → ByPart j ps readings ts → ⊥
+pub lacks_none : (ps : List Presence) (j k : ℕ) (readings ts : List Tree) → LacksFirst j ps readings k → ByPart j ps readings ts → ⊥
 lacks_none [] j k readings ts l b = l
 lacks_none (p ∷ ps) j zero readings ts (e, o) (t, us, f, inl a, b) = not_none j t a.before a.after (subst (NoneOf j) a.is o)
 lacks_none (p ∷ ps) j zero readings ts (e, o) (t, us, f, inr a, b) = subst (λ z. IsMissing z t) e a.1
@@ -229,7 +229,7 @@ lacks_none (p ∷ ps) j (suc k) readings ts (n, l) (t, us, f, a, b) = lacks_none
 no_memory : (ps : Parts) (readings : List Tree) (kind : DecodeErrorKind) → IsOutOfMemory kind → Exact (λ input t rest. AreParts ps readings t) [] (refusal kind)
 no_memory ps readings kind m = subst (λ k. Exact (λ input t rest. AreParts ps readings t) [] (refusal k)) (sym m) tt
 
-same_trees : (l : List Tree) → l ≡ map (λ (t : Tree). t) l
+pub same_trees : (l : List Tree) → l ≡ map (λ (t : Tree). t) l
 same_trees [] = refl
 same_trees (t ∷ l) = ap (λ z. t ∷ z) (same_trees l)
 

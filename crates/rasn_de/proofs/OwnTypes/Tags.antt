@@ -5,7 +5,7 @@ use lib.Dec.{eqb}
 use Rattle.rasn_types.specs.contracts.types.tag.Class.{the_type as the_class}
 use Rattle.rasn_types.specs.declared.types.tag.Tag.{Tag}
 use Rattle.rasn_types.specs.Truth.{IsWhether}
-use Rattle.rasn_types.specs.Shapes.{Shape, leaf, any, prefix, choice, open_choice, option, seq, set, list, set_of, unknown, Parts, part, Presence, IsTagOf, IsFirst, IsFirstOf}
+use Rattle.rasn_types.specs.Shapes.{Shape, leaf, any, prefix, choice, open_choice, option, seq, set, sorted_set, list, set_of, unknown, Parts, part, Presence, IsTagOf, IsFirst, IsFirstOf}
 use Rattle.rasn_types.specs.Shapes.Parts.{none}
 use Rattle.rasn_types.proofs.Time.Spellings.{both_true}
 use Rattle.rasn_de.specs.Headers.{same_tag}
@@ -27,6 +27,7 @@ abbrev mutual
   begins (option tag s) n = begins s n
   begins (seq tag parts) n = same_tag n tag
   begins (set tag parts) n = same_tag n tag
+  begins (sorted_set extensible tag parts) n = same_tag n tag
   begins (list tag s size) n = same_tag n tag
   begins (set_of tag s size) n = same_tag n tag
   begins unknown n = false
@@ -64,6 +65,7 @@ mutual
   begins_is (option tag s) n e = begins_is s n e
   begins_is (seq tag parts) n e = same_tag_is n tag e
   begins_is (set tag parts) n e = same_tag_is n tag e
+  begins_is (sorted_set extensible tag parts) n e = same_tag_is n tag e
   begins_is (list tag s size) n e = same_tag_is n tag e
   begins_is (set_of tag s size) n e = same_tag_is n tag e
   begins_is unknown n e = cc
@@ -82,6 +84,7 @@ mutual
   first_begins (option tag s) n e = first_begins s n e
   first_begins (seq tag parts) n e = same_tag_self n tag e
   first_begins (set tag parts) n e = same_tag_self n tag e
+  first_begins (sorted_set extensible tag parts) n e = same_tag_self n tag e
   first_begins (list tag s size) n e = same_tag_self n tag e
   first_begins (set_of tag s size) n e = same_tag_self n tag e
   first_begins unknown n e = absurd e

@@ -36,12 +36,14 @@ mod sequence;
 mod sequence_of;
 mod set;
 mod set_of;
+pub mod set_parts;
 mod time;
 mod unknown;
 mod writer;
 
 pub use config::EncoderOptions;
 pub use object_identifier::object_identifier_as_bytes;
+pub use writer::leading_tag::leading_tag;
 use rasn_types::error::{BerEncodeErrorKind, CodecEncodeError, EncodeError, EncodeErrorKind};
 use rasn_types::types::{Codec, Constraints, Tag};
 use std::alloc::Global;

@@ -1,10 +1,10 @@
 -- A tree that has octets is the same as itself (set elements that are no list aren't), so it has no other octets.
-use Rattle.std.proofs.Common.{◌≡◌, ℕ, suc, inl, inr, List, [], ◌∷◌, refl, sym, subst, Some, None}
+use Rattle.std.proofs.Common.{◌≡◌, ℕ, suc, inl, inr, List, [], ◌∷◌, ◌++◌, Bool, true, false, refl, sym, subst, Some, None}
 use Rattle.std.proofs.lemmas.List.Sorted.{IsPermutation-refl}
 use Rattle.rasn_types.specs.Tags.{Codec}
-use Rattle.rasn_types.specs.Shapes.{Tree, numbers, items, absent, Shape, leaf, any, prefix, choice, open_choice, option, seq, set, list, set_of, unknown, Parts, part, Presence, required, addition, optional_by, default_by}
+use Rattle.rasn_types.specs.Shapes.{Tree, numbers, items, IsSetTree, absent, Shape, leaf, any, prefix, choice, open_choice, option, seq, set, sorted_set, list, set_of, unknown, Parts, part, Presence, required, addition, optional_by, default_by}
 use Rattle.rasn_types.specs.Grammar.{family}
-use Rattle.rasn_types.specs.Bytes.{Writing, Same, Each, WritesPart, PartsWritten, WritesChoice, Bytes, fields_of}
+use Rattle.rasn_types.specs.Bytes.{Writing, Same, Each, WritesPart, PartsWritten, WritesChoice, Component, UnknownComponents, Bytes, fields_of}
 use Rattle.rasn_types.proofs.SetOf.Same.{same_sym, same_trans}
 use Rattle.rasn_types.proofs.Encoding.SameOctets.{in_flat, flat_same, once, each_is_once, parts_once}
 
@@ -15,6 +15,18 @@ AreSame (t ∷ ts) = Same t t × AreSame ts
 items_same : (ts : List Tree) → AreSame ts → Same (items ts) (items ts)
 items_same [] h = refl
 items_same (t ∷ ts) h = (t, items ts, refl, h.0, items_same ts h.1)
+
+ends_same : (ts : List Tree) (u : Tree) → AreSame ts → Same u u → AreSame (ts ++ (u ∷ []))
+ends_same [] u h s = (s, tt)
+ends_same (t ∷ ts) u h s = (h.0, ends_same ts u h.1 s)
+
+unknown_same : (k : ℕ) (us : List Tree) (cs : List Component) → UnknownComponents k us cs → AreSame us
+unknown_same k [] cs h = tt
+unknown_same k (u ∷ us) cs (tag, b, more, e, begins, f, h) = (subst (λ z. Same z z) (sym e) refl, unknown_same (suc k) us more h)
+
+set_same : (extensible : Bool) (ts us : List Tree) (t : Tree) → IsSetTree extensible ts us t → AreSame ts → AreSame us → Same t t
+set_same true ts us t e h k = subst (λ z. Same z z) (sym e) (items_same (ts ++ (items us ∷ [])) (ends_same ts (items us) h (items_same us k)))
+set_same false ts us t e h k = subst (λ z. Same z z) (sym e.1) (items_same ts h)
 
 elements_same : (writes : Writing Tree) → ((t : Tree) (b : List ℕ) → writes t b → Same t t) → (ts : List Tree) (bs : List (List ℕ)) → Each writes ts bs → AreSame ts
 elements_same writes one [] bs h = tt
@@ -47,6 +59,7 @@ mutual
   written_same (option tag s) rule t b (inr h) = written_same s rule t b h.1
   written_same (seq tag ps) rule t b (ts, bs, e, w, c) = subst (λ z. Same z z) (sym e) (items_same ts (parts_same ps rule ts bs w))
   written_same (set tag ps) rule t b (ts, bs, tags, e, w, n, m, d, c) = subst (λ z. Same z z) (sym e) (items_same ts (parts_same ps rule ts bs w))
+  written_same (sorted_set extensible tag ps) rule t b (ts, us, bs, cs, es, ds, e, w, m, n, p, o, c) = set_same extensible ts us t e (parts_same ps rule ts bs w) (unknown_same _ us es n)
   written_same (list tag s size) rule t b (ts, bs, e, m, w, c) = subst (λ z. Same z z) (sym e) (items_same ts (elements_same (Bytes rule s) (written_same s rule) ts bs w))
   written_same (set_of tag s size) rule t b (ts, bs, e, m, w, o, c) =
       subst (λ z. Same z z) (sym e) (ts, ts, refl, IsPermutation-refl ts, items_same ts (elements_same (Bytes rule s) (written_same s rule) ts bs w))

@@ -1,14 +1,18 @@
 -- Trees that are the same have the same octets.
 use Rattle.std.proofs.Common.{◌≡◌, ℕ, suc, ◌<◌, ◌⊎◌, ◌≢◌, inl, inr, List, [], ◌∷◌, ◌++◌, ◌+◌, refl, sym, ap, ap₂, ◌∙◌, subst, arith, IsPermutation, Some, None}
 use Rattle.std.proofs.lemmas.List.Sorted.{IsPermutation-sym}
-use Rattle.rasn_types.specs.Tags.{Codec, Der, Tag}
-use Rattle.rasn_types.specs.Shapes.{Tree, number, bits, numbers, instant, on_day, items, set_elements, chosen, absent, Kind, boolean, null, object_identifier, integer, enumerated, octet_string, fixed, numeric, printable, visible, ia5, any_octets, bmp, utf8, utc_time, generalized_time, date, Shape, leaf, any, prefix, choice, open_choice, option, seq, set, list, set_of, unknown, Parts, part, count, Presence, required, optional, addition, optional_by, default_by}
+use Rattle.rasn_types.specs.Tags.{Codec, Ber, Cer, Der, Tag}
+use Rattle.rasn_types.specs.Shapes.{Tree, number, bits, numbers, instant, on_day, items, set_elements, chosen, absent, Kind, boolean, null, object_identifier, integer, enumerated, octet_string, fixed, numeric, printable, visible, ia5, any_octets, bmp, utf8, utc_time, generalized_time, date, Shape, leaf, any, prefix, choice, open_choice, option, seq, set, sorted_set, list, set_of, unknown, Parts, part, count, IsFirst, Presence, required, optional, addition, optional_by, default_by}
+use Rattle.rasn_types.specs.Framing.{Begins}
 use Rattle.rasn_types.specs.Contents.{Contents, joined_lists}
 use Rattle.rasn_types.specs.Grammar.{Family, plain_family, bit_family, named_family, text_family, family}
-use Rattle.rasn_types.specs.Bytes.{Same, Each, ConstructedEncoding, WritesIn, WritesText, WritesPart, PartsWritten, WritesChoice, AreAscending, IsLess, Bytes, fields_of}
+use Rattle.rasn_types.specs.Bytes.{Same, Each, ConstructedEncoding, WritesIn, WritesText, WritesPart, PartsWritten, WritesChoice, AreAscending, IsLess, Component, IsPlacedBy, ComponentsOf, UnknownComponents, contents_of, IsReordered, Bytes, fields_of}
 use Rattle.rasn_types.proofs.SetOf.Same.{items_one, same_sym, same_trans, same_each, each_moved}
+use Rattle.rasn_types.proofs.SetTrees.{same_set_tree}
 use Rattle.rasn_types.proofs.Encoding.Determined.{numbers_one, cons_one, in_once}
 use Rattle.rasn_types.proofs.SetOf.OneOrder.{ordered_one}
+use Rattle.rasn_types.proofs.Headers.Frames.{begins_one}
+use Rattle.rasn_types.proofs.InOrder.{neither_below, one_order_of_components}
 
 -- The tree of a leaf: it is the same as no other tree.
 abbrev pub IsFlat : Tree → Type 0
@@ -172,6 +176,31 @@ kept_once : (ts us : List Tree) (ls bs : List (List ℕ)) → Each Same ts us �
 unfolding Bytes
 kept_once ts us ls bs same w x = elements_once Der (any None) (λ t u a b same h k. let g : u ≡ numbers a = subst (λ z. Same z u) h same in numbers_one a b (sym g ∙ k)) ts us ls bs same w x
 
+-- The components of these octets are determined, and so is their order.
+place_once : (rule : Codec) (P : Tag → Type 0) (b : List ℕ) (s t : Tag) → IsPlacedBy rule P b s → IsPlacedBy rule P b t → s ≡ t
+place_once Ber P b s t h k = begins_one b s t h k
+place_once Cer P b s t h k = neither_below s t (k.1 s h.0) (h.1 t k.0)
+place_once Der P b s t h k = begins_one b s t h k
+
+pub components_once : (rule : Codec) (k : ℕ) (ps : Parts) (bs : List (List ℕ)) (cs ds : List Component) → ComponentsOf rule k ps bs cs → ComponentsOf rule k ps bs ds → cs ≡ ds
+components_once rule k Parts.none bs cs ds h i = h ∙ sym i
+components_once rule k (part presence s ps) [] cs ds h i = h ∙ sym i
+components_once rule k (part presence s ps) ([] ∷ bs) cs ds h i = components_once rule (suc k) ps bs cs ds h i
+components_once rule k (part presence s ps) ((o ∷ b) ∷ bs) cs ds (tag, more, e, p, h) (other, others, f, q, i) =
+    e ∙ (ap₂ (λ n l. record { tag = n; number = k; octets = o ∷ b } ∷ l) (place_once rule (IsFirst s) (o ∷ b) tag other p q) (components_once rule (suc k) ps bs more others h i) ∙ sym f)
+
+unknown_once : (k : ℕ) (us vs : List Tree) (cs ds : List Component) → Each Same us vs → UnknownComponents k us cs → UnknownComponents k vs ds → cs ≡ ds
+unknown_once k [] [] cs ds same h i = h ∙ sym i
+unknown_once k [] (v ∷ vs) cs ds same h i = cc
+unknown_once k (u ∷ us) [] cs ds (w, ws, e, s, same) h i = cc
+unknown_once k (u ∷ us) (v ∷ vs) cs ds (w, ws, e, s, same) (tag, a, more, f, begins, g, h) (other, b, others, l, begins', m, i) =
+    let p : w ≡ v = cc in
+    let q : ws ≡ vs = cc in
+    let r : w ≡ numbers a = subst (λ z. Same z w) f s in
+    let o : a ≡ b = numbers_one a b (sym r ∙ (p ∙ l)) in
+    let n : tag ≡ other = begins_one b tag other (subst (λ x. Begins x tag) o begins) begins' in
+    g ∙ (ap₂ ◌∷◌ (ap₂ (λ x y. record { tag = x; number = k; octets = y }) n o) (unknown_once (suc k) us vs more others (subst (Each Same us) q same) h i) ∙ sym m)
+
 -- The alternative that is written is one of the parts.
 pub written_below : (rule : Codec) (ps : Parts) (k : ℕ) (t : Tree) (b : List ℕ) → WritesChoice k (fields_of rule ps) t b → (j : ℕ) × (u : Tree) × (t ≡ chosen j u) × (j < k + count ps)
 unfolding Bytes fields_of
@@ -213,6 +242,12 @@ mutual
       cons_one rule tag (joined_lists ls) (joined_lists bs) a b c d (ap joined_lists (parts_once rule ps (each_is_once ps rule) ts us ls bs (same_lists t u ts us e f same) w x))
   once (set tag ps) rule t u a b same (ts, ls, tags, e, w, q, n, o, c) (us, bs, tags', f, x, q', n', o', d) =
       cons_one rule tag (joined_lists ls) (joined_lists bs) a b c d (ap joined_lists (parts_once rule ps (each_is_once ps rule) ts us ls bs (same_lists t u ts us e f same) w x))
+  once (sorted_set extensible tag ps) rule t u a b same (ts, us, ls, cs, es, ds, e, w, m, n, p, o, c) (ts', us', ls', cs', es', ds', e', w', m', n', p', o', d) =
+      let k = same_set_tree extensible ts us ts' us' t u e e' same in
+      let f : ls ≡ ls' = parts_once rule ps (each_is_once ps rule) ts ts' ls ls' k.0 w w' in
+      let g : cs ≡ cs' = components_once rule 0 ps ls' cs cs' (subst (λ l. ComponentsOf rule 0 ps l cs) f m) m' in
+      let h : es ≡ es' = unknown_once _ us us' es es' k.1 n n' in
+      cons_one rule tag (contents_of ds) (contents_of ds') a b c d (ap contents_of (one_order_of_components (cs' ++ es') ds ds' (subst (λ l. IsReordered l ds) (ap₂ ◌++◌ g h) p) p' o o'))
   once (list tag s size) rule t u a b same (ts, ls, e, n, w, c) (us, bs, f, m, x, d) =
       cons_one rule tag (joined_lists ls) (joined_lists bs) a b c d (ap joined_lists (elements_once rule s (once s rule) ts us ls bs (same_lists t u ts us e f same) w x))
   once (set_of tag s size) rule t u a b same (ts, ls, e, n, w, o, c) (us, bs, f, m, x, q, d) =

@@ -55,7 +55,7 @@ leading_one : (p q b d m n : ℕ) → p < 4 → q < 4 → b < 2 → d < 2 → m 
     → 64 * p + (32 * b + m) ≡ 64 * q + (32 * d + n) → (p ≡ q) × (b ≡ d) × (m ≡ n)
 leading_one p q b d m n hp hq hb hd hm hn e = (omega arith, omega arith, omega arith)
 
-tag_one : (s t : Tag) → rank s.class ≡ rank t.class → s.value ≡ t.value → s ≡ t
+pub tag_one : (s t : Tag) → rank s.class ≡ rank t.class → s.value ≡ t.value → s ≡ t
 tag_one s t p q = ap₂ make (rank_one s.class t.class p) q
   where
     make : Class → ℕ → Tag

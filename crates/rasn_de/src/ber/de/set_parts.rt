@@ -1,10 +1,10 @@
 //! A SET whose parts are described by a type (X.690 8.11): nested to the right, read in any order,
 //! each once.
-ghost use Rattle.std.specs.Prelude.{◌≡◌, ◌≢◌, ℕ, zero, suc, true, length, List, Contains, IfOk, map, IfErr};
+ghost use Rattle.std.specs.Prelude.{◌≡◌, ◌≢◌, ℕ, zero, suc, true, false, length, List, Contains, IfOk, map, IfErr};
 ghost use Rattle.rasn_types.specs.Framing.{NextTag};
 ghost use Rattle.rasn_types.specs.Tags.{form};
 ghost use Rattle.rasn_types.specs.Errors.{IsOutOfMemory};
-ghost use Rattle.rasn_types.specs.Shapes.{set, presences};
+ghost use Rattle.rasn_types.specs.Shapes.{set, sorted_set, presences};
 ghost use Rattle.rasn_de.specs.Decodes.{Decodes};
 ghost use Rattle.rasn_de.specs.SetPartTypes.{text, name_at, AreEmpty, IsPlaced, IsOrDefault, DecodesPlaced, DecodesOneOf, DecodesNext, HasGap, MakesParts, DecodesSetPartContents, DecodesSetParts, DecodesNamedContents, DecodesNamedParts, BeyondSet};
 ghost use Rattle.rasn_de.specs.Beyond.{BeyondInside};
@@ -430,6 +430,9 @@ impl<'input> Decoder<'input> {
     /// - Last, missing end-of-contents octets (`Incomplete`): what was read inside is consumed too.
     ///
     /// `decode_set` reports errors in the same order.
+    ///
+    /// A SET is read in the same way whether its shape lists the parts in the order of their tags
+    /// (`reads`) or is put in this order (`sorted`).
     pub fn read_set<P: DecodeSetParts>(
         &mut self,
         tag: Tag,
@@ -440,6 +443,7 @@ impl<'input> Decoder<'input> {
         ensures exact { DecodesSetParts P.parts P.tree (map text names.now) tag self.old result self.new }
         ensures fails { DecodesNamedParts P.parts P.tree name.now (map text names.now) P.errors tag self.old result self.new }
         ensures reads { Decodes (set tag P.parts) P.tree self.old result self.new }
+        ensures sorted { Decodes (sorted_set false tag P.parts) P.tree self.old result self.new }
         ensures beyond { IfOk result (λ v. BeyondInside (BeyondSet P.parts P.beyond) (sequence_header tag) self.old v) }
         ensures rules { IfErr result (λ e. e.codec ≡ self.old.rule) }
     {

@@ -39,6 +39,7 @@ pub(super) mod gathering;
 pub(super) mod header_rest;
 pub(super) mod headers;
 pub(super) mod kept_tags;
+pub(super) mod leading_tag;
 pub(super) mod open_values;
 pub(super) mod rendering;
 mod untagged;

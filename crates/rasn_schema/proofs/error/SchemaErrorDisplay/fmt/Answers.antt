@@ -15,8 +15,5 @@ returns-in-UntaggedInSet-clause-writes g c = rw c.in-UntaggedInSet.is c.write_on
 pub returns-in-SetClash-clause-writes : goal.returns-in-SetClash-clause-writes
 returns-in-SetClash-clause-writes g c = rw c.in-SetClash.is c.write_both-in-SetClash.ensures
 
-pub returns-in-SetOutOfOrder-clause-writes : goal.returns-in-SetOutOfOrder-clause-writes
-returns-in-SetOutOfOrder-clause-writes g c = rw c.in-SetOutOfOrder.is c.write_both-in-SetOutOfOrder.ensures
-
 pub returns-in-UnfitDefault-clause-writes : goal.returns-in-UnfitDefault-clause-writes
 returns-in-UnfitDefault-clause-writes g c = rw c.in-UnfitDefault.is c.write_one-in-UnfitDefault.ensures

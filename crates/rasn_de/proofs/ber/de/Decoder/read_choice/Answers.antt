@@ -3,7 +3,7 @@ use Rattle.rasn_types.specs.Shapes.{choice_by, chosen}
 use Rattle.rasn_de.proofs.Leaves.Returns.{residual}
 use Rattle.rasn_de.proofs.Constructed.ValueErrors.{errors_by_tag}
 use Rattle.rasn_de.proofs.Constructed.Choice.{choice_by_decodes}
-use Rattle.rasn_de.proofs.OwnTypes.AlternativeTypes.{numbered_decodes, alternative_decodes}
+use Rattle.rasn_de.proofs.OwnTypes.AlternativeTypes.{numbered_decodes, alternative_decodes, no_next_tag}
 use Rattle.rasn_de.proofs.Leaves.Rules.{peek_rules}
 use Rattle.rasn_de.proofs.ber.de.Decoder.read_choice.Goals as goal
 
@@ -12,7 +12,7 @@ returns-in_err-tag g c =
     let ps = g.P.DecodeAlternatives.parts in
     let extensible = g.P.DecodeAlternatives.extensible in
     rw (residual _ c.from_residual.ensures.1) (record {
-      exact = inl (c.in_err-tag.ensures.exact, refl);
+      exact = no_next_tag extensible ps (λ v. chosen (g.P.DecodeAlternatives.number v) (g.P.DecodeAlternatives.inner v)) _ c.args.self.now c.in_err-tag.field-0.0 c.in_err-tag.ensures.exact;
       reads = choice_by_decodes extensible (choice_by extensible ps) ps refl (λ v. chosen (g.P.DecodeAlternatives.number v) (g.P.DecodeAlternatives.inner v)) c.args.self.now (Err c.in_err-tag.field-0.0) c.args.self.now (inl (c.in_err-tag.ensures.exact, refl));
       errors = inl (c.in_err-tag.ensures.exact, refl);
       beyond = tt;

@@ -9,6 +9,7 @@ use Rattle.rasn_de.proofs.Constructed.SetContents.{slots_collected}
 use Rattle.rasn_de.specs.Decodes.{Decodes}
 use Rattle.rasn_de.proofs.Constructed.Steps.{closure_leaves, closure_inside, closure_rules}
 use Rattle.rasn_de.proofs.OwnTypes.SetPartTypes.{set_parts_decode}
+use Rattle.rasn_de.proofs.OwnTypes.SortedSets.{sorted_decodes}
 use Rattle.rasn_de.proofs.ber.de.Decoder.read_set.Goals as goal
 
 pub inside-requires-clause-leaves : goal.inside-requires-clause-leaves
@@ -31,6 +32,7 @@ returns g c =
       exact = k;
       fails = closure_inside _ _ (DecodesNamedContents ps tree c.args.name.now names g.P.DecodeSetParts.errors) (λ p r q m. m.1.0) _ _ c.sequence.ensures _ _ _ c.inside.ensures.exact;
       reads = set_parts_decode ps tree names c.args.tag c.args.self.now c.inside.ensures.octets _ _ k;
+      sorted = sorted_decodes ps tree c.args.tag c.args.self.now _ _ (set_parts_decode ps tree names c.args.tag c.args.self.now c.inside.ensures.octets _ _ k);
       rules = closure_rules c.args.self.now _ _ (λ p r q m same. m.1.1.0) _ _ _ c.inside.ensures.exact;
       beyond = inside_beyond (BeyondSet ps g.P.DecodeSetParts.beyond) (sequence_header c.args.tag) c.args.self.now _ _
           (closure_inside _ _ (λ o r n. IfOk r (λ v. BeyondSet ps g.P.DecodeSetParts.beyond o v n)) (λ p r q m. m.1.1.1) _ _ c.sequence.ensures _ _ _ c.inside.ensures.exact);

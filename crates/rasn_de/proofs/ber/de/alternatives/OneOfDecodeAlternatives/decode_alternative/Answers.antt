@@ -1,7 +1,7 @@
 use Rattle.std.proofs.Common.{◌≡◌, rules, suc, arith, inl, inr}
 use Rattle.rasn_types.specs.Shapes.{required}
 use Rattle.rasn_de.proofs.OwnTypes.Parts.{refused}
-use Rattle.rasn_de.proofs.OwnTypes.AlternativeTypes.{first_has, others_have_not, others_differ, own_tag, other_tag, first_got, first_refused, others_read, others_got, first_known}
+use Rattle.rasn_de.proofs.OwnTypes.AlternativeTypes.{first_has, others_have_not, others_differ, own_tag, other_tag, first_got, first_refused, others_read, others_got, first_known, first_fails_by, others_fail_by}
 use Rattle.rasn_de.proofs.Leaves.Returns.{residual}
 use Rattle.rasn_de.proofs.ber.de.alternatives.OneOfDecodeAlternatives.decode_alternative.Goals as goal
 
@@ -39,13 +39,13 @@ pub returns-in_err-value-clause-fails : goal.returns-in_err-value-clause-fails
 returns-in_err-value-clause-fails g c =
     let i = c.if-eq.ensures in let j = c.eq.ensures in let t = c.TAG.ensures in let q = c.if-eq.true in
     let h : c.args.tag ≡ g.A.AsnType.TAG = first_of (search rules, search (rules, i, t), grind (arith, i, j, t, q)) in
-    rw (residual _ c.from_residual.ensures.1) (inl (own_tag g.A.AsnType.shape c.args.tag g.A.AsnType.TAG h (first_has g.A.AsnType.shape g.A.AsnType.TAG g.R.DecodeAlternatives.parts g.R.DecodeAlternatives.tags_differ c.requires.differ), c.in_err-value.ensures.reads))
+    rw (residual _ c.from_residual.ensures.1) (first_fails_by g.R.DecodeAlternatives.extensible required g.A.AsnType.shape g.R.DecodeAlternatives.parts _ c.args.tag _ _ _ (own_tag g.A.AsnType.shape c.args.tag g.A.AsnType.TAG h (first_has g.A.AsnType.shape g.A.AsnType.TAG g.R.DecodeAlternatives.parts g.R.DecodeAlternatives.tags_differ c.requires.differ)) c.in_err-value.ensures.reads)
 
 pub returns-in_err-other-clause-fails : goal.returns-in_err-other-clause-fails
 returns-in_err-other-clause-fails g c =
     let own = first_has g.A.AsnType.shape g.A.AsnType.TAG g.R.DecodeAlternatives.parts g.R.DecodeAlternatives.tags_differ c.requires.differ in
     let h : c.args.tag ≡ g.A.AsnType.TAG → ⊥ = search rules in
-    rw (residual _ c.from_residual-in_err-other.ensures.1) (inr (other_tag g.A.AsnType.shape c.args.tag g.A.AsnType.TAG h (first_has g.A.AsnType.shape g.A.AsnType.TAG g.R.DecodeAlternatives.parts g.R.DecodeAlternatives.tags_differ c.requires.differ), c.in_err-other.ensures.fails))
+    rw (residual _ c.from_residual-in_err-other.ensures.1) (others_fail_by g.R.DecodeAlternatives.extensible required g.A.AsnType.shape g.R.DecodeAlternatives.parts _ c.args.tag _ _ _ (other_tag g.A.AsnType.shape c.args.tag g.A.AsnType.TAG h (first_has g.A.AsnType.shape g.A.AsnType.TAG g.R.DecodeAlternatives.parts g.R.DecodeAlternatives.tags_differ c.requires.differ)) c.in_err-other.ensures.fails)
 
 pub returns-in_err-value-clause-errors : goal.returns-in_err-value-clause-errors
 returns-in_err-value-clause-errors g c =
