@@ -535,7 +535,7 @@ unknown_fails (Err x) values given rule e (inr h) = inr (unknown_lack values rul
 
 -- ---- the whole
 
-contents_held : (xs : List SetComponent) (ds : List Component) → Each IsHeldAs xs ds → joined_lists (octets_in xs) ≡ contents_of ds
+pub contents_held : (xs : List SetComponent) (ds : List Component) → Each IsHeldAs xs ds → joined_lists (octets_in xs) ≡ contents_of ds
 contents_held [] ds e = rw e refl
 contents_held (x ∷ xs) ds (d, more, e, r, m) = rw e (ap₂ ◌++◌ r.1 (contents_held xs more m))
 

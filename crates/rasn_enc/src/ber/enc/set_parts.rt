@@ -113,7 +113,10 @@ fn place_of(components: &[SetComponent], tag: Tag) -> usize
 }
 
 /// Puts a component before the first whose tag isn't below its own.
-fn insert_component(
+///
+/// # Errors
+/// Only `OutOfMemory`.
+pub fn insert_component(
     components: &mut Vec<SetComponent>,
     component: SetComponent,
     rule: Codec,
@@ -220,7 +223,10 @@ fn unknown_component(alloc: Global, rule: Codec, value: &Any) -> Result<SetCompo
 }
 
 /// Returns unknown values as components, in the order of their tags.
-fn unknown_components(
+///
+/// # Errors
+/// `AnyInSet` if one of the values doesn't begin with an identifier; otherwise only `OutOfMemory`.
+pub fn unknown_components(
     alloc: Global,
     rule: Codec,
     values: &[Any],
@@ -569,7 +575,10 @@ impl Encoder {
     }
 
     /// Appends the octets of the components to the last list.
-    fn append_components(&mut self, components: &[SetComponent]) -> Result<(), EncodeError>
+    ///
+    /// # Errors
+    /// Only `OutOfMemory`.
+    pub fn append_components(&mut self, components: &[SetComponent]) -> Result<(), EncodeError>
         ensures ok { OnOk result (self.new ≡ appended self.old (joined_lists (octets_in components.now)) []) }
         ensures extends { Extends self.old self.new }
         ensures memory_alone { IfErr result (IsAllocError self.old.rule) }
