@@ -238,7 +238,7 @@ unknown_read tag old (Err e) new n d k =
     }
 
 -- The alternatives of a CHOICE are counted from 0.
-choice_by_read : (extensible : Bool) (ps : Parts) {old new : State} {o : Outcome} → DecodesExactly (ReadsNumberedBy extensible 0 ps) old o new → DecodesExactly (λ rule. Reads rule (choice_by extensible ps)) old o new
+pub choice_by_read : (extensible : Bool) (ps : Parts) {old new : State} {o : Outcome} → DecodesExactly (ReadsNumberedBy extensible 0 ps) old o new → DecodesExactly (λ rule. Reads rule (choice_by extensible ps)) old o new
 unfolding Reads
 choice_by_read false ps {old} {new} {o} a = record { stays = a.stays; end = a.end; exact = a.exact }
 choice_by_read true ps {old} {new} {o} a =
