@@ -1,10 +1,11 @@
 -- The components of a SET are read one by one, and by part, with the unknown ones in the order in which they are read,
 -- they are the SET's contents.
-use Rattle.std.proofs.Common.{◌≡◌, inl, inr, ℕ, Bool, true, false, List, [], ◌∷◌, ◌++◌, map, Result, refl, sym, ap, ◌∙◌, subst}
+use Rattle.std.proofs.Common.{◌≡◌, inl, inr, ℕ, suc, ◌+◌, ◌<◌, arith, Bool, true, false, List, [], ◌∷◌, ◌++◌, map, Result, refl, sym, ap, ◌∙◌, subst}
 use Rattle.rasn_types.specs.declared.types.codec.Codec.{Codec}
 use Rattle.rasn_types.specs.declared.error.decode.DecodeError.{DecodeError}
-use Rattle.rasn_types.specs.Shapes.{Tree, items, chosen, choice_by, IsSetTree, Parts, count, presences, IsFirstOf}
-use Rattle.rasn_types.specs.Readings.{Reading, ReadsChoice, AllOf, ReadsSortedSet}
+use Rattle.rasn_types.specs.Shapes.{Tree, items, chosen, choice_by, IsSetTree, Parts, part, count, presences, IsFirstOf}
+use Rattle.rasn_types.specs.Shapes.Parts.{none}
+use Rattle.rasn_types.specs.Readings.{Reading, ReadsMany, ReadsChoice, AllOf, ReadsSortedSet}
 use Rattle.rasn_types.specs.Grammar.{Reads, ReadsOpenChoice, parts_of}
 use Rattle.rasn_types.proofs.SortedSets.{contents_sorted, contents_listed}
 use Rattle.rasn_de.specs.State.{State}
@@ -46,6 +47,23 @@ one_tree extensible ps readings t u (ts, us, e, by, all) (vs, ws, f, other, more
 choice_tagged : (extensible : Bool) (ps : Parts) → HasNextTag (choice_by extensible ps)
 choice_tagged extensible ps rule depth closing input t r w = choice_by_next extensible rule ps depth closing input t r w
 
+-- Without an extension marker no component has the number after those of the parts.
+part_number : (rule : Codec) (ps : Parts) (depth k : ℕ) (c : Bool) (input : List ℕ) (t : Tree) (rest : List ℕ) → ReadsChoice rule k (parts_of rule ps depth c) input t rest → (j : ℕ) × (u : Tree) × (t ≡ chosen j u) × (j < k + count ps)
+unfolding Reads parts_of
+part_number rule none depth k c input t rest h = absurd h
+part_number rule (part presence s ps) depth k c input t rest (inl h) = (k, h.0, h.1, omega arith)
+part_number rule (part presence s ps) depth k c input t rest (inr h) = let r = part_number rule ps depth (suc k) c input t rest h in (r.0, r.1, r.2, omega (arith, r.3))
+
+none_unknown : (rule : Codec) (ps : Parts) (depth : ℕ) (c closing : Bool) (input : List ℕ) (rs : List Tree) (rest : List ℕ) → ReadsMany (ReadsChoice rule 0 (parts_of rule ps depth c)) closing input rs rest → AllOf (count ps) rs []
+none_unknown rule ps depth c closing input [] rest h = refl
+none_unknown rule ps depth c closing input (r ∷ rs) rest (n, middle, h, hs) = inr (differs (part_number rule ps depth 0 c input r middle h), none_unknown rule ps depth c closing middle rs rest hs)
+  where
+    differs : (j : ℕ) × (u : Tree) × (r ≡ chosen j u) × (j < 0 + count ps) → (v : Tree) → r ≡ chosen (count ps) v → ⊥
+    differs (j, u, e, l) v f =
+        let g : chosen j u ≡ chosen (count ps) v = sym e ∙ f in
+        let i : j ≡ count ps = cc in
+        omega (arith, l, i)
+
 module _ (ps : Parts) (old : State) where
   to_set : (extensible : Bool) (t : Tree) (r : List ℕ) → ReadsComponents (choice_by extensible ps) (AreMembers extensible ps) old.rule old.depth old.closing old.rest t r
       → SortedSetReads extensible ps old.rule old.depth old.closing old.rest t r
@@ -59,7 +77,7 @@ module _ (ps : Parts) (old : State) where
   from_set true t r (rs, ts, us, e, many, by, all, z) = (rs, (ts, us, e, by, all), many, z)
   from_set false t r (rs, ts, us, (n, e), many, by, all, z) =
       let l = contents_listed old.rule ps old.depth old.closing old.closing old.rest t r (rs, ts, us, (n, e), many, by, all, z) in
-      (rs, (ts, us, (n, e), by, all), l.3, l.5)
+      (l.0, (l.1, [], (refl, l.2), l.4, none_unknown old.rule ps old.depth old.closing old.closing old.rest l.0 r l.3), l.3, l.5)
 
 module _ {F S : Type 0} (extensible : Bool) (ps : Parts) (piece : F → Tree) (tree : S → Tree) (old : State) where
   pub sorted_collects : {L : Type 0} (elements : L → List F) (by : L → Result S DecodeError → Type 0)

@@ -5,14 +5,17 @@ use Rattle.std.specs.Borrow.{Bor}
 use Rattle.rasn_types.specs.declared.types.codec.Codec.{Codec}
 use Rattle.rasn_types.specs.declared.types.tag.Tag.{Tag}
 use Rattle.rasn_types.specs.declared.error.decode.DecodeError.{DecodeError}
-use Rattle.rasn_types.specs.Tags.{form}
+use Rattle.std.proofs.lemmas.List.{map-append}
+use Rattle.rasn_types.specs.declared.types.any.Any.{Any}
+use Rattle.rasn_types.specs.Tags.{form, eoc}
 use Rattle.rasn_types.specs.Framing.{NextTag, Ended}
 use Rattle.rasn_types.specs.Errors.{IsOutOfMemory}
-use Rattle.rasn_types.specs.Shapes.{Tree, chosen, joined, done, items, absent, IsSetTree, Shape, choice_by, Parts, part, count, own, IsFirstOf, Presence, presences, required, optional, default}
+use Rattle.rasn_types.specs.Shapes.{Tree, numbers, chosen, joined, items, absent, IsSetTree, Shape, choice_by, Parts, part, count, own, IsFirstOf, Presence, presences, required, optional, default}
 use Rattle.rasn_types.specs.Shapes.Parts.{none}
 use Rattle.rasn_types.specs.Readings.{IsMissing, NoneOf, OneOf, ByPart, AllOf}
 use Rattle.rasn_types.specs.Trees.{option_tree}
-use Rattle.rasn_de.specs.declared.ber.de.parser.ParseError.TheVariants.{UnexpectedExtraData}
+use Rattle.rasn_de.specs.declared.ber.de.parser.ParseError.TheVariants.{OutOfMemory, UnexpectedExtraData}
+use Rattle.rasn_de.specs.Any.{DecodesOpenType}
 use Rattle.rasn_de.specs.State.{State, Call}
 use Rattle.rasn_de.specs.Outcomes.{Exact, Got, refusal}
 use Rattle.rasn_de.specs.NamedErrors.{IsNamedError, IsMissingField, IsDuplicateField}
@@ -30,7 +33,7 @@ use Rattle.rasn_de.proofs.Constructed.SetContents.{MakesBy}
 use Rattle.rasn_de.proofs.Constructed.Steps.{rules_same}
 use Rattle.rasn_de.proofs.OwnTypes.Parts.{call_keeps}
 use Rattle.rasn_de.proofs.OwnTypes.Alternatives.{OneAlternative}
-use Rattle.rasn_de.proofs.OwnTypes.AlternativeTypes.{first_got, first_refused, first_known, first_fails_by, others_read, others_got, others_fail_by, choice_by_read}
+use Rattle.rasn_de.proofs.OwnTypes.AlternativeTypes.{first_got, first_refused, first_known, first_fails_by, others_read, others_got, others_fail_by, choice_by_read, unknown_read}
 use Rattle.rasn_de.proofs.OwnTypes.Components.{Slot, one_more, kept_more, not_none, no_parts_twice}
 use Rattle.rasn_de.proofs.Leaves.Errors.{rule_is}
 use Rattle.std.specs.Prelude.{IfErr}
@@ -81,6 +84,24 @@ pub others_fail : {X : Type 0} (extensible : Bool) (p : Presence) (s : Shape) (p
 others_fail extensible p s ps name tag old new (Ok x) n f = tt
 others_fail extensible p s ps name tag old new (Err e) n (inl f) = inl (others_fail_by extensible p s ps name tag old new e n f)
 others_fail extensible p s ps name tag old new (Err e) n (inr f) = inr f
+
+-- The component belongs to no part.
+module _ (tag : Tag) (old new : State) (n : NextTag (form old.rule) old.rest tag) where
+  pub unknown_refused : (e : DecodeError) → DecodesOpenType eoc old (Err e) new → RefusesPart true none e old new
+  unknown_refused e d = record { from = λ j. unknown_read tag old (Err e) new n d j }
+
+  module _ (a : Any) (d : DecodesOpenType eoc old (Ok a) new) where
+    pub unknown_placed : (names : List (List ℕ)) (values after : List Any) → after ≡ values ++ a ∷ [] → DecodesPlaced true none names [] (map numbers values) old (Ok None) new [] (map numbers after)
+    unknown_placed names values after e = inr (numbers a, refl, ap (map numbers) e ∙ map-append numbers values (a ∷ []), record { from = λ j. unknown_read tag old (Ok a) new n d j })
+
+    pub unknown_not_kept : (e : DecodeError) → IsErrorOf OutOfMemory new e → RefusesPart true none e old new
+    unknown_not_kept e m = record {
+      from = λ j. let x = unknown_read tag old (Ok a) new n d j in record {
+        stays = x.stays;
+        end = x.end;
+        exact = subst (λ k. Exact (ReadsNumberedBy true j none old.rule old.depth old.closing) old.rest (refusal k)) (ap (λ (x : DecodeError). x.kind) (sym m)) tt;
+      };
+    }
 
 -- What is read as a part is read as the choice among all.
 placed_decodes : (extensible : Bool) (ps : Parts) (k : ℕ) (u : Tree) (old new : State) → ReadsPartAt extensible ps k u old new → Decodes (choice_by extensible ps) (λ (t : Tree). t) old (Ok (chosen k u)) new
@@ -260,7 +281,7 @@ tree_more false t tree ts us (n, e) = (n, ap (λ z. joined t z) e)
 pub no_more : IsGathered false none [] [] (items [])
 no_more = ([], (refl, refl), refl)
 
-pub unknown_alone : (us : List Tree) → IsGathered true none [] us (joined (items us) done)
+pub unknown_alone : (us : List Tree) → IsGathered true none [] us (joined (items us) (items []))
 unknown_alone us = ([], refl, refl)
 
 module _ (extensible : Bool) where
