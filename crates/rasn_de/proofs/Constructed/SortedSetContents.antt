@@ -1,9 +1,9 @@
 -- The components of a SET are read one by one, and by part, with the unknown ones in the order in which they are read,
 -- they are the SET's contents.
-use Rattle.std.proofs.Common.{◌≡◌, inl, inr, ℕ, suc, ◌+◌, ◌<◌, arith, Bool, true, false, List, [], ◌∷◌, ◌++◌, map, Result, refl, sym, ap, ◌∙◌, subst}
+use Rattle.std.proofs.Common.{◌≡◌, inl, inr, ℕ, suc, ◌+◌, ◌<◌, arith, Bool, true, false, List, [], ◌∷◌, map, Result, refl, sym, ap, ◌∙◌, subst}
 use Rattle.rasn_types.specs.declared.types.codec.Codec.{Codec}
 use Rattle.rasn_types.specs.declared.error.decode.DecodeError.{DecodeError}
-use Rattle.rasn_types.specs.Shapes.{Tree, items, chosen, choice_by, IsSetTree, Parts, part, count, presences, IsFirstOf}
+use Rattle.rasn_types.specs.Shapes.{Tree, chosen, choice_by, IsSetTree, Parts, part, count, presences, IsFirstOf}
 use Rattle.rasn_types.specs.Shapes.Parts.{none}
 use Rattle.rasn_types.specs.Readings.{Reading, ReadsMany, ReadsChoice, AllOf, ReadsSortedSet}
 use Rattle.rasn_types.specs.Grammar.{Reads, ReadsOpenChoice, parts_of}

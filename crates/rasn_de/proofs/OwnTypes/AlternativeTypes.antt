@@ -249,10 +249,6 @@ choice_by_read true ps {old} {new} {o} a =
       exact = subst (λ n. Exact (ReadsOpenChoice old.rule (IsFirstOf ps) n (ReadsNumbered 0 ps old.rule old.depth old.closing)) old.rest o) f a.exact;
     }
 
-pub choice_read : (ps : Parts) {old new : State} {o : Outcome} → DecodesExactly (ReadsNumbered 0 ps) old o new → DecodesExactly (λ rule. Reads rule (choice ps)) old o new
-unfolding Reads
-choice_read ps {old} {new} {o} a = record { stays = a.stays; end = a.end; exact = a.exact }
-
 counted : {T : Type 0} (number : T → ℕ) (inner : T → Tree) (r : Result T DecodeError) (l : List ℕ) → outcome (λ v. chosen (0 + number v) (inner v)) r l ≡ outcome (λ v. chosen (number v) (inner v)) r l
 counted number inner (Ok v) l = let f : 0 + number v ≡ number v = omega arith in ap (λ m. Got (chosen m (inner v)) l) f
 counted number inner (Err e) l = refl

@@ -1,5 +1,5 @@
 -- The parts of a SET as types: components are read one by one, each is put into the slot of its part, and the parts are gathered.
-use Rattle.std.proofs.Common.{◌≡◌, ◌≢◌, ℕ, zero, suc, ◌+◌, ◌-◌, ◌<◌, ◌⊎◌, inl, inr, Bool, true, false, List, [], ◌∷◌, ◌++◌, map, length, Option, Some, None, Result, Ok, Err, refl, sym, ap, ◌∙◌, subst, append_assoc, arith}
+use Rattle.std.proofs.Common.{◌≡◌, ◌≢◌, ℕ, zero, suc, ◌+◌, ◌<◌, inl, inr, Bool, true, false, List, [], ◌∷◌, ◌++◌, map, length, Option, Some, None, Result, Ok, Err, refl, sym, ap, ◌∙◌, subst, append_assoc, arith}
 use Rattle.std.specs.Option.{option_or}
 use Rattle.std.specs.Borrow.{Bor}
 use Rattle.rasn_types.specs.declared.types.codec.Codec.{Codec}
@@ -278,12 +278,6 @@ tree_more : (extensible : Bool) (t tree : Tree) (ts us : List Tree) → IsSetTre
 tree_more true t tree ts us e = ap (λ z. joined t z) e
 tree_more false t tree ts us (n, e) = (n, ap (λ z. joined t z) e)
 
-pub no_more : IsGathered false none [] [] (items [])
-no_more = ([], (refl, refl), refl)
-
-pub unknown_alone : (us : List Tree) → IsGathered true none [] us (joined (items us) (items []))
-unknown_alone us = ([], refl, refl)
-
 module _ (extensible : Bool) where
   pub gathered_came : (p : Presence) (s : Shape) (ps : Parts) (held : List (Option Tree)) (unknown : List Tree) (u t : Tree) → IsGathered extensible ps held unknown t → IsGathered extensible (part p s ps) (Some u ∷ held) unknown (joined u t)
   gathered_came p s ps held unknown u t (ts, e, g) = (u ∷ ts, tree_more extensible u t ts unknown e, (ts, refl, g))
@@ -378,9 +372,10 @@ module _ (extensible : Bool) (ps : Parts) (names : List (List ℕ)) where
 
   seen_unknown : (twice : Option (Bor (List ℕ))) (before held : List (Option Tree)) (unknown after done : List Tree) (u : Tree) → held ≡ before → after ≡ unknown ++ u ∷ [] → Seen twice before unknown done
       → Seen (option_or twice None) held after (done ++ chosen (count ps) u ∷ [])
-  seen_unknown None before held unknown after done u e f (h, a) =
-      (subst (λ l. AreHeld 0 (presences ps) l (done ++ chosen (count ps) u ∷ [])) (sym e) (beyond_held ps 0 (count ps) u before done (omega arith) h),
-      subst (AllOf (count ps) (done ++ chosen (count ps) u ∷ [])) (sym f) (all_of_more (count ps) u done unknown a))
+  seen_unknown None before held unknown after done u e f (h, a) = (
+    subst (λ l. AreHeld 0 (presences ps) l (done ++ chosen (count ps) u ∷ [])) (sym e) (beyond_held ps 0 (count ps) u before done (omega arith) h),
+    subst (AllOf (count ps) (done ++ chosen (count ps) u ∷ [])) (sym f) (all_of_more (count ps) u done unknown a),
+  )
   seen_unknown (Some n) before held unknown after done u e f (k, r, m) = (k, repeats_more ps k done (chosen (count ps) u) r, m)
 
   seen_twice : (twice : Option (Bor (List ℕ))) (n : Bor (List ℕ)) (before held : List (Option Tree)) (unknown after done : List Tree) (i : ℕ) (u : Tree) → IsFilled before i → text n ≡ name_at names i → Seen twice before unknown done
