@@ -16,6 +16,7 @@ use std::alloc::Global;
 
 /// Proves that the shape of a message is lawful, and that everything that DER reads of it is
 /// carried. The function does nothing when it runs.
+#[tactic(auto, using(crate::proofs::Messages::ldap_message_lawful))]
 pub fn has_lawful_shape()
     ensures lawful { IsLawful ldap_message_shape }
     ensures carried { carries_all ldap_message_shape ≡ true }

@@ -17,6 +17,7 @@ use std::alloc::Global;
 
 /// Proves that the shape of a certificate is lawful, and that everything that DER reads of it is
 /// carried. The function does nothing when it runs.
+#[tactic(auto, using(crate::proofs::Certificates::certificate_lawful))]
 pub fn has_lawful_shape()
     ensures lawful { IsLawful certificate_shape }
     ensures carried { carries_all certificate_shape ≡ true }

@@ -16,6 +16,7 @@ use std::alloc::Global;
 
 /// Proves that the shape of a signed message is lawful, and that everything that DER reads of it is
 /// carried. The function does nothing when it runs.
+#[tactic(auto, using(crate::proofs::SignedMessages::signed_message_lawful))]
 pub fn has_lawful_shape()
     ensures lawful { IsLawful signed_message_shape }
     ensures carried { carries_all signed_message_shape ≡ true }

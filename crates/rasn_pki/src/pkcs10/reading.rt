@@ -15,6 +15,7 @@ use std::alloc::Global;
 
 /// Proves that the shape of a certification request is lawful, and that everything that DER reads
 /// of it is carried. The function does nothing when it runs.
+#[tactic(auto, using(crate::proofs::Requests::request_lawful))]
 pub fn has_lawful_shape()
     ensures lawful { IsLawful request_shape }
     ensures carried { carries_all request_shape ≡ true }

@@ -16,6 +16,7 @@ use std::alloc::Global;
 
 /// Proves that the shape of a revocation list is lawful, and that everything that DER reads of it
 /// is carried. The function does nothing when it runs.
+#[tactic(auto, using(crate::proofs::RevocationLists::certificate_list_lawful))]
 pub fn has_lawful_shape()
     ensures lawful { IsLawful certificate_list_shape }
     ensures carried { carries_all certificate_list_shape ≡ true }
