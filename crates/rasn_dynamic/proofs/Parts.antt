@@ -6,7 +6,7 @@ use Rattle.rasn_types.specs.declared.types.tag.Tag.{Tag}
 use Rattle.rasn_types.specs.declared.types.codec.Codec.TheVariants.{Ber}
 use Rattle.rasn_types.specs.Tags.{form}
 use Rattle.rasn_types.specs.Framing.{AreOctets, Extent, definite, indefinite, Frame}
-use Rattle.rasn_types.specs.Shapes.{Shape, Tree, chosen, choice}
+use Rattle.rasn_types.specs.Shapes.{Shape, Tree, chosen, choice_by, count}
 use Rattle.rasn_types.specs.Readings.{NoneOf}
 use Rattle.rasn_de.specs.State.{State, at, IsEnd}
 use Rattle.rasn_de.specs.declared.ber.de.parser.Contents.{Contents}
@@ -14,12 +14,13 @@ use Rattle.rasn_de.specs.declared.ber.de.constructed.ConstructedHeader.{Construc
 use Rattle.rasn_de.specs.Headers.{Header}
 use Rattle.rasn_de.specs.Segments.{octets_inside}
 use Rattle.rasn_de.specs.Constructed.{sequence_header, list_header, prefix_header, ConsumesOpening, expected_header, is_indefinite_extent}
-use Rattle.rasn_de.specs.Decodes.{Decodes}
 use Rattle.rasn_de.proofs.Headers.Ends.{IsEnd-refl, IsEnd-trans}
 use Rattle.rasn_schema.specs.declared.types.«Type».{«Type»}
 use Rattle.rasn_schema.specs.declared.types.«Type».TheVariants.{Leaf, Enumerated, Any, Tagged, Choice, Sequence, Set, SequenceOf, SetOf, Unknown}
 use Rattle.rasn_schema.specs.declared.types.Component.{Component}
 use Rattle.rasn_schema.specs.Shapes.{shape_of_type, type_by, components_by, IsReadable, AreReadable}
+use Rattle.rasn_dynamic.specs.Inside.{DecodesTree}
+use Rattle.rasn_dynamic.specs.Sets.{is_extensible, named_components, AreLawfulMembers}
 use Rattle.rasn_dynamic.specs.Faults.{octets_after, ComponentsInTurn, IsPart, EntersBy, Enters, Leads, start}
 use Rattle.rasn_dynamic.specs.Parts.{IsSeen, IsEntered, IsHeader, IsHeaderOf, LacksPart, IsReadHere, IsPartAt}
 use Rattle.rasn_dynamic.specs.declared.part.Part.{Part}
@@ -30,10 +31,11 @@ use Rattle.rasn_dynamic.specs.Typed.{HoldsOthers}
 use Rattle.rasn_schema.specs.declared.types.Alternative.{Alternative}
 use Rattle.rasn_schema.proofs.Lists.{split}
 use Rattle.rasn_dynamic.proofs.Faults.{within_itself, within_short, opened_within, forgotten, turns_keep}
-use Rattle.rasn_dynamic.proofs.Contents.{prefix_lawful, list_lawful, set_of_lawful, seq_lawful, set_lawful}
+use Rattle.rasn_dynamic.proofs.Contents.{prefix_lawful, list_lawful, set_of_lawful, seq_lawful}
 use Rattle.rasn_dynamic.proofs.InOrder.{lawful_parts}
 use Rattle.rasn_dynamic.proofs.OpenChoice.{lawful_at}
 use Rattle.rasn_dynamic.proofs.Pieces.{part_lawful}
+use Rattle.rasn_dynamic.proofs.Named.{named_is, members_lawful}
 
 -- ---- octets among others
 
@@ -89,7 +91,9 @@ part_keeps f Unknown s k next here i = absurd i
 part_keeps f (Tagged tag id) s k next here (a, b, g) = same_keeps s here g
 part_keeps f (Choice name ks) s k next here (a, e, b, g) = same_keeps s here g
 part_keeps f (Sequence tag ps) s k next here (done, p, after, e, l, b, t) = components_keep f done s here t
-part_keeps f (Set name tag ps) s k next here (p, e, b, done, bs, d) = turns_keep (choice (components_by f ps.items)) (λ (t : Tree). t) s done here (forgotten (Decodes (choice (components_by f ps.items)) (λ (t : Tree). t)) s done bs here d)
+part_keeps f (Set name tag ps) s k next here (p, e, b, done, bs, d) =
+    let z = choice_by (is_extensible f ps.items) (components_by f (named_components f ps.items)) in
+    turns_keep z (λ (t : Tree). t) s done here (forgotten (DecodesTree z) s done bs here d)
 part_keeps f (SequenceOf tag id c) s k next here (b, ts, l, d, n) = turns_keep (f id.0) (λ (t : Tree). t) s ts here d
 part_keeps f (SetOf tag id c) s k next here (b, ts, l, d, n) = turns_keep (f id.0) (λ (t : Tree). t) s ts here d
 
@@ -108,7 +112,9 @@ lawful_part f (Choice name ks) h s k next here (a, (tag, n, e), b, g) = subst (�
 lawful_part f (Sequence tag ps) h s k next here (done, p, after, e, l, b, t) =
     let all = lawful_parts f ps.items (seq_lawful tag (components_by f ps.items) h) in
     subst (λ z. IsReadable (f z)) (sym b) (component_lawful f done p after (subst (λ z. AreReadable (components_by f z)) e all))
-lawful_part f (Set name tag ps) h s k next here (p, e, b, done, bs, d) = subst (λ z. IsReadable (f z)) (sym b) (part_lawful f ps.items k p (set_lawful tag (components_by f ps.items) h) e)
+lawful_part f (Set name tag ps) h s k next here (p, e, b, done, bs, d) =
+    let are = subst AreLawfulMembers (sym (named_is f ps.items)) (members_lawful tag (components_by f ps.items) h) in
+    subst (λ z. IsReadable (f z)) (sym b) (part_lawful f (named_components f ps.items) k p are e)
 lawful_part f (SequenceOf tag id c) h s k next here (b, vs, l, d, n) = subst (λ z. IsReadable (f z)) (sym b) (list_lawful tag (f id.0) c.size h)
 lawful_part f (SetOf tag id c) h s k next here (b, vs, l, d, n) = subst (λ z. IsReadable (f z)) (sym b) (set_of_lawful tag (f id.0) c.size h)
 
@@ -124,6 +130,11 @@ entered_for f (Sequence tag ps) s inner k next here e i = e
 entered_for f (Set name tag ps) s inner k next here e i = e
 entered_for f (SequenceOf tag id c) s inner k next here e i = e
 entered_for f (SetOf tag id c) s inner k next here e i = e
+
+-- There are as many parts as components.
+pub count_is : (f : ℕ → Shape) (ps : List Component) → count (components_by f ps) ≡ length ps
+count_is f [] = refl
+count_is f (p ∷ ps) = ap suc (count_is f ps)
 
 -- One more reading, of another part.
 pub none_more : (k j : ℕ) (t : Tree) (done : List Tree) → NoneOf k done → j ≢ k → NoneOf k (done ++ chosen j t ∷ [])
