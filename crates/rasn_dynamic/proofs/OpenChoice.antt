@@ -6,7 +6,7 @@ use Rattle.rasn_types.specs.declared.types.codec.Codec.{Codec}
 use Rattle.rasn_types.specs.declared.types.tag.Tag.{Tag}
 use Rattle.rasn_types.specs.Tags.{form}
 use Rattle.rasn_types.specs.Framing.{NextTag}
-use Rattle.rasn_types.specs.Shapes.{Tree, chosen, Shape, leaf, any, prefix, choice, open_choice, option, seq, set, list, set_of, unknown, Parts, part, required, count, IsFirst, IsFirstOf}
+use Rattle.rasn_types.specs.Shapes.{Tree, chosen, Shape, leaf, any, prefix, choice, open_choice, option, seq, set, sorted_set, list, set_of, unknown, Parts, part, required, count, IsFirst, IsFirstOf}
 use Rattle.rasn_types.specs.Shapes.Parts.{none}
 use Rattle.rasn_types.specs.Readings.{ReadsChoice}
 use Rattle.rasn_types.specs.Grammar.{Reads, parts_of}
@@ -64,6 +64,7 @@ open_is (open_choice ps) e = cc
 open_is (option tag s) e = cc
 open_is (seq tag ps) e = cc
 open_is (set tag ps) e = cc
+open_is (sorted_set extensible tag ps) e = cc
 open_is (list tag s c) e = cc
 open_is (set_of tag s c) e = cc
 open_is unknown e = cc
