@@ -1,21 +1,29 @@
 -- A component of a SET is read as one of those that its type names or, if there may be unknown ones, as one of these.
-use Rattle.std.proofs.Common.{◌≡◌, ◌+◌, ◌<◌, ℕ, suc, Bool, true, false, List, None, Ok, refl, sym, ap, ◌∙◌, subst, arith, inl, inr}
+use Rattle.std.proofs.Common.{◌≡◌, ◌+◌, ◌<◌, ℕ, suc, Bool, true, false, List, Some, None, Result, Ok, Err, refl, sym, ap, ◌∙◌, subst, arith, inl, inr}
 use Rattle.rasn_types.specs.declared.types.codec.Codec.{Codec}
 use Rattle.rasn_types.specs.declared.types.tag.Tag.{Tag}
+use Rattle.rasn_types.specs.declared.error.decode.DecodeError.{DecodeError}
 use Rattle.rasn_types.specs.declared.error.decode.DecodeErrorKind.{DecodeErrorKind}
-use Rattle.rasn_types.specs.Tags.{form}
+use Rattle.rasn_types.specs.Tags.{form, IsStrict}
 use Rattle.rasn_types.specs.Framing.{NextTag}
-use Rattle.rasn_types.specs.Shapes.{Tree, chosen, any, choice, open_choice, choice_by, Parts, part, count, IsFirstOf}
+use Rattle.rasn_types.specs.Shapes.{Tree, chosen, Shape, any, choice, open_choice, choice_by, Parts, part, count, Presence, required, addition, optional_by, default_by, IsFirst, IsFirstOf}
 use Rattle.rasn_types.specs.Shapes.Parts.{none}
-use Rattle.rasn_types.specs.Readings.{ReadsChoice}
+use Rattle.rasn_types.specs.Readings.{ReadsChoice, IsNoDefault}
 use Rattle.rasn_types.specs.Grammar.{Reads, parts_of}
 use Rattle.rasn_de.specs.State.{State}
-use Rattle.rasn_de.specs.Outcomes.{Outcome, refusal}
+use Rattle.rasn_de.specs.Outcomes.{Outcome, Got, refusal, outcome}
 use Rattle.rasn_de.specs.Decodes.{DecodesExactly}
-use Rattle.rasn_de.proofs.Leaves.Outcomes.{Exact-refusal}
+use Rattle.rasn_de.specs.Choice.{IsOnlyAlternative}
+use Rattle.rasn_de.proofs.Leaves.Outcomes.{Exact-none, Exact-refusal}
 use Rattle.rasn_de.proofs.Constructed.Reads.{Exact-same}
+use Rattle.rasn_de.proofs.OwnTypes.Alternatives.{OneAlternative, no_default, as_read, alternative_got, alternative_refused}
+use Rattle.rasn_schema.specs.declared.types.Component.{Component}
+use Rattle.rasn_schema.specs.Shapes.{components_by, presence_in}
 use Rattle.rasn_dynamic.specs.Inside.{DecodesTree}
+use Rattle.rasn_dynamic.specs.Sets.{AreLawfulMembers}
+use Rattle.rasn_dynamic.specs.Calls.{IsComponentFor, IsDefaultOf, DecodesPresent}
 use Rattle.rasn_dynamic.proofs.OpenChoice.{as_named, of_named, as_unknown, of_unknown}
+use Rattle.rasn_dynamic.proofs.Pieces.{first_of_part, only_part}
 
 -- The parts are counted from j.
 number_below : (rule : Codec) (depth : ℕ) (closing : Bool) (input : List ℕ) (ps : Parts) (j k : ℕ) (u : Tree) (rest : List ℕ) → ReadsChoice rule j (parts_of rule ps depth closing) input (chosen k u) rest → k < j + count ps
@@ -82,3 +90,56 @@ module _ (ps : Parts) (old new : State) where
           );
         };
       }
+
+abbrev itself : Tree → Tree
+itself t = t
+
+is_default : (p : Presence) (t : Tree) → IsDefaultOf p t → IsNoDefault p t → ⊥
+is_default required t h n = h
+is_default (optional_by key) t h n = h
+is_default addition t h n = h
+is_default (default_by key d) t h n = n h
+
+-- A component that is present is read, and isn't its default if that must not be written.
+module _ (p : Presence) (s : Shape) (tag : Tag) (first : IsFirst s tag) (old : State) (n : NextTag (form old.rule) old.rest tag) where
+  only_read : (t : Tree) (r : List ℕ) → OneAlternative p s old.rule old.depth old.closing old.rest t r → Reads old.rule s old.depth old.closing old.rest t r × (IsStrict old.rule → IsNoDefault p t)
+  only_read t r h = no_default old.rule old.depth old.closing old.rest tag n p s first t r h
+
+  one_refused : (kind : DecodeErrorKind) (new : State) → DecodesExactly (λ rule. Reads rule s) old (refusal kind) new → DecodesExactly (OneAlternative p s) old (refusal kind) new
+  one_refused kind new k = record {
+    stays = k.stays;
+    end = k.end;
+    exact = Exact-refusal kind (Reads old.rule s old.depth old.closing) (OneAlternative p s old.rule old.depth old.closing) old.rest old.rest
+        (λ none t r h. none t r (only_read t r h).0) k.exact;
+  }
+
+  one_present : (r : Result Tree DecodeError) (new : State) → DecodesPresent p s old r new → DecodesExactly (OneAlternative p s) old (outcome itself r new.rest) new
+  one_present (Ok v) new (k, c) = record {
+    stays = k.stays;
+    end = k.end;
+    exact = (as_read old.rule old.depth old.closing old.rest tag n p s first v new.rest (k.exact.0, c), λ u r h. k.exact.1 u r (only_read u r h).0);
+  }
+  one_present (Err e) new (inl k) = one_refused e.kind new k
+  one_present (Err e) new (inr (v, k, strict, d, w)) = record {
+    stays = k.stays;
+    end = k.end;
+    exact = Exact-none e.kind (OneAlternative p s old.rule old.depth old.closing) old.rest (λ u r h.
+        let q = only_read u r h in
+        is_default p u (subst (IsDefaultOf p) (sym (k.exact.1 u r q.0).0) d) (q.1 strict));
+  }
+
+-- It is the only one with its first tags.
+module _ (f : ℕ → Shape) (ps : List Component) (k : ℕ) (p : Component) (tag : Tag) (h : AreLawfulMembers (components_by f ps)) (b : IsComponentFor f ps tag k p) (old new : State) (n : NextTag (form old.rule) old.rest tag) (extensible : Bool) where
+  only : IsOnlyAlternative (components_by f ps) k (presence_in f p) (f p.type_id.0) tag
+  only = only_part f tag ps k p h.1 b
+
+  there : IsFirstOf (components_by f ps) tag
+  there = first_of_part f tag ps k p b.0 b.1
+
+  pub member_got : (t : Tree) → DecodesPresent (presence_in f p) (f p.type_id.0) old (Ok t) new → DecodesTree (choice_by extensible (components_by f ps)) old (Ok (chosen k t)) new
+  member_got t d = known_by (components_by f ps) old new extensible (Got (chosen k t) new.rest) tag n there
+      (alternative_got (components_by f ps) k (presence_in f p) (f p.type_id.0) tag n only (one_present (presence_in f p) (f p.type_id.0) tag b.1 old n (Ok t) new d))
+
+  pub member_refused : (e : DecodeError) → DecodesPresent (presence_in f p) (f p.type_id.0) old (Err e) new → DecodesTree (choice_by extensible (components_by f ps)) old (Err e) new
+  member_refused e d = known_by (components_by f ps) old new extensible (refusal e.kind) tag n there
+      (alternative_refused (components_by f ps) k (presence_in f p) (f p.type_id.0) tag n only e.kind (one_present (presence_in f p) (f p.type_id.0) tag b.1 old n (Err e) new d))
