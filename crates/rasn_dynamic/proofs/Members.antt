@@ -8,6 +8,7 @@ use Rattle.rasn_types.specs.Tags.{form, IsStrict}
 use Rattle.rasn_types.specs.Framing.{NextTag}
 use Rattle.rasn_types.specs.Shapes.{Tree, chosen, Shape, any, choice, open_choice, choice_by, Parts, part, count, Presence, required, addition, optional_by, default_by, IsFirst, IsFirstOf}
 use Rattle.rasn_types.specs.Shapes.Parts.{none}
+use Rattle.rasn_types.specs.Errors.{IsOutOfMemory}
 use Rattle.rasn_types.specs.Readings.{ReadsChoice, IsNoDefault}
 use Rattle.rasn_types.specs.Grammar.{Reads, parts_of}
 use Rattle.rasn_de.specs.State.{State}
@@ -20,8 +21,9 @@ use Rattle.rasn_de.proofs.OwnTypes.Alternatives.{OneAlternative, no_default, as_
 use Rattle.rasn_schema.specs.declared.types.Component.{Component}
 use Rattle.rasn_schema.specs.Shapes.{components_by, presence_in}
 use Rattle.rasn_dynamic.specs.Inside.{DecodesTree}
-use Rattle.rasn_dynamic.specs.Sets.{AreLawfulMembers}
+use Rattle.rasn_dynamic.specs.Sets.{AreLawfulMembers, PassesUnknown}
 use Rattle.rasn_dynamic.specs.Calls.{IsComponentFor, IsDefaultOf, DecodesPresent}
+use Rattle.rasn_dynamic.proofs.Checked.{memory_or_none}
 use Rattle.rasn_dynamic.proofs.OpenChoice.{as_named, of_named, as_unknown, of_unknown}
 use Rattle.rasn_dynamic.proofs.Pieces.{first_of_part, only_part}
 
@@ -90,6 +92,20 @@ module _ (ps : Parts) (old new : State) where
           );
         };
       }
+
+-- An unknown value is passed, if there may be one; none is, if there may not or if none is read.
+pub passed_unknown : (extensible : Bool) (ps : Parts) (old new : State) (tag : Tag) → NextTag (form old.rule) old.rest tag → (IsFirstOf ps tag → ⊥) → extensible ≡ true → (u : Tree) → DecodesTree (any None) old (Ok u) new
+    → PassesUnknown extensible ps old new
+passed_unknown extensible ps old new tag n others e u d = subst (λ b. PassesUnknown b ps old new) (sym e) (u, unknown_got ps old new tag n others u d)
+
+pub none_passed : (extensible : Bool) (ps : Parts) (old new : State) → extensible ≡ false → (X : Type 0) → PassesUnknown extensible ps old new → X
+unfolding Reads
+none_passed false ps old new e X (u, d) = absurd (omega (arith, number_below old.rule old.depth old.closing old.rest ps 0 (count ps) u new.rest d.exact.0))
+none_passed true ps old new e X d = absurd cc
+
+pub none_unread : (extensible : Bool) (ps : Parts) (old new : State) (e : DecodeError) → DecodesTree (any None) old (Err e) new → (next : State) → PassesUnknown extensible ps old next → IsOutOfMemory e.kind
+none_unread extensible ps old new e d next (u, k) =
+    memory_or_none e.kind (Reads old.rule (any None) old.depth old.closing) old.rest u next.rest d.exact (unknown_is ps old next extensible u k).open_type.exact.0
 
 abbrev itself : Tree → Tree
 itself t = t

@@ -5,24 +5,26 @@ use Rattle.std.proofs.lemmas.List.{append-nil}
 use Rattle.rasn_types.specs.declared.types.tag.Tag.{Tag}
 use Rattle.rasn_types.specs.declared.types.codec.Codec.TheVariants.{Ber}
 use Rattle.rasn_types.specs.Tags.{form}
-use Rattle.rasn_types.specs.Framing.{AreOctets, Extent, definite, indefinite, Frame}
-use Rattle.rasn_types.specs.Shapes.{Shape, Tree, chosen, choice_by, count}
+use Rattle.rasn_types.specs.Framing.{AreOctets, Extent, definite, indefinite, Frame, NextTag, Ended}
+use Rattle.rasn_types.specs.Shapes.{Shape, Tree, chosen, any, choice_by, count, IsFirstOf}
 use Rattle.rasn_types.specs.Readings.{NoneOf}
 use Rattle.rasn_de.specs.State.{State, at, IsEnd}
 use Rattle.rasn_de.specs.declared.ber.de.parser.Contents.{Contents}
 use Rattle.rasn_de.specs.declared.ber.de.constructed.ConstructedHeader.{ConstructedHeader}
 use Rattle.rasn_de.specs.Headers.{Header}
 use Rattle.rasn_de.specs.Segments.{octets_inside}
+use Rattle.rasn_de.specs.SequenceOf.{DecodesInTurnFrom}
+use Rattle.rasn_de.proofs.Constructed.SetOfElements.{passes_from}
 use Rattle.rasn_de.specs.Constructed.{sequence_header, list_header, prefix_header, ConsumesOpening, expected_header, is_indefinite_extent}
 use Rattle.rasn_de.proofs.Headers.Ends.{IsEnd-refl, IsEnd-trans}
 use Rattle.rasn_schema.specs.declared.types.«Type».{«Type»}
 use Rattle.rasn_schema.specs.declared.types.«Type».TheVariants.{Leaf, Enumerated, Any, Tagged, Choice, Sequence, Set, SequenceOf, SetOf, Unknown}
 use Rattle.rasn_schema.specs.declared.types.Component.{Component}
-use Rattle.rasn_schema.specs.Shapes.{shape_of_type, type_by, components_by, IsReadable, AreReadable}
+use Rattle.rasn_schema.specs.Shapes.{shape_of_type, type_by, components_by, presence_in, IsReadable, AreReadable}
 use Rattle.rasn_dynamic.specs.Inside.{DecodesTree}
 use Rattle.rasn_dynamic.specs.Sets.{is_extensible, named_components, AreLawfulMembers}
 use Rattle.rasn_dynamic.specs.Faults.{octets_after, ComponentsInTurn, IsPart, EntersBy, Enters, Leads, start}
-use Rattle.rasn_dynamic.specs.Parts.{IsSeen, IsEntered, IsHeader, IsHeaderOf, LacksPart, IsReadHere, IsPartAt}
+use Rattle.rasn_dynamic.specs.Parts.{IsSeen, IsEntered, IsHeader, IsHeaderOf, LacksPart, IsReadHere, IsPartAt, PassesPresent, PassesElement}
 use Rattle.rasn_dynamic.specs.declared.part.Part.{Part}
 use Rattle.rasn_de.proofs.Headers.Frames.{header_parsed}
 use Rattle.rasn_de.proofs.Constructed.Contents.{constructed_header_parsed}
@@ -34,6 +36,8 @@ use Rattle.rasn_dynamic.proofs.Faults.{within_itself, within_short, opened_withi
 use Rattle.rasn_dynamic.proofs.Contents.{prefix_lawful, list_lawful, set_of_lawful, seq_lawful}
 use Rattle.rasn_dynamic.proofs.InOrder.{lawful_parts}
 use Rattle.rasn_dynamic.proofs.OpenChoice.{lawful_at}
+use Rattle.rasn_dynamic.specs.Calls.{IsComponentFor}
+use Rattle.rasn_dynamic.proofs.Members.{member_got, unknown_got}
 use Rattle.rasn_dynamic.proofs.Pieces.{part_lawful}
 use Rattle.rasn_dynamic.proofs.Named.{named_is, members_lawful}
 
@@ -140,6 +144,28 @@ count_is f (p ∷ ps) = ap suc (count_is f ps)
 pub none_more : (k j : ℕ) (t : Tree) (done : List Tree) → NoneOf k done → j ≢ k → NoneOf k (done ++ chosen j t ∷ [])
 none_more k j t [] n d = ((λ u e. d cc), tt)
 none_more k j t (r ∷ rs) n d = (n.0, none_more k j t rs n.1 d)
+
+-- Components of a SET are passed by, none of which is the one that is looked for.
+abbrev pub MembersPassed : (ℕ → Shape) → Bool → List Component → ℕ → State → State → Type 0
+MembersPassed f extensible ps k s here = (done : List Tree) × (bs : List (List ℕ)) × DecodesInTurnFrom (DecodesTree (choice_by extensible (components_by f ps))) s done bs here × (k < length ps → NoneOf k done)
+
+-- One more is.
+module _ (f : ℕ → Shape) (extensible : Bool) (ps : List Component) (k : ℕ) (s here next : State) (tag : Tag) (n : NextTag (form here.rule) here.rest tag) (more : Ended here.closing here.rest → ⊥) (i : MembersPassed f extensible ps k s here) where
+  one_passed : (j : ℕ) (t : Tree) → DecodesTree (choice_by extensible (components_by f ps)) here (Ok (chosen j t)) next → (length next.rest ≡ length here.rest → ⊥) → (k < length ps → j ≢ k) → MembersPassed f extensible ps k s next
+  one_passed j t d l m = (
+    i.0 ++ (chosen j t ∷ []),
+    i.1 ++ (d.end.0 ∷ []),
+    passes_from (DecodesTree (choice_by extensible (components_by f ps))) here next (chosen j t) d.end.0 d.end.1 more d l s i.0 _ i.1 refl i.2,
+    λ h. none_more k j t i.0 (i.3 h) (m h),
+  )
+
+  pub member_passed : (j : ℕ) (p : Component) → AreLawfulMembers (components_by f ps) → IsComponentFor f ps tag j p → j ≢ k → PassesPresent (presence_in f p) (f p.type_id.0) here next → MembersPassed f extensible ps k s next
+  member_passed j p are b m (t, d, l) = one_passed j t (member_got f ps j p tag are b here next n extensible t d) l (λ h. m)
+
+  pub unknown_passed : (IsFirstOf (components_by f ps) tag → ⊥) → extensible ≡ true → PassesElement (any None) here next → MembersPassed f extensible ps k s next
+  unknown_passed others e (u, d, l) =
+      one_passed (count (components_by f ps)) u (subst (λ b. DecodesTree (choice_by b (components_by f ps)) here (Ok (chosen (count (components_by f ps)) u)) next) (sym e) (unknown_got (components_by f ps) here next tag n others u d)) l
+      (λ h m. omega (arith, h, m, count_is f ps))
 
 -- ---- paths
 
