@@ -34,4 +34,4 @@ pub mod LeadsTo
 pub mod WorkedFaults
 pub mod Shown
 pub mod Named
-pub mod Members
+pub mod AllMembers
