@@ -11,7 +11,6 @@ use Rattle.rasn_types.specs.Framing.{NextTag, Ended}
 use Rattle.rasn_types.specs.Shapes.{Tree, chosen, Shape, choice, Parts, Presence, presences, required, addition, optional_by, default_by, IsFirst, IsFirstOf}
 use Rattle.rasn_types.specs.Readings.{IsNoDefault}
 use Rattle.rasn_types.specs.Grammar.{Reads}
-use Rattle.rasn_types.specs.Lawful.{AreLawfulByTag}
 use Rattle.rasn_de.specs.declared.ber.de.parser.ParseError.TheVariants.{UnexpectedExtraData}
 use Rattle.rasn_de.specs.State.{State}
 use Rattle.rasn_de.specs.Steps.{PeeksTag, IsErrorOf}
@@ -30,51 +29,20 @@ use Rattle.rasn_schema.specs.declared.types.Component.{Component}
 use Rattle.rasn_schema.specs.declared.value.Value.{Value}
 use Rattle.rasn_schema.specs.Trees.{tree_of}
 use Rattle.rasn_schema.specs.Shapes.{components_by, presence_in}
+use Rattle.rasn_dynamic.specs.Inside.{DecodesTree}
+use Rattle.rasn_dynamic.specs.Sets.{AreLawfulMembers}
 use Rattle.rasn_dynamic.specs.Calls.{names_of, HoldsSlots, IsComponentFor, IsPut, IsDefaultOf, DecodesPresent, DecodesMember}
 use Rattle.rasn_dynamic.proofs.Parts.{shorter}
-use Rattle.rasn_dynamic.proofs.Pieces.{only_part, by_tag_distinguished, slots_placed, slots_filled}
+use Rattle.rasn_dynamic.proofs.Members.{member_got, member_refused}
+use Rattle.rasn_dynamic.proofs.Pieces.{slots_placed, slots_filled}
 
 abbrev itself : Tree → Tree
 itself t = t
-
-is_default : (p : Presence) (t : Tree) → IsDefaultOf p t → IsNoDefault p t → ⊥
-is_default required t h n = h
-is_default (optional_by key) t h n = h
-is_default addition t h n = h
-is_default (default_by key d) t h n = n h
 
 name_here : (ps : List Component) (k : ℕ) (p : Component) → Some p ≡ slice_get ps k → string_bytes p.name ≡ name_at (names_of ps) k
 name_here [] k p e = absurd cc
 name_here (q ∷ ps) zero p e = let same : p ≡ q = cc in ap (λ (x : Component). string_bytes x.name) same
 name_here (q ∷ ps) (suc k) p e = name_here ps k p e
-
--- A component that is present is read, and isn't its default if that must not be written.
-module _ (p : Presence) (s : Shape) (tag : Tag) (first : IsFirst s tag) (old : State) (n : NextTag (form old.rule) old.rest tag) where
-  only_read : (t : Tree) (r : List ℕ) → OneAlternative p s old.rule old.depth old.closing old.rest t r → Reads old.rule s old.depth old.closing old.rest t r × (IsStrict old.rule → IsNoDefault p t)
-  only_read t r h = no_default old.rule old.depth old.closing old.rest tag n p s first t r h
-
-  one_refused : (kind : DecodeErrorKind) (new : State) → DecodesExactly (λ rule. Reads rule s) old (refusal kind) new → DecodesExactly (OneAlternative p s) old (refusal kind) new
-  one_refused kind new k = record {
-    stays = k.stays;
-    end = k.end;
-    exact = Exact-refusal kind (Reads old.rule s old.depth old.closing) (OneAlternative p s old.rule old.depth old.closing) old.rest old.rest
-        (λ none t r h. none t r (only_read t r h).0) k.exact;
-  }
-
-  one_present : (r : Result Tree DecodeError) (new : State) → DecodesPresent p s old r new → DecodesExactly (OneAlternative p s) old (outcome itself r new.rest) new
-  one_present (Ok v) new (k, c) = record {
-    stays = k.stays;
-    end = k.end;
-    exact = (as_read old.rule old.depth old.closing old.rest tag n p s first v new.rest (k.exact.0, c), λ u r h. k.exact.1 u r (only_read u r h).0);
-  }
-  one_present (Err e) new (inl k) = one_refused e.kind new k
-  one_present (Err e) new (inr (v, k, strict, d, w)) = record {
-    stays = k.stays;
-    end = k.end;
-    exact = Exact-none e.kind (OneAlternative p s old.rule old.depth old.closing) old.rest (λ u r h.
-        let q = only_read u r h in
-        is_default p u (subst (IsDefaultOf p) (sym (k.exact.1 u r q.0).0) d) (q.1 strict));
-  }
 
 -- The next value is of no component.
 module _ (ps : Parts) (names : List (List ℕ)) (before after : List (Option Tree)) (old : State) where
@@ -85,16 +53,13 @@ module _ (ps : Parts) (names : List (List ℕ)) (before after : List (Option Tre
   next_unknown tag n others e = inl (no_alternative ps tag n others e.kind)
 
 -- It is of a component.
-module _ (f : ℕ → Shape) (ps : List Component) (k : ℕ) (p : Component) (tag : Tag) (h : AreLawfulByTag (components_by f ps)) (b : IsComponentFor f ps tag k p) (old new : State) (n : NextTag (form old.rule) old.rest tag) where
-  only : IsOnlyAlternative (components_by f ps) k (presence_in f p) (f p.type_id.0) tag
-  only = only_part f tag ps k p (by_tag_distinguished (components_by f ps) h) b
-
+module _ (f : ℕ → Shape) (ps : List Component) (k : ℕ) (p : Component) (tag : Tag) (h : AreLawfulMembers (components_by f ps)) (b : IsComponentFor f ps tag k p) (old new : State) (n : NextTag (form old.rule) old.rest tag) where
   pub next_unread : (e : DecodeError) (before after : List (Option Tree)) → DecodesPresent (presence_in f p) (f p.type_id.0) old (Err e) new → DecodesNext (components_by f ps) (names_of ps) before old (Err e) new after
-  next_unread e before after d = inl (alternative_refused (components_by f ps) k (presence_in f p) (f p.type_id.0) tag n only e.kind (one_present (presence_in f p) (f p.type_id.0) tag b.1 old n (Err e) new d))
+  next_unread e before after d = inl (member_refused f ps k p tag h b old new n false e d)
 
   module _ (t : Tree) (d : DecodesPresent (presence_in f p) (f p.type_id.0) old (Ok t) new) where
-    pub got : DecodesExactly (λ rule. Reads rule (choice (components_by f ps))) old (Got (chosen k t) new.rest) new
-    got = alternative_got (components_by f ps) k (presence_in f p) (f p.type_id.0) tag n only (one_present (presence_in f p) (f p.type_id.0) tag b.1 old n (Ok t) new d)
+    got : DecodesTree (choice (components_by f ps)) old (Ok (chosen k t)) new
+    got = member_got f ps k p tag h b old new n false t d
 
     pub next_idle : (before after : List (Option Tree)) (left : ℕ) → left ≡ length old.rest → length new.rest ≡ left → (e : DecodeError) → IsErrorOf (UnexpectedExtraData left) new e
         → DecodesNext (components_by f ps) (names_of ps) before old (Err e) new after

@@ -35,3 +35,4 @@ pub mod WorkedFaults
 pub mod Shown
 pub mod Named
 pub mod AllMembers
+pub mod Members

@@ -54,7 +54,7 @@ use Rattle.rasn_dynamic.specs.Listed.{Lists, Inside, PartListed, ComponentAt, Me
 use Rattle.rasn_de.specs.Constructed.{list_header}
 use Rattle.rasn_dynamic.specs.declared.span.Spans.{Spans}
 use Rattle.std.specs.Prelude.{IfOk}
-use Rattle.rasn_dynamic.proofs.Listed.{if_any, lists_start, lists_more, part_listed, value_listed, none_listed, choice_listed, alternative_listed, holder_listed, inside_listed, tagged_listed, elements_listed, component_present, component_absent, component_more, components_left_out, components_listed, member_listed, members_listed, header_listed, contents_same, components_same, members_same}
+use Rattle.rasn_dynamic.proofs.Listed.{if_any, lists_start, lists_more, part_listed, value_listed, none_listed, choice_listed, alternative_listed, holder_listed, inside_listed, tagged_listed, elements_listed, component_present, component_absent, component_more, components_left_out, components_listed, member_listed, unknown_passed, members_listed, header_listed, contents_same, components_same, members_same}
 use Rattle.rasn_dynamic.proofs.reader.+decode.Goals as goal
 use Rattle.rasn_de.specs.SequenceOf.{DecodesSized}
 use Rattle.rasn_de.specs.Set.{not_read}
@@ -1062,11 +1062,11 @@ decode_present-returns-in_err-value-clause-told g t c =
 pub decode_set-returns-in_err-next-clause-told : goal.decode_set-returns-in_err-next-clause-told
 decode_set-returns-in_err-next-clause-told g t c =
     let at = c.loop-last in
-    let k = at.invariant.0.2 in
-    let s = choice (components_by (shape_of_type c.args.types.now c.args.below) c.args.components.now) in
+    let k = at.invariant.0.4 in
+    let s = choice_by c.args.extensible (components_by (shape_of_type c.args.types.now c.args.below) c.args.components.now) in
     let q = turns_keep s (λ (z : Tree). z) c.args.decoder.now k.0 at.decoder (forgotten (DecodesTree s) c.args.decoder.now k.0 k.1 at.decoder k.2) in
     rw (residual _ c.from_residual-in_err-next.ensures.1)
-    (λ f e. further c.args.types.now c.args.below _ _ c.args.decoder.now at.decoder _ f q.0 q.1 (member_behind (shape_of_type c.args.types.now c.args.below) c.args.components.now c.args.decoder.now at.decoder k.0 k.1 k.2) (c.in_err-next.ensures.told f e))
+    (λ f e. further c.args.types.now c.args.below _ _ c.args.decoder.now at.decoder _ f q.0 q.1 (member_behind (shape_of_type c.args.types.now c.args.below) c.args.extensible c.args.components.now c.args.decoder.now at.decoder k.0 k.1 k.2) (c.in_err-next.ensures.told f e))
 
 pub decode_set_component-returns-in_err-value-clause-told : goal.decode_set_component-returns-in_err-value-clause-told
 decode_set_component-returns-in_err-value-clause-told g t c =
@@ -1273,36 +1273,49 @@ decode_present-returns-then-means_same-clause-itself g t c =
 pub decode_set-returns-in_err-last-clause-itself : goal.decode_set-returns-in_err-last-clause-itself
 decode_set-returns-in_err-last-clause-itself g t c =
     let at = c.loop-last in
-    let k = at.invariant.0.2 in
-    let stays = came_stays (choice (components_by (shape_of_type c.args.types.now c.args.below) c.args.components.now)) (λ (z : Tree). z) c.args.decoder.now at.decoder k.0 k.1 k.2 in
+    let k = at.invariant.0.4 in
+    let stays = came_stays (choice_by c.args.extensible (components_by (shape_of_type c.args.types.now c.args.below) c.args.components.now)) (λ (z : Tree). z) c.args.decoder.now at.decoder k.0 k.1 k.2 in
     rw (residual _ c.from_residual.ensures.1)
-    (λ n. inr (k.0, k.1, at.decoder, k.2, inr (_, look_refused c.args.decoder.now at.decoder stays k.1 at.last k.3 (λ there x after. StopsAtMember (shape_of_type c.args.types.now c.args.below) c.args.components.now there x) _ c.in_err-last.ensures)))
+    (λ n. inr (k.0, k.1, at.decoder, k.2, inr (_, look_refused c.args.decoder.now at.decoder stays k.1 at.last k.3 (λ there x after. StopsAtMember (shape_of_type c.args.types.now c.args.below) c.args.extensible c.args.components.now there x) _ c.in_err-last.ensures)))
 
 pub decode_set-returns-in_err-next-clause-itself : goal.decode_set-returns-in_err-next-clause-itself
 decode_set-returns-in_err-next-clause-itself g t c =
     let at = c.loop-last in
-    let k = at.invariant.0.2 in
-    let stays = came_stays (choice (components_by (shape_of_type c.args.types.now c.args.below) c.args.components.now)) (λ (z : Tree). z) c.args.decoder.now at.decoder k.0 k.1 k.2 in
+    let k = at.invariant.0.4 in
+    let stays = came_stays (choice_by c.args.extensible (components_by (shape_of_type c.args.types.now c.args.below) c.args.components.now)) (λ (z : Tree). z) c.args.decoder.now at.decoder k.0 k.1 k.2 in
     rw (residual _ c.from_residual-in_err-next.ensures.1)
     (λ n. inr (k.0, k.1, at.decoder, k.2, inr (at.decoder, not_read (look_follows c.args.decoder.now at.decoder stays k.1 at.last k.3 _ c.in_ok-last.ensures) (c.in_err-next.ensures.itself n))))
 
 pub decode_set-returns-in-Some-clause-itself : goal.decode_set-returns-in-Some-clause-itself
 decode_set-returns-in-Some-clause-itself g t c =
-    let k = c.loop-last.invariant.0.2 in
+    let k = c.loop-last.invariant.0.4 in
     λ n. inr (k.0, k.1, c.loop-last.decoder, k.2, inl c.loop-last-test.ensures)
 
-pub decode_set-returns-clause-itself : goal.decode_set-returns-clause-itself
-decode_set-returns-clause-itself g t c =
-    let k = c.loop-last.invariant.0.2 in
-    set_ends (shape_of_type c.args.types.now c.args.below) c.args.components.now c.args.decoder.now c.loop-last.decoder k.0 k.1 k.2 c.loop-last-test.ensures _ _
+pub decode_set-returns-in_err-values-clause-itself : goal.decode_set-returns-in_err-values-clause-itself
+decode_set-returns-in_err-values-clause-itself g t c =
+    let k = c.loop-last.invariant.0.4 in
+    rw (residual _ c.from_residual-in_err-values.ensures.1) (λ n. inr (k.0, k.1, c.loop-last.decoder, k.2, inl c.loop-last-test.ensures))
+
+pub decode_set-returns-in_err-push-clause-itself : goal.decode_set-returns-in_err-push-clause-itself
+decode_set-returns-in_err-push-clause-itself g t c =
+    rw (residual _ c.from_residual-in_err-push.ensures.1) (λ n. inl c.in_err-push.ensures.kind)
 
 pub decode_set_component-returns-in_err-tag-clause-itself : goal.decode_set_component-returns-in_err-tag-clause-itself
 decode_set_component-returns-in_err-tag-clause-itself g t c =
     rw (residual _ c.from_residual.ensures.1) (λ n. inl c.in_err-tag.ensures.exact)
 
-pub decode_set_component-returns-in_default-clause-itself : goal.decode_set_component-returns-in_default-clause-itself
-decode_set_component-returns-in_default-clause-itself g t c =
-    λ n. inr (inl (c.in_ok-tag.tag, c.in_ok-tag.ensures.next, c.in_default.ensures))
+pub decode_set_component-returns-then-not-extensible-clause-itself : goal.decode_set_component-returns-then-not-extensible-clause-itself
+decode_set_component-returns-then-not-extensible-clause-itself g t c =
+    λ n. inr (inl ((c.in_ok-tag.tag, c.in_ok-tag.ensures.next, c.in_default.ensures), λ next. none_passed c.args.extensible _ c.args.decoder.now next (search rules) _))
+
+pub decode_set_component-returns-in_err-value-in_default-clause-itself : goal.decode_set_component-returns-in_err-value-in_default-clause-itself
+decode_set_component-returns-in_err-value-in_default-clause-itself g t c =
+    rw (residual _ c.from_residual-in_err-value-in_default.ensures.1)
+    (λ n. inr (inl ((c.in_ok-tag.tag, c.in_ok-tag.ensures.next, c.in_default.ensures), none_unread c.args.extensible _ c.args.decoder.now _ _ c.in_err-value-in_default.ensures.reads)))
+
+pub decode_set_component-returns-in_err-push-clause-itself : goal.decode_set_component-returns-in_err-push-clause-itself
+decode_set_component-returns-in_err-push-clause-itself g t c =
+    rw (residual _ c.from_residual-in_err-push.ensures.1) (λ n. inr (inl ((c.in_ok-tag.tag, c.in_ok-tag.ensures.next, c.in_default.ensures), λ next d. c.in_err-push.ensures.kind)))
 
 pub decode_set_component-returns-in_err-value-clause-itself : goal.decode_set_component-returns-in_err-value-clause-itself
 decode_set_component-returns-in_err-value-clause-itself g t c =
@@ -1424,10 +1437,15 @@ decode_component-returns-in-Ok-false-clause-listed g t c =
 
 pub decode_set-returns-clause-listed : goal.decode_set-returns-clause-listed
 decode_set-returns-clause-listed g t c =
-    if_any _ (members_listed (shape_of_type c.args.types.now c.args.below) c.args.below (Inside c.args.types.now c.args.below) c.args.components.now c.loop-last.invariant.3 c.args.decoder.now c.loop-last.decoder _ _ c.loop-last-test.ensures c.loop-last.invariant.4)
+    members_listed (shape_of_type c.args.types.now c.args.below) c.args.below (Inside c.args.types.now c.args.below) c.args.extensible c.args.components.now c.loop-last.invariant.4 c.args.decoder.now c.loop-last.decoder _ _ c.loop-last-test.ensures c.loop-last.invariant.5
 
 pub decode_set_component-returns-clause-listed : goal.decode_set_component-returns-clause-listed
-decode_set_component-returns-clause-listed g t c = member_listed (shape_of_type c.args.types.now c.args.below) c.args.below (Inside c.args.types.now c.args.below) c.args.components.now c.in-Some.number c.in-Some.component.now c.args.decoder.now _ _ _ c.in-Some.ensures.0 c.in_ok-value.ensures.listed
+decode_set_component-returns-clause-listed g t c = member_listed (shape_of_type c.args.types.now c.args.below) c.args.below (Inside c.args.types.now c.args.below) c.args.extensible c.args.components.now c.in-Some.number c.in-Some.component.now c.args.decoder.now _ _ _ c.in-Some.ensures.0 c.in_ok-value.ensures.listed
+
+pub decode_set_component-returns-in_ok-push-clause-listed : goal.decode_set_component-returns-in_ok-push-clause-listed
+decode_set_component-returns-in_ok-push-clause-listed g t c =
+    unknown_passed (shape_of_type c.args.types.now c.args.below) c.args.below (Inside c.args.types.now c.args.below) c.args.extensible c.args.components.now c.args.decoder.now _ _
+    (passed_unknown c.args.extensible _ c.args.decoder.now _ c.in_ok-tag.tag c.in_ok-tag.ensures.next c.in_default.ensures (search rules) (tree_of c.in_ok-value-in_default.value) c.in_ok-value-in_default.ensures.reads)
 
 pub decode_compared-returns-in-None-clause-listed : goal.decode_compared-returns-in-None-clause-listed
 decode_compared-returns-in-None-clause-listed g t c =
