@@ -20,7 +20,7 @@ cut_last : {X : Type 0} (x : X) (l : List X) → take (length l) (x ∷ l) ≡ b
 cut_last x [] = refl
 cut_last {X} x (y ∷ l) = ap (λ (m : List X). x ∷ m) (cut_last y l)
 
-take_but_last : {X : Type 0} (l : List X) → take (length l - 1) l ≡ but_last l
+pub take_but_last : {X : Type 0} (l : List X) → take (length l - 1) l ≡ but_last l
 take_but_last [] = refl
 take_but_last {X} (x ∷ l) = ap (λ n. take n (x ∷ l)) (less_one (length l)) ∙ cut_last x l
 
