@@ -31,7 +31,7 @@ use Rattle.rasn_dynamic.proofs.Pieces.{first_of_part, only_part}
 number_below : (rule : Codec) (depth : ℕ) (closing : Bool) (input : List ℕ) (ps : Parts) (j k : ℕ) (u : Tree) (rest : List ℕ) → ReadsChoice rule j (parts_of rule ps depth closing) input (chosen k u) rest → k < j + count ps
 unfolding parts_of
 number_below rule depth closing input none j k u rest h = absurd h
-number_below rule depth closing input (part p s ps) j k u rest (inl (v, e, more)) = let same : k ≡ j = cc in omega (arith, same)
+number_below rule depth closing input (part p s ps) j k u rest (inl (v, e, next, m, f, r, z)) = let same : k ≡ j = cc in omega (arith, same)
 number_below rule depth closing input (part p s ps) j k u rest (inr h) = omega (arith, number_below rule depth closing input ps (suc j) k u rest h)
 
 same_chosen : (k : ℕ) (u v : Tree) → chosen k u ≡ chosen k v → u ≡ v

@@ -64,7 +64,7 @@ member_is f (q ∷ ps) zero p h e = subst (λ (z : Component). HasTag (f z.type_
 member_is f (q ∷ ps) (suc k) p h e = member_is f ps k p h.4 e
 
 pub part_lawful : (f : ℕ → Shape) (ps : List Component) (k : ℕ) (p : Component) → AreLawfulMembers (components_by f ps) → Some p ≡ slice_get ps k → IsReadable (f p.type_id.0)
-part_lawful f ps k p h e = inl (member_is f ps k p h.0 e).1
+part_lawful f ps k p h e = let m = member_is f ps k p h.0 e in inl (m.1, m.2)
 
 -- ---- what was read
 

@@ -400,7 +400,7 @@ module _ (f : ℕ → Shape) (readable : (k : ℕ) → IsReadable (f k)) (levels
       → PartListed f levels P p.type_id.0 k b s n es → PassesUnknown extensible (components_by f ps) z m → ⊥
   not_unknown extensible ps are b k p at s z n m es e x (u, d) =
       let known = member_is f ps k p are.0 at in
-      let v = tag_read (f p.type_id.0) known.1.0 known.0 s n x.tree x.reads in
+      let v = tag_read (f p.type_id.0) known.1 known.0 s n x.tree x.reads in
       let (next, m, isnt) = (unknown_is (components_by f ps) z m extensible u d).other in
       isnt (subst (IsFirstOf (components_by f ps)) (next_one s.rest v.0 next v.1 (subst (λ l. NextTag (form z.rule) l next) (sym e) m)) (first_of_part f v.0 ps k p at v.2))
 
@@ -413,8 +413,8 @@ module _ (f : ℕ → Shape) (readable : (k : ℕ) → IsReadable (f k)) (levels
   member_one extensible ps are b s z n m es fs alike (inr (j, a, p, x)) (inr (k, c, q, y)) =
       let h = member_is f ps j a are.0 p in
       let i = member_is f ps k c are.0 q in
-      let v = tag_read (f a.type_id.0) h.1.0 h.0 s n x.tree x.reads in
-      let w = tag_read (f c.type_id.0) i.1.0 i.0 z m y.tree y.reads in
+      let v = tag_read (f a.type_id.0) h.1 h.0 s n x.tree x.reads in
+      let w = tag_read (f c.type_id.0) i.1 i.0 z m y.tree y.reads in
       let next = subst (λ l. NextTag (form z.rule) l w.0) (sym alike.rest) w.1 in
       let first = subst (IsFirst (f c.type_id.0)) (next_one s.rest w.0 v.0 next v.1) w.2 in
       let e : j ≡ k = same_index (components_by f ps) v.0 j k _ _ _ _ (only_part f v.0 ps j a are.1 (p, v.2)) (only_part f v.0 ps k c are.1 (q, first)) in
@@ -424,7 +424,9 @@ module _ (f : ℕ → Shape) (readable : (k : ℕ) → IsReadable (f k)) (levels
   member_not_at_end : (extensible : Bool) (ps : List Component) → AreLawfulMembers (components_by f ps) → (b : ℕ) (s n : State) (es : List Span) → MemberListed f levels P extensible ps b s n es → (closing : Bool) → Ended closing s.rest → ⊥
   unfolding IsLawful
   member_not_at_end extensible ps are b s n es (inl ((u, d), q)) closing e = not_read (any None) tt s n u (unknown_is (components_by f ps) s n extensible u d).open_type closing e
-  member_not_at_end extensible ps are b s n es (inr (k, p, at, x)) closing e = part_not_at_end f levels P p.type_id.0 k b (member_is f ps k p are.0 at).1 s n es x closing e
+  member_not_at_end extensible ps are b s n es (inr (k, p, at, x)) closing e =
+      let known = member_is f ps k p are.0 at in
+      part_not_at_end f levels P p.type_id.0 k b (known.1, known.2) s n es x closing e
 
   members_one : (extensible : Bool) (ps : List Component) → AreLawfulMembers (components_by f ps) → (b : ℕ) (s z : State) (es fs : List Span) → Alike s z
       → MembersListed f levels P extensible ps b s es → MembersListed f levels P extensible ps b z fs → AreSameParts es fs
@@ -441,7 +443,7 @@ module _ (f : ℕ → Shape) (readable : (k : ℕ) → IsReadable (f k)) (levels
   contents_one (Choice name ks) are b s z es fs alike x y = alternative_one ks.items b s z es fs alike x y
   contents_one (Sequence tag ps) are b s z es fs alike x y = components_one ps.items are.1 b s z es fs alike x y
   contents_one (Set name tag ps) are b s z es fs alike x y =
-      members_one (is_extensible f ps.items) (named_components f ps.items) (subst AreLawfulMembers (sym (named_is f ps.items)) are.1) b s z es fs alike x y
+      members_one (is_extensible f ps.items) (named_components f ps.items) (subst AreLawfulMembers (sym (named_is f ps.items)) (are.1, are.2)) b s z es fs alike x y
   contents_one (SequenceOf tag id c) are b s z es fs alike x y = elements_one id.0 b (are.1, are.2) s z es fs alike x y
   contents_one (SetOf tag id c) are b s z es fs alike x y = elements_one id.0 b (are.1, are.2) s z es fs alike x y
 
