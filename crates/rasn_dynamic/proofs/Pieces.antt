@@ -7,7 +7,7 @@ use Rattle.rasn_types.specs.declared.types.codec.Codec.{Codec}
 use Rattle.rasn_types.specs.declared.types.tag.Tag.{Tag}
 use Rattle.rasn_types.specs.declared.error.decode.DecodeError.{DecodeError}
 use Rattle.rasn_types.specs.Errors.{IsOutOfMemory}
-use Rattle.rasn_types.specs.Shapes.{Tree, items, absent, Shape, Parts, part, presences, own_tag, Presence, required, IsFirst, IsFirstOf, IsAlwaysPresent}
+use Rattle.rasn_types.specs.Shapes.{Tree, items, absent, Shape, Parts, part, presences, count, own_tag, Presence, required, IsFirst, IsFirstOf, IsAlwaysPresent}
 use Rattle.rasn_types.specs.Readings.{IsMissing, AllMissing}
 use Rattle.rasn_types.specs.Lawful.{IsLawful, HasTag, AreComponents, AreDistinguished}
 use Rattle.rasn_de.specs.Choice.{IsOnlyAlternative}
@@ -252,6 +252,18 @@ nones_held keep ps found e = subst (λ l. HoldsSlots keep l (held (nones ps))) (
     go : (qs : List Component) → HoldsSlots keep (nones qs) (held (nones qs))
     go [] = refl
     go (q ∷ qs) = (None, held (nones qs), refl, refl, go qs)
+
+-- There is a slot for each part.
+same_slots : (keep : Bool) (found : List (Option Value)) (slots : List (Option Tree)) → HoldsSlots keep found slots → length slots ≡ length found
+same_slots keep [] slots e = ap length e
+same_slots keep (x ∷ found) slots (slot, others, e, h, hs) = ap length e ∙ ap suc (same_slots keep found others hs)
+
+as_many_parts : (f : ℕ → Shape) (ps : List Component) → length ps ≡ count (components_by f ps)
+as_many_parts f [] = refl
+as_many_parts f (p ∷ ps) = ap suc (as_many_parts f ps)
+
+pub as_many_slots : (keep : Bool) (f : ℕ → Shape) (ps : List Component) (found : List (Option Value)) (slots : List (Option Tree)) → length found ≡ length ps → HoldsSlots keep found slots → length slots ≡ count (components_by f ps)
+as_many_slots keep f ps found slots e h = same_slots keep found slots h ∙ e ∙ as_many_parts f ps
 
 -- A value is put in its place.
 pub slots_placed : (keep : Bool) (before : List (Option Value)) (slots : List (Option Tree)) (k : ℕ) (v : Value) (t : Tree) → (keep ≡ true → tree_of v ≡ t) → HoldsSlots keep before slots → k < length before → get_or before k None ≡ None
