@@ -1,5 +1,5 @@
 -- The components of a SET, with unknown ones among them, are read one by one.
-use Rattle.std.proofs.Common.{◌≡◌, ◌≢◌, ℕ, zero, suc, ◌+◌, ◌<◌, ◌≤◌, ◌⊎◌, inl, inr, Bool, true, false, List, [], ◌∷◌, ◌++◌, length, Option, Some, None, Result, Ok, Err, refl, sym, ap, ◌∙◌, subst, arith}
+use Rattle.std.proofs.Common.{◌≡◌, ◌≢◌, ℕ, zero, suc, ◌+◌, ◌<◌, ◌≤◌, ◌⊎◌, inl, inr, Bool, true, false, List, [], ◌∷◌, ◌++◌, map, length, Vec, Global, Option, Some, None, Result, Ok, Err, refl, sym, ap, ◌∙◌, subst, arith}
 use Rattle.std.specs.Option.{option_or}
 use Rattle.std.specs.Borrow.{Bor}
 use Rattle.rasn_types.specs.declared.types.tag.Tag.{Tag}
@@ -24,7 +24,10 @@ use Rattle.rasn_de.proofs.OwnTypes.Components.{kept_more}
 use Rattle.rasn_de.proofs.OwnTypes.SetPartTypes.{AreHeld, Seen, none_held, seen_placed, seen_twice, repeats_more, made_of_held}
 use Rattle.rasn_dynamic.specs.Inside.{DecodesTree}
 use Rattle.rasn_dynamic.specs.Typed.{MayRunOut}
-use Rattle.rasn_dynamic.specs.Sets.{DecodesNextMember}
+use Rattle.rasn_dynamic.specs.Sets.{DecodesNextMember, HoldsUnknown}
+use Rattle.rasn_dynamic.proofs.Making.{one_made, items_made}
+use Rattle.rasn_schema.specs.declared.value.Value.{Value, Items}
+use Rattle.rasn_schema.specs.Trees.{tree_of}
 
 -- ---- the readings with one number
 
@@ -168,6 +171,8 @@ module _ (extensible : Bool) (ps : Parts) (names : List (List ℕ)) where
       pub members_made : (ts : List Tree) → MakesParts ps items names here.rule held (Ok ts) → Whole old (Ok (set_trees extensible ts us)) here
       members_made ts m = contents_made ps names old here extensible k.0 ts us (read_all None k) (made (Ok ts) m) k.5
 
-      -- There is no room for the unknown values.
-      pub members_run_out : (e : DecodeError) → IsOutOfMemory e.kind → MayRunOut Whole old (Err e) here
-      members_run_out e m = inr (m, members_keep old here last None held us k)
+-- If values are kept, their trees are those of the parts and, if there may be unknown ones, of the list of these.
+pub all_trees : (extensible keep : Bool) (vs ws : List Value) (ts us : List Tree) (unknown : Vec Value Global) → (keep ≡ true → map tree_of vs ≡ ts) → HoldsUnknown keep unknown.items us
+    → (extensible ≡ true → keep ≡ true → ws ≡ vs ++ Items unknown ∷ []) → (extensible ≡ false → ws ≡ vs) → keep ≡ true → map tree_of ws ≡ set_trees extensible ts us
+all_trees true keep vs ws ts us unknown e g a b k = one_made keep vs ws ts (Items unknown) (items us) e (items_made keep unknown us g) (a refl) k
+all_trees false keep vs ws ts us unknown e g a b k = ap (map tree_of) (b refl) ∙ e k

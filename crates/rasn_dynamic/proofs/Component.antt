@@ -70,8 +70,10 @@ module _ (keep extensible : Bool) (ps : Parts) (names : List (List ℕ)) (before
           tree_of v,
           refl,
           refl,
-          subst (λ b. DecodesTree (choice_by b ps) old (Ok (chosen (count ps) (tree_of v))) new) (sym x) (unknown_got ps old new tag n others (tree_of v) d),
-          λ l. let s = value_shorter old new (tree_of v) d in omega (arith, l, s),
+          (
+            subst (λ b. DecodesTree (choice_by b ps) old (Ok (chosen (count ps) (tree_of v))) new) (sym x) (unknown_got ps old new tag n others (tree_of v) d),
+            λ l. let s = value_shorter old new (tree_of v) d in omega (arith, l, s),
+          ),
         ),
       )
 

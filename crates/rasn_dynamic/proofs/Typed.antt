@@ -163,15 +163,16 @@ module _ (f : ℕ → Shape) (qs : List Component) (ps : Vec Component Global) (
   sequence_made tag ts h = (ts, refl, subst (λ l. DecodesComponents (components_by f l) old (Ok ts) new) same h)
 
 -- Of a SET, these are its named components, and there are unknown ones or not.
-module _ (f : ℕ → Shape) (extensible : Bool) (qs : List Component) (ps : Vec Component Global) (marked : extensible ≡ is_extensible f ps.items) (same : qs ≡ named_components f ps.items) (old new : State) where
-  named_so : (P : Bool → List Component → Type 0) → P extensible qs → P (is_extensible f ps.items) (named_components f ps.items)
-  named_so P h = subst (λ l. P (is_extensible f ps.items) l) same (subst (λ b. P b qs) marked h)
+module _ (f : ℕ → Shape) (extensible : Bool) (qs : List Component) (ps : List Component) (marked : extensible ≡ is_extensible f ps) (same : qs ≡ named_components f ps) where
+  pub named_so : (P : Bool → List Component → Type 0) → P extensible qs → P (is_extensible f ps) (named_components f ps)
+  named_so P h = subst (λ l. P (is_extensible f ps) l) same (subst (λ b. P b qs) marked h)
 
+module _ (f : ℕ → Shape) (extensible : Bool) (qs : List Component) (ps : Vec Component Global) (marked : extensible ≡ is_extensible f ps.items) (same : qs ≡ named_components f ps.items) (old new : State) where
   pub set_fails : (name : String Global) (tag : Tag) (e : DecodeError) → MayRunOut (DecodesSetPartContentsBy extensible (components_by f qs) items (names_of qs)) old (Err e) new → DecodesContents f (Set name tag ps) old (Err e) new
-  set_fails name tag e h = named_so (λ b l. MayRunOut (DecodesSetPartContentsBy b (components_by f l) items (names_of l)) old (Err e) new) h
+  set_fails name tag e h = named_so f extensible qs ps.items marked same (λ b l. MayRunOut (DecodesSetPartContentsBy b (components_by f l) items (names_of l)) old (Err e) new) h
 
   pub set_made : (name : String Global) (tag : Tag) (ts : List Tree) → DecodesSetPartContentsBy extensible (components_by f qs) items (names_of qs) old (Ok ts) new → DecodesContents f (Set name tag ps) old (Ok (items ts)) new
-  set_made name tag ts h = (ts, refl, named_so (λ b l. DecodesSetPartContentsBy b (components_by f l) items (names_of l) old (Ok ts) new) h)
+  set_made name tag ts h = (ts, refl, named_so f extensible qs ps.items marked same (λ b l. DecodesSetPartContentsBy b (components_by f l) items (names_of l) old (Ok ts) new) h)
 
 -- Memory runs out before anything is read.
 pub set_runs_out : (f : ℕ → Shape) (name : String Global) (tag : Tag) (ps : Vec Component Global) (old : State) (e : DecodeError) → IsOutOfMemory e.kind → DecodesContents f (Set name tag ps) old (Err e) old
