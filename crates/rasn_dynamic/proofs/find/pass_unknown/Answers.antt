@@ -7,4 +7,4 @@ pub returns-in-Ok : goal.returns-in-Ok
 returns-in-Ok c =
     let d = c.in-Ok.ensures.reads in
     let l = value_shorter _ _ _ d in
-    (search rules, tree_of c.in-Ok.value, d, λ e. omega (arith, l, e))
+    (search rules, (tree_of c.in-Ok.value, d, λ e. omega (arith, l, e)))
