@@ -58,7 +58,7 @@ use Rattle.rasn_dynamic.specs.Listed.{Lists, Inside, PartListed, ComponentAt, Me
 use Rattle.rasn_de.specs.Constructed.{list_header}
 use Rattle.rasn_dynamic.specs.declared.span.Spans.{Spans}
 use Rattle.std.specs.Prelude.{IfOk}
-use Rattle.rasn_dynamic.proofs.Listed.{if_any, lists_start, lists_more, part_listed, value_listed, none_listed, choice_listed, alternative_listed, holder_listed, inside_listed, tagged_listed, elements_listed, component_present, component_absent, component_more, components_left_out, components_listed, member_listed, unknown_passed, members_listed, header_listed, contents_same, components_same, members_same}
+use Rattle.rasn_dynamic.proofs.Listed.{if_any, lists_start, lists_more, part_listed, value_listed, none_listed, choice_listed, alternative_listed, holder_listed, inside_listed, tagged_listed, elements_listed, component_present, component_absent, component_more, components_left_out, components_listed, member_listed, unknown_passed, members_listed, header_listed, contents_same, components_same}
 use Rattle.rasn_dynamic.proofs.reader.+decode.Goals as goal
 use Rattle.rasn_de.specs.SequenceOf.{DecodesSized}
 use Rattle.rasn_de.specs.Set.{not_read}
