@@ -934,10 +934,10 @@ decode_set-returns-clause-exact g t c =
     let names = names_of c.args.components.now in
     let h : at.twice ≡ None = search rules in
     let a : (c.args.extensible ≡ true → g.M.Made.KEEP ≡ true → c.if-extensible.values.items ≡ c.in_ok-values.values.items ++ Items c.loop-last.unknown ∷ []) × (c.args.extensible ≡ false → c.if-extensible.values.items ≡ c.in_ok-values.values.items) =
-        elim c.if-extensible.branch [
-          | decode_set-then-extensible+in_ok-push w ↦ ((λ e k. ap (λ (v : Vec Value Global). v.items) w.values-is ∙ w.in_ok-push.ensures.ok k), λ e. absurd (true≢false (sym w.if-extensible.true ∙ e)))
-          | decode_set-else-extensible w ↦ ((λ e k. absurd (true≢false (sym e ∙ w.if-extensible.false))), λ e. ap (λ (v : Vec Value Global). v.items) w.values-is)
-        ] in
+    elim c.if-extensible.branch [
+      | decode_set-then-extensible+in_ok-push w ↦ ((λ e k. ap (λ (v : Vec Value Global). v.items) w.values-is ∙ w.in_ok-push.ensures.ok k), λ e. absurd (true≢false (sym w.if-extensible.true ∙ e)))
+      | decode_set-else-extensible w ↦ ((λ e k. absurd (true≢false (sym e ∙ w.if-extensible.false))), λ e. ap (λ (v : Vec Value Global). v.items) w.values-is)
+    ] in
     let m = makes_parts _ (shape_of_type c.args.types.now c.args.below) c.args.components.now _ at.found.items i.0 (Ok c.in_ok-values.values) c.args.decoder.now at.decoder (λ o q n. MakesParts ps items names at.decoder.rule i.0 q) (found_length _ c.args.components.now _ at.invariant.1) i.2 c.in_ok-values.ensures.gathers (λ q m. m) in (
       set_trees c.args.extensible m.0 i.1,
       all_trees c.args.extensible _ c.in_ok-values.values.items c.if-extensible.values.items m.0 i.1 at.unknown m.1 i.3 a.0 a.1,
@@ -948,10 +948,10 @@ pub decode_set-returns-clause-fits : goal.decode_set-returns-clause-fits
 decode_set-returns-clause-fits g t c = λ k.
     let at = c.loop-last in
     let a : (c.args.extensible ≡ true → g.M.Made.KEEP ≡ true → c.if-extensible.values.items ≡ c.in_ok-values.values.items ++ Items c.loop-last.unknown ∷ []) × (c.args.extensible ≡ false → c.if-extensible.values.items ≡ c.in_ok-values.values.items) =
-        elim c.if-extensible.branch [
-          | decode_set-then-extensible+in_ok-push w ↦ ((λ e k. ap (λ (v : Vec Value Global). v.items) w.values-is ∙ w.in_ok-push.ensures.ok k), λ e. absurd (true≢false (sym w.if-extensible.true ∙ e)))
-          | decode_set-else-extensible w ↦ ((λ e k. absurd (true≢false (sym e ∙ w.if-extensible.false))), λ e. ap (λ (v : Vec Value Global). v.items) w.values-is)
-        ] in
+    elim c.if-extensible.branch [
+      | decode_set-then-extensible+in_ok-push w ↦ ((λ e k. ap (λ (v : Vec Value Global). v.items) w.values-is ∙ w.in_ok-push.ensures.ok k), λ e. absurd (true≢false (sym w.if-extensible.true ∙ e)))
+      | decode_set-else-extensible w ↦ ((λ e k. absurd (true≢false (sym e ∙ w.if-extensible.false))), λ e. ap (λ (v : Vec Value Global). v.items) w.values-is)
+    ] in
     all_fit (Fits c.args.types.now c.args.below) c.args.extensible c.args.components.now c.in_ok-values.values.items c.if-extensible.values.items at.unknown
     (gathered_fit (Fits c.args.types.now c.args.below) g.M.Made.KEEP k c.args.components.now at.decoder.rule at.found.items (Ok c.in_ok-values.values) (found_kept g.M.Made.KEEP (Fits c.args.types.now c.args.below) k c.args.components.now at.found.items at.invariant.1) c.in_ok-values.ensures.gathers)
     (at.invariant.2 k) (λ e. a.0 e k) a.1
