@@ -4,7 +4,7 @@ use Rattle.std.proofs.lemmas.Option.{slice_get_within}
 use Rattle.rasn_types.specs.Shapes.{Tree, Same, items, choice_by, IsFirstOf, own_tag, sought_by}
 use Rattle.rasn_types.proofs.Headers.Frames.{next_one}
 use Rattle.rasn_de.specs.NamedErrors.{IsNamedError, IsDuplicateField}
-use Rattle.rasn_de.specs.SetPartTypes.{text, MakesParts}
+use Rattle.rasn_de.specs.SetPartTypes.{text}
 use Rattle.rasn_de.specs.Constructed.{DecodesInside, list_header}
 use Rattle.rasn_de.proofs.Leaves.Outcomes.{alloc_failed}
 use Rattle.rasn_schema.proofs.Alternatives.{first_of_all}
@@ -45,9 +45,10 @@ use Rattle.rasn_dynamic.proofs.InOrder.{lawful_parts, all_left_read, in_turn}
 use Rattle.rasn_dynamic.proofs.OnePart.{always, always_fails, looked, looked_fails, made, made_fails, unread, unread_fails, plain, loose, differs, default_is_written, not_required, next_of, made_of}
 use Rattle.rasn_dynamic.proofs.Contents.{prefix_lawful, list_lawful, set_of_lawful, seq_lawful, none_holds, sequence_runs_out, parts_start, parts_more, part_fails, part_fails_at, parts_run_out, parts_end}
 use Rattle.rasn_dynamic.proofs.Typed.{contents_end, contents_stay, not_sized, is_sized, missized, holds_others, is_counted, count_items, by_prefix, by_sequence, by_set, by_list, by_set_of, type_decodes, sequence_fails, sequence_made, named_so, set_fails, set_made, set_runs_out}
-use Rattle.rasn_dynamic.proofs.Pieces.{got_below, first_of_part, part_lawful, nones_come, nones_held, makes_parts, as_many_slots}
+use Rattle.rasn_dynamic.proofs.Pieces.{got_below, first_of_part, part_lawful, nones_come, nones_held, made_parts, lacks_part}
 use Rattle.rasn_dynamic.proofs.Component.{member_unpeeked, member_none, unknown_unread, unknown_kept, unknown_left, member_unread, member_idle, member_put, member_shorter}
-use Rattle.rasn_dynamic.proofs.AllMembers.{set_trees, all_trees, ReadMembers, no_members, members_untold, member_fails, member_passes, members_twice, members_lack, members_made, members_keep, members_rules}
+use Rattle.rasn_dynamic.proofs.AllMembers.{set_trees, all_trees, none_unknown, members_lack, members_made, members_keep}
+use Rattle.rasn_de.proofs.OwnTypes.SetPartTypes.{ReadTo, read_rules, none_read, untold, next_fails, next_passes, one_twice}
 use Rattle.rasn_dynamic.proofs.Members.{none_passed, none_unread, passed_unknown}
 use Rattle.rasn_dynamic.proofs.Named.{named_lawful}
 use Rattle.rasn_dynamic.specs.Sets.{is_extensible, named_components}
@@ -844,7 +845,8 @@ decode_set-loop-last-init g t c = (
     [],
     nones_held _ c.args.components.now _ c.requires.1.1.1.1.0,
     (λ k. ap (map tree_of) c.new-unknown.ensures.items),
-    no_members c.args.extensible (components_by (shape_of_type c.args.types.now c.args.below) c.args.components.now) (names_of c.args.components.now) _ _ (nones_come (shape_of_type c.args.types.now c.args.below) c.args.components.now (nones c.args.components.now) refl),
+    none_read c.args.extensible (components_by (shape_of_type c.args.types.now c.args.below) c.args.components.now) (names_of c.args.components.now) _ _ [] (nones_come (shape_of_type c.args.types.now c.args.below) c.args.components.now (nones c.args.components.now) refl) refl,
+    (λ x. refl),
   ),
   nones_fit _ c.args.components.now _ c.requires.1.1.1.1.0,
   (λ k. subst (EachFits AreOctets) (sym c.new-unknown.ensures.items) tt),
@@ -861,7 +863,7 @@ decode_set-loop-last-smaller g t c =
 pub decode_set-returns-in_err-last-clause-exact : goal.decode_set-returns-in_err-last-clause-exact
 decode_set-returns-in_err-last-clause-exact g t c =
     let at = c.loop-last in
-    rw (residual _ c.from_residual.ensures.1) (members_untold c.args.extensible (components_by (shape_of_type c.args.types.now c.args.below) c.args.components.now) (names_of c.args.components.now) c.args.decoder.now at.decoder at.last at.twice _ _ at.invariant.0.4 c.loop-last-test.ensures _ c.in_err-last.ensures)
+    rw (residual _ c.from_residual.ensures.1) (inl (untold c.args.extensible (components_by (shape_of_type c.args.types.now c.args.below) c.args.components.now) (names_of c.args.components.now) c.args.decoder.now at.decoder at.last at.twice _ _ at.invariant.0.4 items c.loop-last-test.ensures _ c.in_err-last.ensures))
 
 pub decode_set-returns-in_err-next-clause-exact : goal.decode_set-returns-in_err-next-clause-exact
 decode_set-returns-in_err-next-clause-exact g t c =
@@ -869,20 +871,20 @@ decode_set-returns-in_err-next-clause-exact g t c =
     let i = at.invariant.0 in
     let w = c.in_err-next.ensures.next i.0 i.1 i.2 i.3 in
     rw (residual _ c.from_residual-in_err-next.ensures.1)
-    (member_fails c.args.extensible (components_by (shape_of_type c.args.types.now c.args.below) c.args.components.now) (names_of c.args.components.now) c.args.decoder.now at.decoder at.last at.twice _ _ i.4 c.loop-last-test.ensures _ c.in_ok-last.ensures _ _ w.0 w.1 w.4)
+    (inl (next_fails c.args.extensible (components_by (shape_of_type c.args.types.now c.args.below) c.args.components.now) (names_of c.args.components.now) c.args.decoder.now at.decoder at.last at.twice _ _ i.4 items c.loop-last-test.ensures _ c.in_ok-last.ensures _ _ w.0 w.1 w.4))
 
 pub decode_set-loop-last-preserved : goal.decode_set-loop-last-preserved
 decode_set-loop-last-preserved g t c =
     let at = c.loop-last in
     let i = at.invariant.0 in
-    let w = c.in_ok-next.ensures.next i.0 i.1 i.2 i.3 in
-    let many = as_many_slots _ (shape_of_type c.args.types.now c.args.below) c.args.components.now at.found.items i.0 (found_length _ c.args.components.now _ at.invariant.1) i.2 in (
+    let w = c.in_ok-next.ensures.next i.0 i.1 i.2 i.3 in (
       (
         w.0,
         w.1,
         w.2,
         w.3,
-        rw c.or-twice.ensures (member_passes c.args.extensible (components_by (shape_of_type c.args.types.now c.args.below) c.args.components.now) (names_of c.args.components.now) c.args.decoder.now at.decoder at.last at.twice _ _ i.4 many c.loop-last-test.ensures _ c.in_ok-last.ensures _ _ _ _ w.4),
+        rw c.or-twice.ensures (next_passes c.args.extensible (components_by (shape_of_type c.args.types.now c.args.below) c.args.components.now) (names_of c.args.components.now) c.args.decoder.now at.decoder at.last at.twice _ _ i.4 c.loop-last-test.ensures _ c.in_ok-last.ensures _ _ _ _ w.4),
+        none_unknown c.args.extensible (components_by (shape_of_type c.args.types.now c.args.below) c.args.components.now) (names_of c.args.components.now) i.0 w.0 i.1 w.1 at.decoder _ _ w.4 i.5,
       ),
       c.in_ok-next.ensures.found,
       (λ k. c.in_ok-next.ensures.octets k (at.invariant.2 k)),
@@ -898,9 +900,9 @@ decode_set-returns-in-Some-clause-exact g t c =
     let ps = (components_by (shape_of_type c.args.types.now c.args.below) c.args.components.now) in
     let names = names_of c.args.components.now in
     let h : at.twice ≡ Some c.in-Some.repeated = search rules in
-    members_twice c.args.extensible ps names c.args.decoder.now at.decoder at.last i.0 i.1 c.loop-last-test.ensures c.in-Some.repeated
-    (subst (λ z. ReadMembers c.args.extensible ps names c.args.decoder.now at.decoder at.last z i.0 i.1) h i.4) _
-    (subst (λ z. IsNamedError (IsDuplicateField (text c.in-Some.repeated)) z c.duplicate_field.result) c.codec.ensures c.duplicate_field.ensures)
+    inl (one_twice c.args.extensible ps names items c.args.decoder.now at.decoder at.last i.0 i.1 c.loop-last-test.ensures c.in-Some.repeated
+    (subst (λ z. ReadTo c.args.extensible ps names c.args.decoder.now at.decoder at.last z i.0 i.1) h i.4) _
+    (subst (λ z. IsNamedError (IsDuplicateField (text c.in-Some.repeated)) z c.duplicate_field.result) c.codec.ensures c.duplicate_field.ensures))
 
 pub decode_set-gather-requires : goal.decode_set-gather-requires
 decode_set-gather-requires g t c = found_length _ c.args.components.now _ c.loop-last.invariant.1
@@ -914,8 +916,8 @@ decode_set-returns-in_err-values-clause-exact g t c =
     let h : at.twice ≡ None = search rules in
     let e = c.in_err-values.field-0.0 in
     rw (residual _ c.from_residual-in_err-values.ensures.1)
-    (members_lack c.args.extensible ps names c.args.decoder.now at.decoder at.last i.0 i.1 c.loop-last-test.ensures (subst (λ z. ReadMembers c.args.extensible ps names c.args.decoder.now at.decoder at.last z i.0 i.1) h i.4) e
-    (makes_parts _ (shape_of_type c.args.types.now c.args.below) c.args.components.now _ at.found.items i.0 (Err e) c.args.decoder.now at.decoder (λ o q n. MakesParts ps items names at.decoder.rule i.0 q) (found_length _ c.args.components.now _ at.invariant.1) i.2 c.in_err-values.ensures.gathers (λ q m. m)))
+    (members_lack c.args.extensible ps names c.args.decoder.now at.decoder at.last i.0 i.1 c.loop-last-test.ensures (subst (λ z. ReadTo c.args.extensible ps names c.args.decoder.now at.decoder at.last z i.0 i.1) h i.4) e
+    (lacks_part _ (shape_of_type c.args.types.now c.args.below) c.args.components.now at.decoder.rule at.found.items i.0 e i.2 c.in_err-values.ensures.gathers))
 
 pub decode_set-returns-in_err-push-clause-exact : goal.decode_set-returns-in_err-push-clause-exact
 decode_set-returns-in_err-push-clause-exact g t c =
@@ -924,7 +926,7 @@ decode_set-returns-in_err-push-clause-exact g t c =
     let ps = (components_by (shape_of_type c.args.types.now c.args.below) c.args.components.now) in
     let names = names_of c.args.components.now in
     rw (residual _ c.from_residual-in_err-push.ensures.1)
-    (inr (c.in_err-push.ensures.kind, members_keep c.args.extensible ps names c.args.decoder.now at.decoder at.last at.twice i.0 i.1 i.4))
+    (inr (c.in_err-push.ensures.kind, members_keep c.args.extensible ps names c.args.decoder.now at.decoder at.last i.0 i.1 at.twice i.4))
 
 pub decode_set-returns-clause-exact : goal.decode_set-returns-clause-exact
 decode_set-returns-clause-exact g t c =
@@ -938,10 +940,10 @@ decode_set-returns-clause-exact g t c =
       | decode_set-then-extensible+in_ok-push w ↦ ((λ e k. ap (λ (v : Vec Value Global). v.items) w.values-is ∙ w.in_ok-push.ensures.ok k), λ e. absurd (true≢false (sym w.if-extensible.true ∙ e)))
       | decode_set-else-extensible w ↦ ((λ e k. absurd (true≢false (sym e ∙ w.if-extensible.false))), λ e. ap (λ (v : Vec Value Global). v.items) w.values-is)
     ] in
-    let m = makes_parts _ (shape_of_type c.args.types.now c.args.below) c.args.components.now _ at.found.items i.0 (Ok c.in_ok-values.values) c.args.decoder.now at.decoder (λ o q n. MakesParts ps items names at.decoder.rule i.0 q) (found_length _ c.args.components.now _ at.invariant.1) i.2 c.in_ok-values.ensures.gathers (λ q m. m) in (
+    let m = made_parts _ (shape_of_type c.args.types.now c.args.below) c.args.components.now at.decoder.rule at.found.items i.0 c.in_ok-values.values (found_length _ c.args.components.now _ at.invariant.1) i.2 c.in_ok-values.ensures.gathers in (
       set_trees c.args.extensible m.0 i.1,
       all_trees c.args.extensible _ c.in_ok-values.values.items c.if-extensible.values.items m.0 i.1 at.unknown m.1 i.3 a.0 a.1,
-      members_made c.args.extensible ps names c.args.decoder.now at.decoder at.last i.0 i.1 c.loop-last-test.ensures (subst (λ z. ReadMembers c.args.extensible ps names c.args.decoder.now at.decoder at.last z i.0 i.1) h i.4) m.0 m.2,
+      members_made c.args.extensible ps names c.args.decoder.now at.decoder at.last i.0 i.1 c.loop-last-test.ensures (subst (λ z. ReadTo c.args.extensible ps names c.args.decoder.now at.decoder at.last z i.0 i.1) h i.4) m.0 m.2 i.5,
     )
 
 pub decode_set-returns-clause-fits : goal.decode_set-returns-clause-fits
@@ -957,19 +959,19 @@ decode_set-returns-clause-fits g t c = λ k.
     (at.invariant.2 k) (λ e. a.0 e k) a.1
 
 pub decode_set-returns-in_err-values-clause-rules : goal.decode_set-returns-in_err-values-clause-rules
-decode_set-returns-in_err-values-clause-rules g t c = rw (residual _ c.from_residual-in_err-values.ensures.1) (c.in_err-values.ensures.rules ∙ members_rules c.args.extensible (components_by (shape_of_type c.args.types.now c.args.below) c.args.components.now) (names_of c.args.components.now) _ _ _ _ _ _ c.loop-last.invariant.0.4)
+decode_set-returns-in_err-values-clause-rules g t c = rw (residual _ c.from_residual-in_err-values.ensures.1) (c.in_err-values.ensures.rules ∙ read_rules c.args.extensible (components_by (shape_of_type c.args.types.now c.args.below) c.args.components.now) (names_of c.args.components.now) _ _ _ _ _ _ c.loop-last.invariant.0.4)
 
 pub decode_set-returns-in_err-push-clause-rules : goal.decode_set-returns-in_err-push-clause-rules
-decode_set-returns-in_err-push-clause-rules g t c = rw (residual _ c.from_residual-in_err-push.ensures.1) (c.in_err-push.ensures.rules ∙ members_rules c.args.extensible (components_by (shape_of_type c.args.types.now c.args.below) c.args.components.now) (names_of c.args.components.now) _ _ _ _ _ _ c.loop-last.invariant.0.4)
+decode_set-returns-in_err-push-clause-rules g t c = rw (residual _ c.from_residual-in_err-push.ensures.1) (c.in_err-push.ensures.rules ∙ read_rules c.args.extensible (components_by (shape_of_type c.args.types.now c.args.below) c.args.components.now) (names_of c.args.components.now) _ _ _ _ _ _ c.loop-last.invariant.0.4)
 
 pub decode_set-returns-in_err-last-clause-rules : goal.decode_set-returns-in_err-last-clause-rules
-decode_set-returns-in_err-last-clause-rules g t c = rw (residual _ c.from_residual.ensures.1) (order_rules _ c.loop-last.decoder _ c.in_err-last.ensures ∙ members_rules c.args.extensible (components_by (shape_of_type c.args.types.now c.args.below) c.args.components.now) (names_of c.args.components.now) _ _ _ _ _ _ c.loop-last.invariant.0.4)
+decode_set-returns-in_err-last-clause-rules g t c = rw (residual _ c.from_residual.ensures.1) (order_rules _ c.loop-last.decoder _ c.in_err-last.ensures ∙ read_rules c.args.extensible (components_by (shape_of_type c.args.types.now c.args.below) c.args.components.now) (names_of c.args.components.now) _ _ _ _ _ _ c.loop-last.invariant.0.4)
 
 pub decode_set-returns-in_err-next-clause-rules : goal.decode_set-returns-in_err-next-clause-rules
-decode_set-returns-in_err-next-clause-rules g t c = rw (residual _ c.from_residual-in_err-next.ensures.1) (c.in_err-next.ensures.rules ∙ members_rules c.args.extensible (components_by (shape_of_type c.args.types.now c.args.below) c.args.components.now) (names_of c.args.components.now) _ _ _ _ _ _ c.loop-last.invariant.0.4)
+decode_set-returns-in_err-next-clause-rules g t c = rw (residual _ c.from_residual-in_err-next.ensures.1) (c.in_err-next.ensures.rules ∙ read_rules c.args.extensible (components_by (shape_of_type c.args.types.now c.args.below) c.args.components.now) (names_of c.args.components.now) _ _ _ _ _ _ c.loop-last.invariant.0.4)
 
 pub decode_set-returns-in-Some-clause-rules : goal.decode_set-returns-in-Some-clause-rules
-decode_set-returns-in-Some-clause-rules g t c = c.duplicate_field.ensures.0 ∙ c.codec.ensures ∙ members_rules c.args.extensible (components_by (shape_of_type c.args.types.now c.args.below) c.args.components.now) (names_of c.args.components.now) _ _ _ _ _ _ c.loop-last.invariant.0.4
+decode_set-returns-in-Some-clause-rules g t c = c.duplicate_field.ensures.0 ∙ c.codec.ensures ∙ read_rules c.args.extensible (components_by (shape_of_type c.args.types.now c.args.below) c.args.components.now) (names_of c.args.components.now) _ _ _ _ _ _ c.loop-last.invariant.0.4
 
 -- ---- one of them
 
