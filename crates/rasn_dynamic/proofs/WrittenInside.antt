@@ -34,7 +34,7 @@ use Rattle.rasn_enc.specs.Errors.{FailsAtSize}
 use Rattle.rasn_schema.specs.declared.types.Alternative.{Alternative}
 use Rattle.rasn_schema.proofs.Lists.{some_is}
 use Rattle.rasn_schema.specs.Fitting.{ComponentFits, ComponentsFit, EachFits, AreItems, IsListOf, IsChosen}
-use Rattle.rasn_dynamic.specs.Written.{WritesInside, EncodesPartIf, Encodes, EncodesIf, EncodesInside, EncodesInsideIf, EncodesPartsIf, EncodesElements, EncodesElementsIf, EncodesSetOf, EncodesSetOfIf, OnlyFitting, IsEnclosed, HoldsOthers, keeps_tags}
+use Rattle.rasn_dynamic.specs.Written.{WritesInside, EncodesPartIf, Encodes, EncodesIf, EncodesInside, EncodesInsideIf, EncodesPartsIf, EncodesElements, EncodesElementsIf, EncodesSetOf, EncodesSetOfIf, OnlyFitting, IsEnclosed, HoldsOthers}
 use Rattle.rasn_schema.specs.Fitting.{IsLeftOutAs}
 use Rattle.rasn_dynamic.proofs.OnlyFitting.{fits_as}
 use Rattle.rasn_dynamic.proofs.OpenChoiceWritten.{among_encoded, among_refused}
@@ -49,9 +49,6 @@ behind_nothing v w keeps octets f e = sym (e ∙ ap (λ l. l ++ octets) (octets_
 
 no_tags : (v : View) → v.last ≡ fresh false → v.last.tags ≡ None
 no_tags v f = ap (λ (x : OpenList). x.tags) f
-
-keeps_some : (v : View) → v.last ≡ fresh true → v.last.tags ≢ None
-keeps_some v f e = let g : Some [] ≡ None = sym (ap (λ (x : OpenList). x.tags) f) ∙ e in cc
 
 pub left_as_it_was : (v w : View) → w ≡ v → LeavesOthers v w
 left_as_it_was v w e = record { rule = ap (λ (x : View). x.rule) e; below = ap (λ (x : View). x.below) e }
@@ -100,69 +97,6 @@ module _ (tag : Tag) (ps : Parts) (t u : Tree) (e : t ≡ u) (v w : View) where
       | inr (inl n) ↦ inr (λ c b. n.none b.0 b.1 (sym e ∙ b.2) b.3)
       | inr (inr n) ↦ absurd (n.keeps (no_tags v f))
     ];
-  }
-
-  -- ---- a SET
-
-  pub set_inside_refused : (x : EncodeError) → EncodesParts ps u v (Err x) w → EncodesInside (set tag ps) t v (Err x) w
-  unfolding WritesInside
-  set_inside_refused x k = record {
-    ok = tt;
-    refused = elim k.refused.why [
-      | inl m ↦ inl m
-      | inr (inl n) ↦ inr (λ c b. n.none b.0 b.1 (sym e ∙ b.3) b.4)
-      | inr (inr n) ↦ inr (λ c b. n.bare b.0 b.1 (sym e ∙ b.3) b.4 b.5)
-    ];
-  }
-
-  module _ (f : v.last ≡ fresh true) (k : EncodesParts ps u v (Ok tt) w) where
-    kept_are : kept_of w.last.tags ≡ k.ok.tags
-    kept_are = ap (λ (x : View). kept_of x.last.tags) k.ok.appended ∙ tags_behind v.last.tags (ap (λ (x : OpenList). x.tags) f)
-      where
-        tags_behind : (o : Option (List Tag)) → o ≡ Some [] → kept_of (Rattle.std.proofs.Common.option_map (λ kept. kept ++ k.ok.tags) o) ≡ k.ok.tags
-        tags_behind None h = cc
-        tags_behind (Some l) h = let g : l ≡ [] = cc in ap (λ m. m ++ k.ok.tags) g
-
-    pub set_inside_ok : AreTagsInOrder w → EncodesInside (set tag ps) t v (Ok tt) w
-    unfolding WritesInside
-    set_inside_ok order = record {
-      ok = (
-        k.ok.trees,
-        k.ok.encoded,
-        k.ok.tags,
-        e ∙ k.ok.is,
-        k.ok.written,
-        k.ok.tagged (keeps_some v f),
-        k.ok.heads (keeps_some v f),
-        subst (AreAscending Rattle.rasn_types.specs.Tags.IsTagBelow) kept_are order,
-        sym (behind_nothing v w true (joined_lists k.ok.encoded) f (ap (λ (x : View). x.last.octets) k.ok.appended)),
-      );
-      refused = tt;
-    }
-
-    pub set_inside_unordered : (AreTagsInOrder w → ⊥) → (x : EncodeError) → EncodesInside (set tag ps) t v (Err x) w
-    unfolding WritesInside
-    set_inside_unordered falls x = record {
-      ok = tt;
-      refused = inr (λ c b.
-          let p = k.ok in
-          let i : p.trees ≡ b.0 = items_one p.trees b.0 (sym p.is ∙ (sym e ∙ b.3)) in
-          let j : p.encoded ≡ b.1 = parts_one_writing ps v.rule p.trees p.encoded b.1 p.written (subst (λ l. PartsWritten (fields_of v.rule ps) l b.1) (sym i) b.4) in
-          let q : b.2 ≡ p.tags = tags_one b.1 b.2 p.tags b.6 (subst (λ l. TagsOf l p.tags) j (p.heads (keeps_some v f))) in
-          falls (subst (AreAscending Rattle.rasn_types.specs.Tags.IsTagBelow) (q ∙ sym kept_are) b.7));
-    }
-
--- Of components that fit, their tags are in ascending order, or they fall.
-module _ (P : List Value → Type 0) (tag : Tag) (ps : Parts) (t u : Tree) (e : t ≡ u) (v w : View) (vs : List Value) (value : Value) (is : IsListOf vs value) (f : v.last ≡ fresh true) (h : EncodesPartsIf (P vs) ps u v (Ok tt) w) where
-  pub set_ordered : AreTagsInOrder w → EncodesInsideIf (AreItems P value) (set tag ps) t v (Ok tt) w
-  set_ordered order = record { fits = list_to P vs value is h.fits; does = λ g. set_inside_ok tag ps t u e v w f (h.does h.fits) order; keeps = h.keeps; rules = tt }
-
-  pub set_unordered : (AreTagsInOrder w → ⊥) → (x : EncodeError) → IsOrderError w.rule x → EncodesInsideIf (AreItems P value) (set tag ps) t v (Err x) w
-  set_unordered falls x m = record {
-    fits = tt;
-    does = λ g. set_inside_unordered tag ps t u e v w f (h.does h.fits) falls x;
-    keeps = h.keeps;
-    rules = ap (λ (y : EncodeError). y.codec) m ∙ h.keeps.rule;
   }
 
 -- The size isn't admitted.
@@ -342,23 +276,14 @@ module _ (g : ℕ → Value → Type 0) where
 pub next_element : (P : Value → Type 0) (rest after : List Value) (v : Value) → rest ≡ v ∷ after → EachFits P rest → P v × EachFits P after
 next_element P rest after v e h = subst (EachFits P) e h
 
-pub holds_others : (s : Shape) (tag : Tag) (keeps : Bool) → IsEnclosed s tag keeps → HoldsOthers s
-holds_others (prefix tag s) u k h = tt
-holds_others (seq tag ps) u k h = tt
-holds_others (set tag ps) u k h = tt
-holds_others (sorted_set extensible tag ps) u k h = tt
-holds_others (list tag s size) u k h = tt
-holds_others (set_of tag s size) u k h = tt
-holds_others _ u k h = absurd h
-
-pub keeps_as : (s : Shape) (tag : Tag) (keeps : Bool) → IsEnclosed s tag keeps → keeps_tags s ≡ keeps
-keeps_as (prefix tag s) u k h = sym h.1
-keeps_as (seq tag ps) u k h = sym h.1
-keeps_as (set tag ps) u k h = sym h.1
-keeps_as (sorted_set extensible tag ps) u k h = sym h.1
-keeps_as (list tag s size) u k h = sym h.1
-keeps_as (set_of tag s size) u k h = sym h.1
-keeps_as _ u k h = absurd h
+pub holds_others : (s : Shape) (tag : Tag) → IsEnclosed s tag → HoldsOthers s
+holds_others (prefix tag s) u h = tt
+holds_others (seq tag ps) u h = tt
+holds_others (set tag ps) u h = tt
+holds_others (sorted_set extensible tag ps) u h = tt
+holds_others (list tag s size) u h = tt
+holds_others (set_of tag s size) u h = tt
+holds_others _ u h = absurd h
 
 -- ---- a component or an element isn't written
 

@@ -1,9 +1,10 @@
 //! Where the components of a SET are written: in the order of their tags (X.690 9.3, 10.3).
-ghost use Rattle.std.specs.Prelude.{◌⊎◌, MatchOption};
+ghost use Rattle.std.specs.Prelude.{MatchOption};
 ghost use Rattle.rasn_types.specs.Truth.{IsWhether};
 ghost use Rattle.rasn_types.specs.Tags.{IsTagBelow};
 ghost use Rattle.rasn_types.specs.Bytes.{IsPlacedBy};
-ghost use Rattle.rasn_types.specs.Shapes.{IsFirst, IsFirstOf, looked_for};
+ghost use Rattle.rasn_types.specs.declared.types.tag.Tag.{Tag};
+ghost use Rattle.rasn_types.specs.Shapes.{Shape, Parts, part, required, IsFirst, IsFirstOf, looked_for};
 ghost use Rattle.rasn_schema.specs.Shapes.{shape_of_type, type_by, alternatives_by, nothing};
 ghost use Rattle.rasn_dynamic.specs.Placed.{IsLeast};
 
@@ -61,17 +62,17 @@ fn least_of_all(types: &[Type], below: usize, alternatives: &[Alternative]) -> O
     ensures { IsLeast (IsFirstOf (alternatives_by (shape_of_type types.now below) alternatives.now)) result }
 {
     let mut least = None;
-    let mut rest = alternatives;
-    while let [alternative, after @ ..] = rest {
-        least = lesser(least, least_tag(types, below, alternative.type_id));
-        rest = after;
+    let mut left = alternatives.len();
+    while left > 0 {
+        left -= 1;
+        least = lesser(least_tag(types, below, alternatives[left].type_id), least);
     }
     least
 }
 
 /// Returns the less of two tags, where there are any.
 fn lesser(one: Option<Tag>, other: Option<Tag>) -> Option<Tag>
-    ensures { (P Q : Tag → Type 0) → IsLeast P one → IsLeast Q other → IsLeast (λ n. P n ⊎ Q n) result }
+    ensures { (s : Shape) (ps : Parts) → IsLeast (IsFirst s) one → IsLeast (IsFirstOf ps) other → IsLeast (IsFirstOf (part required s ps)) result }
 {
     let Some(tag) = one else {
         return other;
