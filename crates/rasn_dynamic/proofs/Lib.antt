@@ -36,3 +36,5 @@ pub mod Shown
 pub mod Named
 pub mod LeastTags
 pub mod SetWritten
+pub mod AllMembers
+pub mod Members

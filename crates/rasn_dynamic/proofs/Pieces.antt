@@ -7,10 +7,9 @@ use Rattle.rasn_types.specs.declared.types.codec.Codec.{Codec}
 use Rattle.rasn_types.specs.declared.types.tag.Tag.{Tag}
 use Rattle.rasn_types.specs.declared.error.decode.DecodeError.{DecodeError}
 use Rattle.rasn_types.specs.Errors.{IsOutOfMemory}
-use Rattle.rasn_types.specs.Tags.{IsTagBelow}
-use Rattle.rasn_types.specs.Shapes.{Tree, items, absent, Shape, Parts, part, presences, own_tag, Presence, required, IsFirst, IsFirstOf}
+use Rattle.rasn_types.specs.Shapes.{Tree, items, absent, Shape, Parts, part, presences, count, own_tag, Presence, required, IsFirst, IsFirstOf, IsAlwaysPresent}
 use Rattle.rasn_types.specs.Readings.{IsMissing, AllMissing}
-use Rattle.rasn_types.specs.Lawful.{IsLawful, AreDistinguished, AreLawfulByTag}
+use Rattle.rasn_types.specs.Lawful.{IsLawful, HasTag, AreComponents, AreDistinguished}
 use Rattle.rasn_de.specs.Choice.{IsOnlyAlternative}
 use Rattle.rasn_de.specs.NamedErrors.{IsNamedError, IsMissingField}
 use Rattle.rasn_de.specs.SetPartTypes.{held_tree, name_at, AreEmpty, IsFilled, IsPlacedAt, AreGathered, LacksSlot, MakesParts}
@@ -21,8 +20,10 @@ use Rattle.rasn_schema.specs.declared.value.Value.{Value}
 use Rattle.rasn_schema.specs.Trees.{tree_of}
 use Rattle.rasn_schema.specs.Shapes.{components_by, key_of, presence_in, presence_of, presences_in, IsReadable}
 use Rattle.rasn_schema.proofs.Presences.{missing_by, required_by}
+use Rattle.rasn_schema.proofs.Lists.{some_is}
 use Rattle.rasn_de.specs.State.{State, Call}
 use Rattle.rasn_dynamic.specs.Making.{Making, trees_of}
+use Rattle.rasn_dynamic.specs.Sets.{AreLawfulMembers}
 use Rattle.rasn_dynamic.specs.Calls.{held, nones, names_of, is_required, any_required, HoldsSlot, HoldsSlots, IsComponentFor, IsValueOf, IsSettled, AreSettled, LacksNone, Gathers}
 
 -- ---- indices
@@ -55,20 +56,15 @@ pub none_of : (a b : Bool) → a || b ≡ false → (a ≡ false) × (b ≡ fals
 none_of false b e = (refl, e)
 none_of true b e = absurd (true≢false e)
 
-pub part_lawful : (f : ℕ → Shape) (ps : List Component) (k : ℕ) (p : Component) → AreLawfulByTag (components_by f ps) → Some p ≡ slice_get ps k → IsReadable (f p.type_id.0)
+-- The shape of a component has a tag, and is lawful.
+pub member_is : (f : ℕ → Shape) (ps : List Component) (k : ℕ) (p : Component) → AreComponents (components_by f ps) → Some p ≡ slice_get ps k → HasTag (f p.type_id.0) × IsAlwaysPresent (f p.type_id.0) × IsLawful (f p.type_id.0)
 unfolding IsLawful
-part_lawful f [] k p h e = cc
-part_lawful f (q ∷ ps) zero p h e = let same : q ≡ p = cc in subst (λ (x : Component). IsReadable (f x.type_id.0)) same (inl (h.2, h.3))
-part_lawful f (q ∷ ps) (suc k) p h e = part_lawful f ps k p h.5 e
+member_is f [] k p h e = absurd cc
+member_is f (q ∷ ps) zero p h e = subst (λ (z : Component). HasTag (f z.type_id.0) × IsAlwaysPresent (f z.type_id.0) × IsLawful (f z.type_id.0)) (some_is q p (sym e)) (h.1, h.2, h.3)
+member_is f (q ∷ ps) (suc k) p h e = member_is f ps k p h.4 e
 
-not_below_itself : (n : Tag) → IsTagBelow n n → ⊥
-not_below_itself n (inl h) = omega arith
-not_below_itself n (inr h) = omega (arith, h.1)
-
-pub by_tag_distinguished : (ps : Parts) → AreLawfulByTag ps → AreDistinguished ps
-unfolding IsLawful
-by_tag_distinguished Rattle.rasn_types.specs.Shapes.Parts.none h = tt
-by_tag_distinguished (part presence s ps) h = ((λ n p q. not_below_itself n (h.4 n n p q)), by_tag_distinguished ps h.5)
+pub part_lawful : (f : ℕ → Shape) (ps : List Component) (k : ℕ) (p : Component) → AreLawfulMembers (components_by f ps) → Some p ≡ slice_get ps k → IsReadable (f p.type_id.0)
+part_lawful f ps k p h e = let m = member_is f ps k p h.0 e in inl (m.1, m.2)
 
 -- ---- what was read
 
@@ -256,6 +252,18 @@ nones_held keep ps found e = subst (λ l. HoldsSlots keep l (held (nones ps))) (
     go : (qs : List Component) → HoldsSlots keep (nones qs) (held (nones qs))
     go [] = refl
     go (q ∷ qs) = (None, held (nones qs), refl, refl, go qs)
+
+-- There is a slot for each part.
+same_slots : (keep : Bool) (found : List (Option Value)) (slots : List (Option Tree)) → HoldsSlots keep found slots → length slots ≡ length found
+same_slots keep [] slots e = ap length e
+same_slots keep (x ∷ found) slots (slot, others, e, h, hs) = ap length e ∙ ap suc (same_slots keep found others hs)
+
+as_many_parts : (f : ℕ → Shape) (ps : List Component) → length ps ≡ count (components_by f ps)
+as_many_parts f [] = refl
+as_many_parts f (p ∷ ps) = ap suc (as_many_parts f ps)
+
+pub as_many_slots : (keep : Bool) (f : ℕ → Shape) (ps : List Component) (found : List (Option Value)) (slots : List (Option Tree)) → length found ≡ length ps → HoldsSlots keep found slots → length slots ≡ count (components_by f ps)
+as_many_slots keep f ps found slots e h = same_slots keep found slots h ∙ e ∙ as_many_parts f ps
 
 -- A value is put in its place.
 pub slots_placed : (keep : Bool) (before : List (Option Value)) (slots : List (Option Tree)) (k : ℕ) (v : Value) (t : Tree) → (keep ≡ true → tree_of v ≡ t) → HoldsSlots keep before slots → k < length before → get_or before k None ≡ None

@@ -1,7 +1,9 @@
-use Rattle.std.proofs.Common.{refl, ap, subst}
+use Rattle.std.proofs.Common.{refl, sym, ap, subst}
 use Rattle.rasn_schema.specs.declared.type_id.TypeId.{TypeId}
-use Rattle.rasn_schema.specs.Shapes.{shape_of_type, type_by, IsReadable}
-use Rattle.rasn_dynamic.proofs.Contents.{list_lawful, set_of_lawful, seq_lawful, set_lawful, none_holds}
+use Rattle.rasn_schema.specs.Shapes.{shape_of_type, type_by, components_by, IsReadable}
+use Rattle.rasn_dynamic.specs.Sets.{AreLawfulMembers}
+use Rattle.rasn_dynamic.proofs.Named.{named_is, members_lawful}
+use Rattle.rasn_dynamic.proofs.Contents.{list_lawful, set_of_lawful, seq_lawful, none_holds}
 use Rattle.rasn_dynamic.proofs.InOrder.{lawful_parts}
 use Rattle.rasn_dynamic.proofs.Parts.{option_weaker, no_parts}
 use Rattle.rasn_dynamic.proofs.find.go_inside.Goals as goal
@@ -13,7 +15,11 @@ go_to_component-requires c = record {
 
 pub go_to_member-requires : goal.go_to_member-requires
 go_to_member-requires c = record {
-  lawful = rw c.deref-in-Set.ensures.value (set_lawful _ _ (subst (λ n. IsReadable (type_by (shape_of_type c.args.types.now c.args.below) n)) c.in-Set.is c.requires.lawful));
+  lawful =
+      let f = shape_of_type c.args.types.now c.args.below in
+      let ps = c.in-Set.components.items in
+      let are = members_lawful _ (components_by f ps) (subst (λ n. IsReadable (type_by f n)) c.in-Set.is c.requires.lawful) in
+      rw (c.named_components.ensures.named, c.deref-in-Set.ensures.value) (subst AreLawfulMembers (sym (named_is f ps)) are);
 }
 
 pub go_to_element-requires : goal.go_to_element-requires
@@ -36,7 +42,7 @@ pub returns-in-Sequence : goal.returns-in-Sequence
 returns-in-Sequence c = rw (c.in-Sequence.is, ← c.deref-in-Sequence.ensures.value) (record { found = c.go_to_component.ensures.found })
 
 pub returns-in-Set : goal.returns-in-Set
-returns-in-Set c = rw (c.in-Set.is, ← c.deref-in-Set.ensures.value) (record { found = c.go_to_member.ensures.found })
+returns-in-Set c = rw (c.in-Set.is, ← c.deref-in-Set.ensures.value, ← c.named_components.ensures.named, ← c.named_components.ensures.extensible) (record { found = c.go_to_member.ensures.found })
 
 pub returns-in-SequenceOf : goal.returns-in-SequenceOf
 returns-in-SequenceOf c = rw c.in-SequenceOf.is (record { found = c.go_to_element.ensures.found })
