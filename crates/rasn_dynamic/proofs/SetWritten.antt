@@ -121,12 +121,6 @@ module _ {A : Type 0} (r : Result (Vec SetComponent A) EncodeError) (all given :
   pub unknown_refused : IfErr r (λ x. IsAllocError rule x ⊎ (IsUntaggedInSetError rule x × LackTag given)) → IfErr r (FailsAtComponents true none (joined t done) rule)
   unknown_refused h = subst (λ z. IfErr r (FailsAtComponents true none (joined z done) rule)) same (unknown_fails r all given rule e h)
 
-pub unknown_rules : {R L : Type 0} (r : Result R EncodeError) (rule : Codec) → IfErr r (λ x. IsAllocError rule x ⊎ (IsUntaggedInSetError rule x × L)) → IfErr r (λ x. x.codec ≡ rule)
-unknown_rules r rule h = IfErr-weaker r _ _ (λ x. elim [
-  | inl m ↦ ap (λ (y : EncodeError). y.codec) m
-  | inr n ↦ ap (λ (y : EncodeError). y.codec) n.0
-]) h
-
 -- ---- the components that the type names, and the last
 
 module _ (f : ℕ → Shape) where
@@ -153,13 +147,13 @@ module _ (f : ℕ → Shape) where
     pub one_more : length ps ≡ suc (length named)
     one_more = let h = split_last in let l = ap length h.1 in omega (arith, l, length-append named (h.0 ∷ []))
 
-    pub last_unknown : (q : Component) → q ≡ get_or ps (length named) q → (drop (length named) ps ≡ q ∷ []) × (is_unknown (f q.type_id.0) ≡ true)
-    last_unknown q i =
+    pub last_unknown : (d : Component) → (drop (length named) ps ≡ get_or ps (length named) d ∷ []) × (is_unknown (f (get_or ps (length named) d).type_id.0) ≡ true)
+    last_unknown d =
         let h = split_last in
-        let d : drop (length named) ps ≡ h.0 ∷ [] = ap (drop (length named)) h.1 ∙ drop_front named (h.0 ∷ []) in
-        let c : drop (length named) ps ≡ q ∷ drop (suc (length named)) ps = drop-cons ps (length named) q (omega (arith, one_more)) ∙ ap (λ z. z ∷ drop (suc (length named)) ps) (sym i) in
-        let j : h.0 ≡ q = cc in
-        (d ∙ ap (λ z. z ∷ []) j, subst (λ (z : Component). is_unknown (f z.type_id.0) ≡ true) j h.2)
+        let e : drop (length named) ps ≡ h.0 ∷ [] = ap (drop (length named)) h.1 ∙ drop_front named (h.0 ∷ []) in
+        let c : drop (length named) ps ≡ get_or ps (length named) d ∷ drop (suc (length named)) ps = drop-cons ps (length named) d (omega (arith, one_more)) in
+        let j : h.0 ≡ get_or ps (length named) d = cc in
+        (e ∙ ap (λ z. z ∷ []) j, subst (λ (z : Component). is_unknown (f z.type_id.0) ≡ true) j h.2)
 
   pub named_front : (ps named : List Component) → named ≡ named_components f ps → ps ≡ named ++ drop (length named) ps
   named_front ps named n = go (is_extensible f ps) refl
@@ -185,14 +179,14 @@ module _ (g : ℕ → Value → Type 0) where
   pub other_number : (ps : List Component) (vs : List Value) → length vs ≢ length ps → ComponentsFit g ps vs → ⊥
   other_number ps vs n h = n (sym (same_number ps vs h))
 
-  fit_at : (ps rest : List Component) (vs : List Value) (k : ℕ) (p : Component) (v : Value) → k < length ps → p ≡ get_or ps k p → v ≡ get_or vs k v → ComponentsFit g (ps ++ rest) vs → ComponentFits g p v
-  fit_at [] rest vs k p v l e i h = absurd (omega (arith, l))
-  fit_at (q ∷ ps) rest [] k p v l e i h = absurd h
-  fit_at (q ∷ ps) rest (u ∷ vs) zero p v l e i h = subst (ComponentFits g p) (sym i) (subst (λ z. ComponentFits g z u) (sym e) h.0)
-  fit_at (q ∷ ps) rest (u ∷ vs) (suc k) p v l e i h = fit_at ps rest vs k p v (omega (arith, l)) e i h.1
+  fit_at : (ps rest : List Component) (vs : List Value) (k : ℕ) (d : Component) (e : Value) → k < length ps → ComponentsFit g (ps ++ rest) vs → ComponentFits g (get_or ps k d) (get_or vs k e)
+  fit_at [] rest vs k d e l h = absurd (omega (arith, l))
+  fit_at (p ∷ ps) rest [] k d e l h = absurd h
+  fit_at (p ∷ ps) rest (v ∷ vs) zero d e l h = h.0
+  fit_at (p ∷ ps) rest (v ∷ vs) (suc k) d e l h = fit_at ps rest vs k d e (omega (arith, l)) h.1
 
-  pub fit_last : (ps : List Component) (vs : List Value) (n : ℕ) (p : Component) (v : Value) → n < length ps → p ≡ get_or ps n p → v ≡ get_or vs n v → ComponentsFit g ps vs → ComponentFits g p v
-  fit_last ps vs n p v l e i h = fit_at ps [] vs n p v l e i (subst (λ z. ComponentsFit g z vs) (sym (append-nil ps)) h)
+  fit_last : (ps : List Component) (vs : List Value) (k : ℕ) (d : Component) (e : Value) → k < length ps → ComponentsFit g ps vs → ComponentFits g (get_or ps k d) (get_or vs k e)
+  fit_last ps vs k d e l h = fit_at ps [] vs k d e l (subst (λ z. ComponentsFit g z vs) (sym (append-nil ps)) h)
 
 -- ---- the loop: the components from one on are held
 
@@ -203,41 +197,43 @@ module _ (f : ℕ → Shape) (g : ℕ → Value → Type 0) (extensible : Bool) 
     pub fits : ComponentsFit g (drop left named ++ drop (length named) all) (drop left values)
     pub holds : HoldsParts extensible (components_by f (drop left named)) (list_tree tree_of (drop left values)) rule xs
 
-  -- the lists from a component on
-  components_from : (k : ℕ) (p : Component) → k < length named → p ≡ get_or named k p → drop k named ≡ p ∷ drop (suc k) named
-  components_from k p l e = drop-cons named k p l ∙ ap (λ z. z ∷ drop (suc k) named) (sym e)
+  -- A component is put among those after it.
+  abbrev pub IsAdded : Component → Value → List SetComponent → List SetComponent → Type 0
+  IsAdded p v xs ys = ComponentFits g p v × AddsPart (presence_in f p) (f p.type_id.0) (tree_of v) rule xs ys
 
-  values_from : (k : ℕ) (v : Value) → k < length values → v ≡ get_or values k v → drop k values ≡ v ∷ drop (suc k) values
-  values_from k v l e = drop-cons values k v l ∙ ap (λ z. z ∷ drop (suc k) values) (sym e)
-
-  more_at : (k : ℕ) (xs ys : List SetComponent) (p : Component) (v : Value) → HoldsFrom (suc k) xs → p ≡ get_or named k p → v ≡ get_or values k v
-      → ComponentFits g p v × AddsPart (presence_in f p) (f p.type_id.0) (tree_of v) rule xs ys → HoldsFrom k ys
-  more_at k xs ys p v h e i a =
-      let c = components_from k p (let l = h.within in omega (arith, l)) e in
-      let d = values_from k v (let l = h.within in let m = h.few in omega (arith, l, m)) i in
+  more_at : (k : ℕ) (xs ys : List SetComponent) (d : Component) (e : Value) → HoldsFrom (suc k) xs → IsAdded (get_or named k d) (get_or values k e) xs ys → HoldsFrom k ys
+  more_at k xs ys d e h a =
+      let within = h.within in
+      let few = h.few in
+      let p = get_or named k d in
+      let c : drop k named ≡ p ∷ drop (suc k) named = drop-cons named k d (omega (arith, within)) in
+      let v : drop k values ≡ get_or values k e ∷ drop (suc k) values = drop-cons values k e (omega (arith, within, few)) in
       record {
-        within = let l = h.within in omega (arith, l);
-        few = h.few;
+        within = omega (arith, within);
+        few = few;
         fits = subst (λ z. ComponentsFit g (z ++ drop (length named) all) (drop k values)) (sym c)
-            (subst (λ z. ComponentsFit g (p ∷ (drop (suc k) named ++ drop (length named) all)) z) (sym d) (a.0, h.fits));
+            (subst (λ z. ComponentsFit g (p ∷ (drop (suc k) named ++ drop (length named) all)) z) (sym v) (a.0, h.fits));
         holds = subst (λ z. HoldsParts extensible (components_by f z) (list_tree tree_of (drop k values)) rule ys) (sym c)
-            (subst (λ z. HoldsParts extensible (components_by f (p ∷ drop (suc k) named)) (list_tree tree_of z) rule ys) (sym d)
+            (subst (λ z. HoldsParts extensible (components_by f (p ∷ drop (suc k) named)) (list_tree tree_of z) rule ys) (sym v)
             (a.1 extensible (components_by f (drop (suc k) named)) (list_tree tree_of (drop (suc k) values)) h.holds));
       }
 
   pub holds_more : (left : ℕ) (xs ys : List SetComponent) (p : Component) (v : Value) → 0 < left → HoldsFrom left xs → p ≡ get_or named (left - 1) p → v ≡ get_or values (left - 1) v
-      → ComponentFits g p v × AddsPart (presence_in f p) (f p.type_id.0) (tree_of v) rule xs ys → HoldsFrom (left - 1) ys
-  holds_more zero xs ys p v l h e i a = absurd (omega (arith, l))
-  holds_more (suc k) xs ys p v l h e i a =
+      → IsAdded p v xs ys → HoldsFrom (left - 1) ys
+  holds_more zero xs ys p v l h i j a = absurd (omega (arith, l))
+  holds_more (suc k) xs ys p v l h i j a =
       let n : suc k - 1 ≡ k = omega arith in
-      subst (λ m. HoldsFrom m ys) (sym n) (more_at k xs ys p v h (subst (λ m. p ≡ get_or named m p) n e) (subst (λ m. v ≡ get_or values m v) n i) a)
+      subst (λ m. HoldsFrom m ys) (sym n) (more_at k xs ys p v h (subst (λ m. IsAdded (get_or named m p) (get_or values m v) xs ys) n
+      (subst (λ z. IsAdded z (get_or values (suc k - 1) v) xs ys) i (subst (λ z. IsAdded p z xs ys) j a))))
 
-  pub holds_all : (xs : List SetComponent) → named ≡ named_components f all → extensible ≡ is_extensible f all → HoldsFrom 0 xs → ComponentsFit g all values × HoldsSet (components_by f all) (list_tree tree_of values) rule xs
-  holds_all xs n e h = (
-    subst (λ z. ComponentsFit g z values) (sym (named_front f all named n)) h.fits,
-    subst (λ b. HoldsParts b (known_parts (components_by f all)) (list_tree tree_of values) rule xs) e
-    (subst (λ z. HoldsParts extensible z (list_tree tree_of values) rule xs) (ap (components_by f) n ∙ named_is f all) h.holds),
-  )
+  pub holds_all : (left : ℕ) (xs : List SetComponent) → left ≡ 0 → named ≡ named_components f all → extensible ≡ is_extensible f all → HoldsFrom left xs
+      → ComponentsFit g all values × HoldsSet (components_by f all) (list_tree tree_of values) rule xs
+  holds_all left xs z n i k =
+      let h : HoldsFrom 0 xs = subst (λ m. HoldsFrom m xs) z k in (
+        subst (λ l. ComponentsFit g l values) (sym (named_front f all named n)) h.fits,
+        subst (λ b. HoldsParts b (known_parts (components_by f all)) (list_tree tree_of values) rule xs) i
+        (subst (λ l. HoldsParts extensible l (list_tree tree_of values) rule xs) (ap (components_by f) n ∙ named_is f all) h.holds),
+      )
 
   -- ---- errors
 
@@ -259,26 +255,30 @@ module _ (f : ℕ → Shape) (g : ℕ → Value → Type 0) (extensible : Bool) 
   fails_set x n e h = subst (λ b. FailsAtComponents b (known_parts (components_by f all)) (list_tree tree_of values) rule x) e
       (subst (λ z. FailsAtComponents extensible z (list_tree tree_of values) rule x) (ap (components_by f) n ∙ named_is f all) h)
 
-  module _ (n : named ≡ named_components f all) (e : extensible ≡ is_extensible f all) (x : EncodeError) where
-    fails_at : (k : ℕ) (xs : List SetComponent) (p : Component) (v : Value) → HoldsFrom (suc k) xs → p ≡ get_or named k p → v ≡ get_or values k v
-        → (ComponentFits g p v → FailsAtPart (presence_in f p) (f p.type_id.0) (tree_of v) rule x) → ComponentsFit g all values → FailsAtSet (components_by f all) (list_tree tree_of values) rule x
-    fails_at k xs p v h i j a fit =
-        let l : k < length named = let w = h.within in omega (arith, w) in
-        let m : k < length values = let w = h.few in omega (arith, l, w) in
-        let c = components_from k p l i in
-        let d = values_from k v m j in
-        let there = fit_at g named (drop (length named) all) values k p v l i j (subst (λ z. ComponentsFit g z values) (named_front f all named n) fit) in
-        fails_set x n e (fails_front k x (omega (arith, l)) (omega (arith, m))
+  module _ (n : named ≡ named_components f all) (i : extensible ≡ is_extensible f all) (x : EncodeError) where
+    abbrev pub IsNotAdded : Component → Value → Type 0
+    IsNotAdded p v = ComponentFits g p v → FailsAtPart (presence_in f p) (f p.type_id.0) (tree_of v) rule x
+
+    fails_at : (k : ℕ) (xs : List SetComponent) (d : Component) (e : Value) → HoldsFrom (suc k) xs → IsNotAdded (get_or named k d) (get_or values k e) → ComponentsFit g all values → FailsAtSet (components_by f all) (list_tree tree_of values) rule x
+    fails_at k xs d e h a fit =
+        let within = h.within in
+        let few = h.few in
+        let p = get_or named k d in
+        let c : drop k named ≡ p ∷ drop (suc k) named = drop-cons named k d (omega (arith, within)) in
+        let v : drop k values ≡ get_or values k e ∷ drop (suc k) values = drop-cons values k e (omega (arith, within, few)) in
+        let there = fit_at g named (drop (length named) all) values k d e (omega (arith, within)) (subst (λ z. ComponentsFit g z values) (named_front f all named n) fit) in
+        fails_set x n i (fails_front k x (omega (arith, within)) (omega (arith, within, few))
         (subst (λ z. FailsAtComponents extensible (components_by f z) (list_tree tree_of (drop k values)) rule x) (sym c)
-        (subst (λ z. FailsAtComponents extensible (components_by f (p ∷ drop (suc k) named)) (list_tree tree_of z) rule x) (sym d)
+        (subst (λ z. FailsAtComponents extensible (components_by f (p ∷ drop (suc k) named)) (list_tree tree_of z) rule x) (sym v)
         (a there extensible (components_by f (drop (suc k) named)) (list_tree tree_of (drop (suc k) values))))))
 
     pub component_fails : (left : ℕ) (xs : List SetComponent) (p : Component) (v : Value) → 0 < left → HoldsFrom left xs → p ≡ get_or named (left - 1) p → v ≡ get_or values (left - 1) v
-        → (ComponentFits g p v → FailsAtPart (presence_in f p) (f p.type_id.0) (tree_of v) rule x) → ComponentsFit g all values → FailsAtSet (components_by f all) (list_tree tree_of values) rule x
-    component_fails zero xs p v l h i j a fit = absurd (omega (arith, l))
-    component_fails (suc k) xs p v l h i j a fit =
-        let m : suc k - 1 ≡ k = omega arith in
-        fails_at k xs p v h (subst (λ o. p ≡ get_or named o p) m i) (subst (λ o. v ≡ get_or values o v) m j) a fit
+        → IsNotAdded p v → ComponentsFit g all values → FailsAtSet (components_by f all) (list_tree tree_of values) rule x
+    component_fails zero xs p v l h j k a fit = absurd (omega (arith, l))
+    component_fails (suc m) xs p v l h j k a fit =
+        let o : suc m - 1 ≡ m = omega arith in
+        fails_at m xs p v h (subst (λ z. IsNotAdded (get_or named z p) (get_or values z v)) o
+        (subst (λ z. IsNotAdded z (get_or values (suc m - 1) v)) j (subst (λ z. IsNotAdded p z) k a))) fit
 
 -- ---- before the loop: no component, or unknown ones
 
@@ -298,38 +298,43 @@ module _ (f : ℕ → Shape) (g : ℕ → Value → Type 0) (all named : List Co
       }
 
   module _ (e : is_extensible f all ≡ true) (q : Component) (v : Value) (i : q ≡ get_or all (length named) q) (j : v ≡ get_or values (length named) v) where
-    values_end : drop (length named) values ≡ v ∷ []
-    values_end =
+    no_named : drop (length named) named ≡ []
+    no_named = drop_all (length named) named (omega arith)
+
+    one_last : drop (length named) all ≡ q ∷ []
+    one_last = (last_unknown f all named n e q).0 ∙ ap (λ z. z ∷ []) (sym i)
+
+    one_value : drop (length named) values ≡ v ∷ []
+    one_value =
         let l = one_more f all named n e in
         drop-cons values (length named) v (omega (arith, l, same)) ∙ ap₂ ◌∷◌ (sym j) (drop_all (suc (length named)) values (omega (arith, l, same)))
+
+    pub is_last : is_unknown (f q.type_id.0) ≡ true
+    is_last = subst (λ (z : Component). is_unknown (f z.type_id.0) ≡ true) (sym i) (last_unknown f all named n e q).1
 
     pub unknown_first : (xs : List SetComponent) → ComponentFits g q v → HoldsParts true none (joined (tree_of v) done) rule xs → HoldsFrom f g true all named values rule (length named) xs
     unknown_first xs fit h =
         let l = one_more f all named n e in
-        let c : drop (length named) named ≡ [] = drop_all (length named) named (omega arith) in
-        let d = (last_unknown f all named n e q i).0 in
-        let w = values_end in
         record {
           within = omega arith;
           few = omega (arith, l, same);
-          fits = rw (c, d, w) (fit, tt);
-          holds = rw (c, w) h;
+          fits = rw (no_named, one_last, one_value) (fit, tt);
+          holds = rw (no_named, one_value) h;
         }
 
     pub unknown_not : (x : EncodeError) → FailsAtComponents true none (joined (tree_of v) done) rule x → FailsAtSet (components_by f all) (list_tree tree_of values) rule x
     unknown_not x h =
         let l = one_more f all named n e in
-        let c : drop (length named) named ≡ [] = drop_all (length named) named (omega arith) in
-        let w = values_end in
-        fails_set f g true all named values rule x n (sym e) (fails_front f g true all named values rule (length named) x (omega arith) (omega (arith, l, same)) (rw (c, w) h))
+        fails_set f g true all named values rule x n (sym e) (fails_front f g true all named values rule (length named) x (omega arith) (omega (arith, l, same)) (rw (no_named, one_value) h))
 
-    -- Unknown components that aren't left out fit if they are octets.
-    pub octets_from : {P : Type 0} → (IsLeftOutAs (presence_of q.presence) (tree_of v) → ⊥) → g q.type_id.0 v ≡ P → ComponentsFit g all values → P
-    octets_from {P} o k fit =
+    -- Unknown components that aren't left out fit if they are such values.
+    pub fit_from : (IsLeftOutAs (presence_of q.presence) (tree_of v) → ⊥) → ComponentsFit g all values → g q.type_id.0 v
+    fit_from o fit =
         let l = one_more f all named n e in
-        elim (fit_last g all values (length named) q v (omega (arith, l)) i j fit) [
+        let h = fit_last g all values (length named) q v (omega (arith, l)) fit in
+        elim (subst (λ z. ComponentFits g z v) (sym i) (subst (λ z. ComponentFits g (get_or all (length named) q) z) (sym j) h)) [
           | inl m ↦ absurd (o m)
-          | inr m ↦ subst (λ Z. Z) k m
+          | inr m ↦ m
         ]
 
 -- ---- the contents of the SET

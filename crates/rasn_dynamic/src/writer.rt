@@ -275,10 +275,11 @@ fn set_components(
     let mut found = Vec::new(encoder.alloc());
     if extensible {
         let last = named.len();
-        if is_left_out(&components[last], &values[last]) {
+        let value = &values[last];
+        if is_left_out(&components[last], value) {
             return Err(out_of_room(encoder));
         }
-        found = unknown_as_components(encoder, &values[last])?;
+        found = unknown_as_components(encoder, value)?;
     }
     let mut left = named.len();
     while left > 0 {

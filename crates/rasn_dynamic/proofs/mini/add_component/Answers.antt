@@ -22,7 +22,7 @@ returns-in_default-clause-refused c f =
     let n : c.in_ok-octets.octets.items ≢ [] = some_octets _ _ _ (search rules) c.is_empty.ensures c.if-is_empty.false in
     let s = shape_of_type c.args.types.now c.args.below c.args.component.now.type_id.0 in
     not_placed _ s _ c.args.encoder.now.rule c.in_ok-octets.octets.items c.in_ok-octets.ensures.ok [] n
-    (λ tag k. c.in_default.ensures tag (subst (λ l. IsPlacedBy c.codec-rule.result (IsFirst s) l tag) (sym c.deref.ensures.value) (subst (λ r. IsPlacedBy r (IsFirst s) c.in_ok-octets.octets.items tag) (sym c.codec-rule.ensures) k))) _
+    (λ tag k. c.in_default.ensures tag (subst (λ l. IsPlacedBy c.codec-rule.result (IsFirst s) l tag) (sym c.deref.ensures.value) (subst (λ r. IsPlacedBy r (IsFirst s) c.in_ok-octets.octets.items tag) (sym c.codec-rule.ensures) k))) c.no_place.result
 
 pub returns-clause-ok : goal.returns-clause-ok
 returns-clause-ok c =
