@@ -1,5 +1,5 @@
 //! Writes a value of a type.
-ghost use Rattle.std.specs.Prelude.{◌≡◌, ◌⊎◌, None, map, OnOk, IfOk, IfErr};
+ghost use Rattle.std.specs.Prelude.{◌≡◌, ◌⊎◌, None, false, map, OnOk, IfOk, IfErr};
 ghost use Rattle.rasn_types.specs.Tags.{eoc};
 ghost use Rattle.rasn_types.specs.Trees.{list_tree};
 ghost use Rattle.rasn_types.specs.Bytes.{Bytes, WritesPart};
