@@ -83,8 +83,11 @@ module _ {F : Type 0} (p : Presence) (s : Shape) (t : Tree) (rule : Codec) (octe
 
   module _ (n : octets ≢ []) where
     pub put_among : (x : SetComponent) (ys : List SetComponent) → IsPlacedBy rule (IsFirst s) octets x.tag → x.octets.items ≡ octets → ys ≡ with_component x xs → F × AddsPart p s t rule xs ys
-    put_among x ys i k e = (o.0, λ extensible ps tree q.
-        subst (HoldsParts extensible (part p s ps) (joined t tree) rule) (sym e) (holds_present extensible p s ps t tree rule xs q x.tag octets x i o.1 n refl k))
+    put_among x ys i k e = (
+      o.0,
+      λ extensible ps tree q.
+          subst (HoldsParts extensible (part p s ps) (joined t tree) rule) (sym e) (holds_present extensible p s ps t tree rule xs q x.tag octets x i o.1 n refl k),
+    )
 
     pub not_placed : ((tag : Tag) → IsPlacedBy rule (IsFirst s) octets tag → ⊥) → (e : EncodeError) → FailsAtPart p s t rule e
     not_placed l e = λ extensible ps tree. inr (place_lacks extensible p s ps t tree rule octets o.1 n l)
@@ -232,7 +235,7 @@ module _ (f : ℕ → Shape) (g : ℕ → Value → Type 0) (extensible : Bool) 
       let h : HoldsFrom 0 xs = subst (λ m. HoldsFrom m xs) z k in (
         subst (λ l. ComponentsFit g l values) (sym (named_front f all named n)) h.fits,
         subst (λ b. HoldsParts b (known_parts (components_by f all)) (list_tree tree_of values) rule xs) i
-        (subst (λ l. HoldsParts extensible l (list_tree tree_of values) rule xs) (ap (components_by f) n ∙ named_is f all) h.holds),
+            (subst (λ l. HoldsParts extensible l (list_tree tree_of values) rule xs) (ap (components_by f) n ∙ named_is f all) h.holds),
       )
 
   -- ---- errors

@@ -10,7 +10,7 @@ closed c = elim c.then-levels-eq0.branch [
   | then-levels-eq0-via-then-levels-eq0 w ↦ none_below c.args.types.now c.args.levels c.args.components.now w.if-levels-eq0.true
   | then-levels-eq0-via-else-levels-eq0+then-not-is_unknown_at w ↦
       ends_there c.args.types.now c.args.levels c.args.components.now c.in-Some.before w.index-components-before.result
-          (let l = c.in-Some.ensures in omega (arith, l.0, l.1)) w.index-components-before.is w.if-levels-eq0.false w.is_unknown_at.result w.is_unknown_at.ensures.shape ∙ w.if-not-is_unknown_at.true
+      (let l = c.in-Some.ensures in omega (arith, l.0, l.1)) w.index-components-before.is w.if-levels-eq0.false w.is_unknown_at.result w.is_unknown_at.ensures.shape ∙ w.if-not-is_unknown_at.true
 ]
 
 extensible : (c : goal.Else-not-is_unknown_at) → is_extensible (shape_of_type c.args.types.now c.args.levels) c.args.components.now ≡ true

@@ -63,7 +63,7 @@ pub encode_contents-returns-in-None-items_of : goal.encode_contents-returns-in-N
 encode_contents-returns-in-None-items_of t c = rw c.in-Set.is (form_refused _ (no_list (ComponentsFit (Fits c.args.types.now c.args.below) c.in-Set.components.items) _ c.in-None-items_of.ensures) (left_as_it_was _ _ refl) c.other_form-in-None-items_of.ensures)
 
 pub encode_contents-returns-in_err-check_size-in-Some-items_of-2 : goal.encode_contents-returns-in_err-check_size-in-Some-items_of-2
-encode_contents-returns-in_err-check_size-in-Some-items_of-2 t c = rw (residual _ c.from_residual-in_err-check_size-in-Some-items_of-2.ensures.1, c.in-SequenceOf.is) (size_refused _ _ _ _ c.in_err-check_size-in-Some-items_of-2.ensures.fails (λ g. list_unsized c.in-SequenceOf.tag ((shape_of_type c.args.types.now c.args.below) c.in-SequenceOf.element.0) c.in-SequenceOf.constraints _ c.in-Some-items_of-2.values.now c.args.encoder.now c.args.encoder.now c.requires.fresh (list_means _ _ c.in-Some-items_of-2.ensures) (subst (λ m. Admits ◌≤◌ c.in-SequenceOf.constraints.size m → ⊥) (sym (length-map c.in-Some-items_of-2.values.now tree_of)) c.in_err-check_size-in-Some-items_of-2.ensures.fails.unmet) c.in_err-check_size-in-Some-items_of-2.field-0.0))
+encode_contents-returns-in_err-check_size-in-Some-items_of-2 t c = rw (residual _ c.from_residual.ensures.1, c.in-SequenceOf.is) (size_refused _ _ _ _ c.in_err-check_size-in-Some-items_of-2.ensures.fails (λ g. list_unsized c.in-SequenceOf.tag ((shape_of_type c.args.types.now c.args.below) c.in-SequenceOf.element.0) c.in-SequenceOf.constraints _ c.in-Some-items_of-2.values.now c.args.encoder.now c.args.encoder.now c.requires.fresh (list_means _ _ c.in-Some-items_of-2.ensures) (subst (λ m. Admits ◌≤◌ c.in-SequenceOf.constraints.size m → ⊥) (sym (length-map c.in-Some-items_of-2.values.now tree_of)) c.in_err-check_size-in-Some-items_of-2.ensures.fails.unmet) c.in_err-check_size-in-Some-items_of-2.field-0.0))
 
 pub encode_contents-returns-in_ok-check_size-in-Some-items_of-2 : goal.encode_contents-returns-in_ok-check_size-in-Some-items_of-2
 encode_contents-returns-in_ok-check_size-in-Some-items_of-2 t c = rw c.in-SequenceOf.is (fits_as _ (list_to (EachFits ((Fits c.args.types.now c.args.below) c.in-SequenceOf.element.0)) _ _ c.in-Some-items_of-2.ensures) (list_from (EachFits ((Fits c.args.types.now c.args.below) c.in-SequenceOf.element.0)) _ _ c.in-Some-items_of-2.ensures)
@@ -220,12 +220,12 @@ set_components-loop-left-init t c =
     let x = c.named_components-extensible.ensures.extensible in
     elim c.if-extensible.branch [
       | set_components-then-extensible+else-is_left_out+in_ok-found b ↦
-        let e = sym x ∙ b.if-extensible.true in
-        let q = b.index-components-last in
-        let w = b.index-values-last in
-        let k = unknown_fits c.args.types.now c.args.below q.result.type_id.0 w.result (is_last f g all _ c.args.values.now c.args.encoder.now.rule n c.if-values-components.false e q.result w.result q.is w.is) in
-        rw (b.if-extensible.true, b.found-is) (unknown_first f g all _ c.args.values.now c.args.encoder.now.rule n c.if-values-components.false e q.result w.result q.is w.is b.in_ok-found.found.items
-        (inr (subst (λ Z. Z) (sym k) b.in_ok-found.ensures.ok.0)) b.in_ok-found.ensures.ok.1)
+          let e = sym x ∙ b.if-extensible.true in
+          let q = b.index-components-last in
+          let w = b.index-values-last in
+          let k = unknown_fits c.args.types.now c.args.below q.result.type_id.0 w.result (is_last f g all _ c.args.values.now c.args.encoder.now.rule n c.if-values-components.false e q.result w.result q.is w.is) in
+          rw (b.if-extensible.true, b.found-is) (unknown_first f g all _ c.args.values.now c.args.encoder.now.rule n c.if-values-components.false e q.result w.result q.is w.is b.in_ok-found.found.items
+          (inr (subst (λ Z. Z) (sym k) b.in_ok-found.ensures.ok.0)) b.in_ok-found.ensures.ok.1)
       | set_components-else-extensible b ↦ rw (b.if-extensible.false, b.found-is) (none_held f g all _ c.args.values.now c.args.encoder.now.rule n c.if-values-components.false c.new-found.result.items (sym x ∙ b.if-extensible.false) c.new-found.ensures.items)
     ]
 
