@@ -1,6 +1,7 @@
 //! Schemas as modules (X.680 13).
 use crate::lexer::is_type_name;
 use crate::resolver::Resolved;
+use crate::words::MARKER;
 use rasn_schema::{
     Alternative, Component, LeafKind, NamedNumber, Presence, Schema, Type, TypeId, TypeName,
     type_at,
@@ -245,9 +246,9 @@ impl Notation<'_> {
         index: usize,
         alternative: &Alternative,
     ) -> fmt::Result {
-        if alternative.name.as_str() == "..." {
+        if alternative.name.as_str() == MARKER {
             f.write_str(separator(index))?;
-            return f.write_str("...");
+            return f.write_str(MARKER);
         }
         self.write_part(f, index, alternative.name.as_str(), alternative.type_id)
     }
@@ -275,7 +276,7 @@ impl Notation<'_> {
     ) -> fmt::Result {
         if let Some(Type::Unknown) = type_at(self.schema.types(), component.type_id) {
             f.write_str(separator(index))?;
-            return f.write_str("...");
+            return f.write_str(MARKER);
         }
         self.write_part(f, index, component.name.as_str(), component.type_id)?;
         self.write_presence(f, component)

@@ -19,6 +19,12 @@ const EXTENSIBLE: &[Part] = &[
     ("...", Occurrence::Required, 22),
 ];
 
+const EXTENSIBLE_SET: &[Part] = &[
+    ("flag", Occurrence::Required, 0),
+    ("second", Occurrence::Required, 14),
+    ("...", Occurrence::Required, 22),
+];
+
 const WITH_DEFAULT: &[Part] = &[
     ("number", Occurrence::Required, 1),
     ("flag", Occurrence::False, 0),
@@ -66,6 +72,7 @@ pub const TYPES: &[Definition] = &[
     Definition::Unknown,
     Definition::Sequence(Tag::SEQUENCE, EXTENSIBLE),
     Definition::Choice("Reply", &[("flag", 0), ("...", 9)]),
+    Definition::Set("ExtensibleSet", Tag::SET, EXTENSIBLE_SET),
 ];
 
 /// The names of the types that rows have.
@@ -92,4 +99,5 @@ pub const NAMES: &[(&str, usize)] = &[
     ("OpenTagged", 21),
     ("Extensible", 23),
     ("Reply", 24),
+    ("ExtensibleSet", 25),
 ];

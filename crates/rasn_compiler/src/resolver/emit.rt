@@ -11,6 +11,7 @@ use crate::resolver::node::{Node, Part};
 use crate::resolver::order::{Order, ordered};
 use crate::resolver::schema_fault::schema_fault;
 use crate::resolver::unknown::add_unknown_alternatives;
+use crate::words::MARKER;
 use rasn_schema::{Alternative, Component, Presence, Schema, Type, TypeId, TypeName};
 use rasn_types::types::Tag;
 use std::alloc::{AllocError, Global};
@@ -129,7 +130,7 @@ fn components_of(
 /// Returns the last component of an extensible SEQUENCE or SET, whose type follows all others.
 fn unknown_values(alloc: Global, order: &Order) -> Result<Component, AllocError> {
     Ok(Component {
-        name: String::from_str(alloc, "...")?,
+        name: String::from_str(alloc, MARKER)?,
         presence: Presence::Required,
         type_id: TypeId(order.nodes.len()),
     })

@@ -2,6 +2,7 @@
 //! marker (X.680 29).
 use crate::position::Position;
 use crate::resolver::node::{Node, Part, Place, Use};
+use crate::words::MARKER;
 use rasn_schema::{Presence, Type};
 use rasn_types::types::Tag;
 use std::alloc::{AllocError, Global};
@@ -9,7 +10,7 @@ use std::alloc::{AllocError, Global};
 /// Gives each CHOICE with an extension marker a last alternative of an open type, which is named
 /// `...`. A CHOICE that is used where the tag of an unknown alternative could be that of another part
 /// gets none: an alternative of another CHOICE, a component of a SET, and a component of a SEQUENCE
-/// that is optional, or that follows an optional one.
+/// that is optional and not the last, or that follows an optional one.
 pub(crate) fn add_unknown_alternatives(
     alloc: Global,
     nodes: &mut Vec<Node<'_>>,
@@ -41,7 +42,7 @@ fn takes_unknown(node: &Node<'_>) -> bool {
 /// Returns the unknown alternative of a CHOICE.
 fn unknown_alternative<'text>(node: &Node<'text>, open_type: usize) -> Part<'text> {
     Part {
-        name: "...",
+        name: MARKER,
         position: node.position,
         of: Use::of(node.place, 0),
         node: open_type,
@@ -56,7 +57,7 @@ fn open_type_node<'text>(alloc: Global, place: Place) -> Node<'text> {
         parts: Vec::new(alloc),
         is_extensible: false,
         inner: 0,
-        name: "...",
+        name: MARKER,
         is_named: false,
         place,
         position: Position::START,
