@@ -8,12 +8,14 @@ use Rattle.rasn_types.specs.declared.error.decode.DecodeError.{DecodeError}
 use Rattle.rasn_types.specs.Tags.{form}
 use Rattle.rasn_types.specs.Framing.{NextTag}
 use Rattle.rasn_types.specs.Errors.{IsOutOfMemory}
+use Rattle.rasn_types.specs.Grammar.{Reads}
 use Rattle.rasn_types.specs.Shapes.{Tree, chosen, Shape, any, choice, choice_by, Parts, count, IsFirstOf}
 use Rattle.rasn_de.specs.declared.ber.de.parser.ParseError.TheVariants.{UnexpectedExtraData}
 use Rattle.rasn_de.specs.State.{State}
 use Rattle.rasn_de.specs.Steps.{PeeksTag, IsErrorOf}
 use Rattle.rasn_de.specs.Constructed.{Keeps}
-use Rattle.rasn_de.specs.SetPartTypes.{name_at}
+use Rattle.rasn_de.specs.SetPartTypes.{name_at, DecodesNext}
+use Rattle.rasn_de.proofs.Leaves.Outcomes.{alloc_failed}
 use Rattle.rasn_de.proofs.Constructed.Steps.{rules_same}
 use Rattle.rasn_de.proofs.Constructed.Choice.{choice_by_decodes}
 use Rattle.rasn_de.proofs.OwnTypes.Parts.{call_keeps}
@@ -23,7 +25,7 @@ use Rattle.rasn_schema.specs.declared.value.Value.{Value}
 use Rattle.rasn_schema.specs.Trees.{tree_of}
 use Rattle.rasn_schema.specs.Shapes.{components_by, presence_in}
 use Rattle.rasn_dynamic.specs.Inside.{DecodesTree}
-use Rattle.rasn_dynamic.specs.Sets.{AreLawfulMembers, DecodesNextMember, HoldsUnknown}
+use Rattle.rasn_dynamic.specs.Sets.{AreLawfulMembers, HoldsUnknown}
 use Rattle.rasn_dynamic.specs.Calls.{names_of, HoldsSlots, IsComponentFor, IsPut, DecodesPresent, DecodesMember}
 use Rattle.rasn_dynamic.proofs.Making.{one_made}
 use Rattle.rasn_dynamic.proofs.Parts.{shorter}
@@ -45,7 +47,7 @@ module _ (keep extensible : Bool) (ps : Parts) (names : List (List ℕ)) (before
   Member r after more = DecodesMember keep extensible ps names before kept old r new after more
 
   member_stops : (e : DecodeError) → DecodesTree (choice_by extensible ps) old (Err e) new → Member (Err e) before kept
-  member_stops e d = λ slots us h g. (slots, us, h, g, inl (inl d))
+  member_stops e d = λ slots us h g. (slots, us, h, g, inl d)
 
   -- The next value is of no component.
   pub member_unpeeked : (e : DecodeError) → PeeksTag old (Err e) → new ≡ old → Member (Err e) before kept
@@ -70,14 +72,16 @@ module _ (keep extensible : Bool) (ps : Parts) (names : List (List ℕ)) (before
           tree_of v,
           refl,
           refl,
-          subst (λ b. DecodesTree (choice_by b ps) old (Ok (chosen (count ps) (tree_of v))) new) (sym x) (unknown_got ps old new tag n others (tree_of v) d),
-          λ l. let s = value_shorter old new (tree_of v) d in omega (arith, l, s),
+          (
+            subst (λ b. DecodesTree (choice_by b ps) old (Ok (chosen (count ps) (tree_of v))) new) (sym x) (unknown_got ps old new tag n others (tree_of v) d),
+            λ l. let s = value_shorter old new (tree_of v) d in omega (arith, l, s),
+          ),
         ),
       )
 
   -- There is no room for it.
   pub unknown_left : (e : DecodeError) → IsOutOfMemory e.kind → Keeps old new → (more : List Value) → Member (Err e) before more
-  unknown_left e m q more = λ slots us h g. (slots, map tree_of more, h, (λ k. refl), inr (m, q))
+  unknown_left e m q more = λ slots us h g. (slots, map tree_of more, h, (λ k. refl), inl (alloc_failed (λ rule. Reads rule (choice_by extensible ps)) itself old new e m q.stays q.end))
 
 -- It is of a component.
 module _ (f : ℕ → Shape) (ps : List Component) (k : ℕ) (p : Component) (tag : Tag) (h : AreLawfulMembers (components_by f ps)) (b : IsComponentFor f ps tag k p) (old new : State) (n : NextTag (form old.rule) old.rest tag)
@@ -98,7 +102,7 @@ module _ (f : ℕ → Shape) (ps : List Component) (k : ℕ) (p : Component) (ta
       us,
       s,
       u,
-      inl (inr (chosen k t, got, (l ∙ g, rules_same old new (UnexpectedExtraData (length old.rest)) e (call_keeps got) (subst (λ m. IsErrorOf (UnexpectedExtraData m) new e) g x)))),
+      inr (chosen k t, got, (l ∙ g, rules_same old new (UnexpectedExtraData (length old.rest)) e (call_keeps got) (subst (λ m. IsErrorOf (UnexpectedExtraData m) new e) g x))),
     )
 
     pub member_put : (v : Value) → (keep ≡ true → tree_of v ≡ t) → k < length before → (left : ℕ) → left ≡ length old.rest → (length new.rest ≡ left → ⊥) → (r : Option (Bor (List ℕ))) (after : List (Option Value)) → IsPut k v (string_bytes p.name) before r after
@@ -114,7 +118,7 @@ pub member_shorter : (keep extensible : Bool) (ps : Parts) (names : List (List �
     → HoldsSlots keep before slots → HoldsUnknown keep kept us → DecodesMember keep extensible ps names before kept old (Ok r) new after more → length new.rest < length old.rest
 member_shorter keep extensible ps names before after kept more slots us old new r h g d = let w = d slots us h g in next_shorter r w.0 w.1 w.4
   where
-    next_shorter : (r : Option (Bor (List ℕ))) (others : List (Option Tree)) (vs : List Tree) → DecodesNextMember extensible ps names slots us old (Ok r) new others vs → length new.rest < length old.rest
+    next_shorter : (r : Option (Bor (List ℕ))) (others : List (Option Tree)) (vs : List Tree) → DecodesNext extensible ps names slots us old (Ok r) new others vs → length new.rest < length old.rest
     next_shorter None others vs (inl (k, u, c, e, (x, l))) = shorter old.rest new.rest x.end l
     next_shorter None others vs (inr (u, c, e, (x, l))) = shorter old.rest new.rest x.end l
     next_shorter (Some repeated) others vs (k, u, c, e, q, m, (x, l)) = shorter old.rest new.rest x.end l

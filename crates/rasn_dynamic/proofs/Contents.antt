@@ -1,17 +1,17 @@
 -- What is read inside values that hold others: elements and components.
-use Rattle.std.proofs.Common.{◌≡◌, ℕ, inl, inr, Bool, true, false, List, String, [], ◌∷◌, ◌++◌, map, Vec, Global, Result, Ok, Err, refl, sym, ap, ◌∙◌, subst}
+use Rattle.std.proofs.Common.{◌≡◌, ℕ, inl, inr, Bool, List, String, [], ◌∷◌, ◌++◌, map, Vec, Global, Result, Ok, Err, refl, sym, ap, ◌∙◌, subst}
 use Rattle.std.specs.Prelude.{Option, Some}
 use Rattle.rasn_types.specs.declared.types.tag.Tag.{Tag}
 use Rattle.rasn_types.specs.declared.types.constraints.Bound.{Bound}
 use Rattle.rasn_types.specs.declared.error.decode.DecodeError.{DecodeError}
 use Rattle.rasn_types.specs.declared.error.decode.DecodeErrorKind.{DecodeErrorKind}
-use Rattle.rasn_types.specs.Shapes.{Tree, items, done, joined, Shape, prefix, seq, choice, open_choice, set, sorted_set, list, set_of, Parts, part, Presence}
+use Rattle.rasn_types.specs.Shapes.{Tree, items, done, joined, Shape, prefix, seq, sorted_set, list, set_of, Parts, part, Presence}
 use Rattle.rasn_types.specs.Shapes.Parts.{none}
 use Rattle.rasn_types.specs.Lawful.{IsLawful, AreLawfulInOrder}
 use Rattle.rasn_types.specs.Grammar.{Reads}
 use Rattle.rasn_de.specs.State.{State}
-use Rattle.rasn_de.specs.Outcomes.{Outcome, Got, refusal, outcome}
-use Rattle.rasn_de.specs.Decodes.{Decodes, DecodesBy, DecodesExactly, ReadsParts}
+use Rattle.rasn_de.specs.Outcomes.{Outcome, Got, refusal}
+use Rattle.rasn_de.specs.Decodes.{DecodesBy, DecodesExactly, ReadsParts}
 use Rattle.rasn_de.specs.Constructed.{Keeps}
 use Rattle.rasn_types.specs.Errors.{IsOutOfMemory}
 use Rattle.rasn_de.proofs.Leaves.Outcomes.{Exact-none, alloc_failed}
@@ -28,13 +28,8 @@ use Rattle.rasn_schema.specs.declared.type_id.TypeId.{TypeId}
 use Rattle.rasn_schema.specs.declared.types.Component.{Component}
 use Rattle.rasn_schema.specs.Shapes.{IsReadable}
 use Rattle.rasn_dynamic.specs.Inside.{ReadsInside, ReadsSequence}
-use Rattle.rasn_de.specs.SetPartTypes.{MakesOfReadings, MakesOfSortedReadings, DecodesSetPartContents, DecodesSetPartContentsBy}
-use Rattle.rasn_de.proofs.Constructed.SetContents.{SetReads, set_collects, slots_collected}
-use Rattle.rasn_de.proofs.Constructed.SortedSetContents.{SortedSetReads, sorted_collects}
-use Rattle.rasn_de.proofs.Constructed.Reads.{Exact-same}
-use Rattle.rasn_de.proofs.OwnTypes.SetPartTypes.{makes_set}
-use Rattle.rasn_de.proofs.OwnTypes.SortedSetParts.{makes_sorted}
-use Rattle.rasn_types.proofs.SortedSets.{contents_sorted, contents_listed}
+use Rattle.rasn_de.specs.SetPartTypes.{DecodesSetPartContents}
+use Rattle.rasn_de.proofs.OwnTypes.SortedSetParts.{members_decode}
 use Rattle.rasn_dynamic.specs.Typed.{HoldsOthers}
 use Rattle.rasn_de.specs.PartTypes.{FailsAtOnePart, FailsAtPart}
 
@@ -116,29 +111,11 @@ pub inside_seq_got : (tag : Tag) (ps : Parts) (old new : State) (ts : List Tree)
 unfolding ReadsInside
 inside_seq_got tag ps old new ts k = k
 
-set_reads : (ps : Parts) (names : List (List ℕ)) (old new : State) (r : Result (List Tree) DecodeError) → DecodesSetPartContents ps items names old r new → DecodesBy (SetReads ps) items old r new
-set_reads ps names old new r k =
-    let made = MakesOfReadings ps items names old.rule in
-    set_collects ps itself items old (λ (l : List Tree). l) made (makes_set ps items names old.rule) r new (slots_collected (Decodes (choice ps) itself) made old r new k)
-
-sorted_set_reads : (ps : Parts) (names : List (List ℕ)) (old new : State) (r : Result (List Tree) DecodeError) → DecodesSetPartContentsBy true ps items names old r new → DecodesBy (SortedSetReads ps) items old r new
-sorted_set_reads ps names old new r k =
-    let made = MakesOfSortedReadings ps items names old.rule in
-    sorted_collects ps itself items old (λ (l : List Tree). l) made (makes_sorted ps items names old.rule) r new (slots_collected (Decodes (open_choice ps) itself) made old r new k)
-
 -- A SET, whose unknown components are the last part if there may be some.
-pub inside_set : (extensible : Bool) (tag : Tag) (ps : Parts) (names : List (List ℕ)) (old new : State) (r : Result (List Tree) DecodeError) → DecodesSetPartContentsBy extensible ps items names old r new
+pub inside_set : (extensible : Bool) (tag : Tag) (ps : Parts) (names : List (List ℕ)) (old new : State) (r : Result (List Tree) DecodeError) → DecodesSetPartContents extensible ps items names old r new
     → DecodesBy (ReadsInside (sorted_set extensible tag ps)) items old r new
 unfolding ReadsInside
-inside_set true tag ps names old new r k = sorted_set_reads ps names old new r k
-inside_set false tag ps names old new r k =
-    let d = set_reads ps names old new r k in
-    record {
-      stays = d.stays;
-      end = d.end;
-      exact = Exact-same (SetReads ps old.rule old.depth old.closing) (ReadsInside (sorted_set false tag ps) old.rule old.depth old.closing) old.rest (outcome items r new.rest)
-          (contents_sorted old.rule ps old.depth old.closing old.closing old.rest) (contents_listed old.rule ps old.depth old.closing old.closing old.rest) d.exact;
-    }
+inside_set extensible tag ps names old new r k = members_decode extensible ps items names old r new k
 
 -- Memory runs out before anything is read.
 pub sequence_runs_out : (ps : Parts) (old : State) (e : DecodeError) → IsOutOfMemory e.kind → DecodesBy (ReadsSequence ps) items old (Err e) old

@@ -256,9 +256,6 @@ module _ (f : ℕ → Shape) (levels : ℕ) (P : ℕ → ℕ → State → List 
   pub components_same : (l k : List Component) (s : State) (o n : Spans) → l ≡ k → Lists (λ b es. ComponentsListed f levels P l b s es) o n → Lists (λ b es. ComponentsListed f levels P k b s es) o n
   components_same l k s o n q x = subst (λ z. Lists (λ b es. ComponentsListed f levels P z b s es) o n) q x
 
-  pub members_same : (e g : Bool) (l k : List Component) (s : State) (o n : Spans) → e ≡ g → l ≡ k → Lists (λ b es. MembersListed f levels P e l b s es) o n → Lists (λ b es. MembersListed f levels P g k b s es) o n
-  members_same e g l k s o n p q x = subst (λ y. Lists (λ b es. MembersListed f levels P y k b s es) o n) p (subst (λ z. Lists (λ b es. MembersListed f levels P e z b s es) o n) q x)
-
   -- ---- elements
 
   pub elements_listed : (id n : ℕ) (s last : State) (o v : Spans) → Ended last.closing last.rest

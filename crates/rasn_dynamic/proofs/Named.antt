@@ -39,6 +39,9 @@ unfolding IsLawful
 members_lawful tag ps (inl h) = (h.1.1, h.1.2)
 members_lawful tag ps (inr e) = cc
 
+pub named_lawful : (f : ℕ → Shape) (tag : Tag) (ps qs : List Component) → qs ≡ named_components f ps → IsReadable (set_among tag (components_by f ps)) → AreLawfulMembers (components_by f qs)
+named_lawful f tag ps qs e h = subst AreLawfulMembers (sym (ap (components_by f) e ∙ named_is f ps)) (members_lawful tag (components_by f ps) h)
+
 -- ---- whether there may be unknown ones
 
 -- The last component is unknown values, or isn't.

@@ -39,7 +39,7 @@ use Rattle.rasn_dynamic.proofs.OpenChoice.{lawful_at}
 use Rattle.rasn_dynamic.specs.Calls.{IsComponentFor}
 use Rattle.rasn_dynamic.proofs.Members.{member_got, unknown_got}
 use Rattle.rasn_dynamic.proofs.Pieces.{part_lawful}
-use Rattle.rasn_dynamic.proofs.Named.{named_is, members_lawful}
+use Rattle.rasn_dynamic.proofs.Named.{named_lawful}
 
 -- ---- octets among others
 
@@ -117,7 +117,7 @@ lawful_part f (Sequence tag ps) h s k next here (done, p, after, e, l, b, t) =
     let all = lawful_parts f ps.items (seq_lawful tag (components_by f ps.items) h) in
     subst (λ z. IsReadable (f z)) (sym b) (component_lawful f done p after (subst (λ z. AreReadable (components_by f z)) e all))
 lawful_part f (Set name tag ps) h s k next here (p, e, b, done, bs, d) =
-    let are = subst AreLawfulMembers (sym (named_is f ps.items)) (members_lawful tag (components_by f ps.items) h) in
+    let are = named_lawful f tag ps.items (named_components f ps.items) refl h in
     subst (λ z. IsReadable (f z)) (sym b) (part_lawful f (named_components f ps.items) k p are e)
 lawful_part f (SequenceOf tag id c) h s k next here (b, vs, l, d, n) = subst (λ z. IsReadable (f z)) (sym b) (list_lawful tag (f id.0) c.size h)
 lawful_part f (SetOf tag id c) h s k next here (b, vs, l, d, n) = subst (λ z. IsReadable (f z)) (sym b) (set_of_lawful tag (f id.0) c.size h)

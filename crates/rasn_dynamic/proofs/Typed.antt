@@ -17,7 +17,7 @@ use Rattle.rasn_de.specs.Constructed.{sequence_header, list_header, prefix_heade
 use Rattle.rasn_de.specs.SequenceOf.{ReadsElements, ReadsSetElements, DecodesElements, DecodesElementsInOrder, DecodesSized}
 use Rattle.rasn_de.proofs.Leaves.Outcomes.{alloc_failed}
 use Rattle.rasn_de.proofs.Constructed.Opening.{kept}
-use Rattle.rasn_de.specs.SetPartTypes.{DecodesSetPartContentsBy}
+use Rattle.rasn_de.specs.SetPartTypes.{DecodesSetPartContents}
 use Rattle.rasn_de.proofs.Constructed.Steps.{rules_same, inside_by}
 use Rattle.rasn_de.proofs.Constructed.SetOfElements.{each_decodes, in_order_decodes, each_leaves, in_order_leaves}
 use Rattle.rasn_de.proofs.Constructed.SequenceOf.{sized}
@@ -163,15 +163,16 @@ module _ (f : ℕ → Shape) (qs : List Component) (ps : Vec Component Global) (
   sequence_made tag ts h = (ts, refl, subst (λ l. DecodesComponents (components_by f l) old (Ok ts) new) same h)
 
 -- Of a SET, these are its named components, and there are unknown ones or not.
+module _ (f : ℕ → Shape) (extensible : Bool) (qs : List Component) (ps : List Component) (marked : extensible ≡ is_extensible f ps) (same : qs ≡ named_components f ps) where
+  pub named_so : (P : Bool → List Component → Type 0) → P extensible qs → P (is_extensible f ps) (named_components f ps)
+  named_so P h = subst (λ l. P (is_extensible f ps) l) same (subst (λ b. P b qs) marked h)
+
 module _ (f : ℕ → Shape) (extensible : Bool) (qs : List Component) (ps : Vec Component Global) (marked : extensible ≡ is_extensible f ps.items) (same : qs ≡ named_components f ps.items) (old new : State) where
-  named_so : (P : Bool → List Component → Type 0) → P extensible qs → P (is_extensible f ps.items) (named_components f ps.items)
-  named_so P h = subst (λ l. P (is_extensible f ps.items) l) same (subst (λ b. P b qs) marked h)
+  pub set_fails : (name : String Global) (tag : Tag) (e : DecodeError) → MayRunOut (DecodesSetPartContents extensible (components_by f qs) items (names_of qs)) old (Err e) new → DecodesContents f (Set name tag ps) old (Err e) new
+  set_fails name tag e h = named_so f extensible qs ps.items marked same (λ b l. MayRunOut (DecodesSetPartContents b (components_by f l) items (names_of l)) old (Err e) new) h
 
-  pub set_fails : (name : String Global) (tag : Tag) (e : DecodeError) → MayRunOut (DecodesSetPartContentsBy extensible (components_by f qs) items (names_of qs)) old (Err e) new → DecodesContents f (Set name tag ps) old (Err e) new
-  set_fails name tag e h = named_so (λ b l. MayRunOut (DecodesSetPartContentsBy b (components_by f l) items (names_of l)) old (Err e) new) h
-
-  pub set_made : (name : String Global) (tag : Tag) (ts : List Tree) → DecodesSetPartContentsBy extensible (components_by f qs) items (names_of qs) old (Ok ts) new → DecodesContents f (Set name tag ps) old (Ok (items ts)) new
-  set_made name tag ts h = (ts, refl, named_so (λ b l. DecodesSetPartContentsBy b (components_by f l) items (names_of l) old (Ok ts) new) h)
+  pub set_made : (name : String Global) (tag : Tag) (ts : List Tree) → DecodesSetPartContents extensible (components_by f qs) items (names_of qs) old (Ok ts) new → DecodesContents f (Set name tag ps) old (Ok (items ts)) new
+  set_made name tag ts h = (ts, refl, named_so f extensible qs ps.items marked same (λ b l. DecodesSetPartContents b (components_by f l) items (names_of l) old (Ok ts) new) h)
 
 -- Memory runs out before anything is read.
 pub set_runs_out : (f : ℕ → Shape) (name : String Global) (tag : Tag) (ps : Vec Component Global) (old : State) (e : DecodeError) → IsOutOfMemory e.kind → DecodesContents f (Set name tag ps) old (Err e) old
@@ -187,10 +188,10 @@ module _ (f : ℕ → Shape) where
       subst (λ z. DecodesBy (ReadsInside (type_by f (Sequence tag ps))) itself o (Ok z) n) (sym e) (inside_seq_got tag (components_by f ps.items) o n ts h.0)
   sequence_contents tag ps o (Err e) n h = inside_seq tag (components_by f ps.items) o n e h.0
 
-  set_inside : (tag : Tag) (ps : List Component) (o : State) (r : Result (List Tree) DecodeError) (n : State) → DecodesSetPartContentsBy (is_extensible f ps) (components_by f (named_components f ps)) items (names_of (named_components f ps)) o r n
+  set_inside : (tag : Tag) (ps : List Component) (o : State) (r : Result (List Tree) DecodeError) (n : State) → DecodesSetPartContents (is_extensible f ps) (components_by f (named_components f ps)) items (names_of (named_components f ps)) o r n
       → DecodesBy (ReadsInside (set_among tag (components_by f ps))) items o r n
   set_inside tag ps o r n h = inside_set (is_extensible f ps) tag (known_parts (components_by f ps)) (names_of (named_components f ps)) o n r
-      (subst (λ z. DecodesSetPartContentsBy (is_extensible f ps) z items (names_of (named_components f ps)) o r n) (named_is f ps) h)
+      (subst (λ z. DecodesSetPartContents (is_extensible f ps) z items (names_of (named_components f ps)) o r n) (named_is f ps) h)
 
   set_contents : (name : String Global) (tag : Tag) (ps : Vec Component Global) (o : State) (r : Result Tree DecodeError) (n : State) → DecodesContents f (Set name tag ps) o r n → DecodesBy (ReadsInside (type_by f (Set name tag ps))) itself o r n
   set_contents name tag ps o (Ok t) n (ts, e, h) = subst (λ z. DecodesBy (ReadsInside (type_by f (Set name tag ps))) itself o (Ok z) n) (sym e) (set_inside tag ps.items o (Ok ts) n h)

@@ -1,4 +1,4 @@
-use Rattle.std.proofs.Common.{◌≡◌, ℕ, ◌+◌, ◌*◌, ◌++◌, map, length, List, Option, None, true}
+use Rattle.std.proofs.Common.{◌≡◌, ℕ, ◌+◌, ◌*◌, ◌++◌, map, length, List, [], Option, None, true, false}
 use Rattle.rasn_schema.specs.declared.types.Component.{Component}
 use Rattle.rasn_dynamic.specs.Faults.{ComponentsInTurn}
 use Rattle.rasn_types.specs.Tags.{IsStrict}
@@ -6,6 +6,7 @@ use Rattle.rasn_types.specs.Order.{IsLess, AreAscending}
 use Rattle.rasn_types.proofs.SetOf.Ascending.{EndsBy}
 use Rattle.rasn_types.specs.Shapes.{Tree}
 use Rattle.rasn_de.specs.SequenceOf.{DecodesInTurn, DecodesInTurnFrom}
+use Rattle.rasn_de.proofs.OwnTypes.SetPartTypes.{ReadTo}
 use Rattle.rasn_schema.specs.Trees.{tree_of}
 use Rattle.rasn_schema.specs.Shapes.{shape_of_type, components_by, AreReadable}
 use Rattle.rasn_dynamic.specs.Inside.{DecodesTree}
@@ -15,7 +16,6 @@ use Rattle.rasn_dynamic.specs.Sets.{HoldsUnknown}
 use Rattle.rasn_dynamic.specs.Found.{FoundFit}
 use Rattle.rasn_dynamic.specs.Listed.{Lists, Inside, InTurn, PartListed, ComponentAt, MemberListed}
 use Rattle.rasn_dynamic.proofs.Contents.{PartsSoFar}
-use Rattle.rasn_dynamic.proofs.AllMembers.{ReadMembers}
 use Rattle.rasn_dynamic.proofs.FitsRead.{FitSoFar}
 use Rattle.rasn_dynamic.proofs.reader.+decode.Given as goal
 
@@ -96,7 +96,7 @@ decreases-decode_sequence-loop-rest g l = length l.rest
 
 abbrev pub invariant-decode_set-loop-last : goal.invariant-decode_set-loop-last
 invariant-decode_set-loop-last g l = ((slots : List (Option Tree)) × (us : List Tree) × HoldsSlots g.M.Made.KEEP l.found.items slots × HoldsUnknown g.M.Made.KEEP l.unknown.items us
-    × ReadMembers l.extensible (components_by (shape_of_type l.types l.below) l.components) (names_of l.components) l.fn.decoder l.decoder l.last l.twice slots us)
+    × ReadTo l.extensible (components_by (shape_of_type l.types l.below) l.components) (names_of l.components) l.fn.decoder l.decoder l.last l.twice slots us × (l.extensible ≡ false → us ≡ []))
     × FoundFit (λ k v. g.M.Made.KEEP ≡ true → Fits l.types l.below k v) l.components l.found.items × (g.M.Made.KEEP ≡ true → EachFits AreOctets l.unknown.items) × (l.trace ≡ None)
     × (n : ℕ) × Lists (λ b es. InTurn (λ k. MemberListed (shape_of_type l.types l.below) l.below (Inside l.types l.below) l.extensible l.components b) n l.fn.decoder l.decoder es) l.fn.spans l.spans
 
