@@ -35,42 +35,6 @@ use Rattle.rasn_dynamic.specs.Written.{WritesInside, EncodesPartIf, EncodesInsid
 use Rattle.rasn_dynamic.proofs.Named.{named_by, named_is}
 use Rattle.rasn_dynamic.proofs.WrittenInside.{leaves_by, left_as_it_was}
 
--- ---- a part alone
-
-module _ {F : Type 0} (p : Presence) (s : Shape) (t : Tree) (rule : Codec) (v w : View) (e : v ≡ started rule false) where
-  here : (r : Result (Unit {0}) EncodeError) → EncodesPartIf F p s t v r w → EncodesPartIf F p s t (started rule false) r w
-  here r h = subst (λ z. EncodesPartIf F p s t z r w) e h
-
-  pub alone_refused : (x : EncodeError) → EncodesPartIf F p s t v (Err x) w → F → IsEncodeOutOfMemory x.kind ⊎ NoEncodingOfPart p rule s t
-  alone_refused x h f = elim ((here (Err x) h).does f).refused.why [
-    | inl m ↦ inl m
-    | inr (inl n) ↦ inr n
-    | inr (inr n) ↦ absurd (n.keeps refl)
-  ]
-
-  pub alone_rules : (x : EncodeError) → EncodesPartIf F p s t v (Err x) w → x.codec ≡ rule
-  alone_rules x h = h.rules ∙ ap (λ (z : View). z.rule) e
-
-  module _ (h : EncodesPartIf F p s t v (Ok tt) w) where
-    put : AppendsPart p s t (started rule false) w
-    put = let g = here (Ok tt) h in (g.does g.fits).ok
-
-    pub alone_ok : {A : Type 0} (r : Result (Vec ℕ A) EncodeError) → IfOk r (λ l. l.items ≡ w.last.octets) → IfOk r (λ l. F × WritesPart p (Bytes rule s) t l.items)
-    alone_ok r k = IfOk-weaker r _ _ (λ l i. (h.fits, subst (WritesPart p (Bytes rule s) t) (sym (i ∙ ap (λ (x : View). x.last.octets) put.appended)) put.defined)) k
-
-    module _ {R : Type 0} (r : Result R EncodeError) (k : IfErr r (λ x. IsAllocError w.rule x ⊎ ((AreTagsInOrder w → ⊥) × IsOrderError w.rule x))) where
-      memory : IfErr r (IsAllocError rule)
-      memory = IfErr-weaker r _ _ (λ x. elim [
-        | inl m ↦ subst (λ (c : Codec). IsAllocError c x) (ap (λ (y : View). y.rule) put.appended) m
-        | inr n ↦ absurd (n.0 (subst AreTagsInOrder (sym put.appended) tt))
-      ]) k
-
-      pub output_refused : F → IfErr r (λ x. IsEncodeOutOfMemory x.kind ⊎ NoEncodingOfPart p rule s t)
-      output_refused f = IfErr-weaker r _ _ (λ x m. inl (ap (λ (y : EncodeError). y.kind) m)) memory
-
-      pub output_codec : IfErr r (λ x. x.codec ≡ rule)
-      output_codec = IfErr-weaker r _ _ (λ x m. ap (λ (y : EncodeError). y.codec) m) memory
-
 -- ---- the part among those after it
 
 pub part_lacks : (p : Presence) (s : Shape) (t : Tree) (rule : Codec) (e : EncodeError) → IsEncodeOutOfMemory e.kind ⊎ NoEncodingOfPart p rule s t → FailsAtPart p s t rule e
