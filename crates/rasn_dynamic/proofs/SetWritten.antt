@@ -1,5 +1,5 @@
 -- The components of a SET, each of which is written alone, are put in the order of their tags.
-use Rattle.std.proofs.Common.{◌≡◌, ◌≢◌, ◌⊎◌, inl, inr, ℕ, zero, suc, ◌-◌, ◌<◌, ◌≤◌, Bool, true, false, true≢false, List, [], ◌∷◌, ◌++◌, map, length, drop, get_or, Option, Some, None, Vec, Result, Ok, Err, OnOk, IfOk, IfErr, refl, sym, ap, ap₂, subst, ◌∙◌, arith, length-append}
+use Rattle.std.proofs.Common.{◌≡◌, ◌≢◌, ◌⊎◌, inl, inr, ℕ, zero, suc, ◌-◌, ◌<◌, ◌≤◌, Bool, true, false, true≢false, List, [], ◌∷◌, ◌++◌, map, length, drop, get_or, Option, Some, None, Vec, Result, Err, OnOk, IfOk, IfErr, refl, sym, ap, ap₂, subst, ◌∙◌, arith, length-append}
 use Rattle.std.specs.Prelude.{slice_get}
 use Rattle.std.proofs.Math.Seq.{drop-cons}
 use Rattle.std.proofs.lemmas.List.{append-nil, drop_all}
@@ -13,10 +13,10 @@ use Rattle.rasn_types.specs.Trees.{list_tree}
 use Rattle.rasn_types.specs.Shapes.{Shape, IsFirst, Tree, items, numbers, done, joined, Parts, part, count, Presence, looked_for}
 use Rattle.rasn_types.specs.Shapes.Parts.{none}
 use Rattle.rasn_types.specs.Bytes.{Bytes, WritesPart, IsPlacedBy}
-use Rattle.rasn_enc.specs.View.{View, started, appended, fresh, AreTagsInOrder, LeavesOthers}
-use Rattle.rasn_enc.specs.Primitive.{IsAllocError, IsOrderError}
+use Rattle.rasn_enc.specs.View.{View, appended, fresh, LeavesOthers}
+use Rattle.rasn_enc.specs.Primitive.{IsAllocError}
 use Rattle.rasn_enc.specs.Any.{IsUntaggedInSetError}
-use Rattle.rasn_enc.specs.Encoding.{AppendsPart, NoEncodingOfPart}
+use Rattle.rasn_enc.specs.Encoding.{NoEncodingOfPart}
 use Rattle.rasn_enc.specs.SortedSet.{with_component, octets_in, HoldsParts, HaveNoPlaces, FailsAtComponents, HoldsUnknown, LackTag}
 use Rattle.rasn_enc.specs.declared.ber.enc.set_parts.SetComponent.{SetComponent}
 use Rattle.rasn_enc.proofs.OwnTypes.SortedSet.{holds_absent, holds_present, first_lacks, place_lacks, others_lack, no_parts, contents_held, unknown_held, unknown_fails}
@@ -31,9 +31,9 @@ use Rattle.rasn_schema.proofs.OpenEnds.{among_not_unknown}
 use Rattle.rasn_schema.proofs.Lists.{but_last}
 use Rattle.rasn_schema.proofs.UnknownEnds.{known_of}
 use Rattle.rasn_dynamic.specs.Sets.{is_extensible, named_components}
-use Rattle.rasn_dynamic.specs.Written.{WritesInside, EncodesPartIf, EncodesInside, EncodesInsideIf, HoldsSet, FailsAtSet, AddsPart, FailsAtPart}
+use Rattle.rasn_dynamic.specs.Written.{WritesInside, EncodesInside, EncodesInsideIf, HoldsSet, FailsAtSet, AddsPart, FailsAtPart}
 use Rattle.rasn_dynamic.proofs.Named.{named_by, named_is}
-use Rattle.rasn_dynamic.proofs.WrittenInside.{leaves_by, left_as_it_was}
+use Rattle.rasn_dynamic.proofs.WrittenInside.{left_as_it_was}
 
 -- ---- the part among those after it
 
@@ -53,8 +53,9 @@ module _ {F : Type 0} (p : Presence) (s : Shape) (t : Tree) (rule : Codec) (octe
           subst (HoldsParts extensible (part p s ps) (joined t tree) rule) (sym e) (holds_present extensible p s ps t tree rule xs q x.tag octets x i o.1 n refl k),
     )
 
-    pub not_placed : ((tag : Tag) → IsPlacedBy rule (IsFirst s) octets tag → ⊥) → (e : EncodeError) → FailsAtPart p s t rule e
-    not_placed l e = λ extensible ps tree. inr (place_lacks extensible p s ps t tree rule octets o.1 n l)
+-- It is written, and has no place.
+pub not_placed : (p : Presence) (s : Shape) (t : Tree) (rule : Codec) (octets : List ℕ) → WritesPart p (Bytes rule s) t octets → octets ≢ [] → ((tag : Tag) → IsPlacedBy rule (IsFirst s) octets tag → ⊥) → (e : EncodeError) → FailsAtPart p s t rule e
+not_placed p s t rule octets w n l e = λ extensible ps tree. inr (place_lacks extensible p s ps t tree rule octets w n l)
 
 -- ---- unknown components
 

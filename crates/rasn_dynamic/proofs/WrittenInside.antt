@@ -1,20 +1,19 @@
 -- What is written inside values that hold others.
-use Rattle.std.proofs.Common.{◌≡◌, ◌≢◌, ◌≤◌, ◌⊎◌, inl, inr, ◌∷◌, [], ◌++◌, ℕ, List, map, length, Bool, true, false, true≢false, nat_eq, Option, None, Some, Result, Ok, Err, OnOk, OnErr, IfErr, refl, sym, ap, ◌∙◌, subst, rules, tests}
+use Rattle.std.proofs.Common.{◌≡◌, ◌≢◌, ◌≤◌, ◌⊎◌, inl, inr, ◌∷◌, [], ◌++◌, ℕ, List, map, length, Bool, true, false, true≢false, nat_eq, None, Some, Result, Ok, Err, OnOk, IfErr, refl, sym, ap, ◌∙◌, subst, rules, tests}
 use Rattle.rasn_types.specs.declared.types.tag.Tag.{Tag}
 use Rattle.rasn_types.specs.declared.types.constraints.Constraints.{Constraints}
 use Rattle.rasn_types.specs.declared.error.encode.EncodeError.{EncodeError}
 use Rattle.rasn_types.specs.Errors.{IsEncodeOutOfMemory}
 use Rattle.rasn_types.specs.Contents.{joined_lists}
 use Rattle.rasn_types.specs.Shapes.{Tree, items, joined, set_elements, Shape, prefix, seq, set, sorted_set, list, set_of, Parts, part, own_tag, Key, Presence, required, addition, optional_by, default_by, Admits}
-use Rattle.rasn_types.specs.Bytes.{Bytes, WritesPart, fields_of, PartsWritten, TagsOf, Each, AreAscending, IsLess}
+use Rattle.rasn_types.specs.Bytes.{Bytes, WritesPart, Each, AreAscending, IsLess}
 use Rattle.rasn_types.proofs.SetOf.Same.{items_one}
-use Rattle.rasn_types.proofs.Encoding.SameAsItself.{one_writing, parts_one_writing}
-use Rattle.rasn_enc.specs.View.{View, OpenList, fresh, kept_of, appended, AreTagsInOrder, LeavesOthers}
+use Rattle.rasn_types.proofs.Encoding.SameAsItself.{one_writing}
+use Rattle.rasn_enc.specs.View.{View, OpenList, fresh, appended, LeavesOthers}
 use Rattle.rasn_enc.specs.Encoding.{AppendsEncoding, AppendsPart, EncodeFails, EncodePartFails}
 use Rattle.rasn_enc.specs.Sequence.{EncodesParts}
 use Rattle.rasn_enc.specs.SequenceOf.{FailsAtElements}
 use Rattle.rasn_enc.proofs.OwnTypes.Sequence.{appended-nil, part_appended, parts_end}
-use Rattle.rasn_enc.proofs.OwnTypes.Set.{tags_one}
 use Rattle.rasn_enc.proofs.Constructed.SequenceOf.{ElementsSoFar, element_refused, each_at}
 use Rattle.rasn_enc.proofs.Constructed.SetOf.{SetOfSoFar, set_elements_one, front_is, order_front, set_of_element_refused}
 use Rattle.rasn_schema.specs.declared.types.Component.{Component}
@@ -22,24 +21,23 @@ use Rattle.rasn_schema.specs.declared.value.Value.{Value, Chosen, Chosen'}
 use Rattle.rasn_schema.specs.Kinds.{kind}
 use Rattle.rasn_schema.proofs.OtherKinds.{is_other, not_chosen}
 use Rattle.rasn_schema.specs.Trees.{tree_of}
-use Rattle.std.proofs.Common.{zero, suc, ◌<◌, arith}
+use Rattle.std.proofs.Common.{zero, suc, arith}
 use Rattle.rasn_types.specs.Shapes.{chosen}
 use Rattle.rasn_enc.specs.Choice.{IsAlternative}
 use Rattle.rasn_schema.specs.Shapes.{components_by, alternatives_by, choice_among, presence_by, presence_in, presence_of}
 use Rattle.rasn_schema.proofs.Presences.{left_out_by}
 use Rattle.rasn_types.specs.Trees.{list_tree}
 use Rattle.std.specs.Prelude.{slice_get}
-use Rattle.rasn_enc.specs.Primitive.{IsAllocError, IsOrderError}
+use Rattle.rasn_enc.specs.Primitive.{IsAllocError}
 use Rattle.rasn_enc.specs.Errors.{FailsAtSize}
 use Rattle.rasn_schema.specs.declared.types.Alternative.{Alternative}
 use Rattle.rasn_schema.proofs.Lists.{some_is}
-use Rattle.rasn_schema.specs.Fitting.{ComponentFits, ComponentsFit, EachFits, AreItems, IsListOf, IsChosen}
+use Rattle.rasn_schema.specs.Fitting.{ComponentFits, ComponentsFit, EachFits, IsChosen}
 use Rattle.rasn_dynamic.specs.Written.{WritesInside, EncodesPartIf, Encodes, EncodesIf, EncodesInside, EncodesInsideIf, EncodesPartsIf, EncodesElements, EncodesElementsIf, EncodesSetOf, EncodesSetOfIf, OnlyFitting, IsEnclosed, HoldsOthers}
 use Rattle.rasn_schema.specs.Fitting.{IsLeftOutAs}
 use Rattle.rasn_dynamic.proofs.OnlyFitting.{fits_as}
 use Rattle.rasn_dynamic.proofs.OpenChoiceWritten.{among_encoded, among_refused}
 use Rattle.rasn_schema.proofs.Fitted.{FitSoFar, EachSoFar}
-use Rattle.rasn_schema.proofs.ListsOf.{list_to}
 
 octets_of_fresh : (l : OpenList) (keeps : Bool) → l ≡ fresh keeps → l.octets ≡ []
 octets_of_fresh l keeps e = ap (λ (x : OpenList). x.octets) e

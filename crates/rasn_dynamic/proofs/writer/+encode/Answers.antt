@@ -1,4 +1,4 @@
-use Rattle.std.proofs.Common.{arith, ◌≡◌, ◌≤◌, ◌-◌, map, true, false, refl, sym, ap, ◌∙◌, subst, inr, ◌≢◌, [], rules, ◌++◌}
+use Rattle.std.proofs.Common.{arith, ◌≡◌, ◌≤◌, ◌-◌, map, true, false, refl, sym, ap, ◌∙◌, subst, inr, ◌≢◌, [], rules}
 use Rattle.std.proofs.lemmas.List.{length-map}
 use Rattle.rasn_types.specs.declared.error.encode.EncodeError.{EncodeError}
 use Rattle.rasn_types.specs.Shapes.{Admits, IsFirst}
@@ -6,7 +6,7 @@ use Rattle.rasn_de.proofs.Leaves.Returns.{residual}
 use Rattle.rasn_enc.proofs.Constructed.SequenceOf.{ElementsSoFar, split_is, elements_start, elements_more, elements_end}
 use Rattle.rasn_enc.proofs.Constructed.SetOf.{SetOfSoFar, set_of_start, set_of_more, set_of_end, none_left, fall_refused}
 use Rattle.rasn_schema.specs.Trees.{tree_of}
-use Rattle.rasn_schema.specs.Shapes.{shape_of_type, type_by, components_by, key_of, presence_in}
+use Rattle.rasn_schema.specs.Shapes.{shape_of_type, components_by, key_of, presence_in}
 use Rattle.rasn_schema.proofs.TypeShapes.{shape_below}
 use Rattle.rasn_schema.proofs.Lists.{split, nothing_left, read_at}
 use Rattle.rasn_schema.specs.Fitting.{Fits, ComponentsFit, EachFits, AlternativeFits}
@@ -15,7 +15,7 @@ use Rattle.rasn_dynamic.proofs.OnlyFitting.{form_refused, fits_as, fits_same}
 use Rattle.rasn_schema.proofs.Fitted.{fits_is, fits_none, fits_zero, no_alternative, alternative_there, fit_start, fit_more, fit_short, fit_end, each_start, each_more, each_end}
 use Rattle.rasn_schema.proofs.ListsOf.{list_to, list_from, set_to, set_from, no_list, no_set, list_means, set_means}
 use Rattle.rasn_dynamic.proofs.WrittenInside.{left_as_it_was, leaves_by, leaves_both, prefix_inside, seq_inside, size_refused, list_inside, set_of_inside, list_unsized, set_of_unsized, written_start, written_more, alternative_written, parts_ended, part_skipped, part_written, not_opened, no_choice, none_when, some_when, component_refused, element_not_written, set_element_not_written}
-use Rattle.std.proofs.lemmas.Result.{on_ok_weaker, IfErr-weaker}
+use Rattle.std.proofs.lemmas.Result.{on_ok_weaker}
 use Rattle.rasn_types.specs.Bytes.{IsPlacedBy}
 use Rattle.rasn_enc.proofs.OwnTypes.SortedSet.{no_octets, some_octets}
 use Rattle.rasn_dynamic.proofs.SetWritten.{part_lacks, left_out, put_among, not_placed, other_number, unknown_fits, is_last, fit_from, unknown_not, unknown_first, none_held, holds_more, holds_all, component_fails, set_refused, set_appended, set_inside}
@@ -185,7 +185,7 @@ pub add_component-returns-in_default-clause-refused : goal.add_component-returns
 add_component-returns-in_default-clause-refused t c f =
     let n : c.in_ok-octets.octets.items ≢ [] = some_octets _ _ _ (search rules) c.is_empty.ensures c.if-is_empty.false in
     let s = shape_of_type c.args.types.now c.args.below c.args.component.now.type_id.0 in
-    not_placed _ s _ c.args.encoder.now.rule c.in_ok-octets.octets.items c.in_ok-octets.ensures.ok [] n
+    not_placed _ s _ c.args.encoder.now.rule c.in_ok-octets.octets.items c.in_ok-octets.ensures.ok.1 n
     (λ tag k. c.in_default.ensures tag (subst (λ l. IsPlacedBy c.codec-rule.result (IsFirst s) l tag) (sym c.deref.ensures.value) (subst (λ r. IsPlacedBy r (IsFirst s) c.in_ok-octets.octets.items tag) (sym c.codec-rule.ensures) k))) c.no_place.result
 
 pub add_component-returns-clause-ok : goal.add_component-returns-clause-ok
