@@ -747,11 +747,12 @@ pub fn decode_present<'input, M: Made>(
 }
 
 /// Reads the components of a SET, in any order, up to the end of the contents (X.690 8.11). None was found yet. If the SET is
-/// extensible, unknown components are last in what is returned, as one value.
+/// extensible, the last value that is returned is the list of the unknown components.
 ///
 /// # Errors
-/// Those of the first component that isn't read, `NoValidChoice` with the name of the SET for a tag that is no component's, unless the SET is extensible. Once all are read, `DuplicateField` with the name of the first component that was
-/// read before, else `MissingField` with that of the first required one that is missing.
+/// Those of the first component that isn't read: `NoValidChoice` with the name of the SET for a tag that is no component's, unless
+/// the SET is extensible. Once all are read, `DuplicateField` with the name of the first component that was read before, else
+/// `MissingField` with that of the first required one that is missing.
 #[cycle(decode)]
 fn decode_set<'input, M: Made>(
     decoder: &mut Decoder<'input>,
