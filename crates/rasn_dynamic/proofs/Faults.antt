@@ -42,7 +42,7 @@ use Rattle.rasn_dynamic.specs.Calls.{IsDefaultOf, IsMade}
 use Rattle.rasn_dynamic.specs.Typed.{element_count}
 use Rattle.rasn_dynamic.specs.declared.trace.Fault.{Fault}
 use Rattle.rasn_dynamic.specs.declared.refusal.Refusal.{Refusal}
-use Rattle.rasn_dynamic.specs.Faults.{IsMarked, IsStepped, IsMoved, octets_after, IsWithin, IsComponentAt, ComponentsInTurn, IsMember, IsMemberAt, IsElementAt, IsNextAlternative, IsAlternativeAt, IsOnly, IsPart, Leads, HasPath, IsFault, IsFaultIn, IsFaultOf, IsFaultInside, Told, TellsOf, IsRefusalOf, IsLocated, FailsAt, FailsItself, ReadsEachPart, StopsAtChoice, StopsInElements, StopsInOrder, StopsInSequence, StopsInSet, StopsAtComponent, IsDefaultWritten, TakesNothing, start}
+use Rattle.rasn_dynamic.specs.Faults.{IsMarked, IsStepped, IsMoved, octets_after, IsWithin, IsComponentAt, ComponentsInTurn, IsMember, IsMemberAt, IsElementAt, IsNextAlternative, IsAlternativeAt, IsOnly, IsPart, Leads, HasPath, IsFault, IsFaultIn, IsFaultOf, IsFaultInside, Told, TellsOf, IsRefusalOf, IsLocated, FailsAt, FailsItself, ReadsEachPart, StopsAtChoice, StopsInElements, StopsInOrder, StopsInSequence, StopsAtComponent, IsDefaultWritten, TakesNothing, start}
 
 -- ---- lists
 
@@ -403,10 +403,6 @@ itself_leaf f ty s X h r = any_err (λ e. X → FailsItself f ty s e) (λ e x. h
 
 pub present_stops : (f : ℕ → Shape) (p : Component) (s : State) (X : Type 0) (r : Result Value DecodeError) → IfErr r (λ e. X → IsDefaultWritten f p s e) → IfErr r (λ e. X → StopsAtComponent f p s e)
 present_stops f p s X r h = if_err_map (λ e. X → IsDefaultWritten f p s e) (λ e. X → StopsAtComponent f p s e) (λ e a x. inr (inl (a x))) r h
-
-pub set_ends : {T : Type 0} (f : ℕ → Shape) (extensible : Bool) (ps : List Component) (s here : State) (done : List Tree) (bs : List (List ℕ)) → DecodesInTurnFrom (DecodesTree (choice_by extensible (components_by f ps))) s done bs here → Ended here.closing here.rest
-    → (X : Type 0) (r : Result T DecodeError) → IfErr r (λ e. X → StopsInSet f extensible ps s e)
-set_ends f extensible ps s here done bs d n X r = any_err (λ e. X → StopsInSet f extensible ps s e) (λ e x. inr (done, bs, here, d, inl n)) r
 
 out_of_memory_told : (s : State) (x : DecodeError) → IsErrorOf OutOfMemory s x → IsOutOfMemory x.kind
 out_of_memory_told s x w = subst (λ (z : DecodeError). IsOutOfMemory z.kind) (sym w) refl
