@@ -276,6 +276,7 @@ fn set_components(
     if extensible {
         let last = named.len();
         let value = &values[last];
+        // The unknown values of a schema are required, so that they aren't left out.
         if is_left_out(&components[last], value) {
             return Err(out_of_room(encoder));
         }
