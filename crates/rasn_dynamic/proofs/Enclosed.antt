@@ -1,5 +1,5 @@
 -- A value that holds others is written if its contents are.
-use Rattle.std.proofs.Common.{◌≡◌, ◌⊎◌, inl, inr, ◌<◌, ◌∷◌, [], ℕ, List, Bool, length, Result, Ok, Err, OnOk, OnErr, IfErr, refl, sym, ap, ◌∙◌, subst, arith}
+use Rattle.std.proofs.Common.{◌≡◌, ◌⊎◌, inl, inr, ◌<◌, ◌∷◌, [], ℕ, List, false, length, Result, Ok, Err, OnOk, OnErr, IfErr, refl, sym, ap, ◌∙◌, subst, arith}
 use Rattle.std.proofs.lemmas.List.{length-append}
 use Rattle.std.proofs.lemmas.Result.{on_ok_weaker, IfErr-weaker}
 use Rattle.rasn_types.specs.declared.types.codec.Codec.{Codec}
@@ -15,24 +15,24 @@ use Rattle.rasn_enc.specs.Encoding.{AppendsEncoding, EncodeFails}
 use Rattle.rasn_enc.proofs.Leaves.Primitive.{cons_begins, encoded_one}
 use Rattle.rasn_dynamic.specs.Written.{WritesInside, IsEnclosed, EncodesIf, EncodesInsideIf}
 
-module _ (rule : Codec) (t : Tree) (u : Tag) (keeps : Bool) where
-  bytes_of : (s : Shape) → IsEnclosed s u keeps → (c o : List ℕ) → WritesInside rule s t c → ConstructedEncoding rule u c o → Bytes rule s t o
+module _ (rule : Codec) (t : Tree) (u : Tag) where
+  bytes_of : (s : Shape) → IsEnclosed s u → (c o : List ℕ) → WritesInside rule s t c → ConstructedEncoding rule u c o → Bytes rule s t o
   unfolding Bytes WritesInside
   bytes_of (leaf kind tag bounds) i c o w d = absurd i
   bytes_of (any tag) i c o w d = absurd i
-  bytes_of (prefix tag s) (e, k) c o w d = (c, w, subst (λ z. ConstructedEncoding rule z c o) e d)
+  bytes_of (prefix tag s) e c o w d = (c, w, subst (λ z. ConstructedEncoding rule z c o) e d)
   bytes_of (choice ps) i c o w d = absurd i
   bytes_of (open_choice ps) i c o w d = absurd i
   bytes_of (option tag s) i c o w d = absurd i
-  bytes_of (seq tag ps) (e, k) c o (ts, bs, f, p, j) d = (ts, bs, f, p, subst (λ z. ConstructedEncoding rule z (joined_lists bs) o) e (subst (λ z. ConstructedEncoding rule u z o) j d))
-  bytes_of (set tag ps) (e, k) c o (ts, bs, tags, f, p, n, h, a, j) d = (ts, bs, tags, f, p, n, h, a, subst (λ z. ConstructedEncoding rule z (joined_lists bs) o) e (subst (λ z. ConstructedEncoding rule u z o) j d))
-  bytes_of (sorted_set extensible tag ps) (e, k) c o (ts, us, bs, cs, es, ds, f, p, m, n, q, a, j) d =
+  bytes_of (seq tag ps) e c o (ts, bs, f, p, j) d = (ts, bs, f, p, subst (λ z. ConstructedEncoding rule z (joined_lists bs) o) e (subst (λ z. ConstructedEncoding rule u z o) j d))
+  bytes_of (set tag ps) e c o (ts, bs, tags, f, p, n, h, a, j) d = (ts, bs, tags, f, p, n, h, a, subst (λ z. ConstructedEncoding rule z (joined_lists bs) o) e (subst (λ z. ConstructedEncoding rule u z o) j d))
+  bytes_of (sorted_set extensible tag ps) e c o (ts, us, bs, cs, es, ds, f, p, m, n, q, a, j) d =
       (ts, us, bs, cs, es, ds, f, p, m, n, q, a, subst (λ z. ConstructedEncoding rule z (contents_of ds) o) e (subst (λ z. ConstructedEncoding rule u z o) j d))
-  bytes_of (list tag s size) (e, k) c o (ts, bs, f, m, p, j) d = (ts, bs, f, m, p, subst (λ z. ConstructedEncoding rule z (joined_lists bs) o) e (subst (λ z. ConstructedEncoding rule u z o) j d))
-  bytes_of (set_of tag s size) (e, k) c o (ts, bs, f, m, p, a, j) d = (ts, bs, f, m, p, a, subst (λ z. ConstructedEncoding rule z (joined_lists bs) o) e (subst (λ z. ConstructedEncoding rule u z o) j d))
+  bytes_of (list tag s size) e c o (ts, bs, f, m, p, j) d = (ts, bs, f, m, p, subst (λ z. ConstructedEncoding rule z (joined_lists bs) o) e (subst (λ z. ConstructedEncoding rule u z o) j d))
+  bytes_of (set_of tag s size) e c o (ts, bs, f, m, p, a, j) d = (ts, bs, f, m, p, a, subst (λ z. ConstructedEncoding rule z (joined_lists bs) o) e (subst (λ z. ConstructedEncoding rule u z o) j d))
   bytes_of unknown i c o w d = absurd i
 
-  inside_of : (s : Shape) → IsEnclosed s u keeps → (o : List ℕ) → Bytes rule s t o → (c : List ℕ) × WritesInside rule s t c
+  inside_of : (s : Shape) → IsEnclosed s u → (o : List ℕ) → Bytes rule s t o → (c : List ℕ) × WritesInside rule s t c
   unfolding Bytes WritesInside
   inside_of (leaf kind tag bounds) i o b = absurd i
   inside_of (any tag) i o b = absurd i
@@ -47,7 +47,7 @@ module _ (rule : Codec) (t : Tree) (u : Tag) (keeps : Bool) where
   inside_of (set_of tag s size) i o (ts, bs, f, m, p, a, d) = (joined_lists bs, (ts, bs, f, m, p, a, refl))
   inside_of unknown i o b = absurd i
 
-  not_untagged : (s : Shape) → IsEnclosed s u keeps → IsUntaggedOpen s t → ⊥
+  not_untagged : (s : Shape) → IsEnclosed s u → IsUntaggedOpen s t → ⊥
   unfolding IsUntaggedOpen
   not_untagged (leaf kind tag bounds) i b = i
   not_untagged (any tag) i b = i
@@ -63,7 +63,7 @@ module _ (rule : Codec) (t : Tree) (u : Tag) (keeps : Bool) where
   not_untagged unknown i b = i
 
 -- v before the value was opened, w after its contents were written with the result q.
-module _ {F : Type 0} (s : Shape) (t : Tree) (tag : Tag) (keeps : Bool) (i : IsEnclosed s tag keeps) (v a w : View) (o : a ≡ opened v keeps) (q : Result (Unit {0}) EncodeError) (k : EncodesInsideIf F s t a q w) where
+module _ {F : Type 0} (s : Shape) (t : Tree) (tag : Tag) (i : IsEnclosed s tag) (v a w : View) (o : a ≡ opened v false) (q : Result (Unit {0}) EncodeError) (k : EncodesInsideIf F s t a q w) where
   pub is_below : IsBelow v w
   is_below = (k.keeps.rule ∙ ap (λ (x : View). x.rule) o, k.keeps.below ∙ ap (λ (x : View). x.below) o)
 
@@ -81,8 +81,8 @@ module _ {F : Type 0} (s : Shape) (t : Tree) (tag : Tag) (keeps : Bool) (i : IsE
   enclosed_ok (Ok tt) x f e h =
       let c = subst (λ z. OnOk z (WritesInside a.rule s t w.last.octets)) e (k.does f).ok in
       let d = subst (λ z. WritesInside z s t w.last.octets) rule_is c in
-      encoded_one (ConstructedEncoding v.rule tag w.last.octets) tag s t v x (h v is_below) (not_untagged v.rule t tag keeps s i)
-      (λ b g. cons_begins v.rule tag w.last.octets b g) (λ b g. bytes_of v.rule t tag keeps s i w.last.octets b d g)
+      encoded_one (ConstructedEncoding v.rule tag w.last.octets) tag s t v x (h v is_below) (not_untagged v.rule t tag s i)
+      (λ b g. cons_begins v.rule tag w.last.octets b g) (λ b g. bytes_of v.rule t tag s i w.last.octets b d g)
   enclosed_ok (Err y) x f e h = tt
 
   enclosed_err : (r : Result (Unit {0}) EncodeError) (x : View) → OnErr r ((y : View) → IsBelow y w → x ≡ y) → OnErr r (x ≡ v)
@@ -96,7 +96,7 @@ module _ {F : Type 0} (s : Shape) (t : Tree) (tag : Tag) (keeps : Bool) (i : IsE
       | inl m ↦ record { why = inl m }
       | inr n ↦ record {
         why = inr (inl (record {
-          none = λ octets b. let y = inside_of v.rule t tag keeps s i octets b in n y.0 (subst (λ z. WritesInside z s t y.0) (sym rule_is) y.1);
+          none = λ octets b. let y = inside_of v.rule t tag s i octets b in n y.0 (subst (λ z. WritesInside z s t y.0) (sym rule_is) y.1);
         }));
       }
     ]

@@ -34,5 +34,7 @@ pub mod LeadsTo
 pub mod WorkedFaults
 pub mod Shown
 pub mod Named
+pub mod LeastTags
+pub mod SetWritten
 pub mod AllMembers
 pub mod Members

@@ -28,6 +28,9 @@ cut_by : (b : Bool) (ps : List Component) → (if b then take (length ps - 1) ps
 cut_by true ps = take_but_last ps
 cut_by false ps = refl
 
+pub named_by : (f : ℕ → Shape) (ps : List Component) → named_components f ps ≡ known_of (is_extensible f ps) ps
+named_by f ps = cut_by (is_extensible f ps) ps
+
 pub named_is : (f : ℕ → Shape) (ps : List Component) → components_by f (named_components f ps) ≡ known_parts (components_by f ps)
 named_is f ps = ap (components_by f) (cut_by (ends_unknown (components_by f ps)) ps) ∙ sym (known_is f ps (ends_unknown (components_by f ps)) refl)
 

@@ -1,20 +1,19 @@
 -- What is written inside values that hold others.
-use Rattle.std.proofs.Common.{◌≡◌, ◌≢◌, ◌≤◌, ◌⊎◌, inl, inr, ◌∷◌, [], ◌++◌, ℕ, List, map, length, Bool, true, false, true≢false, nat_eq, Option, None, Some, Result, Ok, Err, OnOk, OnErr, IfErr, refl, sym, ap, ◌∙◌, subst, rules, tests}
+use Rattle.std.proofs.Common.{◌≡◌, ◌≢◌, ◌≤◌, ◌⊎◌, inl, inr, ◌∷◌, [], ◌++◌, ℕ, List, map, length, Bool, true, false, true≢false, nat_eq, None, Some, Result, Ok, Err, OnOk, IfErr, refl, sym, ap, ◌∙◌, subst, rules, tests}
 use Rattle.rasn_types.specs.declared.types.tag.Tag.{Tag}
 use Rattle.rasn_types.specs.declared.types.constraints.Constraints.{Constraints}
 use Rattle.rasn_types.specs.declared.error.encode.EncodeError.{EncodeError}
 use Rattle.rasn_types.specs.Errors.{IsEncodeOutOfMemory}
 use Rattle.rasn_types.specs.Contents.{joined_lists}
 use Rattle.rasn_types.specs.Shapes.{Tree, items, joined, set_elements, Shape, prefix, seq, set, sorted_set, list, set_of, Parts, part, own_tag, Key, Presence, required, addition, optional_by, default_by, Admits}
-use Rattle.rasn_types.specs.Bytes.{Bytes, WritesPart, fields_of, PartsWritten, TagsOf, Each, AreAscending, IsLess}
+use Rattle.rasn_types.specs.Bytes.{Bytes, WritesPart, Each, AreAscending, IsLess}
 use Rattle.rasn_types.proofs.SetOf.Same.{items_one}
-use Rattle.rasn_types.proofs.Encoding.SameAsItself.{one_writing, parts_one_writing}
-use Rattle.rasn_enc.specs.View.{View, OpenList, fresh, kept_of, appended, AreTagsInOrder, LeavesOthers}
+use Rattle.rasn_types.proofs.Encoding.SameAsItself.{one_writing}
+use Rattle.rasn_enc.specs.View.{View, OpenList, fresh, appended, LeavesOthers}
 use Rattle.rasn_enc.specs.Encoding.{AppendsEncoding, AppendsPart, EncodeFails, EncodePartFails}
 use Rattle.rasn_enc.specs.Sequence.{EncodesParts}
 use Rattle.rasn_enc.specs.SequenceOf.{FailsAtElements}
 use Rattle.rasn_enc.proofs.OwnTypes.Sequence.{appended-nil, part_appended, parts_end}
-use Rattle.rasn_enc.proofs.OwnTypes.Set.{tags_one}
 use Rattle.rasn_enc.proofs.Constructed.SequenceOf.{ElementsSoFar, element_refused, each_at}
 use Rattle.rasn_enc.proofs.Constructed.SetOf.{SetOfSoFar, set_elements_one, front_is, order_front, set_of_element_refused}
 use Rattle.rasn_schema.specs.declared.types.Component.{Component}
@@ -22,24 +21,23 @@ use Rattle.rasn_schema.specs.declared.value.Value.{Value, Chosen, Chosen'}
 use Rattle.rasn_schema.specs.Kinds.{kind}
 use Rattle.rasn_schema.proofs.OtherKinds.{is_other, not_chosen}
 use Rattle.rasn_schema.specs.Trees.{tree_of}
-use Rattle.std.proofs.Common.{zero, suc, ◌<◌, arith}
+use Rattle.std.proofs.Common.{zero, suc, arith}
 use Rattle.rasn_types.specs.Shapes.{chosen}
 use Rattle.rasn_enc.specs.Choice.{IsAlternative}
 use Rattle.rasn_schema.specs.Shapes.{components_by, alternatives_by, choice_among, presence_by, presence_in, presence_of}
 use Rattle.rasn_schema.proofs.Presences.{left_out_by}
 use Rattle.rasn_types.specs.Trees.{list_tree}
 use Rattle.std.specs.Prelude.{slice_get}
-use Rattle.rasn_enc.specs.Primitive.{IsAllocError, IsOrderError}
+use Rattle.rasn_enc.specs.Primitive.{IsAllocError}
 use Rattle.rasn_enc.specs.Errors.{FailsAtSize}
 use Rattle.rasn_schema.specs.declared.types.Alternative.{Alternative}
 use Rattle.rasn_schema.proofs.Lists.{some_is}
-use Rattle.rasn_schema.specs.Fitting.{ComponentFits, ComponentsFit, EachFits, AreItems, IsListOf, IsChosen}
-use Rattle.rasn_dynamic.specs.Written.{WritesInside, EncodesPartIf, Encodes, EncodesIf, EncodesInside, EncodesInsideIf, EncodesPartsIf, EncodesElements, EncodesElementsIf, EncodesSetOf, EncodesSetOfIf, OnlyFitting, IsEnclosed, HoldsOthers, keeps_tags}
+use Rattle.rasn_schema.specs.Fitting.{ComponentFits, ComponentsFit, EachFits, IsChosen}
+use Rattle.rasn_dynamic.specs.Written.{WritesInside, EncodesPartIf, Encodes, EncodesIf, EncodesInside, EncodesInsideIf, EncodesPartsIf, EncodesElements, EncodesElementsIf, EncodesSetOf, EncodesSetOfIf, OnlyFitting, IsEnclosed, HoldsOthers}
 use Rattle.rasn_schema.specs.Fitting.{IsLeftOutAs}
 use Rattle.rasn_dynamic.proofs.OnlyFitting.{fits_as}
 use Rattle.rasn_dynamic.proofs.OpenChoiceWritten.{among_encoded, among_refused}
 use Rattle.rasn_schema.proofs.Fitted.{FitSoFar, EachSoFar}
-use Rattle.rasn_schema.proofs.ListsOf.{list_to}
 
 octets_of_fresh : (l : OpenList) (keeps : Bool) → l ≡ fresh keeps → l.octets ≡ []
 octets_of_fresh l keeps e = ap (λ (x : OpenList). x.octets) e
@@ -49,9 +47,6 @@ behind_nothing v w keeps octets f e = sym (e ∙ ap (λ l. l ++ octets) (octets_
 
 no_tags : (v : View) → v.last ≡ fresh false → v.last.tags ≡ None
 no_tags v f = ap (λ (x : OpenList). x.tags) f
-
-keeps_some : (v : View) → v.last ≡ fresh true → v.last.tags ≢ None
-keeps_some v f e = let g : Some [] ≡ None = sym (ap (λ (x : OpenList). x.tags) f) ∙ e in cc
 
 pub left_as_it_was : (v w : View) → w ≡ v → LeavesOthers v w
 left_as_it_was v w e = record { rule = ap (λ (x : View). x.rule) e; below = ap (λ (x : View). x.below) e }
@@ -100,69 +95,6 @@ module _ (tag : Tag) (ps : Parts) (t u : Tree) (e : t ≡ u) (v w : View) where
       | inr (inl n) ↦ inr (λ c b. n.none b.0 b.1 (sym e ∙ b.2) b.3)
       | inr (inr n) ↦ absurd (n.keeps (no_tags v f))
     ];
-  }
-
-  -- ---- a SET
-
-  pub set_inside_refused : (x : EncodeError) → EncodesParts ps u v (Err x) w → EncodesInside (set tag ps) t v (Err x) w
-  unfolding WritesInside
-  set_inside_refused x k = record {
-    ok = tt;
-    refused = elim k.refused.why [
-      | inl m ↦ inl m
-      | inr (inl n) ↦ inr (λ c b. n.none b.0 b.1 (sym e ∙ b.3) b.4)
-      | inr (inr n) ↦ inr (λ c b. n.bare b.0 b.1 (sym e ∙ b.3) b.4 b.5)
-    ];
-  }
-
-  module _ (f : v.last ≡ fresh true) (k : EncodesParts ps u v (Ok tt) w) where
-    kept_are : kept_of w.last.tags ≡ k.ok.tags
-    kept_are = ap (λ (x : View). kept_of x.last.tags) k.ok.appended ∙ tags_behind v.last.tags (ap (λ (x : OpenList). x.tags) f)
-      where
-        tags_behind : (o : Option (List Tag)) → o ≡ Some [] → kept_of (Rattle.std.proofs.Common.option_map (λ kept. kept ++ k.ok.tags) o) ≡ k.ok.tags
-        tags_behind None h = cc
-        tags_behind (Some l) h = let g : l ≡ [] = cc in ap (λ m. m ++ k.ok.tags) g
-
-    pub set_inside_ok : AreTagsInOrder w → EncodesInside (set tag ps) t v (Ok tt) w
-    unfolding WritesInside
-    set_inside_ok order = record {
-      ok = (
-        k.ok.trees,
-        k.ok.encoded,
-        k.ok.tags,
-        e ∙ k.ok.is,
-        k.ok.written,
-        k.ok.tagged (keeps_some v f),
-        k.ok.heads (keeps_some v f),
-        subst (AreAscending Rattle.rasn_types.specs.Tags.IsTagBelow) kept_are order,
-        sym (behind_nothing v w true (joined_lists k.ok.encoded) f (ap (λ (x : View). x.last.octets) k.ok.appended)),
-      );
-      refused = tt;
-    }
-
-    pub set_inside_unordered : (AreTagsInOrder w → ⊥) → (x : EncodeError) → EncodesInside (set tag ps) t v (Err x) w
-    unfolding WritesInside
-    set_inside_unordered falls x = record {
-      ok = tt;
-      refused = inr (λ c b.
-          let p = k.ok in
-          let i : p.trees ≡ b.0 = items_one p.trees b.0 (sym p.is ∙ (sym e ∙ b.3)) in
-          let j : p.encoded ≡ b.1 = parts_one_writing ps v.rule p.trees p.encoded b.1 p.written (subst (λ l. PartsWritten (fields_of v.rule ps) l b.1) (sym i) b.4) in
-          let q : b.2 ≡ p.tags = tags_one b.1 b.2 p.tags b.6 (subst (λ l. TagsOf l p.tags) j (p.heads (keeps_some v f))) in
-          falls (subst (AreAscending Rattle.rasn_types.specs.Tags.IsTagBelow) (q ∙ sym kept_are) b.7));
-    }
-
--- Of components that fit, their tags are in ascending order, or they fall.
-module _ (P : List Value → Type 0) (tag : Tag) (ps : Parts) (t u : Tree) (e : t ≡ u) (v w : View) (vs : List Value) (value : Value) (is : IsListOf vs value) (f : v.last ≡ fresh true) (h : EncodesPartsIf (P vs) ps u v (Ok tt) w) where
-  pub set_ordered : AreTagsInOrder w → EncodesInsideIf (AreItems P value) (set tag ps) t v (Ok tt) w
-  set_ordered order = record { fits = list_to P vs value is h.fits; does = λ g. set_inside_ok tag ps t u e v w f (h.does h.fits) order; keeps = h.keeps; rules = tt }
-
-  pub set_unordered : (AreTagsInOrder w → ⊥) → (x : EncodeError) → IsOrderError w.rule x → EncodesInsideIf (AreItems P value) (set tag ps) t v (Err x) w
-  set_unordered falls x m = record {
-    fits = tt;
-    does = λ g. set_inside_unordered tag ps t u e v w f (h.does h.fits) falls x;
-    keeps = h.keeps;
-    rules = ap (λ (y : EncodeError). y.codec) m ∙ h.keeps.rule;
   }
 
 -- The size isn't admitted.
@@ -342,23 +274,14 @@ module _ (g : ℕ → Value → Type 0) where
 pub next_element : (P : Value → Type 0) (rest after : List Value) (v : Value) → rest ≡ v ∷ after → EachFits P rest → P v × EachFits P after
 next_element P rest after v e h = subst (EachFits P) e h
 
-pub holds_others : (s : Shape) (tag : Tag) (keeps : Bool) → IsEnclosed s tag keeps → HoldsOthers s
-holds_others (prefix tag s) u k h = tt
-holds_others (seq tag ps) u k h = tt
-holds_others (set tag ps) u k h = tt
-holds_others (sorted_set extensible tag ps) u k h = tt
-holds_others (list tag s size) u k h = tt
-holds_others (set_of tag s size) u k h = tt
-holds_others _ u k h = absurd h
-
-pub keeps_as : (s : Shape) (tag : Tag) (keeps : Bool) → IsEnclosed s tag keeps → keeps_tags s ≡ keeps
-keeps_as (prefix tag s) u k h = sym h.1
-keeps_as (seq tag ps) u k h = sym h.1
-keeps_as (set tag ps) u k h = sym h.1
-keeps_as (sorted_set extensible tag ps) u k h = sym h.1
-keeps_as (list tag s size) u k h = sym h.1
-keeps_as (set_of tag s size) u k h = sym h.1
-keeps_as _ u k h = absurd h
+pub holds_others : (s : Shape) (tag : Tag) → IsEnclosed s tag → HoldsOthers s
+holds_others (prefix tag s) u h = tt
+holds_others (seq tag ps) u h = tt
+holds_others (set tag ps) u h = tt
+holds_others (sorted_set extensible tag ps) u h = tt
+holds_others (list tag s size) u h = tt
+holds_others (set_of tag s size) u h = tt
+holds_others _ u h = absurd h
 
 -- ---- a component or an element isn't written
 

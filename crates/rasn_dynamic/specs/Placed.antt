@@ -1,9 +1,9 @@
--- Where the components of a SET are written.
-use Rattle.std.specs.Prelude.{◌≡◌, ℕ, List, [], ◌∷◌}
+-- Where a component of a SET is written.
+use Rattle.std.specs.Prelude.{Option, Some, None}
 use Rattle.rasn_types.specs.declared.types.tag.Tag.{Tag}
 use Rattle.rasn_types.specs.Tags.{IsTagBelow}
-use Rattle.rasn_types.specs.Shapes.{Parts, IsFirstOf}
 
--- Of the tags that these alternatives may begin with, this is the least.
-abbrev pub HasLeastOf : Tag → Parts → Type 0
-HasLeastOf tag ps = IsFirstOf ps tag × ((n : Tag) → IsFirstOf ps n → IsTagBelow n tag → ⊥)
+-- The least of these tags, if there are any.
+abbrev pub IsLeast : (Tag → Type 0) → Option Tag → Type 0
+IsLeast P None = (n : Tag) → P n → ⊥
+IsLeast P (Some tag) = P tag × ((n : Tag) → P n → IsTagBelow n tag → ⊥)

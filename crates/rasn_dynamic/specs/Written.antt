@@ -1,16 +1,19 @@
 -- The contents of a value that holds others, as they are written.
-use Rattle.std.specs.Prelude.{◌≡◌, ◌⊎◌, ◌≤◌, ℕ, List, ◌++◌, Bool, true, false, length, Result, OnOk, OnErr, IfErr}
+use Rattle.std.specs.Prelude.{◌≡◌, ◌⊎◌, ◌≤◌, ℕ, List, ◌++◌, Bool, length, Result, OnOk, OnErr, IfErr}
 use Rattle.rasn_types.specs.declared.types.codec.Codec.{Codec}
 use Rattle.rasn_types.specs.declared.types.tag.Tag.{Tag}
 use Rattle.rasn_types.specs.declared.error.encode.EncodeError.{EncodeError}
 use Rattle.rasn_types.specs.Errors.{IsEncodeOutOfMemory}
 use Rattle.rasn_types.specs.Tags.{IsTagBelow}
 use Rattle.rasn_types.specs.Contents.{joined_lists}
-use Rattle.rasn_types.specs.Shapes.{Tree, items, IsSetTree, set_elements, count, Presence, required, Shape, leaf, any, prefix, choice, open_choice, option, seq, set, sorted_set, list, set_of, unknown, Parts, Admits}
+use Rattle.rasn_types.specs.Shapes.{Tree, items, joined, IsSetTree, set_elements, count, Presence, required, Shape, leaf, any, prefix, choice, open_choice, option, seq, set, sorted_set, list, set_of, unknown, Parts, part, Admits}
 use Rattle.rasn_types.specs.Bytes.{Bytes, fields_of, PartsWritten, NoneUntaggedOpen, TagsOf, Component, ComponentsOf, UnknownComponents, ComesBefore, contents_of, Each, AreAscending, AreInOrder, IsReordered, IsLess}
 use Rattle.rasn_enc.specs.View.{View, LeavesOthers}
 use Rattle.rasn_enc.specs.Encoding.{AppendsPart, EncodePartFails}
 use Rattle.rasn_enc.specs.Sequence.{EncodesParts}
+use Rattle.rasn_enc.specs.SortedSet.{HoldsParts, FailsAtComponents}
+use Rattle.rasn_enc.specs.declared.ber.enc.set_parts.SetComponent.{SetComponent}
+use Rattle.rasn_schema.specs.Shapes.{ends_unknown, known_parts}
 use Rattle.rasn_enc.specs.SequenceOf.{AppendsElements, AppendsSetOf, FailsAtElement, FailsAtElements}
 
 unfoldable pub WritesInside : Codec → Shape → Tree → List ℕ → Type 0
@@ -31,20 +34,20 @@ WritesInside rule unknown t c = ⊥
 WritesInside rule (set_of tag s size) t c = (ts : List Tree) × (bs : List (List ℕ)) × (t ≡ set_elements (items ts)) × Admits ◌≤◌ size (length ts) × Each (Bytes rule s) ts bs
     × AreAscending IsLess bs × (c ≡ joined_lists bs)
 
--- The tag of a value, and whether the writer keeps the tags of its contents.
-abbrev pub IsEnclosed : Shape → Tag → Bool → Type 0
-IsEnclosed (leaf kind tag bounds) u keeps = ⊥
-IsEnclosed (any tag) u keeps = ⊥
-IsEnclosed (prefix tag s) u keeps = (u ≡ tag) × (keeps ≡ false)
-IsEnclosed (choice ps) u keeps = ⊥
-IsEnclosed (open_choice ps) u keeps = ⊥
-IsEnclosed (option tag s) u keeps = ⊥
-IsEnclosed (seq tag ps) u keeps = (u ≡ tag) × (keeps ≡ false)
-IsEnclosed (set tag ps) u keeps = (u ≡ tag) × (keeps ≡ true)
-IsEnclosed (sorted_set extensible tag ps) u keeps = (u ≡ tag) × (keeps ≡ false)
-IsEnclosed (list tag s size) u keeps = (u ≡ tag) × (keeps ≡ false)
-IsEnclosed (set_of tag s size) u keeps = (u ≡ tag) × (keeps ≡ false)
-IsEnclosed unknown u keeps = ⊥
+-- The tag of a value that holds others.
+abbrev pub IsEnclosed : Shape → Tag → Type 0
+IsEnclosed (leaf kind tag bounds) u = ⊥
+IsEnclosed (any tag) u = ⊥
+IsEnclosed (prefix tag s) u = u ≡ tag
+IsEnclosed (choice ps) u = ⊥
+IsEnclosed (open_choice ps) u = ⊥
+IsEnclosed (option tag s) u = ⊥
+IsEnclosed (seq tag ps) u = u ≡ tag
+IsEnclosed (set tag ps) u = u ≡ tag
+IsEnclosed (sorted_set extensible tag ps) u = u ≡ tag
+IsEnclosed (list tag s size) u = u ≡ tag
+IsEnclosed (set_of tag s size) u = u ≡ tag
+IsEnclosed unknown u = ⊥
 
 -- The shape of a value that holds others, whose contents are written between its header and its end.
 abbrev pub HoldsOthers : Shape → Type 0
@@ -111,7 +114,19 @@ EncodesElementsIf F s ts v r w = OnlyFitting F (EncodesElements s ts v r w) (Lea
 abbrev pub EncodesSetOfIf : Type 0 → Shape → List Tree → View → Result (Unit {0}) EncodeError → View → Type 0
 EncodesSetOfIf F s ts v r w = OnlyFitting F (EncodesSetOf s ts v r w) (LeavesOthers v w) v.rule r
 
--- whether tags are kept inside a value of the shape
-abbrev pub keeps_tags : Shape → Bool
-keeps_tags (set tag ps) = true
-keeps_tags _ = false
+-- ---- the components of a SET, each of which is written alone
+
+-- The writer holds the components of a SET in the order of their tags.
+abbrev pub HoldsSet : Parts → Tree → Codec → List SetComponent → Type 0
+HoldsSet ps tree rule xs = HoldsParts (ends_unknown ps) (known_parts ps) tree rule xs
+
+abbrev pub FailsAtSet : Parts → Tree → Codec → EncodeError → Type 0
+FailsAtSet ps tree rule e = FailsAtComponents (ends_unknown ps) (known_parts ps) tree rule e
+
+-- One more part is put among those after it, or is left out.
+abbrev pub AddsPart : Presence → Shape → Tree → Codec → List SetComponent → List SetComponent → Type 0
+AddsPart p s t rule xs ys = (extensible : Bool) (ps : Parts) (tree : Tree) → HoldsParts extensible ps tree rule xs → HoldsParts extensible (part p s ps) (joined t tree) rule ys
+
+-- This part isn't written, whatever is after it.
+abbrev pub FailsAtPart : Presence → Shape → Tree → Codec → EncodeError → Type 0
+FailsAtPart p s t rule e = (extensible : Bool) (ps : Parts) (tree : Tree) → FailsAtComponents extensible (part p s ps) (joined t tree) rule e

@@ -1,14 +1,17 @@
 //! Writes values that hold no other values.
-ghost use Rattle.std.specs.Prelude.{◌≡◌, OnErr, IfOk, IfErr, MatchOption, map};
-ghost use Rattle.rasn_types.specs.Shapes.{bits, numbers, leaf, any, unknown, looked_for, enumerated};
+ghost use Rattle.std.specs.Prelude.{◌≡◌, true, OnErr, IfOk, IfErr, MatchOption, map};
+ghost use Rattle.rasn_types.specs.Shapes.{bits, numbers, joined, done, leaf, any, unknown, looked_for, enumerated};
+ghost use Rattle.rasn_types.specs.Shapes.Parts.{none};
 ghost use Rattle.rasn_types.specs.Trees.{unconstrained};
 ghost use Rattle.rasn_schema.specs.Trees.{tree_of};
 ghost use Rattle.rasn_schema.specs.Shapes.{kind_of, numbers_of};
 ghost use Rattle.rasn_schema.specs.Fitting.{BitsFit, FitsLeaf, IsNumber, AreOctets, AreItems, EachFits};
 ghost use Rattle.rasn_enc.specs.Primitive.{IsAllocError};
+ghost use Rattle.rasn_enc.specs.SortedSet.{HoldsParts, FailsAtComponents};
 ghost use Rattle.rasn_dynamic.specs.Written.{Encodes, EncodesIf};
 
 use rasn_enc::ber::enc::Encoder;
+use rasn_enc::ber::enc::set_parts::{SetComponent, unknown_components};
 use rasn_enc::enc::Encode;
 use rasn_schema::{LeafKind, NamedNumber, Value, is_listed, items_of, leaf_fits};
 use rasn_types::error::{EncodeError, EncodeErrorKind};
@@ -174,6 +177,26 @@ pub fn encode_unknown_values(encoder: &mut Encoder, value: &Value<'_>) -> Result
     };
     match copy_unknown(encoder.alloc(), values) {
         Ok(Some(values)) => encoder.encode_unknown(&values),
+        Ok(None) => Err(other_form(encoder)),
+        Err(_) => Err(out_of_room(encoder)),
+    }
+}
+
+/// Returns the unknown components of a SET, a list of octets, in the order of their tags (X.680 27).
+pub fn unknown_as_components(
+    encoder: &Encoder,
+    value: &Value<'_>,
+) -> Result<Vec<SetComponent>, EncodeError>
+    ensures ok { IfOk result (λ v. AreItems (EachFits AreOctets) value.now × HoldsParts true none (joined (tree_of value.now) done) encoder.now.rule v.items) }
+    ensures refused { AreItems (EachFits AreOctets) value.now → IfErr result (FailsAtComponents true none (joined (tree_of value.now) done) encoder.now.rule) }
+    ensures rules { IfErr result (λ e. e.codec ≡ encoder.now.rule) }
+{
+    let Some(values) = items_of(value) else {
+        return Err(other_form(encoder));
+    };
+    let alloc = encoder.alloc();
+    match copy_unknown(alloc, values) {
+        Ok(Some(copies)) => unknown_components(alloc, encoder.codec(), &copies.values),
         Ok(None) => Err(other_form(encoder)),
         Err(_) => Err(out_of_room(encoder)),
     }

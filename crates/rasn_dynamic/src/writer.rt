@@ -1,20 +1,26 @@
 //! Writes a value of a type.
-ghost use Rattle.std.specs.Prelude.{◌≡◌, None, map};
+ghost use Rattle.std.specs.Prelude.{◌≡◌, ◌⊎◌, None, false, map, OnOk, IfOk, IfErr};
 ghost use Rattle.rasn_types.specs.Tags.{eoc};
 ghost use Rattle.rasn_types.specs.Trees.{list_tree};
+ghost use Rattle.rasn_types.specs.Bytes.{Bytes, WritesPart};
+ghost use Rattle.rasn_types.specs.Errors.{IsEncodeOutOfMemory};
+ghost use Rattle.rasn_enc.specs.Any.{IsUntaggedInSetError};
+ghost use Rattle.rasn_enc.specs.Encoding.{NoEncodingOfPart};
 ghost use Rattle.rasn_enc.specs.View.{fresh};
 ghost use Rattle.rasn_enc.specs.Primitive.{IsOrderError};
 ghost use Rattle.rasn_schema.specs.Trees.{tree_of};
 ghost use Rattle.rasn_schema.specs.Shapes.{shape_of_type, type_by, alternatives_by, choice_among, set_among, components_by, presence_in};
 ghost use Rattle.rasn_schema.specs.Fitting.{AlternativeFits, IsChosen, ComponentFits, ComponentsFit, EachFits, FitsBy, Fits};
-ghost use Rattle.rasn_dynamic.specs.Written.{EncodesIf, EncodesPartIf, EncodesInsideIf, EncodesPartsIf, EncodesElementsIf, EncodesSetOfIf, IsEnclosed, HoldsOthers, keeps_tags};
+ghost use Rattle.rasn_dynamic.specs.Written.{EncodesIf, EncodesPartIf, EncodesInsideIf, EncodesPartsIf, EncodesElementsIf, EncodesSetOfIf, IsEnclosed, HoldsOthers, HoldsSet, FailsAtSet, AddsPart, FailsAtPart};
 
-use crate::place::{add_places, places_of_unknown, unknown_number};
+use crate::place::place_tag;
 use crate::set::named_components;
 use crate::write_leaf::{
-    encode_leaf, encode_number, encode_open_value, encode_unknown_values, other_form,
+    encode_leaf, encode_number, encode_open_value, encode_unknown_values, other_form, out_of_room,
+    unknown_as_components,
 };
-use rasn_enc::ber::enc::Encoder;
+use rasn_enc::ber::enc::set_parts::{SetComponent, insert_component};
+use rasn_enc::ber::enc::{Encoder, EncoderOptions};
 use rasn_schema::{
     Alternative, Component, Type, TypeId, Value, elements_of, is_left_out, items_of, type_at,
 };
@@ -28,6 +34,18 @@ fn out_of_order(encoder: &Encoder) -> EncodeError
     EncodeError {
         kind: EncodeErrorKind::CodecSpecific {
             inner: CodecEncodeError::Ber(BerEncodeErrorKind::SetOutOfOrder),
+        },
+        codec: encoder.codec(),
+    }
+}
+
+/// Returns the error that a component doesn't begin with an identifier, so that its place isn't known.
+fn no_place(encoder: &Encoder) -> EncodeError
+    ensures { IsUntaggedInSetError encoder.now.rule result }
+{
+    EncodeError {
+        kind: EncodeErrorKind::CodecSpecific {
+            inner: CodecEncodeError::Ber(BerEncodeErrorKind::AnyInSet),
         },
         codec: encoder.codec(),
     }
@@ -81,15 +99,11 @@ fn encode_type(
             alternatives,
             value,
         ),
-        Type::Tagged { tag, .. } => { encode_inside(encoder, types, below, ty, *tag, false, value) }
-        Type::Sequence { tag, .. } => {
-            encode_inside(encoder, types, below, ty, *tag, false, value)
-        }
-        Type::Set { tag, .. } => encode_inside(encoder, types, below, ty, *tag, false, value),
-        Type::SequenceOf { tag, .. } => {
-            encode_inside(encoder, types, below, ty, *tag, false, value)
-        }
-        Type::SetOf { tag, .. } => { encode_inside(encoder, types, below, ty, *tag, false, value) }
+        Type::Tagged { tag, .. } => { encode_inside(encoder, types, below, ty, *tag, value) }
+        Type::Sequence { tag, .. } => { encode_inside(encoder, types, below, ty, *tag, value) }
+        Type::Set { tag, .. } => encode_inside(encoder, types, below, ty, *tag, value),
+        Type::SequenceOf { tag, .. } => { encode_inside(encoder, types, below, ty, *tag, value) }
+        Type::SetOf { tag, .. } => { encode_inside(encoder, types, below, ty, *tag, value) }
     }
 }
 
@@ -121,13 +135,12 @@ fn encode_inside(
     below: usize,
     ty: &Type,
     tag: Tag,
-    keeps: bool,
     value: &Value<'_>,
 ) -> Result<(), EncodeError>
-    requires { IsEnclosed (type_by (shape_of_type types.now below) ty.now) tag keeps }
+    requires { IsEnclosed (type_by (shape_of_type types.now below) ty.now) tag }
     ensures { EncodesIf (FitsBy (Fits types.now below) ty.now value.now) (type_by (shape_of_type types.now below) ty.now) (tree_of value.now) encoder.old result encoder.new }
 {
-    encoder.open(keeps)?;
+    encoder.open(false)?;
     let outcome = encode_contents(encoder, types, below, ty, value);
     encoder.close(tag, outcome)
 }
@@ -142,7 +155,7 @@ fn encode_contents(
     value: &Value<'_>,
 ) -> Result<(), EncodeError>
     requires holds { HoldsOthers (type_by (shape_of_type types.now below) ty.now) }
-    requires fresh { encoder.old.last ≡ fresh (keeps_tags (type_by (shape_of_type types.now below) ty.now)) }
+    requires fresh { encoder.old.last ≡ fresh false }
     ensures { EncodesInsideIf (FitsBy (Fits types.now below) ty.now value.now) (type_by (shape_of_type types.now below) ty.now) (tree_of value.now) encoder.old result encoder.new }
 {
     match ty {
@@ -225,8 +238,8 @@ fn encode_component(
     encode_at(encoder, types, below, component.type_id, value)
 }
 
-/// Writes the components of a SET in the order of their tags (X.690 9.3, 10.3). If the SET is extensible, the last value is the list of
-/// unknown components, each of which is written where its tag belongs.
+/// Writes the components of a SET in the order of their tags (X.690 9.3, 10.3), whatever their order in the type. If there may be unknown components,
+/// the last value is the list of them, and each is written where its tag belongs.
 #[cycle(encode)]
 fn encode_set(
     encoder: &mut Encoder,
@@ -238,29 +251,95 @@ fn encode_set(
     requires { encoder.old.last ≡ fresh false }
     ensures { EncodesInsideIf (ComponentsFit (Fits types.now below) components.now values.now) (set_among eoc (components_by (shape_of_type types.now below) components.now)) (list_tree tree_of values.now) encoder.old result encoder.new }
 {
+    let found = set_components(encoder, types, below, components, values)?;
+    encoder.append_components(&found)
+}
+
+/// Writes each component of a SET alone, and returns them in the order of their tags.
+#[cycle(encode)]
+fn set_components(
+    encoder: &Encoder,
+    types: &[Type],
+    below: usize,
+    components: &[Component],
+    values: &[Value<'_>],
+) -> Result<Vec<SetComponent>, EncodeError>
+    ensures ok { IfOk result (λ v. ComponentsFit (Fits types.now below) components.now values.now × HoldsSet (components_by (shape_of_type types.now below) components.now) (list_tree tree_of values.now) encoder.now.rule v.items) }
+    ensures refused { ComponentsFit (Fits types.now below) components.now values.now → IfErr result (FailsAtSet (components_by (shape_of_type types.now below) components.now) (list_tree tree_of values.now) encoder.now.rule) }
+    ensures rules { IfErr result (λ e. e.codec ≡ encoder.now.rule) }
+{
     if values.len() != components.len() {
         return Err(other_form(encoder));
     }
     let (named, extensible) = named_components(types, below, components);
-    let mut unknown: &[Value<'_>] = &[];
+    let mut found = Vec::new(encoder.alloc());
     if extensible {
-        let Some(found) = items_of(&values[named.len()]) else {
-            return Err(other_form(encoder));
-        };
-        unknown = found;
-    }
-    let mut places = places_of_unknown(encoder, named.len(), unknown)?;
-    add_places(encoder, types, below, named, values, &mut places)?;
-    for place in &places {
-        match unknown_number(place.number, named.len()) {
-            Some(number) => encode_open_value(encoder, Tag::EOC, &unknown[number])?,
-            None => {
-                let id = named[place.number].type_id;
-                encode_at(encoder, types, below, id, &values[place.number])?;
-            }
+        let last = named.len();
+        let value = &values[last];
+        // The unknown values of a schema are required, so that they aren't left out.
+        if is_left_out(&components[last], value) {
+            return Err(out_of_room(encoder));
         }
+        found = unknown_as_components(encoder, value)?;
     }
-    Ok(())
+    let mut left = named.len();
+    while left > 0 {
+        left -= 1;
+        add_component(
+            encoder,
+            types,
+            below,
+            &named[left],
+            &values[left],
+            &mut found,
+        )?;
+    }
+    Ok(found)
+}
+
+/// Writes a component alone, and puts it among others where its tag belongs, if it isn't left out.
+#[cycle(encode)]
+fn add_component(
+    encoder: &Encoder,
+    types: &[Type],
+    below: usize,
+    component: &Component,
+    value: &Value<'_>,
+    found: &mut Vec<SetComponent>,
+) -> Result<(), EncodeError>
+    ensures ok { OnOk result (ComponentFits (Fits types.now below) component.now value.now × AddsPart (presence_in (shape_of_type types.now below) component.now) (shape_of_type types.now below component.now.type_id.0) (tree_of value.now) encoder.now.rule found.old.items found.new.items) }
+    ensures refused { ComponentFits (Fits types.now below) component.now value.now → IfErr result (FailsAtPart (presence_in (shape_of_type types.now below) component.now) (shape_of_type types.now below component.now.type_id.0) (tree_of value.now) encoder.now.rule) }
+    ensures rules { IfErr result (λ e. e.codec ≡ encoder.now.rule) }
+{
+    let octets = component_octets(encoder, types, below, component, value)?;
+    if octets.is_empty() {
+        return Ok(());
+    }
+    let rule = encoder.codec();
+    let Some(tag) = place_tag(types, below, rule, component.type_id, &octets) else {
+        return Err(no_place(encoder));
+    };
+    insert_component(found, SetComponent { tag, octets }, rule)
+}
+
+/// Writes a component alone, and returns its octets: none if it is left out.
+#[cycle(encode)]
+fn component_octets(
+    encoder: &Encoder,
+    types: &[Type],
+    below: usize,
+    component: &Component,
+    value: &Value<'_>,
+) -> Result<Vec<u8>, EncodeError>
+    ensures ok { IfOk result (λ v. ComponentFits (Fits types.now below) component.now value.now × WritesPart (presence_in (shape_of_type types.now below) component.now) (Bytes encoder.now.rule (shape_of_type types.now below component.now.type_id.0)) (tree_of value.now) v.items) }
+    ensures refused { ComponentFits (Fits types.now below) component.now value.now → IfErr result (λ e. IsEncodeOutOfMemory e.kind ⊎ NoEncodingOfPart (presence_in (shape_of_type types.now below) component.now) encoder.now.rule (shape_of_type types.now below component.now.type_id.0) (tree_of value.now)) }
+    ensures rules { IfErr result (λ e. e.codec ≡ encoder.now.rule) }
+{
+    let alloc = encoder.alloc();
+    let options = EncoderOptions::of(encoder.codec());
+    let mut alone = Encoder::over(alloc, options, Vec::new(alloc));
+    encode_component(&mut alone, types, below, component, value)?;
+    alone.output()
 }
 
 /// Writes elements, one after the other.

@@ -1,22 +1,27 @@
-use Rattle.std.proofs.Common.{arith, ◌≡◌, ◌≤◌, ◌-◌, map, true, false, refl, sym, ap, ◌∙◌, subst, inr}
+use Rattle.std.proofs.Common.{arith, ◌≡◌, ◌≤◌, ◌-◌, map, true, false, refl, sym, ap, ◌∙◌, subst, inr, ◌≢◌, [], rules}
 use Rattle.std.proofs.lemmas.List.{length-map}
 use Rattle.rasn_types.specs.declared.error.encode.EncodeError.{EncodeError}
-use Rattle.rasn_types.specs.Shapes.{Admits}
+use Rattle.rasn_types.specs.Shapes.{Admits, IsFirst}
 use Rattle.rasn_de.proofs.Leaves.Returns.{residual}
-use Rattle.rasn_enc.specs.View.{fresh}
 use Rattle.rasn_enc.proofs.Constructed.SequenceOf.{ElementsSoFar, split_is, elements_start, elements_more, elements_end}
 use Rattle.rasn_enc.proofs.Constructed.SetOf.{SetOfSoFar, set_of_start, set_of_more, set_of_end, none_left, fall_refused}
 use Rattle.rasn_schema.specs.Trees.{tree_of}
-use Rattle.rasn_schema.specs.Shapes.{shape_of_type, type_by, components_by, key_of}
+use Rattle.rasn_schema.specs.Shapes.{shape_of_type, components_by, key_of, presence_in}
 use Rattle.rasn_schema.proofs.TypeShapes.{shape_below}
 use Rattle.rasn_schema.proofs.Lists.{split, nothing_left, read_at}
 use Rattle.rasn_schema.specs.Fitting.{Fits, ComponentsFit, EachFits, AlternativeFits}
-use Rattle.rasn_dynamic.specs.Written.{keeps_tags}
 use Rattle.rasn_dynamic.proofs.Enclosed.{enclosed}
 use Rattle.rasn_dynamic.proofs.OnlyFitting.{form_refused, fits_as, fits_same}
 use Rattle.rasn_schema.proofs.Fitted.{fits_is, fits_none, fits_zero, no_alternative, alternative_there, fit_start, fit_more, fit_short, fit_end, each_start, each_more, each_end}
 use Rattle.rasn_schema.proofs.ListsOf.{list_to, list_from, set_to, set_from, no_list, no_set, list_means, set_means}
-use Rattle.rasn_dynamic.proofs.WrittenInside.{left_as_it_was, leaves_by, leaves_both, prefix_inside, seq_inside, set_inside_refused, set_ordered, set_unordered, size_refused, list_inside, set_of_inside, list_unsized, set_of_unsized, written_start, written_more, alternative_written, parts_ended, part_skipped, part_written, not_opened, no_choice, none_when, some_when, component_refused, element_not_written, set_element_not_written}
+use Rattle.rasn_dynamic.proofs.WrittenInside.{left_as_it_was, leaves_by, leaves_both, prefix_inside, seq_inside, size_refused, list_inside, set_of_inside, list_unsized, set_of_unsized, written_start, written_more, alternative_written, parts_ended, part_skipped, part_written, not_opened, no_choice, none_when, some_when, component_refused, element_not_written, set_element_not_written}
+use Rattle.std.proofs.lemmas.Result.{on_ok_weaker}
+use Rattle.rasn_types.specs.Bytes.{IsPlacedBy}
+use Rattle.rasn_enc.proofs.OwnTypes.SortedSet.{no_octets, some_octets}
+use Rattle.rasn_dynamic.proofs.SetWritten.{part_lacks, left_out, put_among, not_placed, other_number, unknown_fits, is_last, fit_from, unknown_not, unknown_first, none_held, holds_more, holds_all, component_fails, set_refused, set_appended, set_inside}
+use Rattle.rasn_dynamic.proofs.writer.+encode.Goals.{set_components-then-extensible+else-is_left_out+in_ok-found, set_components-else-extensible}
+use Rattle.rasn_types.specs.Tags.{eoc}
+use Rattle.rasn_types.specs.Trees.{list_tree}
 use Rattle.rasn_dynamic.proofs.writer.+encode.Goals as goal
 
 pub encode_at-returns-then-levels-eq0 : goal.encode_at-returns-then-levels-eq0
@@ -41,50 +46,44 @@ pub encode_choice-returns-in_default : goal.encode_choice-returns-in_default
 encode_choice-returns-in_default t c = form_refused _ (no_choice (AlternativeFits (Fits c.args.types.now c.args.below) c.args.alternatives.now) c.args.value.now c.in_default.not-Chosen) refl c.other_form.ensures
 
 pub encode_contents-returns-in-Tagged : goal.encode_contents-returns-in-Tagged
-encode_contents-returns-in-Tagged t c = rw c.in-Tagged.is (prefix_inside c.in-Tagged.tag ((shape_of_type c.args.types.now c.args.below) c.in-Tagged.inner.0) _ _ _ (subst (λ n. c.args.encoder.now.last ≡ fresh (keeps_tags (type_by (shape_of_type c.args.types.now c.args.below) n))) c.in-Tagged.is c.requires.fresh) _ c.encode_at.ensures)
+encode_contents-returns-in-Tagged t c = rw c.in-Tagged.is (prefix_inside c.in-Tagged.tag ((shape_of_type c.args.types.now c.args.below) c.in-Tagged.inner.0) _ _ _ c.requires.fresh _ c.encode_at.ensures)
 
 pub encode_contents-returns-in-Some : goal.encode_contents-returns-in-Some
 encode_contents-returns-in-Some t c = rw c.in-Sequence.is (fits_as _ (list_to (ComponentsFit (Fits c.args.types.now c.args.below) c.in-Sequence.components.items) _ _ c.in-Some.ensures) (list_from (ComponentsFit (Fits c.args.types.now c.args.below) c.in-Sequence.components.items) _ _ c.in-Some.ensures)
-    (λ k. seq_inside c.in-Sequence.tag (components_by (shape_of_type c.args.types.now c.args.below) c.in-Sequence.components.items) _ _ (list_means _ _ c.in-Some.ensures) _ _ (subst (λ n. c.args.encoder.now.last ≡ fresh (keeps_tags (type_by (shape_of_type c.args.types.now c.args.below) n))) c.in-Sequence.is c.requires.fresh) _ k) (rw (← c.deref.ensures.value) c.encode_components.ensures))
+    (λ k. seq_inside c.in-Sequence.tag (components_by (shape_of_type c.args.types.now c.args.below) c.in-Sequence.components.items) _ _ (list_means _ _ c.in-Some.ensures) _ _ c.requires.fresh _ k) (rw (← c.deref.ensures.value) c.encode_components.ensures))
 
 pub encode_contents-returns-in-None : goal.encode_contents-returns-in-None
 encode_contents-returns-in-None t c = rw c.in-Sequence.is (form_refused _ (no_list (ComponentsFit (Fits c.args.types.now c.args.below) c.in-Sequence.components.items) _ c.in-None.ensures) (left_as_it_was _ _ refl) c.other_form.ensures)
 
-pub encode_contents-returns-in_err-encode_components-in-Some-items_of : goal.encode_contents-returns-in_err-encode_components-in-Some-items_of
-encode_contents-returns-in_err-encode_components-in-Some-items_of t c = rw (residual _ c.from_residual.ensures.1, c.in-Set.is) (fits_as _ (list_to (ComponentsFit (Fits c.args.types.now c.args.below) c.in-Set.components.items) _ _ c.in-Some-items_of.ensures) (list_from (ComponentsFit (Fits c.args.types.now c.args.below) c.in-Set.components.items) _ _ c.in-Some-items_of.ensures)
-    (set_inside_refused c.in-Set.tag (components_by (shape_of_type c.args.types.now c.args.below) c.in-Set.components.items) _ _ (list_means _ _ c.in-Some-items_of.ensures) _ _ c.in_err-encode_components-in-Some-items_of.field-0.0) (rw (← c.deref-in-Some-items_of.ensures.value) c.in_err-encode_components-in-Some-items_of.ensures))
-
-pub encode_contents-returns-then-kept_tags_out_of_order : goal.encode_contents-returns-then-kept_tags_out_of_order
-encode_contents-returns-then-kept_tags_out_of_order t c = rw c.in-Set.is (set_unordered (ComponentsFit (Fits c.args.types.now c.args.below) c.in-Set.components.items) c.in-Set.tag (components_by (shape_of_type c.args.types.now c.args.below) c.in-Set.components.items) _ _ (list_means _ _ c.in-Some-items_of.ensures) _ _ c.in-Some-items_of.values.now c.args.value.now c.in-Some-items_of.ensures (subst (λ n. c.args.encoder.now.last ≡ fresh (keeps_tags (type_by (shape_of_type c.args.types.now c.args.below) n))) c.in-Set.is c.requires.fresh) (rw (← c.deref-in-Some-items_of.ensures.value) c.in_ok-encode_components-in-Some-items_of.ensures) c.if-kept_tags_out_of_order.ensures _ c.out_of_order.ensures)
-
-pub encode_contents-returns-else-kept_tags_out_of_order : goal.encode_contents-returns-else-kept_tags_out_of_order
-encode_contents-returns-else-kept_tags_out_of_order t c = rw c.in-Set.is (set_ordered (ComponentsFit (Fits c.args.types.now c.args.below) c.in-Set.components.items) c.in-Set.tag (components_by (shape_of_type c.args.types.now c.args.below) c.in-Set.components.items) _ _ (list_means _ _ c.in-Some-items_of.ensures) _ _ c.in-Some-items_of.values.now c.args.value.now c.in-Some-items_of.ensures (subst (λ n. c.args.encoder.now.last ≡ fresh (keeps_tags (type_by (shape_of_type c.args.types.now c.args.below) n))) c.in-Set.is c.requires.fresh) (rw (← c.deref-in-Some-items_of.ensures.value) c.in_ok-encode_components-in-Some-items_of.ensures) c.if-kept_tags_out_of_order.ensures)
+pub encode_contents-returns-in-Some-items_of : goal.encode_contents-returns-in-Some-items_of
+encode_contents-returns-in-Some-items_of t c = rw c.in-Set.is (fits_as _ (list_to (ComponentsFit (Fits c.args.types.now c.args.below) c.in-Set.components.items) _ _ c.in-Some-items_of.ensures) (list_from (ComponentsFit (Fits c.args.types.now c.args.below) c.in-Set.components.items) _ _ c.in-Some-items_of.ensures)
+    (λ k. set_inside c.in-Set.tag eoc (components_by (shape_of_type c.args.types.now c.args.below) c.in-Set.components.items) _ _ (list_means _ _ c.in-Some-items_of.ensures) _ _ _ k) (rw (← c.deref-in-Some-items_of.ensures.value) c.encode_set.ensures))
 
 pub encode_contents-returns-in-None-items_of : goal.encode_contents-returns-in-None-items_of
 encode_contents-returns-in-None-items_of t c = rw c.in-Set.is (form_refused _ (no_list (ComponentsFit (Fits c.args.types.now c.args.below) c.in-Set.components.items) _ c.in-None-items_of.ensures) (left_as_it_was _ _ refl) c.other_form-in-None-items_of.ensures)
 
 pub encode_contents-returns-in_err-check_size-in-Some-items_of-2 : goal.encode_contents-returns-in_err-check_size-in-Some-items_of-2
-encode_contents-returns-in_err-check_size-in-Some-items_of-2 t c = rw (residual _ c.from_residual-in_err-check_size-in-Some-items_of-2.ensures.1, c.in-SequenceOf.is) (size_refused _ _ _ _ c.in_err-check_size-in-Some-items_of-2.ensures.fails (λ g. list_unsized c.in-SequenceOf.tag ((shape_of_type c.args.types.now c.args.below) c.in-SequenceOf.element.0) c.in-SequenceOf.constraints _ c.in-Some-items_of-2.values.now c.args.encoder.now c.args.encoder.now (subst (λ n. c.args.encoder.now.last ≡ fresh (keeps_tags (type_by (shape_of_type c.args.types.now c.args.below) n))) c.in-SequenceOf.is c.requires.fresh) (list_means _ _ c.in-Some-items_of-2.ensures) (subst (λ m. Admits ◌≤◌ c.in-SequenceOf.constraints.size m → ⊥) (sym (length-map c.in-Some-items_of-2.values.now tree_of)) c.in_err-check_size-in-Some-items_of-2.ensures.fails.unmet) c.in_err-check_size-in-Some-items_of-2.field-0.0))
+encode_contents-returns-in_err-check_size-in-Some-items_of-2 t c = rw (residual _ c.from_residual.ensures.1, c.in-SequenceOf.is) (size_refused _ _ _ _ c.in_err-check_size-in-Some-items_of-2.ensures.fails (λ g. list_unsized c.in-SequenceOf.tag ((shape_of_type c.args.types.now c.args.below) c.in-SequenceOf.element.0) c.in-SequenceOf.constraints _ c.in-Some-items_of-2.values.now c.args.encoder.now c.args.encoder.now c.requires.fresh (list_means _ _ c.in-Some-items_of-2.ensures) (subst (λ m. Admits ◌≤◌ c.in-SequenceOf.constraints.size m → ⊥) (sym (length-map c.in-Some-items_of-2.values.now tree_of)) c.in_err-check_size-in-Some-items_of-2.ensures.fails.unmet) c.in_err-check_size-in-Some-items_of-2.field-0.0))
 
 pub encode_contents-returns-in_ok-check_size-in-Some-items_of-2 : goal.encode_contents-returns-in_ok-check_size-in-Some-items_of-2
 encode_contents-returns-in_ok-check_size-in-Some-items_of-2 t c = rw c.in-SequenceOf.is (fits_as _ (list_to (EachFits ((Fits c.args.types.now c.args.below) c.in-SequenceOf.element.0)) _ _ c.in-Some-items_of-2.ensures) (list_from (EachFits ((Fits c.args.types.now c.args.below) c.in-SequenceOf.element.0)) _ _ c.in-Some-items_of-2.ensures)
-    (list_inside c.in-SequenceOf.tag ((shape_of_type c.args.types.now c.args.below) c.in-SequenceOf.element.0) c.in-SequenceOf.constraints _ c.in-Some-items_of-2.values.now c.args.encoder.now _ (subst (λ n. c.args.encoder.now.last ≡ fresh (keeps_tags (type_by (shape_of_type c.args.types.now c.args.below) n))) c.in-SequenceOf.is c.requires.fresh) (list_means _ _ c.in-Some-items_of-2.ensures) (subst (λ m. Admits ◌≤◌ c.in-SequenceOf.constraints.size m) (sym (length-map c.in-Some-items_of-2.values.now tree_of)) c.in_ok-check_size-in-Some-items_of-2.ensures.ok) _) c.encode_elements.ensures)
+    (list_inside c.in-SequenceOf.tag ((shape_of_type c.args.types.now c.args.below) c.in-SequenceOf.element.0) c.in-SequenceOf.constraints _ c.in-Some-items_of-2.values.now c.args.encoder.now _ c.requires.fresh (list_means _ _ c.in-Some-items_of-2.ensures) (subst (λ m. Admits ◌≤◌ c.in-SequenceOf.constraints.size m) (sym (length-map c.in-Some-items_of-2.values.now tree_of)) c.in_ok-check_size-in-Some-items_of-2.ensures.ok) _) c.encode_elements.ensures)
 
 pub encode_contents-returns-in-None-items_of-2 : goal.encode_contents-returns-in-None-items_of-2
 encode_contents-returns-in-None-items_of-2 t c = rw c.in-SequenceOf.is (form_refused _ (no_list (EachFits ((Fits c.args.types.now c.args.below) c.in-SequenceOf.element.0)) _ c.in-None-items_of-2.ensures) (left_as_it_was _ _ refl) c.other_form-in-None-items_of-2.ensures)
 
 pub encode_contents-returns-in_err-check_size-in-Some-elements_of : goal.encode_contents-returns-in_err-check_size-in-Some-elements_of
-encode_contents-returns-in_err-check_size-in-Some-elements_of t c = rw (residual _ c.from_residual-in_err-check_size-in-Some-elements_of.ensures.1, c.in-SetOf.is) (size_refused _ _ _ _ c.in_err-check_size-in-Some-elements_of.ensures.fails (λ g. set_of_unsized c.in-SetOf.tag ((shape_of_type c.args.types.now c.args.below) c.in-SetOf.element.0) c.in-SetOf.constraints _ c.in-Some-elements_of.values.now c.args.encoder.now c.args.encoder.now (subst (λ n. c.args.encoder.now.last ≡ fresh (keeps_tags (type_by (shape_of_type c.args.types.now c.args.below) n))) c.in-SetOf.is c.requires.fresh) (set_means _ _ c.in-Some-elements_of.ensures) (subst (λ m. Admits ◌≤◌ c.in-SetOf.constraints.size m → ⊥) (sym (length-map c.in-Some-elements_of.values.now tree_of)) c.in_err-check_size-in-Some-elements_of.ensures.fails.unmet) c.in_err-check_size-in-Some-elements_of.field-0.0))
+encode_contents-returns-in_err-check_size-in-Some-elements_of t c = rw (residual _ c.from_residual-in_err-check_size-in-Some-elements_of.ensures.1, c.in-SetOf.is) (size_refused _ _ _ _ c.in_err-check_size-in-Some-elements_of.ensures.fails (λ g. set_of_unsized c.in-SetOf.tag ((shape_of_type c.args.types.now c.args.below) c.in-SetOf.element.0) c.in-SetOf.constraints _ c.in-Some-elements_of.values.now c.args.encoder.now c.args.encoder.now c.requires.fresh (set_means _ _ c.in-Some-elements_of.ensures) (subst (λ m. Admits ◌≤◌ c.in-SetOf.constraints.size m → ⊥) (sym (length-map c.in-Some-elements_of.values.now tree_of)) c.in_err-check_size-in-Some-elements_of.ensures.fails.unmet) c.in_err-check_size-in-Some-elements_of.field-0.0))
 
 pub encode_contents-returns-in_ok-check_size-in-Some-elements_of : goal.encode_contents-returns-in_ok-check_size-in-Some-elements_of
 encode_contents-returns-in_ok-check_size-in-Some-elements_of t c = rw c.in-SetOf.is (fits_as _ (set_to (EachFits ((Fits c.args.types.now c.args.below) c.in-SetOf.element.0)) _ _ c.in-Some-elements_of.ensures) (set_from (EachFits ((Fits c.args.types.now c.args.below) c.in-SetOf.element.0)) _ _ c.in-Some-elements_of.ensures)
-    (set_of_inside c.in-SetOf.tag ((shape_of_type c.args.types.now c.args.below) c.in-SetOf.element.0) c.in-SetOf.constraints _ c.in-Some-elements_of.values.now c.args.encoder.now _ (subst (λ n. c.args.encoder.now.last ≡ fresh (keeps_tags (type_by (shape_of_type c.args.types.now c.args.below) n))) c.in-SetOf.is c.requires.fresh) (set_means _ _ c.in-Some-elements_of.ensures) (subst (λ m. Admits ◌≤◌ c.in-SetOf.constraints.size m) (sym (length-map c.in-Some-elements_of.values.now tree_of)) c.in_ok-check_size-in-Some-elements_of.ensures.ok) _) c.encode_elements_in_order.ensures)
+    (set_of_inside c.in-SetOf.tag ((shape_of_type c.args.types.now c.args.below) c.in-SetOf.element.0) c.in-SetOf.constraints _ c.in-Some-elements_of.values.now c.args.encoder.now _ c.requires.fresh (set_means _ _ c.in-Some-elements_of.ensures) (subst (λ m. Admits ◌≤◌ c.in-SetOf.constraints.size m) (sym (length-map c.in-Some-elements_of.values.now tree_of)) c.in_ok-check_size-in-Some-elements_of.ensures.ok) _) c.encode_elements_in_order.ensures)
 
 pub encode_contents-returns-in-None-elements_of : goal.encode_contents-returns-in-None-elements_of
 encode_contents-returns-in-None-elements_of t c = rw c.in-SetOf.is (form_refused _ (no_set (EachFits ((Fits c.args.types.now c.args.below) c.in-SetOf.element.0)) _ c.in-None-elements_of.ensures) (left_as_it_was _ _ refl) c.other_form-in-None-elements_of.ensures)
 
 pub encode_inside-returns : goal.encode_inside-returns
-encode_inside-returns t c = enclosed _ _ c.args.tag c.args.keeps c.requires c.args.encoder.now _ _ c.in_ok-open.ensures.ok c.encode_contents-outcome.result c.encode_contents-outcome.ensures _ _ c.close.ensures.accepted c.close.ensures.ok c.close.ensures.err c.close.ensures.refused
+encode_inside-returns t c = enclosed _ _ c.args.tag c.requires c.args.encoder.now _ _ c.in_ok-open.ensures.ok c.encode_contents-outcome.result c.encode_contents-outcome.ensures _ _ c.close.ensures.accepted c.close.ensures.ok c.close.ensures.err c.close.ensures.refused
 
 pub encode_inside-returns-in_err-open : goal.encode_inside-returns-in_err-open
 encode_inside-returns-in_err-open t c = rw (residual _ c.from_residual.ensures.1) (not_opened _ _ _ _ _ c.in_err-open.ensures.err c.in_err-open.ensures.memory_alone)
@@ -173,3 +172,81 @@ encode_elements_in_order-returns t c = record {
   keeps = c.loop-rest.invariant.written.so_far.others;
   rules = tt;
 }
+
+pub add_component-returns-in_err-octets-clause-refused : goal.add_component-returns-in_err-octets-clause-refused
+add_component-returns-in_err-octets-clause-refused t c = rw (residual _ c.from_residual.ensures.1) (λ f. part_lacks (presence_in (shape_of_type c.args.types.now c.args.below) c.args.component.now) (shape_of_type c.args.types.now c.args.below c.args.component.now.type_id.0) (tree_of c.args.value.now) c.args.encoder.now.rule c.in_err-octets.field-0.0 (c.in_err-octets.ensures.refused f))
+
+pub add_component-returns-then-is_empty-clause-ok : goal.add_component-returns-then-is_empty-clause-ok
+add_component-returns-then-is_empty-clause-ok t c =
+    let e : c.in_ok-octets.octets.items ≡ [] = no_octets _ _ _ (search rules) c.is_empty.ensures c.if-is_empty.true in
+    left_out _ _ _ c.args.encoder.now.rule c.in_ok-octets.octets.items c.in_ok-octets.ensures.ok _ e
+
+pub add_component-returns-in_default-clause-refused : goal.add_component-returns-in_default-clause-refused
+add_component-returns-in_default-clause-refused t c f =
+    let n : c.in_ok-octets.octets.items ≢ [] = some_octets _ _ _ (search rules) c.is_empty.ensures c.if-is_empty.false in
+    let s = shape_of_type c.args.types.now c.args.below c.args.component.now.type_id.0 in
+    not_placed _ s _ c.args.encoder.now.rule c.in_ok-octets.octets.items c.in_ok-octets.ensures.ok.1 n
+    (λ tag k. c.in_default.ensures tag (subst (λ l. IsPlacedBy c.codec-rule.result (IsFirst s) l tag) (sym c.deref.ensures.value) (subst (λ r. IsPlacedBy r (IsFirst s) c.in_ok-octets.octets.items tag) (sym c.codec-rule.ensures) k))) c.no_place.result
+
+pub add_component-returns-clause-ok : goal.add_component-returns-clause-ok
+add_component-returns-clause-ok t c =
+    let n : c.in_ok-octets.octets.items ≢ [] = some_octets _ _ _ (search rules) c.is_empty.ensures c.if-is_empty.false in
+    let s = shape_of_type c.args.types.now c.args.below c.args.component.now.type_id.0 in
+    on_ok_weaker c.insert_component.result (λ e. put_among _ s _ c.args.encoder.now.rule c.in_ok-octets.octets.items c.in_ok-octets.ensures.ok c.args.found.now.items n _ _
+    (subst (λ l. IsPlacedBy c.args.encoder.now.rule (IsFirst s) l c.in-Some.tag) c.deref.ensures.value (subst (λ r. IsPlacedBy r (IsFirst s) c.deref.result.now c.in-Some.tag) c.codec-rule.ensures c.in-Some.ensures)) refl e) c.insert_component.ensures.ok
+
+pub set_components-returns-then-values-components-clause-refused : goal.set_components-returns-then-values-components-clause-refused
+set_components-returns-then-values-components-clause-refused t c f = absurd (other_number (Fits c.args.types.now c.args.below) c.args.components.now c.args.values.now c.if-values-components.true f)
+
+pub set_components-returns-in_err-found-clause-refused : goal.set_components-returns-in_err-found-clause-refused
+set_components-returns-in_err-found-clause-refused t c =
+    let f = shape_of_type c.args.types.now c.args.below in
+    let g = Fits c.args.types.now c.args.below in
+    let all = c.args.components.now in
+    let n = c.named_components-extensible.ensures.named in
+    let e = sym c.named_components-extensible.ensures.extensible ∙ c.if-extensible.true in
+    let q = c.index-components-last in
+    let w = c.index-values-last in
+    let k = unknown_fits c.args.types.now c.args.below q.result.type_id.0 w.result (is_last f g all _ c.args.values.now c.args.encoder.now.rule n c.if-values-components.false e q.result w.result q.is w.is) in
+    rw (residual _ c.from_residual.ensures.1) (λ fit. unknown_not f g all _ c.args.values.now c.args.encoder.now.rule n c.if-values-components.false e q.result w.result q.is w.is c.in_err-found.field-0.0
+    (c.in_err-found.ensures.refused (subst (λ Z. Z) k (fit_from f g all _ c.args.values.now c.args.encoder.now.rule n c.if-values-components.false e q.result w.result q.is w.is c.if-is_left_out.ensures fit))))
+
+pub set_components-loop-left-init : goal.set_components-loop-left-init
+set_components-loop-left-init t c =
+    let f = shape_of_type c.args.types.now c.args.below in
+    let g = Fits c.args.types.now c.args.below in
+    let all = c.args.components.now in
+    let n = c.named_components-extensible.ensures.named in
+    let x = c.named_components-extensible.ensures.extensible in
+    elim c.if-extensible.branch [
+      | set_components-then-extensible+else-is_left_out+in_ok-found b ↦
+          let e = sym x ∙ b.if-extensible.true in
+          let q = b.index-components-last in
+          let w = b.index-values-last in
+          let k = unknown_fits c.args.types.now c.args.below q.result.type_id.0 w.result (is_last f g all _ c.args.values.now c.args.encoder.now.rule n c.if-values-components.false e q.result w.result q.is w.is) in
+          rw (b.if-extensible.true, b.found-is) (unknown_first f g all _ c.args.values.now c.args.encoder.now.rule n c.if-values-components.false e q.result w.result q.is w.is b.in_ok-found.found.items
+          (inr (subst (λ Z. Z) (sym k) b.in_ok-found.ensures.ok.0)) b.in_ok-found.ensures.ok.1)
+      | set_components-else-extensible b ↦ rw (b.if-extensible.false, b.found-is) (none_held f g all _ c.args.values.now c.args.encoder.now.rule n c.if-values-components.false c.new-found.result.items (sym x ∙ b.if-extensible.false) c.new-found.ensures.items)
+    ]
+
+pub set_components-loop-left-preserved : goal.set_components-loop-left-preserved
+set_components-loop-left-preserved t c = holds_more (shape_of_type c.args.types.now c.args.below) (Fits c.args.types.now c.args.below) c.named_components-extensible.result.1 c.args.components.now c.named_components-extensible.result.0.now c.args.values.now c.args.encoder.now.rule
+    c.loop-left.left c.loop-left.found.items _ c.index-named-left.result c.index-values-left.result c.loop-left-test.true c.loop-left.invariant c.index-named-left.is c.index-values-left.is c.in_ok-add_component.ensures.ok
+
+pub set_components-returns-in_err-add_component-clause-refused : goal.set_components-returns-in_err-add_component-clause-refused
+set_components-returns-in_err-add_component-clause-refused t c =
+    rw (residual _ c.from_residual-in_err-add_component.ensures.1) (component_fails (shape_of_type c.args.types.now c.args.below) (Fits c.args.types.now c.args.below) c.named_components-extensible.result.1 c.args.components.now c.named_components-extensible.result.0.now c.args.values.now c.args.encoder.now.rule
+    c.named_components-extensible.ensures.named c.named_components-extensible.ensures.extensible c.in_err-add_component.field-0.0 c.loop-left.left c.loop-left.found.items c.index-named-left.result c.index-values-left.result c.loop-left-test.true c.loop-left.invariant c.index-named-left.is c.index-values-left.is c.in_err-add_component.ensures.refused)
+
+pub set_components-returns-clause-ok : goal.set_components-returns-clause-ok
+set_components-returns-clause-ok t c = holds_all (shape_of_type c.args.types.now c.args.below) (Fits c.args.types.now c.args.below) c.named_components-extensible.result.1 c.args.components.now c.named_components-extensible.result.0.now c.args.values.now c.args.encoder.now.rule
+    c.loop-left.left c.loop-left.found.items (let z = c.loop-left-test.false in omega arith) c.named_components-extensible.ensures.named c.named_components-extensible.ensures.extensible c.loop-left.invariant
+
+pub encode_set-returns-in_err-found : goal.encode_set-returns-in_err-found
+encode_set-returns-in_err-found t c = rw (residual _ c.from_residual.ensures.1) (set_refused eoc (components_by (shape_of_type c.args.types.now c.args.below) c.args.components.now) (list_tree tree_of c.args.values.now) c.args.encoder.now c.in_err-found.field-0.0 c.in_err-found.ensures.refused c.in_err-found.ensures.rules)
+
+pub encode_set-returns : goal.encode_set-returns
+encode_set-returns t c =
+    let leaves = c.append_components.ensures.extends in
+    set_appended eoc (components_by (shape_of_type c.args.types.now c.args.below) c.args.components.now) (list_tree tree_of c.args.values.now) c.args.encoder.now c.requires c.append_components.new.self c.in_ok-found.found.items c.in_ok-found.ensures.ok
+    c.append_components.result (rw (← c.deref.ensures.value) c.append_components.ensures.ok) (leaves_by _ _ leaves.octets leaves.tags leaves.appended) c.append_components.ensures.memory_alone
