@@ -1,5 +1,5 @@
 -- The unnamed components of SETs beside the parts of a message, and that the parts decide what they are.
-use Rattle.std.proofs.Common.{◌≡◌, ◌⊎◌, inl, inr, ◌-◌, ◌+◌, ◌<◌, ◌≤◌, ℕ, zero, suc, List, [], ◌∷◌, ◌++◌, length, take, drop, get_or, drop-cons, add-one, Bool, true, Option, Some, None, refl, sym, ap, ◌∙◌, subst, append_assoc, append-nil, arith}
+use Rattle.std.proofs.Common.{◌≡◌, inl, inr, ◌-◌, ◌+◌, ◌<◌, ◌≤◌, ℕ, zero, suc, List, [], ◌∷◌, ◌++◌, length, take, drop, get_or, drop-cons, add-one, true, Option, Some, None, refl, sym, ap, ◌∙◌, subst, append_assoc, append-nil, arith}
 use Rattle.std.specs.Prelude.{slice_get, option_copied, OnOk, Result, Ok, Err}
 use Rattle.std.specs.Borrow.{Bor}
 use Rattle.std.specs.List.{AllByRecursion}
@@ -7,8 +7,6 @@ use Rattle.std.specs.List.Sorted.{IsPermutation}
 use Rattle.std.proofs.lemmas.List.{append_cancel_right, drop_all, length-append}
 use Rattle.std.proofs.lemmas.List.Elements.{All-from_recursion, recursion_from_All}
 use Rattle.std.proofs.lemmas.List.Sorted.{All-permutation, IsPermutation-sym}
-use Rattle.rasn_types.specs.declared.types.tag.Tag.{Tag}
-use Rattle.rasn_schema.specs.declared.types.Component.{Component}
 use Rattle.rasn_schema.specs.declared.types.«Type».{«Type»}
 use Rattle.rasn_schema.specs.declared.types.«Type».TheVariants.{Leaf, Enumerated, Any, Tagged, Choice, Sequence, Set, SequenceOf, SetOf, Unknown}
 use Rattle.rasn_schema.specs.Held.{is_unknown_found}
@@ -17,7 +15,7 @@ use Rattle.rasn_dynamic.specs.declared.span.Span.{Span}
 use Rattle.rasn_dynamic.specs.SameParts.{IsSamePart, AreSameParts}
 use Rattle.rasn_lint.specs.declared.unnamed.OpenSet.{OpenSet}
 use Rattle.rasn_lint.specs.Lint.{HasFormed}
-use Rattle.rasn_lint.specs.OpenSets.{IsNamed, HasOpenSet, IsOpenSet, AreValues, IsUnnamed, IsNamedHere, IsPushed, AreUnnamedOnes, AreUnnamedIn, AreUnnamedInside, AreUnnamedBy, AreUnnamedOf, AreUnnamed, HasUnnamed}
+use Rattle.rasn_lint.specs.OpenSets.{IsNamed, AreValues, IsNamedHere, IsPushed, AreUnnamedOnes, AreUnnamedIn, AreUnnamedInside, AreUnnamedBy, AreUnnamedOf, AreUnnamed, HasUnnamed}
 use Rattle.rasn_lint.specs.Listed.{IsSplit}
 use Rattle.rasn_lint.specs.Untyped.{HasOpen, IsUnread}
 use Rattle.rasn_lint.specs.WellFormed.{AreEncodings}
@@ -85,7 +83,7 @@ module _ (types : List «Type») (parts : List Span) where
   pub all_found : (i : ℕ) (found : List Span) → FindsOn i found → length parts ≤ i → AreUnnamed types parts found
   all_found i found f past = subst (AreUnnamed types parts) (append-nil found) (f [] (subst (λ l. AreUnnamed types l []) (sym (drop_all i parts past)) refl))
 
--- ---- the last component
+-- ---- the last element of a list
 
 -- The last of a list.
 last_one : {X : Type 0} (a b : List X) (x y : X) → a ++ x ∷ [] ≡ b ++ y ∷ [] → (a ≡ b) × (x ≡ y)
@@ -105,11 +103,6 @@ split_last n [] d e = absurd (omega (arith, e))
 split_last zero (x ∷ []) d e = refl
 split_last zero (x ∷ (y ∷ l)) d e = absurd (omega (arith, e))
 split_last (suc n) (x ∷ l) d e = ap (λ m. x ∷ m) (split_last n l d (omega (arith, e)))
-
-pub open_set : (types : List «Type») (ps named : List Component) (last : Component) → ps ≡ named ++ last ∷ [] → (is_unknown_found (slice_get types last.type_id.0) ≡ true → ⊥) → HasOpenSet types ps → ⊥
-open_set types ps named last is known (others, own, at, unknown) =
-    let same : own ≡ last = (last_one others named own last (sym at ∙ is)).1 in
-    known (subst (λ (p : Component). is_unknown_found (slice_get types p.type_id.0) ≡ true) same unknown)
 
 -- ---- one part
 

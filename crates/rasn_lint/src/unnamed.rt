@@ -1,6 +1,6 @@
 //! The components of SETs that their types don't name (X.680 27). The reader lists no parts for
 //! them; here each is a part as well.
-ghost use Rattle.std.specs.Prelude.{◌≡◌, ◌++◌, ◌-◌, ℕ, List, length, IfOk, OnOk, MatchOption, Some};
+ghost use Rattle.std.specs.Prelude.{◌≡◌, ◌++◌, ◌-◌, List, IfOk, OnOk, MatchOption, Some};
 ghost use Rattle.rasn_types.specs.Shapes.{IsFirstOf};
 ghost use Rattle.rasn_types.specs.Truth.{IsWhether};
 ghost use Rattle.rasn_schema.specs.Shapes.{shape_of_type, components_by};
