@@ -20,7 +20,8 @@ use Rattle.rasn_types.proofs.SetOf.Same.{same_sym}
 use Rattle.rasn_types.proofs.Encoding.SameAsItself.{one_writing, written_same}
 use Rattle.rasn_de.specs.Outcomes.{Exact, refusal}
 use Rattle.rasn.specs.Headline.{IsFollowed}
-use Rattle.rasn.proofs.LawsHold.Written.{one_reading, included, read_again, canonical, strict_der}
+use Rattle.rasn.proofs.LawsHold.Written.{one_reading, included, read_again, canonical}
+use Rattle.rasn.proofs.StrictDer.Carried.{strict_der}
 use Rattle.rasn.proofs.StrictDer.Carried.{stays_carried}
 use Rattle.rasn.specs.declared.normal.NormaliseError.{NormaliseError}
 use Rattle.rasn.specs.declared.normal.NormaliseError.TheVariants.{Decode, Encode, NotCanonical}

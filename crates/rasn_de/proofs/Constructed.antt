@@ -19,4 +19,3 @@ pub mod Choice
 pub mod Beyond
 pub mod ValueErrors
 pub mod SortedSetContents
-pub mod SortedSet

@@ -1,5 +1,5 @@
 -- SET: components in any order, from which a function makes the value.
-use Rattle.std.specs.Prelude.{◌≡◌, ◌⊎◌, ℕ, true, List, [], ◌∷◌, ◌++◌, map, Vec, Option, Some, None, Result, Ok, Err, IfErr}
+use Rattle.std.specs.Prelude.{◌≡◌, ◌⊎◌, ℕ, Bool, List, [], ◌∷◌, ◌++◌, map, Vec, Option, Some, None, Result, Ok, Err, IfErr}
 use Rattle.std.specs.Global.{Global}
 use Rattle.rasn_types.specs.declared.types.codec.Codec.{Codec}
 use Rattle.rasn_types.specs.declared.types.tag.Tag.{Tag}
@@ -72,9 +72,11 @@ DecodesSetBy {F} read made tag = DecodesInside (DecodesSetContents (DecodesCompo
 abbrev pub AreParts : Parts → List Tree → Tree → Type 0
 AreParts parts readings t = (ts : List Tree) × (t ≡ items ts) × ByPart 0 (presences parts) readings ts
 
--- The same with an extension marker: the unknown components, in the order in which they are read, are the last part.
-abbrev pub AreSortedParts : Parts → List Tree → Tree → Type 0
-AreSortedParts parts readings t = (ts : List Tree) × (us : List Tree) × IsSetTree true ts us t × ByPart 0 (presences parts) readings ts × AllOf (count parts) readings us
+-- The same, with an extension marker or without one: with one, the unknown components, in the order in which they are
+-- read, are the last part.
+abbrev pub AreMembers : Bool → Parts → List Tree → Tree → Type 0
+AreMembers extensible parts readings t =
+    (ts : List Tree) × (us : List Tree) × IsSetTree extensible ts us t × ByPart 0 (presences parts) readings ts × AllOf (count parts) readings us
 
 -- What a function makes from components, given their readings: the parts, or an error if they aren't parts.
 abbrev pub MakesSet : {D : Type 0} → Parts → (D → Tree) → List Tree → Result D DecodeError → Type 0

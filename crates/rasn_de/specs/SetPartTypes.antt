@@ -5,7 +5,9 @@ use Rattle.rasn_types.specs.declared.types.codec.Codec.{Codec}
 use Rattle.rasn_types.specs.declared.types.tag.Tag.{Tag}
 use Rattle.rasn_types.specs.declared.error.decode.DecodeError.{DecodeError}
 use Rattle.rasn_types.specs.Errors.{IsOutOfMemory}
-use Rattle.rasn_types.specs.Shapes.{Tree, chosen, items, choice, open_choice, Parts, part, Presence, required, default_by, presences}
+use Rattle.rasn_types.specs.Tags.{form, eoc}
+use Rattle.rasn_types.specs.Framing.{NextTag}
+use Rattle.rasn_types.specs.Shapes.{Tree, chosen, Shape, choice_by, set, sorted_set, IsSetTree, Parts, part, count, Presence, required, default_by, presences}
 use Rattle.rasn_types.specs.Shapes.Parts.{none}
 use Rattle.rasn_types.specs.Readings.{IsMissing, NoneOf, OneOf}
 use Rattle.rasn_de.specs.State.{State, Call}
@@ -14,15 +16,14 @@ use Rattle.rasn_de.specs.NamedErrors.{IsNamedError, IsMissingField, IsDuplicateF
 use Rattle.rasn_de.specs.Decodes.{DecodesExactly, Decodes}
 use Rattle.rasn_de.specs.Constructed.{sequence_header, DecodesInside}
 use Rattle.rasn_de.specs.SequenceOf.{RefusesElement, DecodesInTurnFrom}
-use Rattle.rasn_de.specs.Set.{DecodesIntoSlots, DecodesSetContents, AreParts, AreSortedParts}
+use Rattle.rasn_de.specs.Set.{DecodesIntoSlots, DecodesSetContents, AreMembers}
 use Rattle.rasn_de.specs.Beyond.{Beyond}
 use Rattle.rasn_types.specs.declared.types.any.Any.{Any}
-use Rattle.rasn_types.specs.Tags.{eoc}
 use Rattle.rasn_de.specs.declared.ber.de.parser.ParseError.TheVariants.{OutOfMemory}
 use Rattle.rasn_de.specs.Any.{DecodesOpenType}
-use Rattle.rasn_de.specs.Steps.{IsErrorOf}
+use Rattle.rasn_de.specs.Steps.{IsErrorOf, PeeksTag}
 use Rattle.rasn_de.specs.ValueErrors.{Errors, IsErrorByTag}
-use Rattle.rasn_de.specs.AlternativeTypes.{ReadsNumbered, DecodesAlternative, DecodesAlternativeBy}
+use Rattle.rasn_de.specs.AlternativeTypes.{ReadsNumberedBy, FailsAtAlternativeBy}
 
 -- The tree of the value in a slot.
 abbrev pub held_tree : {T : Type 0} → (T → Tree) → Option T → Option Tree
@@ -62,13 +63,14 @@ IsPlacedAt [] k u held = ⊥
 IsPlacedAt (h ∷ before) zero u held = (h ≡ None) × (held ≡ Some u ∷ before)
 IsPlacedAt (h ∷ before) (suc k) u held = (others : List (Option Tree)) × (held ≡ h ∷ others) × IsPlacedAt before k u others
 
--- The component is read as part k, whatever number the first part has.
-pub record ReadsPartAt (ps : Parts) (k : ℕ) (u : Tree) (old new : State) : Type 0 where
-  pub from : (j : ℕ) → DecodesExactly (ReadsNumbered j ps) old (Got (chosen (j + k) u) new.rest) new
+-- The component is read as part k, whatever number the first part has. An unknown component has the number after those of
+-- the parts.
+pub record ReadsPartAt (extensible : Bool) (ps : Parts) (k : ℕ) (u : Tree) (old new : State) : Type 0 where
+  pub from : (j : ℕ) → DecodesExactly (ReadsNumberedBy extensible j ps) old (Got (chosen (j + k) u) new.rest) new
 
 -- The component can't be read as any part.
-pub record RefusesPart (ps : Parts) (e : DecodeError) (old new : State) : Type 0 where
-  pub from : (j : ℕ) → DecodesExactly (ReadsNumbered j ps) old (refusal e.kind) new
+pub record RefusesPart (extensible : Bool) (ps : Parts) (e : DecodeError) (old new : State) : Type 0 where
+  pub from : (j : ℕ) → DecodesExactly (ReadsNumberedBy extensible j ps) old (refusal e.kind) new
 
 -- An empty slot is filled with a value; or it is filled already, and the name of the part is returned.
 abbrev pub IsPlaced : {T : Type 0} → Option T → T → List ℕ → Option (Bor (List ℕ)) → Option T → Type 0
@@ -81,28 +83,42 @@ abbrev pub IsOrDefault : {T : Type 0} → (T → Tree) → Tree → Option T →
 IsOrDefault tree d slot (Ok v) = (slot ≡ Some v) ⊎ ((slot ≡ None) × (tree v ≡ d))
 IsOrDefault tree d slot (Err e) = IsOutOfMemory e.kind × (slot ≡ None)
 
--- A component is read as read_choice reads one of these parts. If it is no part, the error contains the name of the
--- type, and nothing of the component is consumed. An error of a part is one of those for its tag.
-abbrev pub DecodesOneOf : Parts → List ℕ → (Tag → Errors) → Call Tree
-DecodesOneOf ps name errors old r new = Decodes (choice ps) (λ (t : Tree). t) old r new
-    × IfErr r (λ e. DecodesAlternative ps (λ (t : Tree). t) name old (Err e) new × IsErrorByTag errors old e new)
+-- With an extension marker, a component with the tag of no part is unknown, and is read as an open type without a tag. It
+-- is kept after those before it, for which an allocation may fail.
+abbrev pub FailsToKeep : State → DecodeError → State → Type 0
+FailsToKeep old e new = (a : Any) × DecodesOpenType eoc old (Ok a) new × IsErrorOf OutOfMemory new e
 
-module _ (ps : Parts) (names : List (List ℕ)) (before : List (Option Tree)) (old : State) where
+-- The component with this tag can't be read, as an alternative can't, or isn't kept.
+abbrev pub FailsAtSetPart : Bool → Parts → List ℕ → Tag → State → DecodeError → State → Type 0
+FailsAtSetPart extensible ps name tag old e new = FailsAtAlternativeBy extensible ps name tag old e new ⊎ ((extensible ≡ true) × FailsToKeep old e new)
+
+-- A component is read as read_choice reads one of these parts. If it is no part, and there is no extension marker, the
+-- error contains the name of the type, and nothing of the component is consumed. An error of a part is one of those for
+-- its tag.
+abbrev pub DecodesOneOf : Bool → Parts → List ℕ → (Tag → Errors) → Call Tree
+DecodesOneOf extensible ps name errors old r new = Decodes (choice_by extensible ps) (λ (t : Tree). t) old r new
+    × IfErr r (λ e. ((PeeksTag old (Err e) × (new ≡ old)) ⊎ ((tag : Tag) × NextTag (form old.rule) old.rest tag × FailsAtSetPart extensible ps name tag old e new)) × IsErrorByTag errors old e new)
+
+module _ (extensible : Bool) (ps : Parts) (names : List (List ℕ)) (before : List (Option Tree)) (unknown : List Tree) (old : State) where
   -- The next component is read as a part, and fills the slot of the part if that is empty, or else the name of the part
-  -- is returned; or the component can't be read as any part.
-  abbrev pub DecodesPlaced : Result (Option (Bor (List ℕ))) DecodeError → State → List (Option Tree) → Type 0
-  DecodesPlaced (Ok None) new held = (k : ℕ) × (u : Tree) × IsPlacedAt before k u held × ReadsPartAt ps k u old new
-  DecodesPlaced (Ok (Some repeated)) new held = (k : ℕ) × (u : Tree) × IsFilled before k × (held ≡ before) × (text repeated ≡ name_at names k) × ReadsPartAt ps k u old new
-  DecodesPlaced (Err e) new held = RefusesPart ps e old new
+  -- is returned; or it is one more unknown component; or it can't be read.
+  abbrev pub DecodesPlaced : Result (Option (Bor (List ℕ))) DecodeError → State → List (Option Tree) → List Tree → Type 0
+  DecodesPlaced (Ok None) new held more = ((k : ℕ) × (u : Tree) × IsPlacedAt before k u held × (more ≡ unknown) × ReadsPartAt extensible ps k u old new)
+      ⊎ ((u : Tree) × (held ≡ before) × (more ≡ unknown ++ u ∷ []) × ReadsPartAt extensible ps (count ps) u old new)
+  DecodesPlaced (Ok (Some repeated)) new held more =
+      (k : ℕ) × (u : Tree) × IsFilled before k × (held ≡ before) × (more ≡ unknown) × (text repeated ≡ name_at names k) × ReadsPartAt extensible ps k u old new
+  DecodesPlaced (Err e) new held more = RefusesPart extensible ps e old new
 
   abbrev pub DecodesComponent : ℕ → Tree → State → Type 0
-  DecodesComponent k u new = Decodes (choice ps) (λ (t : Tree). t) old (Ok (chosen k u)) new × (length new.rest ≢ length old.rest)
+  DecodesComponent k u new = Decodes (choice_by extensible ps) (λ (t : Tree). t) old (Ok (chosen k u)) new × (length new.rest ≢ length old.rest)
 
   -- One more component is read in the same way, and consumes octets; or it can't be read, or consumes nothing.
-  abbrev pub DecodesNext : Result (Option (Bor (List ℕ))) DecodeError → State → List (Option Tree) → Type 0
-  DecodesNext (Ok None) new held = (k : ℕ) × (u : Tree) × IsPlacedAt before k u held × DecodesComponent k u new
-  DecodesNext (Ok (Some repeated)) new held = (k : ℕ) × (u : Tree) × IsFilled before k × (held ≡ before) × (text repeated ≡ name_at names k) × DecodesComponent k u new
-  DecodesNext (Err e) new held = RefusesElement (Decodes (choice ps) (λ (t : Tree). t)) old e new
+  abbrev pub DecodesNext : Result (Option (Bor (List ℕ))) DecodeError → State → List (Option Tree) → List Tree → Type 0
+  DecodesNext (Ok None) new held more = ((k : ℕ) × (u : Tree) × IsPlacedAt before k u held × (more ≡ unknown) × DecodesComponent k u new)
+      ⊎ ((u : Tree) × (held ≡ before) × (more ≡ unknown ++ u ∷ []) × DecodesComponent (count ps) u new)
+  DecodesNext (Ok (Some repeated)) new held more =
+      (k : ℕ) × (u : Tree) × IsFilled before k × (held ≡ before) × (more ≡ unknown) × (text repeated ≡ name_at names k) × DecodesComponent k u new
+  DecodesNext (Err e) new held more = RefusesElement (Decodes (choice_by extensible ps) (λ (t : Tree). t)) old e new
 
 -- Each part is the value in its slot. If the slot is empty, the part is one that may be left out, and is absent or its
 -- default.
@@ -113,8 +129,9 @@ AreGathered (p ∷ ps) [] ts = ⊥
 AreGathered (p ∷ ps) (None ∷ held) ts = (t : Tree) × (us : List Tree) × (ts ≡ t ∷ us) × IsMissing p t × AreGathered ps held us
 AreGathered (p ∷ ps) (Some u ∷ held) ts = (us : List Tree) × (ts ≡ u ∷ us) × AreGathered ps held us
 
-abbrev pub IsGathered : Parts → List (Option Tree) → Tree → Type 0
-IsGathered ps held t = (ts : List Tree) × (t ≡ items ts) × AreGathered (presences ps) held ts
+-- With an extension marker, the unknown components are the last part.
+abbrev pub IsGathered : Bool → Parts → List (Option Tree) → List Tree → Tree → Type 0
+IsGathered extensible ps held unknown t = (ts : List Tree) × IsSetTree extensible ts unknown t × AreGathered (presences ps) held ts
 
 -- The first required part whose slot is empty has the number k.
 abbrev pub LacksSlot : List Presence → List (Option Tree) → ℕ → Type 0
@@ -141,9 +158,9 @@ HasGap (p ∷ ps) [] = ⊥
 HasGap (p ∷ ps) (h ∷ held) = (IsRequiredOrDefault p × (h ≡ None)) ⊎ HasGap ps held
 
 -- The parts that are made from the slots, or the error for the first one that is missing.
-abbrev pub MakesParts : {D : Type 0} → Parts → (D → Tree) → List (List ℕ) → Codec → List (Option Tree) → Result D DecodeError → Type 0
-MakesParts ps tree names rule held (Ok v) = IsGathered ps held (tree v)
-MakesParts ps tree names rule held (Err e) = IsLackOf ps names rule held e
+abbrev pub MakesParts : {D : Type 0} → Bool → Parts → (D → Tree) → List (List ℕ) → Codec → List (Option Tree) → List Tree → Result D DecodeError → Type 0
+MakesParts extensible ps tree names rule held unknown (Ok v) = IsGathered extensible ps held unknown (tree v)
+MakesParts extensible ps tree names rule held unknown (Err e) = IsLackOf ps names rule held e
 
 -- Each part has at most one reading. The first part has the number j.
 abbrev pub AreOnce : ℕ → List Presence → List Tree → Type 0
@@ -168,9 +185,9 @@ LacksFirst j (p ∷ ps) readings (suc k) = (p ≡ required → NoneOf j readings
 
 -- What is made from all components, given their readings: the parts; or the error for the first component that repeats
 -- a part or, if none does, for the first required part that is missing; or an allocation failed.
-abbrev pub MakesOfReadings : {D : Type 0} → Parts → (D → Tree) → List (List ℕ) → Codec → List Tree → Result D DecodeError → Type 0
-MakesOfReadings ps tree names rule readings (Ok v) = AreParts ps readings (tree v)
-MakesOfReadings ps tree names rule readings (Err e) = IsOutOfMemory e.kind
+abbrev pub MakesOfReadings : {D : Type 0} → Bool → Parts → (D → Tree) → List (List ℕ) → Codec → List Tree → Result D DecodeError → Type 0
+MakesOfReadings extensible ps tree names rule readings (Ok v) = AreMembers extensible ps readings (tree v)
+MakesOfReadings extensible ps tree names rule readings (Err e) = IsOutOfMemory e.kind
     ⊎ (((k : ℕ) × RepeatsFirst ps k readings × IsNamedError (IsDuplicateField (name_at names k)) rule e)
     ⊎ (AreOnce 0 (presences ps) readings × ((k : ℕ) × LacksFirst 0 (presences ps) readings k × IsNamedError (IsMissingField (name_at names k)) rule e)))
 
@@ -181,67 +198,36 @@ LeavesGap j (p ∷ ps) readings = (IsRequiredOrDefault p × NoneOf j readings) �
 
 -- The same as MakesOfReadings. An allocation fails only where a part is repeated, or where a required part or one with
 -- a default isn't read.
-abbrev pub MakesNamed : {D : Type 0} → Parts → (D → Tree) → List (List ℕ) → Codec → List Tree → Result D DecodeError → Type 0
-MakesNamed ps tree names rule readings r = MakesOfReadings ps tree names rule readings r
+abbrev pub MakesNamed : {D : Type 0} → Bool → Parts → (D → Tree) → List (List ℕ) → Codec → List Tree → Result D DecodeError → Type 0
+MakesNamed extensible ps tree names rule readings r = MakesOfReadings extensible ps tree names rule readings r
     × IfErr r (λ e. IsOutOfMemory e.kind → ((k : ℕ) × RepeatsFirst ps k readings) ⊎ LeavesGap 0 (presences ps) readings)
 
 -- Components are read one by one, each as read_choice reads one of the parts, and at the end the parts are made from all
 -- of them. An error is one of DecodesIntoSlots or, once all components are read, one of MakesOfReadings.
-abbrev pub DecodesSetPartContents : {D : Type 0} → Parts → (D → Tree) → List (List ℕ) → Call D
-DecodesSetPartContents ps tree names old =
-    DecodesSetContents (DecodesIntoSlots (Decodes (choice ps) (λ (t : Tree). t))) (MakesOfReadings ps tree names old.rule) old
+abbrev pub DecodesSetPartContents : {D : Type 0} → Bool → Parts → (D → Tree) → List (List ℕ) → Call D
+DecodesSetPartContents extensible ps tree names old =
+    DecodesSetContents (DecodesIntoSlots (Decodes (choice_by extensible ps) (λ (t : Tree). t))) (MakesOfReadings extensible ps tree names old.rule) old
 
-abbrev pub DecodesSetParts : {D : Type 0} → Parts → (D → Tree) → List (List ℕ) → Tag → Call D
-DecodesSetParts ps tree names tag = DecodesInside (DecodesSetPartContents ps tree names) (sequence_header tag)
+abbrev pub DecodesSetParts : {D : Type 0} → Bool → Parts → (D → Tree) → List (List ℕ) → Tag → Call D
+DecodesSetParts extensible ps tree names tag = DecodesInside (DecodesSetPartContents extensible ps tree names) (sequence_header tag)
 
 -- The same, if each component is read as in DecodesOneOf, and the parts are made as in MakesNamed.
-abbrev pub DecodesNamedContents : {D : Type 0} → Parts → (D → Tree) → List ℕ → List (List ℕ) → (Tag → Errors) → Call D
-DecodesNamedContents ps tree name names errors old =
-    DecodesSetContents (DecodesIntoSlots (DecodesOneOf ps name errors)) (MakesNamed ps tree names old.rule) old
+abbrev pub DecodesNamedContents : {D : Type 0} → Bool → Parts → (D → Tree) → List ℕ → List (List ℕ) → (Tag → Errors) → Call D
+DecodesNamedContents extensible ps tree name names errors old =
+    DecodesSetContents (DecodesIntoSlots (DecodesOneOf extensible ps name errors)) (MakesNamed extensible ps tree names old.rule) old
 
-abbrev pub DecodesNamedParts : {D : Type 0} → Parts → (D → Tree) → List ℕ → List (List ℕ) → (Tag → Errors) → Tag → Call D
-DecodesNamedParts ps tree name names errors tag = DecodesInside (DecodesNamedContents ps tree name names errors) (sequence_header tag)
+abbrev pub DecodesNamedParts : {D : Type 0} → Bool → Parts → (D → Tree) → List ℕ → List (List ℕ) → (Tag → Errors) → Tag → Call D
+DecodesNamedParts extensible ps tree name names errors tag = DecodesInside (DecodesNamedContents extensible ps tree name names errors) (sequence_header tag)
+
+-- The shape of a SET whose parts are listed: with an extension marker, in the order of the tags that are written.
+abbrev pub set_by : Bool → Tag → Parts → Shape
+set_by false tag ps = set tag ps
+set_by true tag ps = sorted_set true tag ps
 
 -- A component begins here, after these others.
-abbrev pub IsStart : Parts → State → State → Type 0
-IsStart ps old here = (before : List Tree) × (bs : List (List ℕ)) × DecodesInTurnFrom (Decodes (choice ps) (λ (t : Tree). t)) old before bs here
+abbrev pub IsStart : Bool → Parts → State → State → Type 0
+IsStart extensible ps old here = (before : List Tree) × (bs : List (List ℕ)) × DecodesInTurnFrom (Decodes (choice_by extensible ps) (λ (t : Tree). t)) old before bs here
 
 -- What is said of the parts of a SET, each of which was read where a component begins.
-abbrev pub BeyondSet : {D : Type 0} → Parts → (List State → D → Type 0) → Beyond D
-BeyondSet ps beyond old v new = (starts : List State) × ((here : State) → Contains starts here → IsStart ps old here) × beyond starts v
-
--- A SET with an extension marker: a component with the tag of no part is unknown, and is read as an open type without a
--- tag. It is kept after those before it, for which an allocation may fail.
-abbrev pub FailsToKeep : State → DecodeError → State → Type 0
-FailsToKeep old e new = (a : Any) × DecodesOpenType eoc old (Ok a) new × IsErrorOf OutOfMemory new e
-
-abbrev pub DecodesOneOfSorted : Parts → List ℕ → (Tag → Errors) → Call Tree
-DecodesOneOfSorted ps name errors old r new = Decodes (open_choice ps) (λ (t : Tree). t) old r new
-    × IfErr r (λ e. (DecodesAlternativeBy true ps (λ (t : Tree). t) name old (Err e) new ⊎ FailsToKeep old e new) × IsErrorByTag errors old e new)
-
-abbrev pub MakesOfSortedReadings : {D : Type 0} → Parts → (D → Tree) → List (List ℕ) → Codec → List Tree → Result D DecodeError → Type 0
-MakesOfSortedReadings ps tree names rule readings (Ok v) = AreSortedParts ps readings (tree v)
-MakesOfSortedReadings ps tree names rule readings (Err e) = MakesOfReadings ps tree names rule readings (Err e)
-
-abbrev pub MakesNamedSorted : {D : Type 0} → Parts → (D → Tree) → List (List ℕ) → Codec → List Tree → Result D DecodeError → Type 0
-MakesNamedSorted ps tree names rule readings r = MakesOfSortedReadings ps tree names rule readings r
-    × IfErr r (λ e. IsOutOfMemory e.kind → ((k : ℕ) × RepeatsFirst ps k readings) ⊎ LeavesGap 0 (presences ps) readings)
-
--- A SET with an extension marker or without one. Without one, these are the definitions above.
-abbrev pub DecodesSetPartContentsBy : {D : Type 0} → Bool → Parts → (D → Tree) → List (List ℕ) → Call D
-DecodesSetPartContentsBy false ps tree names old r new = DecodesSetPartContents ps tree names old r new
-DecodesSetPartContentsBy true ps tree names old r new =
-    DecodesSetContents (DecodesIntoSlots (Decodes (open_choice ps) (λ (t : Tree). t))) (MakesOfSortedReadings ps tree names old.rule) old r new
-
-abbrev pub DecodesSetPartsBy : {D : Type 0} → Bool → Parts → (D → Tree) → List (List ℕ) → Tag → Call D
-DecodesSetPartsBy false ps tree names tag old r new = DecodesSetParts ps tree names tag old r new
-DecodesSetPartsBy true ps tree names tag old r new = DecodesInside (DecodesSetPartContentsBy true ps tree names) (sequence_header tag) old r new
-
-abbrev pub DecodesNamedContentsBy : {D : Type 0} → Bool → Parts → (D → Tree) → List ℕ → List (List ℕ) → (Tag → Errors) → Call D
-DecodesNamedContentsBy false ps tree name names errors old r new = DecodesNamedContents ps tree name names errors old r new
-DecodesNamedContentsBy true ps tree name names errors old r new =
-    DecodesSetContents (DecodesIntoSlots (DecodesOneOfSorted ps name errors)) (MakesNamedSorted ps tree names old.rule) old r new
-
-abbrev pub DecodesNamedPartsBy : {D : Type 0} → Bool → Parts → (D → Tree) → List ℕ → List (List ℕ) → (Tag → Errors) → Tag → Call D
-DecodesNamedPartsBy false ps tree name names errors tag old r new = DecodesNamedParts ps tree name names errors tag old r new
-DecodesNamedPartsBy true ps tree name names errors tag old r new = DecodesInside (DecodesNamedContentsBy true ps tree name names errors) (sequence_header tag) old r new
+abbrev pub BeyondSet : {D : Type 0} → Bool → Parts → (List State → D → Type 0) → Beyond D
+BeyondSet extensible ps beyond old v new = (starts : List State) × ((here : State) → Contains starts here → IsStart extensible ps old here) × beyond starts v

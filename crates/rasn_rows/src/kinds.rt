@@ -4,7 +4,7 @@ use crate::cut::{cut, open};
 use crate::lists::SixtyFour;
 use crate::reading::{begun, counted, decoded, decoder_of, read, read_within, tell_within, told};
 use crate::row::{Row, Verb};
-use crate::types::{Counted, Eight, Graded, Levelled, Padding, Profile, Renewed, Reply};
+use crate::types::{Amended, Counted, Eight, Graded, Levelled, Padding, Profile, Renewed, Reply};
 use crate::writing::{write, write_value};
 use rasn::de::Decode;
 use rasn::enc::Encode;
@@ -196,6 +196,7 @@ fn of_names(alloc: Global, row: &Row<'_>) -> Result<String, AllocError> {
         "graded" => both::<Graded>(alloc, row),
         "levelled" => both::<Levelled>(alloc, row),
         "renewed" => both::<Renewed>(alloc, row),
+        "amended" => both::<Amended>(alloc, row),
         "reply" => both::<Reply>(alloc, row),
         _ => of_bounds(alloc, row),
     }

@@ -1,5 +1,6 @@
 //! User-defined types, for tests.
 
+mod amended;
 mod counted;
 mod eight;
 mod graded;
@@ -9,6 +10,7 @@ mod profile;
 mod renewed;
 mod reply;
 
+pub use amended::Amended;
 pub use counted::Counted;
 pub use eight::Eight;
 pub use graded::Graded;

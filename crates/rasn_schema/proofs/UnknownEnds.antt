@@ -44,7 +44,7 @@ module _ (f : ℕ → Shape) where
   known_is ps true e = rw e (before_is ps)
   known_is ps false e = rw e refl
 
-  end_at : (ps : List Component) (i : ℕ) (p : Component) → Some p ≡ slice_get ps i → suc i ≡ length ps → is_unknown (f p.type_id.0) ≡ ends_unknown (components_by f ps)
+  pub end_at : (ps : List Component) (i : ℕ) (p : Component) → Some p ≡ slice_get ps i → suc i ≡ length ps → is_unknown (f p.type_id.0) ≡ ends_unknown (components_by f ps)
   end_at [] i p e l = absurd (omega (arith, l))
   end_at (q ∷ []) zero p e l = ap (λ (x : Component). is_unknown (f x.type_id.0)) (some_is p q e)
   end_at (q ∷ []) (suc i) p e l = absurd (omega (arith, l))

@@ -12,3 +12,4 @@ mod reads;
 mod reads_set;
 mod refusals;
 mod set_of;
+mod sorted;

@@ -14,7 +14,7 @@ mod three;
 
 #[cfg(test)]
 pub use fieldless::{Closed, Extensible};
-pub use lamp::Lamp;
+pub use lamp::{Lamp, Level};
 #[cfg(test)]
 use rasn_bench::Both;
 #[cfg(test)]

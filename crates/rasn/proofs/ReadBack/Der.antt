@@ -7,7 +7,7 @@ use Rattle.rasn_types.specs.Framing.{AreOctets}
 use Rattle.rasn_types.specs.Shapes.{Shape, Tree}
 use Rattle.rasn_types.proofs.Encoding.SameAsItself.{one_writing}
 use Rattle.rasn.specs.Headline.{Answered, AnsweredAlone, ConsumesWritten, IsAsWritten}
-use Rattle.rasn.proofs.LawsHold.Written.{strict_der}
+use Rattle.rasn.proofs.StrictDer.Carried.{strict_der}
 
 pub consumes_written : {T : Type 0} (s : Shape) (tree : T → Tree) (input : List ℕ) → AreOctets input → (r : Result (T × Bor (List ℕ)) DecodeError)
     → Answered Der s tree input r → ConsumesWritten s tree input r

@@ -1,5 +1,5 @@
 -- What values hold beyond their trees, said of what is read one after the other and inside.
-use Rattle.std.proofs.Common.{◌≡◌, ◌≢◌, ◌⊎◌, inl, inr, ℕ, List, [], ◌∷◌, ◌++◌, length, Option, Some, None, Result, Ok, Err, Vec, Global, refl, sym, subst, ap, arith}
+use Rattle.std.proofs.Common.{◌≡◌, ◌≢◌, ◌⊎◌, inl, inr, ℕ, Bool, List, [], ◌∷◌, ◌++◌, length, Option, Some, None, Result, Ok, Err, Vec, Global, refl, sym, subst, ap, arith}
 use Rattle.std.specs.Prelude.{IfOk, Contains}
 use Rattle.std.specs.Borrow.{Bor}
 use Rattle.std.proofs.lemmas.List.Elements.{Contains-push, Contains-push_cases, Contains-append_left}
@@ -64,21 +64,21 @@ ok_also P Q (Ok x) p q = (p, q)
 ok_also P Q (Err e) p q = tt
 
 -- The values in the slots were read at these states, where components begin.
-module _ {S : Type 0} (ps : Parts) (kept : List State → S → Type 0) (old : State) where
+module _ {S : Type 0} (extensible : Bool) (ps : Parts) (kept : List State → S → Type 0) (old : State) where
   abbrev pub Keeping : S → Type 0
-  Keeping slots = (starts : List State) × ((s : State) → Contains starts s → IsStart ps old s) × ((more : List State) → ((s : State) → Contains starts s → Contains more s) → kept more slots)
+  Keeping slots = (starts : List State) × ((s : State) → Contains starts s → IsStart extensible ps old s) × ((more : List State) → ((s : State) → Contains starts s → Contains more s) → kept more slots)
 
   pub none_kept : (slots : S) → ((more : List State) → kept more slots) → Keeping slots
   none_kept slots h = ([], λ s m. absurd (omega (arith, m.1)), λ more w. h more)
 
-  pub more_kept : (here : State) (slots after : S) → Keeping slots → IsStart ps old here → ((more : List State) → Contains more here → kept more slots → kept more after) → Keeping after
+  pub more_kept : (here : State) (slots after : S) → Keeping slots → IsStart extensible ps old here → ((more : List State) → Contains more here → kept more slots → kept more after) → Keeping after
   more_kept here slots after (starts, f, k) i step = (
     starts ++ here ∷ [],
-    λ s m. elim (Contains-push_cases starts here s m) [ inl a ↦ f s a | inr e ↦ subst (λ z. IsStart ps old z) e i ],
+    λ s m. elim (Contains-push_cases starts here s m) [ inl a ↦ f s a | inr e ↦ subst (λ z. IsStart extensible ps old z) e i ],
     λ more w. step more (w here (Contains-push starts here)) (k more (λ s m. w s (Contains-append_left starts (here ∷ []) s m))),
   )
 
   pub all_kept : {D : Type 0} (beyond : List State → D → Type 0) (slots : S) (r : Result D DecodeError) (new : State) → Keeping slots → ((starts : List State) → kept starts slots → IfOk r (λ v. beyond starts v))
-      → IfOk r (λ v. BeyondSet ps beyond old v new)
+      → IfOk r (λ v. BeyondSet extensible ps beyond old v new)
   all_kept beyond slots (Ok v) new (starts, f, k) h = (starts, f, h starts (k starts (λ s m. m)))
   all_kept beyond slots (Err e) new k h = tt

@@ -238,7 +238,7 @@ unknown_read tag old (Err e) new n d k =
     }
 
 -- The alternatives of a CHOICE are counted from 0.
-choice_by_read : (extensible : Bool) (ps : Parts) {old new : State} {o : Outcome} → DecodesExactly (ReadsNumberedBy extensible 0 ps) old o new → DecodesExactly (λ rule. Reads rule (choice_by extensible ps)) old o new
+pub choice_by_read : (extensible : Bool) (ps : Parts) {old new : State} {o : Outcome} → DecodesExactly (ReadsNumberedBy extensible 0 ps) old o new → DecodesExactly (λ rule. Reads rule (choice_by extensible ps)) old o new
 unfolding Reads
 choice_by_read false ps {old} {new} {o} a = record { stays = a.stays; end = a.end; exact = a.exact }
 choice_by_read true ps {old} {new} {o} a =
@@ -248,10 +248,6 @@ choice_by_read true ps {old} {new} {o} a =
       end = a.end;
       exact = subst (λ n. Exact (ReadsOpenChoice old.rule (IsFirstOf ps) n (ReadsNumbered 0 ps old.rule old.depth old.closing)) old.rest o) f a.exact;
     }
-
-pub choice_read : (ps : Parts) {old new : State} {o : Outcome} → DecodesExactly (ReadsNumbered 0 ps) old o new → DecodesExactly (λ rule. Reads rule (choice ps)) old o new
-unfolding Reads
-choice_read ps {old} {new} {o} a = record { stays = a.stays; end = a.end; exact = a.exact }
 
 counted : {T : Type 0} (number : T → ℕ) (inner : T → Tree) (r : Result T DecodeError) (l : List ℕ) → outcome (λ v. chosen (0 + number v) (inner v)) r l ≡ outcome (λ v. chosen (number v) (inner v)) r l
 counted number inner (Ok v) l = let f : 0 + number v ≡ number v = omega arith in ap (λ m. Got (chosen m (inner v)) l) f

@@ -43,13 +43,13 @@ mod writer;
 
 pub use config::EncoderOptions;
 pub use object_identifier::object_identifier_as_bytes;
-pub use writer::leading_tag::leading_tag;
 use rasn_types::error::{BerEncodeErrorKind, CodecEncodeError, EncodeError, EncodeErrorKind};
 use rasn_types::types::{Codec, Constraints, Tag};
 use std::alloc::Global;
 use std::fmt;
 use std::marker::Model;
 use writer::deferred_headers::DeferredHeader;
+pub use writer::leading_tag::leading_tag;
 use writer::{Open, ValueList};
 
 /// The number of octets that `Encoder::new` and the entry points reserve before anything is

@@ -3,8 +3,8 @@
 
 use rasn::error::{DecodeError, EncodeError};
 use rasn::parts::{
-    DecodeAlternatives, DefaultValue, DefaultedChoice, End, Last, OneOf, OptionalChoice, Put,
-    PutDefaultChoice, PutOptionalChoice, Required,
+    DecodeAlternatives, DefaultValue, DefaultedChoice, End, Last, LeastTag, OneOf, OptionalChoice,
+    Put, PutDefaultChoice, PutOptionalChoice, Required,
 };
 use rasn::types::{AsnType, Constraints, FirstTags, Identifier, LawfulEq, Tag};
 use rasn::{Decode, Decoder, Encode, Encoder};
@@ -44,6 +44,12 @@ type Levels = OneOf<u8, Last<()>>;
 impl FirstTags for Level {
     fn is_first_tag(tag: Tag) -> bool {
         <Levels as DecodeAlternatives>::has_tag(tag)
+    }
+}
+
+impl LeastTag for Level {
+    fn least_tag() -> Tag {
+        Tag::INTEGER
     }
 }
 

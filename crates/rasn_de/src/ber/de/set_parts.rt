@@ -1,16 +1,15 @@
 //! A SET whose parts are described by a type (X.690 8.11): nested to the right, read in any order,
 //! each once.
-ghost use Rattle.std.specs.Prelude.{◌≡◌, ◌≢◌, ℕ, zero, suc, true, false, length, List, Contains, IfOk, map, IfErr};
+ghost use Rattle.std.specs.Prelude.{◌≡◌, ◌≢◌, ℕ, zero, suc, true, [], length, List, Contains, IfOk, map, IfErr};
 ghost use Rattle.rasn_types.specs.Framing.{NextTag};
 ghost use Rattle.rasn_types.specs.Tags.{form};
 ghost use Rattle.rasn_types.specs.Errors.{IsOutOfMemory};
-ghost use Rattle.rasn_types.specs.Shapes.{set, sorted_set, presences};
+ghost use Rattle.rasn_types.specs.Shapes.{sorted_set, presences};
 ghost use Rattle.rasn_de.specs.Decodes.{Decodes};
-ghost use Rattle.rasn_de.specs.SetPartTypes.{text, name_at, AreEmpty, IsPlaced, IsOrDefault, DecodesPlaced, DecodesOneOf, DecodesNext, HasGap, MakesParts, DecodesSetPartContents, DecodesSetParts, DecodesNamedContents, DecodesNamedParts, BeyondSet};
+ghost use Rattle.rasn_de.specs.SetPartTypes.{text, name_at, AreEmpty, IsPlaced, IsOrDefault, DecodesPlaced, FailsAtSetPart, DecodesOneOf, DecodesNext, HasGap, MakesParts, DecodesSetPartContents, DecodesSetParts, DecodesNamedContents, DecodesNamedParts, set_by, BeyondSet};
 ghost use Rattle.rasn_de.specs.Beyond.{BeyondInside};
 ghost use Rattle.rasn_de.specs.Constructed.{sequence_header};
 ghost use Rattle.rasn_de.specs.State.{State};
-ghost use Rattle.rasn_de.specs.AlternativeTypes.{FailsAtAlternative};
 ghost use Rattle.rasn_de.specs.SequenceOf.{RefusesElement};
 
 use crate::ber::de::Decoder;
@@ -19,13 +18,15 @@ use crate::ber::de::parser::ParseError;
 use crate::ber::de::parts::{Defaulted, Optional, Required};
 use crate::de::{Decode, Error};
 use rasn_types::error::DecodeError;
-use rasn_types::types::{AsnType, DefaultValue, End, Tag};
-use std::alloc::AllocError;
+use rasn_types::types::{AsnType, DefaultValue, End, Tag, Unknown};
+use std::alloc::{AllocError, Global};
 
 /// Parts that are read in any order, each of which has a tag of its own: [`Required`], [`Optional`]
-/// and [`Defaulted`], each with those after it, and [`End`] after the last.
+/// and [`Defaulted`], each with those after it, and [`End`] after the last. If the SET has an
+/// extension marker (X.680 27), the list ends with [`Unknown`] in place of `End`: the components
+/// with the tag of no part, anywhere among the others.
 pub trait DecodeSetParts: Drop {
-    ghost use Rattle.std.specs.Prelude.{Bool, List, Option};
+    ghost use Rattle.std.specs.Prelude.{Bool, false, List, [], Option};
     ghost use Rattle.rasn_types.specs.declared.types.tag.Tag.{Tag};
     ghost use Rattle.rasn_de.specs.ValueErrors.{Errors};
     ghost use Rattle.rasn_types.specs.Shapes.{Parts, Tree};
@@ -36,9 +37,15 @@ pub trait DecodeSetParts: Drop {
 
     ghost parts: { Parts };
 
+    /// Whether the SET has an extension marker.
+    ghost extensible: { Bool } = { false };
+
     ghost tree: { Self → Tree };
 
     ghost held: { Self.Slots → List (Option Tree) };
+
+    /// The trees of the unknown components, in the order in which they are read.
+    ghost others: { Self.Slots → List Tree } = { λ _. [] };
 
     /// What the values in the slots keep of the octets that were read at these states, beyond their
     /// trees.
@@ -54,8 +61,9 @@ pub trait DecodeSetParts: Drop {
     ghost tags_differ: { Bool };
 
     /// Returns empty slots.
-    fn empty() -> Self::Slots
+    fn empty(alloc: Global) -> Self::Slots
         ensures empty { AreEmpty parts (held result) }
+        ensures none { others result ≡ [] }
         ensures kept { (starts : List State) → kept starts result };
 
     /// Reads the component that has this tag, which must be the next tag, and puts it into the slot
@@ -63,7 +71,8 @@ pub trait DecodeSetParts: Drop {
     /// part.
     ///
     /// # Errors
-    /// The error of the part, or `NoValidChoice` with the name of the type if no part has the tag.
+    /// The error of the part. If no part has the tag, `NoValidChoice` with the name of the type, or
+    /// with an extension marker the error of the unknown component, or `OutOfMemory`.
     fn decode_component<'names>(
         slots: &mut Self::Slots,
         decoder: &mut Decoder<'_>,
@@ -73,8 +82,8 @@ pub trait DecodeSetParts: Drop {
     ) -> Result<Option<&'names str>, DecodeError>
         requires next { NextTag (form decoder.old.rule) decoder.old.rest tag }
         requires differ { tags_differ ≡ true }
-        ensures reads { DecodesPlaced parts (map text names.now) (held slots.old) decoder.old result decoder.new (held slots.new) }
-        ensures fails { IfErr result (λ e. FailsAtAlternative parts name.now tag decoder.old e decoder.new) }
+        ensures reads { DecodesPlaced extensible parts (map text names.now) (held slots.old) (others slots.old) decoder.old result decoder.new (held slots.new) (others slots.new) }
+        ensures fails { IfErr result (λ e. FailsAtSetPart extensible parts name.now tag decoder.old e decoder.new) }
         ensures errors { IfErr result (λ e. errors tag decoder.old e decoder.new) }
         ensures kept { (starts : List State) → Contains starts decoder.old → kept starts slots.old → length decoder.new.rest ≢ length decoder.old.rest → IfOk result (λ r. kept starts slots.new) }
         ensures rules { IfErr result (λ e. e.codec ≡ decoder.old.rule) };
@@ -89,7 +98,7 @@ pub trait DecodeSetParts: Drop {
         decoder: &Decoder<'_>,
         names: &[&str],
     ) -> Result<Self, DecodeError>
-        ensures makes { MakesParts parts tree (map text names.now) decoder.now.rule (held slots) result }
+        ensures makes { MakesParts extensible parts tree (map text names.now) decoder.now.rule (held slots) (others slots) result }
         ensures memory { IfErr result (λ e. IsOutOfMemory e.kind → HasGap (presences parts) (held slots)) }
         ensures beyond { (starts : List State) → kept starts slots → IfOk result (λ v. beyond starts v) }
         ensures rules { IfErr result (λ e. e.codec ≡ decoder.now.rule) };
@@ -169,7 +178,7 @@ impl DecodeSetParts for End {
 
     ghost tags_differ = { true };
 
-    fn empty() -> End {
+    fn empty(_alloc: Global) -> End {
         End
     }
 
@@ -188,6 +197,59 @@ impl DecodeSetParts for End {
     }
 }
 
+/// The components of a SET with an extension marker that its type doesn't name (X.680 27), each kept
+/// as its octets.
+impl DecodeSetParts for Unknown {
+    ghost use Rattle.std.specs.Prelude.{true, [], map};
+    ghost use Rattle.rasn_types.specs.Shapes.{numbers, joined, done};
+    ghost use Rattle.rasn_types.specs.Shapes.Parts.{none};
+    ghost use Rattle.rasn_types.specs.Trees.{list_tree};
+
+    type Slots = Unknown;
+
+    ghost parts = { none };
+
+    ghost extensible = { true };
+
+    ghost tree = { λ u. joined (list_tree numbers u.values.items) done };
+
+    ghost held = { λ u. [] };
+
+    ghost others = { λ u. map numbers u.values.items };
+
+    ghost kept = { λ starts u. Unit {0} };
+
+    ghost beyond = { λ starts u. Unit {0} };
+
+    ghost tags_differ = { true };
+
+    fn empty(alloc: Global) -> Unknown {
+        Unknown::new(alloc)
+    }
+
+    fn decode_component<'names>(
+        slots: &mut Unknown,
+        decoder: &mut Decoder<'_>,
+        _tag: Tag,
+        _name: &str,
+        _names: &[&'names str],
+    ) -> Result<Option<&'names str>, DecodeError> {
+        let value = decoder.decode_any(Tag::EOC)?;
+        match slots.values.push(value) {
+            Ok(()) => Ok(None),
+            Err(_) => Err(decoder.error(ParseError::OutOfMemory)),
+        }
+    }
+
+    fn gather(
+        slots: Unknown,
+        _decoder: &Decoder<'_>,
+        _names: &[&str],
+    ) -> Result<Unknown, DecodeError> {
+        Ok(slots)
+    }
+}
+
 impl<A: Decode, R: DecodeSetParts> DecodeSetParts for Required<A, R> {
     ghost use Rattle.std.specs.Prelude.{◌&&◌, ◌∷◌, Some};
     ghost use Rattle.rasn_types.specs.Shapes.{part, required, joined};
@@ -200,9 +262,13 @@ impl<A: Decode, R: DecodeSetParts> DecodeSetParts for Required<A, R> {
 
     ghost parts = { part required A.shape R.parts };
 
+    ghost extensible = { R.extensible };
+
     ghost tree = { λ p. joined (A.tree p.0) (R.tree p.1) };
 
     ghost held = { λ c. held_tree A.tree c.0 ∷ R.held c.1 };
+
+    ghost others = { λ c. R.others c.1 };
 
     ghost kept = { λ starts c. BeyondSlot (got (A.beyond A.TAG)) starts c.0 × R.kept starts c.1 };
 
@@ -212,8 +278,8 @@ impl<A: Decode, R: DecodeSetParts> DecodeSetParts for Required<A, R> {
 
     ghost tags_differ = { is_first_alone A.shape A.TAG R.parts && R.tags_differ };
 
-    fn empty() -> (Option<A>, R::Slots) {
-        (None, R::empty())
+    fn empty(alloc: Global) -> (Option<A>, R::Slots) {
+        (None, R::empty(alloc))
     }
 
     fn decode_component<'names>(
@@ -261,9 +327,13 @@ impl<A: Decode, R: DecodeSetParts> DecodeSetParts for Optional<A, R> {
 
     ghost parts = { part optional A.shape R.parts };
 
+    ghost extensible = { R.extensible };
+
     ghost tree = { λ p. joined (option_tree A.tree p.0) (R.tree p.1) };
 
     ghost held = { λ c. held_tree A.tree c.0 ∷ R.held c.1 };
+
+    ghost others = { λ c. R.others c.1 };
 
     ghost kept = { λ starts c. BeyondSlot (got (A.beyond A.TAG)) starts c.0 × R.kept starts c.1 };
 
@@ -273,8 +343,8 @@ impl<A: Decode, R: DecodeSetParts> DecodeSetParts for Optional<A, R> {
 
     ghost tags_differ = { is_first_alone A.shape A.TAG R.parts && R.tags_differ };
 
-    fn empty() -> (Option<A>, R::Slots) {
-        (None, R::empty())
+    fn empty(alloc: Global) -> (Option<A>, R::Slots) {
+        (None, R::empty(alloc))
     }
 
     fn decode_component<'names>(
@@ -318,9 +388,13 @@ where
 
     ghost parts = { part (default V.default_tree) V.Value.shape R.parts };
 
+    ghost extensible = { R.extensible };
+
     ghost tree = { λ p. joined (V.Value.tree p.0) (R.tree p.1) };
 
     ghost held = { λ c. held_tree V.Value.tree c.0 ∷ R.held c.1 };
+
+    ghost others = { λ c. R.others c.1 };
 
     ghost kept = { λ starts c. BeyondSlot (got (V.Value.beyond V.Value.TAG)) starts c.0 × R.kept starts c.1 };
 
@@ -330,8 +404,8 @@ where
 
     ghost tags_differ = { is_first_alone V.Value.shape V.Value.TAG R.parts && (is_looked_for V.Value.shape V.Value.TAG && R.tags_differ) };
 
-    fn empty() -> (Option<V::Value>, R::Slots) {
-        (None, R::empty())
+    fn empty(alloc: Global) -> (Option<V::Value>, R::Slots) {
+        (None, R::empty(alloc))
     }
 
     fn decode_component<'names>(
@@ -374,8 +448,8 @@ impl<'input> Decoder<'input> {
         names: &[&'names str],
     ) -> Result<Option<&'names str>, DecodeError>
         requires { P.tags_differ ≡ true }
-        ensures exact { DecodesNext P.parts (map text names.now) (P.held slots.old) self.old result self.new (P.held slots.new) }
-        ensures fails { IfErr result (λ e. RefusesElement (DecodesOneOf P.parts name.now P.errors) self.old e self.new) }
+        ensures exact { DecodesNext P.extensible P.parts (map text names.now) (P.held slots.old) (P.others slots.old) self.old result self.new (P.held slots.new) (P.others slots.new) }
+        ensures fails { IfErr result (λ e. RefusesElement (DecodesOneOf P.extensible P.parts name.now P.errors) self.old e self.new) }
         ensures kept { (starts : List State) → Contains starts self.old → P.kept starts slots.old → IfOk result (λ r. P.kept starts slots.new) }
         ensures rules { IfErr result (λ e. e.codec ≡ self.old.rule) }
     {
@@ -392,12 +466,12 @@ impl<'input> Decoder<'input> {
     /// tags of the components must be in ascending order (X.690 10.3).
     fn set_parts<P: DecodeSetParts>(&mut self, name: &str, names: &[&str]) -> Result<P, DecodeError>
         requires { P.tags_differ ≡ true }
-        ensures exact { DecodesSetPartContents P.parts P.tree (map text names.now) self.old result self.new }
-        ensures fails { DecodesNamedContents P.parts P.tree name.now (map text names.now) P.errors self.old result self.new }
-        ensures beyond { IfOk result (λ v. BeyondSet P.parts P.beyond self.old v self.new) }
+        ensures exact { DecodesSetPartContents P.extensible P.parts P.tree (map text names.now) self.old result self.new }
+        ensures fails { DecodesNamedContents P.extensible P.parts P.tree name.now (map text names.now) P.errors self.old result self.new }
+        ensures beyond { IfOk result (λ v. BeyondSet P.extensible P.parts P.beyond self.old v self.new) }
         ensures rules { IfErr result (λ e. e.codec ≡ self.old.rule) }
     {
-        let mut slots = P::empty();
+        let mut slots = P::empty(self.alloc);
         let mut twice = None;
         let mut last = None;
         while !self.has_ended() {
@@ -420,19 +494,22 @@ impl<'input> Decoder<'input> {
     ///   consumed.
     /// - `InvalidConstructedIdentifier`: the value is consumed.
     /// - The error of the first component that can't be read: an error in its identifier, under DER
-    ///   `SetComponentsOutOfOrder`, `NoValidChoice` if no part has its tag, the error of its part,
-    ///   or `UnexpectedExtraData` if it consumes nothing. The header and the contents are consumed,
-    ///   or only the header if the length is indefinite.
+    ///   `SetComponentsOutOfOrder`, `NoValidChoice` if no part has its tag and the SET has no
+    ///   extension marker, the error of its part, or `UnexpectedExtraData` if it consumes nothing.
+    ///   The header and the contents are consumed, or only the header if the length is indefinite.
     /// - If all components are read, `DuplicateField` for the first component whose part was read
     ///   before, or else `MissingField` for the first required part that is missing. `OutOfMemory`
-    ///   is reported only if a part was read before, or a required part or one with a default is
-    ///   missing. The same octets are consumed.
+    ///   is reported then only if a part was read before, or a required part or one with a default
+    ///   is missing. The same octets are consumed.
     /// - Last, missing end-of-contents octets (`Incomplete`): what was read inside is consumed too.
     ///
     /// `decode_set` reports errors in the same order.
     ///
-    /// A SET is read in the same way whether its shape lists the parts in the order of their tags
-    /// (`reads`) or is put in this order (`sorted`).
+    /// If the parts end with [`Unknown`], the SET has an extension marker (X.680 27): a component
+    /// with the tag of no part is kept as its octets, anywhere among the others.
+    ///
+    /// A SET without one is read in the same way whether its shape lists the parts in the order of
+    /// their tags (`reads`) or is put in this order (`sorted`).
     pub fn read_set<P: DecodeSetParts>(
         &mut self,
         tag: Tag,
@@ -440,21 +517,21 @@ impl<'input> Decoder<'input> {
         names: &[&str],
     ) -> Result<P, DecodeError>
         requires { P.tags_differ ≡ true }
-        ensures exact { DecodesSetParts P.parts P.tree (map text names.now) tag self.old result self.new }
-        ensures fails { DecodesNamedParts P.parts P.tree name.now (map text names.now) P.errors tag self.old result self.new }
-        ensures reads { Decodes (set tag P.parts) P.tree self.old result self.new }
-        ensures sorted { Decodes (sorted_set false tag P.parts) P.tree self.old result self.new }
-        ensures beyond { IfOk result (λ v. BeyondInside (BeyondSet P.parts P.beyond) (sequence_header tag) self.old v) }
+        ensures exact { DecodesSetParts P.extensible P.parts P.tree (map text names.now) tag self.old result self.new }
+        ensures fails { DecodesNamedParts P.extensible P.parts P.tree name.now (map text names.now) P.errors tag self.old result self.new }
+        ensures reads { Decodes (set_by P.extensible tag P.parts) P.tree self.old result self.new }
+        ensures sorted { Decodes (sorted_set P.extensible tag P.parts) P.tree self.old result self.new }
+        ensures beyond { IfOk result (λ v. BeyondInside (BeyondSet P.extensible P.parts P.beyond) (sequence_header tag) self.old v) }
         ensures rules { IfErr result (λ e. e.codec ≡ self.old.rule) }
     {
         self.inside(
             ConstructedHeader::sequence(tag),
             |inner| -> Result<P, DecodeError>
                 requires { P.tags_differ ≡ true }
-                ensures exact { DecodesSetPartContents P.parts P.tree (map text names.entry.now) inner.old result inner.new }
-                ensures fails { DecodesNamedContents P.parts P.tree name.entry.now (map text names.entry.now) P.errors inner.old result inner.new }
+                ensures exact { DecodesSetPartContents P.extensible P.parts P.tree (map text names.entry.now) inner.old result inner.new }
+                ensures fails { DecodesNamedContents P.extensible P.parts P.tree name.entry.now (map text names.entry.now) P.errors inner.old result inner.new }
                 ensures rules { IfErr result (λ e. e.codec ≡ inner.old.rule) }
-                ensures beyond { IfOk result (λ v. BeyondSet P.parts P.beyond inner.old v inner.new) }
+                ensures beyond { IfOk result (λ v. BeyondSet P.extensible P.parts P.beyond inner.old v inner.new) }
             { inner.set_parts::<P>(name, names) },
         )
     }

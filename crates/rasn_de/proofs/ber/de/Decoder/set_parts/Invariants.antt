@@ -6,8 +6,8 @@ use Rattle.rasn_de.proofs.ber.de.Decoder.set_parts.Given as goal
 
 abbrev pub invariant-loop-last : goal.invariant-loop-last
 invariant-loop-last g l = record {
-  read : ReadTo g.P.DecodeSetParts.parts (map text l.fn.names) l.fn.self l.self l.last l.twice (g.P.DecodeSetParts.held l.slots);
-  kept : Keeping g.P.DecodeSetParts.parts g.P.DecodeSetParts.kept l.fn.self l.slots;
+  read : ReadTo g.P.DecodeSetParts.extensible g.P.DecodeSetParts.parts (map text l.fn.names) l.fn.self l.self l.last l.twice (g.P.DecodeSetParts.held l.slots) (g.P.DecodeSetParts.others l.slots);
+  kept : Keeping g.P.DecodeSetParts.extensible g.P.DecodeSetParts.parts g.P.DecodeSetParts.kept l.fn.self l.slots;
 }
 
 abbrev pub decreases-loop-last : goal.decreases-loop-last

@@ -22,7 +22,7 @@ pub returns-in_err-rest-clause-memory : goal.returns-in_err-rest-clause-memory
 returns-in_err-rest-clause-memory g c = rw (residual _ c.from_residual-in_err-rest.ensures.1) (λ o. inr (c.in_err-rest.ensures.memory o))
 
 pub returns-clause-makes : goal.returns-clause-makes
-returns-clause-makes g c = gathered_default g.V.Value.AsnType.shape g.R.DecodeSetParts.parts g.V.Value.AsnType.tree g.V.DefaultValue.default_tree c.args.slots.0 _ (g.R.DecodeSetParts.held c.args.slots.1) _ c.in_ok-value.ensures.made c.in_ok-rest.ensures.makes
+returns-clause-makes g c = gathered_default g.R.DecodeSetParts.extensible g.V.Value.AsnType.shape g.R.DecodeSetParts.parts g.V.Value.AsnType.tree g.V.DefaultValue.default_tree c.args.slots.0 _ (g.R.DecodeSetParts.held c.args.slots.1) _ _ c.in_ok-value.ensures.made c.in_ok-rest.ensures.makes
 
 pub returns-clause-beyond : goal.returns-clause-beyond
 returns-clause-beyond g c = λ starts k. (slot_or_default (got (g.V.Value.Decode.beyond g.V.Value.AsnType.TAG)) g.V.Value.AsnType.tree g.V.DefaultValue.default_tree starts c.args.slots.0 _ c.in_ok-value.ensures.made k.0, c.in_ok-rest.ensures.beyond starts k.1)

@@ -1,4 +1,4 @@
-use Rattle.std.proofs.Common.{◌∙◌, refl}
+use Rattle.std.proofs.Common.{◌∙◌, refl, inl}
 use Rattle.rasn_de.proofs.OwnTypes.AlternativeTypes.{none_read}
 use Rattle.rasn_de.proofs.ber.de.set_parts.EndDecodeSetParts.decode_component.Goals as goal
 
@@ -9,4 +9,4 @@ pub returns-clause-rules : goal.returns-clause-rules
 returns-clause-rules c = c.no_valid_choice.ensures.0 ∙ c.codec.ensures
 
 pub returns-clause-fails : goal.returns-clause-fails
-returns-clause-fails c = (rw (← c.codec.ensures) c.no_valid_choice.ensures, refl)
+returns-clause-fails c = inl (rw (← c.codec.ensures) c.no_valid_choice.ensures, refl)

@@ -12,7 +12,7 @@ pub returns-in_err-rest-clause-memory : goal.returns-in_err-rest-clause-memory
 returns-in_err-rest-clause-memory g c = rw (residual _ c.from_residual.ensures.1) (λ o. inr (c.in_err-rest.ensures.memory o))
 
 pub returns-clause-makes : goal.returns-clause-makes
-returns-clause-makes g c = gathered_optional g.A.AsnType.shape g.R.DecodeSetParts.parts g.A.AsnType.tree c.args.slots.0 (g.R.DecodeSetParts.held c.args.slots.1) _ c.in_ok-rest.ensures.makes
+returns-clause-makes g c = gathered_optional g.R.DecodeSetParts.extensible g.A.AsnType.shape g.R.DecodeSetParts.parts g.A.AsnType.tree c.args.slots.0 (g.R.DecodeSetParts.held c.args.slots.1) _ _ c.in_ok-rest.ensures.makes
 
 pub returns-clause-beyond : goal.returns-clause-beyond
 returns-clause-beyond g c = λ starts k. (k.0, c.in_ok-rest.ensures.beyond starts k.1)

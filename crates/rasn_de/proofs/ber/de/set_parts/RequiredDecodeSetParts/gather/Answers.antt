@@ -19,7 +19,7 @@ pub returns-in_err-rest-clause-memory : goal.returns-in_err-rest-clause-memory
 returns-in_err-rest-clause-memory g c = rw (residual _ c.from_residual.ensures.1) (λ o. inr (c.in_err-rest.ensures.memory o))
 
 pub returns-clause-makes : goal.returns-clause-makes
-returns-clause-makes g c = gathered_some required g.A.AsnType.shape g.R.DecodeSetParts.parts g.A.AsnType.tree c.args.slots.0 _ (g.R.DecodeSetParts.held c.args.slots.1) _ (search rules) c.in_ok-rest.ensures.makes
+returns-clause-makes g c = gathered_some g.R.DecodeSetParts.extensible required g.A.AsnType.shape g.R.DecodeSetParts.parts g.A.AsnType.tree c.args.slots.0 _ (g.R.DecodeSetParts.held c.args.slots.1) _ _ (search rules) c.in_ok-rest.ensures.makes
 
 pub returns-in_default-clause-rules : goal.returns-in_default-clause-rules
 returns-in_default-clause-rules g c = c.missing_field.ensures.0 ∙ c.codec.ensures
