@@ -25,8 +25,8 @@ use Rattle.rasn_lint.specs.WellFormed.{AreEncodings}
 use Rattle.rasn_lint.specs.Laws.{NormalIsClean, FormedIsClean, IsClosed, ClosedIsClean, FirstIsListed, ClosedFirstIsListed, CleanIsNormal}
 use Rattle.rasn_lint.proofs.Holding.{holds}
 use Rattle.rasn_lint.proofs.Kept.{kept, formed}
-use Rattle.rasn_lint.proofs.Unnamed.{every_apart, every_together, unnamed_formed}
-use Rattle.rasn_lint.specs.Unnamed.{HasUnnamed}
+use Rattle.rasn_lint.proofs.OpenSets.{every_apart, every_together, unnamed_formed}
+use Rattle.rasn_lint.specs.OpenSets.{HasUnnamed}
 
 pub clean_if_formed : FormedIsClean
 clean_if_formed opens types id rule input octets ds n l all = l.clean.1 ((n.again, n.read_again.0), all)

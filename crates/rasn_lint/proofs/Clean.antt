@@ -25,7 +25,7 @@ use Rattle.rasn_lint.specs.declared.departure.Departure.{Departure}
 use Rattle.rasn_lint.specs.Lint.{IsDer, HasFormed, IsRemainderOf, IsAtFault, IsDerOrNot, IsClean, AreAll, offset_of, IsLint, IsNoLint, IsIllFormedAt, IsFirstOr, IsFirstDeparture, rest_after}
 use Rattle.rasn_lint.specs.Judged.{AreJudged, AreOpenDepartures}
 use Rattle.rasn_lint.specs.Refusals.{aspect_of}
-use Rattle.rasn_lint.specs.Unnamed.{HasUnnamed}
+use Rattle.rasn_lint.specs.OpenSets.{HasUnnamed}
 use Rattle.rasn_lint.proofs.Judged.{none_typed, none_if_formed, formed_if_none, formed_if}
 
 last_empty : {A : Type 0} (b c : List A) → b ++ c ≡ [] → c ≡ []

@@ -17,7 +17,7 @@ use Rattle.rasn_lint.specs.declared.by_schema.OpenTypes.{OpenTypes}
 use Rattle.rasn_lint.specs.declared.by_schema.OpenTypes.TheVariants.{Unexamined, Examined}
 use Rattle.rasn_lint.specs.declared.departure.Departure.{Departure}
 use Rattle.rasn_lint.specs.Lint.{AreFormed, IsLint, IsFirstDeparture}
-use Rattle.rasn_lint.specs.Unnamed.{HasUnnamed}
+use Rattle.rasn_lint.specs.OpenSets.{HasUnnamed}
 
 -- The list of a normal encoding is empty if the octets of each open type and of each unknown value of the input are well
 -- formed, where they are looked into: the encoding has the same ones. The input is read by any rules.

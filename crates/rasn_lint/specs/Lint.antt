@@ -24,7 +24,7 @@ use Rattle.rasn_lint.specs.declared.departure.Departure.{Departure}
 use Rattle.rasn_lint.specs.Judged.{AreJudged}
 use Rattle.rasn_lint.specs.Open.{IsInside, IsOfUnknown}
 use Rattle.rasn_lint.specs.Refusals.{aspect_of}
-use Rattle.rasn_lint.specs.Unnamed.{HasUnnamed}
+use Rattle.rasn_lint.specs.OpenSets.{HasUnnamed}
 use Rattle.rasn_lint.specs.Untyped.{HasOpen}
 use Rattle.rasn_lint.specs.WellFormed.{IsWellFormed, AreEncodings}
 

@@ -1,11 +1,11 @@
 //! The components of SETs that their types don't name (X.680 27). The reader lists no parts for
 //! them; here each is a part as well.
-ghost use Rattle.std.specs.Prelude.{◌≡◌, ◌++◌, ◌-◌, ℕ, List, length, IfOk, OnOk, MatchOption, Some};
+ghost use Rattle.std.specs.Prelude.{◌≡◌, ◌++◌, ◌-◌, List, IfOk, OnOk, MatchOption, Some};
 ghost use Rattle.rasn_types.specs.Shapes.{IsFirstOf};
 ghost use Rattle.rasn_types.specs.Truth.{IsWhether};
 ghost use Rattle.rasn_schema.specs.Shapes.{shape_of_type, components_by};
 ghost use Rattle.rasn_dynamic.specs.declared.span.Span.{Span};
-ghost use Rattle.rasn_lint.specs.Unnamed.{IsNamed, HasOpenSet, IsOpenSet, AreUnnamedIn, AreUnnamedOf, AreUnnamed, HasUnnamed};
+ghost use Rattle.rasn_lint.specs.OpenSets.{IsNamed, HasOpenSet, IsOpenSet, IsPushed, AreUnnamedIn, AreUnnamedOf, AreUnnamed, HasUnnamed};
 
 use crate::open::{Contents, contents_at, split_first};
 use crate::place::tag_of;
@@ -51,10 +51,12 @@ fn open_set<'schema>(
 fn begins_one(types: &[Type], levels: usize, components: &[Component], tag: Tag) -> bool
     ensures { IsWhether result (IsFirstOf (components_by (shape_of_type types.now levels) components.now) tag) }
 {
-    for component in components {
+    let mut rest = components;
+    while let [component, others @ ..] = rest {
         if begins(types, levels, component.type_id, tag) {
             return true;
         }
+        rest = others;
     }
     false
 }
@@ -75,6 +77,33 @@ fn is_named(
     }
 }
 
+/// Appends a part for an encoding in a SET, from whose start so many octets are left to the end of the
+/// message, unless it is one of the components that the type of the SET names.
+fn push_unless_named<'input>(
+    alloc: Global,
+    found: &mut Vec<Span<'input>>,
+    types: &[Type],
+    part: &Span<'_>,
+    set: OpenSet<'_>,
+    left: usize,
+    octets: &'input [u8],
+) -> Result<(), AllocError>
+    ensures { OnOk result (IsPushed types.now set.entry part.now left octets.now found.old.items found.new.items) }
+{
+    let levels = part.levels.saturating_sub(1);
+    if is_named(alloc, types, levels, set.named, octets) {
+        return Ok(());
+    }
+    found.push(Span {
+        id: set.unknown,
+        index: set.named.len(),
+        levels,
+        left,
+        octets,
+    })?;
+    Ok(())
+}
+
 /// Appends a part for each encoding in the contents of a SET that isn't one of the components that its
 /// type names.
 fn push_unnamed<'input>(
@@ -86,9 +115,8 @@ fn push_unnamed<'input>(
     contents: Contents<'input>,
 ) -> Result<(), AllocError>
     ensures { OnOk result ((es : List Span) × (found.new.items ≡ found.old.items ++ es)
-        × AreUnnamedIn types.now set part.now (part.now.left - contents.header_len) contents.octets.now es) }
+        × AreUnnamedIn types.now set.entry part.now (part.now.left - contents.entry.header_len) contents.entry.octets.now es) }
 {
-    let levels = part.levels.saturating_sub(1);
     let left = part.left.saturating_sub(contents.header_len);
     let mut rest = contents.octets;
     // Each encoding has an octet of its own.
@@ -96,15 +124,9 @@ fn push_unnamed<'input>(
         let Some((octets, others)) = split_first(alloc, rest) else {
             return Ok(());
         };
-        if !is_named(alloc, types, levels, set.named, octets) {
-            found.push(Span {
-                id: set.unknown,
-                index: set.named.len(),
-                levels,
-                left: left.saturating_sub(contents.octets.len().saturating_sub(rest.len())),
-                octets,
-            })?;
-        }
+        let before = contents.octets.len().saturating_sub(rest.len());
+        let left = left.saturating_sub(before);
+        push_unless_named(alloc, found, types, part, set, left, octets)?;
         rest = others;
     }
     Ok(())
@@ -160,16 +182,14 @@ pub fn with_unnamed<'input>(
     schema: &Schema,
     parts: Vec<Span<'input>>,
 ) -> Result<Vec<Span<'input>>, AllocError>
-    ensures { IfOk result (λ all. HasUnnamed schema.now.types.items parts.items all.items) }
+    ensures { IfOk result (λ all. HasUnnamed schema.now.types.items parts.entry.items all.items) }
 {
-    let found = unnamed(alloc, schema, parts.as_slice())?;
+    let mut found = unnamed(alloc, schema, parts.as_slice())?;
     if found.is_empty() {
         return Ok(parts);
     }
     let mut all = parts;
-    for part in found {
-        all.push(part)?;
-    }
+    all.append(&mut found)?;
     // Parts that begin at the same octet keep their order.
     all.sort_by_key(|part| usize::MAX - part.left)?;
     Ok(all)

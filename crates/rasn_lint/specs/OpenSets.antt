@@ -1,5 +1,5 @@
 -- The components of SETs that their types don't name (X.680 27), each of which is a part here.
-use Rattle.std.specs.Prelude.{◌≡◌, ◌⊎◌, ◌-◌, ◌^◌, ℕ, true, List, [], ◌∷◌, ◌++◌, length, Option, Some, None, Ok, slice_get}
+use Rattle.std.specs.Prelude.{◌≡◌, ◌⊎◌, ◌-◌, ◌^◌, ℕ, true, List, [], ◌∷◌, ◌++◌, length, Option, Some, Ok, slice_get}
 use Rattle.std.specs.List.Sorted.{IsNonDecreasingBy, IsPermutation}
 use Rattle.rasn_types.specs.declared.types.codec.Codec.TheVariants.{Ber}
 use Rattle.rasn_types.specs.declared.types.tag.Tag.{Tag}
@@ -46,6 +46,10 @@ module _ (types : List «Type») (set : OpenSet) (e : Span) where
 
   abbrev pub IsNamedHere : List ℕ → Type 0
   IsNamedHere x = IsNamed (components_by (shape_of_type types (e.levels - 1)) set.named.now) x
+
+  -- The encoding was appended as a part, unless it is named.
+  abbrev pub IsPushed : ℕ → List ℕ → List Span → List Span → Type 0
+  IsPushed left x old new = (IsNamedHere x × (new ≡ old)) ⊎ ((IsNamedHere x → ⊥) × (u : Span) × (new ≡ old ++ u ∷ []) × IsUnnamed left x u)
 
   -- Of these encodings, those that aren't named.
   abbrev pub AreUnnamedOnes : ℕ → List (List ℕ) → List Span → Type 0

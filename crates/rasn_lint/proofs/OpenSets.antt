@@ -1,13 +1,12 @@
 -- The unnamed components of SETs beside the parts of a message, and that the parts decide what they are.
-use Rattle.std.proofs.Common.{◌≡◌, ◌⊎◌, inl, inr, ◌-◌, ℕ, List, [], ◌∷◌, ◌++◌, length, Bool, true, Option, Some, None, refl, sym, ap, ◌∙◌, subst}
-use Rattle.std.specs.Prelude.{slice_get}
+use Rattle.std.proofs.Common.{◌≡◌, inl, inr, ◌-◌, ◌+◌, ◌<◌, ◌≤◌, ℕ, zero, suc, List, [], ◌∷◌, ◌++◌, length, take, drop, get_or, drop-cons, add-one, true, Option, Some, None, refl, sym, ap, ◌∙◌, subst, append_assoc, append-nil, arith}
+use Rattle.std.specs.Prelude.{slice_get, option_copied, OnOk, Result, Ok, Err}
+use Rattle.std.specs.Borrow.{Bor}
 use Rattle.std.specs.List.{AllByRecursion}
 use Rattle.std.specs.List.Sorted.{IsPermutation}
-use Rattle.std.proofs.lemmas.List.{append_cancel_right, append-nil}
+use Rattle.std.proofs.lemmas.List.{append_cancel_right, drop_all, length-append}
 use Rattle.std.proofs.lemmas.List.Elements.{All-from_recursion, recursion_from_All}
 use Rattle.std.proofs.lemmas.List.Sorted.{All-permutation, IsPermutation-sym}
-use Rattle.rasn_types.specs.declared.types.tag.Tag.{Tag}
-use Rattle.rasn_schema.specs.declared.types.Component.{Component}
 use Rattle.rasn_schema.specs.declared.types.«Type».{«Type»}
 use Rattle.rasn_schema.specs.declared.types.«Type».TheVariants.{Leaf, Enumerated, Any, Tagged, Choice, Sequence, Set, SequenceOf, SetOf, Unknown}
 use Rattle.rasn_schema.specs.Held.{is_unknown_found}
@@ -16,8 +15,9 @@ use Rattle.rasn_dynamic.specs.declared.span.Span.{Span}
 use Rattle.rasn_dynamic.specs.SameParts.{IsSamePart, AreSameParts}
 use Rattle.rasn_lint.specs.declared.unnamed.OpenSet.{OpenSet}
 use Rattle.rasn_lint.specs.Lint.{HasFormed}
-use Rattle.rasn_lint.specs.Unnamed.{IsNamed, HasOpenSet, IsOpenSet, AreValues, IsUnnamed, IsNamedHere, AreUnnamedOnes, AreUnnamedIn, AreUnnamedInside, AreUnnamedBy, AreUnnamedOf, AreUnnamed, HasUnnamed}
-use Rattle.rasn_lint.specs.Untyped.{HasOpen}
+use Rattle.rasn_lint.specs.OpenSets.{IsNamed, AreValues, IsNamedHere, IsPushed, AreUnnamedOnes, AreUnnamedIn, AreUnnamedInside, AreUnnamedBy, AreUnnamedOf, AreUnnamed, HasUnnamed}
+use Rattle.rasn_lint.specs.Listed.{IsSplit}
+use Rattle.rasn_lint.specs.Untyped.{HasOpen, IsUnread}
 use Rattle.rasn_lint.specs.WellFormed.{AreEncodings}
 use Rattle.rasn_lint.proofs.Judged.{open_one}
 use Rattle.rasn_lint.proofs.Kept.{all_split, all_both}
@@ -36,16 +36,54 @@ module _ (types : List «Type») (P : Span → Type 0) where
   every_together parts every (found, of, inl (none, same)) h k = subst (AllByRecursion P) (sym same) h
   every_together parts every (found, of, inr (same, order)) h k = moved (parts ++ found) every same (all_both P parts found h k)
 
--- ---- octets are encodings in one way
+-- ---- what is found step by step
 
-pub values_one : (xs ys : List (List ℕ)) (octets : List ℕ) → AreValues xs octets → AreValues ys octets → xs ≡ ys
-values_one [] [] octets a b = refl
-values_one [] (y ∷ ys) octets a (others, s, more) = absurd (a others s.follows)
-values_one (x ∷ xs) [] octets (others, s, more) b = absurd (b others s.follows)
-values_one (x ∷ xs) (y ∷ ys) octets (others, s, more) (rest, t, h) =
-    let same : rest ≡ others = s.only rest t.follows in
-    let first : x ≡ y = append_cancel_right x y others (sym s.is ∙ (t.is ∙ ap (λ l. y ++ l) same)) in
-    subst (λ z. x ∷ xs ≡ z ∷ ys) first (ap (λ l. x ∷ l) (values_one xs ys others more (subst (AreValues ys) same h)))
+module _ (types : List «Type») (set : OpenSet) (e : Span) (left : ℕ) (octets : List ℕ) where
+  -- From the start of this rest so many octets are left to the end of the message.
+  abbrev pub LeftAt : List ℕ → ℕ
+  LeftAt rest = left - (length octets - length rest)
+
+  -- What was appended, and what is unnamed of the rest, is all.
+  abbrev pub PushesOn : List ℕ → List Span → List Span → Type 0
+  PushesOn rest old list = (es : List Span) × (list ≡ old ++ es)
+      × ((xs : List (List ℕ)) (more : List Span) → AreValues xs rest → AreUnnamedOnes types set e (LeftAt rest) xs more → AreUnnamedIn types set e left octets (es ++ more))
+
+  pub starts : (old : List Span) → PushesOn octets old old
+  starts old =
+      let same : LeftAt octets ≡ left = omega arith in
+      ([], sym (append-nil old), λ xs more v o. (xs, v, subst (λ n. AreUnnamedOnes types set e n xs more) same o))
+
+  module _ (rest x others : List ℕ) (old list : List Span) (within : length rest ≤ length octets) (s : IsSplit rest x others) where
+    less : LeftAt others ≡ LeftAt rest - length x
+    less = let n : length rest ≡ length x + length others = ap length s.is ∙ length-append x others in omega (arith, n, within)
+
+    pub pushed_on : PushesOn rest old list → (new : List Span) → IsPushed types set e (LeftAt rest) x list new → PushesOn others old new
+    pushed_on (es, is, k) new (inl (n, same)) = (es, same ∙ is, λ xs more v o. k (x ∷ xs) more (others, s, v) (inl (n, subst (λ m. AreUnnamedOnes types set e m xs more) less o)))
+    pushed_on (es, is, k) new (inr (n, u, a, w)) = (
+      es ++ u ∷ [],
+      a ∙ (ap (λ l. l ++ u ∷ []) is ∙ append_assoc old es (u ∷ [])),
+      λ xs more v o. subst (AreUnnamedIn types set e left octets) (sym (append_assoc es (u ∷ []) more))
+          (k (x ∷ xs) (u ∷ more) (others, s, v) (inr (n, u, more, refl, w, subst (λ m. AreUnnamedOnes types set e m xs more) less o))),
+    )
+
+  pub ends : (rest : List ℕ) (old list : List Span) → PushesOn rest old list → IsUnread rest → (es : List Span) × (list ≡ old ++ es) × AreUnnamedIn types set e left octets es
+  ends rest old list (es, is, k) unread = (es, is, subst (AreUnnamedIn types set e left octets) (append-nil es) (k [] [] unread refl))
+
+-- Of one part after the other.
+module _ (types : List «Type») (parts : List Span) where
+  abbrev pub FindsOn : ℕ → List Span → Type 0
+  FindsOn i found = (more : List Span) → AreUnnamed types (drop i parts) more → AreUnnamed types parts (found ++ more)
+
+  pub finds_on : (i : ℕ) (e : Span) (found new : List Span) (own : List «Type») → own ≡ types → FindsOn i found → i < length parts → e ≡ get_or parts i e → ((es : List Span) × (new ≡ found ++ es) × AreUnnamedOf own e es) → FindsOn (i + 1) new
+  finds_on i e found new own q f within is (es, a, of) more h =
+      let next : drop i parts ≡ e ∷ drop (i + 1) parts = drop-cons parts i e within ∙ ap (λ x. x ∷ drop (suc i) parts) (sym is) ∙ ap (λ n. e ∷ drop n parts) (sym (add-one i)) in
+      subst (AreUnnamed types parts) (sym (ap (λ l. l ++ more) a ∙ append_assoc found es more))
+      (f (es ++ more) (subst (λ l. AreUnnamed types l (es ++ more)) (sym next) (es, more, refl, subst (λ t. AreUnnamedOf t e es) q of, h)))
+
+  pub all_found : (i : ℕ) (found : List Span) → FindsOn i found → length parts ≤ i → AreUnnamed types parts found
+  all_found i found f past = subst (AreUnnamed types parts) (append-nil found) (f [] (subst (λ l. AreUnnamed types l []) (sym (drop_all i parts past)) refl))
+
+-- ---- the last element of a list
 
 -- The last of a list.
 last_one : {X : Type 0} (a b : List X) (x y : X) → a ++ x ∷ [] ≡ b ++ y ∷ [] → (a ≡ b) × (x ≡ y)
@@ -58,6 +96,34 @@ last_one (c ∷ a) (d ∷ b) x y e =
     let first : c ≡ d = cc in
     let r = last_one a b x y cc in
     (subst (λ z. c ∷ a ≡ z ∷ b) first (ap (λ l. c ∷ l) r.0), r.1)
+
+-- A list that isn't empty is what is before its last element, and this.
+pub split_last : {X : Type 0} (n : ℕ) (l : List X) (d : X) → length l ≡ suc n → l ≡ take n l ++ get_or l n d ∷ []
+split_last n [] d e = absurd (omega (arith, e))
+split_last zero (x ∷ []) d e = refl
+split_last zero (x ∷ (y ∷ l)) d e = absurd (omega (arith, e))
+split_last (suc n) (x ∷ l) d e = ap (λ m. x ∷ m) (split_last n l d (omega (arith, e)))
+
+-- ---- one part
+
+pub on_ok_then : {T E : Type 0} {A B : Type 0} (r : Result T E) → (A → B) → OnOk r A → OnOk r B
+on_ok_then (Ok v) f h = f h
+on_ok_then (Err e) f h = tt
+
+-- The type of the part is that of a SET.
+pub of_set : (types : List «Type») (e : Span) (o : Option (Bor «Type»)) (b : Bor «Type») (ty : «Type») (es : List Span) → option_copied o ≡ slice_get types e.id.0 → o ≡ Some b → b.now ≡ ty → AreUnnamedBy types e (Some ty) es → AreUnnamedOf types e es
+of_set types e o b ty es is some now h = subst (λ t. AreUnnamedBy types e t es) (sym (ap option_copied some ∙ ap Some now) ∙ is) h
+
+-- ---- octets are encodings in one way
+
+pub values_one : (xs ys : List (List ℕ)) (octets : List ℕ) → AreValues xs octets → AreValues ys octets → xs ≡ ys
+values_one [] [] octets a b = refl
+values_one [] (y ∷ ys) octets a (others, s, more) = absurd (a others s.follows)
+values_one (x ∷ xs) [] octets (others, s, more) b = absurd (b others s.follows)
+values_one (x ∷ xs) (y ∷ ys) octets (others, s, more) (rest, t, h) =
+    let same : rest ≡ others = s.only rest t.follows in
+    let first : x ≡ y = append_cancel_right x y others (sym s.is ∙ (t.is ∙ ap (λ l. y ++ l) same)) in
+    subst (λ z. x ∷ xs ≡ z ∷ ys) first (ap (λ l. x ∷ l) (values_one xs ys others more (subst (AreValues ys) same h)))
 
 unknown_is : (o : Option «Type») → is_unknown_found o ≡ true → o ≡ Some Unknown
 unknown_is None e = absurd cc
@@ -81,27 +147,27 @@ EachFormed named xs = AllByRecursion (λ x. (named x → ⊥) → AreEncodings x
 module _ (types : List «Type») (set : OpenSet) (e : Span) (unknown : slice_get types set.unknown.0 ≡ Some Unknown) where
   pub ones_formed : (left : ℕ) (xs : List (List ℕ)) (es : List Span) → AreUnnamedOnes types set e left xs es → AllByRecursion (HasFormed types) es → EachFormed (IsNamedHere types set e) xs
   ones_formed left [] es h all = tt
-  ones_formed left (x ∷ xs) es (inl (n, more)) all = ((λ no. absurd (no n)), ones_formed (left - length x) xs es more all)
-  ones_formed left (x ∷ xs) es (inr (no, u, rest, is, w, more)) all =
+  ones_formed left (x ∷ xs) es (inl (n, more)) all = ((λ other. absurd (other n)), ones_formed (left - length x) xs es more all)
+  ones_formed left (x ∷ xs) es (inr (n, u, rest, is, w, more)) all =
       let both = subst (AllByRecursion (HasFormed types)) is all in
-      ((λ n. subst AreEncodings w.octets (both.0.1 (ap (λ i. slice_get types i.0) w.id ∙ unknown))), ones_formed (left - length x) xs rest more both.1)
+      ((λ other. subst AreEncodings w.octets (both.0.1 (ap (λ i. slice_get types i.0) w.id ∙ unknown))), ones_formed (left - length x) xs rest more both.1)
 
   pub formed_ones : (left : ℕ) (xs : List (List ℕ)) (es : List Span) → AreUnnamedOnes types set e left xs es → EachFormed (IsNamedHere types set e) xs → AllByRecursion (HasFormed types) es
   formed_ones left [] es h all = subst (AllByRecursion (HasFormed types)) (sym h) tt
   formed_ones left (x ∷ xs) es (inl (n, more)) all = formed_ones (left - length x) xs es more all.1
-  formed_ones left (x ∷ xs) es (inr (no, u, rest, is, w, more)) all =
+  formed_ones left (x ∷ xs) es (inr (n, u, rest, is, w, more)) all =
       let at : slice_get types u.id.0 ≡ Some Unknown = ap (λ i. slice_get types i.0) w.id ∙ unknown in
       subst (AllByRecursion (HasFormed types)) (sym is)
-      (((λ tag inside found has. let n : Some Unknown ≡ Some (Any tag) = sym at ∙ found in absurd cc), λ found. subst AreEncodings (sym w.octets) (all.0 no)), formed_ones (left - length x) xs rest more all.1)
+      (((λ tag inside found has. let clash : Some Unknown ≡ Some (Any tag) = sym at ∙ found in absurd cc), λ found. subst AreEncodings (sym w.octets) (all.0 n)), formed_ones (left - length x) xs rest more all.1)
 
 -- ---- the same parts have the same ones
 
 same_values : (types : List «Type») (s t : OpenSet) (a b : Span) → IsSamePart a b → s.tag ≡ t.tag → s.named.now ≡ t.named.now → slice_get types s.unknown.0 ≡ Some Unknown → slice_get types t.unknown.0 ≡ Some Unknown
     → (es fs : List Span) → AreUnnamedInside types s a es → AreUnnamedInside types t b fs → AllByRecursion (HasFormed types) es → AllByRecursion (HasFormed types) fs
 same_values types s t a b same tags named at there es fs h (inr (none, is)) all = subst (AllByRecursion (HasFormed types)) (sym is) tt
-same_values types s t a b same tags named at there es fs (inr (none, is)) (inl (c, has, after, xs, values, ones)) all =
+same_values types s t a b same tags named at there es fs (inr (none, is)) (inl (c, has, header, (xs, values, ones))) all =
     absurd (none c.octets.now (subst (λ l. HasOpen s.tag l c.octets.now) (sym same.octets) (subst (λ z. HasOpen z b.octets.now c.octets.now) (sym tags) has)))
-same_values types s t a b same tags named at there es fs (inl (c, has, after, xs, values, ones)) (inl (d, holds, behind, ys, others, mine)) all =
+same_values types s t a b same tags named at there es fs (inl (c, has, header, (xs, values, ones))) (inl (d, holds, start, (ys, others, mine))) all =
     let own = subst (λ z. HasOpen z a.octets.now d.octets.now) (sym tags) (subst (λ l. HasOpen t.tag l d.octets.now) (sym same.octets) holds) in
     let inside : c.octets.now ≡ d.octets.now = open_one s.tag a.octets.now c.octets.now d.octets.now has own in
     let list : xs ≡ ys = values_one xs ys d.octets.now (subst (AreValues xs) inside values) others in
@@ -130,14 +196,12 @@ same_by types a b same (Some Unknown) es fs h k all = subst (AllByRecursion (Has
 
 same_unnamed : (types : List «Type») (parts others es fs : List Span) → AreSameParts parts others → AreUnnamed types parts es → AreUnnamed types others fs → AllByRecursion (HasFormed types) es → AllByRecursion (HasFormed types) fs
 same_unnamed types [] others es fs same h k all = subst (AllByRecursion (HasFormed types)) (sym (subst (λ z. AreUnnamed types z fs) same k)) tt
-same_unnamed types (a ∷ parts) others es fs (b, more, is, one, same) (mine, rest, split, of, h) k all = go (subst (λ z. AreUnnamed types z fs) is k)
-  where
-    go : AreUnnamed types (b ∷ more) fs → AllByRecursion (HasFormed types) fs
-    go (theirs, last, cut, own, k) =
-        let both = all_split (HasFormed types) mine rest (subst (AllByRecursion (HasFormed types)) split all) in
-        let here = subst (λ i. AreUnnamedBy types b (slice_get types i) theirs) (sym one.id) own in
-        subst (AllByRecursion (HasFormed types)) (sym cut)
-        (all_both (HasFormed types) theirs last (same_by types a b one (slice_get types a.id.0) mine theirs of here both.0) (same_unnamed types parts more rest last same h k both.1))
+same_unnamed types (a ∷ parts) others es fs (b, more, is, one, same) (mine, rest, split, of, h) k all =
+    let (theirs, last, cut, own, l) = subst (λ z. AreUnnamed types z fs) is k in
+    let both = all_split (HasFormed types) mine rest (subst (AllByRecursion (HasFormed types)) split all) in
+    let here = subst (λ i. AreUnnamedBy types b (slice_get types i) theirs) (sym one.id) own in
+    subst (AllByRecursion (HasFormed types)) (sym cut)
+    (all_both (HasFormed types) theirs last (same_by types a b one (slice_get types a.id.0) mine theirs of here both.0) (same_unnamed types parts more rest last same h l both.1))
 
 -- What is unnamed among the same parts is well formed in both.
 pub unnamed_formed : (types : List «Type») (parts others every all : List Span) → AreSameParts parts others → (u : HasUnnamed types parts every) (v : HasUnnamed types others all) → AllByRecursion (HasFormed types) u.0 → AllByRecursion (HasFormed types) v.0
