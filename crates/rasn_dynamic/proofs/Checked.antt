@@ -54,7 +54,7 @@ module _ (rule : Codec) (s : Shape) (input : List ℕ) where
   checked rest (t, h) (Ok u) f = (t, subst (λ l. Exact (Reads rule s 128 (top rule)) input (Got t l)) f h)
   checked rest (t, h) (Err x) f = inr (record { t = t; rest = rest.now; read = h; extra = f })
 
-memory_or_none : (k : DecodeErrorKind) (R : Reading Tree) (input : List ℕ) (t : Tree) (rest : List ℕ) → Exact R input (refusal k) → R input t rest → IsOutOfMemory k
+pub memory_or_none : (k : DecodeErrorKind) (R : Reading Tree) (input : List ℕ) (t : Tree) (rest : List ℕ) → Exact R input (refusal k) → R input t rest → IsOutOfMemory k
 memory_or_none OutOfMemory R input t rest h r = refl
 memory_or_none _ R input t rest h r = absurd (h t rest r)
 

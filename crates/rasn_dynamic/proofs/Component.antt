@@ -1,128 +1,124 @@
 -- One more component of a SET is read.
-use Rattle.std.proofs.Common.{◌≡◌, ℕ, zero, suc, ◌<◌, Bool, true, inl, inr, List, [], ◌∷◌, length, Option, Some, None, Result, Ok, Err, refl, sym, ap, ◌∙◌, subst}
+use Rattle.std.proofs.Common.{◌≡◌, ℕ, zero, suc, ◌<◌, Bool, true, false, inl, inr, List, [], ◌∷◌, ◌++◌, map, length, Option, Some, None, Result, Ok, Err, refl, sym, ap, ◌∙◌, subst, arith}
 use Rattle.std.specs.Prelude.{slice_get}
 use Rattle.std.specs.Borrow.{Bor}
 use Rattle.std.specs.String.{string_bytes}
 use Rattle.rasn_types.specs.declared.types.tag.Tag.{Tag}
 use Rattle.rasn_types.specs.declared.error.decode.DecodeError.{DecodeError}
-use Rattle.rasn_types.specs.declared.error.decode.DecodeErrorKind.{DecodeErrorKind}
-use Rattle.rasn_types.specs.Tags.{form, IsStrict}
-use Rattle.rasn_types.specs.Framing.{NextTag, Ended}
-use Rattle.rasn_types.specs.Shapes.{Tree, chosen, Shape, choice, Parts, Presence, presences, required, addition, optional_by, default_by, IsFirst, IsFirstOf}
-use Rattle.rasn_types.specs.Readings.{IsNoDefault}
+use Rattle.rasn_types.specs.Tags.{form}
+use Rattle.rasn_types.specs.Framing.{NextTag}
+use Rattle.rasn_types.specs.Errors.{IsOutOfMemory}
 use Rattle.rasn_types.specs.Grammar.{Reads}
-use Rattle.rasn_types.specs.Lawful.{AreLawfulByTag}
+use Rattle.rasn_types.specs.Shapes.{Tree, chosen, Shape, any, choice, choice_by, Parts, count, IsFirstOf}
 use Rattle.rasn_de.specs.declared.ber.de.parser.ParseError.TheVariants.{UnexpectedExtraData}
 use Rattle.rasn_de.specs.State.{State}
 use Rattle.rasn_de.specs.Steps.{PeeksTag, IsErrorOf}
-use Rattle.rasn_de.specs.Outcomes.{Got, refusal, outcome}
-use Rattle.rasn_de.specs.Decodes.{DecodesExactly}
-use Rattle.rasn_de.specs.Choice.{IsOnlyAlternative}
-use Rattle.rasn_de.specs.SetPartTypes.{name_at, DecodesNext, LacksSlot, HasGap, IsRequiredOrDefault, MakesParts, DecodesSetPartContents}
-use Rattle.rasn_de.proofs.Leaves.Outcomes.{Exact-none, Exact-refusal}
-use Rattle.rasn_de.proofs.Headers.Tags.{tagged_order}
+use Rattle.rasn_de.specs.Constructed.{Keeps}
+use Rattle.rasn_de.specs.SetPartTypes.{name_at, DecodesNext}
+use Rattle.rasn_de.proofs.Leaves.Outcomes.{alloc_failed}
 use Rattle.rasn_de.proofs.Constructed.Steps.{rules_same}
-use Rattle.rasn_de.proofs.Constructed.Choice.{choice_decodes}
+use Rattle.rasn_de.proofs.Constructed.Choice.{choice_by_decodes}
 use Rattle.rasn_de.proofs.OwnTypes.Parts.{call_keeps}
-use Rattle.rasn_de.proofs.OwnTypes.Alternatives.{OneAlternative, no_default, as_read, alternative_got, alternative_refused, no_alternative}
-use Rattle.rasn_de.proofs.OwnTypes.SetPartTypes.{ReadTo, all_once}
+use Rattle.rasn_de.proofs.OwnTypes.Alternatives.{no_alternative}
 use Rattle.rasn_schema.specs.declared.types.Component.{Component}
 use Rattle.rasn_schema.specs.declared.value.Value.{Value}
 use Rattle.rasn_schema.specs.Trees.{tree_of}
 use Rattle.rasn_schema.specs.Shapes.{components_by, presence_in}
-use Rattle.rasn_dynamic.specs.Calls.{names_of, HoldsSlots, IsComponentFor, IsPut, IsDefaultOf, DecodesPresent, DecodesMember}
+use Rattle.rasn_dynamic.specs.Inside.{DecodesTree}
+use Rattle.rasn_dynamic.specs.Sets.{AreLawfulMembers, HoldsUnknown}
+use Rattle.rasn_dynamic.specs.Calls.{names_of, HoldsSlots, IsComponentFor, IsPut, DecodesPresent, DecodesMember}
+use Rattle.rasn_dynamic.proofs.Making.{one_made}
 use Rattle.rasn_dynamic.proofs.Parts.{shorter}
-use Rattle.rasn_dynamic.proofs.Pieces.{only_part, by_tag_distinguished, slots_placed, slots_filled}
+use Rattle.rasn_dynamic.proofs.Members.{member_got, member_refused, unknown_got, unknown_refused}
+use Rattle.rasn_dynamic.proofs.Pieces.{slots_placed, slots_filled}
+use Rattle.rasn_dynamic.proofs.Unknown.{value_shorter}
 
 abbrev itself : Tree → Tree
 itself t = t
-
-is_default : (p : Presence) (t : Tree) → IsDefaultOf p t → IsNoDefault p t → ⊥
-is_default required t h n = h
-is_default (optional_by key) t h n = h
-is_default addition t h n = h
-is_default (default_by key d) t h n = n h
 
 name_here : (ps : List Component) (k : ℕ) (p : Component) → Some p ≡ slice_get ps k → string_bytes p.name ≡ name_at (names_of ps) k
 name_here [] k p e = absurd cc
 name_here (q ∷ ps) zero p e = let same : p ≡ q = cc in ap (λ (x : Component). string_bytes x.name) same
 name_here (q ∷ ps) (suc k) p e = name_here ps k p e
 
--- A component that is present is read, and isn't its default if that must not be written.
-module _ (p : Presence) (s : Shape) (tag : Tag) (first : IsFirst s tag) (old : State) (n : NextTag (form old.rule) old.rest tag) where
-  only_read : (t : Tree) (r : List ℕ) → OneAlternative p s old.rule old.depth old.closing old.rest t r → Reads old.rule s old.depth old.closing old.rest t r × (IsStrict old.rule → IsNoDefault p t)
-  only_read t r h = no_default old.rule old.depth old.closing old.rest tag n p s first t r h
+-- What is read of a component is one more, whatever the trees of those before it are.
+module _ (keep extensible : Bool) (ps : Parts) (names : List (List ℕ)) (before : List (Option Value)) (kept : List Value) (old new : State) where
+  abbrev Member : Result (Option (Bor (List ℕ))) DecodeError → List (Option Value) → List Value → Type 0
+  Member r after more = DecodesMember keep extensible ps names before kept old r new after more
 
-  one_refused : (kind : DecodeErrorKind) (new : State) → DecodesExactly (λ rule. Reads rule s) old (refusal kind) new → DecodesExactly (OneAlternative p s) old (refusal kind) new
-  one_refused kind new k = record {
-    stays = k.stays;
-    end = k.end;
-    exact = Exact-refusal kind (Reads old.rule s old.depth old.closing) (OneAlternative p s old.rule old.depth old.closing) old.rest old.rest
-        (λ none t r h. none t r (only_read t r h).0) k.exact;
-  }
+  member_stops : (e : DecodeError) → DecodesTree (choice_by extensible ps) old (Err e) new → Member (Err e) before kept
+  member_stops e d = λ slots us h g. (slots, us, h, g, inl d)
 
-  one_present : (r : Result Tree DecodeError) (new : State) → DecodesPresent p s old r new → DecodesExactly (OneAlternative p s) old (outcome itself r new.rest) new
-  one_present (Ok v) new (k, c) = record {
-    stays = k.stays;
-    end = k.end;
-    exact = (as_read old.rule old.depth old.closing old.rest tag n p s first v new.rest (k.exact.0, c), λ u r h. k.exact.1 u r (only_read u r h).0);
-  }
-  one_present (Err e) new (inl k) = one_refused e.kind new k
-  one_present (Err e) new (inr (v, k, strict, d, w)) = record {
-    stays = k.stays;
-    end = k.end;
-    exact = Exact-none e.kind (OneAlternative p s old.rule old.depth old.closing) old.rest (λ u r h.
-        let q = only_read u r h in
-        is_default p u (subst (IsDefaultOf p) (sym (k.exact.1 u r q.0).0) d) (q.1 strict));
-  }
+  -- The next value is of no component.
+  pub member_unpeeked : (e : DecodeError) → PeeksTag old (Err e) → new ≡ old → Member (Err e) before kept
+  member_unpeeked e p q = member_stops e (choice_by_decodes extensible (choice_by extensible ps) ps refl itself old (Err e) new (inl (p, q)))
 
--- The next value is of no component.
-module _ (ps : Parts) (names : List (List ℕ)) (before after : List (Option Tree)) (old : State) where
-  pub next_unpeeked : (e : DecodeError) → PeeksTag old (Err e) → DecodesNext ps names before old (Err e) old after
-  next_unpeeked e p = inl (choice_decodes (choice ps) ps refl itself old (Err e) old (inl (p, refl)))
+  module _ (tag : Tag) (n : NextTag (form old.rule) old.rest tag) (others : IsFirstOf ps tag → ⊥) where
+    pub member_none : extensible ≡ false → (e : DecodeError) → new ≡ old → Member (Err e) before kept
+    member_none x e q = member_stops e (subst (λ b. DecodesTree (choice_by b ps) old (Err e) new) (sym x) (subst (DecodesTree (choice ps) old (Err e)) (sym q) (no_alternative ps tag n others e.kind)))
 
-  pub next_unknown : (tag : Tag) → NextTag (form old.rule) old.rest tag → (IsFirstOf ps tag → ⊥) → (e : DecodeError) → DecodesNext ps names before old (Err e) old after
-  next_unknown tag n others e = inl (no_alternative ps tag n others e.kind)
+    -- It is an unknown one.
+    module _ (x : extensible ≡ true) where
+      pub unknown_unread : (e : DecodeError) → DecodesTree (any None) old (Err e) new → Member (Err e) before kept
+      unknown_unread e d = member_stops e (subst (λ b. DecodesTree (choice_by b ps) old (Err e) new) (sym x) (unknown_refused ps old new tag n others e.kind d))
+
+      pub unknown_kept : (v : Value) → DecodesTree (any None) old (Ok (tree_of v)) new → (more : List Value) → (keep ≡ true → more ≡ kept ++ v ∷ []) → Member (Ok None) before more
+      unknown_kept v d more e = λ slots us h g. (
+        slots,
+        us ++ tree_of v ∷ [],
+        h,
+        one_made keep kept more us v (tree_of v) g (λ k. refl) e,
+        inr (
+          tree_of v,
+          refl,
+          refl,
+          (
+            subst (λ b. DecodesTree (choice_by b ps) old (Ok (chosen (count ps) (tree_of v))) new) (sym x) (unknown_got ps old new tag n others (tree_of v) d),
+            λ l. let s = value_shorter old new (tree_of v) d in omega (arith, l, s),
+          ),
+        ),
+      )
+
+  -- There is no room for it.
+  pub unknown_left : (e : DecodeError) → IsOutOfMemory e.kind → Keeps old new → (more : List Value) → Member (Err e) before more
+  unknown_left e m q more = λ slots us h g. (slots, map tree_of more, h, (λ k. refl), inl (alloc_failed (λ rule. Reads rule (choice_by extensible ps)) itself old new e m q.stays q.end))
 
 -- It is of a component.
-module _ (f : ℕ → Shape) (ps : List Component) (k : ℕ) (p : Component) (tag : Tag) (h : AreLawfulByTag (components_by f ps)) (b : IsComponentFor f ps tag k p) (old new : State) (n : NextTag (form old.rule) old.rest tag) where
-  only : IsOnlyAlternative (components_by f ps) k (presence_in f p) (f p.type_id.0) tag
-  only = only_part f tag ps k p (by_tag_distinguished (components_by f ps) h) b
+module _ (f : ℕ → Shape) (ps : List Component) (k : ℕ) (p : Component) (tag : Tag) (h : AreLawfulMembers (components_by f ps)) (b : IsComponentFor f ps tag k p) (old new : State) (n : NextTag (form old.rule) old.rest tag)
+    (keep extensible : Bool) (before : List (Option Value)) (kept : List Value) where
+  abbrev Named : Result (Option (Bor (List ℕ))) DecodeError → List (Option Value) → Type 0
+  Named r after = DecodesMember keep extensible (components_by f ps) (names_of ps) before kept old r new after kept
 
-  pub next_unread : (e : DecodeError) (before after : List (Option Tree)) → DecodesPresent (presence_in f p) (f p.type_id.0) old (Err e) new → DecodesNext (components_by f ps) (names_of ps) before old (Err e) new after
-  next_unread e before after d = inl (alternative_refused (components_by f ps) k (presence_in f p) (f p.type_id.0) tag n only e.kind (one_present (presence_in f p) (f p.type_id.0) tag b.1 old n (Err e) new d))
+  pub member_unread : (e : DecodeError) → DecodesPresent (presence_in f p) (f p.type_id.0) old (Err e) new → Named (Err e) before
+  member_unread e d = member_stops keep extensible (components_by f ps) (names_of ps) before kept old new e (member_refused f ps k p tag h b old new n extensible e d)
 
   module _ (t : Tree) (d : DecodesPresent (presence_in f p) (f p.type_id.0) old (Ok t) new) where
-    pub got : DecodesExactly (λ rule. Reads rule (choice (components_by f ps))) old (Got (chosen k t) new.rest) new
-    got = alternative_got (components_by f ps) k (presence_in f p) (f p.type_id.0) tag n only (one_present (presence_in f p) (f p.type_id.0) tag b.1 old n (Ok t) new d)
+    got : DecodesTree (choice_by extensible (components_by f ps)) old (Ok (chosen k t)) new
+    got = member_got f ps k p tag h b old new n extensible t d
 
-    pub next_idle : (before after : List (Option Tree)) (left : ℕ) → left ≡ length old.rest → length new.rest ≡ left → (e : DecodeError) → IsErrorOf (UnexpectedExtraData left) new e
-        → DecodesNext (components_by f ps) (names_of ps) before old (Err e) new after
-    next_idle before after left g l e x = inr (chosen k t, got, (l ∙ g, rules_same old new (UnexpectedExtraData (length old.rest)) e (call_keeps got) (subst (λ m. IsErrorOf (UnexpectedExtraData m) new e) g x)))
+    pub member_idle : (left : ℕ) → left ≡ length old.rest → length new.rest ≡ left → (e : DecodeError) → IsErrorOf (UnexpectedExtraData left) new e → Named (Err e) before
+    member_idle left g l e x = λ slots us s u. (
+      slots,
+      us,
+      s,
+      u,
+      inr (chosen k t, got, (l ∙ g, rules_same old new (UnexpectedExtraData (length old.rest)) e (call_keeps got) (subst (λ m. IsErrorOf (UnexpectedExtraData m) new e) g x))),
+    )
 
-    pub next_put : (keep : Bool) (v : Value) → (keep ≡ true → tree_of v ≡ t) → (before : List (Option Value)) (slots : List (Option Tree)) → HoldsSlots keep before slots → k < length before
-        → (left : ℕ) → left ≡ length old.rest → (length new.rest ≡ left → ⊥) → (r : Option (Bor (List ℕ))) (after : List (Option Value)) → IsPut k v (string_bytes p.name) before r after
-        → (others : List (Option Tree)) × HoldsSlots keep after others × DecodesNext (components_by f ps) (names_of ps) slots old (Ok r) new others
-    next_put keep v q before slots h l left g m None after (e, a) =
-        let o = slots_placed keep before slots k v t q h l e in
-        (o.0, subst (λ z. HoldsSlots keep z o.0) (sym a) o.1, (k, t, o.2, (got, λ w. m (w ∙ sym g))))
-    next_put keep v q before slots h l left g m (Some repeated) after (e, a, w) =
-        (slots, subst (λ z. HoldsSlots keep z slots) (sym a) h, (k, t, slots_filled keep before slots k h l e, refl, w ∙ name_here ps k p b.0, (got, λ x. m (x ∙ sym g))))
+    pub member_put : (v : Value) → (keep ≡ true → tree_of v ≡ t) → k < length before → (left : ℕ) → left ≡ length old.rest → (length new.rest ≡ left → ⊥) → (r : Option (Bor (List ℕ))) (after : List (Option Value)) → IsPut k v (string_bytes p.name) before r after
+        → Named (Ok r) after
+    member_put v q l left g m None after (e, a) = λ slots us s u.
+        let o = slots_placed keep before slots k v t q s l e in
+        (o.0, us, subst (λ z. HoldsSlots keep z o.0) (sym a) o.1, u, inl (k, t, o.2, refl, (got, λ w. m (w ∙ sym g))))
+    member_put v q l left g m (Some repeated) after (e, a, w) = λ slots us s u.
+        (slots, us, subst (λ z. HoldsSlots keep z slots) (sym a) s, u, (k, t, slots_filled keep before slots k s l e, refl, refl, w ∙ name_here ps k p b.0, (got, λ x. m (x ∙ sym g))))
 
 -- Some of the octets are read.
-pub member_shorter : (keep : Bool) (ps : Parts) (names : List (List ℕ)) (before after : List (Option Value)) (slots : List (Option Tree)) (old new : State) (r : Option (Bor (List ℕ))) → HoldsSlots keep before slots
-    → DecodesMember keep ps names before old (Ok r) new after → length new.rest < length old.rest
-member_shorter keep ps names before after slots old new None h d = let w = d slots h in shorter old.rest new.rest w.2.3.0.end w.2.3.1
-member_shorter keep ps names before after slots old new (Some repeated) h d = let w = d slots h in shorter old.rest new.rest w.2.5.0.end w.2.5.1
-
--- The end of a SET whose components have been read: a failure of the end itself is for want of a component.
-lacks_gap : (ps : List Presence) (held : List (Option Tree)) (k : ℕ) → LacksSlot ps held k → HasGap ps held
-lacks_gap [] held k l = l
-lacks_gap (p ∷ ps) [] k l = l
-lacks_gap (p ∷ ps) (h ∷ held) zero (e, n) = inl (subst IsRequiredOrDefault (sym e) tt, n)
-lacks_gap (p ∷ ps) (h ∷ held) (suc k) (f, l) = inr (lacks_gap ps held k l)
-
-pub once_read : {D : Type 0} (ps : Parts) (names : List (List ℕ)) (tree : D → Tree) (old here : State) (last : Option Tag) (held : List (Option Tree)) → Ended here.closing here.rest → ReadTo ps names old here last None held → (r : Result D DecodeError) → MakesParts ps tree names here.rule held r → DecodesSetPartContents ps tree names old r here
-once_read ps names tree old here last held n k (Ok v) m = all_once ps names tree old here last held n k (Ok v) m tt
-once_read ps names tree old here last held n k (Err e) (inl m) = inr (k.0, (k.1, (k.2, tagged_order old k.1 last k.3), n), inl m)
-once_read ps names tree old here last held n k (Err e) (inr w) = all_once ps names tree old here last held n k (Err e) (inr w) (λ o. lacks_gap (presences ps) held w.0 w.1)
+pub member_shorter : (keep extensible : Bool) (ps : Parts) (names : List (List ℕ)) (before after : List (Option Value)) (kept more : List Value) (slots : List (Option Tree)) (us : List Tree) (old new : State) (r : Option (Bor (List ℕ)))
+    → HoldsSlots keep before slots → HoldsUnknown keep kept us → DecodesMember keep extensible ps names before kept old (Ok r) new after more → length new.rest < length old.rest
+member_shorter keep extensible ps names before after kept more slots us old new r h g d = let w = d slots us h g in next_shorter r w.0 w.1 w.4
+  where
+    next_shorter : (r : Option (Bor (List ℕ))) (others : List (Option Tree)) (vs : List Tree) → DecodesNext extensible ps names slots us old (Ok r) new others vs → length new.rest < length old.rest
+    next_shorter None others vs (inl (k, u, c, e, (x, l))) = shorter old.rest new.rest x.end l
+    next_shorter None others vs (inr (u, c, e, (x, l))) = shorter old.rest new.rest x.end l
+    next_shorter (Some repeated) others vs (k, u, c, e, q, m, (x, l)) = shorter old.rest new.rest x.end l

@@ -1,17 +1,17 @@
 -- What is read inside values that hold others: elements and components.
-use Rattle.std.proofs.Common.{◌≡◌, ℕ, inl, inr, List, String, [], ◌∷◌, ◌++◌, map, Vec, Global, Result, Ok, Err, refl, sym, ap, ◌∙◌, subst}
+use Rattle.std.proofs.Common.{◌≡◌, ℕ, inl, inr, Bool, List, String, [], ◌∷◌, ◌++◌, map, Vec, Global, Result, Ok, Err, refl, sym, ap, ◌∙◌, subst}
 use Rattle.std.specs.Prelude.{Option, Some}
 use Rattle.rasn_types.specs.declared.types.tag.Tag.{Tag}
 use Rattle.rasn_types.specs.declared.types.constraints.Bound.{Bound}
 use Rattle.rasn_types.specs.declared.error.decode.DecodeError.{DecodeError}
 use Rattle.rasn_types.specs.declared.error.decode.DecodeErrorKind.{DecodeErrorKind}
-use Rattle.rasn_types.specs.Shapes.{Tree, items, done, joined, Shape, prefix, seq, choice, set, list, set_of, Parts, part, Presence}
+use Rattle.rasn_types.specs.Shapes.{Tree, items, done, joined, Shape, prefix, seq, sorted_set, list, set_of, Parts, part, Presence}
 use Rattle.rasn_types.specs.Shapes.Parts.{none}
-use Rattle.rasn_types.specs.Lawful.{IsLawful, AreLawfulInOrder, AreLawfulByTag}
+use Rattle.rasn_types.specs.Lawful.{IsLawful, AreLawfulInOrder}
 use Rattle.rasn_types.specs.Grammar.{Reads}
 use Rattle.rasn_de.specs.State.{State}
 use Rattle.rasn_de.specs.Outcomes.{Outcome, Got, refusal}
-use Rattle.rasn_de.specs.Decodes.{Decodes, DecodesBy, DecodesExactly, ReadsParts}
+use Rattle.rasn_de.specs.Decodes.{DecodesBy, DecodesExactly, ReadsParts}
 use Rattle.rasn_de.specs.Constructed.{Keeps}
 use Rattle.rasn_types.specs.Errors.{IsOutOfMemory}
 use Rattle.rasn_de.proofs.Leaves.Outcomes.{Exact-none, alloc_failed}
@@ -28,9 +28,8 @@ use Rattle.rasn_schema.specs.declared.type_id.TypeId.{TypeId}
 use Rattle.rasn_schema.specs.declared.types.Component.{Component}
 use Rattle.rasn_schema.specs.Shapes.{IsReadable}
 use Rattle.rasn_dynamic.specs.Inside.{ReadsInside, ReadsSequence}
-use Rattle.rasn_de.specs.SetPartTypes.{MakesOfReadings, DecodesSetPartContents}
-use Rattle.rasn_de.proofs.Constructed.SetContents.{SetReads, set_collects, slots_collected}
-use Rattle.rasn_de.proofs.OwnTypes.SetPartTypes.{makes_set}
+use Rattle.rasn_de.specs.SetPartTypes.{DecodesSetPartContents}
+use Rattle.rasn_de.proofs.OwnTypes.SortedSetParts.{members_decode}
 use Rattle.rasn_dynamic.specs.Typed.{HoldsOthers}
 use Rattle.rasn_de.specs.PartTypes.{FailsAtOnePart, FailsAtPart}
 
@@ -112,18 +111,11 @@ pub inside_seq_got : (tag : Tag) (ps : Parts) (old new : State) (ts : List Tree)
 unfolding ReadsInside
 inside_seq_got tag ps old new ts k = k
 
-set_reads : (ps : Parts) (names : List (List ℕ)) (old new : State) (r : Result (List Tree) DecodeError) → DecodesSetPartContents ps items names old r new → DecodesBy (SetReads ps) items old r new
-set_reads ps names old new r k =
-    let made = MakesOfReadings ps items names old.rule in
-    set_collects ps itself items old (λ (l : List Tree). l) made (makes_set ps items names old.rule) r new (slots_collected (Decodes (choice ps) itself) made old r new k)
-
-pub inside_set : (tag : Tag) (ps : Parts) (names : List (List ℕ)) (old new : State) (e : DecodeError) → DecodesSetPartContents ps items names old (Err e) new → DecodesBy (ReadsInside (set tag ps)) itself old (Err e) new
+-- A SET, whose unknown components are the last part if there may be some.
+pub inside_set : (extensible : Bool) (tag : Tag) (ps : Parts) (names : List (List ℕ)) (old new : State) (r : Result (List Tree) DecodeError) → DecodesSetPartContents extensible ps items names old r new
+    → DecodesBy (ReadsInside (sorted_set extensible tag ps)) items old r new
 unfolding ReadsInside
-inside_set tag ps names old new e k = set_reads ps names old new (Err e) k
-
-pub inside_set_got : (tag : Tag) (ps : Parts) (names : List (List ℕ)) (old new : State) (ts : List Tree) → DecodesSetPartContents ps items names old (Ok ts) new → DecodesBy (ReadsInside (set tag ps)) itself old (Ok (items ts)) new
-unfolding ReadsInside
-inside_set_got tag ps names old new ts k = set_reads ps names old new (Ok ts) k
+inside_set extensible tag ps names old new r k = members_decode extensible ps items names old r new k
 
 -- Memory runs out before anything is read.
 pub sequence_runs_out : (ps : Parts) (old : State) (e : DecodeError) → IsOutOfMemory e.kind → DecodesBy (ReadsSequence ps) items old (Err e) old
@@ -164,8 +156,3 @@ pub seq_lawful : (tag : Tag) (ps : Parts) → IsReadable (seq tag ps) → AreLaw
 unfolding IsLawful
 seq_lawful tag ps (inl h) = h.1.1
 seq_lawful tag ps (inr e) = cc
-
-pub set_lawful : (tag : Tag) (ps : Parts) → IsReadable (set tag ps) → AreLawfulByTag ps
-unfolding IsLawful
-set_lawful tag ps (inl h) = h.1.1
-set_lawful tag ps (inr e) = cc

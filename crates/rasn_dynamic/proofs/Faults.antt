@@ -7,7 +7,7 @@ use Rattle.rasn_types.specs.declared.error.decode.DecodeError.{DecodeError}
 use Rattle.rasn_types.specs.Framing.{Ended, AreOctets, Extent, definite, indefinite, Frame, with_length, without_length}
 use Rattle.rasn_types.specs.Tags.{form, IsStrict}
 use Rattle.rasn_types.specs.Grammar.{Reads}
-use Rattle.rasn_types.specs.Shapes.{Shape, Tree, Same, choice}
+use Rattle.rasn_types.specs.Shapes.{Shape, Tree, Same, choice_by}
 use Rattle.rasn_de.specs.Headers.{Header}
 use Rattle.rasn_de.specs.Segments.{octets_inside}
 use Rattle.rasn_de.specs.State.{State, at, IsEnd, Call}
@@ -281,9 +281,10 @@ part_there f ps done after p s here number e l t k next x (a, b, g) = (done, p, 
 pub member_there : (ps : List Component) (number : ℕ) (p : Component) (s : State) → Some p ≡ slice_get ps number → (k next : ℕ) (x : State) → IsOnly number p.type_id.0 s k next x → IsMember ps s k next x
 member_there ps number p s e k next x (a, b, g) = (p, subst (λ z. Some p ≡ slice_get ps z) (sym a) e, b, g)
 
-pub member_behind : (f : ℕ → Shape) (ps : List Component) (s here : State) (done : List Tree) (bs : List (List ℕ)) → DecodesInTurnFrom (DecodesTree (choice (components_by f ps))) s done bs here
-    → (k next : ℕ) (x : State) → IsMember ps here k next x → IsMemberAt f ps s k next x
-member_behind f ps s here done bs d k next x (p, e, b, g) = (p, e, b, done, bs, subst (λ z. DecodesInTurnFrom (DecodesTree (choice (components_by f ps))) s done bs z) (sym g) d)
+pub member_behind : (f : ℕ → Shape) (extensible : Bool) (ps : List Component) (s here : State) (done : List Tree) (bs : List (List ℕ)) → DecodesInTurnFrom (DecodesTree (choice_by extensible (components_by f ps))) s done bs here
+    → (k next : ℕ) (x : State) → IsMember ps here k next x → IsMemberAt f extensible ps s k next x
+member_behind f extensible ps s here done bs d k next x (p, e, b, g) =
+    (p, e, b, done, bs, subst (λ z. DecodesInTurnFrom (DecodesTree (choice_by extensible (components_by f ps))) s done bs z) (sym g) d)
 
 -- Elements that are read one after the other leave an end of what there was.
 pub turns_keep : {D : Type 0} (s : Shape) (tree : D → Tree) (old : State) (vs : List D) (here : State) → DecodesInTurn (Decodes s tree) old vs here → (here ≡ at old here.rest) × IsEnd old.rest here.rest
@@ -403,9 +404,9 @@ itself_leaf f ty s X h r = any_err (λ e. X → FailsItself f ty s e) (λ e x. h
 pub present_stops : (f : ℕ → Shape) (p : Component) (s : State) (X : Type 0) (r : Result Value DecodeError) → IfErr r (λ e. X → IsDefaultWritten f p s e) → IfErr r (λ e. X → StopsAtComponent f p s e)
 present_stops f p s X r h = if_err_map (λ e. X → IsDefaultWritten f p s e) (λ e. X → StopsAtComponent f p s e) (λ e a x. inr (inl (a x))) r h
 
-pub set_ends : {T : Type 0} (f : ℕ → Shape) (ps : List Component) (s here : State) (done : List Tree) (bs : List (List ℕ)) → DecodesInTurnFrom (DecodesTree (choice (components_by f ps))) s done bs here → Ended here.closing here.rest
-    → (X : Type 0) (r : Result T DecodeError) → IfErr r (λ e. X → StopsInSet f ps s e)
-set_ends f ps s here done bs d n X r = any_err (λ e. X → StopsInSet f ps s e) (λ e x. inr (done, bs, here, d, inl n)) r
+pub set_ends : {T : Type 0} (f : ℕ → Shape) (extensible : Bool) (ps : List Component) (s here : State) (done : List Tree) (bs : List (List ℕ)) → DecodesInTurnFrom (DecodesTree (choice_by extensible (components_by f ps))) s done bs here → Ended here.closing here.rest
+    → (X : Type 0) (r : Result T DecodeError) → IfErr r (λ e. X → StopsInSet f extensible ps s e)
+set_ends f extensible ps s here done bs d n X r = any_err (λ e. X → StopsInSet f extensible ps s e) (λ e x. inr (done, bs, here, d, inl n)) r
 
 out_of_memory_told : (s : State) (x : DecodeError) → IsErrorOf OutOfMemory s x → IsOutOfMemory x.kind
 out_of_memory_told s x w = subst (λ (z : DecodeError). IsOutOfMemory z.kind) (sym w) refl

@@ -1,5 +1,5 @@
 -- What is read is a value of its type.
-use Rattle.std.proofs.Common.{◌≡◌, ℕ, zero, suc, ℤ, Bool, true, inl, inr, List, [], ◌∷◌, ◌++◌, length, Option, Some, None, Vec, Global, Result, Ok, Err, refl, sym, ap, ◌∙◌, subst, append_assoc, arith}
+use Rattle.std.proofs.Common.{◌≡◌, ℕ, zero, suc, ◌-◌, ℤ, Bool, true, false, true≢false, if◌then◌else◌, take, inl, inr, List, [], ◌∷◌, ◌++◌, length, Option, Some, None, Vec, Global, Result, Ok, Err, refl, sym, ap, ◌∙◌, subst, append_assoc, arith}
 use Rattle.std.specs.Prelude.{slice_get, slice_set, IfOk}
 use Rattle.std.specs.Borrow.{Bor}
 use Rattle.std.proofs.lemmas.List.{append-nil}
@@ -7,7 +7,7 @@ use Rattle.rasn_types.specs.declared.types.tag.Tag.{Tag}
 use Rattle.rasn_types.specs.declared.types.codec.Codec.{Codec}
 use Rattle.rasn_types.specs.declared.types.constraints.Constraints.{Constraints}
 use Rattle.rasn_types.specs.declared.error.decode.DecodeError.{DecodeError}
-use Rattle.rasn_types.specs.Shapes.{Tree, Same, items, joined, set_elements, number, leaf, integer, Interval, IsIn, Presence, required, addition, optional_by, default_by}
+use Rattle.rasn_types.specs.Shapes.{Tree, Same, items, joined, set_elements, number, Shape, looked_for, leaf, integer, Interval, IsIn, Presence, required, addition, optional_by, default_by}
 use Rattle.rasn_types.specs.Readings.{IsMissing}
 use Rattle.std.specs.Cow.{cow_slice_items}
 use Rattle.rasn_types.specs.declared.types.strings.alphabet.Alphabet.{Alphabet}
@@ -19,10 +19,15 @@ use Rattle.rasn_schema.specs.declared.types.LeafKind.{LeafKind}
 use Rattle.rasn_schema.specs.declared.types.«Type».{«Type»}
 use Rattle.rasn_schema.specs.declared.value.Value.{Value, Boolean, Null, Integer as Number, Bits, Octets, Text, Units, Arcs, Instant, Day, Absent, Items, Items', Elements, Elements', Chosen', Row_of-Value, end_of-Value, more_of-Value, items_hidden-the_row-Value-0}
 use Rattle.rasn_schema.specs.Trees.{tree_of, trees_in}
-use Rattle.rasn_schema.specs.Shapes.{presence_of}
+use Rattle.rasn_schema.specs.Shapes.{presence_of, nothing, tag_at, found_by, shape_of_type, alternatives_by, is_unknown}
+use Rattle.rasn_schema.specs.declared.types.«Type».TheVariants.{Leaf, Enumerated, Any, Tagged, Choice, Sequence, Set, SequenceOf, SetOf, Unknown}
+use Rattle.rasn_schema.proofs.Lists.{but_last}
+use Rattle.rasn_schema.proofs.OpenEnds.{among_not_unknown}
 use Rattle.rasn_schema.specs.Fitting.{IsLeftOutAs}
-use Rattle.rasn_schema.specs.Fitting.{Fits, FitsBy, FitsFound, NumberFits, OctetsFit, FitsLeaf, AreItems, AreElements, ComponentFits, ComponentsFit, EachFits}
-use Rattle.rasn_dynamic.specs.Found.{OneFound, FoundFit}
+use Rattle.rasn_schema.specs.Fitting.{Fits, FitsBy, FitsFound, NumberFits, OctetsFit, FitsLeaf, AreOctets, AreItems, AreElements, ComponentFits, ComponentsFit, EachFits}
+use Rattle.rasn_dynamic.specs.Sets.{is_extensible, named_components}
+use Rattle.rasn_dynamic.specs.Found.{OneFound, FoundFit, MembersFit}
+use Rattle.rasn_dynamic.proofs.Named.{take_but_last}
 use Rattle.rasn_dynamic.specs.Calls.{nones, IsMade, IsPut, IsValueOf, AreSettled, Gathers, IsNumberIn, IsStringOf}
 use Rattle.rasn_de.specs.State.{State}
 
@@ -201,3 +206,55 @@ found_kept keep g q [] (x ∷ found) f = absurd f
 found_kept keep g q (p ∷ ps) [] f = absurd f
 found_kept keep g q (p ∷ ps) (None ∷ found) f = (tt, found_kept keep g q ps found f.1)
 found_kept keep g q (p ∷ ps) (Some v ∷ found) f = (f.0 q, found_kept keep g q ps found f.1)
+
+-- ---- the components of a SET, and unknown ones
+
+nothing_known : (tag : Option Tag) → is_unknown (nothing tag) ≡ true → ⊥
+nothing_known None e = cc
+nothing_known (Some tag) e = cc
+
+-- A list of such values is one of the type whose shape is unknown values.
+unknown_fits : (types : List «Type») (n k : ℕ) (v : Value) → is_unknown (shape_of_type types n k) ≡ true → AreItems (EachFits AreOctets) v → Fits types n k v
+unfolding shape_of_type Fits
+unknown_fits types zero k v e a = absurd (nothing_known (looked_for (tag_at types k)) e)
+unknown_fits types (suc n) k v e a = go (slice_get types k) e
+  where
+    go : (o : Option «Type») → is_unknown (found_by (λ j. shape_of_type types n j) o) ≡ true → FitsFound (λ j w. Fits types n j w) o v
+    go None e = absurd cc
+    go (Some (Leaf kind tag c names)) e = absurd cc
+    go (Some (Enumerated tag ns)) e = absurd cc
+    go (Some (Any tag)) e = absurd cc
+    go (Some (Tagged tag i)) e = absurd cc
+    go (Some (Choice name ks)) e = absurd (true≢false (sym e ∙ among_not_unknown (alternatives_by (λ j. shape_of_type types n j) ks.items)))
+    go (Some (Sequence tag ps)) e = absurd cc
+    go (Some (Set name tag ps)) e = absurd cc
+    go (Some (SequenceOf tag i c)) e = absurd cc
+    go (Some (SetOf tag i c)) e = absurd cc
+    go (Some Unknown) e = a
+
+module _ (types : List «Type») (n : ℕ) where
+  abbrev F : ℕ → Shape
+  F = shape_of_type types n
+
+  abbrev G : ℕ → Value → Type 0
+  G = Fits types n
+
+  last_fits : (ps : List Component) → is_extensible F ps ≡ true → (known : List Value) (v : Value) → ComponentsFit G (but_last ps) known → AreItems (EachFits AreOctets) v → ComponentsFit G ps (known ++ v ∷ [])
+  last_fits [] e known v h a = absurd cc
+  last_fits (p ∷ []) e [] v h a = (inr (unknown_fits types n p.type_id.0 v e a), tt)
+  last_fits (p ∷ []) e (w ∷ known) v h a = absurd h
+  last_fits (p ∷ (q ∷ ps)) e [] v h a = absurd h
+  last_fits (p ∷ (q ∷ ps)) e (w ∷ known) v h a = (h.0, last_fits (q ∷ ps) e known v h.1 a)
+
+  pub members_fit : (ps : List Component) (vs : List Value) → MembersFit G (is_extensible F ps) (named_components F ps) vs → ComponentsFit G ps vs
+  members_fit ps vs h = go (is_extensible F ps) refl h
+    where
+      go : (b : Bool) → is_extensible F ps ≡ b → MembersFit G b (if b then take (length ps - 1) ps else ps) vs → ComponentsFit G ps vs
+      go false e h = h
+      go true e (known, v, q, h, a) = subst (ComponentsFit G ps) (sym q) (last_fits ps e known v (subst (λ l. ComponentsFit G l known) (take_but_last ps) h) a)
+
+-- The named ones fit, and the unknown ones are appended if there may be some.
+pub all_fit : (g : ℕ → Value → Type 0) (extensible : Bool) (ps : List Component) (vs us : List Value) (unknown : Vec Value Global) → ComponentsFit g ps vs → EachFits AreOctets unknown.items → (extensible ≡ true → us ≡ vs ++ Items unknown ∷ []) → (extensible ≡ false → us ≡ vs)
+    → MembersFit g extensible ps us
+all_fit g true ps vs us unknown h o e d = (vs, Items unknown, e refl, h, are_items (EachFits AreOctets) unknown o)
+all_fit g false ps vs us unknown h o e d = subst (ComponentsFit g ps) (sym (d refl)) h

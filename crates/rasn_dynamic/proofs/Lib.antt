@@ -34,3 +34,5 @@ pub mod LeadsTo
 pub mod WorkedFaults
 pub mod Shown
 pub mod Named
+pub mod AllMembers
+pub mod Members

@@ -1,5 +1,5 @@
 -- Lists of the parts of what is read are put together.
-use Rattle.std.proofs.Common.{◌≡◌, ◌⊎◌, ◌+◌, ◌-◌, ◌<◌, ℕ, zero, suc, List, [], ◌∷◌, ◌++◌, length, Some, Vec, Result, Ok, Err, refl, sym, ap, ◌∙◌, subst, inl, inr, append_assoc, add-one, arith, length-append}
+use Rattle.std.proofs.Common.{Bool, ◌≡◌, ◌⊎◌, ◌+◌, ◌-◌, ◌<◌, ℕ, zero, suc, List, [], ◌∷◌, ◌++◌, length, Some, Vec, Result, Ok, Err, refl, sym, ap, ◌∙◌, subst, inl, inr, append_assoc, add-one, arith, length-append}
 use Rattle.std.proofs.lemmas.List.{append-nil}
 use Rattle.std.proofs.lemmas.Option.{slice_get-get_or}
 use Rattle.std.proofs.Math.Seq.{get_or-append_seam, set-append_seam}
@@ -18,10 +18,11 @@ use Rattle.rasn_schema.specs.declared.types.Component.{Component}
 use Rattle.rasn_schema.specs.declared.types.Alternative.{Alternative}
 use Rattle.rasn_schema.specs.declared.types.«Type».{«Type»}
 use Rattle.rasn_schema.specs.declared.types.«Type».TheVariants.{Leaf, Enumerated, Any, Tagged, Choice, Sequence, Set, SequenceOf, SetOf, Unknown}
-use Rattle.rasn_schema.specs.Shapes.{shape_of_type}
+use Rattle.rasn_schema.specs.Shapes.{shape_of_type, components_by}
 use Rattle.rasn_dynamic.specs.declared.span.Span.{Span}
 use Rattle.rasn_dynamic.specs.declared.span.Spans.{Spans}
 use Rattle.rasn_dynamic.specs.Inside.{DecodesTree}
+use Rattle.rasn_dynamic.specs.Sets.{PassesUnknown}
 use Rattle.rasn_dynamic.specs.Calls.{LeavesAllOut}
 use Rattle.rasn_dynamic.specs.Faults.{IsNextAlternative, octets_after}
 use Rattle.rasn_dynamic.specs.Parts.{IsAbsentHere}
@@ -255,9 +256,6 @@ module _ (f : ℕ → Shape) (levels : ℕ) (P : ℕ → ℕ → State → List 
   pub components_same : (l k : List Component) (s : State) (o n : Spans) → l ≡ k → Lists (λ b es. ComponentsListed f levels P l b s es) o n → Lists (λ b es. ComponentsListed f levels P k b s es) o n
   components_same l k s o n q x = subst (λ z. Lists (λ b es. ComponentsListed f levels P z b s es) o n) q x
 
-  pub members_same : (l k : List Component) (s : State) (o n : Spans) → l ≡ k → Lists (λ b es. MembersListed f levels P l b s es) o n → Lists (λ b es. MembersListed f levels P k b s es) o n
-  members_same l k s o n q x = subst (λ z. Lists (λ b es. MembersListed f levels P z b s es) o n) q x
-
   -- ---- elements
 
   pub elements_listed : (id n : ℕ) (s last : State) (o v : Spans) → Ended last.closing last.rest
@@ -294,10 +292,14 @@ module _ (f : ℕ → Shape) (levels : ℕ) (P : ℕ → ℕ → State → List 
       lists_map (λ b es. InTurn (ComponentAt f levels P ps b) (length done) s last es) (λ b es. ComponentsListed f levels P ps b s es) o v
       (λ b es q. inr (last, subst (λ x. InTurn (ComponentAt f levels P ps b) (length x) s last es) (sym same) q)) l
 
-  pub member_listed : (ps : List Component) (k : ℕ) (p : Component) (s next : State) (o n : Spans) → Some p ≡ slice_get ps k
-      → Lists (λ b es. PartListed f levels P p.type_id.0 k b s next es) o n → Lists (λ b es. MemberListed f levels P ps b s next es) o n
-  member_listed ps k p s next o n at l = lists_map (λ b es. PartListed f levels P p.type_id.0 k b s next es) (λ b es. MemberListed f levels P ps b s next es) o n (λ b es q. (k, p, at, q)) l
+  pub member_listed : (extensible : Bool) (ps : List Component) (k : ℕ) (p : Component) (s next : State) (o n : Spans) → Some p ≡ slice_get ps k
+      → Lists (λ b es. PartListed f levels P p.type_id.0 k b s next es) o n → Lists (λ b es. MemberListed f levels P extensible ps b s next es) o n
+  member_listed extensible ps k p s next o n at l = lists_map (λ b es. PartListed f levels P p.type_id.0 k b s next es) (λ b es. MemberListed f levels P extensible ps b s next es) o n (λ b es q. inr (k, p, at, q)) l
 
-  pub members_listed : (ps : List Component) (n : ℕ) (s last : State) (o v : Spans) → Ended last.closing last.rest
-      → Lists (λ b es. InTurn (λ k. MemberListed f levels P ps b) n s last es) o v → Lists (λ b es. MembersListed f levels P ps b s es) o v
-  members_listed ps n s last o v h l = lists_map (λ b es. InTurn (λ k. MemberListed f levels P ps b) n s last es) (λ b es. MembersListed f levels P ps b s es) o v (λ b es q. (n, last, q, h)) l
+  pub unknown_passed : (extensible : Bool) (ps : List Component) (s next : State) (o : Spans) → PassesUnknown extensible (components_by f ps) s next → Lists (λ b es. MemberListed f levels P extensible ps b s next es) o o
+  unknown_passed extensible ps s next o d = lists_same (λ b es. MemberListed f levels P extensible ps b s next es) o (inl (d, refl))
+
+  pub members_listed : (extensible : Bool) (ps : List Component) (n : ℕ) (s last : State) (o v : Spans) → Ended last.closing last.rest
+      → Lists (λ b es. InTurn (λ k. MemberListed f levels P extensible ps b) n s last es) o v → Lists (λ b es. MembersListed f levels P extensible ps b s es) o v
+  members_listed extensible ps n s last o v h l =
+      lists_map (λ b es. InTurn (λ k. MemberListed f levels P extensible ps b) n s last es) (λ b es. MembersListed f levels P extensible ps b s es) o v (λ b es q. (n, last, q, h)) l

@@ -6,7 +6,7 @@ use Rattle.rasn_types.specs.declared.types.codec.Codec.{Codec}
 use Rattle.rasn_types.specs.declared.types.tag.Tag.{Tag}
 use Rattle.rasn_types.specs.Tags.{form}
 use Rattle.rasn_types.specs.Framing.{NextTag}
-use Rattle.rasn_types.specs.Shapes.{Tree, chosen, Shape, leaf, any, prefix, choice, open_choice, option, seq, set, list, set_of, unknown, Parts, part, required, count, IsFirst, IsFirstOf}
+use Rattle.rasn_types.specs.Shapes.{Tree, chosen, Shape, leaf, any, prefix, choice, open_choice, option, seq, set, sorted_set, list, set_of, unknown, Parts, part, required, count, IsFirst, IsFirstOf}
 use Rattle.rasn_types.specs.Shapes.Parts.{none}
 use Rattle.rasn_types.specs.Readings.{ReadsChoice}
 use Rattle.rasn_types.specs.Grammar.{Reads, parts_of}
@@ -64,6 +64,7 @@ open_is (open_choice ps) e = cc
 open_is (option tag s) e = cc
 open_is (seq tag ps) e = cc
 open_is (set tag ps) e = cc
+open_is (sorted_set extensible tag ps) e = cc
 open_is (list tag s c) e = cc
 open_is (set_of tag s c) e = cc
 open_is unknown e = cc
@@ -159,21 +160,21 @@ module _ (rule : Codec) (depth : ℕ) (closing : Bool) (input : List ℕ) (tag :
 
   -- With them, what begins with the tag of an alternative is as without.
   module _ (qs : Parts) where
-    as_named : (t : Tree) (rest : List ℕ) → Reads rule (choice qs) depth closing input t rest → Reads rule (open_choice qs) depth closing input t rest
+    pub as_named : (t : Tree) (rest : List ℕ) → Reads rule (choice qs) depth closing input t rest → Reads rule (open_choice qs) depth closing input t rest
     unfolding Reads
     as_named t rest h = inl h
 
-    of_named : IsFirstOf qs tag → (t : Tree) (rest : List ℕ) → Reads rule (open_choice qs) depth closing input t rest → Reads rule (choice qs) depth closing input t rest
+    pub of_named : IsFirstOf qs tag → (t : Tree) (rest : List ℕ) → Reads rule (open_choice qs) depth closing input t rest → Reads rule (choice qs) depth closing input t rest
     unfolding Reads
     of_named f t rest (inl h) = h
     of_named f t rest (inr (u, e, next, m, others, r)) = absurd (others (subst (IsFirstOf qs) (next_one input tag next n m) f))
 
     -- What begins with another tag is an unknown value.
-    as_unknown : (IsFirstOf qs tag → ⊥) → (u : Tree) (rest : List ℕ) → Reads rule (any None) depth closing input u rest → Reads rule (open_choice qs) depth closing input (chosen (count qs) u) rest
+    pub as_unknown : (IsFirstOf qs tag → ⊥) → (u : Tree) (rest : List ℕ) → Reads rule (any None) depth closing input u rest → Reads rule (open_choice qs) depth closing input (chosen (count qs) u) rest
     unfolding Reads
     as_unknown others u rest r = inr (u, refl, tag, n, others, r)
 
-    of_unknown : (IsFirstOf qs tag → ⊥) → (t : Tree) (rest : List ℕ) → Reads rule (open_choice qs) depth closing input t rest → (u : Tree) × (t ≡ chosen (count qs) u) × Reads rule (any None) depth closing input u rest
+    pub of_unknown : (IsFirstOf qs tag → ⊥) → (t : Tree) (rest : List ℕ) → Reads rule (open_choice qs) depth closing input t rest → (u : Tree) × (t ≡ chosen (count qs) u) × Reads rule (any None) depth closing input u rest
     unfolding Reads
     of_unknown others t rest (inl h) = absurd (others (begins_first qs 0 t rest h))
     of_unknown others t rest (inr (u, e, next, m, f, r)) = (u, e, r)

@@ -5,23 +5,26 @@ use Rattle.std.proofs.lemmas.List.{append-nil}
 use Rattle.rasn_types.specs.declared.types.tag.Tag.{Tag}
 use Rattle.rasn_types.specs.declared.types.codec.Codec.TheVariants.{Ber}
 use Rattle.rasn_types.specs.Tags.{form}
-use Rattle.rasn_types.specs.Framing.{AreOctets, Extent, definite, indefinite, Frame}
-use Rattle.rasn_types.specs.Shapes.{Shape, Tree, chosen, choice}
+use Rattle.rasn_types.specs.Framing.{AreOctets, Extent, definite, indefinite, Frame, NextTag, Ended}
+use Rattle.rasn_types.specs.Shapes.{Shape, Tree, chosen, any, choice_by, count, IsFirstOf}
 use Rattle.rasn_types.specs.Readings.{NoneOf}
 use Rattle.rasn_de.specs.State.{State, at, IsEnd}
 use Rattle.rasn_de.specs.declared.ber.de.parser.Contents.{Contents}
 use Rattle.rasn_de.specs.declared.ber.de.constructed.ConstructedHeader.{ConstructedHeader}
 use Rattle.rasn_de.specs.Headers.{Header}
 use Rattle.rasn_de.specs.Segments.{octets_inside}
+use Rattle.rasn_de.specs.SequenceOf.{DecodesInTurnFrom}
+use Rattle.rasn_de.proofs.Constructed.SetOfElements.{passes_from}
 use Rattle.rasn_de.specs.Constructed.{sequence_header, list_header, prefix_header, ConsumesOpening, expected_header, is_indefinite_extent}
-use Rattle.rasn_de.specs.Decodes.{Decodes}
 use Rattle.rasn_de.proofs.Headers.Ends.{IsEnd-refl, IsEnd-trans}
 use Rattle.rasn_schema.specs.declared.types.«Type».{«Type»}
 use Rattle.rasn_schema.specs.declared.types.«Type».TheVariants.{Leaf, Enumerated, Any, Tagged, Choice, Sequence, Set, SequenceOf, SetOf, Unknown}
 use Rattle.rasn_schema.specs.declared.types.Component.{Component}
-use Rattle.rasn_schema.specs.Shapes.{shape_of_type, type_by, components_by, IsReadable, AreReadable}
+use Rattle.rasn_schema.specs.Shapes.{shape_of_type, type_by, components_by, presence_in, IsReadable, AreReadable}
+use Rattle.rasn_dynamic.specs.Inside.{DecodesTree}
+use Rattle.rasn_dynamic.specs.Sets.{is_extensible, named_components, AreLawfulMembers}
 use Rattle.rasn_dynamic.specs.Faults.{octets_after, ComponentsInTurn, IsPart, EntersBy, Enters, Leads, start}
-use Rattle.rasn_dynamic.specs.Parts.{IsSeen, IsEntered, IsHeader, IsHeaderOf, LacksPart, IsReadHere, IsPartAt}
+use Rattle.rasn_dynamic.specs.Parts.{IsSeen, IsEntered, IsHeader, IsHeaderOf, LacksPart, IsReadHere, IsPartAt, PassesPresent, PassesElement}
 use Rattle.rasn_dynamic.specs.declared.part.Part.{Part}
 use Rattle.rasn_de.proofs.Headers.Frames.{header_parsed}
 use Rattle.rasn_de.proofs.Constructed.Contents.{constructed_header_parsed}
@@ -30,10 +33,13 @@ use Rattle.rasn_dynamic.specs.Typed.{HoldsOthers}
 use Rattle.rasn_schema.specs.declared.types.Alternative.{Alternative}
 use Rattle.rasn_schema.proofs.Lists.{split}
 use Rattle.rasn_dynamic.proofs.Faults.{within_itself, within_short, opened_within, forgotten, turns_keep}
-use Rattle.rasn_dynamic.proofs.Contents.{prefix_lawful, list_lawful, set_of_lawful, seq_lawful, set_lawful}
+use Rattle.rasn_dynamic.proofs.Contents.{prefix_lawful, list_lawful, set_of_lawful, seq_lawful}
 use Rattle.rasn_dynamic.proofs.InOrder.{lawful_parts}
 use Rattle.rasn_dynamic.proofs.OpenChoice.{lawful_at}
+use Rattle.rasn_dynamic.specs.Calls.{IsComponentFor}
+use Rattle.rasn_dynamic.proofs.Members.{member_got, unknown_got}
 use Rattle.rasn_dynamic.proofs.Pieces.{part_lawful}
+use Rattle.rasn_dynamic.proofs.Named.{named_lawful}
 
 -- ---- octets among others
 
@@ -89,7 +95,9 @@ part_keeps f Unknown s k next here i = absurd i
 part_keeps f (Tagged tag id) s k next here (a, b, g) = same_keeps s here g
 part_keeps f (Choice name ks) s k next here (a, e, b, g) = same_keeps s here g
 part_keeps f (Sequence tag ps) s k next here (done, p, after, e, l, b, t) = components_keep f done s here t
-part_keeps f (Set name tag ps) s k next here (p, e, b, done, bs, d) = turns_keep (choice (components_by f ps.items)) (λ (t : Tree). t) s done here (forgotten (Decodes (choice (components_by f ps.items)) (λ (t : Tree). t)) s done bs here d)
+part_keeps f (Set name tag ps) s k next here (p, e, b, done, bs, d) =
+    let z = choice_by (is_extensible f ps.items) (components_by f (named_components f ps.items)) in
+    turns_keep z (λ (t : Tree). t) s done here (forgotten (DecodesTree z) s done bs here d)
 part_keeps f (SequenceOf tag id c) s k next here (b, ts, l, d, n) = turns_keep (f id.0) (λ (t : Tree). t) s ts here d
 part_keeps f (SetOf tag id c) s k next here (b, ts, l, d, n) = turns_keep (f id.0) (λ (t : Tree). t) s ts here d
 
@@ -108,7 +116,9 @@ lawful_part f (Choice name ks) h s k next here (a, (tag, n, e), b, g) = subst (�
 lawful_part f (Sequence tag ps) h s k next here (done, p, after, e, l, b, t) =
     let all = lawful_parts f ps.items (seq_lawful tag (components_by f ps.items) h) in
     subst (λ z. IsReadable (f z)) (sym b) (component_lawful f done p after (subst (λ z. AreReadable (components_by f z)) e all))
-lawful_part f (Set name tag ps) h s k next here (p, e, b, done, bs, d) = subst (λ z. IsReadable (f z)) (sym b) (part_lawful f ps.items k p (set_lawful tag (components_by f ps.items) h) e)
+lawful_part f (Set name tag ps) h s k next here (p, e, b, done, bs, d) =
+    let are = named_lawful f tag ps.items (named_components f ps.items) refl h in
+    subst (λ z. IsReadable (f z)) (sym b) (part_lawful f (named_components f ps.items) k p are e)
 lawful_part f (SequenceOf tag id c) h s k next here (b, vs, l, d, n) = subst (λ z. IsReadable (f z)) (sym b) (list_lawful tag (f id.0) c.size h)
 lawful_part f (SetOf tag id c) h s k next here (b, vs, l, d, n) = subst (λ z. IsReadable (f z)) (sym b) (set_of_lawful tag (f id.0) c.size h)
 
@@ -125,10 +135,37 @@ entered_for f (Set name tag ps) s inner k next here e i = e
 entered_for f (SequenceOf tag id c) s inner k next here e i = e
 entered_for f (SetOf tag id c) s inner k next here e i = e
 
+-- There are as many parts as components.
+pub count_is : (f : ℕ → Shape) (ps : List Component) → count (components_by f ps) ≡ length ps
+count_is f [] = refl
+count_is f (p ∷ ps) = ap suc (count_is f ps)
+
 -- One more reading, of another part.
 pub none_more : (k j : ℕ) (t : Tree) (done : List Tree) → NoneOf k done → j ≢ k → NoneOf k (done ++ chosen j t ∷ [])
 none_more k j t [] n d = ((λ u e. d cc), tt)
 none_more k j t (r ∷ rs) n d = (n.0, none_more k j t rs n.1 d)
+
+-- Components of a SET are passed by, none of which is the one that is looked for.
+abbrev pub MembersPassed : (ℕ → Shape) → Bool → List Component → ℕ → State → State → Type 0
+MembersPassed f extensible ps k s here = (done : List Tree) × (bs : List (List ℕ)) × DecodesInTurnFrom (DecodesTree (choice_by extensible (components_by f ps))) s done bs here × (k < length ps → NoneOf k done)
+
+-- One more is.
+module _ (f : ℕ → Shape) (extensible : Bool) (ps : List Component) (k : ℕ) (s here next : State) (tag : Tag) (n : NextTag (form here.rule) here.rest tag) (more : Ended here.closing here.rest → ⊥) (i : MembersPassed f extensible ps k s here) where
+  one_passed : (j : ℕ) (t : Tree) → DecodesTree (choice_by extensible (components_by f ps)) here (Ok (chosen j t)) next → (length next.rest ≡ length here.rest → ⊥) → (k < length ps → j ≢ k) → MembersPassed f extensible ps k s next
+  one_passed j t d l m = (
+    i.0 ++ (chosen j t ∷ []),
+    i.1 ++ (d.end.0 ∷ []),
+    passes_from (DecodesTree (choice_by extensible (components_by f ps))) here next (chosen j t) d.end.0 d.end.1 more d l s i.0 _ i.1 refl i.2,
+    λ h. none_more k j t i.0 (i.3 h) (m h),
+  )
+
+  pub member_passed : (j : ℕ) (p : Component) → AreLawfulMembers (components_by f ps) → IsComponentFor f ps tag j p → j ≢ k → PassesPresent (presence_in f p) (f p.type_id.0) here next → MembersPassed f extensible ps k s next
+  member_passed j p are b m (t, d, l) = one_passed j t (member_got f ps j p tag are b here next n extensible t d) l (λ h. m)
+
+  pub unknown_passed : (IsFirstOf (components_by f ps) tag → ⊥) → extensible ≡ true → PassesElement (any None) here next → MembersPassed f extensible ps k s next
+  unknown_passed others e (u, d, l) =
+      one_passed (count (components_by f ps)) u (subst (λ b. DecodesTree (choice_by b (components_by f ps)) here (Ok (chosen (count (components_by f ps)) u)) next) (sym e) (unknown_got (components_by f ps) here next tag n others u d)) l
+      (λ h m. omega (arith, h, m, count_is f ps))
 
 -- ---- paths
 

@@ -7,13 +7,12 @@ use Rattle.rasn_types.specs.declared.types.codec.Codec.{Codec}
 use Rattle.rasn_types.specs.declared.types.tag.Tag.{Tag}
 use Rattle.rasn_types.specs.declared.error.decode.DecodeError.{DecodeError}
 use Rattle.rasn_types.specs.Errors.{IsOutOfMemory}
-use Rattle.rasn_types.specs.Tags.{IsTagBelow}
-use Rattle.rasn_types.specs.Shapes.{Tree, items, absent, Shape, Parts, part, presences, own_tag, Presence, required, IsFirst, IsFirstOf}
+use Rattle.rasn_types.specs.Shapes.{Tree, items, absent, Shape, Parts, part, presences, own_tag, Presence, required, IsFirst, IsFirstOf, IsAlwaysPresent}
 use Rattle.rasn_types.specs.Readings.{IsMissing, AllMissing}
-use Rattle.rasn_types.specs.Lawful.{IsLawful, AreDistinguished, AreLawfulByTag}
+use Rattle.rasn_types.specs.Lawful.{IsLawful, HasTag, AreComponents, AreDistinguished}
 use Rattle.rasn_de.specs.Choice.{IsOnlyAlternative}
 use Rattle.rasn_de.specs.NamedErrors.{IsNamedError, IsMissingField}
-use Rattle.rasn_de.specs.SetPartTypes.{held_tree, name_at, AreEmpty, IsFilled, IsPlacedAt, AreGathered, LacksSlot, MakesParts}
+use Rattle.rasn_de.specs.SetPartTypes.{held_tree, name_at, AreEmpty, IsFilled, IsPlacedAt, AreGathered, LacksSlot, IsLackOf}
 use Rattle.rasn_schema.specs.declared.types.Component.{Component}
 use Rattle.rasn_schema.specs.declared.types.Presence.{Presence as PartPresence}
 use Rattle.rasn_schema.specs.declared.types.Presence.TheVariants.{Required, Optional, Addition, Default}
@@ -21,8 +20,8 @@ use Rattle.rasn_schema.specs.declared.value.Value.{Value}
 use Rattle.rasn_schema.specs.Trees.{tree_of}
 use Rattle.rasn_schema.specs.Shapes.{components_by, key_of, presence_in, presence_of, presences_in, IsReadable}
 use Rattle.rasn_schema.proofs.Presences.{missing_by, required_by}
-use Rattle.rasn_de.specs.State.{State, Call}
-use Rattle.rasn_dynamic.specs.Making.{Making, trees_of}
+use Rattle.rasn_schema.proofs.Lists.{some_is}
+use Rattle.rasn_dynamic.specs.Sets.{AreLawfulMembers}
 use Rattle.rasn_dynamic.specs.Calls.{held, nones, names_of, is_required, any_required, HoldsSlot, HoldsSlots, IsComponentFor, IsValueOf, IsSettled, AreSettled, LacksNone, Gathers}
 
 -- ---- indices
@@ -55,20 +54,15 @@ pub none_of : (a b : Bool) → a || b ≡ false → (a ≡ false) × (b ≡ fals
 none_of false b e = (refl, e)
 none_of true b e = absurd (true≢false e)
 
-pub part_lawful : (f : ℕ → Shape) (ps : List Component) (k : ℕ) (p : Component) → AreLawfulByTag (components_by f ps) → Some p ≡ slice_get ps k → IsReadable (f p.type_id.0)
+-- The shape of a component has a tag, and is lawful.
+pub member_is : (f : ℕ → Shape) (ps : List Component) (k : ℕ) (p : Component) → AreComponents (components_by f ps) → Some p ≡ slice_get ps k → HasTag (f p.type_id.0) × IsAlwaysPresent (f p.type_id.0) × IsLawful (f p.type_id.0)
 unfolding IsLawful
-part_lawful f [] k p h e = cc
-part_lawful f (q ∷ ps) zero p h e = let same : q ≡ p = cc in subst (λ (x : Component). IsReadable (f x.type_id.0)) same (inl (h.2, h.3))
-part_lawful f (q ∷ ps) (suc k) p h e = part_lawful f ps k p h.5 e
+member_is f [] k p h e = absurd cc
+member_is f (q ∷ ps) zero p h e = subst (λ (z : Component). HasTag (f z.type_id.0) × IsAlwaysPresent (f z.type_id.0) × IsLawful (f z.type_id.0)) (some_is q p (sym e)) (h.1, h.2, h.3)
+member_is f (q ∷ ps) (suc k) p h e = member_is f ps k p h.4 e
 
-not_below_itself : (n : Tag) → IsTagBelow n n → ⊥
-not_below_itself n (inl h) = omega arith
-not_below_itself n (inr h) = omega (arith, h.1)
-
-pub by_tag_distinguished : (ps : Parts) → AreLawfulByTag ps → AreDistinguished ps
-unfolding IsLawful
-by_tag_distinguished Rattle.rasn_types.specs.Shapes.Parts.none h = tt
-by_tag_distinguished (part presence s ps) h = ((λ n p q. not_below_itself n (h.4 n n p q)), by_tag_distinguished ps h.5)
+pub part_lawful : (f : ℕ → Shape) (ps : List Component) (k : ℕ) (p : Component) → AreLawfulMembers (components_by f ps) → Some p ≡ slice_get ps k → IsReadable (f p.type_id.0)
+part_lawful f ps k p h e = let m = member_is f ps k p h.0 e in inl (m.1, m.2)
 
 -- ---- what was read
 
@@ -241,14 +235,14 @@ gathered_trees : (keep : Bool) (ps : List Component) (found : List (Option Value
 gathered_trees true ps found slots vs e h n a = (map tree_of vs, (λ k. refl), subst (λ l. AreGathered (presences_in ps) l (map tree_of vs)) (sym (held_slots found slots h)) (settled_trees ps found vs (a refl)))
 gathered_trees false ps found slots vs e h n a = let ts = slots_gathered false ps found slots e h n in (ts.0, (λ k. cc), ts.1)
 
-pub makes_parts : (keep : Bool) (f : ℕ → Shape) (ps : List Component) (rule : Codec) (found : List (Option Value)) (slots : List (Option Tree)) (r : Result (Vec Value Global) DecodeError) (old new : State) (read : Call (List Tree))
-    → length found ≡ length ps → HoldsSlots keep found slots → Gathers keep ps rule found r
-    → ((q : Result (List Tree) DecodeError) → MakesParts (components_by f ps) items (names_of ps) rule slots q → read old q new) → Making keep trees_of read old r new
-makes_parts keep f ps rule found slots (Ok vs) old new read e h (n, a) g =
-    let ts = gathered_trees keep ps found slots vs.items e h n a in
-    (ts.0, ts.1, g (Ok ts.0) (ts.0, refl, gathered_same f ps slots ts.0 ts.2))
-makes_parts keep f ps rule found slots (Err x) old new read e h (inl m) g = g (Err x) (inl m)
-makes_parts keep f ps rule found slots (Err x) old new read e h (inr (k, l, w)) g = g (Err x) (inr (k, lacks_same f ps slots k (lacks_slots keep (presences_in ps) found slots k h l), w))
+pub made_parts : (keep : Bool) (f : ℕ → Shape) (ps : List Component) (rule : Codec) (found : List (Option Value)) (slots : List (Option Tree)) (vs : Vec Value Global) → length found ≡ length ps → HoldsSlots keep found slots → Gathers keep ps rule found (Ok vs)
+    → (ts : List Tree) × (keep ≡ true → map tree_of vs.items ≡ ts) × AreGathered (presences (components_by f ps)) slots ts
+made_parts keep f ps rule found slots vs e h (n, a) = let ts = gathered_trees keep ps found slots vs.items e h n a in (ts.0, ts.1, gathered_same f ps slots ts.0 ts.2)
+
+pub lacks_part : (keep : Bool) (f : ℕ → Shape) (ps : List Component) (rule : Codec) (found : List (Option Value)) (slots : List (Option Tree)) (x : DecodeError) → HoldsSlots keep found slots → Gathers keep ps rule found (Err x)
+    → IsLackOf (components_by f ps) (names_of ps) rule slots x
+lacks_part keep f ps rule found slots x h (inl m) = inl m
+lacks_part keep f ps rule found slots x h (inr (k, l, w)) = inr (k, lacks_same f ps slots k (lacks_slots keep (presences_in ps) found slots k h l), w)
 
 pub nones_held : (keep : Bool) (ps : List Component) (found : List (Option Value)) → found ≡ nones ps → HoldsSlots keep found (held (nones ps))
 nones_held keep ps found e = subst (λ l. HoldsSlots keep l (held (nones ps))) (sym e) (go ps)

@@ -19,6 +19,7 @@ use Rattle.rasn_schema.specs.Shapes.{shape_of_type}
 use Rattle.rasn_dynamic.specs.declared.span.Span.{Span}
 use Rattle.rasn_dynamic.specs.Faults.{octets_after, start}
 use Rattle.rasn_dynamic.specs.Listed.{Lists, IsEmpty, capped, GoesInside, GoesInto, InTurn, PartListed, ComponentAt, MemberListed, ContentsListed, ValueListed, PartsInside, Inside}
+use Rattle.rasn_dynamic.specs.Sets.{is_extensible, named_components}
 use Rattle.rasn_dynamic.specs.Walk.{IsPlaced, ArePartsOf}
 use Rattle.rasn_dynamic.specs.declared.span.Spans.{Spans}
 use Rattle.rasn_dynamic.specs.declared.message.MessageParts.{MessageParts}
@@ -121,7 +122,11 @@ module _ (input : List ℕ) (short : length input < 2 ^ 64) (o : AreOctets input
       | inl a ↦ (none_placed mine a.2, subst (λ (v : State). IsSeenTo input v.rest b) (sym a.1) h)
       | inr y ↦ part_placed m.0.type_id.0 k b z next mine h y
     ]) (length ps.items) s last es seen q).0
-    contents_placed (Set name tag ps) b s es seen (n, last, q, h) = (turns_placed (λ k. MemberListed f levels P ps.items b) b (λ k z next mine y m. part_placed m.1.type_id.0 m.0 b z next mine y m.3) n s last es seen q).0
+    contents_placed (Set name tag ps) b s es seen (n, last, q, h) =
+        (turns_placed (λ k. MemberListed f levels P (is_extensible f ps.items) (named_components f ps.items) b) b (λ k z next mine y m. elim m [
+          | inl ((u, d), e) ↦ (none_placed mine e, seen_rest input z.rest d.end.0 next.rest b y d.end.1)
+          | inr (j, p, at, x) ↦ part_placed p.type_id.0 j b z next mine y x
+        ]) n s last es seen q).0
     contents_placed (SequenceOf tag id c) b s es seen (n, last, q, h) = (turns_placed (λ k. PartListed f levels P id.0 k b) b (λ k z next mine. part_placed id.0 k b z next mine) n s last es seen q).0
     contents_placed (SetOf tag id c) b s es seen (n, last, q, h) = (turns_placed (λ k. PartListed f levels P id.0 k b) b (λ k z next mine. part_placed id.0 k b z next mine) n s last es seen q).0
 

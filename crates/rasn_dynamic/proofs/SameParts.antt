@@ -8,11 +8,11 @@ use Rattle.rasn_types.specs.declared.types.codec.Codec.TheVariants.{Ber}
 use Rattle.rasn_types.specs.declared.types.tag.Tag.{Tag}
 use Rattle.rasn_types.specs.Tags.{Form, form}
 use Rattle.rasn_types.specs.Framing.{AreOctets, Ended, Frame, NextTag}
-use Rattle.rasn_types.specs.Shapes.{Shape, Tree, items, numbers, leaf, any, prefix, choice, open_choice, option, seq, set, sorted_set, list, set_of, unknown, Parts, part, Presence, required, IsFirst, one_tag, any_of, sought_by, IsAlwaysPresent}
+use Rattle.rasn_types.specs.Shapes.{Shape, Tree, items, numbers, leaf, any, prefix, choice, open_choice, option, seq, set, sorted_set, list, set_of, unknown, Parts, part, Presence, required, IsFirst, IsFirstOf, one_tag, any_of, sought_by, IsAlwaysPresent}
 use Rattle.rasn_types.specs.Shapes.Parts.{none}
 use Rattle.rasn_types.specs.Readings.{IsLeftOut, ReadsMany}
 use Rattle.rasn_types.specs.Grammar.{Reads, ReadsAny}
-use Rattle.rasn_types.specs.Lawful.{IsLawful, HasTag, AreLawfulInOrder, AreLawfulByTag}
+use Rattle.rasn_types.specs.Lawful.{IsLawful, HasTag, AreLawfulInOrder}
 use Rattle.rasn_types.proofs.Encoding.Complete.{whole_one, whole_text_one}
 use Rattle.rasn_types.proofs.Headers.Frames.{frame_one, next_one, not_ended}
 use Rattle.rasn_de.specs.State.{State}
@@ -45,9 +45,12 @@ use Rattle.rasn_dynamic.specs.Inside.{DecodesTree}
 use Rattle.rasn_dynamic.specs.Faults.{octets_after, start}
 use Rattle.rasn_dynamic.specs.Parts.{IsAbsentHere}
 use Rattle.rasn_dynamic.specs.Listed.{capped, GoesInside, GoesInto, InTurn, PartListed, ComponentListed, ComponentAt, ComponentsListed, MemberListed, MembersListed, ElementsListed, AlternativeListed, ContentsListed, ValueListed, PartsInside, Inside}
+use Rattle.rasn_dynamic.specs.Sets.{is_extensible, named_components, AreLawfulMembers, PassesUnknown}
 use Rattle.rasn_dynamic.specs.SameParts.{IsSamePart, AreSameParts, AreReadableTypes, PartsAreDetermined}
 use Rattle.rasn_dynamic.proofs.OpenChoice.{one_alternative}
-use Rattle.rasn_dynamic.proofs.Pieces.{only_part, by_tag_distinguished}
+use Rattle.rasn_dynamic.proofs.Pieces.{only_part, first_of_part, member_is}
+use Rattle.rasn_dynamic.proofs.Named.{named_is}
+use Rattle.rasn_dynamic.proofs.Members.{unknown_is}
 
 -- ---- lists of the same parts
 
@@ -226,12 +229,6 @@ absent_there : (s : Shape) → IsAlwaysPresent s → (old other new : State) (t 
 absent_there s solid old other new t e d l =
     not_absent s solid old.rule old.depth old.closing old.rest t new.rest d.exact.0 (form other.rule) other.closing (subst (λ z. IsLeftOut (form other.rule) (sought_by (key_of s) s) other.closing z) e l)
 
-pub member_tagged : (f : ℕ → Shape) (ps : List Component) (k : ℕ) (p : Component) → AreLawfulByTag (components_by f ps) → Some p ≡ slice_get ps k → HasTag (f p.type_id.0)
-unfolding IsLawful
-member_tagged f [] k p h e = absurd cc
-member_tagged f (q ∷ ps) zero p h e = subst (λ (z : Component). HasTag (f z.type_id.0)) (some_is q p (sym e)) h.1
-member_tagged f (q ∷ ps) (suc k) p h e = member_tagged f ps k p h.5 e
-
 -- What a component of a SEQUENCE is that isn't required. Unknown values are at the end, and required.
 no_components : (f : ℕ → Shape) (ps : List Component) (k : ℕ) (p : Component) → components_by f ps ≡ none → Some p ≡ slice_get ps k → ⊥
 no_components f [] k p n e = cc
@@ -279,12 +276,6 @@ left_known f ps are n k p e = go (component_known f ps k p are e)
     go : IsKnown (f p.type_id.0) ⊎ (presence_in f p ≡ required) → IsKnown (f p.type_id.0)
     go (inl h) = h
     go (inr r) = let x : true ≡ false = sym (required_found f p r) ∙ none_required ps k p n e in absurd cc
-
-pub member_known : (f : ℕ → Shape) (ps : List Component) (k : ℕ) (p : Component) → AreLawfulByTag (components_by f ps) → Some p ≡ slice_get ps k → IsKnown (f p.type_id.0)
-unfolding IsLawful
-member_known f [] k p h e = absurd cc
-member_known f (q ∷ ps) zero p h e = subst (λ (z : Component). IsKnown (f z.type_id.0)) (some_is q p (sym e)) (h.2, h.3)
-member_known f (q ∷ ps) (suc k) p h e = member_known f ps k p h.5 e
 
 -- ---- the parts of a value, if those inside its parts are determined
 
@@ -404,20 +395,43 @@ module _ (f : ℕ → Shape) (readable : (k : ℕ) → IsReadable (f k)) (levels
       let g : c ≡ a = some_is c a (r.0 ∙ (ap (slice_get ks) (sym e) ∙ sym p.0)) in
       (part_one a.type_id.0 j b s z n m es fs alike x (subst (λ (i : Alternative). PartListed f levels P i.type_id.0 j b z m fs) g (subst (λ i. PartListed f levels P c.type_id.0 i b z m fs) (sym e) y))).1
 
-  member_one : (ps : List Component) → AreLawfulByTag (components_by f ps) → (b : ℕ) → IsOneStep (MemberListed f levels P ps b)
-  member_one ps are b s z n m es fs alike (j, a, p, x) (k, c, q, y) =
-      let apart = by_tag_distinguished (components_by f ps) are in
-      let v = tag_read (f a.type_id.0) (member_known f ps j a are p).0 (member_tagged f ps j a are p) s n x.tree x.reads in
-      let w = tag_read (f c.type_id.0) (member_known f ps k c are q).0 (member_tagged f ps k c are q) z m y.tree y.reads in
+  -- Where a named component is, no unknown one is.
+  not_unknown : (extensible : Bool) (ps : List Component) → AreLawfulMembers (components_by f ps) → (b k : ℕ) (p : Component) → Some p ≡ slice_get ps k → (s z n m : State) (es : List Span) → s.rest ≡ z.rest
+      → PartListed f levels P p.type_id.0 k b s n es → PassesUnknown extensible (components_by f ps) z m → ⊥
+  not_unknown extensible ps are b k p at s z n m es e x (u, d) =
+      let known = member_is f ps k p are.0 at in
+      let v = tag_read (f p.type_id.0) known.1 known.0 s n x.tree x.reads in
+      let (next, m, isnt) = (unknown_is (components_by f ps) z m extensible u d).other in
+      isnt (subst (IsFirstOf (components_by f ps)) (next_one s.rest v.0 next v.1 (subst (λ l. NextTag (form z.rule) l next) (sym e) m)) (first_of_part f v.0 ps k p at v.2))
+
+  member_one : (extensible : Bool) (ps : List Component) → AreLawfulMembers (components_by f ps) → (b : ℕ) → IsOneStep (MemberListed f levels P extensible ps b)
+  unfolding IsLawful
+  member_one extensible ps are b s z n m es fs alike (inl ((t, d), p)) (inl ((u, c), q)) =
+      (read_alike (any None) (inl (tt, tt)) s z n m t u alike (unknown_is (components_by f ps) s n extensible t d).open_type (unknown_is (components_by f ps) z m extensible u c).open_type, none_same es fs p q)
+  member_one extensible ps are b s z n m es fs alike (inl (d, p)) (inr (k, c, at, y)) = absurd (not_unknown extensible ps are b k c at z s m n fs (sym alike.rest) y d)
+  member_one extensible ps are b s z n m es fs alike (inr (j, a, at, x)) (inl (d, q)) = absurd (not_unknown extensible ps are b j a at s z n m es alike.rest x d)
+  member_one extensible ps are b s z n m es fs alike (inr (j, a, p, x)) (inr (k, c, q, y)) =
+      let h = member_is f ps j a are.0 p in
+      let i = member_is f ps k c are.0 q in
+      let v = tag_read (f a.type_id.0) h.1 h.0 s n x.tree x.reads in
+      let w = tag_read (f c.type_id.0) i.1 i.0 z m y.tree y.reads in
       let next = subst (λ l. NextTag (form z.rule) l w.0) (sym alike.rest) w.1 in
       let first = subst (IsFirst (f c.type_id.0)) (next_one s.rest w.0 v.0 next v.1) w.2 in
-      let e : j ≡ k = same_index (components_by f ps) v.0 j k _ _ _ _ (only_part f v.0 ps j a apart (p, v.2)) (only_part f v.0 ps k c apart (q, first)) in
+      let e : j ≡ k = same_index (components_by f ps) v.0 j k _ _ _ _ (only_part f v.0 ps j a are.1 (p, v.2)) (only_part f v.0 ps k c are.1 (q, first)) in
       let g : c ≡ a = some_is c a (q ∙ (ap (slice_get ps) (sym e) ∙ sym p)) in
       part_one a.type_id.0 j b s z n m es fs alike x (subst (λ (i : Component). PartListed f levels P i.type_id.0 j b z m fs) g (subst (λ i. PartListed f levels P c.type_id.0 i b z m fs) (sym e) y))
 
-  members_one : (ps : List Component) → AreLawfulByTag (components_by f ps) → (b : ℕ) (s z : State) (es fs : List Span) → Alike s z → MembersListed f levels P ps b s es → MembersListed f levels P ps b z fs → AreSameParts es fs
-  members_one ps are b s z es fs alike (n, a, t, e) (m, c, u, g) =
-      ended_one (λ k. MemberListed f levels P ps b) (λ k. member_one ps are b) (λ k v w es (j, p, is, x) closing e. part_not_at_end f levels P p.type_id.0 j b (member_known f ps j p are is) v w es x closing e) n m s z a c es fs alike t e u g
+  member_not_at_end : (extensible : Bool) (ps : List Component) → AreLawfulMembers (components_by f ps) → (b : ℕ) (s n : State) (es : List Span) → MemberListed f levels P extensible ps b s n es → (closing : Bool) → Ended closing s.rest → ⊥
+  unfolding IsLawful
+  member_not_at_end extensible ps are b s n es (inl ((u, d), q)) closing e = not_read (any None) tt s n u (unknown_is (components_by f ps) s n extensible u d).open_type closing e
+  member_not_at_end extensible ps are b s n es (inr (k, p, at, x)) closing e =
+      let known = member_is f ps k p are.0 at in
+      part_not_at_end f levels P p.type_id.0 k b (known.1, known.2) s n es x closing e
+
+  members_one : (extensible : Bool) (ps : List Component) → AreLawfulMembers (components_by f ps) → (b : ℕ) (s z : State) (es fs : List Span) → Alike s z
+      → MembersListed f levels P extensible ps b s es → MembersListed f levels P extensible ps b z fs → AreSameParts es fs
+  members_one extensible ps are b s z es fs alike (n, a, t, e) (m, c, u, g) =
+      ended_one (λ k. MemberListed f levels P extensible ps b) (λ k. member_one extensible ps are b) (λ k v w. member_not_at_end extensible ps are b v w) n m s z a c es fs alike t e u g
 
   contents_one : (ty : «Type») → IsLawful (type_by f ty) → (b : ℕ) (s z : State) (es fs : List Span) → Alike s z → ContentsListed f levels P ty b s es → ContentsListed f levels P ty b z fs → AreSameParts es fs
   unfolding IsLawful
@@ -428,7 +442,8 @@ module _ (f : ℕ → Shape) (readable : (k : ℕ) → IsReadable (f k)) (levels
   contents_one (Tagged tag id) are b s z es fs alike (n, x) (m, y) = (part_one id.0 0 b s z n m es fs alike x y).1
   contents_one (Choice name ks) are b s z es fs alike x y = alternative_one ks.items b s z es fs alike x y
   contents_one (Sequence tag ps) are b s z es fs alike x y = components_one ps.items are.1 b s z es fs alike x y
-  contents_one (Set name tag ps) are b s z es fs alike x y = members_one ps.items are.1 b s z es fs alike x y
+  contents_one (Set name tag ps) are b s z es fs alike x y =
+      members_one (is_extensible f ps.items) (named_components f ps.items) (subst AreLawfulMembers (sym (named_is f ps.items)) (are.1, are.2)) b s z es fs alike x y
   contents_one (SequenceOf tag id c) are b s z es fs alike x y = elements_one id.0 b (are.1, are.2) s z es fs alike x y
   contents_one (SetOf tag id c) are b s z es fs alike x y = elements_one id.0 b (are.1, are.2) s z es fs alike x y
 

@@ -1,5 +1,5 @@
 -- What is read as rasn_de's calls read it is what the grammar relates.
-use Rattle.std.proofs.Common.{◌≡◌, ◌≢◌, ℕ, suc, ◌-◌, ◌≤◌, inl, inr, List, [], ◌∷◌, length, map, Vec, Global, String, Result, Ok, Err, refl, sym, ap, ◌∙◌, subst}
+use Rattle.std.proofs.Common.{◌≡◌, ◌≢◌, ℕ, suc, ◌-◌, ◌≤◌, inl, inr, Bool, List, [], ◌∷◌, length, map, Vec, Global, String, Result, Ok, Err, refl, sym, ap, ◌∙◌, subst}
 use Rattle.rasn_types.specs.declared.types.tag.Tag.{Tag}
 use Rattle.rasn_types.specs.declared.types.constraints.Constraints.{Constraints}
 use Rattle.rasn_types.specs.declared.error.decode.DecodeError.{DecodeError}
@@ -25,13 +25,15 @@ use Rattle.rasn_schema.specs.declared.types.«Type».{«Type»}
 use Rattle.rasn_schema.specs.declared.types.«Type».TheVariants.{Leaf, Enumerated, Any, Tagged, Choice, Sequence, Set, SequenceOf, SetOf, Unknown}
 use Rattle.rasn_schema.specs.declared.type_id.TypeId.{TypeId}
 use Rattle.rasn_schema.specs.declared.types.Component.{Component}
-use Rattle.rasn_schema.specs.Shapes.{type_by, components_by}
+use Rattle.rasn_schema.specs.Shapes.{type_by, components_by, known_parts, set_among}
 use Rattle.rasn_dynamic.specs.Inside.{ReadsInside, DecodesTree}
 use Rattle.rasn_dynamic.specs.Making.{these}
-use Rattle.rasn_dynamic.specs.Typed.{Makes, elements, DecodesComponents, element_count, IsSized, HoldsOthers, HoldsElements, CountsElements, DecodesContents, DecodesType}
+use Rattle.rasn_dynamic.specs.Sets.{is_extensible, named_components}
+use Rattle.rasn_dynamic.specs.Typed.{Makes, elements, DecodesComponents, MayRunOut, element_count, IsSized, HoldsOthers, HoldsElements, CountsElements, DecodesContents, DecodesType}
 use Rattle.rasn_dynamic.specs.Calls.{names_of}
-use Rattle.rasn_dynamic.proofs.Contents.{inside_prefix, inside_seq, inside_seq_got, inside_set, inside_set_got}
+use Rattle.rasn_dynamic.proofs.Contents.{inside_prefix, inside_seq, inside_seq_got, inside_set}
 use Rattle.rasn_dynamic.proofs.Inside.{inside_decodes}
+use Rattle.rasn_dynamic.proofs.Named.{named_is}
 
 -- ---- the number of elements
 
@@ -160,11 +162,17 @@ module _ (f : ℕ → Shape) (qs : List Component) (ps : Vec Component Global) (
   pub sequence_made : (tag : Tag) (ts : List Tree) → DecodesComponents (components_by f qs) old (Ok ts) new → DecodesContents f (Sequence tag ps) old (Ok (items ts)) new
   sequence_made tag ts h = (ts, refl, subst (λ l. DecodesComponents (components_by f l) old (Ok ts) new) same h)
 
-  pub set_fails : (name : String Global) (tag : Tag) (e : DecodeError) → DecodesSetPartContents (components_by f qs) items (names_of qs) old (Err e) new → DecodesContents f (Set name tag ps) old (Err e) new
-  set_fails name tag e h = inl (subst (λ l. DecodesSetPartContents (components_by f l) items (names_of l) old (Err e) new) same h)
+-- Of a SET, these are its named components, and there are unknown ones or not.
+module _ (f : ℕ → Shape) (extensible : Bool) (qs : List Component) (ps : List Component) (marked : extensible ≡ is_extensible f ps) (same : qs ≡ named_components f ps) where
+  pub named_so : (P : Bool → List Component → Type 0) → P extensible qs → P (is_extensible f ps) (named_components f ps)
+  named_so P h = subst (λ l. P (is_extensible f ps) l) same (subst (λ b. P b qs) marked h)
 
-  pub set_made : (name : String Global) (tag : Tag) (ts : List Tree) → DecodesSetPartContents (components_by f qs) items (names_of qs) old (Ok ts) new → DecodesContents f (Set name tag ps) old (Ok (items ts)) new
-  set_made name tag ts h = (ts, refl, subst (λ l. DecodesSetPartContents (components_by f l) items (names_of l) old (Ok ts) new) same h)
+module _ (f : ℕ → Shape) (extensible : Bool) (qs : List Component) (ps : Vec Component Global) (marked : extensible ≡ is_extensible f ps.items) (same : qs ≡ named_components f ps.items) (old new : State) where
+  pub set_fails : (name : String Global) (tag : Tag) (e : DecodeError) → MayRunOut (DecodesSetPartContents extensible (components_by f qs) items (names_of qs)) old (Err e) new → DecodesContents f (Set name tag ps) old (Err e) new
+  set_fails name tag e h = named_so f extensible qs ps.items marked same (λ b l. MayRunOut (DecodesSetPartContents b (components_by f l) items (names_of l)) old (Err e) new) h
+
+  pub set_made : (name : String Global) (tag : Tag) (ts : List Tree) → DecodesSetPartContents extensible (components_by f qs) items (names_of qs) old (Ok ts) new → DecodesContents f (Set name tag ps) old (Ok (items ts)) new
+  set_made name tag ts h = (ts, refl, named_so f extensible qs ps.items marked same (λ b l. DecodesSetPartContents b (components_by f l) items (names_of l) old (Ok ts) new) h)
 
 -- Memory runs out before anything is read.
 pub set_runs_out : (f : ℕ → Shape) (name : String Global) (tag : Tag) (ps : Vec Component Global) (old : State) (e : DecodeError) → IsOutOfMemory e.kind → DecodesContents f (Set name tag ps) old (Err e) old
@@ -180,10 +188,14 @@ module _ (f : ℕ → Shape) where
       subst (λ z. DecodesBy (ReadsInside (type_by f (Sequence tag ps))) itself o (Ok z) n) (sym e) (inside_seq_got tag (components_by f ps.items) o n ts h.0)
   sequence_contents tag ps o (Err e) n h = inside_seq tag (components_by f ps.items) o n e h.0
 
+  set_inside : (tag : Tag) (ps : List Component) (o : State) (r : Result (List Tree) DecodeError) (n : State) → DecodesSetPartContents (is_extensible f ps) (components_by f (named_components f ps)) items (names_of (named_components f ps)) o r n
+      → DecodesBy (ReadsInside (set_among tag (components_by f ps))) items o r n
+  set_inside tag ps o r n h = inside_set (is_extensible f ps) tag (known_parts (components_by f ps)) (names_of (named_components f ps)) o n r
+      (subst (λ z. DecodesSetPartContents (is_extensible f ps) z items (names_of (named_components f ps)) o r n) (named_is f ps) h)
+
   set_contents : (name : String Global) (tag : Tag) (ps : Vec Component Global) (o : State) (r : Result Tree DecodeError) (n : State) → DecodesContents f (Set name tag ps) o r n → DecodesBy (ReadsInside (type_by f (Set name tag ps))) itself o r n
-  set_contents name tag ps o (Ok t) n (ts, e, h) =
-      subst (λ z. DecodesBy (ReadsInside (type_by f (Set name tag ps))) itself o (Ok z) n) (sym e) (inside_set_got tag (components_by f ps.items) (names_of ps.items) o n ts h)
-  set_contents name tag ps o (Err e) n (inl h) = inside_set tag (components_by f ps.items) (names_of ps.items) o n e h
+  set_contents name tag ps o (Ok t) n (ts, e, h) = subst (λ z. DecodesBy (ReadsInside (type_by f (Set name tag ps))) itself o (Ok z) n) (sym e) (set_inside tag ps.items o (Ok ts) n h)
+  set_contents name tag ps o (Err e) n (inl h) = set_inside tag ps.items o (Err e) n h
   set_contents name tag ps o (Err e) n (inr (m, k)) = alloc_failed (ReadsInside (type_by f (Set name tag ps))) itself o n e m k.stays k.end
 
   -- What is left of the contents ends them.

@@ -26,7 +26,7 @@ use Rattle.rasn_de.specs.declared.ber.de.parser.ParseError.TheVariants.{Unexpect
 use Rattle.rasn_de.specs.State.{State, Call}
 use Rattle.rasn_de.specs.Steps.{IsErrorOf}
 use Rattle.rasn_de.specs.NamedErrors.{IsNamedError, IsNoValidChoice, IsMissingField}
-use Rattle.rasn_de.specs.SetPartTypes.{held_tree, text, name_at, LacksSlot}
+use Rattle.rasn_de.specs.SetPartTypes.{held_tree, text, name_at, LacksSlot, DecodesNext}
 use Rattle.rasn_schema.specs.declared.types.Presence.{Presence as PartPresence}
 use Rattle.rasn_schema.specs.declared.types.Presence.TheVariants.{Required, Optional, Addition, Default}
 use Rattle.rasn_schema.specs.declared.types.Component.{Component}
@@ -34,7 +34,7 @@ use Rattle.rasn_schema.specs.declared.value.Value.{Value, Integer as Number, Oct
 use Rattle.rasn_schema.specs.Trees.{tree_of}
 use Rattle.rasn_schema.specs.Shapes.{presence_of, presences_in}
 use Rattle.rasn_dynamic.specs.Inside.{DecodesTree}
-use Rattle.rasn_dynamic.specs.Sets.{DecodesNextMember, HoldsUnknown}
+use Rattle.rasn_dynamic.specs.Sets.{HoldsUnknown}
 
 -- A number in a range.
 abbrev pub IsNumberIn : Interval → Value → Type 0
@@ -149,7 +149,7 @@ HoldsSlots keep (x ∷ found) slots = (slot : Option Tree) × (others : List (Op
 -- One more component is read, whatever the trees of those before it are. Unknown values are in a list of their own.
 abbrev pub DecodesMember : Bool → Bool → Parts → List (List ℕ) → List (Option Value) → List Value → State → Result (Option (Bor (List ℕ))) DecodeError → State → List (Option Value) → List Value → Type 0
 DecodesMember keep extensible ps names before kept old r new after more = (slots : List (Option Tree)) (us : List Tree) → HoldsSlots keep before slots → HoldsUnknown keep kept us
-    → (others : List (Option Tree)) × (vs : List Tree) × HoldsSlots keep after others × HoldsUnknown keep more vs × DecodesNextMember extensible ps names slots us old r new others vs
+    → (others : List (Option Tree)) × (vs : List Tree) × HoldsSlots keep after others × HoldsUnknown keep more vs × DecodesNext extensible ps names slots us old r new others vs
 
 -- A component is what was read of it, or has the value that it has if it is absent.
 abbrev pub IsValueOf : Presence → Option Value → Value → Type 0

@@ -91,7 +91,7 @@ IsComponentAt f ps s k next here = (done : List Component) × (p : Component) ×
 abbrev pub IsMember : List Component → State → ℕ → ℕ → State → Type 0
 IsMember ps s k next here = (p : Component) × (Some p ≡ slice_get ps k) × (next ≡ p.type_id.0) × (here ≡ s)
 
--- Other components of the SET were read before it.
+-- Others of the SET were read before it, and unknown ones.
 abbrev pub IsMemberAt : (ℕ → Shape) → Bool → List Component → State → ℕ → ℕ → State → Type 0
 IsMemberAt f extensible ps s k next here = (p : Component) × (Some p ≡ slice_get ps k) × (next ≡ p.type_id.0)
     × (done : List Tree) × (bs : List (List ℕ)) × DecodesInTurnFrom (DecodesTree (choice_by extensible (components_by f ps))) s done bs here
@@ -136,7 +136,7 @@ module _ (f : ℕ → Shape) where
   StopsInSequence ps s e = IsOutOfMemory e.kind
       ⊎ ((done : List Component) × (p : Component) × (after : List Component) × (here : State) × (ps ≡ done ++ p ∷ after) × ComponentsInTurn f done s here × StopsAtComponent p here e)
 
-  -- No tag follows, or none of a component of the SET, and no unknown value is read; or the component is its default, or takes nothing.
+  -- No tag follows; or none of a component of the SET does, and no unknown value is read, or memory runs out for it; or the component is its default, or takes nothing.
   abbrev pub StopsAtMember : Bool → List Component → State → DecodeError → Type 0
   StopsAtMember extensible ps s e = PeeksTag s (Err e) ⊎ ((IsUnknown (components_by f ps) s × ((next : State) → PassesUnknown extensible (components_by f ps) s next → IsOutOfMemory e.kind))
       ⊎ ((k : ℕ) × (p : Component) × (Some p ≡ slice_get ps k) × (IsDefaultWritten p s e ⊎ TakesNothing p.type_id.0 s)))

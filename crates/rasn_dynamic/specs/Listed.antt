@@ -1,5 +1,5 @@
 -- The parts of a message, in the order of their octets, each before those inside it.
-use Rattle.std.specs.Prelude.{◌≡◌, ◌⊎◌, ◌+◌, ◌-◌, ◌^◌, ℕ, zero, suc, List, [], ◌∷◌, ◌++◌, length, slice_get, min, Option, Some, Vec, Ok}
+use Rattle.std.specs.Prelude.{Bool, ◌≡◌, ◌⊎◌, ◌+◌, ◌-◌, ◌^◌, ℕ, zero, suc, List, [], ◌∷◌, ◌++◌, length, slice_get, min, Option, Some, Vec, Ok}
 use Rattle.std.specs.Global.{Global}
 use Rattle.rasn_types.specs.Framing.{Ended}
 use Rattle.rasn_types.specs.Shapes.{Shape, Tree}

@@ -1,5 +1,5 @@
 -- Where the part at the end of a path is.
-use Rattle.std.specs.Prelude.{[], ◌≡◌, ◌≢◌, ◌⊎◌, ◌+◌, ◌≤◌, ℕ, suc, List, ◌∷◌, ◌++◌, length, Bool, true, false, slice_get, Option, Some, None, Ok}
+use Rattle.std.specs.Prelude.{[], ◌≡◌, ◌≢◌, ◌⊎◌, ◌+◌, ◌≤◌, ◌<◌, ℕ, suc, List, ◌∷◌, ◌++◌, length, Bool, true, false, slice_get, Option, Some, None, Ok}
 use Rattle.rasn_types.specs.declared.types.codec.Codec.{Codec}
 use Rattle.rasn_types.specs.declared.types.codec.Codec.TheVariants.{Ber}
 use Rattle.rasn_types.specs.declared.types.tag.Tag.{Tag}
@@ -77,9 +77,9 @@ abbrev pub LacksComponent : (ℕ → Shape) → List Component → State → ℕ
 LacksComponent f ps s k = LeavesAllOut ps s ⊎ ((length ps ≤ k)
     ⊎ ((done : List Component) × (p : Component) × (after : List Component) × (here : State) × (ps ≡ done ++ p ∷ after) × (length done ≡ k) × ComponentsInTurn f done s here × IsAbsentHere f p here))
 
--- Other components of the SET are read up to the end. Unknown ones are no part: each is where its tag is.
+-- Other components of the SET are read up to the end, and unknown ones, which are no part.
 abbrev pub LacksMember : (ℕ → Shape) → Bool → List Component → State → ℕ → Type 0
-LacksMember f extensible ps s k = (done : List Tree) × (bs : List (List ℕ)) × (here : State) × DecodesInTurnFrom (DecodesTree (choice_by extensible (components_by f ps))) s done bs here × (NoneOf k done ⊎ (length ps ≤ k)) × Ended here.closing here.rest
+LacksMember f extensible ps s k = (done : List Tree) × (bs : List (List ℕ)) × (here : State) × DecodesInTurnFrom (DecodesTree (choice_by extensible (components_by f ps))) s done bs here × (k < length ps → NoneOf k done) × Ended here.closing here.rest
 
 -- There are no more elements.
 abbrev pub LacksElement : (ℕ → Shape) → ℕ → State → ℕ → Type 0

@@ -1,16 +1,8 @@
 -- The components of a SET: those that its type names, in any order, and unknown ones among them, whose tags are none of theirs (X.680 27).
-use Rattle.std.specs.Prelude.{◌≡◌, ◌≢◌, ◌⊎◌, ◌-◌, ℕ, Bool, true, if◌then◌else◌, List, [], ◌∷◌, ◌++◌, length, map, take, Option, Some, None, Result, Ok, Err}
-use Rattle.std.specs.Borrow.{Bor}
-use Rattle.rasn_types.specs.declared.types.codec.Codec.{Codec}
-use Rattle.rasn_types.specs.declared.error.decode.DecodeError.{DecodeError}
-use Rattle.rasn_types.specs.Errors.{IsOutOfMemory}
-use Rattle.rasn_types.specs.Shapes.{Tree, chosen, items, IsSetTree, Shape, choice_by, Parts, presences, count}
-use Rattle.rasn_types.specs.Readings.{ByPart, AllOf}
+use Rattle.std.specs.Prelude.{◌≡◌, ◌-◌, ℕ, Bool, true, if◌then◌else◌, List, length, map, take, Ok}
+use Rattle.rasn_types.specs.Shapes.{Tree, chosen, Shape, choice_by, Parts, count}
 use Rattle.rasn_types.specs.Lawful.{AreComponents, AreDistinguished}
-use Rattle.rasn_de.specs.State.{State, Call}
-use Rattle.rasn_de.specs.Set.{DecodesIntoSlots, DecodesSetContents}
-use Rattle.rasn_de.specs.SequenceOf.{RefusesElement}
-use Rattle.rasn_de.specs.SetPartTypes.{text, name_at, IsFilled, IsPlacedAt, MakesOfReadings}
+use Rattle.rasn_de.specs.State.{State}
 use Rattle.rasn_schema.specs.declared.types.Component.{Component}
 use Rattle.rasn_schema.specs.declared.value.Value.{Value}
 use Rattle.rasn_schema.specs.Trees.{tree_of}
@@ -29,34 +21,9 @@ named_components f ps = if is_extensible f ps then take (length ps - 1) ps else 
 abbrev pub AreLawfulMembers : Parts → Type 0
 AreLawfulMembers ps = AreComponents ps × AreDistinguished ps
 
--- The readings of the components, in any order, are these parts and unknown values, and t is their tree.
-abbrev pub AreMembers : Bool → Parts → List Tree → Tree → Type 0
-AreMembers extensible ps readings t = (ts : List Tree) × (us : List Tree) × IsSetTree extensible ts us t × ByPart 0 (presences ps) readings ts × AllOf (count ps) readings us
-
--- What is made from all components: these parts and unknown values; or the error for a part that is there twice or is missing.
-abbrev pub MakesMembers : Bool → Parts → List (List ℕ) → Codec → List Tree → Result (List Tree) DecodeError → Type 0
-MakesMembers extensible ps names rule readings (Ok ts) = AreMembers extensible ps readings (items ts)
-MakesMembers extensible ps names rule readings (Err e) = MakesOfReadings ps items names rule readings (Err e)
-
--- Components are read one by one, each as one of the parts or as an unknown value, and the SET is made from all of them.
-abbrev pub DecodesMembers : Bool → Parts → List (List ℕ) → Call (List Tree)
-DecodesMembers extensible ps names old = DecodesSetContents (DecodesIntoSlots (DecodesTree (choice_by extensible ps))) (MakesMembers extensible ps names old.rule) old
-
 -- The next component is read as an unknown value.
 abbrev pub PassesUnknown : Bool → Parts → State → State → Type 0
 PassesUnknown extensible ps s next = (u : Tree) × DecodesTree (choice_by extensible ps) s (Ok (chosen (count ps) u)) next
-
-module _ (extensible : Bool) (ps : Parts) (names : List (List ℕ)) (before : List (Option Tree)) (kept : List Tree) (old : State) where
-  -- A component is read with this number, and takes octets.
-  abbrev pub DecodesNumbered : ℕ → Tree → State → Type 0
-  DecodesNumbered k u new = DecodesTree (choice_by extensible ps) old (Ok (chosen k u)) new × (length new.rest ≢ length old.rest)
-
-  -- One more component fills the empty slot of its part, or is one more unknown value; or its slot is filled, and the name of the part is returned.
-  abbrev pub DecodesNextMember : Result (Option (Bor (List ℕ))) DecodeError → State → List (Option Tree) → List Tree → Type 0
-  DecodesNextMember (Ok None) new held more = ((k : ℕ) × (u : Tree) × IsPlacedAt before k u held × (more ≡ kept) × DecodesNumbered k u new)
-      ⊎ ((u : Tree) × (held ≡ before) × (more ≡ kept ++ u ∷ []) × DecodesNumbered (count ps) u new)
-  DecodesNextMember (Ok (Some repeated)) new held more = (k : ℕ) × (u : Tree) × IsFilled before k × (held ≡ before) × (more ≡ kept) × (text repeated ≡ name_at names k) × DecodesNumbered k u new
-  DecodesNextMember (Err e) new held more = RefusesElement (DecodesTree (choice_by extensible ps)) old e new ⊎ IsOutOfMemory e.kind
 
 -- These are the unknown values that were read, if values are kept.
 abbrev pub HoldsUnknown : Bool → List Value → List Tree → Type 0

@@ -12,12 +12,13 @@ use Rattle.rasn_de.specs.Decodes.{DecodesBy}
 use Rattle.rasn_de.specs.Constructed.{sequence_header, prefix_header, Keeps, DecodesInside}
 use Rattle.rasn_de.specs.SequenceOf.{DecodesElements, DecodesElementsInOrder, DecodesSized}
 use Rattle.rasn_de.specs.PartTypes.{FailsAtPart}
+use Rattle.rasn_de.specs.SetPartTypes.{DecodesSetPartContents}
 use Rattle.rasn_schema.specs.declared.types.«Type».{«Type»}
 use Rattle.rasn_schema.specs.declared.types.«Type».TheVariants.{Leaf, Enumerated, Any, Tagged, Choice, Sequence, Set, SequenceOf, SetOf, Unknown}
 use Rattle.rasn_schema.specs.Shapes.{type_by, alternatives_by, choice_among, components_by}
 use Rattle.rasn_dynamic.specs.Inside.{ReadsSequence, DecodesTree}
 use Rattle.rasn_dynamic.specs.Making.{these}
-use Rattle.rasn_dynamic.specs.Sets.{is_extensible, named_components, DecodesMembers}
+use Rattle.rasn_dynamic.specs.Sets.{is_extensible, named_components}
 use Rattle.rasn_dynamic.specs.Calls.{names_of, IsNoAlternative}
 
 -- The tree is made of those that a call reads.
@@ -84,7 +85,7 @@ module _ (f : ℕ → Shape) where
   DecodesContents (Tagged tag k) = DecodesTree (f k.0)
   DecodesContents (Choice name ks) = λ old r new. ⊥
   DecodesContents (Sequence tag ps) = Makes items (DecodesComponents (components_by f ps.items))
-  DecodesContents (Set name tag ps) = Makes items (MayRunOut (DecodesMembers (is_extensible f ps.items) (components_by f (named_components f ps.items)) (names_of (named_components f ps.items))))
+  DecodesContents (Set name tag ps) = Makes items (MayRunOut (DecodesSetPartContents (is_extensible f ps.items) (components_by f (named_components f ps.items)) items (names_of (named_components f ps.items))))
   DecodesContents (SequenceOf tag k c) = Makes items (DecodesElements (DecodesTree (f k.0)) these)
   DecodesContents (SetOf tag k c) = Makes elements (DecodesElementsInOrder (DecodesTree (f k.0)) these)
 

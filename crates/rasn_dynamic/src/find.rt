@@ -1,9 +1,10 @@
 //! Finding a part of a message.
-ghost use Rattle.std.specs.Prelude.{◌≡◌, ◌≢◌, ◌⊎◌, ◌+◌, ◌≤◌, ◌∷◌, [], length, true, OnOk, IfOk, IfErr, MatchOption, MatchBool};
+ghost use Rattle.std.specs.Prelude.{◌≡◌, ◌≢◌, ◌⊎◌, ◌+◌, ◌≤◌, ◌∷◌, [], length, true, None, OnOk, IfOk, IfErr, MatchOption, MatchBool};
 ghost use Rattle.rasn_types.specs.Errors.{IsOutOfMemory};
-ghost use Rattle.rasn_schema.specs.Shapes.{shape_of_type, type_by, components_by, known_parts, presence_in, IsReadable, AreReadable};
+ghost use Rattle.rasn_types.specs.Shapes.{any};
+ghost use Rattle.rasn_schema.specs.Shapes.{shape_of_type, type_by, components_by, presence_in, IsReadable, AreReadable};
 ghost use Rattle.rasn_dynamic.specs.Inside.{ReadsComponent};
-ghost use Rattle.rasn_dynamic.specs.Sets.{is_extensible, named_components as named_in, AreLawfulMembers};
+ghost use Rattle.rasn_dynamic.specs.Sets.{AreLawfulMembers};
 ghost use Rattle.rasn_dynamic.specs.Faults.{IsAlternativeAt, IsComponentAt, IsMemberAt, IsElementAt, IsPart, Leads, IsLocated, start};
 ghost use Rattle.rasn_dynamic.specs.Parts.{IsSeen, LacksAlternative, IsAbsentHere, LacksComponent, LacksMember, LacksElement, LacksPart, IsEntered, LacksPartAt, LacksPath, IsReadHere, IsPartAt, IsHeaderOf, PassesBy, PassesPresent, PassesElement};
 
@@ -201,34 +202,44 @@ fn pass_member(
     }
 }
 
-/// Goes to the component of a SET with this index. Returns its type, if it is present.
+/// Reads an unknown component of a SET, which has one only if it is extensible.
+fn pass_unknown(decoder: &mut Decoder<'_>, extensible: bool) -> Result<(), DecodeError>
+    ensures { OnOk result ((extensible ≡ true) × PassesElement (any None) decoder.old decoder.new) }
+{
+    if !extensible {
+        return Err(no_value(decoder));
+    }
+    match decode_any_value(decoder, Tag::EOC) {
+        Ok(value) => {
+            drop(value);
+            Ok(())
+        }
+        Err(error) => Err(error),
+    }
+}
+
+/// Goes to the component of a SET with this index, past those before it and unknown ones. Returns its type, if it is present.
 fn go_to_member(
     decoder: &mut Decoder<'_>,
     types: &[Type],
     below: usize,
     components: &[Component],
+    extensible: bool,
     index: usize,
 ) -> Result<Option<TypeId>, DecodeError>
-    requires lawful { AreLawfulMembers (known_parts (components_by (shape_of_type types.now below) components.now)) }
-    ensures found { let f = shape_of_type types.now below in
-        IfOk result (λ found. MatchOption found (LacksMember f (is_extensible f components.now) (named_in f components.now) decoder.old index) (λ id. IsMemberAt f (is_extensible f components.now) (named_in f components.now) decoder.old index id.0 decoder.new)) }
+    requires lawful { AreLawfulMembers (components_by (shape_of_type types.now below) components.now) }
+    ensures found { IfOk result (λ found. MatchOption found (LacksMember (shape_of_type types.now below) extensible components.now decoder.old index) (λ id. IsMemberAt (shape_of_type types.now below) extensible components.now decoder.old index id.0 decoder.new)) }
 {
-    let (named, extensible) = named_components(types, below, components);
     while !decoder.has_ended() {
         let tag = decoder.peek_tag()?;
-        match component_for(types, below, named, tag) {
+        match component_for(types, below, components, tag) {
             Some((number, component)) => {
                 if number == index {
                     return Ok(Some(component.type_id));
                 }
                 pass_member(decoder, types, below, component)?;
             }
-            None => {
-                if !extensible {
-                    return Err(no_value(decoder));
-                }
-                let _ = decode_any_value(decoder, Tag::EOC)?;
-            }
+            None => pass_unknown(decoder, extensible)?,
         }
     }
     Ok(None)
@@ -306,7 +317,10 @@ fn go_inside(
         Type::Sequence { components, .. } => {
             go_to_component(decoder, types, below, components, index)
         }
-        Type::Set { components, .. } => go_to_member(decoder, types, below, components, index),
+        Type::Set { components, .. } => {
+            let (named, extensible) = named_components(types, below, components);
+            go_to_member(decoder, types, below, named, extensible, index)
+        }
         Type::SequenceOf { element, .. } => go_to_element(decoder, types, below, *element, index),
         Type::SetOf { element, .. } => go_to_element(decoder, types, below, *element, index),
         _ => Ok(None),
@@ -433,8 +447,8 @@ fn refuse(alloc: Global, rule: Codec, schema: &Schema, id: TypeId, input: &[u8])
 /// Finds the part of the message to which a path leads. Each step of the path is the index of a
 /// component, an alternative or an element, counted from 0; an explicit tag is a step of its own,
 /// with the index 0. Returns `None` if there is no such part, because a component is absent, another
-/// alternative is chosen, or there are fewer elements. The parts before it are read and not kept,
-/// and those after it aren't read.
+/// alternative is chosen, or there are fewer elements. Values of a SET that its type doesn't name
+/// are no parts. The parts before it are read and not kept, and those after it aren't read.
 ///
 /// # Errors
 /// The refusal of [`check_or_locate`] if a part before it, or the part itself, can't be read.

@@ -28,7 +28,7 @@ pub struct MessageParts<'input> {
 }
 
 /// Reads the value at the front of the input, and returns its parts, the value itself among them. No
-/// value is made, as by `check`.
+/// value is made, as by `check`. Values of a SET that its type doesn't name are no parts.
 ///
 /// # Errors
 /// As [`check_or_locate`](crate::check_or_locate), or if memory for the list of parts runs out.

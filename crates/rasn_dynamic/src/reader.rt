@@ -9,7 +9,8 @@ ghost use Rattle.rasn_de.specs.Constructed.{DecodesInside};
 ghost use Rattle.rasn_de.specs.SequenceOf.{DecodesElements, DecodesElementsInOrder, DecodesSized};
 ghost use Rattle.rasn_de.specs.Optional.{NextIs};
 ghost use Rattle.rasn_de.specs.PartTypes.{FailsAtPart, FailsAtOnePart};
-ghost use Rattle.rasn_dynamic.specs.Sets.{DecodesMembers, AreLawfulMembers};
+ghost use Rattle.rasn_de.specs.SetPartTypes.{DecodesSetPartContents};
+ghost use Rattle.rasn_dynamic.specs.Sets.{AreLawfulMembers};
 ghost use Rattle.rasn_de.specs.Steps.{IsErrorOf};
 ghost use Rattle.rasn_de.specs.declared.ber.de.parser.ParseError.TheVariants.{UnexpectedExtraData, UnexpectedEmptyInput};
 ghost use Rattle.rasn_schema.specs.Trees.{tree_of};
@@ -766,7 +767,7 @@ fn decode_set<'input, M: Made>(
     requires lawful { AreLawfulMembers (components_by (shape_of_type types.now below) components.now) }
     requires none { found.items ≡ nones components.now }
     requires clear { trace.old ≡ None }
-    ensures exact { Making M.KEEP trees_of (MayRunOut (DecodesMembers extensible (components_by (shape_of_type types.now below) components.now) (names_of components.now))) decoder.old result decoder.new }
+    ensures exact { Making M.KEEP trees_of (MayRunOut (DecodesSetPartContents extensible (components_by (shape_of_type types.now below) components.now) items (names_of components.now))) decoder.old result decoder.new }
     ensures fits { M.KEEP ≡ true → IfOk result (λ v. MembersFit (Fits types.now below) extensible components.now v.items) }
     ensures rules { IfErr result (λ e. e.codec ≡ decoder.old.rule) }
     ensures told { Told (IsFaultIn types.now below (IsMemberAt (shape_of_type types.now below) extensible components.now decoder.old) decoder.old decoder.old) result trace.new }
@@ -825,7 +826,7 @@ fn decode_set_component<'input, 'names, M: Made>(
     requires clear { trace.old ≡ None }
     ensures next { DecodesMember M.KEEP extensible (components_by (shape_of_type types.now below) components.now) (names_of components.now) found.old.items unknown.old.items decoder.old result decoder.new found.new.items unknown.new.items }
     ensures found { FoundFit (λ k v. M.KEEP ≡ true → Fits types.now below k v) components.now found.new.items }
-    ensures octets { M.KEEP ≡ true → EachFits AreOctetsValue unknown.old.items → EachFits AreOctetsValue unknown.new.items }
+    ensures octets { M.KEEP ≡ true → IfOk result (λ v. EachFits AreOctetsValue unknown.old.items → EachFits AreOctetsValue unknown.new.items) }
     ensures unknown { IfErr result (λ e. IsNoMember extensible (components_by (shape_of_type types.now below) components.now) name.now decoder.old e decoder.new) }
     ensures rules { IfErr result (λ e. e.codec ≡ decoder.old.rule) }
     ensures told { Told (IsFaultIn types.now below (IsMember components.now decoder.old) decoder.old decoder.old) result trace.new }
@@ -838,8 +839,8 @@ fn decode_set_component<'input, 'names, M: Made>(
         if !extensible {
             return Err(DecodeError::no_valid_choice(decoder.alloc(), name, decoder.codec()));
         }
-        let value = decode_any_value(decoder, Tag::EOC)?;
-        push::<M>(decoder, unknown, value)?;
+        let other = decode_any_value(decoder, Tag::EOC)?;
+        push::<M>(decoder, unknown, other)?;
         return Ok(None);
     };
     let value = decode_present::<M>(decoder, trace, spans, types, below, component, number)?;

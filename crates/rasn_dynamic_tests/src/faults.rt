@@ -25,10 +25,17 @@ pub const TYPES: &[Definition] = &[
     Definition::Choice("Any", &[("flag", 0), ("list", 3), ("tagged", 4)]),
     Definition::Unknown,
     Definition::Sequence(Tag::SEQUENCE, EXTENSIBLE),
+    Definition::Set("Open", Tag::SET, OPEN),
 ];
 
 const EXTENSIBLE: &[Part] = &[
     ("flag", Occurrence::Required, 0),
+    ("...", Occurrence::Required, 6),
+];
+
+const OPEN: &[Part] = &[
+    ("flag", Occurrence::Required, 0),
+    ("number", Occurrence::Required, 1),
     ("...", Occurrence::Required, 6),
 ];
 
@@ -93,6 +100,16 @@ fn innermost_value_is_named(rt: HostRuntime) {
             7,
             &[0x30, 7, 1, 1, 0xFF, 5, 0, 5, 1],
             (5, 6, &[1], "[1], byte 5: BER: "),
+        ),
+        (
+            8,
+            &[0x31, 9, 5, 0, 2, 1, 7, 1, 2, 0, 0],
+            (7, 0, &[0], "flag, byte 7: BER: "),
+        ),
+        (
+            8,
+            &[0x31, 5, 1, 1, 0xFF, 5, 5],
+            (0, 8, &[], "byte 0: BER: "),
         ),
     ];
     for (id, octets, place) in ROWS {

@@ -49,7 +49,10 @@ const OPEN_LIST: &[u8] = &[
 /// Two values that the type doesn't name, after the one that it does.
 const EXTENDED: &[u8] = &[0x30, 8, 1, 1, 0xFF, 5, 0, 2, 1, 5];
 
-// X.690 8.1.2, 8.1.3, 8.9, 8.10, 8.13: offsets are counted in the octets by hand.
+/// A SET whose components are in another order than in the type, around values that it doesn't name (X.690 8.11, X.680 27).
+const MIXED: &[u8] = &[0x31, 11, 5, 0, 2, 1, 7, 0x80, 1, 0x55, 1, 1, 0xFF];
+
+// X.690 8.1.2, 8.1.3, 8.9 to 8.11, 8.13: offsets are counted in the octets by hand.
 #[test]
 fn parts_are_found(rt: HostRuntime) {
     const ROWS: &[Row] = &[
@@ -71,6 +74,10 @@ fn parts_are_found(rt: HostRuntime) {
         ),
         (7, EXTENDED, &[1], Some(((5, 6, 2, 5), false))),
         (7, &[0x30, 3, 1, 1, 0xFF], &[1], Some(((5, 6, 0, 0), false))),
+        (8, MIXED, &[0], Some(((10, 0, 2, 3), false))),
+        (8, MIXED, &[1], Some(((4, 1, 2, 3), false))),
+        (8, MIXED, &[2], None),
+        (8, MIXED, &[3], None),
     ];
     for row in ROWS {
         assert!(rt; finds(rt.alloc(), row) == Some(true));
@@ -121,6 +128,7 @@ fn parts_are_gone_over(rt: HostRuntime) {
     assert!(rt; parts_found(rt.alloc(), 5, &[1, 1, 0]) == Some(2));
     assert!(rt; parts_found(rt.alloc(), 5, &[0xA0, 2, 0x30, 0]) == Some(3));
     assert!(rt; parts_found(rt.alloc(), 7, EXTENDED) == Some(3));
+    assert!(rt; parts_found(rt.alloc(), 8, MIXED) == Some(3));
     assert!(rt; parts_found(rt.alloc(), 5, &[0x30, 8, 0x30, 6, 1, 1, 0, 2, 1, 1]) == Some(5));
 }
 

@@ -1,7 +1,13 @@
-use Rattle.std.proofs.Common.{refl, ap, subst}
+use Rattle.std.proofs.Common.{◌∙◌, refl, ap, subst}
+use Rattle.std.specs.Prelude.{IfOk, MatchOption}
 use Rattle.rasn_schema.specs.declared.type_id.TypeId.{TypeId}
 use Rattle.rasn_schema.specs.Shapes.{shape_of_type, type_by, IsReadable}
-use Rattle.rasn_dynamic.proofs.Contents.{list_lawful, set_of_lawful, seq_lawful, set_lawful, none_holds}
+use Rattle.rasn_dynamic.specs.Sets.{is_extensible, named_components}
+use Rattle.rasn_dynamic.specs.Faults.{IsMemberAt}
+use Rattle.rasn_dynamic.specs.Parts.{LacksMember}
+use Rattle.rasn_dynamic.proofs.Named.{named_lawful}
+use Rattle.rasn_dynamic.proofs.Typed.{named_so}
+use Rattle.rasn_dynamic.proofs.Contents.{list_lawful, set_of_lawful, seq_lawful, none_holds}
 use Rattle.rasn_dynamic.proofs.InOrder.{lawful_parts}
 use Rattle.rasn_dynamic.proofs.Parts.{option_weaker, no_parts}
 use Rattle.rasn_dynamic.proofs.find.go_inside.Goals as goal
@@ -13,7 +19,10 @@ go_to_component-requires c = record {
 
 pub go_to_member-requires : goal.go_to_member-requires
 go_to_member-requires c = record {
-  lawful = rw c.deref-in-Set.ensures.value (set_lawful _ _ (subst (λ n. IsReadable (type_by (shape_of_type c.args.types.now c.args.below) n)) c.in-Set.is c.requires.lawful));
+  lawful =
+      let f = shape_of_type c.args.types.now c.args.below in
+      let same = c.named_components-extensible.ensures.named ∙ ap (named_components f) c.deref-in-Set.ensures.value in
+      named_lawful f _ c.in-Set.components.items _ same (subst (λ n. IsReadable (type_by f n)) c.in-Set.is c.requires.lawful);
 }
 
 pub go_to_element-requires : goal.go_to_element-requires
@@ -36,7 +45,14 @@ pub returns-in-Sequence : goal.returns-in-Sequence
 returns-in-Sequence c = rw (c.in-Sequence.is, ← c.deref-in-Sequence.ensures.value) (record { found = c.go_to_component.ensures.found })
 
 pub returns-in-Set : goal.returns-in-Set
-returns-in-Set c = rw (c.in-Set.is, ← c.deref-in-Set.ensures.value) (record { found = c.go_to_member.ensures.found })
+returns-in-Set c =
+    let f = shape_of_type c.args.types.now c.args.below in
+    let same = c.named_components-extensible.ensures.named ∙ ap (named_components f) c.deref-in-Set.ensures.value in
+    let marked = c.named_components-extensible.ensures.extensible ∙ ap (is_extensible f) c.deref-in-Set.ensures.value in
+    rw c.in-Set.is (record {
+      found = named_so f c.named_components-extensible.result.1 c.named_components-extensible.result.0.now c.in-Set.components.items marked same
+          (λ b l. IfOk c.go_to_member.result (λ found. MatchOption found (LacksMember f b l c.args.decoder.now c.args.index) (λ id. IsMemberAt f b l c.args.decoder.now c.args.index id.0 c.go_to_member.new.decoder))) c.go_to_member.ensures.found;
+    })
 
 pub returns-in-SequenceOf : goal.returns-in-SequenceOf
 returns-in-SequenceOf c = rw c.in-SequenceOf.is (record { found = c.go_to_element.ensures.found })

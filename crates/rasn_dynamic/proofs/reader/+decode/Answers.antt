@@ -1,13 +1,12 @@
-use Rattle.std.proofs.Common.{rules, arith, append_assoc, length-append, ◌≡◌, ◌+◌, ◌-◌, [], ◌∷◌, ◌++◌, length, true, false, Some, None, Ok, Err, refl, sym, ap, ◌∙◌, subst, inl, inr}
+use Rattle.std.proofs.Common.{rules, arith, append_assoc, length-append, map, Vec, Global, true≢false, ◌≡◌, ◌+◌, ◌-◌, [], ◌∷◌, ◌++◌, length, true, false, Some, None, Ok, Err, refl, sym, ap, ◌∙◌, subst, inl, inr}
 use Rattle.std.specs.Prelude.{get_or, slice_get, IfOk, IfErr}
 use Rattle.std.proofs.lemmas.Option.{slice_get_within}
-use Rattle.rasn_types.specs.Shapes.{Tree, Same, items, choice, IsFirstOf, own_tag, sought_by}
+use Rattle.rasn_types.specs.Shapes.{Tree, Same, items, choice_by, IsFirstOf, own_tag, sought_by}
 use Rattle.rasn_types.proofs.Headers.Frames.{next_one}
 use Rattle.rasn_de.specs.NamedErrors.{IsNamedError, IsDuplicateField}
-use Rattle.rasn_de.specs.SetPartTypes.{text, DecodesSetPartContents}
+use Rattle.rasn_de.specs.SetPartTypes.{text}
 use Rattle.rasn_de.specs.Constructed.{DecodesInside, list_header}
 use Rattle.rasn_de.proofs.Leaves.Outcomes.{alloc_failed}
-use Rattle.rasn_de.proofs.OwnTypes.SetPartTypes.{ReadTo, read_rules, none_read, untold, next_fails, next_passes, one_twice}
 use Rattle.rasn_schema.proofs.Alternatives.{first_of_all}
 use Rattle.rasn_types.specs.Tags.{IsStrict}
 use Rattle.rasn_types.specs.Order.{IsLess}
@@ -25,7 +24,7 @@ use Rattle.rasn_de.proofs.Constructed.Steps.{step_none, step_refused, step_end, 
 use Rattle.rasn_de.proofs.Constructed.Optional.{strict_before, strict_after}
 use Rattle.rasn_de.proofs.OwnTypes.Parts.{call_keeps}
 use Rattle.rasn_schema.specs.declared.types.Alternative.{Alternative}
-use Rattle.rasn_schema.specs.declared.value.Value.{Value}
+use Rattle.rasn_schema.specs.declared.value.Value.{Value, Items}
 use Rattle.rasn_schema.specs.Trees.{tree_of}
 use Rattle.rasn_schema.specs.Shapes.{numbers_of, shape_of_type, type_by, alternatives_by, choice_among, components_by, key_of, presence_in, AreReadable, IsReadable}
 use Rattle.rasn_schema.proofs.Presences.{always_by}
@@ -37,24 +36,30 @@ use Rattle.rasn_dynamic.specs.Making.{Making}
 use Rattle.rasn_dynamic.specs.Typed.{DecodesContents, DecodesType, CountsElements, element_count, elements}
 use Rattle.rasn_dynamic.specs.Calls.{held, names_of, nones, DecodesPresent}
 use Rattle.rasn_dynamic.proofs.Making.{made_as, made_fails_as, choice_exact, uncounted, counted_nothing, made_of_value, if_kept, items_made, elements_made, one_made, choice_made, choice_fits}
-use Rattle.rasn_schema.specs.Fitting.{Fits, FitsBy, IsNumber, ComponentsFit, EachFits}
-use Rattle.rasn_dynamic.proofs.FitsRead.{if_ok, fits_below, are_items, are_elements, each_more, fit_more, fit_end, made_fits, gathered_fit, all_left_fit, nones_fit, found_length, found_kept, put_fits}
+use Rattle.rasn_schema.specs.Fitting.{Fits, FitsBy, IsNumber, AreOctets, ComponentsFit, EachFits}
+use Rattle.rasn_dynamic.proofs.FitsRead.{if_ok, fits_below, are_items, are_elements, each_more, fit_more, fit_end, made_fits, gathered_fit, members_fit, all_fit, all_left_fit, nones_fit, found_length, found_kept, put_fits}
 use Rattle.rasn_dynamic.proofs.Nothing.{refused_at_zero, refused_not_there, found_here}
 use Rattle.rasn_dynamic.proofs.OpenChoice.{lawful_at}
 use Rattle.rasn_dynamic.proofs.Chosen.{no_tag, none_for, for_both, chosen_got, chosen_refused}
 use Rattle.rasn_dynamic.proofs.InOrder.{lawful_parts, all_left_read, in_turn}
 use Rattle.rasn_dynamic.proofs.OnePart.{always, always_fails, looked, looked_fails, made, made_fails, unread, unread_fails, plain, loose, differs, default_is_written, not_required, next_of, made_of}
-use Rattle.rasn_dynamic.proofs.Contents.{prefix_lawful, list_lawful, set_of_lawful, seq_lawful, set_lawful, none_holds, sequence_runs_out, parts_start, parts_more, part_fails, part_fails_at, parts_run_out, parts_end}
-use Rattle.rasn_dynamic.proofs.Typed.{contents_end, contents_stay, not_sized, is_sized, missized, holds_others, is_counted, count_items, by_prefix, by_sequence, by_set, by_list, by_set_of, type_decodes, sequence_fails, sequence_made, set_fails, set_made, set_runs_out}
-use Rattle.rasn_dynamic.proofs.Pieces.{got_below, first_of_part, part_lawful, nones_come, nones_held, makes_parts}
-use Rattle.rasn_dynamic.proofs.Component.{next_unpeeked, next_unknown, next_unread, next_idle, next_put, member_shorter, once_read}
+use Rattle.rasn_dynamic.proofs.Contents.{prefix_lawful, list_lawful, set_of_lawful, seq_lawful, none_holds, sequence_runs_out, parts_start, parts_more, part_fails, part_fails_at, parts_run_out, parts_end}
+use Rattle.rasn_dynamic.proofs.Typed.{contents_end, contents_stay, not_sized, is_sized, missized, holds_others, is_counted, count_items, by_prefix, by_sequence, by_set, by_list, by_set_of, type_decodes, sequence_fails, sequence_made, named_so, set_fails, set_made, set_runs_out}
+use Rattle.rasn_dynamic.proofs.Pieces.{got_below, first_of_part, part_lawful, nones_come, nones_held, made_parts, lacks_part}
+use Rattle.rasn_dynamic.proofs.Component.{member_unpeeked, member_none, unknown_unread, unknown_kept, unknown_left, member_unread, member_idle, member_put, member_shorter}
+use Rattle.rasn_dynamic.proofs.AllMembers.{set_trees, all_trees, none_unknown, members_lack, members_made, members_keep}
+use Rattle.rasn_de.proofs.OwnTypes.SetPartTypes.{ReadTo, read_rules, none_read, untold, next_fails, next_passes, one_twice}
+use Rattle.rasn_dynamic.proofs.Members.{none_passed, none_unread, passed_unknown}
+use Rattle.rasn_dynamic.proofs.Named.{named_lawful}
+use Rattle.rasn_dynamic.specs.Sets.{is_extensible, named_components}
+use Rattle.rasn_dynamic.specs.Found.{MembersFit}
 use Rattle.rasn_dynamic.proofs.Parts.{shorter}
-use Rattle.rasn_dynamic.proofs.reader.+decode.Goals.{decode_elements_in_order-else-is_strict-via-then-is_strict+else-is_less, decode_elements_in_order-else-is_strict-via-else-is_strict}
-use Rattle.rasn_dynamic.specs.Listed.{Lists, Inside, PartListed, ComponentAt, MemberListed}
+use Rattle.rasn_dynamic.proofs.reader.+decode.Goals.{decode_elements_in_order-else-is_strict-via-then-is_strict+else-is_less, decode_elements_in_order-else-is_strict-via-else-is_strict, decode_set-then-extensible+in_ok-push, decode_set-else-extensible}
+use Rattle.rasn_dynamic.specs.Listed.{Lists, Inside, PartListed, ComponentAt, MemberListed, MembersListed}
 use Rattle.rasn_de.specs.Constructed.{list_header}
 use Rattle.rasn_dynamic.specs.declared.span.Spans.{Spans}
 use Rattle.std.specs.Prelude.{IfOk}
-use Rattle.rasn_dynamic.proofs.Listed.{if_any, lists_start, lists_more, part_listed, value_listed, none_listed, choice_listed, alternative_listed, holder_listed, inside_listed, tagged_listed, elements_listed, component_present, component_absent, component_more, components_left_out, components_listed, member_listed, members_listed, header_listed, contents_same, components_same, members_same}
+use Rattle.rasn_dynamic.proofs.Listed.{if_any, lists_start, lists_more, part_listed, value_listed, none_listed, choice_listed, alternative_listed, holder_listed, inside_listed, tagged_listed, elements_listed, component_present, component_absent, component_more, components_left_out, components_listed, member_listed, unknown_passed, members_listed, header_listed, contents_same, components_same}
 use Rattle.rasn_dynamic.proofs.reader.+decode.Goals as goal
 use Rattle.rasn_de.specs.SequenceOf.{DecodesSized}
 use Rattle.rasn_de.specs.Set.{not_read}
@@ -216,34 +221,48 @@ pub decode_contents-returns-in_err-values-in-SetOf-clause-exact : goal.decode_co
 decode_contents-returns-in_err-values-in-SetOf-clause-exact g t c = rw (residual _ c.from_residual-in_err-values-in-SetOf.ensures.1, c.in-SetOf.is) c.in_err-values-in-SetOf.ensures.reads
 
 pub decode_contents-decode_set-requires : goal.decode_contents-decode_set-requires
-decode_contents-decode_set-requires g t c = λ κs o. (
-  search rules,
-  (
-    search rules,
-    (
-      rw c.deref-in-Set-2.ensures.value (set_lawful _ _ (subst (λ n. IsReadable (type_by (shape_of_type c.args.types.now c.args.below) n)) c.in-Set.is c.requires.lawful)),
-      (c.in_ok-found-in-Set.ensures.ok ∙ ap nones (c.deref-in-Set.ensures.value ∙ sym c.deref-in-Set-2.ensures.value), c.requires.clear),
-    ),
-  ),
-)
+decode_contents-decode_set-requires g t c = λ κs o.
+    let f = shape_of_type c.args.types.now c.args.below in
+    let same = c.named_components-extensible.ensures.named ∙ ap (named_components f) c.deref-in-Set.ensures.value in (
+      search rules,
+      (
+        search rules,
+        (
+          named_lawful f c.in-Set.tag c.in-Set.components.items c.named_components-extensible.result.0.now same (subst (λ n. IsReadable (type_by f n)) c.in-Set.is c.requires.lawful),
+          (c.in_ok-found-in-Set.ensures.ok, c.requires.clear),
+        ),
+      ),
+    )
+
+pub decode_contents-returns-in_ok-values-in-Set-clause-exact : goal.decode_contents-returns-in_ok-values-in-Set-clause-exact
+decode_contents-returns-in_ok-values-in-Set-clause-exact g t c =
+    let f = shape_of_type c.args.types.now c.args.below in
+    let same = c.named_components-extensible.ensures.named ∙ ap (named_components f) c.deref-in-Set.ensures.value in
+    let marked = c.named_components-extensible.ensures.extensible ∙ ap (is_extensible f) c.deref-in-Set.ensures.value in
+    let w = c.in_ok-values-in-Set.ensures.exact in
+    rw c.in-Set.is (items w.0, items_made _ c.in_ok-values-in-Set.values w.0 w.1, tt, set_made f c.named_components-extensible.result.1 _ c.in-Set.components marked same _ _ c.in-Set.name c.in-Set.tag w.0 w.2)
+
+pub decode_contents-returns-in_err-values-in-Set-clause-exact : goal.decode_contents-returns-in_err-values-in-Set-clause-exact
+decode_contents-returns-in_err-values-in-Set-clause-exact g t c =
+    let f = shape_of_type c.args.types.now c.args.below in
+    let same = c.named_components-extensible.ensures.named ∙ ap (named_components f) c.deref-in-Set.ensures.value in
+    let marked = c.named_components-extensible.ensures.extensible ∙ ap (is_extensible f) c.deref-in-Set.ensures.value in
+    rw (residual _ c.from_residual-in_err-values-in-Set.ensures.1, c.in-Set.is) (set_fails f c.named_components-extensible.result.1 _ c.in-Set.components marked same _ _ c.in-Set.name c.in-Set.tag _ c.in_err-values-in-Set.ensures.exact)
+
+pub decode_contents-returns-in_ok-values-in-Set-clause-fits : goal.decode_contents-returns-in_ok-values-in-Set-clause-fits
+decode_contents-returns-in_ok-values-in-Set-clause-fits g t c = λ k.
+    let f = shape_of_type c.args.types.now c.args.below in
+    let same = c.named_components-extensible.ensures.named ∙ ap (named_components f) c.deref-in-Set.ensures.value in
+    let marked = c.named_components-extensible.ensures.extensible ∙ ap (is_extensible f) c.deref-in-Set.ensures.value in
+    rw c.in-Set.is (are_items (ComponentsFit (Fits c.args.types.now c.args.below) c.in-Set.components.items) c.in_ok-values-in-Set.values
+    (members_fit c.args.types.now c.args.below c.in-Set.components.items c.in_ok-values-in-Set.values.items
+    (named_so f c.named_components-extensible.result.1 c.named_components-extensible.result.0.now c.in-Set.components.items marked same (λ b l. MembersFit (Fits c.args.types.now c.args.below) b l c.in_ok-values-in-Set.values.items) (c.in_ok-values-in-Set.ensures.fits k))))
 
 pub decode_contents-unreachable-requires : goal.decode_contents-unreachable-requires
 decode_contents-unreachable-requires g t c = none_holds c.args.ty.now c.in_default.not-Tagged c.in_default.not-Sequence c.in_default.not-Set c.in_default.not-SequenceOf c.in_default.not-SetOf c.requires.holds
 
-pub decode_contents-returns-in_ok-values-in-Set-clause-exact : goal.decode_contents-returns-in_ok-values-in-Set-clause-exact
-decode_contents-returns-in_ok-values-in-Set-clause-exact g t c =
-    let w = c.in_ok-values-in-Set.ensures.exact in
-    rw c.in-Set.is (items w.0, items_made _ c.in_ok-values-in-Set.values w.0 w.1, tt, set_made (shape_of_type c.args.types.now c.args.below) _ c.in-Set.components c.deref-in-Set-2.ensures.value _ _ c.in-Set.name c.in-Set.tag w.0 w.2)
-
-pub decode_contents-returns-in_err-values-in-Set-clause-exact : goal.decode_contents-returns-in_err-values-in-Set-clause-exact
-decode_contents-returns-in_err-values-in-Set-clause-exact g t c = rw (residual _ c.from_residual-in_err-values-in-Set.ensures.1, c.in-Set.is) (set_fails (shape_of_type c.args.types.now c.args.below) _ c.in-Set.components c.deref-in-Set-2.ensures.value _ _ c.in-Set.name c.in-Set.tag _ c.in_err-values-in-Set.ensures.exact)
-
 pub decode_contents-returns-in_err-found-in-Set-clause-exact : goal.decode_contents-returns-in_err-found-in-Set-clause-exact
 decode_contents-returns-in_err-found-in-Set-clause-exact g t c = rw (residual _ c.from_residual-in_err-found-in-Set.ensures.1, c.in-Set.is) (set_runs_out (shape_of_type c.args.types.now c.args.below) c.in-Set.name c.in-Set.tag c.in-Set.components _ _ c.in_err-found-in-Set.ensures.err)
-
-pub decode_contents-returns-in_ok-values-in-Set-clause-fits : goal.decode_contents-returns-in_ok-values-in-Set-clause-fits
-decode_contents-returns-in_ok-values-in-Set-clause-fits g t c = λ k.
-    rw c.in-Set.is (are_items (ComponentsFit (Fits c.args.types.now c.args.below) c.in-Set.components.items) c.in_ok-values-in-Set.values (rw (← c.deref-in-Set-2.ensures.value) (c.in_ok-values-in-Set.ensures.fits k)))
 
 -- ---- elements
 
@@ -823,42 +842,55 @@ pub decode_set-loop-last-init : goal.decode_set-loop-last-init
 decode_set-loop-last-init g t c = (
   (
     held (nones c.args.components.now),
+    [],
     nones_held _ c.args.components.now _ c.requires.1.1.1.1.0,
-    none_read (components_by (shape_of_type c.args.types.now c.args.below) c.args.components.now) (names_of c.args.components.now) _ _ (nones_come (shape_of_type c.args.types.now c.args.below) c.args.components.now (nones c.args.components.now) refl),
+    (λ k. ap (map tree_of) c.new-unknown.ensures.items),
+    none_read c.args.extensible (components_by (shape_of_type c.args.types.now c.args.below) c.args.components.now) (names_of c.args.components.now) _ _ [] (nones_come (shape_of_type c.args.types.now c.args.below) c.args.components.now (nones c.args.components.now) refl) refl,
+    (λ x. refl),
   ),
   nones_fit _ c.args.components.now _ c.requires.1.1.1.1.0,
+  (λ k. subst (EachFits AreOctets) (sym c.new-unknown.ensures.items) tt),
   c.requires.1.1.1.1.1,
   0,
-  lists_start (λ b k. MemberListed (shape_of_type c.args.types.now c.args.below) c.args.below (Inside c.args.types.now c.args.below) c.args.components.now b) 0 c.args.decoder.now _ refl,
+  lists_start (λ b k. MemberListed (shape_of_type c.args.types.now c.args.below) c.args.below (Inside c.args.types.now c.args.below) c.args.extensible c.args.components.now b) 0 c.args.decoder.now _ refl,
 )
 
 pub decode_set-loop-last-smaller : goal.decode_set-loop-last-smaller
 decode_set-loop-last-smaller g t c =
-    member_shorter _ _ _ c.loop-last.found.items c.decode_set_component.new.found.items c.loop-last.invariant.0.0 c.loop-last.decoder _ _ c.loop-last.invariant.0.1 c.in_ok-next.ensures.next
+    let i = c.loop-last.invariant.0 in
+    member_shorter _ c.args.extensible (components_by (shape_of_type c.args.types.now c.args.below) c.args.components.now) (names_of c.args.components.now) c.loop-last.found.items c.decode_set_component.new.found.items c.loop-last.unknown.items c.decode_set_component.new.unknown.items i.0 i.1 c.loop-last.decoder _ _ i.2 i.3 c.in_ok-next.ensures.next
 
 pub decode_set-returns-in_err-last-clause-exact : goal.decode_set-returns-in_err-last-clause-exact
 decode_set-returns-in_err-last-clause-exact g t c =
     let at = c.loop-last in
-    rw (residual _ c.from_residual.ensures.1) (untold (components_by (shape_of_type c.args.types.now c.args.below) c.args.components.now) _ c.args.decoder.now at.decoder at.last at.twice _ at.invariant.0.2 items c.loop-last-test.ensures _ c.in_err-last.ensures)
+    rw (residual _ c.from_residual.ensures.1) (inl (untold c.args.extensible (components_by (shape_of_type c.args.types.now c.args.below) c.args.components.now) (names_of c.args.components.now) c.args.decoder.now at.decoder at.last at.twice _ _ at.invariant.0.4 items c.loop-last-test.ensures _ c.in_err-last.ensures))
 
 pub decode_set-returns-in_err-next-clause-exact : goal.decode_set-returns-in_err-next-clause-exact
 decode_set-returns-in_err-next-clause-exact g t c =
     let at = c.loop-last in
     let i = at.invariant.0 in
-    let w = c.in_err-next.ensures.next i.0 i.1 in
+    let w = c.in_err-next.ensures.next i.0 i.1 i.2 i.3 in
     rw (residual _ c.from_residual-in_err-next.ensures.1)
-    (next_fails (components_by (shape_of_type c.args.types.now c.args.below) c.args.components.now) _ c.args.decoder.now at.decoder at.last at.twice _ i.2 items c.loop-last-test.ensures _ c.in_ok-last.ensures _ _ w.0 w.2)
+    (inl (next_fails c.args.extensible (components_by (shape_of_type c.args.types.now c.args.below) c.args.components.now) (names_of c.args.components.now) c.args.decoder.now at.decoder at.last at.twice _ _ i.4 items c.loop-last-test.ensures _ c.in_ok-last.ensures _ _ w.0 w.1 w.4))
 
 pub decode_set-loop-last-preserved : goal.decode_set-loop-last-preserved
 decode_set-loop-last-preserved g t c =
     let at = c.loop-last in
     let i = at.invariant.0 in
-    let w = c.in_ok-next.ensures.next i.0 i.1 in (
-      (w.0, w.1, rw c.or-twice.ensures (next_passes (components_by (shape_of_type c.args.types.now c.args.below) c.args.components.now) _ c.args.decoder.now at.decoder at.last at.twice _ i.2 c.loop-last-test.ensures _ c.in_ok-last.ensures _ _ _ w.2)),
+    let w = c.in_ok-next.ensures.next i.0 i.1 i.2 i.3 in (
+      (
+        w.0,
+        w.1,
+        w.2,
+        w.3,
+        rw c.or-twice.ensures (next_passes c.args.extensible (components_by (shape_of_type c.args.types.now c.args.below) c.args.components.now) (names_of c.args.components.now) c.args.decoder.now at.decoder at.last at.twice _ _ i.4 c.loop-last-test.ensures _ c.in_ok-last.ensures _ _ _ _ w.4),
+        none_unknown c.args.extensible (components_by (shape_of_type c.args.types.now c.args.below) c.args.components.now) (names_of c.args.components.now) i.0 w.0 i.1 w.1 at.decoder _ _ w.4 i.5,
+      ),
       c.in_ok-next.ensures.found,
+      (λ k. c.in_ok-next.ensures.octets k (at.invariant.2 k)),
       c.in_ok-next.ensures.told,
-      at.invariant.3 + 1,
-      lists_more (λ b k. MemberListed (shape_of_type c.args.types.now c.args.below) c.args.below (Inside c.args.types.now c.args.below) c.args.components.now b) at.invariant.3 c.args.decoder.now at.decoder _ _ _ _ at.invariant.4 c.in_ok-next.ensures.listed,
+      at.invariant.4 + 1,
+      lists_more (λ b k. MemberListed (shape_of_type c.args.types.now c.args.below) c.args.below (Inside c.args.types.now c.args.below) c.args.extensible c.args.components.now b) at.invariant.4 c.args.decoder.now at.decoder _ _ _ _ at.invariant.5 c.in_ok-next.ensures.listed,
     )
 
 pub decode_set-returns-in-Some-clause-exact : goal.decode_set-returns-in-Some-clause-exact
@@ -868,12 +900,33 @@ decode_set-returns-in-Some-clause-exact g t c =
     let ps = (components_by (shape_of_type c.args.types.now c.args.below) c.args.components.now) in
     let names = names_of c.args.components.now in
     let h : at.twice ≡ Some c.in-Some.repeated = search rules in
-    one_twice ps names items c.args.decoder.now at.decoder at.last i.0 c.loop-last-test.ensures c.in-Some.repeated
-    (subst (λ z. ReadTo ps names c.args.decoder.now at.decoder at.last z i.0) h i.2) _
-    (subst (λ z. IsNamedError (IsDuplicateField (text c.in-Some.repeated)) z c.duplicate_field.result) c.codec.ensures c.duplicate_field.ensures)
+    inl (one_twice c.args.extensible ps names items c.args.decoder.now at.decoder at.last i.0 i.1 c.loop-last-test.ensures c.in-Some.repeated
+    (subst (λ z. ReadTo c.args.extensible ps names c.args.decoder.now at.decoder at.last z i.0 i.1) h i.4) _
+    (subst (λ z. IsNamedError (IsDuplicateField (text c.in-Some.repeated)) z c.duplicate_field.result) c.codec.ensures c.duplicate_field.ensures))
 
 pub decode_set-gather-requires : goal.decode_set-gather-requires
 decode_set-gather-requires g t c = found_length _ c.args.components.now _ c.loop-last.invariant.1
+
+pub decode_set-returns-in_err-values-clause-exact : goal.decode_set-returns-in_err-values-clause-exact
+decode_set-returns-in_err-values-clause-exact g t c =
+    let at = c.loop-last in
+    let i = at.invariant.0 in
+    let ps = (components_by (shape_of_type c.args.types.now c.args.below) c.args.components.now) in
+    let names = names_of c.args.components.now in
+    let h : at.twice ≡ None = search rules in
+    let e = c.in_err-values.field-0.0 in
+    rw (residual _ c.from_residual-in_err-values.ensures.1)
+    (members_lack c.args.extensible ps names c.args.decoder.now at.decoder at.last i.0 i.1 c.loop-last-test.ensures (subst (λ z. ReadTo c.args.extensible ps names c.args.decoder.now at.decoder at.last z i.0 i.1) h i.4) e
+    (lacks_part _ (shape_of_type c.args.types.now c.args.below) c.args.components.now at.decoder.rule at.found.items i.0 e i.2 c.in_err-values.ensures.gathers))
+
+pub decode_set-returns-in_err-push-clause-exact : goal.decode_set-returns-in_err-push-clause-exact
+decode_set-returns-in_err-push-clause-exact g t c =
+    let at = c.loop-last in
+    let i = at.invariant.0 in
+    let ps = (components_by (shape_of_type c.args.types.now c.args.below) c.args.components.now) in
+    let names = names_of c.args.components.now in
+    rw (residual _ c.from_residual-in_err-push.ensures.1)
+    (inr (c.in_err-push.ensures.kind, members_keep c.args.extensible ps names c.args.decoder.now at.decoder at.last i.0 i.1 at.twice i.4))
 
 pub decode_set-returns-clause-exact : goal.decode_set-returns-clause-exact
 decode_set-returns-clause-exact g t c =
@@ -882,34 +935,70 @@ decode_set-returns-clause-exact g t c =
     let ps = (components_by (shape_of_type c.args.types.now c.args.below) c.args.components.now) in
     let names = names_of c.args.components.now in
     let h : at.twice ≡ None = search rules in
-    let n = found_length _ c.args.components.now _ at.invariant.1 in
-    makes_parts _ (shape_of_type c.args.types.now c.args.below) c.args.components.now _ at.found.items i.0 c.gather.result c.args.decoder.now at.decoder (DecodesSetPartContents ps items names) n i.1 c.gather.ensures.gathers
-    (λ q m. once_read ps names items c.args.decoder.now at.decoder at.last i.0 c.loop-last-test.ensures (subst (λ z. ReadTo ps names c.args.decoder.now at.decoder at.last z i.0) h i.2) q m)
+    let a : (c.args.extensible ≡ true → g.M.Made.KEEP ≡ true → c.if-extensible.values.items ≡ c.in_ok-values.values.items ++ Items c.loop-last.unknown ∷ []) × (c.args.extensible ≡ false → c.if-extensible.values.items ≡ c.in_ok-values.values.items) =
+    elim c.if-extensible.branch [
+      | decode_set-then-extensible+in_ok-push w ↦ ((λ e k. ap (λ (v : Vec Value Global). v.items) w.values-is ∙ w.in_ok-push.ensures.ok k), λ e. absurd (true≢false (sym w.if-extensible.true ∙ e)))
+      | decode_set-else-extensible w ↦ ((λ e k. absurd (true≢false (sym e ∙ w.if-extensible.false))), λ e. ap (λ (v : Vec Value Global). v.items) w.values-is)
+    ] in
+    let m = made_parts _ (shape_of_type c.args.types.now c.args.below) c.args.components.now at.decoder.rule at.found.items i.0 c.in_ok-values.values (found_length _ c.args.components.now _ at.invariant.1) i.2 c.in_ok-values.ensures.gathers in (
+      set_trees c.args.extensible m.0 i.1,
+      all_trees c.args.extensible _ c.in_ok-values.values.items c.if-extensible.values.items m.0 i.1 at.unknown m.1 i.3 a.0 a.1,
+      members_made c.args.extensible ps names c.args.decoder.now at.decoder at.last i.0 i.1 c.loop-last-test.ensures (subst (λ z. ReadTo c.args.extensible ps names c.args.decoder.now at.decoder at.last z i.0 i.1) h i.4) m.0 m.2 i.5,
+    )
 
 pub decode_set-returns-clause-fits : goal.decode_set-returns-clause-fits
-decode_set-returns-clause-fits g t c = λ k. gathered_fit (Fits c.args.types.now c.args.below) _ k c.args.components.now _ c.loop-last.found.items _ (found_kept _ (Fits c.args.types.now c.args.below) k c.args.components.now c.loop-last.found.items c.loop-last.invariant.1) c.gather.ensures.gathers
+decode_set-returns-clause-fits g t c = λ k.
+    let at = c.loop-last in
+    let a : (c.args.extensible ≡ true → g.M.Made.KEEP ≡ true → c.if-extensible.values.items ≡ c.in_ok-values.values.items ++ Items c.loop-last.unknown ∷ []) × (c.args.extensible ≡ false → c.if-extensible.values.items ≡ c.in_ok-values.values.items) =
+    elim c.if-extensible.branch [
+      | decode_set-then-extensible+in_ok-push w ↦ ((λ e k. ap (λ (v : Vec Value Global). v.items) w.values-is ∙ w.in_ok-push.ensures.ok k), λ e. absurd (true≢false (sym w.if-extensible.true ∙ e)))
+      | decode_set-else-extensible w ↦ ((λ e k. absurd (true≢false (sym e ∙ w.if-extensible.false))), λ e. ap (λ (v : Vec Value Global). v.items) w.values-is)
+    ] in
+    all_fit (Fits c.args.types.now c.args.below) c.args.extensible c.args.components.now c.in_ok-values.values.items c.if-extensible.values.items at.unknown
+    (gathered_fit (Fits c.args.types.now c.args.below) g.M.Made.KEEP k c.args.components.now at.decoder.rule at.found.items (Ok c.in_ok-values.values) (found_kept g.M.Made.KEEP (Fits c.args.types.now c.args.below) k c.args.components.now at.found.items at.invariant.1) c.in_ok-values.ensures.gathers)
+    (at.invariant.2 k) (λ e. a.0 e k) a.1
+
+pub decode_set-returns-in_err-values-clause-rules : goal.decode_set-returns-in_err-values-clause-rules
+decode_set-returns-in_err-values-clause-rules g t c = rw (residual _ c.from_residual-in_err-values.ensures.1) (c.in_err-values.ensures.rules ∙ read_rules c.args.extensible (components_by (shape_of_type c.args.types.now c.args.below) c.args.components.now) (names_of c.args.components.now) _ _ _ _ _ _ c.loop-last.invariant.0.4)
+
+pub decode_set-returns-in_err-push-clause-rules : goal.decode_set-returns-in_err-push-clause-rules
+decode_set-returns-in_err-push-clause-rules g t c = rw (residual _ c.from_residual-in_err-push.ensures.1) (c.in_err-push.ensures.rules ∙ read_rules c.args.extensible (components_by (shape_of_type c.args.types.now c.args.below) c.args.components.now) (names_of c.args.components.now) _ _ _ _ _ _ c.loop-last.invariant.0.4)
 
 pub decode_set-returns-in_err-last-clause-rules : goal.decode_set-returns-in_err-last-clause-rules
-decode_set-returns-in_err-last-clause-rules g t c = rw (residual _ c.from_residual.ensures.1) (order_rules _ c.loop-last.decoder _ c.in_err-last.ensures ∙ read_rules (components_by (shape_of_type c.args.types.now c.args.below) c.args.components.now) _ _ _ _ _ _ c.loop-last.invariant.0.2)
+decode_set-returns-in_err-last-clause-rules g t c = rw (residual _ c.from_residual.ensures.1) (order_rules _ c.loop-last.decoder _ c.in_err-last.ensures ∙ read_rules c.args.extensible (components_by (shape_of_type c.args.types.now c.args.below) c.args.components.now) (names_of c.args.components.now) _ _ _ _ _ _ c.loop-last.invariant.0.4)
 
 pub decode_set-returns-in_err-next-clause-rules : goal.decode_set-returns-in_err-next-clause-rules
-decode_set-returns-in_err-next-clause-rules g t c = rw (residual _ c.from_residual-in_err-next.ensures.1) (c.in_err-next.ensures.rules ∙ read_rules (components_by (shape_of_type c.args.types.now c.args.below) c.args.components.now) _ _ _ _ _ _ c.loop-last.invariant.0.2)
+decode_set-returns-in_err-next-clause-rules g t c = rw (residual _ c.from_residual-in_err-next.ensures.1) (c.in_err-next.ensures.rules ∙ read_rules c.args.extensible (components_by (shape_of_type c.args.types.now c.args.below) c.args.components.now) (names_of c.args.components.now) _ _ _ _ _ _ c.loop-last.invariant.0.4)
 
 pub decode_set-returns-in-Some-clause-rules : goal.decode_set-returns-in-Some-clause-rules
-decode_set-returns-in-Some-clause-rules g t c = c.duplicate_field.ensures.0 ∙ c.codec.ensures ∙ read_rules (components_by (shape_of_type c.args.types.now c.args.below) c.args.components.now) _ _ _ _ _ _ c.loop-last.invariant.0.2
-
-pub decode_set-returns-clause-rules : goal.decode_set-returns-clause-rules
-decode_set-returns-clause-rules g t c = subst (λ z. IfErr c.gather.result (λ e. e.codec ≡ z)) (read_rules (components_by (shape_of_type c.args.types.now c.args.below) c.args.components.now) _ _ _ _ _ _ c.loop-last.invariant.0.2) c.gather.ensures.rules
+decode_set-returns-in-Some-clause-rules g t c = c.duplicate_field.ensures.0 ∙ c.codec.ensures ∙ read_rules c.args.extensible (components_by (shape_of_type c.args.types.now c.args.below) c.args.components.now) (names_of c.args.components.now) _ _ _ _ _ _ c.loop-last.invariant.0.4
 
 -- ---- one of them
 
 pub decode_set_component-returns-in_err-tag-clause-next : goal.decode_set_component-returns-in_err-tag-clause-next
 decode_set_component-returns-in_err-tag-clause-next g t c =
-    rw (residual _ c.from_residual.ensures.1) (λ slots h. (slots, h, next_unpeeked (components_by (shape_of_type c.args.types.now c.args.below) c.args.components.now) (names_of c.args.components.now) slots slots _ _ c.in_err-tag.ensures.exact))
+    rw (residual _ c.from_residual.ensures.1) (member_unpeeked _ c.args.extensible (components_by (shape_of_type c.args.types.now c.args.below) c.args.components.now) (names_of c.args.components.now) c.args.found.now.items c.args.unknown.now.items _ _ _ c.in_err-tag.ensures.exact refl)
+
+pub decode_set_component-returns-then-not-extensible-clause-next : goal.decode_set_component-returns-then-not-extensible-clause-next
+decode_set_component-returns-then-not-extensible-clause-next g t c =
+    member_none _ c.args.extensible (components_by (shape_of_type c.args.types.now c.args.below) c.args.components.now) (names_of c.args.components.now) c.args.found.now.items c.args.unknown.now.items _ _ c.in_ok-tag.tag c.in_ok-tag.ensures.next c.in_default.ensures (search rules) c.no_valid_choice.result refl
+
+pub decode_set_component-returns-in_err-other-clause-next : goal.decode_set_component-returns-in_err-other-clause-next
+decode_set_component-returns-in_err-other-clause-next g t c =
+    rw (residual _ c.from_residual-in_err-other.ensures.1)
+    (unknown_unread _ c.args.extensible (components_by (shape_of_type c.args.types.now c.args.below) c.args.components.now) (names_of c.args.components.now) c.args.found.now.items c.args.unknown.now.items _ _ c.in_ok-tag.tag c.in_ok-tag.ensures.next c.in_default.ensures (search rules) c.in_err-other.field-0.0 c.in_err-other.ensures.reads)
+
+pub decode_set_component-returns-in_err-push-clause-next : goal.decode_set_component-returns-in_err-push-clause-next
+decode_set_component-returns-in_err-push-clause-next g t c =
+    rw (residual _ c.from_residual-in_err-push.ensures.1)
+    (unknown_left _ c.args.extensible (components_by (shape_of_type c.args.types.now c.args.below) c.args.components.now) (names_of c.args.components.now) c.args.found.now.items c.args.unknown.now.items _ _ c.in_err-push.field-0.0 c.in_err-push.ensures.kind (call_keeps c.in_ok-other.ensures.reads) _)
 
 pub decode_set_component-returns-in_default-clause-next : goal.decode_set_component-returns-in_default-clause-next
 decode_set_component-returns-in_default-clause-next g t c =
-    λ slots h. (slots, h, next_unknown (components_by (shape_of_type c.args.types.now c.args.below) c.args.components.now) (names_of c.args.components.now) slots slots _ c.in_ok-tag.tag c.in_ok-tag.ensures.next c.in_default.ensures c.no_valid_choice.result)
+    unknown_kept _ c.args.extensible (components_by (shape_of_type c.args.types.now c.args.below) c.args.components.now) (names_of c.args.components.now) c.args.found.now.items c.args.unknown.now.items _ _ c.in_ok-tag.tag c.in_ok-tag.ensures.next c.in_default.ensures (search rules) c.in_ok-other.other c.in_ok-other.ensures.reads _ c.in_ok-push.ensures.ok
+
+pub decode_set_component-returns-in_default-clause-octets : goal.decode_set_component-returns-in_default-clause-octets
+decode_set_component-returns-in_default-clause-octets g t c = λ k h. each_more AreOctets c.args.unknown.now.items _ c.in_ok-other.other (c.in_ok-push.ensures.ok k) h c.in_ok-other.ensures.fits
 
 pub decode_set_component-decode_present-requires : goal.decode_set_component-decode_present-requires
 decode_set_component-decode_present-requires g t c = λ κs o. (search rules, (search rules, (part_lawful (shape_of_type c.args.types.now c.args.below) c.args.components.now c.in-Some.number c.in-Some.component.now c.requires.1.1.1.0 c.in-Some.ensures.0, c.requires.1.1.1.1.1)))
@@ -917,17 +1006,13 @@ decode_set_component-decode_present-requires g t c = λ κs o. (search rules, (s
 pub decode_set_component-returns-in_err-value-clause-next : goal.decode_set_component-returns-in_err-value-clause-next
 decode_set_component-returns-in_err-value-clause-next g t c =
     rw (residual _ c.from_residual-in_err-value.ensures.1)
-    (λ slots h. (slots, h, next_unread (shape_of_type c.args.types.now c.args.below) c.args.components.now c.in-Some.number c.in-Some.component.now c.in_ok-tag.tag c.requires.1.1.1.0 c.in-Some.ensures _ _ c.in_ok-tag.ensures.next c.in_err-value.field-0.0 slots slots c.in_err-value.ensures.reads))
+    (member_unread (shape_of_type c.args.types.now c.args.below) c.args.components.now c.in-Some.number c.in-Some.component.now c.in_ok-tag.tag c.requires.1.1.1.0 c.in-Some.ensures _ _ c.in_ok-tag.ensures.next _ c.args.extensible c.args.found.now.items c.args.unknown.now.items c.in_err-value.field-0.0 c.in_err-value.ensures.reads)
 
 pub decode_set_component-returns-then-remaining-left-clause-next : goal.decode_set_component-returns-then-remaining-left-clause-next
 decode_set_component-returns-then-remaining-left-clause-next g t c =
     let w = c.in_ok-value.ensures.reads in
-    λ slots h. (
-      slots,
-      h,
-      next_idle (shape_of_type c.args.types.now c.args.below) c.args.components.now c.in-Some.number c.in-Some.component.now c.in_ok-tag.tag c.requires.1.1.1.0 c.in-Some.ensures _ _ c.in_ok-tag.ensures.next w.0 w.2
-          slots slots _ (ap length c.remaining-left.ensures.value) (sym (ap length c.remaining.ensures.value) ∙ c.if-remaining-left.true) c.extra.result c.extra.ensures,
-    )
+    member_idle (shape_of_type c.args.types.now c.args.below) c.args.components.now c.in-Some.number c.in-Some.component.now c.in_ok-tag.tag c.requires.1.1.1.0 c.in-Some.ensures _ _ c.in_ok-tag.ensures.next _ c.args.extensible c.args.found.now.items c.args.unknown.now.items w.0 w.2
+    _ (ap length c.remaining-left.ensures.value) (sym (ap length c.remaining.ensures.value) ∙ c.if-remaining-left.true) c.extra.result c.extra.ensures
 
 pub decode_set_component-put-requires : goal.decode_set_component-put-requires
 decode_set_component-put-requires g t c = rw (found_length _ c.args.components.now _ c.requires.1.1.1.1.0) (got_below c.args.components.now c.in-Some.number c.in-Some.component.now c.in-Some.ensures.0)
@@ -935,8 +1020,8 @@ decode_set_component-put-requires g t c = rw (found_length _ c.args.components.n
 pub decode_set_component-returns-clause-next : goal.decode_set_component-returns-clause-next
 decode_set_component-returns-clause-next g t c =
     let w = c.in_ok-value.ensures.reads in
-    λ slots h. next_put (shape_of_type c.args.types.now c.args.below) c.args.components.now c.in-Some.number c.in-Some.component.now c.in_ok-tag.tag c.requires.1.1.1.0 c.in-Some.ensures _ _ c.in_ok-tag.ensures.next w.0 w.2
-    _ c.in_ok-value.value w.1 c.args.found.now.items slots h (rw (found_length _ c.args.components.now _ c.requires.1.1.1.1.0) (got_below c.args.components.now c.in-Some.number c.in-Some.component.now c.in-Some.ensures.0)) _ (ap length c.remaining-left.ensures.value)
+    member_put (shape_of_type c.args.types.now c.args.below) c.args.components.now c.in-Some.number c.in-Some.component.now c.in_ok-tag.tag c.requires.1.1.1.0 c.in-Some.ensures _ _ c.in_ok-tag.ensures.next _ c.args.extensible c.args.found.now.items c.args.unknown.now.items w.0 w.2
+    c.in_ok-value.value w.1 (rw (found_length _ c.args.components.now _ c.requires.1.1.1.1.0) (got_below c.args.components.now c.in-Some.number c.in-Some.component.now c.in-Some.ensures.0)) _ (ap length c.remaining-left.ensures.value)
     (λ e. c.if-remaining-left.false (ap length c.remaining.ensures.value ∙ e)) _ _ (rw (← c.as_str.ensures.value) c.put.ensures)
 
 pub decode_set_component-returns-clause-found : goal.decode_set_component-returns-clause-found
@@ -947,19 +1032,13 @@ pub decode_set_component-returns-in_err-tag-clause-rules : goal.decode_set_compo
 decode_set_component-returns-in_err-tag-clause-rules g t c = rw (residual _ c.from_residual.ensures.1) (peek_rules c.args.decoder.now _ c.in_err-tag.ensures.exact)
 
 pub decode_set_component-returns-in_err-tag-clause-unknown : goal.decode_set_component-returns-in_err-tag-clause-unknown
-decode_set_component-returns-in_err-tag-clause-unknown g t c = rw (residual _ c.from_residual.ensures.1) (λ tag n others. absurd (c.in_err-tag.ensures.next tag n))
-
-pub decode_set_component-returns-in_default-clause-rules : goal.decode_set_component-returns-in_default-clause-rules
-decode_set_component-returns-in_default-clause-rules g t c = c.no_valid_choice.ensures.0 ∙ c.codec.ensures
-
-pub decode_set_component-returns-in_default-clause-unknown : goal.decode_set_component-returns-in_default-clause-unknown
-decode_set_component-returns-in_default-clause-unknown g t c = λ tag n others. (rw (← c.codec.ensures) c.no_valid_choice.ensures, refl)
+decode_set_component-returns-in_err-tag-clause-unknown g t c = rw (residual _ c.from_residual.ensures.1) (λ x tag n others. absurd (c.in_err-tag.ensures.next tag n))
 
 pub decode_set_component-returns-in_err-value-clause-unknown : goal.decode_set_component-returns-in_err-value-clause-unknown
-decode_set_component-returns-in_err-value-clause-unknown g t c = rw (residual _ c.from_residual-in_err-value.ensures.1) (λ tag n others. absurd (others (subst (IsFirstOf (components_by (shape_of_type c.args.types.now c.args.below) c.args.components.now)) (next_one c.args.decoder.now.rest c.in_ok-tag.tag tag c.in_ok-tag.ensures.next n) (first_of_part (shape_of_type c.args.types.now c.args.below) c.in_ok-tag.tag c.args.components.now c.in-Some.number c.in-Some.component.now c.in-Some.ensures.0 c.in-Some.ensures.1))))
+decode_set_component-returns-in_err-value-clause-unknown g t c = rw (residual _ c.from_residual-in_err-value.ensures.1) (λ x tag n others. absurd (others (subst (IsFirstOf (components_by (shape_of_type c.args.types.now c.args.below) c.args.components.now)) (next_one c.args.decoder.now.rest c.in_ok-tag.tag tag c.in_ok-tag.ensures.next n) (first_of_part (shape_of_type c.args.types.now c.args.below) c.in_ok-tag.tag c.args.components.now c.in-Some.number c.in-Some.component.now c.in-Some.ensures.0 c.in-Some.ensures.1))))
 
 pub decode_set_component-returns-then-remaining-left-clause-unknown : goal.decode_set_component-returns-then-remaining-left-clause-unknown
-decode_set_component-returns-then-remaining-left-clause-unknown g t c = λ tag n others. absurd (others (subst (IsFirstOf (components_by (shape_of_type c.args.types.now c.args.below) c.args.components.now)) (next_one c.args.decoder.now.rest c.in_ok-tag.tag tag c.in_ok-tag.ensures.next n) (first_of_part (shape_of_type c.args.types.now c.args.below) c.in_ok-tag.tag c.args.components.now c.in-Some.number c.in-Some.component.now c.in-Some.ensures.0 c.in-Some.ensures.1)))
+decode_set_component-returns-then-remaining-left-clause-unknown g t c = λ x tag n others. absurd (others (subst (IsFirstOf (components_by (shape_of_type c.args.types.now c.args.below) c.args.components.now)) (next_one c.args.decoder.now.rest c.in_ok-tag.tag tag c.in_ok-tag.ensures.next n) (first_of_part (shape_of_type c.args.types.now c.args.below) c.in_ok-tag.tag c.args.components.now c.in-Some.number c.in-Some.component.now c.in-Some.ensures.0 c.in-Some.ensures.1)))
 
 pub decode_set_component-returns-then-remaining-left-clause-rules : goal.decode_set_component-returns-then-remaining-left-clause-rules
 decode_set_component-returns-then-remaining-left-clause-rules g t c = codec_is c.extra.ensures ∙ same_rules c.in_ok-value.ensures.reads.2.0.stays
@@ -1013,7 +1092,11 @@ decode_contents-returns-in_err-values-in-Sequence-clause-told g t c =
 
 pub decode_contents-returns-in_err-values-in-Set-clause-told : goal.decode_contents-returns-in_err-values-in-Set-clause-told
 decode_contents-returns-in_err-values-in-Set-clause-told g t c =
-    rw (residual _ c.from_residual-in_err-values-in-Set.ensures.1, c.in-Set.is) (λ f q. subst (λ l. IsFaultIn c.args.types.now c.args.below (IsMemberAt (shape_of_type c.args.types.now c.args.below) l c.args.decoder.now) c.args.decoder.now c.args.decoder.now c.in_err-values-in-Set.field-0.0 f) c.deref-in-Set-2.ensures.value (c.in_err-values-in-Set.ensures.told f q))
+    let f = shape_of_type c.args.types.now c.args.below in
+    let same = c.named_components-extensible.ensures.named ∙ ap (named_components f) c.deref-in-Set.ensures.value in
+    let marked = c.named_components-extensible.ensures.extensible ∙ ap (is_extensible f) c.deref-in-Set.ensures.value in
+    rw (residual _ c.from_residual-in_err-values-in-Set.ensures.1, c.in-Set.is)
+    (λ x q. named_so f c.named_components-extensible.result.1 c.named_components-extensible.result.0.now c.in-Set.components.items marked same (λ b l. IsFaultIn c.args.types.now c.args.below (IsMemberAt f b l c.args.decoder.now) c.args.decoder.now c.args.decoder.now c.in_err-values-in-Set.field-0.0 x) (c.in_err-values-in-Set.ensures.told x q))
 
 pub decode_contents-returns-in_err-values-in-SequenceOf-clause-told : goal.decode_contents-returns-in_err-values-in-SequenceOf-clause-told
 decode_contents-returns-in_err-values-in-SequenceOf-clause-told g t c =
@@ -1062,11 +1145,11 @@ decode_present-returns-in_err-value-clause-told g t c =
 pub decode_set-returns-in_err-next-clause-told : goal.decode_set-returns-in_err-next-clause-told
 decode_set-returns-in_err-next-clause-told g t c =
     let at = c.loop-last in
-    let k = at.invariant.0.2 in
-    let s = choice (components_by (shape_of_type c.args.types.now c.args.below) c.args.components.now) in
+    let k = at.invariant.0.4 in
+    let s = choice_by c.args.extensible (components_by (shape_of_type c.args.types.now c.args.below) c.args.components.now) in
     let q = turns_keep s (λ (z : Tree). z) c.args.decoder.now k.0 at.decoder (forgotten (DecodesTree s) c.args.decoder.now k.0 k.1 at.decoder k.2) in
     rw (residual _ c.from_residual-in_err-next.ensures.1)
-    (λ f e. further c.args.types.now c.args.below _ _ c.args.decoder.now at.decoder _ f q.0 q.1 (member_behind (shape_of_type c.args.types.now c.args.below) c.args.components.now c.args.decoder.now at.decoder k.0 k.1 k.2) (c.in_err-next.ensures.told f e))
+    (λ f e. further c.args.types.now c.args.below _ _ c.args.decoder.now at.decoder _ f q.0 q.1 (member_behind (shape_of_type c.args.types.now c.args.below) c.args.extensible c.args.components.now c.args.decoder.now at.decoder k.0 k.1 k.2) (c.in_err-next.ensures.told f e))
 
 pub decode_set_component-returns-in_err-value-clause-told : goal.decode_set_component-returns-in_err-value-clause-told
 decode_set_component-returns-in_err-value-clause-told g t c =
@@ -1166,7 +1249,11 @@ decode_contents-returns-in_err-values-in-Sequence-clause-itself g t c =
 
 pub decode_contents-returns-in_err-values-in-Set-clause-itself : goal.decode_contents-returns-in_err-values-in-Set-clause-itself
 decode_contents-returns-in_err-values-in-Set-clause-itself g t c =
-    rw (residual _ c.from_residual-in_err-values-in-Set.ensures.1, c.in-Set.is) (λ n. subst (λ l. StopsInSet (shape_of_type c.args.types.now c.args.below) l c.args.decoder.now c.in_err-values-in-Set.field-0.0) c.deref-in-Set-2.ensures.value (c.in_err-values-in-Set.ensures.itself n))
+    let f = shape_of_type c.args.types.now c.args.below in
+    let same = c.named_components-extensible.ensures.named ∙ ap (named_components f) c.deref-in-Set.ensures.value in
+    let marked = c.named_components-extensible.ensures.extensible ∙ ap (is_extensible f) c.deref-in-Set.ensures.value in
+    rw (residual _ c.from_residual-in_err-values-in-Set.ensures.1, c.in-Set.is)
+    (λ n. named_so f c.named_components-extensible.result.1 c.named_components-extensible.result.0.now c.in-Set.components.items marked same (λ b l. StopsInSet f b l c.args.decoder.now c.in_err-values-in-Set.field-0.0) (c.in_err-values-in-Set.ensures.itself n))
 
 pub decode_contents-returns-in_err-found-in-Set-clause-itself : goal.decode_contents-returns-in_err-found-in-Set-clause-itself
 decode_contents-returns-in_err-found-in-Set-clause-itself g t c =
@@ -1273,36 +1360,49 @@ decode_present-returns-then-means_same-clause-itself g t c =
 pub decode_set-returns-in_err-last-clause-itself : goal.decode_set-returns-in_err-last-clause-itself
 decode_set-returns-in_err-last-clause-itself g t c =
     let at = c.loop-last in
-    let k = at.invariant.0.2 in
-    let stays = came_stays (choice (components_by (shape_of_type c.args.types.now c.args.below) c.args.components.now)) (λ (z : Tree). z) c.args.decoder.now at.decoder k.0 k.1 k.2 in
+    let k = at.invariant.0.4 in
+    let stays = came_stays (choice_by c.args.extensible (components_by (shape_of_type c.args.types.now c.args.below) c.args.components.now)) (λ (z : Tree). z) c.args.decoder.now at.decoder k.0 k.1 k.2 in
     rw (residual _ c.from_residual.ensures.1)
-    (λ n. inr (k.0, k.1, at.decoder, k.2, inr (_, look_refused c.args.decoder.now at.decoder stays k.1 at.last k.3 (λ there x after. StopsAtMember (shape_of_type c.args.types.now c.args.below) c.args.components.now there x) _ c.in_err-last.ensures)))
+    (λ n. inr (k.0, k.1, at.decoder, k.2, inr (_, look_refused c.args.decoder.now at.decoder stays k.1 at.last k.3 (λ there x after. StopsAtMember (shape_of_type c.args.types.now c.args.below) c.args.extensible c.args.components.now there x) _ c.in_err-last.ensures)))
 
 pub decode_set-returns-in_err-next-clause-itself : goal.decode_set-returns-in_err-next-clause-itself
 decode_set-returns-in_err-next-clause-itself g t c =
     let at = c.loop-last in
-    let k = at.invariant.0.2 in
-    let stays = came_stays (choice (components_by (shape_of_type c.args.types.now c.args.below) c.args.components.now)) (λ (z : Tree). z) c.args.decoder.now at.decoder k.0 k.1 k.2 in
+    let k = at.invariant.0.4 in
+    let stays = came_stays (choice_by c.args.extensible (components_by (shape_of_type c.args.types.now c.args.below) c.args.components.now)) (λ (z : Tree). z) c.args.decoder.now at.decoder k.0 k.1 k.2 in
     rw (residual _ c.from_residual-in_err-next.ensures.1)
     (λ n. inr (k.0, k.1, at.decoder, k.2, inr (at.decoder, not_read (look_follows c.args.decoder.now at.decoder stays k.1 at.last k.3 _ c.in_ok-last.ensures) (c.in_err-next.ensures.itself n))))
 
 pub decode_set-returns-in-Some-clause-itself : goal.decode_set-returns-in-Some-clause-itself
 decode_set-returns-in-Some-clause-itself g t c =
-    let k = c.loop-last.invariant.0.2 in
+    let k = c.loop-last.invariant.0.4 in
     λ n. inr (k.0, k.1, c.loop-last.decoder, k.2, inl c.loop-last-test.ensures)
 
-pub decode_set-returns-clause-itself : goal.decode_set-returns-clause-itself
-decode_set-returns-clause-itself g t c =
-    let k = c.loop-last.invariant.0.2 in
-    set_ends (shape_of_type c.args.types.now c.args.below) c.args.components.now c.args.decoder.now c.loop-last.decoder k.0 k.1 k.2 c.loop-last-test.ensures _ _
+pub decode_set-returns-in_err-values-clause-itself : goal.decode_set-returns-in_err-values-clause-itself
+decode_set-returns-in_err-values-clause-itself g t c =
+    let k = c.loop-last.invariant.0.4 in
+    rw (residual _ c.from_residual-in_err-values.ensures.1) (λ n. inr (k.0, k.1, c.loop-last.decoder, k.2, inl c.loop-last-test.ensures))
+
+pub decode_set-returns-in_err-push-clause-itself : goal.decode_set-returns-in_err-push-clause-itself
+decode_set-returns-in_err-push-clause-itself g t c =
+    rw (residual _ c.from_residual-in_err-push.ensures.1) (λ n. inl c.in_err-push.ensures.kind)
 
 pub decode_set_component-returns-in_err-tag-clause-itself : goal.decode_set_component-returns-in_err-tag-clause-itself
 decode_set_component-returns-in_err-tag-clause-itself g t c =
     rw (residual _ c.from_residual.ensures.1) (λ n. inl c.in_err-tag.ensures.exact)
 
-pub decode_set_component-returns-in_default-clause-itself : goal.decode_set_component-returns-in_default-clause-itself
-decode_set_component-returns-in_default-clause-itself g t c =
-    λ n. inr (inl (c.in_ok-tag.tag, c.in_ok-tag.ensures.next, c.in_default.ensures))
+pub decode_set_component-returns-then-not-extensible-clause-itself : goal.decode_set_component-returns-then-not-extensible-clause-itself
+decode_set_component-returns-then-not-extensible-clause-itself g t c =
+    λ n. inr (inl ((c.in_ok-tag.tag, c.in_ok-tag.ensures.next, c.in_default.ensures), λ next. none_passed c.args.extensible _ c.args.decoder.now next (search rules) _))
+
+pub decode_set_component-returns-in_err-other-clause-itself : goal.decode_set_component-returns-in_err-other-clause-itself
+decode_set_component-returns-in_err-other-clause-itself g t c =
+    rw (residual _ c.from_residual-in_err-other.ensures.1)
+    (λ n. inr (inl ((c.in_ok-tag.tag, c.in_ok-tag.ensures.next, c.in_default.ensures), none_unread c.args.extensible _ c.args.decoder.now _ c.in_err-other.field-0.0 c.in_err-other.ensures.reads)))
+
+pub decode_set_component-returns-in_err-push-clause-itself : goal.decode_set_component-returns-in_err-push-clause-itself
+decode_set_component-returns-in_err-push-clause-itself g t c =
+    rw (residual _ c.from_residual-in_err-push.ensures.1) (λ n. inr (inl ((c.in_ok-tag.tag, c.in_ok-tag.ensures.next, c.in_default.ensures), λ next d. c.in_err-push.ensures.kind)))
 
 pub decode_set_component-returns-in_err-value-clause-itself : goal.decode_set_component-returns-in_err-value-clause-itself
 decode_set_component-returns-in_err-value-clause-itself g t c =
@@ -1387,7 +1487,11 @@ decode_contents-returns-in_ok-values-in-Sequence-clause-listed g t c =
 
 pub decode_contents-returns-in_ok-values-in-Set-clause-listed : goal.decode_contents-returns-in_ok-values-in-Set-clause-listed
 decode_contents-returns-in_ok-values-in-Set-clause-listed g t c =
-    contents_same (shape_of_type c.args.types.now c.args.below) c.args.below (Inside c.args.types.now c.args.below) c.args.ty.now _ c.args.decoder.now _ _ c.in-Set.is (members_same (shape_of_type c.args.types.now c.args.below) c.args.below (Inside c.args.types.now c.args.below) _ _ c.args.decoder.now _ _ c.deref-in-Set-2.ensures.value c.in_ok-values-in-Set.ensures.listed)
+    let f = shape_of_type c.args.types.now c.args.below in
+    let same = c.named_components-extensible.ensures.named ∙ ap (named_components f) c.deref-in-Set.ensures.value in
+    let marked = c.named_components-extensible.ensures.extensible ∙ ap (is_extensible f) c.deref-in-Set.ensures.value in
+    contents_same f c.args.below (Inside c.args.types.now c.args.below) c.args.ty.now _ c.args.decoder.now _ _ c.in-Set.is
+    (named_so f c.named_components-extensible.result.1 c.named_components-extensible.result.0.now c.in-Set.components.items marked same (λ b l. Lists (λ n es. MembersListed f c.args.below (Inside c.args.types.now c.args.below) b l n c.args.decoder.now es) c.args.spans.now c.decode_set.new.spans) c.in_ok-values-in-Set.ensures.listed)
 
 pub decode_contents-returns-in_ok-values-in-SequenceOf-clause-listed : goal.decode_contents-returns-in_ok-values-in-SequenceOf-clause-listed
 decode_contents-returns-in_ok-values-in-SequenceOf-clause-listed g t c = contents_same (shape_of_type c.args.types.now c.args.below) c.args.below (Inside c.args.types.now c.args.below) c.args.ty.now _ c.args.decoder.now _ _ c.in-SequenceOf.is c.in_ok-values-in-SequenceOf.ensures.listed
@@ -1424,10 +1528,15 @@ decode_component-returns-in-Ok-false-clause-listed g t c =
 
 pub decode_set-returns-clause-listed : goal.decode_set-returns-clause-listed
 decode_set-returns-clause-listed g t c =
-    if_any _ (members_listed (shape_of_type c.args.types.now c.args.below) c.args.below (Inside c.args.types.now c.args.below) c.args.components.now c.loop-last.invariant.3 c.args.decoder.now c.loop-last.decoder _ _ c.loop-last-test.ensures c.loop-last.invariant.4)
+    members_listed (shape_of_type c.args.types.now c.args.below) c.args.below (Inside c.args.types.now c.args.below) c.args.extensible c.args.components.now c.loop-last.invariant.4 c.args.decoder.now c.loop-last.decoder _ _ c.loop-last-test.ensures c.loop-last.invariant.5
 
 pub decode_set_component-returns-clause-listed : goal.decode_set_component-returns-clause-listed
-decode_set_component-returns-clause-listed g t c = member_listed (shape_of_type c.args.types.now c.args.below) c.args.below (Inside c.args.types.now c.args.below) c.args.components.now c.in-Some.number c.in-Some.component.now c.args.decoder.now _ _ _ c.in-Some.ensures.0 c.in_ok-value.ensures.listed
+decode_set_component-returns-clause-listed g t c = member_listed (shape_of_type c.args.types.now c.args.below) c.args.below (Inside c.args.types.now c.args.below) c.args.extensible c.args.components.now c.in-Some.number c.in-Some.component.now c.args.decoder.now _ _ _ c.in-Some.ensures.0 c.in_ok-value.ensures.listed
+
+pub decode_set_component-returns-in_default-clause-listed : goal.decode_set_component-returns-in_default-clause-listed
+decode_set_component-returns-in_default-clause-listed g t c =
+    unknown_passed (shape_of_type c.args.types.now c.args.below) c.args.below (Inside c.args.types.now c.args.below) c.args.extensible c.args.components.now c.args.decoder.now _ _
+    (passed_unknown c.args.extensible _ c.args.decoder.now _ c.in_ok-tag.tag c.in_ok-tag.ensures.next c.in_default.ensures (search rules) (tree_of c.in_ok-other.other) c.in_ok-other.ensures.reads)
 
 pub decode_compared-returns-in-None-clause-listed : goal.decode_compared-returns-in-None-clause-listed
 decode_compared-returns-in-None-clause-listed g t c =

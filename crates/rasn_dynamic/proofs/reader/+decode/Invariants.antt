@@ -1,4 +1,4 @@
-use Rattle.std.proofs.Common.{◌≡◌, ℕ, ◌+◌, ◌*◌, ◌++◌, map, length, List, Option, None, true}
+use Rattle.std.proofs.Common.{◌≡◌, ℕ, ◌+◌, ◌*◌, ◌++◌, map, length, List, [], Option, None, true, false}
 use Rattle.rasn_schema.specs.declared.types.Component.{Component}
 use Rattle.rasn_dynamic.specs.Faults.{ComponentsInTurn}
 use Rattle.rasn_types.specs.Tags.{IsStrict}
@@ -11,7 +11,8 @@ use Rattle.rasn_schema.specs.Trees.{tree_of}
 use Rattle.rasn_schema.specs.Shapes.{shape_of_type, components_by, AreReadable}
 use Rattle.rasn_dynamic.specs.Inside.{DecodesTree}
 use Rattle.rasn_dynamic.specs.Calls.{names_of, HoldsSlots}
-use Rattle.rasn_schema.specs.Fitting.{Fits, EachFits}
+use Rattle.rasn_schema.specs.Fitting.{Fits, EachFits, AreOctets}
+use Rattle.rasn_dynamic.specs.Sets.{HoldsUnknown}
 use Rattle.rasn_dynamic.specs.Found.{FoundFit}
 use Rattle.rasn_dynamic.specs.Listed.{Lists, Inside, InTurn, PartListed, ComponentAt, MemberListed}
 use Rattle.rasn_dynamic.proofs.Contents.{PartsSoFar}
@@ -94,10 +95,10 @@ abbrev pub decreases-decode_sequence-loop-rest : goal.decreases-decode_sequence-
 decreases-decode_sequence-loop-rest g l = length l.rest
 
 abbrev pub invariant-decode_set-loop-last : goal.invariant-decode_set-loop-last
-invariant-decode_set-loop-last g l = ((slots : List (Option Tree)) × HoldsSlots g.M.Made.KEEP l.found.items slots
-    × ReadTo (components_by (shape_of_type l.types l.below) l.components) (names_of l.components) l.fn.decoder l.decoder l.last l.twice slots)
-    × FoundFit (λ k v. g.M.Made.KEEP ≡ true → Fits l.types l.below k v) l.components l.found.items × (l.trace ≡ None)
-    × (n : ℕ) × Lists (λ b es. InTurn (λ k. MemberListed (shape_of_type l.types l.below) l.below (Inside l.types l.below) l.components b) n l.fn.decoder l.decoder es) l.fn.spans l.spans
+invariant-decode_set-loop-last g l = ((slots : List (Option Tree)) × (us : List Tree) × HoldsSlots g.M.Made.KEEP l.found.items slots × HoldsUnknown g.M.Made.KEEP l.unknown.items us
+    × ReadTo l.extensible (components_by (shape_of_type l.types l.below) l.components) (names_of l.components) l.fn.decoder l.decoder l.last l.twice slots us × (l.extensible ≡ false → us ≡ []))
+    × FoundFit (λ k v. g.M.Made.KEEP ≡ true → Fits l.types l.below k v) l.components l.found.items × (g.M.Made.KEEP ≡ true → EachFits AreOctets l.unknown.items) × (l.trace ≡ None)
+    × (n : ℕ) × Lists (λ b es. InTurn (λ k. MemberListed (shape_of_type l.types l.below) l.below (Inside l.types l.below) l.extensible l.components b) n l.fn.decoder l.decoder es) l.fn.spans l.spans
 
 abbrev pub decreases-decode_set-loop-last : goal.decreases-decode_set-loop-last
 decreases-decode_set-loop-last g l = length l.decoder.rest
