@@ -26,7 +26,7 @@ pub enum OpenTypes {
     /// They are what the reader of DER reads: of a value of any tag, a definite length.
     Unexamined,
     /// They are also well formed, as [`is_well_formed`](crate::der::is_well_formed) tells. So is each
-    /// unknown value at the end of an extensible SEQUENCE.
+    /// unknown value at the end of an extensible SEQUENCE; those of a SET aren't looked into.
     Examined,
 }
 
