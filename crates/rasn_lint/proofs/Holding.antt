@@ -9,10 +9,10 @@ use Rattle.rasn_types.specs.declared.types.tag.Tag.{Tag}
 use Rattle.rasn_types.specs.Tags.{Form, form, IsStrict}
 use Rattle.rasn_types.specs.Framing.{AreOctets, Ended, Frame, with_length, without_length, Extent, definite, indefinite, NextTag, CompleteEncoding}
 use Rattle.rasn_types.specs.Contents.{joined_lists}
-use Rattle.rasn_types.specs.Shapes.{Shape, Tree, Same, any, unknown, numbers, chosen, items, set_elements, absent, Presence as PartPresence, required, addition, optional_by, default_by, Key, looked_for, sought_by, sought_in, presences, IsFirst, IsAlwaysPresent}
-use Rattle.rasn_types.specs.Readings.{Reading, ReadsContents, definite_form, indefinite_form, ReadsMany, IsLeftOut, ReadsPart, ReadsInOrder, ReadsSeq, ReadsSet, ReadsChoice, AllMissing, HasRequired, presences_in, ByPart, IsMissing, IsNoDefault}
-use Rattle.rasn_types.specs.Grammar.{Reads, ReadsAny, parts_of, ReadsList, ReadsSetOf}
-use Rattle.rasn_types.specs.Lawful.{IsLawful, AreLawfulInOrder, AreLawfulByTag}
+use Rattle.rasn_types.specs.Shapes.{Shape, Tree, IsSetTree, Same, any, sorted_set, count, IsFirstOf, unknown, numbers, chosen, items, set_elements, absent, Presence as PartPresence, required, addition, optional_by, default_by, Key, looked_for, sought_by, sought_in, presences, IsFirst, IsAlwaysPresent}
+use Rattle.rasn_types.specs.Readings.{Reading, ReadsContents, definite_form, indefinite_form, ReadsMany, IsLeftOut, ReadsPart, ReadsInOrder, ReadsSeq, ReadsSortedSet, ReadsChoice, AllMissing, HasRequired, presences_in, ByPart, IsMissing, IsNoDefault}
+use Rattle.rasn_types.specs.Grammar.{Reads, ReadsAny, ReadsOpenChoice, parts_of, ReadsList, ReadsSetOf}
+use Rattle.rasn_types.specs.Lawful.{IsLawful, AreLawfulInOrder}
 use Rattle.rasn_types.proofs.Headers.Frames.{frame_one, next_one, not_ended}
 use Rattle.rasn_de.specs.Any.{ReadsOpenOctets}
 use Rattle.rasn_de.specs.State.{State}
@@ -36,11 +36,14 @@ use Rattle.rasn_schema.specs.FirstTags.{IsAlwaysThere}
 use Rattle.rasn_schema.proofs.Lists.{some_is}
 use Rattle.rasn_dynamic.specs.declared.span.Span.{Span}
 use Rattle.rasn_dynamic.specs.Listed.{GoesInside, InTurn, PartListed, ComponentListed, ComponentAt, ComponentsListed, MemberListed, AlternativeListed, ValueListed, PartsInside, Inside}
+use Rattle.rasn_dynamic.specs.Sets.{is_extensible, named_components, AreLawfulMembers}
 use Rattle.rasn_dynamic.specs.Calls.{is_required, any_required}
 use Rattle.rasn_dynamic.specs.SameParts.{AreReadableTypes}
 use Rattle.rasn_dynamic.proofs.OpenChoice.{first_alternative, tag_of_among, of_among}
-use Rattle.rasn_dynamic.proofs.Pieces.{only_part, by_tag_distinguished}
-use Rattle.rasn_dynamic.proofs.SameParts.{IsKnown, same_reading, unknown_read, not_at_end, not_absent, none_left, same_index, member_tagged, member_known, component_known, left_known, header_frame, known_type, readable_type}
+use Rattle.rasn_dynamic.proofs.Named.{named_is}
+use Rattle.rasn_dynamic.proofs.Members.{unknown_is}
+use Rattle.rasn_dynamic.proofs.Pieces.{only_part, first_of_part, member_is}
+use Rattle.rasn_dynamic.proofs.SameParts.{IsKnown, same_reading, unknown_read, not_at_end, not_absent, none_left, same_index, component_known, left_known, header_frame, known_type, readable_type}
 use Rattle.rasn_lint.specs.Untyped.{HasOpen}
 
 -- ---- what parts hold of a tree
@@ -74,8 +77,15 @@ module _ (rule : Codec) (f : ℕ → Shape) (H : ℕ → Tree → List Span → 
   HoldsComponents [] ts es = (ts ≡ []) × (es ≡ [])
   HoldsComponents (p ∷ ps) ts es = (t : Tree) × (us : List Tree) × (mine : List Span) × (others : List Span) × (ts ≡ t ∷ us) × (es ≡ mine ++ others) × HoldsComponent p t mine × HoldsComponents ps us others
 
+  -- A component of a SET that is named; one that isn't has no part.
   abbrev pub HoldsMember : List Component → Tree → List Span → Type 0
-  HoldsMember ps r es = (k : ℕ) × (p : Component) × (u : Tree) × (Some p ≡ slice_get ps k) × (r ≡ chosen k u) × HoldsWritten p u es
+  HoldsMember ps r es = ((k : ℕ) × (p : Component) × (u : Tree) × (Some p ≡ slice_get ps k) × (r ≡ chosen k u) × HoldsWritten p u es)
+      ⊎ ((u : Tree) × (r ≡ chosen (count (components_by f ps)) u) × (es ≡ []))
+
+  -- The readings of a SET's components in their order, and of unknown ones.
+  abbrev pub HoldsMembers : Bool → List Component → Tree → List Span → Type 0
+  HoldsMembers extensible ps t es =
+      (rs : List Tree) × (ts : List Tree) × (us : List Tree) × IsSetTree extensible ts us t × ByPart 0 (presences (components_by f ps)) rs ts × Along (HoldsMember ps) rs es
 
   -- Of the value with this part, without it.
   abbrev pub HoldsInside : «Type» → Span → Tree → List Span → Type 0
@@ -86,7 +96,7 @@ module _ (rule : Codec) (f : ℕ → Shape) (H : ℕ → Tree → List Span → 
   HoldsInside (Tagged tag id) e t es = H id.0 t es
   HoldsInside (Choice name ks) e t es = (k : ℕ) × (a : Alternative) × (u : Tree) × (Some a ≡ slice_get ks.items k) × (t ≡ chosen k u) × H a.type_id.0 u es
   HoldsInside (Sequence tag ps) e t es = (ts : List Tree) × (t ≡ items ts) × HoldsComponents ps.items ts es
-  HoldsInside (Set name tag ps) e t es = (rs : List Tree) × (ts : List Tree) × (t ≡ items ts) × ByPart 0 (presences (components_by f ps.items)) rs ts × Along (HoldsMember ps.items) rs es
+  HoldsInside (Set name tag ps) e t es = HoldsMembers (is_extensible f ps.items) (named_components f ps.items) t es
   HoldsInside (SequenceOf tag id c) e t es = (ts : List Tree) × (t ≡ items ts) × Along (H id.0) ts es
   HoldsInside (SetOf tag id c) e t es = (ts : List Tree) × (t ≡ set_elements (items ts)) × Along (H id.0) ts es
 
@@ -357,29 +367,72 @@ module _ (rule : Codec) (f : ℕ → Shape) (readable : (k : ℕ) → IsReadable
       let (u, e, own) = of_among rule depth c input tag (subst (NextTag (form rule) input) same n.1) (alternatives_by f ks) k (f a.type_id.0) lawful (first_alternative f ks tag k a first) t rest r in
       (k, a, u, first.0, e, (part_held a.type_id.0 k b s last es depth c input u rest x at own).0)
 
-  member_held : (ps : List Component) → AreLawfulByTag (components_by f ps) → (b : ℕ) (depth : ℕ) (c : Bool) (k0 : ℕ) (s next : State) (es : List Span) (input : List ℕ) (t : Tree) (rest : List ℕ)
-      → MemberListed f levels P ps b s next es → At s depth input → ReadsChoice rule 0 (parts_of rule (components_by f ps) depth c) input t rest → HoldsMember rule f H ps t es × At next depth rest
-  member_held ps are b depth c k0 s next es input t rest (k, a, p, x) at r =
-      let apart = by_tag_distinguished (components_by f ps) are in
-      let (j, d, u, q, e, (begin, own), other_value) = member_read rule f depth c input t rest ps 0 r in
-      let (tag, after, first) = begin in
-      let v = begins (f a.type_id.0) (member_known f ps k a are p).0 (member_tagged f ps k a are p) s.rule s.depth s.closing s.rest x.tree next.rest x.reads.exact.0 in
-      let other = subst (λ l. NextTag (form s.rule) l v.0) at.1 v.1 in
-      let mine = subst (IsFirst (f a.type_id.0)) (next_one input v.0 tag other after) v.2 in
-      let i : j ≡ k = same_index (components_by f ps) tag j k _ _ _ _ (only_part f tag ps j d apart (q, first)) (only_part f tag ps k a apart (p, mine)) in
-      let same : a ≡ d = some_is a d (p ∙ (ap (slice_get ps) (sym i) ∙ sym q)) in
-      let y = part_held d.type_id.0 k b s next es depth c input u rest (subst (λ (z : Component). PartListed f levels P z.type_id.0 k b s next es) same x) at own in
-      ((j, d, u, q, e ∙ ap (λ n. chosen n u) (omega arith), (y.0, λ strict. not_left (key_of (f d.type_id.0)) d.presence u (never_absent (f d.type_id.0) (member_known f ps j d are q).0 (member_known f ps j d are q).1 rule strict depth c input u rest own) (other_value strict))), y.1)
+  -- A component of a SET that is read by a rule, as one that is named or as an unknown one.
+  abbrev ReadsMember : List Component → ℕ → Bool → Reading Tree
+  ReadsMember ps depth c =
+      ReadsOpenChoice rule (IsFirstOf (components_by f ps)) (count (components_by f ps)) (ReadsChoice rule 0 (parts_of rule (components_by f ps) depth c))
 
-  members_held : (ps : List Component) → AreLawfulByTag (components_by f ps) → (b n : ℕ) (s last : State) (es : List Span) (depth : ℕ) (c closing : Bool) (input : List ℕ) (rs : List Tree) (rest : List ℕ)
-      → InTurn (λ k. MemberListed f levels P ps b) n s last es → Ended last.closing last.rest → At s depth input
-      → ReadsMany (ReadsChoice rule 0 (parts_of rule (components_by f ps) depth c)) closing input rs rest → Along (HoldsMember rule f H ps) rs es
-  members_held ps are b n s last es depth c closing input rs rest t e at r =
-      all_along depth (λ k. MemberListed f levels P ps b) (ReadsChoice rule 0 (parts_of rule (components_by f ps) depth c)) (HoldsMember rule f H ps)
-      (λ k s next es input t rest x at r. member_held ps are b depth c k s next es input t rest x at r)
-      (λ k s next es (j, p, is, x) closing e. not_at_end (f p.type_id.0) (member_known f ps j p are is).0 s.rule s.depth s.closing closing s.rest x.tree next.rest x.reads.exact.0 e)
-      (λ input t rest closing r e. let n = some_choice rule f depth c input t rest ps 0 r in not_ended closing input n.0 n.1 e)
-      n 0 s last es closing input rs rest (in_front (λ k. MemberListed f levels P ps b) n s last es t) e at r
+  module _ (extensible : Bool) (ps : List Component) (are : AreLawfulMembers (components_by f ps)) (b : ℕ) where
+    module _ (k : ℕ) (a : Component) (p : Some a ≡ slice_get ps k) (s next : State) (es : List Span) (x : PartListed f levels P a.type_id.0 k b s next es) where
+      -- The tag with which the component begins.
+      listed_tag : (tag : Tag) × NextTag (form s.rule) s.rest tag × IsFirst (f a.type_id.0) tag
+      listed_tag =
+          let m = member_is f ps k a are.0 p in
+          let v = begins (f a.type_id.0) m.1 m.0 s.rule s.depth s.closing s.rest x.tree next.rest x.reads.exact.0 in
+          (v.0, v.1, v.2)
+
+      named_held : (depth : ℕ) (c : Bool) (input : List ℕ) (t : Tree) (rest : List ℕ) → At s depth input → ReadsChoice rule 0 (parts_of rule (components_by f ps) depth c) input t rest → HoldsMember rule f H ps t es × At next depth rest
+      named_held depth c input t rest at r =
+          let (j, d, u, q, e, (begin, own), other_value) = member_read rule f depth c input t rest ps 0 r in
+          let (tag, after, first) = begin in
+          let v = listed_tag in
+          let other = subst (λ l. NextTag (form s.rule) l v.0) at.1 v.1 in
+          let mine = subst (IsFirst (f a.type_id.0)) (next_one input v.0 tag other after) v.2 in
+          let i : j ≡ k = same_index (components_by f ps) tag j k _ _ _ _ (only_part f tag ps j d are.1 (q, first)) (only_part f tag ps k a are.1 (p, mine)) in
+          let same : a ≡ d = some_is a d (p ∙ (ap (slice_get ps) (sym i) ∙ sym q)) in
+          let y = part_held d.type_id.0 k b s next es depth c input u rest (subst (λ (z : Component). PartListed f levels P z.type_id.0 k b s next es) same x) at own in
+          let known = member_is f ps j d are.0 q in
+          (inl (j, d, u, q, e ∙ ap (λ n. chosen n u) (omega arith), (y.0, λ strict. not_left (key_of (f d.type_id.0)) d.presence u (never_absent (f d.type_id.0) known.1 known.2 rule strict depth c input u rest own) (other_value strict))), y.1)
+
+    member_held : (depth : ℕ) (c : Bool) (k0 : ℕ) (s next : State) (es : List Span) (input : List ℕ) (t : Tree) (rest : List ℕ)
+        → MemberListed f levels P extensible ps b s next es → At s depth input → ReadsMember ps depth c input t rest → HoldsMember rule f H ps t es × At next depth rest
+    unfolding Reads
+    member_held depth c k0 s next es input t rest (inr (k, a, p, x)) at (inl r) = named_held k a p s next es x depth c input t rest at r
+    member_held depth c k0 s next es input t rest (inr (k, a, p, x)) at (inr (u, e, tag, n, others, r)) =
+        let v = listed_tag k a p s next es x in
+        let same = next_one input v.0 tag (subst (λ l. NextTag (form s.rule) l v.0) at.1 v.1) n in
+        absurd (others (subst (IsFirstOf (components_by f ps)) same (first_of_part f v.0 ps k a p v.2)))
+    member_held depth c k0 s next es input t rest (inl ((u, d), q)) at (inl r) =
+        let (tag, n, others) = (unknown_is (components_by f ps) s next extensible u d).other in
+        let (j, a, v, i, e, ((mine, after, first), own), z) = member_read rule f depth c input t rest ps 0 r in
+        let same = next_one input mine tag after (subst (λ l. NextTag (form s.rule) l tag) at.1 n) in
+        absurd (others (subst (IsFirstOf (components_by f ps)) same (first_of_part f mine ps j a i first)))
+    member_held depth c k0 s next es input t rest (inl ((u, d), q)) at (inr (v, e, tag, n, others, r)) =
+        let own = (unknown_is (components_by f ps) s next extensible u d).open_type in
+        let again : Reads rule (any None) s.depth c s.rest v rest = subst (λ l. Reads rule (any None) s.depth c l v rest) (sym at.1) r in
+        let octets = subst AreOctets (sym at.1) at.2 in
+        let same = same_reading (any None) (inl (tt, tt)) s next u own rule c v rest again in
+        let front = own.end.0 in
+        (inr (v, e, q), (ap (λ (z : State). z.depth) own.stays ∙ at.0, sym same.1, octets_back front rest (subst AreOctets (own.end.1 ∙ ap (λ z. front ++ z) (sym same.1)) octets)))
+
+    not_ended_listed : (k : ℕ) (s next : State) (es : List Span) → MemberListed f levels P extensible ps b s next es → (closing : Bool) → Ended closing s.rest → ⊥
+    not_ended_listed k s next es (inr (j, p, is, x)) closing e = not_at_end (f p.type_id.0) (member_is f ps j p are.0 is).1 s.rule s.depth s.closing closing s.rest x.tree next.rest x.reads.exact.0 e
+    not_ended_listed k s next es (inl ((u, d), q)) closing e =
+        not_at_end (any None) tt s.rule s.depth s.closing closing s.rest u next.rest (unknown_is (components_by f ps) s next extensible u d).open_type.exact.0 e
+
+    not_ended_read : (depth : ℕ) (c : Bool) (input : List ℕ) (t : Tree) (rest : List ℕ) (closing : Bool) → ReadsMember ps depth c input t rest → Ended closing input → ⊥
+    not_ended_read depth c input t rest closing (inl r) e = let n = some_choice rule f depth c input t rest ps 0 r in not_ended closing input n.0 n.1 e
+    not_ended_read depth c input t rest closing (inr (u, i, tag, n, r)) e = not_ended closing input tag n e
+
+    members_held : (n : ℕ) (s last : State) (es : List Span) (depth : ℕ) (c closing : Bool) (input : List ℕ) (rs : List Tree) (rest : List ℕ)
+        → InTurn (λ k. MemberListed f levels P extensible ps b) n s last es → Ended last.closing last.rest → At s depth input
+        → ReadsMany (ReadsMember ps depth c) closing input rs rest → Along (HoldsMember rule f H ps) rs es
+    members_held n s last es depth c closing input rs rest t e at r =
+        all_along depth (λ k. MemberListed f levels P extensible ps b) (ReadsMember ps depth c) (HoldsMember rule f H ps)
+        (λ k s next es input t rest x at r. member_held depth c k s next es input t rest x at r)
+        not_ended_listed
+        (λ input t rest closing r e. not_ended_read depth c input t rest closing r e)
+        n 0 s last es closing input rs rest (in_front (λ k. MemberListed f levels P extensible ps b) n s last es t) e at r
 
   -- Nothing is left: each component is absent.
   in_nothing : (depth : ℕ) (c closing : Bool) (qs : List Component) → any_required qs ≡ false → ((k : ℕ) (p : Component) → Some p ≡ slice_get qs k → IsKnown (f p.type_id.0))
@@ -449,10 +502,14 @@ module _ (rule : Codec) (f : ℕ → Shape) (readable : (k : ℕ) → IsReadable
       let (k, l, end, own, there) = into_contents (sequence_header tag) b a s inner depth input g at rule tag true (λ c. ReadsSeq rule (parts_of rule (components_by f ps.items) (depth - 1) c) c) t rest r.1 in
       sequence_held ps.items are.1 a inner es (depth - 1) k l t end x there own
   value_held (Set name tag ps) are b s e after es is (a, inner, g, (n, last, turns, ended)) depth c input t rest at q r =
+      let extensible = is_extensible f ps.items in
+      let named = named_components f ps.items in
+      let lawful : AreLawfulMembers (components_by f named) = subst AreLawfulMembers (sym (named_is f ps.items)) (are.1, are.2) in
+      let own : Reads rule (sorted_set extensible tag (components_by f named)) depth c input t rest = subst (λ z. Reads rule (sorted_set extensible tag z) depth c input t rest) (sym (named_is f ps.items)) r in
       let w = into_contents (sequence_header tag) b a s inner depth input g at rule tag true
-      (λ c. ReadsSet rule (presences (components_by f ps.items)) (ReadsChoice rule 0 (parts_of rule (components_by f ps.items) (depth - 1) c)) c) t rest r.1 in
-      let own = w.3 in
-      (own.0, own.1, own.2, own.4, members_held ps.items are.1 a n inner last es (depth - 1) w.0 w.0 w.1 own.0 w.2 turns ended w.4 own.3)
+      (λ c. ReadsSortedSet rule extensible (presences (components_by f named)) (count (components_by f named)) (ReadsMember named (depth - 1) c) c) t rest own.1 in
+      let (rs, ts, us, i, many, by, all, z) = w.3 in
+      (rs, ts, us, i, by, members_held extensible named lawful a n inner last es (depth - 1) w.0 w.0 w.1 rs w.2 turns ended w.4 many)
   value_held (SequenceOf tag id size) are b s e after es is (a, inner, g, (n, last, turns, ended)) depth c input t rest at q r =
       let w = into_contents (list_header tag) b a s inner depth input g at rule tag true (λ c. ReadsList size.size (Reads rule (f id.0) (depth - 2) c) c) t rest r.1 in
       let own = w.3 in

@@ -1,11 +1,11 @@
 -- The open types of a value are well formed, wherever they are written.
-use Rattle.std.proofs.Common.{◌≡◌, ◌⊎◌, inl, inr, ◌+◌, ℕ, zero, suc, List, [], ◌∷◌, ◌++◌, map, Some, refl, sym, ap, ◌∙◌, subst, arith, IsPermutation}
+use Rattle.std.proofs.Common.{◌≡◌, ◌⊎◌, inl, inr, ◌+◌, ℕ, zero, suc, Bool, true, false, List, [], ◌∷◌, ◌++◌, map, Some, refl, sym, ap, ◌∙◌, subst, arith, IsPermutation}
 use Rattle.std.specs.Prelude.{slice_get}
 use Rattle.std.specs.List.{AllByRecursion}
 use Rattle.rasn_types.specs.declared.types.codec.Codec.{Codec}
 use Rattle.rasn_types.specs.declared.types.codec.Codec.TheVariants.{Der}
 use Rattle.rasn_types.specs.declared.types.tag.Tag.{Tag}
-use Rattle.rasn_types.specs.Shapes.{Shape, Tree, Same, numbers, chosen, items, set_elements, joined, presences}
+use Rattle.rasn_types.specs.Shapes.{Shape, Tree, IsSetTree, Same, numbers, chosen, items, set_elements, joined, presences, count}
 use Rattle.rasn_types.specs.Order.{Each}
 use Rattle.rasn_types.specs.Readings.{NoneOf, OneOf, ByPart, IsMissing}
 use Rattle.rasn_types.proofs.SetOf.Same.{items_one, each_moved, same_sym}
@@ -19,11 +19,12 @@ use Rattle.rasn_schema.specs.Shapes.{shape_of_type, components_by, key_of, prese
 use Rattle.rasn_schema.specs.Trees.{tree_of}
 use Rattle.rasn_schema.proofs.Lists.{some_is}
 use Rattle.rasn_dynamic.specs.declared.span.Span.{Span}
+use Rattle.rasn_dynamic.specs.Sets.{is_extensible, named_components}
 use Rattle.rasn_lint.specs.Lint.{HasFormed}
 use Rattle.rasn_lint.specs.Untyped.{HasOpen}
 use Rattle.rasn_lint.specs.WellFormed.{IsWellFormed, AreEncodings}
 use Rattle.rasn_lint.proofs.Wholes.{wholes_formed, all_well_formed}
-use Rattle.rasn_lint.proofs.Holding.{Along, IsLeft, HoldsComponent, HoldsComponents, HoldsMember, HoldsInside, Holds, own_missing}
+use Rattle.rasn_lint.proofs.Holding.{Along, IsLeft, HoldsWritten, HoldsComponent, HoldsComponents, HoldsMember, HoldsInside, Holds, own_missing}
 
 -- ---- lists
 
@@ -98,6 +99,25 @@ one_in k t u rs o h = go (in_either (chosen k u) o.before (chosen k t ∷ o.afte
     go (inr (inl e)) = (chosen_one k k u t e).1
     go (inr (inr h)) = absurd (none_in k u o.after o.none_after h)
 
+-- Each element of a list is at its place in another, which may be longer.
+abbrev IsFront : List Tree → List Tree → Type 0
+IsFront ts full = (k : ℕ) (t : Tree) → Some t ≡ slice_get ts k → Some t ≡ slice_get full k
+
+in_longer : (ts us : List Tree) → IsFront ts (ts ++ us)
+in_longer [] us k t e = absurd cc
+in_longer (x ∷ ts) us zero t e = e
+in_longer (x ∷ ts) us (suc k) t e = in_longer ts us k t e
+
+-- What a SET is made of: the trees of its components, and perhaps one more, of the unknown ones.
+set_list : (extensible : Bool) (ts us : List Tree) (t : Tree) → IsSetTree extensible ts us t → (full : List Tree) × (t ≡ items full) × IsFront ts full
+set_list true ts us t e = (ts ++ (items us ∷ []), e, in_longer ts (items us ∷ []))
+set_list false ts us t (n, e) = (ts, e, λ k x h. h)
+
+count_apart : (f : ℕ → Shape) (ps : List Component) (k : ℕ) (p : Component) → Some p ≡ slice_get ps k → k ≡ count (components_by f ps) → ⊥
+count_apart f [] k p at e = cc
+count_apart f (q ∷ ps) zero p at e = cc
+count_apart f (q ∷ ps) (suc k) p at e = count_apart f ps k p at (omega (arith, e))
+
 -- What is read of a component, or that it is missing.
 by_part_at : (f : ℕ → Shape) (ps : List Component) (first k : ℕ) (rs ts : List Tree) (p : Component) → Some p ≡ slice_get ps k → ByPart first (presences (components_by f ps)) rs ts
     → (t : Tree) × (Some t ≡ slice_get ts k) × (OneOf (first + k) t rs ⊎ (NoneOf (first + k) rs × IsMissing (presence_in f p) t))
@@ -136,23 +156,24 @@ module _ (F : ℕ → Tree → Type 0) where
   abbrev pub FormedComponents : List Component → List Tree → Type 0
   FormedComponents ps ts = (k : ℕ) (p : Component) (t : Tree) → Some p ≡ slice_get ps k → Some t ≡ slice_get ts k → IsLeft (presence_of p.presence) t ⊎ F p.type_id.0 t
 
-  abbrev pub FormedIn : «Type» → Tree → Type 0
-  FormedIn (Leaf kind tag c names) t = Unit {0}
-  FormedIn (Enumerated tag ns) t = Unit {0}
-  FormedIn (Any tag) t = (x : List ℕ) → t ≡ numbers x → IsWellFormed x
-  FormedIn Unknown t = (xs : List (List ℕ)) → t ≡ items (map numbers xs) → AllByRecursion IsWellFormed xs
-  FormedIn (Tagged tag id) t = F id.0 t
-  FormedIn (Choice name ks) t = (k : ℕ) (a : Alternative) (u : Tree) → Some a ≡ slice_get ks.items k → t ≡ chosen k u → F a.type_id.0 u
-  FormedIn (Sequence tag ps) t = (ts : List Tree) → t ≡ items ts → FormedComponents ps.items ts
-  FormedIn (Set name tag ps) t = (ts : List Tree) → t ≡ items ts → FormedComponents ps.items ts
-  FormedIn (SequenceOf tag id c) t = (ts : List Tree) → t ≡ items ts → AllByRecursion (F id.0) ts
-  FormedIn (SetOf tag id c) t = (ts : List Tree) → t ≡ set_elements (items ts) → AllByRecursion (F id.0) ts
+  -- f gives the shape of the type with a number.
+  abbrev pub FormedIn : (ℕ → Shape) → «Type» → Tree → Type 0
+  FormedIn f (Leaf kind tag c names) t = Unit {0}
+  FormedIn f (Enumerated tag ns) t = Unit {0}
+  FormedIn f (Any tag) t = (x : List ℕ) → t ≡ numbers x → IsWellFormed x
+  FormedIn f Unknown t = (xs : List (List ℕ)) → t ≡ items (map numbers xs) → AllByRecursion IsWellFormed xs
+  FormedIn f (Tagged tag id) t = F id.0 t
+  FormedIn f (Choice name ks) t = (k : ℕ) (a : Alternative) (u : Tree) → Some a ≡ slice_get ks.items k → t ≡ chosen k u → F a.type_id.0 u
+  FormedIn f (Sequence tag ps) t = (ts : List Tree) → t ≡ items ts → FormedComponents ps.items ts
+  FormedIn f (Set name tag ps) t = (ts : List Tree) → t ≡ items ts → FormedComponents (named_components f ps.items) ts
+  FormedIn f (SequenceOf tag id c) t = (ts : List Tree) → t ≡ items ts → AllByRecursion (F id.0) ts
+  FormedIn f (SetOf tag id c) t = (ts : List Tree) → t ≡ set_elements (items ts) → AllByRecursion (F id.0) ts
 
 -- Each open type in the tree of a value of the type with the number is well formed, except in components that are left
--- out.
+-- out and in those of SETs that aren't named.
 unfoldable pub FormedTree : List «Type» → ℕ → ℕ → Tree → Type 0
 FormedTree types zero id t = Unit {0}
-FormedTree types (suc n) id t = (ty : «Type») → slice_get types id ≡ Some ty → FormedIn (λ k u. FormedTree types n k u) ty t
+FormedTree types (suc n) id t = (ty : «Type») → slice_get types id ≡ Some ty → FormedIn (λ k u. FormedTree types n k u) (shape_of_type types n) ty t
 
 -- ---- a value that is the same as that of parts whose open types are well formed
 
@@ -195,25 +216,27 @@ module _ (rule : Codec) (f : ℕ → Shape) (H : ℕ → Tree → List Span → 
   along_at R [] b r es (mine, others, is, h, more) q = (mine, h, (all_split Q mine others (subst (AllByRecursion Q) is q)).0)
   along_at R (x ∷ a) b r es (mine, others, is, h, more) q = along_at R a b r others more (all_split Q mine others (subst (AllByRecursion Q) is q)).1
 
-  members_kept : (ps : List Component) (rs ts us : List Tree) (es : List Span) → ByPart 0 (presences (components_by f ps)) rs ts → Along (HoldsMember rule f H ps) rs es → AllByRecursion Q es → Each Same ts us → FormedComponents F ps us
-  members_kept ps rs ts us es by along q each k p u at found = go (by_part_at f ps 0 k rs ts p at by)
+  members_kept : (ps : List Component) (rs ts full us : List Tree) (es : List Span) → IsFront ts full → ByPart 0 (presences (components_by f ps)) rs ts → Along (HoldsMember rule f H ps) rs es → AllByRecursion Q es → Each Same full us
+      → FormedComponents F ps us
+  members_kept ps rs ts full us es front by along q each k p u at found = go (by_part_at f ps 0 k rs ts p at by)
     where
       read : (t : Tree) → Same t u → OneOf (0 + k) t rs → F p.type_id.0 u
       read t s o = member (along_at (HoldsMember rule f H ps) o.before o.after (chosen (0 + k) t) es (subst (λ z. Along (HoldsMember rule f H ps) z es) o.is along) q)
         where
           member : (mine : List Span) × HoldsMember rule f H ps (chosen (0 + k) t) mine × AllByRecursion Q mine → F p.type_id.0 u
-          member (mine, (j, c, v, found, e, h), all) =
+          member (mine, inr (v, e, n), all) = absurd (count_apart f ps k p at (let o = chosen_one (0 + k) (count (components_by f ps)) t v e in omega (arith, o.0)))
+          member (mine, inl (j, c, v, found, e, h), all) =
               let o = chosen_one (0 + k) j t v e in
               let i : j ≡ k = omega (arith, o.0) in
               let same : c ≡ p = some_is c p (found ∙ (ap (slice_get ps) i ∙ sym at)) in
               subst (λ (z : Component). F z.type_id.0 u) same (below c.type_id.0 v mine h.0 all u (subst (λ z. Same z u) o.1 s))
 
       go : (t : Tree) × (Some t ≡ slice_get ts k) × (OneOf (0 + k) t rs ⊎ (NoneOf (0 + k) rs × IsMissing (presence_in f p) t)) → IsLeft (presence_of p.presence) u ⊎ F p.type_id.0 u
-      go (t, here, inl o) = inr (read t (beside Same ts us k t u each here found) o)
-      go (t, here, inr (n, m)) = inl (left_same p.presence t u (own_missing (key_of (f p.type_id.0)) p.presence t m) (beside Same ts us k t u each here found))
+      go (t, here, inl o) = inr (read t (beside Same full us k t u each (front k t here) found) o)
+      go (t, here, inr (n, m)) = inl (left_same p.presence t u (own_missing (key_of (f p.type_id.0)) p.presence t m) (beside Same full us k t u each (front k t here) found))
 
   inside_kept : (ty : «Type») (e : Span) (t : Tree) (es : List Span) → HoldsInside rule f H ty e t es → ((tag : Tag) (x : List ℕ) → ty ≡ Any tag → HasOpen tag e.octets.now x → IsWellFormed x)
-      → (ty ≡ Unknown → AreEncodings e.octets.now) → AllByRecursion Q es → (u : Tree) → Same t u → FormedIn F ty u
+      → (ty ≡ Unknown → AreEncodings e.octets.now) → AllByRecursion Q es → (u : Tree) → Same t u → FormedIn F f ty u
   inside_kept (Leaf kind tag c names) e t es h w v q u s = tt
   inside_kept (Enumerated tag ns) e t es h w v q u s = tt
   inside_kept (Any tag) e t es h w v q u s = λ x i. let back = same_sym t u s in w tag x refl ((h.1 x).0 (subst (λ z. Same z t) i back))
@@ -225,7 +248,7 @@ module _ (rule : Codec) (f : ℕ → Shape) (H : ℕ → Tree → List Span → 
   inside_kept (Tagged tag id) e t es h w v q u s = below id.0 t es h q u s
   inside_kept (Choice name ks) e t es (k, a, v, at, i, h) w m q u s = go (subst (λ z. Same z u) i s)
     where
-      go : Same (chosen k v) u → FormedIn F (Choice name ks) u
+      go : Same (chosen k v) u → FormedIn F f (Choice name ks) u
       go (z, g, s) = λ j c y found e.
           let o = chosen_one k j z y (sym g ∙ e) in
           let same : a ≡ c = some_is a c (at ∙ (ap (slice_get ks.items) o.0 ∙ sym found)) in
@@ -233,9 +256,11 @@ module _ (rule : Codec) (f : ℕ → Shape) (H : ℕ → Tree → List Span → 
   inside_kept (Sequence tag ps) e t es (ts, i, h) w v q u s = λ vs g.
       let (us, j, each) = items_alike ts u (subst (λ z. Same z u) i s) in
       subst (FormedComponents F ps.items) (items_one us vs (sym j ∙ g)) (components_kept ps.items ts us es h q each)
-  inside_kept (Set name tag ps) e t es (rs, ts, i, by, along) w v q u s = λ vs g.
-      let (us, j, each) = items_alike ts u (subst (λ z. Same z u) i s) in
-      subst (FormedComponents F ps.items) (items_one us vs (sym j ∙ g)) (members_kept ps.items rs ts us es by along q each)
+  inside_kept (Set name tag ps) e t es (rs, ts, unknown, i, by, along) w v q u s = λ vs g.
+      let (full, k, front) = set_list (is_extensible f ps.items) ts unknown t i in
+      let (us, j, each) = items_alike full u (subst (λ z. Same z u) k s) in
+      let named = named_components f ps.items in
+      subst (FormedComponents F named) (items_one us vs (sym j ∙ g)) (members_kept named rs ts full us es front by along q each)
   inside_kept (SequenceOf tag id c) e t es (ts, i, along) w v q u s = λ vs g.
       let (us, j, each) = items_alike ts u (subst (λ z. Same z u) i s) in
       subst (AllByRecursion (F id.0)) (items_one us vs (sym j ∙ g)) (each_kept id.0 ts us es along q each)
@@ -261,7 +286,7 @@ kept rule types zero id t es h q u s = tt
 kept rule types (suc n) id t es (e, inside, is, i, ty, at, h) q u s = λ tz found.
     let all = subst (AllByRecursion (HasFormed types)) is q in
     let same : ty ≡ tz = some_is ty tz (sym at ∙ found) in
-    subst (λ z. FormedIn (λ k u. FormedTree types n k u) z u) same
+    subst (λ z. FormedIn (λ k u. FormedTree types n k u) (shape_of_type types n) z u) same
     (inside_kept rule (shape_of_type types n) (λ k u more. Holds rule types n k u more) (λ k u. FormedTree types n k u) (HasFormed types) (λ k t es h q u s. kept rule types n k t es h q u s)
     ty e t inside h (formed_part types id e ty i at all.0) (formed_unknown types id e ty i at all.0) all.1 u s)
 
@@ -287,24 +312,32 @@ module _ (f : ℕ → Shape) (H : ℕ → Tree → List Span → Type 0) (F : �
       one (inr (h, n)) (inl l) = absurd (n tt l)
       one (inr (h, n)) (inr g) = below p.type_id.0 t mine h g
 
-  members_formed : (ps : List Component) (rs ts : List Tree) → ByPart 0 (presences (components_by f ps)) rs ts → FormedComponents F ps ts
+  members_formed : (ps : List Component) (rs ts full : List Tree) → IsFront ts full → ByPart 0 (presences (components_by f ps)) rs ts → FormedComponents F ps full
       → (qs : List Tree) → ((r : Tree) → In r qs → In r rs) → (es : List Span) → Along (HoldsMember Der f H ps) qs es → AllByRecursion Q es
-  members_formed ps rs ts by a [] within es h = none_formed es h
-  members_formed ps rs ts by a (r ∷ qs) within es (mine, others, is, (k, p, u, at, e, h), more) =
-      subst (AllByRecursion Q) (sym is) (all_both Q mine others (one (by_part_at f ps 0 k rs ts p at by)) (members_formed ps rs ts by a qs (λ x i. within x (inr i)) others more))
+  members_formed ps rs ts full front by a [] within es h = none_formed es h
+  members_formed ps rs ts full front by a (r ∷ qs) within es (mine, others, is, h, more) =
+      subst (AllByRecursion Q) (sym is) (all_both Q mine others (member h) (members_formed ps rs ts full front by a qs (λ x i. within x (inr i)) others more))
     where
-      read : In (chosen (0 + k) u) rs
-      read = subst (λ z. In z rs) (e ∙ ap (λ j. chosen j u) (omega arith)) (within r (inl refl))
-
-      one : (t : Tree) × (Some t ≡ slice_get ts k) × (OneOf (0 + k) t rs ⊎ (NoneOf (0 + k) rs × IsMissing (presence_in f p) t)) → AllByRecursion Q mine
-      one (t, here, inr (n, m)) = absurd (none_in (0 + k) u rs n read)
-      one (t, here, inl o) = formed (a k p u at (ap Some (one_in (0 + k) t u rs o read) ∙ here))
+      one : (k : ℕ) (p : Component) (u : Tree) → Some p ≡ slice_get ps k → r ≡ chosen k u → HoldsWritten Der f H p u mine
+          → (t : Tree) × (Some t ≡ slice_get ts k) × (OneOf (0 + k) t rs ⊎ (NoneOf (0 + k) rs × IsMissing (presence_in f p) t)) → AllByRecursion Q mine
+      one k p u at e h (t, here, x) = go x
         where
+          read : In (chosen (0 + k) u) rs
+          read = subst (λ z. In z rs) (e ∙ ap (λ j. chosen j u) (omega arith)) (within r (inl refl))
+
           formed : IsLeft (presence_of p.presence) u ⊎ F p.type_id.0 u → AllByRecursion Q mine
           formed (inl l) = absurd (h.1 tt l)
           formed (inr g) = below p.type_id.0 u mine h.0 g
 
-  inside_formed : (ty : «Type») (e : Span) (t : Tree) (es : List Span) → HoldsInside Der f H ty e t es → FormedIn F ty t → AllByRecursion Q es
+          go : OneOf (0 + k) t rs ⊎ (NoneOf (0 + k) rs × IsMissing (presence_in f p) t) → AllByRecursion Q mine
+          go (inr (n, m)) = absurd (none_in (0 + k) u rs n read)
+          go (inl o) = formed (a k p u at (front k u (ap Some (one_in (0 + k) t u rs o read) ∙ here)))
+
+      member : HoldsMember Der f H ps r mine → AllByRecursion Q mine
+      member (inr (u, e, n)) = none_formed mine n
+      member (inl (k, p, u, at, e, h)) = one k p u at e h (by_part_at f ps 0 k rs ts p at by)
+
+  inside_formed : (ty : «Type») (e : Span) (t : Tree) (es : List Span) → HoldsInside Der f H ty e t es → FormedIn F f ty t → AllByRecursion Q es
   inside_formed (Leaf kind tag c names) e t es h a = none_formed es h
   inside_formed (Enumerated tag ns) e t es h a = none_formed es h
   inside_formed (Any tag) e t es h a = none_formed es h.0
@@ -312,11 +345,13 @@ module _ (f : ℕ → Shape) (H : ℕ → Tree → List Span → Type 0) (F : �
   inside_formed (Tagged tag id) e t es h a = below id.0 t es h a
   inside_formed (Choice name ks) e t es (k, c, u, at, i, h) a = below c.type_id.0 u es h (a k c u at i)
   inside_formed (Sequence tag ps) e t es (ts, i, h) a = components_formed ps.items ts es h (a ts i)
-  inside_formed (Set name tag ps) e t es (rs, ts, i, by, along) a = members_formed ps.items rs ts by (a ts i) rs (λ r h. h) es along
+  inside_formed (Set name tag ps) e t es (rs, ts, us, i, by, along) a =
+      let (full, j, front) = set_list (is_extensible f ps.items) ts us t i in
+      members_formed (named_components f ps.items) rs ts full front by (a full j) rs (λ r h. h) es along
   inside_formed (SequenceOf tag id c) e t es (ts, i, along) a = each_formed id.0 ts es along (a ts i)
   inside_formed (SetOf tag id c) e t es (ts, i, along) a = each_formed id.0 ts es along (a ts i)
 
-open_formed : (f : ℕ → Shape) (H : ℕ → Tree → List Span → Type 0) (F : ℕ → Tree → Type 0) (ty : «Type») (e : Span) (t : Tree) (es : List Span) → HoldsInside Der f H ty e t es → FormedIn F ty t
+open_formed : (f : ℕ → Shape) (H : ℕ → Tree → List Span → Type 0) (F : ℕ → Tree → Type 0) (ty : «Type») (e : Span) (t : Tree) (es : List Span) → HoldsInside Der f H ty e t es → FormedIn F f ty t
     → (tag : Tag) (x : List ℕ) → ty ≡ Any tag → HasOpen tag e.octets.now x → IsWellFormed x
 open_formed f H F (Any own) e t es h a tag x i has =
     let same : tag ≡ own = cc in
@@ -331,7 +366,7 @@ open_formed f H F (Set name t0 ps) e t es h a tag x i has = absurd cc
 open_formed f H F (SequenceOf t0 id c) e t es h a tag x i has = absurd cc
 open_formed f H F (SetOf t0 id c) e t es h a tag x i has = absurd cc
 
-unknown_formed : (f : ℕ → Shape) (H : ℕ → Tree → List Span → Type 0) (F : ℕ → Tree → Type 0) (ty : «Type») (e : Span) (t : Tree) (es : List Span) → HoldsInside Der f H ty e t es → FormedIn F ty t → ty ≡ Unknown → AreEncodings e.octets.now
+unknown_formed : (f : ℕ → Shape) (H : ℕ → Tree → List Span → Type 0) (F : ℕ → Tree → Type 0) (ty : «Type») (e : Span) (t : Tree) (es : List Span) → HoldsInside Der f H ty e t es → FormedIn F f ty t → ty ≡ Unknown → AreEncodings e.octets.now
 unknown_formed f H F Unknown e t es (n, (xs, i, p, all)) a g = (xs, p, all_well_formed xs (a xs i))
 unknown_formed f H F (Any own) e t es h a g = absurd cc
 unknown_formed f H F (Leaf kind t0 c names) e t es h a g = absurd cc
@@ -347,7 +382,7 @@ pub formed : (types : List «Type») (n id : ℕ) (t : Tree) (es : List Span) �
 unfolding Holds FormedTree
 formed types zero id t es h a = absurd h
 formed types (suc n) id t es (e, inside, is, i, ty, at, h) a =
-    let own : FormedIn (λ k u. FormedTree types n k u) ty t = a ty at in
+    let own : FormedIn (λ k u. FormedTree types n k u) (shape_of_type types n) ty t = a ty at in
     let mine : HasFormed types e = (
       λ tag x found has. open_formed (shape_of_type types n) (λ k u more. Holds Der types n k u more) (λ k u. FormedTree types n k u) ty e t inside h own tag x
           (some_is ty (Any tag) (sym at ∙ (ap (slice_get types) (sym i) ∙ found))) has,

@@ -20,7 +20,6 @@ pub mod Listed
 pub mod Clean
 pub mod Holding
 pub mod Kept
-pub mod Unnamed
 pub mod Anew
 pub mod WorkedDepartures
 pub mod WorkedList

@@ -12,7 +12,6 @@ pub mod Refusals
 pub mod Untyped
 pub mod Open
 pub mod Listed
-pub mod Unnamed
 pub mod Judged
 pub mod Lint
 pub mod Shown
