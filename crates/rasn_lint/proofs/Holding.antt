@@ -396,7 +396,7 @@ module _ (rule : Codec) (f : ℕ → Shape) (readable : (k : ℕ) → IsReadable
 
     member_held : (depth : ℕ) (c : Bool) (k0 : ℕ) (s next : State) (es : List Span) (input : List ℕ) (t : Tree) (rest : List ℕ)
         → MemberListed f levels P extensible ps b s next es → At s depth input → ReadsMember ps depth c input t rest → HoldsMember rule f H ps t es × At next depth rest
-    unfolding Reads
+    unfolding Reads IsLawful
     member_held depth c k0 s next es input t rest (inr (k, a, p, x)) at (inl r) = named_held k a p s next es x depth c input t rest at r
     member_held depth c k0 s next es input t rest (inr (k, a, p, x)) at (inr (u, e, tag, n, others, r)) =
         let v = listed_tag k a p s next es x in
@@ -422,7 +422,7 @@ module _ (rule : Codec) (f : ℕ → Shape) (readable : (k : ℕ) → IsReadable
 
     not_ended_read : (depth : ℕ) (c : Bool) (input : List ℕ) (t : Tree) (rest : List ℕ) (closing : Bool) → ReadsMember ps depth c input t rest → Ended closing input → ⊥
     not_ended_read depth c input t rest closing (inl r) e = let n = some_choice rule f depth c input t rest ps 0 r in not_ended closing input n.0 n.1 e
-    not_ended_read depth c input t rest closing (inr (u, i, tag, n, r)) e = not_ended closing input tag n e
+    not_ended_read depth c input t rest closing (inr (u, i, tag, n, others, r)) e = not_ended closing input tag n e
 
     members_held : (n : ℕ) (s last : State) (es : List Span) (depth : ℕ) (c closing : Bool) (input : List ℕ) (rs : List Tree) (rest : List ℕ)
         → InTurn (λ k. MemberListed f levels P extensible ps b) n s last es → Ended last.closing last.rest → At s depth input
