@@ -20,6 +20,7 @@ pub mod Listed
 pub mod Clean
 pub mod Holding
 pub mod Kept
+pub mod OpenSets
 pub mod Anew
 pub mod WorkedDepartures
 pub mod WorkedList

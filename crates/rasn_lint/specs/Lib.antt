@@ -12,6 +12,7 @@ pub mod Refusals
 pub mod Untyped
 pub mod Open
 pub mod Listed
+pub mod OpenSets
 pub mod Judged
 pub mod Lint
 pub mod Shown

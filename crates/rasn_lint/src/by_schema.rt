@@ -13,6 +13,7 @@ use crate::departure::{Departure, aspect_of};
 use crate::judge::{Way, faults_of, note_faults, site_at};
 use crate::open::{Wanted, note_open};
 use crate::trail::{Step, extend_path, extend_trail};
+use crate::unnamed::with_unnamed;
 use rasn::refuse_remainder;
 use rasn_dynamic::{Refusal, Span, check_or_locate, parts_of};
 use rasn_schema::{Schema, Type, TypeId, type_at};
@@ -26,7 +27,7 @@ pub enum OpenTypes {
     /// They are what the reader of DER reads: of a value of any tag, a definite length.
     Unexamined,
     /// They are also well formed, as [`is_well_formed`](crate::der::is_well_formed) tells. So is each
-    /// unknown value at the end of an extensible SEQUENCE; those of a SET aren't looked into.
+    /// unknown value of an extensible SEQUENCE or SET.
     Examined,
 }
 
@@ -247,8 +248,8 @@ pub fn rest_after<'input>(parts: &[Span<'_>], octets: &'input [u8]) -> &'input [
 /// Each part of the value is judged on its own, in its place, its header and its contents.
 ///
 /// - In its place: an element of a SET OF whose octets are less than those of the one before it
-///   (X.690 11.6), a component of a SET whose tag is below that of the one before it (10.3), and a
-///   component that is its default (11.5).
+///   (X.690 11.6), a component of a SET, also one that its type doesn't name, whose tag is below that
+///   of the one before it (10.3), and a component that is its default (11.5).
 /// - In its header: a tag number in more octets than it needs (8.1.2.4), a constructed bit that
 ///   isn't the one that the type is written with, as of a string in segments (8.1.2.5, 10.2), and a
 ///   length that is indefinite or in more octets than it needs (10.1).
@@ -278,7 +279,10 @@ pub fn lint(
     if !rest.is_empty() {
         return Err(LintError::Remainder(rest.len()));
     }
-    let Ok(list) = judge_message(alloc, schema, id, octets, opens, parts.list.as_slice()) else {
+    let Ok(all) = with_unnamed(alloc, schema, parts.list) else {
+        return Err(LintError::OutOfMemory);
+    };
+    let Ok(list) = judge_message(alloc, schema, id, octets, opens, all.as_slice()) else {
         return Err(LintError::OutOfMemory);
     };
     match in_order(list) {

@@ -13,6 +13,7 @@ mod leaf;
 mod open;
 mod place;
 mod trail;
+mod unnamed;
 mod untyped;
 
 pub use by_schema::{LintError, OpenTypes, lint};

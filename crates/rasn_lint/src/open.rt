@@ -36,10 +36,11 @@ pub enum Wanted {
 
 /// The contents octets of an encoding.
 #[derive(Clone, Copy)]
-struct Contents<'input> {
-    octets: &'input [u8],
+pub struct Contents<'input> {
+    /// The octets.
+    pub octets: &'input [u8],
     /// How many octets are before them in the encoding.
-    header_len: usize,
+    pub header_len: usize,
 }
 
 /// Encodings that are still to be looked at, one after the other.
@@ -80,7 +81,7 @@ fn end_of(alloc: Global, tag: Tag, octets: &[u8]) -> usize
 }
 
 /// Returns the octets of a value of an open type with this tag, as BER finds them.
-fn contents_at(alloc: Global, tag: Tag, octets: &[u8]) -> Option<Contents<'_>>
+pub fn contents_at(alloc: Global, tag: Tag, octets: &[u8]) -> Option<Contents<'_>>
     ensures { MatchOption result ((inside : List ℕ) → HasOpen tag octets.now inside → ⊥)
         (λ found. HasOpen tag octets.now found.octets.now × IsAfterHeader octets.now found × (length found.octets.now < 2 ^ 64)) }
 {
@@ -339,7 +340,7 @@ fn note_any(
 }
 
 /// Returns the octets of the first of these encodings, as BER skips it, and the others.
-fn split_first(alloc: Global, octets: &[u8]) -> Option<(&[u8], &[u8])>
+pub fn split_first(alloc: Global, octets: &[u8]) -> Option<(&[u8], &[u8])>
     ensures { MatchOption result (IsUnread octets.now) (λ s. IsSplit octets.now s.0.now s.1.now) }
 {
     let others = after_first(alloc, octets)?;
