@@ -25,26 +25,28 @@ use Rattle.rasn_lint.specs.WellFormed.{AreEncodings}
 use Rattle.rasn_lint.specs.Laws.{NormalIsClean, FormedIsClean, IsClosed, ClosedIsClean, FirstIsListed, ClosedFirstIsListed, CleanIsNormal}
 use Rattle.rasn_lint.proofs.Holding.{holds}
 use Rattle.rasn_lint.proofs.Kept.{kept, formed}
-use Rattle.rasn_lint.proofs.OpenSets.{every_apart, every_together, unnamed_formed}
-use Rattle.rasn_lint.specs.OpenSets.{HasUnnamed}
+use Rattle.rasn_lint.proofs.OpenSets.{every_apart, every_together, unnamed_formed, with_each, from_each}
+use Rattle.rasn_lint.specs.OpenSets.{AreUnnamed, HasUnnamed}
 
 pub clean_if_formed : FormedIsClean
 clean_if_formed opens types id rule input octets ds n l all = l.clean.1 ((n.again, n.read_again.0), all)
 
--- The open types of the normal encoding are those of the input.
+-- The open types of the normal encoding are those of the input, and so are the components of SETs that aren't named.
 formed_anew : (types : List «Type») (id : ℕ) (rule : Codec) (input octets : List ℕ) (ps qs : MessageParts) → AreReadableTypes types → AreOctets input → AreOctets octets → IsNormal rule (shape_of types id) input octets
-    → ArePartsOf types rule id input ps → ArePartsOf types Ber id octets qs → AllByRecursion (HasFormed types) ps.list.items → AllByRecursion (HasFormed types) qs.list.items
-formed_anew types id rule input octets ps qs lawful are written n p q all =
+    → ArePartsOf types rule id input ps → ArePartsOf types Ber id octets qs → (found more : List Span) → AreUnnamed types ps.list.items found → AreUnnamed types qs.list.items more
+    → AllByRecursion (HasFormed types) ps.list.items → AllByRecursion (HasFormed types) found → AllByRecursion (HasFormed types) qs.list.items × AllByRecursion (HasFormed types) more
+formed_anew types id rule input octets ps qs lawful are written n p q found more u v all others =
     let deep : ℕ = 18446744073709551615 in
     let h = holds rule types lawful deep id 0 0 (start rule input) p.last ps.list.items p.listed (top rule) n.value [] are n.means.0 in
     let k = holds Der types lawful deep id 0 0 (start Ber octets) q.last qs.list.items q.listed (top Der) n.again [] written n.read_again.0 in
-    formed types deep id n.again qs.list.items k (kept rule types deep id n.value ps.list.items h all n.again n.same)
+    from_each types qs.list.items more
+    (formed types deep id n.again qs.list.items k (kept rule types deep id n.value ps.list.items h (with_each types ps.list.items found all u others) n.again n.same)) v
 
 pub normal_is_clean : NormalIsClean
 normal_is_clean Unexamined types id rule input octets ds ps lawful are written n p every u all l = clean_if_formed Unexamined types id rule input octets ds n l tt
 normal_is_clean Examined types id rule input octets ds ps lawful are written n p every u all l =
     let mine = every_apart types (HasFormed types) ps.list.items every u all in
-    let anew = formed_anew types id rule input octets ps l.parts lawful are written n p l.are_parts mine.0 mine.1 in
+    let anew = formed_anew types id rule input octets ps l.parts lawful are written n p l.are_parts u.0 l.unnamed.0 u.1 l.unnamed.1 mine.0 mine.1 in
     clean_if_formed Examined types id rule input octets ds n l (every_together types (HasFormed types) l.parts.list.items l.every l.unnamed anew.0 anew.1)
 
 all_formed : (types : List «Type») → IsClosed Examined types → (es : List Span) → AllByRecursion (HasFormed types) es

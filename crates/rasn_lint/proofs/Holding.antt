@@ -1,25 +1,30 @@
 -- The parts of a message beside the tree of its value.
-use Rattle.std.proofs.Common.{◌≡◌, ◌≢◌, ◌⊎◌, inl, inr, ◌+◌, ◌-◌, ℕ, zero, suc, List, [], ◌∷◌, ◌++◌, map, length, drop, append_assoc, append-nil, Bool, true, false, Option, Some, None, refl, sym, ap, ◌∙◌, subst, arith}
+use Rattle.std.proofs.Common.{◌≡◌, ◌≢◌, ◌⊎◌, inl, inr, ◌+◌, ◌-◌, ℕ, zero, suc, List, [], ◌∷◌, ◌++◌, map, length, drop, append_assoc, append-nil, Bool, true, false, Option, Some, None, Result, Ok, Err, refl, sym, ap, ◌∙◌, subst, arith}
 use Rattle.std.specs.Prelude.{◌↔◌, ◌||◌, slice_get}
 use Rattle.std.specs.List.{AllByRecursion}
 use Rattle.std.proofs.lemmas.List.{append_cancel_right}
 use Rattle.rasn_types.specs.declared.types.codec.Codec.{Codec}
 use Rattle.rasn_types.specs.declared.types.codec.Codec.TheVariants.{Ber, Cer, Der}
 use Rattle.rasn_types.specs.declared.types.tag.Tag.{Tag}
-use Rattle.rasn_types.specs.Tags.{Form, form, IsStrict}
-use Rattle.rasn_types.specs.Framing.{AreOctets, Ended, Frame, with_length, without_length, Extent, definite, indefinite, NextTag, CompleteEncoding}
+use Rattle.rasn_types.specs.Tags.{Form, basic_form, form, IsStrict, eoc}
+use Rattle.rasn_types.specs.Framing.{AreOctets, Ended, Frame, with_length, without_length, Extent, definite, indefinite, NextTag, CompleteEncoding, CompleteEncodings}
 use Rattle.rasn_types.specs.Contents.{joined_lists}
-use Rattle.rasn_types.specs.Shapes.{Shape, Tree, IsSetTree, Same, any, sorted_set, count, IsFirstOf, unknown, numbers, chosen, items, set_elements, absent, Presence as PartPresence, required, addition, optional_by, default_by, Key, looked_for, sought_by, sought_in, presences, IsFirst, IsAlwaysPresent}
-use Rattle.rasn_types.specs.Readings.{Reading, ReadsContents, definite_form, indefinite_form, ReadsMany, IsLeftOut, ReadsPart, ReadsInOrder, ReadsSeq, ReadsSortedSet, ReadsChoice, AllMissing, HasRequired, presences_in, ByPart, IsMissing, IsNoDefault}
-use Rattle.rasn_types.specs.Grammar.{Reads, ReadsAny, ReadsOpenChoice, parts_of, ReadsList, ReadsSetOf}
+use Rattle.rasn_types.specs.Shapes.{Shape, Parts, Tree, IsSetTree, Same, any, sorted_set, count, IsFirstOf, unknown, numbers, chosen, items, set_elements, absent, Presence as PartPresence, required, addition, optional_by, default_by, Key, looked_for, sought_by, sought_in, presences, IsFirst, IsAlwaysPresent}
+use Rattle.rasn_types.specs.Readings.{Reading, AllOf, ReadsContents, definite_form, indefinite_form, ReadsMany, IsLeftOut, ReadsPart, ReadsInOrder, ReadsSeq, ReadsSortedSet, ReadsChoice, AllMissing, HasRequired, presences_in, ByPart, IsMissing, IsNoDefault}
+use Rattle.rasn_types.specs.Grammar.{Reads, ReadsAny, ReadsOpen, ReadsOpenChoice, parts_of, ReadsList, ReadsSetOf}
 use Rattle.rasn_types.specs.Lawful.{IsLawful, AreLawfulInOrder}
+use Rattle.rasn_types.proofs.Encoding.Complete.{whole_next}
 use Rattle.rasn_types.proofs.Headers.Frames.{frame_one, next_one, not_ended}
 use Rattle.rasn_de.specs.Any.{ReadsOpenOctets}
+use Rattle.rasn_de.specs.ParserViews.{peeked_tag, identified_tag}
+use Rattle.rasn_de.specs.Headers.{Identified, identifier_at}
+use Rattle.rasn_de.specs.declared.ber.de.parser.ParseError.{ParseError}
 use Rattle.rasn_de.specs.State.{State}
 use Rattle.rasn_de.specs.Segments.{octets_inside}
 use Rattle.rasn_de.specs.Constructed.{sequence_header, list_header, prefix_header}
 use Rattle.rasn_de.specs.declared.ber.de.constructed.ConstructedHeader.{ConstructedHeader}
-use Rattle.rasn_de.proofs.Headers.Results.{octets_back}
+use Rattle.rasn_de.proofs.Headers.NextTag.{next_parsed, next_none}
+use Rattle.rasn_de.proofs.Headers.Results.{octets_back, octets_front}
 use Rattle.rasn_de.proofs.Strings.Reads.{frame_octets}
 use Rattle.rasn.proofs.OneReading.Any.{any_one, open_one}
 use Rattle.rasn.proofs.Included.IntoBer.{reads_in}
@@ -44,7 +49,10 @@ use Rattle.rasn_dynamic.proofs.Named.{named_is}
 use Rattle.rasn_dynamic.proofs.Members.{unknown_is}
 use Rattle.rasn_dynamic.proofs.Pieces.{only_part, first_of_part, member_is}
 use Rattle.rasn_dynamic.proofs.SameParts.{IsKnown, same_reading, unknown_read, not_at_end, not_absent, none_left, same_index, component_known, left_known, header_frame, known_type, readable_type}
+use Rattle.rasn_lint.specs.OpenSets.{IsNamed}
 use Rattle.rasn_lint.specs.Untyped.{HasOpen}
+use Rattle.rasn_lint.proofs.Frames.{looked}
+use Rattle.rasn_lint.proofs.Passed.{basic, basic_open, one_read}
 
 -- ---- what parts hold of a tree
 
@@ -63,6 +71,16 @@ IsLeft (default_by key d) t = Same t d
 -- The octets are complete encodings, one after the other, and the tree has the octets of each.
 abbrev pub HoldsEncodings : Tree → List ℕ → Type 0
 HoldsEncodings t octets = (xs : List (List ℕ)) × (t ≡ items (map numbers xs)) × (octets ≡ joined_lists xs) × AllByRecursion (CompleteEncoding Ber) xs
+
+-- Of these encodings, the unknown ones: those that have the tag of none of the parts.
+abbrev pub AreUnknownOnes : Parts → List (List ℕ) → List (List ℕ) → Type 0
+AreUnknownOnes ps [] zs = zs ≡ []
+AreUnknownOnes ps (x ∷ xs) zs = (IsNamed ps x × AreUnknownOnes ps xs zs) ⊎ ((IsNamed ps x → ⊥) × (more : List (List ℕ)) × (zs ≡ x ∷ more) × AreUnknownOnes ps xs more)
+
+-- The contents of the SET with these octets are complete encodings, one after the other, and the trees have the octets of
+-- the unknown ones.
+abbrev pub HoldsUnknown : Parts → Tag → List ℕ → List Tree → Type 0
+HoldsUnknown ps tag octets us = (xs : List (List ℕ)) × (zs : List (List ℕ)) × HasOpen tag octets (joined_lists xs) × AllByRecursion (CompleteEncoding Ber) xs × AreUnknownOnes ps xs zs × (us ≡ map numbers zs)
 
 -- By these rules, f gives the shape of the type with a number, and H k t es: es are the parts of the tree of a value of it.
 module _ (rule : Codec) (f : ℕ → Shape) (H : ℕ → Tree → List Span → Type 0) where
@@ -83,9 +101,10 @@ module _ (rule : Codec) (f : ℕ → Shape) (H : ℕ → Tree → List Span → 
       ⊎ ((u : Tree) × (r ≡ chosen (count (components_by f ps)) u) × (es ≡ []))
 
   -- The readings of a SET's components in their order, and of unknown ones.
-  abbrev pub HoldsMembers : Bool → List Component → Tree → List Span → Type 0
-  HoldsMembers extensible ps t es =
-      (rs : List Tree) × (ts : List Tree) × (us : List Tree) × IsSetTree extensible ts us t × ByPart 0 (presences (components_by f ps)) rs ts × Along (HoldsMember ps) rs es
+  abbrev pub HoldsMembers : Bool → List Component → Tag → List ℕ → Tree → List Span → Type 0
+  HoldsMembers extensible ps tag octets t es =
+      (rs : List Tree) × (ts : List Tree) × (us : List Tree) × IsSetTree extensible ts us t × ByPart 0 (presences (components_by f ps)) rs ts
+      × HoldsUnknown (components_by f ps) tag octets us × Along (HoldsMember ps) rs es
 
   -- Of the value with this part, without it.
   abbrev pub HoldsInside : «Type» → Span → Tree → List Span → Type 0
@@ -96,14 +115,14 @@ module _ (rule : Codec) (f : ℕ → Shape) (H : ℕ → Tree → List Span → 
   HoldsInside (Tagged tag id) e t es = H id.0 t es
   HoldsInside (Choice name ks) e t es = (k : ℕ) × (a : Alternative) × (u : Tree) × (Some a ≡ slice_get ks.items k) × (t ≡ chosen k u) × H a.type_id.0 u es
   HoldsInside (Sequence tag ps) e t es = (ts : List Tree) × (t ≡ items ts) × HoldsComponents ps.items ts es
-  HoldsInside (Set name tag ps) e t es = HoldsMembers (is_extensible f ps.items) (named_components f ps.items) t es
+  HoldsInside (Set name tag ps) e t es = HoldsMembers (is_extensible f ps.items) (named_components f ps.items) tag e.octets.now t es
   HoldsInside (SequenceOf tag id c) e t es = (ts : List Tree) × (t ≡ items ts) × Along (H id.0) ts es
   HoldsInside (SetOf tag id c) e t es = (ts : List Tree) × (t ≡ set_elements (items ts)) × Along (H id.0) ts es
 
 -- The parts are those of the tree of a value of the type with the number, types followed so many levels deep.
 unfoldable pub Holds : Codec → List «Type» → ℕ → ℕ → Tree → List Span → Type 0
 Holds rule types zero id t es = ⊥
-Holds rule types (suc n) id t es = (e : Span) × (inside : List Span) × (es ≡ e ∷ inside) × (e.id.0 ≡ id) × (ty : «Type») × (slice_get types id ≡ Some ty)
+Holds rule types (suc n) id t es = (e : Span) × (inside : List Span) × (es ≡ e ∷ inside) × (e.id.0 ≡ id) × (e.levels ≡ suc n) × (ty : «Type») × (slice_get types id ≡ Some ty)
     × HoldsInside rule (shape_of_type types n) (λ k u more. Holds rule types n k u more) ty e t inside
 
 -- ---- one after the other, from the first on
@@ -237,6 +256,12 @@ opened rule tag octets rest depth c t r x =
       λ (more, exact). (exact.1 t [] n).0,
     )
 
+-- The contents of a value, before its end-of-contents octets.
+held_open : (tag : Tag) → tag ≢ eoc → (octets rest inside : List ℕ) → ReadsOpen Ber tag (octets ++ rest) (numbers inside) rest → HasOpen tag octets inside
+held_open tag some octets rest inside r =
+    let n : ReadsOpenOctets Ber (looked_for tag) octets (numbers inside) [] = subst (λ z. ReadsOpenOctets Ber z octets (numbers inside) []) (sym (looked tag some)) (narrow (Some tag) octets rest (numbers inside) r) in
+    ([], (n, λ u s h. open_once (looked_for tag) octets u (numbers inside) s [] h n))
+
 -- The octets of unknown values are the encodings that are read.
 encodings_read : (closing : Bool) (input : List ℕ) (ts : List Tree) (rest : List ℕ) → ReadsMany (ReadsAny Ber) closing input ts rest
     → (xs : List (List ℕ)) × (ts ≡ map numbers xs) × (input ≡ joined_lists xs ++ rest) × AllByRecursion (CompleteEncoding Ber) xs
@@ -253,10 +278,14 @@ held_encodings rule octets after depth c t r =
 
 -- ---- what a rule reads of a value, beside the parts that are listed of it
 
+-- If complete encodings are before the end, they are the contents.
+abbrev Encloses : Tag → List ℕ → List ℕ → List ℕ → List ℕ → Type 0
+Encloses tag input l end rest = (inside : List ℕ) → CompleteEncodings Ber inside → l ≡ inside ++ end → ReadsOpen Ber tag input (numbers inside) rest
+
 -- The header is that of the value.
 into_contents : (d : ConstructedHeader) (b a : ℕ) (s inner : State) (depth : ℕ) (input : List ℕ) → GoesInside d b s a inner → At s depth input
     → (rule : Codec) (tag : Tag) (bit : Bool) (R : Bool → Reading Tree) (t : Tree) (rest : List ℕ) → ReadsContents rule tag bit R input t rest
-    → (c : Bool) × (l : List ℕ) × (end : List ℕ) × R c l t end × At inner (depth - d.levels) l
+    → (c : Bool) × (l : List ℕ) × (end : List ℕ) × R c l t end × Encloses tag input l end rest × At inner (depth - d.levels) l
 into_contents d b a s inner depth input (h, p, q, g) (e, l, o) rule tag bit R t rest reads = go reads
   where
     F : Frame (form s.rule) input h.tag h.bit h.rest h.extent
@@ -267,9 +296,96 @@ into_contents d b a s inner depth input (h, p, q, g) (e, l, o) rule tag bit R t 
         let same : octets_inside h.extent h.rest ≡ m = ap (λ z. octets_inside z h.rest) i ∙ (ap (octets_inside x) j ∙ k) in
         (ap (λ (z : State). z.depth) q ∙ ap (λ n. n - d.levels) e, ap (λ (z : State). z.rest) q ∙ same, subst AreOctets same (frame_octets input o F).1)
 
-    go : ReadsContents rule tag bit R input t rest → (c : Bool) × (l : List ℕ) × (end : List ℕ) × R c l t end × At inner (depth - d.levels) l
-    go (definite_form contents f r) = let one = frame_one input F f in (false, contents, [], r, within (definite contents) rest contents one.extent one.rest refl)
-    go (indefinite_form body f r) = let one = frame_one input F f in (true, body, 0 ∷ 0 ∷ rest, r, within indefinite body body one.extent one.rest refl)
+    by_length : (contents : List ℕ) → Frame (form rule) input tag bit rest (definite contents) → Encloses tag input contents [] rest
+    by_length contents f inside w e = (bit, inside, refl, (λ s. absurd s), inl (subst (λ z. Frame basic_form input tag bit rest (definite z)) (e ∙ append-nil inside) (basic f)))
+
+    by_end : (body : List ℕ) → Frame (form rule) input tag bit body indefinite → Encloses tag input body (0 ∷ 0 ∷ rest) rest
+    by_end body f inside w e = (bit, inside, refl, (λ s. absurd s), inr (body, basic_open f, w, e))
+
+    go : ReadsContents rule tag bit R input t rest → (c : Bool) × (l : List ℕ) × (end : List ℕ) × R c l t end × Encloses tag input l end rest × At inner (depth - d.levels) l
+    go (definite_form contents f r) = let one = frame_one input F f in (false, contents, [], r, by_length contents f, within (definite contents) rest contents one.extent one.rest refl)
+    go (indefinite_form body f r) = let one = frame_one input F f in (true, body, 0 ∷ 0 ∷ rest, r, by_end body f, within indefinite body body one.extent one.rest refl)
+
+-- ---- the octets of a SET's components
+
+pub chosen_one : (j k : ℕ) (t u : Tree) → chosen j t ≡ chosen k u → (j ≡ k) × (t ≡ u)
+chosen_one j k t u e = (cc, cc)
+
+pub count_apart : (f : ℕ → Shape) (ps : List Component) (k : ℕ) (p : Component) → Some p ≡ slice_get ps k → k ≡ count (components_by f ps) → ⊥
+count_apart f [] k p at e = cc
+count_apart f (q ∷ ps) zero p at e = cc
+count_apart f (q ∷ ps) (suc k) p at e = count_apart f ps k p at (omega (arith, e))
+
+longer : (x rest : List ℕ) (tag : Tag) → NextTag basic_form x tag → NextTag basic_form (x ++ rest) tag
+longer x rest tag n = record {
+  begins = record { id = n.begins.id; bit = n.begins.bit; more = n.begins.more ++ rest; spells = n.begins.spells; is = ap (λ l. l ++ rest) n.begins.is ∙ append_assoc n.begins.id n.begins.more rest };
+  is_one = n.is_one;
+  shortest = n.shortest;
+}
+
+-- The tag that follows is that of the encoding in front.
+tag_peeked : (spelling : Form) (x rest : List ℕ) (tag : Tag) → AreOctets (x ++ rest) → CompleteEncoding Ber x → NextTag spelling (x ++ rest) tag → peeked_tag (form Ber) x ≡ Ok tag
+tag_peeked spelling x rest tag o w n = go (identifier_at basic_form x) refl
+  where
+    own : Tag
+    own = (whole_next [] w).0
+
+    alone : NextTag basic_form x own
+    alone = subst (λ l. NextTag basic_form l own) (append-nil x) (whole_next [] w).1
+
+    same : own ≡ tag
+    same = next_one (x ++ rest) own tag (longer x rest own alone) n
+
+    go : (r : Result Identified ParseError) → identifier_at basic_form x ≡ r → peeked_tag (form Ber) x ≡ Ok tag
+    go (Ok i) e = ap identified_tag e ∙ ap Ok (next_one x i.tag own (next_parsed basic_form x i (octets_front x rest o) e) alone ∙ same)
+    go (Err fault) e = absurd (next_none basic_form x fault e own alone)
+
+module _ (rule : Codec) (f : ℕ → Shape) (ps : List Component) (are : AreLawfulMembers (components_by f ps)) (depth : ℕ) (c : Bool) where
+  abbrev ReadsOneOf : Reading Tree
+  ReadsOneOf = ReadsOpenChoice rule (IsFirstOf (components_by f ps)) (count (components_by f ps)) (ReadsChoice rule 0 (parts_of rule (components_by f ps) depth c))
+
+  -- The encoding is that of a named component, or of an unknown one whose tree has its octets.
+  abbrev IsOfMember : Tree → List ℕ → Type 0
+  IsOfMember r x = (IsNamed (components_by f ps) x × ((u : Tree) → r ≢ chosen (count (components_by f ps)) u)) ⊎ ((IsNamed (components_by f ps) x → ⊥) × (r ≡ chosen (count (components_by f ps)) (numbers x)))
+
+  member_octets : (input : List ℕ) (r : Tree) (rest : List ℕ) → AreOctets input → ReadsOneOf input r rest → (x : List ℕ) × CompleteEncoding Ber x × (input ≡ x ++ rest) × IsOfMember r x
+  unfolding Reads
+  member_octets input r rest o (inl h) =
+      let (j, p, u, at, e, ((tag, next, first), own), z) = member_read rule f depth c input r rest ps 0 h in
+      let known = member_is f ps j p are.0 at in
+      let (x, w, is) = one_read (f p.type_id.0) known.1 depth c input u rest (reads_in (f p.type_id.0) rule depth c input u rest own) in
+      let peeked = tag_peeked (form rule) x rest tag (subst AreOctets is o) w (subst (λ l. NextTag (form rule) l tag) is next) in
+      (x, w, is, inl ((tag, peeked, first_of_part f tag ps j p at first), λ v i. count_apart f ps j p at (let n = (chosen_one (0 + j) (count (components_by f ps)) u v (sym e ∙ i)).0 in omega (arith, n))))
+  member_octets input r rest o (inr (u, e, tag, next, others, h)) =
+      let (x, i, w, is) = reads_in (any None) rule depth c input u rest h in
+      let peeked = tag_peeked (form rule) x rest tag (subst AreOctets is o) w (subst (λ l. NextTag (form rule) l tag) is next) in
+      (x, w, is, inr ((λ (other, found, first). others (let same : other ≡ tag = cc in subst (IsFirstOf (components_by f ps)) same first)), e ∙ ap (chosen (count (components_by f ps))) i))
+
+  -- Those of all components, one after the other.
+  abbrev AreMembers : List ℕ → List ℕ → List Tree → Type 0
+  AreMembers input rest us = (xs : List (List ℕ)) × (zs : List (List ℕ)) × (input ≡ joined_lists xs ++ rest) × AllByRecursion (CompleteEncoding Ber) xs × AreUnknownOnes (components_by f ps) xs zs × (us ≡ map numbers zs)
+
+  members_octets : (rs : List Tree) (closing : Bool) (input rest : List ℕ) (us : List Tree) → AreOctets input → ReadsMany ReadsOneOf closing input rs rest → AllOf (count (components_by f ps)) rs us → AreMembers input rest us
+  members_octets [] closing input rest us o (e, p) all = ([], [], sym p, tt, refl, all)
+  members_octets (r ∷ rs) closing input rest us o (n, middle, h, more) all =
+      let (x, w, is, of) = member_octets input r middle o h in
+      go x w is of (λ vs a. members_octets rs closing middle rest vs (octets_back x middle (subst AreOctets is o)) more a) all
+    where
+      after : (x : List ℕ) (xs : List (List ℕ)) → input ≡ x ++ middle → middle ≡ joined_lists xs ++ rest → input ≡ joined_lists (x ∷ xs) ++ rest
+      after x xs is i = is ∙ (ap (λ l. x ++ l) i ∙ sym (append_assoc x (joined_lists xs) rest))
+
+      go : (x : List ℕ) → CompleteEncoding Ber x → input ≡ x ++ middle → IsOfMember r x → ((vs : List Tree) → AllOf (count (components_by f ps)) rs vs → AreMembers middle rest vs) → AllOf (count (components_by f ps)) (r ∷ rs) us → AreMembers input rest us
+      go x w is (inl (named, none)) later (inl (u, vs, e, k, a)) = absurd (none u e)
+      go x w is (inl (named, none)) later (inr (other, a)) = let (xs, zs, i, ws, on, q) = later us a in (x ∷ xs, zs, after x xs is i, (w, ws), inl (named, on), q)
+      go x w is (inr (apart, e)) later (inl (u, vs, i, k, a)) =
+          let (xs, zs, j, ws, on, q) = later vs a in
+          let same : u ≡ numbers x = (chosen_one (count (components_by f ps)) (count (components_by f ps)) u (numbers x) (sym i ∙ e)).1 in
+          (x ∷ xs, x ∷ zs, after x xs is j, (w, ws), inr (apart, zs, refl, on), k ∙ (ap (λ z. z ∷ vs) same ∙ ap (λ z. numbers x ∷ z) q))
+      go x w is (inr (apart, e)) later (inr (none, a)) = absurd (none (numbers x) e)
+
+wholes : (xs : List (List ℕ)) → AllByRecursion (CompleteEncoding Ber) xs → CompleteEncodings Ber (joined_lists xs)
+wholes [] h = CompleteEncodings.none
+wholes (x ∷ xs) (w, ws) = CompleteEncodings.one_more x (joined_lists xs) w (wholes xs ws) refl
 
 module _ (rule : Codec) (f : ℕ → Shape) (readable : (k : ℕ) → IsReadable (f k)) (levels : ℕ) (P : ℕ → ℕ → State → List Span → Type 0) (H : ℕ → Tree → List Span → Type 0)
     (below : (id k b : ℕ) (s next : State) (es : List Span) → PartListed f levels P id k b s next es → (c : Bool) (t : Tree) (rest : List ℕ) → AreOctets s.rest → Reads rule (f id) s.depth c s.rest t rest → H id t es) where
@@ -494,12 +610,12 @@ module _ (rule : Codec) (f : ℕ → Shape) (readable : (k : ℕ) → IsReadable
       (x, opened rule tag e.octets.now after depth c t (subst (λ l. Reads rule (any (looked_for tag)) depth c l t after) (sym at.1 ∙ is) (subst (λ l. Reads rule (any (looked_for tag)) depth c input t l) q r)))
   value_held Unknown are b s e after es is v depth c input t rest at q r = absurd are
   value_held (Tagged tag id) are b s e after es is (a, inner, g, (last, x)) depth c input t rest at q r =
-      let (k, l, end, own, there) = into_contents (prefix_header tag) b a s inner depth input g at rule tag r.1 (λ c. Reads rule (f id.0) (depth - 1) c) t rest r.3 in
+      let (k, l, end, own, whole, there) = into_contents (prefix_header tag) b a s inner depth input g at rule tag r.1 (λ c. Reads rule (f id.0) (depth - 1) c) t rest r.3 in
       (part_held id.0 0 a inner last es (depth - 1) k l t end x there own).0
   value_held (Choice name ks) are b s e after es is (a, inner, (p, g), x) depth c input t rest at q r =
       choice_held ks.items are a inner es depth c input t rest x (subst (λ z. At z depth input) (sym g) at) r
   value_held (Sequence tag ps) are b s e after es is (a, inner, g, x) depth c input t rest at q r =
-      let (k, l, end, own, there) = into_contents (sequence_header tag) b a s inner depth input g at rule tag true (λ c. ReadsSeq rule (parts_of rule (components_by f ps.items) (depth - 1) c) c) t rest r.1 in
+      let (k, l, end, own, whole, there) = into_contents (sequence_header tag) b a s inner depth input g at rule tag true (λ c. ReadsSeq rule (parts_of rule (components_by f ps.items) (depth - 1) c) c) t rest r.1 in
       sequence_held ps.items are.1 a inner es (depth - 1) k l t end x there own
   value_held (Set name tag ps) are b s e after es is (a, inner, g, (n, last, turns, ended)) depth c input t rest at q r =
       let extensible = is_extensible f ps.items in
@@ -509,15 +625,17 @@ module _ (rule : Codec) (f : ℕ → Shape) (readable : (k : ℕ) → IsReadable
       let w = into_contents (sequence_header tag) b a s inner depth input g at rule tag true
       (λ c. ReadsSortedSet rule extensible (presences (components_by f named)) (count (components_by f named)) (ReadsMember named (depth - 1) c) c) t rest own.1 in
       let (rs, ts, us, i, many, by, all, z) = w.3 in
-      (rs, ts, us, i, by, members_held extensible named lawful a n inner last es (depth - 1) w.0 w.0 w.1 rs w.2 turns ended w.4 many)
+      let (xs, zs, cut, ws, on, k) = members_octets rule f named lawful (depth - 1) w.0 rs w.0 w.1 w.2 us w.5.2 many all in
+      let inside = subst (λ l. ReadsOpen Ber tag l (numbers (joined_lists xs)) after) (sym at.1 ∙ is) (subst (λ l. ReadsOpen Ber tag input (numbers (joined_lists xs)) l) q (w.4 (joined_lists xs) (wholes xs ws) cut)) in
+      (rs, ts, us, i, by, (xs, zs, held_open tag are.0 e.octets.now after (joined_lists xs) inside, ws, on, k), members_held extensible named lawful a n inner last es (depth - 1) w.0 w.0 w.1 rs w.2 turns ended w.5 many)
   value_held (SequenceOf tag id size) are b s e after es is (a, inner, g, (n, last, turns, ended)) depth c input t rest at q r =
       let w = into_contents (list_header tag) b a s inner depth input g at rule tag true (λ c. ReadsList size.size (Reads rule (f id.0) (depth - 2) c) c) t rest r.1 in
       let own = w.3 in
-      (own.0, own.1, elements_held id.0 a n (are.1, are.2) inner last es (depth - 2) w.0 w.0 w.1 own.0 w.2 turns ended w.4 own.3)
+      (own.0, own.1, elements_held id.0 a n (are.1, are.2) inner last es (depth - 2) w.0 w.0 w.1 own.0 w.2 turns ended w.5 own.3)
   value_held (SetOf tag id size) are b s e after es is (a, inner, g, (n, last, turns, ended)) depth c input t rest at q r =
       let w = into_contents (list_header tag) b a s inner depth input g at rule tag true (λ c. ReadsSetOf rule size.size (Reads rule (f id.0) (depth - 2) c) c) t rest r.1 in
       let own = w.3 in
-      (own.0, own.1, elements_held id.0 a n (are.1, are.2) inner last es (depth - 2) w.0 w.0 w.1 own.0 w.2 turns ended w.4 own.3)
+      (own.0, own.1, elements_held id.0 a n (are.1, are.2) inner last es (depth - 2) w.0 w.0 w.1 own.0 w.2 turns ended w.5 own.3)
 
   unknown_held : (b : ℕ) (s : State) (e : Span) (after : List ℕ) (es : List Span) → s.rest ≡ e.octets.now ++ after → ValueListed f levels P Unknown b s es
       → (depth : ℕ) (c : Bool) (input : List ℕ) (t : Tree) (rest : List ℕ) → At s depth input → rest ≡ after → Reads rule unknown depth c input t rest → HoldsInside rule f H Unknown e t es
@@ -542,7 +660,7 @@ module _ (rule : Codec) (types : List «Type») (readable : AreReadableTypes typ
       let (ty, at, v) = x.parts in
       let after : rest ≡ next.rest = (same_reading (shape_of_type types (suc n) id) (readable (suc n) id) s next x.tree x.reads rule c t rest r).1 in
       let own = subst (λ z. Reads rule z s.depth c s.rest t rest) (shape_is n id ty at) r in
-      (x.part, x.inside, x.is, x.id_is, ty, at, go ty v (known_type (shape_of_type types n) ty (readable_type types readable n id ty at)) after own)
+      (x.part, x.inside, x.is, x.id_is, x.deep, ty, at, go ty v (known_type (shape_of_type types n) ty (readable_type types readable n id ty at)) after own)
     where
       go : (ty : «Type») → ValueListed (shape_of_type types n) n (Inside types n) ty b s x.inside → IsLawful (type_by (shape_of_type types n) ty) ⊎ (ty ≡ Unknown) → rest ≡ next.rest → Reads rule (type_by (shape_of_type types n) ty) s.depth c s.rest t rest
           → HoldsInside rule (shape_of_type types n) (λ k u more. Holds rule types n k u more) ty x.part t x.inside

@@ -41,7 +41,7 @@ module _ (is_read : Bool) (opens : OpenTypes) (types : List «Type») (len : ℕ
       subst (λ x. AreJudged is_read opens types len [] [] parts x) (append-nil list)
       (f [] (subst (λ x. AreJudged is_read opens types len trail path x []) (sym (drop_all i parts past)) refl))
 
-open_one : (tag : Tag) (o a b : List ℕ) → HasOpen tag o a → HasOpen tag o b → a ≡ b
+pub open_one : (tag : Tag) (o a b : List ℕ) → HasOpen tag o a → HasOpen tag o b → a ≡ b
 open_one tag o a b (r, x) (s, y) = let h : numbers b ≡ numbers a = (x.1 (numbers b) s y.0).0 in cc
 
 -- There is no departure inside a part exactly if the octets of its open type, or its unknown values, are well formed.

@@ -3,9 +3,11 @@ use Rattle.std.proofs.Common.{◌≡◌, ◌⊎◌, inl, inr, ◌+◌, ℕ, zero
 use Rattle.std.specs.Prelude.{slice_get}
 use Rattle.std.specs.List.{AllByRecursion}
 use Rattle.rasn_types.specs.declared.types.codec.Codec.{Codec}
-use Rattle.rasn_types.specs.declared.types.codec.Codec.TheVariants.{Der}
+use Rattle.rasn_types.specs.declared.types.codec.Codec.TheVariants.{Ber, Der}
 use Rattle.rasn_types.specs.declared.types.tag.Tag.{Tag}
-use Rattle.rasn_types.specs.Shapes.{Shape, Tree, IsSetTree, Same, numbers, chosen, items, set_elements, joined, presences, count}
+use Rattle.rasn_types.specs.Contents.{joined_lists}
+use Rattle.rasn_types.specs.Framing.{CompleteEncoding}
+use Rattle.rasn_types.specs.Shapes.{Shape, Parts, Tree, IsSetTree, Same, numbers, chosen, items, set_elements, joined, presences, count}
 use Rattle.rasn_types.specs.Order.{Each}
 use Rattle.rasn_types.specs.Readings.{NoneOf, OneOf, ByPart, IsMissing}
 use Rattle.rasn_types.proofs.SetOf.Same.{items_one, each_moved, same_sym}
@@ -23,18 +25,12 @@ use Rattle.rasn_dynamic.specs.Sets.{is_extensible, named_components}
 use Rattle.rasn_lint.specs.Lint.{HasFormed}
 use Rattle.rasn_lint.specs.Untyped.{HasOpen}
 use Rattle.rasn_lint.specs.WellFormed.{IsWellFormed, AreEncodings}
-use Rattle.rasn_lint.proofs.Wholes.{wholes_formed, all_well_formed}
-use Rattle.rasn_lint.proofs.Holding.{Along, IsLeft, HoldsWritten, HoldsComponent, HoldsComponents, HoldsMember, HoldsInside, Holds, own_missing}
+use Rattle.rasn_lint.specs.OpenSets.{IsNamed}
+use Rattle.rasn_lint.proofs.OpenSets.{all_split, all_both, EachFormed, IsSetFormed, HoldsFormed, IsFormedWith, HasAllFormed, set_formed, all_formed_of}
+use Rattle.rasn_lint.proofs.Wholes.{wholes_formed, all_well_formed, alone_formed, formed_alone}
+use Rattle.rasn_lint.proofs.Holding.{AreUnknownOnes, chosen_one, count_apart, Along, IsLeft, HoldsWritten, HoldsComponent, HoldsComponents, HoldsMember, HoldsInside, Holds, own_missing}
 
 -- ---- lists
-
-all_split : {X : Type 0} (P : X → Type 0) (a b : List X) → AllByRecursion P (a ++ b) → AllByRecursion P a × AllByRecursion P b
-all_split P [] b h = (tt, h)
-all_split P (x ∷ a) b (p, h) = let r = all_split P a b h in ((p, r.0), r.1)
-
-all_both : {X : Type 0} (P : X → Type 0) (a b : List X) → AllByRecursion P a → AllByRecursion P b → AllByRecursion P (a ++ b)
-all_both P [] b h k = k
-all_both P (x ∷ a) b (p, h) k = (p, all_both P a b h k)
 
 alone : (P : Tree → Type 0) (ts : List Tree) → AllByRecursion P ts → Each (λ t u. P t) ts ts
 alone P [] h = refl
@@ -83,15 +79,7 @@ in_middle : (r : Tree) (a b : List Tree) → In r (a ++ r ∷ b)
 in_middle r [] b = inl refl
 in_middle r (x ∷ a) b = inr (in_middle r a b)
 
-none_in : (k : ℕ) (u : Tree) (rs : List Tree) → NoneOf k rs → In (chosen k u) rs → ⊥
-none_in k u [] n h = h
-none_in k u (r ∷ rs) n (inl e) = n.0 u (sym e)
-none_in k u (r ∷ rs) n (inr h) = none_in k u rs n.1 h
-
-chosen_one : (j k : ℕ) (t u : Tree) → chosen j t ≡ chosen k u → (j ≡ k) × (t ≡ u)
-chosen_one j k t u e = (cc, cc)
-
-one_in : (k : ℕ) (t u : Tree) (rs : List Tree) → OneOf k t rs → In (chosen k u) rs → u ≡ t
+none_in : (k : ℕ) (t u : Tree) (rs : List Tree) → OneOf k t rs → In (chosen k u) rs → u ≡ t
 one_in k t u rs o h = go (in_either (chosen k u) o.before (chosen k t ∷ o.after) (subst (In (chosen k u)) o.is h))
   where
     go : In (chosen k u) o.before ⊎ In (chosen k u) (chosen k t ∷ o.after) → u ≡ t
@@ -112,11 +100,6 @@ in_longer (x ∷ ts) us (suc k) t e = in_longer ts us k t e
 set_list : (extensible : Bool) (ts us : List Tree) (t : Tree) → IsSetTree extensible ts us t → (full : List Tree) × (t ≡ items full) × IsFront ts full
 set_list true ts us t e = (ts ++ (items us ∷ []), e, in_longer ts (items us ∷ []))
 set_list false ts us t (n, e) = (ts, e, λ k x h. h)
-
-count_apart : (f : ℕ → Shape) (ps : List Component) (k : ℕ) (p : Component) → Some p ≡ slice_get ps k → k ≡ count (components_by f ps) → ⊥
-count_apart f [] k p at e = cc
-count_apart f (q ∷ ps) zero p at e = cc
-count_apart f (q ∷ ps) (suc k) p at e = count_apart f ps k p at (omega (arith, e))
 
 -- What is read of a component, or that it is missing.
 by_part_at : (f : ℕ → Shape) (ps : List Component) (first k : ℕ) (rs ts : List Tree) (p : Component) → Some p ≡ slice_get ps k → ByPart first (presences (components_by f ps)) rs ts
@@ -150,11 +133,47 @@ same_numbers : (xs : List (List ℕ)) (us : List Tree) → Each Same (map number
 same_numbers [] us h = h
 same_numbers (x ∷ xs) us (u, more, e, s, h) = e ∙ (ap (λ z. z ∷ more) s ∙ ap (λ z. numbers x ∷ z) (same_numbers xs more h))
 
+last_some : {X : Type 0} (R : Tree → Tree → Type 0) (a : List Tree) (x : Tree) → Each R (a ++ x ∷ []) [] → X
+last_some R [] x (v, more, e, r, h) = absurd cc
+last_some R (d ∷ a) x (v, more, e, r, h) = absurd cc
+
+ends_some : {X : Type 0} (b : List Tree) (y : Tree) → b ++ y ∷ [] ≡ [] → X
+ends_some [] y e = absurd cc
+ends_some (c ∷ b) y e = absurd cc
+
+-- The last of a list is beside the last of the other.
+each_last : (R : Tree → Tree → Type 0) (a b : List Tree) (x y : Tree) → Each R (a ++ x ∷ []) (b ++ y ∷ []) → R x y
+each_last R [] [] x y (v, more, e, r, h) = let same : v ≡ y = cc in subst (R x) same r
+each_last R [] (c ∷ b) x y (v, more, e, r, h) = let rest : b ++ y ∷ [] ≡ more = cc in ends_some b y (rest ∙ h)
+each_last R (d ∷ a) [] x y (v, more, e, r, h) = let rest : more ≡ [] = cc in last_some R a x (subst (Each R (a ++ x ∷ [])) rest h)
+each_last R (d ∷ a) (c ∷ b) x y (v, more, e, r, h) = let rest : more ≡ b ++ y ∷ [] = cc in each_last R a b x y (subst (Each R (a ++ x ∷ [])) rest h)
+
+-- Unknown values that are the same have the same octets.
+same_octets : (xs ys : List (List ℕ)) → Same (items (map numbers xs)) (items (map numbers ys)) → xs ≡ ys
+same_octets xs ys s =
+    let (us, j, each) = items_alike (map numbers xs) (items (map numbers ys)) s in
+    numbers_one xs ys (sym (same_numbers xs us each) ∙ sym (items_one (map numbers ys) us j))
+
+module _ (ps : Parts) where
+  ones_well : (xs zs : List (List ℕ)) → AllByRecursion (CompleteEncoding Ber) xs → AreUnknownOnes ps xs zs → EachFormed (IsNamed ps) xs → AllByRecursion IsWellFormed zs
+  ones_well [] zs ws e each = subst (AllByRecursion IsWellFormed) (sym e) tt
+  ones_well (x ∷ xs) zs (w, ws) (inl (named, on)) (h, each) = ones_well xs zs ws on each
+  ones_well (x ∷ xs) zs (w, ws) (inr (apart, more, e, on)) (h, each) = subst (AllByRecursion IsWellFormed) (sym e) (alone_formed x w (h apart), ones_well xs more ws on each)
+
+  well_ones : (xs zs : List (List ℕ)) → AreUnknownOnes ps xs zs → AllByRecursion IsWellFormed zs → EachFormed (IsNamed ps) xs
+  well_ones [] zs e all = tt
+  well_ones (x ∷ xs) zs (inl (named, on)) all = ((λ apart. absurd (apart named)), well_ones xs zs on all)
+  well_ones (x ∷ xs) zs (inr (apart, more, e, on)) all = let own = subst (AllByRecursion IsWellFormed) e all in ((λ other. formed_alone x own.0), well_ones xs more on own.1)
+
 -- ---- open types in a tree
 
 module _ (F : ℕ → Tree → Type 0) where
   abbrev pub FormedComponents : List Component → List Tree → Type 0
   FormedComponents ps ts = (k : ℕ) (p : Component) (t : Tree) → Some p ≡ slice_get ps k → Some t ≡ slice_get ts k → IsLeft (presence_of p.presence) t ⊎ F p.type_id.0 t
+
+  -- The unknown components of a SET, if there may be some, are its last tree.
+  abbrev pub FormedUnknown : Bool → Tree → Type 0
+  FormedUnknown extensible t = (ts : List Tree) (zs : List (List ℕ)) → extensible ≡ true → t ≡ items (ts ++ (items (map numbers zs) ∷ [])) → AllByRecursion IsWellFormed zs
 
   -- f gives the shape of the type with a number.
   abbrev pub FormedIn : (ℕ → Shape) → «Type» → Tree → Type 0
@@ -165,12 +184,12 @@ module _ (F : ℕ → Tree → Type 0) where
   FormedIn f (Tagged tag id) t = F id.0 t
   FormedIn f (Choice name ks) t = (k : ℕ) (a : Alternative) (u : Tree) → Some a ≡ slice_get ks.items k → t ≡ chosen k u → F a.type_id.0 u
   FormedIn f (Sequence tag ps) t = (ts : List Tree) → t ≡ items ts → FormedComponents ps.items ts
-  FormedIn f (Set name tag ps) t = (ts : List Tree) → t ≡ items ts → FormedComponents (named_components f ps.items) ts
+  FormedIn f (Set name tag ps) t = ((ts : List Tree) → t ≡ items ts → FormedComponents (named_components f ps.items) ts) × FormedUnknown (is_extensible f ps.items) t
   FormedIn f (SequenceOf tag id c) t = (ts : List Tree) → t ≡ items ts → AllByRecursion (F id.0) ts
   FormedIn f (SetOf tag id c) t = (ts : List Tree) → t ≡ set_elements (items ts) → AllByRecursion (F id.0) ts
 
 -- Each open type in the tree of a value of the type with the number is well formed, except in components that are left
--- out and in those of SETs that aren't named.
+-- out, and so is each unknown component of a SET.
 unfoldable pub FormedTree : List «Type» → ℕ → ℕ → Tree → Type 0
 FormedTree types zero id t = Unit {0}
 FormedTree types (suc n) id t = (ty : «Type») → slice_get types id ≡ Some ty → FormedIn (λ k u. FormedTree types n k u) (shape_of_type types n) ty t
@@ -236,35 +255,43 @@ module _ (rule : Codec) (f : ℕ → Shape) (H : ℕ → Tree → List Span → 
       go (t, here, inr (n, m)) = inl (left_same p.presence t u (own_missing (key_of (f p.type_id.0)) p.presence t m) (beside Same full us k t u each (front k t here) found))
 
   inside_kept : (ty : «Type») (e : Span) (t : Tree) (es : List Span) → HoldsInside rule f H ty e t es → ((tag : Tag) (x : List ℕ) → ty ≡ Any tag → HasOpen tag e.octets.now x → IsWellFormed x)
-      → (ty ≡ Unknown → AreEncodings e.octets.now) → AllByRecursion Q es → (u : Tree) → Same t u → FormedIn F f ty u
-  inside_kept (Leaf kind tag c names) e t es h w v q u s = tt
-  inside_kept (Enumerated tag ns) e t es h w v q u s = tt
-  inside_kept (Any tag) e t es h w v q u s = λ x i. let back = same_sym t u s in w tag x refl ((h.1 x).0 (subst (λ z. Same z t) i back))
-  inside_kept Unknown e t es (n, (xs, i, p, all)) w v q u s = λ ys g.
+      → (ty ≡ Unknown → AreEncodings e.octets.now) → IsSetFormed f ty e → AllByRecursion Q es → (u : Tree) → Same t u → FormedIn F f ty u
+  inside_kept (Leaf kind tag c names) e t es h w v z q u s = tt
+  inside_kept (Enumerated tag ns) e t es h w v z q u s = tt
+  inside_kept (Any tag) e t es h w v z q u s = λ x i. let back = same_sym t u s in w tag x refl ((h.1 x).0 (subst (λ z. Same z t) i back))
+  inside_kept Unknown e t es (n, (xs, i, p, all)) w v z q u s = λ ys g.
       let (us, j, each) = items_alike (map numbers xs) u (subst (λ z. Same z u) i s) in
       let same : map numbers xs ≡ map numbers ys = sym (same_numbers xs us each) ∙ items_one us (map numbers ys) (sym j ∙ g) in
       let (ps, at, formed) = v refl in
       subst (AllByRecursion IsWellFormed) (numbers_one xs ys same) (wholes_formed xs ps all formed (sym p ∙ at))
-  inside_kept (Tagged tag id) e t es h w v q u s = below id.0 t es h q u s
-  inside_kept (Choice name ks) e t es (k, a, v, at, i, h) w m q u s = go (subst (λ z. Same z u) i s)
+  inside_kept (Tagged tag id) e t es h w v z q u s = below id.0 t es h q u s
+  inside_kept (Choice name ks) e t es (k, a, v, at, i, h) w m z q u s = go (subst (λ z. Same z u) i s)
     where
       go : Same (chosen k v) u → FormedIn F f (Choice name ks) u
-      go (z, g, s) = λ j c y found e.
-          let o = chosen_one k j z y (sym g ∙ e) in
+      go (x, g, s) = λ j c y found e.
+          let o = chosen_one k j x y (sym g ∙ e) in
           let same : a ≡ c = some_is a c (at ∙ (ap (slice_get ks.items) o.0 ∙ sym found)) in
-          subst (λ (x : Alternative). F x.type_id.0 y) same (subst (F a.type_id.0) o.1 (below a.type_id.0 v es h q z s))
-  inside_kept (Sequence tag ps) e t es (ts, i, h) w v q u s = λ vs g.
+          subst (λ (b : Alternative). F b.type_id.0 y) same (subst (F a.type_id.0) o.1 (below a.type_id.0 v es h q x s))
+  inside_kept (Sequence tag ps) e t es (ts, i, h) w v z q u s = λ vs g.
       let (us, j, each) = items_alike ts u (subst (λ z. Same z u) i s) in
       subst (FormedComponents F ps.items) (items_one us vs (sym j ∙ g)) (components_kept ps.items ts us es h q each)
-  inside_kept (Set name tag ps) e t es (rs, ts, unknown, i, by, along) w v q u s = λ vs g.
-      let (full, k, front) = set_list (is_extensible f ps.items) ts unknown t i in
-      let (us, j, each) = items_alike full u (subst (λ z. Same z u) k s) in
-      let named = named_components f ps.items in
-      subst (FormedComponents F named) (items_one us vs (sym j ∙ g)) (members_kept named rs ts full us es front by along q each)
-  inside_kept (SequenceOf tag id c) e t es (ts, i, along) w v q u s = λ vs g.
+  inside_kept (Set name tag ps) e t es (rs, ts, unknown, i, by, (xs, zs, has, ws, on, own), along) w v z q u s = (
+    λ vs g.
+        let (full, k, front) = set_list (is_extensible f ps.items) ts unknown t i in
+        let (us, j, each) = items_alike full u (subst (λ x. Same x u) k s) in
+        let named = named_components f ps.items in
+        subst (FormedComponents F named) (items_one us vs (sym j ∙ g)) (members_kept named rs ts full us es front by along q each),
+    λ before ys extensible g.
+        let all : t ≡ items (ts ++ (items unknown ∷ [])) = subst (λ b. IsSetTree b ts unknown t) extensible i in
+        let (us, j, each) = items_alike (ts ++ (items unknown ∷ [])) u (subst (λ x. Same x u) all s) in
+        let ends = subst (Each Same (ts ++ (items unknown ∷ []))) (items_one us (before ++ (items (map numbers ys) ∷ [])) (sym j ∙ g)) each in
+        let same = subst (λ l. Same (items l) (items (map numbers ys))) own (each_last Same ts before (items unknown) (items (map numbers ys)) ends) in
+        subst (AllByRecursion IsWellFormed) (same_octets zs ys same) (ones_well (components_by f (named_components f ps.items)) xs zs ws on (z xs has ws extensible)),
+  )
+  inside_kept (SequenceOf tag id c) e t es (ts, i, along) w v z q u s = λ vs g.
       let (us, j, each) = items_alike ts u (subst (λ z. Same z u) i s) in
       subst (AllByRecursion (F id.0)) (items_one us vs (sym j ∙ g)) (each_kept id.0 ts us es along q each)
-  inside_kept (SetOf tag id c) e t es (ts, i, along) w v q u s = λ vs g. go vs g (subst (λ z. Same z u) i s)
+  inside_kept (SetOf tag id c) e t es (ts, i, along) w v z q u s = λ vs g. go vs g (subst (λ z. Same z u) i s)
     where
       go : (vs : List Tree) → u ≡ set_elements (items vs) → Same (set_elements (items ts)) u → AllByRecursion (F id.0) vs
       go vs g (xs, ys, j, order, s) =
@@ -280,15 +307,15 @@ formed_part types id e ty i at w tag x g has = w.0 tag x (ap (slice_get types) i
 formed_unknown : (types : List «Type») (id : ℕ) (e : Span) (ty : «Type») → e.id.0 ≡ id → slice_get types id ≡ Some ty → HasFormed types e → ty ≡ Unknown → AreEncodings e.octets.now
 formed_unknown types id e ty i at w g = w.1 (ap (slice_get types) i ∙ (at ∙ ap Some g))
 
-pub kept : (rule : Codec) (types : List «Type») (n id : ℕ) (t : Tree) (es : List Span) → Holds rule types n id t es → AllByRecursion (HasFormed types) es → (u : Tree) → Same t u → FormedTree types n id u
+pub kept : (rule : Codec) (types : List «Type») (n id : ℕ) (t : Tree) (es : List Span) → Holds rule types n id t es → AllByRecursion (IsFormedWith types) es → (u : Tree) → Same t u → FormedTree types n id u
 unfolding Holds FormedTree
 kept rule types zero id t es h q u s = tt
-kept rule types (suc n) id t es (e, inside, is, i, ty, at, h) q u s = λ tz found.
-    let all = subst (AllByRecursion (HasFormed types)) is q in
+kept rule types (suc n) id t es (e, inside, is, i, deep, ty, at, h) q u s = λ tz found.
+    let all = subst (AllByRecursion (IsFormedWith types)) is q in
     let same : ty ≡ tz = some_is ty tz (sym at ∙ found) in
     subst (λ z. FormedIn (λ k u. FormedTree types n k u) (shape_of_type types n) z u) same
-    (inside_kept rule (shape_of_type types n) (λ k u more. Holds rule types n k u more) (λ k u. FormedTree types n k u) (HasFormed types) (λ k t es h q u s. kept rule types n k t es h q u s)
-    ty e t inside h (formed_part types id e ty i at all.0) (formed_unknown types id e ty i at all.0) all.1 u s)
+    (inside_kept rule (shape_of_type types n) (λ k u more. Holds rule types n k u more) (λ k u. FormedTree types n k u) (IsFormedWith types) (λ k t es h q u s. kept rule types n k t es h q u s)
+    ty e t inside h (formed_part types id e ty i at all.0.0) (formed_unknown types id e ty i at all.0.0) (set_formed types n e deep ty (ap (slice_get types) i ∙ at) all.0) all.1 u s)
 
 -- ---- parts of a value whose open types are well formed, as DER writes them
 
@@ -345,9 +372,9 @@ module _ (f : ℕ → Shape) (H : ℕ → Tree → List Span → Type 0) (F : �
   inside_formed (Tagged tag id) e t es h a = below id.0 t es h a
   inside_formed (Choice name ks) e t es (k, c, u, at, i, h) a = below c.type_id.0 u es h (a k c u at i)
   inside_formed (Sequence tag ps) e t es (ts, i, h) a = components_formed ps.items ts es h (a ts i)
-  inside_formed (Set name tag ps) e t es (rs, ts, us, i, by, along) a =
+  inside_formed (Set name tag ps) e t es (rs, ts, us, i, by, held, along) a =
       let (full, j, front) = set_list (is_extensible f ps.items) ts us t i in
-      members_formed (named_components f ps.items) rs ts full front by (a full j) rs (λ r h. h) es along
+      members_formed (named_components f ps.items) rs ts full front by (a.0 full j) rs (λ r h. h) es along
   inside_formed (SequenceOf tag id c) e t es (ts, i, along) a = each_formed id.0 ts es along (a ts i)
   inside_formed (SetOf tag id c) e t es (ts, i, along) a = each_formed id.0 ts es along (a ts i)
 
@@ -378,15 +405,34 @@ unknown_formed f H F (Set name t0 ps) e t es h a g = absurd cc
 unknown_formed f H F (SequenceOf t0 id c) e t es h a g = absurd cc
 unknown_formed f H F (SetOf t0 id c) e t es h a g = absurd cc
 
-pub formed : (types : List «Type») (n id : ℕ) (t : Tree) (es : List Span) → Holds Der types n id t es → FormedTree types n id t → AllByRecursion (HasFormed types) es
+-- Each of the unknown components of the SET is well formed.
+holds_formed : (f : ℕ → Shape) (H : ℕ → Tree → List Span → Type 0) (F : ℕ → Tree → Type 0) (ty : «Type») (e : Span) (t : Tree) (es : List Span) → HoldsInside Der f H ty e t es → FormedIn F f ty t → HoldsFormed f ty e
+holds_formed f H F (Set name tag ps) e t es (rs, ts, us, i, by, (xs, zs, has, ws, on, own), along) a =
+    (xs, has, ws, well_ones (components_by f (named_components f ps.items)) xs zs on (go (is_extensible f ps.items) refl))
+  where
+    go : (b : Bool) → is_extensible f ps.items ≡ b → AllByRecursion IsWellFormed zs
+    go true e = a.1 ts zs e (subst (λ b. IsSetTree b ts us t) e i ∙ ap (λ l. items (ts ++ (items l ∷ []))) own)
+    go false e = let none : zs ≡ [] = numbers_one zs [] (sym own ∙ (subst (λ b. IsSetTree b ts us t) e i).0) in subst (AllByRecursion IsWellFormed) (sym none) tt
+holds_formed f H F (Leaf kind tag c names) e t es h a = tt
+holds_formed f H F (Enumerated tag ns) e t es h a = tt
+holds_formed f H F (Any tag) e t es h a = tt
+holds_formed f H F (Tagged tag id) e t es h a = tt
+holds_formed f H F (Choice name ks) e t es h a = tt
+holds_formed f H F (Sequence tag ps) e t es h a = tt
+holds_formed f H F (SequenceOf tag id c) e t es h a = tt
+holds_formed f H F (SetOf tag id c) e t es h a = tt
+holds_formed f H F Unknown e t es h a = tt
+
+pub formed : (types : List «Type») (n id : ℕ) (t : Tree) (es : List Span) → Holds Der types n id t es → FormedTree types n id t → AllByRecursion (HasAllFormed types) es
 unfolding Holds FormedTree
 formed types zero id t es h a = absurd h
-formed types (suc n) id t es (e, inside, is, i, ty, at, h) a =
+formed types (suc n) id t es (e, inside, is, i, deep, ty, at, h) a =
     let own : FormedIn (λ k u. FormedTree types n k u) (shape_of_type types n) ty t = a ty at in
     let mine : HasFormed types e = (
       λ tag x found has. open_formed (shape_of_type types n) (λ k u more. Holds Der types n k u more) (λ k u. FormedTree types n k u) ty e t inside h own tag x
           (some_is ty (Any tag) (sym at ∙ (ap (slice_get types) (sym i) ∙ found))) has,
       λ found. unknown_formed (shape_of_type types n) (λ k u more. Holds Der types n k u more) (λ k u. FormedTree types n k u) ty e t inside h own (some_is ty Unknown (sym at ∙ (ap (slice_get types) (sym i) ∙ found))),
     ) in
-    subst (AllByRecursion (HasFormed types)) (sym is)
-    (mine, inside_formed (shape_of_type types n) (λ k u more. Holds Der types n k u more) (λ k u. FormedTree types n k u) (HasFormed types) (λ k t es h a. formed types n k t es h a) ty e t inside h own)
+    let sets = all_formed_of types n e deep ty (ap (slice_get types) i ∙ at) (holds_formed (shape_of_type types n) (λ k u more. Holds Der types n k u more) (λ k u. FormedTree types n k u) ty e t inside h own) in
+    subst (AllByRecursion (HasAllFormed types)) (sym is)
+    ((mine, sets), inside_formed (shape_of_type types n) (λ k u more. Holds Der types n k u more) (λ k u. FormedTree types n k u) (HasAllFormed types) (λ k t es h a. formed types n k t es h a) ty e t inside h own)

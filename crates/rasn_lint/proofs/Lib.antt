@@ -18,6 +18,7 @@ pub mod Wholes
 pub mod Shown
 pub mod Listed
 pub mod Clean
+pub mod Passed
 pub mod Holding
 pub mod Kept
 pub mod OpenSets
