@@ -79,7 +79,12 @@ in_middle : (r : Tree) (a b : List Tree) → In r (a ++ r ∷ b)
 in_middle r [] b = inl refl
 in_middle r (x ∷ a) b = inr (in_middle r a b)
 
-none_in : (k : ℕ) (t u : Tree) (rs : List Tree) → OneOf k t rs → In (chosen k u) rs → u ≡ t
+none_in : (k : ℕ) (u : Tree) (rs : List Tree) → NoneOf k rs → In (chosen k u) rs → ⊥
+none_in k u [] n h = h
+none_in k u (r ∷ rs) n (inl e) = n.0 u (sym e)
+none_in k u (r ∷ rs) n (inr h) = none_in k u rs n.1 h
+
+one_in : (k : ℕ) (t u : Tree) (rs : List Tree) → OneOf k t rs → In (chosen k u) rs → u ≡ t
 one_in k t u rs o h = go (in_either (chosen k u) o.before (chosen k t ∷ o.after) (subst (In (chosen k u)) o.is h))
   where
     go : In (chosen k u) o.before ⊎ In (chosen k u) (chosen k t ∷ o.after) → u ≡ t
