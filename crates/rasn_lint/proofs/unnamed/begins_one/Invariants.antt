@@ -1,4 +1,3 @@
-use Rattle.rasn_lint.proofs.Anew.{normal_is_clean}
 use Rattle.std.proofs.Common.{length}
 use Rattle.rasn_types.specs.Shapes.{IsFirstOf}
 use Rattle.rasn_schema.specs.Shapes.{shape_of_type, components_by}
