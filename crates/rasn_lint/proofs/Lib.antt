@@ -27,3 +27,4 @@ pub mod WorkedDepartures
 pub mod WorkedList
 pub mod WorkedMessages
 pub mod WorkedReplies
+pub mod WorkedSets

@@ -49,11 +49,11 @@ module _ (types : List «Type») (P : Span → Type 0) where
 
   pub every_apart : (parts every : List Span) (u : HasUnnamed types parts every) → AllByRecursion P every → AllByRecursion P parts × AllByRecursion P u.0
   every_apart parts every (found, of, inl (none, same)) h = (subst (AllByRecursion P) same h, subst (AllByRecursion P) (sym none) tt)
-  every_apart parts every (found, of, inr (same, order)) h = all_split P parts found (moved every (parts ++ found) (IsPermutation-sym (parts ++ found) every same) h)
+  every_apart parts every (found, of, inr (same, order, stable)) h = all_split P parts found (moved every (parts ++ found) (IsPermutation-sym (parts ++ found) every same) h)
 
   pub every_together : (parts every : List Span) (u : HasUnnamed types parts every) → AllByRecursion P parts → AllByRecursion P u.0 → AllByRecursion P every
   every_together parts every (found, of, inl (none, same)) h k = subst (AllByRecursion P) (sym same) h
-  every_together parts every (found, of, inr (same, order)) h k = moved (parts ++ found) every same (all_both P parts found h k)
+  every_together parts every (found, of, inr (same, order, stable)) h k = moved (parts ++ found) every same (all_both P parts found h k)
 
 -- ---- what is found step by step
 

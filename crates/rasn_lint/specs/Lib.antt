@@ -20,3 +20,4 @@ pub mod Laws
 pub mod Worked
 pub mod WorkedMessages
 pub mod WorkedReplies
+pub mod WorkedSets

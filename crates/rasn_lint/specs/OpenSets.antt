@@ -1,6 +1,7 @@
 -- The components of SETs that their types don't name (X.680 27), each of which is a part here.
 use Rattle.std.specs.Prelude.{◌≡◌, ◌⊎◌, ◌-◌, ◌^◌, ℕ, true, List, [], ◌∷◌, ◌++◌, length, Option, Some, Ok, slice_get}
-use Rattle.std.specs.List.Sorted.{IsNonDecreasingBy, IsPermutation}
+use Rattle.std.specs.List.Sorted.{IsNonDecreasingBy, IsPermutation, IsStableByKey}
+use Rattle.std.specs.Ordering.{nat_cmp}
 use Rattle.rasn_types.specs.declared.types.codec.Codec.TheVariants.{Ber}
 use Rattle.rasn_types.specs.declared.types.tag.Tag.{Tag}
 use Rattle.rasn_types.specs.Tags.{form}
@@ -82,6 +83,10 @@ AreUnnamed types (e ∷ parts) es = (mine : List Span) × (others : List Span) �
 abbrev pub start_of : Span → ℕ
 start_of e = (2 ^ 64 - 1) - e.left
 
--- The parts, and the unnamed components among them, in the order of their octets.
+-- The parts in the order of their octets, where those that begin at the same octet keep their order.
+abbrev pub AreInOrder : List Span → List Span → Type 0
+AreInOrder parts all = IsPermutation parts all × IsNonDecreasingBy start_of all × IsStableByKey start_of nat_cmp parts all
+
+-- The parts, and the unnamed components among them; if there are none of these, the parts are as they were.
 abbrev pub HasUnnamed : List «Type» → List Span → List Span → Type 0
-HasUnnamed types parts all = (found : List Span) × AreUnnamed types parts found × (((found ≡ []) × (all ≡ parts)) ⊎ (IsPermutation (parts ++ found) all × IsNonDecreasingBy start_of all))
+HasUnnamed types parts all = (found : List Span) × AreUnnamed types parts found × (((found ≡ []) × (all ≡ parts)) ⊎ AreInOrder (parts ++ found) all)

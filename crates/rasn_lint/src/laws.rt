@@ -6,6 +6,9 @@ ghost use Rattle.rasn_schema.specs.declared.types.NamedNumber.{NamedNumber};
 ghost use Rattle.rasn_lint.specs.Worked.{WorkedDepartures};
 ghost use Rattle.rasn_lint.specs.WorkedMessages.{WorkedMessages};
 ghost use Rattle.rasn_lint.specs.WorkedReplies.{AreOfReply, WorkedReplies};
+ghost use Rattle.rasn_lint.specs.WorkedSets.{NamesBoolean, WorkedSets};
+ghost use Rattle.rasn_lint.specs.declared.unnamed.OpenSet.{OpenSet};
+ghost use Rattle.rasn_dynamic.specs.declared.span.Span.{Span};
 ghost use Rattle.rasn_schema.specs.declared.types.«Type».{«Type»};
 
 /// Proves what the list of a message says of the value written anew, as `rasn_dynamic::normalise`
@@ -40,4 +43,10 @@ pub fn worked_messages()
 /// octets than it needs, and nothing else where open types aren't looked into.
 pub fn worked_replies()
     ensures { (types : List «Type») → AreOfReply types → WorkedReplies types }
+{}
+
+/// Proves which of the encodings in a SET are components that its type doesn't name: after a BOOLEAN,
+/// which it names, a NULL.
+pub fn worked_sets()
+    ensures { (names : Vec NamedNumber Global) (set : OpenSet) (e : Span) → NamesBoolean set e → WorkedSets names set e }
 {}
