@@ -16,7 +16,7 @@ use Rattle.rasn_schema.specs.Shapes.{shape_of_type, components_by}
 use Rattle.rasn_dynamic.specs.declared.span.Span.{Span}
 use Rattle.rasn_dynamic.specs.declared.span.Spans.{Spans}
 use Rattle.rasn_dynamic.specs.Inside.{DecodesTree}
-use Rattle.rasn_dynamic.specs.Sets.{is_extensible, named_components, PassesUnknown}
+use Rattle.rasn_dynamic.specs.Sets.{is_extensible, named_components, last_type, PassesUnknown}
 use Rattle.rasn_dynamic.specs.Calls.{LeavesAllOut}
 use Rattle.rasn_dynamic.specs.Faults.{IsNextAlternative, octets_after}
 use Rattle.rasn_dynamic.specs.Parts.{IsAbsentHere}
@@ -47,6 +47,16 @@ abbrev pub InTurn : (ℕ → State → State → List Span → Type 0) → ℕ �
 InTurn step zero s last es = (last ≡ s) × (es ≡ [])
 InTurn step (suc n) s last es = (before : List Span) × (mine : List Span) × (here : State) × (es ≡ before ++ mine) × InTurn step n s here before × step n here last mine
 
+-- The part with the index k is an encoding that no type describes, up to the state next, and nothing is inside it.
+pub record UnknownListed (levels id k b : ℕ) (s next : State) (es : List Span) : Type 0 where
+  pub part : Span
+  pub is : es ≡ part ∷ []
+  pub id_is : part.id.0 ≡ id
+  pub index : part.index ≡ k
+  pub deep : part.levels ≡ levels
+  pub left : part.left ≡ capped b (length s.rest)
+  pub octets : s.rest ≡ part.octets.now ++ next.rest
+
 -- f gives the shape of the type with a number. P id b s es: of a value of the type that is read in the state s, if b octets of the message follow what is seen, these are the parts inside.
 module _ (f : ℕ → Shape) (levels : ℕ) (P : ℕ → ℕ → State → List Span → Type 0) where
   -- The part with the index k is read by its shape from its octets, up to the state next, and after it are the parts inside it.
@@ -74,13 +84,14 @@ module _ (f : ℕ → Shape) (levels : ℕ) (P : ℕ → ℕ → State → List 
   abbrev pub ComponentsListed : List Component → ℕ → State → List Span → Type 0
   ComponentsListed ps b s es = (LeavesAllOut ps s × (es ≡ [])) ⊎ ((last : State) × InTurn (ComponentAt ps b) (length ps) s last es)
 
-  -- A component of a SET, unless it is an unknown value; and those of a SET, in any order, up to the end.
-  abbrev pub MemberListed : Bool → List Component → ℕ → State → State → List Span → Type 0
-  MemberListed extensible ps b s next es = (PassesUnknown extensible (components_by f ps) s next × (es ≡ []))
+  -- A component of a SET that names the components ps. An unknown one has the type other, and the index that follows theirs.
+  abbrev pub MemberListed : Bool → List Component → ℕ → ℕ → State → State → List Span → Type 0
+  MemberListed extensible ps other b s next es = (PassesUnknown extensible (components_by f ps) s next × UnknownListed levels other (length ps) b s next es)
       ⊎ ((k : ℕ) × (p : Component) × (Some p ≡ slice_get ps k) × PartListed p.type_id.0 k b s next es)
 
-  abbrev pub MembersListed : Bool → List Component → ℕ → State → List Span → Type 0
-  MembersListed extensible ps b s es = (n : ℕ) × (last : State) × InTurn (λ k. MemberListed extensible ps b) n s last es × Ended last.closing last.rest
+  -- Those of a SET, in any order, up to the end.
+  abbrev pub MembersListed : Bool → List Component → ℕ → ℕ → State → List Span → Type 0
+  MembersListed extensible ps other b s es = (n : ℕ) × (last : State) × InTurn (λ k. MemberListed extensible ps other b) n s last es × Ended last.closing last.rest
 
   -- Elements, up to the end.
   abbrev pub ElementsListed : ℕ → ℕ → State → List Span → Type 0
@@ -99,7 +110,7 @@ module _ (f : ℕ → Shape) (levels : ℕ) (P : ℕ → ℕ → State → List 
   ContentsListed (Tagged tag id) b s es = (last : State) × PartListed id.0 0 b s last es
   ContentsListed (Choice name ks) b s es = AlternativeListed ks.items b s es
   ContentsListed (Sequence tag ps) b s es = ComponentsListed ps.items b s es
-  ContentsListed (Set name tag ps) b s es = MembersListed (is_extensible f ps.items) (named_components f ps.items) b s es
+  ContentsListed (Set name tag ps) b s es = MembersListed (is_extensible f ps.items) (named_components f ps.items) (last_type ps.items) b s es
   ContentsListed (SequenceOf tag id c) b s es = ElementsListed id.0 b s es
   ContentsListed (SetOf tag id c) b s es = ElementsListed id.0 b s es
 

@@ -1,5 +1,5 @@
 -- The components of a SET: those that its type names, in any order, and unknown ones among them, whose tags are none of theirs (X.680 27).
-use Rattle.std.specs.Prelude.{◌≡◌, ◌-◌, ℕ, Bool, true, if◌then◌else◌, List, length, map, take, Ok}
+use Rattle.std.specs.Prelude.{◌≡◌, ◌-◌, ℕ, Bool, true, if◌then◌else◌, List, [], ◌∷◌, length, map, take, Ok}
 use Rattle.rasn_types.specs.Shapes.{Tree, chosen, Shape, choice_by, Parts, count}
 use Rattle.rasn_types.specs.Lawful.{AreComponents, AreDistinguished}
 use Rattle.rasn_de.specs.State.{State}
@@ -16,6 +16,12 @@ is_extensible f ps = ends_unknown (components_by f ps)
 -- The components that the type names: without the last, if that is unknown values.
 abbrev pub named_components : (ℕ → Shape) → List Component → List Component
 named_components f ps = if is_extensible f ps then take (length ps - 1) ps else ps
+
+-- The number of the type of the last component, if there is one. That of an extensible SET is the type of unknown values.
+abbrev pub last_type : List Component → ℕ
+last_type [] = 0
+last_type (p ∷ []) = p.type_id.0
+last_type (p ∷ (q ∷ ps)) = last_type (q ∷ ps)
 
 -- Parts of a SET of a schema: each has a tag, and no two have one in common.
 abbrev pub AreLawfulMembers : Parts → Type 0
