@@ -5,3 +5,5 @@ pub mod Appended
 pub mod ReadParts
 pub mod DayTexts
 pub mod Spelled
+pub mod Utf16
+pub mod Filled

@@ -12,7 +12,7 @@ use Rattle.rasn_types.specs.Shapes.{Tree, Presence, required, addition, optional
 use Rattle.rasn_types.specs.Calendar.{Moment}
 use Rattle.rasn_types.specs.BitString.{significant}
 use Rattle.rasn_types.specs.CowBits.{cow_bits}
-use Rattle.rasn_types.specs.Text.{IsDotted, shown_day}
+use Rattle.rasn_types.specs.Text.{shown_day}
 use Rattle.rasn_schema.specs.declared.types.LeafKind.{LeafKind}
 use Rattle.rasn_schema.specs.declared.types.LeafKind.TheVariants.{NamedBits, OctetString, FixedOctetString}
 use Rattle.rasn_schema.specs.declared.types.NamedNumber.{NamedNumber}
@@ -23,10 +23,10 @@ use Rattle.rasn_schema.specs.declared.types.«Type».TheVariants.{Leaf, Enumerat
 use Rattle.rasn_schema.specs.declared.value.Value.{Value, Boolean, Null, Integer as Number, Bits, Octets, Text, Units, Arcs, Instant, Day, Absent, Items', Elements', Chosen'}
 use Rattle.rasn_schema.specs.Trees.{tree_of}
 use Rattle.rasn_schema.specs.Shapes.{presence_of}
-use Rattle.rasn_schema.specs.Fitting.{AreItems, AreElements, IsChosen}
+use Rattle.rasn_schema.specs.Fitting.{AreItems, AreElements, FitsLeaf, IsChosen}
 use Rattle.rasn_json.specs.Decimal.{IsWhole}
-use Rattle.rasn_json.specs.Texts.{InstantText, ArePacked}
-use Rattle.rasn_json.specs.Json.{IsExtensible, IsString, IsNothing, unknown_in, one_size}
+use Rattle.rasn_json.specs.Texts.{InstantText, UnitsText, ArcsText, ArePacked}
+use Rattle.rasn_json.specs.Json.{IsExtensible, IsNothing, unknown_in, one_size}
 
 -- ---- numbers
 
@@ -76,8 +76,12 @@ abbrev pub BitsRead : LeafKind → Option ℕ → Json → List Bool → Type 0
 BitsRead NamedBits size j bs = NamedBitsRead size j bs
 BitsRead _ size j bs = AllBitsRead size j bs
 
+-- The octets of a BMPString with the characters of the string.
+abbrev pub UnitsRead : Json → List ℕ → Type 0
+UnitsRead j octets = (s : List ℕ) × (as_str j ≡ Some s) × UnitsText s octets
+
 abbrev pub ArcsRead : Json → List ℕ → Type 0
-ArcsRead j a = (s : List ℕ) × (as_str j ≡ Some s) × IsDotted s a
+ArcsRead j a = (s : List ℕ) × (as_str j ≡ Some s) × ArcsText s a
 
 abbrev pub InstantRead : LeafKind → Json → Moment → Type 0
 InstantRead kind j m = (s : List ℕ) × (as_str j ≡ Some s) × InstantText kind s m
@@ -91,7 +95,7 @@ LeafRead kind c names j (Number n) = IntegerRead kind names j n
 LeafRead kind c names j (Bits b) = BitsRead kind (one_size c) j (cow_bits b)
 LeafRead kind c names j (Octets o) = OctetsRead kind j (cow_slice_items o)
 LeafRead kind c names j (Text s) = as_str j ≡ Some (cow_str_bytes s)
-LeafRead kind c names j (Units u) = IsString j
+LeafRead kind c names j (Units u) = UnitsRead j u
 LeafRead kind c names j (Arcs a) = ArcsRead j a
 LeafRead kind c names j (Instant t) = InstantRead kind j t.moment
 LeafRead kind c names j (Day d) = as_str j ≡ Some (shown_day d)
@@ -134,7 +138,7 @@ abbrev pub ArrayRead : (Json → Value → Type 0) → Json → List Value → T
 ArrayRead P j vs = (js : Items) × (j ≡ array js) × ItemsRead P js vs
 
 abbrev pub ReadBy : (ℕ → Bool) → (ℕ → Json → Value → Type 0) → «Type» → Json → Value → Type 0
-ReadBy u g (Leaf kind tag c names) j v = LeafRead kind c names.items j v
+ReadBy u g (Leaf kind tag c names) j v = FitsLeaf kind v × LeafRead kind c names.items j v
 ReadBy u g (Enumerated tag ns) j v = EnumeratedRead ns.items j v
 ReadBy u g (Any tag) j v = OpenRead j v
 ReadBy u g (Tagged tag k) j v = g k.0 j v
