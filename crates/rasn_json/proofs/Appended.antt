@@ -1,5 +1,5 @@
 -- Tokens that are appended, one after the other.
-use Rattle.std.proofs.Common.{◌≡◌, ℕ, List, [], ◌∷◌, ◌++◌, Some, Result, Ok, Err, inl, inr, refl, sym, ap, ◌∙◌, subst, append_assoc}
+use Rattle.std.proofs.Common.{◌≡◌, ◌<◌, ◌^◌, ℕ, List, [], ◌∷◌, ◌++◌, Some, Result, Ok, Err, inl, inr, refl, sym, ap, ◌∙◌, subst, append_assoc}
 use Rattle.std.specs.Prelude.{◌⊎◌, ◌≢◌, Bool, length, codes, decimal, encode_utf8_all, slice_get, OnOk}
 use Rattle.std.specs.String.{string_bytes}
 use Rattle.json.specs.Token.{Token, begin_object, end_object, begin_array, end_array, key, string, number}
@@ -41,14 +41,14 @@ on_one P j old new (Err x) e h = tt
 
 -- ---- leaves
 
-pub counted_appended : (bs : List Bool) (o : List ℕ) (n : ℕ) (old one two three four five new : List Token) → Packs bs o → n ≡ length bs → one ≡ old ++ begin_object ∷ [] → two ≡ one ++ key (codes "value") ∷ []
+pub counted_appended : (bs : List Bool) (o : List ℕ) (n : ℕ) (old one two three four five new : List Token) → Packs bs o → n ≡ length bs → n < 2 ^ 64 → one ≡ old ++ begin_object ∷ [] → two ≡ one ++ key (codes "value") ∷ []
     → Appends (HexadecimalJson o) two three → four ≡ three ++ key (codes "length") ∷ [] → five ≡ four ++ number (decimal n) ∷ [] → new ≡ five ++ end_object ∷ [] → Appends (CountedJson bs) old new
-counted_appended bs o n old one two three four five new p m a b (j, s, h) d e f =
+counted_appended bs o n old one two three four five new p m w a b (j, s, h) d e f =
     let t : three ≡ two ++ string (hexadecimal o) ∷ [] = subst (λ x. three ≡ two ++ json_tokens x) h.1 s in
     let g : five ≡ four ++ number (decimal (length bs)) ∷ [] = subst (λ k. five ≡ four ++ number (decimal k) ∷ []) m e in (
       counted (json.string (hexadecimal o)) (length bs),
       step old _ five new end_object (step old _ four five _ (step old _ three four _ (step old _ two three _ (step old _ one two _ a b) t) d) g) f,
-      (json.string (hexadecimal o), (o, p, (h.0, refl)), refl),
+      (subst (λ k. k < 2 ^ 64) m w, (json.string (hexadecimal o), (o, p, (h.0, refl)), refl)),
     )
 
 pub other_octets : (kind : LeafKind) (o : List ℕ) (j : Json) → (kind ≢ OctetString) → ((n : ℕ) → kind ≢ FixedOctetString n) → j ≡ json.string (encode_utf8_all o) → OctetsJson kind o j

@@ -7,3 +7,6 @@ pub mod DayTexts
 pub mod Spelled
 pub mod Utf16
 pub mod Filled
+pub mod Strings
+pub mod Leaves
+pub mod ReadBack

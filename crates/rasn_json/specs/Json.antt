@@ -1,12 +1,12 @@
 -- The JSON of a value (X.697).
-use Rattle.std.specs.Prelude.{◌≡◌, ◌≢◌, ◌⊎◌, ◌++◌, ℕ, zero, suc, ◌<◌, ℤ, List, [], ◌∷◌, Bool, true, Option, Some, None, slice_get, codes, decimal, length, encode_utf8_all, ◌==◌, if◌then◌else◌}
+use Rattle.std.specs.Prelude.{◌≡◌, ◌≢◌, ◌⊎◌, ◌++◌, ℕ, zero, suc, ◌<◌, ◌^◌, ℤ, List, [], ◌∷◌, Bool, true, Option, Some, None, slice_get, codes, decimal, length, encode_utf8_all, ◌==◌, if◌then◌else◌}
 use Rattle.std.specs.Cow.{cow_slice_items, cow_str_bytes}
 use Rattle.std.specs.String.{string_bytes}
 use Rattle.json.specs.Token.{Token, key}
 use Rattle.json.specs.Json.{Json, null, boolean, number, string, array, object, Items, no_items, item, Members, no_members, member}
 use Rattle.json.specs.Print.{IsNumber}
 use Rattle.json.specs.Tree.{json_tokens}
-use Rattle.rasn_types.specs.Calendar.{Moment}
+use Rattle.rasn_types.specs.Calendar.{Day, Moment}
 use Rattle.rasn_types.specs.declared.types.constraints.Bound.{Bound}
 use Rattle.rasn_types.specs.declared.types.constraints.Bounded.{Bounded}
 use Rattle.rasn_types.specs.declared.types.constraints.Bounded.TheVariants.{Single, Range}
@@ -14,7 +14,7 @@ use Rattle.rasn_types.specs.declared.types.constraints.Constraints.{Constraints}
 use Rattle.rasn_types.specs.BitString.{Packs, zeros}
 use Rattle.rasn_types.specs.CowBits.{cow_bits}
 use Rattle.rasn_types.specs.Framing.{AreOctets}
-use Rattle.rasn_types.specs.Text.{hexadecimal, shown_day}
+use Rattle.rasn_types.specs.Text.{hexadecimal}
 use Rattle.rasn_schema.specs.declared.types.LeafKind.{LeafKind}
 use Rattle.rasn_schema.specs.declared.types.LeafKind.TheVariants.{Signed64, OctetString, FixedOctetString, NamedBits}
 use Rattle.rasn_schema.specs.declared.types.NamedNumber.{NamedNumber}
@@ -22,11 +22,11 @@ use Rattle.rasn_schema.specs.declared.types.Alternative.{Alternative}
 use Rattle.rasn_schema.specs.declared.types.Component.{Component}
 use Rattle.rasn_schema.specs.declared.types.«Type».{«Type»}
 use Rattle.rasn_schema.specs.declared.types.«Type».TheVariants.{Leaf, Enumerated, Any, Tagged, Choice, Sequence, Set, SequenceOf, SetOf, Unknown}
-use Rattle.rasn_schema.specs.declared.value.Value.{Value, Boolean, Null, Integer as Number, Bits, Octets, Text, Units, Arcs, Instant, Day, Absent, Items', Elements', Chosen'}
+use Rattle.rasn_schema.specs.declared.value.Value.{Value, Boolean, Null, Integer as Number, Bits, Octets, Text, Units, Arcs, Instant, Day as OnDay, Absent, Items', Elements', Chosen'}
 use Rattle.rasn_schema.specs.Trees.{tree_of}
 use Rattle.rasn_schema.specs.Shapes.{presence_of}
 use Rattle.rasn_json.specs.Decimal.{IsWhole}
-use Rattle.rasn_json.specs.Texts.{InstantText, UnitsText, ArcsText}
+use Rattle.rasn_json.specs.Texts.{InstantText, UnitsText, ArcsText, DayText}
 use Rattle.rasn_schema.specs.Fitting.{AreItems, AreElements, FitsLeaf, IsListOf, IsChosen, IsLeftOutAs}
 use Rattle.rasn_schema.specs.Held.{is_unknown_found}
 
@@ -102,7 +102,7 @@ abbrev pub counted : Json → ℕ → Json
 counted x n = object (member (codes "value") x (member (codes "length") (number (decimal n)) no_members))
 
 abbrev pub CountedJson : List Bool → Json → Type 0
-CountedJson bs j = (x : Json) × DigitsJson bs x × (j ≡ counted x (length bs))
+CountedJson bs j = (length bs < 2 ^ 64) × ((x : Json) × DigitsJson bs x × (j ≡ counted x (length bs)))
 
 -- Bits are digits alone exactly if the type has one size, and otherwise digits and their number.
 abbrev pub BitsJson : LeafKind → Option ℕ → List Bool → Json → Type 0
@@ -120,6 +120,9 @@ ArcsJson a j = (s : List ℕ) × (j ≡ string s) × ArcsText s a
 abbrev pub InstantJson : LeafKind → Moment → Json → Type 0
 InstantJson kind m j = (s : List ℕ) × (j ≡ string s) × InstantText kind s m
 
+abbrev pub DayJson : Day → Json → Type 0
+DayJson d j = (s : List ℕ) × (j ≡ string s) × DayText s d
+
 -- ---- values that hold no others
 
 abbrev pub LeafJson : LeafKind → Constraints → List NamedNumber → Value → Json → Type 0
@@ -132,7 +135,7 @@ LeafJson kind c names (Text s) j = j ≡ string (cow_str_bytes s)
 LeafJson kind c names (Units u) j = UnitsJson u j
 LeafJson kind c names (Arcs a) j = ArcsJson a j
 LeafJson kind c names (Instant t) j = InstantJson kind t.moment j
-LeafJson kind c names (Day d) j = j ≡ string (shown_day d)
+LeafJson kind c names (OnDay d) j = DayJson d j
 LeafJson kind c names _ j = ⊥
 
 -- ---- values that hold others. Of a type with a number, g tells which JSON a value has, and u whether it is that of unknown values.

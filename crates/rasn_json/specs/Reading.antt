@@ -9,10 +9,9 @@ use Rattle.rasn_types.specs.declared.types.constraints.Bounded.{Bounded}
 use Rattle.rasn_types.specs.declared.types.constraints.Bounded.TheVariants.{Single, Range}
 use Rattle.rasn_types.specs.declared.types.constraints.Constraints.{Constraints}
 use Rattle.rasn_types.specs.Shapes.{Tree, Presence, required, addition, optional_by, default_by, absent}
-use Rattle.rasn_types.specs.Calendar.{Moment}
+use Rattle.rasn_types.specs.Calendar.{Day, Moment}
 use Rattle.rasn_types.specs.BitString.{significant}
 use Rattle.rasn_types.specs.CowBits.{cow_bits}
-use Rattle.rasn_types.specs.Text.{shown_day}
 use Rattle.rasn_schema.specs.declared.types.LeafKind.{LeafKind}
 use Rattle.rasn_schema.specs.declared.types.LeafKind.TheVariants.{NamedBits, OctetString, FixedOctetString}
 use Rattle.rasn_schema.specs.declared.types.NamedNumber.{NamedNumber}
@@ -20,12 +19,12 @@ use Rattle.rasn_schema.specs.declared.types.Alternative.{Alternative}
 use Rattle.rasn_schema.specs.declared.types.Component.{Component}
 use Rattle.rasn_schema.specs.declared.types.«Type».{«Type»}
 use Rattle.rasn_schema.specs.declared.types.«Type».TheVariants.{Leaf, Enumerated, Any, Tagged, Choice, Sequence, Set, SequenceOf, SetOf, Unknown}
-use Rattle.rasn_schema.specs.declared.value.Value.{Value, Boolean, Null, Integer as Number, Bits, Octets, Text, Units, Arcs, Instant, Day, Absent, Items', Elements', Chosen'}
+use Rattle.rasn_schema.specs.declared.value.Value.{Value, Boolean, Null, Integer as Number, Bits, Octets, Text, Units, Arcs, Instant, Day as OnDay, Absent, Items', Elements', Chosen'}
 use Rattle.rasn_schema.specs.Trees.{tree_of}
 use Rattle.rasn_schema.specs.Shapes.{presence_of}
 use Rattle.rasn_schema.specs.Fitting.{AreItems, AreElements, FitsLeaf, IsChosen}
 use Rattle.rasn_json.specs.Decimal.{IsWhole}
-use Rattle.rasn_json.specs.Texts.{InstantText, UnitsText, ArcsText, ArePacked}
+use Rattle.rasn_json.specs.Texts.{InstantText, UnitsText, ArcsText, DayText, ArePacked}
 use Rattle.rasn_json.specs.Json.{IsExtensible, IsNothing, unknown_in, one_size}
 
 -- ---- numbers
@@ -86,6 +85,9 @@ ArcsRead j a = (s : List ℕ) × (as_str j ≡ Some s) × ArcsText s a
 abbrev pub InstantRead : LeafKind → Json → Moment → Type 0
 InstantRead kind j m = (s : List ℕ) × (as_str j ≡ Some s) × InstantText kind s m
 
+abbrev pub DayRead : Json → Day → Type 0
+DayRead j d = (s : List ℕ) × (as_str j ≡ Some s) × DayText s d
+
 -- ---- values that hold no others
 
 abbrev pub LeafRead : LeafKind → Constraints → List NamedNumber → Json → Value → Type 0
@@ -98,7 +100,7 @@ LeafRead kind c names j (Text s) = as_str j ≡ Some (cow_str_bytes s)
 LeafRead kind c names j (Units u) = UnitsRead j u
 LeafRead kind c names j (Arcs a) = ArcsRead j a
 LeafRead kind c names j (Instant t) = InstantRead kind j t.moment
-LeafRead kind c names j (Day d) = as_str j ≡ Some (shown_day d)
+LeafRead kind c names j (OnDay d) = DayRead j d
 LeafRead kind c names j _ = ⊥
 
 -- ---- values that hold others. Of a type with a number, g tells which value JSON is read as, and u whether it is that of unknown values.

@@ -1,9 +1,9 @@
 -- The texts of values in JSON strings.
 use Rattle.std.specs.Prelude.{◌≡◌, ◌⊎◌, ℕ, ◌+◌, ◌/◌, ◌<◌, List, [], ◌∷◌, Bool, length, IsUtf8}
 use Rattle.std.specs.String.{IsUtf16Of}
-use Rattle.rasn_types.specs.Calendar.{Moment}
-use Rattle.rasn_types.specs.Time.{GeneralUtc, GeneralGeneralized}
-use Rattle.rasn_types.specs.Text.{IsDotted}
+use Rattle.rasn_types.specs.Calendar.{Day, Moment}
+use Rattle.rasn_types.specs.Time.{GeneralUtc, GeneralGeneralized, CarriedDay}
+use Rattle.rasn_types.specs.Text.{IsDotted, shown_day}
 use Rattle.rasn_types.specs.BitString.{bits_from}
 use Rattle.rasn_types.specs.CharacterString.{units_of}
 use Rattle.rasn_schema.specs.declared.types.LeafKind.{LeafKind}
@@ -32,3 +32,7 @@ HaveSubidentifier (x ∷ y ∷ l) = (x ≡ 2) ⊎ (y < 40)
 -- Arcs of 32 bits in decimal, with a point between each two.
 abbrev pub ArcsText : List ℕ → List ℕ → Type 0
 ArcsText s a = IsDotted s a × HaveSubidentifier a
+
+-- A day with a year of four digits: YYYY-MM-DD.
+abbrev pub DayText : List ℕ → Day → Type 0
+DayText s d = CarriedDay d × (s ≡ shown_day d)

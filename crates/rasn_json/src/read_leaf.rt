@@ -4,12 +4,12 @@ ghost use Rattle.json.specs.Find.{as_str};
 ghost use Rattle.json.specs.Value.{value_view};
 ghost use Rattle.rasn_types.specs.CharacterString.{AreAdmitted};
 ghost use Rattle.rasn_types.specs.CowBits.{cow_bits};
-ghost use Rattle.rasn_types.specs.Text.{IsSmall, shown_day};
+ghost use Rattle.rasn_types.specs.Text.{IsSmall};
 ghost use Rattle.rasn_types.specs.Truth.{IsWhether};
 ghost use Rattle.rasn_schema.specs.Fitting.{AreOctets, FitsLeaf};
 ghost use Rattle.rasn_json.specs.Json.{one_size};
 ghost use Rattle.rasn_json.specs.Texts.{HaveSubidentifier};
-ghost use Rattle.rasn_json.specs.Reading.{AllBitsRead, ArcsRead, HexadecimalRead, InstantRead, LeafRead, NamedBitsRead, OpenRead, UnitsRead};
+ghost use Rattle.rasn_json.specs.Reading.{AllBitsRead, ArcsRead, DayRead, HexadecimalRead, InstantRead, LeafRead, NamedBitsRead, OpenRead, UnitsRead};
 
 use crate::bits::bits_of;
 use crate::characters::{foreign, octets_of, units_of};
@@ -254,7 +254,7 @@ fn time_of(alloc: Global, kind: LeafKind, json: &Json<'_>) -> Result<Generalized
 }
 
 fn sole_day(alloc: Global, json: &Json<'_>) -> Result<Date, JsonError>
-    ensures { IfOk result (λ d. as_str (value_view json.now) ≡ Some (shown_day d)) }
+    ensures { IfOk result (DayRead (value_view json.now)) }
 {
     let text = string_of(alloc, "a string", json)?;
     match day_of(text) {

@@ -5,10 +5,9 @@ ghost use Rattle.json.specs.Print.{IsPrintable};
 ghost use Rattle.json.specs.Json.{string};
 ghost use Rattle.json.specs.Token.{number};
 ghost use Rattle.rasn_types.specs.BitString.{zeros};
-ghost use Rattle.rasn_types.specs.Text.{shown_day};
 ghost use Rattle.rasn_types.specs.Truth.{IsWhether};
 ghost use Rattle.rasn_schema.specs.Fitting.{FitsLeaf};
-ghost use Rattle.rasn_json.specs.Json.{Appends, ArcsJson, BitsJson, CountedJson, DigitsJson, EnumeratedJson, HexadecimalJson, InstantJson, IntegerJson, IsSize, LeafJson, NumberJson, OctetsJson, OpenJson, ArrayJson, UnitsJson, one_size};
+ghost use Rattle.rasn_json.specs.Json.{Appends, ArcsJson, BitsJson, CountedJson, DayJson, DigitsJson, EnumeratedJson, HexadecimalJson, InstantJson, IntegerJson, IsSize, LeafJson, NumberJson, OctetsJson, OpenJson, ArrayJson, UnitsJson, one_size};
 
 use crate::bits::fixed_size;
 use crate::characters::{text_of, text_of_units};
@@ -271,7 +270,7 @@ fn put_instant<T: Tokens>(
 
 /// Appends a day.
 fn put_day<T: Tokens>(out: &mut T, alloc: Global, day: &Date) -> Result<(), JsonError>
-    ensures { OnOk result (Appends (λ j. j ≡ string (shown_day day.now)) (T.Tokens.written out.old) (T.Tokens.written out.new)) }
+    ensures { OnOk result (Appends (DayJson day.now) (T.Tokens.written out.old) (T.Tokens.written out.new)) }
 {
     let text = some_text(alloc, text_of_day(alloc, day))?;
     put(out, alloc, Token::String(text.as_str()))
