@@ -10,3 +10,4 @@ pub mod Filled
 pub mod Strings
 pub mod Leaves
 pub mod ReadBack
+pub mod Worked

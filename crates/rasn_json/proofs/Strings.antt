@@ -59,7 +59,7 @@ in_capitals (b ∷ o) h =
     let low = same_digit 16 (b % 16) refl (omega arith) in
     ap (λ x. x ∷ digit_glyph true (b % 16) ∷ hexadecimal o) high ∙ (ap (λ x. slice_index upper_digits (b / 16) ∷ x ∷ hexadecimal o) low ∙ ap (λ l. slice_index upper_digits (b / 16) ∷ slice_index upper_digits (b % 16) ∷ l) (in_capitals o h.1))
 
-digits_again : (o : List ℕ) → AreOctets o → decode_of (hexadecimal o) ≡ Ok o
+pub digits_again : (o : List ℕ) → AreOctets o → decode_of (hexadecimal o) ≡ Ok o
 digits_again o h = ap decode_of (in_capitals o h) ∙ decode_of-encode_upper o (digits_of_octets o h)
 
 pub octets_once : (o p : List ℕ) (j : Json) → HexadecimalJson o j → HexadecimalRead j p → o ≡ p

@@ -5,3 +5,4 @@ pub mod Reading
 pub mod Names
 pub mod Entry
 pub mod Laws
+pub mod Worked
