@@ -71,7 +71,7 @@ counted_length x n = refl
 
 all_bits_once : (size : Option ℕ) (bs cs : List Bool) (j : Json) → BitsJson BitString size bs j → AllBitsRead size j cs → bs ≡ cs
 all_bits_once (Some n) bs cs j (all, (same, len), a) b = sym same ∙ sym (digits_once n all cs j len a b)
-all_bits_once None bs cs j (few, (x, a, e)) (y, z, n, v, l, (s, f, w), d) =
+all_bits_once None bs cs j (few, (x, a, e)) (ms, o, own, (y, z, n, v, l, (s, f, w), d)) =
     let p : Some x ≡ Some y = sym (counted_value x (length bs)) ∙ (sym (ap (get (codes "value")) e) ∙ v) in
     let q : Some (number (decimal (length bs))) ≡ Some z = sym (counted_length x (length bs)) ∙ (sym (ap (get (codes "length")) e) ∙ l) in
     let g : Some (decimal (length bs)) ≡ Some s = ap as_number (some_is (number (decimal (length bs))) z q) ∙ f in

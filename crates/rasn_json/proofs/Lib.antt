@@ -4,6 +4,7 @@ pub mod Levels
 pub mod Appended
 pub mod ReadParts
 pub mod DayTexts
+pub mod MemberNames
 pub mod Spelled
 pub mod Utf16
 pub mod Filled

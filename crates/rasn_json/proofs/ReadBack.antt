@@ -196,7 +196,7 @@ module _ (u : ℕ → Bool) (g : ℕ → Value → Json → Type 0) (f : ℕ →
 
   objects_alike : (ps : List Component) (vs ws : List Value) → HaveOwnNames name_of_component ps → ((i : ℕ) (p : Component) → Some p ≡ slice_get ps i → u p.type_id.0 ≡ true → presence_of p.presence ≡ required)
       → ObjectJson u g ps j vs → ObjectRead u f ps j ws → AllAlike vs ws
-  objects_alike ps vs ws own r (ms, e, h) (ns, d, b) = components_alike ps vs ws ms own r (λ i p at. ap (get (string_bytes p.name)) e) h b
+  objects_alike ps vs ws own r (ms, e, h) (ns, d, known, b) = components_alike ps vs ws ms own r (λ i p at. ap (get (string_bytes p.name)) e) h b
 
   choice_alike : (ks : List Alternative) (i k : ℕ) (v w : Value) → HaveOwnNames name_of_alternative ks → ChosenJson g ks j i v → ChosenRead f ks j k w → (i ≡ k) × Alike v w
   choice_alike ks i k v w own (a, x, at, e, h) (b, y, here, d, before, r) =

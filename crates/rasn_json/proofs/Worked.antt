@@ -119,4 +119,4 @@ worked_json = record {
 }
   where
     not_read : (bs : List Bool) → AllBitsRead None (string (codes "A0")) bs → ⊥
-    not_read bs r = let v = r.3 in cc
+    not_read bs r = let v = r.1 in cc

@@ -1,8 +1,10 @@
--- Which value JSON is read as (X.697). The members of an object may be in any order.
-use Rattle.std.specs.Prelude.{◌≡◌, ◌≢◌, ◌⊎◌, ℕ, zero, suc, ◌<◌, ℤ, pos, List, [], ◌∷◌, Bool, true, Option, Some, None, Ok, slice_get, codes, encode_utf8_all, MatchOption}
+-- Which value JSON is read as (X.697). The members of an object may be in any order; none is unknown, and none is repeated.
+use Rattle.std.specs.Prelude.{◌≡◌, ◌≢◌, ◌⊎◌, ℕ, zero, suc, ◌<◌, ℤ, pos, List, [], ◌∷◌, Bool, true, Option, Some, None, Ok, slice_get, map, codes, encode_utf8_all, MatchOption}
 use Rattle.std.specs.Cow.{cow_slice_items, cow_str_bytes}
 use Rattle.std.specs.String.{string_bytes}
 use Rattle.json.specs.Json.{Json, null, boolean, number, string, array, object, Items, no_items, item, Members, no_members, member}
+use Rattle.std.specs.Borrow.{Bor}
+use Rattle.json.specs.declared.value.Value.{Value as JsonValue}
 use Rattle.json.specs.Find.{get, as_str, as_number}
 use Rattle.hex.specs.Hex.{decode_of}
 use Rattle.rasn_types.specs.declared.types.constraints.Bounded.{Bounded}
@@ -26,6 +28,29 @@ use Rattle.rasn_schema.specs.Fitting.{AreItems, AreElements, FitsLeaf, IsChosen}
 use Rattle.rasn_json.specs.Decimal.{IsWhole}
 use Rattle.rasn_json.specs.Texts.{InstantText, UnitsText, ArcsText, DayText, ArePacked}
 use Rattle.rasn_json.specs.Json.{IsExtensible, IsNothing, unknown_in, one_size}
+
+-- ---- names of members
+
+abbrev pub names_in : Members → List (List ℕ)
+names_in no_members = []
+names_in (member k x ms) = k ∷ names_in ms
+
+abbrev pub names_of : {A : Type 0} → List (Bor (List ℕ) × JsonValue A) → List (List ℕ)
+names_of ms = map (λ m. m.0.now) ms
+
+abbrev pub IsAmong : List (List ℕ) → List ℕ → Type 0
+IsAmong l s = (i : ℕ) × (Some s ≡ slice_get l i)
+
+-- Each name is such, and no name before it is the same.
+abbrev pub AreNames : (List ℕ → Type 0) → List (List ℕ) → Type 0
+AreNames P l = (k : ℕ) (s : List ℕ) → Some s ≡ slice_get l k → P s × ((i : ℕ) → i < k → Some s ≡ slice_get l i → ⊥)
+
+abbrev pub IsComponentName : List Component → List ℕ → Type 0
+IsComponentName ps s = (i : ℕ) × (p : Component) × (Some p ≡ slice_get ps i) × (string_bytes p.name ≡ s)
+
+-- The names of the members that bits have.
+abbrev pub IsNameOfBits : List ℕ → Type 0
+IsNameOfBits s = (s ≡ codes "value") ⊎ (s ≡ codes "length")
 
 -- ---- numbers
 
@@ -65,7 +90,7 @@ DigitsRead j n bs = (o : List ℕ) × HexadecimalRead j o × ArePacked o n bs
 -- Bits are digits alone, where the type has one size, or digits and their number.
 abbrev pub AllBitsRead : Option ℕ → Json → List Bool → Type 0
 AllBitsRead (Some n) j bs = DigitsRead j n bs
-AllBitsRead None j bs = (x y : Json) × (n : ℕ) × (get (codes "value") j ≡ Some x) × (get (codes "length") j ≡ Some y) × WholeRead y (pos n) × DigitsRead x n bs
+AllBitsRead None j bs = (ms : Members) × (j ≡ object ms) × AreNames IsNameOfBits (names_in ms) × ((x y : Json) × (n : ℕ) × (get (codes "value") j ≡ Some x) × (get (codes "length") j ≡ Some y) × WholeRead y (pos n) × DigitsRead x n bs)
 
 -- Trailing 0 bits of named bits don't count (X.680 22.7).
 abbrev pub NamedBitsRead : Option ℕ → Json → List Bool → Type 0
@@ -128,7 +153,7 @@ ComponentsRead u g (p ∷ ps) j [] = ⊥
 ComponentsRead u g (p ∷ ps) j (v ∷ vs) = ComponentRead u g p (get (string_bytes p.name) j) v × ComponentsRead u g ps j vs
 
 abbrev pub ObjectRead : (ℕ → Bool) → (ℕ → Json → Value → Type 0) → List Component → Json → List Value → Type 0
-ObjectRead u g ps j vs = (ms : Members) × (j ≡ object ms) × ComponentsRead u g ps j vs
+ObjectRead u g ps j vs = (ms : Members) × (j ≡ object ms) × AreNames (IsComponentName ps) (names_in ms) × ComponentsRead u g ps j vs
 
 abbrev pub ItemsRead : (Json → Value → Type 0) → Items → List Value → Type 0
 ItemsRead P no_items [] = Unit {0}

@@ -11,7 +11,7 @@ mod digits;
 mod entry;
 mod error;
 mod found;
-mod laws;
+pub mod laws;
 mod layout;
 mod members;
 mod number;
