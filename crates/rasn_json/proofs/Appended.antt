@@ -1,5 +1,5 @@
 -- Tokens that are appended, one after the other.
-use Rattle.std.proofs.Common.{◌≡◌, ℕ, List, [], ◌∷◌, ◌++◌, Some, Result, Ok, Err, inl, inr, refl, sym, ap, ◌∙◌, subst, append_assoc}
+use Rattle.std.proofs.Common.{◌≡◌, ◌<◌, ◌^◌, ℕ, List, [], ◌∷◌, ◌++◌, Some, Result, Ok, Err, inl, inr, refl, sym, ap, ◌∙◌, subst, append_assoc}
 use Rattle.std.specs.Prelude.{◌⊎◌, ◌≢◌, Bool, length, codes, decimal, encode_utf8_all, slice_get, OnOk}
 use Rattle.std.specs.String.{string_bytes}
 use Rattle.json.specs.Token.{Token, begin_object, end_object, begin_array, end_array, key, string, number}
@@ -13,7 +13,7 @@ use Rattle.rasn_types.specs.BitString.{Packs}
 use Rattle.rasn_types.specs.Text.{hexadecimal}
 use Rattle.rasn_schema.specs.declared.types.LeafKind.{LeafKind}
 use Rattle.rasn_schema.specs.declared.types.LeafKind.TheVariants.{OctetString, FixedOctetString}
-use Rattle.rasn_json.specs.Json.{HexadecimalJson, BitsJson, OctetsJson, MembersJson, ItemsJson, ObjectJson, ArrayJson, ChosenJson, IsLeftOut, Appends, AppendsMember, AppendsComponent}
+use Rattle.rasn_json.specs.Json.{HexadecimalJson, CountedJson, OctetsJson, counted, MembersJson, ItemsJson, ObjectJson, ArrayJson, ChosenJson, IsLeftOut, Appends, AppendsMember, AppendsComponent}
 
 -- What holds of the JSON holds of one of which less is said.
 pub appends_as : (P Q : Json → Type 0) (old new : List Token) → ((j : Json) → P j → Q j) → Appends P old new → Appends Q old new
@@ -41,12 +41,15 @@ on_one P j old new (Err x) e h = tt
 
 -- ---- leaves
 
-pub counted_appended : (bs : List Bool) (o : List ℕ) (n : ℕ) (old one two three four five new : List Token) → Packs bs o → n ≡ length bs → one ≡ old ++ begin_object ∷ [] → two ≡ one ++ key (codes "value") ∷ []
-    → Appends (HexadecimalJson o) two three → four ≡ three ++ key (codes "length") ∷ [] → five ≡ four ++ number (decimal n) ∷ [] → new ≡ five ++ end_object ∷ [] → Appends (BitsJson bs) old new
-counted_appended bs o n old one two three four five new p m a b (j, s, h) d e f =
-    let t : three ≡ two ++ string (hexadecimal o) ∷ [] = subst (λ x. three ≡ two ++ json_tokens x) h s in
-    let g : five ≡ four ++ number (decimal (length bs)) ∷ [] = subst (λ k. five ≡ four ++ number (decimal k) ∷ []) m e in
-    (object (member (codes "value") (json.string (hexadecimal o)) (member (codes "length") (json.number (decimal (length bs))) no_members)), step old _ five new end_object (step old _ four five _ (step old _ three four _ (step old _ two three _ (step old _ one two _ a b) t) d) g) f, inr (o, p, refl))
+pub counted_appended : (bs : List Bool) (o : List ℕ) (n : ℕ) (old one two three four five new : List Token) → Packs bs o → n ≡ length bs → n < 2 ^ 64 → one ≡ old ++ begin_object ∷ [] → two ≡ one ++ key (codes "value") ∷ []
+    → Appends (HexadecimalJson o) two three → four ≡ three ++ key (codes "length") ∷ [] → five ≡ four ++ number (decimal n) ∷ [] → new ≡ five ++ end_object ∷ [] → Appends (CountedJson bs) old new
+counted_appended bs o n old one two three four five new p m w a b (j, s, h) d e f =
+    let t : three ≡ two ++ string (hexadecimal o) ∷ [] = subst (λ x. three ≡ two ++ json_tokens x) h.1 s in
+    let g : five ≡ four ++ number (decimal (length bs)) ∷ [] = subst (λ k. five ≡ four ++ number (decimal k) ∷ []) m e in (
+      counted (json.string (hexadecimal o)) (length bs),
+      step old _ five new end_object (step old _ four five _ (step old _ three four _ (step old _ two three _ (step old _ one two _ a b) t) d) g) f,
+      (subst (λ k. k < 2 ^ 64) m w, (json.string (hexadecimal o), (o, p, (h.0, refl)), refl)),
+    )
 
 pub other_octets : (kind : LeafKind) (o : List ℕ) (j : Json) → (kind ≢ OctetString) → ((n : ℕ) → kind ≢ FixedOctetString n) → j ≡ json.string (encode_utf8_all o) → OctetsJson kind o j
 other_octets OctetString o j n m h = absurd (n refl)

@@ -1,12 +1,13 @@
 -- The text of a day, with and without hyphens.
-use Rattle.std.proofs.Common.{◌≡◌, ◌<◌, ◌/◌, ◌%◌, ℕ, zero, suc, ℤ, pos, Bool, true, false, List, [], ◌∷◌, ◌++◌, length, get_or, take, drop, Option, Some, None, refl, sym, ap, ◌∙◌, subst, arith}
+use Rattle.std.proofs.Common.{◌≡◌, ◌<◌, ◌≤◌, ◌+◌, ◌/◌, ◌%◌, ℕ, ℤ, pos, negsuc, Bool, true, false, List, [], ◌∷◌, ◌++◌, length, length-append, get_or, take, drop, Option, Some, None, refl, sym, ap, ◌∙◌, subst, arith}
 use Rattle.std.specs.Prelude.{nat_lt, if◌then◌else◌, IfSome}
-use Rattle.std.proofs.lemmas.Bool.{lt-ltb}
+use Rattle.std.proofs.lemmas.Bool.{lt-ltb, ltb-true}
 use Rattle.rasn_types.specs.Calendar.{Day}
 use Rattle.rasn_types.specs.Options.{IsSomeRelated}
 use Rattle.rasn_types.specs.Text.{shown_day}
-use Rattle.rasn_types.specs.Time.{DateText, written_year, long_year}
+use Rattle.rasn_types.specs.Time.{DateText, CarriedDay, written_year, long_year}
 use Rattle.rasn_types.specs.TimeSpelling.{two, four}
+use Rattle.rasn_json.specs.Texts.{DayText}
 
 abbrev hyphened : List ℕ → List ℕ
 hyphened l = take 4 l ++ (45 ∷ (take 2 (drop 4 l) ++ (45 ∷ drop 6 l)))
@@ -35,6 +36,59 @@ ten (a ∷ b ∷ c ∷ d ∷ x ∷ e ∷ f ∷ y ∷ g ∷ []) n p q = absurd (o
 ten (a ∷ b ∷ c ∷ d ∷ x ∷ e ∷ f ∷ y ∷ g ∷ h ∷ i ∷ t) n p q = absurd (omega (arith, n))
 
 pub day_read : (t l : List ℕ) (o : Option Day) → l ≡ get_or t 0 0 ∷ get_or t 1 0 ∷ get_or t 2 0 ∷ get_or t 3 0 ∷ get_or t 5 0 ∷ get_or t 6 0 ∷ get_or t 8 0 ∷ get_or t 9 0 ∷ []
-    → length t ≡ 10 → get_or t 4 0 ≡ 45 → get_or t 7 0 ≡ 45 → IsSomeRelated o (DateText l) → IfSome o (λ d. t ≡ shown_day d)
+    → length t ≡ 10 → get_or t 4 0 ≡ 45 → get_or t 7 0 ≡ 45 → IsSomeRelated o (DateText l) → IfSome o (DayText t)
 day_read t l None e n p q h = tt
-day_read t l (Some d) e n p q h = ten t n p q ∙ (ap hyphened (sym e) ∙ day_shown l d h)
+day_read t l (Some d) e n p q h = (record { year = h.year; same = h.same; below = h.below }, ten t n p q ∙ (ap hyphened (sym e) ∙ day_shown l d h))
+
+-- ---- the text of a day whose year has four digits
+
+-- The text of a day with this year.
+abbrev with_year : List ℕ → Day → List ℕ
+with_year y d = y ++ (45 ∷ (two d.month ++ (45 ∷ two d.day)))
+
+shown_with : (d : Day) → shown_day d ≡ with_year (written_year d.year) d
+unfolding shown_day
+shown_with d = refl
+
+carried_shown : (d : Day) (c : CarriedDay d) → shown_day d ≡ with_year (four c.year) d
+carried_shown d c = shown_with d ∙ ap (λ y. with_year y d) (ap written_year c.same ∙ four_digits c.year c.below)
+
+long_length : (n : ℕ) → 4 ≤ length (long_year n)
+long_length n = go (nat_lt n 10000)
+  where
+    go : (b : Bool) → 4 ≤ length (if b then four n else (48 + n / 10000) ∷ four (n % 10000))
+    go true = omega arith
+    go false = omega arith
+
+year_of_four : (y : ℤ) → length (written_year y) ≡ 4 → (n : ℕ) × (y ≡ pos n) × (n < 10000)
+year_of_four (pos n) e = go (nat_lt n 10000) refl e
+  where
+    go : (b : Bool) → nat_lt n 10000 ≡ b → length (if b then four n else 43 ∷ long_year n) ≡ 4 → (m : ℕ) × (pos n ≡ pos m) × (m < 10000)
+    go true h e = (n, refl, ltb-true n 10000 h)
+    go false h e = absurd (omega (arith, long_length n))
+year_of_four (negsuc n) e = absurd (omega (arith, long_length (n + 1)))
+
+carried_if_ten : (d : Day) → length (shown_day d) ≡ 10 → CarriedDay d
+carried_if_ten d e =
+    let four : length (written_year d.year) ≡ 4 = omega (arith, sym (ap length (shown_with d)) ∙ e, length-append (written_year d.year) (45 ∷ (two d.month ++ (45 ∷ two d.day)))) in
+    let y = year_of_four d.year four in
+    record { year = y.0; same = y.1; below = y.2 }
+
+-- A day whose text is that of a day with four digits of the year has such a year too.
+pub day_told : (t : List ℕ) (d g : Day) → t ≡ shown_day d → DayText t g → DayText t d
+day_told t d g e h = (carried_if_ten d (ap length (sym e ∙ (h.1 ∙ carried_shown g h.0))), e)
+
+pub one_day_text : (t : List ℕ) (d g : Day) → DayText t d → DayText t g → d ≡ g
+one_day_text t d g (c, e) (k, f) = λ i. record { year = (c.same ∙ (ap pos year ∙ sym k.same)) i; month = month i; day = day i }
+  where
+    at : (i : ℕ) → get_or (with_year (four c.year) d) i 0 ≡ get_or (with_year (four k.year) g) i 0
+    at i = ap (λ l. get_or l i 0) (sym (carried_shown d c) ∙ (sym e ∙ (f ∙ carried_shown g k)))
+
+    year : c.year ≡ k.year
+    year = omega (arith, at 0, at 1, at 2, at 3)
+
+    month : d.month ≡ g.month
+    month = omega (arith, at 5, at 6)
+
+    day : d.day ≡ g.day
+    day = omega (arith, at 8, at 9)

@@ -1,6 +1,6 @@
 -- The JSON of a value, one level deeper.
 use Rattle.std.proofs.Common.{◌≡◌, ℕ, zero, suc, Some, refl, sym, ap, subst, List, Result, Ok, Err, ◌∙◌, arith}
-use Rattle.std.specs.Prelude.{slice_get, IfOk, MatchResult, true, false, is_err}
+use Rattle.std.specs.Prelude.{slice_get, IfOk, MatchResult, true, false, is_err, is_ok}
 use Rattle.json.specs.Json.{Json}
 use Rattle.rasn_schema.specs.declared.types.«Type».{«Type»}
 use Rattle.rasn_schema.specs.declared.value.Value.{Value}
@@ -31,6 +31,10 @@ same_value u v r e f = let g : Ok u ≡ Ok v = sym e ∙ f in cc
 pub handed : {A E F : Type 0} (P : A → Type 0) (outcome : Result A E) (r : Result A F) (v : A) → MatchResult outcome (λ w. r ≡ Ok w) (λ _. is_err r ≡ true) → r ≡ Ok v → IfOk outcome P → P v
 handed P (Ok w) r v m e h = subst P (same_value w v r m e) h
 handed P (Err x) r v m e h = absurd (no_error r v m e)
+
+pub was_ok : {A E F : Type 0} (outcome : Result A E) (r : Result A F) (v : A) → MatchResult outcome (λ w. r ≡ Ok w) (λ _. is_err r ≡ true) → r ≡ Ok v → is_ok outcome ≡ true
+was_ok (Ok w) r v m e = refl
+was_ok (Err x) r v m e = absurd (no_error r v m e)
 
 not_true : false ≡ true → ⊥
 not_true e = cc

@@ -4,4 +4,11 @@ pub mod Levels
 pub mod Appended
 pub mod ReadParts
 pub mod DayTexts
+pub mod MemberNames
 pub mod Spelled
+pub mod Utf16
+pub mod Filled
+pub mod Strings
+pub mod Leaves
+pub mod ReadBack
+pub mod Worked

@@ -1,32 +1,33 @@
 -- The JSON of a value (X.697).
-use Rattle.std.specs.Prelude.{◌≡◌, ◌≢◌, ◌⊎◌, ◌++◌, ℕ, zero, suc, ℤ, List, [], ◌∷◌, Bool, true, Option, Some, None, slice_get, codes, decimal, length, encode_utf8_all, ◌==◌, if◌then◌else◌}
+use Rattle.std.specs.Prelude.{◌≡◌, ◌≢◌, ◌⊎◌, ◌++◌, ℕ, zero, suc, ◌<◌, ◌^◌, ℤ, List, [], ◌∷◌, Bool, true, Option, Some, None, slice_get, codes, decimal, length, encode_utf8_all, ◌==◌, if◌then◌else◌}
 use Rattle.std.specs.Cow.{cow_slice_items, cow_str_bytes}
 use Rattle.std.specs.String.{string_bytes}
 use Rattle.json.specs.Token.{Token, key}
 use Rattle.json.specs.Json.{Json, null, boolean, number, string, array, object, Items, no_items, item, Members, no_members, member}
 use Rattle.json.specs.Print.{IsNumber}
 use Rattle.json.specs.Tree.{json_tokens}
-use Rattle.rasn_types.specs.Calendar.{Moment}
+use Rattle.rasn_types.specs.Calendar.{Day, Moment}
 use Rattle.rasn_types.specs.declared.types.constraints.Bound.{Bound}
 use Rattle.rasn_types.specs.declared.types.constraints.Bounded.{Bounded}
 use Rattle.rasn_types.specs.declared.types.constraints.Bounded.TheVariants.{Single, Range}
 use Rattle.rasn_types.specs.declared.types.constraints.Constraints.{Constraints}
-use Rattle.rasn_types.specs.BitString.{Packs}
+use Rattle.rasn_types.specs.BitString.{Packs, zeros}
 use Rattle.rasn_types.specs.CowBits.{cow_bits}
-use Rattle.rasn_types.specs.Text.{hexadecimal, dotted, shown_day}
+use Rattle.rasn_types.specs.Framing.{AreOctets}
+use Rattle.rasn_types.specs.Text.{hexadecimal}
 use Rattle.rasn_schema.specs.declared.types.LeafKind.{LeafKind}
-use Rattle.rasn_schema.specs.declared.types.LeafKind.TheVariants.{Signed64, OctetString, FixedOctetString}
+use Rattle.rasn_schema.specs.declared.types.LeafKind.TheVariants.{Signed64, OctetString, FixedOctetString, NamedBits}
 use Rattle.rasn_schema.specs.declared.types.NamedNumber.{NamedNumber}
 use Rattle.rasn_schema.specs.declared.types.Alternative.{Alternative}
 use Rattle.rasn_schema.specs.declared.types.Component.{Component}
 use Rattle.rasn_schema.specs.declared.types.«Type».{«Type»}
 use Rattle.rasn_schema.specs.declared.types.«Type».TheVariants.{Leaf, Enumerated, Any, Tagged, Choice, Sequence, Set, SequenceOf, SetOf, Unknown}
-use Rattle.rasn_schema.specs.declared.value.Value.{Value, Boolean, Null, Integer as Number, Bits, Octets, Text, Units, Arcs, Instant, Day, Absent, Items', Elements', Chosen'}
+use Rattle.rasn_schema.specs.declared.value.Value.{Value, Boolean, Null, Integer as Number, Bits, Octets, Text, Units, Arcs, Instant, Day as OnDay, Absent, Items', Elements', Chosen'}
 use Rattle.rasn_schema.specs.Trees.{tree_of}
 use Rattle.rasn_schema.specs.Shapes.{presence_of}
 use Rattle.rasn_json.specs.Decimal.{IsWhole}
-use Rattle.rasn_json.specs.Texts.{InstantText}
-use Rattle.rasn_schema.specs.Fitting.{AreItems, AreElements, IsListOf, IsChosen, IsLeftOutAs}
+use Rattle.rasn_json.specs.Texts.{InstantText, UnitsText, ArcsText, DayText}
+use Rattle.rasn_schema.specs.Fitting.{AreItems, AreElements, FitsLeaf, IsListOf, IsChosen, IsLeftOutAs}
 use Rattle.rasn_schema.specs.Held.{is_unknown_found}
 
 -- ---- numbers
@@ -56,8 +57,9 @@ EnumeratedJson names _ j = ⊥
 
 -- ---- strings
 
+-- Octets as hexadecimal digits, in capitals.
 abbrev pub HexadecimalJson : List ℕ → Json → Type 0
-HexadecimalJson o j = j ≡ string (hexadecimal o)
+HexadecimalJson o j = AreOctets o × (j ≡ string (hexadecimal o))
 
 abbrev pub OpenJson : Value → Json → Type 0
 OpenJson (Octets o) j = HexadecimalJson (cow_slice_items o) j
@@ -68,11 +70,6 @@ abbrev pub OctetsJson : LeafKind → List ℕ → Json → Type 0
 OctetsJson OctetString o j = HexadecimalJson o j
 OctetsJson (FixedOctetString n) o j = HexadecimalJson o j
 OctetsJson _ o j = j ≡ string (encode_utf8_all o)
-
--- Bits are digits alone, where the type has one size, or digits and their number.
-abbrev pub BitsJson : List Bool → Json → Type 0
-BitsJson bs j = ((o : List ℕ) × HexadecimalJson o j)
-    ⊎ ((o : List ℕ) × Packs bs o × (j ≡ object (member (codes "value") (string (hexadecimal o)) (member (codes "length") (number (decimal (length bs))) no_members))))
 
 -- The one size that a constraint admits, if there is one.
 abbrev pub one_of : Bounded ℕ → Option ℕ
@@ -87,27 +84,59 @@ size_of (Some b) = if b.extensible then None else one_of b.constraint
 abbrev pub one_size : Constraints → Option ℕ
 one_size c = size_of c.size
 
+-- Bits in octets, of which the last is filled with 0 bits, as hexadecimal digits.
+abbrev pub DigitsJson : List Bool → Json → Type 0
+DigitsJson bs j = (o : List ℕ) × Packs bs o × HexadecimalJson o j
+
+-- Of values of a kind with this one size, some have so many bits. Named bits may be fewer.
+abbrev pub IsSize : LeafKind → ℕ → ℕ → Type 0
+IsSize kind n len = (len ≡ n) ⊎ ((kind ≡ NamedBits) × (len < n))
+
+-- The bits are as many as this, or become so many with 0 bits after them, if they have names (X.680 22.7).
+abbrev pub IsFilled : LeafKind → ℕ → List Bool → List Bool → Type 0
+IsFilled NamedBits n bs all = (k : ℕ) × (all ≡ bs ++ zeros k) × (length all ≡ n)
+IsFilled _ n bs all = (all ≡ bs) × (length all ≡ n)
+
+-- An object with digits and the number of bits.
+abbrev pub counted : Json → ℕ → Json
+counted x n = object (member (codes "value") x (member (codes "length") (number (decimal n)) no_members))
+
+abbrev pub CountedJson : List Bool → Json → Type 0
+CountedJson bs j = (length bs < 2 ^ 64) × ((x : Json) × DigitsJson bs x × (j ≡ counted x (length bs)))
+
+-- Bits are digits alone exactly if the type has one size, and otherwise digits and their number.
+abbrev pub BitsJson : LeafKind → Option ℕ → List Bool → Json → Type 0
+BitsJson kind (Some n) bs j = (all : List Bool) × IsFilled kind n bs all × DigitsJson all j
+BitsJson kind None bs j = CountedJson bs j
+
+-- The characters of a BMPString with these octets.
+abbrev pub UnitsJson : List ℕ → Json → Type 0
+UnitsJson octets j = (s : List ℕ) × (j ≡ string s) × UnitsText s octets
+
+abbrev pub ArcsJson : List ℕ → Json → Type 0
+ArcsJson a j = (s : List ℕ) × (j ≡ string s) × ArcsText s a
+
 -- The text of an instant, as InstantText has it.
 abbrev pub InstantJson : LeafKind → Moment → Json → Type 0
 InstantJson kind m j = (s : List ℕ) × (j ≡ string s) × InstantText kind s m
 
-abbrev pub IsString : Json → Type 0
-IsString j = (s : List ℕ) × (j ≡ string s)
+abbrev pub DayJson : Day → Json → Type 0
+DayJson d j = (s : List ℕ) × (j ≡ string s) × DayText s d
 
 -- ---- values that hold no others
 
-abbrev pub LeafJson : LeafKind → List NamedNumber → Value → Json → Type 0
-LeafJson kind names (Boolean b) j = j ≡ boolean b
-LeafJson kind names Null j = j ≡ null
-LeafJson kind names (Number n) j = IntegerJson kind names n j
-LeafJson kind names (Bits b) j = BitsJson (cow_bits b) j
-LeafJson kind names (Octets o) j = OctetsJson kind (cow_slice_items o) j
-LeafJson kind names (Text s) j = j ≡ string (cow_str_bytes s)
-LeafJson kind names (Units u) j = IsString j
-LeafJson kind names (Arcs a) j = j ≡ string (dotted a)
-LeafJson kind names (Instant t) j = InstantJson kind t.moment j
-LeafJson kind names (Day d) j = j ≡ string (shown_day d)
-LeafJson kind names _ j = ⊥
+abbrev pub LeafJson : LeafKind → Constraints → List NamedNumber → Value → Json → Type 0
+LeafJson kind c names (Boolean b) j = j ≡ boolean b
+LeafJson kind c names Null j = j ≡ null
+LeafJson kind c names (Number n) j = IntegerJson kind names n j
+LeafJson kind c names (Bits b) j = BitsJson kind (one_size c) (cow_bits b) j
+LeafJson kind c names (Octets o) j = OctetsJson kind (cow_slice_items o) j
+LeafJson kind c names (Text s) j = j ≡ string (cow_str_bytes s)
+LeafJson kind c names (Units u) j = UnitsJson u j
+LeafJson kind c names (Arcs a) j = ArcsJson a j
+LeafJson kind c names (Instant t) j = InstantJson kind t.moment j
+LeafJson kind c names (OnDay d) j = DayJson d j
+LeafJson kind c names _ j = ⊥
 
 -- ---- values that hold others. Of a type with a number, g tells which JSON a value has, and u whether it is that of unknown values.
 
@@ -144,7 +173,7 @@ abbrev pub ArrayJson : (Value → Json → Type 0) → Json → List Value → T
 ArrayJson P j vs = (js : Items) × (j ≡ array js) × ItemsJson P vs js
 
 abbrev pub JsonBy : (ℕ → Bool) → (ℕ → Value → Json → Type 0) → «Type» → Value → Json → Type 0
-JsonBy u g (Leaf kind tag c names) v j = LeafJson kind names.items v j
+JsonBy u g (Leaf kind tag c names) v j = FitsLeaf kind v × LeafJson kind c names.items v j
 JsonBy u g (Enumerated tag ns) v j = EnumeratedJson ns.items v j
 JsonBy u g (Any tag) v j = OpenJson v j
 JsonBy u g (Tagged tag k) v j = g k.0 v j

@@ -1,8 +1,11 @@
 -- The texts of values in JSON strings.
-use Rattle.std.specs.Prelude.{◌≡◌, ℕ, ◌+◌, ◌/◌, List, Bool, length}
-use Rattle.rasn_types.specs.Calendar.{Moment}
-use Rattle.rasn_types.specs.Time.{GeneralUtc, GeneralGeneralized}
+use Rattle.std.specs.Prelude.{◌≡◌, ◌⊎◌, ℕ, ◌+◌, ◌/◌, ◌<◌, List, [], ◌∷◌, Bool, length, IsUtf8}
+use Rattle.std.specs.String.{IsUtf16Of}
+use Rattle.rasn_types.specs.Calendar.{Day, Moment}
+use Rattle.rasn_types.specs.Time.{GeneralUtc, GeneralGeneralized, CarriedDay}
+use Rattle.rasn_types.specs.Text.{IsDotted, shown_day}
 use Rattle.rasn_types.specs.BitString.{bits_from}
+use Rattle.rasn_types.specs.CharacterString.{units_of}
 use Rattle.rasn_schema.specs.declared.types.LeafKind.{LeafKind}
 use Rattle.rasn_schema.specs.declared.types.LeafKind.TheVariants.{UtcTime}
 
@@ -14,3 +17,22 @@ InstantText _ s m = (offset : _) × GeneralGeneralized s (record { moment = m; o
 -- So many bits, in as few octets as they take.
 abbrev pub ArePacked : List ℕ → ℕ → List Bool → Type 0
 ArePacked o n bs = (length o ≡ (n + 7) / 8) × (bs ≡ bits_from 0 n o)
+
+-- The characters that the 16-bit units of these octets are, in UTF-8. A pair of surrogates is one character, which is none of the
+-- Basic Multilingual Plane (X.680 41.15). An unpaired surrogate is no character.
+abbrev pub UnitsText : List ℕ → List ℕ → Type 0
+UnitsText s octets = IsUtf8 s × IsUtf16Of (units_of octets) s
+
+-- The first two arcs have a subidentifier: under 0 and 1 there are 40 arcs (X.660 7.6, X.690 8.19.4).
+abbrev pub HaveSubidentifier : List ℕ → Type 0
+HaveSubidentifier [] = ⊥
+HaveSubidentifier (x ∷ []) = ⊥
+HaveSubidentifier (x ∷ y ∷ l) = (x ≡ 2) ⊎ (y < 40)
+
+-- Arcs of 32 bits in decimal, with a point between each two.
+abbrev pub ArcsText : List ℕ → List ℕ → Type 0
+ArcsText s a = IsDotted s a × HaveSubidentifier a
+
+-- A day with a year of four digits: YYYY-MM-DD.
+abbrev pub DayText : List ℕ → Day → Type 0
+DayText s d = CarriedDay d × (s ≡ shown_day d)

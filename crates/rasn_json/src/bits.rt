@@ -1,8 +1,9 @@
 //! BIT STRING (X.697, encoding of bitstring values).
-ghost use Rattle.std.specs.Prelude.{◌≡◌, None, pos, IfOk};
+ghost use Rattle.std.specs.Prelude.{◌≡◌, None, pos, IfOk, OnOk};
 ghost use Rattle.json.specs.Value.{value_view};
+ghost use Rattle.rasn_types.specs.Truth.{IsWhether};
 ghost use Rattle.rasn_json.specs.Json.{one_size};
-ghost use Rattle.rasn_json.specs.Reading.{AllBitsRead, WholeRead};
+ghost use Rattle.rasn_json.specs.Reading.{AllBitsRead, AreNames, IsNameOfBits, WholeRead, names_of};
 ghost use Rattle.rasn_json.specs.Texts.{ArePacked};
 
 use crate::digits::octets_in;
@@ -70,13 +71,19 @@ fn counted_bits(alloc: Global, json: &Json<'_>) -> Result<BitString, JsonError>
     }
 }
 
+/// Returns whether this is the name of a member that bits have.
+fn is_name_of_bits(name: &str) -> bool
+    ensures { IsWhether result (IsNameOfBits name.now) }
+{
+    name == "value" || name == "length"
+}
+
 /// Checks that each member is one of the two, and none of them twice.
-fn check_names<'text>(
-    alloc: Global,
-    members: &[(&'text str, Json<'text>)],
-) -> Result<(), JsonError> {
+fn check_names<'text>(alloc: Global, members: &[(&'text str, Json<'text>)]) -> Result<(), JsonError>
+    ensures { OnOk result (AreNames IsNameOfBits (names_of members.now)) }
+{
     for (position, member) in members.iter().enumerate() {
-        let is_known = member.0 == "value" || member.0 == "length";
+        let is_known = is_name_of_bits(member.0);
         check_member(alloc, member.0, is_known, &members[..position])?;
     }
     Ok(())

@@ -1,5 +1,6 @@
 //! Strings whose characters are octets, and BMPStrings (X.697, character strings).
-ghost use Rattle.std.specs.Prelude.{◌≡◌, ◌+◌, length, IfOk, OnOk, string_bytes, encode_utf8_all};
+ghost use Rattle.std.specs.Prelude.{◌≡◌, ◌/◌, ◌%◌, ◌∷◌, ◌++◌, [], IfOk, IfSome, OnOk, string_bytes, encode_utf8_all};
+ghost use Rattle.rasn_json.specs.Texts.{UnitsText};
 
 use crate::error::{JsonError, JsonErrorKind};
 use rasn_types::types::BmpString;
@@ -40,7 +41,9 @@ pub fn foreign(alloc: Global, position: usize) -> JsonError {
 
 /// Returns the text of a BMPString, whose units may be pairs of surrogates, or `None` if one is
 /// unpaired.
-pub fn text_of_units(alloc: Global, units: &BmpString) -> Result<Option<String>, AllocError> {
+pub fn text_of_units(alloc: Global, units: &BmpString) -> Result<Option<String>, AllocError>
+    ensures { IfOk result (λ o. IfSome o (λ s. UnitsText (string_bytes s) units.now)) }
+{
     let mut text = String::new(alloc);
     for character in char::decode_utf16(units.units()) {
         match character {
@@ -52,7 +55,9 @@ pub fn text_of_units(alloc: Global, units: &BmpString) -> Result<Option<String>,
 }
 
 /// Returns the BMPString of a text, with a pair of surrogates for each character above FFFF.
-pub fn units_of(alloc: Global, text: &str) -> Result<BmpString, AllocError> {
+pub fn units_of(alloc: Global, text: &str) -> Result<BmpString, AllocError>
+    ensures { IfOk result (UnitsText text.now) }
+{
     let mut octets = Vec::new(alloc);
     for unit in text.encode_utf16() {
         push_unit(&mut octets, unit)?;
@@ -62,7 +67,7 @@ pub fn units_of(alloc: Global, text: &str) -> Result<BmpString, AllocError> {
 
 /// Appends the octets of a unit.
 fn push_unit(octets: &mut Vec<u8>, unit: u16) -> Result<(), AllocError>
-    ensures { OnOk result (length octets.new.items ≡ length octets.old.items + 2) }
+    ensures { OnOk result (octets.new.items ≡ octets.old.items ++ (unit / 256) ∷ (unit % 256) ∷ []) }
 {
     octets.push((unit / 256) as u8)?;
     octets.push((unit % 256) as u8)?;

@@ -27,8 +27,8 @@ use thiserror::Error;
 ///
 /// # Errors
 /// - `Unfit` at the part that isn't a value of its type, as `fits` tells.
-/// - `NoJson` for a value without JSON: a BMPString with an unpaired surrogate, a time of a year
-///   that its text can't have, or with more than the text says.
+/// - `NoJson` for a value without JSON: a BMPString with an unpaired surrogate, arcs without a
+///   subidentifier, a time of a year that its text can't have, or with more than the text says.
 /// - `WrongSize` for a BIT STRING that hasn't the one size of its type.
 /// - `TooDeep` if arrays and objects would be nested more than [`MAX_NESTING`] deep.
 /// - `OutOfMemory`.

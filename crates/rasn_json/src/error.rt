@@ -105,8 +105,8 @@ pub enum JsonErrorKind {
     /// The value isn't one of the type.
     #[error("the value doesn't fit its type")]
     Unfit,
-    /// The value is one of the type, and has no JSON: an unpaired surrogate in a BMPString, a time
-    /// that its text can't say.
+    /// The value is one of the type, and has no JSON: an unpaired surrogate in a BMPString, arcs
+    /// without a subidentifier, a time that its text can't say.
     #[error("the value has no JSON")]
     NoJson,
     /// The schema has no type with this number.

@@ -11,6 +11,7 @@ mod digits;
 mod entry;
 mod error;
 mod found;
+pub mod laws;
 mod layout;
 mod members;
 mod number;

@@ -1,7 +1,9 @@
 //! Members of objects.
-ghost use Rattle.std.specs.Prelude.{◌≡◌, Some, IfOk};
+ghost use Rattle.std.specs.Prelude.{◌≡◌, Some, true, IfOk, OnOk};
 ghost use Rattle.json.specs.Find.{get};
 ghost use Rattle.json.specs.Value.{value_view};
+ghost use Rattle.rasn_types.specs.Truth.{IsWhether};
+ghost use Rattle.rasn_json.specs.Reading.{IsAmong, names_of};
 
 use crate::error::{JsonError, JsonErrorKind};
 use crate::found::copied;
@@ -9,7 +11,9 @@ use json::Value as Json;
 use std::alloc::Global;
 
 /// Returns whether a member has this name.
-fn has_member<'text>(members: &[(&'text str, Json<'text>)], name: &str) -> bool {
+fn has_member<'text>(members: &[(&'text str, Json<'text>)], name: &str) -> bool
+    ensures { IsWhether result (IsAmong (names_of members.now) name.now) }
+{
     for member in members {
         if member.0 == name {
             return true;
@@ -38,7 +42,10 @@ pub fn check_member<'text>(
     name: &str,
     is_known: bool,
     before: &[(&'text str, Json<'text>)],
-) -> Result<(), JsonError> {
+) -> Result<(), JsonError>
+    ensures known { OnOk result (is_known ≡ true) }
+    ensures first { OnOk result (IsAmong (names_of before.now) name.now → ⊥) }
+{
     if !is_known {
         return Err(unknown_member(alloc, name));
     }

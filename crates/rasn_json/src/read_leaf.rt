@@ -1,13 +1,15 @@
 //! Values that hold no others, of JSON.
-ghost use Rattle.std.specs.Prelude.{◌≡◌, Some, length, IfOk, string_bytes, encode_utf8_all};
+ghost use Rattle.std.specs.Prelude.{◌≡◌, All, Some, length, IfOk, string_bytes, encode_utf8_all};
 ghost use Rattle.json.specs.Find.{as_str};
 ghost use Rattle.json.specs.Value.{value_view};
 ghost use Rattle.rasn_types.specs.CharacterString.{AreAdmitted};
 ghost use Rattle.rasn_types.specs.CowBits.{cow_bits};
-ghost use Rattle.rasn_types.specs.Text.{shown_day};
+ghost use Rattle.rasn_types.specs.Text.{IsSmall};
+ghost use Rattle.rasn_types.specs.Truth.{IsWhether};
 ghost use Rattle.rasn_schema.specs.Fitting.{AreOctets, FitsLeaf};
-ghost use Rattle.rasn_json.specs.Json.{IsString, one_size};
-ghost use Rattle.rasn_json.specs.Reading.{AllBitsRead, ArcsRead, HexadecimalRead, InstantRead, LeafRead, NamedBitsRead, OpenRead};
+ghost use Rattle.rasn_json.specs.Json.{one_size};
+ghost use Rattle.rasn_json.specs.Texts.{HaveSubidentifier};
+ghost use Rattle.rasn_json.specs.Reading.{AllBitsRead, ArcsRead, DayRead, HexadecimalRead, InstantRead, LeafRead, NamedBitsRead, OpenRead, UnitsRead};
 
 use crate::bits::bits_of;
 use crate::characters::{foreign, octets_of, units_of};
@@ -115,7 +117,10 @@ fn arcs_of(alloc: Global, json: &Json<'_>) -> Result<ObjectIdentifier, JsonError
 
 /// Returns whether the first two arcs have a subidentifier: under 0 and 1 there are 40 arcs (X.660
 /// 7.6, X.690 8.19.4).
-fn have_subidentifier(arcs: &[u32]) -> bool {
+pub fn have_subidentifier(arcs: &[u32]) -> bool
+    ensures whether { IsWhether result (HaveSubidentifier arcs.now) }
+    ensures small { All IsSmall arcs.now }
+{
     match arcs {
         [first, second, ..] => *first == 2 || *second < 40,
         _ => false,
@@ -222,7 +227,7 @@ fn sized_units(
     constraints: &Constraints,
     json: &Json<'_>,
 ) -> Result<BmpString, JsonError>
-    ensures { IfOk result (λ _. IsString (value_view json.now)) }
+    ensures { IfOk result (UnitsRead (value_view json.now)) }
 {
     let text = string_of(alloc, "a string", json)?;
     let units = or_memory(alloc, units_of(alloc, text))?;
@@ -249,7 +254,7 @@ fn time_of(alloc: Global, kind: LeafKind, json: &Json<'_>) -> Result<Generalized
 }
 
 fn sole_day(alloc: Global, json: &Json<'_>) -> Result<Date, JsonError>
-    ensures { IfOk result (λ d. as_str (value_view json.now) ≡ Some (shown_day d)) }
+    ensures { IfOk result (DayRead (value_view json.now)) }
 {
     let text = string_of(alloc, "a string", json)?;
     match day_of(text) {

@@ -6,7 +6,7 @@ ghost use Rattle.rasn_schema.specs.Trees.{tree_of};
 ghost use Rattle.rasn_schema.specs.Shapes.{presence_of};
 ghost use Rattle.rasn_schema.specs.Fitting.{AlternativeFits, AreItems, AreOctets, ComponentFits, ComponentsFit, EachFits, Fits, FitsBy, IsChosen};
 ghost use Rattle.rasn_json.specs.Json.{IsNothing, unknown_in};
-ghost use Rattle.rasn_json.specs.Reading.{ArrayRead, ChosenRead, ComponentRead, ComponentsRead, IsAbsentAs, ItemsRead, ObjectRead, OpenRead, ReadAt, ReadBy};
+ghost use Rattle.rasn_json.specs.Reading.{AreNames, ArrayRead, ChosenRead, ComponentRead, ComponentsRead, IsAbsentAs, IsComponentName, ItemsRead, ObjectRead, OpenRead, ReadAt, ReadBy, names_of};
 
 use crate::error::{JsonError, JsonErrorKind, or_memory};
 use crate::found::{copied, other_form};
@@ -169,7 +169,9 @@ fn check_names<'text>(
     alloc: Global,
     components: &[Component],
     members: &[(&'text str, Json<'text>)],
-) -> Result<(), JsonError> {
+) -> Result<(), JsonError>
+    ensures { OnOk result (AreNames (IsComponentName components.now) (names_of members.now)) }
+{
     for (position, member) in members.iter().enumerate() {
         let is_known = index_named(components, member.0).is_some();
         check_member(alloc, member.0, is_known, &members[..position])?;

@@ -1,7 +1,6 @@
 //! Days and instants (X.697, useful types and time types).
-ghost use Rattle.std.specs.Prelude.{◌≡◌, IfOk, IfSome, string_bytes};
-ghost use Rattle.rasn_types.specs.Text.{shown_day};
-ghost use Rattle.rasn_json.specs.Texts.{InstantText};
+ghost use Rattle.std.specs.Prelude.{IfOk, IfSome, string_bytes};
+ghost use Rattle.rasn_json.specs.Texts.{DayText, InstantText};
 
 use rasn_schema::LeafKind;
 use rasn_types::ber::time::{
@@ -51,7 +50,7 @@ pub fn text_of_instant(
 
 /// Returns the day of a text such as `1985-11-14`.
 pub fn day_of(text: &str) -> Option<Date>
-    ensures { IfSome result (λ d. text.now ≡ shown_day d) }
+    ensures { IfSome result (DayText text.now) }
 {
     let octets = text.as_bytes();
     if octets.len() != 10 || octets[4] != b'-' || octets[7] != b'-' {
@@ -64,7 +63,7 @@ pub fn day_of(text: &str) -> Option<Date>
 
 /// Returns the text of a day, or `None` if its year hasn't four digits.
 pub fn text_of_day(alloc: Global, day: &Date) -> Result<Option<String>, AllocError>
-    ensures { IfOk result (λ o. IfSome o (λ s. string_bytes s ≡ shown_day day.now)) }
+    ensures { IfOk result (λ o. IfSome o (λ s. DayText (string_bytes s) day.now)) }
 {
     let text = format!(in alloc; "{day}")?;
     match day_of(text.as_str()) {

@@ -1,11 +1,13 @@
 //! Values that hold no others, as JSON.
-ghost use Rattle.std.specs.Prelude.{◌≡◌, ◌∷◌, ◌++◌, [], Some, Ok, codes, OnOk, IfOk, string_bytes, decimal};
+ghost use Rattle.std.specs.Prelude.{◌≡◌, ◌≤◌, ◌-◌, ◌∷◌, ◌++◌, [], Some, Ok, length, OnOk, IfOk, string_bytes, decimal};
 ghost use Rattle.json.specs.Reads.{token_of};
 ghost use Rattle.json.specs.Print.{IsPrintable};
 ghost use Rattle.json.specs.Json.{string};
 ghost use Rattle.json.specs.Token.{number};
-ghost use Rattle.rasn_types.specs.Text.{dotted, shown_day};
-ghost use Rattle.rasn_json.specs.Json.{Appends, BitsJson, EnumeratedJson, HexadecimalJson, InstantJson, IntegerJson, IsString, LeafJson, NumberJson, OctetsJson, OpenJson, ArrayJson};
+ghost use Rattle.rasn_types.specs.BitString.{zeros};
+ghost use Rattle.rasn_types.specs.Truth.{IsWhether};
+ghost use Rattle.rasn_schema.specs.Fitting.{FitsLeaf};
+ghost use Rattle.rasn_json.specs.Json.{Appends, ArcsJson, BitsJson, CountedJson, DayJson, DigitsJson, EnumeratedJson, HexadecimalJson, InstantJson, IntegerJson, IsSize, LeafJson, NumberJson, OctetsJson, OpenJson, ArrayJson, UnitsJson, one_size};
 
 use crate::bits::fixed_size;
 use crate::characters::{text_of, text_of_units};
@@ -13,6 +15,7 @@ use crate::decimal::decimal_of;
 use crate::digits::digits_of;
 use crate::error::{JsonError, JsonErrorKind, or_memory};
 use crate::number::{is_enumerated, name_of};
+use crate::read_leaf::have_subidentifier;
 use crate::times::{text_of_day, text_of_instant};
 use crate::tokens::Tokens;
 use json::{Token, is_number};
@@ -134,6 +137,14 @@ pub fn put_unknown<T: Tokens>(
     put(out, alloc, Token::EndArray)
 }
 
+/// Returns whether values of a kind with this one size may have so many bits. Named bits may be
+/// fewer.
+fn is_size(kind: LeafKind, size: usize, len: usize) -> bool
+    ensures { IsWhether result (IsSize kind size len) }
+{
+    len == size || kind == LeafKind::NamedBits && len < size
+}
+
 /// Appends bits: as a string if the type has one size, else as an object with their number.
 fn put_bits<T: Tokens>(
     out: &mut T,
@@ -143,11 +154,11 @@ fn put_bits<T: Tokens>(
     constraints: &Constraints,
     bits: &BitStr<'_>,
 ) -> Result<(), JsonError>
-    ensures { OnOk result (Appends (BitsJson bits.now) (T.Tokens.written out.old) (T.Tokens.written out.new)) }
+    ensures { OnOk result (Appends (BitsJson kind (one_size constraints.now) bits.now) (T.Tokens.written out.old) (T.Tokens.written out.new)) }
 {
     match fixed_size(constraints) {
         Some(size) => {
-            if bits.len() == size || kind == LeafKind::NamedBits && bits.len() < size {
+            if is_size(kind, size, bits.len()) {
                 return put_fixed_bits(out, alloc, size, bits);
             }
             let kind = JsonErrorKind::WrongSize {
@@ -172,7 +183,8 @@ fn put_fixed_bits<T: Tokens>(
     size: usize,
     bits: &BitStr<'_>,
 ) -> Result<(), JsonError>
-    ensures { OnOk result (Appends (BitsJson bits.now) (T.Tokens.written out.old) (T.Tokens.written out.new)) }
+    requires { length bits.now ≤ size }
+    ensures { OnOk result (Appends (DigitsJson (bits.now ++ zeros (size - length bits.now))) (T.Tokens.written out.old) (T.Tokens.written out.new)) }
 {
     let mut octets = or_memory(alloc, BitString::from_bitstr(alloc, bits))?.into_vec();
     or_memory(alloc, octets.resize(size.div_ceil(8), 0))?;
@@ -185,7 +197,7 @@ fn put_counted_bits<T: Tokens>(
     alloc: Global,
     bits: &BitStr<'_>,
 ) -> Result<(), JsonError>
-    ensures { OnOk result (Appends (BitsJson bits.now) (T.Tokens.written out.old) (T.Tokens.written out.new)) }
+    ensures { OnOk result (Appends (CountedJson bits.now) (T.Tokens.written out.old) (T.Tokens.written out.new)) }
 {
     let octets = or_memory(alloc, BitString::from_bitstr(alloc, bits))?.into_vec();
     put(out, alloc, Token::BeginObject)?;
@@ -225,16 +237,20 @@ fn put_octets<T: Tokens>(
 
 /// Appends the units of a BMPString.
 fn put_units<T: Tokens>(out: &mut T, alloc: Global, units: &BmpString) -> Result<(), JsonError>
-    ensures { OnOk result (Appends IsString (T.Tokens.written out.old) (T.Tokens.written out.new)) }
+    ensures { OnOk result (Appends (UnitsJson units.now) (T.Tokens.written out.old) (T.Tokens.written out.new)) }
 {
     let text = some_text(alloc, text_of_units(alloc, units))?;
     put(out, alloc, Token::String(text.as_str()))
 }
 
-/// Appends the arcs of an OBJECT IDENTIFIER.
+/// Appends the arcs of an OBJECT IDENTIFIER, if they have a subidentifier, as they have to where
+/// they are read.
 fn put_arcs<T: Tokens>(out: &mut T, alloc: Global, arcs: &ObjectIdentifier) -> Result<(), JsonError>
-    ensures { OnOk result (Appends (λ j. j ≡ string (dotted arcs.now)) (T.Tokens.written out.old) (T.Tokens.written out.new)) }
+    ensures { OnOk result (Appends (ArcsJson arcs.now) (T.Tokens.written out.old) (T.Tokens.written out.new)) }
 {
+    if !have_subidentifier(arcs.arcs()) {
+        return Err(JsonError::new(alloc, JsonErrorKind::NoJson));
+    }
     let text = or_memory(alloc, format!(in alloc; "{arcs}"))?;
     put(out, alloc, Token::String(text.as_str()))
 }
@@ -254,7 +270,7 @@ fn put_instant<T: Tokens>(
 
 /// Appends a day.
 fn put_day<T: Tokens>(out: &mut T, alloc: Global, day: &Date) -> Result<(), JsonError>
-    ensures { OnOk result (Appends (λ j. j ≡ string (shown_day day.now)) (T.Tokens.written out.old) (T.Tokens.written out.new)) }
+    ensures { OnOk result (Appends (DayJson day.now) (T.Tokens.written out.old) (T.Tokens.written out.new)) }
 {
     let text = some_text(alloc, text_of_day(alloc, day))?;
     put(out, alloc, Token::String(text.as_str()))
@@ -270,7 +286,8 @@ pub fn put_leaf<T: Tokens>(
     names: &[NamedNumber],
     value: &Value<'_>,
 ) -> Result<(), JsonError>
-    ensures { OnOk result (Appends (LeafJson kind names.now value.now) (T.Tokens.written out.old) (T.Tokens.written out.new)) }
+    ensures fits { OnOk result (FitsLeaf kind value.now) }
+    ensures json { OnOk result (Appends (LeafJson kind constraints.now names.now value.now) (T.Tokens.written out.old) (T.Tokens.written out.new)) }
 {
     if !leaf_fits(kind, value) {
         return Err(unfit(alloc));

@@ -7,11 +7,12 @@ use Rattle.rasn_schema.specs.Fitting.{Fits, EachFits, ComponentsFit}
 use Rattle.rasn_schema.proofs.Lists.{split, nothing_left, read_at}
 use Rattle.rasn_dynamic.proofs.FitsRead.{fits_below, are_items, are_elements, each_more, fit_more, fit_end}
 use Rattle.rasn_json.specs.Json.{unknown_in}
-use Rattle.rasn_json.specs.Reading.{ReadAt, ArrayRead, ObjectRead}
+use Rattle.rasn_json.specs.Reading.{AreNames, IsComponentName, ReadAt, ArrayRead, ObjectRead, names_of}
 use Rattle.rasn_json.proofs.ReadParts.{read_below, read_more, read_end, each_read_more, items_read, chosen_read, EachRead}
 use Rattle.std.proofs.lemmas.List.{take_more, take_all}
 use Rattle.std.proofs.lemmas.Option.{slice_get_within}
 use Rattle.rasn_json.proofs.Levels.{if_ok}
+use Rattle.rasn_json.proofs.MemberNames.{names_seen}
 use Rattle.rasn_json.proofs.reader.+read.Goals as goal
 
 pub value_at-returns-in-Some-clause-fits : goal.value_at-returns-in-Some-clause-fits
@@ -39,7 +40,11 @@ pub object_value-returns-clause-fits : goal.object_value-returns-clause-fits
 object_value-returns-clause-fits t c = are_items (ComponentsFit (Fits c.args.types.now c.args.below) c.args.components.now) c.in_ok-values.values c.in_ok-values.ensures.fits
 
 pub object_value-returns-clause-reads : goal.object_value-returns-clause-reads
-object_value-returns-clause-reads t c = are_items (ObjectRead (unknown_in c.args.types.now) (ReadAt c.args.types.now c.args.below) c.args.components.now (value_view c.args.json.now)) c.in_ok-values.values (_, ap value_view c.in-Object.is ∙ view-Object c.in-Object.members, c.in_ok-values.ensures.reads)
+object_value-returns-clause-reads t c =
+    let l = c.in-Object.members.items in
+    let names = subst (AreNames (IsComponentName c.args.components.now)) (sym (names_seen l)) (subst (λ x. AreNames (IsComponentName c.args.components.now) (names_of x)) c.as_slice.ensures.value c.in_ok-check_names.ensures) in
+    are_items (ObjectRead (unknown_in c.args.types.now) (ReadAt c.args.types.now c.args.below) c.args.components.now (value_view c.args.json.now)) c.in_ok-values.values
+    (_, ap value_view c.in-Object.is ∙ view-Object c.in-Object.members, names, c.in_ok-values.ensures.reads)
 
 pub chosen_value-returns-in-Ok-new-clause-fits : goal.chosen_value-returns-in-Ok-new-clause-fits
 chosen_value-returns-in-Ok-new-clause-fits t c =
