@@ -12,7 +12,7 @@ use Rattle.rasn_types.specs.declared.error.decode.DecodeError.{DecodeError}
 use Rattle.rasn_de.specs.State.{State}
 use Rattle.rasn_de.specs.declared.ber.de.parser.Contents.{Contents}
 use Rattle.rasn_de.specs.declared.ber.de.constructed.ConstructedHeader.{ConstructedHeader}
-use Rattle.rasn_de.specs.Constructed.{ConsumesOpening, sequence_header, list_header, prefix_header}
+use Rattle.rasn_de.specs.Constructed.{Keeps, ConsumesOpening, sequence_header, list_header, prefix_header}
 use Rattle.rasn_schema.specs.declared.type_id.TypeId.{TypeId}
 use Rattle.rasn_schema.specs.declared.types.Component.{Component}
 use Rattle.rasn_schema.specs.declared.types.Alternative.{Alternative}
@@ -26,7 +26,7 @@ use Rattle.rasn_dynamic.specs.Sets.{PassesUnknown}
 use Rattle.rasn_dynamic.specs.Calls.{LeavesAllOut}
 use Rattle.rasn_dynamic.specs.Faults.{IsNextAlternative, octets_after}
 use Rattle.rasn_dynamic.specs.Parts.{IsAbsentHere}
-use Rattle.rasn_dynamic.specs.Listed.{capped, GoesInside, GoesInto, InTurn, PartListed, ComponentListed, ComponentAt, ComponentsListed, MemberListed, MembersListed, ElementsListed, AlternativeListed, ContentsListed, InsideListed, ValueListed, PartsInside, Inside, Lists, IsNoted, IsCut, IsFinished, IsInside, IsOutside}
+use Rattle.rasn_dynamic.specs.Listed.{capped, GoesInside, GoesInto, InTurn, UnknownListed, PartListed, ComponentListed, ComponentAt, ComponentsListed, MemberListed, MembersListed, ElementsListed, AlternativeListed, ContentsListed, InsideListed, ValueListed, PartsInside, Inside, Lists, IsNoted, IsCut, IsFinished, IsInside, IsOutside}
 
 -- Of any value that is returned.
 pub if_any : {T E : Type 0} {P : Type 0} (r : Result T E) → P → IfOk r (λ v. P)
@@ -134,6 +134,34 @@ part_listed types levels id k place octets rest s next o a b n t p r noted l fin
           tree = t;
           reads = d;
           parts = subst (λ c. PartsInside types levels id.0 c s w.1) noted.0 w.4;
+        },
+      );
+}
+
+-- So is an unknown component of a SET.
+pub unknown_listed : (levels : ℕ) (id : TypeId) (k place : ℕ) (octets rest : List ℕ) (s next : State) (o a n : Spans)
+    → octets ≡ s.rest → rest ≡ next.rest → IsNoted id k levels octets o place a → IsFinished place rest a n → Keeps s next → Lists (λ c es. UnknownListed levels id.0 k c s next es) o n
+unknown_listed levels id k place octets rest s next o a n p r noted finished kept = record {
+  same_after = finished.0 ∙ noted.0;
+  more = λ m q.
+      let z = finished.1 m q in
+      let u = noted.1 z.0 z.1 in
+      let e = u.3 in
+      let f = z.2 u.0.items e [] u.4 (sym u.2) in
+      let front = kept.end.0 in
+      let begins : e.octets.now ≡ front ++ rest = u.9 ∙ p ∙ kept.end.1 ∙ ap (λ x. front ++ x) (sym r) in (
+        u.0,
+        f.0 ∷ [],
+        u.1,
+        f.1,
+        record {
+          part = f.0;
+          is = refl;
+          id_is = ap (λ (i : TypeId). i.0) (f.2 ∙ u.5);
+          index = f.3 ∙ u.6;
+          deep = f.4 ∙ u.7;
+          left = f.5 ∙ u.8 ∙ ap (λ x. capped o.after (length x)) p;
+          octets = kept.end.1 ∙ ap (λ x. x ++ next.rest) (sym (f.6 front begins));
         },
       );
 }
@@ -292,14 +320,18 @@ module _ (f : ℕ → Shape) (levels : ℕ) (P : ℕ → ℕ → State → List 
       lists_map (λ b es. InTurn (ComponentAt f levels P ps b) (length done) s last es) (λ b es. ComponentsListed f levels P ps b s es) o v
       (λ b es q. inr (last, subst (λ x. InTurn (ComponentAt f levels P ps b) (length x) s last es) (sym same) q)) l
 
-  pub member_listed : (extensible : Bool) (ps : List Component) (k : ℕ) (p : Component) (s next : State) (o n : Spans) → Some p ≡ slice_get ps k
-      → Lists (λ b es. PartListed f levels P p.type_id.0 k b s next es) o n → Lists (λ b es. MemberListed f levels P extensible ps b s next es) o n
-  member_listed extensible ps k p s next o n at l = lists_map (λ b es. PartListed f levels P p.type_id.0 k b s next es) (λ b es. MemberListed f levels P extensible ps b s next es) o n (λ b es q. inr (k, p, at, q)) l
+  pub member_listed : (extensible : Bool) (ps : List Component) (other k : ℕ) (p : Component) (s next : State) (o n : Spans) → Some p ≡ slice_get ps k
+      → Lists (λ b es. PartListed f levels P p.type_id.0 k b s next es) o n → Lists (λ b es. MemberListed f levels P extensible ps other b s next es) o n
+  member_listed extensible ps other k p s next o n at l =
+      lists_map (λ b es. PartListed f levels P p.type_id.0 k b s next es) (λ b es. MemberListed f levels P extensible ps other b s next es) o n (λ b es q. inr (k, p, at, q)) l
 
-  pub unknown_passed : (extensible : Bool) (ps : List Component) (s next : State) (o : Spans) → PassesUnknown extensible (components_by f ps) s next → Lists (λ b es. MemberListed f levels P extensible ps b s next es) o o
-  unknown_passed extensible ps s next o d = lists_same (λ b es. MemberListed f levels P extensible ps b s next es) o (inl (d, refl))
+  pub unknown_passed : (extensible : Bool) (ps : List Component) (other k : ℕ) (s next : State) (o n : Spans) → PassesUnknown extensible (components_by f ps) s next → k ≡ length ps
+      → Lists (λ b es. UnknownListed levels other k b s next es) o n → Lists (λ b es. MemberListed f levels P extensible ps other b s next es) o n
+  unknown_passed extensible ps other k s next o n d i l =
+      lists_map (λ b es. UnknownListed levels other k b s next es) (λ b es. MemberListed f levels P extensible ps other b s next es) o n
+      (λ b es q. inl (d, subst (λ j. UnknownListed levels other j b s next es) i q)) l
 
-  pub members_listed : (extensible : Bool) (ps : List Component) (n : ℕ) (s last : State) (o v : Spans) → Ended last.closing last.rest
-      → Lists (λ b es. InTurn (λ k. MemberListed f levels P extensible ps b) n s last es) o v → Lists (λ b es. MembersListed f levels P extensible ps b s es) o v
-  members_listed extensible ps n s last o v h l =
-      lists_map (λ b es. InTurn (λ k. MemberListed f levels P extensible ps b) n s last es) (λ b es. MembersListed f levels P extensible ps b s es) o v (λ b es q. (n, last, q, h)) l
+  pub members_listed : (extensible : Bool) (ps : List Component) (other n : ℕ) (s last : State) (o v : Spans) → Ended last.closing last.rest
+      → Lists (λ b es. InTurn (λ k. MemberListed f levels P extensible ps other b) n s last es) o v → Lists (λ b es. MembersListed f levels P extensible ps other b s es) o v
+  members_listed extensible ps other n s last o v h l =
+      lists_map (λ b es. InTurn (λ k. MemberListed f levels P extensible ps other b) n s last es) (λ b es. MembersListed f levels P extensible ps other b s es) o v (λ b es q. (n, last, q, h)) l

@@ -11,7 +11,7 @@ use Rattle.rasn_schema.specs.Schemas.{IsUnknown}
 use Rattle.rasn_schema.specs.Shapes.{nothing, tag_at, shape_of_type, components_by, is_unknown, ends_unknown, known_parts, set_among, IsReadable}
 use Rattle.rasn_schema.proofs.Lists.{but_last, read_at}
 use Rattle.rasn_schema.proofs.UnknownEnds.{known_of, known_is}
-use Rattle.rasn_dynamic.specs.Sets.{is_extensible, named_components, AreLawfulMembers}
+use Rattle.rasn_dynamic.specs.Sets.{is_extensible, named_components, last_type, AreLawfulMembers}
 
 less_one : (n : ℕ) → suc n - 1 ≡ n
 less_one n = omega (arith)
@@ -42,6 +42,13 @@ members_lawful tag ps (inr e) = cc
 pub named_lawful : (f : ℕ → Shape) (tag : Tag) (ps qs : List Component) → qs ≡ named_components f ps → IsReadable (set_among tag (components_by f ps)) → AreLawfulMembers (components_by f qs)
 named_lawful f tag ps qs e h = subst AreLawfulMembers (sym (ap (components_by f) e ∙ named_is f ps)) (members_lawful tag (components_by f ps) h)
 
+-- ---- the type of the last one
+
+pub last_type_is : (front : List Component) (p : Component) → last_type (front ++ p ∷ []) ≡ p.type_id.0
+last_type_is [] p = refl
+last_type_is (q ∷ []) p = refl
+last_type_is (q ∷ (r ∷ front)) p = last_type_is (r ∷ front) p
+
 -- ---- whether there may be unknown ones
 
 -- The last component is unknown values, or isn't.
@@ -55,6 +62,9 @@ split_end [] i x e g = absurd (omega (arith, e))
 split_end (y ∷ []) zero x e g = let same : y ≡ x = cc in ap (λ z. z ∷ []) same
 split_end (y ∷ (z ∷ l)) zero x e g = absurd (omega (arith, e))
 split_end (y ∷ l) (suc i) x e g = ap (λ m. y ∷ m) (split_end l i x (omega (arith, e)) g)
+
+pub last_is : (ps : List Component) (i : ℕ) (p : Component) → suc i ≡ length ps → p ≡ get_or ps i p → last_type ps ≡ p.type_id.0
+last_is ps i p e at = ap last_type (split_end ps i p e (read_at ps i p (omega (arith, e)) at)) ∙ last_type_is (take i ps) p
 
 module _ (types : List «Type») (levels : ℕ) (ps : List Component) where
   nothing_known : (tag : Option Tag) → is_unknown (nothing tag) ≡ false

@@ -18,8 +18,8 @@ use Rattle.rasn_schema.specs.declared.types.«Type».TheVariants.{Leaf, Enumerat
 use Rattle.rasn_schema.specs.Shapes.{shape_of_type}
 use Rattle.rasn_dynamic.specs.declared.span.Span.{Span}
 use Rattle.rasn_dynamic.specs.Faults.{octets_after, start}
-use Rattle.rasn_dynamic.specs.Listed.{Lists, IsEmpty, capped, GoesInside, GoesInto, InTurn, PartListed, ComponentAt, MemberListed, ContentsListed, ValueListed, PartsInside, Inside}
-use Rattle.rasn_dynamic.specs.Sets.{is_extensible, named_components}
+use Rattle.rasn_dynamic.specs.Listed.{Lists, IsEmpty, capped, GoesInside, GoesInto, InTurn, UnknownListed, PartListed, ComponentAt, MemberListed, ContentsListed, ValueListed, PartsInside, Inside}
+use Rattle.rasn_dynamic.specs.Sets.{is_extensible, named_components, last_type}
 use Rattle.rasn_dynamic.specs.Walk.{IsPlaced, ArePartsOf}
 use Rattle.rasn_dynamic.specs.declared.span.Spans.{Spans}
 use Rattle.rasn_dynamic.specs.declared.message.MessageParts.{MessageParts}
@@ -98,6 +98,16 @@ module _ (input : List ℕ) (short : length input < 2 ^ 64) (o : AreOctets input
       seen_rest input s.rest p.part.octets.now next.rest b seen p.octets,
     )
 
+    none_placed : (es : List Span) → es ≡ [] → All (IsPlaced input) es
+    none_placed es e = subst (All (IsPlaced input)) (sym e) (λ k d h. absurd (omega (arith, h)))
+
+    unknown_placed : (id k b : ℕ) (s next : State) (es : List Span) → IsSeenTo input s.rest b → UnknownListed levels id k b s next es → All (IsPlaced input) es × IsSeenTo input next.rest b
+    unknown_placed id k b s next es seen p = (
+      subst (All (IsPlaced input)) (sym p.is)
+          (All-cons (IsPlaced input) p.part [] (one_placed p.part next.rest s.rest b seen p.octets p.left) (none_placed [] refl)),
+      seen_rest input s.rest p.part.octets.now next.rest b seen p.octets,
+    )
+
     turns_placed : (step : ℕ → State → State → List Span → Type 0) (b : ℕ)
         → ((k : ℕ) (s next : State) (es : List Span) → IsSeenTo input s.rest b → step k s next es → All (IsPlaced input) es × IsSeenTo input next.rest b)
         → (n : ℕ) (s last : State) (es : List Span) → IsSeenTo input s.rest b → InTurn step n s last es → All (IsPlaced input) es × IsSeenTo input last.rest b
@@ -106,9 +116,6 @@ module _ (input : List ℕ) (short : length input < 2 ^ 64) (o : AreOctets input
         let x = turns_placed step b each n s here before seen t in
         let y = each n here last mine x.1 m in
         (subst (All (IsPlaced input)) (sym e) (All-append (IsPlaced input) before mine x.0 y.0), y.1)
-
-    none_placed : (es : List Span) → es ≡ [] → All (IsPlaced input) es
-    none_placed es e = subst (All (IsPlaced input)) (sym e) (λ k d h. absurd (omega (arith, h)))
 
     contents_placed : (ty : «Type») (b : ℕ) (s : State) (es : List Span) → IsSeenTo input s.rest b → ContentsListed f levels P ty b s es → All (IsPlaced input) es
     contents_placed (Leaf kind tag c names) b s es seen q = none_placed es q
@@ -123,8 +130,8 @@ module _ (input : List ℕ) (short : length input < 2 ^ 64) (o : AreOctets input
       | inr y ↦ part_placed m.0.type_id.0 k b z next mine h y
     ]) (length ps.items) s last es seen q).0
     contents_placed (Set name tag ps) b s es seen (n, last, q, h) =
-        (turns_placed (λ k. MemberListed f levels P (is_extensible f ps.items) (named_components f ps.items) b) b (λ k z next mine y m. elim m [
-          | inl ((u, d), e) ↦ (none_placed mine e, seen_rest input z.rest d.end.0 next.rest b y d.end.1)
+        (turns_placed (λ k. MemberListed f levels P (is_extensible f ps.items) (named_components f ps.items) (last_type ps.items) b) b (λ k z next mine y m. elim m [
+          | inl (d, x) ↦ unknown_placed (last_type ps.items) (length (named_components f ps.items)) b z next mine y x
           | inr (j, p, at, x) ↦ part_placed p.type_id.0 j b z next mine y x
         ]) n s last es seen q).0
     contents_placed (SequenceOf tag id c) b s es seen (n, last, q, h) = (turns_placed (λ k. PartListed f levels P id.0 k b) b (λ k z next mine. part_placed id.0 k b z next mine) n s last es seen q).0

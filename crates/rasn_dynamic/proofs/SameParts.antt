@@ -44,8 +44,8 @@ use Rattle.rasn_dynamic.specs.Calls.{is_required, any_required}
 use Rattle.rasn_dynamic.specs.Inside.{DecodesTree}
 use Rattle.rasn_dynamic.specs.Faults.{octets_after, start}
 use Rattle.rasn_dynamic.specs.Parts.{IsAbsentHere}
-use Rattle.rasn_dynamic.specs.Listed.{capped, GoesInside, GoesInto, InTurn, PartListed, ComponentListed, ComponentAt, ComponentsListed, MemberListed, MembersListed, ElementsListed, AlternativeListed, ContentsListed, ValueListed, PartsInside, Inside}
-use Rattle.rasn_dynamic.specs.Sets.{is_extensible, named_components, AreLawfulMembers, PassesUnknown}
+use Rattle.rasn_dynamic.specs.Listed.{capped, GoesInside, GoesInto, InTurn, UnknownListed, PartListed, ComponentListed, ComponentAt, ComponentsListed, MemberListed, MembersListed, ElementsListed, AlternativeListed, ContentsListed, ValueListed, PartsInside, Inside}
+use Rattle.rasn_dynamic.specs.Sets.{is_extensible, named_components, last_type, AreLawfulMembers, PassesUnknown}
 use Rattle.rasn_dynamic.specs.SameParts.{IsSamePart, AreSameParts, AreReadableTypes, PartsAreDetermined}
 use Rattle.rasn_dynamic.proofs.OpenChoice.{one_alternative}
 use Rattle.rasn_dynamic.proofs.Pieces.{only_part, first_of_part, member_is}
@@ -404,13 +404,27 @@ module _ (f : ℕ → Shape) (readable : (k : ℕ) → IsReadable (f k)) (levels
       let (next, m, isnt) = (unknown_is (components_by f ps) z m extensible u d).other in
       isnt (subst (IsFirstOf (components_by f ps)) (next_one s.rest v.0 next v.1 (subst (λ l. NextTag (form z.rule) l next) (sym e) m)) (first_of_part f v.0 ps k p at v.2))
 
-  member_one : (extensible : Bool) (ps : List Component) → AreLawfulMembers (components_by f ps) → (b : ℕ) → IsOneStep (MemberListed f levels P extensible ps b)
+  -- Unknown ones are read up to the same octets.
+  unknown_alike : (id k b : ℕ) (s z n m : State) (es fs : List Span) → Alike s z → Alike n m → UnknownListed levels id k b s n es → UnknownListed levels id k b z m fs → AreSameParts es fs
+  unknown_alike id k b s z n m es fs alike e x y =
+      let o : x.part.octets.now ++ n.rest ≡ y.part.octets.now ++ n.rest = sym x.octets ∙ (alike.rest ∙ (y.octets ∙ ap (λ l. y.part.octets.now ++ l) (sym e.rest))) in
+      let same : IsSamePart x.part y.part = record {
+        id = x.id_is ∙ sym y.id_is;
+        index = x.index ∙ sym y.index;
+        levels = x.deep ∙ sym y.deep;
+        left = x.left ∙ (ap (λ l. capped b (length l)) alike.rest ∙ sym y.left);
+        octets = append_cancel_right x.part.octets.now y.part.octets.now n.rest o;
+      } in
+      cons_same es fs [] [] x.part y.part x.is y.is same (none_same [] [] refl refl)
+
+  member_one : (extensible : Bool) (ps : List Component) → AreLawfulMembers (components_by f ps) → (other b : ℕ) → IsOneStep (MemberListed f levels P extensible ps other b)
   unfolding IsLawful
-  member_one extensible ps are b s z n m es fs alike (inl ((t, d), p)) (inl ((u, c), q)) =
-      (read_alike (any None) (inl (tt, tt)) s z n m t u alike (unknown_is (components_by f ps) s n extensible t d).open_type (unknown_is (components_by f ps) z m extensible u c).open_type, none_same es fs p q)
-  member_one extensible ps are b s z n m es fs alike (inl (d, p)) (inr (k, c, at, y)) = absurd (not_unknown extensible ps are b k c at z s m n fs (sym alike.rest) y d)
-  member_one extensible ps are b s z n m es fs alike (inr (j, a, at, x)) (inl (d, q)) = absurd (not_unknown extensible ps are b j a at s z n m es alike.rest x d)
-  member_one extensible ps are b s z n m es fs alike (inr (j, a, p, x)) (inr (k, c, q, y)) =
+  member_one extensible ps are other b s z n m es fs alike (inl ((t, d), p)) (inl ((u, c), q)) =
+      let e = read_alike (any None) (inl (tt, tt)) s z n m t u alike (unknown_is (components_by f ps) s n extensible t d).open_type (unknown_is (components_by f ps) z m extensible u c).open_type in
+      (e, unknown_alike other (length ps) b s z n m es fs alike e p q)
+  member_one extensible ps are other b s z n m es fs alike (inl (d, p)) (inr (k, c, at, y)) = absurd (not_unknown extensible ps are b k c at z s m n fs (sym alike.rest) y d)
+  member_one extensible ps are other b s z n m es fs alike (inr (j, a, at, x)) (inl (d, q)) = absurd (not_unknown extensible ps are b j a at s z n m es alike.rest x d)
+  member_one extensible ps are other b s z n m es fs alike (inr (j, a, p, x)) (inr (k, c, q, y)) =
       let h = member_is f ps j a are.0 p in
       let i = member_is f ps k c are.0 q in
       let v = tag_read (f a.type_id.0) h.1 h.0 s n x.tree x.reads in
@@ -421,17 +435,17 @@ module _ (f : ℕ → Shape) (readable : (k : ℕ) → IsReadable (f k)) (levels
       let g : c ≡ a = some_is c a (q ∙ (ap (slice_get ps) (sym e) ∙ sym p)) in
       part_one a.type_id.0 j b s z n m es fs alike x (subst (λ (i : Component). PartListed f levels P i.type_id.0 j b z m fs) g (subst (λ i. PartListed f levels P c.type_id.0 i b z m fs) (sym e) y))
 
-  member_not_at_end : (extensible : Bool) (ps : List Component) → AreLawfulMembers (components_by f ps) → (b : ℕ) (s n : State) (es : List Span) → MemberListed f levels P extensible ps b s n es → (closing : Bool) → Ended closing s.rest → ⊥
+  member_not_at_end : (extensible : Bool) (ps : List Component) → AreLawfulMembers (components_by f ps) → (other b : ℕ) (s n : State) (es : List Span) → MemberListed f levels P extensible ps other b s n es → (closing : Bool) → Ended closing s.rest → ⊥
   unfolding IsLawful
-  member_not_at_end extensible ps are b s n es (inl ((u, d), q)) closing e = not_read (any None) tt s n u (unknown_is (components_by f ps) s n extensible u d).open_type closing e
-  member_not_at_end extensible ps are b s n es (inr (k, p, at, x)) closing e =
+  member_not_at_end extensible ps are other b s n es (inl ((u, d), q)) closing e = not_read (any None) tt s n u (unknown_is (components_by f ps) s n extensible u d).open_type closing e
+  member_not_at_end extensible ps are other b s n es (inr (k, p, at, x)) closing e =
       let known = member_is f ps k p are.0 at in
       part_not_at_end f levels P p.type_id.0 k b (known.1, known.2) s n es x closing e
 
-  members_one : (extensible : Bool) (ps : List Component) → AreLawfulMembers (components_by f ps) → (b : ℕ) (s z : State) (es fs : List Span) → Alike s z
-      → MembersListed f levels P extensible ps b s es → MembersListed f levels P extensible ps b z fs → AreSameParts es fs
-  members_one extensible ps are b s z es fs alike (n, a, t, e) (m, c, u, g) =
-      ended_one (λ k. MemberListed f levels P extensible ps b) (λ k. member_one extensible ps are b) (λ k v w. member_not_at_end extensible ps are b v w) n m s z a c es fs alike t e u g
+  members_one : (extensible : Bool) (ps : List Component) → AreLawfulMembers (components_by f ps) → (other b : ℕ) (s z : State) (es fs : List Span) → Alike s z
+      → MembersListed f levels P extensible ps other b s es → MembersListed f levels P extensible ps other b z fs → AreSameParts es fs
+  members_one extensible ps are other b s z es fs alike (n, a, t, e) (m, c, u, g) =
+      ended_one (λ k. MemberListed f levels P extensible ps other b) (λ k. member_one extensible ps are other b) (λ k v w. member_not_at_end extensible ps are other b v w) n m s z a c es fs alike t e u g
 
   contents_one : (ty : «Type») → IsLawful (type_by f ty) → (b : ℕ) (s z : State) (es fs : List Span) → Alike s z → ContentsListed f levels P ty b s es → ContentsListed f levels P ty b z fs → AreSameParts es fs
   unfolding IsLawful
@@ -443,7 +457,7 @@ module _ (f : ℕ → Shape) (readable : (k : ℕ) → IsReadable (f k)) (levels
   contents_one (Choice name ks) are b s z es fs alike x y = alternative_one ks.items b s z es fs alike x y
   contents_one (Sequence tag ps) are b s z es fs alike x y = components_one ps.items are.1 b s z es fs alike x y
   contents_one (Set name tag ps) are b s z es fs alike x y =
-      members_one (is_extensible f ps.items) (named_components f ps.items) (subst AreLawfulMembers (sym (named_is f ps.items)) (are.1, are.2)) b s z es fs alike x y
+      members_one (is_extensible f ps.items) (named_components f ps.items) (subst AreLawfulMembers (sym (named_is f ps.items)) (are.1, are.2)) (last_type ps.items) b s z es fs alike x y
   contents_one (SequenceOf tag id c) are b s z es fs alike x y = elements_one id.0 b (are.1, are.2) s z es fs alike x y
   contents_one (SetOf tag id c) are b s z es fs alike x y = elements_one id.0 b (are.1, are.2) s z es fs alike x y
 

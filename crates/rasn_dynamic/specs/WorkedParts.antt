@@ -1,5 +1,5 @@
 -- Lists of parts that were worked out by hand, and what is none.
-use Rattle.std.specs.Prelude.{◌≡◌, ◌-◌, ◌^◌, ℕ, List, [], ◌∷◌, true, false, None, Vec}
+use Rattle.std.specs.Prelude.{◌≡◌, ◌-◌, ◌^◌, ℕ, Bool, List, [], ◌∷◌, true, false, None, Vec}
 use Rattle.std.specs.Global.{Global}
 use Rattle.rasn_types.specs.declared.types.codec.Codec.TheVariants.{Der}
 use Rattle.rasn_types.specs.Framing.{NextTag}
@@ -17,7 +17,8 @@ use Rattle.rasn_schema.specs.FirstTags.{IsAlternativeFor}
 use Rattle.rasn_dynamic.specs.declared.part.Part.{Part}
 use Rattle.rasn_dynamic.specs.declared.span.Span.{Span}
 use Rattle.rasn_dynamic.specs.Faults.{start}
-use Rattle.rasn_dynamic.specs.Listed.{capped, InTurn, ElementsListed, PartsInside, Inside, IsCut}
+use Rattle.rasn_dynamic.specs.Listed.{capped, InTurn, ElementsListed, MembersListed, PartsInside, Inside, IsCut}
+use Rattle.rasn_dynamic.specs.Sets.{last_type}
 use Rattle.rasn_dynamic.specs.Walk.{path_at_depth}
 use Rattle.rasn_dynamic.specs.Parts.{AreContents, LacksAlternative}
 use Rattle.rasn_dynamic.specs.LeadsTo.{LeadsTo}
@@ -34,6 +35,22 @@ AreBooleanOrUnknown f known last = (f known.type_id.0 ≡ leaf boolean (in_unive
 -- Nothing is read.
 abbrev pub no_step : ℕ → State → State → List Span → Type 0
 no_step k s next es = ⊥
+
+-- A NULL.
+abbrev pub a_null : List ℕ
+a_null = 5 ∷ 0 ∷ []
+
+-- A part with these octets, at the end of a message, of a type with the number 6.
+abbrev pub IsNullAtEnd : ℕ → Span → Type 0
+IsNullAtEnd k e = (e.id.0 ≡ 6) × (e.index ≡ k) × (e.levels ≡ 9) × (e.left ≡ 2) × (e.octets.now ≡ a_null)
+
+-- What is inside doesn't matter.
+abbrev pub anything_inside : ℕ → ℕ → State → List Span → Type 0
+anything_inside id b s es = Unit {0}
+
+-- These are the parts of the contents of a SET that names no component, where its contents are this NULL.
+abbrev pub AreOfOpenSet : Bool → (ℕ → Shape) → List Span → Type 0
+AreOfOpenSet extensible f es = MembersListed f 9 anything_inside extensible [] 6 0 (start Der a_null) es
 
 pub record WorkedParts : Type 0 where
   pub within_64_bits : capped 2 3 ≡ 5
@@ -56,6 +73,12 @@ pub record WorkedParts : Type 0 where
   pub not_at_another_place : (a b : Span) → a.left ≡ 7 → b.left ≡ 5 → IsSamePart a b → ⊥
   pub unknown_values_alone : AreReadableTypes (Unknown ∷ [])
   pub no_sequence_of_unknown_values : (id : TypeId) (c : Constraints) → id.0 ≡ 1 → AreReadableTypes (SequenceOf (in_universal 16) id c ∷ Unknown ∷ []) → ⊥
+  pub unknown_component_is_a_part : (f : ℕ → Shape) (e : Span) → IsNullAtEnd 0 e → AreOfOpenSet true f (e ∷ [])
+  pub not_with_another_index : (f : ℕ → Shape) (e : Span) → IsNullAtEnd 1 e → AreOfOpenSet true f (e ∷ []) → ⊥
+  pub unknown_component_is_not_left_out : (f : ℕ → Shape) → AreOfOpenSet true f [] → ⊥
+  pub no_unknown_component_of_a_closed_set : (f : ℕ → Shape) (es : List Span) → AreOfOpenSet false f es → ⊥
+  pub last_of_two_types : (p q : Component) → q.type_id.0 ≡ 6 → last_type (p ∷ (q ∷ [])) ≡ 6
+  pub not_the_first_of_two : (p q : Component) → p.type_id.0 ≡ 5 → q.type_id.0 ≡ 6 → last_type (p ∷ (q ∷ [])) ≡ 5 → ⊥
   pub contents_before_their_end : (p : Part) → p.octets.now ≡ 48 ∷ 128 ∷ 0 ∷ 0 ∷ [] → p.header_len ≡ 2 → p.is_indefinite ≡ true → AreContents p []
   pub unknown_alternative : (f : ℕ → Shape) (a b : Alternative) → AreBooleanOrUnknown f a b → IsAlternativeFor f (a ∷ (b ∷ [])) (in_universal 2) 1 b
   pub known_alternative : (f : ℕ → Shape) (a b : Alternative) → AreBooleanOrUnknown f a b → IsAlternativeFor f (a ∷ (b ∷ [])) (in_universal 1) 0 a

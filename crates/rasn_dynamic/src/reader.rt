@@ -3,8 +3,8 @@ ghost use Rattle.std.specs.Prelude.{◌≡◌, ◌≢◌, ◌⊎◌, [], true, s
 ghost use Rattle.std.specs.String.{string_bytes};
 ghost use Rattle.rasn_types.specs.Framing.{AreOctets};
 ghost use Rattle.rasn_types.specs.Errors.{IsOutOfMemory};
-ghost use Rattle.rasn_types.specs.Shapes.{items, sought_by};
-ghost use Rattle.rasn_de.specs.Decodes.{DecodesBy};
+ghost use Rattle.rasn_types.specs.Shapes.{any, items, sought_by};
+ghost use Rattle.rasn_de.specs.Decodes.{Decodes, DecodesBy};
 ghost use Rattle.rasn_de.specs.Constructed.{DecodesInside};
 ghost use Rattle.rasn_de.specs.SequenceOf.{DecodesElements, DecodesElementsInOrder, DecodesSized};
 ghost use Rattle.rasn_de.specs.Optional.{NextIs};
@@ -22,7 +22,7 @@ ghost use Rattle.rasn_dynamic.specs.Calls.{nones, names_of, IsKept, DecodesPrese
 ghost use Rattle.rasn_schema.specs.Fitting.{Fits, FitsBy, IsChosen, AlternativeFits, ComponentFits, ComponentsFit, EachFits, AreOctets as AreOctetsValue};
 ghost use Rattle.rasn_dynamic.specs.Found.{FoundFit, MembersFit};
 ghost use Rattle.rasn_dynamic.specs.Faults.{IsFault, IsFaultIn, IsFaultOf, IsFaultInside, IsOnly, IsAlternativeAt, IsElementAt, IsComponentAt, IsMember, IsMemberAt, IsPart, Told, TellsOf, FailsAt, FailsItself, ReadsEachPart, StopsAtChoice, StopsInside, StopsInElements, StopsInOrder, StopsInSequence, StopsAtComponent, IsDefaultWritten, StopsInSet, StopsAtMember};
-ghost use Rattle.rasn_dynamic.specs.Listed.{Lists, Inside, PartsInside, PartListed, ValueListed, AlternativeListed, InsideListed, ContentsListed, ElementsListed, ComponentsListed, ComponentListed, MembersListed, MemberListed};
+ghost use Rattle.rasn_dynamic.specs.Listed.{Lists, Inside, PartsInside, PartListed, UnknownListed, ValueListed, AlternativeListed, InsideListed, ContentsListed, ElementsListed, ComponentsListed, ComponentListed, MembersListed, MemberListed};
 ghost use Rattle.rasn_de.specs.Constructed.{list_header};
 
 use crate::components::{default_present, is_always_there, leaves_all_out, missing};
@@ -31,7 +31,9 @@ use crate::order::{is_less, octets_before, out_of_order};
 use crate::read_leaf::{
     decode_any_value, decode_number, decode_unknown_values, leaf_value, out_of_memory, push,
 };
-use crate::set::{all_absent, component_for, gather, named_components, no_components, put};
+use crate::set::{
+    all_absent, component_for, gather, last_type, named_components, no_components, put,
+};
 use crate::span::{Spans, finish, go_inside, go_outside, note};
 use crate::trace::{Fault, add_after, mark, octets_after, octets_left, step};
 use rasn_de::ber::de::{ConstructedHeader, Decoder};
@@ -137,6 +139,27 @@ fn list_for<'input, M: Made>(
         Ok(values) => Ok(values),
         Err(_) => Err(out_of_memory(decoder)),
     }
+}
+
+/// Reads an unknown component of a SET as one complete encoding (X.680 27), and notes it as a part with this
+/// type and this index.
+fn decode_unknown_component<'input>(
+    decoder: &mut Decoder<'input>,
+    spans: &mut Spans<'input>,
+    levels: usize,
+    id: TypeId,
+    index: usize,
+) -> Result<Value<'input>, DecodeError>
+    ensures reads { Decodes (any None) tree_of decoder.old result decoder.new }
+    ensures fits { IfOk result AreOctetsValue }
+    ensures rules { IfErr result (λ e. e.codec ≡ decoder.old.rule) }
+    ensures listed { IfOk result (λ v. Lists (λ b es. UnknownListed levels id.0 index b decoder.old decoder.new es) spans.old spans.new) }
+{
+    let start = decoder.remaining();
+    let place = note(spans, id, index, levels, start);
+    let value = decode_any_value(decoder, Tag::EOC)?;
+    finish(spans, place, decoder.remaining());
+    Ok(value)
 }
 
 /// Reads a value of the type with this number. Types are followed `levels` deep. If it can't be read, names the innermost value that
@@ -511,6 +534,7 @@ fn decode_contents<'input, M: Made>(
             ..
         } => {
             let (named, extensible) = named_components(types, below, components);
+            let other_id = last_type(components);
             let found = no_components(decoder, named)?;
             let values = decode_set::<M>(
                 decoder,
@@ -521,6 +545,7 @@ fn decode_contents<'input, M: Made>(
                 name.as_str(),
                 named,
                 extensible,
+                other_id,
                 found,
             )?;
             Ok(Value::Items(values))
@@ -747,7 +772,7 @@ pub fn decode_present<'input, M: Made>(
 }
 
 /// Reads the components of a SET, in any order, up to the end of the contents (X.690 8.11). None was found yet. If the SET is
-/// extensible, the last value that is returned is the list of the unknown components.
+/// extensible, the last value that is returned is the list of the unknown components, each of which is a part with the type `other_id`.
 ///
 /// # Errors
 /// Those of the first component that isn't read: `NoValidChoice` with the name of the SET for a tag that is no component's, unless
@@ -763,6 +788,7 @@ fn decode_set<'input, M: Made>(
     name: &str,
     components: &[Component],
     extensible: bool,
+    other_id: TypeId,
     mut found: Vec<Option<Value<'input>>>,
 ) -> Result<Vec<Value<'input>>, DecodeError>
     requires lawful { AreLawfulMembers (components_by (shape_of_type types.now below) components.now) }
@@ -773,7 +799,7 @@ fn decode_set<'input, M: Made>(
     ensures rules { IfErr result (λ e. e.codec ≡ decoder.old.rule) }
     ensures told { Told (IsFaultIn types.now below (IsMemberAt (shape_of_type types.now below) extensible components.now decoder.old) decoder.old decoder.old) result trace.new }
     ensures itself { IfErr result (λ e. trace.new ≡ None → StopsInSet (shape_of_type types.now below) extensible components.now decoder.old e) }
-    ensures listed { IfOk result (λ v. Lists (λ b es. MembersListed (shape_of_type types.now below) below (Inside types.now below) extensible components.now b decoder.old es) spans.old spans.new) }
+    ensures listed { IfOk result (λ v. Lists (λ b es. MembersListed (shape_of_type types.now below) below (Inside types.now below) extensible components.now other_id.0 b decoder.old es) spans.old spans.new) }
 {
     let mut unknown = Vec::new(decoder.alloc());
     let mut twice = None;
@@ -789,6 +815,7 @@ fn decode_set<'input, M: Made>(
             name,
             components,
             extensible,
+            other_id,
             &mut found,
             &mut unknown,
         )?;
@@ -805,7 +832,8 @@ fn decode_set<'input, M: Made>(
 }
 
 /// Reads one component of a SET, which must take some of the input, and puts it in its place. If that isn't empty, returns the
-/// component's name. If the next tag is no component's and the SET is extensible, an unknown value is read, and appended to those.
+/// component's name. If the next tag is no component's and the SET is extensible, an unknown value is read, and appended to those. It is
+/// a part with the type `other_id`, and the index that follows those of the components.
 ///
 /// # Errors
 /// `NoValidChoice` with the name of the SET if the next tag is no component's and the SET isn't extensible, which consumes nothing.
@@ -819,6 +847,7 @@ fn decode_set_component<'input, 'names, M: Made>(
     name: &str,
     components: &'names [Component],
     extensible: bool,
+    other_id: TypeId,
     found: &mut Vec<Option<Value<'input>>>,
     unknown: &mut Vec<Value<'input>>,
 ) -> Result<Option<&'names str>, DecodeError>
@@ -832,7 +861,7 @@ fn decode_set_component<'input, 'names, M: Made>(
     ensures rules { IfErr result (λ e. e.codec ≡ decoder.old.rule) }
     ensures told { Told (IsFaultIn types.now below (IsMember components.now decoder.old) decoder.old decoder.old) result trace.new }
     ensures itself { IfErr result (λ e. trace.new ≡ None → StopsAtMember (shape_of_type types.now below) extensible components.now decoder.old e) }
-    ensures listed { IfOk result (λ v. Lists (λ b es. MemberListed (shape_of_type types.now below) below (Inside types.now below) extensible components.now b decoder.old decoder.new es) spans.old spans.new) }
+    ensures listed { IfOk result (λ v. Lists (λ b es. MemberListed (shape_of_type types.now below) below (Inside types.now below) extensible components.now other_id.0 b decoder.old decoder.new es) spans.old spans.new) }
 {
     let left = decoder.remaining().len();
     let tag = decoder.peek_tag()?;
@@ -840,7 +869,8 @@ fn decode_set_component<'input, 'names, M: Made>(
         if !extensible {
             return Err(DecodeError::no_valid_choice(decoder.alloc(), name, decoder.codec()));
         }
-        let other = decode_any_value(decoder, Tag::EOC)?;
+        let index = components.len();
+        let other = decode_unknown_component(decoder, spans, below, other_id, index)?;
         push::<M>(decoder, unknown, other)?;
         return Ok(None);
     };

@@ -4,7 +4,7 @@ ghost use Rattle.rasn_types.specs.Shapes.{IsFirstOf};
 ghost use Rattle.rasn_types.specs.Errors.{IsOutOfMemory};
 ghost use Rattle.rasn_schema.specs.Shapes.{shape_of_type, components_by, presence_of};
 ghost use Rattle.rasn_dynamic.specs.Calls.{any_required, nones, IsPut, IsComponentFor, IsSettled, AreSettled, Gathers};
-ghost use Rattle.rasn_dynamic.specs.Sets.{named_components as named_in, is_extensible};
+ghost use Rattle.rasn_dynamic.specs.Sets.{named_components as named_in, is_extensible, last_type as last_in};
 ghost use Rattle.std.specs.String.{string_bytes};
 
 use crate::components::missing;
@@ -12,7 +12,7 @@ use crate::made::Made;
 use crate::read_leaf::{out_of_memory, push};
 use rasn_de::ber::de::Decoder;
 use rasn_de::de::Error;
-use rasn_schema::{Component, Presence, Type, Value, begins, is_unknown_at};
+use rasn_schema::{Component, Presence, Type, TypeId, Value, begins, is_unknown_at};
 use rasn_types::error::DecodeError;
 use rasn_types::types::Tag;
 
@@ -33,6 +33,17 @@ pub fn named_components<'components>(
         return (components, false);
     }
     (&components[..before], true)
+}
+
+/// Returns the number of the type of the last component, if there is one. If a SET is extensible, its
+/// unknown components have this type.
+pub fn last_type(components: &[Component]) -> TypeId
+    ensures { result.0 ≡ last_in components.now }
+{
+    match components.len().checked_sub(1) {
+        Some(last) => components[last].type_id,
+        None => TypeId(0),
+    }
 }
 
 /// Returns the component that may begin with the tag, and its index.

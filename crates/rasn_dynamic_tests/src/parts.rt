@@ -128,8 +128,64 @@ fn parts_are_gone_over(rt: HostRuntime) {
     assert!(rt; parts_found(rt.alloc(), 5, &[1, 1, 0]) == Some(2));
     assert!(rt; parts_found(rt.alloc(), 5, &[0xA0, 2, 0x30, 0]) == Some(3));
     assert!(rt; parts_found(rt.alloc(), 7, EXTENDED) == Some(3));
-    assert!(rt; parts_found(rt.alloc(), 8, MIXED) == Some(3));
     assert!(rt; parts_found(rt.alloc(), 5, &[0x30, 8, 0x30, 6, 1, 1, 0, 2, 1, 1]) == Some(5));
+}
+
+/// Returns whether the parts of a message are these, each with its path, its offset, its type and its length.
+fn are_listed(
+    alloc: Global,
+    id: usize,
+    octets: &[u8],
+    expected: &[(&'static [usize], usize, usize, usize)],
+) -> Option<bool> {
+    let schema = Schema::new(types(alloc, TYPES).ok()?).ok()?;
+    let mut parts = parts_of(alloc, Codec::Ber, &schema, TypeId(id), octets).ok()?;
+    for (path, offset, id, len) in expected {
+        let part = parts.next(alloc).ok()??;
+        let is_same = parts.path.as_slice() == *path
+            && part.offset == *offset
+            && part.id == TypeId(*id)
+            && part.octets.len() == *len;
+        if !is_same {
+            return Some(false);
+        }
+    }
+    Some(parts.next(alloc).ok()?.is_none())
+}
+
+// X.680 27: what a SET doesn't name is listed where it is, with the index of the extension marker.
+#[test]
+fn unknown_components_are_parts(rt: HostRuntime) {
+    let expected: &[(&'static [usize], usize, usize, usize)] = &[
+        (&[], 0, 8, 13),
+        (&[2], 2, 6, 2),
+        (&[1], 4, 1, 3),
+        (&[2], 7, 6, 3),
+        (&[0], 10, 0, 3),
+    ];
+    assert!(rt; are_listed(rt.alloc(), 8, MIXED, expected) == Some(true));
+    let named: &[(&'static [usize], usize, usize, usize)] = &[
+        (&[], 0, 8, 8),
+        (&[1], 2, 1, 3),
+        (&[0], 5, 0, 3),
+    ];
+    assert!(rt; are_listed(rt.alloc(), 8, &[0x31, 6, 2, 1, 7, 1, 1, 0xFF], named) == Some(true));
+}
+
+// The contents of an unknown component aren't parts, whatever its length form is.
+#[test]
+fn nothing_is_in_unknown_components(rt: HostRuntime) {
+    const NESTED: &[u8] = &[
+        0x31, 0x80, 0xA0, 0x80, 5, 0, 0, 0, 1, 1, 0xFF, 2, 1, 7, 0x30, 2, 5, 0, 0, 0,
+    ];
+    let expected: &[(&'static [usize], usize, usize, usize)] = &[
+        (&[], 0, 8, 20),
+        (&[2], 2, 6, 6),
+        (&[0], 8, 0, 3),
+        (&[1], 11, 1, 3),
+        (&[2], 14, 6, 4),
+    ];
+    assert!(rt; are_listed(rt.alloc(), 8, NESTED, expected) == Some(true));
 }
 
 /// Returns whether the names lead along this path, or nowhere.

@@ -51,7 +51,7 @@ use Rattle.rasn_dynamic.proofs.AllMembers.{set_trees, all_trees, none_unknown, m
 use Rattle.rasn_de.proofs.OwnTypes.SetPartTypes.{ReadTo, read_rules, none_read, untold, next_fails, next_passes, one_twice}
 use Rattle.rasn_dynamic.proofs.Members.{none_passed, none_unread, passed_unknown}
 use Rattle.rasn_dynamic.proofs.Named.{named_lawful}
-use Rattle.rasn_dynamic.specs.Sets.{is_extensible, named_components}
+use Rattle.rasn_dynamic.specs.Sets.{is_extensible, named_components, last_type}
 use Rattle.rasn_dynamic.specs.Found.{MembersFit}
 use Rattle.rasn_dynamic.proofs.Parts.{shorter}
 use Rattle.rasn_dynamic.proofs.reader.+decode.Goals.{decode_elements_in_order-else-is_strict-via-then-is_strict+else-is_less, decode_elements_in_order-else-is_strict-via-else-is_strict, decode_set-then-extensible+in_ok-push, decode_set-else-extensible}
@@ -838,8 +838,8 @@ decode_sequence-returns-in_err-push-clause-rules g t c = rw (residual _ c.from_r
 
 -- ---- the components of a SET
 
-pub decode_set-loop-last-init : goal.decode_set-loop-last-init
-decode_set-loop-last-init g t c = (
+pub decode_set-loop-other_id-init : goal.decode_set-loop-other_id-init
+decode_set-loop-other_id-init g t c = (
   (
     held (nones c.args.components.now),
     [],
@@ -852,30 +852,30 @@ decode_set-loop-last-init g t c = (
   (λ k. subst (EachFits AreOctets) (sym c.new-unknown.ensures.items) tt),
   c.requires.1.1.1.1.1,
   0,
-  lists_start (λ b k. MemberListed (shape_of_type c.args.types.now c.args.below) c.args.below (Inside c.args.types.now c.args.below) c.args.extensible c.args.components.now b) 0 c.args.decoder.now _ refl,
+  lists_start (λ b k. MemberListed (shape_of_type c.args.types.now c.args.below) c.args.below (Inside c.args.types.now c.args.below) c.args.extensible c.args.components.now c.args.other_id.0 b) 0 c.args.decoder.now _ refl,
 )
 
-pub decode_set-loop-last-smaller : goal.decode_set-loop-last-smaller
-decode_set-loop-last-smaller g t c =
-    let i = c.loop-last.invariant.0 in
-    member_shorter _ c.args.extensible (components_by (shape_of_type c.args.types.now c.args.below) c.args.components.now) (names_of c.args.components.now) c.loop-last.found.items c.decode_set_component.new.found.items c.loop-last.unknown.items c.decode_set_component.new.unknown.items i.0 i.1 c.loop-last.decoder _ _ i.2 i.3 c.in_ok-next.ensures.next
+pub decode_set-loop-other_id-smaller : goal.decode_set-loop-other_id-smaller
+decode_set-loop-other_id-smaller g t c =
+    let i = c.loop-other_id.invariant.0 in
+    member_shorter _ c.args.extensible (components_by (shape_of_type c.args.types.now c.args.below) c.args.components.now) (names_of c.args.components.now) c.loop-other_id.found.items c.decode_set_component.new.found.items c.loop-other_id.unknown.items c.decode_set_component.new.unknown.items i.0 i.1 c.loop-other_id.decoder _ _ i.2 i.3 c.in_ok-next.ensures.next
 
 pub decode_set-returns-in_err-last-clause-exact : goal.decode_set-returns-in_err-last-clause-exact
 decode_set-returns-in_err-last-clause-exact g t c =
-    let at = c.loop-last in
-    rw (residual _ c.from_residual.ensures.1) (inl (untold c.args.extensible (components_by (shape_of_type c.args.types.now c.args.below) c.args.components.now) (names_of c.args.components.now) c.args.decoder.now at.decoder at.last at.twice _ _ at.invariant.0.4 items c.loop-last-test.ensures _ c.in_err-last.ensures))
+    let at = c.loop-other_id in
+    rw (residual _ c.from_residual.ensures.1) (inl (untold c.args.extensible (components_by (shape_of_type c.args.types.now c.args.below) c.args.components.now) (names_of c.args.components.now) c.args.decoder.now at.decoder at.last at.twice _ _ at.invariant.0.4 items c.loop-other_id-test.ensures _ c.in_err-last.ensures))
 
 pub decode_set-returns-in_err-next-clause-exact : goal.decode_set-returns-in_err-next-clause-exact
 decode_set-returns-in_err-next-clause-exact g t c =
-    let at = c.loop-last in
+    let at = c.loop-other_id in
     let i = at.invariant.0 in
     let w = c.in_err-next.ensures.next i.0 i.1 i.2 i.3 in
     rw (residual _ c.from_residual-in_err-next.ensures.1)
-    (inl (next_fails c.args.extensible (components_by (shape_of_type c.args.types.now c.args.below) c.args.components.now) (names_of c.args.components.now) c.args.decoder.now at.decoder at.last at.twice _ _ i.4 items c.loop-last-test.ensures _ c.in_ok-last.ensures _ _ w.0 w.1 w.4))
+    (inl (next_fails c.args.extensible (components_by (shape_of_type c.args.types.now c.args.below) c.args.components.now) (names_of c.args.components.now) c.args.decoder.now at.decoder at.last at.twice _ _ i.4 items c.loop-other_id-test.ensures _ c.in_ok-last.ensures _ _ w.0 w.1 w.4))
 
-pub decode_set-loop-last-preserved : goal.decode_set-loop-last-preserved
-decode_set-loop-last-preserved g t c =
-    let at = c.loop-last in
+pub decode_set-loop-other_id-preserved : goal.decode_set-loop-other_id-preserved
+decode_set-loop-other_id-preserved g t c =
+    let at = c.loop-other_id in
     let i = at.invariant.0 in
     let w = c.in_ok-next.ensures.next i.0 i.1 i.2 i.3 in (
       (
@@ -883,45 +883,45 @@ decode_set-loop-last-preserved g t c =
         w.1,
         w.2,
         w.3,
-        rw c.or-twice.ensures (next_passes c.args.extensible (components_by (shape_of_type c.args.types.now c.args.below) c.args.components.now) (names_of c.args.components.now) c.args.decoder.now at.decoder at.last at.twice _ _ i.4 c.loop-last-test.ensures _ c.in_ok-last.ensures _ _ _ _ w.4),
+        rw c.or-twice.ensures (next_passes c.args.extensible (components_by (shape_of_type c.args.types.now c.args.below) c.args.components.now) (names_of c.args.components.now) c.args.decoder.now at.decoder at.last at.twice _ _ i.4 c.loop-other_id-test.ensures _ c.in_ok-last.ensures _ _ _ _ w.4),
         none_unknown c.args.extensible (components_by (shape_of_type c.args.types.now c.args.below) c.args.components.now) (names_of c.args.components.now) i.0 w.0 i.1 w.1 at.decoder _ _ w.4 i.5,
       ),
       c.in_ok-next.ensures.found,
       (λ k. c.in_ok-next.ensures.octets k (at.invariant.2 k)),
       c.in_ok-next.ensures.told,
       at.invariant.4 + 1,
-      lists_more (λ b k. MemberListed (shape_of_type c.args.types.now c.args.below) c.args.below (Inside c.args.types.now c.args.below) c.args.extensible c.args.components.now b) at.invariant.4 c.args.decoder.now at.decoder _ _ _ _ at.invariant.5 c.in_ok-next.ensures.listed,
+      lists_more (λ b k. MemberListed (shape_of_type c.args.types.now c.args.below) c.args.below (Inside c.args.types.now c.args.below) c.args.extensible c.args.components.now c.args.other_id.0 b) at.invariant.4 c.args.decoder.now at.decoder _ _ _ _ at.invariant.5 c.in_ok-next.ensures.listed,
     )
 
 pub decode_set-returns-in-Some-clause-exact : goal.decode_set-returns-in-Some-clause-exact
 decode_set-returns-in-Some-clause-exact g t c =
-    let at = c.loop-last in
+    let at = c.loop-other_id in
     let i = at.invariant.0 in
     let ps = (components_by (shape_of_type c.args.types.now c.args.below) c.args.components.now) in
     let names = names_of c.args.components.now in
     let h : at.twice ≡ Some c.in-Some.repeated = search rules in
-    inl (one_twice c.args.extensible ps names items c.args.decoder.now at.decoder at.last i.0 i.1 c.loop-last-test.ensures c.in-Some.repeated
+    inl (one_twice c.args.extensible ps names items c.args.decoder.now at.decoder at.last i.0 i.1 c.loop-other_id-test.ensures c.in-Some.repeated
     (subst (λ z. ReadTo c.args.extensible ps names c.args.decoder.now at.decoder at.last z i.0 i.1) h i.4) _
     (subst (λ z. IsNamedError (IsDuplicateField (text c.in-Some.repeated)) z c.duplicate_field.result) c.codec.ensures c.duplicate_field.ensures))
 
 pub decode_set-gather-requires : goal.decode_set-gather-requires
-decode_set-gather-requires g t c = found_length _ c.args.components.now _ c.loop-last.invariant.1
+decode_set-gather-requires g t c = found_length _ c.args.components.now _ c.loop-other_id.invariant.1
 
 pub decode_set-returns-in_err-values-clause-exact : goal.decode_set-returns-in_err-values-clause-exact
 decode_set-returns-in_err-values-clause-exact g t c =
-    let at = c.loop-last in
+    let at = c.loop-other_id in
     let i = at.invariant.0 in
     let ps = (components_by (shape_of_type c.args.types.now c.args.below) c.args.components.now) in
     let names = names_of c.args.components.now in
     let h : at.twice ≡ None = search rules in
     let e = c.in_err-values.field-0.0 in
     rw (residual _ c.from_residual-in_err-values.ensures.1)
-    (members_lack c.args.extensible ps names c.args.decoder.now at.decoder at.last i.0 i.1 c.loop-last-test.ensures (subst (λ z. ReadTo c.args.extensible ps names c.args.decoder.now at.decoder at.last z i.0 i.1) h i.4) e
+    (members_lack c.args.extensible ps names c.args.decoder.now at.decoder at.last i.0 i.1 c.loop-other_id-test.ensures (subst (λ z. ReadTo c.args.extensible ps names c.args.decoder.now at.decoder at.last z i.0 i.1) h i.4) e
     (lacks_part _ (shape_of_type c.args.types.now c.args.below) c.args.components.now at.decoder.rule at.found.items i.0 e i.2 c.in_err-values.ensures.gathers))
 
 pub decode_set-returns-in_err-push-clause-exact : goal.decode_set-returns-in_err-push-clause-exact
 decode_set-returns-in_err-push-clause-exact g t c =
-    let at = c.loop-last in
+    let at = c.loop-other_id in
     let i = at.invariant.0 in
     let ps = (components_by (shape_of_type c.args.types.now c.args.below) c.args.components.now) in
     let names = names_of c.args.components.now in
@@ -930,12 +930,12 @@ decode_set-returns-in_err-push-clause-exact g t c =
 
 pub decode_set-returns-clause-exact : goal.decode_set-returns-clause-exact
 decode_set-returns-clause-exact g t c =
-    let at = c.loop-last in
+    let at = c.loop-other_id in
     let i = at.invariant.0 in
     let ps = (components_by (shape_of_type c.args.types.now c.args.below) c.args.components.now) in
     let names = names_of c.args.components.now in
     let h : at.twice ≡ None = search rules in
-    let a : (c.args.extensible ≡ true → g.M.Made.KEEP ≡ true → c.if-extensible.values.items ≡ c.in_ok-values.values.items ++ Items c.loop-last.unknown ∷ []) × (c.args.extensible ≡ false → c.if-extensible.values.items ≡ c.in_ok-values.values.items) =
+    let a : (c.args.extensible ≡ true → g.M.Made.KEEP ≡ true → c.if-extensible.values.items ≡ c.in_ok-values.values.items ++ Items c.loop-other_id.unknown ∷ []) × (c.args.extensible ≡ false → c.if-extensible.values.items ≡ c.in_ok-values.values.items) =
     elim c.if-extensible.branch [
       | decode_set-then-extensible+in_ok-push w ↦ ((λ e k. ap (λ (v : Vec Value Global). v.items) w.values-is ∙ w.in_ok-push.ensures.ok k), λ e. absurd (true≢false (sym w.if-extensible.true ∙ e)))
       | decode_set-else-extensible w ↦ ((λ e k. absurd (true≢false (sym e ∙ w.if-extensible.false))), λ e. ap (λ (v : Vec Value Global). v.items) w.values-is)
@@ -943,13 +943,13 @@ decode_set-returns-clause-exact g t c =
     let m = made_parts _ (shape_of_type c.args.types.now c.args.below) c.args.components.now at.decoder.rule at.found.items i.0 c.in_ok-values.values (found_length _ c.args.components.now _ at.invariant.1) i.2 c.in_ok-values.ensures.gathers in (
       set_trees c.args.extensible m.0 i.1,
       all_trees c.args.extensible _ c.in_ok-values.values.items c.if-extensible.values.items m.0 i.1 at.unknown m.1 i.3 a.0 a.1,
-      members_made c.args.extensible ps names c.args.decoder.now at.decoder at.last i.0 i.1 c.loop-last-test.ensures (subst (λ z. ReadTo c.args.extensible ps names c.args.decoder.now at.decoder at.last z i.0 i.1) h i.4) m.0 m.2 i.5,
+      members_made c.args.extensible ps names c.args.decoder.now at.decoder at.last i.0 i.1 c.loop-other_id-test.ensures (subst (λ z. ReadTo c.args.extensible ps names c.args.decoder.now at.decoder at.last z i.0 i.1) h i.4) m.0 m.2 i.5,
     )
 
 pub decode_set-returns-clause-fits : goal.decode_set-returns-clause-fits
 decode_set-returns-clause-fits g t c = λ k.
-    let at = c.loop-last in
-    let a : (c.args.extensible ≡ true → g.M.Made.KEEP ≡ true → c.if-extensible.values.items ≡ c.in_ok-values.values.items ++ Items c.loop-last.unknown ∷ []) × (c.args.extensible ≡ false → c.if-extensible.values.items ≡ c.in_ok-values.values.items) =
+    let at = c.loop-other_id in
+    let a : (c.args.extensible ≡ true → g.M.Made.KEEP ≡ true → c.if-extensible.values.items ≡ c.in_ok-values.values.items ++ Items c.loop-other_id.unknown ∷ []) × (c.args.extensible ≡ false → c.if-extensible.values.items ≡ c.in_ok-values.values.items) =
     elim c.if-extensible.branch [
       | decode_set-then-extensible+in_ok-push w ↦ ((λ e k. ap (λ (v : Vec Value Global). v.items) w.values-is ∙ w.in_ok-push.ensures.ok k), λ e. absurd (true≢false (sym w.if-extensible.true ∙ e)))
       | decode_set-else-extensible w ↦ ((λ e k. absurd (true≢false (sym e ∙ w.if-extensible.false))), λ e. ap (λ (v : Vec Value Global). v.items) w.values-is)
@@ -959,19 +959,19 @@ decode_set-returns-clause-fits g t c = λ k.
     (at.invariant.2 k) (λ e. a.0 e k) a.1
 
 pub decode_set-returns-in_err-values-clause-rules : goal.decode_set-returns-in_err-values-clause-rules
-decode_set-returns-in_err-values-clause-rules g t c = rw (residual _ c.from_residual-in_err-values.ensures.1) (c.in_err-values.ensures.rules ∙ read_rules c.args.extensible (components_by (shape_of_type c.args.types.now c.args.below) c.args.components.now) (names_of c.args.components.now) _ _ _ _ _ _ c.loop-last.invariant.0.4)
+decode_set-returns-in_err-values-clause-rules g t c = rw (residual _ c.from_residual-in_err-values.ensures.1) (c.in_err-values.ensures.rules ∙ read_rules c.args.extensible (components_by (shape_of_type c.args.types.now c.args.below) c.args.components.now) (names_of c.args.components.now) _ _ _ _ _ _ c.loop-other_id.invariant.0.4)
 
 pub decode_set-returns-in_err-push-clause-rules : goal.decode_set-returns-in_err-push-clause-rules
-decode_set-returns-in_err-push-clause-rules g t c = rw (residual _ c.from_residual-in_err-push.ensures.1) (c.in_err-push.ensures.rules ∙ read_rules c.args.extensible (components_by (shape_of_type c.args.types.now c.args.below) c.args.components.now) (names_of c.args.components.now) _ _ _ _ _ _ c.loop-last.invariant.0.4)
+decode_set-returns-in_err-push-clause-rules g t c = rw (residual _ c.from_residual-in_err-push.ensures.1) (c.in_err-push.ensures.rules ∙ read_rules c.args.extensible (components_by (shape_of_type c.args.types.now c.args.below) c.args.components.now) (names_of c.args.components.now) _ _ _ _ _ _ c.loop-other_id.invariant.0.4)
 
 pub decode_set-returns-in_err-last-clause-rules : goal.decode_set-returns-in_err-last-clause-rules
-decode_set-returns-in_err-last-clause-rules g t c = rw (residual _ c.from_residual.ensures.1) (order_rules _ c.loop-last.decoder _ c.in_err-last.ensures ∙ read_rules c.args.extensible (components_by (shape_of_type c.args.types.now c.args.below) c.args.components.now) (names_of c.args.components.now) _ _ _ _ _ _ c.loop-last.invariant.0.4)
+decode_set-returns-in_err-last-clause-rules g t c = rw (residual _ c.from_residual.ensures.1) (order_rules _ c.loop-other_id.decoder _ c.in_err-last.ensures ∙ read_rules c.args.extensible (components_by (shape_of_type c.args.types.now c.args.below) c.args.components.now) (names_of c.args.components.now) _ _ _ _ _ _ c.loop-other_id.invariant.0.4)
 
 pub decode_set-returns-in_err-next-clause-rules : goal.decode_set-returns-in_err-next-clause-rules
-decode_set-returns-in_err-next-clause-rules g t c = rw (residual _ c.from_residual-in_err-next.ensures.1) (c.in_err-next.ensures.rules ∙ read_rules c.args.extensible (components_by (shape_of_type c.args.types.now c.args.below) c.args.components.now) (names_of c.args.components.now) _ _ _ _ _ _ c.loop-last.invariant.0.4)
+decode_set-returns-in_err-next-clause-rules g t c = rw (residual _ c.from_residual-in_err-next.ensures.1) (c.in_err-next.ensures.rules ∙ read_rules c.args.extensible (components_by (shape_of_type c.args.types.now c.args.below) c.args.components.now) (names_of c.args.components.now) _ _ _ _ _ _ c.loop-other_id.invariant.0.4)
 
 pub decode_set-returns-in-Some-clause-rules : goal.decode_set-returns-in-Some-clause-rules
-decode_set-returns-in-Some-clause-rules g t c = c.duplicate_field.ensures.0 ∙ c.codec.ensures ∙ read_rules c.args.extensible (components_by (shape_of_type c.args.types.now c.args.below) c.args.components.now) (names_of c.args.components.now) _ _ _ _ _ _ c.loop-last.invariant.0.4
+decode_set-returns-in-Some-clause-rules g t c = c.duplicate_field.ensures.0 ∙ c.codec.ensures ∙ read_rules c.args.extensible (components_by (shape_of_type c.args.types.now c.args.below) c.args.components.now) (names_of c.args.components.now) _ _ _ _ _ _ c.loop-other_id.invariant.0.4
 
 -- ---- one of them
 
@@ -1144,7 +1144,7 @@ decode_present-returns-in_err-value-clause-told g t c =
 
 pub decode_set-returns-in_err-next-clause-told : goal.decode_set-returns-in_err-next-clause-told
 decode_set-returns-in_err-next-clause-told g t c =
-    let at = c.loop-last in
+    let at = c.loop-other_id in
     let k = at.invariant.0.4 in
     let s = choice_by c.args.extensible (components_by (shape_of_type c.args.types.now c.args.below) c.args.components.now) in
     let q = turns_keep s (λ (z : Tree). z) c.args.decoder.now k.0 at.decoder (forgotten (DecodesTree s) c.args.decoder.now k.0 k.1 at.decoder k.2) in
@@ -1359,7 +1359,7 @@ decode_present-returns-then-means_same-clause-itself g t c =
 
 pub decode_set-returns-in_err-last-clause-itself : goal.decode_set-returns-in_err-last-clause-itself
 decode_set-returns-in_err-last-clause-itself g t c =
-    let at = c.loop-last in
+    let at = c.loop-other_id in
     let k = at.invariant.0.4 in
     let stays = came_stays (choice_by c.args.extensible (components_by (shape_of_type c.args.types.now c.args.below) c.args.components.now)) (λ (z : Tree). z) c.args.decoder.now at.decoder k.0 k.1 k.2 in
     rw (residual _ c.from_residual.ensures.1)
@@ -1367,7 +1367,7 @@ decode_set-returns-in_err-last-clause-itself g t c =
 
 pub decode_set-returns-in_err-next-clause-itself : goal.decode_set-returns-in_err-next-clause-itself
 decode_set-returns-in_err-next-clause-itself g t c =
-    let at = c.loop-last in
+    let at = c.loop-other_id in
     let k = at.invariant.0.4 in
     let stays = came_stays (choice_by c.args.extensible (components_by (shape_of_type c.args.types.now c.args.below) c.args.components.now)) (λ (z : Tree). z) c.args.decoder.now at.decoder k.0 k.1 k.2 in
     rw (residual _ c.from_residual-in_err-next.ensures.1)
@@ -1375,13 +1375,13 @@ decode_set-returns-in_err-next-clause-itself g t c =
 
 pub decode_set-returns-in-Some-clause-itself : goal.decode_set-returns-in-Some-clause-itself
 decode_set-returns-in-Some-clause-itself g t c =
-    let k = c.loop-last.invariant.0.4 in
-    λ n. inr (k.0, k.1, c.loop-last.decoder, k.2, inl c.loop-last-test.ensures)
+    let k = c.loop-other_id.invariant.0.4 in
+    λ n. inr (k.0, k.1, c.loop-other_id.decoder, k.2, inl c.loop-other_id-test.ensures)
 
 pub decode_set-returns-in_err-values-clause-itself : goal.decode_set-returns-in_err-values-clause-itself
 decode_set-returns-in_err-values-clause-itself g t c =
-    let k = c.loop-last.invariant.0.4 in
-    rw (residual _ c.from_residual-in_err-values.ensures.1) (λ n. inr (k.0, k.1, c.loop-last.decoder, k.2, inl c.loop-last-test.ensures))
+    let k = c.loop-other_id.invariant.0.4 in
+    rw (residual _ c.from_residual-in_err-values.ensures.1) (λ n. inr (k.0, k.1, c.loop-other_id.decoder, k.2, inl c.loop-other_id-test.ensures))
 
 pub decode_set-returns-in_err-push-clause-itself : goal.decode_set-returns-in_err-push-clause-itself
 decode_set-returns-in_err-push-clause-itself g t c =
@@ -1491,7 +1491,9 @@ decode_contents-returns-in_ok-values-in-Set-clause-listed g t c =
     let same = c.named_components-extensible.ensures.named ∙ ap (named_components f) c.deref-in-Set.ensures.value in
     let marked = c.named_components-extensible.ensures.extensible ∙ ap (is_extensible f) c.deref-in-Set.ensures.value in
     contents_same f c.args.below (Inside c.args.types.now c.args.below) c.args.ty.now _ c.args.decoder.now _ _ c.in-Set.is
-    (named_so f c.named_components-extensible.result.1 c.named_components-extensible.result.0.now c.in-Set.components.items marked same (λ b l. Lists (λ n es. MembersListed f c.args.below (Inside c.args.types.now c.args.below) b l n c.args.decoder.now es) c.args.spans.now c.decode_set.new.spans) c.in_ok-values-in-Set.ensures.listed)
+    (named_so f c.named_components-extensible.result.1 c.named_components-extensible.result.0.now c.in-Set.components.items marked same (λ b l. Lists (λ n es. MembersListed f c.args.below (Inside c.args.types.now c.args.below) b l (last_type c.in-Set.components.items) n c.args.decoder.now es) c.args.spans.now c.decode_set.new.spans)
+    (subst (λ k. Lists (λ n es. MembersListed f c.args.below (Inside c.args.types.now c.args.below) c.named_components-extensible.result.1 c.named_components-extensible.result.0.now k n c.args.decoder.now es) c.args.spans.now c.decode_set.new.spans)
+    (c.last_type-other_id.ensures ∙ ap last_type c.deref-in-Set-2.ensures.value) c.in_ok-values-in-Set.ensures.listed))
 
 pub decode_contents-returns-in_ok-values-in-SequenceOf-clause-listed : goal.decode_contents-returns-in_ok-values-in-SequenceOf-clause-listed
 decode_contents-returns-in_ok-values-in-SequenceOf-clause-listed g t c = contents_same (shape_of_type c.args.types.now c.args.below) c.args.below (Inside c.args.types.now c.args.below) c.args.ty.now _ c.args.decoder.now _ _ c.in-SequenceOf.is c.in_ok-values-in-SequenceOf.ensures.listed
@@ -1528,15 +1530,15 @@ decode_component-returns-in-Ok-false-clause-listed g t c =
 
 pub decode_set-returns-clause-listed : goal.decode_set-returns-clause-listed
 decode_set-returns-clause-listed g t c =
-    members_listed (shape_of_type c.args.types.now c.args.below) c.args.below (Inside c.args.types.now c.args.below) c.args.extensible c.args.components.now c.loop-last.invariant.4 c.args.decoder.now c.loop-last.decoder _ _ c.loop-last-test.ensures c.loop-last.invariant.5
+    members_listed (shape_of_type c.args.types.now c.args.below) c.args.below (Inside c.args.types.now c.args.below) c.args.extensible c.args.components.now c.args.other_id.0 c.loop-other_id.invariant.4 c.args.decoder.now c.loop-other_id.decoder _ _ c.loop-other_id-test.ensures c.loop-other_id.invariant.5
 
 pub decode_set_component-returns-clause-listed : goal.decode_set_component-returns-clause-listed
-decode_set_component-returns-clause-listed g t c = member_listed (shape_of_type c.args.types.now c.args.below) c.args.below (Inside c.args.types.now c.args.below) c.args.extensible c.args.components.now c.in-Some.number c.in-Some.component.now c.args.decoder.now _ _ _ c.in-Some.ensures.0 c.in_ok-value.ensures.listed
+decode_set_component-returns-clause-listed g t c = member_listed (shape_of_type c.args.types.now c.args.below) c.args.below (Inside c.args.types.now c.args.below) c.args.extensible c.args.components.now c.args.other_id.0 c.in-Some.number c.in-Some.component.now c.args.decoder.now _ _ _ c.in-Some.ensures.0 c.in_ok-value.ensures.listed
 
 pub decode_set_component-returns-in_default-clause-listed : goal.decode_set_component-returns-in_default-clause-listed
 decode_set_component-returns-in_default-clause-listed g t c =
-    unknown_passed (shape_of_type c.args.types.now c.args.below) c.args.below (Inside c.args.types.now c.args.below) c.args.extensible c.args.components.now c.args.decoder.now _ _
-    (passed_unknown c.args.extensible _ c.args.decoder.now _ c.in_ok-tag.tag c.in_ok-tag.ensures.next c.in_default.ensures (search rules) (tree_of c.in_ok-other.other) c.in_ok-other.ensures.reads)
+    unknown_passed (shape_of_type c.args.types.now c.args.below) c.args.below (Inside c.args.types.now c.args.below) c.args.extensible c.args.components.now c.args.other_id.0 _ c.args.decoder.now _ _ _
+    (passed_unknown c.args.extensible _ c.args.decoder.now _ c.in_ok-tag.tag c.in_ok-tag.ensures.next c.in_default.ensures (search rules) (tree_of c.in_ok-other.other) c.in_ok-other.ensures.reads) refl c.in_ok-other.ensures.listed
 
 pub decode_compared-returns-in-None-clause-listed : goal.decode_compared-returns-in-None-clause-listed
 decode_compared-returns-in-None-clause-listed g t c =

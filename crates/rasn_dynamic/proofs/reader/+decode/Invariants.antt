@@ -94,11 +94,11 @@ invariant-decode_sequence-loop-rest g l = ((ts : List Tree) × (g.M.Made.KEEP �
 abbrev pub decreases-decode_sequence-loop-rest : goal.decreases-decode_sequence-loop-rest
 decreases-decode_sequence-loop-rest g l = length l.rest
 
-abbrev pub invariant-decode_set-loop-last : goal.invariant-decode_set-loop-last
-invariant-decode_set-loop-last g l = ((slots : List (Option Tree)) × (us : List Tree) × HoldsSlots g.M.Made.KEEP l.found.items slots × HoldsUnknown g.M.Made.KEEP l.unknown.items us
+abbrev pub invariant-decode_set-loop-other_id : goal.invariant-decode_set-loop-other_id
+invariant-decode_set-loop-other_id g l = ((slots : List (Option Tree)) × (us : List Tree) × HoldsSlots g.M.Made.KEEP l.found.items slots × HoldsUnknown g.M.Made.KEEP l.unknown.items us
     × ReadTo l.extensible (components_by (shape_of_type l.types l.below) l.components) (names_of l.components) l.fn.decoder l.decoder l.last l.twice slots us × (l.extensible ≡ false → us ≡ []))
     × FoundFit (λ k v. g.M.Made.KEEP ≡ true → Fits l.types l.below k v) l.components l.found.items × (g.M.Made.KEEP ≡ true → EachFits AreOctets l.unknown.items) × (l.trace ≡ None)
-    × (n : ℕ) × Lists (λ b es. InTurn (λ k. MemberListed (shape_of_type l.types l.below) l.below (Inside l.types l.below) l.extensible l.components b) n l.fn.decoder l.decoder es) l.fn.spans l.spans
+    × (n : ℕ) × Lists (λ b es. InTurn (λ k. MemberListed (shape_of_type l.types l.below) l.below (Inside l.types l.below) l.extensible l.components l.other_id.0 b) n l.fn.decoder l.decoder es) l.fn.spans l.spans
 
-abbrev pub decreases-decode_set-loop-last : goal.decreases-decode_set-loop-last
-decreases-decode_set-loop-last g l = length l.decoder.rest
+abbrev pub decreases-decode_set-loop-other_id : goal.decreases-decode_set-loop-other_id
+decreases-decode_set-loop-other_id g l = length l.decoder.rest
