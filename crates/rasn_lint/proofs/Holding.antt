@@ -466,8 +466,7 @@ module _ (rule : Codec) (f : ℕ → Shape) (readable : (k : ℕ) → IsReadable
         let again : Reads rule (any None) s.depth c s.rest v rest = subst (λ l. Reads rule (any None) s.depth c l v rest) (sym at.1) r in
         let octets = subst AreOctets (sym at.1) at.2 in
         let same = same_reading (any None) (inl (tt, tt)) s next u own rule c v rest again in
-        let front = own.end.0 in
-        (
+        let front = own.end.0 in (
           inr (v, e, alone_held other (length ps) b s next es (at_other (is_open f extensible ps s next (u, d))) x s.depth c v rest again (sym same.1)),
           (ap (λ (z : State). z.depth) own.stays ∙ at.0, sym same.1, octets_back front rest (subst AreOctets (own.end.1 ∙ ap (λ z. front ++ z) (sym same.1)) octets)),
         )

@@ -3,11 +3,9 @@ use Rattle.std.proofs.Common.{◌≡◌, ◌⊎◌, inl, inr, ◌+◌, ℕ, zero
 use Rattle.std.specs.Prelude.{slice_get}
 use Rattle.std.specs.List.{AllByRecursion}
 use Rattle.rasn_types.specs.declared.types.codec.Codec.{Codec}
-use Rattle.rasn_types.specs.declared.types.codec.Codec.TheVariants.{Ber, Der}
+use Rattle.rasn_types.specs.declared.types.codec.Codec.TheVariants.{Der}
 use Rattle.rasn_types.specs.declared.types.tag.Tag.{Tag}
-use Rattle.rasn_types.specs.Contents.{joined_lists}
-use Rattle.rasn_types.specs.Framing.{CompleteEncoding}
-use Rattle.rasn_types.specs.Shapes.{Shape, Parts, Tree, IsSetTree, Same, numbers, chosen, items, set_elements, joined, presences, count}
+use Rattle.rasn_types.specs.Shapes.{Shape, Tree, IsSetTree, Same, numbers, chosen, items, set_elements, joined, presences, count}
 use Rattle.rasn_types.specs.Order.{Each}
 use Rattle.rasn_types.specs.Readings.{AllOf, NoneOf, OneOf, ByPart, IsMissing}
 use Rattle.rasn_types.proofs.SetOf.Same.{items_one, each_moved, same_sym}

@@ -21,7 +21,7 @@ use Rattle.rasn_dynamic.specs.Faults.{start}
 use Rattle.rasn_dynamic.specs.SameParts.{AreReadableTypes}
 use Rattle.rasn_lint.specs.declared.by_schema.OpenTypes.{OpenTypes}
 use Rattle.rasn_lint.specs.declared.by_schema.OpenTypes.TheVariants.{Unexamined, Examined}
-use Rattle.rasn_lint.specs.Lint.{IsDer, HasFormed, IsLint, IsFirstDeparture}
+use Rattle.rasn_lint.specs.Lint.{IsDer, IsLint, IsFirstDeparture}
 use Rattle.rasn_lint.specs.Universal.{rule_in}
 use Rattle.rasn_lint.specs.WellFormed.{IsWellFormed, none as no_more, one_more}
 use Rattle.rasn_lint.specs.WorkedReplies.{reply_types, AreOfReply, WorkedReplies}

@@ -1,6 +1,6 @@
 -- An unknown component of a SET, worked out by hand.
-use Rattle.std.specs.Prelude.{slice_get, MatchOption}
-use Rattle.std.proofs.Common.{◌≡◌, ◌-◌, ◌^◌, inl, inr, ℕ, suc, pos, List, [], ◌∷◌, ◌++◌, take, Bool, true, false, Option, Some, None, Result, Ok, refl, sym, ap, ◌∙◌, subst, arith}
+use Rattle.std.specs.Prelude.{slice_get}
+use Rattle.std.proofs.Common.{◌≡◌, ◌-◌, inl, inr, ℕ, suc, pos, List, [], ◌∷◌, ◌++◌, take, true, false, Option, Some, None, Result, Ok, refl, sym, ap, ◌∙◌, subst, arith}
 use Rattle.rasn_types.specs.declared.types.codec.Codec.{Codec}
 use Rattle.rasn_types.specs.declared.types.codec.Codec.TheVariants.{Ber, Cer, Der}
 use Rattle.rasn_types.specs.declared.types.tag.Class.TheVariants.{Universal}
@@ -21,7 +21,6 @@ use Rattle.rasn_de.specs.declared.ber.de.parser.ParseError.{ParseError}
 use Rattle.rasn_de.specs.Headers.{identifier_by, tag_number_at}
 use Rattle.rasn_de.specs.ParserViews.{peeked_tag}
 use Rattle.rasn_schema.specs.declared.types.Component.{Component}
-use Rattle.rasn_schema.specs.declared.types.Presence.{Presence}
 use Rattle.rasn_schema.specs.declared.types.Presence.TheVariants.{Required}
 use Rattle.rasn_schema.specs.declared.types.«Type».{«Type»}
 use Rattle.rasn_schema.specs.declared.types.«Type».TheVariants.{Set, Unknown}
@@ -35,10 +34,9 @@ use Rattle.rasn_dynamic.specs.Walk.{depth_of}
 use Rattle.rasn_lint.specs.declared.by_schema.OpenTypes.TheVariants.{Examined}
 use Rattle.rasn_lint.specs.declared.trail.Step.{Step}
 use Rattle.rasn_lint.specs.declared.place.Order.TheVariants.{ByTag}
-use Rattle.rasn_lint.specs.Lint.{IsDer, IsLint}
+use Rattle.rasn_lint.specs.Lint.{IsLint}
 use Rattle.rasn_lint.specs.Place.{der_error, HasLowerTag, IsOrderFault, order_if, type_of}
 use Rattle.rasn_lint.specs.Trail.{step_of, step_before, trail_after}
-use Rattle.rasn_lint.specs.Universal.{rule_in}
 use Rattle.rasn_lint.specs.WellFormed.{IsWellFormed}
 use Rattle.rasn_lint.specs.WorkedSets.{set_types, AreOfSet, AreInSet, HasPlaceError, WorkedSets}
 use Rattle.rasn_lint.proofs.Holding.{holds}

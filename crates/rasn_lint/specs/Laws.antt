@@ -9,7 +9,6 @@ use Rattle.rasn_types.specs.declared.types.tag.Tag.{Tag}
 use Rattle.rasn_schema.specs.declared.types.«Type».{«Type»}
 use Rattle.rasn_schema.specs.declared.types.«Type».TheVariants.{Any, Unknown}
 use Rattle.rasn_dynamic.specs.declared.message.MessageParts.{MessageParts}
-use Rattle.rasn_dynamic.specs.declared.span.Span.{Span}
 use Rattle.rasn_dynamic.specs.Entry.{shape_of}
 use Rattle.rasn_dynamic.specs.Walk.{ArePartsOf}
 use Rattle.rasn_dynamic.specs.SameParts.{AreReadableTypes}

@@ -6,8 +6,6 @@ ghost use Rattle.rasn_lint.specs.Judged.{TypedUnless, OpenIf, AreOfPart, AreJudg
 ghost use Rattle.rasn_lint.specs.Listed.{HasAllIf};
 ghost use Rattle.rasn_lint.specs.Refusals.{aspect_of};
 ghost use Rattle.rasn_lint.specs.Lint.{IsDerOrNot, IsRemainderOf, AreAll, offset_of, IsLint, IsNoLint, rest_after};
-ghost use Rattle.rasn_lint.specs.Trail.{trail_after};
-ghost use Rattle.rasn_dynamic.specs.Walk.{path_after};
 
 use crate::departure::{Departure, aspect_of};
 use crate::judge::{Way, faults_of, note_faults, site_at};
