@@ -43,7 +43,8 @@ module _ (types : List «Type») (id : ℕ) (input : List ℕ) (parts : List Spa
   clean opens ds (inr (n, inr (j, d, p, i))) = (λ q. let x : d ∷ [] ≡ [] = sym p ∙ q in cc, λ k. absurd (n k.0))
 
 -- What was found, in the order of its places.
-pub listed : (types : List «Type») (id : ℕ) (input : List ℕ) (opens : OpenTypes) (ps : MessageParts) (found ds : List Departure) → (are : ArePartsOf types Ber id input ps) → are.last.rest ≡ [] → AreAll opens types id input ps.list.items found
+pub listed : (types : List «Type») (id : ℕ) (input : List ℕ) (opens : OpenTypes) (ps : MessageParts) (found ds : List Departure)
+    → (are : ArePartsOf types Ber id input ps) → are.last.rest ≡ [] → AreAll opens types id input ps.list.items found
     → IsPermutation found ds → IsNonDecreasingBy offset_of ds → IsLint opens types id input ds
 listed types id input opens ps found ds a whole all same order =
     let c = clean types id input ps.list.items opens found all in
@@ -163,7 +164,8 @@ module _ (types : List «Type») (id : ℕ) (input : List ℕ) where
       (subst (IsAtFault types id input) (sym e) (inr (are.listed.tree, rest, read.0, h)), i, same_aspect d r e a),
     )
 
-    pub parts_first : rest ≡ [] → (r : Option Departure) → IsFirstOr types (length input) [] ps.list.items r → IsFirstDeparture Examined types id input r
+    pub parts_first : rest ≡ [] → (r : Option Departure) → IsFirstOr types (length input) [] ps.list.items r
+        → IsFirstDeparture Examined types id input r
     parts_first e None h = (whole_is_read e, (ps, are, h))
     parts_first e (Some d) h = inr (whole_is_read e, (ps, are, h))
 

@@ -284,12 +284,14 @@ count_apart f (q ∷ ps) zero p at e = cc
 count_apart f (q ∷ ps) (suc k) p at e = count_apart f ps k p at (omega (arith, e))
 
 -- The number after those of the named components is that of unknown ones, so there may be some.
-is_open : (f : ℕ → Shape) (extensible : Bool) (ps : List Component) (s next : State) → PassesUnknown extensible (components_by f ps) s next → extensible ≡ true
+is_open : (f : ℕ → Shape) (extensible : Bool) (ps : List Component) (s next : State)
+    → PassesUnknown extensible (components_by f ps) s next → extensible ≡ true
 unfolding Reads
 is_open f true ps s next x = refl
 is_open f false ps s next (u, d) =
-    let (j, p, v, at, e, own, z) = member_read s.rule f s.depth s.closing s.rest (chosen (count (components_by f ps)) u) next.rest ps 0 d.exact.0 in
-    absurd (count_apart f ps j p at (let n = (chosen_one (count (components_by f ps)) (0 + j) u v e).0 in omega (arith, n)))
+    let k = count (components_by f ps) in
+    let (j, p, v, at, e, own, z) = member_read s.rule f s.depth s.closing s.rest (chosen k u) next.rest ps 0 d.exact.0 in
+    absurd (count_apart f ps j p at (let n = (chosen_one k (0 + j) u v e).0 in omega (arith, n)))
 
 -- The last component of an extensible SET is unknown values.
 last_unknown : (f : ℕ → Shape) (ps : List Component) → is_extensible f ps ≡ true → is_unknown (f (last_type ps)) ≡ true
@@ -303,7 +305,8 @@ found_unknown f (Some (Leaf kind tag c names)) e = absurd cc
 found_unknown f (Some (Enumerated tag ns)) e = absurd cc
 found_unknown f (Some (Any tag)) e = absurd cc
 found_unknown f (Some (Tagged tag id)) e = absurd cc
-found_unknown f (Some (Choice name ks)) e = let n : false ≡ true = sym (among_not_unknown (alternatives_by f ks.items)) ∙ e in absurd cc
+found_unknown f (Some (Choice name ks)) e =
+    let n : false ≡ true = sym (among_not_unknown (alternatives_by f ks.items)) ∙ e in absurd cc
 found_unknown f (Some (Sequence tag ps)) e = absurd cc
 found_unknown f (Some (Set name tag ps)) e = absurd cc
 found_unknown f (Some (SequenceOf tag id c)) e = absurd cc
@@ -316,7 +319,8 @@ not_found (Some tag) e = cc
 
 module _ (rule : Codec) (f : ℕ → Shape) (readable : (k : ℕ) → IsReadable (f k)) (levels : ℕ) (P : ℕ → ℕ → State → List Span → Type 0) (H : ℕ → Tree → List Span → Type 0)
     (below : (id k b : ℕ) (s next : State) (es : List Span) → PartListed f levels P id k b s next es → (c : Bool) (t : Tree) (rest : List ℕ) → AreOctets s.rest → Reads rule (f id) s.depth c s.rest t rest → H id t es)
-    (alone : (other : ℕ) → is_unknown (f other) ≡ true → (e : Span) → e.id.0 ≡ other → e.levels ≡ levels → CompleteEncoding Ber e.octets.now → H other (items (numbers e.octets.now ∷ [])) (e ∷ [])) where
+    (alone : (other : ℕ) → is_unknown (f other) ≡ true → (e : Span) → e.id.0 ≡ other → e.levels ≡ levels
+    → CompleteEncoding Ber e.octets.now → H other (items (numbers e.octets.now ∷ [])) (e ∷ [])) where
   part_held : (id k b : ℕ) (s next : State) (es : List Span) (depth : ℕ) (c : Bool) (input : List ℕ) (t : Tree) (rest : List ℕ)
       → PartListed f levels P id k b s next es → At s depth input → Reads rule (f id) depth c input t rest → H id t es × At next depth rest
   part_held id k b s next es depth c input t rest x (d, l, o) r =
@@ -412,21 +416,25 @@ module _ (rule : Codec) (f : ℕ → Shape) (readable : (k : ℕ) → IsReadable
       (k, a, u, first.0, e, (part_held a.type_id.0 k b s last es depth c input u rest x at own).0)
 
   -- An unknown component is read of its own octets.
-  alone_held : (other k b : ℕ) (s next : State) (es : List Span) → is_unknown (f other) ≡ true → UnknownListed levels other k b s next es
-      → (depth : ℕ) (c : Bool) (t : Tree) (rest : List ℕ) → Reads rule (any None) depth c s.rest t rest → next.rest ≡ rest → H other (items (t ∷ [])) es
+  alone_held : (other k b : ℕ) (s next : State) (es : List Span) → is_unknown (f other) ≡ true
+      → UnknownListed levels other k b s next es → (depth : ℕ) (c : Bool) (t : Tree) (rest : List ℕ)
+      → Reads rule (any None) depth c s.rest t rest → next.rest ≡ rest → H other (items (t ∷ [])) es
   unfolding Reads
   alone_held other k b s next es at_other x depth c t rest r e =
+      let own = x.part.octets.now in
       let (text, i, w, is) = reads_in (any None) rule depth c s.rest t rest r in
-      let same : text ≡ x.part.octets.now = append_cancel_right text x.part.octets.now rest (sym is ∙ (x.octets ∙ ap (λ z. x.part.octets.now ++ z) e)) in
+      let same : text ≡ own = append_cancel_right text own rest (sym is ∙ (x.octets ∙ ap (λ z. own ++ z) e)) in
+      let held = alone other at_other x.part x.id_is x.deep (subst (CompleteEncoding Ber) same w) in
       subst (λ z. H other (items (z ∷ [])) es) (sym (i ∙ ap numbers same))
-      (subst (H other (items (numbers x.part.octets.now ∷ []))) (sym x.is) (alone other at_other x.part x.id_is x.deep (subst (CompleteEncoding Ber) same w)))
+      (subst (H other (items (numbers own ∷ []))) (sym x.is) held)
 
   -- A component of a SET that is read by a rule, as one that is named or as an unknown one.
   abbrev ReadsMember : List Component → ℕ → Bool → Reading Tree
   ReadsMember ps depth c =
       ReadsOpenChoice rule (IsFirstOf (components_by f ps)) (count (components_by f ps)) (ReadsChoice rule 0 (parts_of rule (components_by f ps) depth c))
 
-  module _ (extensible : Bool) (ps : List Component) (are : AreLawfulMembers (components_by f ps)) (other : ℕ) (at_other : extensible ≡ true → is_unknown (f other) ≡ true) (b : ℕ) where
+  module _ (extensible : Bool) (ps : List Component) (are : AreLawfulMembers (components_by f ps)) (other : ℕ)
+      (at_other : extensible ≡ true → is_unknown (f other) ≡ true) (b : ℕ) where
     module _ (k : ℕ) (a : Component) (p : Some a ≡ slice_get ps k) (s next : State) (es : List Span) (x : PartListed f levels P a.type_id.0 k b s next es) where
       -- The tag with which the component begins.
       listed_tag : (tag : Tag) × NextTag (form s.rule) s.rest tag × IsFirst (f a.type_id.0) tag
@@ -593,12 +601,13 @@ module _ (rule : Codec) (types : List «Type») (readable : AreReadableTypes typ
       → (c : Bool) (t : Tree) (rest : List ℕ) → AreOctets s.rest → Reads rule (shape_of_type types n id) s.depth c s.rest t rest → Holds rule types n id t es
 
   -- An unknown component of a SET.
-  one_held : (n other : ℕ) → is_unknown (shape_of_type types n other) ≡ true → (e : Span) → e.id.0 ≡ other → e.levels ≡ n → CompleteEncoding Ber e.octets.now
-      → Holds rule types n other (items (numbers e.octets.now ∷ [])) (e ∷ [])
+  one_held : (n other : ℕ) → is_unknown (shape_of_type types n other) ≡ true → (e : Span) → e.id.0 ≡ other → e.levels ≡ n
+      → CompleteEncoding Ber e.octets.now → Holds rule types n other (items (numbers e.octets.now ∷ [])) (e ∷ [])
   unfolding Holds shape_of_type
   one_held zero other at_other e i deep w = absurd (not_found (looked_for (tag_at types other)) at_other)
   one_held (suc n) other at_other e i deep w =
-      (e, [], refl, i, deep, Unknown, found_unknown (λ j. shape_of_type types n j) (slice_get types other) at_other, (refl, (e.octets.now ∷ [], refl, sym (append-nil e.octets.now), (w, tt))))
+      let at = found_unknown (λ j. shape_of_type types n j) (slice_get types other) at_other in
+      (e, [], refl, i, deep, Unknown, at, (refl, (e.octets.now ∷ [], refl, sym (append-nil e.octets.now), (w, tt))))
 
   holds_value : (n : ℕ) → HoldsAt n → HoldsAt (suc n)
   unfolding PartsInside Holds

@@ -28,11 +28,13 @@ use Rattle.rasn_lint.proofs.Holding.{chosen_one, count_apart, Along, IsLeft, Hol
 
 -- ---- lists
 
-all_split : {X : Type 0} (P : X → Type 0) (a b : List X) → AllByRecursion P (a ++ b) → AllByRecursion P a × AllByRecursion P b
+all_split : {X : Type 0} (P : X → Type 0) (a b : List X)
+    → AllByRecursion P (a ++ b) → AllByRecursion P a × AllByRecursion P b
 all_split P [] b h = (tt, h)
 all_split P (x ∷ a) b (p, h) = let r = all_split P a b h in ((p, r.0), r.1)
 
-all_both : {X : Type 0} (P : X → Type 0) (a b : List X) → AllByRecursion P a → AllByRecursion P b → AllByRecursion P (a ++ b)
+all_both : {X : Type 0} (P : X → Type 0) (a b : List X)
+    → AllByRecursion P a → AllByRecursion P b → AllByRecursion P (a ++ b)
 all_both P [] b h k = k
 all_both P (x ∷ a) b (p, h) k = (p, all_both P a b h k)
 
@@ -96,12 +98,14 @@ one_in k t u rs o h = go (in_either (chosen k u) o.before (chosen k t ∷ o.afte
     go (inr (inl e)) = (chosen_one k k u t e).1
     go (inr (inr h)) = absurd (none_in k u o.after o.none_after h)
 
-all_in : (P : Tree → Type 0) (k : ℕ) (u : Tree) (rs us : List Tree) → AllOf k rs us → In (chosen k u) rs → AllByRecursion P us → P u
+all_in : (P : Tree → Type 0) (k : ℕ) (u : Tree) (rs us : List Tree)
+    → AllOf k rs us → In (chosen k u) rs → AllByRecursion P us → P u
 all_in P k u [] us a i all = absurd i
 all_in P k u (r ∷ rs) us (inl (v, more, e, is, a)) (inl q) all =
     let same : v ≡ u = (chosen_one k k v u (sym e ∙ sym q)).1 in
     subst P same (subst (AllByRecursion P) is all).0
-all_in P k u (r ∷ rs) us (inl (v, more, e, is, a)) (inr i) all = all_in P k u rs more a i (subst (AllByRecursion P) is all).1
+all_in P k u (r ∷ rs) us (inl (v, more, e, is, a)) (inr i) all =
+    all_in P k u rs more a i (subst (AllByRecursion P) is all).1
 all_in P k u (r ∷ rs) us (inr (n, a)) (inl q) all = absurd (n u (sym q))
 all_in P k u (r ∷ rs) us (inr (n, a)) (inr i) all = all_in P k u rs us a i all
 
@@ -172,9 +176,14 @@ module _ (F : ℕ → Tree → Type 0) where
   abbrev pub FormedComponents : List Component → List Tree → Type 0
   FormedComponents ps ts = (k : ℕ) (p : Component) (t : Tree) → Some p ≡ slice_get ps k → Some t ≡ slice_get ts k → IsLeft (presence_of p.presence) t ⊎ F p.type_id.0 t
 
-  -- The unknown components of a SET, if there may be some, are in its last tree, each as unknown values of the type other.
+  -- Each is unknown values of the type other: one.
+  abbrev pub AreFormedAlone : ℕ → List Tree → Type 0
+  AreFormedAlone other us = AllByRecursion (λ u. F other (items (u ∷ []))) us
+
+  -- The unknown components of a SET, if there may be some, are in its last tree.
   abbrev pub FormedUnknown : Bool → ℕ → Tree → Type 0
-  FormedUnknown extensible other t = (ts us : List Tree) → extensible ≡ true → t ≡ items (ts ++ (items us ∷ [])) → AllByRecursion (λ u. F other (items (u ∷ []))) us
+  FormedUnknown extensible other t = (ts us : List Tree) → extensible ≡ true
+      → t ≡ items (ts ++ (items us ∷ [])) → AreFormedAlone other us
 
   -- f gives the shape of the type with a number.
   abbrev pub FormedIn : (ℕ → Shape) → «Type» → Tree → Type 0
@@ -185,7 +194,8 @@ module _ (F : ℕ → Tree → Type 0) where
   FormedIn f (Tagged tag id) t = F id.0 t
   FormedIn f (Choice name ks) t = (k : ℕ) (a : Alternative) (u : Tree) → Some a ≡ slice_get ks.items k → t ≡ chosen k u → F a.type_id.0 u
   FormedIn f (Sequence tag ps) t = (ts : List Tree) → t ≡ items ts → FormedComponents ps.items ts
-  FormedIn f (Set name tag ps) t = ((ts : List Tree) → t ≡ items ts → FormedComponents (named_components f ps.items) ts) × FormedUnknown (is_extensible f ps.items) (last_type ps.items) t
+  FormedIn f (Set name tag ps) t = ((ts : List Tree) → t ≡ items ts → FormedComponents (named_components f ps.items) ts)
+      × FormedUnknown (is_extensible f ps.items) (last_type ps.items) t
   FormedIn f (SequenceOf tag id c) t = (ts : List Tree) → t ≡ items ts → AllByRecursion (F id.0) ts
   FormedIn f (SetOf tag id c) t = (ts : List Tree) → t ≡ set_elements (items ts) → AllByRecursion (F id.0) ts
 
@@ -256,23 +266,27 @@ module _ (rule : Codec) (f : ℕ → Shape) (H : ℕ → Tree → List Span → 
       go (t, here, inr (n, m)) = inl (left_same p.presence t u (own_missing (key_of (f p.type_id.0)) p.presence t m) (beside Same full us k t u each (front k t here) found))
 
   -- Those that are unknown.
-  unknown_kept : (ps : List Component) (other : ℕ) (rs us vs : List Tree) (es : List Span) → AllOf (count (components_by f ps)) rs us → Along (HoldsMember rule f H ps other) rs es → AllByRecursion Q es → Each Same us vs
-      → AllByRecursion (λ v. F other (items (v ∷ []))) vs
+  unknown_kept : (ps : List Component) (other : ℕ) (rs us vs : List Tree) (es : List Span)
+      → AllOf (count (components_by f ps)) rs us → Along (HoldsMember rule f H ps other) rs es → AllByRecursion Q es
+      → Each Same us vs → AreFormedAlone F other vs
   unknown_kept ps other [] us vs es e along q each =
-      let none : vs ≡ [] = subst (λ z. Each Same z vs) e each in
-      subst (AllByRecursion (λ v. F other (items (v ∷ [])))) (sym none) tt
+      let none : vs ≡ [] = subst (λ z. Each Same z vs) e each in subst (AreFormedAlone F other) (sym none) tt
   unknown_kept ps other (r ∷ rs) us vs es (inr (n, a)) (mine, others, is, h, more) q each =
       unknown_kept ps other rs us vs others a more (all_split Q mine others (subst (AllByRecursion Q) is q)).1 each
   unknown_kept ps other (r ∷ rs) us vs es (inl (u, rest, e, k, a)) (mine, others, is, h, more) q each =
       let (v, ws, i, s, m) = subst (λ z. Each Same z vs) k each in
       let both = all_split Q mine others (subst (AllByRecursion Q) is q) in
-      subst (AllByRecursion (λ v. F other (items (v ∷ [])))) (sym i) (one v s h both.0, unknown_kept ps other rs rest ws others a more both.1 m)
+      subst (AreFormedAlone F other) (sym i) (one v s h both.0, unknown_kept ps other rs rest ws others a more both.1 m)
     where
-      one : (v : Tree) → Same u v → HoldsMember rule f H ps other r mine → AllByRecursion Q mine → F other (items (v ∷ []))
-      one v s (inl (j, p, w, at, g, h)) q = absurd (count_apart f ps j p at (chosen_one j (count (components_by f ps)) w u (sym g ∙ e)).0)
+      number : ℕ
+      number = count (components_by f ps)
+
+      one : (v : Tree) → Same u v → HoldsMember rule f H ps other r mine → AllByRecursion Q mine
+          → F other (items (v ∷ []))
+      one v s (inl (j, p, w, at, g, h)) q = absurd (count_apart f ps j p at (chosen_one j number w u (sym g ∙ e)).0)
       one v s (inr (w, g, h)) q =
-          let same : w ≡ u = (chosen_one (count (components_by f ps)) (count (components_by f ps)) w u (sym g ∙ e)).1 in
-          below other (items (w ∷ [])) mine h q (items (v ∷ [])) (v, items [], refl, subst (λ z. Same z v) (sym same) s, refl)
+          let same : u ≡ w = sym (chosen_one number number w u (sym g ∙ e)).1 in
+          below other (items (w ∷ [])) mine h q (items (v ∷ [])) (v, items [], refl, subst (λ z. Same z v) same s, refl)
 
   inside_kept : (ty : «Type») (e : Span) (t : Tree) (es : List Span) → HoldsInside rule f H ty e t es → ((tag : Tag) (x : List ℕ) → ty ≡ Any tag → HasOpen tag e.octets.now x → IsWellFormed x)
       → (ty ≡ Unknown → AreEncodings e.octets.now) → AllByRecursion Q es → (u : Tree) → Same t u → FormedIn F f ty u
@@ -295,17 +309,21 @@ module _ (rule : Codec) (f : ℕ → Shape) (H : ℕ → Tree → List Span → 
   inside_kept (Sequence tag ps) e t es (ts, i, h) w v q u s = λ vs g.
       let (us, j, each) = items_alike ts u (subst (λ z. Same z u) i s) in
       subst (FormedComponents F ps.items) (items_one us vs (sym j ∙ g)) (components_kept ps.items ts us es h q each)
-  inside_kept (Set name tag ps) e t es (rs, ts, unknown, i, by, each_unknown, along) w v q u s = (
+  inside_kept (Set name tag ps) e t es (rs, ts, others, i, by, unknown, along) w v q u s = (
     λ vs g.
-        let (full, k, front) = set_list (is_extensible f ps.items) ts unknown t i in
+        let (full, k, front) = set_list (is_extensible f ps.items) ts others t i in
         let (us, j, each) = items_alike full u (subst (λ x. Same x u) k s) in
-        subst (FormedComponents F (named_components f ps.items)) (items_one us vs (sym j ∙ g)) (members_kept (named_components f ps.items) (last_type ps.items) rs ts full us es front by along q each),
+        let named = named_components f ps.items in
+        let kept = members_kept named (last_type ps.items) rs ts full us es front by along q each in
+        subst (FormedComponents F named) (items_one us vs (sym j ∙ g)) kept,
     λ before vs extensible g.
-        let all : t ≡ items (ts ++ (items unknown ∷ [])) = subst (λ b. IsSetTree b ts unknown t) extensible i in
-        let (us, j, each) = items_alike (ts ++ (items unknown ∷ [])) u (subst (λ x. Same x u) all s) in
-        let ends = subst (Each Same (ts ++ (items unknown ∷ []))) (items_one us (before ++ (items vs ∷ [])) (sym j ∙ g)) each in
-        let (ws, k, alike) = items_alike unknown (items vs) (each_last Same ts before (items unknown) (items vs) ends) in
-        unknown_kept (named_components f ps.items) (last_type ps.items) rs unknown vs es each_unknown along q (subst (Each Same unknown) (sym (items_one vs ws k)) alike),
+        let full = ts ++ (items others ∷ []) in
+        let all : t ≡ items full = subst (λ b. IsSetTree b ts others t) extensible i in
+        let (us, j, each) = items_alike full u (subst (λ x. Same x u) all s) in
+        let ends = subst (Each Same full) (items_one us (before ++ (items vs ∷ [])) (sym j ∙ g)) each in
+        let (ws, k, alike) = items_alike others (items vs) (each_last Same ts before (items others) (items vs) ends) in
+        let same = subst (Each Same others) (sym (items_one vs ws k)) alike in
+        unknown_kept (named_components f ps.items) (last_type ps.items) rs others vs es unknown along q same,
   )
   inside_kept (SequenceOf tag id c) e t es (ts, i, along) w v q u s = λ vs g.
       let (us, j, each) = items_alike ts u (subst (λ z. Same z u) i s) in
@@ -358,12 +376,14 @@ module _ (f : ℕ → Shape) (H : ℕ → Tree → List Span → Type 0) (F : �
       one (inr (h, n)) (inl l) = absurd (n tt l)
       one (inr (h, n)) (inr g) = below p.type_id.0 t mine h g
 
-  members_formed : (ps : List Component) (other : ℕ) (rs ts us full : List Tree) → IsFront ts full → ByPart 0 (presences (components_by f ps)) rs ts → FormedComponents F ps full
-      → AllOf (count (components_by f ps)) rs us → AllByRecursion (λ u. F other (items (u ∷ []))) us
-      → (qs : List Tree) → ((r : Tree) → In r qs → In r rs) → (es : List Span) → Along (HoldsMember Der f H ps other) qs es → AllByRecursion Q es
+  members_formed : (ps : List Component) (other : ℕ) (rs ts us full : List Tree) → IsFront ts full
+      → ByPart 0 (presences (components_by f ps)) rs ts → FormedComponents F ps full
+      → AllOf (count (components_by f ps)) rs us → AreFormedAlone F other us → (qs : List Tree)
+      → ((r : Tree) → In r qs → In r rs) → (es : List Span) → Along (HoldsMember Der f H ps other) qs es → AllByRecursion Q es
   members_formed ps other rs ts us full front by a all unknown [] within es h = none_formed es h
   members_formed ps other rs ts us full front by a all unknown (r ∷ qs) within es (mine, others, is, h, more) =
-      subst (AllByRecursion Q) (sym is) (all_both Q mine others (member h) (members_formed ps other rs ts us full front by a all unknown qs (λ x i. within x (inr i)) others more))
+      let later = members_formed ps other rs ts us full front by a all unknown qs (λ x i. within x (inr i)) others more in
+      subst (AllByRecursion Q) (sym is) (all_both Q mine others (member h) later)
     where
       one : (k : ℕ) (p : Component) (u : Tree) → Some p ≡ slice_get ps k → r ≡ chosen k u → HoldsWritten Der f H p u mine
           → (t : Tree) × (Some t ≡ slice_get ts k) × (OneOf (0 + k) t rs ⊎ (NoneOf (0 + k) rs × IsMissing (presence_in f p) t)) → AllByRecursion Q mine
@@ -381,12 +401,16 @@ module _ (f : ℕ → Shape) (H : ℕ → Tree → List Span → Type 0) (F : �
           go (inl o) = formed (a k p u at (front k u (ap Some (one_in (0 + k) t u rs o read) ∙ here)))
 
       member : HoldsMember Der f H ps other r mine → AllByRecursion Q mine
-      member (inr (u, e, h)) = below other (items (u ∷ [])) mine h (all_in (λ v. F other (items (v ∷ []))) (count (components_by f ps)) u rs us all (subst (λ z. In z rs) e (within r (inl refl))) unknown)
+      member (inr (u, e, h)) =
+          let read : In (chosen (count (components_by f ps)) u) rs = subst (λ z. In z rs) e (within r (inl refl)) in
+          let own = all_in (λ v. F other (items (v ∷ []))) (count (components_by f ps)) u rs us all read unknown in
+          below other (items (u ∷ [])) mine h own
       member (inl (k, p, u, at, e, h)) = one k p u at e h (by_part_at f ps 0 k rs ts p at by)
 
-  set_unknown : (extensible : Bool) (other : ℕ) (ts us : List Tree) (t : Tree) → IsSetTree extensible ts us t → FormedUnknown F extensible other t → AllByRecursion (λ u. F other (items (u ∷ []))) us
+  set_unknown : (extensible : Bool) (other : ℕ) (ts us : List Tree) (t : Tree) → IsSetTree extensible ts us t
+      → FormedUnknown F extensible other t → AreFormedAlone F other us
   set_unknown true other ts us t i a = a ts us refl i
-  set_unknown false other ts us t (n, i) a = subst (AllByRecursion (λ u. F other (items (u ∷ [])))) (sym n) tt
+  set_unknown false other ts us t (n, i) a = subst (AreFormedAlone F other) (sym n) tt
 
   inside_formed : (ty : «Type») (e : Span) (t : Tree) (es : List Span) → HoldsInside Der f H ty e t es → FormedIn F f ty t → AllByRecursion Q es
   inside_formed (Leaf kind tag c names) e t es h a = none_formed es h
@@ -398,7 +422,9 @@ module _ (f : ℕ → Shape) (H : ℕ → Tree → List Span → Type 0) (F : �
   inside_formed (Sequence tag ps) e t es (ts, i, h) a = components_formed ps.items ts es h (a ts i)
   inside_formed (Set name tag ps) e t es (rs, ts, us, i, by, all, along) a =
       let (full, j, front) = set_list (is_extensible f ps.items) ts us t i in
-      members_formed (named_components f ps.items) (last_type ps.items) rs ts us full front by (a.0 full j) all (set_unknown (is_extensible f ps.items) (last_type ps.items) ts us t i a.1) rs (λ r h. h) es along
+      let unknown = set_unknown (is_extensible f ps.items) (last_type ps.items) ts us t i a.1 in
+      let named = named_components f ps.items in
+      members_formed named (last_type ps.items) rs ts us full front by (a.0 full j) all unknown rs (λ r h. h) es along
   inside_formed (SequenceOf tag id c) e t es (ts, i, along) a = each_formed id.0 ts es along (a ts i)
   inside_formed (SetOf tag id c) e t es (ts, i, along) a = each_formed id.0 ts es along (a ts i)
 

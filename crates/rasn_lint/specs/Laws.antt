@@ -22,12 +22,14 @@ use Rattle.rasn_lint.specs.Lint.{AreFormed, IsLint, IsFirstDeparture}
 abbrev pub NormalIsClean : Type 0
 NormalIsClean = (opens : OpenTypes) (types : List «Type») (id : ℕ) (rule : Codec) (input octets : List ℕ) (ds : List Departure) (parts : MessageParts)
     → AreReadableTypes types → AreOctets input → AreOctets octets → IsNormal rule (shape_of types id) input octets
-    → ArePartsOf types rule id input parts → AreFormed opens types parts.list.items → IsLint opens types id octets ds → ds ≡ []
+    → ArePartsOf types rule id input parts → AreFormed opens types parts.list.items
+    → IsLint opens types id octets ds → ds ≡ []
 
 -- The same where the open types and the unknown values of the encoding itself are well formed, whatever the types are.
 abbrev pub FormedIsClean : Type 0
 FormedIsClean = (opens : OpenTypes) (types : List «Type») (id : ℕ) (rule : Codec) (input octets : List ℕ) (ds : List Departure)
-    → IsNormal rule (shape_of types id) input octets → (l : IsLint opens types id octets ds) → AreFormed opens types l.parts.list.items → ds ≡ []
+    → IsNormal rule (shape_of types id) input octets → (l : IsLint opens types id octets ds)
+    → AreFormed opens types l.parts.list.items → ds ≡ []
 
 -- Open types aren't looked into, or none of the types is one, or is unknown values.
 abbrev pub IsClosed : OpenTypes → List «Type» → Type 0

@@ -100,7 +100,8 @@ IsNoLint types id input OutOfMemory = Unit {0}
 -- What is looked into, if DER reads the message: the parts of that reading.
 abbrev pub AreLookedInto : OpenTypes → List «Type» → ℕ → List ℕ → (List Span → Type 0) → Type 0
 AreLookedInto Unexamined types id input P = Unit {0}
-AreLookedInto Examined types id input P = (parts : MessageParts) × ArePartsOf types Der id input parts × P parts.list.items
+AreLookedInto Examined types id input P =
+    (parts : MessageParts) × ArePartsOf types Der id input parts × P parts.list.items
 
 -- The octets of the part's open type aren't well formed, and the departure is inside them; or the part is unknown values of
 -- which one isn't.

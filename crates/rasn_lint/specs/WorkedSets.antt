@@ -1,5 +1,5 @@
 -- Facts about an unknown component of a SET (X.680 27) that were worked out by hand: a NULL beside a BOOLEAN.
-use Rattle.std.specs.Prelude.{◌≡◌, ◌-◌, ◌^◌, List, [], ◌∷◌, Option, Some, None, String, Vec}
+use Rattle.std.specs.Prelude.{◌≡◌, ◌-◌, ◌^◌, ℕ, List, [], ◌∷◌, Option, Some, None, String, Vec}
 use Rattle.std.specs.Global.{Global}
 use Rattle.rasn_types.specs.declared.error.decode.DecodeError.{DecodeError}
 use Rattle.rasn_types.specs.declared.error.decode.DerDecodeErrorKind.TheVariants.{SetComponentsOutOfOrder}
@@ -24,7 +24,8 @@ use Rattle.rasn_lint.specs.Trail.{trail_after}
 
 -- SET { BOOLEAN, ... } and the types of its components, of which the last is unknown values.
 abbrev pub set_types : String Global → Vec Component Global → Vec NamedNumber Global → List «Type»
-set_types name components names = Set name (in_universal 17) components ∷ Leaf Boolean (in_universal 1) unconstrained names ∷ Unknown ∷ []
+set_types name components names =
+    Set name (in_universal 17) components ∷ Leaf Boolean (in_universal 1) unconstrained names ∷ Unknown ∷ []
 
 -- The types are these.
 pub record AreOfSet (types : List «Type») : Type 0 where
@@ -39,21 +40,34 @@ pub record AreOfSet (types : List «Type») : Type 0 where
   pub boolean_is : boolean.type_id.0 ≡ 1
   pub unknown_is : unknown.type_id.0 ≡ 2
 
--- Two components of the SET follow one another.
+-- TRUE, a NULL, and a SET of TRUE and of a NULL that has contents.
+abbrev pub a_true : List ℕ
+a_true = 1 ∷ 1 ∷ 255 ∷ []
+
+abbrev pub a_null : List ℕ
+a_null = 5 ∷ 0 ∷ []
+
+abbrev pub true_and_ill_null : List ℕ
+true_and_ill_null = 49 ∷ 6 ∷ 1 ∷ 1 ∷ 255 ∷ 5 ∷ 1 ∷ 0 ∷ []
+
+-- One component of the SET follows the other in the list of parts.
 pub record AreInSet (set first second : Span) : Type 0 where
   pub id : set.id.0 ≡ 0
   pub outermost : set.levels ≡ 2 ^ 64 - 1
   pub first_inside : first.levels ≡ 2 ^ 64 - 2
   pub second_inside : second.levels ≡ 2 ^ 64 - 2
 
--- The second of two components has this error of its place, or none.
+-- The second of them has this error of its place, or none.
 abbrev pub HasPlaceError : List «Type» → Span → Span → Span → Option DecodeError → Type 0
-HasPlaceError types set first second e = (opens : OpenTypes) (ty : «Type») (f : Faults) → AreFaultsOf opens types (trail_after (trail_after [] set) first) second ty f → f.order ≡ e
+HasPlaceError types set first second e = (opens : OpenTypes) (ty : «Type») (f : Faults)
+    → AreFaultsOf opens types (trail_after (trail_after [] set) first) second ty f → f.order ≡ e
 
--- A NULL with contents departs, in an unknown component too, exactly if open types are looked into. Unknown components
+-- A NULL with contents departs exactly if open types are looked into, also as an unknown component. Unknown components
 -- and named ones are in one order of tags.
 pub record WorkedSets (types : List «Type») : Type 0 where
-  pub ill_formed : (ds : List Departure) → IsLint Unexamined types 0 (49 ∷ 6 ∷ 1 ∷ 1 ∷ 255 ∷ 5 ∷ 1 ∷ 0 ∷ []) ds → ds ≡ []
-  pub ill_formed_is_listed : AreReadableTypes types → IsLint Examined types 0 (49 ∷ 6 ∷ 1 ∷ 1 ∷ 255 ∷ 5 ∷ 1 ∷ 0 ∷ []) [] → ⊥
-  pub rises : (set boolean null : Span) → AreInSet set boolean null → boolean.octets.now ≡ 1 ∷ 1 ∷ 255 ∷ [] → null.octets.now ≡ 5 ∷ 0 ∷ [] → HasPlaceError types set boolean null None
-  pub falls : (set boolean null : Span) → AreInSet set null boolean → boolean.octets.now ≡ 1 ∷ 1 ∷ 255 ∷ [] → null.octets.now ≡ 5 ∷ 0 ∷ [] → HasPlaceError types set null boolean (Some (der_error SetComponentsOutOfOrder))
+  pub ill_formed : (ds : List Departure) → IsLint Unexamined types 0 true_and_ill_null ds → ds ≡ []
+  pub ill_formed_is_listed : AreReadableTypes types → IsLint Examined types 0 true_and_ill_null [] → ⊥
+  pub rises : (set boolean null : Span) → AreInSet set boolean null
+      → boolean.octets.now ≡ a_true → null.octets.now ≡ a_null → HasPlaceError types set boolean null None
+  pub falls : (set boolean null : Span) → AreInSet set null boolean → boolean.octets.now ≡ a_true
+      → null.octets.now ≡ a_null → HasPlaceError types set null boolean (Some (der_error SetComponentsOutOfOrder))
