@@ -5,7 +5,7 @@ use Rattle.rasn_types.specs.declared.types.tag.Tag.{Tag}
 use Rattle.rasn_types.specs.declared.error.decode.DecodeError.{DecodeError}
 use Rattle.rasn_types.specs.Framing.{Ended}
 use Rattle.rasn_types.specs.Shapes.{Tree, items, IsSetTree, choice_by, Parts, Presence, presences}
-use Rattle.rasn_de.specs.State.{State, Call}
+use Rattle.rasn_de.specs.State.{State}
 use Rattle.rasn_de.specs.Constructed.{Keeps}
 use Rattle.rasn_de.specs.SetPartTypes.{LacksSlot, IsLackOf, HasGap, IsRequiredOrDefault, AreGathered, DecodesNext, DecodesSetPartContents}
 use Rattle.rasn_de.proofs.Constructed.SetOfElements.{came}

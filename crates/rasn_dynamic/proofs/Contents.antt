@@ -1,6 +1,6 @@
 -- What is read inside values that hold others: elements and components.
 use Rattle.std.proofs.Common.{◌≡◌, ℕ, inl, inr, Bool, List, String, [], ◌∷◌, ◌++◌, map, Vec, Global, Result, Ok, Err, refl, sym, ap, ◌∙◌, subst}
-use Rattle.std.specs.Prelude.{Option, Some}
+use Rattle.std.specs.Prelude.{Option}
 use Rattle.rasn_types.specs.declared.types.tag.Tag.{Tag}
 use Rattle.rasn_types.specs.declared.types.constraints.Bound.{Bound}
 use Rattle.rasn_types.specs.declared.error.decode.DecodeError.{DecodeError}

@@ -1,13 +1,14 @@
 -- Where in the input a value couldn't be read.
-use Rattle.std.proofs.Common.{◌≡◌, ◌≢◌, ℕ, suc, ◌+◌, ◌≤◌, List, [], ◌∷◌, ◌++◌, inl, inr, Vec, Global, String, length, length-append, append_assoc, Option, Some, None, Result, Ok, Err, Bool, false, refl, sym, ap, ◌∙◌, subst, arith}
+use Rattle.std.proofs.Common.{◌≡◌, ◌≢◌, ℕ, suc, ◌+◌, ◌≤◌, List, [], ◌∷◌, ◌++◌, inl, inr, Vec, Global, String, length, length-append, append_assoc, Option, Some, None, Result, Ok, Err, Bool, true, false, refl, sym, ap, ◌∙◌, subst, arith}
 use Rattle.std.specs.Prelude.{◌⊎◌, IfErr, reverse, slice_get}
 use Rattle.std.proofs.lemmas.List.{append-nil, reverse-append}
 use Rattle.rasn_types.specs.declared.types.codec.Codec.{Codec}
 use Rattle.rasn_types.specs.declared.error.decode.DecodeError.{DecodeError}
 use Rattle.rasn_types.specs.Framing.{Ended, AreOctets, Extent, definite, indefinite, Frame, with_length, without_length}
 use Rattle.rasn_types.specs.Tags.{form, IsStrict}
-use Rattle.rasn_types.specs.Grammar.{Reads}
-use Rattle.rasn_types.specs.Shapes.{Shape, Tree, Same, choice_by}
+use Rattle.rasn_types.specs.Grammar.{Reads, ReadsAny}
+use Rattle.rasn_types.specs.Readings.{ReadsMany}
+use Rattle.rasn_types.specs.Shapes.{Shape, Tree, any, unknown, Same, choice_by}
 use Rattle.rasn_de.specs.Headers.{Header}
 use Rattle.rasn_de.specs.Segments.{octets_inside}
 use Rattle.rasn_de.specs.State.{State, at, IsEnd, Call}
@@ -17,6 +18,8 @@ use Rattle.rasn_de.specs.SequenceOf.{DecodesInTurn, DecodesInTurnFrom, DecodesSi
 use Rattle.rasn_de.specs.declared.ber.de.parser.Contents.{Contents}
 use Rattle.rasn_de.specs.declared.ber.de.constructed.ConstructedHeader.{ConstructedHeader}
 use Rattle.rasn_de.specs.Constructed.{expected_header, constructed_header_at, is_indefinite_extent, ConsumesOpening, DecodesInside, sequence_header, prefix_header}
+use Rattle.rasn_types.specs.declared.error.decode.DecodeErrorKind.{DecodeErrorKind}
+use Rattle.rasn_de.proofs.Leaves.Outcomes.{Exact-refusal}
 use Rattle.rasn_de.proofs.Headers.Ends.{IsEnd-refl, IsEnd-trans}
 use Rattle.rasn_de.proofs.Headers.Frames.{header_parsed}
 use Rattle.rasn_de.proofs.Constructed.Contents.{constructed_header_parsed}
@@ -26,7 +29,9 @@ use Rattle.rasn_schema.specs.declared.types.Component.{Component}
 use Rattle.rasn_schema.specs.declared.types.Alternative.{Alternative}
 use Rattle.rasn_schema.specs.declared.value.Value.{Value}
 use Rattle.rasn_schema.specs.Trees.{tree_of}
-use Rattle.rasn_schema.specs.Shapes.{shape_of_type, components_by, presence_in, presence_of}
+use Rattle.rasn_schema.specs.Shapes.{shape_of_type, type_by, alternatives_by, components_by, presence_in, presence_of}
+use Rattle.rasn_schema.proofs.OpenEnds.{among_known}
+use Rattle.rasn_schema.proofs.TypeShapes.{shape_below}
 use Rattle.rasn_dynamic.specs.Inside.{DecodesTree, DecodesComponent}
 use Rattle.rasn_types.specs.declared.types.tag.Tag.{Tag}
 use Rattle.rasn_types.specs.declared.types.constraints.Constraints.{Constraints}
@@ -36,13 +41,13 @@ use Rattle.rasn_de.specs.declared.ber.de.parser.ParseError.TheVariants.{Unexpect
 use Rattle.rasn_de.specs.Steps.{IsErrorOf}
 use Rattle.rasn_de.proofs.Constructed.Steps.{rules_same}
 use Rattle.rasn_de.proofs.OwnTypes.Parts.{call_keeps}
-use Rattle.rasn_schema.specs.declared.types.«Type».TheVariants.{Tagged, Choice, Sequence, Set, SequenceOf, SetOf}
+use Rattle.rasn_schema.specs.declared.types.«Type».TheVariants.{Leaf, Enumerated, Any, Unknown, Tagged, Choice, Sequence, Set, SequenceOf, SetOf}
 use Rattle.rasn_schema.specs.declared.types.Presence.TheVariants.{Default}
 use Rattle.rasn_dynamic.specs.Calls.{IsDefaultOf, IsMade}
 use Rattle.rasn_dynamic.specs.Typed.{element_count}
 use Rattle.rasn_dynamic.specs.declared.trace.Fault.{Fault}
 use Rattle.rasn_dynamic.specs.declared.refusal.Refusal.{Refusal}
-use Rattle.rasn_dynamic.specs.Faults.{IsMarked, IsStepped, IsMoved, octets_after, IsWithin, IsComponentAt, ComponentsInTurn, IsMember, IsMemberAt, IsElementAt, IsNextAlternative, IsAlternativeAt, IsOnly, IsPart, Leads, HasPath, IsFault, IsFaultIn, IsFaultOf, IsFaultInside, Told, TellsOf, IsRefusalOf, IsLocated, FailsAt, FailsItself, ReadsEachPart, StopsAtChoice, StopsInElements, StopsInOrder, StopsInSequence, StopsAtComponent, IsDefaultWritten, TakesNothing, start}
+use Rattle.rasn_dynamic.specs.Faults.{IsMarked, IsStepped, IsMoved, octets_after, IsWithin, IsComponentAt, ComponentsInTurn, IsUnknown, IsUnknownMember, IsElementAt, IsNextAlternative, IsAlternativeAt, IsOnly, IsMemberHere, IsMemberAfter, IsAnyPart, LeadsBy, LeadsToAny, HasPath, IsFault, IsFaultIn, IsFaultOf, IsFaultInside, Told, TellsOf, IsRefusalOf, IsLocated, FailsAt, FailsItself, ReadsEachPart, StopsAtChoice, StopsInElements, StopsInOrder, StopsInSequence, StopsAtComponent, IsDefaultWritten, TakesNothing, start}
 
 -- ---- lists
 
@@ -73,7 +78,7 @@ module _ (types : List «Type») where
   -- A value that isn't read is named itself, where nothing inside it was.
   own : (levels : ℕ) (id : TypeId) (s : State) (k : DecodeError) (f : Fault) → f.id ≡ id → f.left ≡ length s.rest → f.steps.items ≡ [] → Exact (Reads s.rule (shape_of_type types levels id.0) s.depth s.closing) s.rest (refusal k.kind)
       → FailsAt types levels id.0 s k → IsFault types levels id.0 s k f
-  unfolding Leads
+  unfolding LeadsBy
   own levels id s k f p l e x o = record {
     path = [];
     below = levels;
@@ -106,7 +111,7 @@ module _ (types : List «Type») where
     part = (refl, refl, refl);
     stays = refl;
     end = IsEnd-refl s.rest;
-    leads = subst (λ (z : TypeId). Leads types i.path levels next s i.below z.0 i.last) (sym p) i.leads;
+    leads = subst (λ (z : TypeId). LeadsToAny types i.path levels next s i.below z.0 i.last) (sym p) i.leads;
     within = subst (λ n. IsWithin s.rest i.last.rest n) (sym l) i.within;
     refused = subst (λ (z : TypeId). Exact (Reads i.last.rule (shape_of_type types i.below z.0) i.last.depth i.last.closing) i.last.rest (refusal k.kind)) (sym p) i.refused;
     itself = subst (λ (z : TypeId). FailsAt types i.below z.0 i.last k) (sym p) i.itself;
@@ -158,7 +163,7 @@ module _ (types : List «Type») where
 
   -- What is named in a ty is named at its id.
   pub entered : (levels id n : ℕ) (ty : «Type») (s : State) → levels ≡ suc n → slice_get types id ≡ Some ty → (k : DecodeError) (f : Fault) → IsFaultOf types n ty s k f → IsFault types levels id s k f
-  unfolding Leads
+  unfolding LeadsBy
   entered levels id n ty s l g k f (inner, e, i) = record {
     path = i.index ∷ i.path;
     below = i.below;
@@ -210,7 +215,7 @@ module _ (types : List «Type») where
 
     -- What is named in the contents is named in the value.
     pub opened : (levels : ℕ) (ty : «Type») (k : DecodeError) (closing : Bool) (n : ℕ) → closing ≡ p.closing → n ≡ octets_after closing (length mid.rest) → (t u : Option Fault)
-        → ((f : Fault) → t ≡ Some f → IsFaultIn types levels (IsPart (shape_of_type types levels) ty p) p p k f) → IsMoved n t u → (g : Fault) → u ≡ Some g → IsFaultInside types levels d ty old k g
+        → ((f : Fault) → t ≡ Some f → IsFaultIn types levels (IsAnyPart (shape_of_type types levels) ty p) p p k f) → IsMoved n t u → (g : Fault) → u ≡ Some g → IsFaultInside types levels d ty old k g
     opened levels ty k closing n e b None u h m g q = cc
     opened levels ty k closing n e b (Some f) u h (v, y, a, l, z, cut) g q =
         let i = h f refl in
@@ -230,7 +235,7 @@ module _ (types : List «Type») where
             part = i.part;
             stays = i.stays;
             end = i.end;
-            leads = subst (λ (j : TypeId). Leads types i.path levels i.next i.here i.below j.0 i.last) (sym a) i.leads;
+            leads = subst (λ (j : TypeId). LeadsToAny types i.path levels i.next i.here i.below j.0 i.last) (sym a) i.leads;
             within = subst (λ j. IsWithin old.rest i.last.rest j) (sym l) there;
             refused = subst (λ (j : TypeId). Exact (Reads i.last.rule (shape_of_type types i.below j.0) i.last.depth i.last.closing) i.last.rest (refusal k.kind)) (sym a) i.refused;
             itself = subst (λ (j : TypeId). FailsAt types i.below j.0 i.last k) (sym a) i.itself;
@@ -238,6 +243,9 @@ module _ (types : List «Type») where
         )
 
 -- ---- clauses
+
+pub not_named : (t : Option Fault) (f : Fault) → t ≡ Some f → t ≡ None → ⊥
+not_named t f i n = cc
 
 pub told_map : {T : Type 0} (P Q : DecodeError → Fault → Type 0) → ((k : DecodeError) (f : Fault) → P k f → Q k f) → (r : Result T DecodeError) (t : Option Fault) → Told P r t → Told Q r t
 told_map P Q h (Ok v) t x = x
@@ -278,13 +286,28 @@ pub part_there : (f : ℕ → Shape) (ps done after : List Component) (p : Compo
     → (k next : ℕ) (x : State) → IsOnly number p.type_id.0 here k next x → IsComponentAt f ps s k next x
 part_there f ps done after p s here number e l t k next x (a, b, g) = (done, p, after, e, l ∙ sym a, b, subst (λ z. ComponentsInTurn f done s z) (sym g) t)
 
-pub member_there : (ps : List Component) (number : ℕ) (p : Component) (s : State) → Some p ≡ slice_get ps number → (k next : ℕ) (x : State) → IsOnly number p.type_id.0 s k next x → IsMember ps s k next x
-member_there ps number p s e k next x (a, b, g) = (p, subst (λ z. Some p ≡ slice_get ps z) (sym a) e, b, g)
+pub member_there : (f : ℕ → Shape) (extensible : Bool) (ps : List Component) (other number : ℕ) (p : Component) (s : State)
+    → Some p ≡ slice_get ps number
+    → (k next : ℕ) (x : State) → IsOnly number p.type_id.0 s k next x → IsMemberHere f extensible ps other s k next x
+member_there f extensible ps other number p s e k next x (a, b, g) =
+    inl (p, subst (λ z. Some p ≡ slice_get ps z) (sym a) e, b, g)
 
-pub member_behind : (f : ℕ → Shape) (extensible : Bool) (ps : List Component) (s here : State) (done : List Tree) (bs : List (List ℕ)) → DecodesInTurnFrom (DecodesTree (choice_by extensible (components_by f ps))) s done bs here
-    → (k next : ℕ) (x : State) → IsMember ps here k next x → IsMemberAt f extensible ps s k next x
-member_behind f extensible ps s here done bs d k next x (p, e, b, g) =
-    (p, e, b, done, bs, subst (λ z. DecodesInTurnFrom (DecodesTree (choice_by extensible (components_by f ps))) s done bs z) (sym g) d)
+pub member_behind : (f : ℕ → Shape) (extensible : Bool) (ps : List Component) (other : ℕ)
+    (s here : State) (done : List Tree) (bs : List (List ℕ))
+    → DecodesInTurnFrom (DecodesTree (choice_by extensible (components_by f ps))) s done bs here
+    → (k next : ℕ) (x : State) → IsMemberHere f extensible ps other here k next x
+    → IsMemberAfter f extensible ps other s k next x
+member_behind f extensible ps other s here done bs d k next x (inl (p, e, b, g)) =
+    let D = DecodesInTurnFrom (DecodesTree (choice_by extensible (components_by f ps))) s done bs in
+    inl (p, e, b, done, bs, subst (λ z. D z) (sym g) d)
+member_behind f extensible ps other s here done bs d k next x (inr (u, g)) =
+    let D = DecodesInTurnFrom (DecodesTree (choice_by extensible (components_by f ps))) s done bs in
+    inr (subst (λ z. IsUnknownMember f extensible ps other z k next) (sym g) u, done, bs, subst (λ z. D z) (sym g) d)
+
+pub unknown_there : (f : ℕ → Shape) (extensible : Bool) (ps : List Component) (other : ℕ) (s : State)
+    → extensible ≡ true → IsUnknown f (components_by f ps) s
+    → (k next : ℕ) (x : State) → IsOnly (length ps) other s k next x → IsMemberHere f extensible ps other s k next x
+unknown_there f extensible ps other s e u k next x (a, b, g) = inr ((e, a, b, u), g)
 
 -- Elements that are read one after the other leave an end of what there was.
 pub turns_keep : {D : Type 0} (s : Shape) (tree : D → Tree) (old : State) (vs : List D) (here : State) → DecodesInTurn (Decodes s tree) old vs here → (here ≡ at old here.rest) × IsEnd old.rest here.rest
@@ -300,6 +323,53 @@ one_taken all (x ∷ octets) rest e n = let l : length all ≡ suc (length octet
 pub turns_long : {D : Type 0} (s : Shape) (tree : D → Tree) (old : State) (vs : List D) (here : State) → DecodesInTurn (Decodes s tree) old vs here → length vs + length here.rest ≤ length old.rest
 turns_long s tree old [] here e = let l : length here.rest ≡ length old.rest = ap (λ (z : State). length z.rest) e in omega (arith, l)
 turns_long s tree old (v ∷ vs) here (next, n, d, l, p) = omega (arith, turns_long s tree next vs here p, one_taken old.rest d.end.0 next.rest d.end.1 l)
+
+-- ---- an unknown component of a SET
+
+-- Where none is read, no unknown values are.
+none_of_many : (rule : Codec) (depth : ℕ) (closing : Bool) (input : List ℕ) (kind : DecodeErrorKind)
+    → (Ended closing input → ⊥) → Exact (Reads rule (any None) depth closing) input (refusal kind)
+    → Exact (Reads rule unknown depth closing) input (refusal kind)
+unfolding Reads
+none_of_many rule depth closing input kind more x =
+    Exact-refusal kind (Reads rule (any None) depth closing) (Reads rule unknown depth closing) input input
+    (λ nothing t r h. go nothing h.0 r h.3) x
+  where
+    go : ((t : Tree) (r : List ℕ) → Reads rule (any None) depth closing input t r → ⊥)
+        → (ts : List Tree) (r : List ℕ) → ReadsMany (ReadsAny rule) closing input ts r → ⊥
+    go nothing [] r (e, p) = more e
+    go nothing (t ∷ ts) r (n, middle, k, others) = nothing t middle k
+
+-- A type of unknown values fails itself, whatever the error is.
+unknown_itself : (f : ℕ → Shape) (ty : «Type») (s : State) (e : DecodeError) → type_by f ty ≡ unknown → FailsItself f ty s e
+unknown_itself f (Leaf kind tag c names) s e u = tt
+unknown_itself f (Enumerated tag ns) s e u = tt
+unknown_itself f (Any tag) s e u = tt
+unknown_itself f Unknown s e u = tt
+unknown_itself f (Tagged tag id) s e u = absurd cc
+unknown_itself f (Choice name ks) s e u = absurd (among_known (alternatives_by f ks.items) u)
+unknown_itself f (Sequence tag ps) s e u = absurd cc
+unknown_itself f (Set name tag ps) s e u = absurd cc
+unknown_itself f (SequenceOf tag id c) s e u = absurd cc
+unknown_itself f (SetOf tag id c) s e u = absurd cc
+
+unknown_fails : (types : List «Type») (levels id : ℕ) (s : State) (e : DecodeError)
+    → shape_of_type types levels id ≡ unknown → FailsAt types levels id s e
+unknown_fails types levels id s e u n ty l at =
+    unknown_itself (shape_of_type types n) ty s e (sym (shape_below types levels n id ty l (sym at)) ∙ u)
+
+-- It is named, with its index.
+pub unknown_named : (types : List «Type») (levels : ℕ) (id : TypeId) (index left : ℕ) (s : State) (k : DecodeError)
+    (old mid new : Option Fault) → old ≡ None → IsMarked id left old mid → IsStepped index mid new
+    → left ≡ length s.rest → Exact (Reads s.rule (any None) s.depth s.closing) s.rest (refusal k.kind)
+    → shape_of_type types levels id.0 ≡ unknown → (Ended s.closing s.rest → ⊥)
+    → (g : Fault) × (new ≡ Some g) × IsFaultIn types levels (IsOnly index id.0 s) s s k g
+unknown_named types levels id index left s k old mid new none m step l x u more =
+    let refused = subst (λ z. Exact (Reads s.rule z s.depth s.closing) s.rest (refusal k.kind)) (sym u)
+    (none_of_many s.rule s.depth s.closing s.rest k.kind more x) in
+    let one = marked types levels id left s k old mid (λ f e. absurd (not_named old f e none)) m l refused
+    (λ z. unknown_fails types levels id.0 s k u) in
+    stepped types levels id.0 index s k mid new one step
 
 -- ---- a refusal
 
@@ -321,7 +391,7 @@ located types rule id input e t len m r (f, q, i) h =
       is = x.2;
       offset = omega (arith, l, x.3, m, w.1);
       has_path = λ cut. w.4 ∙ i.has_path (sym w.3 ∙ cut);
-      leads = subst (λ (z : TypeId). Leads types i.path 18446744073709551615 id (start rule input) i.below z.0 i.last) (sym w.2) i.leads;
+      leads = subst (λ (z : TypeId). LeadsToAny types i.path 18446744073709551615 id (start rule input) i.below z.0 i.last) (sym w.2) i.leads;
       refused = subst (λ (z : DecodeError). Exact (Reads i.last.rule (shape_of_type types i.below r.id.0) i.last.depth i.last.closing) i.last.rest (refusal z.kind)) (sym w.0)
           (subst (λ (z : TypeId). Exact (Reads i.last.rule (shape_of_type types i.below z.0) i.last.depth i.last.closing) i.last.rest (refusal e.kind)) (sym w.2) i.refused);
       itself = subst (λ (z : DecodeError). FailsAt types i.below r.id.0 i.last z) (sym w.0) (subst (λ (z : TypeId). FailsAt types i.below z.0 i.last e) (sym w.2) i.itself);
@@ -342,9 +412,6 @@ if_err_map P Q h (Err e) x = h e x
 pub named : {T : Type 0} (P : DecodeError → Fault → Type 0) (Q : DecodeError → Type 0) (r : Result T DecodeError) (t : Option Fault) → TellsOf P r t → IfErr r (λ e. t ≡ None → Q e)
 named P Q (Ok v) t x = tt
 named P Q (Err e) t (f, i, w) = λ n. cc
-
-pub not_named : (t : Option Fault) (f : Fault) → t ≡ Some f → t ≡ None → ⊥
-not_named t f i n = cc
 
 pub unmoved : (n : ℕ) (t u : Option Fault) → IsMoved n t u → u ≡ None → t ≡ None
 unmoved n None u m e = refl

@@ -5,7 +5,6 @@ use Rattle.rasn_types.specs.declared.types.codec.Codec.{Codec}
 use Rattle.rasn_types.specs.Errors.{IsOutOfMemory}
 use Rattle.rasn_types.specs.declared.error.decode.DecodeError.{DecodeError}
 use Rattle.rasn_types.specs.Shapes.{Tree, items, absent, Shape, Key, own_tag, Parts, part}
-use Rattle.rasn_types.specs.Shapes.Parts.{none}
 use Rattle.rasn_types.specs.Readings.{IsMissing, AllMissing}
 use Rattle.rasn_types.specs.Readings.{presences_in as presences_of_parts}
 use Rattle.rasn_types.specs.Grammar.{parts_of}

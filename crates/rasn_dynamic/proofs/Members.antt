@@ -8,7 +8,6 @@ use Rattle.rasn_types.specs.Tags.{form, IsStrict}
 use Rattle.rasn_types.specs.Framing.{NextTag}
 use Rattle.rasn_types.specs.Shapes.{Tree, chosen, Shape, any, choice, open_choice, choice_by, Parts, part, count, Presence, required, addition, optional_by, default_by, IsFirst, IsFirstOf}
 use Rattle.rasn_types.specs.Shapes.Parts.{none}
-use Rattle.rasn_types.specs.Errors.{IsOutOfMemory}
 use Rattle.rasn_types.specs.Readings.{ReadsChoice, IsNoDefault}
 use Rattle.rasn_types.specs.Grammar.{Reads, parts_of}
 use Rattle.rasn_de.specs.State.{State}
@@ -23,7 +22,6 @@ use Rattle.rasn_schema.specs.Shapes.{components_by, presence_in}
 use Rattle.rasn_dynamic.specs.Inside.{DecodesTree}
 use Rattle.rasn_dynamic.specs.Sets.{AreLawfulMembers, PassesUnknown}
 use Rattle.rasn_dynamic.specs.Calls.{IsComponentFor, IsDefaultOf, DecodesPresent}
-use Rattle.rasn_dynamic.proofs.Checked.{memory_or_none}
 use Rattle.rasn_dynamic.proofs.OpenChoice.{as_named, of_named, as_unknown, of_unknown}
 use Rattle.rasn_dynamic.proofs.Pieces.{first_of_part, only_part}
 
@@ -102,10 +100,6 @@ pub none_passed : (extensible : Bool) (ps : Parts) (old new : State) → extensi
 unfolding Reads
 none_passed false ps old new e X (u, d) = absurd (omega (arith, number_below old.rule old.depth old.closing old.rest ps 0 (count ps) u new.rest d.exact.0))
 none_passed true ps old new e X d = absurd cc
-
-pub none_unread : (extensible : Bool) (ps : Parts) (old new : State) (e : DecodeError) → DecodesTree (any None) old (Err e) new → (next : State) → PassesUnknown extensible ps old next → IsOutOfMemory e.kind
-none_unread extensible ps old new e d next (u, k) =
-    memory_or_none e.kind (Reads old.rule (any None) old.depth old.closing) old.rest u next.rest d.exact (unknown_is ps old next extensible u k).open_type.exact.0
 
 abbrev itself : Tree → Tree
 itself t = t

@@ -3,7 +3,7 @@ use Rattle.std.proofs.Common.{◌≡◌, ◌≢◌, ◌-◌, ℕ, zero, suc, Boo
 use Rattle.std.specs.Prelude.{slice_get}
 use Rattle.rasn_types.specs.declared.types.tag.Tag.{Tag}
 use Rattle.rasn_types.specs.Lawful.{IsLawful}
-use Rattle.rasn_types.specs.Shapes.{Shape, Parts, looked_for}
+use Rattle.rasn_types.specs.Shapes.{Shape, leaf, any, prefix, choice, open_choice, option, seq, set, sorted_set, list, set_of, unknown, Parts, looked_for}
 use Rattle.rasn_types.specs.Truth.{IsWhether}
 use Rattle.rasn_schema.specs.declared.types.Component.{Component}
 use Rattle.rasn_schema.specs.declared.types.«Type».{«Type»}
@@ -62,6 +62,26 @@ split_end [] i x e g = absurd (omega (arith, e))
 split_end (y ∷ []) zero x e g = let same : y ≡ x = cc in ap (λ z. z ∷ []) same
 split_end (y ∷ (z ∷ l)) zero x e g = absurd (omega (arith, e))
 split_end (y ∷ l) (suc i) x e g = ap (λ m. y ∷ m) (split_end l i x (omega (arith, e)) g)
+
+shape_is_unknown : (s : Shape) → is_unknown s ≡ true → s ≡ unknown
+shape_is_unknown (leaf kind tag bounds) e = absurd cc
+shape_is_unknown (any tag) e = absurd cc
+shape_is_unknown (prefix tag s) e = absurd cc
+shape_is_unknown (choice ps) e = absurd cc
+shape_is_unknown (open_choice ps) e = absurd cc
+shape_is_unknown (option tag s) e = absurd cc
+shape_is_unknown (seq tag ps) e = absurd cc
+shape_is_unknown (set tag ps) e = absurd cc
+shape_is_unknown (sorted_set extensible tag ps) e = absurd cc
+shape_is_unknown (list tag s size) e = absurd cc
+shape_is_unknown (set_of tag s size) e = absurd cc
+shape_is_unknown unknown e = refl
+
+-- That of an extensible SET is unknown values.
+pub last_unknown : (f : ℕ → Shape) (ps : List Component) → is_extensible f ps ≡ true → f (last_type ps) ≡ unknown
+last_unknown f [] e = absurd cc
+last_unknown f (p ∷ []) e = shape_is_unknown (f p.type_id.0) e
+last_unknown f (p ∷ (q ∷ ps)) e = last_unknown f (q ∷ ps) e
 
 pub last_is : (ps : List Component) (i : ℕ) (p : Component) → suc i ≡ length ps → p ≡ get_or ps i p → last_type ps ≡ p.type_id.0
 last_is ps i p e at = ap last_type (split_end ps i p e (read_at ps i p (omega (arith, e)) at)) ∙ last_type_is (take i ps) p

@@ -23,7 +23,7 @@ use Rattle.rasn_schema.specs.declared.types.Component.{Component}
 use Rattle.rasn_schema.specs.Shapes.{shape_of_type, type_by, components_by, presence_in, IsReadable, AreReadable}
 use Rattle.rasn_dynamic.specs.Inside.{DecodesTree}
 use Rattle.rasn_dynamic.specs.Sets.{is_extensible, named_components, AreLawfulMembers}
-use Rattle.rasn_dynamic.specs.Faults.{octets_after, ComponentsInTurn, IsPart, EntersBy, Enters, Leads, start}
+use Rattle.rasn_dynamic.specs.Faults.{octets_after, ComponentsInTurn, IsPart, EntersBy, Enters, LeadsBy, Leads, start}
 use Rattle.rasn_dynamic.specs.Parts.{IsSeen, IsEntered, IsHeader, IsHeaderOf, LacksPart, IsReadHere, IsPartAt, PassesPresent, PassesElement}
 use Rattle.rasn_dynamic.specs.declared.part.Part.{Part}
 use Rattle.rasn_de.proofs.Headers.Frames.{header_parsed}
@@ -173,7 +173,7 @@ module _ (types : List «Type») where
   -- The path with one part.
   pub leads_one : (levels id n k : ℕ) (ty : «Type») (s inner : State) (next : ℕ) (here : State) → levels ≡ suc n → slice_get types id ≡ Some ty → IsEntered ty s inner → IsPart (shape_of_type types n) ty inner k next here
       → Leads types (k ∷ []) levels id s n next here
-  unfolding Leads
+  unfolding LeadsBy
   leads_one levels id n k ty s inner next here l g e i =
       let p = part_keeps (shape_of_type types n) ty inner k next here i in
       (n, l, ty, g, inner, entered_for (shape_of_type types n) ty s inner k next here e i, next, here, i, p.0, p.1, (refl, refl, refl))
@@ -181,14 +181,14 @@ module _ (types : List «Type») where
   -- One path, and then another.
   pub leads_on : (a b : List ℕ) (levels id : ℕ) (s : State) (mid next : ℕ) (here : State) (below end : ℕ) (last : State)
       → Leads types a levels id s mid next here → Leads types b mid next here below end last → Leads types (a ++ b) levels id s below end last
-  unfolding Leads
+  unfolding LeadsBy
   leads_on [] b levels id s mid next here below end last (l, i, e) h =
       subst (λ z. Leads types b z id s below end last) (sym l) (subst (λ z. Leads types b mid z s below end last) (sym i) (subst (λ z. Leads types b mid next z below end last) (sym e) h))
   leads_on (k ∷ a) b levels id s mid next here below end last (n, l, ty, g, inner, e, via, there, p, stays, back, rest) h =
       (n, l, ty, g, inner, e, via, there, p, stays, back, leads_on a b n via there mid next here below end last rest h)
 
   pub leads_nowhere : (levels id : ℕ) (s : State) → Leads types [] levels id s levels id s
-  unfolding Leads
+  unfolding LeadsBy
   leads_nowhere levels id s = (refl, refl, refl)
 
 -- ---- headers

@@ -7,7 +7,7 @@ use Rattle.rasn_types.specs.declared.types.codec.Codec.{Codec}
 use Rattle.rasn_types.specs.declared.types.tag.Tag.{Tag}
 use Rattle.rasn_types.specs.declared.error.decode.DecodeError.{DecodeError}
 use Rattle.rasn_types.specs.Errors.{IsOutOfMemory}
-use Rattle.rasn_types.specs.Shapes.{Tree, items, absent, Shape, presences, own_tag, Presence, required, IsFirst, IsFirstOf, IsAlwaysPresent}
+use Rattle.rasn_types.specs.Shapes.{Tree, absent, Shape, presences, own_tag, Presence, required, IsFirst, IsFirstOf, IsAlwaysPresent}
 use Rattle.rasn_types.specs.Readings.{IsMissing, AllMissing}
 use Rattle.rasn_types.specs.Lawful.{IsLawful, HasTag, AreComponents, AreDistinguished}
 use Rattle.rasn_de.specs.Choice.{IsOnlyAlternative}

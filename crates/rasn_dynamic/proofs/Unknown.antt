@@ -1,8 +1,7 @@
 -- Unknown values, as they are read and as they are copied to be written.
-use Rattle.std.proofs.Common.{◌≡◌, ◌<◌, ◌*◌, ◌+◌, ◌≤◌, ℕ, Bool, true, List, [], ◌∷◌, ◌++◌, map, length, Option, Some, None, Vec, Global, Result, Ok, Err, inl, inr, refl, sym, ap, ◌∙◌, subst, arith, append_assoc, length-append}
+use Rattle.std.proofs.Common.{◌≡◌, ◌<◌, ◌+◌, ℕ, Bool, true, List, [], ◌∷◌, ◌++◌, map, length, Option, Some, None, Vec, Global, Ok, Err, inr, refl, sym, ap, ◌∙◌, subst, arith, append_assoc, length-append}
 use Rattle.std.specs.Prelude.{MatchOption}
 use Rattle.std.proofs.lemmas.List.{append-nil, map-append, map-id}
-use Rattle.rasn_types.specs.Framing.{steps_in}
 use Rattle.rasn_types.specs.Shapes.{Tree, items, numbers, any, unknown}
 use Rattle.rasn_types.specs.Grammar.{Reads}
 use Rattle.rasn_types.proofs.Encoding.Complete.{steps_twice}

@@ -18,7 +18,7 @@ use Rattle.rasn_schema.specs.declared.type_id.TypeId.{TypeId}
 use Rattle.rasn_schema.specs.declared.types.«Type».TheVariants.{SequenceOf}
 use Rattle.rasn_dynamic.specs.Inside.{DecodesTree}
 use Rattle.rasn_schema.specs.Shapes.{shape_of_type}
-use Rattle.rasn_dynamic.specs.Faults.{IsWithin, IsPart, Enters, Leads, start}
+use Rattle.rasn_dynamic.specs.Faults.{IsWithin, IsPart, Enters, LeadsBy, Leads, start}
 use Rattle.rasn_dynamic.specs.Parts.{IsHeader, LacksElement}
 use Rattle.rasn_dynamic.specs.declared.steps.Step.TheVariants.{Index}
 use Rattle.rasn_dynamic.specs.Steps.{IsStepOf, IsWay, IsNoWay}
@@ -44,7 +44,7 @@ not_ended (inl e) = cc
 not_ended (inr (e, more, is)) = cc
 
 first : (element : TypeId) → Leads (list_alone element) (0 ∷ []) 1 0 (start Ber one_element) 0 element.0 inside_one
-unfolding Leads
+unfolding LeadsBy
 first element = (0, refl, _, refl, inside_one, (list_of the_element, one_opened, refl), element.0, inside_one, (refl, [], refl, refl, not_ended), refl, IsEnd-refl the_element, (refl, refl, refl))
 
 no_more : (read : Call Tree) (ts : List Tree) (inner here : State) → length ts ≡ 0 → DecodesInTurn read inner ts here → here ≡ inner
@@ -55,7 +55,7 @@ opened_so : (h : Header) → constructed_header_at (list_header (in_universal 16
 opened_so h o = let both = sym none_opened ∙ o in cc
 
 none_first : (element : TypeId) (below end : ℕ) (last : State) → Leads (list_alone element) (0 ∷ []) 1 0 (start Ber no_element) below end last → ⊥
-unfolding Leads
+unfolding LeadsBy
 none_first element below end last (n, l, ty, g, inner, e, next, here, part, stays, back, rest) =
     let same : ty ≡ SequenceOf (in_universal 16) element unconstrained = cc in
     let (h, opened, entered) = subst (λ z. Enters z (start Ber no_element) inner) same e in
@@ -65,7 +65,7 @@ none_first element below end last (n, l, ty, g, inner, e, next, here, part, stay
     more (subst (λ (z : State). Ended z.closing z.rest) (sym is) (subst (λ (z : Header). Ended (contents_state (list_header (in_universal 16)) (start Ber no_element) z).closing (contents_state (list_header (in_universal 16)) (start Ber no_element) z).rest) header (inl refl)))
 
 no_type : (below end : ℕ) (last : State) → Leads [] (0 ∷ []) 1 0 (start Ber one_element) below end last → ⊥
-unfolding Leads
+unfolding LeadsBy
 no_type below end last (n, l, ty, g, inner, e, next, here, part, stays, back, rest) = cc
 
 has_element : (f : ℕ → Shape) (id : ℕ) → LacksElement f id inside_one 0 → ⊥

@@ -1,5 +1,6 @@
 -- Refusals and faults that were worked out by hand.
-use Rattle.std.proofs.Common.{◌≡◌, ℕ, ◌<◌, List, [], ◌∷◌, ◌++◌, length, length-append, Some, None, inl, inr, refl, sym, ap, subst, arith}
+use Rattle.std.proofs.Common.{◌≡◌, ℕ, zero, suc, true, false, ◌<◌, List, [], ◌∷◌, ◌++◌, length, length-append, Some, None, Err, inl, inr, refl, sym, ap, subst, arith}
+use Rattle.std.specs.Prelude.{slice_get}
 use Rattle.rasn_types.specs.declared.types.codec.Codec.{Codec}
 use Rattle.rasn_types.specs.declared.types.codec.Codec.TheVariants.{Der}
 use Rattle.rasn_types.specs.declared.error.decode.DecodeError.{DecodeError}
@@ -9,16 +10,20 @@ use Rattle.rasn_types.specs.Shapes.{Shape, Tree}
 use Rattle.rasn_types.specs.Readings.{Reading}
 use Rattle.rasn_types.specs.Grammar.{Reads, top}
 use Rattle.rasn_de.specs.State.{State}
+use Rattle.rasn_de.specs.Steps.{PeeksTag}
 use Rattle.rasn_de.specs.Outcomes.{Exact, refusal}
+use Rattle.rasn_schema.specs.declared.types.Component.{Component}
 use Rattle.rasn_schema.specs.declared.types.«Type».{«Type»}
+use Rattle.rasn_schema.proofs.Lists.{some_is}
+use Rattle.rasn_schema.proofs.Parts.{not_none}
 use Rattle.rasn_schema.specs.Shapes.{shape_of_type, alternatives_by}
 use Rattle.rasn_dynamic.specs.declared.refusal.Refusal.{Refusal}
-use Rattle.rasn_dynamic.specs.Faults.{Leads, FailsAt, StopsInSequence, IsLocated, start}
+use Rattle.rasn_dynamic.specs.Faults.{LeadsBy, LeadsToAny, IsMemberHere, StopsAtMember, FailsAt, StopsInSequence, IsLocated, start}
 use Rattle.rasn_dynamic.specs.WorkedFaults.{WorkedFaults}
 use Rattle.rasn_dynamic.proofs.OpenChoice.{open_begins}
 
-no_way : (levels : ℕ) (s : State) (id : ℕ) → id ≡ 0 → Leads [] [] levels 0 s levels id s
-unfolding Leads
+no_way : (levels : ℕ) (s : State) (id : ℕ) → id ≡ 0 → LeadsToAny [] [] levels 0 s levels id s
+unfolding LeadsBy
 no_way levels s id e = (refl, sym e, refl)
 
 no_type : (levels : ℕ) (s : State) (e : DecodeError) (id : ℕ) → FailsAt [] levels id s e
@@ -59,6 +64,24 @@ no_components f s e n (inr (done, p, after, here, is, turn, stops)) =
     let b = length-append done (p ∷ after) in
     omega (arith, a, b)
 
+no_component : (k : ℕ) (p : Component) → Some p ≡ slice_get [] k → ⊥
+no_component zero p e = not_none p None refl e
+no_component (suc k) p e = not_none p None refl e
+
+closed_set : (f : ℕ → Shape) (s : State) → IsMemberHere f false [] 6 s 0 6 s → ⊥
+closed_set f s (inl (p, at, i, h)) = no_component 0 p at
+closed_set f s (inr ((e, k, n, u), g)) = cc
+
+named_component : (f : ℕ → Shape) (s : State) (p : Component) → p.type_id.0 ≡ 5 → IsMemberHere f true (p ∷ []) 6 s 0 6 s → ⊥
+named_component f s p e (inl (q, at, i, g)) = omega (arith, i, e, ap (λ (x : Component). x.type_id.0) (some_is q p at))
+named_component f s p e (inr ((x, k, n, u), g)) = omega (arith, k)
+
+open_set : (f : ℕ → Shape) (s : State) (e : DecodeError) → (PeeksTag s (Err e) → ⊥) → (IsOutOfMemory e.kind → ⊥) → StopsAtMember f true [] s e → ⊥
+open_set f s e n m (inl p) = n p
+open_set f s e n m (inr (inl (u, x))) = cc
+open_set f s e n m (inr (inr (inl o))) = m o
+open_set f s e n m (inr (inr (inr (k, p, at, h)))) = no_component k p at
+
 pub worked_faults : WorkedFaults
 worked_faults = record {
   no_memory_at_the_start = at_the_start;
@@ -72,4 +95,9 @@ worked_faults = record {
   no_memory_in_a_sequence = λ f s e m. inl m;
   nothing_stops_without_components = no_components;
   no_memory_between_elements = λ f id s e m. inl m;
+  unknown_component_can_be_named = λ f s tag n. inr ((refl, refl, refl, (tag, n, λ h. h)), refl);
+  not_in_a_closed_set = closed_set;
+  not_as_a_named_component = named_component;
+  unknown_tag_stops_at_a_closed_set = λ f s e tag n. inr (inl ((tag, n, λ h. h), refl));
+  no_tag_stops_at_an_open_set = open_set;
 }

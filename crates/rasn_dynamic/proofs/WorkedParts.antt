@@ -10,7 +10,7 @@ use Rattle.rasn_schema.specs.declared.types.«Type».TheVariants.{Sequence, Sequ
 use Rattle.rasn_schema.specs.declared.type_id.TypeId.{TypeId}
 use Rattle.rasn_schema.specs.Shapes.{nothing, found_by, tag_found, shape_of_type, IsReadable}
 use Rattle.rasn_types.specs.Lawful.{IsLawful}
-use Rattle.rasn_types.specs.Framing.{NextTag, Ended, definite, plain}
+use Rattle.rasn_types.specs.Framing.{NextTag, Ended, plain}
 use Rattle.rasn_types.specs.Grammar.{Reads}
 use Rattle.rasn_types.specs.declared.types.tag.Tag.{Tag}
 use Rattle.rasn_types.specs.Shapes.{Shape, Tree, numbers, any, IsFirst, list, unknown, looked_for}

@@ -26,7 +26,7 @@ use Rattle.rasn_schema.specs.declared.types.«Type».TheVariants.{Leaf, Enumerat
 use Rattle.rasn_schema.specs.Shapes.{shape_of_type, alternatives_by, components_by, presence_of, presence_in}
 use Rattle.rasn_schema.specs.FirstTags.{IsAlternativeFor, IsAlwaysThere}
 use Rattle.rasn_dynamic.specs.Inside.{DecodesTree, DecodesComponent}
-use Rattle.rasn_dynamic.specs.Sets.{is_extensible, named_components, PassesUnknown}
+use Rattle.rasn_dynamic.specs.Sets.{is_extensible, named_components, last_type}
 use Rattle.rasn_dynamic.specs.Calls.{IsDefaultOf}
 use Rattle.rasn_dynamic.specs.Typed.{element_count, DecodesContents}
 use Rattle.rasn_dynamic.specs.declared.trace.Fault.{Fault}
@@ -136,10 +136,12 @@ module _ (f : ℕ → Shape) where
   StopsInSequence ps s e = IsOutOfMemory e.kind
       ⊎ ((done : List Component) × (p : Component) × (after : List Component) × (here : State) × (ps ≡ done ++ p ∷ after) × ComponentsInTurn f done s here × StopsAtComponent p here e)
 
-  -- No tag follows; or none of a component of the SET does, and no unknown value is read, or memory runs out for it; or the component is its default, or takes nothing.
+  -- No tag follows; or none of a component of the SET does, which has no unknown ones; or memory runs out; or the
+  -- component is its default, or takes nothing.
   abbrev pub StopsAtMember : Bool → List Component → State → DecodeError → Type 0
-  StopsAtMember extensible ps s e = PeeksTag s (Err e) ⊎ ((IsUnknown (components_by f ps) s × ((next : State) → PassesUnknown extensible (components_by f ps) s next → IsOutOfMemory e.kind))
-      ⊎ ((k : ℕ) × (p : Component) × (Some p ≡ slice_get ps k) × (IsDefaultWritten p s e ⊎ TakesNothing p.type_id.0 s)))
+  StopsAtMember extensible ps s e = PeeksTag s (Err e)
+      ⊎ ((IsUnknown (components_by f ps) s × (extensible ≡ false)) ⊎ (IsOutOfMemory e.kind
+      ⊎ ((k : ℕ) × (p : Component) × (Some p ≡ slice_get ps k) × (IsDefaultWritten p s e ⊎ TakesNothing p.type_id.0 s))))
 
   -- Components of a SET were read up to there, or all were: then one is missing, or is there twice; or an allocation fails.
   abbrev pub StopsInSet : Bool → List Component → State → DecodeError → Type 0
@@ -190,6 +192,39 @@ module _ (f : ℕ → Shape) where
 abbrev pub FailsAt : List «Type» → ℕ → ℕ → State → DecodeError → Type 0
 FailsAt types levels id s e = (n : ℕ) (ty : «Type») → levels ≡ suc n → slice_get types id ≡ Some ty → FailsItself (shape_of_type types n) ty s e
 
+-- ---- a part that can't be read
+
+-- An unknown component of a SET follows, of the type other: the next tag is that of no component. Its index is the
+-- one after theirs.
+abbrev pub IsUnknownMember : (ℕ → Shape) → Bool → List Component → ℕ → State → ℕ → ℕ → Type 0
+IsUnknownMember f extensible ps other s k next =
+    (extensible ≡ true) × (k ≡ length ps) × (next ≡ other) × IsUnknown f (components_by f ps) s
+
+-- What begins there is a component that the SET names, or an unknown one.
+abbrev pub IsMemberHere : (ℕ → Shape) → Bool → List Component → ℕ → State → ℕ → ℕ → State → Type 0
+IsMemberHere f extensible ps other s k next here = IsMember ps s k next here
+    ⊎ (IsUnknownMember f extensible ps other s k next × (here ≡ s))
+
+-- The same after others of the SET.
+abbrev pub IsMemberAfter : (ℕ → Shape) → Bool → List Component → ℕ → State → ℕ → ℕ → State → Type 0
+IsMemberAfter f extensible ps other s k next here = IsMemberAt f extensible ps s k next here
+    ⊎ (IsUnknownMember f extensible ps other here k next × (done : List Tree) × (bs : List (List ℕ))
+    × DecodesInTurnFrom (DecodesTree (choice_by extensible (components_by f ps))) s done bs here)
+
+-- A part of a value of the type, also an unknown component of a SET.
+abbrev pub IsAnyPart : (ℕ → Shape) → «Type» → State → ℕ → ℕ → State → Type 0
+IsAnyPart f (Leaf kind tag c names) s k next here = IsPart f (Leaf kind tag c names) s k next here
+IsAnyPart f (Enumerated tag ns) s k next here = IsPart f (Enumerated tag ns) s k next here
+IsAnyPart f (Any tag) s k next here = IsPart f (Any tag) s k next here
+IsAnyPart f Unknown s k next here = IsPart f Unknown s k next here
+IsAnyPart f (Tagged tag id) s k next here = IsPart f (Tagged tag id) s k next here
+IsAnyPart f (Choice name ks) s k next here = IsPart f (Choice name ks) s k next here
+IsAnyPart f (Sequence tag ps) s k next here = IsPart f (Sequence tag ps) s k next here
+IsAnyPart f (Set name tag ps) s k next here =
+    IsMemberAfter f (is_extensible f ps.items) (named_components f ps.items) (last_type ps.items) s k next here
+IsAnyPart f (SequenceOf tag id c) s k next here = IsPart f (SequenceOf tag id c) s k next here
+IsAnyPart f (SetOf tag id c) s k next here = IsPart f (SetOf tag id c) s k next here
+
 -- ---- the way to a part
 
 -- After such a header the contents are read in this state.
@@ -208,11 +243,22 @@ Enters (Set name tag ps) s inner = EntersBy (sequence_header tag) s inner
 Enters (SequenceOf tag id c) s inner = EntersBy (list_header tag) s inner
 Enters (SetOf tag id c) s inner = EntersBy (list_header tag) s inner
 
--- From a value in the state s, through parts with these indices, to the value that is read in the state last.
-unfoldable pub Leads : List «Type» → List ℕ → ℕ → ℕ → State → ℕ → ℕ → State → Type 0
-Leads types [] levels id s below end last = (levels ≡ below) × (id ≡ end) × (s ≡ last)
-Leads types (k ∷ ks) levels id s below end last = (n : ℕ) × (levels ≡ suc n) × (ty : «Type») × (slice_get types id ≡ Some ty) × (inner : State) × Enters ty s inner
-    × (next : ℕ) × (here : State) × IsPart (shape_of_type types n) ty inner k next here × (here ≡ at inner here.rest) × IsEnd inner.rest here.rest × Leads types ks n next here below end last
+-- From a value in the state s, through parts with these indices, to the value that is read in the state last. P says
+-- what is a part of a value of a type.
+unfoldable pub LeadsBy : ((ℕ → Shape) → «Type» → State → ℕ → ℕ → State → Type 0)
+    → List «Type» → List ℕ → ℕ → ℕ → State → ℕ → ℕ → State → Type 0
+LeadsBy P types [] levels id s below end last = (levels ≡ below) × (id ≡ end) × (s ≡ last)
+LeadsBy P types (k ∷ ks) levels id s below end last = (n : ℕ) × (levels ≡ suc n)
+    × (ty : «Type») × (slice_get types id ≡ Some ty) × (inner : State) × Enters ty s inner
+    × (next : ℕ) × (here : State) × P (shape_of_type types n) ty inner k next here
+    × (here ≡ at inner here.rest) × IsEnd inner.rest here.rest × LeadsBy P types ks n next here below end last
+
+-- Through parts that `find_part` finds; and through any.
+abbrev pub Leads : List «Type» → List ℕ → ℕ → ℕ → State → ℕ → ℕ → State → Type 0
+Leads types path levels id s below end last = LeadsBy IsPart types path levels id s below end last
+
+abbrev pub LeadsToAny : List «Type» → List ℕ → ℕ → ℕ → State → ℕ → ℕ → State → Type 0
+LeadsToAny types path levels id s below end last = LeadsBy IsAnyPart types path levels id s below end last
 
 -- The steps are those of the path, unless they are cut.
 abbrev pub HasPath : Fault → List ℕ → Type 0
@@ -224,7 +270,7 @@ pub record IsFault (types : List «Type») (levels id : ℕ) (s : State) (e : De
   pub below : ℕ
   pub last : State
   pub has_path : HasPath f path
-  pub leads : Leads types path levels id s below f.id.0 last
+  pub leads : LeadsToAny types path levels id s below f.id.0 last
   pub within : IsWithin s.rest last.rest f.left
   pub refused : Exact (Reads last.rule (shape_of_type types below f.id.0) last.depth last.closing) last.rest (refusal e.kind)
   pub itself : FailsAt types below f.id.0 last e
@@ -241,17 +287,19 @@ pub record IsFaultIn (types : List «Type») (levels : ℕ) (C : ℕ → ℕ →
   pub part : C index next here
   pub stays : here ≡ at inner here.rest
   pub end : IsEnd inner.rest here.rest
-  pub leads : Leads types path levels next here below f.id.0 last
+  pub leads : LeadsToAny types path levels next here below f.id.0 last
   pub within : IsWithin s.rest last.rest f.left
   pub refused : Exact (Reads last.rule (shape_of_type types below f.id.0) last.depth last.closing) last.rest (refusal e.kind)
   pub itself : FailsAt types below f.id.0 last e
 
 -- The same of a type, whose value is entered; and of a value with this header.
 abbrev pub IsFaultOf : List «Type» → ℕ → «Type» → State → DecodeError → Fault → Type 0
-IsFaultOf types levels ty s e f = (inner : State) × Enters ty s inner × IsFaultIn types levels (IsPart (shape_of_type types levels) ty inner) s inner e f
+IsFaultOf types levels ty s e f = (inner : State) × Enters ty s inner
+    × IsFaultIn types levels (IsAnyPart (shape_of_type types levels) ty inner) s inner e f
 
 abbrev pub IsFaultInside : List «Type» → ℕ → ConstructedHeader → «Type» → State → DecodeError → Fault → Type 0
-IsFaultInside types levels d ty s e f = (inner : State) × EntersBy d s inner × IsFaultIn types levels (IsPart (shape_of_type types levels) ty inner) s inner e f
+IsFaultInside types levels d ty s e f = (inner : State) × EntersBy d s inner
+    × IsFaultIn types levels (IsAnyPart (shape_of_type types levels) ty inner) s inner e f
 
 -- Nothing is named if a value was read; what is named at a refusal is a fault.
 abbrev pub Told : {T : Type 0} → (DecodeError → Fault → Type 0) → Result T DecodeError → Option Fault → Type 0
@@ -289,6 +337,6 @@ pub record IsLocated (types : List «Type») (rule : Codec) (id : ℕ) (input : 
   pub is : input ≡ front ++ (last.rest ++ back)
   pub offset : length front ≡ r.offset
   pub has_path : r.is_cut ≡ false → r.steps.items ≡ path
-  pub leads : Leads types path 18446744073709551615 id (start rule input) below r.id.0 last
+  pub leads : LeadsToAny types path 18446744073709551615 id (start rule input) below r.id.0 last
   pub refused : Exact (Reads last.rule (shape_of_type types below r.id.0) last.depth last.closing) last.rest (refusal r.error.kind)
   pub itself : FailsAt types below r.id.0 last r.error

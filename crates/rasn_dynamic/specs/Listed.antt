@@ -1,5 +1,5 @@
 -- The parts of a message, in the order of their octets, each before those inside it.
-use Rattle.std.specs.Prelude.{Bool, ◌≡◌, ◌⊎◌, ◌+◌, ◌-◌, ◌^◌, ℕ, zero, suc, List, [], ◌∷◌, ◌++◌, length, slice_get, min, Option, Some, Vec, Ok}
+use Rattle.std.specs.Prelude.{Bool, ◌≡◌, ◌⊎◌, ◌+◌, ◌-◌, ◌^◌, ℕ, zero, suc, List, [], ◌∷◌, ◌++◌, length, slice_get, min, Some, Vec, Ok}
 use Rattle.std.specs.Global.{Global}
 use Rattle.rasn_types.specs.Framing.{Ended}
 use Rattle.rasn_types.specs.Shapes.{Shape, Tree}
@@ -84,14 +84,16 @@ module _ (f : ℕ → Shape) (levels : ℕ) (P : ℕ → ℕ → State → List 
   abbrev pub ComponentsListed : List Component → ℕ → State → List Span → Type 0
   ComponentsListed ps b s es = (LeavesAllOut ps s × (es ≡ [])) ⊎ ((last : State) × InTurn (ComponentAt ps b) (length ps) s last es)
 
-  -- A component of a SET that names the components ps. An unknown one has the type other, and the index that follows theirs.
+  -- A component of a SET that names the components ps. An unknown one has the type other, and the index after theirs.
   abbrev pub MemberListed : Bool → List Component → ℕ → ℕ → State → State → List Span → Type 0
-  MemberListed extensible ps other b s next es = (PassesUnknown extensible (components_by f ps) s next × UnknownListed levels other (length ps) b s next es)
+  MemberListed extensible ps other b s next es =
+      (PassesUnknown extensible (components_by f ps) s next × UnknownListed levels other (length ps) b s next es)
       ⊎ ((k : ℕ) × (p : Component) × (Some p ≡ slice_get ps k) × PartListed p.type_id.0 k b s next es)
 
   -- Those of a SET, in any order, up to the end.
   abbrev pub MembersListed : Bool → List Component → ℕ → ℕ → State → List Span → Type 0
-  MembersListed extensible ps other b s es = (n : ℕ) × (last : State) × InTurn (λ k. MemberListed extensible ps other b) n s last es × Ended last.closing last.rest
+  MembersListed extensible ps other b s es = (n : ℕ) × (last : State)
+      × InTurn (λ k. MemberListed extensible ps other b) n s last es × Ended last.closing last.rest
 
   -- Elements, up to the end.
   abbrev pub ElementsListed : ℕ → ℕ → State → List Span → Type 0
@@ -110,7 +112,8 @@ module _ (f : ℕ → Shape) (levels : ℕ) (P : ℕ → ℕ → State → List 
   ContentsListed (Tagged tag id) b s es = (last : State) × PartListed id.0 0 b s last es
   ContentsListed (Choice name ks) b s es = AlternativeListed ks.items b s es
   ContentsListed (Sequence tag ps) b s es = ComponentsListed ps.items b s es
-  ContentsListed (Set name tag ps) b s es = MembersListed (is_extensible f ps.items) (named_components f ps.items) (last_type ps.items) b s es
+  ContentsListed (Set name tag ps) b s es =
+      MembersListed (is_extensible f ps.items) (named_components f ps.items) (last_type ps.items) b s es
   ContentsListed (SequenceOf tag id c) b s es = ElementsListed id.0 b s es
   ContentsListed (SetOf tag id c) b s es = ElementsListed id.0 b s es
 

@@ -17,7 +17,7 @@ is_extensible f ps = ends_unknown (components_by f ps)
 abbrev pub named_components : (ℕ → Shape) → List Component → List Component
 named_components f ps = if is_extensible f ps then take (length ps - 1) ps else ps
 
--- The number of the type of the last component, if there is one. That of an extensible SET is the type of unknown values.
+-- The number of the type of the last component, if there is one. In an extensible SET it is that of unknown values.
 abbrev pub last_type : List Component → ℕ
 last_type [] = 0
 last_type (p ∷ []) = p.type_id.0

@@ -1,5 +1,5 @@
 -- Refusals and faults that were worked out by hand, and what is none.
-use Rattle.std.specs.Prelude.{◌≡◌, ◌<◌, ℕ, true, List, []}
+use Rattle.std.specs.Prelude.{◌≡◌, ◌<◌, ℕ, true, false, List, [], ◌∷◌, Err}
 use Rattle.rasn_types.specs.declared.types.codec.Codec.{Codec}
 use Rattle.rasn_types.specs.declared.types.codec.Codec.TheVariants.{Der}
 use Rattle.rasn_types.specs.declared.error.decode.DecodeError.{DecodeError}
@@ -9,12 +9,14 @@ use Rattle.rasn_types.specs.Framing.{NextTag}
 use Rattle.rasn_types.specs.Tags.{form, eoc}
 use Rattle.rasn_types.specs.Shapes.{Shape}
 use Rattle.rasn_de.specs.State.{State}
+use Rattle.rasn_de.specs.Steps.{PeeksTag}
 use Rattle.rasn_schema.specs.declared.types.Alternative.{Alternative}
+use Rattle.rasn_schema.specs.declared.types.Component.{Component}
 use Rattle.rasn_schema.specs.declared.types.«Type».{«Type»}
 use Rattle.rasn_schema.specs.declared.types.«Type».TheVariants.{Any}
 use Rattle.rasn_schema.specs.Shapes.{alternatives_by, ends_open}
 use Rattle.rasn_dynamic.specs.declared.refusal.Refusal.{Refusal}
-use Rattle.rasn_dynamic.specs.Faults.{IsUnknown, StopsAtChoice, StopsInSequence, StopsInElements, StopsInside, FailsItself, FailsAt, IsLocated}
+use Rattle.rasn_dynamic.specs.Faults.{IsUnknown, IsMemberHere, StopsAtMember, StopsAtChoice, StopsInSequence, StopsInElements, StopsInside, FailsItself, FailsAt, IsLocated}
 
 pub record WorkedFaults : Type 0 where
   pub no_memory_at_the_start : (r : Refusal) → IsOutOfMemory r.error.kind → r.id.0 ≡ 0 → r.offset ≡ 0 → r.steps.items ≡ [] → IsLocated [] Der 0 [] r
@@ -28,3 +30,12 @@ pub record WorkedFaults : Type 0 where
   pub no_memory_in_a_sequence : (f : ℕ → Shape) (s : State) (e : DecodeError) → IsOutOfMemory e.kind → StopsInSequence f [] s e
   pub nothing_stops_without_components : (f : ℕ → Shape) (s : State) (e : DecodeError) → (IsOutOfMemory e.kind → ⊥) → StopsInSequence f [] s e → ⊥
   pub no_memory_between_elements : (f : ℕ → Shape) (id : ℕ) (s : State) (e : DecodeError) → IsOutOfMemory e.kind → StopsInElements f id s e
+  pub unknown_component_can_be_named : (f : ℕ → Shape) (s : State) (tag : Tag) → NextTag (form s.rule) s.rest tag
+      → IsMemberHere f true [] 6 s 0 6 s
+  pub not_in_a_closed_set : (f : ℕ → Shape) (s : State) → IsMemberHere f false [] 6 s 0 6 s → ⊥
+  pub not_as_a_named_component : (f : ℕ → Shape) (s : State) (p : Component) → p.type_id.0 ≡ 5
+      → IsMemberHere f true (p ∷ []) 6 s 0 6 s → ⊥
+  pub unknown_tag_stops_at_a_closed_set : (f : ℕ → Shape) (s : State) (e : DecodeError) (tag : Tag)
+      → NextTag (form s.rule) s.rest tag → StopsAtMember f false [] s e
+  pub no_tag_stops_at_an_open_set : (f : ℕ → Shape) (s : State) (e : DecodeError) → (PeeksTag s (Err e) → ⊥)
+      → (IsOutOfMemory e.kind → ⊥) → StopsAtMember f true [] s e → ⊥

@@ -447,9 +447,10 @@ fn refuse(alloc: Global, rule: Codec, schema: &Schema, id: TypeId, input: &[u8])
 /// Finds the part of the message to which a path leads. Each step of the path is the index of a
 /// component, an alternative or an element, counted from 0; an explicit tag is a step of its own,
 /// with the index 0. Returns `None` if there is no such part, because a component is absent, another
-/// alternative is chosen, or there are fewer elements. The components that the type of a SET doesn't
-/// name share the index of its extension marker, so no path leads to one of them alone, and there is
-/// none at that index. The parts before it are read and not kept, and those after it aren't read.
+/// alternative is chosen, or there are fewer elements. The components that the type of a SET
+/// doesn't name share the index of its extension marker: no path leads to one of them alone, and
+/// there is no part at that index. The parts before the one at the path are read and not kept, and
+/// those after it aren't read.
 ///
 /// # Errors
 /// The refusal of [`check_or_locate`] if a part before it, or the part itself, can't be read.

@@ -1,9 +1,9 @@
 //! Reads a value of a type.
-ghost use Rattle.std.specs.Prelude.{◌≡◌, ◌≢◌, ◌⊎◌, [], true, slice_get, None, Err, IfOk, IfErr};
+ghost use Rattle.std.specs.Prelude.{◌≡◌, ◌≢◌, ◌⊎◌, List, [], true, slice_get, None, Err, IfOk, IfErr};
 ghost use Rattle.std.specs.String.{string_bytes};
-ghost use Rattle.rasn_types.specs.Framing.{AreOctets};
+ghost use Rattle.rasn_types.specs.Framing.{AreOctets, Ended};
 ghost use Rattle.rasn_types.specs.Errors.{IsOutOfMemory};
-ghost use Rattle.rasn_types.specs.Shapes.{any, items, sought_by};
+ghost use Rattle.rasn_types.specs.Shapes.{any, unknown as unknown_values, items, sought_by};
 ghost use Rattle.rasn_de.specs.Decodes.{Decodes, DecodesBy};
 ghost use Rattle.rasn_de.specs.Constructed.{DecodesInside};
 ghost use Rattle.rasn_de.specs.SequenceOf.{DecodesElements, DecodesElementsInOrder, DecodesSized};
@@ -13,6 +13,7 @@ ghost use Rattle.rasn_de.specs.SetPartTypes.{DecodesSetPartContents};
 ghost use Rattle.rasn_dynamic.specs.Sets.{AreLawfulMembers};
 ghost use Rattle.rasn_de.specs.Steps.{IsErrorOf};
 ghost use Rattle.rasn_de.specs.declared.ber.de.parser.ParseError.TheVariants.{UnexpectedExtraData, UnexpectedEmptyInput};
+ghost use Rattle.rasn_schema.specs.declared.types.«Type».{«Type»};
 ghost use Rattle.rasn_schema.specs.Trees.{tree_of};
 ghost use Rattle.rasn_schema.specs.Shapes.{shape_of_type, type_by, alternatives_by, choice_among, components_by, key_of, presence_in, IsReadable, AreReadable};
 ghost use Rattle.rasn_dynamic.specs.Inside.{ReadsSequence, DecodesTree, DecodesComponent};
@@ -21,7 +22,7 @@ ghost use Rattle.rasn_dynamic.specs.Typed.{element_count, IsSized, HoldsOthers, 
 ghost use Rattle.rasn_dynamic.specs.Calls.{nones, names_of, IsKept, DecodesPresent, DecodesMember, IsNoAlternative, IsNoMember};
 ghost use Rattle.rasn_schema.specs.Fitting.{Fits, FitsBy, IsChosen, AlternativeFits, ComponentFits, ComponentsFit, EachFits, AreOctets as AreOctetsValue};
 ghost use Rattle.rasn_dynamic.specs.Found.{FoundFit, MembersFit};
-ghost use Rattle.rasn_dynamic.specs.Faults.{IsFault, IsFaultIn, IsFaultOf, IsFaultInside, IsOnly, IsAlternativeAt, IsElementAt, IsComponentAt, IsMember, IsMemberAt, IsPart, Told, TellsOf, FailsAt, FailsItself, ReadsEachPart, StopsAtChoice, StopsInside, StopsInElements, StopsInOrder, StopsInSequence, StopsAtComponent, IsDefaultWritten, StopsInSet, StopsAtMember};
+ghost use Rattle.rasn_dynamic.specs.Faults.{IsFault, IsFaultIn, IsFaultOf, IsFaultInside, IsOnly, IsAlternativeAt, IsElementAt, IsComponentAt, IsMemberHere, IsMemberAfter, IsAnyPart, Told, TellsOf, FailsAt, FailsItself, ReadsEachPart, StopsAtChoice, StopsInside, StopsInElements, StopsInOrder, StopsInSequence, StopsAtComponent, IsDefaultWritten, StopsInSet, StopsAtMember};
 ghost use Rattle.rasn_dynamic.specs.Listed.{Lists, Inside, PartsInside, PartListed, UnknownListed, ValueListed, AlternativeListed, InsideListed, ContentsListed, ElementsListed, ComponentsListed, ComponentListed, MembersListed, MemberListed};
 ghost use Rattle.rasn_de.specs.Constructed.{list_header};
 
@@ -35,7 +36,7 @@ use crate::set::{
     all_absent, component_for, gather, last_type, named_components, no_components, put,
 };
 use crate::span::{Spans, finish, go_inside, go_outside, note};
-use crate::trace::{Fault, add_after, mark, octets_after, octets_left, step};
+use crate::trace::{Fault, add_after, mark, mark_part, octets_after, octets_left, step};
 use rasn_de::ber::de::{ConstructedHeader, Decoder};
 use rasn_de::de::Error;
 use rasn_schema::{
@@ -141,25 +142,36 @@ fn list_for<'input, M: Made>(
     }
 }
 
-/// Reads an unknown component of a SET as one complete encoding (X.680 27), and notes it as a part with this
-/// type and this index.
+/// Reads an unknown component of a SET as one complete encoding (X.680 27), and notes it as a part
+/// with this type and this index. If it can't be read, names it.
 fn decode_unknown_component<'input>(
     decoder: &mut Decoder<'input>,
+    trace: &mut Option<Fault>,
     spans: &mut Spans<'input>,
     levels: usize,
     id: TypeId,
     index: usize,
 ) -> Result<Value<'input>, DecodeError>
+    requires clear { trace.old ≡ None }
+    requires more { Ended decoder.old.closing decoder.old.rest → ⊥ }
     ensures reads { Decodes (any None) tree_of decoder.old result decoder.new }
     ensures fits { IfOk result AreOctetsValue }
     ensures rules { IfErr result (λ e. e.codec ≡ decoder.old.rule) }
+    ensures told { (types : List «Type») → shape_of_type types levels id.0 ≡ unknown_values → TellsOf (IsFaultIn types levels (IsOnly index id.0 decoder.old) decoder.old decoder.old) result trace.new }
     ensures listed { IfOk result (λ v. Lists (λ b es. UnknownListed levels id.0 index b decoder.old decoder.new es) spans.old spans.new) }
 {
     let start = decoder.remaining();
     let place = note(spans, id, index, levels, start);
-    let value = decode_any_value(decoder, Tag::EOC)?;
-    finish(spans, place, decoder.remaining());
-    Ok(value)
+    match decode_any_value(decoder, Tag::EOC) {
+        Ok(value) => {
+            finish(spans, place, decoder.remaining());
+            Ok(value)
+        }
+        Err(error) => {
+            mark_part(decoder.alloc(), trace, id, start.len(), index);
+            Err(error)
+        }
+    }
 }
 
 /// Reads a value of the type with this number. Types are followed `levels` deep. If it can't be read, names the innermost value that
@@ -504,7 +516,7 @@ fn decode_contents<'input, M: Made>(
     ensures exact { Counting M.KEEP tree_of (CountsElements ty.now) (DecodesContents (shape_of_type types.now below) ty.now) decoder.old result decoder.new count.new }
     ensures fits { M.KEEP ≡ true → IfOk result (λ v. FitsBy (Fits types.now below) ty.now v) }
     ensures rules { IfErr result (λ e. e.codec ≡ decoder.old.rule) }
-    ensures told { Told (IsFaultIn types.now below (IsPart (shape_of_type types.now below) ty.now decoder.old) decoder.old decoder.old) result trace.new }
+    ensures told { Told (IsFaultIn types.now below (IsAnyPart (shape_of_type types.now below) ty.now decoder.old) decoder.old decoder.old) result trace.new }
     ensures itself { IfErr result (λ e. trace.new ≡ None → StopsInside (shape_of_type types.now below) ty.now decoder.old e) }
     ensures listed { IfOk result (λ v. Lists (λ b es. ContentsListed (shape_of_type types.now below) below (Inside types.now below) ty.now b decoder.old es) spans.old spans.new) }
 {
@@ -772,7 +784,8 @@ pub fn decode_present<'input, M: Made>(
 }
 
 /// Reads the components of a SET, in any order, up to the end of the contents (X.690 8.11). None was found yet. If the SET is
-/// extensible, the last value that is returned is the list of the unknown components, each of which is a part with the type `other_id`.
+/// extensible, the last value that is returned is the list of the unknown components, and each of
+/// them is a part with the type `other_id`.
 ///
 /// # Errors
 /// Those of the first component that isn't read: `NoValidChoice` with the name of the SET for a tag that is no component's, unless
@@ -794,10 +807,11 @@ fn decode_set<'input, M: Made>(
     requires lawful { AreLawfulMembers (components_by (shape_of_type types.now below) components.now) }
     requires none { found.items ≡ nones components.now }
     requires clear { trace.old ≡ None }
+    requires other { extensible ≡ true → shape_of_type types.now below other_id.0 ≡ unknown_values }
     ensures exact { Making M.KEEP trees_of (MayRunOut (DecodesSetPartContents extensible (components_by (shape_of_type types.now below) components.now) items (names_of components.now))) decoder.old result decoder.new }
     ensures fits { M.KEEP ≡ true → IfOk result (λ v. MembersFit (Fits types.now below) extensible components.now v.items) }
     ensures rules { IfErr result (λ e. e.codec ≡ decoder.old.rule) }
-    ensures told { Told (IsFaultIn types.now below (IsMemberAt (shape_of_type types.now below) extensible components.now decoder.old) decoder.old decoder.old) result trace.new }
+    ensures told { Told (IsFaultIn types.now below (IsMemberAfter (shape_of_type types.now below) extensible components.now other_id.0 decoder.old) decoder.old decoder.old) result trace.new }
     ensures itself { IfErr result (λ e. trace.new ≡ None → StopsInSet (shape_of_type types.now below) extensible components.now decoder.old e) }
     ensures listed { IfOk result (λ v. Lists (λ b es. MembersListed (shape_of_type types.now below) below (Inside types.now below) extensible components.now other_id.0 b decoder.old es) spans.old spans.new) }
 {
@@ -832,8 +846,9 @@ fn decode_set<'input, M: Made>(
 }
 
 /// Reads one component of a SET, which must take some of the input, and puts it in its place. If that isn't empty, returns the
-/// component's name. If the next tag is no component's and the SET is extensible, an unknown value is read, and appended to those. It is
-/// a part with the type `other_id`, and the index that follows those of the components.
+/// component's name. If the next tag is no component's and the SET is extensible, reads an unknown
+/// value and appends it to those: a part with the type `other_id` and the index after those of the
+/// components.
 ///
 /// # Errors
 /// `NoValidChoice` with the name of the SET if the next tag is no component's and the SET isn't extensible, which consumes nothing.
@@ -854,12 +869,13 @@ fn decode_set_component<'input, 'names, M: Made>(
     requires lawful { AreLawfulMembers (components_by (shape_of_type types.now below) components.now) }
     requires found { FoundFit (λ k v. M.KEEP ≡ true → Fits types.now below k v) components.now found.old.items }
     requires clear { trace.old ≡ None }
+    requires other { extensible ≡ true → shape_of_type types.now below other_id.0 ≡ unknown_values }
     ensures next { DecodesMember M.KEEP extensible (components_by (shape_of_type types.now below) components.now) (names_of components.now) found.old.items unknown.old.items decoder.old result decoder.new found.new.items unknown.new.items }
     ensures found { FoundFit (λ k v. M.KEEP ≡ true → Fits types.now below k v) components.now found.new.items }
     ensures octets { M.KEEP ≡ true → IfOk result (λ v. EachFits AreOctetsValue unknown.old.items → EachFits AreOctetsValue unknown.new.items) }
     ensures unknown { IfErr result (λ e. IsNoMember extensible (components_by (shape_of_type types.now below) components.now) name.now decoder.old e decoder.new) }
     ensures rules { IfErr result (λ e. e.codec ≡ decoder.old.rule) }
-    ensures told { Told (IsFaultIn types.now below (IsMember components.now decoder.old) decoder.old decoder.old) result trace.new }
+    ensures told { Told (IsFaultIn types.now below (IsMemberHere (shape_of_type types.now below) extensible components.now other_id.0 decoder.old) decoder.old decoder.old) result trace.new }
     ensures itself { IfErr result (λ e. trace.new ≡ None → StopsAtMember (shape_of_type types.now below) extensible components.now decoder.old e) }
     ensures listed { IfOk result (λ v. Lists (λ b es. MemberListed (shape_of_type types.now below) below (Inside types.now below) extensible components.now other_id.0 b decoder.old decoder.new es) spans.old spans.new) }
 {
@@ -870,7 +886,7 @@ fn decode_set_component<'input, 'names, M: Made>(
             return Err(DecodeError::no_valid_choice(decoder.alloc(), name, decoder.codec()));
         }
         let index = components.len();
-        let other = decode_unknown_component(decoder, spans, below, other_id, index)?;
+        let other = decode_unknown_component(decoder, trace, spans, below, other_id, index)?;
         push::<M>(decoder, unknown, other)?;
         return Ok(None);
     };

@@ -35,8 +35,8 @@ pub fn named_components<'components>(
     (&components[..before], true)
 }
 
-/// Returns the number of the type of the last component, if there is one. If a SET is extensible, its
-/// unknown components have this type.
+/// Returns the number of the type of the last component, if there is one. If a SET is extensible,
+/// its unknown components have this type.
 pub fn last_type(components: &[Component]) -> TypeId
     ensures { result.0 ≡ last_in components.now }
 {

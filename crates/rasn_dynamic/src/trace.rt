@@ -1,5 +1,5 @@
 //! Where in the input a value couldn't be read.
-ghost use Rattle.std.specs.Prelude.{◌≡◌, ◌+◌, ◌<◌, ◌≤◌, ◌^◌, Some, length};
+ghost use Rattle.std.specs.Prelude.{◌≡◌, ◌+◌, ◌<◌, ◌≤◌, ◌^◌, Option, Some, length};
 ghost use Rattle.rasn_dynamic.specs.Faults.{IsMarked, IsLonger, IsStepped, IsMoved, octets_after};
 ghost use Rattle.rasn_dynamic.specs.declared.trace.Fault.{Fault};
 
@@ -56,6 +56,14 @@ pub fn step(trace: &mut Option<Fault>, index: usize)
     if let Some(fault) = trace {
         lengthen(fault, index);
     }
+}
+
+/// Names a value that holds no others as the part with this index, unless one inside it is named.
+pub fn mark_part(alloc: Global, trace: &mut Option<Fault>, id: TypeId, left: usize, index: usize)
+    ensures { (mid : Option Fault) × IsMarked id left trace.old mid × IsStepped index mid trace.new }
+{
+    mark(alloc, trace, id, left);
+    step(trace, index);
 }
 
 /// Returns how many octets are left to read.

@@ -131,7 +131,7 @@ fn parts_are_gone_over(rt: HostRuntime) {
     assert!(rt; parts_found(rt.alloc(), 5, &[0x30, 8, 0x30, 6, 1, 1, 0, 2, 1, 1]) == Some(5));
 }
 
-/// Returns whether the parts of a message are these, each with its path, its offset, its type and its length.
+/// Returns whether the parts of a message are these, each with its path, offset, type and length.
 fn are_listed(
     alloc: Global,
     id: usize,

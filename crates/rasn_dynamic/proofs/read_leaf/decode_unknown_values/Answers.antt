@@ -1,4 +1,4 @@
-use Rattle.std.proofs.Common.{Ok, Err, None, inl, refl, sym, ◌∙◌, [], ◌∷◌, ◌++◌, arith}
+use Rattle.std.proofs.Common.{None, inl, refl, ◌∙◌, [], ◌∷◌, ◌++◌, arith}
 use Rattle.rasn_types.specs.Shapes.{Tree, any}
 use Rattle.rasn_de.proofs.Constructed.NextElement.{passes_more, turn_rules}
 use Rattle.rasn_de.proofs.Leaves.Rules.{same_rules}

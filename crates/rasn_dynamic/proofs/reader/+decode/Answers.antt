@@ -2,7 +2,7 @@ use Rattle.std.proofs.Common.{rules, arith, append_assoc, length-append, map, Ve
 use Rattle.std.specs.Prelude.{get_or, slice_get, IfOk, IfErr}
 use Rattle.std.proofs.lemmas.Option.{slice_get_within}
 use Rattle.rasn_types.specs.Shapes.{Tree, Same, items, choice_by, IsFirstOf, own_tag, sought_by}
-use Rattle.rasn_types.proofs.Headers.Frames.{next_one}
+use Rattle.rasn_types.proofs.Headers.Frames.{next_one, not_ended}
 use Rattle.rasn_de.specs.NamedErrors.{IsNamedError, IsDuplicateField}
 use Rattle.rasn_de.specs.SetPartTypes.{text}
 use Rattle.rasn_de.specs.Constructed.{DecodesInside, list_header}
@@ -28,7 +28,7 @@ use Rattle.rasn_schema.specs.declared.value.Value.{Value, Items}
 use Rattle.rasn_schema.specs.Trees.{tree_of}
 use Rattle.rasn_schema.specs.Shapes.{numbers_of, shape_of_type, type_by, alternatives_by, choice_among, components_by, key_of, presence_in, AreReadable, IsReadable}
 use Rattle.rasn_schema.proofs.Presences.{always_by}
-use Rattle.rasn_schema.proofs.TypeShapes.{shape_below, own_is}
+use Rattle.rasn_schema.proofs.TypeShapes.{shape_below}
 use Rattle.rasn_schema.proofs.Lists.{split, nothing_left, read_at}
 use Rattle.rasn_schema.specs.declared.types.«Type».TheVariants.{Tagged}
 use Rattle.rasn_dynamic.specs.Inside.{DecodesTree, DecodesComponent}
@@ -36,7 +36,7 @@ use Rattle.rasn_dynamic.specs.Making.{Making}
 use Rattle.rasn_dynamic.specs.Typed.{DecodesContents, DecodesType, CountsElements, element_count, elements}
 use Rattle.rasn_dynamic.specs.Calls.{held, names_of, nones, DecodesPresent}
 use Rattle.rasn_dynamic.proofs.Making.{made_as, made_fails_as, choice_exact, uncounted, counted_nothing, made_of_value, if_kept, items_made, elements_made, one_made, choice_made, choice_fits}
-use Rattle.rasn_schema.specs.Fitting.{Fits, FitsBy, IsNumber, AreOctets, ComponentsFit, EachFits}
+use Rattle.rasn_schema.specs.Fitting.{Fits, IsNumber, AreOctets, ComponentsFit, EachFits}
 use Rattle.rasn_dynamic.proofs.FitsRead.{if_ok, fits_below, are_items, are_elements, each_more, fit_more, fit_end, made_fits, gathered_fit, members_fit, all_fit, all_left_fit, nones_fit, found_length, found_kept, put_fits}
 use Rattle.rasn_dynamic.proofs.Nothing.{refused_at_zero, refused_not_there, found_here}
 use Rattle.rasn_dynamic.proofs.OpenChoice.{lawful_at}
@@ -49,8 +49,8 @@ use Rattle.rasn_dynamic.proofs.Pieces.{got_below, first_of_part, part_lawful, no
 use Rattle.rasn_dynamic.proofs.Component.{member_unpeeked, member_none, unknown_unread, unknown_kept, unknown_left, member_unread, member_idle, member_put, member_shorter}
 use Rattle.rasn_dynamic.proofs.AllMembers.{set_trees, all_trees, none_unknown, members_lack, members_made, members_keep}
 use Rattle.rasn_de.proofs.OwnTypes.SetPartTypes.{ReadTo, read_rules, none_read, untold, next_fails, next_passes, one_twice}
-use Rattle.rasn_dynamic.proofs.Members.{none_passed, none_unread, passed_unknown}
-use Rattle.rasn_dynamic.proofs.Named.{named_lawful}
+use Rattle.rasn_dynamic.proofs.Members.{passed_unknown}
+use Rattle.rasn_dynamic.proofs.Named.{named_lawful, last_unknown}
 use Rattle.rasn_dynamic.specs.Sets.{is_extensible, named_components, last_type}
 use Rattle.rasn_dynamic.specs.Found.{MembersFit}
 use Rattle.rasn_dynamic.proofs.Parts.{shorter}
@@ -64,8 +64,8 @@ use Rattle.rasn_dynamic.proofs.reader.+decode.Goals as goal
 use Rattle.rasn_de.specs.SequenceOf.{DecodesSized}
 use Rattle.rasn_de.specs.Set.{not_read}
 use Rattle.rasn_de.proofs.Headers.Tags.{look_refused, look_follows}
-use Rattle.rasn_dynamic.specs.Faults.{IsFaultOf, IsFaultIn, IsFaultInside, IsOnly, IsAlternativeAt, IsComponentAt, IsMemberAt, ReadsEachPart, StopsAtMember, StopsInSequence, StopsInSet, TellsOf}
-use Rattle.rasn_dynamic.proofs.Faults.{any_err, if_err_map, unnamed, one_taken, turns_long, marked, stepped, further, weaker, entered, opened, opened_short, told_map, tells, tells_err, alternative_there, element_there, forgotten, one_part_more, part_there, member_there, member_behind, turns_keep, at_err, named, not_named, unmoved, got_inside, found_itself, itself_leaf, present_stops, itself_prefix, itself_sequence, itself_set, itself_list, itself_set_of, itself_choice, element_stops, set_element_stops, default_stops, unmade_stops, only_memory}
+use Rattle.rasn_dynamic.specs.Faults.{IsFaultOf, IsFaultIn, IsFaultInside, IsOnly, IsAlternativeAt, IsComponentAt, IsMemberAfter, ReadsEachPart, StopsAtMember, StopsInSequence, StopsInSet, TellsOf}
+use Rattle.rasn_dynamic.proofs.Faults.{any_err, if_err_map, unnamed, one_taken, turns_long, marked, stepped, further, weaker, entered, opened, opened_short, told_map, tells, tells_err, alternative_there, element_there, forgotten, one_part_more, part_there, member_there, member_behind, unknown_there, turns_keep, named, not_named, unmoved, got_inside, found_itself, itself_leaf, present_stops, itself_prefix, itself_sequence, itself_set, itself_list, itself_set_of, itself_choice, element_stops, set_element_stops, default_stops, unmade_stops, only_memory}
 
 -- ---- the type with a number
 
@@ -229,7 +229,15 @@ decode_contents-decode_set-requires g t c = λ κs o.
         search rules,
         (
           named_lawful f c.in-Set.tag c.in-Set.components.items c.named_components-extensible.result.0.now same (subst (λ n. IsReadable (type_by f n)) c.in-Set.is c.requires.lawful),
-          (c.in_ok-found-in-Set.ensures.ok, c.requires.clear),
+          (
+            c.in_ok-found-in-Set.ensures.ok,
+            (
+              c.requires.clear,
+              λ x.
+                  let marked = c.named_components-extensible.ensures.extensible ∙ ap (is_extensible f) c.deref-in-Set.ensures.value in
+                  ap f (c.last_type-other_id.ensures ∙ ap last_type c.deref-in-Set-2.ensures.value) ∙ last_unknown f c.in-Set.components.items (sym marked ∙ x),
+            ),
+          ),
         ),
       ),
     )
@@ -850,7 +858,7 @@ decode_set-loop-other_id-init g t c = (
   ),
   nones_fit _ c.args.components.now _ c.requires.1.1.1.1.0,
   (λ k. subst (EachFits AreOctets) (sym c.new-unknown.ensures.items) tt),
-  c.requires.1.1.1.1.1,
+  c.requires.1.1.1.1.1.0,
   0,
   lists_start (λ b k. MemberListed (shape_of_type c.args.types.now c.args.below) c.args.below (Inside c.args.types.now c.args.below) c.args.extensible c.args.components.now c.args.other_id.0 b) 0 c.args.decoder.now _ refl,
 )
@@ -1001,7 +1009,7 @@ pub decode_set_component-returns-in_default-clause-octets : goal.decode_set_comp
 decode_set_component-returns-in_default-clause-octets g t c = λ k h. each_more AreOctets c.args.unknown.now.items _ c.in_ok-other.other (c.in_ok-push.ensures.ok k) h c.in_ok-other.ensures.fits
 
 pub decode_set_component-decode_present-requires : goal.decode_set_component-decode_present-requires
-decode_set_component-decode_present-requires g t c = λ κs o. (search rules, (search rules, (part_lawful (shape_of_type c.args.types.now c.args.below) c.args.components.now c.in-Some.number c.in-Some.component.now c.requires.1.1.1.0 c.in-Some.ensures.0, c.requires.1.1.1.1.1)))
+decode_set_component-decode_present-requires g t c = λ κs o. (search rules, (search rules, (part_lawful (shape_of_type c.args.types.now c.args.below) c.args.components.now c.in-Some.number c.in-Some.component.now c.requires.1.1.1.0 c.in-Some.ensures.0, c.requires.1.1.1.1.1.0)))
 
 pub decode_set_component-returns-in_err-value-clause-next : goal.decode_set_component-returns-in_err-value-clause-next
 decode_set_component-returns-in_err-value-clause-next g t c =
@@ -1096,7 +1104,10 @@ decode_contents-returns-in_err-values-in-Set-clause-told g t c =
     let same = c.named_components-extensible.ensures.named ∙ ap (named_components f) c.deref-in-Set.ensures.value in
     let marked = c.named_components-extensible.ensures.extensible ∙ ap (is_extensible f) c.deref-in-Set.ensures.value in
     rw (residual _ c.from_residual-in_err-values-in-Set.ensures.1, c.in-Set.is)
-    (λ x q. named_so f c.named_components-extensible.result.1 c.named_components-extensible.result.0.now c.in-Set.components.items marked same (λ b l. IsFaultIn c.args.types.now c.args.below (IsMemberAt f b l c.args.decoder.now) c.args.decoder.now c.args.decoder.now c.in_err-values-in-Set.field-0.0 x) (c.in_err-values-in-Set.ensures.told x q))
+    (λ x q. named_so f c.named_components-extensible.result.1 c.named_components-extensible.result.0.now c.in-Set.components.items marked same
+    (λ b l. IsFaultIn c.args.types.now c.args.below (IsMemberAfter f b l (last_type c.in-Set.components.items) c.args.decoder.now) c.args.decoder.now c.args.decoder.now c.in_err-values-in-Set.field-0.0 x)
+    (subst (λ n. IsFaultIn c.args.types.now c.args.below (IsMemberAfter f c.named_components-extensible.result.1 c.named_components-extensible.result.0.now n c.args.decoder.now) c.args.decoder.now c.args.decoder.now c.in_err-values-in-Set.field-0.0 x)
+    (c.last_type-other_id.ensures ∙ ap last_type c.deref-in-Set-2.ensures.value) (c.in_err-values-in-Set.ensures.told x q)))
 
 pub decode_contents-returns-in_err-values-in-SequenceOf-clause-told : goal.decode_contents-returns-in_err-values-in-SequenceOf-clause-told
 decode_contents-returns-in_err-values-in-SequenceOf-clause-told g t c =
@@ -1149,11 +1160,34 @@ decode_set-returns-in_err-next-clause-told g t c =
     let s = choice_by c.args.extensible (components_by (shape_of_type c.args.types.now c.args.below) c.args.components.now) in
     let q = turns_keep s (λ (z : Tree). z) c.args.decoder.now k.0 at.decoder (forgotten (DecodesTree s) c.args.decoder.now k.0 k.1 at.decoder k.2) in
     rw (residual _ c.from_residual-in_err-next.ensures.1)
-    (λ f e. further c.args.types.now c.args.below _ _ c.args.decoder.now at.decoder _ f q.0 q.1 (member_behind (shape_of_type c.args.types.now c.args.below) c.args.extensible c.args.components.now c.args.decoder.now at.decoder k.0 k.1 k.2) (c.in_err-next.ensures.told f e))
+    (λ f e. further c.args.types.now c.args.below _ _ c.args.decoder.now at.decoder _ f q.0 q.1 (member_behind (shape_of_type c.args.types.now c.args.below) c.args.extensible c.args.components.now c.args.other_id.0 c.args.decoder.now at.decoder k.0 k.1 k.2) (c.in_err-next.ensures.told f e))
 
 pub decode_set_component-returns-in_err-value-clause-told : goal.decode_set_component-returns-in_err-value-clause-told
 decode_set_component-returns-in_err-value-clause-told g t c =
-    rw (residual _ c.from_residual-in_err-value.ensures.1) (λ f q. weaker c.args.types.now c.args.below _ _ _ _ (member_there c.args.components.now c.in-Some.number c.in-Some.component.now c.args.decoder.now c.in-Some.ensures.0) _ f (c.in_err-value.ensures.told f q))
+    rw (residual _ c.from_residual-in_err-value.ensures.1) (λ f q. weaker c.args.types.now c.args.below _ _ _ _ (member_there (shape_of_type c.args.types.now c.args.below) c.args.extensible c.args.components.now c.args.other_id.0 c.in-Some.number c.in-Some.component.now c.args.decoder.now c.in-Some.ensures.0) _ f (c.in_err-value.ensures.told f q))
+
+pub decode_set_component-decode_unknown_component-requires : goal.decode_set_component-decode_unknown_component-requires
+decode_set_component-decode_unknown_component-requires g t c =
+    record { clear = c.requires.1.1.1.1.1.0; more = not_ended c.args.decoder.now.closing c.args.decoder.now.rest c.in_ok-tag.tag c.in_ok-tag.ensures.next }
+
+pub decode_set_component-returns-in_err-other-clause-told : goal.decode_set_component-returns-in_err-other-clause-told
+decode_set_component-returns-in_err-other-clause-told g t c =
+    let f = shape_of_type c.args.types.now c.args.below in
+    let extends : c.args.extensible ≡ true = search rules in
+    rw (residual _ c.from_residual-in_err-other.ensures.1)
+    (tells_err _ _ (λ kind x. weaker c.args.types.now c.args.below _ _ c.args.decoder.now c.args.decoder.now
+    (unknown_there f c.args.extensible c.args.components.now c.args.other_id.0 c.args.decoder.now extends (c.in_ok-tag.tag, c.in_ok-tag.ensures.next, c.in_default.ensures)) kind x)
+    c.in_err-other.field-0.0 _ (c.in_err-other.ensures.told c.args.types.now (c.requires.1.1.1.1.1.1 extends)))
+
+pub decode_set_component-returns-in_err-push-clause-told : goal.decode_set_component-returns-in_err-push-clause-told
+decode_set_component-returns-in_err-push-clause-told g t c =
+    let extends : c.args.extensible ≡ true = search rules in
+    rw (residual _ c.from_residual-in_err-push.ensures.1) (λ x q. absurd (not_named _ x q (c.in_ok-other.ensures.told c.args.types.now (c.requires.1.1.1.1.1.1 extends))))
+
+pub decode_set_component-returns-in_default-clause-told : goal.decode_set_component-returns-in_default-clause-told
+decode_set_component-returns-in_default-clause-told g t c =
+    let extends : c.args.extensible ≡ true = search rules in
+    c.in_ok-other.ensures.told c.args.types.now (c.requires.1.1.1.1.1.1 extends)
 
 -- ---- a value that fails itself
 
@@ -1393,30 +1427,31 @@ decode_set_component-returns-in_err-tag-clause-itself g t c =
 
 pub decode_set_component-returns-then-not-extensible-clause-itself : goal.decode_set_component-returns-then-not-extensible-clause-itself
 decode_set_component-returns-then-not-extensible-clause-itself g t c =
-    λ n. inr (inl ((c.in_ok-tag.tag, c.in_ok-tag.ensures.next, c.in_default.ensures), λ next. none_passed c.args.extensible _ c.args.decoder.now next (search rules) _))
+    λ n. inr (inl ((c.in_ok-tag.tag, c.in_ok-tag.ensures.next, c.in_default.ensures), search rules))
 
 pub decode_set_component-returns-in_err-other-clause-itself : goal.decode_set_component-returns-in_err-other-clause-itself
 decode_set_component-returns-in_err-other-clause-itself g t c =
-    rw (residual _ c.from_residual-in_err-other.ensures.1)
-    (λ n. inr (inl ((c.in_ok-tag.tag, c.in_ok-tag.ensures.next, c.in_default.ensures), none_unread c.args.extensible _ c.args.decoder.now _ c.in_err-other.field-0.0 c.in_err-other.ensures.reads)))
+    let extends : c.args.extensible ≡ true = search rules in
+    let w = c.in_err-other.ensures.told c.args.types.now (c.requires.1.1.1.1.1.1 extends) in
+    rw (residual _ c.from_residual-in_err-other.ensures.1) (λ n. absurd (not_named _ w.0 w.1 n))
 
 pub decode_set_component-returns-in_err-push-clause-itself : goal.decode_set_component-returns-in_err-push-clause-itself
 decode_set_component-returns-in_err-push-clause-itself g t c =
-    rw (residual _ c.from_residual-in_err-push.ensures.1) (λ n. inr (inl ((c.in_ok-tag.tag, c.in_ok-tag.ensures.next, c.in_default.ensures), λ next d. c.in_err-push.ensures.kind)))
+    rw (residual _ c.from_residual-in_err-push.ensures.1) (λ n. inr (inr (inl c.in_err-push.ensures.kind)))
 
 pub decode_set_component-returns-in_err-value-clause-itself : goal.decode_set_component-returns-in_err-value-clause-itself
 decode_set_component-returns-in_err-value-clause-itself g t c =
-    rw (residual _ c.from_residual-in_err-value.ensures.1) (λ n. inr (inr (c.in-Some.number, c.in-Some.component.now, c.in-Some.ensures.0, inl (c.in_err-value.ensures.itself n))))
+    rw (residual _ c.from_residual-in_err-value.ensures.1) (λ n. inr (inr (inr (c.in-Some.number, c.in-Some.component.now, c.in-Some.ensures.0, inl (c.in_err-value.ensures.itself n)))))
 
 pub decode_set_component-returns-then-remaining-left-clause-itself : goal.decode_set_component-returns-then-remaining-left-clause-itself
 decode_set_component-returns-then-remaining-left-clause-itself g t c =
     let w = c.in_ok-value.ensures.reads in
-    λ n. inr (inr (
+    λ n. inr (inr (inr (
       c.in-Some.number,
       c.in-Some.component.now,
       c.in-Some.ensures.0,
       inr (w.0, _, w.2.0, sym (ap length c.remaining.ensures.value) ∙ c.if-remaining-left.true ∙ ap length c.remaining-left.ensures.value),
-    ))
+    )))
 
 -- ---- the parts that are listed
 
