@@ -25,29 +25,23 @@ use Rattle.rasn_lint.specs.WellFormed.{AreEncodings}
 use Rattle.rasn_lint.specs.Laws.{NormalIsClean, FormedIsClean, IsClosed, ClosedIsClean, FirstIsListed, ClosedFirstIsListed, CleanIsNormal}
 use Rattle.rasn_lint.proofs.Holding.{holds}
 use Rattle.rasn_lint.proofs.Kept.{kept, formed}
-use Rattle.rasn_lint.proofs.OpenSets.{every_apart, every_together, unnamed_formed, with_each, from_each}
-use Rattle.rasn_lint.specs.OpenSets.{AreUnnamed, HasUnnamed}
 
 pub clean_if_formed : FormedIsClean
 clean_if_formed opens types id rule input octets ds n l all = l.clean.1 ((n.again, n.read_again.0), all)
 
--- The open types of the normal encoding are those of the input, and so are the components of SETs that aren't named.
+-- The open types and the unknown values of the normal encoding are those of the input.
 formed_anew : (types : List «Type») (id : ℕ) (rule : Codec) (input octets : List ℕ) (ps qs : MessageParts) → AreReadableTypes types → AreOctets input → AreOctets octets → IsNormal rule (shape_of types id) input octets
-    → ArePartsOf types rule id input ps → ArePartsOf types Ber id octets qs → (found more : List Span) → AreUnnamed types ps.list.items found → AreUnnamed types qs.list.items more
-    → AllByRecursion (HasFormed types) ps.list.items → AllByRecursion (HasFormed types) found → AllByRecursion (HasFormed types) qs.list.items × AllByRecursion (HasFormed types) more
-formed_anew types id rule input octets ps qs lawful are written n p q found more u v all others =
+    → ArePartsOf types rule id input ps → ArePartsOf types Ber id octets qs → AllByRecursion (HasFormed types) ps.list.items → AllByRecursion (HasFormed types) qs.list.items
+formed_anew types id rule input octets ps qs lawful are written n p q all =
     let deep : ℕ = 18446744073709551615 in
     let h = holds rule types lawful deep id 0 0 (start rule input) p.last ps.list.items p.listed (top rule) n.value [] are n.means.0 in
     let k = holds Der types lawful deep id 0 0 (start Ber octets) q.last qs.list.items q.listed (top Der) n.again [] written n.read_again.0 in
-    from_each types qs.list.items more
-    (formed types deep id n.again qs.list.items k (kept rule types deep id n.value ps.list.items h (with_each types ps.list.items found all u others) n.again n.same)) v
+    formed types deep id n.again qs.list.items k (kept rule types deep id n.value ps.list.items h all n.again n.same)
 
 pub normal_is_clean : NormalIsClean
-normal_is_clean Unexamined types id rule input octets ds ps lawful are written n p every u all l = clean_if_formed Unexamined types id rule input octets ds n l tt
-normal_is_clean Examined types id rule input octets ds ps lawful are written n p every u all l =
-    let mine = every_apart types (HasFormed types) ps.list.items every u all in
-    let anew = formed_anew types id rule input octets ps l.parts lawful are written n p l.are_parts u.0 l.unnamed.0 u.1 l.unnamed.1 mine.0 mine.1 in
-    clean_if_formed Examined types id rule input octets ds n l (every_together types (HasFormed types) l.parts.list.items l.every l.unnamed anew.0 anew.1)
+normal_is_clean Unexamined types id rule input octets ds ps lawful are written n p all l = clean_if_formed Unexamined types id rule input octets ds n l tt
+normal_is_clean Examined types id rule input octets ds ps lawful are written n p all l =
+    clean_if_formed Examined types id rule input octets ds n l (formed_anew types id rule input octets ps l.parts lawful are written n p l.are_parts all)
 
 all_formed : (types : List «Type») → IsClosed Examined types → (es : List Span) → AllByRecursion (HasFormed types) es
 all_formed types none [] = tt
@@ -58,7 +52,7 @@ are_formed Unexamined types none es = tt
 are_formed Examined types none es = all_formed types none es
 
 pub closed_is_clean : ClosedIsClean
-closed_is_clean opens types id rule input octets ds none n l = clean_if_formed opens types id rule input octets ds n l (are_formed opens types none l.every)
+closed_is_clean opens types id rule input octets ds none n l = clean_if_formed opens types id rule input octets ds n l (are_formed opens types none l.parts.list.items)
 
 -- ---- the first departure
 
@@ -72,12 +66,6 @@ same_formed : (types : List «Type») (es fs : List Span) → AreSameParts es fs
 same_formed types [] fs h all = subst (AllByRecursion (HasFormed types)) (sym h) tt
 same_formed types (e ∷ es) fs (g, more, is, same, h) (w, all) = subst (AllByRecursion (HasFormed types)) (sym is) (formed_same types e g same w, same_formed types es more h all)
 
--- The same with the components that aren't named.
-every_formed : (types : List «Type») (parts others every all : List Span) → AreSameParts parts others → HasUnnamed types parts every → HasUnnamed types others all → AllByRecursion (HasFormed types) every → AllByRecursion (HasFormed types) all
-every_formed types parts others every all same u v h =
-    let both = every_apart types (HasFormed types) parts every u h in
-    every_together types (HasFormed types) others all v (same_formed types parts others same both.0) (unnamed_formed types parts others every all same u v both.1)
-
 none_first : (types : List «Type») (len : ℕ) (path : List ℕ) (es : List Span) (d : Departure) → AllByRecursion (HasFormed types) es → IsFirstIn types len path es d → ⊥
 none_first types len path [] d all h = h
 none_first types len path (e ∷ es) d all (inl (inl (is, n, w))) = n (all.0.1 is)
@@ -87,13 +75,13 @@ none_first types len path (e ∷ es) d all (inr (f, h)) = none_first types len (
 pub first_is_listed : FirstIsListed
 first_is_listed Unexamined types id input ds None lawful are l h = (λ q. l.clean.1 (h.0, tt), λ q. refl)
 first_is_listed Unexamined types id input ds (Some d) lawful are l h = (λ q. cc, λ q. absurd (h.0 (l.clean.0 q).0))
-first_is_listed Examined types id input ds None lawful are l (der, (ps, p, every, u, all)) =
+first_is_listed Examined types id input ds None lawful are l (der, (ps, p, all)) =
     let same = parts_determined types Der Ber id input ps l.parts lawful are p l.are_parts in
-    (λ q. l.clean.1 (der, every_formed types ps.list.items l.parts.list.items every l.every same u l.unnamed all), λ q. refl)
+    (λ q. l.clean.1 (der, same_formed types ps.list.items l.parts.list.items same all), λ q. refl)
 first_is_listed Examined types id input ds (Some d) lawful are l (inl h) = (λ q. cc, λ q. absurd (h.0 (l.clean.0 q).0))
-first_is_listed Examined types id input ds (Some d) lawful are l (inr (der, (ps, p, every, u, f))) =
+first_is_listed Examined types id input ds (Some d) lawful are l (inr (der, (ps, p, f))) =
     let same = parts_determined types Ber Der id input l.parts ps lawful are l.are_parts p in
-    (λ q. cc, λ q. absurd (none_first types (length input) [] every d (every_formed types l.parts.list.items ps.list.items l.every every same l.unnamed u (l.clean.0 q).1) f))
+    (λ q. cc, λ q. absurd (none_first types (length input) [] ps.list.items d (same_formed types l.parts.list.items ps.list.items same (l.clean.0 q).1) f))
 
 -- No part is open.
 none_open : (types : List «Type») → IsClosed Examined types → (len : ℕ) (path : List ℕ) (es : List Span) (d : Departure) → IsFirstIn types len path es d → ⊥
@@ -105,10 +93,10 @@ none_open types none len path (e ∷ es) d (inr (f, h)) = none_open types none l
 not_der : (opens : OpenTypes) (types : List «Type») (id : ℕ) (input : List ℕ) (d : Departure) → IsClosed opens types → IsFirstDeparture opens types id input (Some d) → IsDer types id input → ⊥
 not_der Unexamined types id input d none h k = h.0 k
 not_der Examined types id input d none (inl h) k = h.0 k
-not_der Examined types id input d none (inr (r, (ps, a, every, u, f))) k = none_open types none (length input) [] every d f
+not_der Examined types id input d none (inr (r, (ps, a, f))) k = none_open types none (length input) [] ps.list.items d f
 
 pub closed_first_is_listed : ClosedFirstIsListed
-closed_first_is_listed opens types id input ds None none l h = (λ q. l.clean.1 (h.0, are_formed opens types none l.every), λ q. refl)
+closed_first_is_listed opens types id input ds None none l h = (λ q. l.clean.1 (h.0, are_formed opens types none l.parts.list.items), λ q. refl)
 closed_first_is_listed opens types id input ds (Some d) none l h = (λ q. cc, λ q. absurd (not_der opens types id input d none h (l.clean.0 q).0))
 
 pub clean_is_normal : CleanIsNormal

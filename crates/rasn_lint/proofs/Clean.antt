@@ -25,7 +25,6 @@ use Rattle.rasn_lint.specs.declared.departure.Departure.{Departure}
 use Rattle.rasn_lint.specs.Lint.{IsDer, HasFormed, IsRemainderOf, IsAtFault, IsDerOrNot, IsClean, AreAll, offset_of, IsLint, IsNoLint, IsIllFormedAt, IsFirstOr, IsFirstDeparture, rest_after}
 use Rattle.rasn_lint.specs.Judged.{AreJudged, AreOpenDepartures}
 use Rattle.rasn_lint.specs.Refusals.{aspect_of}
-use Rattle.rasn_lint.specs.OpenSets.{HasUnnamed}
 use Rattle.rasn_lint.proofs.Judged.{none_typed, none_if_formed, formed_if_none, formed_if}
 
 last_empty : {A : Type 0} (b c : List A) → b ++ c ≡ [] → c ≡ []
@@ -43,27 +42,26 @@ module _ (types : List «Type») (id : ℕ) (input : List ℕ) (parts : List Spa
   clean opens ds (inr (n, inl (j, some))) = (λ q. absurd (some q), λ k. absurd (n k.0))
   clean opens ds (inr (n, inr (j, d, p, i))) = (λ q. let x : d ∷ [] ≡ [] = sym p ∙ q in cc, λ k. absurd (n k.0))
 
-  -- What was found, in the order of its places.
-  pub listed : (opens : OpenTypes) (ps : MessageParts) (found ds : List Departure) → HasUnnamed types ps.list.items parts → (are : ArePartsOf types Ber id input ps) → are.last.rest ≡ [] → AreAll opens types id input parts found → IsPermutation found ds → IsNonDecreasingBy offset_of ds
-      → IsLint opens types id input ds
-  listed opens ps found ds u a whole all same order =
-      let c = clean opens found all in
-      let k = length_permutation found ds same in
-      record {
-        parts = ps;
-        are_parts = a;
-        whole = whole;
-        every = parts;
-        unnamed = u;
-        found = found;
-        all = all;
-        same = same;
-        in_order = order;
-        clean = (
-          λ q. c.0 (none_of found (sym k ∙ ap length q)),
-          λ h. none_of ds (k ∙ ap length (c.1 h)),
-        );
-      }
+-- What was found, in the order of its places.
+pub listed : (types : List «Type») (id : ℕ) (input : List ℕ) (opens : OpenTypes) (ps : MessageParts) (found ds : List Departure)
+    → (are : ArePartsOf types Ber id input ps) → are.last.rest ≡ [] → AreAll opens types id input ps.list.items found
+    → IsPermutation found ds → IsNonDecreasingBy offset_of ds → IsLint opens types id input ds
+listed types id input opens ps found ds a whole all same order =
+    let c = clean types id input ps.list.items opens found all in
+    let k = length_permutation found ds same in
+    record {
+      parts = ps;
+      are_parts = a;
+      whole = whole;
+      found = found;
+      all = all;
+      same = same;
+      in_order = order;
+      clean = (
+        λ q. c.0 (none_of found (sym k ∙ ap length q)),
+        λ h. none_of ds (k ∙ ap length (c.1 h)),
+      );
+    }
 
 same_aspect : (d : Departure) (r : Refusal) → d.refusal ≡ r → d.aspect ≡ aspect_of r.error.kind → d.aspect ≡ aspect_of d.refusal.error.kind
 same_aspect d r s a = a ∙ ap (λ (z : Refusal). aspect_of z.error.kind) (sym s)
@@ -166,9 +164,10 @@ module _ (types : List «Type») (id : ℕ) (input : List ℕ) where
       (subst (IsAtFault types id input) (sym e) (inr (are.listed.tree, rest, read.0, h)), i, same_aspect d r e a),
     )
 
-    pub parts_first : (every : List Span) → HasUnnamed types ps.list.items every → rest ≡ [] → (r : Option Departure) → IsFirstOr types (length input) [] every r → IsFirstDeparture Examined types id input r
-    parts_first every u e None h = (whole_is_read e, (ps, are, every, u, h))
-    parts_first every u e (Some d) h = inr (whole_is_read e, (ps, are, every, u, h))
+    pub parts_first : rest ≡ [] → (r : Option Departure) → IsFirstOr types (length input) [] ps.list.items r
+        → IsFirstDeparture Examined types id input r
+    parts_first e None h = (whole_is_read e, (ps, are, h))
+    parts_first e (Some d) h = inr (whole_is_read e, (ps, are, h))
 
 pub some_departed : (v : Vec Departure Global) → false ≡ (vec_len v == 0) → v.items ≢ []
 some_departed v e q = let n : length v.items ≡ 0 = ap length q in grind (arith, nat_tests)

@@ -43,7 +43,7 @@ not_eoc tag h = go tag.class refl (nat_eq tag.value 0) refl
     go Context e b f = refl
     go Private e b f = refl
 
-pub looked : (tag : Tag) → tag ≢ eoc → looked_for tag ≡ Some tag
+looked : (tag : Tag) → tag ≢ eoc → looked_for tag ≡ Some tag
 looked tag h = let pick : Bool → Option Tag = λ b. if b then None else Some tag in ap pick (not_eoc tag h)
 
 -- An open type with a tag is a constructed value with it.

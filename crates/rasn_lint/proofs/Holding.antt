@@ -1,30 +1,25 @@
 -- The parts of a message beside the tree of its value.
-use Rattle.std.proofs.Common.{◌≡◌, ◌≢◌, ◌⊎◌, inl, inr, ◌+◌, ◌-◌, ℕ, zero, suc, List, [], ◌∷◌, ◌++◌, map, length, drop, append_assoc, append-nil, Bool, true, false, Option, Some, None, Result, Ok, Err, refl, sym, ap, ◌∙◌, subst, arith}
+use Rattle.std.proofs.Common.{◌≡◌, ◌≢◌, ◌⊎◌, inl, inr, ◌+◌, ◌-◌, ℕ, zero, suc, List, [], ◌∷◌, ◌++◌, map, length, drop, append_assoc, append-nil, Bool, true, false, Option, Some, None, refl, sym, ap, ◌∙◌, subst, arith}
 use Rattle.std.specs.Prelude.{◌↔◌, ◌||◌, slice_get}
 use Rattle.std.specs.List.{AllByRecursion}
 use Rattle.std.proofs.lemmas.List.{append_cancel_right}
 use Rattle.rasn_types.specs.declared.types.codec.Codec.{Codec}
 use Rattle.rasn_types.specs.declared.types.codec.Codec.TheVariants.{Ber, Cer, Der}
 use Rattle.rasn_types.specs.declared.types.tag.Tag.{Tag}
-use Rattle.rasn_types.specs.Tags.{Form, basic_form, form, IsStrict, eoc}
-use Rattle.rasn_types.specs.Framing.{AreOctets, Ended, Frame, with_length, without_length, Extent, definite, indefinite, NextTag, CompleteEncoding, CompleteEncodings}
+use Rattle.rasn_types.specs.Tags.{Form, form, IsStrict}
+use Rattle.rasn_types.specs.Framing.{AreOctets, Ended, Frame, with_length, without_length, Extent, definite, indefinite, NextTag, CompleteEncoding}
 use Rattle.rasn_types.specs.Contents.{joined_lists}
-use Rattle.rasn_types.specs.Shapes.{Shape, Parts, Tree, IsSetTree, Same, any, sorted_set, count, IsFirstOf, unknown, numbers, chosen, items, set_elements, absent, Presence as PartPresence, required, addition, optional_by, default_by, Key, looked_for, sought_by, sought_in, presences, IsFirst, IsAlwaysPresent}
+use Rattle.rasn_types.specs.Shapes.{Shape, Tree, IsSetTree, Same, any, sorted_set, count, IsFirstOf, unknown, numbers, chosen, items, set_elements, absent, Presence as PartPresence, required, addition, optional_by, default_by, Key, looked_for, sought_by, sought_in, presences, IsFirst, IsAlwaysPresent}
 use Rattle.rasn_types.specs.Readings.{Reading, AllOf, ReadsContents, definite_form, indefinite_form, ReadsMany, IsLeftOut, ReadsPart, ReadsInOrder, ReadsSeq, ReadsSortedSet, ReadsChoice, AllMissing, HasRequired, presences_in, ByPart, IsMissing, IsNoDefault}
-use Rattle.rasn_types.specs.Grammar.{Reads, ReadsAny, ReadsOpen, ReadsOpenChoice, parts_of, ReadsList, ReadsSetOf}
+use Rattle.rasn_types.specs.Grammar.{Reads, ReadsAny, ReadsOpenChoice, parts_of, ReadsList, ReadsSetOf}
 use Rattle.rasn_types.specs.Lawful.{IsLawful, AreLawfulInOrder}
-use Rattle.rasn_types.proofs.Encoding.Complete.{whole_next}
 use Rattle.rasn_types.proofs.Headers.Frames.{frame_one, next_one, not_ended}
 use Rattle.rasn_de.specs.Any.{ReadsOpenOctets}
-use Rattle.rasn_de.specs.ParserViews.{peeked_tag, identified_tag}
-use Rattle.rasn_de.specs.Headers.{Identified, identifier_at}
-use Rattle.rasn_de.specs.declared.ber.de.parser.ParseError.{ParseError}
 use Rattle.rasn_de.specs.State.{State}
 use Rattle.rasn_de.specs.Segments.{octets_inside}
 use Rattle.rasn_de.specs.Constructed.{sequence_header, list_header, prefix_header}
 use Rattle.rasn_de.specs.declared.ber.de.constructed.ConstructedHeader.{ConstructedHeader}
-use Rattle.rasn_de.proofs.Headers.NextTag.{next_parsed, next_none}
-use Rattle.rasn_de.proofs.Headers.Results.{octets_back, octets_front}
+use Rattle.rasn_de.proofs.Headers.Results.{octets_back}
 use Rattle.rasn_de.proofs.Strings.Reads.{frame_octets}
 use Rattle.rasn.proofs.OneReading.Any.{any_one, open_one}
 use Rattle.rasn.proofs.Included.IntoBer.{reads_in}
@@ -36,12 +31,13 @@ use Rattle.rasn_schema.specs.declared.types.Presence.{Presence}
 use Rattle.rasn_schema.specs.declared.types.Presence.TheVariants.{Required, Optional, Addition, Default}
 use Rattle.rasn_schema.specs.declared.types.«Type».{«Type»}
 use Rattle.rasn_schema.specs.declared.types.«Type».TheVariants.{Leaf, Enumerated, Any, Tagged, Choice, Sequence, Set, SequenceOf, SetOf, Unknown}
-use Rattle.rasn_schema.specs.Shapes.{shape_of_type, type_by, found_by, alternatives_by, choice_among, components_by, key_of, presence_by, presence_of, presence_in, IsReadable}
+use Rattle.rasn_schema.specs.Shapes.{shape_of_type, type_by, found_by, nothing, tag_at, is_unknown, alternatives_by, choice_among, components_by, key_of, presence_by, presence_of, presence_in, IsReadable}
 use Rattle.rasn_schema.specs.FirstTags.{IsAlwaysThere}
 use Rattle.rasn_schema.proofs.Lists.{some_is}
+use Rattle.rasn_schema.proofs.OpenEnds.{among_not_unknown}
 use Rattle.rasn_dynamic.specs.declared.span.Span.{Span}
-use Rattle.rasn_dynamic.specs.Listed.{GoesInside, InTurn, PartListed, ComponentListed, ComponentAt, ComponentsListed, MemberListed, AlternativeListed, ValueListed, PartsInside, Inside}
-use Rattle.rasn_dynamic.specs.Sets.{is_extensible, named_components, AreLawfulMembers}
+use Rattle.rasn_dynamic.specs.Listed.{GoesInside, InTurn, UnknownListed, PartListed, ComponentListed, ComponentAt, ComponentsListed, MemberListed, AlternativeListed, ValueListed, PartsInside, Inside}
+use Rattle.rasn_dynamic.specs.Sets.{is_extensible, named_components, last_type, AreLawfulMembers, PassesUnknown}
 use Rattle.rasn_dynamic.specs.Calls.{is_required, any_required}
 use Rattle.rasn_dynamic.specs.SameParts.{AreReadableTypes}
 use Rattle.rasn_dynamic.proofs.OpenChoice.{first_alternative, tag_of_among, of_among}
@@ -49,10 +45,7 @@ use Rattle.rasn_dynamic.proofs.Named.{named_is}
 use Rattle.rasn_dynamic.proofs.Members.{unknown_is}
 use Rattle.rasn_dynamic.proofs.Pieces.{only_part, first_of_part, member_is}
 use Rattle.rasn_dynamic.proofs.SameParts.{IsKnown, same_reading, unknown_read, not_at_end, not_absent, none_left, same_index, component_known, left_known, header_frame, known_type, readable_type}
-use Rattle.rasn_lint.specs.OpenSets.{IsNamed}
 use Rattle.rasn_lint.specs.Untyped.{HasOpen}
-use Rattle.rasn_lint.proofs.Frames.{looked}
-use Rattle.rasn_lint.proofs.Passed.{basic, basic_open, one_read}
 
 -- ---- what parts hold of a tree
 
@@ -72,16 +65,6 @@ IsLeft (default_by key d) t = Same t d
 abbrev pub HoldsEncodings : Tree → List ℕ → Type 0
 HoldsEncodings t octets = (xs : List (List ℕ)) × (t ≡ items (map numbers xs)) × (octets ≡ joined_lists xs) × AllByRecursion (CompleteEncoding Ber) xs
 
--- Of these encodings, the unknown ones: those that have the tag of none of the parts.
-abbrev pub AreUnknownOnes : Parts → List (List ℕ) → List (List ℕ) → Type 0
-AreUnknownOnes ps [] zs = zs ≡ []
-AreUnknownOnes ps (x ∷ xs) zs = (IsNamed ps x × AreUnknownOnes ps xs zs) ⊎ ((IsNamed ps x → ⊥) × (more : List (List ℕ)) × (zs ≡ x ∷ more) × AreUnknownOnes ps xs more)
-
--- The contents of the SET with these octets are complete encodings, one after the other, and the trees have the octets of
--- the unknown ones.
-abbrev pub HoldsUnknown : Parts → Tag → List ℕ → List Tree → Type 0
-HoldsUnknown ps tag octets us = (xs : List (List ℕ)) × (zs : List (List ℕ)) × HasOpen tag octets (joined_lists xs) × AllByRecursion (CompleteEncoding Ber) xs × AreUnknownOnes ps xs zs × (us ≡ map numbers zs)
-
 -- By these rules, f gives the shape of the type with a number, and H k t es: es are the parts of the tree of a value of it.
 module _ (rule : Codec) (f : ℕ → Shape) (H : ℕ → Tree → List Span → Type 0) where
   -- A component that is written can't be left out under DER.
@@ -95,16 +78,16 @@ module _ (rule : Codec) (f : ℕ → Shape) (H : ℕ → Tree → List Span → 
   HoldsComponents [] ts es = (ts ≡ []) × (es ≡ [])
   HoldsComponents (p ∷ ps) ts es = (t : Tree) × (us : List Tree) × (mine : List Span) × (others : List Span) × (ts ≡ t ∷ us) × (es ≡ mine ++ others) × HoldsComponent p t mine × HoldsComponents ps us others
 
-  -- A component of a SET that is named; one that isn't has no part.
-  abbrev pub HoldsMember : List Component → Tree → List Span → Type 0
-  HoldsMember ps r es = ((k : ℕ) × (p : Component) × (u : Tree) × (Some p ≡ slice_get ps k) × (r ≡ chosen k u) × HoldsWritten p u es)
-      ⊎ ((u : Tree) × (r ≡ chosen (count (components_by f ps)) u) × (es ≡ []))
+  -- A component of a SET that is named, or an unknown one, which is read as unknown values of the type other: as one.
+  abbrev pub HoldsMember : List Component → ℕ → Tree → List Span → Type 0
+  HoldsMember ps other r es = ((k : ℕ) × (p : Component) × (u : Tree) × (Some p ≡ slice_get ps k) × (r ≡ chosen k u) × HoldsWritten p u es)
+      ⊎ ((u : Tree) × (r ≡ chosen (count (components_by f ps)) u) × H other (items (u ∷ [])) es)
 
   -- The readings of a SET's components in their order, and of unknown ones.
-  abbrev pub HoldsMembers : Bool → List Component → Tag → List ℕ → Tree → List Span → Type 0
-  HoldsMembers extensible ps tag octets t es =
+  abbrev pub HoldsMembers : Bool → List Component → ℕ → Tree → List Span → Type 0
+  HoldsMembers extensible ps other t es =
       (rs : List Tree) × (ts : List Tree) × (us : List Tree) × IsSetTree extensible ts us t × ByPart 0 (presences (components_by f ps)) rs ts
-      × HoldsUnknown (components_by f ps) tag octets us × Along (HoldsMember ps) rs es
+      × AllOf (count (components_by f ps)) rs us × Along (HoldsMember ps other) rs es
 
   -- Of the value with this part, without it.
   abbrev pub HoldsInside : «Type» → Span → Tree → List Span → Type 0
@@ -115,7 +98,7 @@ module _ (rule : Codec) (f : ℕ → Shape) (H : ℕ → Tree → List Span → 
   HoldsInside (Tagged tag id) e t es = H id.0 t es
   HoldsInside (Choice name ks) e t es = (k : ℕ) × (a : Alternative) × (u : Tree) × (Some a ≡ slice_get ks.items k) × (t ≡ chosen k u) × H a.type_id.0 u es
   HoldsInside (Sequence tag ps) e t es = (ts : List Tree) × (t ≡ items ts) × HoldsComponents ps.items ts es
-  HoldsInside (Set name tag ps) e t es = HoldsMembers (is_extensible f ps.items) (named_components f ps.items) tag e.octets.now t es
+  HoldsInside (Set name tag ps) e t es = HoldsMembers (is_extensible f ps.items) (named_components f ps.items) (last_type ps.items) t es
   HoldsInside (SequenceOf tag id c) e t es = (ts : List Tree) × (t ≡ items ts) × Along (H id.0) ts es
   HoldsInside (SetOf tag id c) e t es = (ts : List Tree) × (t ≡ set_elements (items ts)) × Along (H id.0) ts es
 
@@ -256,12 +239,6 @@ opened rule tag octets rest depth c t r x =
       λ (more, exact). (exact.1 t [] n).0,
     )
 
--- The contents of a value, before its end-of-contents octets.
-held_open : (tag : Tag) → tag ≢ eoc → (octets rest inside : List ℕ) → ReadsOpen Ber tag (octets ++ rest) (numbers inside) rest → HasOpen tag octets inside
-held_open tag some octets rest inside r =
-    let n : ReadsOpenOctets Ber (looked_for tag) octets (numbers inside) [] = subst (λ z. ReadsOpenOctets Ber z octets (numbers inside) []) (sym (looked tag some)) (narrow (Some tag) octets rest (numbers inside) r) in
-    ([], (n, λ u s h. open_once (looked_for tag) octets u (numbers inside) s [] h n))
-
 -- The octets of unknown values are the encodings that are read.
 encodings_read : (closing : Bool) (input : List ℕ) (ts : List Tree) (rest : List ℕ) → ReadsMany (ReadsAny Ber) closing input ts rest
     → (xs : List (List ℕ)) × (ts ≡ map numbers xs) × (input ≡ joined_lists xs ++ rest) × AllByRecursion (CompleteEncoding Ber) xs
@@ -278,14 +255,10 @@ held_encodings rule octets after depth c t r =
 
 -- ---- what a rule reads of a value, beside the parts that are listed of it
 
--- If complete encodings are before the end, they are the contents.
-abbrev Encloses : Tag → List ℕ → List ℕ → List ℕ → List ℕ → Type 0
-Encloses tag input l end rest = (inside : List ℕ) → CompleteEncodings Ber inside → l ≡ inside ++ end → ReadsOpen Ber tag input (numbers inside) rest
-
 -- The header is that of the value.
 into_contents : (d : ConstructedHeader) (b a : ℕ) (s inner : State) (depth : ℕ) (input : List ℕ) → GoesInside d b s a inner → At s depth input
     → (rule : Codec) (tag : Tag) (bit : Bool) (R : Bool → Reading Tree) (t : Tree) (rest : List ℕ) → ReadsContents rule tag bit R input t rest
-    → (c : Bool) × (l : List ℕ) × (end : List ℕ) × R c l t end × Encloses tag input l end rest × At inner (depth - d.levels) l
+    → (c : Bool) × (l : List ℕ) × (end : List ℕ) × R c l t end × At inner (depth - d.levels) l
 into_contents d b a s inner depth input (h, p, q, g) (e, l, o) rule tag bit R t rest reads = go reads
   where
     F : Frame (form s.rule) input h.tag h.bit h.rest h.extent
@@ -296,17 +269,11 @@ into_contents d b a s inner depth input (h, p, q, g) (e, l, o) rule tag bit R t 
         let same : octets_inside h.extent h.rest ≡ m = ap (λ z. octets_inside z h.rest) i ∙ (ap (octets_inside x) j ∙ k) in
         (ap (λ (z : State). z.depth) q ∙ ap (λ n. n - d.levels) e, ap (λ (z : State). z.rest) q ∙ same, subst AreOctets same (frame_octets input o F).1)
 
-    by_length : (contents : List ℕ) → Frame (form rule) input tag bit rest (definite contents) → Encloses tag input contents [] rest
-    by_length contents f inside w e = (bit, inside, refl, (λ s. absurd s), inl (subst (λ z. Frame basic_form input tag bit rest (definite z)) (e ∙ append-nil inside) (basic f)))
+    go : ReadsContents rule tag bit R input t rest → (c : Bool) × (l : List ℕ) × (end : List ℕ) × R c l t end × At inner (depth - d.levels) l
+    go (definite_form contents f r) = let one = frame_one input F f in (false, contents, [], r, within (definite contents) rest contents one.extent one.rest refl)
+    go (indefinite_form body f r) = let one = frame_one input F f in (true, body, 0 ∷ 0 ∷ rest, r, within indefinite body body one.extent one.rest refl)
 
-    by_end : (body : List ℕ) → Frame (form rule) input tag bit body indefinite → Encloses tag input body (0 ∷ 0 ∷ rest) rest
-    by_end body f inside w e = (bit, inside, refl, (λ s. absurd s), inr (body, basic_open f, w, e))
-
-    go : ReadsContents rule tag bit R input t rest → (c : Bool) × (l : List ℕ) × (end : List ℕ) × R c l t end × Encloses tag input l end rest × At inner (depth - d.levels) l
-    go (definite_form contents f r) = let one = frame_one input F f in (false, contents, [], r, by_length contents f, within (definite contents) rest contents one.extent one.rest refl)
-    go (indefinite_form body f r) = let one = frame_one input F f in (true, body, 0 ∷ 0 ∷ rest, r, by_end body f, within indefinite body body one.extent one.rest refl)
-
--- ---- the octets of a SET's components
+-- ---- unknown components of a SET
 
 pub chosen_one : (j k : ℕ) (t u : Tree) → chosen j t ≡ chosen k u → (j ≡ k) × (t ≡ u)
 chosen_one j k t u e = (cc, cc)
@@ -316,79 +283,44 @@ count_apart f [] k p at e = cc
 count_apart f (q ∷ ps) zero p at e = cc
 count_apart f (q ∷ ps) (suc k) p at e = count_apart f ps k p at (omega (arith, e))
 
-longer : (x rest : List ℕ) (tag : Tag) → NextTag basic_form x tag → NextTag basic_form (x ++ rest) tag
-longer x rest tag n = record {
-  begins = record { id = n.begins.id; bit = n.begins.bit; more = n.begins.more ++ rest; spells = n.begins.spells; is = ap (λ l. l ++ rest) n.begins.is ∙ append_assoc n.begins.id n.begins.more rest };
-  is_one = n.is_one;
-  shortest = n.shortest;
-}
+-- The number after those of the named components is that of unknown ones, so there may be some.
+is_open : (f : ℕ → Shape) (extensible : Bool) (ps : List Component) (s next : State)
+    → PassesUnknown extensible (components_by f ps) s next → extensible ≡ true
+unfolding Reads
+is_open f true ps s next x = refl
+is_open f false ps s next (u, d) =
+    let k = count (components_by f ps) in
+    let (j, p, v, at, e, own, z) = member_read s.rule f s.depth s.closing s.rest (chosen k u) next.rest ps 0 d.exact.0 in
+    absurd (count_apart f ps j p at (let n = (chosen_one k (0 + j) u v e).0 in omega (arith, n)))
 
--- The tag that follows is that of the encoding in front.
-tag_peeked : (spelling : Form) (x rest : List ℕ) (tag : Tag) → AreOctets (x ++ rest) → CompleteEncoding Ber x → NextTag spelling (x ++ rest) tag → peeked_tag (form Ber) x ≡ Ok tag
-tag_peeked spelling x rest tag o w n = go (identifier_at basic_form x) refl
-  where
-    own : Tag
-    own = (whole_next [] w).0
+-- The last component of an extensible SET is unknown values.
+last_unknown : (f : ℕ → Shape) (ps : List Component) → is_extensible f ps ≡ true → is_unknown (f (last_type ps)) ≡ true
+last_unknown f [] e = absurd cc
+last_unknown f (p ∷ []) e = e
+last_unknown f (p ∷ (q ∷ ps)) e = last_unknown f (q ∷ ps) e
 
-    alone : NextTag basic_form x own
-    alone = subst (λ l. NextTag basic_form l own) (append-nil x) (whole_next [] w).1
+found_unknown : (f : ℕ → Shape) (o : Option «Type») → is_unknown (found_by f o) ≡ true → o ≡ Some Unknown
+found_unknown f None e = absurd cc
+found_unknown f (Some (Leaf kind tag c names)) e = absurd cc
+found_unknown f (Some (Enumerated tag ns)) e = absurd cc
+found_unknown f (Some (Any tag)) e = absurd cc
+found_unknown f (Some (Tagged tag id)) e = absurd cc
+found_unknown f (Some (Choice name ks)) e =
+    let n : false ≡ true = sym (among_not_unknown (alternatives_by f ks.items)) ∙ e in absurd cc
+found_unknown f (Some (Sequence tag ps)) e = absurd cc
+found_unknown f (Some (Set name tag ps)) e = absurd cc
+found_unknown f (Some (SequenceOf tag id c)) e = absurd cc
+found_unknown f (Some (SetOf tag id c)) e = absurd cc
+found_unknown f (Some Unknown) e = refl
 
-    same : own ≡ tag
-    same = next_one (x ++ rest) own tag (longer x rest own alone) n
-
-    go : (r : Result Identified ParseError) → identifier_at basic_form x ≡ r → peeked_tag (form Ber) x ≡ Ok tag
-    go (Ok i) e = ap identified_tag e ∙ ap Ok (next_one x i.tag own (next_parsed basic_form x i (octets_front x rest o) e) alone ∙ same)
-    go (Err fault) e = absurd (next_none basic_form x fault e own alone)
-
-module _ (rule : Codec) (f : ℕ → Shape) (ps : List Component) (are : AreLawfulMembers (components_by f ps)) (depth : ℕ) (c : Bool) where
-  abbrev ReadsOneOf : Reading Tree
-  ReadsOneOf = ReadsOpenChoice rule (IsFirstOf (components_by f ps)) (count (components_by f ps)) (ReadsChoice rule 0 (parts_of rule (components_by f ps) depth c))
-
-  -- The encoding is that of a named component, or of an unknown one whose tree has its octets.
-  abbrev IsOfMember : Tree → List ℕ → Type 0
-  IsOfMember r x = (IsNamed (components_by f ps) x × ((u : Tree) → r ≢ chosen (count (components_by f ps)) u)) ⊎ ((IsNamed (components_by f ps) x → ⊥) × (r ≡ chosen (count (components_by f ps)) (numbers x)))
-
-  member_octets : (input : List ℕ) (r : Tree) (rest : List ℕ) → AreOctets input → ReadsOneOf input r rest → (x : List ℕ) × CompleteEncoding Ber x × (input ≡ x ++ rest) × IsOfMember r x
-  unfolding Reads
-  member_octets input r rest o (inl h) =
-      let (j, p, u, at, e, ((tag, next, first), own), z) = member_read rule f depth c input r rest ps 0 h in
-      let known = member_is f ps j p are.0 at in
-      let (x, w, is) = one_read (f p.type_id.0) known.1 depth c input u rest (reads_in (f p.type_id.0) rule depth c input u rest own) in
-      let peeked = tag_peeked (form rule) x rest tag (subst AreOctets is o) w (subst (λ l. NextTag (form rule) l tag) is next) in
-      (x, w, is, inl ((tag, peeked, first_of_part f tag ps j p at first), λ v i. count_apart f ps j p at (let n = (chosen_one (0 + j) (count (components_by f ps)) u v (sym e ∙ i)).0 in omega (arith, n))))
-  member_octets input r rest o (inr (u, e, tag, next, others, h)) =
-      let (x, i, w, is) = reads_in (any None) rule depth c input u rest h in
-      let peeked = tag_peeked (form rule) x rest tag (subst AreOctets is o) w (subst (λ l. NextTag (form rule) l tag) is next) in
-      (x, w, is, inr ((λ (other, found, first). others (let same : other ≡ tag = cc in subst (IsFirstOf (components_by f ps)) same first)), e ∙ ap (chosen (count (components_by f ps))) i))
-
-  -- Those of all components, one after the other.
-  abbrev AreMembers : List ℕ → List ℕ → List Tree → Type 0
-  AreMembers input rest us = (xs : List (List ℕ)) × (zs : List (List ℕ)) × (input ≡ joined_lists xs ++ rest) × AllByRecursion (CompleteEncoding Ber) xs × AreUnknownOnes (components_by f ps) xs zs × (us ≡ map numbers zs)
-
-  members_octets : (rs : List Tree) (closing : Bool) (input rest : List ℕ) (us : List Tree) → AreOctets input → ReadsMany ReadsOneOf closing input rs rest → AllOf (count (components_by f ps)) rs us → AreMembers input rest us
-  members_octets [] closing input rest us o (e, p) all = ([], [], sym p, tt, refl, all)
-  members_octets (r ∷ rs) closing input rest us o (n, middle, h, more) all =
-      let (x, w, is, of) = member_octets input r middle o h in
-      go x w is of (λ vs a. members_octets rs closing middle rest vs (octets_back x middle (subst AreOctets is o)) more a) all
-    where
-      after : (x : List ℕ) (xs : List (List ℕ)) → input ≡ x ++ middle → middle ≡ joined_lists xs ++ rest → input ≡ joined_lists (x ∷ xs) ++ rest
-      after x xs is i = is ∙ (ap (λ l. x ++ l) i ∙ sym (append_assoc x (joined_lists xs) rest))
-
-      go : (x : List ℕ) → CompleteEncoding Ber x → input ≡ x ++ middle → IsOfMember r x → ((vs : List Tree) → AllOf (count (components_by f ps)) rs vs → AreMembers middle rest vs) → AllOf (count (components_by f ps)) (r ∷ rs) us → AreMembers input rest us
-      go x w is (inl (named, none)) later (inl (u, vs, e, k, a)) = absurd (none u e)
-      go x w is (inl (named, none)) later (inr (other, a)) = let (xs, zs, i, ws, on, q) = later us a in (x ∷ xs, zs, after x xs is i, (w, ws), inl (named, on), q)
-      go x w is (inr (apart, e)) later (inl (u, vs, i, k, a)) =
-          let (xs, zs, j, ws, on, q) = later vs a in
-          let same : u ≡ numbers x = (chosen_one (count (components_by f ps)) (count (components_by f ps)) u (numbers x) (sym i ∙ e)).1 in
-          (x ∷ xs, x ∷ zs, after x xs is j, (w, ws), inr (apart, zs, refl, on), k ∙ (ap (λ z. z ∷ vs) same ∙ ap (λ z. numbers x ∷ z) q))
-      go x w is (inr (apart, e)) later (inr (none, a)) = absurd (none (numbers x) e)
-
-wholes : (xs : List (List ℕ)) → AllByRecursion (CompleteEncoding Ber) xs → CompleteEncodings Ber (joined_lists xs)
-wholes [] h = CompleteEncodings.none
-wholes (x ∷ xs) (w, ws) = CompleteEncodings.one_more x (joined_lists xs) w (wholes xs ws) refl
+not_found : (tag : Option Tag) → is_unknown (nothing tag) ≡ true → ⊥
+not_found None e = cc
+not_found (Some tag) e = cc
 
 module _ (rule : Codec) (f : ℕ → Shape) (readable : (k : ℕ) → IsReadable (f k)) (levels : ℕ) (P : ℕ → ℕ → State → List Span → Type 0) (H : ℕ → Tree → List Span → Type 0)
-    (below : (id k b : ℕ) (s next : State) (es : List Span) → PartListed f levels P id k b s next es → (c : Bool) (t : Tree) (rest : List ℕ) → AreOctets s.rest → Reads rule (f id) s.depth c s.rest t rest → H id t es) where
+    (below : (id k b : ℕ) (s next : State) (es : List Span) → PartListed f levels P id k b s next es → (c : Bool) (t : Tree) (rest : List ℕ) → AreOctets s.rest → Reads rule (f id) s.depth c s.rest t rest → H id t es)
+    (alone : (other : ℕ) → is_unknown (f other) ≡ true → (e : Span) → e.id.0 ≡ other → e.levels ≡ levels
+    → CompleteEncoding Ber e.octets.now → H other (items (numbers e.octets.now ∷ [])) (e ∷ [])) where
   part_held : (id k b : ℕ) (s next : State) (es : List Span) (depth : ℕ) (c : Bool) (input : List ℕ) (t : Tree) (rest : List ℕ)
       → PartListed f levels P id k b s next es → At s depth input → Reads rule (f id) depth c input t rest → H id t es × At next depth rest
   part_held id k b s next es depth c input t rest x (d, l, o) r =
@@ -483,12 +415,26 @@ module _ (rule : Codec) (f : ℕ → Shape) (readable : (k : ℕ) → IsReadable
       let (u, e, own) = of_among rule depth c input tag (subst (NextTag (form rule) input) same n.1) (alternatives_by f ks) k (f a.type_id.0) lawful (first_alternative f ks tag k a first) t rest r in
       (k, a, u, first.0, e, (part_held a.type_id.0 k b s last es depth c input u rest x at own).0)
 
+  -- An unknown component is read of its own octets.
+  alone_held : (other k b : ℕ) (s next : State) (es : List Span) → is_unknown (f other) ≡ true
+      → UnknownListed levels other k b s next es → (depth : ℕ) (c : Bool) (t : Tree) (rest : List ℕ)
+      → Reads rule (any None) depth c s.rest t rest → next.rest ≡ rest → H other (items (t ∷ [])) es
+  unfolding Reads
+  alone_held other k b s next es at_other x depth c t rest r e =
+      let own = x.part.octets.now in
+      let (text, i, w, is) = reads_in (any None) rule depth c s.rest t rest r in
+      let same : text ≡ own = append_cancel_right text own rest (sym is ∙ (x.octets ∙ ap (λ z. own ++ z) e)) in
+      let held = alone other at_other x.part x.id_is x.deep (subst (CompleteEncoding Ber) same w) in
+      subst (λ z. H other (items (z ∷ [])) es) (sym (i ∙ ap numbers same))
+      (subst (H other (items (numbers own ∷ []))) (sym x.is) held)
+
   -- A component of a SET that is read by a rule, as one that is named or as an unknown one.
   abbrev ReadsMember : List Component → ℕ → Bool → Reading Tree
   ReadsMember ps depth c =
       ReadsOpenChoice rule (IsFirstOf (components_by f ps)) (count (components_by f ps)) (ReadsChoice rule 0 (parts_of rule (components_by f ps) depth c))
 
-  module _ (extensible : Bool) (ps : List Component) (are : AreLawfulMembers (components_by f ps)) (b : ℕ) where
+  module _ (extensible : Bool) (ps : List Component) (are : AreLawfulMembers (components_by f ps)) (other : ℕ)
+      (at_other : extensible ≡ true → is_unknown (f other) ≡ true) (b : ℕ) where
     module _ (k : ℕ) (a : Component) (p : Some a ≡ slice_get ps k) (s next : State) (es : List Span) (x : PartListed f levels P a.type_id.0 k b s next es) where
       -- The tag with which the component begins.
       listed_tag : (tag : Tag) × NextTag (form s.rule) s.rest tag × IsFirst (f a.type_id.0) tag
@@ -497,13 +443,13 @@ module _ (rule : Codec) (f : ℕ → Shape) (readable : (k : ℕ) → IsReadable
           let v = begins (f a.type_id.0) m.1 m.0 s.rule s.depth s.closing s.rest x.tree next.rest x.reads.exact.0 in
           (v.0, v.1, v.2)
 
-      named_held : (depth : ℕ) (c : Bool) (input : List ℕ) (t : Tree) (rest : List ℕ) → At s depth input → ReadsChoice rule 0 (parts_of rule (components_by f ps) depth c) input t rest → HoldsMember rule f H ps t es × At next depth rest
+      named_held : (depth : ℕ) (c : Bool) (input : List ℕ) (t : Tree) (rest : List ℕ) → At s depth input → ReadsChoice rule 0 (parts_of rule (components_by f ps) depth c) input t rest → HoldsMember rule f H ps other t es × At next depth rest
       named_held depth c input t rest at r =
           let (j, d, u, q, e, (begin, own), other_value) = member_read rule f depth c input t rest ps 0 r in
           let (tag, after, first) = begin in
           let v = listed_tag in
-          let other = subst (λ l. NextTag (form s.rule) l v.0) at.1 v.1 in
-          let mine = subst (IsFirst (f a.type_id.0)) (next_one input v.0 tag other after) v.2 in
+          let here = subst (λ l. NextTag (form s.rule) l v.0) at.1 v.1 in
+          let mine = subst (IsFirst (f a.type_id.0)) (next_one input v.0 tag here after) v.2 in
           let i : j ≡ k = same_index (components_by f ps) tag j k _ _ _ _ (only_part f tag ps j d are.1 (q, first)) (only_part f tag ps k a are.1 (p, mine)) in
           let same : a ≡ d = some_is a d (p ∙ (ap (slice_get ps) (sym i) ∙ sym q)) in
           let y = part_held d.type_id.0 k b s next es depth c input u rest (subst (λ (z : Component). PartListed f levels P z.type_id.0 k b s next es) same x) at own in
@@ -511,7 +457,7 @@ module _ (rule : Codec) (f : ℕ → Shape) (readable : (k : ℕ) → IsReadable
           (inl (j, d, u, q, e ∙ ap (λ n. chosen n u) (omega arith), (y.0, λ strict. not_left (key_of (f d.type_id.0)) d.presence u (never_absent (f d.type_id.0) known.1 known.2 rule strict depth c input u rest own) (other_value strict))), y.1)
 
     member_held : (depth : ℕ) (c : Bool) (k0 : ℕ) (s next : State) (es : List Span) (input : List ℕ) (t : Tree) (rest : List ℕ)
-        → MemberListed f levels P extensible ps b s next es → At s depth input → ReadsMember ps depth c input t rest → HoldsMember rule f H ps t es × At next depth rest
+        → MemberListed f levels P extensible ps other b s next es → At s depth input → ReadsMember ps depth c input t rest → HoldsMember rule f H ps other t es × At next depth rest
     unfolding Reads IsLawful
     member_held depth c k0 s next es input t rest (inr (k, a, p, x)) at (inl r) = named_held k a p s next es x depth c input t rest at r
     member_held depth c k0 s next es input t rest (inr (k, a, p, x)) at (inr (u, e, tag, n, others, r)) =
@@ -523,15 +469,17 @@ module _ (rule : Codec) (f : ℕ → Shape) (readable : (k : ℕ) → IsReadable
         let (j, a, v, i, e, ((mine, after, first), own), z) = member_read rule f depth c input t rest ps 0 r in
         let same = next_one input mine tag after (subst (λ l. NextTag (form s.rule) l tag) at.1 n) in
         absurd (others (subst (IsFirstOf (components_by f ps)) same (first_of_part f mine ps j a i first)))
-    member_held depth c k0 s next es input t rest (inl ((u, d), q)) at (inr (v, e, tag, n, others, r)) =
+    member_held depth c k0 s next es input t rest (inl ((u, d), x)) at (inr (v, e, tag, n, others, r)) =
         let own = (unknown_is (components_by f ps) s next extensible u d).open_type in
         let again : Reads rule (any None) s.depth c s.rest v rest = subst (λ l. Reads rule (any None) s.depth c l v rest) (sym at.1) r in
         let octets = subst AreOctets (sym at.1) at.2 in
         let same = same_reading (any None) (inl (tt, tt)) s next u own rule c v rest again in
-        let front = own.end.0 in
-        (inr (v, e, q), (ap (λ (z : State). z.depth) own.stays ∙ at.0, sym same.1, octets_back front rest (subst AreOctets (own.end.1 ∙ ap (λ z. front ++ z) (sym same.1)) octets)))
+        let front = own.end.0 in (
+          inr (v, e, alone_held other (length ps) b s next es (at_other (is_open f extensible ps s next (u, d))) x s.depth c v rest again (sym same.1)),
+          (ap (λ (z : State). z.depth) own.stays ∙ at.0, sym same.1, octets_back front rest (subst AreOctets (own.end.1 ∙ ap (λ z. front ++ z) (sym same.1)) octets)),
+        )
 
-    not_ended_listed : (k : ℕ) (s next : State) (es : List Span) → MemberListed f levels P extensible ps b s next es → (closing : Bool) → Ended closing s.rest → ⊥
+    not_ended_listed : (k : ℕ) (s next : State) (es : List Span) → MemberListed f levels P extensible ps other b s next es → (closing : Bool) → Ended closing s.rest → ⊥
     not_ended_listed k s next es (inr (j, p, is, x)) closing e = not_at_end (f p.type_id.0) (member_is f ps j p are.0 is).1 s.rule s.depth s.closing closing s.rest x.tree next.rest x.reads.exact.0 e
     not_ended_listed k s next es (inl ((u, d), q)) closing e =
         not_at_end (any None) tt s.rule s.depth s.closing closing s.rest u next.rest (unknown_is (components_by f ps) s next extensible u d).open_type.exact.0 e
@@ -541,14 +489,14 @@ module _ (rule : Codec) (f : ℕ → Shape) (readable : (k : ℕ) → IsReadable
     not_ended_read depth c input t rest closing (inr (u, i, tag, n, others, r)) e = not_ended closing input tag n e
 
     members_held : (n : ℕ) (s last : State) (es : List Span) (depth : ℕ) (c closing : Bool) (input : List ℕ) (rs : List Tree) (rest : List ℕ)
-        → InTurn (λ k. MemberListed f levels P extensible ps b) n s last es → Ended last.closing last.rest → At s depth input
-        → ReadsMany (ReadsMember ps depth c) closing input rs rest → Along (HoldsMember rule f H ps) rs es
+        → InTurn (λ k. MemberListed f levels P extensible ps other b) n s last es → Ended last.closing last.rest → At s depth input
+        → ReadsMany (ReadsMember ps depth c) closing input rs rest → Along (HoldsMember rule f H ps other) rs es
     members_held n s last es depth c closing input rs rest t e at r =
-        all_along depth (λ k. MemberListed f levels P extensible ps b) (ReadsMember ps depth c) (HoldsMember rule f H ps)
+        all_along depth (λ k. MemberListed f levels P extensible ps other b) (ReadsMember ps depth c) (HoldsMember rule f H ps other)
         (λ k s next es input t rest x at r. member_held depth c k s next es input t rest x at r)
         not_ended_listed
         (λ input t rest closing r e. not_ended_read depth c input t rest closing r e)
-        n 0 s last es closing input rs rest (in_front (λ k. MemberListed f levels P extensible ps b) n s last es t) e at r
+        n 0 s last es closing input rs rest (in_front (λ k. MemberListed f levels P extensible ps other b) n s last es t) e at r
 
   -- Nothing is left: each component is absent.
   in_nothing : (depth : ℕ) (c closing : Bool) (qs : List Component) → any_required qs ≡ false → ((k : ℕ) (p : Component) → Some p ≡ slice_get qs k → IsKnown (f p.type_id.0))
@@ -610,32 +558,30 @@ module _ (rule : Codec) (f : ℕ → Shape) (readable : (k : ℕ) → IsReadable
       (x, opened rule tag e.octets.now after depth c t (subst (λ l. Reads rule (any (looked_for tag)) depth c l t after) (sym at.1 ∙ is) (subst (λ l. Reads rule (any (looked_for tag)) depth c input t l) q r)))
   value_held Unknown are b s e after es is v depth c input t rest at q r = absurd are
   value_held (Tagged tag id) are b s e after es is (a, inner, g, (last, x)) depth c input t rest at q r =
-      let (k, l, end, own, whole, there) = into_contents (prefix_header tag) b a s inner depth input g at rule tag r.1 (λ c. Reads rule (f id.0) (depth - 1) c) t rest r.3 in
+      let (k, l, end, own, there) = into_contents (prefix_header tag) b a s inner depth input g at rule tag r.1 (λ c. Reads rule (f id.0) (depth - 1) c) t rest r.3 in
       (part_held id.0 0 a inner last es (depth - 1) k l t end x there own).0
   value_held (Choice name ks) are b s e after es is (a, inner, (p, g), x) depth c input t rest at q r =
       choice_held ks.items are a inner es depth c input t rest x (subst (λ z. At z depth input) (sym g) at) r
   value_held (Sequence tag ps) are b s e after es is (a, inner, g, x) depth c input t rest at q r =
-      let (k, l, end, own, whole, there) = into_contents (sequence_header tag) b a s inner depth input g at rule tag true (λ c. ReadsSeq rule (parts_of rule (components_by f ps.items) (depth - 1) c) c) t rest r.1 in
+      let (k, l, end, own, there) = into_contents (sequence_header tag) b a s inner depth input g at rule tag true (λ c. ReadsSeq rule (parts_of rule (components_by f ps.items) (depth - 1) c) c) t rest r.1 in
       sequence_held ps.items are.1 a inner es (depth - 1) k l t end x there own
   value_held (Set name tag ps) are b s e after es is (a, inner, g, (n, last, turns, ended)) depth c input t rest at q r =
       let extensible = is_extensible f ps.items in
       let named = named_components f ps.items in
       let lawful : AreLawfulMembers (components_by f named) = subst AreLawfulMembers (sym (named_is f ps.items)) (are.1, are.2) in
       let own : Reads rule (sorted_set extensible tag (components_by f named)) depth c input t rest = subst (λ z. Reads rule (sorted_set extensible tag z) depth c input t rest) (sym (named_is f ps.items)) r in
-      let w = into_contents (sequence_header tag) b a s inner depth input g at rule tag true
+      let (k, l, end, inside, there) = into_contents (sequence_header tag) b a s inner depth input g at rule tag true
       (λ c. ReadsSortedSet rule extensible (presences (components_by f named)) (count (components_by f named)) (ReadsMember named (depth - 1) c) c) t rest own.1 in
-      let (rs, ts, us, i, many, by, all, z) = w.3 in
-      let (xs, zs, cut, ws, on, k) = members_octets rule f named lawful (depth - 1) w.0 rs w.0 w.1 w.2 us w.5.2 many all in
-      let inside = subst (λ l. ReadsOpen Ber tag l (numbers (joined_lists xs)) after) (sym at.1 ∙ is) (subst (λ l. ReadsOpen Ber tag input (numbers (joined_lists xs)) l) q (w.4 (joined_lists xs) (wholes xs ws) cut)) in
-      (rs, ts, us, i, by, (xs, zs, held_open tag are.0 e.octets.now after (joined_lists xs) inside, ws, on, k), members_held extensible named lawful a n inner last es (depth - 1) w.0 w.0 w.1 rs w.2 turns ended w.5 many)
+      let (rs, ts, us, i, many, by, all, z) = inside in
+      (rs, ts, us, i, by, all, members_held extensible named lawful (last_type ps.items) (last_unknown f ps.items) a n inner last es (depth - 1) k k l rs end turns ended there many)
   value_held (SequenceOf tag id size) are b s e after es is (a, inner, g, (n, last, turns, ended)) depth c input t rest at q r =
       let w = into_contents (list_header tag) b a s inner depth input g at rule tag true (λ c. ReadsList size.size (Reads rule (f id.0) (depth - 2) c) c) t rest r.1 in
       let own = w.3 in
-      (own.0, own.1, elements_held id.0 a n (are.1, are.2) inner last es (depth - 2) w.0 w.0 w.1 own.0 w.2 turns ended w.5 own.3)
+      (own.0, own.1, elements_held id.0 a n (are.1, are.2) inner last es (depth - 2) w.0 w.0 w.1 own.0 w.2 turns ended w.4 own.3)
   value_held (SetOf tag id size) are b s e after es is (a, inner, g, (n, last, turns, ended)) depth c input t rest at q r =
       let w = into_contents (list_header tag) b a s inner depth input g at rule tag true (λ c. ReadsSetOf rule size.size (Reads rule (f id.0) (depth - 2) c) c) t rest r.1 in
       let own = w.3 in
-      (own.0, own.1, elements_held id.0 a n (are.1, are.2) inner last es (depth - 2) w.0 w.0 w.1 own.0 w.2 turns ended w.5 own.3)
+      (own.0, own.1, elements_held id.0 a n (are.1, are.2) inner last es (depth - 2) w.0 w.0 w.1 own.0 w.2 turns ended w.4 own.3)
 
   unknown_held : (b : ℕ) (s : State) (e : Span) (after : List ℕ) (es : List Span) → s.rest ≡ e.octets.now ++ after → ValueListed f levels P Unknown b s es
       → (depth : ℕ) (c : Bool) (input : List ℕ) (t : Tree) (rest : List ℕ) → At s depth input → rest ≡ after → Reads rule unknown depth c input t rest → HoldsInside rule f H Unknown e t es
@@ -654,6 +600,15 @@ module _ (rule : Codec) (types : List «Type») (readable : AreReadableTypes typ
   HoldsAt n = (id k b : ℕ) (s next : State) (es : List Span) → PartListed (shape_of_type types n) n (Inside types n) id k b s next es
       → (c : Bool) (t : Tree) (rest : List ℕ) → AreOctets s.rest → Reads rule (shape_of_type types n id) s.depth c s.rest t rest → Holds rule types n id t es
 
+  -- An unknown component of a SET.
+  one_held : (n other : ℕ) → is_unknown (shape_of_type types n other) ≡ true → (e : Span) → e.id.0 ≡ other → e.levels ≡ n
+      → CompleteEncoding Ber e.octets.now → Holds rule types n other (items (numbers e.octets.now ∷ [])) (e ∷ [])
+  unfolding Holds shape_of_type
+  one_held zero other at_other e i deep w = absurd (not_found (looked_for (tag_at types other)) at_other)
+  one_held (suc n) other at_other e i deep w =
+      let at = found_unknown (λ j. shape_of_type types n j) (slice_get types other) at_other in
+      (e, [], refl, i, deep, Unknown, at, (refl, (e.octets.now ∷ [], refl, sym (append-nil e.octets.now), (w, tt))))
+
   holds_value : (n : ℕ) → HoldsAt n → HoldsAt (suc n)
   unfolding PartsInside Holds
   holds_value n below id k b s next es x c t rest o r =
@@ -664,10 +619,10 @@ module _ (rule : Codec) (types : List «Type») (readable : AreReadableTypes typ
     where
       go : (ty : «Type») → ValueListed (shape_of_type types n) n (Inside types n) ty b s x.inside → IsLawful (type_by (shape_of_type types n) ty) ⊎ (ty ≡ Unknown) → rest ≡ next.rest → Reads rule (type_by (shape_of_type types n) ty) s.depth c s.rest t rest
           → HoldsInside rule (shape_of_type types n) (λ k u more. Holds rule types n k u more) ty x.part t x.inside
-      go ty v (inl lawful) after own = value_held rule (shape_of_type types n) (readable n) n (Inside types n) (λ k u more. Holds rule types n k u more) below
+      go ty v (inl lawful) after own = value_held rule (shape_of_type types n) (readable n) n (Inside types n) (λ k u more. Holds rule types n k u more) below (one_held n)
           ty lawful b s x.part next.rest x.inside x.octets v s.depth c s.rest t rest (refl, refl, o) after own
       go ty v (inr e) after own = subst (λ z. HoldsInside rule (shape_of_type types n) (λ k u more. Holds rule types n k u more) z x.part t x.inside) (sym e)
-          (unknown_held rule (shape_of_type types n) (readable n) n (Inside types n) (λ k u more. Holds rule types n k u more) below
+          (unknown_held rule (shape_of_type types n) (readable n) n (Inside types n) (λ k u more. Holds rule types n k u more) below (one_held n)
           b s x.part next.rest x.inside x.octets (subst (λ z. ValueListed (shape_of_type types n) n (Inside types n) z b s x.inside) e v) s.depth c s.rest t rest (refl, refl, o) after
           (subst (λ z. Reads rule (type_by (shape_of_type types n) z) s.depth c s.rest t rest) e own))
 

@@ -3,13 +3,11 @@ use Rattle.std.proofs.Common.{◌≡◌, ◌⊎◌, inl, inr, ◌+◌, ℕ, zero
 use Rattle.std.specs.Prelude.{slice_get}
 use Rattle.std.specs.List.{AllByRecursion}
 use Rattle.rasn_types.specs.declared.types.codec.Codec.{Codec}
-use Rattle.rasn_types.specs.declared.types.codec.Codec.TheVariants.{Ber, Der}
+use Rattle.rasn_types.specs.declared.types.codec.Codec.TheVariants.{Der}
 use Rattle.rasn_types.specs.declared.types.tag.Tag.{Tag}
-use Rattle.rasn_types.specs.Contents.{joined_lists}
-use Rattle.rasn_types.specs.Framing.{CompleteEncoding}
-use Rattle.rasn_types.specs.Shapes.{Shape, Parts, Tree, IsSetTree, Same, numbers, chosen, items, set_elements, joined, presences, count}
+use Rattle.rasn_types.specs.Shapes.{Shape, Tree, IsSetTree, Same, numbers, chosen, items, set_elements, joined, presences, count}
 use Rattle.rasn_types.specs.Order.{Each}
-use Rattle.rasn_types.specs.Readings.{NoneOf, OneOf, ByPart, IsMissing}
+use Rattle.rasn_types.specs.Readings.{AllOf, NoneOf, OneOf, ByPart, IsMissing}
 use Rattle.rasn_types.proofs.SetOf.Same.{items_one, each_moved, same_sym}
 use Rattle.rasn_schema.specs.declared.types.Component.{Component}
 use Rattle.rasn_schema.specs.declared.types.Alternative.{Alternative}
@@ -21,16 +19,24 @@ use Rattle.rasn_schema.specs.Shapes.{shape_of_type, components_by, key_of, prese
 use Rattle.rasn_schema.specs.Trees.{tree_of}
 use Rattle.rasn_schema.proofs.Lists.{some_is}
 use Rattle.rasn_dynamic.specs.declared.span.Span.{Span}
-use Rattle.rasn_dynamic.specs.Sets.{is_extensible, named_components}
+use Rattle.rasn_dynamic.specs.Sets.{is_extensible, named_components, last_type}
 use Rattle.rasn_lint.specs.Lint.{HasFormed}
 use Rattle.rasn_lint.specs.Untyped.{HasOpen}
 use Rattle.rasn_lint.specs.WellFormed.{IsWellFormed, AreEncodings}
-use Rattle.rasn_lint.specs.OpenSets.{IsNamed}
-use Rattle.rasn_lint.proofs.OpenSets.{all_split, all_both, EachFormed, IsSetFormed, HoldsFormed, IsFormedWith, HasAllFormed, set_formed, all_formed_of}
-use Rattle.rasn_lint.proofs.Wholes.{wholes_formed, all_well_formed, alone_formed, formed_alone}
-use Rattle.rasn_lint.proofs.Holding.{AreUnknownOnes, chosen_one, count_apart, Along, IsLeft, HoldsWritten, HoldsComponent, HoldsComponents, HoldsMember, HoldsInside, Holds, own_missing}
+use Rattle.rasn_lint.proofs.Wholes.{wholes_formed, all_well_formed}
+use Rattle.rasn_lint.proofs.Holding.{chosen_one, count_apart, Along, IsLeft, HoldsWritten, HoldsComponent, HoldsComponents, HoldsMember, HoldsInside, Holds, own_missing}
 
 -- ---- lists
+
+all_split : {X : Type 0} (P : X → Type 0) (a b : List X)
+    → AllByRecursion P (a ++ b) → AllByRecursion P a × AllByRecursion P b
+all_split P [] b h = (tt, h)
+all_split P (x ∷ a) b (p, h) = let r = all_split P a b h in ((p, r.0), r.1)
+
+all_both : {X : Type 0} (P : X → Type 0) (a b : List X)
+    → AllByRecursion P a → AllByRecursion P b → AllByRecursion P (a ++ b)
+all_both P [] b h k = k
+all_both P (x ∷ a) b (p, h) k = (p, all_both P a b h k)
 
 alone : (P : Tree → Type 0) (ts : List Tree) → AllByRecursion P ts → Each (λ t u. P t) ts ts
 alone P [] h = refl
@@ -91,6 +97,17 @@ one_in k t u rs o h = go (in_either (chosen k u) o.before (chosen k t ∷ o.afte
     go (inl h) = absurd (none_in k u o.before o.none_before h)
     go (inr (inl e)) = (chosen_one k k u t e).1
     go (inr (inr h)) = absurd (none_in k u o.after o.none_after h)
+
+all_in : (P : Tree → Type 0) (k : ℕ) (u : Tree) (rs us : List Tree)
+    → AllOf k rs us → In (chosen k u) rs → AllByRecursion P us → P u
+all_in P k u [] us a i all = absurd i
+all_in P k u (r ∷ rs) us (inl (v, more, e, is, a)) (inl q) all =
+    let same : v ≡ u = (chosen_one k k v u (sym e ∙ sym q)).1 in
+    subst P same (subst (AllByRecursion P) is all).0
+all_in P k u (r ∷ rs) us (inl (v, more, e, is, a)) (inr i) all =
+    all_in P k u rs more a i (subst (AllByRecursion P) is all).1
+all_in P k u (r ∷ rs) us (inr (n, a)) (inl q) all = absurd (n u (sym q))
+all_in P k u (r ∷ rs) us (inr (n, a)) (inr i) all = all_in P k u rs us a i all
 
 -- Each element of a list is at its place in another, which may be longer.
 abbrev IsFront : List Tree → List Tree → Type 0
@@ -153,32 +170,20 @@ each_last R [] (c ∷ b) x y (v, more, e, r, h) = let rest : b ++ y ∷ [] ≡ m
 each_last R (d ∷ a) [] x y (v, more, e, r, h) = let rest : more ≡ [] = cc in last_some R a x (subst (Each R (a ++ x ∷ [])) rest h)
 each_last R (d ∷ a) (c ∷ b) x y (v, more, e, r, h) = let rest : more ≡ b ++ y ∷ [] = cc in each_last R a b x y (subst (Each R (a ++ x ∷ [])) rest h)
 
--- Unknown values that are the same have the same octets.
-same_octets : (xs ys : List (List ℕ)) → Same (items (map numbers xs)) (items (map numbers ys)) → xs ≡ ys
-same_octets xs ys s =
-    let (us, j, each) = items_alike (map numbers xs) (items (map numbers ys)) s in
-    numbers_one xs ys (sym (same_numbers xs us each) ∙ sym (items_one (map numbers ys) us j))
-
-module _ (ps : Parts) where
-  ones_well : (xs zs : List (List ℕ)) → AllByRecursion (CompleteEncoding Ber) xs → AreUnknownOnes ps xs zs → EachFormed (IsNamed ps) xs → AllByRecursion IsWellFormed zs
-  ones_well [] zs ws e each = subst (AllByRecursion IsWellFormed) (sym e) tt
-  ones_well (x ∷ xs) zs (w, ws) (inl (named, on)) (h, each) = ones_well xs zs ws on each
-  ones_well (x ∷ xs) zs (w, ws) (inr (apart, more, e, on)) (h, each) = subst (AllByRecursion IsWellFormed) (sym e) (alone_formed x w (h apart), ones_well xs more ws on each)
-
-  well_ones : (xs zs : List (List ℕ)) → AreUnknownOnes ps xs zs → AllByRecursion IsWellFormed zs → EachFormed (IsNamed ps) xs
-  well_ones [] zs e all = tt
-  well_ones (x ∷ xs) zs (inl (named, on)) all = ((λ apart. absurd (apart named)), well_ones xs zs on all)
-  well_ones (x ∷ xs) zs (inr (apart, more, e, on)) all = let own = subst (AllByRecursion IsWellFormed) e all in ((λ other. formed_alone x own.0), well_ones xs more on own.1)
-
 -- ---- open types in a tree
 
 module _ (F : ℕ → Tree → Type 0) where
   abbrev pub FormedComponents : List Component → List Tree → Type 0
   FormedComponents ps ts = (k : ℕ) (p : Component) (t : Tree) → Some p ≡ slice_get ps k → Some t ≡ slice_get ts k → IsLeft (presence_of p.presence) t ⊎ F p.type_id.0 t
 
-  -- The unknown components of a SET, if there may be some, are its last tree.
-  abbrev pub FormedUnknown : Bool → Tree → Type 0
-  FormedUnknown extensible t = (ts : List Tree) (zs : List (List ℕ)) → extensible ≡ true → t ≡ items (ts ++ (items (map numbers zs) ∷ [])) → AllByRecursion IsWellFormed zs
+  -- Each is unknown values of the type other: one.
+  abbrev pub AreFormedAlone : ℕ → List Tree → Type 0
+  AreFormedAlone other us = AllByRecursion (λ u. F other (items (u ∷ []))) us
+
+  -- The unknown components of a SET, if there may be some, are in its last tree.
+  abbrev pub FormedUnknown : Bool → ℕ → Tree → Type 0
+  FormedUnknown extensible other t = (ts us : List Tree) → extensible ≡ true
+      → t ≡ items (ts ++ (items us ∷ [])) → AreFormedAlone other us
 
   -- f gives the shape of the type with a number.
   abbrev pub FormedIn : (ℕ → Shape) → «Type» → Tree → Type 0
@@ -189,7 +194,8 @@ module _ (F : ℕ → Tree → Type 0) where
   FormedIn f (Tagged tag id) t = F id.0 t
   FormedIn f (Choice name ks) t = (k : ℕ) (a : Alternative) (u : Tree) → Some a ≡ slice_get ks.items k → t ≡ chosen k u → F a.type_id.0 u
   FormedIn f (Sequence tag ps) t = (ts : List Tree) → t ≡ items ts → FormedComponents ps.items ts
-  FormedIn f (Set name tag ps) t = ((ts : List Tree) → t ≡ items ts → FormedComponents (named_components f ps.items) ts) × FormedUnknown (is_extensible f ps.items) t
+  FormedIn f (Set name tag ps) t = ((ts : List Tree) → t ≡ items ts → FormedComponents (named_components f ps.items) ts)
+      × FormedUnknown (is_extensible f ps.items) (last_type ps.items) t
   FormedIn f (SequenceOf tag id c) t = (ts : List Tree) → t ≡ items ts → AllByRecursion (F id.0) ts
   FormedIn f (SetOf tag id c) t = (ts : List Tree) → t ≡ set_elements (items ts) → AllByRecursion (F id.0) ts
 
@@ -240,14 +246,14 @@ module _ (rule : Codec) (f : ℕ → Shape) (H : ℕ → Tree → List Span → 
   along_at R [] b r es (mine, others, is, h, more) q = (mine, h, (all_split Q mine others (subst (AllByRecursion Q) is q)).0)
   along_at R (x ∷ a) b r es (mine, others, is, h, more) q = along_at R a b r others more (all_split Q mine others (subst (AllByRecursion Q) is q)).1
 
-  members_kept : (ps : List Component) (rs ts full us : List Tree) (es : List Span) → IsFront ts full → ByPart 0 (presences (components_by f ps)) rs ts → Along (HoldsMember rule f H ps) rs es → AllByRecursion Q es → Each Same full us
+  members_kept : (ps : List Component) (other : ℕ) (rs ts full us : List Tree) (es : List Span) → IsFront ts full → ByPart 0 (presences (components_by f ps)) rs ts → Along (HoldsMember rule f H ps other) rs es → AllByRecursion Q es → Each Same full us
       → FormedComponents F ps us
-  members_kept ps rs ts full us es front by along q each k p u at found = go (by_part_at f ps 0 k rs ts p at by)
+  members_kept ps other rs ts full us es front by along q each k p u at found = go (by_part_at f ps 0 k rs ts p at by)
     where
       read : (t : Tree) → Same t u → OneOf (0 + k) t rs → F p.type_id.0 u
-      read t s o = member (along_at (HoldsMember rule f H ps) o.before o.after (chosen (0 + k) t) es (subst (λ z. Along (HoldsMember rule f H ps) z es) o.is along) q)
+      read t s o = member (along_at (HoldsMember rule f H ps other) o.before o.after (chosen (0 + k) t) es (subst (λ z. Along (HoldsMember rule f H ps other) z es) o.is along) q)
         where
-          member : (mine : List Span) × HoldsMember rule f H ps (chosen (0 + k) t) mine × AllByRecursion Q mine → F p.type_id.0 u
+          member : (mine : List Span) × HoldsMember rule f H ps other (chosen (0 + k) t) mine × AllByRecursion Q mine → F p.type_id.0 u
           member (mine, inr (v, e, n), all) = absurd (count_apart f ps k p at (let o = chosen_one (0 + k) (count (components_by f ps)) t v e in omega (arith, o.0)))
           member (mine, inl (j, c, v, found, e, h), all) =
               let o = chosen_one (0 + k) j t v e in
@@ -259,44 +265,70 @@ module _ (rule : Codec) (f : ℕ → Shape) (H : ℕ → Tree → List Span → 
       go (t, here, inl o) = inr (read t (beside Same full us k t u each (front k t here) found) o)
       go (t, here, inr (n, m)) = inl (left_same p.presence t u (own_missing (key_of (f p.type_id.0)) p.presence t m) (beside Same full us k t u each (front k t here) found))
 
+  -- Those that are unknown.
+  unknown_kept : (ps : List Component) (other : ℕ) (rs us vs : List Tree) (es : List Span)
+      → AllOf (count (components_by f ps)) rs us → Along (HoldsMember rule f H ps other) rs es → AllByRecursion Q es
+      → Each Same us vs → AreFormedAlone F other vs
+  unknown_kept ps other [] us vs es e along q each =
+      let none : vs ≡ [] = subst (λ z. Each Same z vs) e each in subst (AreFormedAlone F other) (sym none) tt
+  unknown_kept ps other (r ∷ rs) us vs es (inr (n, a)) (mine, others, is, h, more) q each =
+      unknown_kept ps other rs us vs others a more (all_split Q mine others (subst (AllByRecursion Q) is q)).1 each
+  unknown_kept ps other (r ∷ rs) us vs es (inl (u, rest, e, k, a)) (mine, others, is, h, more) q each =
+      let (v, ws, i, s, m) = subst (λ z. Each Same z vs) k each in
+      let both = all_split Q mine others (subst (AllByRecursion Q) is q) in
+      subst (AreFormedAlone F other) (sym i) (one v s h both.0, unknown_kept ps other rs rest ws others a more both.1 m)
+    where
+      number : ℕ
+      number = count (components_by f ps)
+
+      one : (v : Tree) → Same u v → HoldsMember rule f H ps other r mine → AllByRecursion Q mine
+          → F other (items (v ∷ []))
+      one v s (inl (j, p, w, at, g, h)) q = absurd (count_apart f ps j p at (chosen_one j number w u (sym g ∙ e)).0)
+      one v s (inr (w, g, h)) q =
+          let same : u ≡ w = sym (chosen_one number number w u (sym g ∙ e)).1 in
+          below other (items (w ∷ [])) mine h q (items (v ∷ [])) (v, items [], refl, subst (λ z. Same z v) same s, refl)
+
   inside_kept : (ty : «Type») (e : Span) (t : Tree) (es : List Span) → HoldsInside rule f H ty e t es → ((tag : Tag) (x : List ℕ) → ty ≡ Any tag → HasOpen tag e.octets.now x → IsWellFormed x)
-      → (ty ≡ Unknown → AreEncodings e.octets.now) → IsSetFormed f ty e → AllByRecursion Q es → (u : Tree) → Same t u → FormedIn F f ty u
-  inside_kept (Leaf kind tag c names) e t es h w v z q u s = tt
-  inside_kept (Enumerated tag ns) e t es h w v z q u s = tt
-  inside_kept (Any tag) e t es h w v z q u s = λ x i. let back = same_sym t u s in w tag x refl ((h.1 x).0 (subst (λ z. Same z t) i back))
-  inside_kept Unknown e t es (n, (xs, i, p, all)) w v z q u s = λ ys g.
+      → (ty ≡ Unknown → AreEncodings e.octets.now) → AllByRecursion Q es → (u : Tree) → Same t u → FormedIn F f ty u
+  inside_kept (Leaf kind tag c names) e t es h w v q u s = tt
+  inside_kept (Enumerated tag ns) e t es h w v q u s = tt
+  inside_kept (Any tag) e t es h w v q u s = λ x i. let back = same_sym t u s in w tag x refl ((h.1 x).0 (subst (λ z. Same z t) i back))
+  inside_kept Unknown e t es (n, (xs, i, p, all)) w v q u s = λ ys g.
       let (us, j, each) = items_alike (map numbers xs) u (subst (λ z. Same z u) i s) in
       let same : map numbers xs ≡ map numbers ys = sym (same_numbers xs us each) ∙ items_one us (map numbers ys) (sym j ∙ g) in
       let (ps, at, formed) = v refl in
       subst (AllByRecursion IsWellFormed) (numbers_one xs ys same) (wholes_formed xs ps all formed (sym p ∙ at))
-  inside_kept (Tagged tag id) e t es h w v z q u s = below id.0 t es h q u s
-  inside_kept (Choice name ks) e t es (k, a, v, at, i, h) w m z q u s = go (subst (λ z. Same z u) i s)
+  inside_kept (Tagged tag id) e t es h w v q u s = below id.0 t es h q u s
+  inside_kept (Choice name ks) e t es (k, a, v, at, i, h) w m q u s = go (subst (λ z. Same z u) i s)
     where
       go : Same (chosen k v) u → FormedIn F f (Choice name ks) u
       go (x, g, s) = λ j c y found e.
           let o = chosen_one k j x y (sym g ∙ e) in
           let same : a ≡ c = some_is a c (at ∙ (ap (slice_get ks.items) o.0 ∙ sym found)) in
           subst (λ (b : Alternative). F b.type_id.0 y) same (subst (F a.type_id.0) o.1 (below a.type_id.0 v es h q x s))
-  inside_kept (Sequence tag ps) e t es (ts, i, h) w v z q u s = λ vs g.
+  inside_kept (Sequence tag ps) e t es (ts, i, h) w v q u s = λ vs g.
       let (us, j, each) = items_alike ts u (subst (λ z. Same z u) i s) in
       subst (FormedComponents F ps.items) (items_one us vs (sym j ∙ g)) (components_kept ps.items ts us es h q each)
-  inside_kept (Set name tag ps) e t es (rs, ts, unknown, i, by, (xs, zs, has, ws, on, own), along) w v z q u s = (
+  inside_kept (Set name tag ps) e t es (rs, ts, others, i, by, unknown, along) w v q u s = (
     λ vs g.
-        let (full, k, front) = set_list (is_extensible f ps.items) ts unknown t i in
+        let (full, k, front) = set_list (is_extensible f ps.items) ts others t i in
         let (us, j, each) = items_alike full u (subst (λ x. Same x u) k s) in
         let named = named_components f ps.items in
-        subst (FormedComponents F named) (items_one us vs (sym j ∙ g)) (members_kept named rs ts full us es front by along q each),
-    λ before ys extensible g.
-        let all : t ≡ items (ts ++ (items unknown ∷ [])) = subst (λ b. IsSetTree b ts unknown t) extensible i in
-        let (us, j, each) = items_alike (ts ++ (items unknown ∷ [])) u (subst (λ x. Same x u) all s) in
-        let ends = subst (Each Same (ts ++ (items unknown ∷ []))) (items_one us (before ++ (items (map numbers ys) ∷ [])) (sym j ∙ g)) each in
-        let same = subst (λ l. Same (items l) (items (map numbers ys))) own (each_last Same ts before (items unknown) (items (map numbers ys)) ends) in
-        subst (AllByRecursion IsWellFormed) (same_octets zs ys same) (ones_well (components_by f (named_components f ps.items)) xs zs ws on (z xs has ws extensible)),
+        let kept = members_kept named (last_type ps.items) rs ts full us es front by along q each in
+        subst (FormedComponents F named) (items_one us vs (sym j ∙ g)) kept,
+    λ before vs extensible g.
+        let full = ts ++ (items others ∷ []) in
+        let all : t ≡ items full = subst (λ b. IsSetTree b ts others t) extensible i in
+        let (us, j, each) = items_alike full u (subst (λ x. Same x u) all s) in
+        let ends = subst (Each Same full) (items_one us (before ++ (items vs ∷ [])) (sym j ∙ g)) each in
+        let (ws, k, alike) = items_alike others (items vs) (each_last Same ts before (items others) (items vs) ends) in
+        let same = subst (Each Same others) (sym (items_one vs ws k)) alike in
+        unknown_kept (named_components f ps.items) (last_type ps.items) rs others vs es unknown along q same,
   )
-  inside_kept (SequenceOf tag id c) e t es (ts, i, along) w v z q u s = λ vs g.
+  inside_kept (SequenceOf tag id c) e t es (ts, i, along) w v q u s = λ vs g.
       let (us, j, each) = items_alike ts u (subst (λ z. Same z u) i s) in
       subst (AllByRecursion (F id.0)) (items_one us vs (sym j ∙ g)) (each_kept id.0 ts us es along q each)
-  inside_kept (SetOf tag id c) e t es (ts, i, along) w v z q u s = λ vs g. go vs g (subst (λ z. Same z u) i s)
+  inside_kept (SetOf tag id c) e t es (ts, i, along) w v q u s = λ vs g. go vs g (subst (λ z. Same z u) i s)
     where
       go : (vs : List Tree) → u ≡ set_elements (items vs) → Same (set_elements (items ts)) u → AllByRecursion (F id.0) vs
       go vs g (xs, ys, j, order, s) =
@@ -312,15 +344,15 @@ formed_part types id e ty i at w tag x g has = w.0 tag x (ap (slice_get types) i
 formed_unknown : (types : List «Type») (id : ℕ) (e : Span) (ty : «Type») → e.id.0 ≡ id → slice_get types id ≡ Some ty → HasFormed types e → ty ≡ Unknown → AreEncodings e.octets.now
 formed_unknown types id e ty i at w g = w.1 (ap (slice_get types) i ∙ (at ∙ ap Some g))
 
-pub kept : (rule : Codec) (types : List «Type») (n id : ℕ) (t : Tree) (es : List Span) → Holds rule types n id t es → AllByRecursion (IsFormedWith types) es → (u : Tree) → Same t u → FormedTree types n id u
+pub kept : (rule : Codec) (types : List «Type») (n id : ℕ) (t : Tree) (es : List Span) → Holds rule types n id t es → AllByRecursion (HasFormed types) es → (u : Tree) → Same t u → FormedTree types n id u
 unfolding Holds FormedTree
 kept rule types zero id t es h q u s = tt
 kept rule types (suc n) id t es (e, inside, is, i, deep, ty, at, h) q u s = λ tz found.
-    let all = subst (AllByRecursion (IsFormedWith types)) is q in
+    let all = subst (AllByRecursion (HasFormed types)) is q in
     let same : ty ≡ tz = some_is ty tz (sym at ∙ found) in
     subst (λ z. FormedIn (λ k u. FormedTree types n k u) (shape_of_type types n) z u) same
-    (inside_kept rule (shape_of_type types n) (λ k u more. Holds rule types n k u more) (λ k u. FormedTree types n k u) (IsFormedWith types) (λ k t es h q u s. kept rule types n k t es h q u s)
-    ty e t inside h (formed_part types id e ty i at all.0.0) (formed_unknown types id e ty i at all.0.0) (set_formed types n e deep ty (ap (slice_get types) i ∙ at) all.0) all.1 u s)
+    (inside_kept rule (shape_of_type types n) (λ k u more. Holds rule types n k u more) (λ k u. FormedTree types n k u) (HasFormed types) (λ k t es h q u s. kept rule types n k t es h q u s)
+    ty e t inside h (formed_part types id e ty i at all.0) (formed_unknown types id e ty i at all.0) all.1 u s)
 
 -- ---- parts of a value whose open types are well formed, as DER writes them
 
@@ -344,11 +376,14 @@ module _ (f : ℕ → Shape) (H : ℕ → Tree → List Span → Type 0) (F : �
       one (inr (h, n)) (inl l) = absurd (n tt l)
       one (inr (h, n)) (inr g) = below p.type_id.0 t mine h g
 
-  members_formed : (ps : List Component) (rs ts full : List Tree) → IsFront ts full → ByPart 0 (presences (components_by f ps)) rs ts → FormedComponents F ps full
-      → (qs : List Tree) → ((r : Tree) → In r qs → In r rs) → (es : List Span) → Along (HoldsMember Der f H ps) qs es → AllByRecursion Q es
-  members_formed ps rs ts full front by a [] within es h = none_formed es h
-  members_formed ps rs ts full front by a (r ∷ qs) within es (mine, others, is, h, more) =
-      subst (AllByRecursion Q) (sym is) (all_both Q mine others (member h) (members_formed ps rs ts full front by a qs (λ x i. within x (inr i)) others more))
+  members_formed : (ps : List Component) (other : ℕ) (rs ts us full : List Tree) → IsFront ts full
+      → ByPart 0 (presences (components_by f ps)) rs ts → FormedComponents F ps full
+      → AllOf (count (components_by f ps)) rs us → AreFormedAlone F other us → (qs : List Tree)
+      → ((r : Tree) → In r qs → In r rs) → (es : List Span) → Along (HoldsMember Der f H ps other) qs es → AllByRecursion Q es
+  members_formed ps other rs ts us full front by a all unknown [] within es h = none_formed es h
+  members_formed ps other rs ts us full front by a all unknown (r ∷ qs) within es (mine, others, is, h, more) =
+      let later = members_formed ps other rs ts us full front by a all unknown qs (λ x i. within x (inr i)) others more in
+      subst (AllByRecursion Q) (sym is) (all_both Q mine others (member h) later)
     where
       one : (k : ℕ) (p : Component) (u : Tree) → Some p ≡ slice_get ps k → r ≡ chosen k u → HoldsWritten Der f H p u mine
           → (t : Tree) × (Some t ≡ slice_get ts k) × (OneOf (0 + k) t rs ⊎ (NoneOf (0 + k) rs × IsMissing (presence_in f p) t)) → AllByRecursion Q mine
@@ -365,9 +400,17 @@ module _ (f : ℕ → Shape) (H : ℕ → Tree → List Span → Type 0) (F : �
           go (inr (n, m)) = absurd (none_in (0 + k) u rs n read)
           go (inl o) = formed (a k p u at (front k u (ap Some (one_in (0 + k) t u rs o read) ∙ here)))
 
-      member : HoldsMember Der f H ps r mine → AllByRecursion Q mine
-      member (inr (u, e, n)) = none_formed mine n
+      member : HoldsMember Der f H ps other r mine → AllByRecursion Q mine
+      member (inr (u, e, h)) =
+          let read : In (chosen (count (components_by f ps)) u) rs = subst (λ z. In z rs) e (within r (inl refl)) in
+          let own = all_in (λ v. F other (items (v ∷ []))) (count (components_by f ps)) u rs us all read unknown in
+          below other (items (u ∷ [])) mine h own
       member (inl (k, p, u, at, e, h)) = one k p u at e h (by_part_at f ps 0 k rs ts p at by)
+
+  set_unknown : (extensible : Bool) (other : ℕ) (ts us : List Tree) (t : Tree) → IsSetTree extensible ts us t
+      → FormedUnknown F extensible other t → AreFormedAlone F other us
+  set_unknown true other ts us t i a = a ts us refl i
+  set_unknown false other ts us t (n, i) a = subst (AreFormedAlone F other) (sym n) tt
 
   inside_formed : (ty : «Type») (e : Span) (t : Tree) (es : List Span) → HoldsInside Der f H ty e t es → FormedIn F f ty t → AllByRecursion Q es
   inside_formed (Leaf kind tag c names) e t es h a = none_formed es h
@@ -377,9 +420,11 @@ module _ (f : ℕ → Shape) (H : ℕ → Tree → List Span → Type 0) (F : �
   inside_formed (Tagged tag id) e t es h a = below id.0 t es h a
   inside_formed (Choice name ks) e t es (k, c, u, at, i, h) a = below c.type_id.0 u es h (a k c u at i)
   inside_formed (Sequence tag ps) e t es (ts, i, h) a = components_formed ps.items ts es h (a ts i)
-  inside_formed (Set name tag ps) e t es (rs, ts, us, i, by, held, along) a =
+  inside_formed (Set name tag ps) e t es (rs, ts, us, i, by, all, along) a =
       let (full, j, front) = set_list (is_extensible f ps.items) ts us t i in
-      members_formed (named_components f ps.items) rs ts full front by (a.0 full j) rs (λ r h. h) es along
+      let unknown = set_unknown (is_extensible f ps.items) (last_type ps.items) ts us t i a.1 in
+      let named = named_components f ps.items in
+      members_formed named (last_type ps.items) rs ts us full front by (a.0 full j) all unknown rs (λ r h. h) es along
   inside_formed (SequenceOf tag id c) e t es (ts, i, along) a = each_formed id.0 ts es along (a ts i)
   inside_formed (SetOf tag id c) e t es (ts, i, along) a = each_formed id.0 ts es along (a ts i)
 
@@ -410,25 +455,7 @@ unknown_formed f H F (Set name t0 ps) e t es h a g = absurd cc
 unknown_formed f H F (SequenceOf t0 id c) e t es h a g = absurd cc
 unknown_formed f H F (SetOf t0 id c) e t es h a g = absurd cc
 
--- Each of the unknown components of the SET is well formed.
-holds_formed : (f : ℕ → Shape) (H : ℕ → Tree → List Span → Type 0) (F : ℕ → Tree → Type 0) (ty : «Type») (e : Span) (t : Tree) (es : List Span) → HoldsInside Der f H ty e t es → FormedIn F f ty t → HoldsFormed f ty e
-holds_formed f H F (Set name tag ps) e t es (rs, ts, us, i, by, (xs, zs, has, ws, on, own), along) a =
-    (xs, has, ws, well_ones (components_by f (named_components f ps.items)) xs zs on (go (is_extensible f ps.items) refl))
-  where
-    go : (b : Bool) → is_extensible f ps.items ≡ b → AllByRecursion IsWellFormed zs
-    go true e = a.1 ts zs e (subst (λ b. IsSetTree b ts us t) e i ∙ ap (λ l. items (ts ++ (items l ∷ []))) own)
-    go false e = let none : zs ≡ [] = numbers_one zs [] (sym own ∙ (subst (λ b. IsSetTree b ts us t) e i).0) in subst (AllByRecursion IsWellFormed) (sym none) tt
-holds_formed f H F (Leaf kind tag c names) e t es h a = tt
-holds_formed f H F (Enumerated tag ns) e t es h a = tt
-holds_formed f H F (Any tag) e t es h a = tt
-holds_formed f H F (Tagged tag id) e t es h a = tt
-holds_formed f H F (Choice name ks) e t es h a = tt
-holds_formed f H F (Sequence tag ps) e t es h a = tt
-holds_formed f H F (SequenceOf tag id c) e t es h a = tt
-holds_formed f H F (SetOf tag id c) e t es h a = tt
-holds_formed f H F Unknown e t es h a = tt
-
-pub formed : (types : List «Type») (n id : ℕ) (t : Tree) (es : List Span) → Holds Der types n id t es → FormedTree types n id t → AllByRecursion (HasAllFormed types) es
+pub formed : (types : List «Type») (n id : ℕ) (t : Tree) (es : List Span) → Holds Der types n id t es → FormedTree types n id t → AllByRecursion (HasFormed types) es
 unfolding Holds FormedTree
 formed types zero id t es h a = absurd h
 formed types (suc n) id t es (e, inside, is, i, deep, ty, at, h) a =
@@ -438,6 +465,5 @@ formed types (suc n) id t es (e, inside, is, i, deep, ty, at, h) a =
           (some_is ty (Any tag) (sym at ∙ (ap (slice_get types) (sym i) ∙ found))) has,
       λ found. unknown_formed (shape_of_type types n) (λ k u more. Holds Der types n k u more) (λ k u. FormedTree types n k u) ty e t inside h own (some_is ty Unknown (sym at ∙ (ap (slice_get types) (sym i) ∙ found))),
     ) in
-    let sets = all_formed_of types n e deep ty (ap (slice_get types) i ∙ at) (holds_formed (shape_of_type types n) (λ k u more. Holds Der types n k u more) (λ k u. FormedTree types n k u) ty e t inside h own) in
-    subst (AllByRecursion (HasAllFormed types)) (sym is)
-    ((mine, sets), inside_formed (shape_of_type types n) (λ k u more. Holds Der types n k u more) (λ k u. FormedTree types n k u) (HasAllFormed types) (λ k t es h a. formed types n k t es h a) ty e t inside h own)
+    subst (AllByRecursion (HasFormed types)) (sym is)
+    (mine, inside_formed (shape_of_type types n) (λ k u more. Holds Der types n k u more) (λ k u. FormedTree types n k u) (HasFormed types) (λ k t es h a. formed types n k t es h a) ty e t inside h own)

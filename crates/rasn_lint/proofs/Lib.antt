@@ -18,10 +18,8 @@ pub mod Wholes
 pub mod Shown
 pub mod Listed
 pub mod Clean
-pub mod Passed
 pub mod Holding
 pub mod Kept
-pub mod OpenSets
 pub mod Anew
 pub mod WorkedDepartures
 pub mod WorkedList

@@ -1,5 +1,5 @@
 -- Whole encodings, one after the other, are told apart in one way.
-use Rattle.std.proofs.Common.{◌≡◌, ◌⊎◌, inl, inr, ℕ, zero, suc, List, [], ◌∷◌, ◌++◌, length, Bool, true, false, refl, sym, ap, ◌∙◌, subst, arith, append-nil}
+use Rattle.std.proofs.Common.{◌≡◌, ◌⊎◌, inl, inr, ℕ, zero, suc, List, [], ◌∷◌, ◌++◌, length, Bool, true, false, refl, sym, ap, ◌∙◌, subst, arith}
 use Rattle.std.proofs.lemmas.List.{append_cancel_right}
 use Rattle.std.specs.List.{AllByRecursion}
 use Rattle.rasn_types.specs.declared.types.codec.Codec.TheVariants.{Ber}
@@ -9,7 +9,7 @@ use Rattle.rasn_types.specs.Framing.{Frame, with_length, definite, CompleteEncod
 use Rattle.rasn_types.specs.Tags.{basic_form, der_form}
 use Rattle.rasn_types.proofs.Encoding.Complete.{whole_one, whole_text_one, steps_twice}
 use Rattle.rasn_lint.specs.Untyped.{IsFollowedBy, IsUnread, FollowsAfter, IsValueIn}
-use Rattle.rasn_lint.specs.WellFormed.{IsWellFormed, AreWellFormed, AreEncodings}
+use Rattle.rasn_lint.specs.WellFormed.{IsWellFormed, AreWellFormed}
 use Rattle.rasn_lint.specs.WellFormed.IsWellFormed.{primitive, constructed}
 use Rattle.rasn_lint.specs.WellFormed.AreWellFormed.{none, one_more}
 use Rattle.rasn_lint.specs.Listed.{IsOnlyRest}
@@ -36,13 +36,6 @@ wholes_formed (x ∷ xs) _ (w, all) (one_more {part = y} {parts = ys} f more) e 
     let text : x ≡ y = whole_text_one (joined_lists xs) (joined_lists ys) w v e in
     let after : joined_lists xs ≡ joined_lists ys = (whole_one (joined_lists xs) (joined_lists ys) w v e).0 in
     (subst IsWellFormed (sym text) f, wholes_formed xs ys all more after)
-
--- One that is well-formed encodings is well formed itself.
-pub alone_formed : (x : List ℕ) → CompleteEncoding Ber x → AreEncodings x → IsWellFormed x
-alone_formed x w (ps, e, all) = (wholes_formed (x ∷ []) ps (w, tt) all (append-nil x ∙ e)).0
-
-pub formed_alone : (x : List ℕ) → IsWellFormed x → AreEncodings x
-formed_alone x w = (x ∷ [], sym (append-nil x), one_more w none)
 
 pub all_well_formed : (xs : List (List ℕ)) → AllByRecursion IsWellFormed xs → AreWellFormed xs
 all_well_formed [] h = none

@@ -38,7 +38,6 @@ use Rattle.rasn_lint.specs.Listed.{DepartsItself, LeadsToOne, HasOne, HasAll}
 use Rattle.rasn_lint.specs.Universal.{rule_in}
 use Rattle.rasn_lint.proofs.Listed.{leads_nowhere, no_rest}
 use Rattle.rasn_lint.proofs.Opened.{definite_parts, followed_shorter}
-use Rattle.rasn_lint.proofs.OpenSets.{every_apart}
 use Rattle.rasn_lint.proofs.Wholes.{skipped_whole, value_formed, no_value, first_or_later}
 use Rattle.rasn_lint.proofs.Worked.{universal_id, boolean, no_boolean}
 
@@ -202,8 +201,7 @@ is_listed l =
     let read = unknown_read Ber 128 true (1 ∷ 1 ∷ 1 ∷ []) x.tree p.last.rest (subst (λ s. Reads Ber s 128 true (1 ∷ 1 ∷ 1 ∷ []) x.tree p.last.rest) unknown_shape x.reads.exact.0) in
     let rest : p.last.rest ≡ [] = (encodings_one Ber Ber true true (1 ∷ 1 ∷ 1 ∷ []) read.0 (numbers (1 ∷ 1 ∷ 1 ∷ []) ∷ []) p.last.rest [] read.2 one_value).1 in
     let octets : x.part.octets.now ≡ 1 ∷ 1 ∷ 1 ∷ [] = sym (append-nil x.part.octets.now) ∙ (ap (λ z. x.part.octets.now ++ z) (sym rest) ∙ sym x.octets) in
-    let named = (every_apart (Unknown ∷ []) (HasFormed (Unknown ∷ [])) l.parts.list.items l.every l.unnamed (l.clean.0 refl).1).0 in
-    let formed = subst (AllByRecursion (HasFormed (Unknown ∷ []))) x.is named in
+    let formed = subst (AllByRecursion (HasFormed (Unknown ∷ []))) x.is (l.clean.0 refl).1 in
     ill_formed_here x.part x.id_is octets formed.0
 
 wrong_boolean : LeadsToOne (0 ∷ []) (48 ∷ 3 ∷ 1 ∷ 1 ∷ 1 ∷ []) Contents

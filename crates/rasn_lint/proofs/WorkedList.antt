@@ -37,7 +37,6 @@ use Rattle.rasn_lint.specs.Judged.{IsSiteAt, IsDepartureAt, AreListed, AreFaults
 use Rattle.rasn_lint.specs.Leaf.{IsMended, IsContentsFault}
 use Rattle.rasn_lint.specs.Lint.{IsDer, AreAll, IsLint, offset_of}
 use Rattle.rasn_lint.specs.Place.{der_error, order_if, default_if, type_of, IsOrderFault, IsDefaultFault}
-use Rattle.rasn_lint.specs.OpenSets.{AreUnnamedBy, AreUnnamed}
 use Rattle.rasn_lint.specs.Trail.{holder_in, before_in, step_before}
 use Rattle.rasn_lint.specs.WorkedMessages.{a_boolean, short_true, long_true, IsLongAlone, IsOfLongLength}
 use Rattle.rasn.proofs.Worked.StrictLeaves.{long_length}
@@ -101,10 +100,6 @@ module _ (names : Vec NamedNumber Global) (shape_is : shape_of (a_boolean names)
       one_placed : (k : ℕ) (x : Span) → k < 1 → IsPlaced long_true (slice_index_or (e ∷ []) k x)
       one_placed zero x h = placed e a.octets a.left
       one_placed (suc k) x h = absurd (omega (arith, h))
-
-  -- Its type is none of a SET.
-  none_unnamed : AreUnnamed types ps.list.items []
-  none_unnamed = subst (λ l. AreUnnamed types l []) (sym a.list) ([], [], refl, subst (λ i. AreUnnamedBy types e (slice_get types i) []) (sym a.id) refl, refl)
 
   -- ---- what departs
 
@@ -186,8 +181,6 @@ module _ (names : Vec NamedNumber Global) (shape_is : shape_of (a_boolean names)
     parts = ps;
     are_parts = are_parts;
     whole = refl;
-    every = ps.list.items;
-    unnamed = ([], none_unnamed, inl (refl, refl));
     found = d ∷ [];
     all = are_all;
     same = IsPermutation-refl (d ∷ []);

@@ -21,14 +21,13 @@ use Rattle.rasn_dynamic.specs.Faults.{start}
 use Rattle.rasn_dynamic.specs.SameParts.{AreReadableTypes}
 use Rattle.rasn_lint.specs.declared.by_schema.OpenTypes.{OpenTypes}
 use Rattle.rasn_lint.specs.declared.by_schema.OpenTypes.TheVariants.{Unexamined, Examined}
-use Rattle.rasn_lint.specs.Lint.{IsDer, HasFormed, IsLint, IsFirstDeparture}
+use Rattle.rasn_lint.specs.Lint.{IsDer, IsLint, IsFirstDeparture}
 use Rattle.rasn_lint.specs.Universal.{rule_in}
 use Rattle.rasn_lint.specs.WellFormed.{IsWellFormed, none as no_more, one_more}
 use Rattle.rasn_lint.specs.WorkedReplies.{reply_types, AreOfReply, WorkedReplies}
 use Rattle.rasn_lint.proofs.Steps.{primitive_first}
 use Rattle.rasn_lint.proofs.Holding.{holds}
 use Rattle.rasn_lint.proofs.Kept.{FormedTree, kept}
-use Rattle.rasn_lint.proofs.OpenSets.{every_apart, with_each}
 
 among_three : (f : ℕ → Shape) (i j k : ℕ) → i ≡ 1 → j ≡ 2 → k ≡ 3
     → choice_among (part required (f i) (part required (f j) (part required (f k) none))) ≡ choice_among (part required (f 1) (part required (f 2) (part required (f 3) none)))
@@ -38,7 +37,7 @@ among_three f i j k p q r = ap (λ n. choice_among (part required (f n) (part re
 
 -- ---- 05 01 00
 
-null_frame : {spelling : Form} → Frame spelling (5 ∷ 1 ∷ 0 ∷ []) (in_universal 5) false [] (definite (0 ∷ []))
+pub null_frame : {spelling : Form} → Frame spelling (5 ∷ 1 ∷ 0 ∷ []) (in_universal 5) false [] (definite (0 ∷ []))
 null_frame = short 5 false (0 ∷ []) [] (omega arith) (omega arith) (omega arith)
 
 not_named : IsFirstOf known_alternatives (in_universal 5) → ⊥
@@ -53,7 +52,7 @@ null_read : (rule : Codec) → Reads rule extensible_choice 128 (top rule) (5 �
 unfolding Reads parts_of
 null_read rule = inr (numbers (5 ∷ 1 ∷ 0 ∷ []), refl, in_universal 5, frame_next null_frame, not_named, (5 ∷ 1 ∷ 0 ∷ [], refl, plain (in_universal 5) false (0 ∷ []) null_frame, refl))
 
-no_null : IsWellFormed (5 ∷ 1 ∷ 0 ∷ []) → ⊥
+pub no_null : IsWellFormed (5 ∷ 1 ∷ 0 ∷ []) → ⊥
 unfolding rule_in
 no_null h = let e = (primitive_first null_frame ((5 ∷ 1 ∷ 0 ∷ []) ∷ [], refl, one_more h no_more)).0 in cc
 
@@ -88,9 +87,7 @@ module _ (types : List «Type») (reply : AreOfReply types) where
   ill_formed readable l =
       let tree = subst (λ s. Reads Ber s 128 (top Ber) (5 ∷ 1 ∷ 0 ∷ []) null_tree []) (sym shape_is) (null_read Ber) in
       let h = holds Ber types readable 18446744073709551615 0 0 0 (start Ber (5 ∷ 1 ∷ 0 ∷ [])) l.are_parts.last l.parts.list.items l.are_parts.listed (top Ber) null_tree [] (omega arith, (omega arith, (omega arith, tt))) tree in
-      let both = every_apart types (HasFormed types) l.parts.list.items l.every l.unnamed (l.clean.0 refl).1 in
-      let formed = with_each types l.parts.list.items l.unnamed.0 both.0 l.unnamed.1 both.1 in
-      no_null (inside 18446744073709551613 (5 ∷ 1 ∷ 0 ∷ []) (kept Ber types 18446744073709551615 0 null_tree l.parts.list.items h formed null_tree (numbers (5 ∷ 1 ∷ 0 ∷ []), refl, refl)))
+      no_null (inside 18446744073709551613 (5 ∷ 1 ∷ 0 ∷ []) (kept Ber types 18446744073709551615 0 null_tree l.parts.list.items h (l.clean.0 refl).1 null_tree (numbers (5 ∷ 1 ∷ 0 ∷ []), refl, refl)))
 
   pub worked_replies : WorkedReplies types
   worked_replies = record {

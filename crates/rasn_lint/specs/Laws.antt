@@ -9,7 +9,6 @@ use Rattle.rasn_types.specs.declared.types.tag.Tag.{Tag}
 use Rattle.rasn_schema.specs.declared.types.«Type».{«Type»}
 use Rattle.rasn_schema.specs.declared.types.«Type».TheVariants.{Any, Unknown}
 use Rattle.rasn_dynamic.specs.declared.message.MessageParts.{MessageParts}
-use Rattle.rasn_dynamic.specs.declared.span.Span.{Span}
 use Rattle.rasn_dynamic.specs.Entry.{shape_of}
 use Rattle.rasn_dynamic.specs.Walk.{ArePartsOf}
 use Rattle.rasn_dynamic.specs.SameParts.{AreReadableTypes}
@@ -17,19 +16,20 @@ use Rattle.rasn_lint.specs.declared.by_schema.OpenTypes.{OpenTypes}
 use Rattle.rasn_lint.specs.declared.by_schema.OpenTypes.TheVariants.{Unexamined, Examined}
 use Rattle.rasn_lint.specs.declared.departure.Departure.{Departure}
 use Rattle.rasn_lint.specs.Lint.{AreFormed, IsLint, IsFirstDeparture}
-use Rattle.rasn_lint.specs.OpenSets.{HasUnnamed}
 
 -- The list of a normal encoding is empty if the octets of each open type and of each unknown value of the input are well
 -- formed, where they are looked into: the encoding has the same ones. The input is read by any rules.
 abbrev pub NormalIsClean : Type 0
 NormalIsClean = (opens : OpenTypes) (types : List «Type») (id : ℕ) (rule : Codec) (input octets : List ℕ) (ds : List Departure) (parts : MessageParts)
     → AreReadableTypes types → AreOctets input → AreOctets octets → IsNormal rule (shape_of types id) input octets
-    → ArePartsOf types rule id input parts → (every : List Span) → HasUnnamed types parts.list.items every → AreFormed opens types every → IsLint opens types id octets ds → ds ≡ []
+    → ArePartsOf types rule id input parts → AreFormed opens types parts.list.items
+    → IsLint opens types id octets ds → ds ≡ []
 
 -- The same where the open types and the unknown values of the encoding itself are well formed, whatever the types are.
 abbrev pub FormedIsClean : Type 0
 FormedIsClean = (opens : OpenTypes) (types : List «Type») (id : ℕ) (rule : Codec) (input octets : List ℕ) (ds : List Departure)
-    → IsNormal rule (shape_of types id) input octets → (l : IsLint opens types id octets ds) → AreFormed opens types l.every → ds ≡ []
+    → IsNormal rule (shape_of types id) input octets → (l : IsLint opens types id octets ds)
+    → AreFormed opens types l.parts.list.items → ds ≡ []
 
 -- Open types aren't looked into, or none of the types is one, or is unknown values.
 abbrev pub IsClosed : OpenTypes → List «Type» → Type 0

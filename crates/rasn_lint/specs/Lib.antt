@@ -12,7 +12,6 @@ pub mod Refusals
 pub mod Untyped
 pub mod Open
 pub mod Listed
-pub mod OpenSets
 pub mod Judged
 pub mod Lint
 pub mod Shown

@@ -24,7 +24,6 @@ use Rattle.rasn_lint.specs.declared.departure.Departure.{Departure}
 use Rattle.rasn_lint.specs.Judged.{AreJudged}
 use Rattle.rasn_lint.specs.Open.{IsInside, IsOfUnknown}
 use Rattle.rasn_lint.specs.Refusals.{aspect_of}
-use Rattle.rasn_lint.specs.OpenSets.{HasUnnamed}
 use Rattle.rasn_lint.specs.Untyped.{HasOpen}
 use Rattle.rasn_lint.specs.WellFormed.{IsWellFormed, AreEncodings}
 
@@ -86,13 +85,11 @@ pub record IsLint (opens : OpenTypes) (types : List «Type») (id : ℕ) (input 
   pub parts : MessageParts
   pub are_parts : ArePartsOf types Ber id input parts
   pub whole : are_parts.last.rest ≡ []
-  pub every : List Span
-  pub unnamed : HasUnnamed types parts.list.items every
   pub found : List Departure
-  pub all : AreAll opens types id input every found
+  pub all : AreAll opens types id input parts.list.items found
   pub same : IsPermutation found ds
   pub in_order : IsNonDecreasingBy offset_of ds
-  pub clean : (ds ≡ []) ↔ IsClean opens types id input every
+  pub clean : (ds ≡ []) ↔ IsClean opens types id input parts.list.items
 
 -- BER doesn't read the message, or memory ran out; or octets follow the value that BER reads.
 abbrev pub IsNoLint : List «Type» → ℕ → List ℕ → LintError → Type 0
@@ -100,10 +97,11 @@ IsNoLint types id input (Refused r) = IsOutOfMemory r.error.kind ⊎ IsLocated t
 IsNoLint types id input (Remainder n) = (t : Tree) × (rest : List ℕ) × Reads Ber (shape_of types id) 128 (top Ber) input t rest × (length rest ≡ n) × (rest ≢ [])
 IsNoLint types id input OutOfMemory = Unit {0}
 
--- What is looked into, if DER reads the message: the parts of that reading, and the components of SETs that aren't named.
+-- What is looked into, if DER reads the message: the parts of that reading.
 abbrev pub AreLookedInto : OpenTypes → List «Type» → ℕ → List ℕ → (List Span → Type 0) → Type 0
 AreLookedInto Unexamined types id input P = Unit {0}
-AreLookedInto Examined types id input P = (parts : MessageParts) × ArePartsOf types Der id input parts × (every : List Span) × HasUnnamed types parts.list.items every × P every
+AreLookedInto Examined types id input P =
+    (parts : MessageParts) × ArePartsOf types Der id input parts × P parts.list.items
 
 -- The octets of the part's open type aren't well formed, and the departure is inside them; or the part is unknown values of
 -- which one isn't.

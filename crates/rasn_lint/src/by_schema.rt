@@ -6,14 +6,11 @@ ghost use Rattle.rasn_lint.specs.Judged.{TypedUnless, OpenIf, AreOfPart, AreJudg
 ghost use Rattle.rasn_lint.specs.Listed.{HasAllIf};
 ghost use Rattle.rasn_lint.specs.Refusals.{aspect_of};
 ghost use Rattle.rasn_lint.specs.Lint.{IsDerOrNot, IsRemainderOf, AreAll, offset_of, IsLint, IsNoLint, rest_after};
-ghost use Rattle.rasn_lint.specs.Trail.{trail_after};
-ghost use Rattle.rasn_dynamic.specs.Walk.{path_after};
 
 use crate::departure::{Departure, aspect_of};
 use crate::judge::{Way, faults_of, note_faults, site_at};
 use crate::open::{Wanted, note_open};
 use crate::trail::{Step, extend_path, extend_trail};
-use crate::unnamed::with_unnamed;
 use rasn::refuse_remainder;
 use rasn_dynamic::{Refusal, Span, check_or_locate, parts_of};
 use rasn_schema::{Schema, Type, TypeId, type_at};
@@ -275,14 +272,12 @@ pub fn lint(
         Ok(parts) => parts,
         Err(refusal) => return Err(LintError::Refused(refusal)),
     };
-    let rest = rest_after(parts.list.as_slice(), octets);
+    let all = parts.list.as_slice();
+    let rest = rest_after(all, octets);
     if !rest.is_empty() {
         return Err(LintError::Remainder(rest.len()));
     }
-    let Ok(all) = with_unnamed(alloc, schema, parts.list) else {
-        return Err(LintError::OutOfMemory);
-    };
-    let Ok(list) = judge_message(alloc, schema, id, octets, opens, all.as_slice()) else {
+    let Ok(list) = judge_message(alloc, schema, id, octets, opens, all) else {
         return Err(LintError::OutOfMemory);
     };
     match in_order(list) {

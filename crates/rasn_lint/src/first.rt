@@ -11,7 +11,6 @@ use crate::departure::Departure;
 use crate::judge::Way;
 use crate::open::{Wanted, note_open};
 use crate::trail::extend_path;
-use crate::unnamed::with_unnamed;
 use rasn_dynamic::{Refusal, Span, parts_of};
 use rasn_schema::{Schema, TypeId, type_at};
 use rasn_types::error::{DecodeError, DecodeErrorKind};
@@ -99,12 +98,12 @@ fn first_examined(
             None => Err(AllocError),
         };
     };
-    let rest = rest_after(parts.list.as_slice(), octets);
+    let all = parts.list.as_slice();
+    let rest = rest_after(all, octets);
     if let Some(refusal) = remainder_refusal(alloc, id, octets, rest) {
         return Ok(Some(departure_of(refusal)));
     }
-    let all = with_unnamed(alloc, schema, parts.list)?;
-    first_inside(alloc, schema, octets.len(), all.as_slice())
+    first_inside(alloc, schema, octets.len(), all)
 }
 
 /// Returns the first departure of a message, if there is one.

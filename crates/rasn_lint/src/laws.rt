@@ -6,9 +6,7 @@ ghost use Rattle.rasn_schema.specs.declared.types.NamedNumber.{NamedNumber};
 ghost use Rattle.rasn_lint.specs.Worked.{WorkedDepartures};
 ghost use Rattle.rasn_lint.specs.WorkedMessages.{WorkedMessages};
 ghost use Rattle.rasn_lint.specs.WorkedReplies.{AreOfReply, WorkedReplies};
-ghost use Rattle.rasn_lint.specs.WorkedSets.{NamesBoolean, WorkedSets};
-ghost use Rattle.rasn_lint.specs.declared.unnamed.OpenSet.{OpenSet};
-ghost use Rattle.rasn_dynamic.specs.declared.span.Span.{Span};
+ghost use Rattle.rasn_lint.specs.WorkedSets.{AreOfSet, WorkedSets};
 ghost use Rattle.rasn_schema.specs.declared.types.«Type».{«Type»};
 
 /// Proves what the list of a message says of the value written anew, as `rasn_dynamic::normalise`
@@ -45,8 +43,8 @@ pub fn worked_replies()
     ensures { (types : List «Type») → AreOfReply types → WorkedReplies types }
 {}
 
-/// Proves which of the encodings in a SET are components that its type doesn't name: after a BOOLEAN,
-/// which it names, a NULL.
+/// Proves what departs of an unknown component of an extensible SET beside a BOOLEAN: its place, as
+/// that of a named one, and, where open types are looked into, a NULL with contents.
 pub fn worked_sets()
-    ensures { (names : Vec NamedNumber Global) (set : OpenSet) (e : Span) → NamesBoolean set e → WorkedSets names set e }
+    ensures { (types : List «Type») → AreOfSet types → WorkedSets types }
 {}

@@ -13,7 +13,6 @@ mod leaf;
 mod open;
 mod place;
 mod trail;
-mod unnamed;
 mod untyped;
 
 pub use by_schema::{LintError, OpenTypes, lint};

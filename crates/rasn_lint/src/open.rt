@@ -36,11 +36,10 @@ pub enum Wanted {
 
 /// The contents octets of an encoding.
 #[derive(Clone, Copy)]
-pub struct Contents<'input> {
-    /// The octets.
-    pub octets: &'input [u8],
+struct Contents<'input> {
+    octets: &'input [u8],
     /// How many octets are before them in the encoding.
-    pub header_len: usize,
+    header_len: usize,
 }
 
 /// Encodings that are still to be looked at, one after the other.
@@ -81,7 +80,7 @@ fn end_of(alloc: Global, tag: Tag, octets: &[u8]) -> usize
 }
 
 /// Returns the octets of a value of an open type with this tag, as BER finds them.
-pub fn contents_at(alloc: Global, tag: Tag, octets: &[u8]) -> Option<Contents<'_>>
+fn contents_at(alloc: Global, tag: Tag, octets: &[u8]) -> Option<Contents<'_>>
     ensures { MatchOption result ((inside : List ℕ) → HasOpen tag octets.now inside → ⊥)
         (λ found. HasOpen tag octets.now found.octets.now × IsAfterHeader octets.now found × (length found.octets.now < 2 ^ 64)) }
 {
@@ -340,7 +339,7 @@ fn note_any(
 }
 
 /// Returns the octets of the first of these encodings, as BER skips it, and the others.
-pub fn split_first(alloc: Global, octets: &[u8]) -> Option<(&[u8], &[u8])>
+fn split_first(alloc: Global, octets: &[u8]) -> Option<(&[u8], &[u8])>
     ensures { MatchOption result (IsUnread octets.now) (λ s. IsSplit octets.now s.0.now s.1.now) }
 {
     let others = after_first(alloc, octets)?;
