@@ -1,12 +1,12 @@
 //! Assignments (X.680 16, X.681 9 to 12, X.683 8).
-use crate::fault::Stop;
+use crate::fault::Halt;
 use crate::parser::{MAX_DEPTH, Parser};
 use crate::token::Kind;
 use crate::tree::{Assigned, Assignment, Unread};
 
 impl<'tokens, 'text> Parser<'tokens, 'text> {
     /// Reads an assignment.
-    pub(crate) fn assignment(&mut self) -> Result<Assignment<'text>, Stop<'text>> {
+    pub(crate) fn assignment(&mut self) -> Result<Assignment<'text>, Halt<'text>> {
         let position = self.position();
         let is_upper = self.peek() == Kind::Upper;
         if !is_upper && self.peek() != Kind::Lower {
@@ -23,14 +23,7 @@ impl<'tokens, 'text> Parser<'tokens, 'text> {
             });
         }
         let parameters = self.braces()?;
-        let assigned = if !self.is("::=") {
-            self.governed(is_upper)?
-        } else if is_upper {
-            self.skip(1);
-            self.type_or_class()?
-        } else {
-            return Err(self.refuse("a type"));
-        };
+        let assigned = self.assigned(is_upper)?;
         Ok(Assignment {
             name,
             position,
@@ -39,8 +32,20 @@ impl<'tokens, 'text> Parser<'tokens, 'text> {
         })
     }
 
+    /// Reads what follows the name and its parameters.
+    fn assigned(&mut self, is_upper: bool) -> Result<Assigned<'text>, Halt<'text>> {
+        if !self.is("::=") {
+            return self.governed(is_upper);
+        }
+        if !is_upper {
+            return Err(self.refuse("a type"));
+        }
+        self.skip(1);
+        self.type_or_class()
+    }
+
     /// Reads what follows `::=` and no type governs.
-    fn type_or_class(&mut self) -> Result<Assigned<'text>, Stop<'text>> {
+    fn type_or_class(&mut self) -> Result<Assigned<'text>, Halt<'text>> {
         if self.eat("CLASS") {
             let fields = self.class()?;
             let syntax = self.class_syntax()?;
@@ -54,7 +59,7 @@ impl<'tokens, 'text> Parser<'tokens, 'text> {
     }
 
     /// Takes what is in braces, which have to be next.
-    pub(crate) fn expect_braces(&mut self) -> Result<Unread<'text>, Stop<'text>> {
+    pub(crate) fn expect_braces(&mut self) -> Result<Unread<'text>, Halt<'text>> {
         match self.braces()? {
             Some(inner) => Ok(inner),
             None => Err(self.refuse("{")),
@@ -62,7 +67,7 @@ impl<'tokens, 'text> Parser<'tokens, 'text> {
     }
 
     /// Takes WITH SYNTAX of a class (X.681 10).
-    fn class_syntax(&mut self) -> Result<Option<Unread<'text>>, Stop<'text>> {
+    fn class_syntax(&mut self) -> Result<Option<Unread<'text>>, Halt<'text>> {
         if !self.eat("WITH") {
             return Ok(None);
         }
@@ -71,7 +76,7 @@ impl<'tokens, 'text> Parser<'tokens, 'text> {
     }
 
     /// Reads a value, an object or a set of them, with the type or the class before it.
-    fn governed(&mut self, is_set: bool) -> Result<Assigned<'text>, Stop<'text>> {
+    fn governed(&mut self, is_set: bool) -> Result<Assigned<'text>, Halt<'text>> {
         let start = self.rest;
         let may_be_macro = self.is_capitals();
         let governor = self.read_type(MAX_DEPTH);
@@ -90,7 +95,7 @@ impl<'tokens, 'text> Parser<'tokens, 'text> {
     }
 
     /// Takes what a macro is used for: its notation, and a value (X.208 A).
-    fn macro_value(&mut self) -> Result<Assigned<'text>, Stop<'text>> {
+    fn macro_value(&mut self) -> Result<Assigned<'text>, Halt<'text>> {
         self.skip_until("::=");
         self.expect("::=")?;
         self.value()?;
@@ -98,7 +103,7 @@ impl<'tokens, 'text> Parser<'tokens, 'text> {
     }
 
     /// Takes a macro's body, from `::=` to END (X.208 A).
-    fn macro_body(&mut self) -> Result<(), Stop<'text>> {
+    fn macro_body(&mut self) -> Result<(), Halt<'text>> {
         self.expect("::=")?;
         if !self.is("BEGIN") {
             self.expect_kind(Kind::Upper, "BEGIN")?;

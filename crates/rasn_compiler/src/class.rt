@@ -1,5 +1,5 @@
 //! Classes and their fields (X.681 9, 14).
-use crate::fault::Stop;
+use crate::fault::Halt;
 use crate::parser::{MAX_DEPTH, Parser};
 use crate::position::Position;
 use crate::token::Kind;
@@ -8,8 +8,14 @@ use std::alloc::AllocError;
 
 impl<'tokens, 'text> Parser<'tokens, 'text> {
     /// Reads a class's fields, in braces (X.681 9.3).
-    pub(crate) fn class(&mut self) -> Result<TypeIndex, Stop<'text>> {
+    pub(crate) fn class(&mut self) -> Result<TypeIndex, Halt<'text>> {
         let position = self.position();
+        let fields = self.fields()?;
+        Ok(self.push_type(position, Base::Class(fields))?)
+    }
+
+    /// Reads fields in braces.
+    fn fields(&mut self) -> Result<Vec<Field<'text>>, Halt<'text>> {
         let mut fields = Vec::new(self.alloc);
         self.expect("{")?;
         for _ in 0..self.rest.len() {
@@ -19,11 +25,11 @@ impl<'tokens, 'text> Parser<'tokens, 'text> {
             }
         }
         self.expect("}")?;
-        Ok(self.push_type(position, Base::Class(fields))?)
+        Ok(fields)
     }
 
     /// Reads a field, with its type if it has one of its own (X.681 9.4).
-    fn field(&mut self) -> Result<Field<'text>, Stop<'text>> {
+    fn field(&mut self) -> Result<Field<'text>, Halt<'text>> {
         let name = self.expect_kind(Kind::Field, "a field")?;
         let of = if self.is_field_of_no_type() {
             None
@@ -34,7 +40,8 @@ impl<'tokens, 'text> Parser<'tokens, 'text> {
         Ok(Field { name, of })
     }
 
-    /// Returns whether a field ends here, or has the type that another field is (X.681 9.5, 9.8, 9.10).
+    /// Returns whether a field ends here, or has the type that another field is (X.681 9.5, 9.8,
+    /// 9.10).
     fn is_field_of_no_type(&self) -> bool {
         self.peek() == Kind::Field
             || self.is(",")
@@ -44,7 +51,7 @@ impl<'tokens, 'text> Parser<'tokens, 'text> {
     }
 
     /// Takes what follows a field's type, up to a comma or the closing brace.
-    fn skip_field(&mut self) -> Result<(), Stop<'text>> {
+    fn skip_field(&mut self) -> Result<(), Halt<'text>> {
         for _ in 0..self.rest.len() {
             if self.is(",") || self.is("}") {
                 break;
@@ -75,7 +82,7 @@ impl<'tokens, 'text> Parser<'tokens, 'text> {
         position: Position,
         module: Option<&'text str>,
         name: &'text str,
-    ) -> Result<Base<'text>, Stop<'text>> {
+    ) -> Result<Base<'text>, Halt<'text>> {
         let path = self.path()?;
         let actuals = Vec::new(self.alloc);
         let class = self.push_type(

@@ -1,6 +1,6 @@
 //! Why a text isn't a module, or a type of it has no schema.
 use crate::position::Position;
-use std::alloc::{AllocError, AllocFailed};
+use std::alloc::{AllocError, AllocFailed, Global};
 use std::fmt;
 
 /// What is wrong.
@@ -29,19 +29,31 @@ pub enum Problem<'text> {
 impl fmt::Display for Problem<'_> {
     fn fmt<W: fmt::Write>(&self, f: &mut fmt::Formatter<W>) -> fmt::Result {
         match self {
-            Problem::Expected(what) => write!(f, "expected {what}"),
+            Problem::Expected(what) => write_about(f, "expected ", what, ""),
             Problem::TooDeep => f.write_str("nested too deep"),
-            Problem::Undefined(name) => write!(f, "{name} isn't defined"),
-            Problem::NotLoaded(name) => write!(f, "module {name} isn't loaded"),
-            Problem::Endless(name) => write!(f, "{name} refers to itself without end"),
+            Problem::Undefined(name) => write_about(f, "", name, " isn't defined"),
+            Problem::NotLoaded(name) => write_about(f, "module ", name, " isn't loaded"),
+            Problem::Endless(name) => write_about(f, "", name, " refers to itself without end"),
             Problem::Broken(rule) => f.write_str(rule),
             Problem::Clash(one, other) => {
                 write!(f, "{one} and {other} may begin with the same tag")
             }
-            Problem::Unsupported(what) => write!(f, "{what} isn't supported yet"),
+            Problem::Unsupported(what) => write_about(f, "", what, " isn't supported yet"),
             Problem::TooLarge => f.write_str("the type is made of too many types"),
         }
     }
+}
+
+/// Writes what a problem is about between other words.
+fn write_about<W: fmt::Write>(
+    f: &mut fmt::Formatter<W>,
+    before: &str,
+    about: &str,
+    after: &str,
+) -> fmt::Result {
+    f.write_str(before)?;
+    f.write_str(about)?;
+    f.write_str(after)
 }
 
 /// A fault of a text, shown as `FILE:LINE:COLUMN: what is wrong`.
@@ -82,14 +94,41 @@ impl fmt::Display for Stop<'_> {
     }
 }
 
-impl<'text> From<AllocError> for Stop<'text> {
-    fn from(_error: AllocError) -> Stop<'text> {
-        Stop::OutOfMemory
+/// Why reading or resolving ends early: a [`Stop`] whose fault is on the heap, which keeps the
+/// results of calls small.
+#[derive(Drop)]
+pub(crate) enum Halt<'text> {
+    Fault(Box<Fault<'text>>),
+    OutOfMemory,
+}
+
+impl<'text> Halt<'text> {
+    /// Returns a fault as the reason.
+    pub(crate) fn of(alloc: Global, fault: Fault<'text>) -> Halt<'text> {
+        match Box::new(alloc, fault) {
+            Ok(fault) => Halt::Fault(fault),
+            Err(_) => Halt::OutOfMemory,
+        }
     }
 }
 
-impl<'text, T: Drop> From<AllocFailed<T>> for Stop<'text> {
-    fn from(_error: AllocFailed<T>) -> Stop<'text> {
-        Stop::OutOfMemory
+impl<'text> From<Halt<'text>> for Stop<'text> {
+    fn from(halt: Halt<'text>) -> Stop<'text> {
+        match halt {
+            Halt::Fault(fault) => Stop::Fault(*fault),
+            Halt::OutOfMemory => Stop::OutOfMemory,
+        }
+    }
+}
+
+impl<'text> From<AllocError> for Halt<'text> {
+    fn from(_error: AllocError) -> Halt<'text> {
+        Halt::OutOfMemory
+    }
+}
+
+impl<'text, T: Drop> From<AllocFailed<T>> for Halt<'text> {
+    fn from(_error: AllocFailed<T>) -> Halt<'text> {
+        Halt::OutOfMemory
     }
 }

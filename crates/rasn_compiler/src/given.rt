@@ -1,5 +1,5 @@
 //! What every module may use without defining it.
-use crate::fault::{Fault, Stop};
+use crate::fault::{Fault, Halt};
 use crate::lexer::tokens;
 use crate::modules::Source;
 use crate::parser::Parser;
@@ -44,7 +44,7 @@ pub(crate) fn given<'text>(alloc: Global) -> Result<Option<Module<'text>>, Alloc
     let mut faults: Vec<Fault<'text>> = Vec::new(alloc);
     match parser.module("", &mut faults) {
         Ok(module) => Ok(Some(module)),
-        Err(Stop::Fault(_)) => Ok(None),
-        Err(Stop::OutOfMemory) => Err(AllocError),
+        Err(Halt::Fault(_)) => Ok(None),
+        Err(Halt::OutOfMemory) => Err(AllocError),
     }
 }

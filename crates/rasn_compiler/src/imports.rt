@@ -1,12 +1,12 @@
 //! EXPORTS and IMPORTS (X.680 13.1, 13.16).
-use crate::fault::Stop;
+use crate::fault::Halt;
 use crate::parser::Parser;
 use crate::token::Kind;
 use crate::tree::Import;
 
 impl<'tokens, 'text> Parser<'tokens, 'text> {
     /// Takes EXPORTS.
-    pub(crate) fn exports(&mut self) -> Result<(), Stop<'text>> {
+    pub(crate) fn exports(&mut self) -> Result<(), Halt<'text>> {
         if self.eat("EXPORTS") {
             self.skip_until(";");
             self.expect(";")?;
@@ -15,7 +15,7 @@ impl<'tokens, 'text> Parser<'tokens, 'text> {
     }
 
     /// Reads IMPORTS, if it is next.
-    pub(crate) fn imports(&mut self) -> Result<Vec<Import<'text>>, Stop<'text>> {
+    pub(crate) fn imports(&mut self) -> Result<Vec<Import<'text>>, Halt<'text>> {
         let mut imports = Vec::new(self.alloc);
         if !self.eat("IMPORTS") {
             return Ok(imports);
@@ -30,7 +30,7 @@ impl<'tokens, 'text> Parser<'tokens, 'text> {
     }
 
     /// Reads symbols, FROM and a module, with its identifier.
-    fn import(&mut self) -> Result<Import<'text>, Stop<'text>> {
+    fn import(&mut self) -> Result<Import<'text>, Halt<'text>> {
         let symbols = self.symbols()?;
         let module = self.expect_kind(Kind::Upper, "a module's name")?;
         self.import_identifier()?;
@@ -38,7 +38,7 @@ impl<'tokens, 'text> Parser<'tokens, 'text> {
     }
 
     /// Reads symbols and FROM.
-    fn symbols(&mut self) -> Result<Vec<&'text str>, Stop<'text>> {
+    fn symbols(&mut self) -> Result<Vec<&'text str>, Halt<'text>> {
         let mut symbols = Vec::new(self.alloc);
         for _ in 0..self.rest.len() {
             symbols.push(self.symbol()?)?;
@@ -54,7 +54,7 @@ impl<'tokens, 'text> Parser<'tokens, 'text> {
     }
 
     /// Reads a symbol, with the braces of a parameterized one.
-    fn symbol(&mut self) -> Result<&'text str, Stop<'text>> {
+    fn symbol(&mut self) -> Result<&'text str, Halt<'text>> {
         if self.peek() != Kind::Upper && self.peek() != Kind::Lower {
             return Err(self.refuse("a symbol"));
         }
@@ -64,7 +64,7 @@ impl<'tokens, 'text> Parser<'tokens, 'text> {
     }
 
     /// Takes a module's identifier, in braces or as the name of a value (X.680 13.16).
-    fn import_identifier(&mut self) -> Result<(), Stop<'text>> {
+    fn import_identifier(&mut self) -> Result<(), Halt<'text>> {
         if self.is("{") {
             self.balanced()?;
         } else if self.peek() == Kind::Lower

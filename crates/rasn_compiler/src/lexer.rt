@@ -4,7 +4,7 @@ ghost use Rattle.std.specs.Iterator.{at_most};
 
 use crate::position::Position;
 use crate::token::{Kind, Token};
-use crate::words::is_reserved;
+use crate::words::{MARKER, is_reserved};
 use std::alloc::{AllocError, Global};
 
 /// Returns the items of a text that begins at this position, without white space and comments.
@@ -73,7 +73,7 @@ fn scan(text: &str, first: char) -> (Kind, usize) {
         '-' if text.starts_with("--") => (Kind::Blank, line_comment_length(text)),
         '/' if text.starts_with("/*") => block_comment(text),
         ':' if text.starts_with("::=") => (Kind::Fixed, 3),
-        '.' if text.starts_with("...") => (Kind::Fixed, 3),
+        '.' if text.starts_with(MARKER) => (Kind::Fixed, MARKER.len()),
         '.' if text.starts_with("..") => (Kind::Fixed, 2),
         blank if is_blank(blank) => (Kind::Blank, blank_length(text)),
         other => (mark(other), other.len_utf8()),

@@ -1,7 +1,7 @@
 //! Modules (X.680 13).
 ghost use Rattle.std.specs.Prelude.{◌≡◌, ◌<◌, length, IfOk, OnOk};
 
-use crate::fault::{Fault, Problem, Stop};
+use crate::fault::{Fault, Halt, Problem};
 use crate::parser::Parser;
 use crate::position::Position;
 use crate::token::Kind;
@@ -33,37 +33,43 @@ impl<'tokens, 'text> Parser<'tokens, 'text> {
         &mut self,
         source: &'text str,
         faults: &mut Vec<Fault<'text>>,
-    ) -> Result<Module<'text>, Stop<'text>>
+    ) -> Result<Module<'text>, Halt<'text>>
         ensures { IfOk result (λ m. m.source.now ≡ source.now) }
     {
-        let Head {
-            name,
-            position,
-            identifier,
-            tagging,
-            is_extensible,
-        } = self.head()?;
+        let head = self.head()?;
         self.exports()?;
         let imports = self.imports()?;
         let assignments = self.assignments(faults)?;
+        Ok(self.made(source, &head, imports, assignments)?)
+    }
+
+    /// Returns a module of what was read.
+    fn made(
+        &mut self,
+        source: &'text str,
+        head: &Head<'text>,
+        imports: Vec<Import<'text>>,
+        assignments: Vec<Assignment<'text>>,
+    ) -> Result<Module<'text>, AllocError>
+        ensures { IfOk result (λ m. m.source.now ≡ source.now) }
+    {
         let meanings = meanings(self.alloc, &imports, &assignments)?;
-        let types = mem::replace(&mut self.types, Vec::new(self.alloc));
         Ok(Module {
             source,
-            name,
-            position,
-            identifier,
-            tagging,
-            is_extensible,
+            name: head.name,
+            position: head.position,
+            identifier: head.identifier,
+            tagging: head.tagging,
+            is_extensible: head.is_extensible,
             imports,
-            types,
+            types: mem::replace(&mut self.types, Vec::new(self.alloc)),
             assignments,
             meanings,
         })
     }
 
     /// Reads a module's name and what follows it, up to BEGIN.
-    fn head(&mut self) -> Result<Head<'text>, Stop<'text>> {
+    fn head(&mut self) -> Result<Head<'text>, Halt<'text>> {
         let position = self.position();
         let name = self.expect_kind(Kind::Upper, "a module's name")?;
         let identifier = self.braces()?;
@@ -71,11 +77,7 @@ impl<'tokens, 'text> Parser<'tokens, 'text> {
         if self.peek() == Kind::Text {
             self.skip(1);
         }
-        self.expect("DEFINITIONS")?;
-        let tagging = self.tagging()?;
-        let is_extensible = self.extensibility()?;
-        self.expect("::=")?;
-        self.expect("BEGIN")?;
+        let (tagging, is_extensible) = self.defaults()?;
         Ok(Head {
             name,
             position,
@@ -85,8 +87,18 @@ impl<'tokens, 'text> Parser<'tokens, 'text> {
         })
     }
 
+    /// Reads DEFINITIONS and what follows it, up to BEGIN.
+    fn defaults(&mut self) -> Result<(Tagging, bool), Halt<'text>> {
+        self.expect("DEFINITIONS")?;
+        let tagging = self.tagging()?;
+        let is_extensible = self.extensibility()?;
+        self.expect("::=")?;
+        self.expect("BEGIN")?;
+        Ok((tagging, is_extensible))
+    }
+
     /// Reads the module's default of tags (X.680 13.2).
-    fn tagging(&mut self) -> Result<Tagging, Stop<'text>> {
+    fn tagging(&mut self) -> Result<Tagging, Halt<'text>> {
         let tagging = if self.eat("EXPLICIT") {
             Tagging::Explicit
         } else if self.eat("IMPLICIT") {
@@ -101,7 +113,7 @@ impl<'tokens, 'text> Parser<'tokens, 'text> {
     }
 
     /// Reads EXTENSIBILITY IMPLIED (X.680 13.4).
-    fn extensibility(&mut self) -> Result<bool, Stop<'text>> {
+    fn extensibility(&mut self) -> Result<bool, Halt<'text>> {
         if !self.eat("EXTENSIBILITY") {
             return Ok(false);
         }
@@ -113,7 +125,7 @@ impl<'tokens, 'text> Parser<'tokens, 'text> {
     fn assignments(
         &mut self,
         faults: &mut Vec<Fault<'text>>,
-    ) -> Result<Vec<Assignment<'text>>, Stop<'text>> {
+    ) -> Result<Vec<Assignment<'text>>, Halt<'text>> {
         let mut found = Assignments {
             list: Vec::new(self.alloc),
             names: BTreeSet::new(self.alloc),
@@ -127,8 +139,8 @@ impl<'tokens, 'text> Parser<'tokens, 'text> {
             }
             self.next_assignment(&mut found, faults)?;
         }
-        if let Stop::Fault(fault) = self.refuse("END") {
-            faults.push(fault)?;
+        if let Halt::Fault(fault) = self.refuse("END") {
+            faults.push(*fault)?;
         }
         Ok(found.list)
     }
@@ -145,9 +157,9 @@ impl<'tokens, 'text> Parser<'tokens, 'text> {
         let start = self.rest;
         match self.assignment() {
             Ok(assignment) => self.add(assignment, found, faults)?,
-            Err(Stop::OutOfMemory) => return Err(AllocError),
-            Err(Stop::Fault(fault)) => {
-                faults.push(fault)?;
+            Err(Halt::OutOfMemory) => return Err(AllocError),
+            Err(Halt::Fault(fault)) => {
+                faults.push(*fault)?;
                 if self.rest.len() == start.len() {
                     self.skip(1);
                 }

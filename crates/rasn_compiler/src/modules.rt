@@ -4,7 +4,7 @@ ghost use Rattle.rasn_compiler.specs.declared.tree.Module.{Module};
 ghost use Rattle.rasn_types.specs.Truth.{IsWhether};
 ghost use Rattle.rasn_compiler.specs.Sources.{HasName, AreOf};
 
-use crate::fault::{Fault, Stop};
+use crate::fault::{Fault, Halt};
 use crate::given::given;
 use crate::lexer::tokens;
 use crate::parser::Parser;
@@ -23,6 +23,7 @@ pub struct Source<'text> {
 /// Modules that were read, and the faults of what couldn't be read.
 #[derive(Drop)]
 pub struct Modules<'text> {
+    pub(crate) alloc: Global,
     pub modules: Vec<Module<'text>>,
     /// One for each assignment at most, in the order of the texts.
     pub faults: Vec<Fault<'text>>,
@@ -53,6 +54,7 @@ impl<'text> Modules<'text> {
         ensures { IfOk result (λ read. AreOf sources.now read.modules.items) }
     {
         let mut read = Modules {
+            alloc,
             modules: Vec::new(alloc),
             faults: Vec::new(alloc),
             names: BTreeMap::new(alloc),
@@ -99,9 +101,9 @@ impl<'text> Modules<'text> {
                 self.add(alloc, added)?;
                 Ok(())
             }
-            Err(Stop::OutOfMemory) => Err(AllocError),
-            Err(Stop::Fault(fault)) => {
-                self.faults.push(fault)?;
+            Err(Halt::OutOfMemory) => Err(AllocError),
+            Err(Halt::Fault(fault)) => {
+                self.faults.push(*fault)?;
                 parser.skip(1);
                 parser.skip_to_module();
                 Ok(())

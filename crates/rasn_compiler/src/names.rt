@@ -6,12 +6,7 @@ impl<'tokens, 'text> Parser<'tokens, 'text> {
     /// Returns whether the next item is a reserved word.
     pub(crate) fn is_reserved_word(&self) -> bool {
         match self.rest.first() {
-            Some(token) => {
-                token.kind == Kind::Fixed
-                    && token
-                        .text
-                        .starts_with(|letter: char| letter.is_ascii_uppercase())
-            }
+            Some(token) => token.is_word(),
             None => false,
         }
     }
@@ -29,7 +24,8 @@ impl<'tokens, 'text> Parser<'tokens, 'text> {
         }
     }
 
-    /// Returns whether a macro's notation is next in place of a type, as OPERATION or ERROR with arguments (X.219).
+    /// Returns whether a macro's notation is next in place of a type, as OPERATION or ERROR with
+    /// arguments (X.219).
     pub(crate) fn begins_macro_use(&self) -> bool {
         let Some(token) = self.rest.first() else {
             return false;

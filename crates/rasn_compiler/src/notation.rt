@@ -11,6 +11,9 @@ use std::alloc::{AllocError, Global};
 use std::collections::{BTreeMap, BTreeSet};
 use std::fmt;
 
+/// An extension marker and the comma before it.
+const AND_MARKER: &str = ", ...";
+
 /// A schema that is shown as a module, from which the same types are read again.
 ///
 /// Each type of the schema that has a name, and each that is made of others, is a type of the
@@ -161,33 +164,23 @@ impl Notation<'_> {
             }
             Type::Choice { alternatives, .. } => self.write_alternatives(f, alternatives),
             Type::Sequence { tag, components } => {
-                write_own(f, *tag, 16, "SEQUENCE")?;
-                self.write_components(f, components)
+                self.write_components(f, *tag, 16, "SEQUENCE", components)
             }
             Type::Set {
                 tag,
                 components,
                 ..
-            } => {
-                write_own(f, *tag, 17, "SET")?;
-                self.write_components(f, components)
-            }
+            } => self.write_components(f, *tag, 17, "SET", components),
             Type::SequenceOf {
                 tag,
                 element,
                 constraints,
-            } => {
-                write_own(f, *tag, 16, "SEQUENCE")?;
-                self.write_element(f, constraints, *element)
-            }
+            } => self.write_element(f, *tag, 16, "SEQUENCE", constraints, *element),
             Type::SetOf {
                 tag,
                 element,
                 constraints,
-            } => {
-                write_own(f, *tag, 17, "SET")?;
-                self.write_element(f, constraints, *element)
-            }
+            } => self.write_element(f, *tag, 17, "SET", constraints, *element),
             other => write_plain(f, other),
         }
     }
@@ -213,20 +206,24 @@ impl Notation<'_> {
         Ok(())
     }
 
-    /// Writes the bounds of a list's size, and the type of its elements (X.680 26, 28).
+    /// Writes SEQUENCE OF or SET OF, with the bounds of its size (X.680 26, 28).
     fn write_element<W: fmt::Write>(
         &self,
         f: &mut fmt::Formatter<W>,
+        tag: Tag,
+        number: u32,
+        word: &str,
         constraints: &Constraints,
         element: TypeId,
     ) -> fmt::Result {
+        write_own(f, tag, number, word)?;
         write_size(f, constraints)?;
         f.write_str(" OF ")?;
         self.write_use(f, element)
     }
 
-    /// Writes a CHOICE, a line for each alternative (X.680 29). In place of an unknown alternative it
-    /// writes an extension marker.
+    /// Writes a CHOICE, a line for each alternative (X.680 29). In place of an unknown alternative
+    /// it writes an extension marker.
     fn write_alternatives<W: fmt::Write>(
         &self,
         f: &mut fmt::Formatter<W>,
@@ -247,18 +244,21 @@ impl Notation<'_> {
         alternative: &Alternative,
     ) -> fmt::Result {
         if alternative.name.as_str() == MARKER {
-            f.write_str(separator(index))?;
-            return f.write_str(MARKER);
+            return write_marker(f, index);
         }
         self.write_part(f, index, alternative.name.as_str(), alternative.type_id)
     }
 
-    /// Writes components in braces, a line for each (X.680 25, 27).
+    /// Writes a SEQUENCE or a SET, a line for each component (X.680 25, 27).
     fn write_components<W: fmt::Write>(
         &self,
         f: &mut fmt::Formatter<W>,
+        tag: Tag,
+        number: u32,
+        word: &str,
         components: &[Component],
     ) -> fmt::Result {
+        write_own(f, tag, number, word)?;
         f.write_str(" {")?;
         for (index, component) in components.iter().enumerate() {
             self.write_component(f, index, component)?;
@@ -266,8 +266,8 @@ impl Notation<'_> {
         f.write_str(" }")
     }
 
-    /// Writes the name and the type of a component, and whether it may be absent. In place of unknown
-    /// values it writes an extension marker.
+    /// Writes the name and the type of a component, and whether it may be absent. In place of
+    /// unknown values it writes an extension marker.
     fn write_component<W: fmt::Write>(
         &self,
         f: &mut fmt::Formatter<W>,
@@ -275,8 +275,7 @@ impl Notation<'_> {
         component: &Component,
     ) -> fmt::Result {
         if let Some(Type::Unknown) = type_at(self.schema.types(), component.type_id) {
-            f.write_str(separator(index))?;
-            return f.write_str(MARKER);
+            return write_marker(f, index);
         }
         self.write_part(f, index, component.name.as_str(), component.type_id)?;
         self.write_presence(f, component)
@@ -317,6 +316,12 @@ impl Notation<'_> {
 /// Returns what is written before the part with this index.
 fn separator(index: usize) -> &'static str {
     if index == 0 { "\n    " } else { ",\n    " }
+}
+
+/// Writes an extension marker in place of the part with this index.
+fn write_marker<W: fmt::Write>(f: &mut fmt::Formatter<W>, index: usize) -> fmt::Result {
+    f.write_str(separator(index))?;
+    f.write_str(MARKER)
 }
 
 /// Writes a tag (X.680 31.2).
@@ -380,23 +385,34 @@ fn write_leaf<W: fmt::Write>(
 ) -> fmt::Result {
     if kind == LeafKind::Signed64 && !names.is_empty() {
         write_own(f, tag, 10, "ENUMERATED")?;
-        return write_numbers(f, names, ", ...");
+        return write_numbers(f, names, AND_MARKER);
     }
     let (words, number) = words_of(kind, tag);
     write_own(f, tag, number, words)?;
     if !names.is_empty() {
         write_numbers(f, names, "")?;
     }
-    f.write_str(range_of(kind))?;
+    write_kind(f, kind)?;
+    write_value(f, constraints)?;
+    write_size(f, constraints)
+}
+
+/// Writes the range of a type that is of fixed width, or its size.
+fn write_kind<W: fmt::Write>(f: &mut fmt::Formatter<W>, kind: LeafKind) -> fmt::Result {
     if let LeafKind::FixedOctetString(size) = kind {
-        write!(f, " (SIZE ({size}))")?;
+        return write!(f, " (SIZE ({size}))");
     }
+    f.write_str(range_of(kind))
+}
+
+/// Writes the bounds of a value (X.680 51.4).
+fn write_value<W: fmt::Write>(f: &mut fmt::Formatter<W>, constraints: &Constraints) -> fmt::Result {
     if let Some(bound) = &constraints.value {
         f.write_str(" (")?;
         write_bound(f, bound)?;
         f.write_str(")")?;
     }
-    write_size(f, constraints)
+    Ok(())
 }
 
 /// Writes the bounds of a size (X.680 51.5).
@@ -416,7 +432,7 @@ fn write_bound<W: fmt::Write, T: fmt::Display>(
 ) -> fmt::Result {
     let range = &bound.constraint;
     write!(f, "{range}")?;
-    f.write_str(if bound.extensible { ", ..." } else { "" })
+    f.write_str(if bound.extensible { AND_MARKER } else { "" })
 }
 
 /// Writes names with their numbers in braces, and what follows the last (X.680 19, 20, 22).

@@ -1,7 +1,7 @@
 //! The items that are left to read.
 ghost use Rattle.std.specs.Prelude.{◌≡◌, ◌+◌, ◌<◌, length, IfOk};
 
-use crate::fault::{Fault, Problem, Stop};
+use crate::fault::{Fault, Halt, Problem};
 use crate::modules::Source;
 use crate::position::Position;
 use crate::token::{Kind, Token};
@@ -30,7 +30,10 @@ impl<'tokens, 'text> Parser<'tokens, 'text> {
 
     /// Returns the kind of the item that so many others precede.
     pub(crate) fn peek_after(&self, count: usize) -> Kind {
-        self.rest.get(count).map_or(Kind::End, |token| token.kind)
+        match self.rest.get(count) {
+            Some(token) => token.kind,
+            None => Kind::End,
+        }
     }
 
     /// Returns whether the next item is spelled so.
@@ -48,7 +51,15 @@ impl<'tokens, 'text> Parser<'tokens, 'text> {
 
     /// Returns where the next item begins.
     pub(crate) fn position(&self) -> Position {
-        self.rest.first().map_or(self.end, |token| token.position)
+        self.position_of(self.rest.first())
+    }
+
+    /// Returns where an item begins, or where the text ends.
+    fn position_of(&self, token: Option<&Token<'text>>) -> Position {
+        match token {
+            Some(token) => token.position,
+            None => self.end,
+        }
     }
 
     /// Takes so many items.
@@ -83,21 +94,22 @@ impl<'tokens, 'text> Parser<'tokens, 'text> {
     }
 
     /// Returns a fault at the next item.
-    pub(crate) fn refuse(&self, what: &'static str) -> Stop<'text> {
+    pub(crate) fn refuse(&self, what: &'static str) -> Halt<'text> {
         self.refuse_at(self.position(), Problem::Expected(what))
     }
 
     /// Returns a fault.
-    pub(crate) fn refuse_at(&self, position: Position, problem: Problem<'text>) -> Stop<'text> {
-        Stop::Fault(Fault {
+    pub(crate) fn refuse_at(&self, position: Position, problem: Problem<'text>) -> Halt<'text> {
+        let fault = Fault {
             source: self.source.name,
             position,
             problem,
-        })
+        };
+        Halt::of(self.alloc, fault)
     }
 
     /// Takes the next item, which has to be spelled so.
-    pub(crate) fn expect(&mut self, text: &'static str) -> Result<(), Stop<'text>> {
+    pub(crate) fn expect(&mut self, text: &'static str) -> Result<(), Halt<'text>> {
         if self.eat(text) {
             Ok(())
         } else {
@@ -110,7 +122,7 @@ impl<'tokens, 'text> Parser<'tokens, 'text> {
         &mut self,
         kind: Kind,
         what: &'static str,
-    ) -> Result<&'text str, Stop<'text>> {
+    ) -> Result<&'text str, Halt<'text>> {
         if self.peek() == kind {
             Ok(self.take())
         } else {
@@ -119,7 +131,7 @@ impl<'tokens, 'text> Parser<'tokens, 'text> {
     }
 
     /// Returns how deep types may be nested in what is read here.
-    pub(crate) fn deeper(&self, depth: usize) -> Result<usize, Stop<'text>>
+    pub(crate) fn deeper(&self, depth: usize) -> Result<usize, Halt<'text>>
         ensures { IfOk result (λ d. d + 1 ≡ depth) }
     {
         if depth == 0 {
@@ -129,7 +141,7 @@ impl<'tokens, 'text> Parser<'tokens, 'text> {
     }
 
     /// Takes what is between a bracket and the one that closes it.
-    pub(crate) fn balanced(&mut self) -> Result<Unread<'text>, Stop<'text>> {
+    pub(crate) fn balanced(&mut self) -> Result<Unread<'text>, Halt<'text>> {
         let mut open = Vec::new(self.alloc);
         for (at, token) in self.rest.iter().enumerate() {
             if let Some(closing) = closing_of(token.text) {
@@ -153,17 +165,16 @@ impl<'tokens, 'text> Parser<'tokens, 'text> {
 
     /// Returns the text after the next item, up to this octet.
     fn between(&self, end: usize) -> Unread<'text> {
-        let start = self.rest.first().map_or(0, |token| token.end());
-        let position = self.rest.get(1).map_or(self.end, |token| token.position);
+        let start = end_of(self.rest.first());
         let text = self.source.text.get(start..end).unwrap_or("");
         Unread {
             text: text.trim_start(),
-            position,
+            position: self.position_of(self.rest.get(1)),
         }
     }
 
     /// Takes what is in braces, if a brace is next.
-    pub(crate) fn braces(&mut self) -> Result<Option<Unread<'text>>, Stop<'text>> {
+    pub(crate) fn braces(&mut self) -> Result<Option<Unread<'text>>, Halt<'text>> {
         if self.is("{") {
             Ok(Some(self.balanced()?))
         } else {
@@ -183,14 +194,24 @@ impl<'tokens, 'text> Parser<'tokens, 'text> {
 
     /// Returns the text from the first of these items up to the next item of the parser.
     pub(crate) fn since(&self, start: &'tokens [Token<'text>]) -> Unread<'text> {
-        let first = start.first().map_or(0, |token| token.offset);
         let count = start.len().saturating_sub(self.rest.len());
-        let last = start.get(count.saturating_sub(1));
-        let end = last.map_or(first, |token| token.end());
+        let end = end_of(start.get(count.saturating_sub(1)));
+        let text = match start.first() {
+            Some(token) => self.source.text.get(token.offset..end).unwrap_or(""),
+            None => "",
+        };
         Unread {
-            text: self.source.text.get(first..end).unwrap_or(""),
-            position: start.first().map_or(self.end, |token| token.position),
+            text,
+            position: self.position_of(start.first()),
         }
+    }
+}
+
+/// Returns the octet after an item, or that at which a text begins.
+fn end_of(token: Option<&Token<'_>>) -> usize {
+    match token {
+        Some(token) => token.end(),
+        None => 0,
     }
 }
 

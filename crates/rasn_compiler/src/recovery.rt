@@ -38,7 +38,8 @@ impl<'tokens, 'text> Parser<'tokens, 'text> {
         }
     }
 
-    /// Returns whether an assignment seems to begin here. A reserved word may not be assigned to, but the assignment after it is read.
+    /// Returns whether an assignment seems to begin here. A reserved word may not be assigned to,
+    /// but the assignment after it is read.
     fn begins_assignment(&self) -> bool {
         if self.is_reserved_word() {
             return self.is_after(1, "::=");
@@ -63,14 +64,7 @@ impl<'tokens, 'text> Parser<'tokens, 'text> {
     /// Returns whether the item that so many others precede may be a part of a type before `::=`.
     fn may_govern(&self, ahead: usize) -> bool {
         match self.rest.get(ahead) {
-            Some(token) => {
-                token.kind == Kind::Upper
-                    || token.text == "."
-                    || (token.kind == Kind::Fixed
-                        && token
-                            .text
-                            .starts_with(|letter: char| letter.is_ascii_uppercase()))
-            }
+            Some(token) => token.kind == Kind::Upper || token.text == "." || token.is_word(),
             None => false,
         }
     }
@@ -100,7 +94,8 @@ impl<'tokens, 'text> Parser<'tokens, 'text> {
         }
     }
 
-    /// Returns how many items there are up to the brace that closes the one after the next item, if that isn't far.
+    /// Returns how many items there are up to the brace that closes the one after the next item, if
+    /// that isn't far.
     fn after_braces(&self) -> Option<usize> {
         let mut depth = 0usize;
         for ahead in 1..MAX_AHEAD {

@@ -1,7 +1,8 @@
-//! Schemas of types (X.680 to X.683): what a type of a module is once its references, tags and constraints are followed.
+//! Schemas of types (X.680 to X.683): what a type of a module is once its references, tags and
+//! constraints are followed.
 //!
-//! Types are resolved one after another from a list. Each names the types that it is made of, which are added to the list
-//! unless they are there, so that types that reach themselves end.
+//! Types are resolved one after another from a list. Each names the types that it is made of, which
+//! are added to the list unless they are there, so that types that reach themselves end.
 
 ghost use Rattle.std.specs.Prelude.{◌≡◌, ◌<◌, length, IfOk, Some};
 ghost use Rattle.rasn_schema.specs.Named.{IsNamed};
@@ -13,6 +14,7 @@ mod default;
 mod digits;
 mod emit;
 mod enumerated;
+mod faults;
 mod field;
 mod identifier;
 mod included;
@@ -31,7 +33,7 @@ mod unfold;
 mod unknown;
 mod value;
 
-use crate::fault::Stop;
+use crate::fault::{Halt, Stop};
 use crate::modules::Modules;
 use emit::emit;
 use node::{Place, Use};
@@ -52,11 +54,12 @@ pub struct Resolved {
 }
 
 impl<'text> Modules<'text> {
-    /// Returns a schema of a type of a module (X.680 16.2), in which the type has its name. A SEQUENCE
-    /// with an extension marker, whose additions are at its end, has unknown values as its last
-    /// component, and so has a SET with such a marker: what a newer version of the module has there is
-    /// kept (X.680 25, 27). A CHOICE with a marker has an open type as its last alternative, unless
-    /// its type is used where a tag couldn't tell an unknown alternative from another part (X.680 29).
+    /// Returns a schema of a type of a module (X.680 16.2), in which the type has its name. A
+    /// SEQUENCE with an extension marker, whose additions are at its end, has unknown values as its
+    /// last component, and so has a SET with such a marker: what a newer version of the module has
+    /// there is kept (X.680 25, 27). A CHOICE with a marker has an open type as its last
+    /// alternative, unless its type is used where a tag couldn't tell an unknown alternative from
+    /// another part (X.680 29).
     ///
     /// # Errors
     /// `Fault` with the first fault that is found in what the type is made of; `OutOfMemory` if
@@ -68,6 +71,14 @@ impl<'text> Modules<'text> {
     /// let value = rasn_dynamic::decode(alloc, Codec::Der, &person.schema, person.root, octets)?;
     /// ```
     pub fn schema(&self, alloc: Global, module: &str, name: &str) -> Result<Resolved, Stop<'text>>
+        ensures root { IfOk result (λ r. r.root.0 < length r.schema.types.items) }
+        ensures named { IfOk result (λ r. (names : _) × (r.schema.names ≡ Some names) × IsNamed names.items name.now r.root) }
+    {
+        Ok(self.resolved(alloc, module, name)?)
+    }
+
+    /// Resolves a type of a module.
+    fn resolved(&self, alloc: Global, module: &str, name: &str) -> Result<Resolved, Halt<'text>>
         ensures root { IfOk result (λ r. r.root.0 < length r.schema.types.items) }
         ensures named { IfOk result (λ r. (names : _) × (r.schema.names ≡ Some names) × IsNamed names.items name.now r.root) }
     {

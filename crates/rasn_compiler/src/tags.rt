@@ -1,12 +1,12 @@
 //! Tags (X.680 31.2) and what follows a type in parentheses (X.680 49).
-use crate::fault::Stop;
+use crate::fault::Halt;
 use crate::parser::Parser;
 use crate::token::Kind;
 use crate::tree::{Tag, TagClass, Tagging, Unread};
 
 impl<'tokens, 'text> Parser<'tokens, 'text> {
     /// Reads the tags that are next.
-    pub(crate) fn tags(&mut self) -> Result<Vec<Tag<'text>>, Stop<'text>> {
+    pub(crate) fn tags(&mut self) -> Result<Vec<Tag<'text>>, Halt<'text>> {
         let mut tags = Vec::new(self.alloc);
         for _ in 0..self.rest.len() {
             if !self.is("[") {
@@ -18,7 +18,7 @@ impl<'tokens, 'text> Parser<'tokens, 'text> {
     }
 
     /// Reads a tag, with the word after it.
-    fn tag(&mut self) -> Result<Tag<'text>, Stop<'text>> {
+    fn tag(&mut self) -> Result<Tag<'text>, Halt<'text>> {
         let position = self.position();
         self.expect("[")?;
         let class = self.tag_class();
@@ -60,7 +60,7 @@ impl<'tokens, 'text> Parser<'tokens, 'text> {
     }
 
     /// Takes the constraints that are next.
-    pub(crate) fn constraints(&mut self) -> Result<Vec<Unread<'text>>, Stop<'text>> {
+    pub(crate) fn constraints(&mut self) -> Result<Vec<Unread<'text>>, Halt<'text>> {
         let mut constraints = Vec::new(self.alloc);
         for _ in 0..self.rest.len() {
             if !self.is("(") {

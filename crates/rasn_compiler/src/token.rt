@@ -39,6 +39,14 @@ pub(crate) struct Token<'text> {
 }
 
 impl<'text> Token<'text> {
+    /// Returns whether it is a reserved word.
+    pub(crate) fn is_word(&self) -> bool {
+        self.kind == Kind::Fixed
+            && self
+                .text
+                .starts_with(|letter: char| letter.is_ascii_uppercase())
+    }
+
     /// Returns the octet after it.
     pub(crate) fn end(&self) -> usize {
         self.offset.saturating_add(self.text.len())

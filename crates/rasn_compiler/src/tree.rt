@@ -1,7 +1,8 @@
 //! What a module says, as it is written.
 //!
-//! Types are in a list of their module and name one another by [`TypeIndex`], so that no tree is deeper than one level.
-//! Values, constraints and what is in braces are read further once their type is known (X.680 17.7).
+//! Types are in a list of their module and name one another by [`TypeIndex`], so that no tree is
+//! deeper than one level. Values, constraints and what is in braces are read further once their
+//! type is known (X.680 17.7).
 use crate::position::Position;
 use std::collections::BTreeMap;
 
@@ -194,7 +195,8 @@ pub enum Given<'text> {
 pub struct Field<'text> {
     /// Its name, with the `&`.
     pub name: &'text str,
-    /// The type of its values, or the class of its objects. None if it is a type, or has the type that another field is.
+    /// The type of its values, or the class of its objects. None if it is a type, or has the type
+    /// that another field is.
     pub of: Option<TypeIndex>,
 }
 
@@ -255,7 +257,8 @@ pub struct NamedNumber<'text> {
     pub number: Option<Value<'text>>,
 }
 
-/// What is between the commas of SEQUENCE, SET or CHOICE (X.680 25, 27, 29). Version brackets aren't kept.
+/// What is between the commas of SEQUENCE, SET or CHOICE (X.680 25, 27, 29). Version brackets
+/// aren't kept.
 #[derive(Clone, Copy)]
 pub enum Component<'text> {
     Named {

@@ -1,17 +1,178 @@
 //! Types (X.680 17).
-use crate::fault::Stop;
+use crate::fault::Halt;
 use crate::parser::Parser;
+use crate::position::Position;
 use crate::token::Kind;
-use crate::tree::{Actual, Base, Builtin, Given, ListOf, NamedNumber, Type, TypeIndex, Unread};
+use crate::tree::{
+    Actual, Base, Builtin, Component, Given, ListOf, NamedNumber, Tag, Type, TypeIndex, Unread,
+    Value,
+};
+use crate::words::MARKER;
 
 impl<'tokens, 'text> Parser<'tokens, 'text> {
     /// Reads a type in which others may be nested so deep.
     #[cycle(types)]
-    pub(crate) fn read_type(&mut self, depth: usize) -> Result<TypeIndex, Stop<'text>> {
+    pub(crate) fn read_type(&mut self, depth: usize) -> Result<TypeIndex, Halt<'text>> {
         let depth = self.deeper(depth)?;
         let position = self.position();
         let tags = self.tags()?;
         let base = self.base(depth)?;
+        self.add_type(position, tags, base)
+    }
+
+    /// Reads what follows the tags.
+    #[cycle(types)]
+    fn base(&mut self, depth: usize) -> Result<Base<'text>, Halt<'text>> {
+        match self.made_of() {
+            Made::Components(within) => Ok(within.base(self.components(depth)?)),
+            Made::Elements { is_set } => {
+                let list = self.element(depth)?;
+                Ok(if is_set {
+                    Base::SetOf(list)
+                } else {
+                    Base::SequenceOf(list)
+                })
+            }
+            Made::Selected(name) => {
+                let of = self.read_type(depth)?;
+                Ok(Base::Selection { name, of })
+            }
+            Made::Reference => self.reference(depth),
+            Made::Simple => self.simple_type(),
+        }
+    }
+
+    /// Reads the name of a type with what it is given, or a class's field (X.680 16.3, X.681 14,
+    /// X.683 9).
+    #[cycle(types)]
+    fn reference(&mut self, depth: usize) -> Result<Base<'text>, Halt<'text>> {
+        let position = self.position();
+        let (module, name) = self.reference_name();
+        if self.is(".") && self.peek_after(1) == Kind::Field {
+            return self.class_field(position, module, name);
+        }
+        let actuals = self.actuals(depth)?;
+        Ok(Base::Reference {
+            module,
+            name,
+            actuals,
+        })
+    }
+
+    /// Reads what is given for parameters, in braces, if a brace is next (X.683 9.5).
+    #[cycle(types)]
+    fn actuals(&mut self, depth: usize) -> Result<Vec<Actual<'text>>, Halt<'text>> {
+        let mut actuals = Vec::new(self.alloc);
+        if !self.eat("{") {
+            return Ok(actuals);
+        }
+        for _ in 0..self.rest.len() {
+            actuals.push(self.actual(depth)?)?;
+            if !self.eat(",") {
+                break;
+            }
+        }
+        self.expect("}")?;
+        Ok(actuals)
+    }
+
+    /// Reads what is given for a parameter.
+    #[cycle(types)]
+    fn actual(&mut self, depth: usize) -> Result<Actual<'text>, Halt<'text>> {
+        let position = self.position();
+        let given = if self.begins_type() {
+            Given::Type(self.read_type(depth)?)
+        } else {
+            self.given_value()?
+        };
+        Ok(Actual { position, given })
+    }
+
+    /// Reads the elements of SEQUENCE OF or SET OF, whose size may be before OF (X.680 26, 28).
+    #[cycle(types)]
+    fn element(&mut self, depth: usize) -> Result<ListOf<'text>, Halt<'text>> {
+        let (size, name) = self.element_start()?;
+        let element = self.read_type(depth)?;
+        Ok(ListOf {
+            size,
+            name,
+            element,
+        })
+    }
+}
+
+/// What a type is made of, as the words that it begins with say.
+#[derive(Clone, Copy)]
+enum Made<'text> {
+    Components(Within),
+    Elements { is_set: bool },
+    /// The alternative of this name (X.680 30).
+    Selected(&'text str),
+    Reference,
+    /// No other types.
+    Simple,
+}
+
+/// What a list of components or alternatives is that of.
+#[derive(Clone, Copy, PartialEq, Eq)]
+pub(crate) enum Within {
+    Sequence,
+    Set,
+    Choice,
+}
+
+impl Within {
+    /// Returns the type that a list is that of.
+    fn base<'text>(self, list: Vec<Component<'text>>) -> Base<'text> {
+        match self {
+            Within::Sequence => Base::Sequence(list),
+            Within::Set => Base::Set(list),
+            Within::Choice => Base::Choice(list),
+        }
+    }
+}
+
+impl<'tokens, 'text> Parser<'tokens, 'text> {
+    /// Takes the words that a type begins with, if it is made of others and isn't a reference.
+    fn made_of(&mut self) -> Made<'text> {
+        if self.eat("SEQUENCE") {
+            return self.listed(Within::Sequence);
+        }
+        if self.eat("SET") {
+            return self.listed(Within::Set);
+        }
+        if self.eat("CHOICE") {
+            return Made::Components(Within::Choice);
+        }
+        match self.peek() {
+            Kind::Lower if self.is_after(1, "<") => {
+                let name = self.take();
+                self.skip(1);
+                Made::Selected(name)
+            }
+            Kind::Upper => Made::Reference,
+            _ => Made::Simple,
+        }
+    }
+
+    /// Returns what a SEQUENCE or a SET is made of: components, in braces, or elements.
+    fn listed(&self, within: Within) -> Made<'text> {
+        if self.is("{") {
+            Made::Components(within)
+        } else {
+            Made::Elements {
+                is_set: within == Within::Set,
+            }
+        }
+    }
+
+    /// Reads the constraints of a type and adds it.
+    fn add_type(
+        &mut self,
+        position: Position,
+        tags: Vec<Tag<'text>>,
+        base: Base<'text>,
+    ) -> Result<TypeIndex, Halt<'text>> {
         let constraints = self.constraints()?;
         let index = TypeIndex(self.types.len());
         self.types.push(Type {
@@ -23,105 +184,28 @@ impl<'tokens, 'text> Parser<'tokens, 'text> {
         Ok(index)
     }
 
-    /// Reads what follows the tags.
-    #[cycle(types)]
-    fn base(&mut self, depth: usize) -> Result<Base<'text>, Stop<'text>> {
-        if self.eat("SEQUENCE") {
-            if self.is("{") {
-                return Ok(Base::Sequence(self.components(depth)?));
-            }
-            return Ok(Base::SequenceOf(self.element(depth)?));
-        }
-        if self.eat("SET") {
-            if self.is("{") {
-                return Ok(Base::Set(self.components(depth)?));
-            }
-            return Ok(Base::SetOf(self.element(depth)?));
-        }
-        if self.eat("CHOICE") {
-            return Ok(Base::Choice(self.components(depth)?));
-        }
-        if self.peek() == Kind::Lower && self.is_after(1, "<") {
-            let name = self.take();
-            self.skip(1);
-            let of = self.read_type(depth)?;
-            return Ok(Base::Selection { name, of });
-        }
-        if self.peek() == Kind::Upper {
-            return self.reference(depth);
-        }
-        self.simple_type()
-    }
-
-    /// Reads the name of a type with what it is given, or a class's field (X.680 16.3, X.681 14, X.683 9).
-    #[cycle(types)]
-    fn reference(&mut self, depth: usize) -> Result<Base<'text>, Stop<'text>> {
-        let position = self.position();
-        let (module, name) = self.reference_name();
-        if self.is(".") && self.peek_after(1) == Kind::Field {
-            return self.class_field(position, module, name);
-        }
-        let actuals = if self.eat("{") {
-            self.actuals(depth)?
-        } else {
-            Vec::new(self.alloc)
-        };
-        Ok(Base::Reference {
-            module,
-            name,
-            actuals,
-        })
-    }
-
-    /// Reads what is given for parameters, after the brace (X.683 9.5).
-    #[cycle(types)]
-    fn actuals(&mut self, depth: usize) -> Result<Vec<Actual<'text>>, Stop<'text>> {
-        let mut actuals = Vec::new(self.alloc);
-        for _ in 0..self.rest.len() {
-            let position = self.position();
-            let given = self.given(depth)?;
-            actuals.push(Actual { position, given })?;
-            if !self.eat(",") {
-                break;
-            }
-        }
-        self.expect("}")?;
-        Ok(actuals)
-    }
-
-    /// Reads what is given for a parameter.
-    #[cycle(types)]
-    fn given(&mut self, depth: usize) -> Result<Given<'text>, Stop<'text>> {
+    /// Reads what is given for a parameter and isn't a type.
+    fn given_value(&mut self) -> Result<Given<'text>, Halt<'text>> {
         if self.is("{") {
-            return Ok(Given::Members(self.balanced()?));
-        }
-        if self.begins_type() {
-            Ok(Given::Type(self.read_type(depth)?))
+            Ok(Given::Members(self.balanced()?))
         } else {
             Ok(Given::Value(self.value()?))
         }
     }
 
-    /// Reads the elements of SEQUENCE OF or SET OF, whose size may be before OF (X.680 26, 28).
-    #[cycle(types)]
-    fn element(&mut self, depth: usize) -> Result<ListOf<'text>, Stop<'text>> {
+    /// Takes a size, OF and the name of an element.
+    fn element_start(
+        &mut self,
+    ) -> Result<(Option<Unread<'text>>, Option<&'text str>), Halt<'text>> {
         let size = self.size()?;
         if !self.eat("OF") {
             return Err(self.refuse("{ or OF"));
         }
-        let name = self.element_name();
-        let element = self.read_type(depth)?;
-        Ok(ListOf {
-            size,
-            name,
-            element,
-        })
+        Ok((size, self.element_name()))
     }
-}
 
-impl<'tokens, 'text> Parser<'tokens, 'text> {
     /// Takes a size before OF, in parentheses or not.
-    fn size(&mut self) -> Result<Option<Unread<'text>>, Stop<'text>> {
+    fn size(&mut self) -> Result<Option<Unread<'text>>, Halt<'text>> {
         if self.is("(") {
             return Ok(Some(self.balanced()?));
         }
@@ -144,7 +228,7 @@ impl<'tokens, 'text> Parser<'tokens, 'text> {
     }
 
     /// Reads a type that holds no other.
-    fn simple_type(&mut self) -> Result<Base<'text>, Stop<'text>> {
+    fn simple_type(&mut self) -> Result<Base<'text>, Halt<'text>> {
         match self.peek() {
             Kind::Lower if self.is_after(1, ".") => {
                 let position = self.position();
@@ -157,7 +241,7 @@ impl<'tokens, 'text> Parser<'tokens, 'text> {
     }
 
     /// Reads a type that a reserved word begins.
-    fn worded_type(&mut self) -> Result<Base<'text>, Stop<'text>> {
+    fn worded_type(&mut self) -> Result<Base<'text>, Halt<'text>> {
         let word = self.text();
         if let Some(builtin) = builtin(word) {
             self.skip(1);
@@ -176,7 +260,7 @@ impl<'tokens, 'text> Parser<'tokens, 'text> {
     }
 
     /// Reads an INTEGER, an ENUMERATED or a BIT STRING, whose first word this is.
-    fn type_with_names(&mut self, word: &str) -> Result<Base<'text>, Stop<'text>> {
+    fn type_with_names(&mut self, word: &str) -> Result<Base<'text>, Halt<'text>> {
         self.skip(1);
         if word == "BIT" {
             self.expect("STRING")?;
@@ -190,21 +274,21 @@ impl<'tokens, 'text> Parser<'tokens, 'text> {
     }
 
     /// Reads INSTANCE OF (X.681 C).
-    fn instance_of(&mut self) -> Result<Base<'text>, Stop<'text>> {
+    fn instance_of(&mut self) -> Result<Base<'text>, Halt<'text>> {
         self.skip(1);
         self.expect("OF")?;
         Ok(Base::InstanceOf(self.expect_kind(Kind::Upper, "a class")?))
     }
 
     /// Reads a type of two words.
-    fn pair(&mut self, second: &'static str, builtin: Builtin) -> Result<Base<'text>, Stop<'text>> {
+    fn pair(&mut self, second: &'static str, builtin: Builtin) -> Result<Base<'text>, Halt<'text>> {
         self.skip(1);
         self.expect(second)?;
         Ok(Base::Builtin(builtin))
     }
 
     /// Reads ANY or ANY DEFINED BY (X.208).
-    fn any(&mut self) -> Result<Base<'text>, Stop<'text>> {
+    fn any(&mut self) -> Result<Base<'text>, Halt<'text>> {
         self.skip(1);
         if !self.eat("DEFINED") {
             return Ok(Base::Builtin(Builtin::Any));
@@ -214,7 +298,7 @@ impl<'tokens, 'text> Parser<'tokens, 'text> {
     }
 
     /// Reads names with numbers, if a brace is next (X.680 19.1, 20.1, 22.1).
-    fn named_numbers(&mut self) -> Result<Vec<NamedNumber<'text>>, Stop<'text>> {
+    fn named_numbers(&mut self) -> Result<Vec<NamedNumber<'text>>, Halt<'text>> {
         let mut numbers = Vec::new(self.alloc);
         if !self.eat("{") {
             return Ok(numbers);
@@ -232,9 +316,9 @@ impl<'tokens, 'text> Parser<'tokens, 'text> {
     }
 
     /// Reads a name with a number, or the marker.
-    fn named_number(&mut self) -> Result<NamedNumber<'text>, Stop<'text>> {
+    fn named_number(&mut self) -> Result<NamedNumber<'text>, Halt<'text>> {
         let position = self.position();
-        if self.eat("...") {
+        if self.eat(MARKER) {
             self.exception()?;
             return Ok(NamedNumber {
                 position,
@@ -243,16 +327,22 @@ impl<'tokens, 'text> Parser<'tokens, 'text> {
             });
         }
         let name = Some(self.expect_kind(Kind::Lower, "a name")?);
-        let mut number = None;
-        if self.eat("(") {
-            number = Some(self.value()?);
-            self.expect(")")?;
-        }
+        let number = self.number_of_name()?;
         Ok(NamedNumber {
             position,
             name,
             number,
         })
+    }
+
+    /// Reads a number in parentheses, if one is next.
+    fn number_of_name(&mut self) -> Result<Option<Value<'text>>, Halt<'text>> {
+        if !self.eat("(") {
+            return Ok(None);
+        }
+        let number = self.value()?;
+        self.expect(")")?;
+        Ok(Some(number))
     }
 }
 
@@ -290,9 +380,9 @@ const BUILTINS: [(&str, Builtin); 28] = [
 
 /// Returns the type that the word names alone.
 fn builtin(word: &str) -> Option<Builtin> {
-    for (name, builtin) in BUILTINS {
-        if name == word {
-            return Some(builtin);
+    for (name, builtin) in &BUILTINS {
+        if *name == word {
+            return Some(*builtin);
         }
     }
     None

@@ -1,12 +1,12 @@
 //! Values (X.680 17.7).
-use crate::fault::{Problem, Stop};
+use crate::fault::{Halt, Problem};
 use crate::parser::Parser;
 use crate::token::Kind;
 use crate::tree::Value;
 
 impl<'tokens, 'text> Parser<'tokens, 'text> {
     /// Reads a value. One that others precede, as `name : value` or `Type : value`, is kept unread.
-    pub(crate) fn value(&mut self) -> Result<Value<'text>, Stop<'text>> {
+    pub(crate) fn value(&mut self) -> Result<Value<'text>, Halt<'text>> {
         let start = self.rest;
         let mut is_governed = false;
         for _ in 0..self.rest.len() {
@@ -23,7 +23,7 @@ impl<'tokens, 'text> Parser<'tokens, 'text> {
     }
 
     /// Takes what is before `:`, a type or the name of an alternative, and the colon.
-    fn governor(&mut self) -> Result<(), Stop<'text>> {
+    fn governor(&mut self) -> Result<(), Halt<'text>> {
         let mut count = 0usize;
         for token in self.rest {
             if token.text == ":" || token.text == "::=" {
@@ -39,17 +39,12 @@ impl<'tokens, 'text> Parser<'tokens, 'text> {
     }
 
     /// Reads a value that no other precedes, if one is next.
-    fn plain_value(&mut self) -> Result<Option<Value<'text>>, Stop<'text>> {
+    fn plain_value(&mut self) -> Result<Option<Value<'text>>, Halt<'text>> {
         if self.is_after(1, ":") {
             return Ok(None);
         }
         match self.peek() {
-            Kind::Number => Ok(Some(Value::Number {
-                is_negative: false,
-                digits: self.take(),
-            })),
-            Kind::Text => Ok(Some(Value::Text(self.take()))),
-            Kind::Digits => Ok(Some(Value::Digits(self.take()))),
+            Kind::Number | Kind::Text | Kind::Digits => Ok(self.lone_value()),
             Kind::Lower => Ok(Some(self.named_value()?)),
             Kind::Upper if self.is_after(1, ".") && self.peek_after(2) == Kind::Lower => {
                 Ok(Some(self.outside_value()?))
@@ -63,8 +58,21 @@ impl<'tokens, 'text> Parser<'tokens, 'text> {
         }
     }
 
+    /// Reads a value that is a single item, if one is next.
+    fn lone_value(&mut self) -> Option<Value<'text>> {
+        match self.peek() {
+            Kind::Number => Some(Value::Number {
+                is_negative: false,
+                digits: self.take(),
+            }),
+            Kind::Text => Some(Value::Text(self.take())),
+            Kind::Digits => Some(Value::Digits(self.take())),
+            _ => None,
+        }
+    }
+
     /// Reads the name of a value, or `object.&field`.
-    fn named_value(&mut self) -> Result<Value<'text>, Stop<'text>> {
+    fn named_value(&mut self) -> Result<Value<'text>, Halt<'text>> {
         let start = self.rest;
         let name = self.take();
         if self.is("{") {
@@ -79,7 +87,7 @@ impl<'tokens, 'text> Parser<'tokens, 'text> {
     }
 
     /// Reads `Module.value`.
-    fn outside_value(&mut self) -> Result<Value<'text>, Stop<'text>> {
+    fn outside_value(&mut self) -> Result<Value<'text>, Halt<'text>> {
         let start = self.rest;
         let module = Some(self.take());
         self.skip(1);
@@ -92,7 +100,7 @@ impl<'tokens, 'text> Parser<'tokens, 'text> {
     }
 
     /// Reads a value that begins with a reserved word or a mark, if one is next.
-    fn fixed_value(&mut self) -> Result<Option<Value<'text>>, Stop<'text>> {
+    fn fixed_value(&mut self) -> Result<Option<Value<'text>>, Halt<'text>> {
         let start = self.rest;
         if self.is("{") {
             self.balanced()?;

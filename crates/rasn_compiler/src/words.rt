@@ -3,7 +3,8 @@
 /// An extension marker, and the name of what is unknown after it (X.680 25, 27, 29).
 pub(crate) const MARKER: &str = "...";
 
-/// The words that a module can't use for types or values of its own (X.680 12.38), and ANY, DEFINED and MACRO of X.208.
+/// The words that a module can't use for types or values of its own (X.680 12.38), and ANY, DEFINED
+/// and MACRO of X.208.
 const RESERVED: [&str; 90] = [
     "ABSENT",
     "ALL",

@@ -1,11 +1,12 @@
 //! Constraints that a schema checks: a single range of values or of sizes (X.680 51.4, 51.5).
-use crate::fault::Stop;
+use crate::fault::Halt;
 use crate::lexer::tokens;
 use crate::parser::Parser;
 use crate::position::Position;
 use crate::resolver::node::{Place, Unfolded};
 use crate::resolver::shape::Resolver;
 use crate::tree::{NamedNumber, Unread, Value};
+use crate::words::MARKER;
 use rasn_types::types::{Bound, Bounded, Constraints};
 
 /// A range, open at an end that is None.
@@ -17,7 +18,8 @@ struct Range {
 }
 
 impl Range {
-    /// Returns what is in this range and in one that was known before. An extensible one checks nothing.
+    /// Returns what is in this range and in one that was known before. An extensible one checks
+    /// nothing.
     fn within(self, known: Option<Range>) -> Range {
         match known {
             Some(known) if self.is_extensible => known,
@@ -61,9 +63,14 @@ impl Range {
     }
 }
 
+/// Takes SIZE and a parenthesis, and returns whether they were there.
+fn eat_size(parser: &mut Parser<'_, '_>) -> bool {
+    parser.eat("SIZE") && parser.eat("(")
+}
+
 /// Takes the marker that a comma precedes, and returns whether it was there.
 fn eat_marker(parser: &mut Parser<'_, '_>) -> bool {
-    parser.eat(",") && parser.eat("...")
+    parser.eat(",") && parser.eat(MARKER)
 }
 
 impl<'modules, 'text> Resolver<'modules, 'text> {
@@ -72,7 +79,7 @@ impl<'modules, 'text> Resolver<'modules, 'text> {
         &mut self,
         unfolded: &Unfolded<'text>,
         names: &[NamedNumber<'text>],
-    ) -> Result<Constraints, Stop<'text>> {
+    ) -> Result<Constraints, Halt<'text>> {
         let mut range = None;
         for (place, constraint) in unfolded.constraints.iter().rev() {
             match self.constraint(*place, *constraint, names, unfolded.place, false)? {
@@ -91,7 +98,7 @@ impl<'modules, 'text> Resolver<'modules, 'text> {
         &mut self,
         unfolded: &Unfolded<'text>,
         before_of: Option<Unread<'text>>,
-    ) -> Result<Constraints, Stop<'text>> {
+    ) -> Result<Constraints, Halt<'text>> {
         let mut range = None;
         if let Some(constraint) = before_of {
             range = self.size_within(unfolded.place, constraint, range)?;
@@ -111,7 +118,7 @@ impl<'modules, 'text> Resolver<'modules, 'text> {
         place: Place,
         constraint: Unread<'text>,
         known: Option<Range>,
-    ) -> Result<Option<Range>, Stop<'text>> {
+    ) -> Result<Option<Range>, Halt<'text>> {
         match self.constraint(place, constraint, &[], place, true)? {
             Some(found) => Ok(Some(found.within(known))),
             None => {
@@ -129,18 +136,30 @@ impl<'modules, 'text> Resolver<'modules, 'text> {
         names: &[NamedNumber<'text>],
         home: Place,
         is_size: bool,
-    ) -> Result<Option<Range>, Stop<'text>> {
+    ) -> Result<Option<Range>, Halt<'text>> {
         let items = tokens(self.alloc, constraint.text, constraint.position)?;
         let mut parser = self.parser(place, constraint, items.as_slice());
-        if is_size && !(parser.eat("SIZE") && parser.eat("(")) {
+        if is_size && !eat_size(&mut parser) {
             return Ok(None);
         }
+        self.whole_range(&mut parser, place, names, home, is_size)
+    }
+
+    /// Reads a range that keeps the rules, if nothing follows it.
+    fn whole_range(
+        &mut self,
+        parser: &mut Parser<'_, 'text>,
+        place: Place,
+        names: &[NamedNumber<'text>],
+        home: Place,
+        is_size: bool,
+    ) -> Result<Option<Range>, Halt<'text>> {
         let position = parser.position();
-        let Some(range) = self.range(&mut parser, place, names, home)? else {
+        let Some(range) = self.range(parser, place, names, home)? else {
             return Ok(None);
         };
         self.broken_if(place, position, range.broken(is_size))?;
-        Ok(range.ended(&mut parser, is_size))
+        Ok(range.ended(parser, is_size))
     }
 
     /// Reads a value or a range of values (X.680 51.2, 51.4).
@@ -150,7 +169,7 @@ impl<'modules, 'text> Resolver<'modules, 'text> {
         place: Place,
         names: &[NamedNumber<'text>],
         home: Place,
-    ) -> Result<Option<Range>, Stop<'text>> {
+    ) -> Result<Option<Range>, Halt<'text>> {
         let start = parser.position();
         let Some(low) = read_end(parser, "MIN") else {
             return Ok(None);
@@ -179,7 +198,7 @@ impl<'modules, 'text> Resolver<'modules, 'text> {
         names: &[NamedNumber<'text>],
         home: Place,
         position: Position,
-    ) -> Result<Option<i128>, Stop<'text>> {
+    ) -> Result<Option<i128>, Halt<'text>> {
         match end {
             End::Open => Ok(None),
             End::At(value) => {

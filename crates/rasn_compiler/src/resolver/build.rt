@@ -1,9 +1,9 @@
 //! The list of types that are being resolved.
-use crate::fault::{Problem, Stop};
+use crate::fault::Halt;
 use crate::position::Position;
-use crate::resolver::node::{Asked, Node, Shape, Use};
+use crate::resolver::node::{Asked, Node, Part, Shape, Use};
 use crate::resolver::shape::Resolver;
-use std::alloc::AllocError;
+use std::alloc::{AllocError, Global};
 use std::collections::BTreeMap;
 
 /// How many types a type may be made of.
@@ -24,6 +24,15 @@ struct Requests<'text> {
 }
 
 impl<'text> Requests<'text> {
+    fn new(alloc: Global) -> Requests<'text> {
+        Requests {
+            asked: Vec::new(alloc),
+            numbers: BTreeMap::new(alloc),
+            nodes: Vec::new(alloc),
+            parts: 0,
+        }
+    }
+
     /// Returns the node of a type, which is added if it isn't there.
     fn node_of(&mut self, asked: Asked<'text>) -> Result<usize, AllocError> {
         if let Some(node) = self.numbers.get(&asked.of) {
@@ -42,13 +51,8 @@ impl<'modules, 'text> Resolver<'modules, 'text> {
         &mut self,
         of: Use,
         name: &'text str,
-    ) -> Result<Vec<Node<'text>>, Stop<'text>> {
-        let mut requests = Requests {
-            asked: Vec::new(self.alloc),
-            numbers: BTreeMap::new(self.alloc),
-            nodes: Vec::new(self.alloc),
-            parts: 0,
-        };
+    ) -> Result<Vec<Node<'text>>, Halt<'text>> {
+        let mut requests = Requests::new(self.alloc);
         self.request(&mut requests, of, name)?;
         for next in 0..MAX_TYPES {
             let Some(asked) = requests.asked.get(next).copied() else {
@@ -60,10 +64,7 @@ impl<'modules, 'text> Resolver<'modules, 'text> {
                 break;
             }
         }
-        Err(
-            self.modules
-                .fault(of.place.module, Position::START, Problem::TooLarge),
-        )
+        Err(self.too_large(of.place, Position::START))
     }
 
     /// Resolves a type that was asked for.
@@ -71,7 +72,7 @@ impl<'modules, 'text> Resolver<'modules, 'text> {
         &mut self,
         requests: &mut Requests<'text>,
         asked: Asked<'text>,
-    ) -> Result<(), Stop<'text>> {
+    ) -> Result<(), Halt<'text>> {
         let position = self
             .modules
             .type_at(asked.of.place.module, asked.of.index)?
@@ -89,9 +90,21 @@ impl<'modules, 'text> Resolver<'modules, 'text> {
         requests: &mut Requests<'text>,
         of: Use,
         name: &'text str,
-    ) -> Result<usize, Stop<'text>> {
+    ) -> Result<usize, Halt<'text>> {
         let asked = self.asked(of, name)?;
         Ok(requests.node_of(asked)?)
+    }
+
+    /// Asks for the types of components or alternatives.
+    fn request_parts(
+        &mut self,
+        requests: &mut Requests<'text>,
+        parts: &mut Vec<Part<'text>>,
+    ) -> Result<(), Halt<'text>> {
+        for part in parts.iter_mut() {
+            part.node = self.request(requests, part.of, part.name)?;
+        }
+        Ok(())
     }
 
     /// Returns a node, and asks for the types that it is made of.
@@ -101,11 +114,9 @@ impl<'modules, 'text> Resolver<'modules, 'text> {
         asked: Asked<'text>,
         position: Position,
         shape: Shape<'text>,
-    ) -> Result<Node<'text>, Stop<'text>> {
+    ) -> Result<Node<'text>, Halt<'text>> {
         let mut shape = shape;
-        for part in shape.parts.iter_mut() {
-            part.node = self.request(requests, part.of, part.name)?;
-        }
+        self.request_parts(requests, &mut shape.parts)?;
         let inner = match shape.inner {
             Some(of) => self.request(requests, of, asked.name)?,
             None => 0,

@@ -1,22 +1,15 @@
 //! Components and alternatives (X.680 25, 27, 29).
-use crate::fault::{Problem, Stop};
+use crate::fault::Halt;
 use crate::modules::Modules;
 use crate::position::Position;
 use crate::resolver::included::Listed;
 use crate::resolver::node::{Part, Place, Use};
 use crate::resolver::shape::Resolver;
 use crate::tree::{Component, Presence as Written, Tagging, TypeIndex};
+use crate::types::Within;
 use rasn_schema::Presence;
 use std::alloc::Global;
 use std::collections::BTreeSet;
-
-/// What a list of components or alternatives is that of.
-#[derive(Clone, Copy, PartialEq, Eq)]
-pub(crate) enum Within {
-    Sequence,
-    Set,
-    Choice,
-}
 
 /// The components of a SEQUENCE or a SET, or the alternatives of a CHOICE.
 #[derive(Drop)]
@@ -54,12 +47,14 @@ impl<'text> Seen<'text> {
         }
     }
 
-    /// Returns whether an extension addition is next: between the markers, or after the only one (X.680 25.1).
+    /// Returns whether an extension addition is next: between the markers, or after the only one
+    /// (X.680 25.1).
     fn is_addition(&self) -> bool {
         self.markers == 1
     }
 
-    /// Counts a component and returns its automatic tag: first the roots are counted, then the additions (X.680 25.7, 29.2).
+    /// Counts a component and returns its automatic tag: first the roots are counted, then the
+    /// additions (X.680 25.7, 29.2).
     fn count(&mut self) -> Option<u32> {
         let number = if self.is_addition() {
             let number = self.roots.saturating_add(self.additions);
@@ -77,8 +72,10 @@ impl<'text> Seen<'text> {
         }
     }
 
-    /// Returns the rule that a marker breaks here: two are allowed, and nothing follows the second of a CHOICE (X.680 25.1, 29.1).
-    fn after_marker(&self) -> Option<&'static str> {
+    /// Counts a marker, and returns the rule that it breaks: two are allowed, and nothing follows
+    /// the second of a CHOICE (X.680 25.1, 29.1).
+    fn add_marker(&mut self) -> Option<&'static str> {
+        self.markers = self.markers.saturating_add(1);
         if self.markers > 2 {
             return Some("more than two markers (X.680 25.1, 29.1)");
         }
@@ -107,29 +104,38 @@ impl<'modules, 'text> Resolver<'modules, 'text> {
         place: Place,
         list: &[Component<'text>],
         within: Within,
-    ) -> Result<Components<'text>, Stop<'text>> {
-        let mut parts = Vec::new(self.alloc);
+    ) -> Result<Components<'text>, Halt<'text>> {
         let is_automatic = self.is_automatic(place, list)?;
         let listed = self.listed(place, list, within, is_automatic)?;
         let roots = count_roots(listed.as_slice());
         let mut seen = Seen::new(self.alloc, within, is_automatic, roots);
-        for listed in &listed {
-            if let Some(part) = self.part(*listed, &mut seen)? {
+        Ok(Components {
+            parts: self.parts(listed.as_slice(), &mut seen)?,
+            is_extensible: has_unknown(self.modules, place, listed.as_slice(), within),
+        })
+    }
+
+    /// Resolves the components or alternatives of a list.
+    fn parts(
+        &mut self,
+        list: &[Listed<'text>],
+        seen: &mut Seen<'text>,
+    ) -> Result<Vec<Part<'text>>, Halt<'text>> {
+        let mut parts = Vec::new(self.alloc);
+        for listed in list {
+            if let Some(part) = self.part(listed, seen)? {
                 parts.push(part)?;
             }
         }
-        Ok(Components {
-            parts,
-            is_extensible: has_unknown(self.modules, place, listed.as_slice(), within),
-        })
+        Ok(parts)
     }
 
     /// Resolves a component or an alternative, if it isn't a marker.
     fn part(
         &mut self,
-        listed: Listed<'text>,
+        listed: &Listed<'text>,
         seen: &mut Seen<'text>,
-    ) -> Result<Option<Part<'text>>, Stop<'text>> {
+    ) -> Result<Option<Part<'text>>, Halt<'text>> {
         let place = listed.place;
         match listed.component {
             Component::Named {
@@ -153,8 +159,7 @@ impl<'modules, 'text> Resolver<'modules, 'text> {
                 }))
             }
             Component::Marker(position) => {
-                seen.markers = seen.markers.saturating_add(1);
-                self.broken_if(place, position, seen.after_marker())?;
+                self.broken_if(place, position, seen.add_marker())?;
                 Ok(None)
             }
             Component::Of(_) => Ok(None),
@@ -169,40 +174,22 @@ impl<'modules, 'text> Resolver<'modules, 'text> {
         name: &'text str,
         written: Written<'text>,
         seen: &mut Seen<'text>,
-    ) -> Result<(), Stop<'text>> {
+    ) -> Result<(), Halt<'text>> {
         self.broken_if(place, position, seen.broken_by(written))?;
-        if seen.names.contains(&name) {
+        if !seen.names.insert(name)? {
             let rule = "two components or alternatives have the same name (X.680 25, 27, 29)";
-            return self.broken_if(place, position, Some(rule));
+            return Err(self.broken(place, position, rule));
         }
-        seen.names.insert(name)?;
         Ok(())
     }
 
-    /// Returns a fault if a rule is broken.
-    pub(crate) fn broken_if(
-        &self,
-        place: Place,
-        position: Position,
-        rule: Option<&'static str>,
-    ) -> Result<(), Stop<'text>> {
-        match rule {
-            Some(rule) => {
-                Err(
-                    self.modules
-                        .fault(place.module, position, Problem::Broken(rule)),
-                )
-            }
-            None => Ok(()),
-        }
-    }
-
-    /// Returns whether the components of a list get automatic tags: none of them has a tag that is written (X.680 25.7, 29.2).
+    /// Returns whether the components of a list get automatic tags: none of them has a tag that is
+    /// written (X.680 25.7, 29.2).
     pub(crate) fn is_automatic(
         &self,
         place: Place,
         list: &[Component<'text>],
-    ) -> Result<bool, Stop<'text>> {
+    ) -> Result<bool, Halt<'text>> {
         if self.modules.tagging(place.module) != Tagging::Automatic {
             return Ok(false);
         }
@@ -216,14 +203,15 @@ impl<'modules, 'text> Resolver<'modules, 'text> {
         Ok(true)
     }
 
-    /// Returns whether a component may be absent. An extension addition may, since values of an earlier version don't have it.
+    /// Returns whether a component may be absent. An extension addition may, since values of an
+    /// earlier version don't have it.
     fn presence(
         &mut self,
         place: Place,
         of: TypeIndex,
         written: Written<'text>,
         is_addition: bool,
-    ) -> Result<Presence, Stop<'text>> {
+    ) -> Result<Presence, Halt<'text>> {
         match written {
             Written::Required if is_addition => Ok(Presence::Optional),
             Written::Required => Ok(Presence::Required),
@@ -236,9 +224,9 @@ impl<'modules, 'text> Resolver<'modules, 'text> {
     }
 }
 
-/// Returns whether such components or alternatives have unknown ones after them: where a SEQUENCE or a
-/// CHOICE has its additions at its end, and where a SET has some anywhere. A module may imply a marker
-/// (X.680 13.4, 25, 27, 29).
+/// Returns whether such components or alternatives have unknown ones after them: where a SEQUENCE
+/// or a CHOICE has its additions at its end, and where a SET has some anywhere. A module may imply
+/// a marker (X.680 13.4, 25, 27, 29).
 pub(crate) fn has_unknown(
     modules: &Modules<'_>,
     place: Place,
@@ -248,7 +236,7 @@ pub(crate) fn has_unknown(
     let is_implied = modules.is_extensible(place.module);
     match within {
         Within::Set => is_implied || has_marker(list),
-        Within::Sequence | Within::Choice => ends_open(list, is_implied),
+        Within::Sequence | Within::Choice => ends_with_additions(list, is_implied),
     }
 }
 
@@ -262,22 +250,22 @@ fn has_marker(list: &[Listed<'_>]) -> bool {
     false
 }
 
-/// Returns whether additions come after all components: after the only marker, or before a second one
-/// that nothing follows (X.680 25).
-fn ends_open(list: &[Listed<'_>], is_implied: bool) -> bool {
-    let mut ends_open = is_implied;
+/// Returns whether additions come after all components: after the only marker, or before a second
+/// one that nothing follows (X.680 25).
+fn ends_with_additions(list: &[Listed<'_>], is_implied: bool) -> bool {
+    let mut are_last = is_implied;
     let mut markers = 0usize;
     for listed in list {
         match listed.component {
             Component::Marker(_) => {
                 markers = markers.saturating_add(1);
-                ends_open = true;
+                are_last = true;
             }
-            _ if markers > 1 => ends_open = false,
+            _ if markers > 1 => are_last = false,
             _ => {}
         }
     }
-    ends_open
+    are_last
 }
 
 /// Returns how many components are outside the extension additions.

@@ -1,5 +1,5 @@
 //! Values after DEFAULT (X.680 25, 17.7).
-use crate::fault::{Problem, Stop};
+use crate::fault::Halt;
 use crate::position::Position;
 use crate::resolver::digits::{Bits, Digits, read_digits};
 use crate::resolver::enumerated::Enumeration;
@@ -27,14 +27,14 @@ impl<'modules, 'text> Resolver<'modules, 'text> {
         of: TypeIndex,
         value: Written<'text>,
         position: Position,
-    ) -> Result<Value<'static>, Stop<'text>> {
+    ) -> Result<Value<'static>, Halt<'text>> {
         let spelled = Spelled {
             place,
             value,
             position,
         };
         let mut left = MAX_VALUES;
-        self.value_of(place, of.0, spelled, MAX_VALUE_DEPTH, &mut left)
+        self.value_of(place, of.0, &spelled, MAX_VALUE_DEPTH, &mut left)
     }
 
     /// Returns a value of a type that isn't made of others.
@@ -42,18 +42,10 @@ impl<'modules, 'text> Resolver<'modules, 'text> {
         &mut self,
         at: Place,
         base: &Base<'text>,
-        spelled: Spelled<'text>,
-    ) -> Result<Value<'static>, Stop<'text>> {
+        spelled: &Spelled<'text>,
+    ) -> Result<Value<'static>, Halt<'text>> {
         match base {
-            Base::Integer(names) => {
-                let Spelled {
-                    place,
-                    value,
-                    position,
-                } = spelled;
-                let number = self.number(place, value, names.as_slice(), at, position)?;
-                self.number_default(number)
-            }
+            Base::Integer(names) => self.integer_default(at, names.as_slice(), spelled),
             Base::Enumerated(names) => self.enumerated_default(at, names.as_slice(), spelled),
             Base::BitString(names) => self.bits_default(at, base, names.as_slice(), spelled),
             Base::Builtin(Builtin::ObjectIdentifier) => self.identifier_default(spelled),
@@ -62,26 +54,46 @@ impl<'modules, 'text> Resolver<'modules, 'text> {
         }
     }
 
+    /// Returns a value of an INTEGER (X.680 19.9).
+    fn integer_default(
+        &mut self,
+        at: Place,
+        names: &[NamedNumber<'text>],
+        spelled: &Spelled<'text>,
+    ) -> Result<Value<'static>, Halt<'text>> {
+        let number = self.number(spelled.place, spelled.value, names, at, spelled.position)?;
+        self.number_default(number)
+    }
+
     /// Returns a value of an ENUMERATED (X.680 20.8).
     fn enumerated_default(
         &mut self,
         at: Place,
         names: &[NamedNumber<'text>],
-        spelled: Spelled<'text>,
-    ) -> Result<Value<'static>, Stop<'text>> {
+        spelled: &Spelled<'text>,
+    ) -> Result<Value<'static>, Halt<'text>> {
         let Enumeration { numbers, .. } = self.enumeration(at, names, spelled.position)?;
-        if let Some(number) = number_of(numbers.as_slice(), spelled.value) {
-            return self.number_default(number as i128);
-        }
-        let meant = self.named_once(spelled)?;
-        match number_of(numbers.as_slice(), meant.value) {
+        match self.enumerated_value(numbers.as_slice(), spelled)? {
             Some(number) => self.number_default(number as i128),
             None => Err(self.misfit(spelled)),
         }
     }
 
+    /// Returns the number of the name that a value is, or that it means.
+    fn enumerated_value(
+        &self,
+        numbers: &[Numbered],
+        spelled: &Spelled<'text>,
+    ) -> Result<Option<isize>, Halt<'text>> {
+        if let Some(number) = number_of(numbers, spelled.value) {
+            return Ok(Some(number));
+        }
+        let meant = self.named_once(spelled)?;
+        Ok(number_of(numbers, meant.value))
+    }
+
     /// Returns a number as a value.
-    fn number_default(&self, number: i128) -> Result<Value<'static>, Stop<'text>> {
+    fn number_default(&self, number: i128) -> Result<Value<'static>, Halt<'text>> {
         Ok(Value::Integer(Integer::from_i128(self.alloc, number)?))
     }
 
@@ -91,80 +103,79 @@ impl<'modules, 'text> Resolver<'modules, 'text> {
         at: Place,
         base: &Base<'text>,
         names: &[NamedNumber<'text>],
-        spelled: Spelled<'text>,
-    ) -> Result<Value<'static>, Stop<'text>> {
+        spelled: &Spelled<'text>,
+    ) -> Result<Value<'static>, Halt<'text>> {
         let meant = self.meant(spelled)?;
         let Written::Unread(_) = meant.value else {
-            return self.other_default(base, meant);
+            return self.other_default(base, &meant);
         };
+        match self.named_bits(at, names, &meant)?.into_string() {
+            Some(bits) => Ok(Value::Bits(CowBits::Owned(bits))),
+            None => Err(self.unsupported_default(spelled)),
+        }
+    }
+
+    /// Returns the bits that are set by their names or numbers.
+    fn named_bits(
+        &mut self,
+        at: Place,
+        names: &[NamedNumber<'text>],
+        spelled: &Spelled<'text>,
+    ) -> Result<Bits, Halt<'text>> {
         let mut bits = Bits::new(self.alloc);
-        for bit in &self.listed_values(meant)? {
+        for bit in &self.listed_values(spelled)? {
             let number = self.number(bit.place, bit.value, names, at, bit.position)?;
             if !bits.set(number)? {
-                return Err(self.unsupported(*bit));
+                return Err(self.unsupported_default(bit));
             }
         }
-        match bits.into_string() {
-            Some(bits) => Ok(Value::Bits(CowBits::Owned(bits))),
-            None => Err(self.unsupported(spelled)),
-        }
+        Ok(bits)
     }
 
     /// Returns a value of another type.
     fn other_default(
         &mut self,
         base: &Base<'text>,
-        spelled: Spelled<'text>,
-    ) -> Result<Value<'static>, Stop<'text>> {
+        spelled: &Spelled<'text>,
+    ) -> Result<Value<'static>, Halt<'text>> {
         let meant = self.meant(spelled)?;
         match plain_default(self.alloc, base, meant.value)? {
             Some(value) => Ok(value),
             None if is_misfit(base, meant.value) => Err(self.misfit(spelled)),
-            None => Err(self.unsupported(spelled)),
+            None => Err(self.unsupported_default(spelled)),
         }
     }
 
     /// Returns the fault of a default value that a schema can't carry.
-    pub(crate) fn unsupported(&self, spelled: Spelled<'text>) -> Stop<'text> {
-        let problem = Problem::Unsupported("such a default value");
-        self.modules
-            .fault(spelled.place.module, spelled.position, problem)
+    pub(crate) fn unsupported_default(&self, spelled: &Spelled<'text>) -> Halt<'text> {
+        self.unsupported(spelled.place, spelled.position, "such a default value")
     }
 
     /// Returns the fault of a value that isn't one of the type.
-    pub(crate) fn misfit(&self, spelled: Spelled<'text>) -> Stop<'text> {
-        let problem = Problem::Broken("the default isn't a value of the type (X.680 25)");
-        self.modules
-            .fault(spelled.place.module, spelled.position, problem)
+    pub(crate) fn misfit(&self, spelled: &Spelled<'text>) -> Halt<'text> {
+        let rule = "the default isn't a value of the type (X.680 25)";
+        self.broken(spelled.place, spelled.position, rule)
     }
 
     /// Returns the value that a name means.
-    pub(crate) fn meant(&self, spelled: Spelled<'text>) -> Result<Spelled<'text>, Stop<'text>> {
-        let mut found = spelled;
+    pub(crate) fn meant(&self, spelled: &Spelled<'text>) -> Result<Spelled<'text>, Halt<'text>> {
+        let mut found = *spelled;
         for _ in 0..MAX_NAMES {
             let Written::Name { .. } = found.value else {
                 return Ok(found);
             };
-            found = self.named_once(found)?;
+            found = self.named_once(&found)?;
         }
-        let problem = Problem::Unsupported("a value of so many names");
-        Err(
-            self.modules
-                .fault(spelled.place.module, spelled.position, problem),
-        )
+        Err(self.unsupported(spelled.place, spelled.position, "a value of so many names"))
     }
 
     /// Returns what a value means if it is the name of another.
-    fn named_once(&self, spelled: Spelled<'text>) -> Result<Spelled<'text>, Stop<'text>> {
+    fn named_once(&self, spelled: &Spelled<'text>) -> Result<Spelled<'text>, Halt<'text>> {
         let Written::Name { module, name } = spelled.value else {
-            return Ok(spelled);
+            return Ok(*spelled);
         };
-        let Spelled {
-            place,
-            position,
-            ..
-        } = spelled;
-        let named = self.value_meant(place, module, name, position, "a value")?;
+        let position = spelled.position;
+        let named = self.value_meant(spelled.place, module, name, position, "a value")?;
         Ok(Spelled {
             place: named.place,
             value: named.value,

@@ -3,7 +3,7 @@ ghost use Rattle.std.specs.Prelude.{◌≡◌, ◌<◌, length, IfOk, OnOk, Some
 ghost use Rattle.rasn_schema.specs.Named.{IsNamed};
 ghost use Rattle.rasn_schema.specs.declared.type_id.TypeId.{TypeId};
 
-use crate::fault::{Problem, Stop};
+use crate::fault::{Halt, Problem};
 use crate::modules::Modules;
 use crate::position::Position;
 use crate::resolver::Resolved;
@@ -17,14 +17,15 @@ use rasn_types::types::Tag;
 use std::alloc::{AllocError, Global};
 use std::mem;
 
-/// Returns the schema of the types that were resolved. The root is the type of the first node, which is named so.
+/// Returns the schema of the types that were resolved. The root is the type of the first node,
+/// which is named so.
 pub(crate) fn emit<'text>(
     alloc: Global,
     modules: &Modules<'text>,
     nodes: Vec<Node<'text>>,
     name: &str,
     unchecked: usize,
-) -> Result<Resolved, Stop<'text>>
+) -> Result<Resolved, Halt<'text>>
     ensures root { IfOk result (λ r. r.root.0 < length r.schema.types.items) }
     ensures named { IfOk result (λ r. (names : _) × (r.schema.names ≡ Some names) × IsNamed names.items name.now r.root) }
 {
@@ -69,15 +70,20 @@ fn filled(
     let mut has_unknown = false;
     for index in &order.nodes {
         if let Some(node) = nodes.get_mut(*index) {
-            fill(alloc, node, order)?;
             has_unknown = has_unknown || ends_unknown(node);
-            types.push(mem::replace(&mut node.ty, Type::Any { tag: Tag::EOC }))?;
+            types.push(taken(alloc, node, order)?)?;
         }
     }
     if has_unknown {
         types.push(Type::Unknown)?;
     }
     Ok(types)
+}
+
+/// Takes the type of a node, with the numbers of types in place of those of nodes.
+fn taken(alloc: Global, node: &mut Node<'_>, order: &Order) -> Result<Type, AllocError> {
+    fill(alloc, node, order)?;
+    Ok(mem::replace(&mut node.ty, Type::Any { tag: Tag::EOC }))
 }
 
 /// Returns whether unknown values are the last component of a type.

@@ -1,5 +1,5 @@
 //! Named numbers (X.680 19) and enumerations (X.680 20).
-use crate::fault::{Problem, Stop};
+use crate::fault::Halt;
 use crate::position::Position;
 use crate::resolver::node::Place;
 use crate::resolver::shape::Resolver;
@@ -7,6 +7,9 @@ use crate::tree::{NamedNumber, Value};
 use rasn_schema::NamedNumber as Numbered;
 use std::alloc::{AllocError, Global};
 use std::collections::BTreeSet;
+
+/// What is wrong with a number of an ENUMERATED that another name has.
+const REPEATED: &str = "two of the numbers are the same (X.680 20.3)";
 
 /// The names of an ENUMERATED, with their numbers.
 #[derive(Drop)]
@@ -54,27 +57,36 @@ impl<'modules, 'text> Resolver<'modules, 'text> {
         place: Place,
         names: &[NamedNumber<'text>],
         position: Position,
-    ) -> Result<Vec<Numbered>, Stop<'text>> {
+    ) -> Result<Vec<Numbered>, Halt<'text>> {
         self.check_names(place, names)?;
         let mut used = BTreeSet::new(self.alloc);
         let mut numbers = Vec::new(self.alloc);
         for named in names {
-            let (Some(name), Some(value)) = (named.name, named.number) else {
-                let problem = Problem::Expected("a name with a number");
-                return Err(self.modules.fault(place.module, position, problem));
-            };
-            let number = self.enumerated_number(place, value, named.position)?;
-            if used.contains(&number) {
+            let found = self.name_with_number(place, named, position)?;
+            if !used.insert(found.number)? {
                 let rule = "two of the numbers are the same (X.680 19)";
-                self.broken_if(place, named.position, Some(rule))?;
+                return Err(self.broken(place, named.position, rule));
             }
-            used.insert(number)?;
-            numbers.push(Numbered {
-                name: String::from_str(self.alloc, name)?,
-                number,
-            })?;
+            numbers.push(found)?;
         }
         Ok(numbers)
+    }
+
+    /// Returns a name of an INTEGER's number.
+    fn name_with_number(
+        &mut self,
+        place: Place,
+        named: &NamedNumber<'text>,
+        position: Position,
+    ) -> Result<Numbered, Halt<'text>> {
+        let (Some(name), Some(value)) = (named.name, named.number) else {
+            return Err(self.expected(place, position, "a name with a number"));
+        };
+        let number = self.enumerated_number(place, value, named.position)?;
+        Ok(Numbered {
+            name: String::from_str(self.alloc, name)?,
+            number,
+        })
     }
 
     /// Returns the names of an ENUMERATED with their numbers (X.680 20). A name without a number
@@ -85,25 +97,13 @@ impl<'modules, 'text> Resolver<'modules, 'text> {
         place: Place,
         names: &[NamedNumber<'text>],
         position: Position,
-    ) -> Result<Enumeration, Stop<'text>> {
+    ) -> Result<Enumeration, Halt<'text>> {
         self.check_names(place, names)?;
         let root = root_length(names);
         self.broken_if(place, position, misplaced(names, root))?;
-        let used = self.written_numbers(place, names.get(..root).unwrap_or(&[]))?;
-        let mut found = Numbering {
-            numbers: Vec::new(self.alloc),
-            used,
-            free: 0,
-        };
+        let mut found = self.numbering(place, names.get(..root).unwrap_or(&[]))?;
         for (index, named) in names.iter().enumerate() {
-            match named.name {
-                Some(name) => {
-                    let written = self.written_number(place, *named)?;
-                    let is_new = found.add(self.alloc, name, written, index >= root)?;
-                    self.repeated_if(place, named.position, !is_new)?;
-                }
-                None => found.free = 0,
-            }
+            self.add_name(place, &mut found, named, index >= root)?;
         }
         let Numbering { numbers, .. } = found;
         Ok(Enumeration {
@@ -112,57 +112,68 @@ impl<'modules, 'text> Resolver<'modules, 'text> {
         })
     }
 
-    /// Refuses a number that another name has (X.680 20.3).
-    fn repeated_if(
-        &self,
+    /// Adds a name to those of an ENUMERATED. After the marker the lowest number is free again.
+    fn add_name(
+        &mut self,
         place: Place,
-        position: Position,
-        is_repeated: bool,
-    ) -> Result<(), Stop<'text>> {
-        if is_repeated {
-            let rule = "two of the numbers are the same (X.680 20.3)";
-            return self.broken_if(place, position, Some(rule));
+        found: &mut Numbering,
+        named: &NamedNumber<'text>,
+        is_addition: bool,
+    ) -> Result<(), Halt<'text>> {
+        let Some(name) = named.name else {
+            found.free = 0;
+            return Ok(());
+        };
+        let written = self.written_number(place, named)?;
+        if found.add(self.alloc, name, written, is_addition)? {
+            Ok(())
+        } else {
+            Err(self.broken(place, named.position, REPEATED))
         }
-        Ok(())
     }
 
     /// Refuses a name that is twice in a list (X.680 19, 20).
-    fn check_names(&self, place: Place, names: &[NamedNumber<'text>]) -> Result<(), Stop<'text>> {
+    fn check_names(&self, place: Place, names: &[NamedNumber<'text>]) -> Result<(), Halt<'text>> {
         let mut seen = BTreeSet::new(self.alloc);
         for named in names {
             if let Some(name) = named.name {
-                if seen.contains(&name) {
+                if !seen.insert(name)? {
                     let rule = "two names are the same (X.680 19, 20)";
-                    self.broken_if(place, named.position, Some(rule))?;
+                    return Err(self.broken(place, named.position, rule));
                 }
-                seen.insert(name)?;
             }
         }
         Ok(())
     }
 
-    /// Returns the numbers that are written in an enumeration, which have to be distinct.
-    fn written_numbers(
+    /// Returns the numbers that are written in the root of an enumeration, which have to be
+    /// distinct.
+    fn numbering(
         &mut self,
         place: Place,
         names: &[NamedNumber<'text>],
-    ) -> Result<BTreeSet<isize>, Stop<'text>> {
+    ) -> Result<Numbering, Halt<'text>> {
         let mut used = BTreeSet::new(self.alloc);
         for named in names {
-            if let Some(number) = self.written_number(place, *named)? {
-                let is_new = used.insert(number)?;
-                self.repeated_if(place, named.position, !is_new)?;
+            if let Some(number) = self.written_number(place, named)? {
+                if !used.insert(number)? {
+                    return Err(self.broken(place, named.position, REPEATED));
+                }
             }
         }
-        Ok(used)
+        Ok(Numbering {
+            numbers: Vec::new(self.alloc),
+            used,
+            free: 0,
+        })
     }
 
     /// Returns the number that is written after a name.
     fn written_number(
         &mut self,
         place: Place,
-        named: NamedNumber<'text>,
-    ) -> Result<Option<isize>, Stop<'text>> {
+        named: &NamedNumber<'text>,
+    ) -> Result<Option<isize>, Halt<'text>> {
         match named.number {
             Some(value) => Ok(Some(self.enumerated_number(place, value, named.position)?)),
             None => Ok(None),
@@ -175,14 +186,11 @@ impl<'modules, 'text> Resolver<'modules, 'text> {
         place: Place,
         value: Value<'text>,
         position: Position,
-    ) -> Result<isize, Stop<'text>> {
+    ) -> Result<isize, Halt<'text>> {
         let number = self.number(place, value, &[], place, position)?;
         match isize::try_from(number) {
             Ok(number) => Ok(number),
-            Err(_) => {
-                let problem = Problem::Unsupported("a named number outside 64 bits");
-                Err(self.modules.fault(place.module, position, problem))
-            }
+            Err(_) => { Err(self.unsupported(place, position, "a named number outside 64 bits")) }
         }
     }
 }

@@ -1,23 +1,24 @@
 //! Fields of classes, and alternatives of a CHOICE that are selected (X.681 14, X.680 30).
-use crate::fault::{Problem, Stop};
+use crate::fault::Halt;
 use crate::position::Position;
-use crate::resolver::included::automatic_number;
 use crate::resolver::lookup::MAX_NAMES;
 use crate::resolver::meant::Meant;
 use crate::resolver::node::Place;
 use crate::resolver::reference::Next;
 use crate::resolver::shape::Resolver;
+use crate::resolver::value::alternative_named;
 use crate::tree::{Actual, Assigned, Base, Component, Field, Given, TypeIndex};
 
 impl<'modules, 'text> Resolver<'modules, 'text> {
-    /// Returns the type of a class's field, or None if any type may be there (X.681 14.2). The fields before the last are of objects.
+    /// Returns the type of a class's field, or None if any type may be there (X.681 14.2). The
+    /// fields before the last are of objects.
     pub(crate) fn field_type(
         &mut self,
         place: Place,
         class: TypeIndex,
         path: &[&'text str],
         position: Position,
-    ) -> Result<Option<Next<'text>>, Stop<'text>> {
+    ) -> Result<Option<Next<'text>>, Halt<'text>> {
         let mut at = place;
         let mut of = Some(class);
         for name in path {
@@ -26,8 +27,7 @@ impl<'modules, 'text> Resolver<'modules, 'text> {
             };
             let (found, fields) = self.class_of(at, class.0, position)?;
             let Some(field) = field_named(fields, name) else {
-                let problem = Problem::Undefined(name);
-                return Err(self.modules.fault(place.module, position, problem));
+                return Err(self.undefined(place, position, name));
             };
             at = found;
             of = field.of;
@@ -44,7 +44,7 @@ impl<'modules, 'text> Resolver<'modules, 'text> {
         place: Place,
         index: usize,
         position: Position,
-    ) -> Result<(Place, &'modules [Field<'text>]), Stop<'text>> {
+    ) -> Result<(Place, &'modules [Field<'text>]), Halt<'text>> {
         let modules = self.modules;
         let mut at = place;
         let mut index = index;
@@ -70,7 +70,8 @@ impl<'modules, 'text> Resolver<'modules, 'text> {
         Err(self.expected(place, position, "a class"))
     }
 
-    /// Returns what the name of a class means, a class or a reference to one, or what a parameter of this name is given.
+    /// Returns what the name of a class means, a class or a reference to one, or what a parameter
+    /// of this name is given.
     fn class_meant(
         &mut self,
         place: Place,
@@ -78,7 +79,7 @@ impl<'modules, 'text> Resolver<'modules, 'text> {
         name: &'text str,
         actuals: &[Actual<'text>],
         position: Position,
-    ) -> Result<(Place, usize), Stop<'text>> {
+    ) -> Result<(Place, usize), Halt<'text>> {
         let (module, assignment) = match self.meaning(place, outside, name, position)? {
             Meant::Given(at, Given::Type(index)) => return Ok((at, index.0)),
             Meant::Given(_, _) => return Err(self.expected(place, position, "a class")),
@@ -88,8 +89,8 @@ impl<'modules, 'text> Resolver<'modules, 'text> {
             Assigned::Class { fields, .. } => fields.0,
             Assigned::Type(of) => of.0,
             Assigned::Value { .. } | Assigned::Values { .. } => {
-                let problem = Problem::Unsupported("the type of an object's field");
-                return Err(self.modules.fault(place.module, position, problem));
+                let what = "the type of an object's field";
+                return Err(self.unsupported(place, position, what));
             }
             Assigned::Macro => return Err(self.expected(place, position, "a class")),
         };
@@ -103,7 +104,7 @@ impl<'modules, 'text> Resolver<'modules, 'text> {
         place: Place,
         class: &'text str,
         position: Position,
-    ) -> Result<Next<'text>, Stop<'text>> {
+    ) -> Result<Next<'text>, Halt<'text>> {
         let (at, index) = self.class_meant(place, None, class, &[], position)?;
         self.class_of(at, index, position)?;
         self.given_type("InstanceOf", "INSTANCE OF")
@@ -116,31 +117,16 @@ impl<'modules, 'text> Resolver<'modules, 'text> {
         name: &'text str,
         of: usize,
         position: Position,
-    ) -> Result<Next<'text>, Stop<'text>> {
+    ) -> Result<Next<'text>, Halt<'text>> {
         let (at, list) = self.choice_of(place, of, position)?;
         let is_automatic = self.is_automatic(at, list)?;
-        for (index, component) in list.iter().enumerate() {
-            if let Component::Named {
-                name: found,
-                of,
-                ..
-            } = component
-            {
-                if *found == name {
-                    let automatic = if is_automatic {
-                        Some(automatic_number(list, index))
-                    } else {
-                        None
-                    };
-                    return Ok(Next {
-                        automatic,
-                        ..Next::of(at, of.0)
-                    });
-                }
-            }
+        match alternative_named(list, name) {
+            Some((index, of)) => Ok(Next {
+                automatic: automatic_tag(is_automatic, index),
+                ..Next::of(at, of.0)
+            }),
+            None => Err(self.undefined(place, position, name)),
         }
-        let problem = Problem::Undefined(name);
-        Err(self.modules.fault(place.module, position, problem))
     }
 
     /// Returns the alternatives of a CHOICE, following references to it.
@@ -149,7 +135,7 @@ impl<'modules, 'text> Resolver<'modules, 'text> {
         place: Place,
         index: usize,
         position: Position,
-    ) -> Result<(Place, &'modules [Component<'text>]), Stop<'text>> {
+    ) -> Result<(Place, &'modules [Component<'text>]), Halt<'text>> {
         let modules = self.modules;
         let mut next = Next::of(place, index);
         for _ in 0..MAX_NAMES {
@@ -179,13 +165,23 @@ impl<'modules, 'text> Resolver<'modules, 'text> {
         &mut self,
         name: &'text str,
         shown: &'text str,
-    ) -> Result<Next<'text>, Stop<'text>> {
+    ) -> Result<Next<'text>, Halt<'text>> {
         let place = Place::of(self.modules.modules.len());
         let next = self.type_meant(place, None, name, &[], Position::START)?;
         Ok(Next {
             name: Some(shown),
             ..next
         })
+    }
+}
+
+/// Returns the automatic tag of the alternative with this index, if those of its CHOICE have such
+/// (X.680 29.2).
+fn automatic_tag(is_automatic: bool, index: usize) -> Option<u32> {
+    if is_automatic {
+        u32::try_from(index).ok()
+    } else {
+        None
     }
 }
 

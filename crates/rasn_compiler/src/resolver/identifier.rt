@@ -1,5 +1,5 @@
 //! Values of OBJECT IDENTIFIER (X.680 32.3).
-use crate::fault::{Problem, Stop};
+use crate::fault::Halt;
 use crate::lexer::tokens;
 use crate::parser::Parser;
 use crate::resolver::lookup::MAX_NAMES;
@@ -23,104 +23,96 @@ impl<'modules, 'text> Resolver<'modules, 'text> {
     /// Returns a value of OBJECT IDENTIFIER.
     pub(crate) fn identifier_default(
         &mut self,
-        spelled: Spelled<'text>,
-    ) -> Result<Value<'static>, Stop<'text>> {
+        spelled: &Spelled<'text>,
+    ) -> Result<Value<'static>, Halt<'text>> {
         let mut arcs = Vec::new(self.alloc);
-        let mut prefix = Some(spelled);
+        let mut prefix = Some(*spelled);
         for _ in 0..MAX_NAMES {
             let Some(next) = prefix else {
-                return match ObjectIdentifier::new(arcs) {
-                    Some(identifier) => Ok(Value::Arcs(identifier)),
-                    None => Err(self.misfit(spelled)),
-                };
+                return self.identifier_of(arcs, spelled);
             };
-            let meant = self.meant(next)?;
-            let (before, mut found) = self.arcs(meant)?;
+            let (before, mut found) = self.arcs(&next)?;
             found.extend_from_slice(arcs.as_slice())?;
             arcs = found;
             prefix = before;
         }
-        let problem = Problem::Unsupported("a value of so many names");
-        Err(
-            self.modules
-                .fault(spelled.place.module, spelled.position, problem),
-        )
+        Err(self.unsupported(spelled.place, spelled.position, "a value of so many names"))
+    }
+
+    /// Returns the identifier of these numbers.
+    fn identifier_of(
+        &self,
+        arcs: Vec<u32>,
+        spelled: &Spelled<'text>,
+    ) -> Result<Value<'static>, Halt<'text>> {
+        match ObjectIdentifier::new(arcs) {
+            Some(identifier) => Ok(Value::Arcs(identifier)),
+            None => Err(self.misfit(spelled)),
+        }
     }
 
     /// Returns the numbers of a value's components, and the value that is before them if the first
     /// is the name of one.
     fn arcs(
         &mut self,
-        spelled: Spelled<'text>,
-    ) -> Result<(Option<Spelled<'text>>, Vec<u32>), Stop<'text>> {
+        spelled: &Spelled<'text>,
+    ) -> Result<(Option<Spelled<'text>>, Vec<u32>), Halt<'text>> {
         let mut prefix = None;
         let mut numbers = Vec::new(self.alloc);
         for arc in &self.components_of(spelled)? {
-            let known = match arc.name {
-                Some(name) => known_arc(numbers.as_slice(), name),
-                None => None,
-            };
-            match known {
-                Some(number) if prefix.is_none() => numbers.push(number)?,
-                _ if is_value_name(arc) && prefix.is_none() && numbers.is_empty() => {
-                    prefix = Some(arc.spelled);
-                }
-                _ => numbers.push(self.arc_number(arc.spelled)?)?,
+            let known = known_number(prefix.is_some(), numbers.as_slice(), arc.name);
+            let is_first = prefix.is_none() && numbers.is_empty();
+            if is_first && known.is_none() && is_value_name(arc) {
+                prefix = Some(arc.spelled);
+            } else {
+                numbers.push(self.arc_number(&arc.spelled, known)?)?;
             }
         }
         Ok((prefix, numbers))
     }
 
-    /// Returns the number of a component (X.680 32.3).
-    fn arc_number(&mut self, arc: Spelled<'text>) -> Result<u32, Stop<'text>> {
-        let Spelled {
-            place,
-            value,
-            position,
-        } = arc;
-        match u32::try_from(self.number(place, value, &[], place, position)?) {
+    /// Returns the number of a component (X.680 32.3), which may be known by its name.
+    fn arc_number(&mut self, arc: &Spelled<'text>, known: Option<u32>) -> Result<u32, Halt<'text>> {
+        if let Some(number) = known {
+            return Ok(number);
+        }
+        let number = self.number(arc.place, arc.value, &[], arc.place, arc.position)?;
+        match u32::try_from(number) {
             Ok(number) => Ok(number),
-            Err(_) => {
-                let problem = Problem::Unsupported("such a number");
-                Err(self.modules.fault(place.module, position, problem))
-            }
+            Err(_) => Err(self.unsupported(arc.place, arc.position, "such a number")),
         }
     }
 
     /// Reads the components of a value, in braces.
-    fn components_of(&self, spelled: Spelled<'text>) -> Result<Vec<Arc<'text>>, Stop<'text>> {
-        let unread = self.unread(spelled)?;
+    fn components_of(&self, spelled: &Spelled<'text>) -> Result<Vec<Arc<'text>>, Halt<'text>> {
+        let meant = self.meant(spelled)?;
+        let unread = self.unread(&meant)?;
         let items = tokens(self.alloc, unread.text, unread.position)?;
-        let mut parser = self.parser(spelled.place, unread, items.as_slice());
-        let mut arcs = Vec::new(self.alloc);
-        parser.expect("{")?;
-        for _ in 0..items.len() {
-            if parser.is("}") {
-                break;
-            }
-            arcs.push(parser.arc(spelled.place)?)?;
-        }
-        parser.expect("}")?;
-        Ok(arcs)
+        let mut parser = self.parser(meant.place, unread, items.as_slice());
+        parser.arcs(meant.place)
     }
 }
 
 impl<'tokens, 'text> Parser<'tokens, 'text> {
-    /// Reads a component: a name, a number, or both (X.680 32.3).
-    fn arc(&mut self, place: Place) -> Result<Arc<'text>, Stop<'text>> {
-        let position = self.position();
-        let mut name = None;
-        let value = if self.peek() == Kind::Lower && self.is_after(1, "(") {
-            self.skip(2);
-            let number = self.value()?;
-            self.expect(")")?;
-            number
-        } else {
-            if self.peek() == Kind::Lower {
-                name = Some(self.text());
+    /// Reads components in braces.
+    fn arcs(&mut self, place: Place) -> Result<Vec<Arc<'text>>, Halt<'text>> {
+        let mut arcs = Vec::new(self.alloc);
+        self.expect("{")?;
+        for _ in 0..self.rest.len() {
+            if self.is("}") {
+                break;
             }
-            self.value()?
-        };
+            arcs.push(self.arc(place)?)?;
+        }
+        self.expect("}")?;
+        Ok(arcs)
+    }
+
+    /// Reads a component: a name, a number, or both (X.680 32.3).
+    fn arc(&mut self, place: Place) -> Result<Arc<'text>, Halt<'text>> {
+        let position = self.position();
+        let name = self.lone_name();
+        let value = self.arc_value()?;
         Ok(Arc {
             spelled: Spelled {
                 place,
@@ -129,6 +121,26 @@ impl<'tokens, 'text> Parser<'tokens, 'text> {
             },
             name,
         })
+    }
+
+    /// Returns the name that is next and that no number follows.
+    fn lone_name(&self) -> Option<&'text str> {
+        if self.peek() == Kind::Lower && !self.is_after(1, "(") {
+            Some(self.text())
+        } else {
+            None
+        }
+    }
+
+    /// Reads a number with a name before it, or a value.
+    fn arc_value(&mut self) -> Result<Written<'text>, Halt<'text>> {
+        if self.peek() != Kind::Lower || !self.is_after(1, "(") {
+            return self.value();
+        }
+        self.skip(2);
+        let number = self.value()?;
+        self.expect(")")?;
+        Ok(number)
     }
 }
 
@@ -140,20 +152,36 @@ fn is_value_name(arc: &Arc<'_>) -> bool {
     }
 }
 
-/// Returns the number of a name that needs none after these numbers (X.660 A).
-fn known_arc(before: &[u32], name: &str) -> Option<u32> {
-    match (before, name) {
-        ([], "itu-t" | "ccitt") => Some(0),
-        ([], "iso") => Some(1),
-        ([], "joint-iso-itu-t" | "joint-iso-ccitt") => Some(2),
-        ([0], "recommendation") => Some(0),
-        ([0], "question") => Some(1),
-        ([0], "administration") => Some(2),
-        ([0], "network-operator") => Some(3),
-        ([0], "identified-organization") => Some(4),
-        ([1], "standard") => Some(0),
-        ([1], "member-body") => Some(2),
-        ([1], "identified-organization") => Some(3),
-        _ => None,
+/// Names that need no number: the number before them, if there is one, and their own (X.660 A).
+const KNOWN_ARCS: [(Option<u32>, &str, u32); 13] = [
+    (None, "itu-t", 0),
+    (None, "ccitt", 0),
+    (None, "iso", 1),
+    (None, "joint-iso-itu-t", 2),
+    (None, "joint-iso-ccitt", 2),
+    (Some(0), "recommendation", 0),
+    (Some(0), "question", 1),
+    (Some(0), "administration", 2),
+    (Some(0), "network-operator", 3),
+    (Some(0), "identified-organization", 4),
+    (Some(1), "standard", 0),
+    (Some(1), "member-body", 2),
+    (Some(1), "identified-organization", 3),
+];
+
+/// Returns the number of the name that a component is, if it needs none after these numbers. After
+/// the name of a value each needs one.
+fn known_number(has_prefix: bool, before: &[u32], name: Option<&str>) -> Option<u32> {
+    let name = name?;
+    let parent = match before {
+        [] if !has_prefix => None,
+        [parent] if !has_prefix => Some(*parent),
+        _ => return None,
+    };
+    for (under, known, number) in &KNOWN_ARCS {
+        if *under == parent && *known == name {
+            return Some(*number);
+        }
     }
+    None
 }

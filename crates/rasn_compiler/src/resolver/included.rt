@@ -1,10 +1,10 @@
 //! COMPONENTS OF (X.680 25.5, 27.2).
-use crate::fault::{Problem, Stop};
-use crate::resolver::components::Within;
+use crate::fault::Halt;
 use crate::resolver::node::Place;
 use crate::resolver::shape::Resolver;
 use crate::tree::{Base, Component, TypeIndex};
-use std::alloc::AllocError;
+use crate::types::Within;
+use std::alloc::{AllocError, Global};
 
 /// How many types may be included in one another.
 const MAX_ROUNDS: usize = 64;
@@ -27,14 +27,8 @@ impl<'modules, 'text> Resolver<'modules, 'text> {
         list: &[Component<'text>],
         within: Within,
         is_automatic: bool,
-    ) -> Result<Vec<Listed<'text>>, Stop<'text>> {
-        let mut listed = Vec::with_capacity(self.alloc, list.len())?;
-        for component in list {
-            listed.push(Listed {
-                place,
-                component: *component,
-            })?;
-        }
+    ) -> Result<Vec<Listed<'text>>, Halt<'text>> {
+        let mut listed = listed_at(self.alloc, place, list)?;
         for _ in 0..MAX_ROUNDS {
             match first_included(listed.as_slice()) {
                 None => return Ok(listed),
@@ -42,11 +36,15 @@ impl<'modules, 'text> Resolver<'modules, 'text> {
             }
         }
         let (at, of) = first_included(listed.as_slice()).unwrap_or((place, TypeIndex(0)));
-        let position = self.modules.type_at(at.module, of.0)?.position;
-        Err(
-            self.modules
-                .fault(at.module, position, Problem::Endless("COMPONENTS OF")),
-        )
+        Err(self.endless_inclusion(at, of))
+    }
+
+    /// Returns the fault of types that are included in one another without end.
+    fn endless_inclusion(&self, place: Place, of: TypeIndex) -> Halt<'text> {
+        match self.modules.type_at(place.module, of.0) {
+            Ok(ty) => self.endless(place, ty.position, "COMPONENTS OF"),
+            Err(halt) => halt,
+        }
     }
 
     /// Returns a list in which the roots of types are in place of COMPONENTS OF.
@@ -55,7 +53,7 @@ impl<'modules, 'text> Resolver<'modules, 'text> {
         list: &[Listed<'text>],
         within: Within,
         is_automatic: bool,
-    ) -> Result<Vec<Listed<'text>>, Stop<'text>> {
+    ) -> Result<Vec<Listed<'text>>, Halt<'text>> {
         let mut found = Vec::with_capacity(self.alloc, list.len())?;
         for listed in list {
             match listed.component {
@@ -76,24 +74,39 @@ impl<'modules, 'text> Resolver<'modules, 'text> {
         of: TypeIndex,
         within: Within,
         is_automatic: bool,
-    ) -> Result<(), Stop<'text>> {
-        let modules = self.modules;
-        let position = modules.type_at(place.module, of.0)?.position;
-        let (at, index) = self.end_of(place, of.0, position)?;
-        let Some(list) = included_list(&modules.type_at(at.module, index)?.base, within) else {
+    ) -> Result<(), Halt<'text>> {
+        let position = self.modules.type_at(place.module, of.0)?.position;
+        let (at, base) = self.base_of(place, of.0, position)?;
+        let Some(list) = included_list(base, within) else {
             let rule = "COMPONENTS OF a type of another kind (X.680 25.5, 27.2)";
-            return self.broken_if(place, position, Some(rule));
+            return Err(self.broken(place, position, rule));
         };
         if !is_automatic && self.is_automatic(at, list)? {
-            let problem = Problem::Unsupported("COMPONENTS OF a type with automatic tags");
-            return Err(modules.fault(place.module, position, problem));
+            let what = "COMPONENTS OF a type with automatic tags";
+            return Err(self.unsupported(place, position, what));
         }
         if found.len() > MAX_LISTED {
-            return Err(modules.fault(place.module, position, Problem::TooLarge));
+            return Err(self.too_large(place, position));
         }
         push_roots(found, at, list)?;
         Ok(())
     }
+}
+
+/// Returns components with their place.
+fn listed_at<'text>(
+    alloc: Global,
+    place: Place,
+    list: &[Component<'text>],
+) -> Result<Vec<Listed<'text>>, AllocError> {
+    let mut listed = Vec::with_capacity(alloc, list.len())?;
+    for component in list {
+        listed.push(Listed {
+            place,
+            component: *component,
+        })?;
+    }
+    Ok(listed)
 }
 
 /// Returns the place and the type of the first COMPONENTS OF.
@@ -136,15 +149,4 @@ fn push_roots<'text>(
         }
     }
     Ok(())
-}
-
-/// Returns the automatic tag of the alternative with this index (X.680 29.2).
-pub(crate) fn automatic_number(list: &[Component<'_>], index: usize) -> u32 {
-    let mut number = 0u32;
-    for component in list.iter().take(index) {
-        if let Component::Named { .. } = component {
-            number = number.saturating_add(1);
-        }
-    }
-    number
 }

@@ -2,11 +2,18 @@
 ghost use Rattle.std.specs.Prelude.{IfOk, IsTrue};
 ghost use Rattle.rasn_compiler.specs.Sources.{HasModule};
 
-use crate::fault::{Fault, Problem, Stop};
+use crate::fault::{Fault, Halt, Problem};
 use crate::given::is_given;
 use crate::modules::{Modules, Source};
 use crate::position::Position;
-use crate::tree::{Assigned, Assignment, Base, Meaning, Module, Type};
+use crate::tree::{Assigned, Assignment, Base, Import, Meaning, Module, Type};
+
+/// What a name of a module is.
+#[derive(Clone, Copy)]
+enum Found<'modules, 'text> {
+    Assigned(&'modules Assignment<'text>),
+    Imported(&'modules Import<'text>),
+}
 
 /// How many names may lead to one another.
 pub(crate) const MAX_NAMES: usize = 256;
@@ -18,16 +25,17 @@ impl<'text> Modules<'text> {
         module: usize,
         position: Position,
         problem: Problem<'text>,
-    ) -> Stop<'text> {
+    ) -> Halt<'text> {
         let source = match self.module_at(module) {
             Some(found) => found.source,
             None => "",
         };
-        Stop::Fault(Fault {
+        let fault = Fault {
             source,
             position,
             problem,
-        })
+        };
+        Halt::of(self.alloc, fault)
     }
 
     /// Returns the source of a part of a module's text.
@@ -40,7 +48,7 @@ impl<'text> Modules<'text> {
     }
 
     /// Returns a type of a module.
-    pub(crate) fn type_at(&self, module: usize, index: usize) -> Result<&Type<'text>, Stop<'text>> {
+    pub(crate) fn type_at(&self, module: usize, index: usize) -> Result<&Type<'text>, Halt<'text>> {
         if let Some(found) = self.module_at(module) {
             if let Some(ty) = found.types.get(index) {
                 return Ok(ty);
@@ -49,33 +57,23 @@ impl<'text> Modules<'text> {
         Err(self.fault(module, Position::START, Problem::Expected("a type")))
     }
 
-    /// Returns what a name means in a module, with the module that it is in. `outside` is the module that is written before the name.
+    /// Returns what a name means in a module, with the module that it is in. `outside` is the
+    /// module that is written before the name.
     pub(crate) fn meaning(
         &self,
         module: usize,
         outside: Option<&'text str>,
         name: &'text str,
         position: Position,
-    ) -> Result<(usize, Assignment<'text>), Stop<'text>> {
+    ) -> Result<(usize, Assignment<'text>), Halt<'text>> {
         let mut at = match outside {
             Some(outside) => self.loaded(module, outside, position)?,
             None => module,
         };
         for _ in 0..MAX_NAMES {
-            let Some(found) = self.module_at(at) else {
-                break;
-            };
-            match found.meanings.get(name) {
-                Some(Meaning::Assigned(index)) => match found.assignments.get(*index) {
-                    Some(assignment) => return Ok((at, *assignment)),
-                    None => break,
-                },
-                Some(Meaning::Imported(index)) => {
-                    let Some(import) = found.imports.get(*index) else {
-                        break;
-                    };
-                    at = self.loaded(module, import.module, position)?;
-                }
+            match self.found_in(at, name) {
+                Some(Found::Assigned(assignment)) => return Ok((at, *assignment)),
+                Some(Found::Imported(import)) => at = self.loaded(module, import.module, position)?,
                 None if is_given(name) && outside.is_none() && at != self.modules.len() => {
                     at = self.modules.len();
                 }
@@ -85,13 +83,22 @@ impl<'text> Modules<'text> {
         Err(self.fault(module, position, Problem::Endless(name)))
     }
 
+    /// Returns what a name is in a module.
+    fn found_in(&self, module: usize, name: &str) -> Option<Found<'_, 'text>> {
+        let found = self.module_at(module)?;
+        match found.meanings.get(name)? {
+            Meaning::Assigned(index) => Some(Found::Assigned(found.assignments.get(*index)?)),
+            Meaning::Imported(index) => Some(Found::Imported(found.imports.get(*index)?)),
+        }
+    }
+
     /// Returns the index of a module that has to be among the texts.
     fn loaded(
         &self,
         module: usize,
         name: &'text str,
         position: Position,
-    ) -> Result<usize, Stop<'text>> {
+    ) -> Result<usize, Halt<'text>> {
         match self.index_of(name) {
             Some(index) => Ok(index),
             None => Err(self.fault(module, position, Problem::NotLoaded(name))),
@@ -103,7 +110,7 @@ impl<'text> Modules<'text> {
         &self,
         module: &str,
         name: &str,
-    ) -> Result<(usize, &'text str, Position), Stop<'text>>
+    ) -> Result<(usize, &'text str, Position), Halt<'text>>
         ensures { IfOk result (λ found. HasModule self.now.modules.items «module».now) }
     {
         let problem = Problem::Expected("the name of a module");
@@ -171,13 +178,16 @@ impl<'text> Modules<'text> {
 fn known_name<'text>(module: &Module<'text>, name: &str) -> Option<&'text str> {
     match module.meanings.get(name)? {
         Meaning::Assigned(index) => Some(module.assignments.get(*index)?.name),
-        Meaning::Imported(index) => {
-            for symbol in &module.imports.get(*index)?.symbols {
-                if *symbol == name {
-                    return Some(*symbol);
-                }
-            }
-            None
+        Meaning::Imported(index) => symbol_named(module.imports.get(*index)?, name),
+    }
+}
+
+/// Returns the symbol of this name, as it is in the text.
+fn symbol_named<'text>(import: &Import<'text>, name: &str) -> Option<&'text str> {
+    for symbol in &import.symbols {
+        if *symbol == name {
+            return Some(*symbol);
         }
     }
+    None
 }

@@ -1,5 +1,5 @@
 //! What names mean where they are used (X.680 13.12, X.683 8.3).
-use crate::fault::Stop;
+use crate::fault::Halt;
 use crate::position::Position;
 use crate::resolver::node::Place;
 use crate::resolver::shape::Resolver;
@@ -31,7 +31,7 @@ impl<'modules, 'text> Resolver<'modules, 'text> {
         outside: Option<&'text str>,
         name: &'text str,
         position: Position,
-    ) -> Result<Meant<'text>, Stop<'text>> {
+    ) -> Result<Meant<'text>, Halt<'text>> {
         if outside.is_none() {
             if let Some(bound) = self.bound(place, name) {
                 return Ok(Meant::Given(bound.place, bound.given));
@@ -49,7 +49,7 @@ impl<'modules, 'text> Resolver<'modules, 'text> {
         name: &'text str,
         position: Position,
         expected: &'static str,
-    ) -> Result<NamedValue<'text>, Stop<'text>> {
+    ) -> Result<NamedValue<'text>, Halt<'text>> {
         match self.meaning(place, outside, name, position)? {
             Meant::Given(place, Given::Value(value)) => Ok(NamedValue {
                 place,

@@ -20,7 +20,8 @@ impl Place {
     }
 }
 
-/// A type as it is used: a type of a module within an automatic tag (X.680 25.7), without so many of its explicit tags.
+/// A type as it is used: a type of a module within an automatic tag (X.680 25.7), without so many
+/// of its explicit tags.
 #[derive(Clone, Copy, PartialEq, Eq, PartialOrd, Ord)]
 pub(crate) struct Use {
     pub(crate) place: Place,

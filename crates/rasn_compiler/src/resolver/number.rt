@@ -1,5 +1,5 @@
 //! Whole numbers that are written or named (X.680 19).
-use crate::fault::{Problem, Stop};
+use crate::fault::Halt;
 use crate::position::Position;
 use crate::resolver::lookup::MAX_NAMES;
 use crate::resolver::node::Place;
@@ -7,8 +7,8 @@ use crate::resolver::shape::Resolver;
 use crate::tree::{Base, NamedNumber, Value};
 
 impl<'modules, 'text> Resolver<'modules, 'text> {
-    /// Returns the number that a value of an INTEGER or an ENUMERATED is. These names of numbers, of a type at the place `home`, come before the names of
-    /// values (X.680 19.9).
+    /// Returns the number that a value of an INTEGER or an ENUMERATED is. These names of numbers,
+    /// of a type at the place `home`, come before the names of values (X.680 19.9).
     pub(crate) fn number(
         &mut self,
         place: Place,
@@ -16,7 +16,7 @@ impl<'modules, 'text> Resolver<'modules, 'text> {
         names: &[NamedNumber<'text>],
         home: Place,
         position: Position,
-    ) -> Result<i128, Stop<'text>> {
+    ) -> Result<i128, Halt<'text>> {
         let (mut at, mut value) = match number_named(names, value) {
             Some(number) => (home, number),
             None => (place, value),
@@ -33,8 +33,7 @@ impl<'modules, 'text> Resolver<'modules, 'text> {
                 _ => return Err(self.expected(place, position, "a number")),
             }
         }
-        let problem = Problem::Unsupported("a number of so many names");
-        Err(self.modules.fault(place.module, position, problem))
+        Err(self.unsupported(place, position, "a number of so many names"))
     }
 
     /// Returns what the name of a number means, with its place.
@@ -44,7 +43,7 @@ impl<'modules, 'text> Resolver<'modules, 'text> {
         outside: Option<&'text str>,
         name: &'text str,
         position: Position,
-    ) -> Result<(Place, Value<'text>), Stop<'text>> {
+    ) -> Result<(Place, Value<'text>), Halt<'text>> {
         let named = self.value_meant(place, outside, name, position, "a number")?;
         match named.of {
             Some(of) => self.governed(named.place, of.0, named.value, position),
@@ -59,15 +58,12 @@ impl<'modules, 'text> Resolver<'modules, 'text> {
         is_negative: bool,
         digits: &str,
         position: Position,
-    ) -> Result<i128, Stop<'text>> {
+    ) -> Result<i128, Halt<'text>> {
         let parsed = digits.parse::<i128>();
         match parsed {
             Ok(number) if is_negative => Ok(number.saturating_neg()),
             Ok(number) => Ok(number),
-            Err(_) => {
-                let problem = Problem::Unsupported("such a number");
-                Err(self.modules.fault(place.module, position, problem))
-            }
+            Err(_) => Err(self.unsupported(place, position, "such a number")),
         }
     }
 
@@ -78,10 +74,9 @@ impl<'modules, 'text> Resolver<'modules, 'text> {
         index: usize,
         value: Value<'text>,
         position: Position,
-    ) -> Result<(Place, Value<'text>), Stop<'text>> {
-        let (home, end) = self.end_of(place, index, position)?;
-        let ty = self.modules.type_at(home.module, end)?;
-        match number_named(names_of(&ty.base), value) {
+    ) -> Result<(Place, Value<'text>), Halt<'text>> {
+        let (home, base) = self.base_of(place, index, position)?;
+        match number_named(names_of(base), value) {
             Some(number) => Ok((home, number)),
             None => Ok((place, value)),
         }

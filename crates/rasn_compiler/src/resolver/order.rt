@@ -1,5 +1,5 @@
 //! The order of a schema's types: the alternatives of a CHOICE have lower numbers than it.
-use crate::fault::{Problem, Stop};
+use crate::fault::{Halt, Problem};
 use crate::modules::Modules;
 use crate::position::Position;
 use crate::resolver::node::Node;
@@ -87,7 +87,7 @@ pub(crate) fn ordered<'text>(
     alloc: Global,
     modules: &Modules<'text>,
     nodes: &[Node<'text>],
-) -> Result<Order, Stop<'text>> {
+) -> Result<Order, Halt<'text>> {
     let mut order = Order {
         numbers: vec![in alloc; None; nodes.len()]?,
         nodes: Vec::with_capacity(alloc, nodes.len())?,
@@ -106,7 +106,7 @@ pub(crate) fn ordered<'text>(
 }
 
 /// Returns a fault at the first type that has no number.
-fn endless<'text>(modules: &Modules<'text>, nodes: &[Node<'text>], order: &Order) -> Stop<'text> {
+fn endless<'text>(modules: &Modules<'text>, nodes: &[Node<'text>], order: &Order) -> Halt<'text> {
     for (index, node) in nodes.iter().enumerate() {
         if order.number(index).is_none() {
             let problem = Problem::Endless(node.name);

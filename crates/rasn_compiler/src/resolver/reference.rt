@@ -1,5 +1,5 @@
 //! References that are followed (X.680 16.3, 30, X.681 14, C, X.683 9).
-use crate::fault::{Problem, Stop};
+use crate::fault::Halt;
 use crate::position::Position;
 use crate::resolver::lookup::MAX_NAMES;
 use crate::resolver::meant::Meant;
@@ -39,21 +39,16 @@ impl<'modules, 'text> Resolver<'modules, 'text> {
         &mut self,
         place: Place,
         ty: &'modules Type<'text>,
-    ) -> Result<Option<Next<'text>>, Stop<'text>> {
+    ) -> Result<Option<Next<'text>>, Halt<'text>> {
         match &ty.base {
             Base::Reference {
                 module,
                 name,
                 actuals,
-            } => {
-                let next = self.type_meant(place, *module, name, actuals.as_slice(), ty.position)?;
-                Ok(Some(next))
-            }
-            Base::Builtin(Builtin::External) => Ok(Some(self.given_type("External", "EXTERNAL")?)),
-            Base::InstanceOf(class) => Ok(Some(self.instance_of(place, class, ty.position)?)),
-            Base::Selection { name, of } => {
-                Ok(Some(self.selected(place, name, of.0, ty.position)?))
-            }
+            } => found(self.type_meant(place, *module, name, actuals.as_slice(), ty.position)),
+            Base::Builtin(Builtin::External) => found(self.given_type("External", "EXTERNAL")),
+            Base::InstanceOf(class) => found(self.instance_of(place, class, ty.position)),
+            Base::Selection { name, of } => { found(self.selected(place, name, of.0, ty.position)) }
             Base::ClassField { class, path } => {
                 self.field_type(place, *class, path.as_slice(), ty.position)
             }
@@ -61,7 +56,8 @@ impl<'modules, 'text> Resolver<'modules, 'text> {
         }
     }
 
-    /// Returns the type that a name means (X.680 16.3), or that a parameter of this name is given (X.683 9).
+    /// Returns the type that a name means (X.680 16.3), or that a parameter of this name is given
+    /// (X.683 9).
     pub(crate) fn type_meant(
         &mut self,
         place: Place,
@@ -69,7 +65,7 @@ impl<'modules, 'text> Resolver<'modules, 'text> {
         name: &'text str,
         actuals: &[Actual<'text>],
         position: Position,
-    ) -> Result<Next<'text>, Stop<'text>> {
+    ) -> Result<Next<'text>, Halt<'text>> {
         let (module, assignment) = match self.meaning(place, outside, name, position)? {
             Meant::Given(at, Given::Type(index)) => return Ok(Next::of(at, index.0)),
             Meant::Given(_, _) => return Err(self.expected(place, position, "a type")),
@@ -78,10 +74,7 @@ impl<'modules, 'text> Resolver<'modules, 'text> {
         let (of, members) = match assignment.assigned {
             Assigned::Type(of) => (of, None),
             Assigned::Values { of, members } => (of, Some(members)),
-            Assigned::Macro => {
-                let problem = Problem::Unsupported("a macro");
-                return Err(self.modules.fault(place.module, position, problem));
-            }
+            Assigned::Macro => return Err(self.unsupported(place, position, "a macro")),
             Assigned::Class { .. } | Assigned::Value { .. } => {
                 return Err(self.expected(place, position, "a type"));
             }
@@ -94,15 +87,16 @@ impl<'modules, 'text> Resolver<'modules, 'text> {
         })
     }
 
-    /// Returns a fault of something else that has to be at a place.
-    pub(crate) fn expected(
-        &self,
+    /// Returns the base of the type that a type's references lead to, and its place.
+    pub(crate) fn base_of(
+        &mut self,
         place: Place,
+        index: usize,
         position: Position,
-        what: &'static str,
-    ) -> Stop<'text> {
-        self.modules
-            .fault(place.module, position, Problem::Expected(what))
+    ) -> Result<(Place, &'modules Base<'text>), Halt<'text>> {
+        let (at, end) = self.end_of(place, index, position)?;
+        let ty = self.modules.type_at(at.module, end)?;
+        Ok((at, &ty.base))
     }
 
     /// Returns the type that a type's references lead to, which is no reference.
@@ -111,7 +105,7 @@ impl<'modules, 'text> Resolver<'modules, 'text> {
         place: Place,
         index: usize,
         position: Position,
-    ) -> Result<(Place, usize), Stop<'text>> {
+    ) -> Result<(Place, usize), Halt<'text>> {
         let mut next = Next::of(place, index);
         for _ in 0..MAX_NAMES {
             let ty = self.modules.type_at(next.place.module, next.index)?;
@@ -120,7 +114,13 @@ impl<'modules, 'text> Resolver<'modules, 'text> {
                 None => return Ok((next.place, next.index)),
             }
         }
-        let problem = Problem::Unsupported("a type of so many names");
-        Err(self.modules.fault(place.module, position, problem))
+        Err(self.unsupported(place, position, "a type of so many names"))
     }
+}
+
+/// Returns a type that a reference leads to.
+fn found<'text>(
+    next: Result<Next<'text>, Halt<'text>>,
+) -> Result<Option<Next<'text>>, Halt<'text>> {
+    Ok(Some(next?))
 }

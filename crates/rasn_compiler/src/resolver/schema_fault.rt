@@ -1,5 +1,5 @@
 //! Rules that types of a module break, with their place.
-use crate::fault::{Problem, Stop};
+use crate::fault::{Halt, Problem};
 use crate::modules::Modules;
 use crate::position::Position;
 use crate::resolver::node::Node;
@@ -12,7 +12,7 @@ pub(crate) fn schema_fault<'text>(
     nodes: &[Node<'text>],
     order: &Order,
     error: SchemaError,
-) -> Stop<'text> {
+) -> Halt<'text> {
     let (id, index, other) = place(error);
     let Some(node) = nodes.get(order.node(id)) else {
         let broken = Problem::Broken(rule(error));

@@ -1,11 +1,11 @@
 //! Parameters and what they are given (X.683).
-use crate::fault::{Problem, Stop};
+use crate::fault::Halt;
 use crate::lexer::tokens;
 use crate::position::Position;
 use crate::resolver::node::Place;
 use crate::resolver::shape::Resolver;
 use crate::token::Token;
-use crate::tree::{Actual, Assignment, Base, Given, Type, Unread};
+use crate::tree::{Actual, Assignment, Base, Given, Type, Unread, Value};
 use std::alloc::{AllocError, Global};
 
 /// How many assignments may give parameters to one another.
@@ -88,7 +88,8 @@ impl<'modules, 'text> Resolver<'modules, 'text> {
         }
     }
 
-    /// Returns the place of an assignment in a module, which is used at another place and is given this (X.683 9.4).
+    /// Returns the place of an assignment in a module, which is used at another place and is given
+    /// this (X.683 9.4).
     pub(crate) fn entered(
         &mut self,
         from: Place,
@@ -96,24 +97,17 @@ impl<'modules, 'text> Resolver<'modules, 'text> {
         assignment: &Assignment<'text>,
         actuals: &[Actual<'text>],
         position: Position,
-    ) -> Result<Place, Stop<'text>> {
+    ) -> Result<Place, Halt<'text>> {
         let Some(parameters) = assignment.parameters else {
             if actuals.is_empty() {
                 return Ok(Place::of(module));
             }
-            let problem = Problem::Broken("what is given has no parameter (X.683 9)");
-            return Err(self.modules.fault(from.module, position, problem));
+            return Err(self.broken(from, position, "what is given has no parameter (X.683 9)"));
         };
-        let names = parameter_names(self.alloc, parameters)?;
-        if names.len() != actuals.len() {
-            let problem = Problem::Broken("each parameter has to be given (X.683 9)");
-            return Err(self.modules.fault(from.module, position, problem));
-        }
-        let bounds = self.bounds(from, names.as_slice(), actuals)?;
+        let bounds = self.bounds(from, parameters, actuals, position)?;
         let depth = self.depth(bounds.as_slice());
         if depth > MAX_DEPTH {
-            let problem = Problem::Endless(assignment.name);
-            return Err(self.modules.fault(from.module, position, problem));
+            return Err(self.endless(from, position, assignment.name));
         }
         let scope = Scope {
             module,
@@ -130,7 +124,7 @@ impl<'modules, 'text> Resolver<'modules, 'text> {
         from: Place,
         scope: Scope<'text>,
         position: Position,
-    ) -> Result<Place, Stop<'text>> {
+    ) -> Result<Place, Halt<'text>> {
         let module = scope.module;
         for (index, known) in self.scopes.iter().enumerate() {
             if known.is_same(&scope) {
@@ -141,7 +135,7 @@ impl<'modules, 'text> Resolver<'modules, 'text> {
             }
         }
         if self.scopes.len() >= MAX_SCOPES {
-            return Err(self.modules.fault(from.module, position, Problem::TooLarge));
+            return Err(self.too_large(from, position));
         }
         self.scopes.push(scope)?;
         Ok(Place {
@@ -154,36 +148,30 @@ impl<'modules, 'text> Resolver<'modules, 'text> {
     fn bounds(
         &self,
         from: Place,
-        names: &[&'text str],
+        parameters: Unread<'text>,
         actuals: &[Actual<'text>],
-    ) -> Result<Vec<Bound<'text>>, Stop<'text>> {
+        position: Position,
+    ) -> Result<Vec<Bound<'text>>, Halt<'text>> {
+        let names = parameter_names(self.alloc, parameters)?;
+        if names.len() != actuals.len() {
+            return Err(self.broken(from, position, "each parameter has to be given (X.683 9)"));
+        }
         let mut bounds = Vec::with_capacity(self.alloc, names.len())?;
         for (name, actual) in names.iter().zip(actuals) {
-            bounds.push(self.given(from, name, *actual)?)?;
+            bounds.push(self.given(from, name, actual)?)?;
         }
         Ok(bounds)
     }
 
-    /// Returns what a parameter is given. A set of values or of objects is the same as any other, since no type depends on it.
+    /// Returns what a parameter is given. A set of values or of objects is the same as any other,
+    /// since no type depends on it.
     fn given(
         &self,
         from: Place,
         name: &'text str,
-        actual: Actual<'text>,
-    ) -> Result<Bound<'text>, Stop<'text>> {
-        let known = match actual.given {
-            Given::Type(index) => {
-                let ty = self.modules.type_at(from.module, index.0)?;
-                if is_alone(ty) {
-                    self.bound_type(from, &ty.base)
-                } else {
-                    None
-                }
-            }
-            Given::Value(crate::tree::Value::Name { module: None, name }) => self.bound(from, name),
-            _ => None,
-        };
-        Ok(match known {
+        actual: &Actual<'text>,
+    ) -> Result<Bound<'text>, Halt<'text>> {
+        Ok(match self.given_again(from, actual)? {
             Some(known) => Bound { name, ..known },
             None => Bound {
                 name,
@@ -195,12 +183,34 @@ impl<'modules, 'text> Resolver<'modules, 'text> {
         })
     }
 
+    /// Returns what is given to a parameter that is itself given to another.
+    fn given_again(
+        &self,
+        from: Place,
+        actual: &Actual<'text>,
+    ) -> Result<Option<Bound<'text>>, Halt<'text>> {
+        match actual.given {
+            Given::Type(index) => {
+                let ty = self.modules.type_at(from.module, index.0)?;
+                if is_alone(ty) {
+                    Ok(self.bound_type(from, &ty.base))
+                } else {
+                    Ok(None)
+                }
+            }
+            Given::Value(Value::Name { module: None, name }) => Ok(self.bound(from, name)),
+            _ => Ok(None),
+        }
+    }
+
     /// Returns how many scopes there are within one another if these parameters are given.
     fn depth(&self, bounds: &[Bound<'text>]) -> usize {
         let mut depth = 0usize;
         for bound in bounds {
             let index = bound.place.scope.wrapping_sub(1);
-            depth = depth.max(self.scopes.get(index).map_or(0, |scope| scope.depth));
+            if let Some(scope) = self.scopes.get(index) {
+                depth = depth.max(scope.depth);
+            }
         }
         depth.saturating_add(1)
     }

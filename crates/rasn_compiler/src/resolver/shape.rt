@@ -1,16 +1,17 @@
 //! Types whose references were followed.
-use crate::fault::{Problem, Stop};
+use crate::fault::Halt;
 use crate::modules::Modules;
 use crate::position::Position;
-use crate::resolver::components::{Components, Within};
+use crate::resolver::components::Components;
 use crate::resolver::enumerated::Enumeration;
 use crate::resolver::leaf::{Plain, universal, universal_type};
 use crate::resolver::node::{Asked, Shape, Unfolded, Use};
 use crate::resolver::scope::Scope;
 use crate::tree::{Base, Builtin, Component, ListOf, NamedNumber, Type as Written};
+use crate::types::Within;
 use rasn_schema::{LeafKind, Type, TypeId};
 use rasn_types::types::{Constraints, Tag};
-use std::alloc::Global;
+use std::alloc::{AllocError, Global};
 
 /// The modules in which types are resolved.
 #[derive(Drop)]
@@ -30,7 +31,7 @@ impl<'modules, 'text> Resolver<'modules, 'text> {
     }
 
     /// Resolves a type.
-    pub(crate) fn shape(&mut self, asked: Asked<'text>) -> Result<Shape<'text>, Stop<'text>> {
+    pub(crate) fn shape(&mut self, asked: Asked<'text>) -> Result<Shape<'text>, Halt<'text>> {
         let unfolded = self.unfold(asked.of)?;
         let written = self.modules.type_at(unfolded.place.module, unfolded.index)?;
         match prefix(&unfolded, asked.of.peeled, is_untagged(written)) {
@@ -64,30 +65,13 @@ impl<'modules, 'text> Resolver<'modules, 'text> {
         unfolded: &Unfolded<'text>,
         written: &Written<'text>,
         name: &'text str,
-    ) -> Result<Shape<'text>, Stop<'text>> {
+    ) -> Result<Shape<'text>, Halt<'text>> {
         match &written.base {
             Base::Sequence(list) => {
-                let ty = Type::Sequence {
-                    tag: own_tag(unfolded, 16),
-                    components: Vec::new(self.alloc),
-                };
-                self.made_of(unfolded, ty, list.as_slice(), Within::Sequence)
+                self.made_of(unfolded, name, list.as_slice(), Within::Sequence)
             }
-            Base::Set(list) => {
-                let ty = Type::Set {
-                    name: String::from_str(self.alloc, name)?,
-                    tag: own_tag(unfolded, 17),
-                    components: Vec::new(self.alloc),
-                };
-                self.made_of(unfolded, ty, list.as_slice(), Within::Set)
-            }
-            Base::Choice(list) => {
-                let ty = Type::Choice {
-                    name: String::from_str(self.alloc, name)?,
-                    alternatives: Vec::new(self.alloc),
-                };
-                self.made_of(unfolded, ty, list.as_slice(), Within::Choice)
-            }
+            Base::Set(list) => self.made_of(unfolded, name, list.as_slice(), Within::Set),
+            Base::Choice(list) => self.made_of(unfolded, name, list.as_slice(), Within::Choice),
             Base::SequenceOf(list) => self.list_of(unfolded, *list, false),
             Base::SetOf(list) => self.list_of(unfolded, *list, true),
             other => {
@@ -101,17 +85,17 @@ impl<'modules, 'text> Resolver<'modules, 'text> {
     fn made_of(
         &mut self,
         unfolded: &Unfolded<'text>,
-        ty: Type,
+        name: &str,
         list: &[Component<'text>],
         within: Within,
-    ) -> Result<Shape<'text>, Stop<'text>> {
+    ) -> Result<Shape<'text>, Halt<'text>> {
         self.count_unchecked(unfolded.constraints.len());
         let Components {
             parts,
             is_extensible,
         } = self.components(unfolded.place, list, within)?;
         Ok(Shape {
-            ty,
+            ty: type_within(self.alloc, unfolded, name, within)?,
             parts,
             is_extensible,
             inner: None,
@@ -124,7 +108,7 @@ impl<'modules, 'text> Resolver<'modules, 'text> {
         unfolded: &Unfolded<'text>,
         list: ListOf<'text>,
         is_set: bool,
-    ) -> Result<Shape<'text>, Stop<'text>> {
+    ) -> Result<Shape<'text>, Halt<'text>> {
         let constraints = self.size_bounds(unfolded, list.size)?;
         let element = TypeId(0);
         let ty = if is_set {
@@ -154,7 +138,7 @@ impl<'modules, 'text> Resolver<'modules, 'text> {
         unfolded: &Unfolded<'text>,
         base: &Base<'text>,
         position: Position,
-    ) -> Result<Type, Stop<'text>> {
+    ) -> Result<Type, Halt<'text>> {
         match base {
             Base::Builtin(builtin) => self.builtin(unfolded, *builtin),
             Base::Integer(names) => self.integer(unfolded, names.as_slice(), position),
@@ -164,10 +148,7 @@ impl<'modules, 'text> Resolver<'modules, 'text> {
                 self.count_unchecked(unfolded.constraints.len());
                 Ok(Type::Any { tag: Tag::EOC })
             }
-            _ => {
-                let problem = Problem::Unsupported("such a type");
-                Err(self.modules.fault(unfolded.place.module, position, problem))
-            }
+            _ => Err(self.unsupported(unfolded.place, position, "such a type")),
         }
     }
 
@@ -177,7 +158,7 @@ impl<'modules, 'text> Resolver<'modules, 'text> {
         unfolded: &Unfolded<'text>,
         names: &[NamedNumber<'text>],
         position: Position,
-    ) -> Result<Type, Stop<'text>> {
+    ) -> Result<Type, Halt<'text>> {
         let constraints = self.value_bounds(unfolded, names)?;
         Ok(Type::Leaf {
             kind: LeafKind::Integer,
@@ -193,7 +174,7 @@ impl<'modules, 'text> Resolver<'modules, 'text> {
         unfolded: &Unfolded<'text>,
         names: &[NamedNumber<'text>],
         position: Position,
-    ) -> Result<Type, Stop<'text>> {
+    ) -> Result<Type, Halt<'text>> {
         let kind = if names.is_empty() {
             LeafKind::BitString
         } else {
@@ -207,14 +188,14 @@ impl<'modules, 'text> Resolver<'modules, 'text> {
         })
     }
 
-    /// Resolves an ENUMERATED (X.680 20). One with a marker has any number of 64 bits, since a newer
-    /// version may name others.
+    /// Resolves an ENUMERATED (X.680 20). One with a marker has any number of 64 bits, since a
+    /// newer version may name others.
     fn enumerated(
         &mut self,
         unfolded: &Unfolded<'text>,
         names: &[NamedNumber<'text>],
         position: Position,
-    ) -> Result<Type, Stop<'text>> {
+    ) -> Result<Type, Halt<'text>> {
         self.count_unchecked(unfolded.constraints.len());
         let tag = own_tag(unfolded, 10);
         let Enumeration {
@@ -237,7 +218,7 @@ impl<'modules, 'text> Resolver<'modules, 'text> {
         &mut self,
         unfolded: &Unfolded<'text>,
         builtin: Builtin,
-    ) -> Result<Type, Stop<'text>> {
+    ) -> Result<Type, Halt<'text>> {
         let (kind, number) = universal_type(builtin);
         match kind {
             Plain::Leaf(kind) => {
@@ -261,8 +242,8 @@ impl<'modules, 'text> Resolver<'modules, 'text> {
     }
 }
 
-/// Returns the explicit tag around what is left of a type once so many are taken off. A CHOICE or an open type can't have an implicit one
-/// (X.680 31.2.7).
+/// Returns the explicit tag around what is left of a type once so many are taken off. A CHOICE or
+/// an open type can't have an implicit one (X.680 31.2.7).
 fn prefix(unfolded: &Unfolded<'_>, peeled: usize, is_untagged: bool) -> Option<Tag> {
     let explicit = unfolded.tags.explicit.len();
     if peeled == explicit && is_untagged {
@@ -294,6 +275,30 @@ fn own_tag(unfolded: &Unfolded<'_>, number: u32) -> Tag {
         Some(tag) => tag,
         None => universal(number),
     }
+}
+
+/// Returns a type without its components or alternatives.
+fn type_within(
+    alloc: Global,
+    unfolded: &Unfolded<'_>,
+    name: &str,
+    within: Within,
+) -> Result<Type, AllocError> {
+    Ok(match within {
+        Within::Sequence => Type::Sequence {
+            tag: own_tag(unfolded, 16),
+            components: Vec::new(alloc),
+        },
+        Within::Set => Type::Set {
+            name: String::from_str(alloc, name)?,
+            tag: own_tag(unfolded, 17),
+            components: Vec::new(alloc),
+        },
+        Within::Choice => Type::Choice {
+            name: String::from_str(alloc, name)?,
+            alternatives: Vec::new(alloc),
+        },
+    })
 }
 
 /// Returns a type whose values hold no others, without names.

@@ -1,5 +1,5 @@
 //! References and tags that are followed (X.680 16.3, 31.2).
-use crate::fault::{Problem, Stop};
+use crate::fault::Halt;
 use crate::modules::Modules;
 use crate::resolver::lookup::MAX_NAMES;
 use crate::resolver::node::{Asked, Place, Tags, Unfolded, Use};
@@ -36,7 +36,8 @@ impl Tags {
         Ok(())
     }
 
-    /// Adds a tag within those that are known: an implicit one before it replaces it (X.680 31.2.7).
+    /// Adds a tag within those that are known: an implicit one before it replaces it (X.680
+    /// 31.2.7).
     fn add(&mut self, tag: Tag, is_explicit: bool) -> Result<(), AllocError> {
         let outer = self.implicit.unwrap_or(tag);
         if is_explicit {
@@ -50,6 +51,21 @@ impl Tags {
 }
 
 impl<'text> Unfolded<'text> {
+    /// Returns a type of which no reference was followed.
+    fn new(alloc: Global, start: Use) -> Result<Unfolded<'text>, AllocError> {
+        let mut tags = Tags::new(alloc);
+        tags.add_automatic(start.automatic)?;
+        Ok(Unfolded {
+            same: start,
+            same_name: None,
+            name: None,
+            tags,
+            constraints: Vec::new(alloc),
+            place: start.place,
+            index: start.index,
+        })
+    }
+
     /// Adds the constraints of a type on the way.
     fn add_constraints(&mut self, constraints: &[Unread<'text>]) -> Result<(), AllocError> {
         for constraint in constraints {
@@ -87,7 +103,7 @@ impl<'text> Unfolded<'text> {
 
 impl<'modules, 'text> Resolver<'modules, 'text> {
     /// Returns the type that a use means, and what it is called.
-    pub(crate) fn asked(&mut self, of: Use, name: &'text str) -> Result<Asked<'text>, Stop<'text>> {
+    pub(crate) fn asked(&mut self, of: Use, name: &'text str) -> Result<Asked<'text>, Halt<'text>> {
         let unfolded = self.unfold(of)?;
         Ok(Asked {
             of: unfolded.same,
@@ -97,17 +113,8 @@ impl<'modules, 'text> Resolver<'modules, 'text> {
     }
 
     /// Follows the references of a type to one that is none.
-    pub(crate) fn unfold(&mut self, start: Use) -> Result<Unfolded<'text>, Stop<'text>> {
-        let mut found = Unfolded {
-            same: start,
-            same_name: None,
-            name: None,
-            tags: Tags::new(self.alloc),
-            constraints: Vec::new(self.alloc),
-            place: start.place,
-            index: start.index,
-        };
-        found.tags.add_automatic(start.automatic)?;
+    pub(crate) fn unfold(&mut self, start: Use) -> Result<Unfolded<'text>, Halt<'text>> {
+        let mut found = Unfolded::new(self.alloc, start)?;
         let position = self
             .modules
             .type_at(start.place.module, start.index)?
@@ -117,12 +124,11 @@ impl<'modules, 'text> Resolver<'modules, 'text> {
                 return Ok(found);
             }
         }
-        let problem = Problem::Endless(found.name.unwrap_or(""));
-        Err(self.modules.fault(start.place.module, position, problem))
+        Err(self.endless(start.place, position, found.name.unwrap_or("")))
     }
 
     /// Follows a reference, and returns whether there was one.
-    fn follow(&mut self, found: &mut Unfolded<'text>) -> Result<bool, Stop<'text>> {
+    fn follow(&mut self, found: &mut Unfolded<'text>) -> Result<bool, Halt<'text>> {
         let ty = self.modules.type_at(found.place.module, found.index)?;
         self.add_tags(found.place, ty, &mut found.tags)?;
         found.add_constraints(ty.constraints.as_slice())?;
@@ -135,13 +141,14 @@ impl<'modules, 'text> Resolver<'modules, 'text> {
         }
     }
 
-    /// Adds the tags that are before a type. One that is right before a parameter's name is explicit (X.680 31.2.7).
+    /// Adds the tags that are before a type. One that is right before a parameter's name is
+    /// explicit (X.680 31.2.7).
     fn add_tags(
         &mut self,
         place: Place,
         ty: &Type<'text>,
         tags: &mut Tags,
-    ) -> Result<(), Stop<'text>> {
+    ) -> Result<(), Halt<'text>> {
         for written in &ty.tags {
             let tag = self.tag(place, *written)?;
             let is_explicit = match written.tagging {
@@ -159,7 +166,7 @@ impl<'modules, 'text> Resolver<'modules, 'text> {
     }
 
     /// Returns a tag as it is written (X.680 31.2.1).
-    fn tag(&mut self, place: Place, written: WrittenTag<'text>) -> Result<Tag, Stop<'text>> {
+    fn tag(&mut self, place: Place, written: WrittenTag<'text>) -> Result<Tag, Halt<'text>> {
         let number = self.number(place, written.number, &[], place, written.position)?;
         let class = match written.class {
             TagClass::Universal => Class::Universal,
@@ -169,13 +176,10 @@ impl<'modules, 'text> Resolver<'modules, 'text> {
         };
         match u32::try_from(number) {
             Ok(value) => Ok(Tag { class, value }),
-            Err(_) => Err(
-                self.modules.fault(
-                    place.module,
-                    written.position,
-                    Problem::Unsupported("a tag's number outside 0..4294967295"),
-                ),
-            ),
+            Err(_) => {
+                let what = "a tag's number outside 0..4294967295";
+                Err(self.unsupported(place, written.position, what))
+            }
         }
     }
 }

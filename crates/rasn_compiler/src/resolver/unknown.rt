@@ -1,5 +1,5 @@
-//! Unknown alternatives: those that a newer version of a module may add to a CHOICE with an extension
-//! marker (X.680 29).
+//! Unknown alternatives: those that a newer version of a module may add to a CHOICE with an
+//! extension marker (X.680 29).
 use crate::position::Position;
 use crate::resolver::node::{Node, Part, Place, Use};
 use crate::words::MARKER;
@@ -10,7 +10,8 @@ use std::alloc::{AllocError, Global};
 /// Gives each CHOICE with an extension marker a last alternative of an open type, which is named
 /// `...`. A CHOICE that is used where the tag of an unknown alternative could be that of another part
 /// gets none: an alternative of another CHOICE, a component of a SET, and a component of a SEQUENCE
-/// that is optional and not the last, or that follows an optional one.
+/// that follows an optional one, or that is optional and not the last. Unknown values are the last
+/// component of an extensible SEQUENCE.
 pub(crate) fn add_unknown_alternatives(
     alloc: Global,
     nodes: &mut Vec<Node<'_>>,
@@ -19,16 +20,23 @@ pub(crate) fn add_unknown_alternatives(
     let open_type = nodes.len();
     let mut place = None;
     for (index, node) in nodes.iter_mut().enumerate() {
-        if takes_unknown(node) && closed.get(index) == Some(&false) {
+        if takes_unknown(node) && !is_closed(closed.as_slice(), index) {
             place = Some(node.place);
-            let alternative = unknown_alternative(node, open_type);
-            node.parts.push(alternative)?;
+            add_unknown(node, open_type)?;
         }
     }
     if let Some(place) = place {
         nodes.push(open_type_node(alloc, place))?;
     }
     Ok(())
+}
+
+/// Returns whether the type of a node can't have an unknown alternative.
+fn is_closed(closed: &[bool], node: usize) -> bool {
+    match closed.get(node) {
+        Some(closed) => *closed,
+        None => true,
+    }
 }
 
 /// Returns whether a node is a CHOICE whose alternatives an unknown one may follow.
@@ -39,15 +47,17 @@ fn takes_unknown(node: &Node<'_>) -> bool {
     }
 }
 
-/// Returns the unknown alternative of a CHOICE.
-fn unknown_alternative<'text>(node: &Node<'text>, open_type: usize) -> Part<'text> {
-    Part {
+/// Adds the unknown alternative of a CHOICE.
+fn add_unknown(node: &mut Node<'_>, open_type: usize) -> Result<(), AllocError> {
+    let alternative = Part {
         name: MARKER,
         position: node.position,
         of: Use::of(node.place, 0),
         node: open_type,
         presence: Presence::Required,
-    }
+    };
+    node.parts.push(alternative)?;
+    Ok(())
 }
 
 /// Returns the type of unknown alternatives.
@@ -74,7 +84,7 @@ fn closed_nodes(alloc: Global, nodes: &[Node<'_>]) -> Result<Vec<bool>, AllocErr
             Type::Sequence { .. } => close_uncertain(&mut closed, node),
             _ => {}
         }
-        if ends_open(nodes, node) {
+        if has_open_last(nodes, node) {
             close(&mut closed, index);
         }
     }
@@ -82,7 +92,7 @@ fn closed_nodes(alloc: Global, nodes: &[Node<'_>]) -> Result<Vec<bool>, AllocErr
 }
 
 /// Returns whether the last part of a node is of an open type.
-fn ends_open(nodes: &[Node<'_>], node: &Node<'_>) -> bool {
+fn has_open_last(nodes: &[Node<'_>], node: &Node<'_>) -> bool {
     let Some(last) = node.parts.last() else {
         return false;
     };

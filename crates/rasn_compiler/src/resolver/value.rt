@@ -1,16 +1,17 @@
 //! Values that are made of others (X.680 17.7, 25, 26, 29).
 ghost use Rattle.std.specs.Prelude.{◌≡◌, ◌+◌, IfOk};
 
-use crate::fault::{Problem, Stop};
+use crate::fault::Halt;
 use crate::lexer::tokens;
 use crate::parser::Parser;
 use crate::position::Position;
-use crate::resolver::components::{Within, has_unknown};
+use crate::resolver::components::has_unknown;
 use crate::resolver::included::Listed;
 use crate::resolver::node::Place;
 use crate::resolver::shape::Resolver;
 use crate::token::{Kind, Token};
 use crate::tree::{Base, Component, Presence, TypeIndex, Unread, Value as Written};
+use crate::types::Within;
 use rasn_schema::Value;
 use std::alloc::Global;
 
@@ -44,6 +45,16 @@ struct Member<'text> {
     value: Spelled<'text>,
 }
 
+/// What a SEQUENCE or a SET has for a component.
+#[derive(Clone, Copy)]
+enum Wanted<'text> {
+    /// A value of this type of a module, which is written for it or its default.
+    Spelled(Place, TypeIndex, Spelled<'text>),
+    Absent,
+    /// Unknown values, of which there are none.
+    NoValues,
+}
+
 impl<'modules, 'text> Resolver<'modules, 'text> {
     /// Returns a value of a type, in which others may be nested so deep, and so many are left.
     #[cycle(values)]
@@ -51,28 +62,20 @@ impl<'modules, 'text> Resolver<'modules, 'text> {
         &mut self,
         of: Place,
         index: usize,
-        spelled: Spelled<'text>,
+        spelled: &Spelled<'text>,
         depth: usize,
         left: &mut usize,
-    ) -> Result<Value<'static>, Stop<'text>> {
+    ) -> Result<Value<'static>, Halt<'text>> {
         let depth = self.deeper(spelled, depth, left)?;
-        let modules = self.modules;
-        let (at, end) = self.end_of(of, index, spelled.position)?;
-        let base = &modules.type_at(at.module, end)?.base;
+        let (at, base) = self.base_of(of, index, spelled.position)?;
         match base {
             Base::Sequence(list) => {
                 self.members(at, list.as_slice(), Within::Sequence, spelled, depth, left)
             }
             Base::Set(list) => self.members(at, list.as_slice(), Within::Set, spelled, depth, left),
             Base::Choice(list) => self.chosen(at, list.as_slice(), spelled, depth, left),
-            Base::SequenceOf(list) => {
-                let elements = self.elements(at, list.element, spelled, depth, left)?;
-                Ok(Value::Items(elements))
-            }
-            Base::SetOf(list) => {
-                let elements = self.elements(at, list.element, spelled, depth, left)?;
-                Ok(Value::Elements(elements))
-            }
+            Base::SequenceOf(list) => self.elements(at, list.element, false, spelled, depth, left),
+            Base::SetOf(list) => self.elements(at, list.element, true, spelled, depth, left),
             _ => self.simple_value(at, base, spelled),
         }
     }
@@ -84,34 +87,19 @@ impl<'modules, 'text> Resolver<'modules, 'text> {
         at: Place,
         list: &[Component<'text>],
         within: Within,
-        spelled: Spelled<'text>,
+        spelled: &Spelled<'text>,
         depth: usize,
         left: &mut usize,
-    ) -> Result<Value<'static>, Stop<'text>> {
-        let meant = self.meant(spelled)?;
-        let members = self.member_values(meant)?;
-        let listed = self.listed(at, list, within, true)?;
-        self.check_members(members.as_slice(), listed.as_slice())?;
-        *left = left.saturating_sub(listed.len());
+    ) -> Result<Value<'static>, Halt<'text>> {
         let mut values = Vec::new(self.alloc);
-        for listed in &listed {
-            if let Component::Named {
-                name,
-                of,
-                presence,
-                ..
-            } = listed.component
-            {
-                let member = member_named(members.as_slice(), name);
-                let value = match member.or(Spelled::default(listed.place, presence)) {
-                    Some(value) => self.value_of(listed.place, of.0, value, depth, left)?,
-                    None => Value::Absent,
-                };
-                values.push(value)?;
-            }
-        }
-        if has_unknown(self.modules, at, listed.as_slice(), within) {
-            values.push(no_values(self.alloc))?;
+        for wanted in &self.wanted(at, list, within, spelled, left)? {
+            values.push(match wanted {
+                Wanted::Spelled(place, of, value) => {
+                    self.value_of(*place, of.0, value, depth, left)?
+                }
+                Wanted::Absent => Value::Absent,
+                Wanted::NoValues => no_values(self.alloc),
+            })?;
         }
         Ok(Value::Items(values))
     }
@@ -122,71 +110,94 @@ impl<'modules, 'text> Resolver<'modules, 'text> {
         &mut self,
         at: Place,
         list: &[Component<'text>],
-        spelled: Spelled<'text>,
+        spelled: &Spelled<'text>,
         depth: usize,
         left: &mut usize,
-    ) -> Result<Value<'static>, Stop<'text>> {
-        let meant = self.meant(spelled)?;
-        let member = self.alternative_value(meant)?;
-        let Some((index, of)) = alternative_named(list, member.name) else {
-            let problem = Problem::Undefined(member.name);
-            return Err(
-                self.modules
-                    .fault(meant.place.module, member.position, problem),
-            );
-        };
-        let value = self.value_of(at, of.0, member.value, depth, left)?;
+    ) -> Result<Value<'static>, Halt<'text>> {
+        let (index, of, value) = self.choice(list, spelled)?;
+        let value = self.value_of(at, of.0, &value, depth, left)?;
         Ok(Value::Chosen(index, Box::new(self.alloc, value)?))
     }
 
-    /// Returns the elements of a value of SEQUENCE OF or SET OF (X.680 26, 28).
+    /// Returns a value of SEQUENCE OF or SET OF (X.680 26, 28).
     #[cycle(values)]
     fn elements(
         &mut self,
         at: Place,
         of: TypeIndex,
-        spelled: Spelled<'text>,
+        is_set: bool,
+        spelled: &Spelled<'text>,
         depth: usize,
         left: &mut usize,
-    ) -> Result<Vec<Value<'static>>, Stop<'text>> {
-        let meant = self.meant(spelled)?;
+    ) -> Result<Value<'static>, Halt<'text>> {
         let mut values = Vec::new(self.alloc);
-        for element in &self.listed_values(meant)? {
-            values.push(self.value_of(at, of.0, *element, depth, left)?)?;
+        for element in &self.listed_values(spelled)? {
+            values.push(self.value_of(at, of.0, element, depth, left)?)?;
         }
-        Ok(values)
+        Ok(if is_set {
+            Value::Elements(values)
+        } else {
+            Value::Items(values)
+        })
     }
 }
 
 impl<'modules, 'text> Resolver<'modules, 'text> {
+    /// Returns what a value of a SEQUENCE or a SET has for each component. Those of its list are
+    /// among the values that are left.
+    fn wanted(
+        &mut self,
+        at: Place,
+        list: &[Component<'text>],
+        within: Within,
+        spelled: &Spelled<'text>,
+        left: &mut usize,
+    ) -> Result<Vec<Wanted<'text>>, Halt<'text>> {
+        let members = self.member_values(spelled)?;
+        let listed = self.listed(at, list, within, true)?;
+        self.check_members(members.as_slice(), listed.as_slice())?;
+        *left = left.saturating_sub(listed.len());
+        let mut wanted = Vec::new(self.alloc);
+        for listed in &listed {
+            if let Some(found) = wanted_for(listed, members.as_slice()) {
+                wanted.push(found)?;
+            }
+        }
+        if has_unknown(self.modules, at, listed.as_slice(), within) {
+            wanted.push(Wanted::NoValues)?;
+        }
+        Ok(wanted)
+    }
+
+    /// Returns the index and the type of the alternative that a value of a CHOICE names, and its
+    /// value.
+    fn choice(
+        &self,
+        list: &[Component<'text>],
+        spelled: &Spelled<'text>,
+    ) -> Result<(usize, TypeIndex, Spelled<'text>), Halt<'text>> {
+        let member = self.alternative_value(spelled)?;
+        match alternative_named(list, member.name) {
+            Some((index, of)) => Ok((index, of, member.value)),
+            None => Err(self.undefined(member.value.place, member.position, member.name)),
+        }
+    }
+
     /// Returns how deep values may be nested in this one, which is one of those that are left.
     fn deeper(
         &self,
-        spelled: Spelled<'text>,
+        spelled: &Spelled<'text>,
         depth: usize,
         left: &mut usize,
-    ) -> Result<usize, Stop<'text>>
+    ) -> Result<usize, Halt<'text>>
         ensures { IfOk result (λ d. d + 1 ≡ depth) }
     {
         *left = left.saturating_sub(1);
         if *left == 0 {
-            let Spelled {
-                place,
-                position,
-                ..
-            } = spelled;
-            return Err(
-                self.modules
-                    .fault(place.module, position, Problem::TooLarge),
-            );
+            return Err(self.too_large(spelled.place, spelled.position));
         }
         if depth == 0 {
-            let Spelled {
-                place,
-                position,
-                ..
-            } = spelled;
-            return Err(self.modules.fault(place.module, position, Problem::TooDeep));
+            return Err(self.too_deep(spelled.place, spelled.position));
         }
         Ok(depth - 1)
     }
@@ -196,19 +207,17 @@ impl<'modules, 'text> Resolver<'modules, 'text> {
         &self,
         members: &[Member<'text>],
         listed: &[Listed<'text>],
-    ) -> Result<(), Stop<'text>> {
+    ) -> Result<(), Halt<'text>> {
         for member in members {
             if !has_component(listed, member.name) {
-                let problem = Problem::Undefined(member.name);
-                let module = member.value.place.module;
-                return Err(self.modules.fault(module, member.position, problem));
+                return Err(self.undefined(member.value.place, member.position, member.name));
             }
         }
         Ok(())
     }
 
     /// Returns what of a value isn't read yet.
-    pub(crate) fn unread(&self, spelled: Spelled<'text>) -> Result<Unread<'text>, Stop<'text>> {
+    pub(crate) fn unread(&self, spelled: &Spelled<'text>) -> Result<Unread<'text>, Halt<'text>> {
         match spelled.value {
             Written::Unread(unread) => Ok(unread),
             _ => Err(self.misfit(spelled)),
@@ -232,67 +241,39 @@ impl<'modules, 'text> Resolver<'modules, 'text> {
     }
 
     /// Reads the values of components, in braces (X.680 25).
-    fn member_values(&self, spelled: Spelled<'text>) -> Result<Vec<Member<'text>>, Stop<'text>> {
-        let unread = self.unread(spelled)?;
+    fn member_values(&self, spelled: &Spelled<'text>) -> Result<Vec<Member<'text>>, Halt<'text>> {
+        let meant = self.meant(spelled)?;
+        let unread = self.unread(&meant)?;
         let items = tokens(self.alloc, unread.text, unread.position)?;
-        let mut parser = self.parser(spelled.place, unread, items.as_slice());
-        let mut members = Vec::new(self.alloc);
-        parser.expect("{")?;
-        if parser.eat("}") {
-            return Ok(members);
-        }
-        for _ in 0..items.len() {
-            members.push(parser.member(spelled.place)?)?;
-            if !parser.eat(",") {
-                break;
-            }
-        }
-        parser.expect("}")?;
-        Ok(members)
+        let mut parser = self.parser(meant.place, unread, items.as_slice());
+        parser.members(meant.place)
     }
 
     /// Reads values in braces (X.680 22, 26, 28).
     pub(crate) fn listed_values(
         &self,
-        spelled: Spelled<'text>,
-    ) -> Result<Vec<Spelled<'text>>, Stop<'text>> {
-        let unread = self.unread(spelled)?;
+        spelled: &Spelled<'text>,
+    ) -> Result<Vec<Spelled<'text>>, Halt<'text>> {
+        let meant = self.meant(spelled)?;
+        let unread = self.unread(&meant)?;
         let items = tokens(self.alloc, unread.text, unread.position)?;
-        let mut parser = self.parser(spelled.place, unread, items.as_slice());
-        let mut values = Vec::new(self.alloc);
-        parser.expect("{")?;
-        if parser.eat("}") {
-            return Ok(values);
-        }
-        for _ in 0..items.len() {
-            values.push(parser.spelled(spelled.place)?)?;
-            if !parser.eat(",") {
-                break;
-            }
-        }
-        parser.expect("}")?;
-        Ok(values)
+        let mut parser = self.parser(meant.place, unread, items.as_slice());
+        parser.values(meant.place)
     }
 
     /// Reads the name of an alternative, and its value (X.680 29).
-    fn alternative_value(&self, spelled: Spelled<'text>) -> Result<Member<'text>, Stop<'text>> {
-        let unread = self.unread(spelled)?;
+    fn alternative_value(&self, spelled: &Spelled<'text>) -> Result<Member<'text>, Halt<'text>> {
+        let meant = self.meant(spelled)?;
+        let unread = self.unread(&meant)?;
         let items = tokens(self.alloc, unread.text, unread.position)?;
-        let mut parser = self.parser(spelled.place, unread, items.as_slice());
-        let position = parser.position();
-        let name = parser.expect_kind(Kind::Lower, "an alternative")?;
-        parser.expect(":")?;
-        Ok(Member {
-            name,
-            position,
-            value: parser.spelled(spelled.place)?,
-        })
+        let mut parser = self.parser(meant.place, unread, items.as_slice());
+        parser.alternative(meant.place)
     }
 }
 
 impl<'tokens, 'text> Parser<'tokens, 'text> {
     /// Reads a value that is at a place.
-    pub(crate) fn spelled(&mut self, place: Place) -> Result<Spelled<'text>, Stop<'text>> {
+    pub(crate) fn spelled(&mut self, place: Place) -> Result<Spelled<'text>, Halt<'text>> {
         let position = self.position();
         Ok(Spelled {
             place,
@@ -301,8 +282,52 @@ impl<'tokens, 'text> Parser<'tokens, 'text> {
         })
     }
 
+    /// Reads values in braces.
+    fn values(&mut self, place: Place) -> Result<Vec<Spelled<'text>>, Halt<'text>> {
+        let mut values = Vec::new(self.alloc);
+        if self.begins_empty()? {
+            return Ok(values);
+        }
+        for _ in 0..self.rest.len() {
+            values.push(self.spelled(place)?)?;
+            if !self.eat(",") {
+                break;
+            }
+        }
+        self.expect("}")?;
+        Ok(values)
+    }
+
+    /// Reads the values of components, in braces.
+    fn members(&mut self, place: Place) -> Result<Vec<Member<'text>>, Halt<'text>> {
+        let mut members = Vec::new(self.alloc);
+        if self.begins_empty()? {
+            return Ok(members);
+        }
+        for _ in 0..self.rest.len() {
+            members.push(self.member(place)?)?;
+            if !self.eat(",") {
+                break;
+            }
+        }
+        self.expect("}")?;
+        Ok(members)
+    }
+
+    /// Reads the name of an alternative, a colon and its value.
+    fn alternative(&mut self, place: Place) -> Result<Member<'text>, Halt<'text>> {
+        let position = self.position();
+        let name = self.expect_kind(Kind::Lower, "an alternative")?;
+        self.expect(":")?;
+        Ok(Member {
+            name,
+            position,
+            value: self.spelled(place)?,
+        })
+    }
+
     /// Reads the name of a component, and its value.
-    fn member(&mut self, place: Place) -> Result<Member<'text>, Stop<'text>> {
+    fn member(&mut self, place: Place) -> Result<Member<'text>, Halt<'text>> {
         let position = self.position();
         let name = self.expect_kind(Kind::Lower, "a component")?;
         Ok(Member {
@@ -310,6 +335,24 @@ impl<'tokens, 'text> Parser<'tokens, 'text> {
             position,
             value: self.spelled(place)?,
         })
+    }
+}
+
+/// Returns what a value with these members has for a component. A marker is none.
+fn wanted_for<'text>(listed: &Listed<'text>, members: &[Member<'text>]) -> Option<Wanted<'text>> {
+    let Component::Named {
+        name,
+        of,
+        presence,
+        ..
+    } = listed.component
+    else {
+        return None;
+    };
+    let place = listed.place;
+    match member_named(members, name).or(Spelled::default(place, presence)) {
+        Some(value) => Some(Wanted::Spelled(place, of, value)),
+        None => Some(Wanted::Absent),
     }
 }
 
@@ -341,7 +384,7 @@ fn has_component(listed: &[Listed<'_>], name: &str) -> bool {
 }
 
 /// Returns the index and the type of the alternative of this name.
-fn alternative_named(list: &[Component<'_>], name: &str) -> Option<(usize, TypeIndex)> {
+pub(crate) fn alternative_named(list: &[Component<'_>], name: &str) -> Option<(usize, TypeIndex)> {
     let mut index = 0usize;
     for component in list {
         if let Component::Named {

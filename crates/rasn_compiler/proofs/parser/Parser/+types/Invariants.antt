@@ -13,8 +13,8 @@ decreases-components l = 8 * l.depth + 2
 abbrev pub decreases-element : goal.decreases-element
 decreases-element l = 8 * l.depth + 2
 
-abbrev pub decreases-given : goal.decreases-given
-decreases-given l = 8 * l.depth + 1
+abbrev pub decreases-actual : goal.decreases-actual
+decreases-actual l = 8 * l.depth + 1
 
 abbrev pub decreases-actuals : goal.decreases-actuals
 decreases-actuals l = 8 * l.depth + 2
