@@ -79,9 +79,10 @@ impl Printer<'_> {
     /// Appends the lines of a value.
     #[cycle(print)]
     fn print(&mut self, place: Place<'_>, view: &View<'_, '_>) -> Appended {
-        let Some(levels) = place.levels.checked_sub(1) else {
+        if place.levels == 0 {
             return self.line(place, "..");
-        };
+        }
+        let levels = place.levels - 1;
         if let Some(text) = short_text(self.alloc, self.known, place.title, view)? {
             return self.line(place, text.as_str());
         }

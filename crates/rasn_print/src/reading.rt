@@ -99,8 +99,8 @@ pub(crate) fn read_alone<'input>(
     id: TypeId,
     octets: &'input [u8],
 ) -> Result<Value<'input>, ReadError>
-    ensures read { IfOk result (λ v. IsRead rule schema.now.types.items id.0 octets.now (tree_of v) []) }
-    ensures refused { IfErr result (IsRefused rule schema.now.types.items id.0 octets.now) }
+    ensures ok { IfOk result (λ v. IsRead rule schema.now.types.items id.0 octets.now (tree_of v) []) }
+    ensures err { IfErr result (IsRefused rule schema.now.types.items id.0 octets.now) }
 {
     match decode_or_locate(alloc, rule, schema, id, octets) {
         Ok((value, rest)) => match refuse_rest(alloc, rule, id, octets, rest) {
