@@ -1,9 +1,9 @@
 //! Reads a value of a type.
-ghost use Rattle.std.specs.Prelude.{◌≡◌, ◌≢◌, ◌⊎◌, ◌++◌, ◌∷◌, List, [], true, false, slice_get, None, Err, OnOk, IfOk, IfErr};
+ghost use Rattle.std.specs.Prelude.{◌≡◌, ◌≢◌, ◌⊎◌, ◌++◌, ◌∷◌, List, [], length, true, false, slice_get, None, Err, OnOk, IfOk, IfErr};
 ghost use Rattle.std.specs.String.{string_bytes};
 ghost use Rattle.rasn_types.specs.Framing.{AreOctets, Ended};
 ghost use Rattle.rasn_types.specs.Errors.{IsOutOfMemory};
-ghost use Rattle.rasn_types.specs.Shapes.{any, unknown as unknown_values, items, sought_by};
+ghost use Rattle.rasn_types.specs.Shapes.{any, unknown as unknown_values, items, sought_by, constraint_of};
 ghost use Rattle.rasn_de.specs.Decodes.{Decodes, DecodesBy};
 ghost use Rattle.rasn_de.specs.Constructed.{DecodesInside};
 ghost use Rattle.rasn_de.specs.SequenceOf.{DecodesElements, DecodesElementsInOrder, DecodesSized};
@@ -19,7 +19,7 @@ ghost use Rattle.rasn_schema.specs.Shapes.{shape_of_type, type_by, alternatives_
 ghost use Rattle.rasn_dynamic.specs.Inside.{ReadsSequence, DecodesTree, DecodesComponent};
 ghost use Rattle.rasn_dynamic.specs.Making.{Making, Counting, IsLength, outcome, reported, trees_of, these};
 ghost use Rattle.rasn_dynamic.specs.Typed.{element_count, IsSized, HoldsOthers, HoldsElements, CountsElements, MayRunOut, DecodesContents, DecodesType};
-ghost use Rattle.rasn_dynamic.specs.Calls.{any_required, is_required, IsMade, AreSettled, nones, names_of, IsKept, DecodesPresent, DecodesMember, IsNoAlternative, IsNoMember};
+ghost use Rattle.rasn_dynamic.specs.Calls.{Gathers, any_required, is_required, IsMade, AreSettled, nones, names_of, IsKept, DecodesPresent, DecodesMember, IsNoAlternative, IsNoMember};
 ghost use Rattle.rasn_schema.specs.Fitting.{Fits, FitsBy, IsChosen, AlternativeFits, ComponentFits, ComponentsFit, EachFits, AreOctets as AreOctetsValue};
 ghost use Rattle.rasn_dynamic.specs.Found.{FoundFit, MembersFit};
 ghost use Rattle.rasn_dynamic.specs.Faults.{IsFault, IsFaultIn, IsFaultOf, IsFaultInside, IsOnly, IsAlternativeAt, IsElementAt, IsComponentAt, IsMemberHere, IsMemberAfter, IsAnyPart, Told, TellsOf, FailsAt, FailsItself, ReadsEachPart, StopsAtChoice, StopsInside, StopsInElements, StopsInOrder, StopsInSequence, StopsAtComponent, IsDefaultWritten, StopsInSet, StopsAtMember};
@@ -37,9 +37,9 @@ use crate::read_leaf::{
 use crate::set::{
     all_absent, component_for, gather, last_type, named_components, no_components, put,
 };
-use crate::span::{Spans, finish, go_inside, go_outside, note};
-use crate::trace::{Fault, add_after, mark, mark_part, octets_after, octets_left, step};
-use crate::walk::{Refused, Walk, peek};
+use crate::span::{finish, go_inside, go_outside, note};
+use crate::trace::{add_after, mark, mark_part, octets_after, octets_left, step};
+use crate::walk::{Refused, Walk, peek, peek_in_order};
 use rasn_de::ber::de::{ConstructedHeader, Decoder};
 use rasn_de::de::Error;
 use rasn_schema::{
@@ -303,34 +303,76 @@ fn put_missing<'input, M: Made>(
     }
 }
 
+/// Returns that no component was read yet.
+fn start_components<'input>(
+    decoder: &Decoder<'input>,
+    error: &mut DecodeError,
+    components: &[Component],
+) -> Result<Vec<Option<Value<'input>>>, Refused>
+    ensures ok { IfOk (reported result error.new) (λ v. v.items ≡ nones components.now) }
+    ensures err { IfErr (reported result error.new) (λ e. IsOutOfMemory e.kind) }
+    ensures rules { IfErr (reported result error.new) (λ e. e.codec ≡ decoder.now.rule) }
+{
+    match no_components(decoder, components) {
+        Ok(found) => Ok(found),
+        Err(fault) => {
+            *error = fault;
+            Err(Refused)
+        }
+    }
+}
+
+/// Returns all components, those that are absent with the values that they have then, where values are kept.
+///
+/// # Errors
+/// Those of [`gather`].
+fn gather_found<'input, M: Made>(
+    decoder: &Decoder<'input>,
+    error: &mut DecodeError,
+    components: &[Component],
+    found: Vec<Option<Value<'input>>>,
+) -> Result<Vec<Value<'input>>, Refused>
+    requires { length found.items ≡ length components.now }
+    ensures gathers { Gathers M.KEEP components.now decoder.now.rule found.entry.items (reported result error.new) }
+    ensures rules { IfErr (reported result error.new) (λ e. e.codec ≡ decoder.now.rule) }
+{
+    match gather::<M>(decoder, components, found) {
+        Ok(values) => Ok(values),
+        Err(fault) => {
+            *error = fault;
+            Err(Refused)
+        }
+    }
+}
+
 /// Reads an unknown component of a SET as one complete encoding (X.680 27), and notes it as a part
 /// with this type and this index. If it can't be read, names it.
 fn decode_unknown_component<'input>(
     decoder: &mut Decoder<'input>,
-    trace: &mut Option<Fault>,
-    spans: &mut Spans<'input>,
+    walk: &mut Walk<'input>,
     levels: usize,
     id: TypeId,
     index: usize,
-) -> Result<Value<'input>, DecodeError>
-    requires clear { trace.old ≡ None }
+) -> Result<Value<'input>, Refused>
+    requires clear { walk.old.fault ≡ None }
     requires more { Ended decoder.old.closing decoder.old.rest → ⊥ }
-    ensures reads { Decodes (any None) tree_of decoder.old result decoder.new }
-    ensures fits { IfOk result AreOctetsValue }
-    ensures rules { IfErr result (λ e. e.codec ≡ decoder.old.rule) }
-    ensures told { (types : List «Type») → shape_of_type types levels id.0 ≡ unknown_values → TellsOf (IsFaultIn types levels (IsOnly index id.0 decoder.old) decoder.old decoder.old) result trace.new }
-    ensures listed { IfOk result (λ v. Lists (λ b es. UnknownListed levels id.0 index b decoder.old decoder.new es) spans.old spans.new) }
+    ensures reads { Decodes (any None) tree_of decoder.old (reported result walk.new.error) decoder.new }
+    ensures fits { IfOk (reported result walk.new.error) AreOctetsValue }
+    ensures rules { IfErr (reported result walk.new.error) (λ e. e.codec ≡ decoder.old.rule) }
+    ensures told { (types : List «Type») → shape_of_type types levels id.0 ≡ unknown_values → TellsOf (IsFaultIn types levels (IsOnly index id.0 decoder.old) decoder.old decoder.old) (reported result walk.new.error) walk.new.fault }
+    ensures listed { IfOk (reported result walk.new.error) (λ v. Lists (λ b es. UnknownListed levels id.0 index b decoder.old decoder.new es) walk.old.spans walk.new.spans) }
 {
     let start = decoder.remaining();
-    let place = note(spans, id, index, levels, start);
+    let place = note(&mut walk.spans, id, index, levels, start);
     match decode_any_value(decoder, Tag::EOC) {
         Ok(value) => {
-            finish(spans, place, decoder.remaining());
+            finish(&mut walk.spans, place, decoder.remaining());
             Ok(value)
         }
         Err(error) => {
-            mark_part(decoder.alloc(), trace, id, start.len(), index);
-            Err(error)
+            mark_part(decoder.alloc(), &mut walk.fault, id, start.len(), index);
+            walk.error = error;
+            Err(Refused)
         }
     }
 }
@@ -661,9 +703,12 @@ fn decode_inside<'input, M: Made>(
         }
     };
     let after = go_inside(&mut walk.spans, decoder, &inner);
-    if let Err(refused) = decode_contents::<M>(&mut inner, walk, types, below, ty, count, out) {
-        add_after(&mut walk.fault, octets_after(decoder, &inner));
-        return Err(refused);
+    match decode_contents::<M>(&mut inner, walk, types, below, ty, count, out) {
+        Ok(()) => {}
+        Err(refused) => {
+            add_after(&mut walk.fault, octets_after(decoder, &inner));
+            return Err(refused);
+        }
     }
     match decoder.close(contents, inner.remaining()) {
         Ok(()) => {
@@ -725,13 +770,7 @@ fn decode_contents<'input, M: Made>(
         } => {
             let (named, extensible) = named_components(types, below, components);
             let other_id = last_type(components);
-            let found = match no_components(decoder, named) {
-                Ok(found) => found,
-                Err(error) => {
-                    walk.error = error;
-                    return Err(Refused);
-                }
-            };
+            let found = start_components(decoder, &mut walk.error, named)?;
             let values = decode_set::<M>(
                 decoder,
                 walk,
@@ -1011,13 +1050,7 @@ fn decode_set<'input, M: Made>(
     let mut twice = None;
     let mut last = None;
     while !decoder.has_ended() {
-        last = match decoder.peek_tag_in_order(last) {
-            Ok(tag) => tag,
-            Err(error) => {
-                walk.error = error;
-                return Err(Refused);
-            }
-        };
+        last = peek_in_order(decoder, &mut walk.error, last)?;
         let next = decode_set_component::<M>(
             decoder,
             walk,
@@ -1036,13 +1069,7 @@ fn decode_set<'input, M: Made>(
         walk.error = DecodeError::duplicate_field(decoder.alloc(), repeated, decoder.codec());
         return Err(Refused);
     }
-    let mut values = match gather::<M>(decoder, components, found) {
-        Ok(values) => values,
-        Err(error) => {
-            walk.error = error;
-            return Err(Refused);
-        }
-    };
+    let mut values = gather_found::<M>(decoder, &mut walk.error, components, found)?;
     if extensible {
         append::<M>(decoder, &mut walk.error, &mut values, Value::Items(unknown))?;
     }
@@ -1090,20 +1117,7 @@ fn decode_set_component<'input, 'names, M: Made>(
             return Err(Refused);
         }
         let index = components.len();
-        let other = match decode_unknown_component(
-            decoder,
-            &mut walk.fault,
-            &mut walk.spans,
-            below,
-            other_id,
-            index,
-        ) {
-            Ok(other) => other,
-            Err(error) => {
-                walk.error = error;
-                return Err(Refused);
-            }
-        };
+        let other = decode_unknown_component(decoder, walk, below, other_id, index)?;
         append::<M>(decoder, &mut walk.error, unknown, other)?;
         return Ok(None);
     };

@@ -1,5 +1,6 @@
 //! What goes along while a message is read.
 ghost use Rattle.std.specs.Prelude.{◌≡◌, None};
+ghost use Rattle.rasn_de.specs.Set.{PeeksInOrder};
 ghost use Rattle.rasn_de.specs.Steps.{PeeksTag, IsNextTag};
 ghost use Rattle.rasn_dynamic.specs.Making.{reported};
 
@@ -46,6 +47,23 @@ pub fn peek(decoder: &Decoder<'_>, error: &mut DecodeError) -> Result<Tag, Refus
     ensures exact { PeeksTag decoder.now (reported result error.new) }
 {
     match decoder.peek_tag() {
+        Ok(tag) => Ok(tag),
+        Err(fault) => {
+            *error = fault;
+            Err(Refused)
+        }
+    }
+}
+
+/// Returns the next tag under DER, which must not be less than the last one, or keeps the error.
+pub fn peek_in_order(
+    decoder: &Decoder<'_>,
+    error: &mut DecodeError,
+    last: Option<Tag>,
+) -> Result<Option<Tag>, Refused>
+    ensures { PeeksInOrder last decoder.now (reported result error.new) }
+{
+    match decoder.peek_tag_in_order(last) {
         Ok(tag) => Ok(tag),
         Err(fault) => {
             *error = fault;
