@@ -471,26 +471,26 @@ pub decode_inside-returns-in-Err-clause-exact :
 decode_inside-returns-in-Err-clause-exact g t c =
     (step_none _ c.args.header c.args.decoder.now _ _ c.in-Err.ensures.exact)
 
-pub decode_inside-returns-in-Err-2-clause-exact :
-    goal.decode_inside-returns-in-Err-2-clause-exact
-decode_inside-returns-in-Err-2-clause-exact g t c =
-    (step_refused _ c.args.header c.args.decoder.now _ _ _ c.in-Ok.ensures.exact _ _ c.in-Err-2.ensures.exact)
+pub decode_inside-returns-in-Err-decode_contents-clause-exact :
+    goal.decode_inside-returns-in-Err-decode_contents-clause-exact
+decode_inside-returns-in-Err-decode_contents-clause-exact g t c =
+    (step_refused _ c.args.header c.args.decoder.now _ _ _ c.in-Ok.ensures.exact _ _ c.in-Err-decode_contents.ensures.exact)
 
-pub decode_inside-returns-in-Err-3-clause-exact : goal.decode_inside-returns-in-Err-3-clause-exact
-decode_inside-returns-in-Err-3-clause-exact g t c =
-    let w = c.in-Ok-2.ensures.exact in
-    (step_unclosed _ c.args.header c.args.decoder.now _ _ _ c.in-Ok.ensures.exact w.0 _ w.3 _ c.remaining.ensures.value _ _ c.in-Err-3.ensures)
+pub decode_inside-returns-in-Err-close-clause-exact : goal.decode_inside-returns-in-Err-close-clause-exact
+decode_inside-returns-in-Err-close-clause-exact g t c =
+    let w = c.in-Ok-decode_contents.ensures.exact in
+    (step_unclosed _ c.args.header c.args.decoder.now _ _ _ c.in-Ok.ensures.exact w.0 _ w.3 _ c.remaining.ensures.value _ _ c.in-Err-close.ensures)
 
 pub decode_inside-close-requires : goal.decode_inside-close-requires
 decode_inside-close-requires g t c = λ x.
-    let w = c.in-Ok-2.ensures.exact in
+    let w = c.in-Ok-decode_contents.ensures.exact in
     step_end (DecodesContents (shape_of_type c.args.types.now c.args.below) c.args.ty.now) c.args.header c.args.decoder.now _ _ _ c.in-Ok.ensures.exact _ _
     (contents_end (shape_of_type c.args.types.now c.args.below) c.args.ty.now _ w.0 _ w.3) c.remaining.ensures.value x
 
-pub decode_inside-returns-in-Ok-clause-exact : goal.decode_inside-returns-in-Ok-clause-exact
-decode_inside-returns-in-Ok-clause-exact g t c =
-    let w = c.in-Ok-2.ensures.exact in
-    (w.0, w.1, w.2, step_closed _ c.args.header c.args.decoder.now _ _ _ c.in-Ok.ensures.exact w.0 _ w.3 _ c.remaining.ensures.value _ c.in-Ok-3.ensures)
+pub decode_inside-returns-in-Ok-close-clause-exact : goal.decode_inside-returns-in-Ok-close-clause-exact
+decode_inside-returns-in-Ok-close-clause-exact g t c =
+    let w = c.in-Ok-decode_contents.ensures.exact in
+    (w.0, w.1, w.2, step_closed _ c.args.header c.args.decoder.now _ _ _ c.in-Ok.ensures.exact w.0 _ w.3 _ c.remaining.ensures.value _ c.in-Ok-close.ensures)
 
 pub decode_inside-returns-in-Err-clause-rules : goal.decode_inside-returns-in-Err-clause-rules
 decode_inside-returns-in-Err-clause-rules g t c = (codec_is c.in-Err.ensures.exact.2)
@@ -516,7 +516,7 @@ decode_list-returns-in_err-check_size-clause-itself g t c =
 pub decode_list-returns-in_err-check_size-clause-told : goal.decode_list-returns-in_err-check_size-clause-told
 decode_list-returns-in_err-check_size-clause-told g t c =
     rw (residual _ c.from_residual-in_err-check_size.ensures.1)
-    (unnamed {T = Value} (IsFaultInside c.args.types.now c.args.below (list_header c.args.tag) c.args.ty.now c.args.decoder.now) (Err c.in_err-check_size.field-0.0) _ c.in_ok-decode_inside.ensures.told)
+    (unnamed {T = Value} (IsFaultInside c.args.types.now c.args.below (list_header c.args.tag) c.args.ty.now c.args.decoder.now) (Err c.check_size.new.error) _ c.in_ok-decode_inside.ensures.told)
 
 pub decode_list-returns-in_err-check_size-clause-rules : goal.decode_list-returns-in_err-check_size-clause-rules
 decode_list-returns-in_err-check_size-clause-rules g t c = rw (residual _ c.from_residual-in_err-check_size.ensures.1) (c.in_err-check_size.ensures.rules ∙ same_rules c.in_ok-decode_inside.ensures.exact.3.0.stays)
@@ -586,11 +586,11 @@ decode_type-returns-in-Leaf-clause-exact g t c = rw c.in-Leaf.is c.put_leaf.ensu
 pub decode_type-returns-in-Leaf-clause-reads : goal.decode_type-returns-in-Leaf-clause-reads
 decode_type-returns-in-Leaf-clause-reads g t c = rw c.in-Leaf.is c.put_leaf.ensures.reads
 
-pub decode_inside-returns-in-Err-2-clause-rules : goal.decode_inside-returns-in-Err-2-clause-rules
-decode_inside-returns-in-Err-2-clause-rules g t c = (c.in-Err-2.ensures.rules ∙ same_rules c.in-Ok.ensures.exact.2)
+pub decode_inside-returns-in-Err-decode_contents-clause-rules : goal.decode_inside-returns-in-Err-decode_contents-clause-rules
+decode_inside-returns-in-Err-decode_contents-clause-rules g t c = (c.in-Err-decode_contents.ensures.rules ∙ same_rules c.in-Ok.ensures.exact.2)
 
-pub decode_inside-returns-in-Err-3-clause-rules : goal.decode_inside-returns-in-Err-3-clause-rules
-decode_inside-returns-in-Err-3-clause-rules g t c = (codec_is c.in-Err-3.ensures.2 ∙ same_rules c.in-Ok.ensures.exact.5.stays)
+pub decode_inside-returns-in-Err-close-clause-rules : goal.decode_inside-returns-in-Err-close-clause-rules
+decode_inside-returns-in-Err-close-clause-rules g t c = (codec_is c.in-Err-close.ensures.2 ∙ same_rules c.in-Ok.ensures.exact.5.stays)
 
 -- ---- a type
 
@@ -1068,6 +1068,24 @@ decode_type-returns-in-Choice-clause-told g t c =
     told_map _ _ (λ k f i. subst (λ n. IsFaultOf c.args.types.now c.args.below n c.args.decoder.now k f) (sym c.in-Choice.is)
     (c.args.decoder.now, refl, subst (λ l. IsFaultIn c.args.types.now c.args.below (IsAlternativeAt (shape_of_type c.args.types.now c.args.below) l c.args.decoder.now) c.args.decoder.now c.args.decoder.now k f) c.deref-in-Choice.ensures.value i)) _ _ c.decode_choice.ensures.told
 
+pub decode_type-returns-in-Leaf-clause-told : goal.decode_type-returns-in-Leaf-clause-told
+decode_type-returns-in-Leaf-clause-told g t c = unnamed _ _ _ c.requires.clear
+
+pub decode_type-returns-in-Enumerated-clause-told : goal.decode_type-returns-in-Enumerated-clause-told
+decode_type-returns-in-Enumerated-clause-told g t c = unnamed _ _ _ c.requires.clear
+
+pub decode_type-returns-in-Any-clause-told : goal.decode_type-returns-in-Any-clause-told
+decode_type-returns-in-Any-clause-told g t c = unnamed _ _ _ c.requires.clear
+
+pub decode_type-returns-in-Unknown-clause-told : goal.decode_type-returns-in-Unknown-clause-told
+decode_type-returns-in-Unknown-clause-told g t c = unnamed _ _ _ c.requires.clear
+
+pub decode_sequence-returns-then-leaves_all_out-clause-told : goal.decode_sequence-returns-then-leaves_all_out-clause-told
+decode_sequence-returns-then-leaves_all_out-clause-told g t c = unnamed _ _ _ c.requires.clear
+
+pub decode_component-returns-in-Ok-false-clause-told : goal.decode_component-returns-in-Ok-false-clause-told
+decode_component-returns-in-Ok-false-clause-told g t c = unnamed _ _ _ c.requires.clear
+
 pub decode_choice-returns-in_err-decode_part-clause-told : goal.decode_choice-returns-in_err-decode_part-clause-told
 decode_choice-returns-in_err-decode_part-clause-told g t c =
     let el = get_or c.args.alternatives.now c.in-Some.number c.index-alternatives-number.result in
@@ -1081,13 +1099,13 @@ pub decode_inside-add_after-requires : goal.decode_inside-add_after-requires
 decode_inside-add_after-requires g t c =
     λ f q.
     let n = opened_short c.args.types.now c.args.header c.args.decoder.now c.in-Ok.ensures.octets _ _ _ c.in-Ok.ensures.exact c.args.below _ _ f c.decode_contents.new.decoder.closing c.octets_after.result
-    (ap (λ (s : State). s.closing) (contents_stay (shape_of_type c.args.types.now c.args.below) c.args.ty.now _ c.decode_contents.new.walk.error _ c.in-Err-2.ensures.exact)) c.octets_after.ensures (c.in-Err-2.ensures.told f q) in
+    (ap (λ (s : State). s.closing) (contents_stay (shape_of_type c.args.types.now c.args.below) c.args.ty.now _ c.decode_contents.new.walk.error _ c.in-Err-decode_contents.ensures.exact)) c.octets_after.ensures (c.in-Err-decode_contents.ensures.told f q) in
     omega (arith, n, c.octets_left.ensures, c.octets_left.type_inv)
 
-pub decode_inside-returns-in-Err-2-clause-told : goal.decode_inside-returns-in-Err-2-clause-told
-decode_inside-returns-in-Err-2-clause-told g t c =
+pub decode_inside-returns-in-Err-decode_contents-clause-told : goal.decode_inside-returns-in-Err-decode_contents-clause-told
+decode_inside-returns-in-Err-decode_contents-clause-told g t c =
     opened c.args.types.now c.args.header c.args.decoder.now c.in-Ok.ensures.octets _ _ _ c.in-Ok.ensures.exact c.args.below c.args.ty.now _ c.decode_contents.new.decoder.closing c.octets_after.result
-    (ap (λ (s : State). s.closing) (contents_stay (shape_of_type c.args.types.now c.args.below) c.args.ty.now _ c.decode_contents.new.walk.error _ c.in-Err-2.ensures.exact)) c.octets_after.ensures _ _ c.in-Err-2.ensures.told c.add_after.ensures
+    (ap (λ (s : State). s.closing) (contents_stay (shape_of_type c.args.types.now c.args.below) c.args.ty.now _ c.decode_contents.new.walk.error _ c.in-Err-decode_contents.ensures.exact)) c.octets_after.ensures _ _ c.in-Err-decode_contents.ensures.told c.add_after.ensures
 
 pub decode_contents-returns-in-Tagged-clause-told : goal.decode_contents-returns-in-Tagged-clause-told
 decode_contents-returns-in-Tagged-clause-told g t c =
@@ -1262,14 +1280,14 @@ pub decode_inside-returns-in-Err-clause-itself : goal.decode_inside-returns-in-E
 decode_inside-returns-in-Err-clause-itself g t c =
     (λ n. step_none (ReadsEachPart (shape_of_type c.args.types.now c.args.below) c.args.ty.now) c.args.header c.args.decoder.now _ _ c.in-Err.ensures.exact)
 
-pub decode_inside-returns-in-Err-2-clause-itself : goal.decode_inside-returns-in-Err-2-clause-itself
-decode_inside-returns-in-Err-2-clause-itself g t c =
-    λ n. step_refused (ReadsEachPart (shape_of_type c.args.types.now c.args.below) c.args.ty.now) c.args.header c.args.decoder.now _ _ _ c.in-Ok.ensures.exact _ c.decode_contents.new.decoder (c.in-Err-2.ensures.itself (unmoved _ _ _ c.add_after.ensures n))
+pub decode_inside-returns-in-Err-decode_contents-clause-itself : goal.decode_inside-returns-in-Err-decode_contents-clause-itself
+decode_inside-returns-in-Err-decode_contents-clause-itself g t c =
+    λ n. step_refused (ReadsEachPart (shape_of_type c.args.types.now c.args.below) c.args.ty.now) c.args.header c.args.decoder.now _ _ _ c.in-Ok.ensures.exact _ c.decode_contents.new.decoder (c.in-Err-decode_contents.ensures.itself (unmoved _ _ _ c.add_after.ensures n))
 
-pub decode_inside-returns-in-Err-3-clause-itself : goal.decode_inside-returns-in-Err-3-clause-itself
-decode_inside-returns-in-Err-3-clause-itself g t c =
-    let w = c.in-Ok-2.ensures.exact in
-    (λ n. step_unclosed (ReadsEachPart (shape_of_type c.args.types.now c.args.below) c.args.ty.now) c.args.header c.args.decoder.now _ _ _ c.in-Ok.ensures.exact w.0 _ w.3 _ c.remaining.ensures.value _ _ c.in-Err-3.ensures)
+pub decode_inside-returns-in-Err-close-clause-itself : goal.decode_inside-returns-in-Err-close-clause-itself
+decode_inside-returns-in-Err-close-clause-itself g t c =
+    let w = c.in-Ok-decode_contents.ensures.exact in
+    (λ n. step_unclosed (ReadsEachPart (shape_of_type c.args.types.now c.args.below) c.args.ty.now) c.args.header c.args.decoder.now _ _ _ c.in-Ok.ensures.exact w.0 _ w.3 _ c.remaining.ensures.value _ _ c.in-Err-close.ensures)
 
 pub decode_contents-returns-in-Tagged-clause-itself : goal.decode_contents-returns-in-Tagged-clause-itself
 decode_contents-returns-in-Tagged-clause-itself g t c =
@@ -1506,9 +1524,9 @@ pub decode_list-returns-clause-listed : goal.decode_list-returns-clause-listed
 decode_list-returns-clause-listed g t c =
     header_listed (shape_of_type c.args.types.now c.args.below) c.args.below (Inside c.args.types.now c.args.below) c.list.result (list_header c.args.tag) c.args.ty.now c.args.decoder.now _ _ c.list.ensures c.in_ok-decode_inside.ensures.listed
 
-pub decode_inside-returns-in-Ok-clause-listed : goal.decode_inside-returns-in-Ok-clause-listed
-decode_inside-returns-in-Ok-clause-listed g t c =
-    inside_listed (shape_of_type c.args.types.now c.args.below) c.args.below (Inside c.args.types.now c.args.below) c.args.ty.now c.args.header c.args.decoder.now _ _ _ _ _ _ _ _ c.in-Ok.ensures.exact c.go_inside-after.ensures c.in-Ok-2.ensures.listed c.go_outside.ensures
+pub decode_inside-returns-in-Ok-close-clause-listed : goal.decode_inside-returns-in-Ok-close-clause-listed
+decode_inside-returns-in-Ok-close-clause-listed g t c =
+    inside_listed (shape_of_type c.args.types.now c.args.below) c.args.below (Inside c.args.types.now c.args.below) c.args.ty.now c.args.header c.args.decoder.now _ _ _ _ _ _ _ _ c.in-Ok.ensures.exact c.go_inside-after.ensures c.in-Ok-decode_contents.ensures.listed c.go_outside.ensures
 
 pub decode_contents-returns-in-Tagged-clause-listed : goal.decode_contents-returns-in-Tagged-clause-listed
 decode_contents-returns-in-Tagged-clause-listed g t c =
