@@ -1,0 +1,92 @@
+//! `Contact ::= CHOICE { email IA5String, phone NumericString }`
+use rasn::prelude::*;
+
+/// `CHOICE { email IA5String, phone NumericString }`
+#[derive(Debug, PartialEq, Eq, Drop)]
+pub enum Contact {
+    /// `email IA5String`
+    Email(Ia5String),
+    /// `phone NumericString`
+    Phone(NumericString),
+}
+
+/// The alternatives, as they are read.
+type Alternatives = OneOf<Ia5String, Last<NumericString>>;
+
+impl AsnType for Contact {
+    ghost use Rattle.std.specs.Prelude.{refl};
+    ghost use Rattle.rasn_types.specs.Shapes.{choice, chosen};
+    ghost use Rattle.rasn_types.specs.Tags.{eoc};
+    ghost use Rattle.rasn_types.specs.Trees.{unconstrained};
+    ghost use Rattle.forms.specs.declared.contact.Contact.TheVariants.{Email, Phone};
+
+    ghost TAG = { eoc };
+
+    const TAG: Tag = Tag::EOC;
+
+    ghost CONSTRAINTS = { unconstrained };
+
+    const CONSTRAINTS: Constraints = Constraints::NONE;
+
+    ghost shape = { choice ⟦<Alternatives as DecodeAlternatives>⟧.parts };
+
+    ghost tree = { elim [ Email x ↦ chosen 0 (⟦<Ia5String as AsnType>⟧.tree x) | Phone x ↦ chosen 1 (⟦<NumericString as AsnType>⟧.tree x) ] };
+
+    ghost own = { refl };
+}
+
+impl LawfulEq for Contact {
+    ghost use Rattle.rasn_types.specs.Deciding.{deciding};
+    ghost use Rattle.rasn_types.specs.Equality.{choice_decided, alternative};
+    ghost use Rattle.forms.specs.contracts.contact.Contact.{enum as contact_enum};
+
+    ghost decides = { choice_decided contact_enum _ _ (alternative (λ x. x.0) (Prim.search deciding depth 64), (alternative (λ x. x.0) (Prim.search deciding depth 64), tt)) };
+}
+
+impl Present for Contact {
+    ghost use Rattle.rasn_types.specs.Equality.{chosen_not_absent};
+    ghost use Rattle.forms.specs.declared.contact.Contact.TheVariants.{Email, Phone};
+
+    ghost present = { elim [ Email x ↦ chosen_not_absent | Phone x ↦ chosen_not_absent ] };
+}
+
+impl Decode for Contact {
+    fn decode_with_tag_and_constraints(
+        decoder: &mut Decoder<'_>,
+        _tag: Tag,
+        _constraints: &Constraints,
+    ) -> Result<Contact, DecodeError> {
+        match decoder.read_choice::<Alternatives>("Contact")? {
+            OneOf::This(value) => Ok(Contact::Email(value)),
+            OneOf::Other(Last(value)) => Ok(Contact::Phone(value)),
+        }
+    }
+}
+
+/// The alternatives, as they are written.
+type Written<'a> = OneOf<&'a Ia5String, Last<&'a NumericString>>;
+
+impl Encode for Contact {
+    fn encode_with_tag_and_constraints(
+        &self,
+        encoder: &mut Encoder,
+        _tag: Tag,
+        _constraints: &Constraints,
+        _identifier: Identifier,
+    ) -> Result<(), EncodeError> {
+        match self {
+            Contact::Email(value) => encoder.write_choice::<Written<'_>>(OneOf::This(value)),
+            Contact::Phone(value) => encoder.write_choice::<Written<'_>>(OneOf::Other(Last(value))),
+        }
+    }
+
+    fn is_present(&self) -> bool {
+        true
+    }
+}
+
+impl FirstTags for Contact {
+    fn is_first_tag(tag: Tag) -> bool {
+        <Alternatives as DecodeAlternatives>::has_tag(tag)
+    }
+}
