@@ -55,23 +55,34 @@ impl NameText<'_> {
             return Ok(false);
         };
         for (place, attribute) in attributes.iter().enumerate() {
-            let Value::Items(parts) = attribute else {
-                return Ok(false);
-            };
-            let [Value::Arcs(kind), Value::Octets(octets)] = parts.as_slice() else {
-                return Ok(false);
-            };
             if place > 0 {
                 self.text.push_str(" + ")?;
             }
-            self.push_attribute(kind, octets.as_slice())?;
+            if !self.push_attribute(attribute)? {
+                return Ok(false);
+            }
         }
+        Ok(true)
+    }
+
+    /// Appends one attribute. Returns false if the value has another form.
+    fn push_attribute(&mut self, attribute: &Value<'_>) -> Result<bool, AllocError> {
+        let Value::Items(parts) = attribute else {
+            return Ok(false);
+        };
+        let [kind, value] = parts.as_slice() else {
+            return Ok(false);
+        };
+        let (Value::Arcs(kind), Value::Octets(octets)) = (kind, value) else {
+            return Ok(false);
+        };
+        self.push_typed(kind, octets.as_slice())?;
         Ok(true)
     }
 
     /// Appends the type of an attribute, by its short name if it has one, and the characters of its
     /// value, or its octets in hexadecimal after `#` if it is no string (RFC 4514 2.3, 2.4).
-    fn push_attribute(&mut self, kind: &ObjectIdentifier, octets: &[u8]) -> Result<(), AllocError> {
+    fn push_typed(&mut self, kind: &ObjectIdentifier, octets: &[u8]) -> Result<(), AllocError> {
         match attribute_name(kind.arcs()) {
             Some(name) => write!(self.text, "{name}=")?,
             None => write!(self.text, "{kind}=")?,

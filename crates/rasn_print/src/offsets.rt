@@ -4,8 +4,8 @@ use crate::dump::push_indent;
 use crate::leaf::{hexadecimal_text, leaf_text};
 use crate::reading::{ReadError, refused};
 use rasn_dynamic::{MessageParts, Part, decode, parts_of};
-use rasn_schema::{LeafKind, Schema, Type, TypeId, is_unknown_at, part_name, type_at};
-use rasn_types::types::{Codec, Hexadecimal};
+use rasn_schema::{LeafKind, NamedNumber, Schema, Type, TypeId, is_unknown_at, part_name, type_at};
+use rasn_types::types::Codec;
 use std::alloc::{AllocError, Global};
 
 /// Returns the parts of the message with which the octets begin as lines: where each begins, how
@@ -103,19 +103,32 @@ fn push_value(
     schema: &Schema,
     part: &Part<'_>,
 ) -> Result<(), AllocError> {
-    let (kind, names) = match type_at(schema.types(), part.id) {
-        Some(Type::Leaf { kind, names, .. }) => (*kind, names.as_slice()),
-        Some(Type::Enumerated { numbers, .. }) => (LeafKind::Integer, numbers.as_slice()),
-        Some(Type::Any { .. } | Type::Unknown) => {
-            let shown = Hexadecimal::new(part.octets);
-            return writeln!(text, ": {shown}");
+    let shown = match type_at(schema.types(), part.id) {
+        Some(Type::Leaf { kind, names, .. }) => {
+            part_text(alloc, rule, schema, part, *kind, names.as_slice())?
         }
+        Some(Type::Enumerated { numbers, .. }) => {
+            let kind = LeafKind::Integer;
+            part_text(alloc, rule, schema, part, kind, numbers.as_slice())?
+        }
+        Some(Type::Any { .. } | Type::Unknown) => hexadecimal_text(alloc, part.octets)?,
         _ => return text.push('\n'),
     };
-    let shown = match decode(alloc, rule, schema, part.id, part.octets) {
-        Ok(value) => leaf_text(alloc, kind, names, &value)?,
-        Err(error) if error.is_out_of_memory() => return Err(AllocError),
-        Err(_) => hexadecimal_text(alloc, part.octets)?,
-    };
     writeln!(text, ": {shown}")
+}
+
+/// Returns the value of a part as text.
+fn part_text(
+    alloc: Global,
+    rule: Codec,
+    schema: &Schema,
+    part: &Part<'_>,
+    kind: LeafKind,
+    names: &[NamedNumber],
+) -> Result<String, AllocError> {
+    match decode(alloc, rule, schema, part.id, part.octets) {
+        Ok(value) => leaf_text(alloc, kind, names, &value),
+        Err(error) if error.is_out_of_memory() => Err(AllocError),
+        Err(_) => hexadecimal_text(alloc, part.octets),
+    }
 }

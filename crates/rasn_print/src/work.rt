@@ -109,14 +109,7 @@ fn answer_by(
         wanted,
         input,
     };
-    match tools.call.work {
-        Work::Normalise => read.normalised(),
-        Work::Lint => read.linted(),
-        Work::Json => read.json(),
-        Work::Encode => read.encoded(),
-        Work::Check if wanted.rule == Codec::Der => read.checked(),
-        _ => read.shown(),
-    }
+    read.answer()
 }
 
 /// Returns the refusal for this reason, unless that is that memory ran out.
@@ -140,6 +133,18 @@ struct Message<'m, 'a, 'text> {
 }
 
 impl Message<'_, '_, '_> {
+    /// Returns what is printed for it.
+    fn answer(&self) -> Result<Answer, AllocError> {
+        match self.tools.call.work {
+            Work::Normalise => self.normalised(),
+            Work::Lint => self.linted(),
+            Work::Json => self.json(),
+            Work::Encode => self.encoded(),
+            Work::Check if self.wanted.rule == Codec::Der => self.checked(),
+            _ => self.shown(),
+        }
+    }
+
     /// Returns why it can't be read.
     fn unread(&self, error: &ReadError) -> Result<Answer, AllocError> {
         match error {
