@@ -1,19 +1,39 @@
 -- A value that holds others is written if its contents are.
-use Rattle.std.proofs.Common.{◌≡◌, ◌⊎◌, inl, inr, ◌<◌, ◌∷◌, [], ℕ, List, false, length, Result, Ok, Err, OnOk, OnErr, IfErr, refl, sym, ap, ◌∙◌, subst, arith}
+use Rattle.std.proofs.Common.{◌≡◌, ◌⊎◌, inl, inr, ◌<◌, ◌∷◌, [], ℕ, List, Bool, true, false, if◌then◌else◌, length, Result, Ok, Err, OnOk, OnErr, IfErr, refl, sym, ap, ◌∙◌, subst, arith}
 use Rattle.std.proofs.lemmas.List.{length-append}
 use Rattle.std.proofs.lemmas.Result.{on_ok_weaker, IfErr-weaker}
 use Rattle.rasn_types.specs.declared.types.codec.Codec.{Codec}
 use Rattle.rasn_types.specs.declared.types.tag.Tag.{Tag}
 use Rattle.rasn_types.specs.declared.error.encode.EncodeError.{EncodeError}
 use Rattle.rasn_types.specs.Errors.{IsEncodeOutOfMemory}
-use Rattle.rasn_types.specs.Shapes.{Tree, Shape, leaf, any, prefix, choice, open_choice, option, seq, set, sorted_set, list, set_of, unknown}
+use Rattle.rasn_types.specs.Shapes.{Tree, Shape, Parts, leaf, any, prefix, choice, open_choice, option, seq, set, sorted_set, list, set_of, unknown}
 use Rattle.rasn_types.specs.Contents.{joined_lists}
 use Rattle.rasn_types.specs.Bytes.{Bytes, contents_of, IsUntaggedOpen, ConstructedEncoding}
 use Rattle.rasn_enc.specs.View.{View, IsBelow, opened}
 use Rattle.rasn_enc.specs.Primitive.{Appends, IsAllocError}
 use Rattle.rasn_enc.specs.Encoding.{AppendsEncoding, EncodeFails}
 use Rattle.rasn_enc.proofs.Leaves.Primitive.{cons_begins, encoded_one}
-use Rattle.rasn_dynamic.specs.Written.{WritesInside, IsEnclosed, EncodesIf, EncodesInsideIf}
+use Rattle.rasn_schema.specs.declared.types.«Type».{«Type»}
+use Rattle.rasn_schema.specs.declared.types.«Type».TheVariants.{Leaf, Enumerated, Any, Tagged, Choice, Sequence, Set, SequenceOf, SetOf, Unknown}
+use Rattle.rasn_schema.specs.Shapes.{type_by, tag_of_type, alternatives_by, ends_open, before_last}
+use Rattle.rasn_dynamic.specs.Written.{WritesInside, IsEnclosed, HoldsOthers, EncodesIf, EncodesInsideIf}
+
+no_other : (b : Bool) (ps qs : Parts) → HoldsOthers (if b then open_choice qs else choice ps) → ⊥
+no_other true ps qs h = h
+no_other false ps qs h = h
+
+-- The header of a value that holds others has the tag of its type.
+pub enclosed_tag : (f : ℕ → Shape) (ty : «Type») → HoldsOthers (type_by f ty) → IsEnclosed (type_by f ty) (tag_of_type ty)
+enclosed_tag f (Leaf kind tag c names) h = absurd h
+enclosed_tag f (Enumerated tag ns) h = absurd h
+enclosed_tag f (Any tag) h = absurd h
+enclosed_tag f (Tagged tag k) h = refl
+enclosed_tag f (Choice name ks) h = absurd (no_other (ends_open (alternatives_by f ks.items)) (alternatives_by f ks.items) (before_last (alternatives_by f ks.items)) h)
+enclosed_tag f (Sequence tag ps) h = refl
+enclosed_tag f (Set name tag ps) h = refl
+enclosed_tag f (SequenceOf tag k c) h = refl
+enclosed_tag f (SetOf tag k c) h = refl
+enclosed_tag f Unknown h = absurd h
 
 module _ (rule : Codec) (t : Tree) (u : Tag) where
   bytes_of : (s : Shape) → IsEnclosed s u → (c o : List ℕ) → WritesInside rule s t c → ConstructedEncoding rule u c o → Bytes rule s t o
@@ -116,3 +136,7 @@ module _ {F : Type 0} (s : Shape) (t : Tree) (tag : Tag) (i : IsEnclosed s tag) 
     keeps = enclosed_err r x n;
     rules = enclosed_rules r m;
   }
+
+  -- The contents weren't written, and what was opened is dropped.
+  pub dropped : (e : EncodeError) (x : View) → q ≡ Err e → ((y : View) → IsBelow y w → x ≡ y) → EncodesIf F s t v (Err e) x
+  dropped e x m n = enclosed (Err e) x tt tt n (inr m)

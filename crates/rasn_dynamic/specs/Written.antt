@@ -1,5 +1,5 @@
 -- The contents of a value that holds others, as they are written.
-use Rattle.std.specs.Prelude.{◌≡◌, ◌⊎◌, ◌≤◌, ℕ, List, ◌++◌, Bool, length, Result, OnOk, OnErr, IfErr}
+use Rattle.std.specs.Prelude.{◌≡◌, ◌⊎◌, ◌≤◌, ℕ, List, ◌++◌, Bool, length, Result, Ok, Err, OnOk, OnErr, IfErr}
 use Rattle.rasn_types.specs.declared.types.codec.Codec.{Codec}
 use Rattle.rasn_types.specs.declared.types.tag.Tag.{Tag}
 use Rattle.rasn_types.specs.declared.error.encode.EncodeError.{EncodeError}
@@ -15,6 +15,16 @@ use Rattle.rasn_enc.specs.SortedSet.{HoldsParts, FailsAtComponents}
 use Rattle.rasn_enc.specs.declared.ber.enc.set_parts.SetComponent.{SetComponent}
 use Rattle.rasn_schema.specs.Shapes.{ends_unknown, known_parts}
 use Rattle.rasn_enc.specs.SequenceOf.{AppendsElements, AppendsSetOf, FailsAtElement, FailsAtElements}
+use Rattle.rasn_dynamic.specs.declared.kept.Unwritten.{Unwritten}
+
+-- What a call returns whose error is kept elsewhere.
+abbrev pub told : Result (Unit {0}) Unwritten → EncodeError → Result (Unit {0}) EncodeError
+told (Ok x) e = Ok x
+told (Err n) e = Err e
+
+-- The outcome is an error that names these rules.
+abbrev pub IsFormError : Codec → Result (Unit {0}) EncodeError → Type 0
+IsFormError rule r = (e : EncodeError) × (r ≡ Err e) × (e.codec ≡ rule)
 
 unfoldable pub WritesInside : Codec → Shape → Tree → List ℕ → Type 0
 WritesInside rule (leaf kind tag bounds) t c = ⊥

@@ -225,8 +225,18 @@ fn write(
         return Err(out_of_memory(rule));
     }
     let mut encoder = Encoder::over(alloc, EncoderOptions::of(rule), buffer);
-    encode_at(&mut encoder, schema.types(), usize::MAX, id, value)?;
-    encoder.output()
+    let mut fault = out_of_memory(rule);
+    match encode_at(
+        &mut encoder,
+        schema.types(),
+        usize::MAX,
+        id,
+        value,
+        &mut fault,
+    ) {
+        Ok(()) => encoder.output(),
+        Err(_) => Err(fault),
+    }
 }
 
 /// Returns the error of a value that isn't written: `Unfit` if it doesn't fit its type, else that of the writer.

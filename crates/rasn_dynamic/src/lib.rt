@@ -7,6 +7,7 @@ mod components;
 mod entry;
 mod facts;
 mod find;
+mod kept;
 mod leads_to;
 mod locate;
 mod made;

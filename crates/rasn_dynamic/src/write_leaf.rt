@@ -1,15 +1,17 @@
 //! Writes values that hold no other values.
-ghost use Rattle.std.specs.Prelude.{◌≡◌, true, OnErr, IfOk, IfErr, MatchOption, map};
-ghost use Rattle.rasn_types.specs.Shapes.{bits, numbers, joined, done, leaf, any, unknown, looked_for, enumerated};
+ghost use Rattle.std.specs.Prelude.{◌≡◌, true, OnOk, OnErr, IfOk, IfErr, MatchOption, map};
+ghost use Rattle.rasn_types.specs.Shapes.{bits, numbers, joined, tagged_as, done, leaf, any, unknown, looked_for, enumerated};
 ghost use Rattle.rasn_types.specs.Shapes.Parts.{none};
 ghost use Rattle.rasn_types.specs.Trees.{unconstrained};
 ghost use Rattle.rasn_schema.specs.Trees.{tree_of};
 ghost use Rattle.rasn_schema.specs.Shapes.{kind_of, numbers_of};
 ghost use Rattle.rasn_schema.specs.Fitting.{BitsFit, FitsLeaf, IsNumber, AreOctets, AreItems, EachFits};
+ghost use Rattle.rasn_enc.specs.Encoding.{AppendsEncoding, EncodeFails};
 ghost use Rattle.rasn_enc.specs.Primitive.{IsAllocError};
 ghost use Rattle.rasn_enc.specs.SortedSet.{HoldsParts, FailsAtComponents};
-ghost use Rattle.rasn_dynamic.specs.Written.{Encodes, EncodesIf};
+ghost use Rattle.rasn_dynamic.specs.Written.{Encodes, EncodesIf, told};
 
+use crate::kept::{Unwritten, keep, kept, refuse_form};
 use rasn_enc::ber::enc::Encoder;
 use rasn_enc::ber::enc::set_parts::{SetComponent, unknown_components};
 use rasn_enc::enc::Encode;
@@ -64,46 +66,71 @@ fn encode_bits(
     }
 }
 
-/// Writes a value that holds no other values.
+/// Writes a value as one of a type written in Rattle, and keeps the error.
 #[inline(always)]
+fn encode_held<T: Encode>(
+    held: &T,
+    encoder: &mut Encoder,
+    tag: Tag,
+    constraints: &Constraints,
+    fault: &mut EncodeError,
+) -> Result<(), Unwritten>
+    ensures ok { OnOk (told result fault.new) (AppendsEncoding (tagged_as tag constraints.now T.shape) (T.tree held.now) encoder.old encoder.new) }
+    ensures err { OnErr (told result fault.new) (encoder.new ≡ encoder.old) }
+    ensures refused { IfErr (told result fault.new) (EncodeFails (tagged_as tag constraints.now T.shape) (T.tree held.now) encoder.old) }
+    ensures rules { IfErr (told result fault.new) (λ e. e.codec ≡ encoder.old.rule) }
+{
+    kept(
+        held.encode_with_tag_and_constraints(encoder, tag, constraints, Identifier::EMPTY),
+        fault,
+    )
+}
+
+/// Writes a value that holds no other values.
+#[inline(never)]
 pub fn encode_leaf(
     encoder: &mut Encoder,
     kind: LeafKind,
     tag: Tag,
     constraints: &Constraints,
     value: &Value<'_>,
-) -> Result<(), EncodeError>
-    ensures { EncodesIf (FitsLeaf kind value.now) (leaf (kind_of kind) tag constraints.now) (tree_of value.now) encoder.old result encoder.new }
+    fault: &mut EncodeError,
+) -> Result<(), Unwritten>
+    ensures { EncodesIf (FitsLeaf kind value.now) (leaf (kind_of kind) tag constraints.now) (tree_of value.now) encoder.old (told result fault.new) encoder.new }
 {
     if !leaf_fits(kind, value) {
-        return Err(other_form(encoder));
+        return refuse_form(encoder, fault);
     }
     let name = Identifier::EMPTY;
     match value {
-        Value::Boolean(held) => held.encode_with_tag_and_constraints(
-            encoder,
-            tag,
-            constraints,
-            name,
+        Value::Boolean(held) => encode_held(held, encoder, tag, constraints, fault),
+        Value::Null => encode_held(&(), encoder, tag, constraints, fault),
+        Value::Integer(held) => kept(
+            encoder.encode_integer::<Integer>(tag, constraints, held, name),
+            fault,
         ),
-        Value::Null => ().encode_with_tag_and_constraints(encoder, tag, constraints, name),
-        Value::Integer(held) => encoder.encode_integer::<Integer>(tag, constraints, held, name),
-        Value::Bits(held) => encode_bits(encoder, kind, tag, constraints, &held.as_bitstr()),
-        Value::Octets(held) => {
-            encoder.encode_octet_string(tag, constraints, held.as_slice(), name)
-        }
-        Value::Text(held) => encoder.encode_utf8_string(tag, constraints, held.as_str(), name),
-        Value::Units(held) => held.encode_with_tag_and_constraints(encoder, tag, constraints, name),
-        Value::Arcs(held) => held.encode_with_tag_and_constraints(encoder, tag, constraints, name),
+        Value::Bits(held) => kept(
+            encode_bits(encoder, kind, tag, constraints, &held.as_bitstr()),
+            fault,
+        ),
+        Value::Octets(held) => kept(
+            encoder.encode_octet_string(tag, constraints, held.as_slice(), name),
+            fault,
+        ),
+        Value::Text(held) => kept(
+            encoder.encode_utf8_string(tag, constraints, held.as_str(), name),
+            fault,
+        ),
+        Value::Units(held) => encode_held(held, encoder, tag, constraints, fault),
+        Value::Arcs(held) => encode_held(held, encoder, tag, constraints, fault),
         Value::Instant(held) => {
             if matches!(kind, LeafKind::UtcTime) {
-                let time = held.utc();
-                time.encode_with_tag_and_constraints(encoder, tag, constraints, name)
+                encode_held(&held.utc(), encoder, tag, constraints, fault)
             } else {
-                held.encode_with_tag_and_constraints(encoder, tag, constraints, name)
+                encode_held(held, encoder, tag, constraints, fault)
             }
         }
-        Value::Day(held) => held.encode_with_tag_and_constraints(encoder, tag, constraints, name),
+        Value::Day(held) => encode_held(held, encoder, tag, constraints, fault),
         Value::Items(_) | Value::Elements(_) | Value::Chosen(_, _) | Value::Absent => {
             unreachable!()
         }
@@ -111,35 +138,42 @@ pub fn encode_leaf(
 }
 
 /// Writes a number of an ENUMERATED.
+#[inline(never)]
 pub fn encode_number(
     encoder: &mut Encoder,
     tag: Tag,
     numbers: &[NamedNumber],
     value: &Value<'_>,
-) -> Result<(), EncodeError>
-    ensures { EncodesIf (IsNumber (numbers_of numbers.now) value.now) (leaf (enumerated (numbers_of numbers.now)) tag unconstrained) (tree_of value.now) encoder.old result encoder.new }
+    fault: &mut EncodeError,
+) -> Result<(), Unwritten>
+    ensures { EncodesIf (IsNumber (numbers_of numbers.now) value.now) (leaf (enumerated (numbers_of numbers.now)) tag unconstrained) (tree_of value.now) encoder.old (told result fault.new) encoder.new }
 {
     let Value::Integer(held) = value else {
-        return Err(other_form(encoder));
+        return refuse_form(encoder, fault);
     };
     if !is_listed(numbers, held) {
-        return Err(other_form(encoder));
+        return refuse_form(encoder, fault);
     }
-    encoder.encode_integer::<Integer>(tag, &Constraints::NONE, held, Identifier::EMPTY)
+    kept(
+        encoder.encode_integer::<Integer>(tag, &Constraints::NONE, held, Identifier::EMPTY),
+        fault,
+    )
 }
 
 /// Writes a value of an open type.
+#[inline(never)]
 pub fn encode_open_value(
     encoder: &mut Encoder,
     tag: Tag,
     value: &Value<'_>,
-) -> Result<(), EncodeError>
-    ensures { EncodesIf (AreOctets value.now) (any (looked_for tag)) (tree_of value.now) encoder.old result encoder.new }
+    fault: &mut EncodeError,
+) -> Result<(), Unwritten>
+    ensures { EncodesIf (AreOctets value.now) (any (looked_for tag)) (tree_of value.now) encoder.old (told result fault.new) encoder.new }
 {
     let Value::Octets(held) = value else {
-        return Err(other_form(encoder));
+        return refuse_form(encoder, fault);
     };
-    encoder.encode_open(tag, held.as_slice())
+    kept(encoder.encode_open(tag, held.as_slice()), fault)
 }
 
 /// Copies the octets of a value of an open type.
@@ -169,16 +203,21 @@ fn copy_unknown(alloc: Global, values: &[Value<'_>]) -> Result<Option<Unknown>, 
 }
 
 /// Writes the octets of unknown values, one value after the other (X.680 25).
-pub fn encode_unknown_values(encoder: &mut Encoder, value: &Value<'_>) -> Result<(), EncodeError>
-    ensures { EncodesIf (AreItems (EachFits AreOctets) value.now) unknown (tree_of value.now) encoder.old result encoder.new }
+#[inline(never)]
+pub fn encode_unknown_values(
+    encoder: &mut Encoder,
+    value: &Value<'_>,
+    fault: &mut EncodeError,
+) -> Result<(), Unwritten>
+    ensures { EncodesIf (AreItems (EachFits AreOctets) value.now) unknown (tree_of value.now) encoder.old (told result fault.new) encoder.new }
 {
     let Some(values) = items_of(value) else {
-        return Err(other_form(encoder));
+        return refuse_form(encoder, fault);
     };
     match copy_unknown(encoder.alloc(), values) {
-        Ok(Some(values)) => encoder.encode_unknown(&values),
-        Ok(None) => Err(other_form(encoder)),
-        Err(_) => Err(out_of_room(encoder)),
+        Ok(Some(values)) => kept(encoder.encode_unknown(&values), fault),
+        Ok(None) => refuse_form(encoder, fault),
+        Err(_) => keep(out_of_room(encoder), fault),
     }
 }
 

@@ -11,8 +11,9 @@ ghost use Rattle.rasn_enc.specs.Primitive.{IsOrderError};
 ghost use Rattle.rasn_schema.specs.Trees.{tree_of};
 ghost use Rattle.rasn_schema.specs.Shapes.{shape_of_type, type_by, alternatives_by, choice_among, set_among, components_by, presence_in};
 ghost use Rattle.rasn_schema.specs.Fitting.{AlternativeFits, IsChosen, ComponentFits, ComponentsFit, EachFits, FitsBy, Fits};
-ghost use Rattle.rasn_dynamic.specs.Written.{EncodesIf, EncodesPartIf, EncodesInsideIf, EncodesPartsIf, EncodesElementsIf, EncodesSetOfIf, IsEnclosed, HoldsOthers, HoldsSet, FailsAtSet, AddsPart, FailsAtPart};
+ghost use Rattle.rasn_dynamic.specs.Written.{EncodesIf, EncodesPartIf, EncodesInsideIf, EncodesPartsIf, EncodesElementsIf, EncodesSetOfIf, told, HoldsOthers, HoldsSet, FailsAtSet, AddsPart, FailsAtPart};
 
+use crate::kept::{Unwritten, check_size, drop_open, keep, kept, refuse_form};
 use crate::place::place_tag;
 use crate::set::named_components;
 use crate::write_leaf::{
@@ -25,7 +26,6 @@ use rasn_schema::{
     Alternative, Component, Type, TypeId, Value, elements_of, is_left_out, items_of, type_at,
 };
 use rasn_types::error::{BerEncodeErrorKind, CodecEncodeError, EncodeError, EncodeErrorKind};
-use rasn_types::types::Tag;
 
 /// Returns the error that the octets of a set aren't in ascending order.
 fn out_of_order(encoder: &Encoder) -> EncodeError
@@ -51,7 +51,8 @@ fn no_place(encoder: &Encoder) -> EncodeError
     }
 }
 
-/// Writes a value of the type with this number, if it is one. Types are followed `levels` deep.
+/// Writes a value of the type with this number, if it is one, or puts the error into `fault`. Types
+/// are followed `levels` deep.
 #[cycle(encode)]
 pub fn encode_at(
     encoder: &mut Encoder,
@@ -59,15 +60,16 @@ pub fn encode_at(
     levels: usize,
     id: TypeId,
     value: &Value<'_>,
-) -> Result<(), EncodeError>
-    ensures { EncodesIf (Fits types.now levels id.0 value.now) (shape_of_type types.now levels id.0) (tree_of value.now) encoder.old result encoder.new }
+    fault: &mut EncodeError,
+) -> Result<(), Unwritten>
+    ensures { EncodesIf (Fits types.now levels id.0 value.now) (shape_of_type types.now levels id.0) (tree_of value.now) encoder.old (told result fault.new) encoder.new }
 {
     if levels == 0 {
-        return Err(other_form(encoder));
+        return refuse_form(encoder, fault);
     }
     match type_at(types, id) {
-        Some(ty) => encode_type(encoder, types, levels - 1, ty, value),
-        None => Err(other_form(encoder)),
+        Some(ty) => encode_type(encoder, types, levels - 1, ty, value, fault),
+        None => refuse_form(encoder, fault),
     }
 }
 
@@ -79,8 +81,9 @@ fn encode_type(
     below: usize,
     ty: &Type,
     value: &Value<'_>,
-) -> Result<(), EncodeError>
-    ensures { EncodesIf (FitsBy (Fits types.now below) ty.now value.now) (type_by (shape_of_type types.now below) ty.now) (tree_of value.now) encoder.old result encoder.new }
+    fault: &mut EncodeError,
+) -> Result<(), Unwritten>
+    ensures { EncodesIf (FitsBy (Fits types.now below) ty.now value.now) (type_by (shape_of_type types.now below) ty.now) (tree_of value.now) encoder.old (told result fault.new) encoder.new }
 {
     match ty {
         Type::Leaf {
@@ -88,22 +91,23 @@ fn encode_type(
             tag,
             constraints,
             ..
-        } => encode_leaf(encoder, *kind, *tag, constraints, value),
-        Type::Enumerated { tag, numbers } => encode_number(encoder, *tag, numbers, value),
-        Type::Any { tag } => encode_open_value(encoder, *tag, value),
-        Type::Unknown => encode_unknown_values(encoder, value),
+        } => encode_leaf(encoder, *kind, *tag, constraints, value, fault),
+        Type::Enumerated { tag, numbers } => encode_number(encoder, *tag, numbers, value, fault),
+        Type::Any { tag } => encode_open_value(encoder, *tag, value, fault),
+        Type::Unknown => encode_unknown_values(encoder, value, fault),
         Type::Choice { alternatives, .. } => encode_choice(
             encoder,
             types,
             below,
             alternatives,
             value,
+            fault,
         ),
-        Type::Tagged { tag, .. } => { encode_inside(encoder, types, below, ty, *tag, value) }
-        Type::Sequence { tag, .. } => { encode_inside(encoder, types, below, ty, *tag, value) }
-        Type::Set { tag, .. } => encode_inside(encoder, types, below, ty, *tag, value),
-        Type::SequenceOf { tag, .. } => { encode_inside(encoder, types, below, ty, *tag, value) }
-        Type::SetOf { tag, .. } => { encode_inside(encoder, types, below, ty, *tag, value) }
+        Type::Tagged { .. } => encode_inside(encoder, types, below, ty, value, fault),
+        Type::Sequence { .. } => encode_inside(encoder, types, below, ty, value, fault),
+        Type::Set { .. } => encode_inside(encoder, types, below, ty, value, fault),
+        Type::SequenceOf { .. } => encode_inside(encoder, types, below, ty, value, fault),
+        Type::SetOf { .. } => encode_inside(encoder, types, below, ty, value, fault),
     }
 }
 
@@ -115,34 +119,43 @@ fn encode_choice(
     below: usize,
     alternatives: &[Alternative],
     value: &Value<'_>,
-) -> Result<(), EncodeError>
-    ensures { EncodesIf (IsChosen (AlternativeFits (Fits types.now below) alternatives.now) value.now) (choice_among (alternatives_by (shape_of_type types.now below) alternatives.now)) (tree_of value.now) encoder.old result encoder.new }
+    fault: &mut EncodeError,
+) -> Result<(), Unwritten>
+    ensures { EncodesIf (IsChosen (AlternativeFits (Fits types.now below) alternatives.now) value.now) (choice_among (alternatives_by (shape_of_type types.now below) alternatives.now)) (tree_of value.now) encoder.old (told result fault.new) encoder.new }
 {
     let Value::Chosen(index, inner) = value else {
-        return Err(other_form(encoder));
+        return refuse_form(encoder, fault);
     };
     match alternatives.get(*index) {
-        Some(alternative) => encode_at(encoder, types, below, alternative.type_id, inner),
-        None => Err(other_form(encoder)),
+        Some(alternative) => encode_at(encoder, types, below, alternative.type_id, inner, fault),
+        None => refuse_form(encoder, fault),
     }
 }
 
 /// Writes a value that holds other values, and its header.
+#[inline(never)]
 #[cycle(encode)]
 fn encode_inside(
     encoder: &mut Encoder,
     types: &[Type],
     below: usize,
     ty: &Type,
-    tag: Tag,
     value: &Value<'_>,
-) -> Result<(), EncodeError>
-    requires { IsEnclosed (type_by (shape_of_type types.now below) ty.now) tag }
-    ensures { EncodesIf (FitsBy (Fits types.now below) ty.now value.now) (type_by (shape_of_type types.now below) ty.now) (tree_of value.now) encoder.old result encoder.new }
+    fault: &mut EncodeError,
+) -> Result<(), Unwritten>
+    requires { HoldsOthers (type_by (shape_of_type types.now below) ty.now) }
+    ensures { EncodesIf (FitsBy (Fits types.now below) ty.now value.now) (type_by (shape_of_type types.now below) ty.now) (tree_of value.now) encoder.old (told result fault.new) encoder.new }
 {
-    encoder.open(false)?;
-    let outcome = encode_contents(encoder, types, below, ty, value);
-    encoder.close(tag, outcome)
+    match encoder.open(false) {
+        Ok(()) => match encode_contents(encoder, types, below, ty, value, fault) {
+            Ok(()) => kept(encoder.close(ty.tag(), Ok(())), fault),
+            Err(unwritten) => {
+                drop_open(encoder);
+                Err(unwritten)
+            }
+        },
+        Err(error) => keep(error, fault),
+    }
 }
 
 /// Writes the contents of a value that holds other values.
@@ -153,20 +166,21 @@ fn encode_contents(
     below: usize,
     ty: &Type,
     value: &Value<'_>,
-) -> Result<(), EncodeError>
+    fault: &mut EncodeError,
+) -> Result<(), Unwritten>
     requires holds { HoldsOthers (type_by (shape_of_type types.now below) ty.now) }
     requires fresh { encoder.old.last ≡ fresh false }
-    ensures { EncodesInsideIf (FitsBy (Fits types.now below) ty.now value.now) (type_by (shape_of_type types.now below) ty.now) (tree_of value.now) encoder.old result encoder.new }
+    ensures { EncodesInsideIf (FitsBy (Fits types.now below) ty.now value.now) (type_by (shape_of_type types.now below) ty.now) (tree_of value.now) encoder.old (told result fault.new) encoder.new }
 {
     match ty {
-        Type::Tagged { inner, .. } => encode_at(encoder, types, below, *inner, value),
+        Type::Tagged { inner, .. } => encode_at(encoder, types, below, *inner, value, fault),
         Type::Sequence { components, .. } => match items_of(value) {
-            Some(values) => encode_components(encoder, types, below, components, values),
-            None => Err(other_form(encoder)),
+            Some(values) => encode_components(encoder, types, below, components, values, fault),
+            None => refuse_form(encoder, fault),
         },
         Type::Set { components, .. } => match items_of(value) {
-            Some(values) => encode_set(encoder, types, below, components, values),
-            None => Err(other_form(encoder)),
+            Some(values) => encode_set(encoder, types, below, components, values, fault),
+            None => refuse_form(encoder, fault),
         },
         Type::SequenceOf {
             element,
@@ -174,10 +188,10 @@ fn encode_contents(
             ..
         } => match items_of(value) {
             Some(values) => {
-                encoder.check_size(constraints, values.len())?;
-                encode_elements(encoder, types, below, *element, values)
+                check_size(encoder, constraints, values.len(), fault)?;
+                encode_elements(encoder, types, below, *element, values, fault)
             }
-            None => Err(other_form(encoder)),
+            None => refuse_form(encoder, fault),
         },
         Type::SetOf {
             element,
@@ -185,10 +199,10 @@ fn encode_contents(
             ..
         } => match elements_of(value) {
             Some(values) => {
-                encoder.check_size(constraints, values.len())?;
-                encode_elements_in_order(encoder, types, below, *element, values)
+                check_size(encoder, constraints, values.len(), fault)?;
+                encode_elements_in_order(encoder, types, below, *element, values, fault)
             }
-            None => Err(other_form(encoder)),
+            None => refuse_form(encoder, fault),
         },
         _ => unreachable!(),
     }
@@ -202,23 +216,24 @@ fn encode_components(
     below: usize,
     components: &[Component],
     values: &[Value<'_>],
-) -> Result<(), EncodeError>
-    ensures { EncodesPartsIf (ComponentsFit (Fits types.now below) components.now values.now) (components_by (shape_of_type types.now below) components.now) (list_tree tree_of values.now) encoder.old result encoder.new }
+    fault: &mut EncodeError,
+) -> Result<(), Unwritten>
+    ensures { EncodesPartsIf (ComponentsFit (Fits types.now below) components.now values.now) (components_by (shape_of_type types.now below) components.now) (list_tree tree_of values.now) encoder.old (told result fault.new) encoder.new }
 {
     let mut rest = components;
     let mut left = values;
     while let [component, after @ ..] = rest {
         let [value, others @ ..] = left else {
-            return Err(other_form(encoder));
+            return refuse_form(encoder, fault);
         };
-        encode_component(encoder, types, below, component, value)?;
+        encode_component(encoder, types, below, component, value, fault)?;
         rest = after;
         left = others;
     }
     if left.is_empty() {
         return Ok(());
     }
-    Err(other_form(encoder))
+    refuse_form(encoder, fault)
 }
 
 /// Writes a component, or nothing if it is absent.
@@ -229,13 +244,14 @@ fn encode_component(
     below: usize,
     component: &Component,
     value: &Value<'_>,
-) -> Result<(), EncodeError>
-    ensures { EncodesPartIf (ComponentFits (Fits types.now below) component.now value.now) (presence_in (shape_of_type types.now below) component.now) (shape_of_type types.now below component.now.type_id.0) (tree_of value.now) encoder.old result encoder.new }
+    fault: &mut EncodeError,
+) -> Result<(), Unwritten>
+    ensures { EncodesPartIf (ComponentFits (Fits types.now below) component.now value.now) (presence_in (shape_of_type types.now below) component.now) (shape_of_type types.now below component.now.type_id.0) (tree_of value.now) encoder.old (told result fault.new) encoder.new }
 {
     if is_left_out(component, value) {
         return Ok(());
     }
-    encode_at(encoder, types, below, component.type_id, value)
+    encode_at(encoder, types, below, component.type_id, value, fault)
 }
 
 /// Writes the components of a SET in the order of their tags (X.690 9.3, 10.3), whatever their order in the type. If there may be unknown components,
@@ -247,12 +263,15 @@ fn encode_set(
     below: usize,
     components: &[Component],
     values: &[Value<'_>],
-) -> Result<(), EncodeError>
+    fault: &mut EncodeError,
+) -> Result<(), Unwritten>
     requires { encoder.old.last ≡ fresh false }
-    ensures { EncodesInsideIf (ComponentsFit (Fits types.now below) components.now values.now) (set_among eoc (components_by (shape_of_type types.now below) components.now)) (list_tree tree_of values.now) encoder.old result encoder.new }
+    ensures { EncodesInsideIf (ComponentsFit (Fits types.now below) components.now values.now) (set_among eoc (components_by (shape_of_type types.now below) components.now)) (list_tree tree_of values.now) encoder.old (told result fault.new) encoder.new }
 {
-    let found = set_components(encoder, types, below, components, values)?;
-    encoder.append_components(&found)
+    match set_components(encoder, types, below, components, values) {
+        Ok(found) => kept(encoder.append_components(&found), fault),
+        Err(error) => keep(error, fault),
+    }
 }
 
 /// Writes each component of a SET alone, and returns them in the order of their tags.
@@ -338,8 +357,11 @@ fn component_octets(
     let alloc = encoder.alloc();
     let options = EncoderOptions::of(encoder.codec());
     let mut alone = Encoder::over(alloc, options, Vec::new(alloc));
-    encode_component(&mut alone, types, below, component, value)?;
-    alone.output()
+    let mut fault = out_of_room(encoder);
+    match encode_component(&mut alone, types, below, component, value, &mut fault) {
+        Ok(()) => alone.output(),
+        Err(_) => Err(fault),
+    }
 }
 
 /// Writes elements, one after the other.
@@ -350,13 +372,14 @@ fn encode_elements(
     below: usize,
     element: TypeId,
     values: &[Value<'_>],
-) -> Result<(), EncodeError>
+    fault: &mut EncodeError,
+) -> Result<(), Unwritten>
     requires { encoder.old.last.tags ≡ None }
-    ensures { EncodesElementsIf (EachFits (Fits types.now below element.0) values.now) (shape_of_type types.now below element.0) (map tree_of values.now) encoder.old result encoder.new }
+    ensures { EncodesElementsIf (EachFits (Fits types.now below element.0) values.now) (shape_of_type types.now below element.0) (map tree_of values.now) encoder.old (told result fault.new) encoder.new }
 {
     let mut rest = values;
     while let [value, after @ ..] = rest {
-        encode_at(encoder, types, below, element, value)?;
+        encode_at(encoder, types, below, element, value, fault)?;
         rest = after;
     }
     Ok(())
@@ -370,17 +393,18 @@ fn encode_elements_in_order(
     below: usize,
     element: TypeId,
     values: &[Value<'_>],
-) -> Result<(), EncodeError>
+    fault: &mut EncodeError,
+) -> Result<(), Unwritten>
     requires { encoder.old.last.tags ≡ None }
-    ensures { EncodesSetOfIf (EachFits (Fits types.now below element.0) values.now) (shape_of_type types.now below element.0) (map tree_of values.now) encoder.old result encoder.new }
+    ensures { EncodesSetOfIf (EachFits (Fits types.now below element.0) values.now) (shape_of_type types.now below element.0) (map tree_of values.now) encoder.old (told result fault.new) encoder.new }
 {
     let mut previous = encoder.last_len();
     let mut rest = values;
     while let [value, after @ ..] = rest {
         let start = encoder.last_len();
-        encode_at(encoder, types, below, element, value)?;
+        encode_at(encoder, types, below, element, value, fault)?;
         if encoder.neighbours_out_of_order(previous, start) {
-            return Err(out_of_order(encoder));
+            return keep(out_of_order(encoder), fault);
         }
         previous = start;
         rest = after;

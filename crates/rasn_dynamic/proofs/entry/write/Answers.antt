@@ -1,7 +1,6 @@
 use Rattle.std.proofs.Common.{ap, ◌∙◌, false}
 use Rattle.rasn_types.specs.declared.types.codec.Codec.{Codec}
 use Rattle.std.proofs.lemmas.Result.{IfOk-weaker, IfErr-weaker}
-use Rattle.rasn_de.proofs.Leaves.Returns.{residual}
 use Rattle.rasn_enc.specs.View.{View, started}
 use Rattle.rasn_enc.proofs.Buffer.Output.{output_ok, output_refused}
 use Rattle.rasn_schema.specs.Trees.{tree_of}
@@ -9,10 +8,10 @@ use Rattle.rasn_dynamic.specs.Entry.{shape_of}
 use Rattle.rasn_dynamic.proofs.Canonical.{identified, start_refused, output_rules}
 use Rattle.rasn_dynamic.proofs.entry.write.Goals as goal
 
-pub returns : goal.returns
-returns c =
+pub returns-in-Ok : goal.returns-in-Ok
+returns-in-Ok c =
     let e = c.over-encoder.ensures ∙ ap (λ (r : Codec). started r false) c.of.ensures in
-    let wrote = c.in_ok-encode_at.ensures in
+    let wrote = c.in-Ok.ensures in
     let done = (wrote.does wrote.fits).ok in
     let s = shape_of c.types.result.now c.args.id.0 in
     let t = tree_of c.args.value.now in
@@ -24,11 +23,11 @@ returns c =
       rules = output_rules c.output.result c.encode_at.new.encoder c.args.rule (ap (λ (x : View). x.rule) done.appended ∙ ap (λ (x : View). x.rule) e) c.output.ensures.fails;
     })
 
-pub returns-in_err-encode_at : goal.returns-in_err-encode_at
-returns-in_err-encode_at c =
+pub returns-in-Err : goal.returns-in-Err
+returns-in-Err c =
     let e = c.over-encoder.ensures ∙ ap (λ (r : Codec). started r false) c.of.ensures in
-    let refused = c.in_err-encode_at.ensures in
-    rw (residual _ c.from_residual.ensures.1, ← c.types.ensures.types) (record {
+    let refused = c.in-Err.ensures in
+    rw (← c.types.ensures.types) (record {
       ok = tt;
       canonical = λ der. tt;
       fails = λ f. start_refused c.args.rule (shape_of c.types.result.now c.args.id.0) (tree_of c.args.value.now) _ _ e (refused.does f).refused;

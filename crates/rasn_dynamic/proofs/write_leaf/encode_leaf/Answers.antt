@@ -13,14 +13,14 @@ pub encode_bits-requires : goal.encode_bits-requires
 encode_bits-requires c = rw c.as_bitstr.ensures (subst (FitsLeaf c.args.kind) c.in-Bits.is c.if-not-leaf_fits.ensures)
 
 pub returns-then-not-leaf_fits : goal.returns-then-not-leaf_fits
-returns-then-not-leaf_fits c = form_refused _ c.if-not-leaf_fits.ensures refl c.other_form.ensures
+returns-then-not-leaf_fits c = rw c.refuse_form.ensures.1 (form_refused _ c.if-not-leaf_fits.ensures refl c.refuse_form.ensures.2)
 
 pub returns-then-matches : goal.returns-then-matches
 returns-then-matches c = elim c.match-matches.branch [
   | in-UtcTime w ↦
-      let call = c.encode_with_tag_and_constraints-then-matches in
+      let call = c.encode_held-then-matches in
       fitted _ c.if-not-leaf_fits.ensures (leaf_as c.args.kind UtcTime _ (Instant c.in-Instant.held) c.args.tag c.args.constraints.now _ _ _ w.in-UtcTime.is c.in-Instant.is
-      (rw (← c.utc-time.ensures) call.ensures.ok) (rw (← c.utc-time.ensures) call.ensures.refused)) call.ensures.err call.ensures.rules
+      (rw (← c.utc.ensures) call.ensures.ok) (rw (← c.utc.ensures) call.ensures.refused)) call.ensures.err call.ensures.rules
   | in_default w ↦ absurd (true≢false (sym c.if-matches.true ∙ w.matches-is))
 ]
 
@@ -30,60 +30,60 @@ returns-else-matches c = elim c.match-matches.branch [
   | in_default w ↦ elim (subst (FitsLeaf c.args.kind) c.in-Instant.is c.if-not-leaf_fits.ensures) [
     | inl e ↦ absurd (w.in_default.not-UtcTime e)
     | inr e ↦
-        let call = c.encode_with_tag_and_constraints-else-matches in
+        let call = c.encode_held-else-matches in
         fitted _ c.if-not-leaf_fits.ensures (leaf_as c.args.kind GeneralizedTime _ (Instant c.in-Instant.held) c.args.tag c.args.constraints.now _ _ _ e c.in-Instant.is call.ensures.ok call.ensures.refused) call.ensures.err call.ensures.rules
   ]
 ]
 
 pub returns-in-Boolean : goal.returns-in-Boolean
 returns-in-Boolean c =
-    let call = c.encode_with_tag_and_constraints in
+    let call = c.encode_held in
     fitted _ c.if-not-leaf_fits.ensures (leaf_as c.args.kind Boolean _ _ c.args.tag c.args.constraints.now _ _ _ (subst (FitsLeaf c.args.kind) c.in-Boolean.is c.if-not-leaf_fits.ensures) c.in-Boolean.is call.ensures.ok call.ensures.refused) call.ensures.err call.ensures.rules
 
 pub returns-in-Null : goal.returns-in-Null
 returns-in-Null c =
-    let call = c.encode_with_tag_and_constraints-in-Null in
+    let call = c.encode_held-in-Null in
     fitted _ c.if-not-leaf_fits.ensures (leaf_as c.args.kind Null _ _ c.args.tag c.args.constraints.now _ _ _ (subst (FitsLeaf c.args.kind) c.in-Null.is c.if-not-leaf_fits.ensures) c.in-Null.is call.ensures.ok call.ensures.refused) call.ensures.err call.ensures.rules
 
 pub returns-in-Bits : goal.returns-in-Bits
 returns-in-Bits c =
-    fitted _ c.if-not-leaf_fits.ensures (rw (c.in-Bits.is, ← c.as_bitstr.ensures) c.encode_bits.ensures.does) c.encode_bits.ensures.err c.encode_bits.ensures.rules
+    rw c.kept-in-Bits.ensures (fitted _ c.if-not-leaf_fits.ensures (rw (c.in-Bits.is, ← c.as_bitstr.ensures) c.encode_bits.ensures.does) c.encode_bits.ensures.err c.encode_bits.ensures.rules)
 
 pub returns-in-Units : goal.returns-in-Units
 returns-in-Units c =
-    let call = c.encode_with_tag_and_constraints-in-Units in
+    let call = c.encode_held-in-Units in
     fitted _ c.if-not-leaf_fits.ensures (leaf_as c.args.kind Bmp _ _ c.args.tag c.args.constraints.now _ _ _ (subst (FitsLeaf c.args.kind) c.in-Units.is c.if-not-leaf_fits.ensures) c.in-Units.is call.ensures.ok call.ensures.refused) call.ensures.err call.ensures.rules
 
 pub returns-in-Arcs : goal.returns-in-Arcs
 returns-in-Arcs c =
-    let call = c.encode_with_tag_and_constraints-in-Arcs in
+    let call = c.encode_held-in-Arcs in
     fitted _ c.if-not-leaf_fits.ensures (leaf_as c.args.kind ObjectIdentifier _ _ c.args.tag c.args.constraints.now _ _ _ (subst (FitsLeaf c.args.kind) c.in-Arcs.is c.if-not-leaf_fits.ensures) c.in-Arcs.is call.ensures.ok call.ensures.refused) call.ensures.err call.ensures.rules
 
 pub returns-in-Day : goal.returns-in-Day
 returns-in-Day c =
-    let call = c.encode_with_tag_and_constraints-in-Day in
+    let call = c.encode_held-in-Day in
     fitted _ c.if-not-leaf_fits.ensures (leaf_as c.args.kind Date _ _ c.args.tag c.args.constraints.now _ _ _ (subst (FitsLeaf c.args.kind) c.in-Day.is c.if-not-leaf_fits.ensures) c.in-Day.is call.ensures.ok call.ensures.refused) call.ensures.err call.ensures.rules
 
 pub returns-in-Integer : goal.returns-in-Integer
 returns-in-Integer c =
     let fits = subst (FitsLeaf c.args.kind) c.in-Integer.is c.if-not-leaf_fits.ensures in
-    fitted _ c.if-not-leaf_fits.ensures (rw c.in-Integer.is (record {
+    rw c.kept.ensures (fitted _ c.if-not-leaf_fits.ensures (rw c.in-Integer.is (record {
       ok = number_encoded _ c.args.tag c.args.constraints.now _ _ _ c.args.kind fits c.encode_integer.ensures.ok;
       refused = number_refused _ c.args.tag c.args.constraints.now _ _ c.args.kind fits c.encode_integer.ensures.fails;
-    })) c.encode_integer.ensures.err c.encode_integer.ensures.rules
+    })) c.encode_integer.ensures.err c.encode_integer.ensures.rules)
 
 pub returns-in-Octets : goal.returns-in-Octets
 returns-in-Octets c =
     let fits = subst (FitsLeaf c.args.kind) c.in-Octets.is c.if-not-leaf_fits.ensures in
-    fitted _ c.if-not-leaf_fits.ensures (rw (c.in-Octets.is, ← c.as_slice.ensures.value) (record {
+    rw c.kept-in-Octets.ensures (fitted _ c.if-not-leaf_fits.ensures (rw (c.in-Octets.is, ← c.as_slice.ensures.value) (record {
       ok = string_encoded _ c.args.tag c.args.constraints.now _ _ _ c.args.kind (rw c.as_slice.ensures.value fits) c.encode_octet_string.ensures.ok;
       refused = string_refused _ c.args.tag c.args.constraints.now _ _ c.args.kind (rw c.as_slice.ensures.value fits) c.encode_octet_string.ensures.fails;
-    })) c.encode_octet_string.ensures.err c.encode_octet_string.ensures.rules
+    })) c.encode_octet_string.ensures.err c.encode_octet_string.ensures.rules)
 
 pub returns-in-Text : goal.returns-in-Text
 returns-in-Text c =
     let fits : c.args.kind ≡ Utf8 = subst (FitsLeaf c.args.kind) c.in-Text.is c.if-not-leaf_fits.ensures in
-    fitted _ c.if-not-leaf_fits.ensures (rw (c.in-Text.is, fits, ← c.as_str.ensures.value) (record {
+    rw c.kept-in-Text.ensures (fitted _ c.if-not-leaf_fits.ensures (rw (c.in-Text.is, fits, ← c.as_str.ensures.value) (record {
       ok = c.encode_utf8_string.ensures.ok;
       refused = text_refused _ utf8 c.args.tag c.args.constraints.now (chars c.as_str.result.now) _ refl c.encode_utf8_string.ensures.fails;
-    })) c.encode_utf8_string.ensures.err c.encode_utf8_string.ensures.rules
+    })) c.encode_utf8_string.ensures.err c.encode_utf8_string.ensures.rules)

@@ -16,9 +16,9 @@ returns-in-Ok-Some c =
     let all = c.in-Ok-Some.values.values.items in
     let r = c.encode_unknown.result in
     let same : list_tree numbers all ≡ tree_of c.args.value.now = ap items copied.1 ∙ sym (list_means c.in-Some.values.now c.args.value.now c.in-Some.ensures) in
-    fitted r (list_to (EachFits AreOctets) c.in-Some.values.now c.args.value.now c.in-Some.ensures copied.0)
+    rw c.kept.ensures (fitted r (list_to (EachFits AreOctets) c.in-Some.values.now c.args.value.now c.in-Some.ensures copied.0)
     (record {
       ok = subst (λ t. OnOk r (AppendsEncoding unknown t c.args.encoder.now c.encode_unknown.new.self)) same c.encode_unknown.ensures.ok;
       refused = subst (λ t. IfErr r (EncodeFails unknown t c.args.encoder.now)) same (unknown_fails r all c.args.encoder.now c.encode_unknown.ensures.fails);
     })
-    c.encode_unknown.ensures.err c.encode_unknown.ensures.rules
+    c.encode_unknown.ensures.err c.encode_unknown.ensures.rules)

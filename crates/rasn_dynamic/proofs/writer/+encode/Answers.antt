@@ -6,11 +6,11 @@ use Rattle.rasn_de.proofs.Leaves.Returns.{residual}
 use Rattle.rasn_enc.proofs.Constructed.SequenceOf.{ElementsSoFar, split_is, elements_start, elements_more, elements_end}
 use Rattle.rasn_enc.proofs.Constructed.SetOf.{SetOfSoFar, set_of_start, set_of_more, set_of_end, none_left, fall_refused}
 use Rattle.rasn_schema.specs.Trees.{tree_of}
-use Rattle.rasn_schema.specs.Shapes.{shape_of_type, components_by, key_of, presence_in}
+use Rattle.rasn_schema.specs.Shapes.{shape_of_type, type_by, tag_of_type, components_by, key_of, presence_in}
 use Rattle.rasn_schema.proofs.TypeShapes.{shape_below}
 use Rattle.rasn_schema.proofs.Lists.{split, nothing_left, read_at}
 use Rattle.rasn_schema.specs.Fitting.{Fits, ComponentsFit, EachFits, AlternativeFits}
-use Rattle.rasn_dynamic.proofs.Enclosed.{enclosed}
+use Rattle.rasn_dynamic.proofs.Enclosed.{enclosed, dropped, enclosed_tag}
 use Rattle.rasn_dynamic.proofs.OnlyFitting.{form_refused, fits_as, fits_same}
 use Rattle.rasn_schema.proofs.Fitted.{fits_is, fits_none, fits_zero, no_alternative, alternative_there, fit_start, fit_more, fit_short, fit_end, each_start, each_more, each_end}
 use Rattle.rasn_schema.proofs.ListsOf.{list_to, list_from, set_to, set_from, no_list, no_set, list_means, set_means}
@@ -25,13 +25,13 @@ use Rattle.rasn_types.specs.Trees.{list_tree}
 use Rattle.rasn_dynamic.proofs.writer.+encode.Goals as goal
 
 pub encode_at-returns-then-levels-eq0 : goal.encode_at-returns-then-levels-eq0
-encode_at-returns-then-levels-eq0 t c = form_refused _ (fits_zero c.args.types.now c.args.levels c.args.id.0 c.args.value.now c.if-levels-eq0.true) refl c.other_form.ensures
+encode_at-returns-then-levels-eq0 t c = rw c.refuse_form.ensures.1 (form_refused _ (fits_zero c.args.types.now c.args.levels c.args.id.0 c.args.value.now c.if-levels-eq0.true) refl c.refuse_form.ensures.2)
 
 pub encode_at-returns-in-Some : goal.encode_at-returns-in-Some
 encode_at-returns-in-Some t c = rw (shape_below c.args.types.now c.args.levels (c.args.levels - 1) c.args.id.0 c.in-Some.ty.now (let n = c.if-levels-eq0.false in omega arith) c.in-Some.ensures) (fits_same _ (fits_is c.args.types.now c.args.levels (c.args.levels - 1) c.args.id.0 c.in-Some.ty.now c.args.value.now (let n = c.if-levels-eq0.false in omega arith) c.in-Some.ensures) c.encode_type.ensures)
 
 pub encode_at-returns-in-None : goal.encode_at-returns-in-None
-encode_at-returns-in-None t c = form_refused _ (fits_none c.args.types.now c.args.levels c.args.id.0 c.args.value.now c.in-None.ensures) refl c.other_form-in-None.ensures
+encode_at-returns-in-None t c = rw c.refuse_form-in-None.ensures.1 (form_refused _ (fits_none c.args.types.now c.args.levels c.args.id.0 c.args.value.now c.in-None.ensures) refl c.refuse_form-in-None.ensures.2)
 
 pub encode_choice-returns-in-Some : goal.encode_choice-returns-in-Some
 encode_choice-returns-in-Some t c =
@@ -40,10 +40,10 @@ encode_choice-returns-in-Some t c =
     (alternative_written (shape_of_type c.args.types.now c.args.below) c.args.alternatives.now c.in-Chosen.index c.in-Some.alternative.now _ _ _ _ at) (rw (← c.deref.ensures) c.encode_at.ensures))
 
 pub encode_choice-returns-in-None : goal.encode_choice-returns-in-None
-encode_choice-returns-in-None t c = rw c.in-Chosen.is (form_refused _ (no_alternative (Fits c.args.types.now c.args.below) c.args.alternatives.now c.in-Chosen.index _ c.in-None.ensures.lookup.3) refl c.other_form-in-None.ensures)
+encode_choice-returns-in-None t c = rw (c.in-Chosen.is, c.refuse_form-in-None.ensures.1) (form_refused _ (no_alternative (Fits c.args.types.now c.args.below) c.args.alternatives.now c.in-Chosen.index _ c.in-None.ensures.lookup.3) refl c.refuse_form-in-None.ensures.2)
 
 pub encode_choice-returns-in_default : goal.encode_choice-returns-in_default
-encode_choice-returns-in_default t c = form_refused _ (no_choice (AlternativeFits (Fits c.args.types.now c.args.below) c.args.alternatives.now) c.args.value.now c.in_default.not-Chosen) refl c.other_form.ensures
+encode_choice-returns-in_default t c = rw c.refuse_form.ensures.1 (form_refused _ (no_choice (AlternativeFits (Fits c.args.types.now c.args.below) c.args.alternatives.now) c.args.value.now c.in_default.not-Chosen) refl c.refuse_form.ensures.2)
 
 pub encode_contents-returns-in-Tagged : goal.encode_contents-returns-in-Tagged
 encode_contents-returns-in-Tagged t c = rw c.in-Tagged.is (prefix_inside c.in-Tagged.tag ((shape_of_type c.args.types.now c.args.below) c.in-Tagged.inner.0) _ _ _ c.requires.fresh _ c.encode_at.ensures)
@@ -53,40 +53,47 @@ encode_contents-returns-in-Some t c = rw c.in-Sequence.is (fits_as _ (list_to (C
     (λ k. seq_inside c.in-Sequence.tag (components_by (shape_of_type c.args.types.now c.args.below) c.in-Sequence.components.items) _ _ (list_means _ _ c.in-Some.ensures) _ _ c.requires.fresh _ k) (rw (← c.deref.ensures.value) c.encode_components.ensures))
 
 pub encode_contents-returns-in-None : goal.encode_contents-returns-in-None
-encode_contents-returns-in-None t c = rw c.in-Sequence.is (form_refused _ (no_list (ComponentsFit (Fits c.args.types.now c.args.below) c.in-Sequence.components.items) _ c.in-None.ensures) (left_as_it_was _ _ refl) c.other_form.ensures)
+encode_contents-returns-in-None t c = rw (c.in-Sequence.is, c.refuse_form.ensures.1) (form_refused _ (no_list (ComponentsFit (Fits c.args.types.now c.args.below) c.in-Sequence.components.items) _ c.in-None.ensures) (left_as_it_was _ _ refl) c.refuse_form.ensures.2)
 
 pub encode_contents-returns-in-Some-items_of : goal.encode_contents-returns-in-Some-items_of
 encode_contents-returns-in-Some-items_of t c = rw c.in-Set.is (fits_as _ (list_to (ComponentsFit (Fits c.args.types.now c.args.below) c.in-Set.components.items) _ _ c.in-Some-items_of.ensures) (list_from (ComponentsFit (Fits c.args.types.now c.args.below) c.in-Set.components.items) _ _ c.in-Some-items_of.ensures)
     (λ k. set_inside c.in-Set.tag eoc (components_by (shape_of_type c.args.types.now c.args.below) c.in-Set.components.items) _ _ (list_means _ _ c.in-Some-items_of.ensures) _ _ _ k) (rw (← c.deref-in-Some-items_of.ensures.value) c.encode_set.ensures))
 
 pub encode_contents-returns-in-None-items_of : goal.encode_contents-returns-in-None-items_of
-encode_contents-returns-in-None-items_of t c = rw c.in-Set.is (form_refused _ (no_list (ComponentsFit (Fits c.args.types.now c.args.below) c.in-Set.components.items) _ c.in-None-items_of.ensures) (left_as_it_was _ _ refl) c.other_form-in-None-items_of.ensures)
+encode_contents-returns-in-None-items_of t c = rw (c.in-Set.is, c.refuse_form-in-None-items_of.ensures.1) (form_refused _ (no_list (ComponentsFit (Fits c.args.types.now c.args.below) c.in-Set.components.items) _ c.in-None-items_of.ensures) (left_as_it_was _ _ refl) c.refuse_form-in-None-items_of.ensures.2)
 
 pub encode_contents-returns-in_err-check_size-in-Some-items_of-2 : goal.encode_contents-returns-in_err-check_size-in-Some-items_of-2
-encode_contents-returns-in_err-check_size-in-Some-items_of-2 t c = rw (residual _ c.from_residual.ensures.1, c.in-SequenceOf.is) (size_refused _ _ _ _ c.in_err-check_size-in-Some-items_of-2.ensures.fails (λ g. list_unsized c.in-SequenceOf.tag ((shape_of_type c.args.types.now c.args.below) c.in-SequenceOf.element.0) c.in-SequenceOf.constraints _ c.in-Some-items_of-2.values.now c.args.encoder.now c.args.encoder.now c.requires.fresh (list_means _ _ c.in-Some-items_of-2.ensures) (subst (λ m. Admits ◌≤◌ c.in-SequenceOf.constraints.size m → ⊥) (sym (length-map c.in-Some-items_of-2.values.now tree_of)) c.in_err-check_size-in-Some-items_of-2.ensures.fails.unmet) c.in_err-check_size-in-Some-items_of-2.field-0.0))
+encode_contents-returns-in_err-check_size-in-Some-items_of-2 t c = rw (residual _ c.from_residual.ensures.1, c.in-SequenceOf.is) (size_refused _ _ _ _ c.in_err-check_size-in-Some-items_of-2.ensures.fails (λ g. list_unsized c.in-SequenceOf.tag ((shape_of_type c.args.types.now c.args.below) c.in-SequenceOf.element.0) c.in-SequenceOf.constraints _ c.in-Some-items_of-2.values.now c.args.encoder.now c.args.encoder.now c.requires.fresh (list_means _ _ c.in-Some-items_of-2.ensures) (subst (λ m. Admits ◌≤◌ c.in-SequenceOf.constraints.size m → ⊥) (sym (length-map c.in-Some-items_of-2.values.now tree_of)) c.in_err-check_size-in-Some-items_of-2.ensures.fails.unmet) c.check_size.new.fault))
 
 pub encode_contents-returns-in_ok-check_size-in-Some-items_of-2 : goal.encode_contents-returns-in_ok-check_size-in-Some-items_of-2
 encode_contents-returns-in_ok-check_size-in-Some-items_of-2 t c = rw c.in-SequenceOf.is (fits_as _ (list_to (EachFits ((Fits c.args.types.now c.args.below) c.in-SequenceOf.element.0)) _ _ c.in-Some-items_of-2.ensures) (list_from (EachFits ((Fits c.args.types.now c.args.below) c.in-SequenceOf.element.0)) _ _ c.in-Some-items_of-2.ensures)
     (list_inside c.in-SequenceOf.tag ((shape_of_type c.args.types.now c.args.below) c.in-SequenceOf.element.0) c.in-SequenceOf.constraints _ c.in-Some-items_of-2.values.now c.args.encoder.now _ c.requires.fresh (list_means _ _ c.in-Some-items_of-2.ensures) (subst (λ m. Admits ◌≤◌ c.in-SequenceOf.constraints.size m) (sym (length-map c.in-Some-items_of-2.values.now tree_of)) c.in_ok-check_size-in-Some-items_of-2.ensures.ok) _) c.encode_elements.ensures)
 
 pub encode_contents-returns-in-None-items_of-2 : goal.encode_contents-returns-in-None-items_of-2
-encode_contents-returns-in-None-items_of-2 t c = rw c.in-SequenceOf.is (form_refused _ (no_list (EachFits ((Fits c.args.types.now c.args.below) c.in-SequenceOf.element.0)) _ c.in-None-items_of-2.ensures) (left_as_it_was _ _ refl) c.other_form-in-None-items_of-2.ensures)
+encode_contents-returns-in-None-items_of-2 t c = rw (c.in-SequenceOf.is, c.refuse_form-in-None-items_of-2.ensures.1) (form_refused _ (no_list (EachFits ((Fits c.args.types.now c.args.below) c.in-SequenceOf.element.0)) _ c.in-None-items_of-2.ensures) (left_as_it_was _ _ refl) c.refuse_form-in-None-items_of-2.ensures.2)
 
 pub encode_contents-returns-in_err-check_size-in-Some-elements_of : goal.encode_contents-returns-in_err-check_size-in-Some-elements_of
-encode_contents-returns-in_err-check_size-in-Some-elements_of t c = rw (residual _ c.from_residual-in_err-check_size-in-Some-elements_of.ensures.1, c.in-SetOf.is) (size_refused _ _ _ _ c.in_err-check_size-in-Some-elements_of.ensures.fails (λ g. set_of_unsized c.in-SetOf.tag ((shape_of_type c.args.types.now c.args.below) c.in-SetOf.element.0) c.in-SetOf.constraints _ c.in-Some-elements_of.values.now c.args.encoder.now c.args.encoder.now c.requires.fresh (set_means _ _ c.in-Some-elements_of.ensures) (subst (λ m. Admits ◌≤◌ c.in-SetOf.constraints.size m → ⊥) (sym (length-map c.in-Some-elements_of.values.now tree_of)) c.in_err-check_size-in-Some-elements_of.ensures.fails.unmet) c.in_err-check_size-in-Some-elements_of.field-0.0))
+encode_contents-returns-in_err-check_size-in-Some-elements_of t c = rw (residual _ c.from_residual-in_err-check_size-in-Some-elements_of.ensures.1, c.in-SetOf.is) (size_refused _ _ _ _ c.in_err-check_size-in-Some-elements_of.ensures.fails (λ g. set_of_unsized c.in-SetOf.tag ((shape_of_type c.args.types.now c.args.below) c.in-SetOf.element.0) c.in-SetOf.constraints _ c.in-Some-elements_of.values.now c.args.encoder.now c.args.encoder.now c.requires.fresh (set_means _ _ c.in-Some-elements_of.ensures) (subst (λ m. Admits ◌≤◌ c.in-SetOf.constraints.size m → ⊥) (sym (length-map c.in-Some-elements_of.values.now tree_of)) c.in_err-check_size-in-Some-elements_of.ensures.fails.unmet) c.check_size-in-Some-elements_of.new.fault))
 
 pub encode_contents-returns-in_ok-check_size-in-Some-elements_of : goal.encode_contents-returns-in_ok-check_size-in-Some-elements_of
 encode_contents-returns-in_ok-check_size-in-Some-elements_of t c = rw c.in-SetOf.is (fits_as _ (set_to (EachFits ((Fits c.args.types.now c.args.below) c.in-SetOf.element.0)) _ _ c.in-Some-elements_of.ensures) (set_from (EachFits ((Fits c.args.types.now c.args.below) c.in-SetOf.element.0)) _ _ c.in-Some-elements_of.ensures)
     (set_of_inside c.in-SetOf.tag ((shape_of_type c.args.types.now c.args.below) c.in-SetOf.element.0) c.in-SetOf.constraints _ c.in-Some-elements_of.values.now c.args.encoder.now _ c.requires.fresh (set_means _ _ c.in-Some-elements_of.ensures) (subst (λ m. Admits ◌≤◌ c.in-SetOf.constraints.size m) (sym (length-map c.in-Some-elements_of.values.now tree_of)) c.in_ok-check_size-in-Some-elements_of.ensures.ok) _) c.encode_elements_in_order.ensures)
 
 pub encode_contents-returns-in-None-elements_of : goal.encode_contents-returns-in-None-elements_of
-encode_contents-returns-in-None-elements_of t c = rw c.in-SetOf.is (form_refused _ (no_set (EachFits ((Fits c.args.types.now c.args.below) c.in-SetOf.element.0)) _ c.in-None-elements_of.ensures) (left_as_it_was _ _ refl) c.other_form-in-None-elements_of.ensures)
+encode_contents-returns-in-None-elements_of t c = rw (c.in-SetOf.is, c.refuse_form-in-None-elements_of.ensures.1) (form_refused _ (no_set (EachFits ((Fits c.args.types.now c.args.below) c.in-SetOf.element.0)) _ c.in-None-elements_of.ensures) (left_as_it_was _ _ refl) c.refuse_form-in-None-elements_of.ensures.2)
 
-pub encode_inside-returns : goal.encode_inside-returns
-encode_inside-returns t c = enclosed _ _ c.args.tag c.requires c.args.encoder.now _ _ c.in_ok-open.ensures.ok c.encode_contents-outcome.result c.encode_contents-outcome.ensures _ _ c.close.ensures.accepted c.close.ensures.ok c.close.ensures.err c.close.ensures.refused
+pub encode_inside-returns-in-Ok-encode_contents : goal.encode_inside-returns-in-Ok-encode_contents
+encode_inside-returns-in-Ok-encode_contents t c =
+    let f = shape_of_type c.args.types.now c.args.below in
+    rw c.kept.ensures (enclosed (type_by f c.args.ty.now) _ _ (rw c.tag.ensures (enclosed_tag f c.args.ty.now c.requires)) c.args.encoder.now _ _ c.in-Ok.ensures.ok _ c.in-Ok-encode_contents.ensures _ _ c.close.ensures.accepted c.close.ensures.ok c.close.ensures.err c.close.ensures.refused)
 
-pub encode_inside-returns-in_err-open : goal.encode_inside-returns-in_err-open
-encode_inside-returns-in_err-open t c = rw (residual _ c.from_residual.ensures.1) (not_opened _ _ _ _ _ c.in_err-open.ensures.err c.in_err-open.ensures.memory_alone)
+pub encode_inside-returns-in-Err-encode_contents : goal.encode_inside-returns-in-Err-encode_contents
+encode_inside-returns-in-Err-encode_contents t c =
+    let f = shape_of_type c.args.types.now c.args.below in
+    dropped (type_by f c.args.ty.now) _ (tag_of_type c.args.ty.now) (enclosed_tag f c.args.ty.now c.requires) c.args.encoder.now _ _ c.in-Ok.ensures.ok _ c.in-Err-encode_contents.ensures _ _ refl c.drop_open.ensures
+
+pub encode_inside-returns-in-Err : goal.encode_inside-returns-in-Err
+encode_inside-returns-in-Err t c = rw c.keep.ensures (not_opened _ _ _ _ _ c.in-Err.ensures.err c.in-Err.ensures.memory_alone)
 
 pub encode_component-returns-then-is_left_out : goal.encode_component-returns-then-is_left_out
 encode_component-returns-then-is_left_out t c = part_skipped (Fits c.args.types.now c.args.below) ((shape_of_type c.args.types.now c.args.below) c.args.component.now.type_id.0) c.args.component.now c.args.value.now c.args.encoder.now (key_of ((shape_of_type c.args.types.now c.args.below) c.args.component.now.type_id.0)) c.if-is_left_out.ensures
@@ -98,10 +105,10 @@ pub encode_components-loop-rest-init : goal.encode_components-loop-rest-init
 encode_components-loop-rest-init t c = record { written = written_start (shape_of_type c.args.types.now c.args.below) _ _ _; fits = fit_start (Fits c.args.types.now c.args.below) _ _; keeps = left_as_it_was _ _ refl }
 
 pub encode_components-returns-in_default-left : goal.encode_components-returns-in_default-left
-encode_components-returns-in_default-left t c = form_refused _ (fit_short (Fits c.args.types.now c.args.below) _ _ _ _ _ c.component-item.result c.loop-rest.invariant.fits (split c.loop-rest.rest.now _ c.in-len1-up.len_at_least c.component-item.is) (nothing_left _ c.in_default-left.len_below)) c.loop-rest.invariant.keeps (c.other_form.ensures ∙ c.loop-rest.invariant.keeps.rule)
+encode_components-returns-in_default-left t c = rw c.refuse_form.ensures.1 (form_refused _ (fit_short (Fits c.args.types.now c.args.below) _ _ _ _ _ c.component-item.result c.loop-rest.invariant.fits (split c.loop-rest.rest.now _ c.in-len1-up.len_at_least c.component-item.is) (nothing_left _ c.in_default-left.len_below)) c.loop-rest.invariant.keeps (c.refuse_form.ensures.2 ∙ c.loop-rest.invariant.keeps.rule))
 
 pub encode_components-returns-in_err-encode_component : goal.encode_components-returns-in_err-encode_component
-encode_components-returns-in_err-encode_component t c = rw (residual _ c.from_residual.ensures.1) (component_refused (shape_of_type c.args.types.now c.args.below) (Fits c.args.types.now c.args.below) _ _ _ c.component-item.result _ _ _ c.value-item.result _ _ c.loop-rest.invariant.written (split c.loop-rest.rest.now _ c.in-len1-up.len_at_least c.component-item.is) (split c.loop-rest.left.now _ c.in-len1-up-left.len_at_least c.value-item.is) c.loop-rest.invariant.fits c.loop-rest.invariant.keeps c.in_err-encode_component.field-0.0 _ c.in_err-encode_component.ensures)
+encode_components-returns-in_err-encode_component t c = rw (residual _ c.from_residual.ensures.1) (component_refused (shape_of_type c.args.types.now c.args.below) (Fits c.args.types.now c.args.below) _ _ _ c.component-item.result _ _ _ c.value-item.result _ _ c.loop-rest.invariant.written (split c.loop-rest.rest.now _ c.in-len1-up.len_at_least c.component-item.is) (split c.loop-rest.left.now _ c.in-len1-up-left.len_at_least c.value-item.is) c.loop-rest.invariant.fits c.loop-rest.invariant.keeps c.encode_component.new.fault _ c.in_err-encode_component.ensures)
 
 pub encode_components-loop-rest-preserved : goal.encode_components-loop-rest-preserved
 encode_components-loop-rest-preserved t c =
@@ -116,13 +123,13 @@ pub encode_components-returns-then-is_empty : goal.encode_components-returns-the
 encode_components-returns-then-is_empty t c = record { fits = fit_end (Fits c.args.types.now c.args.below) _ _ _ _ true c.loop-rest.invariant.fits (nothing_left _ c.in_default.len_below) (none_when _ c.is_empty.result c.is_empty.ensures c.if-is_empty.true); does = λ f. c.loop-rest.invariant.written.on _ _ (parts_ended (shape_of_type c.args.types.now c.args.below) _ _ _ (nothing_left _ c.in_default.len_below) (none_when _ c.is_empty.result c.is_empty.ensures c.if-is_empty.true)); keeps = c.loop-rest.invariant.keeps; rules = tt }
 
 pub encode_components-returns : goal.encode_components-returns
-encode_components-returns t c = form_refused _ (fit_end (Fits c.args.types.now c.args.below) _ _ _ _ false c.loop-rest.invariant.fits (nothing_left _ c.in_default.len_below) (some_when _ c.is_empty.result c.is_empty.ensures c.if-is_empty.false)) c.loop-rest.invariant.keeps (c.other_form-2.ensures ∙ c.loop-rest.invariant.keeps.rule)
+encode_components-returns t c = rw c.refuse_form-2.ensures.1 (form_refused _ (fit_end (Fits c.args.types.now c.args.below) _ _ _ _ false c.loop-rest.invariant.fits (nothing_left _ c.in_default.len_below) (some_when _ c.is_empty.result c.is_empty.ensures c.if-is_empty.false)) c.loop-rest.invariant.keeps (c.refuse_form-2.ensures.2 ∙ c.loop-rest.invariant.keeps.rule))
 
 pub encode_elements-loop-rest-init : goal.encode_elements-loop-rest-init
 encode_elements-loop-rest-init t c = record { written = elements_start ((shape_of_type c.args.types.now c.args.below) c.args.element.0) _ _ c.requires; fits = each_start ((Fits c.args.types.now c.args.below) c.args.element.0) _ }
 
 pub encode_elements-returns-in_err-encode_at : goal.encode_elements-returns-in_err-encode_at
-encode_elements-returns-in_err-encode_at t c = rw (residual _ c.from_residual.ensures.1) (element_not_written ((Fits c.args.types.now c.args.below) c.args.element.0) ((shape_of_type c.args.types.now c.args.below) c.args.element.0) _ _ _ c.value-item.result _ _ c.loop-rest.invariant.written (split c.loop-rest.rest.now _ c.in-len1-up.len_at_least c.value-item.is) c.loop-rest.invariant.fits c.in_err-encode_at.field-0.0 _ c.in_err-encode_at.ensures)
+encode_elements-returns-in_err-encode_at t c = rw (residual _ c.from_residual.ensures.1) (element_not_written ((Fits c.args.types.now c.args.below) c.args.element.0) ((shape_of_type c.args.types.now c.args.below) c.args.element.0) _ _ _ c.value-item.result _ _ c.loop-rest.invariant.written (split c.loop-rest.rest.now _ c.in-len1-up.len_at_least c.value-item.is) c.loop-rest.invariant.fits c.encode_at.new.fault _ c.in_err-encode_at.ensures)
 
 pub encode_elements-loop-rest-preserved : goal.encode_elements-loop-rest-preserved
 encode_elements-loop-rest-preserved t c =
@@ -144,18 +151,18 @@ pub encode_elements_in_order-loop-rest-init : goal.encode_elements_in_order-loop
 encode_elements_in_order-loop-rest-init t c = record { written = set_of_start ((shape_of_type c.args.types.now c.args.below) c.args.element.0) _ _ _ c.requires c.last_len-previous.ensures; fits = each_start ((Fits c.args.types.now c.args.below) c.args.element.0) _ }
 
 pub encode_elements_in_order-returns-in_err-encode_at : goal.encode_elements_in_order-returns-in_err-encode_at
-encode_elements_in_order-returns-in_err-encode_at t c = rw (residual _ c.from_residual.ensures.1) (set_element_not_written ((Fits c.args.types.now c.args.below) c.args.element.0) ((shape_of_type c.args.types.now c.args.below) c.args.element.0) _ _ _ c.value-item.result _ _ _ c.loop-rest.invariant.written (split c.loop-rest.rest.now _ c.in-len1-up.len_at_least c.value-item.is) c.loop-rest.invariant.fits c.in_err-encode_at.field-0.0 _ c.in_err-encode_at.ensures)
+encode_elements_in_order-returns-in_err-encode_at t c = rw (residual _ c.from_residual.ensures.1) (set_element_not_written ((Fits c.args.types.now c.args.below) c.args.element.0) ((shape_of_type c.args.types.now c.args.below) c.args.element.0) _ _ _ c.value-item.result _ _ _ c.loop-rest.invariant.written (split c.loop-rest.rest.now _ c.in-len1-up.len_at_least c.value-item.is) c.loop-rest.invariant.fits c.encode_at.new.fault _ c.in_err-encode_at.ensures)
 
 pub encode_elements_in_order-returns-then-neighbours_out_of_order : goal.encode_elements_in_order-returns-then-neighbours_out_of_order
 encode_elements_in_order-returns-then-neighbours_out_of_order t c =
     let wrote = c.in_ok-encode_at.ensures in
     let leaves = leaves_both c.loop-rest.invariant.written.so_far.others (leaves_by _ _ _ _ (wrote.does wrote.fits).ok.appended) in
-    record {
+    rw c.keep.ensures (record {
       fits = tt;
       does = λ f. record { ok = tt; refused = inr (fall_refused ((shape_of_type c.args.types.now c.args.below) c.args.element.0) _ _ _ _ _ _ _ _ _ c.loop-rest.invariant.written (split_is tree_of c.loop-rest.rest.now _ c.in-len1-up.len_at_least c.value-item.is) (wrote.does wrote.fits).ok c.last_len-start.ensures c.if-neighbours_out_of_order.ensures _ _ refl c.out_of_order.ensures) };
       keeps = leaves;
       rules = ap (λ (x : EncodeError). x.codec) c.out_of_order.ensures ∙ leaves.rule;
-    }
+    })
 
 pub encode_elements_in_order-loop-rest-preserved : goal.encode_elements_in_order-loop-rest-preserved
 encode_elements_in_order-loop-rest-preserved t c =
@@ -242,11 +249,11 @@ pub set_components-returns-clause-ok : goal.set_components-returns-clause-ok
 set_components-returns-clause-ok t c = holds_all (shape_of_type c.args.types.now c.args.below) (Fits c.args.types.now c.args.below) c.named_components-extensible.result.1 c.args.components.now c.named_components-extensible.result.0.now c.args.values.now c.args.encoder.now.rule
     c.loop-left.left c.loop-left.found.items (let z = c.loop-left-test.false in omega arith) c.named_components-extensible.ensures.named c.named_components-extensible.ensures.extensible c.loop-left.invariant
 
-pub encode_set-returns-in_err-found : goal.encode_set-returns-in_err-found
-encode_set-returns-in_err-found t c = rw (residual _ c.from_residual.ensures.1) (set_refused eoc (components_by (shape_of_type c.args.types.now c.args.below) c.args.components.now) (list_tree tree_of c.args.values.now) c.args.encoder.now c.in_err-found.field-0.0 c.in_err-found.ensures.refused c.in_err-found.ensures.rules)
+pub encode_set-returns-in-Err : goal.encode_set-returns-in-Err
+encode_set-returns-in-Err t c = rw c.keep.ensures (set_refused eoc (components_by (shape_of_type c.args.types.now c.args.below) c.args.components.now) (list_tree tree_of c.args.values.now) c.args.encoder.now c.in-Err.error c.in-Err.ensures.refused c.in-Err.ensures.rules)
 
-pub encode_set-returns : goal.encode_set-returns
-encode_set-returns t c =
+pub encode_set-returns-in-Ok : goal.encode_set-returns-in-Ok
+encode_set-returns-in-Ok t c =
     let leaves = c.append_components.ensures.extends in
-    set_appended eoc (components_by (shape_of_type c.args.types.now c.args.below) c.args.components.now) (list_tree tree_of c.args.values.now) c.args.encoder.now c.requires c.append_components.new.self c.in_ok-found.found.items c.in_ok-found.ensures.ok
-    c.append_components.result (rw (← c.deref.ensures.value) c.append_components.ensures.ok) (leaves_by _ _ leaves.octets leaves.tags leaves.appended) c.append_components.ensures.memory_alone
+    rw c.kept.ensures (set_appended eoc (components_by (shape_of_type c.args.types.now c.args.below) c.args.components.now) (list_tree tree_of c.args.values.now) c.args.encoder.now c.requires c.append_components.new.self c.in-Ok.found.items c.in-Ok.ensures.ok
+    c.append_components.result (rw (← c.deref.ensures.value) c.append_components.ensures.ok) (leaves_by _ _ leaves.octets leaves.tags leaves.appended) c.append_components.ensures.memory_alone)
