@@ -10,7 +10,7 @@ ghost use Rattle.rasn_de.specs.Decodes.{Decodes};
 ghost use Rattle.rasn_de.specs.Checks.{Checks};
 ghost use Rattle.rasn_de.specs.Steps.{IsErrorOf};
 ghost use Rattle.rasn_dynamic.specs.Inside.{DecodesTree};
-ghost use Rattle.rasn_dynamic.specs.Making.{Making};
+ghost use Rattle.rasn_dynamic.specs.Making.{Making, outcome};
 ghost use Rattle.rasn_de.specs.declared.ber.de.parser.ParseError.TheVariants.{OutOfMemory, SizeConstraintNotSatisfied};
 ghost use Rattle.rasn_schema.specs.Trees.{tree_of};
 ghost use Rattle.rasn_schema.specs.Shapes.{kind_of, numbers_of};
@@ -21,6 +21,7 @@ ghost use Rattle.rasn_dynamic.specs.Calls.{IsNumberIn, IsStringOf, FailsAtNumber
 ghost use Rattle.rasn_schema.specs.Fitting.{FitsLeaf, IsNumber, AreOctets, AreItems, EachFits};
 
 use crate::made::Made;
+use crate::walk::Refused;
 use rasn_de::ber::de::Decoder;
 use rasn_de::de::Decode;
 use rasn_schema::{LeafKind, NamedNumber, Value};
@@ -242,23 +243,37 @@ fn check_leaf(
 
 /// Reads a value that holds no other values, where values are kept; else checks it.
 #[tactic(auto, using(crate::proofs::Making::made_of_value))]
-#[inline(always)]
-pub fn leaf_value<'input, M: Made>(
+#[inline(never)]
+pub fn put_leaf<'input, M: Made>(
     decoder: &mut Decoder<'input>,
+    error: &mut DecodeError,
     kind: LeafKind,
     tag: Tag,
     bounds: &Constraints,
-) -> Result<Value<'input>, DecodeError>
-    ensures reads { Making M.KEEP tree_of (DecodesTree (leaf (kind_of kind) tag bounds.now)) decoder.old result decoder.new }
-    ensures fits { M.KEEP ≡ true → IfOk result (λ v. FitsLeaf kind v) }
-    ensures rules { IfErr result (λ e. e.codec ≡ decoder.old.rule) }
+    out: &mut Value<'input>,
+) -> Result<(), Refused>
+    ensures reads { Making M.KEEP tree_of (DecodesTree (leaf (kind_of kind) tag bounds.now)) decoder.old (outcome result out.new error.new) decoder.new }
+    ensures fits { M.KEEP ≡ true → IfOk (outcome result out.new error.new) (λ v. FitsLeaf kind v) }
+    ensures rules { IfErr (outcome result out.new error.new) (λ e. e.codec ≡ decoder.old.rule) }
 {
     if M::KEEP {
-        return decode_leaf(decoder, kind, tag, bounds);
+        return match decode_leaf(decoder, kind, tag, bounds) {
+            Ok(value) => {
+                *out = value;
+                Ok(())
+            }
+            Err(fault) => {
+                *error = fault;
+                Err(Refused)
+            }
+        };
     }
     match check_leaf(decoder, kind, tag, bounds) {
-        Ok(()) => Ok(Value::Absent),
-        Err(error) => Err(error),
+        Ok(()) => Ok(()),
+        Err(fault) => {
+            *error = fault;
+            Err(Refused)
+        }
     }
 }
 
@@ -363,4 +378,80 @@ pub fn decode_unknown_values<'input, M: Made>(
         push::<M>(decoder, &mut values, value)?;
     }
     Ok(Value::Items(values))
+}
+
+/// Reads an ENUMERATED with these numbers, and keeps it where values are kept.
+#[inline(never)]
+pub fn put_number<'input, M: Made>(
+    decoder: &mut Decoder<'input>,
+    error: &mut DecodeError,
+    tag: Tag,
+    numbers: &[NamedNumber],
+    out: &mut Value<'input>,
+) -> Result<(), Refused>
+    ensures reads { Making M.KEEP tree_of (DecodesTree (leaf (enumerated (numbers_of numbers.now)) tag unconstrained)) decoder.old (outcome result out.new error.new) decoder.new }
+    ensures fits { M.KEEP ≡ true → IfOk (outcome result out.new error.new) (λ v. IsNumber (numbers_of numbers.now) v) }
+    ensures rules { IfErr (outcome result out.new error.new) (λ e. e.codec ≡ decoder.old.rule) }
+{
+    match decode_number(decoder, tag, numbers) {
+        Ok(value) => {
+            if M::KEEP {
+                *out = value;
+            }
+            Ok(())
+        }
+        Err(fault) => {
+            *error = fault;
+            Err(Refused)
+        }
+    }
+}
+
+/// Reads a value of an open type, and keeps it where values are kept.
+#[inline(never)]
+pub fn put_any<'input, M: Made>(
+    decoder: &mut Decoder<'input>,
+    error: &mut DecodeError,
+    tag: Tag,
+    out: &mut Value<'input>,
+) -> Result<(), Refused>
+    ensures reads { Making M.KEEP tree_of (DecodesTree (any (looked_for tag))) decoder.old (outcome result out.new error.new) decoder.new }
+    ensures fits { M.KEEP ≡ true → IfOk (outcome result out.new error.new) AreOctets }
+    ensures rules { IfErr (outcome result out.new error.new) (λ e. e.codec ≡ decoder.old.rule) }
+{
+    match decode_any_value(decoder, tag) {
+        Ok(value) => {
+            if M::KEEP {
+                *out = value;
+            }
+            Ok(())
+        }
+        Err(fault) => {
+            *error = fault;
+            Err(Refused)
+        }
+    }
+}
+
+/// Reads unknown values, and keeps them where values are kept.
+#[inline(never)]
+pub fn put_unknown<'input, M: Made>(
+    decoder: &mut Decoder<'input>,
+    error: &mut DecodeError,
+    out: &mut Value<'input>,
+) -> Result<(), Refused>
+    ensures reads { Making M.KEEP tree_of (DecodesTree unknown) decoder.old (outcome result out.new error.new) decoder.new }
+    ensures fits { M.KEEP ≡ true → IfOk (outcome result out.new error.new) (AreItems (EachFits AreOctets)) }
+    ensures rules { IfErr (outcome result out.new error.new) (λ e. e.codec ≡ decoder.old.rule) }
+{
+    match decode_unknown_values::<M>(decoder) {
+        Ok(value) => {
+            *out = value;
+            Ok(())
+        }
+        Err(fault) => {
+            *error = fault;
+            Err(Refused)
+        }
+    }
 }

@@ -32,7 +32,7 @@ use Rattle.rasn_schema.proofs.TypeShapes.{shape_below}
 use Rattle.rasn_schema.proofs.Lists.{split, nothing_left, read_at}
 use Rattle.rasn_schema.specs.declared.types.«Type».TheVariants.{Tagged}
 use Rattle.rasn_dynamic.specs.Inside.{DecodesTree, DecodesComponent}
-use Rattle.rasn_dynamic.specs.Making.{Making}
+use Rattle.rasn_dynamic.specs.Making.{Making, outcome, reported}
 use Rattle.rasn_dynamic.specs.Typed.{DecodesContents, DecodesType, CountsElements, element_count, elements}
 use Rattle.rasn_dynamic.specs.Calls.{held, names_of, nones, DecodesPresent}
 use Rattle.rasn_dynamic.proofs.Making.{made_as, made_fails_as, choice_exact, uncounted, counted_nothing, made_of_value, if_kept, items_made, elements_made, one_made, choice_made, choice_fits}
@@ -54,7 +54,7 @@ use Rattle.rasn_dynamic.proofs.Named.{named_lawful, last_unknown}
 use Rattle.rasn_dynamic.specs.Sets.{is_extensible, named_components, last_type}
 use Rattle.rasn_dynamic.specs.Found.{MembersFit}
 use Rattle.rasn_dynamic.proofs.Parts.{shorter}
-use Rattle.rasn_dynamic.proofs.reader.+decode.Goals.{decode_elements_in_order-else-is_strict-via-then-is_strict+else-is_less, decode_elements_in_order-else-is_strict-via-else-is_strict, decode_set-then-extensible+in_ok-push, decode_set-else-extensible}
+use Rattle.rasn_dynamic.proofs.reader.+decode.Goals.{decode_elements_in_order-else-is_strict-via-then-is_strict+else-is_less, decode_elements_in_order-else-is_strict-via-else-is_strict, decode_set-then-extensible+in_ok-append, decode_set-else-extensible}
 use Rattle.rasn_dynamic.specs.Listed.{Lists, Inside, PartListed, ComponentAt, MemberListed, MembersListed}
 use Rattle.rasn_de.specs.Constructed.{list_header}
 use Rattle.rasn_dynamic.specs.declared.span.Spans.{Spans}
@@ -83,13 +83,13 @@ decode_found-returns-in-Some-clause-fits g t c = λ k.
     if_ok _ _ _ (λ v. fits_below c.args.types.now c.args.levels (c.args.levels - 1) c.args.id.0 c.in-Some.ty.now v (let n = c.if-levels-eq0.false in omega arith) c.in-Some.ensures) (c.decode_type.ensures.fits k)
 
 pub decode_found-returns-then-levels-eq0-clause-nothing : goal.decode_found-returns-then-levels-eq0-clause-nothing
-decode_found-returns-then-levels-eq0-clause-nothing g t c = λ h. (c.no_value.ensures, refl)
+decode_found-returns-then-levels-eq0-clause-nothing g t c = λ h. (c.refuse_no_value.ensures, refl)
 
 pub decode_found-returns-in-Some-clause-nothing : goal.decode_found-returns-in-Some-clause-nothing
 decode_found-returns-in-Some-clause-nothing g t c = found_here _ c.in-Some.ty.now c.in-Some.ensures _ _
 
 pub decode_found-returns-in-None-clause-nothing : goal.decode_found-returns-in-None-clause-nothing
-decode_found-returns-in-None-clause-nothing g t c = λ h. (c.no_value-in-None.ensures, refl)
+decode_found-returns-in-None-clause-nothing g t c = λ h. (c.refuse_no_value-in-None.ensures, refl)
 
 pub decode_found-returns-in-None-clause-reads : goal.decode_found-returns-in-None-clause-reads
 decode_found-returns-in-None-clause-reads g t c = refused_not_there _ _ _ _ _ c.in-None.ensures
@@ -109,10 +109,10 @@ pub decode_choice-returns-in_default-clause-reads : goal.decode_choice-returns-i
 decode_choice-returns-in_default-clause-reads g t c = none_for (shape_of_type c.args.types.now c.args.below) c.args.alternatives.now c.in_ok-tag.tag _ c.in_ok-tag.ensures.next c.in_default.ensures _
 
 pub decode_choice-returns-in_default-clause-unknown : goal.decode_choice-returns-in_default-clause-unknown
-decode_choice-returns-in_default-clause-unknown g t c = λ tag n others. (rw (← c.codec.ensures) c.no_valid_choice.ensures, refl)
+decode_choice-returns-in_default-clause-unknown g t c = λ tag n others. (rw (← c.codec.ensures) c.refuse_choice.ensures, refl)
 
 pub decode_choice-returns-in_default-clause-rules : goal.decode_choice-returns-in_default-clause-rules
-decode_choice-returns-in_default-clause-rules g t c = c.no_valid_choice.ensures.0 ∙ c.codec.ensures
+decode_choice-returns-in_default-clause-rules g t c = c.refuse_choice.ensures.0 ∙ c.codec.ensures
 
 pub decode_choice-bounds-alternatives-number : goal.decode_choice-bounds-alternatives-number
 decode_choice-bounds-alternatives-number g t c = slice_get_within c.args.alternatives.now c.in-Some.number c.in-Some.ensures.0 (sym c.in-Some.ensures.1.0)
@@ -124,44 +124,44 @@ decode_choice-decode_part-requires g t c =
     (read_at c.args.alternatives.now c.in-Some.number c.index-alternatives-number.result (slice_get_within c.args.alternatives.now c.in-Some.number c.in-Some.ensures.0 (sym c.in-Some.ensures.1.0)) c.index-alternatives-number.is) in
     λ κs o. (search rules, (search rules, (lawful_at (shape_of_type c.args.types.now c.args.below) c.args.alternatives.now c.in-Some.number el c.requires.1.1.1.0 at, c.requires.1.1.1.1)))
 
-pub decode_choice-returns-in_err-value-clause-reads : goal.decode_choice-returns-in_err-value-clause-reads
-decode_choice-returns-in_err-value-clause-reads g t c =
+pub decode_choice-returns-in_err-decode_part-clause-reads : goal.decode_choice-returns-in_err-decode_part-clause-reads
+decode_choice-returns-in_err-decode_part-clause-reads g t c =
     let el = get_or c.args.alternatives.now c.in-Some.number c.index-alternatives-number.result in
     let at : Some el ≡ slice_get c.args.alternatives.now c.in-Some.number = subst (λ (a : Alternative). Some a ≡ slice_get c.args.alternatives.now c.in-Some.number) c.index-alternatives-number.is
     (read_at c.args.alternatives.now c.in-Some.number c.index-alternatives-number.result (slice_get_within c.args.alternatives.now c.in-Some.number c.in-Some.ensures.0 (sym c.in-Some.ensures.1.0)) c.index-alternatives-number.is) in
-    rw (residual _ c.from_residual-in_err-value.ensures.1)
+    rw (residual _ c.from_residual-in_err-decode_part.ensures.1)
     (chosen_refused (shape_of_type c.args.types.now c.args.below) c.args.alternatives.now c.in-Some.number el c.in_ok-tag.tag c.requires.1.1.1.0
-    (for_both (shape_of_type c.args.types.now c.args.below) c.args.alternatives.now c.in-Some.number c.in-Some.ensures.0 _ c.in_ok-tag.tag c.in-Some.ensures.1 at) _ _ c.in_ok-tag.ensures.next _ c.in_err-value.ensures.reads)
+    (for_both (shape_of_type c.args.types.now c.args.below) c.args.alternatives.now c.in-Some.number c.in-Some.ensures.0 _ c.in_ok-tag.tag c.in-Some.ensures.1 at) _ _ c.in_ok-tag.ensures.next _ c.in_err-decode_part.ensures.reads)
 
-pub decode_choice-returns-in_err-value-clause-unknown : goal.decode_choice-returns-in_err-value-clause-unknown
-decode_choice-returns-in_err-value-clause-unknown g t c = rw (residual _ c.from_residual-in_err-value.ensures.1) (λ tag n others.
+pub decode_choice-returns-in_err-decode_part-clause-unknown : goal.decode_choice-returns-in_err-decode_part-clause-unknown
+decode_choice-returns-in_err-decode_part-clause-unknown g t c = rw (residual _ c.from_residual-in_err-decode_part.ensures.1) (λ tag n others.
     absurd (others (subst (IsFirstOf (alternatives_by (shape_of_type c.args.types.now c.args.below) c.args.alternatives.now)) (next_one c.args.decoder.now.rest c.in_ok-tag.tag tag c.in_ok-tag.ensures.next n)
     (first_of_all (shape_of_type c.args.types.now c.args.below) c.in_ok-tag.tag c.args.alternatives.now c.in-Some.number c.in-Some.ensures.0 c.in-Some.ensures.1.0 c.in-Some.ensures.1.1))))
 
 pub decode_choice-returns-clause-unknown : goal.decode_choice-returns-clause-unknown
 decode_choice-returns-clause-unknown g t c = any_err _ (λ e tag n others.
     absurd (others (subst (IsFirstOf (alternatives_by (shape_of_type c.args.types.now c.args.below) c.args.alternatives.now)) (next_one c.args.decoder.now.rest c.in_ok-tag.tag tag c.in_ok-tag.ensures.next n)
-    (first_of_all (shape_of_type c.args.types.now c.args.below) c.in_ok-tag.tag c.args.alternatives.now c.in-Some.number c.in-Some.ensures.0 c.in-Some.ensures.1.0 c.in-Some.ensures.1.1)))) c.choose.result
+    (first_of_all (shape_of_type c.args.types.now c.args.below) c.in_ok-tag.tag c.args.alternatives.now c.in-Some.number c.in-Some.ensures.0 c.in-Some.ensures.1.0 c.in-Some.ensures.1.1)))) (outcome c.choose.result c.choose.new.out c.choose.new.error)
 
 pub decode_choice-returns-clause-told : goal.decode_choice-returns-clause-told
-decode_choice-returns-clause-told g t c = unnamed _ c.choose.result _ c.in_ok-value.ensures.told
+decode_choice-returns-clause-told g t c = unnamed _ (outcome c.choose.result c.choose.new.out c.choose.new.error) _ c.in_ok-decode_part.ensures.told
 
 pub decode_choice-returns-clause-rules : goal.decode_choice-returns-clause-rules
-decode_choice-returns-clause-rules g t c = subst (λ z. IfErr c.choose.result (λ e. e.codec ≡ z)) (same_rules c.in_ok-value.ensures.reads.2.stays) c.choose.ensures.rules
+decode_choice-returns-clause-rules g t c = subst (λ z. IfErr (outcome c.choose.result c.choose.new.out c.choose.new.error) (λ e. e.codec ≡ z)) (same_rules c.in_ok-decode_part.ensures.reads.2.stays) c.choose.ensures.rules
 
 pub decode_choice-returns-clause-fits : goal.decode_choice-returns-clause-fits
 decode_choice-returns-clause-fits g t c =
     let at = read_at c.args.alternatives.now c.in-Some.number c.index-alternatives-number.result (slice_get_within c.args.alternatives.now c.in-Some.number c.in-Some.ensures.0 (sym c.in-Some.ensures.1.0)) c.index-alternatives-number.is in
-    choice_fits _ c.in-Some.number c.in_ok-value.value _ c.choose.result c.choose.ensures.ok
-    (λ k. (c.index-alternatives-number.result, at, subst (λ (a : Alternative). Fits c.args.types.now c.args.below a.type_id.0 c.in_ok-value.value) (sym c.index-alternatives-number.is) (c.in_ok-value.ensures.fits k)))
+    choice_fits _ c.in-Some.number c.decode_part.new.out _ (outcome c.choose.result c.choose.new.out c.choose.new.error) c.choose.ensures.ok
+    (λ k. (c.index-alternatives-number.result, at, subst (λ (a : Alternative). Fits c.args.types.now c.args.below a.type_id.0 c.decode_part.new.out) (sym c.index-alternatives-number.is) (c.in_ok-decode_part.ensures.fits k)))
 
 pub decode_choice-returns-clause-reads : goal.decode_choice-returns-clause-reads
 decode_choice-returns-clause-reads g t c =
     let el = get_or c.args.alternatives.now c.in-Some.number c.index-alternatives-number.result in
     let at : Some el ≡ slice_get c.args.alternatives.now c.in-Some.number = subst (λ (a : Alternative). Some a ≡ slice_get c.args.alternatives.now c.in-Some.number) c.index-alternatives-number.is
     (read_at c.args.alternatives.now c.in-Some.number c.index-alternatives-number.result (slice_get_within c.args.alternatives.now c.in-Some.number c.in-Some.ensures.0 (sym c.in-Some.ensures.1.0)) c.index-alternatives-number.is) in
-    let w = c.in_ok-value.ensures.reads in
-    choice_made _ c.in-Some.number c.in_ok-value.value (DecodesTree (choice_among (alternatives_by (shape_of_type c.args.types.now c.args.below) c.args.alternatives.now))) c.args.decoder.now w.0 c.choose.result _ w.1 c.choose.ensures.ok c.choose.ensures.kind
+    let w = c.in_ok-decode_part.ensures.reads in
+    choice_made _ c.in-Some.number c.decode_part.new.out (DecodesTree (choice_among (alternatives_by (shape_of_type c.args.types.now c.args.below) c.args.alternatives.now))) c.args.decoder.now w.0 (outcome c.choose.result c.choose.new.out c.choose.new.error) _ w.1 c.choose.ensures.ok c.choose.ensures.kind
     (chosen_got (shape_of_type c.args.types.now c.args.below) c.args.alternatives.now c.in-Some.number el c.in_ok-tag.tag c.requires.1.1.1.0
     (for_both (shape_of_type c.args.types.now c.args.below) c.args.alternatives.now c.in-Some.number c.in-Some.ensures.0 _ c.in_ok-tag.tag c.in-Some.ensures.1 at) _ _ c.in_ok-tag.ensures.next w.0 w.2)
     (λ e m. alloc_failed _ (λ (z : Tree). z) c.args.decoder.now _ e m w.2.stays w.2.end)
@@ -200,7 +200,7 @@ pub decode_contents-returns-in-Tagged-clause-fits : goal.decode_contents-returns
 decode_contents-returns-in-Tagged-clause-fits g t c = λ k. rw c.in-Tagged.is (c.decode_part.ensures.fits k)
 
 pub decode_contents-returns-in-Tagged-clause-exact : goal.decode_contents-returns-in-Tagged-clause-exact
-decode_contents-returns-in-Tagged-clause-exact g t c = rw c.in-Tagged.is (counted_nothing _ tree_of (CountsElements (Tagged c.in-Tagged.tag c.in-Tagged.inner)) (DecodesTree (shape_of_type c.args.types.now c.args.below c.in-Tagged.inner.0)) c.args.decoder.now c.decode_part.result _ _ (λ d. tt) c.decode_part.ensures.reads)
+decode_contents-returns-in-Tagged-clause-exact g t c = rw c.in-Tagged.is (counted_nothing _ tree_of (CountsElements (Tagged c.in-Tagged.tag c.in-Tagged.inner)) (DecodesTree (shape_of_type c.args.types.now c.args.below c.in-Tagged.inner.0)) c.args.decoder.now (outcome c.decode_part.result c.decode_part.new.out c.decode_part.new.walk.error) _ _ (λ d. tt) c.decode_part.ensures.reads)
 
 pub decode_contents-returns-in_ok-values-in-Sequence-clause-fits : goal.decode_contents-returns-in_ok-values-in-Sequence-clause-fits
 decode_contents-returns-in_ok-values-in-Sequence-clause-fits g t c = λ k.
@@ -277,25 +277,25 @@ decode_contents-returns-in_err-found-in-Set-clause-exact g t c = rw (residual _ 
 pub decode_elements-loop-element-preserved : goal.decode_elements-loop-element-preserved
 decode_elements-loop-element-preserved g t c =
     let i = c.loop-element.invariant.0 in
-    let w = c.in_ok-value.ensures.reads in (
+    let w = c.in_ok-decode_part.ensures.reads in (
       (
         i.0 ++ w.0 ∷ [],
-        one_made _ c.loop-element.values.items _ i.0 c.in_ok-value.value w.0 i.1 w.1 c.in_ok-keep.ensures.kept.0,
+        one_made _ c.loop-element.values.items _ i.0 c.decode_part.new.out w.0 i.1 w.1 c.in_ok-keep.ensures.kept.0,
         ap (λ n. n + 1) i.2 ∙ sym (length-append i.0 (w.0 ∷ [])),
         passes_more (DecodesTree (shape_of_type c.args.types.now c.args.below c.args.element.0)) c.loop-element.decoder _ w.0 c.loop-element-test.ensures w.2
             (λ e. c.in_ok-keep.ensures.kept.1 (e ∙ sym (ap length c.remaining-left.ensures.value))) c.args.decoder.now i.0 _ refl i.3,
       ),
-      (λ k. each_more (Fits c.args.types.now c.args.below c.args.element.0) c.loop-element.values.items _ c.in_ok-value.value (c.in_ok-keep.ensures.kept.0 k) (c.loop-element.invariant.1 k) (c.in_ok-value.ensures.fits k)),
-      c.in_ok-value.ensures.told,
-      lists_more (λ b k. PartListed (shape_of_type c.args.types.now c.args.below) c.args.below (Inside c.args.types.now c.args.below) c.args.element.0 k b) c.loop-element.count c.args.decoder.now c.loop-element.decoder _ _ _ _ c.loop-element.invariant.3 c.in_ok-value.ensures.listed,
+      (λ k. each_more (Fits c.args.types.now c.args.below c.args.element.0) c.loop-element.values.items _ c.decode_part.new.out (c.in_ok-keep.ensures.kept.0 k) (c.loop-element.invariant.1 k) (c.in_ok-decode_part.ensures.fits k)),
+      c.in_ok-decode_part.ensures.told,
+      lists_more (λ b k. PartListed (shape_of_type c.args.types.now c.args.below) c.args.below (Inside c.args.types.now c.args.below) c.args.element.0 k b) c.loop-element.count c.args.decoder.now c.loop-element.decoder _ _ _ _ c.loop-element.invariant.3 c.in_ok-decode_part.ensures.listed,
     )
 
 pub decode_elements-returns-in_err-keep-clause-reads : goal.decode_elements-returns-in_err-keep-clause-reads
 decode_elements-returns-in_err-keep-clause-reads g t c =
     let i = c.loop-element.invariant.0 in
-    let w = c.in_ok-value.ensures.reads in
+    let w = c.in_ok-decode_part.ensures.reads in
     let k = call_keeps w.2 in
-    let e = c.in_err-keep.field-0.0 in
+    let e = c.keep.new.error in
     let at : length c.remaining-left.result.now ≡ length c.loop-element.decoder.rest = ap length c.remaining-left.ensures.value in
     rw (residual _ c.from_residual-in_err-keep.ensures.1) (
       i.0,
@@ -312,10 +312,10 @@ decode_elements-returns-in_err-keep-clause-reads g t c =
       ),
     )
 
-pub decode_elements-returns-in_err-value-clause-reads : goal.decode_elements-returns-in_err-value-clause-reads
-decode_elements-returns-in_err-value-clause-reads g t c =
+pub decode_elements-returns-in_err-decode_part-clause-reads : goal.decode_elements-returns-in_err-decode_part-clause-reads
+decode_elements-returns-in_err-decode_part-clause-reads g t c =
     let i = c.loop-element.invariant.0 in
-    rw (residual _ c.from_residual.ensures.1) (i.0, c.loop-element.decoder, i.3, c.loop-element-test.ensures, inl c.in_err-value.ensures.reads)
+    rw (residual _ c.from_residual.ensures.1) (i.0, c.loop-element.decoder, i.3, c.loop-element-test.ensures, inl c.in_err-decode_part.ensures.reads)
 
 pub decode_elements-returns-clause-reads : goal.decode_elements-returns-clause-reads
 decode_elements-returns-clause-reads g t c =
@@ -324,7 +324,7 @@ decode_elements-returns-clause-reads g t c =
 pub decode_elements-overflow_add-count : goal.decode_elements-overflow_add-count
 decode_elements-overflow_add-count g t c =
     let i = c.loop-element.invariant.0 in
-    let w = c.in_ok-value.ensures.reads in
+    let w = c.in_ok-decode_part.ensures.reads in
     let n = turns_long (shape_of_type c.args.types.now c.args.below c.args.element.0) (λ (z : Tree). z) c.args.decoder.now i.0 c.loop-element.decoder i.3 in
     let m = one_taken c.loop-element.decoder.rest w.2.end.0 _ w.2.end.1 (λ e. c.in_ok-keep.ensures.kept.1 (e ∙ sym (ap length c.remaining-left.ensures.value))) in
     let l = i.2 in
@@ -340,13 +340,13 @@ pub decode_elements-returns-clause-fits : goal.decode_elements-returns-clause-fi
 decode_elements-returns-clause-fits g t c = c.loop-element.invariant.1
 
 pub decode_elements-loop-element-smaller : goal.decode_elements-loop-element-smaller
-decode_elements-loop-element-smaller g t c = shorter _ _ c.in_ok-value.ensures.reads.2.end (λ e. c.in_ok-keep.ensures.kept.1 (e ∙ sym (ap length c.remaining-left.ensures.value)))
+decode_elements-loop-element-smaller g t c = shorter _ _ c.in_ok-decode_part.ensures.reads.2.end (λ e. c.in_ok-keep.ensures.kept.1 (e ∙ sym (ap length c.remaining-left.ensures.value)))
 
-pub decode_elements-returns-in_err-value-clause-rules : goal.decode_elements-returns-in_err-value-clause-rules
-decode_elements-returns-in_err-value-clause-rules g t c = rw (residual _ c.from_residual.ensures.1) (c.in_err-value.ensures.rules ∙ turn_rules (shape_of_type c.args.types.now c.args.below c.args.element.0) (λ (z : Tree). z) _ _ _ c.loop-element.invariant.0.3)
+pub decode_elements-returns-in_err-decode_part-clause-rules : goal.decode_elements-returns-in_err-decode_part-clause-rules
+decode_elements-returns-in_err-decode_part-clause-rules g t c = rw (residual _ c.from_residual.ensures.1) (c.in_err-decode_part.ensures.rules ∙ turn_rules (shape_of_type c.args.types.now c.args.below c.args.element.0) (λ (z : Tree). z) _ _ _ c.loop-element.invariant.0.3)
 
 pub decode_elements-returns-in_err-keep-clause-rules : goal.decode_elements-returns-in_err-keep-clause-rules
-decode_elements-returns-in_err-keep-clause-rules g t c = rw (residual _ c.from_residual-in_err-keep.ensures.1) (c.in_err-keep.ensures.rules ∙ same_rules c.in_ok-value.ensures.reads.2.stays ∙ turn_rules (shape_of_type c.args.types.now c.args.below c.args.element.0) (λ (z : Tree). z) _ _ _ c.loop-element.invariant.0.3)
+decode_elements-returns-in_err-keep-clause-rules g t c = rw (residual _ c.from_residual-in_err-keep.ensures.1) (c.in_err-keep.ensures.rules ∙ same_rules c.in_ok-decode_part.ensures.reads.2.stays ∙ turn_rules (shape_of_type c.args.types.now c.args.below c.args.element.0) (λ (z : Tree). z) _ _ _ c.loop-element.invariant.0.3)
 
 pub decode_elements_in_order-loop-last-init : goal.decode_elements_in_order-loop-last-init
 decode_elements_in_order-loop-last-init g t c = rw c.new-values.ensures.items (([], [], (λ k. refl), c.requires.counts, (refl, refl), (λ strict. tt), refl), (λ k. tt), c.requires.clear, lists_start (λ b k. PartListed (shape_of_type c.args.types.now c.args.below) c.args.below (Inside c.args.types.now c.args.below) c.args.element.0 k b) _ c.args.decoder.now _ c.requires.counts)
@@ -358,12 +358,12 @@ pub decode_elements_in_order-returns-clause-fits : goal.decode_elements_in_order
 decode_elements_in_order-returns-clause-fits g t c = c.loop-last.invariant.1
 
 pub decode_elements_in_order-loop-last-smaller : goal.decode_elements_in_order-loop-last-smaller
-decode_elements_in_order-loop-last-smaller g t c = shorter _ _ c.in_ok-value.ensures.reads.2.end (λ e. c.in_ok-keep.ensures.kept.1 (e ∙ sym (ap length c.remaining-start.ensures.value)))
+decode_elements_in_order-loop-last-smaller g t c = shorter _ _ c.in_ok-decode_part.ensures.reads.2.end (λ e. c.in_ok-keep.ensures.kept.1 (e ∙ sym (ap length c.remaining-start.ensures.value)))
 
-pub decode_elements_in_order-returns-in_err-value-clause-reads : goal.decode_elements_in_order-returns-in_err-value-clause-reads
-decode_elements_in_order-returns-in_err-value-clause-reads g t c =
+pub decode_elements_in_order-returns-in_err-decode_part-clause-reads : goal.decode_elements_in_order-returns-in_err-decode_part-clause-reads
+decode_elements_in_order-returns-in_err-decode_part-clause-reads g t c =
     let i = c.loop-last.invariant.0 in
-    rw (residual _ c.from_residual.ensures.1) (i.0, i.1, c.loop-last.decoder, i.4, i.5, c.loop-last-test.ensures, inl (inl c.in_err-value.ensures.reads))
+    rw (residual _ c.from_residual.ensures.1) (i.0, i.1, c.loop-last.decoder, i.4, i.5, c.loop-last-test.ensures, inl (inl c.in_err-decode_part.ensures.reads))
 
 pub decode_elements_in_order-returns-clause-reads : goal.decode_elements_in_order-returns-clause-reads
 decode_elements_in_order-returns-clause-reads g t c =
@@ -372,7 +372,7 @@ decode_elements_in_order-returns-clause-reads g t c =
 pub decode_elements_in_order-overflow_add-count : goal.decode_elements_in_order-overflow_add-count
 decode_elements_in_order-overflow_add-count g t c =
     let i = c.loop-last.invariant.0 in
-    let w = c.in_ok-value.ensures.reads in
+    let w = c.in_ok-decode_part.ensures.reads in
     let p = forgotten (DecodesTree (shape_of_type c.args.types.now c.args.below c.args.element.0)) c.args.decoder.now i.0 i.1 c.loop-last.decoder i.4 in
     let n = turns_long (shape_of_type c.args.types.now c.args.below c.args.element.0) (λ (z : Tree). z) c.args.decoder.now i.0 c.loop-last.decoder p in
     let m = one_taken c.loop-last.decoder.rest w.2.end.0 _ w.2.end.1 (λ e. c.in_ok-keep.ensures.kept.1 (e ∙ sym (ap length c.remaining-start.ensures.value))) in
@@ -384,9 +384,9 @@ decode_elements_in_order-overflow_add-count g t c =
 pub decode_elements_in_order-returns-in_err-keep-clause-reads : goal.decode_elements_in_order-returns-in_err-keep-clause-reads
 decode_elements_in_order-returns-in_err-keep-clause-reads g t c =
     let i = c.loop-last.invariant.0 in
-    let w = c.in_ok-value.ensures.reads in
+    let w = c.in_ok-decode_part.ensures.reads in
     let k = call_keeps w.2 in
-    let e = c.in_err-keep.field-0.0 in
+    let e = c.keep.new.error in
     let at : length c.remaining-start.result.now ≡ length c.loop-last.decoder.rest = ap length c.remaining-start.ensures.value in
     rw (residual _ c.from_residual-in_err-keep.ensures.1) (
       i.0,
@@ -408,7 +408,7 @@ decode_elements_in_order-returns-in_err-keep-clause-reads g t c =
 pub decode_elements_in_order-returns-then-is_less-clause-reads : goal.decode_elements_in_order-returns-then-is_less-clause-reads
 decode_elements_in_order-returns-then-is_less-clause-reads g t c =
     let i = c.loop-last.invariant.0 in
-    let w = c.in_ok-value.ensures.reads in
+    let w = c.in_ok-decode_part.ensures.reads in
     let k = call_keeps w.2 in (
       i.0,
       i.1,
@@ -424,14 +424,14 @@ decode_elements_in_order-returns-then-is_less-clause-reads g t c =
         (λ e. c.in_ok-keep.ensures.kept.1 (e ∙ sym (ap length c.remaining-start.ensures.value))),
         strict_before c.loop-last.decoder _ k c.if-is_strict.ensures,
         out_of_order i.1 c.loop-last.last.now c.octets_before-octets.result.now i.6 c.if-is_less.ensures,
-        rules_same c.loop-last.decoder _ (Der SetOfOutOfOrder) c.out_of_order.result k c.out_of_order.ensures,
+        rules_same c.loop-last.decoder _ (Der SetOfOutOfOrder) c.refuse_order.new.error k c.refuse_order.ensures,
       ),
     )
 
 pub decode_elements_in_order-loop-last-preserved : goal.decode_elements_in_order-loop-last-preserved
 decode_elements_in_order-loop-last-preserved g t c =
     let i = c.loop-last.invariant.0 in
-    let w = c.in_ok-value.ensures.reads in
+    let w = c.in_ok-decode_part.ensures.reads in
     let k = call_keeps w.2 in
     let strict_here : IsStrict c.args.decoder.now.rule → IsStrict c.loop-last.decoder.rule = λ h.
     subst (λ (s : State). IsStrict s.rule) (sym (came_stays (shape_of_type c.args.types.now c.args.below c.args.element.0) (λ (z : Tree). z) c.args.decoder.now c.loop-last.decoder i.0 i.1 i.4)) h in
@@ -442,7 +442,7 @@ decode_elements_in_order-loop-last-preserved g t c =
       (
         i.0 ++ w.0 ∷ [],
         i.1 ++ (c.octets_before-octets.result.now ∷ []),
-        one_made _ c.loop-last.values.items _ i.0 c.in_ok-value.value w.0 i.2 w.1 c.in_ok-keep.ensures.kept.0,
+        one_made _ c.loop-last.values.items _ i.0 c.decode_part.new.out w.0 i.2 w.1 c.in_ok-keep.ensures.kept.0,
         ap (λ n. n + 1) i.3 ∙ sym (length-append i.0 (w.0 ∷ [])),
         passes_from (DecodesTree (shape_of_type c.args.types.now c.args.below c.args.element.0)) c.loop-last.decoder _ w.0 c.octets_before-octets.result.now
             (rw (← c.remaining-start.ensures.value, ← c.remaining.ensures.value) c.octets_before-octets.ensures) c.loop-last-test.ensures w.2
@@ -450,66 +450,65 @@ decode_elements_in_order-loop-last-preserved g t c =
         (λ s. in_order i.1 c.loop-last.last.now c.octets_before-octets.result.now (i.5 s) i.6 (not_less s)),
         ends_more i.1 c.octets_before-octets.result.now,
       ),
-      (λ q. each_more (Fits c.args.types.now c.args.below c.args.element.0) c.loop-last.values.items _ c.in_ok-value.value (c.in_ok-keep.ensures.kept.0 q) (c.loop-last.invariant.1 q) (c.in_ok-value.ensures.fits q)),
-      c.in_ok-value.ensures.told,
-      lists_more (λ b k. PartListed (shape_of_type c.args.types.now c.args.below) c.args.below (Inside c.args.types.now c.args.below) c.args.element.0 k b) c.loop-last.count c.args.decoder.now c.loop-last.decoder _ _ _ _ c.loop-last.invariant.3 c.in_ok-value.ensures.listed,
+      (λ q. each_more (Fits c.args.types.now c.args.below c.args.element.0) c.loop-last.values.items _ c.decode_part.new.out (c.in_ok-keep.ensures.kept.0 q) (c.loop-last.invariant.1 q) (c.in_ok-decode_part.ensures.fits q)),
+      c.in_ok-decode_part.ensures.told,
+      lists_more (λ b k. PartListed (shape_of_type c.args.types.now c.args.below) c.args.below (Inside c.args.types.now c.args.below) c.args.element.0 k b) c.loop-last.count c.args.decoder.now c.loop-last.decoder _ _ _ _ c.loop-last.invariant.3 c.in_ok-decode_part.ensures.listed,
     )
 
-pub decode_elements_in_order-returns-in_err-value-clause-rules : goal.decode_elements_in_order-returns-in_err-value-clause-rules
-decode_elements_in_order-returns-in_err-value-clause-rules g t c = rw (residual _ c.from_residual.ensures.1) (c.in_err-value.ensures.rules ∙ same_rules (came_stays (shape_of_type c.args.types.now c.args.below c.args.element.0) (λ (z : Tree). z) c.args.decoder.now c.loop-last.decoder c.loop-last.invariant.0.0 c.loop-last.invariant.0.1 c.loop-last.invariant.0.4))
+pub decode_elements_in_order-returns-in_err-decode_part-clause-rules : goal.decode_elements_in_order-returns-in_err-decode_part-clause-rules
+decode_elements_in_order-returns-in_err-decode_part-clause-rules g t c = rw (residual _ c.from_residual.ensures.1) (c.in_err-decode_part.ensures.rules ∙ same_rules (came_stays (shape_of_type c.args.types.now c.args.below c.args.element.0) (λ (z : Tree). z) c.args.decoder.now c.loop-last.decoder c.loop-last.invariant.0.0 c.loop-last.invariant.0.1 c.loop-last.invariant.0.4))
 
 pub decode_elements_in_order-returns-in_err-keep-clause-rules : goal.decode_elements_in_order-returns-in_err-keep-clause-rules
-decode_elements_in_order-returns-in_err-keep-clause-rules g t c = rw (residual _ c.from_residual-in_err-keep.ensures.1) (c.in_err-keep.ensures.rules ∙ same_rules c.in_ok-value.ensures.reads.2.stays ∙ same_rules (came_stays (shape_of_type c.args.types.now c.args.below c.args.element.0) (λ (z : Tree). z) c.args.decoder.now c.loop-last.decoder c.loop-last.invariant.0.0 c.loop-last.invariant.0.1 c.loop-last.invariant.0.4))
+decode_elements_in_order-returns-in_err-keep-clause-rules g t c = rw (residual _ c.from_residual-in_err-keep.ensures.1) (c.in_err-keep.ensures.rules ∙ same_rules c.in_ok-decode_part.ensures.reads.2.stays ∙ same_rules (came_stays (shape_of_type c.args.types.now c.args.below c.args.element.0) (λ (z : Tree). z) c.args.decoder.now c.loop-last.decoder c.loop-last.invariant.0.0 c.loop-last.invariant.0.1 c.loop-last.invariant.0.4))
 
 pub decode_elements_in_order-returns-then-is_less-clause-rules : goal.decode_elements_in_order-returns-then-is_less-clause-rules
-decode_elements_in_order-returns-then-is_less-clause-rules g t c = codec_is c.out_of_order.ensures ∙ same_rules c.in_ok-value.ensures.reads.2.stays ∙ same_rules (came_stays (shape_of_type c.args.types.now c.args.below c.args.element.0) (λ (z : Tree). z) c.args.decoder.now c.loop-last.decoder c.loop-last.invariant.0.0 c.loop-last.invariant.0.1 c.loop-last.invariant.0.4)
+decode_elements_in_order-returns-then-is_less-clause-rules g t c = codec_is c.refuse_order.ensures ∙ same_rules c.in_ok-decode_part.ensures.reads.2.stays ∙ same_rules (came_stays (shape_of_type c.args.types.now c.args.below c.args.element.0) (λ (z : Tree). z) c.args.decoder.now c.loop-last.decoder c.loop-last.invariant.0.0 c.loop-last.invariant.0.1 c.loop-last.invariant.0.4)
 
 -- ---- a value that holds others
-
-pub decode_inside-returns-in_err-inner-clause-exact :
-    goal.decode_inside-returns-in_err-inner-clause-exact
-decode_inside-returns-in_err-inner-clause-exact g t c =
-    rw (residual _ c.from_residual.ensures.1) (step_none _ c.args.header c.args.decoder.now _ _ c.in_err-inner.ensures.exact)
 
 pub decode_inside-returns-in-Err-clause-exact :
     goal.decode_inside-returns-in-Err-clause-exact
 decode_inside-returns-in-Err-clause-exact g t c =
-    (step_refused _ c.args.header c.args.decoder.now _ _ _ c.in_ok-inner.ensures.exact _ _ c.in-Err.ensures.exact)
+    (step_none _ c.args.header c.args.decoder.now _ _ c.in-Err.ensures.exact)
 
-pub decode_inside-returns-in_err-close-clause-exact : goal.decode_inside-returns-in_err-close-clause-exact
-decode_inside-returns-in_err-close-clause-exact g t c =
-    let w = c.in-Ok.ensures.exact in
-    rw (residual _ c.from_residual-in_err-close.ensures.1)
-    (step_unclosed _ c.args.header c.args.decoder.now _ _ _ c.in_ok-inner.ensures.exact w.0 _ w.3 _ c.remaining.ensures.value _ _ c.in_err-close.ensures)
+pub decode_inside-returns-in-Err-decode_contents-clause-exact :
+    goal.decode_inside-returns-in-Err-decode_contents-clause-exact
+decode_inside-returns-in-Err-decode_contents-clause-exact g t c =
+    (step_refused _ c.args.header c.args.decoder.now _ _ _ c.in-Ok.ensures.exact _ _ c.in-Err-decode_contents.ensures.exact)
+
+pub decode_inside-returns-in-Err-close-clause-exact : goal.decode_inside-returns-in-Err-close-clause-exact
+decode_inside-returns-in-Err-close-clause-exact g t c =
+    let w = c.in-Ok-decode_contents.ensures.exact in
+    (step_unclosed _ c.args.header c.args.decoder.now _ _ _ c.in-Ok.ensures.exact w.0 _ w.3 _ c.remaining.ensures.value _ _ c.in-Err-close.ensures)
 
 pub decode_inside-close-requires : goal.decode_inside-close-requires
 decode_inside-close-requires g t c = λ x.
-    let w = c.in-Ok.ensures.exact in
-    step_end (DecodesContents (shape_of_type c.args.types.now c.args.below) c.args.ty.now) c.args.header c.args.decoder.now _ _ _ c.in_ok-inner.ensures.exact _ _
+    let w = c.in-Ok-decode_contents.ensures.exact in
+    step_end (DecodesContents (shape_of_type c.args.types.now c.args.below) c.args.ty.now) c.args.header c.args.decoder.now _ _ _ c.in-Ok.ensures.exact _ _
     (contents_end (shape_of_type c.args.types.now c.args.below) c.args.ty.now _ w.0 _ w.3) c.remaining.ensures.value x
 
-pub decode_inside-returns-clause-exact : goal.decode_inside-returns-clause-exact
-decode_inside-returns-clause-exact g t c =
-    let w = c.in-Ok.ensures.exact in
-    (w.0, w.1, w.2, step_closed _ c.args.header c.args.decoder.now _ _ _ c.in_ok-inner.ensures.exact w.0 _ w.3 _ c.remaining.ensures.value _ c.in_ok-close.ensures)
+pub decode_inside-returns-in-Ok-close-clause-exact : goal.decode_inside-returns-in-Ok-close-clause-exact
+decode_inside-returns-in-Ok-close-clause-exact g t c =
+    let w = c.in-Ok-decode_contents.ensures.exact in
+    (w.0, w.1, w.2, step_closed _ c.args.header c.args.decoder.now _ _ _ c.in-Ok.ensures.exact w.0 _ w.3 _ c.remaining.ensures.value _ c.in-Ok-close.ensures)
 
-pub decode_inside-returns-in_err-inner-clause-rules : goal.decode_inside-returns-in_err-inner-clause-rules
-decode_inside-returns-in_err-inner-clause-rules g t c = rw (residual _ c.from_residual.ensures.1) (codec_is c.in_err-inner.ensures.exact.2)
+pub decode_inside-returns-in-Err-clause-rules : goal.decode_inside-returns-in-Err-clause-rules
+decode_inside-returns-in-Err-clause-rules g t c = (codec_is c.in-Err.ensures.exact.2)
 
-pub decode_list-returns-in_err-value-clause-exact : goal.decode_list-returns-in_err-value-clause-exact
-decode_list-returns-in_err-value-clause-exact g t c = rw (residual _ c.from_residual.ensures.1) (not_sized (DecodesContents (shape_of_type c.args.types.now c.args.below) c.args.ty.now) c.args.tag c.args.constraints.now c.list.result c.list.ensures c.args.decoder.now _ _ c.in_err-value.ensures.exact)
+pub decode_list-returns-in_err-decode_inside-clause-exact : goal.decode_list-returns-in_err-decode_inside-clause-exact
+decode_list-returns-in_err-decode_inside-clause-exact g t c = rw (residual _ c.from_residual.ensures.1) (not_sized (DecodesContents (shape_of_type c.args.types.now c.args.below) c.args.ty.now) c.args.tag c.args.constraints.now c.list.result c.list.ensures c.args.decoder.now _ _ c.in_err-decode_inside.ensures.exact)
 
 pub decode_list-decode_inside-requires : goal.decode_list-decode_inside-requires
 decode_list-decode_inside-requires g t c = λ κs o. (search rules, (search rules, (c.requires.lawful, (holds_others c.args.ty.now c.requires.elements, (refl, c.requires.clear)))))
 
 pub decode_list-returns-clause-exact : goal.decode_list-returns-clause-exact
 decode_list-returns-clause-exact g t c =
-    let w = c.in_ok-value.ensures.exact in
+    let w = c.in_ok-decode_inside.ensures.exact in
     (w.0, w.1, is_sized (DecodesContents (shape_of_type c.args.types.now c.args.below) c.args.ty.now) c.args.tag c.args.constraints.now c.list.result c.list.ensures c.args.decoder.now _ w.0 w.3 _ (is_counted c.args.ty.now _ w.0 c.requires.elements w.2) c.in_ok-check_size.ensures.sized)
 
 pub decode_list-returns-in_err-check_size-clause-itself : goal.decode_list-returns-in_err-check_size-clause-itself
 decode_list-returns-in_err-check_size-clause-itself g t c =
-    let w = c.in_ok-value.ensures.exact in
+    let w = c.in_ok-decode_inside.ensures.exact in
     rw (residual _ c.from_residual-in_err-check_size.ensures.1)
     (λ n. missized (ReadsEachPart (shape_of_type c.args.types.now c.args.below) c.args.ty.now) c.args.tag c.args.constraints.now c.list.result c.list.ensures c.args.decoder.now _ w.0
     (got_inside (DecodesContents (shape_of_type c.args.types.now c.args.below) c.args.ty.now) (ReadsEachPart (shape_of_type c.args.types.now c.args.below) c.args.ty.now) (λ o v n h. h) c.list.result c.args.decoder.now w.0 _ w.3) _ (is_counted c.args.ty.now _ w.0 c.requires.elements w.2) _ c.in_err-check_size.ensures.sized)
@@ -517,31 +516,31 @@ decode_list-returns-in_err-check_size-clause-itself g t c =
 pub decode_list-returns-in_err-check_size-clause-told : goal.decode_list-returns-in_err-check_size-clause-told
 decode_list-returns-in_err-check_size-clause-told g t c =
     rw (residual _ c.from_residual-in_err-check_size.ensures.1)
-    (unnamed {T = Value} (IsFaultInside c.args.types.now c.args.below (list_header c.args.tag) c.args.ty.now c.args.decoder.now) (Err c.in_err-check_size.field-0.0) _ c.in_ok-value.ensures.told)
+    (unnamed {T = Value} (IsFaultInside c.args.types.now c.args.below (list_header c.args.tag) c.args.ty.now c.args.decoder.now) (Err c.check_size.new.error) _ c.in_ok-decode_inside.ensures.told)
 
 pub decode_list-returns-in_err-check_size-clause-rules : goal.decode_list-returns-in_err-check_size-clause-rules
-decode_list-returns-in_err-check_size-clause-rules g t c = rw (residual _ c.from_residual-in_err-check_size.ensures.1) (c.in_err-check_size.ensures.rules ∙ same_rules c.in_ok-value.ensures.exact.3.0.stays)
+decode_list-returns-in_err-check_size-clause-rules g t c = rw (residual _ c.from_residual-in_err-check_size.ensures.1) (c.in_err-check_size.ensures.rules ∙ same_rules c.in_ok-decode_inside.ensures.exact.3.0.stays)
 
 pub decode_list-returns-in_err-check_size-clause-exact : goal.decode_list-returns-in_err-check_size-clause-exact
 decode_list-returns-in_err-check_size-clause-exact g t c =
-    let w = c.in_ok-value.ensures.exact in
+    let w = c.in_ok-decode_inside.ensures.exact in
     rw (residual _ c.from_residual-in_err-check_size.ensures.1)
     (missized (DecodesContents (shape_of_type c.args.types.now c.args.below) c.args.ty.now) c.args.tag c.args.constraints.now c.list.result c.list.ensures c.args.decoder.now _ w.0 w.3 _ (is_counted c.args.ty.now _ w.0 c.requires.elements w.2) _ c.in_err-check_size.ensures.sized)
 
 pub decode_list-returns-clause-fits : goal.decode_list-returns-clause-fits
-decode_list-returns-clause-fits g t c = c.in_ok-value.ensures.fits
+decode_list-returns-clause-fits g t c = c.in_ok-decode_inside.ensures.fits
 
 pub decode_type-returns-in-Any-clause-exact : goal.decode_type-returns-in-Any-clause-exact
-decode_type-returns-in-Any-clause-exact g t c = rw c.in-Any.is (made_of_value _ _ c.args.decoder.now c.decode_any_value.result _ c.decode_any_value.ensures.reads)
+decode_type-returns-in-Any-clause-exact g t c = rw c.in-Any.is c.put_any.ensures.reads
 
 pub decode_type-returns-in-Unknown-clause-exact : goal.decode_type-returns-in-Unknown-clause-exact
-decode_type-returns-in-Unknown-clause-exact g t c = rw c.in-Unknown.is c.decode_unknown_values.ensures.reads
+decode_type-returns-in-Unknown-clause-exact g t c = rw c.in-Unknown.is c.put_unknown.ensures.reads
 
 pub decode_type-returns-in-Unknown-clause-fits : goal.decode_type-returns-in-Unknown-clause-fits
-decode_type-returns-in-Unknown-clause-fits g t c = λ k. rw c.in-Unknown.is (c.decode_unknown_values.ensures.fits k)
+decode_type-returns-in-Unknown-clause-fits g t c = λ k. rw c.in-Unknown.is (c.put_unknown.ensures.fits k)
 
 pub decode_type-returns-in-Unknown-clause-reads : goal.decode_type-returns-in-Unknown-clause-reads
-decode_type-returns-in-Unknown-clause-reads g t c = rw c.in-Unknown.is c.decode_unknown_values.ensures.reads
+decode_type-returns-in-Unknown-clause-reads g t c = rw c.in-Unknown.is c.put_unknown.ensures.reads
 
 pub decode_type-returns-in-Unknown-clause-itself : goal.decode_type-returns-in-Unknown-clause-itself
 decode_type-returns-in-Unknown-clause-itself g t c =
@@ -552,46 +551,46 @@ decode_type-returns-in-Unknown-clause-listed g t c = if_any _ (none_listed (shap
 
 pub decode_type-returns-in-Choice-clause-exact : goal.decode_type-returns-in-Choice-clause-exact
 decode_type-returns-in-Choice-clause-exact g t c =
-    choice_exact (shape_of_type c.args.types.now c.args.below) c.args.ty.now _ c.args.decoder.now c.decode_choice.result _ c.in-Choice.name c.in-Choice.alternatives c.deref-in-Choice.result.now c.as_str.result.now c.in-Choice.is c.deref-in-Choice.ensures.value c.as_str.ensures.value c.decode_choice.ensures.reads c.decode_choice.ensures.unknown
+    choice_exact (shape_of_type c.args.types.now c.args.below) c.args.ty.now _ c.args.decoder.now (outcome c.decode_choice.result c.decode_choice.new.out c.decode_choice.new.walk.error) _ c.in-Choice.name c.in-Choice.alternatives c.deref-in-Choice.result.now c.as_str.result.now c.in-Choice.is c.deref-in-Choice.ensures.value c.as_str.ensures.value c.decode_choice.ensures.reads c.decode_choice.ensures.unknown
 
 pub decode_type-returns-in-Choice-clause-fits : goal.decode_type-returns-in-Choice-clause-fits
 decode_type-returns-in-Choice-clause-fits g t c = λ k. rw (c.in-Choice.is, ← c.deref-in-Choice.ensures.value) (c.decode_choice.ensures.fits k)
 
 pub decode_type-returns-in-Any-clause-fits : goal.decode_type-returns-in-Any-clause-fits
-decode_type-returns-in-Any-clause-fits g t c = λ k. rw c.in-Any.is c.decode_any_value.ensures.fits
+decode_type-returns-in-Any-clause-fits g t c = λ k. rw c.in-Any.is (c.put_any.ensures.fits k)
 
 pub decode_type-returns-in-Enumerated-clause-fits : goal.decode_type-returns-in-Enumerated-clause-fits
 decode_type-returns-in-Enumerated-clause-fits g t c = λ k.
-    rw c.in-Enumerated.is (subst (λ l. IfOk c.decode_number.result (λ v. IsNumber (numbers_of l) v)) c.deref.ensures.value c.decode_number.ensures.fits)
+    rw c.in-Enumerated.is (subst (λ l. IfOk (outcome c.put_number.result c.put_number.new.out c.put_number.new.error) (λ v. IsNumber (numbers_of l) v)) c.deref.ensures.value (c.put_number.ensures.fits k))
 
 pub decode_type-returns-in-Leaf-clause-fits : goal.decode_type-returns-in-Leaf-clause-fits
-decode_type-returns-in-Leaf-clause-fits g t c = λ k. rw c.in-Leaf.is (c.leaf_value.ensures.fits k)
+decode_type-returns-in-Leaf-clause-fits g t c = λ k. rw c.in-Leaf.is (c.put_leaf.ensures.fits k)
 
 pub decode_type-returns-in-Choice-clause-reads : goal.decode_type-returns-in-Choice-clause-reads
 decode_type-returns-in-Choice-clause-reads g t c = rw (c.in-Choice.is, ← c.deref-in-Choice.ensures.value) c.decode_choice.ensures.reads
 
 pub decode_type-returns-in-Any-clause-reads : goal.decode_type-returns-in-Any-clause-reads
-decode_type-returns-in-Any-clause-reads g t c = rw c.in-Any.is (made_of_value _ _ c.args.decoder.now c.decode_any_value.result _ c.decode_any_value.ensures.reads)
+decode_type-returns-in-Any-clause-reads g t c = rw c.in-Any.is c.put_any.ensures.reads
 
 pub decode_type-returns-in-Enumerated-clause-exact : goal.decode_type-returns-in-Enumerated-clause-exact
 decode_type-returns-in-Enumerated-clause-exact g t c =
-    rw (c.in-Enumerated.is, ← c.deref.ensures.value) (made_of_value _ _ c.args.decoder.now c.decode_number.result _ c.decode_number.ensures.reads)
+    rw (c.in-Enumerated.is, ← c.deref.ensures.value) c.put_number.ensures.reads
 
 pub decode_type-returns-in-Enumerated-clause-reads : goal.decode_type-returns-in-Enumerated-clause-reads
 decode_type-returns-in-Enumerated-clause-reads g t c =
-    rw (c.in-Enumerated.is, ← c.deref.ensures.value) (made_of_value _ _ c.args.decoder.now c.decode_number.result _ c.decode_number.ensures.reads)
+    rw (c.in-Enumerated.is, ← c.deref.ensures.value) c.put_number.ensures.reads
 
 pub decode_type-returns-in-Leaf-clause-exact : goal.decode_type-returns-in-Leaf-clause-exact
-decode_type-returns-in-Leaf-clause-exact g t c = rw c.in-Leaf.is c.leaf_value.ensures.reads
+decode_type-returns-in-Leaf-clause-exact g t c = rw c.in-Leaf.is c.put_leaf.ensures.reads
 
 pub decode_type-returns-in-Leaf-clause-reads : goal.decode_type-returns-in-Leaf-clause-reads
-decode_type-returns-in-Leaf-clause-reads g t c = rw c.in-Leaf.is c.leaf_value.ensures.reads
+decode_type-returns-in-Leaf-clause-reads g t c = rw c.in-Leaf.is c.put_leaf.ensures.reads
 
-pub decode_inside-returns-in-Err-clause-rules : goal.decode_inside-returns-in-Err-clause-rules
-decode_inside-returns-in-Err-clause-rules g t c = (c.in-Err.ensures.rules ∙ same_rules c.in_ok-inner.ensures.exact.2)
+pub decode_inside-returns-in-Err-decode_contents-clause-rules : goal.decode_inside-returns-in-Err-decode_contents-clause-rules
+decode_inside-returns-in-Err-decode_contents-clause-rules g t c = (c.in-Err-decode_contents.ensures.rules ∙ same_rules c.in-Ok.ensures.exact.2)
 
-pub decode_inside-returns-in_err-close-clause-rules : goal.decode_inside-returns-in_err-close-clause-rules
-decode_inside-returns-in_err-close-clause-rules g t c = rw (residual _ c.from_residual-in_err-close.ensures.1) (codec_is c.in_err-close.ensures.2 ∙ same_rules c.in_ok-inner.ensures.exact.5.stays)
+pub decode_inside-returns-in-Err-close-clause-rules : goal.decode_inside-returns-in-Err-close-clause-rules
+decode_inside-returns-in-Err-close-clause-rules g t c = (codec_is c.in-Err-close.ensures.2 ∙ same_rules c.in-Ok.ensures.exact.5.stays)
 
 -- ---- a type
 
@@ -671,17 +670,17 @@ decode_component-returns-in-Ok-true-clause-reads g t c =
 pub decode_component-returns-in-Ok-true-clause-fits : goal.decode_component-returns-in-Ok-true-clause-fits
 decode_component-returns-in-Ok-true-clause-fits g t c = if_kept _ _ _ _ (λ v h. inr h) c.decode_present-in-Ok-true.ensures.fits
 
-pub decode_component-missing-requires : goal.decode_component-missing-requires
-decode_component-missing-requires g t c = not_required c.args.component.now.presence c.if-is_always_there.ensures
+pub decode_component-put_missing-requires : goal.decode_component-put_missing-requires
+decode_component-put_missing-requires g t c = not_required c.args.component.now.presence c.if-is_always_there.ensures
 
 pub decode_component-returns-in-Ok-false-clause-reads : goal.decode_component-returns-in-Ok-false-clause-reads
-decode_component-returns-in-Ok-false-clause-reads g t c = made ((shape_of_type c.args.types.now c.args.below) c.args.component.now.type_id.0) _ _ (presence_in (shape_of_type c.args.types.now c.args.below) c.args.component.now) (λ a. c.if-is_always_there.ensures (always_by (key_of ((shape_of_type c.args.types.now c.args.below) c.args.component.now.type_id.0)) own_tag c.args.component.now.presence a)) (let w = c.in-Ok-false.field-0-test in let h : c.in-Ok-false.field-0 ≡ false = cc in next_of (key_of ((shape_of_type c.args.types.now c.args.below) c.args.component.now.type_id.0)) ((shape_of_type c.args.types.now c.args.below) c.args.component.now.type_id.0) c.args.component.now.presence c.args.decoder.now (Ok false) c.if-is_always_there.ensures (subst (λ b. NextIs (sought_by (key_of ((shape_of_type c.args.types.now c.args.below) c.args.component.now.type_id.0)) ((shape_of_type c.args.types.now c.args.below) c.args.component.now.type_id.0)) c.args.decoder.now (Ok b)) h c.in-Ok-false.ensures)) _ (made_of _ (key_of ((shape_of_type c.args.types.now c.args.below) c.args.component.now.type_id.0)) c.args.component.now.presence c.args.decoder.now _ c.missing.ensures.made)
+decode_component-returns-in-Ok-false-clause-reads g t c = made ((shape_of_type c.args.types.now c.args.below) c.args.component.now.type_id.0) _ _ (presence_in (shape_of_type c.args.types.now c.args.below) c.args.component.now) (λ a. c.if-is_always_there.ensures (always_by (key_of ((shape_of_type c.args.types.now c.args.below) c.args.component.now.type_id.0)) own_tag c.args.component.now.presence a)) (let w = c.in-Ok-false.field-0-test in let h : c.in-Ok-false.field-0 ≡ false = cc in next_of (key_of ((shape_of_type c.args.types.now c.args.below) c.args.component.now.type_id.0)) ((shape_of_type c.args.types.now c.args.below) c.args.component.now.type_id.0) c.args.component.now.presence c.args.decoder.now (Ok false) c.if-is_always_there.ensures (subst (λ b. NextIs (sought_by (key_of ((shape_of_type c.args.types.now c.args.below) c.args.component.now.type_id.0)) ((shape_of_type c.args.types.now c.args.below) c.args.component.now.type_id.0)) c.args.decoder.now (Ok b)) h c.in-Ok-false.ensures)) _ (made_of _ (key_of ((shape_of_type c.args.types.now c.args.below) c.args.component.now.type_id.0)) c.args.component.now.presence c.args.decoder.now _ c.put_missing.ensures.made)
 
 pub decode_component-returns-in-Ok-false-clause-fits : goal.decode_component-returns-in-Ok-false-clause-fits
-decode_component-returns-in-Ok-false-clause-fits g t c = λ k. made_fits (Fits c.args.types.now c.args.below) _ k c.args.component.now c.args.decoder.now _ c.missing.ensures.made
+decode_component-returns-in-Ok-false-clause-fits g t c = λ k. made_fits (Fits c.args.types.now c.args.below) _ k c.args.component.now c.args.decoder.now _ c.put_missing.ensures.made
 
 pub decode_component-returns-in-Err-clause-reads : goal.decode_component-returns-in-Err-clause-reads
-decode_component-returns-in-Err-clause-reads g t c = unread ((shape_of_type c.args.types.now c.args.below) c.args.component.now.type_id.0) _ (presence_in (shape_of_type c.args.types.now c.args.below) c.args.component.now) (λ a. c.if-is_always_there.ensures (always_by (key_of ((shape_of_type c.args.types.now c.args.below) c.args.component.now.type_id.0)) own_tag c.args.component.now.presence a)) c.in-Err.error (next_of (key_of ((shape_of_type c.args.types.now c.args.below) c.args.component.now.type_id.0)) ((shape_of_type c.args.types.now c.args.below) c.args.component.now.type_id.0) c.args.component.now.presence c.args.decoder.now (Err c.in-Err.error) c.if-is_always_there.ensures c.in-Err.ensures)
+decode_component-returns-in-Err-clause-reads g t c = unread ((shape_of_type c.args.types.now c.args.below) c.args.component.now.type_id.0) _ (presence_in (shape_of_type c.args.types.now c.args.below) c.args.component.now) (λ a. c.if-is_always_there.ensures (always_by (key_of ((shape_of_type c.args.types.now c.args.below) c.args.component.now.type_id.0)) own_tag c.args.component.now.presence a)) c.follows.new.error (next_of (key_of ((shape_of_type c.args.types.now c.args.below) c.args.component.now.type_id.0)) ((shape_of_type c.args.types.now c.args.below) c.args.component.now.type_id.0) c.args.component.now.presence c.args.decoder.now (Err c.follows.new.error) c.if-is_always_there.ensures c.in-Err.ensures)
 
 pub decode_component-returns-then-is_always_there-clause-fails : goal.decode_component-returns-then-is_always_there-clause-fails
 decode_component-returns-then-is_always_there-clause-fails g t c =
@@ -692,10 +691,10 @@ decode_component-returns-in-Ok-true-clause-fails g t c =
     made_fails_as _ tree_of (DecodesPresent (presence_in (shape_of_type c.args.types.now c.args.below) c.args.component.now) ((shape_of_type c.args.types.now c.args.below) c.args.component.now.type_id.0)) c.args.decoder.now _ _ (λ q h. looked_fails ((shape_of_type c.args.types.now c.args.below) c.args.component.now.type_id.0) _ (presence_in (shape_of_type c.args.types.now c.args.below) c.args.component.now) (λ a. c.if-is_always_there.ensures (always_by (key_of ((shape_of_type c.args.types.now c.args.below) c.args.component.now.type_id.0)) own_tag c.args.component.now.presence a)) (let w = c.in-Ok-true.field-0-test in let h : c.in-Ok-true.field-0 ≡ true = cc in next_of (key_of ((shape_of_type c.args.types.now c.args.below) c.args.component.now.type_id.0)) ((shape_of_type c.args.types.now c.args.below) c.args.component.now.type_id.0) c.args.component.now.presence c.args.decoder.now (Ok true) c.if-is_always_there.ensures (subst (λ b. NextIs (sought_by (key_of ((shape_of_type c.args.types.now c.args.below) c.args.component.now.type_id.0)) ((shape_of_type c.args.types.now c.args.below) c.args.component.now.type_id.0)) c.args.decoder.now (Ok b)) h c.in-Ok-true.ensures)) q _ h) c.decode_present-in-Ok-true.ensures.reads
 
 pub decode_component-returns-in-Ok-false-clause-fails : goal.decode_component-returns-in-Ok-false-clause-fails
-decode_component-returns-in-Ok-false-clause-fails g t c = made_fails ((shape_of_type c.args.types.now c.args.below) c.args.component.now.type_id.0) _ _ (presence_in (shape_of_type c.args.types.now c.args.below) c.args.component.now) (λ a. c.if-is_always_there.ensures (always_by (key_of ((shape_of_type c.args.types.now c.args.below) c.args.component.now.type_id.0)) own_tag c.args.component.now.presence a)) (let w = c.in-Ok-false.field-0-test in let h : c.in-Ok-false.field-0 ≡ false = cc in next_of (key_of ((shape_of_type c.args.types.now c.args.below) c.args.component.now.type_id.0)) ((shape_of_type c.args.types.now c.args.below) c.args.component.now.type_id.0) c.args.component.now.presence c.args.decoder.now (Ok false) c.if-is_always_there.ensures (subst (λ b. NextIs (sought_by (key_of ((shape_of_type c.args.types.now c.args.below) c.args.component.now.type_id.0)) ((shape_of_type c.args.types.now c.args.below) c.args.component.now.type_id.0)) c.args.decoder.now (Ok b)) h c.in-Ok-false.ensures)) _ (made_of _ (key_of ((shape_of_type c.args.types.now c.args.below) c.args.component.now.type_id.0)) c.args.component.now.presence c.args.decoder.now _ c.missing.ensures.made)
+decode_component-returns-in-Ok-false-clause-fails g t c = made_fails ((shape_of_type c.args.types.now c.args.below) c.args.component.now.type_id.0) _ _ (presence_in (shape_of_type c.args.types.now c.args.below) c.args.component.now) (λ a. c.if-is_always_there.ensures (always_by (key_of ((shape_of_type c.args.types.now c.args.below) c.args.component.now.type_id.0)) own_tag c.args.component.now.presence a)) (let w = c.in-Ok-false.field-0-test in let h : c.in-Ok-false.field-0 ≡ false = cc in next_of (key_of ((shape_of_type c.args.types.now c.args.below) c.args.component.now.type_id.0)) ((shape_of_type c.args.types.now c.args.below) c.args.component.now.type_id.0) c.args.component.now.presence c.args.decoder.now (Ok false) c.if-is_always_there.ensures (subst (λ b. NextIs (sought_by (key_of ((shape_of_type c.args.types.now c.args.below) c.args.component.now.type_id.0)) ((shape_of_type c.args.types.now c.args.below) c.args.component.now.type_id.0)) c.args.decoder.now (Ok b)) h c.in-Ok-false.ensures)) _ (made_of _ (key_of ((shape_of_type c.args.types.now c.args.below) c.args.component.now.type_id.0)) c.args.component.now.presence c.args.decoder.now _ c.put_missing.ensures.made)
 
 pub decode_component-returns-in-Err-clause-fails : goal.decode_component-returns-in-Err-clause-fails
-decode_component-returns-in-Err-clause-fails g t c = unread_fails ((shape_of_type c.args.types.now c.args.below) c.args.component.now.type_id.0) _ (presence_in (shape_of_type c.args.types.now c.args.below) c.args.component.now) (λ a. c.if-is_always_there.ensures (always_by (key_of ((shape_of_type c.args.types.now c.args.below) c.args.component.now.type_id.0)) own_tag c.args.component.now.presence a)) c.in-Err.error (next_of (key_of ((shape_of_type c.args.types.now c.args.below) c.args.component.now.type_id.0)) ((shape_of_type c.args.types.now c.args.below) c.args.component.now.type_id.0) c.args.component.now.presence c.args.decoder.now (Err c.in-Err.error) c.if-is_always_there.ensures c.in-Err.ensures)
+decode_component-returns-in-Err-clause-fails g t c = unread_fails ((shape_of_type c.args.types.now c.args.below) c.args.component.now.type_id.0) _ (presence_in (shape_of_type c.args.types.now c.args.below) c.args.component.now) (λ a. c.if-is_always_there.ensures (always_by (key_of ((shape_of_type c.args.types.now c.args.below) c.args.component.now.type_id.0)) own_tag c.args.component.now.presence a)) c.follows.new.error (next_of (key_of ((shape_of_type c.args.types.now c.args.below) c.args.component.now.type_id.0)) ((shape_of_type c.args.types.now c.args.below) c.args.component.now.type_id.0) c.args.component.now.presence c.args.decoder.now (Err c.follows.new.error) c.if-is_always_there.ensures c.in-Err.ensures)
 
 pub decode_component-returns-in-Err-clause-rules : goal.decode_component-returns-in-Err-clause-rules
 decode_component-returns-in-Err-clause-rules g t c = look_rules (sought_by (key_of ((shape_of_type c.args.types.now c.args.below) c.args.component.now.type_id.0)) ((shape_of_type c.args.types.now c.args.below) c.args.component.now.type_id.0)) c.args.decoder.now _ c.in-Err.ensures
@@ -704,8 +703,8 @@ pub decode_present-returns-in_default-clause-reads : goal.decode_present-returns
 decode_present-returns-in_default-clause-reads g t c =
     made_as _ tree_of (DecodesTree ((shape_of_type c.args.types.now c.args.below) c.args.component.now.type_id.0)) (DecodesPresent (presence_in (shape_of_type c.args.types.now c.args.below) c.args.component.now) ((shape_of_type c.args.types.now c.args.below) c.args.component.now.type_id.0)) c.args.decoder.now _ _ (λ r h. plain (key_of ((shape_of_type c.args.types.now c.args.below) c.args.component.now.type_id.0)) ((shape_of_type c.args.types.now c.args.below) c.args.component.now.type_id.0) c.args.component.now.presence _ _ c.in_default.not-Default r h) c.decode_part.ensures.reads
 
-pub decode_present-returns-in_err-value-clause-reads : goal.decode_present-returns-in_err-value-clause-reads
-decode_present-returns-in_err-value-clause-reads g t c = rw (residual _ c.from_residual.ensures.1) (inl c.in_err-value.ensures.reads)
+pub decode_present-returns-in_err-decode_compared-clause-reads : goal.decode_present-returns-in_err-decode_compared-clause-reads
+decode_present-returns-in_err-decode_compared-clause-reads g t c = rw (residual _ c.from_residual.ensures.1) (inl c.in_err-decode_compared.ensures.reads)
 
 pub decode_present-returns-then-not-is_strict-clause-reads : goal.decode_present-returns-then-not-is_strict-clause-reads
 decode_present-returns-then-not-is_strict-clause-reads g t c =
@@ -719,19 +718,19 @@ decode_present-returns-then-not-is_strict-clause-told g t c = tells _ _ (λ k f 
 
 pub decode_present-returns-then-means_same-clause-reads : goal.decode_present-returns-then-means_same-clause-reads
 decode_present-returns-then-means_same-clause-reads g t c =
-    let w = c.in_ok-value.ensures.reads in
-    default_is_written (key_of ((shape_of_type c.args.types.now c.args.below) c.args.component.now.type_id.0)) ((shape_of_type c.args.types.now c.args.below) c.args.component.now.type_id.0) c.args.component.now.presence c.in-Default.default c.in-Default.is _ _ w.0 w.2 c.if-not-is_strict.ensures (subst (λ z. Same z (tree_of c.in-Default.default)) (w.1 refl) (c.means_same.ensures.same c.if-means_same.true)) c.default_present.result c.default_present.ensures
+    let w = c.in_ok-decode_compared.ensures.reads in
+    default_is_written (key_of ((shape_of_type c.args.types.now c.args.below) c.args.component.now.type_id.0)) ((shape_of_type c.args.types.now c.args.below) c.args.component.now.type_id.0) c.args.component.now.presence c.in-Default.default c.in-Default.is _ _ w.0 w.2 c.if-not-is_strict.ensures (subst (λ z. Same z (tree_of c.in-Default.default)) (w.1 refl) (c.means_same.ensures.same c.if-means_same.true)) c.refuse_default.new.error c.refuse_default.ensures
 
 pub decode_present-returns-then-means_same-clause-rules : goal.decode_present-returns-then-means_same-clause-rules
-decode_present-returns-then-means_same-clause-rules g t c = codec_is c.default_present.ensures ∙ same_rules c.in_ok-value.ensures.reads.2.stays
+decode_present-returns-then-means_same-clause-rules g t c = codec_is c.refuse_default.ensures ∙ same_rules c.in_ok-decode_compared.ensures.reads.2.stays
 
 pub decode_present-returns-clause-reads : goal.decode_present-returns-clause-reads
 decode_present-returns-clause-reads g t c =
-    let w = c.in_ok-value.ensures.reads in
+    let w = c.in_ok-decode_compared.ensures.reads in
     (w.0, (λ k. w.1 refl), differs (key_of ((shape_of_type c.args.types.now c.args.below) c.args.component.now.type_id.0)) ((shape_of_type c.args.types.now c.args.below) c.args.component.now.type_id.0) c.args.component.now.presence c.in-Default.default c.in-Default.is _ _ w.0 w.2 (λ s. let h = c.means_same.ensures.equal (subst (λ z. Same z (tree_of c.in-Default.default)) (sym (w.1 refl)) s) in let f = c.if-means_same.false in cc))
 
 pub decode_present-returns-clause-fits : goal.decode_present-returns-clause-fits
-decode_present-returns-clause-fits g t c = λ k. c.in_ok-value.ensures.fits
+decode_present-returns-clause-fits g t c = λ k. c.in_ok-decode_compared.ensures.fits
 
 -- ---- a part that has to be compared
 
@@ -742,31 +741,31 @@ pub decode_compared-returns-in-None-clause-reads : goal.decode_compared-returns-
 decode_compared-returns-in-None-clause-reads g t c =
     let w = c.in-None.ensures.reads in
     let s = shape_of_type c.args.types.now c.args.levels c.args.id.0 in
-    subst (λ k. Making k tree_of (DecodesTree s) c.args.decoder.now c.decode_part.result c.decode_part.new.decoder) w.0 (subst (λ z. Making g.M.Made.KEEP tree_of (DecodesTree s) z c.decode_part.result c.decode_part.new.decoder) w.1 c.decode_part.ensures.reads)
+    subst (λ k. Making k tree_of (DecodesTree s) c.args.decoder.now (outcome c.decode_part.result c.decode_part.new.out c.decode_part.new.walk.error) c.decode_part.new.decoder) w.0 (subst (λ z. Making g.M.Made.KEEP tree_of (DecodesTree s) z (outcome c.decode_part.result c.decode_part.new.out c.decode_part.new.walk.error) c.decode_part.new.decoder) w.1 c.decode_part.ensures.reads)
 
 pub decode_compared-returns-in-None-clause-fits : goal.decode_compared-returns-in-None-clause-fits
 decode_compared-returns-in-None-clause-fits g t c = c.decode_part.ensures.fits c.in-None.ensures.reads.0
 
 pub decode_compared-returns-in-None-clause-rules : goal.decode_compared-returns-in-None-clause-rules
-decode_compared-returns-in-None-clause-rules g t c = subst (λ (z : State). IfErr c.decode_part.result (λ e. e.codec ≡ z.rule)) c.in-None.ensures.reads.1 c.decode_part.ensures.rules
+decode_compared-returns-in-None-clause-rules g t c = subst (λ (z : State). IfErr (outcome c.decode_part.result c.decode_part.new.out c.decode_part.new.walk.error) (λ e. e.codec ≡ z.rule)) c.in-None.ensures.reads.1 c.decode_part.ensures.rules
 
 pub decode_compared-returns-in-None-clause-told : goal.decode_compared-returns-in-None-clause-told
-decode_compared-returns-in-None-clause-told g t c = subst (λ (z : State). TellsOf (IsFaultIn c.args.types.now c.args.levels (IsOnly c.args.index c.args.id.0 z) z z) c.decode_part.result c.decode_part.new.trace) c.in-None.ensures.reads.1 c.decode_part.ensures.told
+decode_compared-returns-in-None-clause-told g t c = subst (λ (z : State). TellsOf (IsFaultIn c.args.types.now c.args.levels (IsOnly c.args.index c.args.id.0 z) z z) (outcome c.decode_part.result c.decode_part.new.out c.decode_part.new.walk.error) c.decode_part.new.walk.fault) c.in-None.ensures.reads.1 c.decode_part.ensures.told
 
 -- ---- the components of a SEQUENCE
 
 pub decode_sequence-returns-then-leaves_all_out-clause-reads : goal.decode_sequence-returns-then-leaves_all_out-clause-reads
 decode_sequence-returns-then-leaves_all_out-clause-reads g t c =
-    all_left_read (shape_of_type c.args.types.now c.args.below) c.args.components.now c.args.decoder.now _ c.if-leaves_all_out.ensures _ c.all_absent.ensures.settled c.all_absent.ensures.memory
+    all_left_read (shape_of_type c.args.types.now c.args.below) c.args.components.now c.args.decoder.now _ c.if-leaves_all_out.ensures _ c.leave_all_out.ensures.settled c.leave_all_out.ensures.memory
 
 pub decode_sequence-returns-in_err-values-clause-reads : goal.decode_sequence-returns-in_err-values-clause-reads
-decode_sequence-returns-in_err-values-clause-reads g t c = rw (residual _ c.from_residual.ensures.1) (sequence_runs_out _ _ c.in_err-values.field-0.0 c.in_err-values.ensures.kind)
+decode_sequence-returns-in_err-values-clause-reads g t c = rw (residual _ c.from_residual.ensures.1) (sequence_runs_out _ _ c.list_for.new.error c.in_err-values.ensures.kind)
 
-pub decode_sequence-all_absent-requires : goal.decode_sequence-all_absent-requires
-decode_sequence-all_absent-requires g t c = c.if-leaves_all_out.ensures.0
+pub decode_sequence-leave_all_out-requires : goal.decode_sequence-leave_all_out-requires
+decode_sequence-leave_all_out-requires g t c = c.if-leaves_all_out.ensures.0
 
 pub decode_sequence-returns-then-leaves_all_out-clause-fits : goal.decode_sequence-returns-then-leaves_all_out-clause-fits
-decode_sequence-returns-then-leaves_all_out-clause-fits g t c = λ k. all_left_fit (Fits c.args.types.now c.args.below) c.args.components.now _ (c.all_absent.ensures.settled k)
+decode_sequence-returns-then-leaves_all_out-clause-fits g t c = λ k. all_left_fit (Fits c.args.types.now c.args.below) c.args.components.now _ (c.leave_all_out.ensures.settled k)
 
 pub decode_sequence-loop-rest-init : goal.decode_sequence-loop-rest-init
 decode_sequence-loop-rest-init g t c = rw c.in_ok-values.ensures.ok (([], (λ k. refl), parts_start _ _), c.requires.lawful, (λ k us h. h), c.requires.clear, [], refl, refl, lists_start (λ b. ComponentAt (shape_of_type c.args.types.now c.args.below) c.args.below (Inside c.args.types.now c.args.below) c.args.components.now b) _ c.args.decoder.now _ refl)
@@ -777,39 +776,39 @@ decode_sequence-overflow_sub-index g t c =
     let len : length c.args.components.now ≡ length k.4 + length c.loop-rest.rest.now = ap length k.5 ∙ length-append k.4 c.loop-rest.rest.now in
     omega (arith, len)
 
-pub decode_sequence-returns-in_err-value-clause-reads : goal.decode_sequence-returns-in_err-value-clause-reads
-decode_sequence-returns-in_err-value-clause-reads g t c =
-    rw (residual _ c.from_residual-in_err-value.ensures.1)
+pub decode_sequence-returns-in_err-decode_component-clause-reads : goal.decode_sequence-returns-in_err-decode_component-clause-reads
+decode_sequence-returns-in_err-decode_component-clause-reads g t c =
+    rw (residual _ c.from_residual-in_err-decode_component.ensures.1)
     (in_turn (shape_of_type c.args.types.now c.args.below) c.args.components.now c.args.decoder.now c.if-leaves_all_out.ensures _ _
-    (part_fails _ _ _ (presence_in (shape_of_type c.args.types.now c.args.below) c.component-item.result) ((shape_of_type c.args.types.now c.args.below) c.component-item.result.type_id.0) _ _ _ c.loop-rest.invariant.0.2 (ap (components_by (shape_of_type c.args.types.now c.args.below)) (split c.loop-rest.rest.now _ c.in-len1-up.len_at_least c.component-item.is)) _ _ c.in_err-value.ensures.reads))
+    (part_fails _ _ _ (presence_in (shape_of_type c.args.types.now c.args.below) c.component-item.result) ((shape_of_type c.args.types.now c.args.below) c.component-item.result.type_id.0) _ _ _ c.loop-rest.invariant.0.2 (ap (components_by (shape_of_type c.args.types.now c.args.below)) (split c.loop-rest.rest.now _ c.in-len1-up.len_at_least c.component-item.is)) _ _ c.in_err-decode_component.ensures.reads))
 
-pub decode_sequence-returns-in_err-push-clause-reads : goal.decode_sequence-returns-in_err-push-clause-reads
-decode_sequence-returns-in_err-push-clause-reads g t c =
-    rw (residual _ c.from_residual-in_err-push.ensures.1)
+pub decode_sequence-returns-in_err-append-clause-reads : goal.decode_sequence-returns-in_err-append-clause-reads
+decode_sequence-returns-in_err-append-clause-reads g t c =
+    rw (residual _ c.from_residual-in_err-append.ensures.1)
     (in_turn (shape_of_type c.args.types.now c.args.below) c.args.components.now c.args.decoder.now c.if-leaves_all_out.ensures _ _
-    (parts_run_out _ _ _ _ _ _ c.loop-rest.invariant.0.2 (record { stays = c.in_ok-value.ensures.reads.2.stays; end = c.in_ok-value.ensures.reads.2.end }) c.in_err-push.field-0.0 c.in_err-push.ensures.kind))
+    (parts_run_out _ _ _ _ _ _ c.loop-rest.invariant.0.2 (record { stays = c.in_ok-decode_component.ensures.reads.2.stays; end = c.in_ok-decode_component.ensures.reads.2.end }) c.append.new.error c.in_err-append.ensures.kind))
 
 pub decode_sequence-loop-rest-preserved : goal.decode_sequence-loop-rest-preserved
 decode_sequence-loop-rest-preserved g t c =
     let at = split c.loop-rest.rest.now _ c.in-len1-up.len_at_least c.component-item.is in
     let e = ap (components_by (shape_of_type c.args.types.now c.args.below)) at in
     let i = c.loop-rest.invariant.0 in
-    let w = c.in_ok-value.ensures.reads in (
+    let w = c.in_ok-decode_component.ensures.reads in (
       (
         i.0 ++ w.0 ∷ [],
-        one_made _ c.loop-rest.values.items _ i.0 c.in_ok-value.value w.0 i.1 w.1 c.in_ok-push.ensures.ok,
+        one_made _ c.loop-rest.values.items _ i.0 c.decode_component.new.out w.0 i.1 w.1 c.in_ok-append.ensures.ok,
         parts_more _ _ _ (presence_in (shape_of_type c.args.types.now c.args.below) c.component-item.result) ((shape_of_type c.args.types.now c.args.below) c.component-item.result.type_id.0) _ _ _ i.2 e w.0 _ _ refl w.2,
       ),
       (subst AreReadable e c.loop-rest.invariant.1).1,
-      (λ k. fit_more (Fits c.args.types.now c.args.below) _ _ _ c.component-item.result c.loop-rest.values.items _ c.in_ok-value.value (c.loop-rest.invariant.2 k) at (c.in_ok-push.ensures.ok k) (c.in_ok-value.ensures.fits k)),
-      c.in_ok-value.ensures.told,
+      (λ k. fit_more (Fits c.args.types.now c.args.below) _ _ _ c.component-item.result c.loop-rest.values.items _ c.decode_component.new.out (c.loop-rest.invariant.2 k) at (c.in_ok-append.ensures.ok k) (c.in_ok-decode_component.ensures.fits k)),
+      c.in_ok-decode_component.ensures.told,
       c.loop-rest.invariant.4 ++ c.component-item.result ∷ [],
       c.loop-rest.invariant.5 ∙ ap (λ l. c.loop-rest.invariant.4 ++ l) at ∙ sym (append_assoc c.loop-rest.invariant.4 (c.component-item.result ∷ []) _),
       one_part_more (shape_of_type c.args.types.now c.args.below) c.loop-rest.invariant.4 c.component-item.result c.args.decoder.now c.loop-rest.decoder _ w.0 c.loop-rest.invariant.6 w.2,
       component_more (shape_of_type c.args.types.now c.args.below) c.args.below (Inside c.args.types.now c.args.below) c.args.components.now c.loop-rest.invariant.4 _ c.component-item.result (length c.args.components.now - length c.loop-rest.rest.now) c.args.decoder.now c.loop-rest.decoder _ _ _ _
           (c.loop-rest.invariant.5 ∙ ap (λ z. c.loop-rest.invariant.4 ++ z) at)
           (let len : length c.args.components.now ≡ length c.loop-rest.invariant.4 + length c.loop-rest.rest.now = ap length c.loop-rest.invariant.5 ∙ length-append c.loop-rest.invariant.4 c.loop-rest.rest.now in omega (arith, len))
-          c.loop-rest.invariant.7 c.in_ok-value.ensures.listed,
+          c.loop-rest.invariant.7 c.in_ok-decode_component.ensures.listed,
     )
 
 pub decode_sequence-returns-clause-reads : goal.decode_sequence-returns-clause-reads
@@ -824,7 +823,7 @@ pub decode_sequence-returns-clause-fits : goal.decode_sequence-returns-clause-fi
 decode_sequence-returns-clause-fits g t c = λ k. fit_end (Fits c.args.types.now c.args.below) _ _ _ (c.loop-rest.invariant.2 k) (nothing_left _ c.in_default.len_below)
 
 pub decode_sequence-returns-then-leaves_all_out-clause-fails : goal.decode_sequence-returns-then-leaves_all_out-clause-fails
-decode_sequence-returns-then-leaves_all_out-clause-fails g t c = if_err_map _ _ (λ e m. inr m) c.all_absent.result c.all_absent.ensures.memory
+decode_sequence-returns-then-leaves_all_out-clause-fails g t c = if_err_map _ _ (λ e m. inr m) (reported c.leave_all_out.result c.leave_all_out.new.error) c.leave_all_out.ensures.memory
 
 pub decode_sequence-returns-in_err-values-clause-itself : goal.decode_sequence-returns-in_err-values-clause-itself
 decode_sequence-returns-in_err-values-clause-itself g t c = rw (residual _ c.from_residual.ensures.1) (λ n. inl c.in_err-values.ensures.kind)
@@ -832,17 +831,17 @@ decode_sequence-returns-in_err-values-clause-itself g t c = rw (residual _ c.fro
 pub decode_sequence-returns-in_err-values-clause-fails : goal.decode_sequence-returns-in_err-values-clause-fails
 decode_sequence-returns-in_err-values-clause-fails g t c = rw (residual _ c.from_residual.ensures.1) (inr c.in_err-values.ensures.kind)
 
-pub decode_sequence-returns-in_err-value-clause-fails : goal.decode_sequence-returns-in_err-value-clause-fails
-decode_sequence-returns-in_err-value-clause-fails g t c = rw (residual _ c.from_residual-in_err-value.ensures.1) (inl (part_fails_at _ _ _ (presence_in (shape_of_type c.args.types.now c.args.below) c.component-item.result) ((shape_of_type c.args.types.now c.args.below) c.component-item.result.type_id.0) _ _ _ c.loop-rest.invariant.0.2 (ap (components_by (shape_of_type c.args.types.now c.args.below)) (split c.loop-rest.rest.now _ c.in-len1-up.len_at_least c.component-item.is)) _ _ c.in_err-value.ensures.fails))
+pub decode_sequence-returns-in_err-decode_component-clause-fails : goal.decode_sequence-returns-in_err-decode_component-clause-fails
+decode_sequence-returns-in_err-decode_component-clause-fails g t c = rw (residual _ c.from_residual-in_err-decode_component.ensures.1) (inl (part_fails_at _ _ _ (presence_in (shape_of_type c.args.types.now c.args.below) c.component-item.result) ((shape_of_type c.args.types.now c.args.below) c.component-item.result.type_id.0) _ _ _ c.loop-rest.invariant.0.2 (ap (components_by (shape_of_type c.args.types.now c.args.below)) (split c.loop-rest.rest.now _ c.in-len1-up.len_at_least c.component-item.is)) _ _ c.in_err-decode_component.ensures.fails))
 
-pub decode_sequence-returns-in_err-push-clause-fails : goal.decode_sequence-returns-in_err-push-clause-fails
-decode_sequence-returns-in_err-push-clause-fails g t c = rw (residual _ c.from_residual-in_err-push.ensures.1) (inr c.in_err-push.ensures.kind)
+pub decode_sequence-returns-in_err-append-clause-fails : goal.decode_sequence-returns-in_err-append-clause-fails
+decode_sequence-returns-in_err-append-clause-fails g t c = rw (residual _ c.from_residual-in_err-append.ensures.1) (inr c.in_err-append.ensures.kind)
 
-pub decode_sequence-returns-in_err-value-clause-rules : goal.decode_sequence-returns-in_err-value-clause-rules
-decode_sequence-returns-in_err-value-clause-rules g t c = rw (residual _ c.from_residual-in_err-value.ensures.1) (c.in_err-value.ensures.rules ∙ same_rules c.loop-rest.invariant.0.2.keeps.stays)
+pub decode_sequence-returns-in_err-decode_component-clause-rules : goal.decode_sequence-returns-in_err-decode_component-clause-rules
+decode_sequence-returns-in_err-decode_component-clause-rules g t c = rw (residual _ c.from_residual-in_err-decode_component.ensures.1) (c.in_err-decode_component.ensures.rules ∙ same_rules c.loop-rest.invariant.0.2.keeps.stays)
 
-pub decode_sequence-returns-in_err-push-clause-rules : goal.decode_sequence-returns-in_err-push-clause-rules
-decode_sequence-returns-in_err-push-clause-rules g t c = rw (residual _ c.from_residual-in_err-push.ensures.1) (c.in_err-push.ensures.rules ∙ same_rules c.in_ok-value.ensures.reads.2.stays ∙ same_rules c.loop-rest.invariant.0.2.keeps.stays)
+pub decode_sequence-returns-in_err-append-clause-rules : goal.decode_sequence-returns-in_err-append-clause-rules
+decode_sequence-returns-in_err-append-clause-rules g t c = rw (residual _ c.from_residual-in_err-append.ensures.1) (c.in_err-append.ensures.rules ∙ same_rules c.in_ok-decode_component.ensures.reads.2.stays ∙ same_rules c.loop-rest.invariant.0.2.keeps.stays)
 
 -- ---- the components of a SET
 
@@ -912,8 +911,8 @@ decode_set-returns-in-Some-clause-exact g t c =
     (subst (λ z. ReadTo c.args.extensible ps names c.args.decoder.now at.decoder at.last z i.0 i.1) h i.4) _
     (subst (λ z. IsNamedError (IsDuplicateField (text c.in-Some.repeated)) z c.duplicate_field.result) c.codec.ensures c.duplicate_field.ensures))
 
-pub decode_set-gather-requires : goal.decode_set-gather-requires
-decode_set-gather-requires g t c = found_length _ c.args.components.now _ c.loop-other_id.invariant.1
+pub decode_set-gather_found-requires : goal.decode_set-gather_found-requires
+decode_set-gather_found-requires g t c = found_length _ c.args.components.now _ c.loop-other_id.invariant.1
 
 pub decode_set-returns-in_err-values-clause-exact : goal.decode_set-returns-in_err-values-clause-exact
 decode_set-returns-in_err-values-clause-exact g t c =
@@ -922,19 +921,19 @@ decode_set-returns-in_err-values-clause-exact g t c =
     let ps = (components_by (shape_of_type c.args.types.now c.args.below) c.args.components.now) in
     let names = names_of c.args.components.now in
     let h : at.twice ≡ None = search rules in
-    let e = c.in_err-values.field-0.0 in
+    let e = c.gather_found.new.error in
     rw (residual _ c.from_residual-in_err-values.ensures.1)
     (members_lack c.args.extensible ps names c.args.decoder.now at.decoder at.last i.0 i.1 c.loop-other_id-test.ensures (subst (λ z. ReadTo c.args.extensible ps names c.args.decoder.now at.decoder at.last z i.0 i.1) h i.4) e
     (lacks_part _ (shape_of_type c.args.types.now c.args.below) c.args.components.now at.decoder.rule at.found.items i.0 e i.2 c.in_err-values.ensures.gathers))
 
-pub decode_set-returns-in_err-push-clause-exact : goal.decode_set-returns-in_err-push-clause-exact
-decode_set-returns-in_err-push-clause-exact g t c =
+pub decode_set-returns-in_err-append-clause-exact : goal.decode_set-returns-in_err-append-clause-exact
+decode_set-returns-in_err-append-clause-exact g t c =
     let at = c.loop-other_id in
     let i = at.invariant.0 in
     let ps = (components_by (shape_of_type c.args.types.now c.args.below) c.args.components.now) in
     let names = names_of c.args.components.now in
-    rw (residual _ c.from_residual-in_err-push.ensures.1)
-    (inr (c.in_err-push.ensures.kind, members_keep c.args.extensible ps names c.args.decoder.now at.decoder at.last i.0 i.1 at.twice i.4))
+    rw (residual _ c.from_residual-in_err-append.ensures.1)
+    (inr (c.in_err-append.ensures.kind, members_keep c.args.extensible ps names c.args.decoder.now at.decoder at.last i.0 i.1 at.twice i.4))
 
 pub decode_set-returns-clause-exact : goal.decode_set-returns-clause-exact
 decode_set-returns-clause-exact g t c =
@@ -945,7 +944,7 @@ decode_set-returns-clause-exact g t c =
     let h : at.twice ≡ None = search rules in
     let a : (c.args.extensible ≡ true → g.M.Made.KEEP ≡ true → c.if-extensible.values.items ≡ c.in_ok-values.values.items ++ Items c.loop-other_id.unknown ∷ []) × (c.args.extensible ≡ false → c.if-extensible.values.items ≡ c.in_ok-values.values.items) =
     elim c.if-extensible.branch [
-      | decode_set-then-extensible+in_ok-push w ↦ ((λ e k. ap (λ (v : Vec Value Global). v.items) w.values-is ∙ w.in_ok-push.ensures.ok k), λ e. absurd (true≢false (sym w.if-extensible.true ∙ e)))
+      | decode_set-then-extensible+in_ok-append w ↦ ((λ e k. ap (λ (v : Vec Value Global). v.items) w.values-is ∙ w.in_ok-append.ensures.ok k), λ e. absurd (true≢false (sym w.if-extensible.true ∙ e)))
       | decode_set-else-extensible w ↦ ((λ e k. absurd (true≢false (sym e ∙ w.if-extensible.false))), λ e. ap (λ (v : Vec Value Global). v.items) w.values-is)
     ] in
     let m = made_parts _ (shape_of_type c.args.types.now c.args.below) c.args.components.now at.decoder.rule at.found.items i.0 c.in_ok-values.values (found_length _ c.args.components.now _ at.invariant.1) i.2 c.in_ok-values.ensures.gathers in (
@@ -959,7 +958,7 @@ decode_set-returns-clause-fits g t c = λ k.
     let at = c.loop-other_id in
     let a : (c.args.extensible ≡ true → g.M.Made.KEEP ≡ true → c.if-extensible.values.items ≡ c.in_ok-values.values.items ++ Items c.loop-other_id.unknown ∷ []) × (c.args.extensible ≡ false → c.if-extensible.values.items ≡ c.in_ok-values.values.items) =
     elim c.if-extensible.branch [
-      | decode_set-then-extensible+in_ok-push w ↦ ((λ e k. ap (λ (v : Vec Value Global). v.items) w.values-is ∙ w.in_ok-push.ensures.ok k), λ e. absurd (true≢false (sym w.if-extensible.true ∙ e)))
+      | decode_set-then-extensible+in_ok-append w ↦ ((λ e k. ap (λ (v : Vec Value Global). v.items) w.values-is ∙ w.in_ok-append.ensures.ok k), λ e. absurd (true≢false (sym w.if-extensible.true ∙ e)))
       | decode_set-else-extensible w ↦ ((λ e k. absurd (true≢false (sym e ∙ w.if-extensible.false))), λ e. ap (λ (v : Vec Value Global). v.items) w.values-is)
     ] in
     all_fit (Fits c.args.types.now c.args.below) c.args.extensible c.args.components.now c.in_ok-values.values.items c.if-extensible.values.items at.unknown
@@ -969,8 +968,8 @@ decode_set-returns-clause-fits g t c = λ k.
 pub decode_set-returns-in_err-values-clause-rules : goal.decode_set-returns-in_err-values-clause-rules
 decode_set-returns-in_err-values-clause-rules g t c = rw (residual _ c.from_residual-in_err-values.ensures.1) (c.in_err-values.ensures.rules ∙ read_rules c.args.extensible (components_by (shape_of_type c.args.types.now c.args.below) c.args.components.now) (names_of c.args.components.now) _ _ _ _ _ _ c.loop-other_id.invariant.0.4)
 
-pub decode_set-returns-in_err-push-clause-rules : goal.decode_set-returns-in_err-push-clause-rules
-decode_set-returns-in_err-push-clause-rules g t c = rw (residual _ c.from_residual-in_err-push.ensures.1) (c.in_err-push.ensures.rules ∙ read_rules c.args.extensible (components_by (shape_of_type c.args.types.now c.args.below) c.args.components.now) (names_of c.args.components.now) _ _ _ _ _ _ c.loop-other_id.invariant.0.4)
+pub decode_set-returns-in_err-append-clause-rules : goal.decode_set-returns-in_err-append-clause-rules
+decode_set-returns-in_err-append-clause-rules g t c = rw (residual _ c.from_residual-in_err-append.ensures.1) (c.in_err-append.ensures.rules ∙ read_rules c.args.extensible (components_by (shape_of_type c.args.types.now c.args.below) c.args.components.now) (names_of c.args.components.now) _ _ _ _ _ _ c.loop-other_id.invariant.0.4)
 
 pub decode_set-returns-in_err-last-clause-rules : goal.decode_set-returns-in_err-last-clause-rules
 decode_set-returns-in_err-last-clause-rules g t c = rw (residual _ c.from_residual.ensures.1) (order_rules _ c.loop-other_id.decoder _ c.in_err-last.ensures ∙ read_rules c.args.extensible (components_by (shape_of_type c.args.types.now c.args.below) c.args.components.now) (names_of c.args.components.now) _ _ _ _ _ _ c.loop-other_id.invariant.0.4)
@@ -989,52 +988,52 @@ decode_set_component-returns-in_err-tag-clause-next g t c =
 
 pub decode_set_component-returns-then-not-extensible-clause-next : goal.decode_set_component-returns-then-not-extensible-clause-next
 decode_set_component-returns-then-not-extensible-clause-next g t c =
-    member_none _ c.args.extensible (components_by (shape_of_type c.args.types.now c.args.below) c.args.components.now) (names_of c.args.components.now) c.args.found.now.items c.args.unknown.now.items _ _ c.in_ok-tag.tag c.in_ok-tag.ensures.next c.in_default.ensures (search rules) c.no_valid_choice.result refl
+    member_none _ c.args.extensible (components_by (shape_of_type c.args.types.now c.args.below) c.args.components.now) (names_of c.args.components.now) c.args.found.now.items c.args.unknown.now.items _ _ c.in_ok-tag.tag c.in_ok-tag.ensures.next c.in_default.ensures (search rules) c.refuse_choice.new.error refl
 
 pub decode_set_component-returns-in_err-other-clause-next : goal.decode_set_component-returns-in_err-other-clause-next
 decode_set_component-returns-in_err-other-clause-next g t c =
     rw (residual _ c.from_residual-in_err-other.ensures.1)
-    (unknown_unread _ c.args.extensible (components_by (shape_of_type c.args.types.now c.args.below) c.args.components.now) (names_of c.args.components.now) c.args.found.now.items c.args.unknown.now.items _ _ c.in_ok-tag.tag c.in_ok-tag.ensures.next c.in_default.ensures (search rules) c.in_err-other.field-0.0 c.in_err-other.ensures.reads)
+    (unknown_unread _ c.args.extensible (components_by (shape_of_type c.args.types.now c.args.below) c.args.components.now) (names_of c.args.components.now) c.args.found.now.items c.args.unknown.now.items _ _ c.in_ok-tag.tag c.in_ok-tag.ensures.next c.in_default.ensures (search rules) c.decode_unknown_component.new.walk.error c.in_err-other.ensures.reads)
 
-pub decode_set_component-returns-in_err-push-clause-next : goal.decode_set_component-returns-in_err-push-clause-next
-decode_set_component-returns-in_err-push-clause-next g t c =
-    rw (residual _ c.from_residual-in_err-push.ensures.1)
-    (unknown_left _ c.args.extensible (components_by (shape_of_type c.args.types.now c.args.below) c.args.components.now) (names_of c.args.components.now) c.args.found.now.items c.args.unknown.now.items _ _ c.in_err-push.field-0.0 c.in_err-push.ensures.kind (call_keeps c.in_ok-other.ensures.reads) _)
+pub decode_set_component-returns-in_err-append-clause-next : goal.decode_set_component-returns-in_err-append-clause-next
+decode_set_component-returns-in_err-append-clause-next g t c =
+    rw (residual _ c.from_residual-in_err-append.ensures.1)
+    (unknown_left _ c.args.extensible (components_by (shape_of_type c.args.types.now c.args.below) c.args.components.now) (names_of c.args.components.now) c.args.found.now.items c.args.unknown.now.items _ _ c.append.new.error c.in_err-append.ensures.kind (call_keeps c.in_ok-other.ensures.reads) _)
 
 pub decode_set_component-returns-in_default-clause-next : goal.decode_set_component-returns-in_default-clause-next
 decode_set_component-returns-in_default-clause-next g t c =
-    unknown_kept _ c.args.extensible (components_by (shape_of_type c.args.types.now c.args.below) c.args.components.now) (names_of c.args.components.now) c.args.found.now.items c.args.unknown.now.items _ _ c.in_ok-tag.tag c.in_ok-tag.ensures.next c.in_default.ensures (search rules) c.in_ok-other.other c.in_ok-other.ensures.reads _ c.in_ok-push.ensures.ok
+    unknown_kept _ c.args.extensible (components_by (shape_of_type c.args.types.now c.args.below) c.args.components.now) (names_of c.args.components.now) c.args.found.now.items c.args.unknown.now.items _ _ c.in_ok-tag.tag c.in_ok-tag.ensures.next c.in_default.ensures (search rules) c.in_ok-other.other c.in_ok-other.ensures.reads _ c.in_ok-append.ensures.ok
 
 pub decode_set_component-returns-in_default-clause-octets : goal.decode_set_component-returns-in_default-clause-octets
-decode_set_component-returns-in_default-clause-octets g t c = λ k h. each_more AreOctets c.args.unknown.now.items _ c.in_ok-other.other (c.in_ok-push.ensures.ok k) h c.in_ok-other.ensures.fits
+decode_set_component-returns-in_default-clause-octets g t c = λ k h. each_more AreOctets c.args.unknown.now.items _ c.in_ok-other.other (c.in_ok-append.ensures.ok k) h c.in_ok-other.ensures.fits
 
 pub decode_set_component-decode_present-requires : goal.decode_set_component-decode_present-requires
 decode_set_component-decode_present-requires g t c = λ κs o. (search rules, (search rules, (part_lawful (shape_of_type c.args.types.now c.args.below) c.args.components.now c.in-Some.number c.in-Some.component.now c.requires.1.1.1.0 c.in-Some.ensures.0, c.requires.1.1.1.1.1.0)))
 
-pub decode_set_component-returns-in_err-value-clause-next : goal.decode_set_component-returns-in_err-value-clause-next
-decode_set_component-returns-in_err-value-clause-next g t c =
-    rw (residual _ c.from_residual-in_err-value.ensures.1)
-    (member_unread (shape_of_type c.args.types.now c.args.below) c.args.components.now c.in-Some.number c.in-Some.component.now c.in_ok-tag.tag c.requires.1.1.1.0 c.in-Some.ensures _ _ c.in_ok-tag.ensures.next _ c.args.extensible c.args.found.now.items c.args.unknown.now.items c.in_err-value.field-0.0 c.in_err-value.ensures.reads)
+pub decode_set_component-returns-in_err-decode_present-clause-next : goal.decode_set_component-returns-in_err-decode_present-clause-next
+decode_set_component-returns-in_err-decode_present-clause-next g t c =
+    rw (residual _ c.from_residual-in_err-decode_present.ensures.1)
+    (member_unread (shape_of_type c.args.types.now c.args.below) c.args.components.now c.in-Some.number c.in-Some.component.now c.in_ok-tag.tag c.requires.1.1.1.0 c.in-Some.ensures _ _ c.in_ok-tag.ensures.next _ c.args.extensible c.args.found.now.items c.args.unknown.now.items c.decode_present.new.walk.error c.in_err-decode_present.ensures.reads)
 
 pub decode_set_component-returns-then-remaining-left-clause-next : goal.decode_set_component-returns-then-remaining-left-clause-next
 decode_set_component-returns-then-remaining-left-clause-next g t c =
-    let w = c.in_ok-value.ensures.reads in
+    let w = c.in_ok-decode_present.ensures.reads in
     member_idle (shape_of_type c.args.types.now c.args.below) c.args.components.now c.in-Some.number c.in-Some.component.now c.in_ok-tag.tag c.requires.1.1.1.0 c.in-Some.ensures _ _ c.in_ok-tag.ensures.next _ c.args.extensible c.args.found.now.items c.args.unknown.now.items w.0 w.2
-    _ (ap length c.remaining-left.ensures.value) (sym (ap length c.remaining.ensures.value) ∙ c.if-remaining-left.true) c.extra.result c.extra.ensures
+    _ (ap length c.remaining-left.ensures.value) (sym (ap length c.remaining.ensures.value) ∙ c.if-remaining-left.true) c.refuse_extra.new.error c.refuse_extra.ensures
 
 pub decode_set_component-put-requires : goal.decode_set_component-put-requires
 decode_set_component-put-requires g t c = rw (found_length _ c.args.components.now _ c.requires.1.1.1.1.0) (got_below c.args.components.now c.in-Some.number c.in-Some.component.now c.in-Some.ensures.0)
 
 pub decode_set_component-returns-clause-next : goal.decode_set_component-returns-clause-next
 decode_set_component-returns-clause-next g t c =
-    let w = c.in_ok-value.ensures.reads in
+    let w = c.in_ok-decode_present.ensures.reads in
     member_put (shape_of_type c.args.types.now c.args.below) c.args.components.now c.in-Some.number c.in-Some.component.now c.in_ok-tag.tag c.requires.1.1.1.0 c.in-Some.ensures _ _ c.in_ok-tag.ensures.next _ c.args.extensible c.args.found.now.items c.args.unknown.now.items w.0 w.2
-    c.in_ok-value.value w.1 (rw (found_length _ c.args.components.now _ c.requires.1.1.1.1.0) (got_below c.args.components.now c.in-Some.number c.in-Some.component.now c.in-Some.ensures.0)) _ (ap length c.remaining-left.ensures.value)
+    c.decode_present.new.out w.1 (rw (found_length _ c.args.components.now _ c.requires.1.1.1.1.0) (got_below c.args.components.now c.in-Some.number c.in-Some.component.now c.in-Some.ensures.0)) _ (ap length c.remaining-left.ensures.value)
     (λ e. c.if-remaining-left.false (ap length c.remaining.ensures.value ∙ e)) _ _ (rw (← c.as_str.ensures.value) c.put.ensures)
 
 pub decode_set_component-returns-clause-found : goal.decode_set_component-returns-clause-found
 decode_set_component-returns-clause-found g t c =
-    put_fits _ c.args.components.now c.args.found.now.items _ c.in-Some.number c.in-Some.component.now c.in_ok-value.value _ _ c.requires.1.1.1.1.0 c.in-Some.ensures.0 c.in_ok-value.ensures.fits c.put.ensures
+    put_fits _ c.args.components.now c.args.found.now.items _ c.in-Some.number c.in-Some.component.now c.decode_present.new.out _ _ c.requires.1.1.1.1.0 c.in-Some.ensures.0 c.in_ok-decode_present.ensures.fits c.put.ensures
 
 pub decode_set_component-returns-in_err-tag-clause-rules : goal.decode_set_component-returns-in_err-tag-clause-rules
 decode_set_component-returns-in_err-tag-clause-rules g t c = rw (residual _ c.from_residual.ensures.1) (peek_rules c.args.decoder.now _ c.in_err-tag.ensures.exact)
@@ -1042,14 +1041,14 @@ decode_set_component-returns-in_err-tag-clause-rules g t c = rw (residual _ c.fr
 pub decode_set_component-returns-in_err-tag-clause-unknown : goal.decode_set_component-returns-in_err-tag-clause-unknown
 decode_set_component-returns-in_err-tag-clause-unknown g t c = rw (residual _ c.from_residual.ensures.1) (λ x tag n others. absurd (c.in_err-tag.ensures.next tag n))
 
-pub decode_set_component-returns-in_err-value-clause-unknown : goal.decode_set_component-returns-in_err-value-clause-unknown
-decode_set_component-returns-in_err-value-clause-unknown g t c = rw (residual _ c.from_residual-in_err-value.ensures.1) (λ x tag n others. absurd (others (subst (IsFirstOf (components_by (shape_of_type c.args.types.now c.args.below) c.args.components.now)) (next_one c.args.decoder.now.rest c.in_ok-tag.tag tag c.in_ok-tag.ensures.next n) (first_of_part (shape_of_type c.args.types.now c.args.below) c.in_ok-tag.tag c.args.components.now c.in-Some.number c.in-Some.component.now c.in-Some.ensures.0 c.in-Some.ensures.1))))
+pub decode_set_component-returns-in_err-decode_present-clause-unknown : goal.decode_set_component-returns-in_err-decode_present-clause-unknown
+decode_set_component-returns-in_err-decode_present-clause-unknown g t c = rw (residual _ c.from_residual-in_err-decode_present.ensures.1) (λ x tag n others. absurd (others (subst (IsFirstOf (components_by (shape_of_type c.args.types.now c.args.below) c.args.components.now)) (next_one c.args.decoder.now.rest c.in_ok-tag.tag tag c.in_ok-tag.ensures.next n) (first_of_part (shape_of_type c.args.types.now c.args.below) c.in_ok-tag.tag c.args.components.now c.in-Some.number c.in-Some.component.now c.in-Some.ensures.0 c.in-Some.ensures.1))))
 
 pub decode_set_component-returns-then-remaining-left-clause-unknown : goal.decode_set_component-returns-then-remaining-left-clause-unknown
 decode_set_component-returns-then-remaining-left-clause-unknown g t c = λ x tag n others. absurd (others (subst (IsFirstOf (components_by (shape_of_type c.args.types.now c.args.below) c.args.components.now)) (next_one c.args.decoder.now.rest c.in_ok-tag.tag tag c.in_ok-tag.ensures.next n) (first_of_part (shape_of_type c.args.types.now c.args.below) c.in_ok-tag.tag c.args.components.now c.in-Some.number c.in-Some.component.now c.in-Some.ensures.0 c.in-Some.ensures.1)))
 
 pub decode_set_component-returns-then-remaining-left-clause-rules : goal.decode_set_component-returns-then-remaining-left-clause-rules
-decode_set_component-returns-then-remaining-left-clause-rules g t c = codec_is c.extra.ensures ∙ same_rules c.in_ok-value.ensures.reads.2.0.stays
+decode_set_component-returns-then-remaining-left-clause-rules g t c = codec_is c.refuse_extra.ensures ∙ same_rules c.in_ok-decode_present.ensures.reads.2.0.stays
 
 -- ---- where a value can't be read
 
@@ -1069,26 +1068,44 @@ decode_type-returns-in-Choice-clause-told g t c =
     told_map _ _ (λ k f i. subst (λ n. IsFaultOf c.args.types.now c.args.below n c.args.decoder.now k f) (sym c.in-Choice.is)
     (c.args.decoder.now, refl, subst (λ l. IsFaultIn c.args.types.now c.args.below (IsAlternativeAt (shape_of_type c.args.types.now c.args.below) l c.args.decoder.now) c.args.decoder.now c.args.decoder.now k f) c.deref-in-Choice.ensures.value i)) _ _ c.decode_choice.ensures.told
 
-pub decode_choice-returns-in_err-value-clause-told : goal.decode_choice-returns-in_err-value-clause-told
-decode_choice-returns-in_err-value-clause-told g t c =
+pub decode_type-returns-in-Leaf-clause-told : goal.decode_type-returns-in-Leaf-clause-told
+decode_type-returns-in-Leaf-clause-told g t c = unnamed _ _ _ c.requires.clear
+
+pub decode_type-returns-in-Enumerated-clause-told : goal.decode_type-returns-in-Enumerated-clause-told
+decode_type-returns-in-Enumerated-clause-told g t c = unnamed _ _ _ c.requires.clear
+
+pub decode_type-returns-in-Any-clause-told : goal.decode_type-returns-in-Any-clause-told
+decode_type-returns-in-Any-clause-told g t c = unnamed _ _ _ c.requires.clear
+
+pub decode_type-returns-in-Unknown-clause-told : goal.decode_type-returns-in-Unknown-clause-told
+decode_type-returns-in-Unknown-clause-told g t c = unnamed _ _ _ c.requires.clear
+
+pub decode_sequence-returns-then-leaves_all_out-clause-told : goal.decode_sequence-returns-then-leaves_all_out-clause-told
+decode_sequence-returns-then-leaves_all_out-clause-told g t c = unnamed _ _ _ c.requires.clear
+
+pub decode_component-returns-in-Ok-false-clause-told : goal.decode_component-returns-in-Ok-false-clause-told
+decode_component-returns-in-Ok-false-clause-told g t c = unnamed _ _ _ c.requires.clear
+
+pub decode_choice-returns-in_err-decode_part-clause-told : goal.decode_choice-returns-in_err-decode_part-clause-told
+decode_choice-returns-in_err-decode_part-clause-told g t c =
     let el = get_or c.args.alternatives.now c.in-Some.number c.index-alternatives-number.result in
     let at : Some el ≡ slice_get c.args.alternatives.now c.in-Some.number = subst (λ (a : Alternative). Some a ≡ slice_get c.args.alternatives.now c.in-Some.number) c.index-alternatives-number.is
     (read_at c.args.alternatives.now c.in-Some.number c.index-alternatives-number.result (slice_get_within c.args.alternatives.now c.in-Some.number c.in-Some.ensures.0 (sym c.in-Some.ensures.1.0)) c.index-alternatives-number.is) in
-    rw (residual _ c.from_residual-in_err-value.ensures.1)
+    rw (residual _ c.from_residual-in_err-decode_part.ensures.1)
     (tells_err _ _ (λ k f. weaker c.args.types.now c.args.below _ _ c.args.decoder.now c.args.decoder.now (alternative_there (shape_of_type c.args.types.now c.args.below) c.args.alternatives.now c.in-Some.number el c.args.decoder.now
-    (c.in_ok-tag.tag, c.in_ok-tag.ensures.next, for_both (shape_of_type c.args.types.now c.args.below) c.args.alternatives.now c.in-Some.number c.in-Some.ensures.0 el c.in_ok-tag.tag c.in-Some.ensures.1 at)) k f) c.in_err-value.field-0.0 _ c.in_err-value.ensures.told)
+    (c.in_ok-tag.tag, c.in_ok-tag.ensures.next, for_both (shape_of_type c.args.types.now c.args.below) c.args.alternatives.now c.in-Some.number c.in-Some.ensures.0 el c.in_ok-tag.tag c.in-Some.ensures.1 at)) k f) c.decode_part.new.walk.error _ c.in_err-decode_part.ensures.told)
 
 pub decode_inside-add_after-requires : goal.decode_inside-add_after-requires
 decode_inside-add_after-requires g t c =
     λ f q.
-    let n = opened_short c.args.types.now c.args.header c.args.decoder.now c.in_ok-inner.ensures.octets _ _ _ c.in_ok-inner.ensures.exact c.args.below _ _ f c.decode_contents.new.decoder.closing c.octets_after.result
-    (ap (λ (s : State). s.closing) (contents_stay (shape_of_type c.args.types.now c.args.below) c.args.ty.now _ c.in-Err.error _ c.in-Err.ensures.exact)) c.octets_after.ensures (c.in-Err.ensures.told f q) in
+    let n = opened_short c.args.types.now c.args.header c.args.decoder.now c.in-Ok.ensures.octets _ _ _ c.in-Ok.ensures.exact c.args.below _ _ f c.decode_contents.new.decoder.closing c.octets_after.result
+    (ap (λ (s : State). s.closing) (contents_stay (shape_of_type c.args.types.now c.args.below) c.args.ty.now _ c.decode_contents.new.walk.error _ c.in-Err-decode_contents.ensures.exact)) c.octets_after.ensures (c.in-Err-decode_contents.ensures.told f q) in
     omega (arith, n, c.octets_left.ensures, c.octets_left.type_inv)
 
-pub decode_inside-returns-in-Err-clause-told : goal.decode_inside-returns-in-Err-clause-told
-decode_inside-returns-in-Err-clause-told g t c =
-    opened c.args.types.now c.args.header c.args.decoder.now c.in_ok-inner.ensures.octets _ _ _ c.in_ok-inner.ensures.exact c.args.below c.args.ty.now _ c.decode_contents.new.decoder.closing c.octets_after.result
-    (ap (λ (s : State). s.closing) (contents_stay (shape_of_type c.args.types.now c.args.below) c.args.ty.now _ c.in-Err.error _ c.in-Err.ensures.exact)) c.octets_after.ensures _ _ c.in-Err.ensures.told c.add_after.ensures
+pub decode_inside-returns-in-Err-decode_contents-clause-told : goal.decode_inside-returns-in-Err-decode_contents-clause-told
+decode_inside-returns-in-Err-decode_contents-clause-told g t c =
+    opened c.args.types.now c.args.header c.args.decoder.now c.in-Ok.ensures.octets _ _ _ c.in-Ok.ensures.exact c.args.below c.args.ty.now _ c.decode_contents.new.decoder.closing c.octets_after.result
+    (ap (λ (s : State). s.closing) (contents_stay (shape_of_type c.args.types.now c.args.below) c.args.ty.now _ c.decode_contents.new.walk.error _ c.in-Err-decode_contents.ensures.exact)) c.octets_after.ensures _ _ c.in-Err-decode_contents.ensures.told c.add_after.ensures
 
 pub decode_contents-returns-in-Tagged-clause-told : goal.decode_contents-returns-in-Tagged-clause-told
 decode_contents-returns-in-Tagged-clause-told g t c =
@@ -1096,7 +1113,7 @@ decode_contents-returns-in-Tagged-clause-told g t c =
 
 pub decode_contents-returns-in_err-values-in-Sequence-clause-told : goal.decode_contents-returns-in_err-values-in-Sequence-clause-told
 decode_contents-returns-in_err-values-in-Sequence-clause-told g t c =
-    rw (residual _ c.from_residual.ensures.1, c.in-Sequence.is) (λ f q. subst (λ l. IsFaultIn c.args.types.now c.args.below (IsComponentAt (shape_of_type c.args.types.now c.args.below) l c.args.decoder.now) c.args.decoder.now c.args.decoder.now c.in_err-values-in-Sequence.field-0.0 f) c.deref.ensures.value (c.in_err-values-in-Sequence.ensures.told f q))
+    rw (residual _ c.from_residual.ensures.1, c.in-Sequence.is) (λ f q. subst (λ l. IsFaultIn c.args.types.now c.args.below (IsComponentAt (shape_of_type c.args.types.now c.args.below) l c.args.decoder.now) c.args.decoder.now c.args.decoder.now c.decode_sequence.new.walk.error f) c.deref.ensures.value (c.in_err-values-in-Sequence.ensures.told f q))
 
 pub decode_contents-returns-in_err-values-in-Set-clause-told : goal.decode_contents-returns-in_err-values-in-Set-clause-told
 decode_contents-returns-in_err-values-in-Set-clause-told g t c =
@@ -1105,8 +1122,8 @@ decode_contents-returns-in_err-values-in-Set-clause-told g t c =
     let marked = c.named_components-extensible.ensures.extensible ∙ ap (is_extensible f) c.deref-in-Set.ensures.value in
     rw (residual _ c.from_residual-in_err-values-in-Set.ensures.1, c.in-Set.is)
     (λ x q. named_so f c.named_components-extensible.result.1 c.named_components-extensible.result.0.now c.in-Set.components.items marked same
-    (λ b l. IsFaultIn c.args.types.now c.args.below (IsMemberAfter f b l (last_type c.in-Set.components.items) c.args.decoder.now) c.args.decoder.now c.args.decoder.now c.in_err-values-in-Set.field-0.0 x)
-    (subst (λ n. IsFaultIn c.args.types.now c.args.below (IsMemberAfter f c.named_components-extensible.result.1 c.named_components-extensible.result.0.now n c.args.decoder.now) c.args.decoder.now c.args.decoder.now c.in_err-values-in-Set.field-0.0 x)
+    (λ b l. IsFaultIn c.args.types.now c.args.below (IsMemberAfter f b l (last_type c.in-Set.components.items) c.args.decoder.now) c.args.decoder.now c.args.decoder.now c.decode_set.new.walk.error x)
+    (subst (λ n. IsFaultIn c.args.types.now c.args.below (IsMemberAfter f c.named_components-extensible.result.1 c.named_components-extensible.result.0.now n c.args.decoder.now) c.args.decoder.now c.args.decoder.now c.decode_set.new.walk.error x)
     (c.last_type-other_id.ensures ∙ ap last_type c.deref-in-Set-2.ensures.value) (c.in_err-values-in-Set.ensures.told x q)))
 
 pub decode_contents-returns-in_err-values-in-SequenceOf-clause-told : goal.decode_contents-returns-in_err-values-in-SequenceOf-clause-told
@@ -1117,41 +1134,41 @@ pub decode_contents-returns-in_err-values-in-SetOf-clause-told : goal.decode_con
 decode_contents-returns-in_err-values-in-SetOf-clause-told g t c =
     rw (residual _ c.from_residual-in_err-values-in-SetOf.ensures.1, c.in-SetOf.is) c.in_err-values-in-SetOf.ensures.told
 
-pub decode_elements-returns-in_err-value-clause-told : goal.decode_elements-returns-in_err-value-clause-told
-decode_elements-returns-in_err-value-clause-told g t c =
+pub decode_elements-returns-in_err-decode_part-clause-told : goal.decode_elements-returns-in_err-decode_part-clause-told
+decode_elements-returns-in_err-decode_part-clause-told g t c =
     let i = c.loop-element.invariant.0 in
     let k = turns_keep (shape_of_type c.args.types.now c.args.below c.args.element.0) (λ (z : Tree). z) c.args.decoder.now i.0 c.loop-element.decoder i.3 in
     rw (residual _ c.from_residual.ensures.1)
     (tells_err _ _ (λ kind f x. further c.args.types.now c.args.below _ _ c.args.decoder.now c.loop-element.decoder kind f k.0 k.1
-    (element_there (shape_of_type c.args.types.now c.args.below) c.args.element.0 c.args.decoder.now c.loop-element.decoder i.0 _ (sym i.2) i.3 c.loop-element-test.ensures) x) c.in_err-value.field-0.0 _ c.in_err-value.ensures.told)
+    (element_there (shape_of_type c.args.types.now c.args.below) c.args.element.0 c.args.decoder.now c.loop-element.decoder i.0 _ (sym i.2) i.3 c.loop-element-test.ensures) x) c.decode_part.new.walk.error _ c.in_err-decode_part.ensures.told)
 
-pub decode_elements_in_order-returns-in_err-value-clause-told : goal.decode_elements_in_order-returns-in_err-value-clause-told
-decode_elements_in_order-returns-in_err-value-clause-told g t c =
+pub decode_elements_in_order-returns-in_err-decode_part-clause-told : goal.decode_elements_in_order-returns-in_err-decode_part-clause-told
+decode_elements_in_order-returns-in_err-decode_part-clause-told g t c =
     let i = c.loop-last.invariant.0 in
     let p = forgotten (DecodesTree (shape_of_type c.args.types.now c.args.below c.args.element.0)) c.args.decoder.now i.0 i.1 c.loop-last.decoder i.4 in
     let k = turns_keep (shape_of_type c.args.types.now c.args.below c.args.element.0) (λ (z : Tree). z) c.args.decoder.now i.0 c.loop-last.decoder p in
     rw (residual _ c.from_residual.ensures.1)
     (tells_err _ _ (λ kind f x. further c.args.types.now c.args.below _ _ c.args.decoder.now c.loop-last.decoder kind f k.0 k.1
-    (element_there (shape_of_type c.args.types.now c.args.below) c.args.element.0 c.args.decoder.now c.loop-last.decoder i.0 _ (sym i.3) p c.loop-last-test.ensures) x) c.in_err-value.field-0.0 _ c.in_err-value.ensures.told)
+    (element_there (shape_of_type c.args.types.now c.args.below) c.args.element.0 c.args.decoder.now c.loop-last.decoder i.0 _ (sym i.3) p c.loop-last-test.ensures) x) c.decode_part.new.walk.error _ c.in_err-decode_part.ensures.told)
 
-pub decode_sequence-returns-in_err-value-clause-told : goal.decode_sequence-returns-in_err-value-clause-told
-decode_sequence-returns-in_err-value-clause-told g t c =
+pub decode_sequence-returns-in_err-decode_component-clause-told : goal.decode_sequence-returns-in_err-decode_component-clause-told
+decode_sequence-returns-in_err-decode_component-clause-told g t c =
     let k = c.loop-rest.invariant in
     let at = split c.loop-rest.rest.now _ c.in-len1-up.len_at_least c.component-item.is in
     let len : length c.args.components.now ≡ length k.4 + length c.loop-rest.rest.now = ap length k.5 ∙ length-append k.4 c.loop-rest.rest.now in
     let l : length k.4 ≡ length c.args.components.now - length c.loop-rest.rest.now = omega (arith, len) in
-    rw (residual _ c.from_residual-in_err-value.ensures.1)
+    rw (residual _ c.from_residual-in_err-decode_component.ensures.1)
     (λ f q. further c.args.types.now c.args.below _ _ c.args.decoder.now c.loop-rest.decoder _ f k.0.2.keeps.stays k.0.2.keeps.end
-    (part_there (shape_of_type c.args.types.now c.args.below) c.args.components.now k.4 _ c.component-item.result c.args.decoder.now c.loop-rest.decoder (length c.args.components.now - length c.loop-rest.rest.now) (k.5 ∙ ap (λ z. k.4 ++ z) at) l k.6) (c.in_err-value.ensures.told f q))
+    (part_there (shape_of_type c.args.types.now c.args.below) c.args.components.now k.4 _ c.component-item.result c.args.decoder.now c.loop-rest.decoder (length c.args.components.now - length c.loop-rest.rest.now) (k.5 ∙ ap (λ z. k.4 ++ z) at) l k.6) (c.in_err-decode_component.ensures.told f q))
 
 pub decode_present-returns-in_default-clause-told : goal.decode_present-returns-in_default-clause-told
 decode_present-returns-in_default-clause-told g t c =
     tells _ _ (λ k f i. i) _ _ c.decode_part.ensures.told
 
-pub decode_present-returns-in_err-value-clause-told : goal.decode_present-returns-in_err-value-clause-told
-decode_present-returns-in_err-value-clause-told g t c =
+pub decode_present-returns-in_err-decode_compared-clause-told : goal.decode_present-returns-in_err-decode_compared-clause-told
+decode_present-returns-in_err-decode_compared-clause-told g t c =
     let P = IsFaultIn c.args.types.now c.args.below (IsOnly c.args.index c.args.component.now.type_id.0 c.args.decoder.now) c.args.decoder.now c.args.decoder.now in
-    rw (residual _ c.from_residual.ensures.1) (tells_err P P (λ k f i. i) c.in_err-value.field-0.0 _ c.in_err-value.ensures.told)
+    rw (residual _ c.from_residual.ensures.1) (tells_err P P (λ k f i. i) c.decode_compared.new.walk.error _ c.in_err-decode_compared.ensures.told)
 
 pub decode_set-returns-in_err-next-clause-told : goal.decode_set-returns-in_err-next-clause-told
 decode_set-returns-in_err-next-clause-told g t c =
@@ -1162,9 +1179,9 @@ decode_set-returns-in_err-next-clause-told g t c =
     rw (residual _ c.from_residual-in_err-next.ensures.1)
     (λ f e. further c.args.types.now c.args.below _ _ c.args.decoder.now at.decoder _ f q.0 q.1 (member_behind (shape_of_type c.args.types.now c.args.below) c.args.extensible c.args.components.now c.args.other_id.0 c.args.decoder.now at.decoder k.0 k.1 k.2) (c.in_err-next.ensures.told f e))
 
-pub decode_set_component-returns-in_err-value-clause-told : goal.decode_set_component-returns-in_err-value-clause-told
-decode_set_component-returns-in_err-value-clause-told g t c =
-    rw (residual _ c.from_residual-in_err-value.ensures.1) (λ f q. weaker c.args.types.now c.args.below _ _ _ _ (member_there (shape_of_type c.args.types.now c.args.below) c.args.extensible c.args.components.now c.args.other_id.0 c.in-Some.number c.in-Some.component.now c.args.decoder.now c.in-Some.ensures.0) _ f (c.in_err-value.ensures.told f q))
+pub decode_set_component-returns-in_err-decode_present-clause-told : goal.decode_set_component-returns-in_err-decode_present-clause-told
+decode_set_component-returns-in_err-decode_present-clause-told g t c =
+    rw (residual _ c.from_residual-in_err-decode_present.ensures.1) (λ f q. weaker c.args.types.now c.args.below _ _ _ _ (member_there (shape_of_type c.args.types.now c.args.below) c.args.extensible c.args.components.now c.args.other_id.0 c.in-Some.number c.in-Some.component.now c.args.decoder.now c.in-Some.ensures.0) _ f (c.in_err-decode_present.ensures.told f q))
 
 pub decode_set_component-decode_unknown_component-requires : goal.decode_set_component-decode_unknown_component-requires
 decode_set_component-decode_unknown_component-requires g t c =
@@ -1177,12 +1194,12 @@ decode_set_component-returns-in_err-other-clause-told g t c =
     rw (residual _ c.from_residual-in_err-other.ensures.1)
     (tells_err _ _ (λ kind x. weaker c.args.types.now c.args.below _ _ c.args.decoder.now c.args.decoder.now
     (unknown_there f c.args.extensible c.args.components.now c.args.other_id.0 c.args.decoder.now extends (c.in_ok-tag.tag, c.in_ok-tag.ensures.next, c.in_default.ensures)) kind x)
-    c.in_err-other.field-0.0 _ (c.in_err-other.ensures.told c.args.types.now (c.requires.1.1.1.1.1.1 extends)))
+    c.decode_unknown_component.new.walk.error _ (c.in_err-other.ensures.told c.args.types.now (c.requires.1.1.1.1.1.1 extends)))
 
-pub decode_set_component-returns-in_err-push-clause-told : goal.decode_set_component-returns-in_err-push-clause-told
-decode_set_component-returns-in_err-push-clause-told g t c =
+pub decode_set_component-returns-in_err-append-clause-told : goal.decode_set_component-returns-in_err-append-clause-told
+decode_set_component-returns-in_err-append-clause-told g t c =
     let extends : c.args.extensible ≡ true = search rules in
-    rw (residual _ c.from_residual-in_err-push.ensures.1) (λ x q. absurd (not_named _ x q (c.in_ok-other.ensures.told c.args.types.now (c.requires.1.1.1.1.1.1 extends))))
+    rw (residual _ c.from_residual-in_err-append.ensures.1) (λ x q. absurd (not_named _ x q (c.in_ok-other.ensures.told c.args.types.now (c.requires.1.1.1.1.1.1 extends))))
 
 pub decode_set_component-returns-in_default-clause-told : goal.decode_set_component-returns-in_default-clause-told
 decode_set_component-returns-in_default-clause-told g t c =
@@ -1247,31 +1264,30 @@ pub decode_choice-returns-in_default-clause-itself : goal.decode_choice-returns-
 decode_choice-returns-in_default-clause-itself g t c =
     λ n. inr (inl (c.in_ok-tag.tag, c.in_ok-tag.ensures.next, c.in_default.ensures))
 
-pub decode_choice-returns-in_err-value-clause-itself : goal.decode_choice-returns-in_err-value-clause-itself
-decode_choice-returns-in_err-value-clause-itself g t c =
-    rw (residual _ c.from_residual-in_err-value.ensures.1) (λ n. absurd (not_named _ _ c.in_err-value.ensures.told.1 n))
+pub decode_choice-returns-in_err-decode_part-clause-itself : goal.decode_choice-returns-in_err-decode_part-clause-itself
+decode_choice-returns-in_err-decode_part-clause-itself g t c =
+    rw (residual _ c.from_residual-in_err-decode_part.ensures.1) (λ n. absurd (not_named _ _ c.in_err-decode_part.ensures.told.1 n))
 
 pub decode_choice-returns-clause-itself : goal.decode_choice-returns-clause-itself
 decode_choice-returns-clause-itself g t c =
-    if_err_map _ _ (λ e m n. inr (inr m)) c.choose.result c.choose.ensures.kind
+    if_err_map _ _ (λ e m n. inr (inr m)) (outcome c.choose.result c.choose.new.out c.choose.new.error) c.choose.ensures.kind
 
-pub decode_list-returns-in_err-value-clause-itself : goal.decode_list-returns-in_err-value-clause-itself
-decode_list-returns-in_err-value-clause-itself g t c =
-    rw (residual _ c.from_residual.ensures.1) (λ n. not_sized (ReadsEachPart (shape_of_type c.args.types.now c.args.below) c.args.ty.now) c.args.tag c.args.constraints.now c.list.result c.list.ensures c.args.decoder.now _ _ (c.in_err-value.ensures.itself n))
-
-pub decode_inside-returns-in_err-inner-clause-itself : goal.decode_inside-returns-in_err-inner-clause-itself
-decode_inside-returns-in_err-inner-clause-itself g t c =
-    rw (residual _ c.from_residual.ensures.1) (λ n. step_none (ReadsEachPart (shape_of_type c.args.types.now c.args.below) c.args.ty.now) c.args.header c.args.decoder.now _ _ c.in_err-inner.ensures.exact)
+pub decode_list-returns-in_err-decode_inside-clause-itself : goal.decode_list-returns-in_err-decode_inside-clause-itself
+decode_list-returns-in_err-decode_inside-clause-itself g t c =
+    rw (residual _ c.from_residual.ensures.1) (λ n. not_sized (ReadsEachPart (shape_of_type c.args.types.now c.args.below) c.args.ty.now) c.args.tag c.args.constraints.now c.list.result c.list.ensures c.args.decoder.now _ _ (c.in_err-decode_inside.ensures.itself n))
 
 pub decode_inside-returns-in-Err-clause-itself : goal.decode_inside-returns-in-Err-clause-itself
 decode_inside-returns-in-Err-clause-itself g t c =
-    λ n. step_refused (ReadsEachPart (shape_of_type c.args.types.now c.args.below) c.args.ty.now) c.args.header c.args.decoder.now _ _ _ c.in_ok-inner.ensures.exact _ c.decode_contents.new.decoder (c.in-Err.ensures.itself (unmoved _ _ _ c.add_after.ensures n))
+    (λ n. step_none (ReadsEachPart (shape_of_type c.args.types.now c.args.below) c.args.ty.now) c.args.header c.args.decoder.now _ _ c.in-Err.ensures.exact)
 
-pub decode_inside-returns-in_err-close-clause-itself : goal.decode_inside-returns-in_err-close-clause-itself
-decode_inside-returns-in_err-close-clause-itself g t c =
-    let w = c.in-Ok.ensures.exact in
-    rw (residual _ c.from_residual-in_err-close.ensures.1)
-    (λ n. step_unclosed (ReadsEachPart (shape_of_type c.args.types.now c.args.below) c.args.ty.now) c.args.header c.args.decoder.now _ _ _ c.in_ok-inner.ensures.exact w.0 _ w.3 _ c.remaining.ensures.value _ _ c.in_err-close.ensures)
+pub decode_inside-returns-in-Err-decode_contents-clause-itself : goal.decode_inside-returns-in-Err-decode_contents-clause-itself
+decode_inside-returns-in-Err-decode_contents-clause-itself g t c =
+    λ n. step_refused (ReadsEachPart (shape_of_type c.args.types.now c.args.below) c.args.ty.now) c.args.header c.args.decoder.now _ _ _ c.in-Ok.ensures.exact _ c.decode_contents.new.decoder (c.in-Err-decode_contents.ensures.itself (unmoved _ _ _ c.add_after.ensures n))
+
+pub decode_inside-returns-in-Err-close-clause-itself : goal.decode_inside-returns-in-Err-close-clause-itself
+decode_inside-returns-in-Err-close-clause-itself g t c =
+    let w = c.in-Ok-decode_contents.ensures.exact in
+    (λ n. step_unclosed (ReadsEachPart (shape_of_type c.args.types.now c.args.below) c.args.ty.now) c.args.header c.args.decoder.now _ _ _ c.in-Ok.ensures.exact w.0 _ w.3 _ c.remaining.ensures.value _ _ c.in-Err-close.ensures)
 
 pub decode_contents-returns-in-Tagged-clause-itself : goal.decode_contents-returns-in-Tagged-clause-itself
 decode_contents-returns-in-Tagged-clause-itself g t c =
@@ -1279,7 +1295,7 @@ decode_contents-returns-in-Tagged-clause-itself g t c =
 
 pub decode_contents-returns-in_err-values-in-Sequence-clause-itself : goal.decode_contents-returns-in_err-values-in-Sequence-clause-itself
 decode_contents-returns-in_err-values-in-Sequence-clause-itself g t c =
-    rw (residual _ c.from_residual.ensures.1, c.in-Sequence.is) (λ n. subst (λ l. StopsInSequence (shape_of_type c.args.types.now c.args.below) l c.args.decoder.now c.in_err-values-in-Sequence.field-0.0) c.deref.ensures.value (c.in_err-values-in-Sequence.ensures.itself n))
+    rw (residual _ c.from_residual.ensures.1, c.in-Sequence.is) (λ n. subst (λ l. StopsInSequence (shape_of_type c.args.types.now c.args.below) l c.args.decoder.now c.decode_sequence.new.walk.error) c.deref.ensures.value (c.in_err-values-in-Sequence.ensures.itself n))
 
 pub decode_contents-returns-in_err-values-in-Set-clause-itself : goal.decode_contents-returns-in_err-values-in-Set-clause-itself
 decode_contents-returns-in_err-values-in-Set-clause-itself g t c =
@@ -1287,7 +1303,7 @@ decode_contents-returns-in_err-values-in-Set-clause-itself g t c =
     let same = c.named_components-extensible.ensures.named ∙ ap (named_components f) c.deref-in-Set.ensures.value in
     let marked = c.named_components-extensible.ensures.extensible ∙ ap (is_extensible f) c.deref-in-Set.ensures.value in
     rw (residual _ c.from_residual-in_err-values-in-Set.ensures.1, c.in-Set.is)
-    (λ n. named_so f c.named_components-extensible.result.1 c.named_components-extensible.result.0.now c.in-Set.components.items marked same (λ b l. StopsInSet f b l c.args.decoder.now c.in_err-values-in-Set.field-0.0) (c.in_err-values-in-Set.ensures.itself n))
+    (λ n. named_so f c.named_components-extensible.result.1 c.named_components-extensible.result.0.now c.in-Set.components.items marked same (λ b l. StopsInSet f b l c.args.decoder.now c.decode_set.new.walk.error) (c.in_err-values-in-Set.ensures.itself n))
 
 pub decode_contents-returns-in_err-found-in-Set-clause-itself : goal.decode_contents-returns-in_err-found-in-Set-clause-itself
 decode_contents-returns-in_err-found-in-Set-clause-itself g t c =
@@ -1301,24 +1317,24 @@ pub decode_contents-returns-in_err-values-in-SetOf-clause-itself : goal.decode_c
 decode_contents-returns-in_err-values-in-SetOf-clause-itself g t c =
     rw (residual _ c.from_residual-in_err-values-in-SetOf.ensures.1, c.in-SetOf.is) c.in_err-values-in-SetOf.ensures.itself
 
-pub decode_elements-returns-in_err-value-clause-itself : goal.decode_elements-returns-in_err-value-clause-itself
-decode_elements-returns-in_err-value-clause-itself g t c =
-    rw (residual _ c.from_residual.ensures.1) (λ n. absurd (not_named _ _ c.in_err-value.ensures.told.1 n))
+pub decode_elements-returns-in_err-decode_part-clause-itself : goal.decode_elements-returns-in_err-decode_part-clause-itself
+decode_elements-returns-in_err-decode_part-clause-itself g t c =
+    rw (residual _ c.from_residual.ensures.1) (λ n. absurd (not_named _ _ c.in_err-decode_part.ensures.told.1 n))
 
 pub decode_elements-returns-in_err-keep-clause-itself : goal.decode_elements-returns-in_err-keep-clause-itself
 decode_elements-returns-in_err-keep-clause-itself g t c =
-    let w = c.in_ok-value.ensures.reads in
+    let w = c.in_ok-decode_part.ensures.reads in
     rw (residual _ c.from_residual-in_err-keep.ensures.1)
     (λ n. element_stops (shape_of_type c.args.types.now c.args.below) c.args.element.0 c.args.decoder.now c.loop-element.decoder _ w.0 w.2 _ (ap length c.remaining-left.ensures.value) _ c.in_err-keep.ensures.kept
     c.loop-element.invariant.0.0 c.loop-element.invariant.0.3)
 
-pub decode_elements_in_order-returns-in_err-value-clause-itself : goal.decode_elements_in_order-returns-in_err-value-clause-itself
-decode_elements_in_order-returns-in_err-value-clause-itself g t c =
-    rw (residual _ c.from_residual.ensures.1) (λ n. absurd (not_named _ _ c.in_err-value.ensures.told.1 n))
+pub decode_elements_in_order-returns-in_err-decode_part-clause-itself : goal.decode_elements_in_order-returns-in_err-decode_part-clause-itself
+decode_elements_in_order-returns-in_err-decode_part-clause-itself g t c =
+    rw (residual _ c.from_residual.ensures.1) (λ n. absurd (not_named _ _ c.in_err-decode_part.ensures.told.1 n))
 
 pub decode_elements_in_order-returns-in_err-keep-clause-itself : goal.decode_elements_in_order-returns-in_err-keep-clause-itself
 decode_elements_in_order-returns-in_err-keep-clause-itself g t c =
-    let w = c.in_ok-value.ensures.reads in
+    let w = c.in_ok-decode_part.ensures.reads in
     rw (residual _ c.from_residual-in_err-keep.ensures.1)
     (λ n. set_element_stops (shape_of_type c.args.types.now c.args.below) c.args.element.0 c.args.decoder.now c.loop-last.decoder _ w.0 w.2 _ (ap length c.remaining-start.ensures.value) _ c.in_err-keep.ensures.kept
     c.loop-last.invariant.0.0 c.loop-last.invariant.0.1 c.loop-last.invariant.0.4)
@@ -1326,7 +1342,7 @@ decode_elements_in_order-returns-in_err-keep-clause-itself g t c =
 pub decode_elements_in_order-returns-then-is_less-clause-itself : goal.decode_elements_in_order-returns-then-is_less-clause-itself
 decode_elements_in_order-returns-then-is_less-clause-itself g t c =
     let i = c.loop-last.invariant.0 in
-    let w = c.in_ok-value.ensures.reads in
+    let w = c.in_ok-decode_part.ensures.reads in
     let k = call_keeps w.2 in
     λ none. inr (
       i.0,
@@ -1343,24 +1359,24 @@ decode_elements_in_order-returns-then-is_less-clause-itself g t c =
           (λ e. c.in_ok-keep.ensures.kept.1 (e ∙ sym (ap length c.remaining-start.ensures.value))),
           strict_before c.loop-last.decoder _ k c.if-is_strict.ensures,
           out_of_order i.1 c.loop-last.last.now c.octets_before-octets.result.now i.6 c.if-is_less.ensures,
-          rules_same c.loop-last.decoder _ (Der SetOfOutOfOrder) c.out_of_order.result k c.out_of_order.ensures,
+          rules_same c.loop-last.decoder _ (Der SetOfOutOfOrder) c.refuse_order.new.error k c.refuse_order.ensures,
         ),
       ),
     )
 
 pub decode_sequence-returns-then-leaves_all_out-clause-itself : goal.decode_sequence-returns-then-leaves_all_out-clause-itself
-decode_sequence-returns-then-leaves_all_out-clause-itself g t c = only_memory (shape_of_type c.args.types.now c.args.below) c.args.components.now c.args.decoder.now _ _ c.all_absent.ensures.memory
+decode_sequence-returns-then-leaves_all_out-clause-itself g t c = only_memory (shape_of_type c.args.types.now c.args.below) c.args.components.now c.args.decoder.now _ _ c.leave_all_out.ensures.memory
 
-pub decode_sequence-returns-in_err-value-clause-itself : goal.decode_sequence-returns-in_err-value-clause-itself
-decode_sequence-returns-in_err-value-clause-itself g t c =
+pub decode_sequence-returns-in_err-decode_component-clause-itself : goal.decode_sequence-returns-in_err-decode_component-clause-itself
+decode_sequence-returns-in_err-decode_component-clause-itself g t c =
     let k = c.loop-rest.invariant in
     let at = split c.loop-rest.rest.now _ c.in-len1-up.len_at_least c.component-item.is in
-    rw (residual _ c.from_residual-in_err-value.ensures.1)
-    (λ n. inr (k.4, c.component-item.result, _, c.loop-rest.decoder, k.5 ∙ ap (λ z. k.4 ++ z) at, k.6, c.in_err-value.ensures.itself n))
+    rw (residual _ c.from_residual-in_err-decode_component.ensures.1)
+    (λ n. inr (k.4, c.component-item.result, _, c.loop-rest.decoder, k.5 ∙ ap (λ z. k.4 ++ z) at, k.6, c.in_err-decode_component.ensures.itself n))
 
-pub decode_sequence-returns-in_err-push-clause-itself : goal.decode_sequence-returns-in_err-push-clause-itself
-decode_sequence-returns-in_err-push-clause-itself g t c =
-    rw (residual _ c.from_residual-in_err-push.ensures.1) (λ n. inl c.in_err-push.ensures.kind)
+pub decode_sequence-returns-in_err-append-clause-itself : goal.decode_sequence-returns-in_err-append-clause-itself
+decode_sequence-returns-in_err-append-clause-itself g t c =
+    rw (residual _ c.from_residual-in_err-append.ensures.1) (λ n. inl c.in_err-append.ensures.kind)
 
 pub decode_component-returns-then-is_always_there-clause-itself : goal.decode_component-returns-then-is_always_there-clause-itself
 decode_component-returns-then-is_always_there-clause-itself g t c =
@@ -1372,7 +1388,7 @@ decode_component-returns-in-Ok-true-clause-itself g t c =
 
 pub decode_component-returns-in-Ok-false-clause-itself : goal.decode_component-returns-in-Ok-false-clause-itself
 decode_component-returns-in-Ok-false-clause-itself g t c =
-    unmade_stops _ (shape_of_type c.args.types.now c.args.below) c.args.component.now c.args.decoder.now _ _ c.missing.ensures.made
+    unmade_stops _ (shape_of_type c.args.types.now c.args.below) c.args.component.now c.args.decoder.now _ _ c.put_missing.ensures.made
 
 pub decode_component-returns-in-Err-clause-itself : goal.decode_component-returns-in-Err-clause-itself
 decode_component-returns-in-Err-clause-itself g t c =
@@ -1382,14 +1398,14 @@ pub decode_present-returns-in_default-clause-itself : goal.decode_present-return
 decode_present-returns-in_default-clause-itself g t c =
     named _ _ _ _ c.decode_part.ensures.told
 
-pub decode_present-returns-in_err-value-clause-itself : goal.decode_present-returns-in_err-value-clause-itself
-decode_present-returns-in_err-value-clause-itself g t c =
-    rw (residual _ c.from_residual.ensures.1) (λ n. absurd (not_named _ _ c.in_err-value.ensures.told.1 n))
+pub decode_present-returns-in_err-decode_compared-clause-itself : goal.decode_present-returns-in_err-decode_compared-clause-itself
+decode_present-returns-in_err-decode_compared-clause-itself g t c =
+    rw (residual _ c.from_residual.ensures.1) (λ n. absurd (not_named _ _ c.in_err-decode_compared.ensures.told.1 n))
 
 pub decode_present-returns-then-means_same-clause-itself : goal.decode_present-returns-then-means_same-clause-itself
 decode_present-returns-then-means_same-clause-itself g t c =
-    let w = c.in_ok-value.ensures.reads in
-    λ n. default_stops (shape_of_type c.args.types.now c.args.below) c.args.component.now c.in-Default.default c.in-Default.is c.args.decoder.now _ w.0 w.2 c.if-not-is_strict.ensures (subst (λ z. Same z (tree_of c.in-Default.default)) (w.1 refl) (c.means_same.ensures.same c.if-means_same.true)) c.default_present.result c.default_present.ensures
+    let w = c.in_ok-decode_compared.ensures.reads in
+    λ n. default_stops (shape_of_type c.args.types.now c.args.below) c.args.component.now c.in-Default.default c.in-Default.is c.args.decoder.now _ w.0 w.2 c.if-not-is_strict.ensures (subst (λ z. Same z (tree_of c.in-Default.default)) (w.1 refl) (c.means_same.ensures.same c.if-means_same.true)) c.refuse_default.new.error c.refuse_default.ensures
 
 pub decode_set-returns-in_err-last-clause-itself : goal.decode_set-returns-in_err-last-clause-itself
 decode_set-returns-in_err-last-clause-itself g t c =
@@ -1417,9 +1433,9 @@ decode_set-returns-in_err-values-clause-itself g t c =
     let k = c.loop-other_id.invariant.0.4 in
     rw (residual _ c.from_residual-in_err-values.ensures.1) (λ n. inr (k.0, k.1, c.loop-other_id.decoder, k.2, inl c.loop-other_id-test.ensures))
 
-pub decode_set-returns-in_err-push-clause-itself : goal.decode_set-returns-in_err-push-clause-itself
-decode_set-returns-in_err-push-clause-itself g t c =
-    rw (residual _ c.from_residual-in_err-push.ensures.1) (λ n. inl c.in_err-push.ensures.kind)
+pub decode_set-returns-in_err-append-clause-itself : goal.decode_set-returns-in_err-append-clause-itself
+decode_set-returns-in_err-append-clause-itself g t c =
+    rw (residual _ c.from_residual-in_err-append.ensures.1) (λ n. inl c.in_err-append.ensures.kind)
 
 pub decode_set_component-returns-in_err-tag-clause-itself : goal.decode_set_component-returns-in_err-tag-clause-itself
 decode_set_component-returns-in_err-tag-clause-itself g t c =
@@ -1435,17 +1451,17 @@ decode_set_component-returns-in_err-other-clause-itself g t c =
     let w = c.in_err-other.ensures.told c.args.types.now (c.requires.1.1.1.1.1.1 extends) in
     rw (residual _ c.from_residual-in_err-other.ensures.1) (λ n. absurd (not_named _ w.0 w.1 n))
 
-pub decode_set_component-returns-in_err-push-clause-itself : goal.decode_set_component-returns-in_err-push-clause-itself
-decode_set_component-returns-in_err-push-clause-itself g t c =
-    rw (residual _ c.from_residual-in_err-push.ensures.1) (λ n. inr (inr (inl c.in_err-push.ensures.kind)))
+pub decode_set_component-returns-in_err-append-clause-itself : goal.decode_set_component-returns-in_err-append-clause-itself
+decode_set_component-returns-in_err-append-clause-itself g t c =
+    rw (residual _ c.from_residual-in_err-append.ensures.1) (λ n. inr (inr (inl c.in_err-append.ensures.kind)))
 
-pub decode_set_component-returns-in_err-value-clause-itself : goal.decode_set_component-returns-in_err-value-clause-itself
-decode_set_component-returns-in_err-value-clause-itself g t c =
-    rw (residual _ c.from_residual-in_err-value.ensures.1) (λ n. inr (inr (inr (c.in-Some.number, c.in-Some.component.now, c.in-Some.ensures.0, inl (c.in_err-value.ensures.itself n)))))
+pub decode_set_component-returns-in_err-decode_present-clause-itself : goal.decode_set_component-returns-in_err-decode_present-clause-itself
+decode_set_component-returns-in_err-decode_present-clause-itself g t c =
+    rw (residual _ c.from_residual-in_err-decode_present.ensures.1) (λ n. inr (inr (inr (c.in-Some.number, c.in-Some.component.now, c.in-Some.ensures.0, inl (c.in_err-decode_present.ensures.itself n)))))
 
 pub decode_set_component-returns-then-remaining-left-clause-itself : goal.decode_set_component-returns-then-remaining-left-clause-itself
 decode_set_component-returns-then-remaining-left-clause-itself g t c =
-    let w = c.in_ok-value.ensures.reads in
+    let w = c.in_ok-decode_present.ensures.reads in
     λ n. inr (inr (inr (
       c.in-Some.number,
       c.in-Some.component.now,
@@ -1502,15 +1518,15 @@ decode_choice-returns-clause-listed g t c =
     let at : Some el ≡ slice_get c.args.alternatives.now c.in-Some.number = subst (λ (a : Alternative). Some a ≡ slice_get c.args.alternatives.now c.in-Some.number) c.index-alternatives-number.is
     (read_at c.args.alternatives.now c.in-Some.number c.index-alternatives-number.result (slice_get_within c.args.alternatives.now c.in-Some.number c.in-Some.ensures.0 (sym c.in-Some.ensures.1.0)) c.index-alternatives-number.is) in
     if_any _ (alternative_listed (shape_of_type c.args.types.now c.args.below) c.args.below (Inside c.args.types.now c.args.below) c.args.alternatives.now c.in-Some.number el c.args.decoder.now _ _ _
-    (c.in_ok-tag.tag, c.in_ok-tag.ensures.next, for_both (shape_of_type c.args.types.now c.args.below) c.args.alternatives.now c.in-Some.number c.in-Some.ensures.0 el c.in_ok-tag.tag c.in-Some.ensures.1 at) c.in_ok-value.ensures.listed)
+    (c.in_ok-tag.tag, c.in_ok-tag.ensures.next, for_both (shape_of_type c.args.types.now c.args.below) c.args.alternatives.now c.in-Some.number c.in-Some.ensures.0 el c.in_ok-tag.tag c.in-Some.ensures.1 at) c.in_ok-decode_part.ensures.listed)
 
 pub decode_list-returns-clause-listed : goal.decode_list-returns-clause-listed
 decode_list-returns-clause-listed g t c =
-    header_listed (shape_of_type c.args.types.now c.args.below) c.args.below (Inside c.args.types.now c.args.below) c.list.result (list_header c.args.tag) c.args.ty.now c.args.decoder.now _ _ c.list.ensures c.in_ok-value.ensures.listed
+    header_listed (shape_of_type c.args.types.now c.args.below) c.args.below (Inside c.args.types.now c.args.below) c.list.result (list_header c.args.tag) c.args.ty.now c.args.decoder.now _ _ c.list.ensures c.in_ok-decode_inside.ensures.listed
 
-pub decode_inside-returns-clause-listed : goal.decode_inside-returns-clause-listed
-decode_inside-returns-clause-listed g t c =
-    inside_listed (shape_of_type c.args.types.now c.args.below) c.args.below (Inside c.args.types.now c.args.below) c.args.ty.now c.args.header c.args.decoder.now _ _ _ _ _ _ _ _ c.in_ok-inner.ensures.exact c.go_inside-after.ensures c.in-Ok.ensures.listed c.go_outside.ensures
+pub decode_inside-returns-in-Ok-close-clause-listed : goal.decode_inside-returns-in-Ok-close-clause-listed
+decode_inside-returns-in-Ok-close-clause-listed g t c =
+    inside_listed (shape_of_type c.args.types.now c.args.below) c.args.below (Inside c.args.types.now c.args.below) c.args.ty.now c.args.header c.args.decoder.now _ _ _ _ _ _ _ _ c.in-Ok.ensures.exact c.go_inside-after.ensures c.in-Ok-decode_contents.ensures.listed c.go_outside.ensures
 
 pub decode_contents-returns-in-Tagged-clause-listed : goal.decode_contents-returns-in-Tagged-clause-listed
 decode_contents-returns-in-Tagged-clause-listed g t c =
@@ -1526,8 +1542,8 @@ decode_contents-returns-in_ok-values-in-Set-clause-listed g t c =
     let same = c.named_components-extensible.ensures.named ∙ ap (named_components f) c.deref-in-Set.ensures.value in
     let marked = c.named_components-extensible.ensures.extensible ∙ ap (is_extensible f) c.deref-in-Set.ensures.value in
     contents_same f c.args.below (Inside c.args.types.now c.args.below) c.args.ty.now _ c.args.decoder.now _ _ c.in-Set.is
-    (named_so f c.named_components-extensible.result.1 c.named_components-extensible.result.0.now c.in-Set.components.items marked same (λ b l. Lists (λ n es. MembersListed f c.args.below (Inside c.args.types.now c.args.below) b l (last_type c.in-Set.components.items) n c.args.decoder.now es) c.args.spans.now c.decode_set.new.spans)
-    (subst (λ k. Lists (λ n es. MembersListed f c.args.below (Inside c.args.types.now c.args.below) c.named_components-extensible.result.1 c.named_components-extensible.result.0.now k n c.args.decoder.now es) c.args.spans.now c.decode_set.new.spans)
+    (named_so f c.named_components-extensible.result.1 c.named_components-extensible.result.0.now c.in-Set.components.items marked same (λ b l. Lists (λ n es. MembersListed f c.args.below (Inside c.args.types.now c.args.below) b l (last_type c.in-Set.components.items) n c.args.decoder.now es) c.args.walk.now.spans c.decode_set.new.walk.spans)
+    (subst (λ k. Lists (λ n es. MembersListed f c.args.below (Inside c.args.types.now c.args.below) c.named_components-extensible.result.1 c.named_components-extensible.result.0.now k n c.args.decoder.now es) c.args.walk.now.spans c.decode_set.new.walk.spans)
     (c.last_type-other_id.ensures ∙ ap last_type c.deref-in-Set-2.ensures.value) c.in_ok-values-in-Set.ensures.listed))
 
 pub decode_contents-returns-in_ok-values-in-SequenceOf-clause-listed : goal.decode_contents-returns-in_ok-values-in-SequenceOf-clause-listed
@@ -1568,7 +1584,7 @@ decode_set-returns-clause-listed g t c =
     members_listed (shape_of_type c.args.types.now c.args.below) c.args.below (Inside c.args.types.now c.args.below) c.args.extensible c.args.components.now c.args.other_id.0 c.loop-other_id.invariant.4 c.args.decoder.now c.loop-other_id.decoder _ _ c.loop-other_id-test.ensures c.loop-other_id.invariant.5
 
 pub decode_set_component-returns-clause-listed : goal.decode_set_component-returns-clause-listed
-decode_set_component-returns-clause-listed g t c = member_listed (shape_of_type c.args.types.now c.args.below) c.args.below (Inside c.args.types.now c.args.below) c.args.extensible c.args.components.now c.args.other_id.0 c.in-Some.number c.in-Some.component.now c.args.decoder.now _ _ _ c.in-Some.ensures.0 c.in_ok-value.ensures.listed
+decode_set_component-returns-clause-listed g t c = member_listed (shape_of_type c.args.types.now c.args.below) c.args.below (Inside c.args.types.now c.args.below) c.args.extensible c.args.components.now c.args.other_id.0 c.in-Some.number c.in-Some.component.now c.args.decoder.now _ _ _ c.in-Some.ensures.0 c.in_ok-decode_present.ensures.listed
 
 pub decode_set_component-returns-in_default-clause-listed : goal.decode_set_component-returns-in_default-clause-listed
 decode_set_component-returns-in_default-clause-listed g t c =
@@ -1578,5 +1594,5 @@ decode_set_component-returns-in_default-clause-listed g t c =
 pub decode_compared-returns-in-None-clause-listed : goal.decode_compared-returns-in-None-clause-listed
 decode_compared-returns-in-None-clause-listed g t c =
     let w = c.in-None.ensures.reads in
-    let P : State → Spans → Type 0 = λ z o. IfOk c.decode_part.result (λ v. Lists (λ b es. PartListed (shape_of_type c.args.types.now c.args.levels) c.args.levels (Inside c.args.types.now c.args.levels) c.args.id.0 c.args.index b z c.decode_part.new.decoder es) o c.decode_part.new.spans) in
-    subst (λ o. P c.args.decoder.now o) c.in-None.ensures.listed (subst (λ z. P z c.decode_value.new.spans) w.1 c.decode_part.ensures.listed)
+    let P : State → Spans → Type 0 = λ z o. IfOk (outcome c.decode_part.result c.decode_part.new.out c.decode_part.new.walk.error) (λ v. Lists (λ b es. PartListed (shape_of_type c.args.types.now c.args.levels) c.args.levels (Inside c.args.types.now c.args.levels) c.args.id.0 c.args.index b z c.decode_part.new.decoder es) o c.decode_part.new.walk.spans) in
+    subst (λ o. P c.args.decoder.now o) c.in-None.ensures.listed (subst (λ z. P z c.decode_value.new.walk.spans) w.1 c.decode_part.ensures.listed)

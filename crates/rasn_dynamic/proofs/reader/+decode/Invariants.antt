@@ -69,8 +69,8 @@ decreases-decode_set_component g l = 16 * l.below + 7
 
 abbrev pub invariant-decode_elements-loop-element : goal.invariant-decode_elements-loop-element
 invariant-decode_elements-loop-element g l = ((ts : List Tree) × (g.M.Made.KEEP ≡ true → map tree_of l.values.items ≡ ts) × (l.count ≡ length ts) × DecodesInTurn (DecodesTree (shape_of_type l.types l.below l.element.0)) l.fn.decoder ts l.decoder)
-    × (g.M.Made.KEEP ≡ true → EachFits (Fits l.types l.below l.element.0) l.values.items) × (l.trace ≡ None)
-    × Lists (λ b es. InTurn (λ k. PartListed (shape_of_type l.types l.below) l.below (Inside l.types l.below) l.element.0 k b) l.count l.fn.decoder l.decoder es) l.fn.spans l.spans
+    × (g.M.Made.KEEP ≡ true → EachFits (Fits l.types l.below l.element.0) l.values.items) × (l.walk.fault ≡ None)
+    × Lists (λ b es. InTurn (λ k. PartListed (shape_of_type l.types l.below) l.below (Inside l.types l.below) l.element.0 k b) l.count l.fn.decoder l.decoder es) l.fn.walk.spans l.walk.spans
 
 abbrev pub decreases-decode_elements-loop-element : goal.decreases-decode_elements-loop-element
 decreases-decode_elements-loop-element g l = length l.decoder.rest
@@ -78,8 +78,8 @@ decreases-decode_elements-loop-element g l = length l.decoder.rest
 abbrev pub invariant-decode_elements_in_order-loop-last : goal.invariant-decode_elements_in_order-loop-last
 invariant-decode_elements_in_order-loop-last g l = ((ts : List Tree) × (bs : List (List ℕ)) × (g.M.Made.KEEP ≡ true → map tree_of l.values.items ≡ ts) × (l.count ≡ length ts)
     × DecodesInTurnFrom (DecodesTree (shape_of_type l.types l.below l.element.0)) l.fn.decoder ts bs l.decoder × (IsStrict l.fn.decoder.rule → AreAscending IsLess bs) × EndsBy bs l.last)
-    × (g.M.Made.KEEP ≡ true → EachFits (Fits l.types l.below l.element.0) l.values.items) × (l.trace ≡ None)
-    × Lists (λ b es. InTurn (λ k. PartListed (shape_of_type l.types l.below) l.below (Inside l.types l.below) l.element.0 k b) l.count l.fn.decoder l.decoder es) l.fn.spans l.spans
+    × (g.M.Made.KEEP ≡ true → EachFits (Fits l.types l.below l.element.0) l.values.items) × (l.walk.fault ≡ None)
+    × Lists (λ b es. InTurn (λ k. PartListed (shape_of_type l.types l.below) l.below (Inside l.types l.below) l.element.0 k b) l.count l.fn.decoder l.decoder es) l.fn.walk.spans l.walk.spans
 
 abbrev pub decreases-decode_elements_in_order-loop-last : goal.decreases-decode_elements_in_order-loop-last
 decreases-decode_elements_in_order-loop-last g l = length l.decoder.rest
@@ -87,9 +87,9 @@ decreases-decode_elements_in_order-loop-last g l = length l.decoder.rest
 abbrev pub invariant-decode_sequence-loop-rest : goal.invariant-decode_sequence-loop-rest
 invariant-decode_sequence-loop-rest g l = ((ts : List Tree) × (g.M.Made.KEEP ≡ true → map tree_of l.values.items ≡ ts)
     × PartsSoFar (components_by (shape_of_type l.types l.below) l.components) (components_by (shape_of_type l.types l.below) l.rest) ts l.fn.decoder l.decoder)
-    × AreReadable (components_by (shape_of_type l.types l.below) l.rest) × (g.M.Made.KEEP ≡ true → FitSoFar (Fits l.types l.below) l.components l.rest l.values.items) × (l.trace ≡ None)
+    × AreReadable (components_by (shape_of_type l.types l.below) l.rest) × (g.M.Made.KEEP ≡ true → FitSoFar (Fits l.types l.below) l.components l.rest l.values.items) × (l.walk.fault ≡ None)
     × (done : List Component) × (l.components ≡ done ++ l.rest) × ComponentsInTurn (shape_of_type l.types l.below) done l.fn.decoder l.decoder
-    × Lists (λ b es. InTurn (ComponentAt (shape_of_type l.types l.below) l.below (Inside l.types l.below) l.components b) (length done) l.fn.decoder l.decoder es) l.fn.spans l.spans
+    × Lists (λ b es. InTurn (ComponentAt (shape_of_type l.types l.below) l.below (Inside l.types l.below) l.components b) (length done) l.fn.decoder l.decoder es) l.fn.walk.spans l.walk.spans
 
 abbrev pub decreases-decode_sequence-loop-rest : goal.decreases-decode_sequence-loop-rest
 decreases-decode_sequence-loop-rest g l = length l.rest
@@ -97,8 +97,8 @@ decreases-decode_sequence-loop-rest g l = length l.rest
 abbrev pub invariant-decode_set-loop-other_id : goal.invariant-decode_set-loop-other_id
 invariant-decode_set-loop-other_id g l = ((slots : List (Option Tree)) × (us : List Tree) × HoldsSlots g.M.Made.KEEP l.found.items slots × HoldsUnknown g.M.Made.KEEP l.unknown.items us
     × ReadTo l.extensible (components_by (shape_of_type l.types l.below) l.components) (names_of l.components) l.fn.decoder l.decoder l.last l.twice slots us × (l.extensible ≡ false → us ≡ []))
-    × FoundFit (λ k v. g.M.Made.KEEP ≡ true → Fits l.types l.below k v) l.components l.found.items × (g.M.Made.KEEP ≡ true → EachFits AreOctets l.unknown.items) × (l.trace ≡ None)
-    × (n : ℕ) × Lists (λ b es. InTurn (λ k. MemberListed (shape_of_type l.types l.below) l.below (Inside l.types l.below) l.extensible l.components l.other_id.0 b) n l.fn.decoder l.decoder es) l.fn.spans l.spans
+    × FoundFit (λ k v. g.M.Made.KEEP ≡ true → Fits l.types l.below k v) l.components l.found.items × (g.M.Made.KEEP ≡ true → EachFits AreOctets l.unknown.items) × (l.walk.fault ≡ None)
+    × (n : ℕ) × Lists (λ b es. InTurn (λ k. MemberListed (shape_of_type l.types l.below) l.below (Inside l.types l.below) l.extensible l.components l.other_id.0 b) n l.fn.decoder l.decoder es) l.fn.walk.spans l.walk.spans
 
 abbrev pub decreases-decode_set-loop-other_id : goal.decreases-decode_set-loop-other_id
 decreases-decode_set-loop-other_id g l = length l.decoder.rest
