@@ -10,17 +10,18 @@ ghost use Rattle.rasn_de.specs.SequenceOf.{DecodesElements, DecodesElementsInOrd
 ghost use Rattle.rasn_de.specs.Optional.{NextIs};
 ghost use Rattle.rasn_de.specs.PartTypes.{FailsAtPart, FailsAtOnePart};
 ghost use Rattle.rasn_de.specs.SetPartTypes.{DecodesSetPartContents};
-ghost use Rattle.rasn_dynamic.specs.Sets.{AreLawfulMembers};
+ghost use Rattle.rasn_dynamic.specs.Sets.{AreLawfulMembers, is_extensible, named_components as named_in, last_type as last_in};
 ghost use Rattle.rasn_de.specs.Steps.{IsErrorOf};
 ghost use Rattle.rasn_de.specs.declared.ber.de.parser.ParseError.TheVariants.{UnexpectedExtraData, UnexpectedEmptyInput, OutOfMemory, SizeConstraintNotSatisfied, Der};
 ghost use Rattle.rasn_schema.specs.declared.types.«Type».{«Type»};
+ghost use Rattle.rasn_schema.specs.declared.value.Value.{Items, Elements};
 ghost use Rattle.rasn_schema.specs.Trees.{tree_of};
 ghost use Rattle.rasn_schema.specs.Shapes.{shape_of_type, type_by, alternatives_by, choice_among, components_by, key_of, presence_in, presence_of, IsReadable, AreReadable};
 ghost use Rattle.rasn_dynamic.specs.Inside.{ReadsSequence, DecodesTree, DecodesComponent};
 ghost use Rattle.rasn_dynamic.specs.Making.{Making, Counting, IsLength, outcome, reported, trees_of, these};
-ghost use Rattle.rasn_dynamic.specs.Typed.{element_count, IsSized, HoldsOthers, HoldsElements, CountsElements, MayRunOut, DecodesContents, DecodesType};
+ghost use Rattle.rasn_dynamic.specs.Typed.{Makes, DecodesComponents, elements, element_count, IsSized, HoldsOthers, HoldsElements, CountsElements, MayRunOut, DecodesContents, DecodesType};
 ghost use Rattle.rasn_dynamic.specs.Calls.{Gathers, any_required, is_required, IsMade, AreSettled, nones, names_of, IsKept, DecodesPresent, DecodesMember, IsNoAlternative, IsNoMember};
-ghost use Rattle.rasn_schema.specs.Fitting.{Fits, FitsBy, IsChosen, AlternativeFits, ComponentFits, ComponentsFit, EachFits, AreOctets as AreOctetsValue};
+ghost use Rattle.rasn_schema.specs.Fitting.{Fits, FitsBy, IsChosen, AlternativeFits, ComponentFits, ComponentsFit, EachFits, AreItems, AreElements, AreOctets as AreOctetsValue};
 ghost use Rattle.rasn_dynamic.specs.Found.{FoundFit, MembersFit};
 ghost use Rattle.rasn_dynamic.specs.Faults.{IsFault, IsFaultIn, IsFaultOf, IsFaultInside, IsOnly, IsAlternativeAt, IsElementAt, IsComponentAt, IsMemberHere, IsMemberAfter, IsAnyPart, Told, TellsOf, FailsAt, FailsItself, ReadsEachPart, StopsAtChoice, StopsInside, StopsInElements, StopsInOrder, StopsInSequence, StopsAtComponent, IsDefaultWritten, StopsInSet, StopsAtMember};
 ghost use Rattle.rasn_dynamic.specs.Listed.{Lists, Inside, PartsInside, PartListed, UnknownListed, ValueListed, AlternativeListed, InsideListed, ContentsListed, ElementsListed, ComponentsListed, ComponentListed, MembersListed, MemberListed};
@@ -169,23 +170,47 @@ fn append<'input, M: Made>(
     }
 }
 
-/// Appends a value, where values are kept. It must have taken some of the input.
+/// Moves a value to the end of a list, where values are kept.
+#[inline(always)]
+fn take<'input, M: Made>(
+    decoder: &Decoder<'input>,
+    error: &mut DecodeError,
+    value: &mut Value<'input>,
+    values: &mut Vec<Value<'input>>,
+) -> Result<(), Refused>
+    ensures ok { M.KEEP ≡ true → OnOk result (values.new.items ≡ values.old.items ++ value.old ∷ []) }
+    ensures memory { IfErr (reported result error.new) (IsErrorOf OutOfMemory decoder.now) }
+    ensures kind { IfErr (reported result error.new) (λ e. IsOutOfMemory e.kind) }
+    ensures rules { IfErr (reported result error.new) (λ e. e.codec ≡ decoder.now.rule) }
+{
+    if !M::KEEP {
+        return Ok(());
+    }
+    append::<M>(
+        decoder,
+        error,
+        values,
+        std::mem::replace(value, Value::Absent),
+    )
+}
+
+/// Moves a value to the end of a list, where values are kept. It must have taken some of the input.
 #[inline(always)]
 fn keep<'input, M: Made>(
     decoder: &Decoder<'input>,
     error: &mut DecodeError,
     left: usize,
-    value: Value<'input>,
+    value: &mut Value<'input>,
     values: &mut Vec<Value<'input>>,
 ) -> Result<(), Refused>
-    ensures kept { IsKept M.KEEP left decoder.now value.entry values.old.items (reported result error.new) values.new.items }
+    ensures kept { IsKept M.KEEP left decoder.now value.old values.old.items (reported result error.new) values.new.items }
     ensures rules { IfErr (reported result error.new) (λ e. e.codec ≡ decoder.now.rule) }
 {
     if decoder.remaining().len() == left {
         refuse_extra(error, decoder, left);
         return Err(Refused);
     }
-    append::<M>(decoder, error, values, value)
+    take::<M>(decoder, error, value, values)
 }
 
 /// Returns an error if the number of elements isn't within the bound.
@@ -257,6 +282,26 @@ fn list_for<'input, M: Made>(
     }
 }
 
+/// Makes a value of those that it holds in order, where values are kept.
+#[inline(always)]
+fn put_items<'input, M: Made>(values: Vec<Value<'input>>, out: &mut Value<'input>)
+    ensures { M.KEEP ≡ true → out.new ≡ Items values.entry }
+{
+    if M::KEEP {
+        *out = Value::Items(values);
+    }
+}
+
+/// Makes a value of those that it holds in any order, where values are kept.
+#[inline(always)]
+fn put_in_any_order<'input, M: Made>(values: Vec<Value<'input>>, out: &mut Value<'input>)
+    ensures { M.KEEP ≡ true → out.new ≡ Elements values.entry }
+{
+    if M::KEEP {
+        *out = Value::Elements(values);
+    }
+}
+
 /// Returns the values of components that are all absent, where values are kept.
 #[cold]
 #[inline(never)]
@@ -264,14 +309,18 @@ fn leave_all_out<'input, M: Made>(
     decoder: &Decoder<'input>,
     error: &mut DecodeError,
     components: &[Component],
-) -> Result<Vec<Value<'input>>, Refused>
+    values: &mut Vec<Value<'input>>,
+) -> Result<(), Refused>
     requires { any_required components.now ≡ false }
-    ensures settled { M.KEEP ≡ true → IfOk (reported result error.new) (λ v. AreSettled components.now (nones components.now) v.items) }
-    ensures memory { IfErr (reported result error.new) (λ e. IsOutOfMemory e.kind) }
-    ensures rules { IfErr (reported result error.new) (λ e. e.codec ≡ decoder.now.rule) }
+    ensures settled { M.KEEP ≡ true → IfOk (outcome result values.new error.new) (λ v. AreSettled components.now (nones components.now) v.items) }
+    ensures memory { IfErr (outcome result values.new error.new) (λ e. IsOutOfMemory e.kind) }
+    ensures rules { IfErr (outcome result values.new error.new) (λ e. e.codec ≡ decoder.now.rule) }
 {
     match all_absent::<M>(decoder, components) {
-        Ok(values) => Ok(values),
+        Ok(all) => {
+            *values = all;
+            Ok(())
+        }
         Err(fault) => {
             *error = fault;
             Err(Refused)
@@ -443,7 +492,7 @@ pub fn decode_part<'input, M: Made>(
 
 /// Reads such a part and makes its value, even if the reader makes none.
 #[cycle(decode)]
-#[inline(always)]
+#[inline(never)]
 fn decode_compared<'input, M: Made>(
     decoder: &mut Decoder<'input>,
     walk: &mut Walk<'input>,
@@ -724,6 +773,7 @@ fn decode_inside<'input, M: Made>(
 
 /// Reads the contents of a value that holds other values.
 #[cycle(decode)]
+#[inline(always)]
 fn decode_contents<'input, M: Made>(
     decoder: &mut Decoder<'input>,
     walk: &mut Walk<'input>,
@@ -747,50 +797,139 @@ fn decode_contents<'input, M: Made>(
     match ty {
         Type::Tagged { inner, .. } => decode_part::<M>(decoder, walk, types, below, *inner, 0, out),
         Type::Sequence { components, .. } => {
-            let values = decode_sequence::<M>(decoder, walk, types, below, components)?;
-            *out = Value::Items(values);
-            Ok(())
+            put_sequence::<M>(decoder, walk, types, below, components, out)
         }
         Type::SequenceOf { element, .. } => {
-            let values = decode_elements::<M>(decoder, walk, types, below, *element, count)?;
-            *out = Value::Items(values);
-            Ok(())
+            put_elements::<M>(decoder, walk, types, below, *element, count, out)
         }
         Type::SetOf { element, .. } => {
-            let values = decode_elements_in_order::<M>(
-                decoder, walk, types, below, *element, count,
-            )?;
-            *out = Value::Elements(values);
-            Ok(())
+            put_elements_in_order::<M>(decoder, walk, types, below, *element, count, out)
         }
         Type::Set {
             name,
             components,
             ..
-        } => {
-            let (named, extensible) = named_components(types, below, components);
-            let other_id = last_type(components);
-            let found = start_components(decoder, &mut walk.error, named)?;
-            let values = decode_set::<M>(
-                decoder,
-                walk,
-                types,
-                below,
-                name.as_str(),
-                named,
-                extensible,
-                other_id,
-                found,
-            )?;
-            *out = Value::Items(values);
-            Ok(())
-        }
+        } => { put_set::<M>(decoder, walk, types, below, name.as_str(), components, out) }
         _ => unreachable!(),
     }
 }
 
+/// Reads the components of a SEQUENCE as its value.
+#[cycle(decode)]
+#[inline(always)]
+fn put_sequence<'input, M: Made>(
+    decoder: &mut Decoder<'input>,
+    walk: &mut Walk<'input>,
+    types: &[Type],
+    below: usize,
+    components: &[Component],
+    out: &mut Value<'input>,
+) -> Result<(), Refused>
+    requires lawful { AreReadable (components_by (shape_of_type types.now below) components.now) }
+    requires clear { walk.old.fault ≡ None }
+    ensures exact { Making M.KEEP tree_of (Makes items (DecodesComponents (components_by (shape_of_type types.now below) components.now))) decoder.old (outcome result out.new walk.new.error) decoder.new }
+    ensures fits { M.KEEP ≡ true → IfOk (outcome result out.new walk.new.error) (AreItems (ComponentsFit (Fits types.now below) components.now)) }
+    ensures rules { IfErr (outcome result out.new walk.new.error) (λ e. e.codec ≡ decoder.old.rule) }
+    ensures told { Told (IsFaultIn types.now below (IsComponentAt (shape_of_type types.now below) components.now decoder.old) decoder.old decoder.old) (outcome result out.new walk.new.error) walk.new.fault }
+    ensures itself { IfErr (outcome result out.new walk.new.error) (λ e. walk.new.fault ≡ None → StopsInSequence (shape_of_type types.now below) components.now decoder.old e) }
+    ensures listed { IfOk (outcome result out.new walk.new.error) (λ v. Lists (λ b es. ComponentsListed (shape_of_type types.now below) below (Inside types.now below) components.now b decoder.old es) walk.old.spans walk.new.spans) }
+{
+    let mut values = list_for::<M>(decoder, &mut walk.error, components.len())?;
+    decode_sequence::<M>(decoder, walk, types, below, components, &mut values)?;
+    put_items::<M>(values, out);
+    Ok(())
+}
+
+/// Reads elements as the value of a SEQUENCE OF.
+#[cycle(decode)]
+#[inline(always)]
+fn put_elements<'input, M: Made>(
+    decoder: &mut Decoder<'input>,
+    walk: &mut Walk<'input>,
+    types: &[Type],
+    below: usize,
+    element: TypeId,
+    count: &mut usize,
+    out: &mut Value<'input>,
+) -> Result<(), Refused>
+    requires lawful { IsReadable (shape_of_type types.now below element.0) }
+    requires counts { count.old ≡ 0 }
+    requires clear { walk.old.fault ≡ None }
+    ensures exact { Counting M.KEEP tree_of (λ n t. n ≡ element_count t) (Makes items (DecodesElements (DecodesTree (shape_of_type types.now below element.0)) these)) decoder.old (outcome result out.new walk.new.error) decoder.new count.new }
+    ensures fits { M.KEEP ≡ true → IfOk (outcome result out.new walk.new.error) (AreItems (EachFits (Fits types.now below element.0))) }
+    ensures rules { IfErr (outcome result out.new walk.new.error) (λ e. e.codec ≡ decoder.old.rule) }
+    ensures told { Told (IsFaultIn types.now below (IsElementAt (shape_of_type types.now below) element.0 decoder.old) decoder.old decoder.old) (outcome result out.new walk.new.error) walk.new.fault }
+    ensures itself { IfErr (outcome result out.new walk.new.error) (λ e. walk.new.fault ≡ None → StopsInElements (shape_of_type types.now below) element.0 decoder.old e) }
+    ensures listed { IfOk (outcome result out.new walk.new.error) (λ v. Lists (λ b es. ElementsListed (shape_of_type types.now below) below (Inside types.now below) element.0 b decoder.old es) walk.old.spans walk.new.spans) }
+{
+    let mut values = Vec::new(decoder.alloc());
+    decode_elements::<M>(decoder, walk, types, below, element, count, &mut values)?;
+    put_items::<M>(values, out);
+    Ok(())
+}
+
+/// Reads elements as the value of a SET OF.
+#[cycle(decode)]
+#[inline(always)]
+fn put_elements_in_order<'input, M: Made>(
+    decoder: &mut Decoder<'input>,
+    walk: &mut Walk<'input>,
+    types: &[Type],
+    below: usize,
+    element: TypeId,
+    count: &mut usize,
+    out: &mut Value<'input>,
+) -> Result<(), Refused>
+    requires lawful { IsReadable (shape_of_type types.now below element.0) }
+    requires counts { count.old ≡ 0 }
+    requires clear { walk.old.fault ≡ None }
+    ensures exact { Counting M.KEEP tree_of (λ n t. n ≡ element_count t) (Makes elements (DecodesElementsInOrder (DecodesTree (shape_of_type types.now below element.0)) these)) decoder.old (outcome result out.new walk.new.error) decoder.new count.new }
+    ensures fits { M.KEEP ≡ true → IfOk (outcome result out.new walk.new.error) (AreElements (EachFits (Fits types.now below element.0))) }
+    ensures rules { IfErr (outcome result out.new walk.new.error) (λ e. e.codec ≡ decoder.old.rule) }
+    ensures told { Told (IsFaultIn types.now below (IsElementAt (shape_of_type types.now below) element.0 decoder.old) decoder.old decoder.old) (outcome result out.new walk.new.error) walk.new.fault }
+    ensures itself { IfErr (outcome result out.new walk.new.error) (λ e. walk.new.fault ≡ None → StopsInOrder (shape_of_type types.now below) element.0 decoder.old e) }
+    ensures listed { IfOk (outcome result out.new walk.new.error) (λ v. Lists (λ b es. ElementsListed (shape_of_type types.now below) below (Inside types.now below) element.0 b decoder.old es) walk.old.spans walk.new.spans) }
+{
+    let mut values = Vec::new(decoder.alloc());
+    decode_elements_in_order::<M>(decoder, walk, types, below, element, count, &mut values)?;
+    put_in_any_order::<M>(values, out);
+    Ok(())
+}
+
+/// Reads the components of a SET as its value.
+#[cycle(decode)]
+#[inline(never)]
+fn put_set<'input, M: Made>(
+    decoder: &mut Decoder<'input>,
+    walk: &mut Walk<'input>,
+    types: &[Type],
+    below: usize,
+    name: &str,
+    components: &[Component],
+    out: &mut Value<'input>,
+) -> Result<(), Refused>
+    requires lawful { AreLawfulMembers (components_by (shape_of_type types.now below) (named_in (shape_of_type types.now below) components.now)) }
+    requires clear { walk.old.fault ≡ None }
+    ensures exact { Making M.KEEP tree_of (Makes items (MayRunOut (DecodesSetPartContents (is_extensible (shape_of_type types.now below) components.now) (components_by (shape_of_type types.now below) (named_in (shape_of_type types.now below) components.now)) items (names_of (named_in (shape_of_type types.now below) components.now))))) decoder.old (outcome result out.new walk.new.error) decoder.new }
+    ensures fits { M.KEEP ≡ true → IfOk (outcome result out.new walk.new.error) (AreItems (ComponentsFit (Fits types.now below) components.now)) }
+    ensures rules { IfErr (outcome result out.new walk.new.error) (λ e. e.codec ≡ decoder.old.rule) }
+    ensures told { Told (IsFaultIn types.now below (IsMemberAfter (shape_of_type types.now below) (is_extensible (shape_of_type types.now below) components.now) (named_in (shape_of_type types.now below) components.now) (last_in components.now) decoder.old) decoder.old decoder.old) (outcome result out.new walk.new.error) walk.new.fault }
+    ensures itself { IfErr (outcome result out.new walk.new.error) (λ e. walk.new.fault ≡ None → StopsInSet (shape_of_type types.now below) (is_extensible (shape_of_type types.now below) components.now) (named_in (shape_of_type types.now below) components.now) decoder.old e) }
+    ensures listed { IfOk (outcome result out.new walk.new.error) (λ v. Lists (λ b es. MembersListed (shape_of_type types.now below) below (Inside types.now below) (is_extensible (shape_of_type types.now below) components.now) (named_in (shape_of_type types.now below) components.now) (last_in components.now) b decoder.old es) walk.old.spans walk.new.spans) }
+{
+    let (named, extensible) = named_components(types, below, components);
+    let other_id = last_type(components);
+    let found = start_components(decoder, &mut walk.error, named)?;
+    let values = decode_set::<M>(
+        decoder, walk, types, below, name, named, extensible, other_id, found,
+    )?;
+    put_items::<M>(values, out);
+    Ok(())
+}
+
 /// Reads elements up to the end of the contents (X.690 8.10).
 #[cycle(decode)]
+#[inline(always)]
 fn decode_elements<'input, M: Made>(
     decoder: &mut Decoder<'input>,
     walk: &mut Walk<'input>,
@@ -798,32 +937,34 @@ fn decode_elements<'input, M: Made>(
     below: usize,
     element: TypeId,
     count: &mut usize,
-) -> Result<Vec<Value<'input>>, Refused>
+    values: &mut Vec<Value<'input>>,
+) -> Result<(), Refused>
     requires lawful { IsReadable (shape_of_type types.now below element.0) }
     requires counts { count.old ≡ 0 }
+    requires empty { values.old.items ≡ [] }
     requires clear { walk.old.fault ≡ None }
-    ensures reads { Counting M.KEEP trees_of IsLength (DecodesElements (DecodesTree (shape_of_type types.now below element.0)) these) decoder.old (reported result walk.new.error) decoder.new count.new }
-    ensures fits { M.KEEP ≡ true → IfOk (reported result walk.new.error) (λ v. EachFits (Fits types.now below element.0) v.items) }
-    ensures rules { IfErr (reported result walk.new.error) (λ e. e.codec ≡ decoder.old.rule) }
-    ensures told { Told (IsFaultIn types.now below (IsElementAt (shape_of_type types.now below) element.0 decoder.old) decoder.old decoder.old) (reported result walk.new.error) walk.new.fault }
-    ensures itself { IfErr (reported result walk.new.error) (λ e. walk.new.fault ≡ None → StopsInElements (shape_of_type types.now below) element.0 decoder.old e) }
-    ensures listed { IfOk (reported result walk.new.error) (λ v. Lists (λ b es. ElementsListed (shape_of_type types.now below) below (Inside types.now below) element.0 b decoder.old es) walk.old.spans walk.new.spans) }
+    ensures reads { Counting M.KEEP trees_of IsLength (DecodesElements (DecodesTree (shape_of_type types.now below element.0)) these) decoder.old (outcome result values.new walk.new.error) decoder.new count.new }
+    ensures fits { M.KEEP ≡ true → IfOk (outcome result values.new walk.new.error) (λ v. EachFits (Fits types.now below element.0) v.items) }
+    ensures rules { IfErr (outcome result values.new walk.new.error) (λ e. e.codec ≡ decoder.old.rule) }
+    ensures told { Told (IsFaultIn types.now below (IsElementAt (shape_of_type types.now below) element.0 decoder.old) decoder.old decoder.old) (outcome result values.new walk.new.error) walk.new.fault }
+    ensures itself { IfErr (outcome result values.new walk.new.error) (λ e. walk.new.fault ≡ None → StopsInElements (shape_of_type types.now below) element.0 decoder.old e) }
+    ensures listed { IfOk (outcome result values.new walk.new.error) (λ v. Lists (λ b es. ElementsListed (shape_of_type types.now below) below (Inside types.now below) element.0 b decoder.old es) walk.old.spans walk.new.spans) }
 {
-    let mut values = Vec::new(decoder.alloc());
     // Each element takes some of these octets, so their number has this type.
     let _ = octets_left(decoder);
+    let mut value = Value::Absent;
     while !decoder.has_ended() {
         let left = decoder.remaining().len();
-        let mut value = Value::Absent;
         decode_part::<M>(decoder, walk, types, below, element, *count, &mut value)?;
-        keep::<M>(decoder, &mut walk.error, left, value, &mut values)?;
+        keep::<M>(decoder, &mut walk.error, left, &mut value, values)?;
         *count += 1;
     }
-    Ok(values)
+    Ok(())
 }
 
 /// Reads elements up to the end of the contents. Under DER their octets have to be in ascending order (X.690 11.6).
 #[cycle(decode)]
+#[inline(always)]
 fn decode_elements_in_order<'input, M: Made>(
     decoder: &mut Decoder<'input>,
     walk: &mut Walk<'input>,
@@ -831,26 +972,27 @@ fn decode_elements_in_order<'input, M: Made>(
     below: usize,
     element: TypeId,
     count: &mut usize,
-) -> Result<Vec<Value<'input>>, Refused>
+    values: &mut Vec<Value<'input>>,
+) -> Result<(), Refused>
     requires lawful { IsReadable (shape_of_type types.now below element.0) }
     requires counts { count.old ≡ 0 }
+    requires empty { values.old.items ≡ [] }
     requires clear { walk.old.fault ≡ None }
-    ensures reads { Counting M.KEEP trees_of IsLength (DecodesElementsInOrder (DecodesTree (shape_of_type types.now below element.0)) these) decoder.old (reported result walk.new.error) decoder.new count.new }
-    ensures fits { M.KEEP ≡ true → IfOk (reported result walk.new.error) (λ v. EachFits (Fits types.now below element.0) v.items) }
-    ensures rules { IfErr (reported result walk.new.error) (λ e. e.codec ≡ decoder.old.rule) }
-    ensures told { Told (IsFaultIn types.now below (IsElementAt (shape_of_type types.now below) element.0 decoder.old) decoder.old decoder.old) (reported result walk.new.error) walk.new.fault }
-    ensures itself { IfErr (reported result walk.new.error) (λ e. walk.new.fault ≡ None → StopsInOrder (shape_of_type types.now below) element.0 decoder.old e) }
-    ensures listed { IfOk (reported result walk.new.error) (λ v. Lists (λ b es. ElementsListed (shape_of_type types.now below) below (Inside types.now below) element.0 b decoder.old es) walk.old.spans walk.new.spans) }
+    ensures reads { Counting M.KEEP trees_of IsLength (DecodesElementsInOrder (DecodesTree (shape_of_type types.now below element.0)) these) decoder.old (outcome result values.new walk.new.error) decoder.new count.new }
+    ensures fits { M.KEEP ≡ true → IfOk (outcome result values.new walk.new.error) (λ v. EachFits (Fits types.now below element.0) v.items) }
+    ensures rules { IfErr (outcome result values.new walk.new.error) (λ e. e.codec ≡ decoder.old.rule) }
+    ensures told { Told (IsFaultIn types.now below (IsElementAt (shape_of_type types.now below) element.0 decoder.old) decoder.old decoder.old) (outcome result values.new walk.new.error) walk.new.fault }
+    ensures itself { IfErr (outcome result values.new walk.new.error) (λ e. walk.new.fault ≡ None → StopsInOrder (shape_of_type types.now below) element.0 decoder.old e) }
+    ensures listed { IfOk (outcome result values.new walk.new.error) (λ v. Lists (λ b es. ElementsListed (shape_of_type types.now below) below (Inside types.now below) element.0 b decoder.old es) walk.old.spans walk.new.spans) }
 {
-    let mut values = Vec::new(decoder.alloc());
     let mut last: &[u8] = &[];
     // Each element takes some of these octets, so their number has this type.
     let _ = octets_left(decoder);
+    let mut value = Value::Absent;
     while !decoder.has_ended() {
         let start = decoder.remaining();
-        let mut value = Value::Absent;
         decode_part::<M>(decoder, walk, types, below, element, *count, &mut value)?;
-        keep::<M>(decoder, &mut walk.error, start.len(), value, &mut values)?;
+        keep::<M>(decoder, &mut walk.error, start.len(), &mut value, values)?;
         *count += 1;
         let octets = octets_before(start, decoder.remaining());
         if decoder.is_strict() && is_less(octets, last) {
@@ -859,41 +1001,43 @@ fn decode_elements_in_order<'input, M: Made>(
         }
         last = octets;
     }
-    Ok(values)
+    Ok(())
 }
 
 /// Reads the components of a SEQUENCE, up to the end of the contents (X.690 8.9).
 #[cycle(decode)]
+#[inline(always)]
 fn decode_sequence<'input, M: Made>(
     decoder: &mut Decoder<'input>,
     walk: &mut Walk<'input>,
     types: &[Type],
     below: usize,
     components: &[Component],
-) -> Result<Vec<Value<'input>>, Refused>
+    values: &mut Vec<Value<'input>>,
+) -> Result<(), Refused>
     requires lawful { AreReadable (components_by (shape_of_type types.now below) components.now) }
+    requires empty { values.old.items ≡ [] }
     requires clear { walk.old.fault ≡ None }
-    ensures reads { Making M.KEEP trees_of (DecodesBy (ReadsSequence (components_by (shape_of_type types.now below) components.now)) items) decoder.old (reported result walk.new.error) decoder.new }
-    ensures fails { IfErr (reported result walk.new.error) (λ e. FailsAtPart (components_by (shape_of_type types.now below) components.now) decoder.old e decoder.new ⊎ IsOutOfMemory e.kind) }
-    ensures fits { M.KEEP ≡ true → IfOk (reported result walk.new.error) (λ v. ComponentsFit (Fits types.now below) components.now v.items) }
-    ensures rules { IfErr (reported result walk.new.error) (λ e. e.codec ≡ decoder.old.rule) }
-    ensures told { Told (IsFaultIn types.now below (IsComponentAt (shape_of_type types.now below) components.now decoder.old) decoder.old decoder.old) (reported result walk.new.error) walk.new.fault }
-    ensures itself { IfErr (reported result walk.new.error) (λ e. walk.new.fault ≡ None → StopsInSequence (shape_of_type types.now below) components.now decoder.old e) }
-    ensures listed { IfOk (reported result walk.new.error) (λ v. Lists (λ b es. ComponentsListed (shape_of_type types.now below) below (Inside types.now below) components.now b decoder.old es) walk.old.spans walk.new.spans) }
+    ensures reads { Making M.KEEP trees_of (DecodesBy (ReadsSequence (components_by (shape_of_type types.now below) components.now)) items) decoder.old (outcome result values.new walk.new.error) decoder.new }
+    ensures fails { IfErr (outcome result values.new walk.new.error) (λ e. FailsAtPart (components_by (shape_of_type types.now below) components.now) decoder.old e decoder.new ⊎ IsOutOfMemory e.kind) }
+    ensures fits { M.KEEP ≡ true → IfOk (outcome result values.new walk.new.error) (λ v. ComponentsFit (Fits types.now below) components.now v.items) }
+    ensures rules { IfErr (outcome result values.new walk.new.error) (λ e. e.codec ≡ decoder.old.rule) }
+    ensures told { Told (IsFaultIn types.now below (IsComponentAt (shape_of_type types.now below) components.now decoder.old) decoder.old decoder.old) (outcome result values.new walk.new.error) walk.new.fault }
+    ensures itself { IfErr (outcome result values.new walk.new.error) (λ e. walk.new.fault ≡ None → StopsInSequence (shape_of_type types.now below) components.now decoder.old e) }
+    ensures listed { IfOk (outcome result values.new walk.new.error) (λ v. Lists (λ b es. ComponentsListed (shape_of_type types.now below) below (Inside types.now below) components.now b decoder.old es) walk.old.spans walk.new.spans) }
 {
     if leaves_all_out(decoder, components) {
-        return leave_all_out::<M>(decoder, &mut walk.error, components);
+        return leave_all_out::<M>(decoder, &mut walk.error, components, values);
     }
-    let mut values = list_for::<M>(decoder, &mut walk.error, components.len())?;
+    let mut value = Value::Absent;
     let mut rest = components;
     while let [component, after @ ..] = rest {
         let index = components.len() - rest.len();
-        let mut value = Value::Absent;
         decode_component::<M>(decoder, walk, types, below, component, index, &mut value)?;
-        append::<M>(decoder, &mut walk.error, &mut values, value)?;
+        take::<M>(decoder, &mut walk.error, &mut value, values)?;
         rest = after;
     }
-    Ok(values)
+    Ok(())
 }
 
 /// Returns whether the next value is one of the type with this number: a CHOICE is recognized by its first tags, and any other type by its
@@ -941,6 +1085,7 @@ fn follows(
 
 /// Reads a component of a SEQUENCE, unless it is absent.
 #[cycle(decode)]
+#[inline(always)]
 pub fn decode_component<'input, M: Made>(
     decoder: &mut Decoder<'input>,
     walk: &mut Walk<'input>,

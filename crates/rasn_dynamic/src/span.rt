@@ -53,7 +53,25 @@ pub fn new_list<'input>(alloc: Global) -> Spans<'input>
 
 /// Notes a part that is read next. Returns its place in the list. If memory runs out, there is no
 /// list from then on.
+#[inline(always)]
 pub fn note<'input>(
+    spans: &mut Spans<'input>,
+    id: TypeId,
+    index: usize,
+    levels: usize,
+    octets: &'input [u8],
+) -> usize
+    ensures { IsNoted id index levels octets.now spans.old result spans.new }
+{
+    if spans.list.is_none() {
+        return 0;
+    }
+    note_in_list(spans, id, index, levels, octets)
+}
+
+/// Notes such a part in the list, if there is one.
+#[inline(never)]
+fn note_in_list<'input>(
     spans: &mut Spans<'input>,
     id: TypeId,
     index: usize,
@@ -91,7 +109,18 @@ fn cut<'input>(octets: &'input [u8], rest: &[u8]) -> &'input [u8]
 }
 
 /// Ends the part at this place of the list: its octets are those before the rest.
+#[inline(always)]
 pub fn finish(spans: &mut Spans<'_>, place: usize, rest: &[u8])
+    ensures { IsFinished place rest.now spans.old spans.new }
+{
+    if spans.list.is_some() {
+        finish_in_list(spans, place, rest);
+    }
+}
+
+/// Ends such a part of the list, if there is one.
+#[inline(never)]
+fn finish_in_list(spans: &mut Spans<'_>, place: usize, rest: &[u8])
     ensures { IsFinished place rest.now spans.old spans.new }
 {
     let Some(list) = &mut spans.list else {

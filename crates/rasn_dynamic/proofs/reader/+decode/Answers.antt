@@ -30,10 +30,10 @@ use Rattle.rasn_schema.specs.Shapes.{numbers_of, shape_of_type, type_by, alterna
 use Rattle.rasn_schema.proofs.Presences.{always_by}
 use Rattle.rasn_schema.proofs.TypeShapes.{shape_below}
 use Rattle.rasn_schema.proofs.Lists.{split, nothing_left, read_at}
-use Rattle.rasn_schema.specs.declared.types.«Type».TheVariants.{Tagged}
+use Rattle.rasn_schema.specs.declared.types.«Type».TheVariants.{Tagged, Sequence, Set}
 use Rattle.rasn_dynamic.specs.Inside.{DecodesTree, DecodesComponent}
 use Rattle.rasn_dynamic.specs.Making.{Making, outcome, reported}
-use Rattle.rasn_dynamic.specs.Typed.{DecodesContents, DecodesType, CountsElements, element_count, elements}
+use Rattle.rasn_dynamic.specs.Typed.{Makes, MayRunOut, DecodesComponents, DecodesContents, DecodesType, CountsElements, element_count, elements}
 use Rattle.rasn_dynamic.specs.Calls.{held, names_of, nones, DecodesPresent}
 use Rattle.rasn_dynamic.proofs.Making.{made_as, made_fails_as, choice_exact, uncounted, counted_nothing, made_of_value, if_kept, items_made, elements_made, one_made, choice_made, choice_fits}
 use Rattle.rasn_schema.specs.Fitting.{Fits, IsNumber, AreOctets, ComponentsFit, EachFits}
@@ -62,6 +62,7 @@ use Rattle.std.specs.Prelude.{IfOk}
 use Rattle.rasn_dynamic.proofs.Listed.{if_any, lists_start, lists_more, part_listed, value_listed, none_listed, choice_listed, alternative_listed, holder_listed, inside_listed, tagged_listed, elements_listed, component_present, component_absent, component_more, components_left_out, components_listed, member_listed, unknown_passed, members_listed, header_listed, contents_same, components_same}
 use Rattle.rasn_dynamic.proofs.reader.+decode.Goals as goal
 use Rattle.rasn_de.specs.SequenceOf.{DecodesSized}
+use Rattle.rasn_de.specs.SetPartTypes.{DecodesSetPartContents}
 use Rattle.rasn_de.specs.Set.{not_read}
 use Rattle.rasn_de.proofs.Headers.Tags.{look_refused, look_follows}
 use Rattle.rasn_dynamic.specs.Faults.{IsFaultOf, IsFaultIn, IsFaultInside, IsOnly, IsAlternativeAt, IsComponentAt, IsMemberAfter, ReadsEachPart, StopsAtMember, StopsInSequence, StopsInSet, TellsOf}
@@ -171,108 +172,14 @@ decode_choice-returns-clause-reads g t c =
 pub decode_contents-decode_part-requires : goal.decode_contents-decode_part-requires
 decode_contents-decode_part-requires g t c = λ κs o. (search rules, (search rules, (prefix_lawful _ _ (subst (λ n. IsReadable (type_by (shape_of_type c.args.types.now c.args.below) n)) c.in-Tagged.is c.requires.lawful), c.requires.clear)))
 
-pub decode_contents-decode_sequence-requires : goal.decode_contents-decode_sequence-requires
-decode_contents-decode_sequence-requires g t c = λ κs o. (search rules, (search rules, (rw c.deref.ensures.value (lawful_parts (shape_of_type c.args.types.now c.args.below) _ (seq_lawful _ _ (subst (λ n. IsReadable (type_by (shape_of_type c.args.types.now c.args.below) n)) c.in-Sequence.is c.requires.lawful))), c.requires.clear)))
-
-pub decode_contents-returns-in_ok-values-in-Sequence-clause-exact : goal.decode_contents-returns-in_ok-values-in-Sequence-clause-exact
-decode_contents-returns-in_ok-values-in-Sequence-clause-exact g t c =
-    let w = c.in_ok-values-in-Sequence.ensures.reads in
-    rw c.in-Sequence.is (items w.0, items_made _ c.in_ok-values-in-Sequence.values w.0 w.1, tt, sequence_made (shape_of_type c.args.types.now c.args.below) _ c.in-Sequence.components c.deref.ensures.value _ _ c.in-Sequence.tag w.0 (w.2, tt))
-
-pub decode_contents-returns-in_err-values-in-Sequence-clause-exact : goal.decode_contents-returns-in_err-values-in-Sequence-clause-exact
-decode_contents-returns-in_err-values-in-Sequence-clause-exact g t c = rw (residual _ c.from_residual.ensures.1, c.in-Sequence.is) (sequence_fails (shape_of_type c.args.types.now c.args.below) _ c.in-Sequence.components c.deref.ensures.value _ _ c.in-Sequence.tag _ (c.in_err-values-in-Sequence.ensures.reads, c.in_err-values-in-Sequence.ensures.fails))
-
-pub decode_contents-decode_elements-requires : goal.decode_contents-decode_elements-requires
-decode_contents-decode_elements-requires g t c = λ κs o. (search rules, (search rules, (list_lawful _ _ c.in-SequenceOf.constraints.size (subst (λ n. IsReadable (type_by (shape_of_type c.args.types.now c.args.below) n)) c.in-SequenceOf.is c.requires.lawful), (c.requires.counts, c.requires.clear))))
-
-pub decode_contents-returns-in_ok-values-in-SequenceOf-clause-fits : goal.decode_contents-returns-in_ok-values-in-SequenceOf-clause-fits
-decode_contents-returns-in_ok-values-in-SequenceOf-clause-fits g t c = λ k. rw c.in-SequenceOf.is (are_items (EachFits (Fits c.args.types.now c.args.below c.in-SequenceOf.element.0)) c.in_ok-values-in-SequenceOf.values (c.in_ok-values-in-SequenceOf.ensures.fits k))
-
-pub decode_contents-returns-in_ok-values-in-SequenceOf-clause-exact : goal.decode_contents-returns-in_ok-values-in-SequenceOf-clause-exact
-decode_contents-returns-in_ok-values-in-SequenceOf-clause-exact g t c =
-    let w = c.in_ok-values-in-SequenceOf.ensures.reads in
-    rw c.in-SequenceOf.is (items w.0, items_made _ c.in_ok-values-in-SequenceOf.values w.0 w.1, w.2 ∙ sym (count_items w.0), (w.0, refl, w.3))
-
-pub decode_contents-returns-in_err-values-in-SequenceOf-clause-exact : goal.decode_contents-returns-in_err-values-in-SequenceOf-clause-exact
-decode_contents-returns-in_err-values-in-SequenceOf-clause-exact g t c = rw (residual _ c.from_residual-in_err-values-in-SequenceOf.ensures.1, c.in-SequenceOf.is) c.in_err-values-in-SequenceOf.ensures.reads
-
 pub decode_contents-returns-in-Tagged-clause-fits : goal.decode_contents-returns-in-Tagged-clause-fits
 decode_contents-returns-in-Tagged-clause-fits g t c = λ k. rw c.in-Tagged.is (c.decode_part.ensures.fits k)
 
 pub decode_contents-returns-in-Tagged-clause-exact : goal.decode_contents-returns-in-Tagged-clause-exact
 decode_contents-returns-in-Tagged-clause-exact g t c = rw c.in-Tagged.is (counted_nothing _ tree_of (CountsElements (Tagged c.in-Tagged.tag c.in-Tagged.inner)) (DecodesTree (shape_of_type c.args.types.now c.args.below c.in-Tagged.inner.0)) c.args.decoder.now (outcome c.decode_part.result c.decode_part.new.out c.decode_part.new.walk.error) _ _ (λ d. tt) c.decode_part.ensures.reads)
 
-pub decode_contents-returns-in_ok-values-in-Sequence-clause-fits : goal.decode_contents-returns-in_ok-values-in-Sequence-clause-fits
-decode_contents-returns-in_ok-values-in-Sequence-clause-fits g t c = λ k.
-    rw c.in-Sequence.is (are_items (ComponentsFit (Fits c.args.types.now c.args.below) c.in-Sequence.components.items) c.in_ok-values-in-Sequence.values (rw (← c.deref.ensures.value) (c.in_ok-values-in-Sequence.ensures.fits k)))
-
-pub decode_contents-decode_elements_in_order-requires : goal.decode_contents-decode_elements_in_order-requires
-decode_contents-decode_elements_in_order-requires g t c = λ κs o. (search rules, (search rules, (set_of_lawful _ _ c.in-SetOf.constraints.size (subst (λ n. IsReadable (type_by (shape_of_type c.args.types.now c.args.below) n)) c.in-SetOf.is c.requires.lawful), (c.requires.counts, c.requires.clear))))
-
-pub decode_contents-returns-in_ok-values-in-SetOf-clause-fits : goal.decode_contents-returns-in_ok-values-in-SetOf-clause-fits
-decode_contents-returns-in_ok-values-in-SetOf-clause-fits g t c = λ k. rw c.in-SetOf.is (are_elements (EachFits (Fits c.args.types.now c.args.below c.in-SetOf.element.0)) c.in_ok-values-in-SetOf.values (c.in_ok-values-in-SetOf.ensures.fits k))
-
-pub decode_contents-returns-in_ok-values-in-SetOf-clause-exact : goal.decode_contents-returns-in_ok-values-in-SetOf-clause-exact
-decode_contents-returns-in_ok-values-in-SetOf-clause-exact g t c =
-    let w = c.in_ok-values-in-SetOf.ensures.reads in
-    rw c.in-SetOf.is (elements w.0, elements_made _ c.in_ok-values-in-SetOf.values w.0 w.1, w.2 ∙ sym (count_items w.0), (w.0, refl, w.3))
-
-pub decode_contents-returns-in_err-values-in-SetOf-clause-exact : goal.decode_contents-returns-in_err-values-in-SetOf-clause-exact
-decode_contents-returns-in_err-values-in-SetOf-clause-exact g t c = rw (residual _ c.from_residual-in_err-values-in-SetOf.ensures.1, c.in-SetOf.is) c.in_err-values-in-SetOf.ensures.reads
-
-pub decode_contents-decode_set-requires : goal.decode_contents-decode_set-requires
-decode_contents-decode_set-requires g t c = λ κs o.
-    let f = shape_of_type c.args.types.now c.args.below in
-    let same = c.named_components-extensible.ensures.named ∙ ap (named_components f) c.deref-in-Set.ensures.value in (
-      search rules,
-      (
-        search rules,
-        (
-          named_lawful f c.in-Set.tag c.in-Set.components.items c.named_components-extensible.result.0.now same (subst (λ n. IsReadable (type_by f n)) c.in-Set.is c.requires.lawful),
-          (
-            c.in_ok-found-in-Set.ensures.ok,
-            (
-              c.requires.clear,
-              λ x.
-                  let marked = c.named_components-extensible.ensures.extensible ∙ ap (is_extensible f) c.deref-in-Set.ensures.value in
-                  ap f (c.last_type-other_id.ensures ∙ ap last_type c.deref-in-Set-2.ensures.value) ∙ last_unknown f c.in-Set.components.items (sym marked ∙ x),
-            ),
-          ),
-        ),
-      ),
-    )
-
-pub decode_contents-returns-in_ok-values-in-Set-clause-exact : goal.decode_contents-returns-in_ok-values-in-Set-clause-exact
-decode_contents-returns-in_ok-values-in-Set-clause-exact g t c =
-    let f = shape_of_type c.args.types.now c.args.below in
-    let same = c.named_components-extensible.ensures.named ∙ ap (named_components f) c.deref-in-Set.ensures.value in
-    let marked = c.named_components-extensible.ensures.extensible ∙ ap (is_extensible f) c.deref-in-Set.ensures.value in
-    let w = c.in_ok-values-in-Set.ensures.exact in
-    rw c.in-Set.is (items w.0, items_made _ c.in_ok-values-in-Set.values w.0 w.1, tt, set_made f c.named_components-extensible.result.1 _ c.in-Set.components marked same _ _ c.in-Set.name c.in-Set.tag w.0 w.2)
-
-pub decode_contents-returns-in_err-values-in-Set-clause-exact : goal.decode_contents-returns-in_err-values-in-Set-clause-exact
-decode_contents-returns-in_err-values-in-Set-clause-exact g t c =
-    let f = shape_of_type c.args.types.now c.args.below in
-    let same = c.named_components-extensible.ensures.named ∙ ap (named_components f) c.deref-in-Set.ensures.value in
-    let marked = c.named_components-extensible.ensures.extensible ∙ ap (is_extensible f) c.deref-in-Set.ensures.value in
-    rw (residual _ c.from_residual-in_err-values-in-Set.ensures.1, c.in-Set.is) (set_fails f c.named_components-extensible.result.1 _ c.in-Set.components marked same _ _ c.in-Set.name c.in-Set.tag _ c.in_err-values-in-Set.ensures.exact)
-
-pub decode_contents-returns-in_ok-values-in-Set-clause-fits : goal.decode_contents-returns-in_ok-values-in-Set-clause-fits
-decode_contents-returns-in_ok-values-in-Set-clause-fits g t c = λ k.
-    let f = shape_of_type c.args.types.now c.args.below in
-    let same = c.named_components-extensible.ensures.named ∙ ap (named_components f) c.deref-in-Set.ensures.value in
-    let marked = c.named_components-extensible.ensures.extensible ∙ ap (is_extensible f) c.deref-in-Set.ensures.value in
-    rw c.in-Set.is (are_items (ComponentsFit (Fits c.args.types.now c.args.below) c.in-Set.components.items) c.in_ok-values-in-Set.values
-    (members_fit c.args.types.now c.args.below c.in-Set.components.items c.in_ok-values-in-Set.values.items
-    (named_so f c.named_components-extensible.result.1 c.named_components-extensible.result.0.now c.in-Set.components.items marked same (λ b l. MembersFit (Fits c.args.types.now c.args.below) b l c.in_ok-values-in-Set.values.items) (c.in_ok-values-in-Set.ensures.fits k))))
-
 pub decode_contents-unreachable-requires : goal.decode_contents-unreachable-requires
 decode_contents-unreachable-requires g t c = none_holds c.args.ty.now c.in_default.not-Tagged c.in_default.not-Sequence c.in_default.not-Set c.in_default.not-SequenceOf c.in_default.not-SetOf c.requires.holds
-
-pub decode_contents-returns-in_err-found-in-Set-clause-exact : goal.decode_contents-returns-in_err-found-in-Set-clause-exact
-decode_contents-returns-in_err-found-in-Set-clause-exact g t c = rw (residual _ c.from_residual-in_err-found-in-Set.ensures.1, c.in-Set.is) (set_runs_out (shape_of_type c.args.types.now c.args.below) c.in-Set.name c.in-Set.tag c.in-Set.components _ _ c.in_err-found-in-Set.ensures.err)
-
--- ---- elements
 
 pub decode_elements-loop-element-preserved : goal.decode_elements-loop-element-preserved
 decode_elements-loop-element-preserved g t c =
@@ -331,7 +238,7 @@ decode_elements-overflow_add-count g t c =
     omega (arith, l, n, m, c.octets_left.ensures, c.octets_left.type_inv)
 
 pub decode_elements-loop-element-init : goal.decode_elements-loop-element-init
-decode_elements-loop-element-init g t c = rw c.new-values.ensures.items (([], (λ k. refl), c.requires.counts, refl), (λ k. tt), c.requires.clear, lists_start (λ b k. PartListed (shape_of_type c.args.types.now c.args.below) c.args.below (Inside c.args.types.now c.args.below) c.args.element.0 k b) _ c.args.decoder.now _ c.requires.counts)
+decode_elements-loop-element-init g t c = rw c.requires.empty (([], (λ k. refl), c.requires.counts, refl), (λ k. tt), c.requires.clear, lists_start (λ b k. PartListed (shape_of_type c.args.types.now c.args.below) c.args.below (Inside c.args.types.now c.args.below) c.args.element.0 k b) _ c.args.decoder.now _ c.requires.counts)
 
 pub decode_elements-returns-clause-told : goal.decode_elements-returns-clause-told
 decode_elements-returns-clause-told g t c = c.loop-element.invariant.2
@@ -349,7 +256,7 @@ pub decode_elements-returns-in_err-keep-clause-rules : goal.decode_elements-retu
 decode_elements-returns-in_err-keep-clause-rules g t c = rw (residual _ c.from_residual-in_err-keep.ensures.1) (c.in_err-keep.ensures.rules ∙ same_rules c.in_ok-decode_part.ensures.reads.2.stays ∙ turn_rules (shape_of_type c.args.types.now c.args.below c.args.element.0) (λ (z : Tree). z) _ _ _ c.loop-element.invariant.0.3)
 
 pub decode_elements_in_order-loop-last-init : goal.decode_elements_in_order-loop-last-init
-decode_elements_in_order-loop-last-init g t c = rw c.new-values.ensures.items (([], [], (λ k. refl), c.requires.counts, (refl, refl), (λ strict. tt), refl), (λ k. tt), c.requires.clear, lists_start (λ b k. PartListed (shape_of_type c.args.types.now c.args.below) c.args.below (Inside c.args.types.now c.args.below) c.args.element.0 k b) _ c.args.decoder.now _ c.requires.counts)
+decode_elements_in_order-loop-last-init g t c = rw c.requires.empty (([], [], (λ k. refl), c.requires.counts, (refl, refl), (λ strict. tt), refl), (λ k. tt), c.requires.clear, lists_start (λ b k. PartListed (shape_of_type c.args.types.now c.args.below) c.args.below (Inside c.args.types.now c.args.below) c.args.element.0 k b) _ c.args.decoder.now _ c.requires.counts)
 
 pub decode_elements_in_order-returns-clause-told : goal.decode_elements_in_order-returns-clause-told
 decode_elements_in_order-returns-clause-told g t c = c.loop-last.invariant.2
@@ -758,9 +665,6 @@ pub decode_sequence-returns-then-leaves_all_out-clause-reads : goal.decode_seque
 decode_sequence-returns-then-leaves_all_out-clause-reads g t c =
     all_left_read (shape_of_type c.args.types.now c.args.below) c.args.components.now c.args.decoder.now _ c.if-leaves_all_out.ensures _ c.leave_all_out.ensures.settled c.leave_all_out.ensures.memory
 
-pub decode_sequence-returns-in_err-values-clause-reads : goal.decode_sequence-returns-in_err-values-clause-reads
-decode_sequence-returns-in_err-values-clause-reads g t c = rw (residual _ c.from_residual.ensures.1) (sequence_runs_out _ _ c.list_for.new.error c.in_err-values.ensures.kind)
-
 pub decode_sequence-leave_all_out-requires : goal.decode_sequence-leave_all_out-requires
 decode_sequence-leave_all_out-requires g t c = c.if-leaves_all_out.ensures.0
 
@@ -768,7 +672,7 @@ pub decode_sequence-returns-then-leaves_all_out-clause-fits : goal.decode_sequen
 decode_sequence-returns-then-leaves_all_out-clause-fits g t c = λ k. all_left_fit (Fits c.args.types.now c.args.below) c.args.components.now _ (c.leave_all_out.ensures.settled k)
 
 pub decode_sequence-loop-rest-init : goal.decode_sequence-loop-rest-init
-decode_sequence-loop-rest-init g t c = rw c.in_ok-values.ensures.ok (([], (λ k. refl), parts_start _ _), c.requires.lawful, (λ k us h. h), c.requires.clear, [], refl, refl, lists_start (λ b. ComponentAt (shape_of_type c.args.types.now c.args.below) c.args.below (Inside c.args.types.now c.args.below) c.args.components.now b) _ c.args.decoder.now _ refl)
+decode_sequence-loop-rest-init g t c = rw c.requires.empty (([], (λ k. refl), parts_start _ _), c.requires.lawful, (λ k us h. h), c.requires.clear, [], refl, refl, lists_start (λ b. ComponentAt (shape_of_type c.args.types.now c.args.below) c.args.below (Inside c.args.types.now c.args.below) c.args.components.now b) _ c.args.decoder.now _ refl)
 
 pub decode_sequence-overflow_sub-index : goal.decode_sequence-overflow_sub-index
 decode_sequence-overflow_sub-index g t c =
@@ -778,15 +682,15 @@ decode_sequence-overflow_sub-index g t c =
 
 pub decode_sequence-returns-in_err-decode_component-clause-reads : goal.decode_sequence-returns-in_err-decode_component-clause-reads
 decode_sequence-returns-in_err-decode_component-clause-reads g t c =
-    rw (residual _ c.from_residual-in_err-decode_component.ensures.1)
+    rw (residual _ c.from_residual.ensures.1)
     (in_turn (shape_of_type c.args.types.now c.args.below) c.args.components.now c.args.decoder.now c.if-leaves_all_out.ensures _ _
     (part_fails _ _ _ (presence_in (shape_of_type c.args.types.now c.args.below) c.component-item.result) ((shape_of_type c.args.types.now c.args.below) c.component-item.result.type_id.0) _ _ _ c.loop-rest.invariant.0.2 (ap (components_by (shape_of_type c.args.types.now c.args.below)) (split c.loop-rest.rest.now _ c.in-len1-up.len_at_least c.component-item.is)) _ _ c.in_err-decode_component.ensures.reads))
 
-pub decode_sequence-returns-in_err-append-clause-reads : goal.decode_sequence-returns-in_err-append-clause-reads
-decode_sequence-returns-in_err-append-clause-reads g t c =
-    rw (residual _ c.from_residual-in_err-append.ensures.1)
+pub decode_sequence-returns-in_err-take-clause-reads : goal.decode_sequence-returns-in_err-take-clause-reads
+decode_sequence-returns-in_err-take-clause-reads g t c =
+    rw (residual _ c.from_residual-in_err-take.ensures.1)
     (in_turn (shape_of_type c.args.types.now c.args.below) c.args.components.now c.args.decoder.now c.if-leaves_all_out.ensures _ _
-    (parts_run_out _ _ _ _ _ _ c.loop-rest.invariant.0.2 (record { stays = c.in_ok-decode_component.ensures.reads.2.stays; end = c.in_ok-decode_component.ensures.reads.2.end }) c.append.new.error c.in_err-append.ensures.kind))
+    (parts_run_out _ _ _ _ _ _ c.loop-rest.invariant.0.2 (record { stays = c.in_ok-decode_component.ensures.reads.2.stays; end = c.in_ok-decode_component.ensures.reads.2.end }) c.take.new.error c.in_err-take.ensures.kind))
 
 pub decode_sequence-loop-rest-preserved : goal.decode_sequence-loop-rest-preserved
 decode_sequence-loop-rest-preserved g t c =
@@ -796,11 +700,11 @@ decode_sequence-loop-rest-preserved g t c =
     let w = c.in_ok-decode_component.ensures.reads in (
       (
         i.0 ++ w.0 ∷ [],
-        one_made _ c.loop-rest.values.items _ i.0 c.decode_component.new.out w.0 i.1 w.1 c.in_ok-append.ensures.ok,
+        one_made _ c.loop-rest.values.items _ i.0 c.decode_component.new.out w.0 i.1 w.1 c.in_ok-take.ensures.ok,
         parts_more _ _ _ (presence_in (shape_of_type c.args.types.now c.args.below) c.component-item.result) ((shape_of_type c.args.types.now c.args.below) c.component-item.result.type_id.0) _ _ _ i.2 e w.0 _ _ refl w.2,
       ),
       (subst AreReadable e c.loop-rest.invariant.1).1,
-      (λ k. fit_more (Fits c.args.types.now c.args.below) _ _ _ c.component-item.result c.loop-rest.values.items _ c.decode_component.new.out (c.loop-rest.invariant.2 k) at (c.in_ok-append.ensures.ok k) (c.in_ok-decode_component.ensures.fits k)),
+      (λ k. fit_more (Fits c.args.types.now c.args.below) _ _ _ c.component-item.result c.loop-rest.values.items _ c.decode_component.new.out (c.loop-rest.invariant.2 k) at (c.in_ok-take.ensures.ok k) (c.in_ok-decode_component.ensures.fits k)),
       c.in_ok-decode_component.ensures.told,
       c.loop-rest.invariant.4 ++ c.component-item.result ∷ [],
       c.loop-rest.invariant.5 ∙ ap (λ l. c.loop-rest.invariant.4 ++ l) at ∙ sym (append_assoc c.loop-rest.invariant.4 (c.component-item.result ∷ []) _),
@@ -823,25 +727,19 @@ pub decode_sequence-returns-clause-fits : goal.decode_sequence-returns-clause-fi
 decode_sequence-returns-clause-fits g t c = λ k. fit_end (Fits c.args.types.now c.args.below) _ _ _ (c.loop-rest.invariant.2 k) (nothing_left _ c.in_default.len_below)
 
 pub decode_sequence-returns-then-leaves_all_out-clause-fails : goal.decode_sequence-returns-then-leaves_all_out-clause-fails
-decode_sequence-returns-then-leaves_all_out-clause-fails g t c = if_err_map _ _ (λ e m. inr m) (reported c.leave_all_out.result c.leave_all_out.new.error) c.leave_all_out.ensures.memory
-
-pub decode_sequence-returns-in_err-values-clause-itself : goal.decode_sequence-returns-in_err-values-clause-itself
-decode_sequence-returns-in_err-values-clause-itself g t c = rw (residual _ c.from_residual.ensures.1) (λ n. inl c.in_err-values.ensures.kind)
-
-pub decode_sequence-returns-in_err-values-clause-fails : goal.decode_sequence-returns-in_err-values-clause-fails
-decode_sequence-returns-in_err-values-clause-fails g t c = rw (residual _ c.from_residual.ensures.1) (inr c.in_err-values.ensures.kind)
+decode_sequence-returns-then-leaves_all_out-clause-fails g t c = if_err_map _ _ (λ e m. inr m) (outcome c.leave_all_out.result c.leave_all_out.new.values c.leave_all_out.new.error) c.leave_all_out.ensures.memory
 
 pub decode_sequence-returns-in_err-decode_component-clause-fails : goal.decode_sequence-returns-in_err-decode_component-clause-fails
-decode_sequence-returns-in_err-decode_component-clause-fails g t c = rw (residual _ c.from_residual-in_err-decode_component.ensures.1) (inl (part_fails_at _ _ _ (presence_in (shape_of_type c.args.types.now c.args.below) c.component-item.result) ((shape_of_type c.args.types.now c.args.below) c.component-item.result.type_id.0) _ _ _ c.loop-rest.invariant.0.2 (ap (components_by (shape_of_type c.args.types.now c.args.below)) (split c.loop-rest.rest.now _ c.in-len1-up.len_at_least c.component-item.is)) _ _ c.in_err-decode_component.ensures.fails))
+decode_sequence-returns-in_err-decode_component-clause-fails g t c = rw (residual _ c.from_residual.ensures.1) (inl (part_fails_at _ _ _ (presence_in (shape_of_type c.args.types.now c.args.below) c.component-item.result) ((shape_of_type c.args.types.now c.args.below) c.component-item.result.type_id.0) _ _ _ c.loop-rest.invariant.0.2 (ap (components_by (shape_of_type c.args.types.now c.args.below)) (split c.loop-rest.rest.now _ c.in-len1-up.len_at_least c.component-item.is)) _ _ c.in_err-decode_component.ensures.fails))
 
-pub decode_sequence-returns-in_err-append-clause-fails : goal.decode_sequence-returns-in_err-append-clause-fails
-decode_sequence-returns-in_err-append-clause-fails g t c = rw (residual _ c.from_residual-in_err-append.ensures.1) (inr c.in_err-append.ensures.kind)
+pub decode_sequence-returns-in_err-take-clause-fails : goal.decode_sequence-returns-in_err-take-clause-fails
+decode_sequence-returns-in_err-take-clause-fails g t c = rw (residual _ c.from_residual-in_err-take.ensures.1) (inr c.in_err-take.ensures.kind)
 
 pub decode_sequence-returns-in_err-decode_component-clause-rules : goal.decode_sequence-returns-in_err-decode_component-clause-rules
-decode_sequence-returns-in_err-decode_component-clause-rules g t c = rw (residual _ c.from_residual-in_err-decode_component.ensures.1) (c.in_err-decode_component.ensures.rules ∙ same_rules c.loop-rest.invariant.0.2.keeps.stays)
+decode_sequence-returns-in_err-decode_component-clause-rules g t c = rw (residual _ c.from_residual.ensures.1) (c.in_err-decode_component.ensures.rules ∙ same_rules c.loop-rest.invariant.0.2.keeps.stays)
 
-pub decode_sequence-returns-in_err-append-clause-rules : goal.decode_sequence-returns-in_err-append-clause-rules
-decode_sequence-returns-in_err-append-clause-rules g t c = rw (residual _ c.from_residual-in_err-append.ensures.1) (c.in_err-append.ensures.rules ∙ same_rules c.in_ok-decode_component.ensures.reads.2.stays ∙ same_rules c.loop-rest.invariant.0.2.keeps.stays)
+pub decode_sequence-returns-in_err-take-clause-rules : goal.decode_sequence-returns-in_err-take-clause-rules
+decode_sequence-returns-in_err-take-clause-rules g t c = rw (residual _ c.from_residual-in_err-take.ensures.1) (c.in_err-take.ensures.rules ∙ same_rules c.in_ok-decode_component.ensures.reads.2.stays ∙ same_rules c.loop-rest.invariant.0.2.keeps.stays)
 
 -- ---- the components of a SET
 
@@ -1111,29 +1009,6 @@ pub decode_contents-returns-in-Tagged-clause-told : goal.decode_contents-returns
 decode_contents-returns-in-Tagged-clause-told g t c =
     rw c.in-Tagged.is (tells _ _ (λ k f i. i) _ _ c.decode_part.ensures.told)
 
-pub decode_contents-returns-in_err-values-in-Sequence-clause-told : goal.decode_contents-returns-in_err-values-in-Sequence-clause-told
-decode_contents-returns-in_err-values-in-Sequence-clause-told g t c =
-    rw (residual _ c.from_residual.ensures.1, c.in-Sequence.is) (λ f q. subst (λ l. IsFaultIn c.args.types.now c.args.below (IsComponentAt (shape_of_type c.args.types.now c.args.below) l c.args.decoder.now) c.args.decoder.now c.args.decoder.now c.decode_sequence.new.walk.error f) c.deref.ensures.value (c.in_err-values-in-Sequence.ensures.told f q))
-
-pub decode_contents-returns-in_err-values-in-Set-clause-told : goal.decode_contents-returns-in_err-values-in-Set-clause-told
-decode_contents-returns-in_err-values-in-Set-clause-told g t c =
-    let f = shape_of_type c.args.types.now c.args.below in
-    let same = c.named_components-extensible.ensures.named ∙ ap (named_components f) c.deref-in-Set.ensures.value in
-    let marked = c.named_components-extensible.ensures.extensible ∙ ap (is_extensible f) c.deref-in-Set.ensures.value in
-    rw (residual _ c.from_residual-in_err-values-in-Set.ensures.1, c.in-Set.is)
-    (λ x q. named_so f c.named_components-extensible.result.1 c.named_components-extensible.result.0.now c.in-Set.components.items marked same
-    (λ b l. IsFaultIn c.args.types.now c.args.below (IsMemberAfter f b l (last_type c.in-Set.components.items) c.args.decoder.now) c.args.decoder.now c.args.decoder.now c.decode_set.new.walk.error x)
-    (subst (λ n. IsFaultIn c.args.types.now c.args.below (IsMemberAfter f c.named_components-extensible.result.1 c.named_components-extensible.result.0.now n c.args.decoder.now) c.args.decoder.now c.args.decoder.now c.decode_set.new.walk.error x)
-    (c.last_type-other_id.ensures ∙ ap last_type c.deref-in-Set-2.ensures.value) (c.in_err-values-in-Set.ensures.told x q)))
-
-pub decode_contents-returns-in_err-values-in-SequenceOf-clause-told : goal.decode_contents-returns-in_err-values-in-SequenceOf-clause-told
-decode_contents-returns-in_err-values-in-SequenceOf-clause-told g t c =
-    rw (residual _ c.from_residual-in_err-values-in-SequenceOf.ensures.1, c.in-SequenceOf.is) c.in_err-values-in-SequenceOf.ensures.told
-
-pub decode_contents-returns-in_err-values-in-SetOf-clause-told : goal.decode_contents-returns-in_err-values-in-SetOf-clause-told
-decode_contents-returns-in_err-values-in-SetOf-clause-told g t c =
-    rw (residual _ c.from_residual-in_err-values-in-SetOf.ensures.1, c.in-SetOf.is) c.in_err-values-in-SetOf.ensures.told
-
 pub decode_elements-returns-in_err-decode_part-clause-told : goal.decode_elements-returns-in_err-decode_part-clause-told
 decode_elements-returns-in_err-decode_part-clause-told g t c =
     let i = c.loop-element.invariant.0 in
@@ -1157,7 +1032,7 @@ decode_sequence-returns-in_err-decode_component-clause-told g t c =
     let at = split c.loop-rest.rest.now _ c.in-len1-up.len_at_least c.component-item.is in
     let len : length c.args.components.now ≡ length k.4 + length c.loop-rest.rest.now = ap length k.5 ∙ length-append k.4 c.loop-rest.rest.now in
     let l : length k.4 ≡ length c.args.components.now - length c.loop-rest.rest.now = omega (arith, len) in
-    rw (residual _ c.from_residual-in_err-decode_component.ensures.1)
+    rw (residual _ c.from_residual.ensures.1)
     (λ f q. further c.args.types.now c.args.below _ _ c.args.decoder.now c.loop-rest.decoder _ f k.0.2.keeps.stays k.0.2.keeps.end
     (part_there (shape_of_type c.args.types.now c.args.below) c.args.components.now k.4 _ c.component-item.result c.args.decoder.now c.loop-rest.decoder (length c.args.components.now - length c.loop-rest.rest.now) (k.5 ∙ ap (λ z. k.4 ++ z) at) l k.6) (c.in_err-decode_component.ensures.told f q))
 
@@ -1293,30 +1168,6 @@ pub decode_contents-returns-in-Tagged-clause-itself : goal.decode_contents-retur
 decode_contents-returns-in-Tagged-clause-itself g t c =
     named _ _ _ _ c.decode_part.ensures.told
 
-pub decode_contents-returns-in_err-values-in-Sequence-clause-itself : goal.decode_contents-returns-in_err-values-in-Sequence-clause-itself
-decode_contents-returns-in_err-values-in-Sequence-clause-itself g t c =
-    rw (residual _ c.from_residual.ensures.1, c.in-Sequence.is) (λ n. subst (λ l. StopsInSequence (shape_of_type c.args.types.now c.args.below) l c.args.decoder.now c.decode_sequence.new.walk.error) c.deref.ensures.value (c.in_err-values-in-Sequence.ensures.itself n))
-
-pub decode_contents-returns-in_err-values-in-Set-clause-itself : goal.decode_contents-returns-in_err-values-in-Set-clause-itself
-decode_contents-returns-in_err-values-in-Set-clause-itself g t c =
-    let f = shape_of_type c.args.types.now c.args.below in
-    let same = c.named_components-extensible.ensures.named ∙ ap (named_components f) c.deref-in-Set.ensures.value in
-    let marked = c.named_components-extensible.ensures.extensible ∙ ap (is_extensible f) c.deref-in-Set.ensures.value in
-    rw (residual _ c.from_residual-in_err-values-in-Set.ensures.1, c.in-Set.is)
-    (λ n. named_so f c.named_components-extensible.result.1 c.named_components-extensible.result.0.now c.in-Set.components.items marked same (λ b l. StopsInSet f b l c.args.decoder.now c.decode_set.new.walk.error) (c.in_err-values-in-Set.ensures.itself n))
-
-pub decode_contents-returns-in_err-found-in-Set-clause-itself : goal.decode_contents-returns-in_err-found-in-Set-clause-itself
-decode_contents-returns-in_err-found-in-Set-clause-itself g t c =
-    rw (residual _ c.from_residual-in_err-found-in-Set.ensures.1, c.in-Set.is) (λ n. inl c.in_err-found-in-Set.ensures.err)
-
-pub decode_contents-returns-in_err-values-in-SequenceOf-clause-itself : goal.decode_contents-returns-in_err-values-in-SequenceOf-clause-itself
-decode_contents-returns-in_err-values-in-SequenceOf-clause-itself g t c =
-    rw (residual _ c.from_residual-in_err-values-in-SequenceOf.ensures.1, c.in-SequenceOf.is) c.in_err-values-in-SequenceOf.ensures.itself
-
-pub decode_contents-returns-in_err-values-in-SetOf-clause-itself : goal.decode_contents-returns-in_err-values-in-SetOf-clause-itself
-decode_contents-returns-in_err-values-in-SetOf-clause-itself g t c =
-    rw (residual _ c.from_residual-in_err-values-in-SetOf.ensures.1, c.in-SetOf.is) c.in_err-values-in-SetOf.ensures.itself
-
 pub decode_elements-returns-in_err-decode_part-clause-itself : goal.decode_elements-returns-in_err-decode_part-clause-itself
 decode_elements-returns-in_err-decode_part-clause-itself g t c =
     rw (residual _ c.from_residual.ensures.1) (λ n. absurd (not_named _ _ c.in_err-decode_part.ensures.told.1 n))
@@ -1371,12 +1222,12 @@ pub decode_sequence-returns-in_err-decode_component-clause-itself : goal.decode_
 decode_sequence-returns-in_err-decode_component-clause-itself g t c =
     let k = c.loop-rest.invariant in
     let at = split c.loop-rest.rest.now _ c.in-len1-up.len_at_least c.component-item.is in
-    rw (residual _ c.from_residual-in_err-decode_component.ensures.1)
+    rw (residual _ c.from_residual.ensures.1)
     (λ n. inr (k.4, c.component-item.result, _, c.loop-rest.decoder, k.5 ∙ ap (λ z. k.4 ++ z) at, k.6, c.in_err-decode_component.ensures.itself n))
 
-pub decode_sequence-returns-in_err-append-clause-itself : goal.decode_sequence-returns-in_err-append-clause-itself
-decode_sequence-returns-in_err-append-clause-itself g t c =
-    rw (residual _ c.from_residual-in_err-append.ensures.1) (λ n. inl c.in_err-append.ensures.kind)
+pub decode_sequence-returns-in_err-take-clause-itself : goal.decode_sequence-returns-in_err-take-clause-itself
+decode_sequence-returns-in_err-take-clause-itself g t c =
+    rw (residual _ c.from_residual-in_err-take.ensures.1) (λ n. inl c.in_err-take.ensures.kind)
 
 pub decode_component-returns-then-is_always_there-clause-itself : goal.decode_component-returns-then-is_always_there-clause-itself
 decode_component-returns-then-is_always_there-clause-itself g t c =
@@ -1532,26 +1383,6 @@ pub decode_contents-returns-in-Tagged-clause-listed : goal.decode_contents-retur
 decode_contents-returns-in-Tagged-clause-listed g t c =
     if_ok _ _ _ (λ v. tagged_listed (shape_of_type c.args.types.now c.args.below) c.args.below (Inside c.args.types.now c.args.below) c.args.ty.now c.in-Tagged.inner.0 c.args.decoder.now _ _ _ (rw c.in-Tagged.is refl)) c.decode_part.ensures.listed
 
-pub decode_contents-returns-in_ok-values-in-Sequence-clause-listed : goal.decode_contents-returns-in_ok-values-in-Sequence-clause-listed
-decode_contents-returns-in_ok-values-in-Sequence-clause-listed g t c =
-    contents_same (shape_of_type c.args.types.now c.args.below) c.args.below (Inside c.args.types.now c.args.below) c.args.ty.now _ c.args.decoder.now _ _ c.in-Sequence.is (components_same (shape_of_type c.args.types.now c.args.below) c.args.below (Inside c.args.types.now c.args.below) _ _ c.args.decoder.now _ _ c.deref.ensures.value c.in_ok-values-in-Sequence.ensures.listed)
-
-pub decode_contents-returns-in_ok-values-in-Set-clause-listed : goal.decode_contents-returns-in_ok-values-in-Set-clause-listed
-decode_contents-returns-in_ok-values-in-Set-clause-listed g t c =
-    let f = shape_of_type c.args.types.now c.args.below in
-    let same = c.named_components-extensible.ensures.named ∙ ap (named_components f) c.deref-in-Set.ensures.value in
-    let marked = c.named_components-extensible.ensures.extensible ∙ ap (is_extensible f) c.deref-in-Set.ensures.value in
-    contents_same f c.args.below (Inside c.args.types.now c.args.below) c.args.ty.now _ c.args.decoder.now _ _ c.in-Set.is
-    (named_so f c.named_components-extensible.result.1 c.named_components-extensible.result.0.now c.in-Set.components.items marked same (λ b l. Lists (λ n es. MembersListed f c.args.below (Inside c.args.types.now c.args.below) b l (last_type c.in-Set.components.items) n c.args.decoder.now es) c.args.walk.now.spans c.decode_set.new.walk.spans)
-    (subst (λ k. Lists (λ n es. MembersListed f c.args.below (Inside c.args.types.now c.args.below) c.named_components-extensible.result.1 c.named_components-extensible.result.0.now k n c.args.decoder.now es) c.args.walk.now.spans c.decode_set.new.walk.spans)
-    (c.last_type-other_id.ensures ∙ ap last_type c.deref-in-Set-2.ensures.value) c.in_ok-values-in-Set.ensures.listed))
-
-pub decode_contents-returns-in_ok-values-in-SequenceOf-clause-listed : goal.decode_contents-returns-in_ok-values-in-SequenceOf-clause-listed
-decode_contents-returns-in_ok-values-in-SequenceOf-clause-listed g t c = contents_same (shape_of_type c.args.types.now c.args.below) c.args.below (Inside c.args.types.now c.args.below) c.args.ty.now _ c.args.decoder.now _ _ c.in-SequenceOf.is c.in_ok-values-in-SequenceOf.ensures.listed
-
-pub decode_contents-returns-in_ok-values-in-SetOf-clause-listed : goal.decode_contents-returns-in_ok-values-in-SetOf-clause-listed
-decode_contents-returns-in_ok-values-in-SetOf-clause-listed g t c = contents_same (shape_of_type c.args.types.now c.args.below) c.args.below (Inside c.args.types.now c.args.below) c.args.ty.now _ c.args.decoder.now _ _ c.in-SetOf.is c.in_ok-values-in-SetOf.ensures.listed
-
 pub decode_elements-returns-clause-listed : goal.decode_elements-returns-clause-listed
 decode_elements-returns-clause-listed g t c = elements_listed (shape_of_type c.args.types.now c.args.below) c.args.below (Inside c.args.types.now c.args.below) c.args.element.0 c.loop-element.count c.args.decoder.now c.loop-element.decoder _ _ c.loop-element-test.ensures c.loop-element.invariant.3
 
@@ -1596,3 +1427,171 @@ decode_compared-returns-in-None-clause-listed g t c =
     let w = c.in-None.ensures.reads in
     let P : State → Spans → Type 0 = λ z o. IfOk (outcome c.decode_part.result c.decode_part.new.out c.decode_part.new.walk.error) (λ v. Lists (λ b es. PartListed (shape_of_type c.args.types.now c.args.levels) c.args.levels (Inside c.args.types.now c.args.levels) c.args.id.0 c.args.index b z c.decode_part.new.decoder es) o c.decode_part.new.walk.spans) in
     subst (λ o. P c.args.decoder.now o) c.in-None.ensures.listed (subst (λ z. P z c.decode_value.new.walk.spans) w.1 c.decode_part.ensures.listed)
+
+-- ---- contents of each kind
+
+pub decode_contents-put_sequence-requires : goal.decode_contents-put_sequence-requires
+decode_contents-put_sequence-requires g t c = λ κs o. (search rules, (search rules, (rw c.deref.ensures.value (lawful_parts (shape_of_type c.args.types.now c.args.below) _ (seq_lawful _ _ (subst (λ n. IsReadable (type_by (shape_of_type c.args.types.now c.args.below) n)) c.in-Sequence.is c.requires.lawful))), c.requires.clear)))
+
+pub decode_contents-put_elements-requires : goal.decode_contents-put_elements-requires
+decode_contents-put_elements-requires g t c = λ κs o. (search rules, (search rules, (list_lawful _ _ c.in-SequenceOf.constraints.size (subst (λ n. IsReadable (type_by (shape_of_type c.args.types.now c.args.below) n)) c.in-SequenceOf.is c.requires.lawful), (c.requires.counts, c.requires.clear))))
+
+pub decode_contents-put_elements_in_order-requires : goal.decode_contents-put_elements_in_order-requires
+decode_contents-put_elements_in_order-requires g t c = λ κs o. (search rules, (search rules, (set_of_lawful _ _ c.in-SetOf.constraints.size (subst (λ n. IsReadable (type_by (shape_of_type c.args.types.now c.args.below) n)) c.in-SetOf.is c.requires.lawful), (c.requires.counts, c.requires.clear))))
+
+pub decode_contents-put_set-requires : goal.decode_contents-put_set-requires
+decode_contents-put_set-requires g t c = λ κs o. (search rules, (search rules, (rw c.deref-in-Set.ensures.value (named_lawful (shape_of_type c.args.types.now c.args.below) c.in-Set.tag c.in-Set.components.items _ refl (subst (λ n. IsReadable (type_by (shape_of_type c.args.types.now c.args.below) n)) c.in-Set.is c.requires.lawful)), c.requires.clear)))
+
+pub decode_contents-returns-in-Sequence-clause-exact : goal.decode_contents-returns-in-Sequence-clause-exact
+decode_contents-returns-in-Sequence-clause-exact g t c = rw (c.in-Sequence.is, ← c.deref.ensures.value) (counted_nothing _ tree_of (CountsElements (Sequence c.in-Sequence.tag c.in-Sequence.components)) (Makes items (DecodesComponents (components_by (shape_of_type c.args.types.now c.args.below) c.deref.result.now))) c.args.decoder.now (outcome c.put_sequence.result c.put_sequence.new.out c.put_sequence.new.walk.error) _ _ (λ d. tt) c.put_sequence.ensures.exact)
+
+pub decode_contents-returns-in-Sequence-clause-told : goal.decode_contents-returns-in-Sequence-clause-told
+decode_contents-returns-in-Sequence-clause-told g t c = rw (c.in-Sequence.is, ← c.deref.ensures.value) c.put_sequence.ensures.told
+
+pub decode_contents-returns-in-Sequence-clause-itself : goal.decode_contents-returns-in-Sequence-clause-itself
+decode_contents-returns-in-Sequence-clause-itself g t c = rw (c.in-Sequence.is, ← c.deref.ensures.value) c.put_sequence.ensures.itself
+
+pub decode_contents-returns-in-Sequence-clause-listed : goal.decode_contents-returns-in-Sequence-clause-listed
+decode_contents-returns-in-Sequence-clause-listed g t c = if_ok _ _ _ (λ v h. contents_same (shape_of_type c.args.types.now c.args.below) c.args.below (Inside c.args.types.now c.args.below) c.args.ty.now _ c.args.decoder.now _ _ c.in-Sequence.is (components_same (shape_of_type c.args.types.now c.args.below) c.args.below (Inside c.args.types.now c.args.below) _ _ c.args.decoder.now _ _ c.deref.ensures.value h)) c.put_sequence.ensures.listed
+
+pub decode_contents-returns-in-Sequence-clause-fits : goal.decode_contents-returns-in-Sequence-clause-fits
+decode_contents-returns-in-Sequence-clause-fits g t c = λ k. rw (c.in-Sequence.is, ← c.deref.ensures.value) (c.put_sequence.ensures.fits k)
+
+pub decode_contents-returns-in-SequenceOf-clause-exact : goal.decode_contents-returns-in-SequenceOf-clause-exact
+decode_contents-returns-in-SequenceOf-clause-exact g t c = rw c.in-SequenceOf.is c.put_elements.ensures.exact
+
+pub decode_contents-returns-in-SequenceOf-clause-told : goal.decode_contents-returns-in-SequenceOf-clause-told
+decode_contents-returns-in-SequenceOf-clause-told g t c = rw c.in-SequenceOf.is c.put_elements.ensures.told
+
+pub decode_contents-returns-in-SequenceOf-clause-itself : goal.decode_contents-returns-in-SequenceOf-clause-itself
+decode_contents-returns-in-SequenceOf-clause-itself g t c = rw c.in-SequenceOf.is c.put_elements.ensures.itself
+
+pub decode_contents-returns-in-SequenceOf-clause-listed : goal.decode_contents-returns-in-SequenceOf-clause-listed
+decode_contents-returns-in-SequenceOf-clause-listed g t c = if_ok _ _ _ (λ v h. contents_same (shape_of_type c.args.types.now c.args.below) c.args.below (Inside c.args.types.now c.args.below) c.args.ty.now _ c.args.decoder.now _ _ c.in-SequenceOf.is h) c.put_elements.ensures.listed
+
+pub decode_contents-returns-in-SequenceOf-clause-fits : goal.decode_contents-returns-in-SequenceOf-clause-fits
+decode_contents-returns-in-SequenceOf-clause-fits g t c = λ k. rw c.in-SequenceOf.is (c.put_elements.ensures.fits k)
+
+pub decode_contents-returns-in-SetOf-clause-exact : goal.decode_contents-returns-in-SetOf-clause-exact
+decode_contents-returns-in-SetOf-clause-exact g t c = rw c.in-SetOf.is c.put_elements_in_order.ensures.exact
+
+pub decode_contents-returns-in-SetOf-clause-told : goal.decode_contents-returns-in-SetOf-clause-told
+decode_contents-returns-in-SetOf-clause-told g t c = rw c.in-SetOf.is c.put_elements_in_order.ensures.told
+
+pub decode_contents-returns-in-SetOf-clause-itself : goal.decode_contents-returns-in-SetOf-clause-itself
+decode_contents-returns-in-SetOf-clause-itself g t c = rw c.in-SetOf.is c.put_elements_in_order.ensures.itself
+
+pub decode_contents-returns-in-SetOf-clause-listed : goal.decode_contents-returns-in-SetOf-clause-listed
+decode_contents-returns-in-SetOf-clause-listed g t c = if_ok _ _ _ (λ v h. contents_same (shape_of_type c.args.types.now c.args.below) c.args.below (Inside c.args.types.now c.args.below) c.args.ty.now _ c.args.decoder.now _ _ c.in-SetOf.is h) c.put_elements_in_order.ensures.listed
+
+pub decode_contents-returns-in-SetOf-clause-fits : goal.decode_contents-returns-in-SetOf-clause-fits
+decode_contents-returns-in-SetOf-clause-fits g t c = λ k. rw c.in-SetOf.is (c.put_elements_in_order.ensures.fits k)
+
+pub decode_contents-returns-in-Set-clause-exact : goal.decode_contents-returns-in-Set-clause-exact
+decode_contents-returns-in-Set-clause-exact g t c =
+    rw (c.in-Set.is, ← c.deref-in-Set.ensures.value) (counted_nothing _ tree_of (CountsElements (Set c.in-Set.name c.in-Set.tag c.in-Set.components)) (Makes items (MayRunOut (DecodesSetPartContents (is_extensible (shape_of_type c.args.types.now c.args.below) c.deref-in-Set.result.now) (components_by (shape_of_type c.args.types.now c.args.below) (named_components (shape_of_type c.args.types.now c.args.below) c.deref-in-Set.result.now)) items (names_of (named_components (shape_of_type c.args.types.now c.args.below) c.deref-in-Set.result.now)))))
+    c.args.decoder.now (outcome c.put_set.result c.put_set.new.out c.put_set.new.walk.error) _ _ (λ d. tt) c.put_set.ensures.exact)
+
+pub decode_contents-returns-in-Set-clause-told : goal.decode_contents-returns-in-Set-clause-told
+decode_contents-returns-in-Set-clause-told g t c = rw (c.in-Set.is, ← c.deref-in-Set.ensures.value) c.put_set.ensures.told
+
+pub decode_contents-returns-in-Set-clause-itself : goal.decode_contents-returns-in-Set-clause-itself
+decode_contents-returns-in-Set-clause-itself g t c = rw (c.in-Set.is, ← c.deref-in-Set.ensures.value) c.put_set.ensures.itself
+
+pub decode_contents-returns-in-Set-clause-listed : goal.decode_contents-returns-in-Set-clause-listed
+decode_contents-returns-in-Set-clause-listed g t c = if_ok _ _ _ (λ v h. contents_same (shape_of_type c.args.types.now c.args.below) c.args.below (Inside c.args.types.now c.args.below) c.args.ty.now _ c.args.decoder.now _ _ c.in-Set.is (subst (λ l. Lists (λ n es. MembersListed (shape_of_type c.args.types.now c.args.below) c.args.below (Inside c.args.types.now c.args.below) (is_extensible (shape_of_type c.args.types.now c.args.below) l) (named_components (shape_of_type c.args.types.now c.args.below) l) (last_type l) n c.args.decoder.now es) c.args.walk.now.spans c.put_set.new.walk.spans) c.deref-in-Set.ensures.value h)) c.put_set.ensures.listed
+
+pub decode_contents-returns-in-Set-clause-fits : goal.decode_contents-returns-in-Set-clause-fits
+decode_contents-returns-in-Set-clause-fits g t c = λ k. rw (c.in-Set.is, ← c.deref-in-Set.ensures.value) (c.put_set.ensures.fits k)
+
+pub put_sequence-decode_sequence-requires : goal.put_sequence-decode_sequence-requires
+put_sequence-decode_sequence-requires g t c = λ κs o. (search rules, (search rules, (c.requires.lawful, (c.in_ok-values.ensures.ok, c.requires.clear))))
+
+pub put_sequence-returns-in_err-values-clause-exact : goal.put_sequence-returns-in_err-values-clause-exact
+put_sequence-returns-in_err-values-clause-exact g t c = rw (residual _ c.from_residual.ensures.1) (sequence_runs_out _ _ c.list_for.new.error c.in_err-values.ensures.kind, inr c.in_err-values.ensures.kind)
+
+pub put_sequence-returns-in_err-values-clause-itself : goal.put_sequence-returns-in_err-values-clause-itself
+put_sequence-returns-in_err-values-clause-itself g t c = rw (residual _ c.from_residual.ensures.1) (λ n. inl c.in_err-values.ensures.kind)
+
+pub put_sequence-returns-in_err-decode_sequence-clause-exact : goal.put_sequence-returns-in_err-decode_sequence-clause-exact
+put_sequence-returns-in_err-decode_sequence-clause-exact g t c = rw (residual _ c.from_residual-in_err-decode_sequence.ensures.1) (c.in_err-decode_sequence.ensures.reads, c.in_err-decode_sequence.ensures.fails)
+
+pub put_sequence-returns-clause-exact : goal.put_sequence-returns-clause-exact
+put_sequence-returns-clause-exact g t c =
+    let w = c.in_ok-decode_sequence.ensures.reads in
+    (items w.0, (λ k. ap tree_of (c.put_items.ensures k) ∙ items_made _ c.decode_sequence.new.values w.0 w.1 k), (w.0, refl, (w.2, tt)))
+
+pub put_sequence-returns-clause-fits : goal.put_sequence-returns-clause-fits
+put_sequence-returns-clause-fits g t c = λ k. rw (c.put_items.ensures k) (are_items (ComponentsFit (Fits c.args.types.now c.args.below) c.args.components.now) c.decode_sequence.new.values (c.in_ok-decode_sequence.ensures.fits k))
+
+pub put_elements-decode_elements-requires : goal.put_elements-decode_elements-requires
+put_elements-decode_elements-requires g t c = λ κs o. (search rules, (search rules, (c.requires.lawful, (c.requires.counts, (c.new-values.ensures.items, c.requires.clear)))))
+
+pub put_elements-returns-in_err-decode_elements-clause-exact : goal.put_elements-returns-in_err-decode_elements-clause-exact
+put_elements-returns-in_err-decode_elements-clause-exact g t c = rw (residual _ c.from_residual.ensures.1) c.in_err-decode_elements.ensures.reads
+
+pub put_elements-returns-clause-exact : goal.put_elements-returns-clause-exact
+put_elements-returns-clause-exact g t c =
+    let w = c.in_ok-decode_elements.ensures.reads in
+    (items w.0, (λ k. ap tree_of (c.put_items.ensures k) ∙ items_made _ c.decode_elements.new.values w.0 w.1 k), w.2 ∙ sym (count_items w.0), (w.0, refl, w.3))
+
+pub put_elements-returns-clause-fits : goal.put_elements-returns-clause-fits
+put_elements-returns-clause-fits g t c = λ k. rw (c.put_items.ensures k) (are_items (EachFits (Fits c.args.types.now c.args.below c.args.element.0)) c.decode_elements.new.values (c.in_ok-decode_elements.ensures.fits k))
+
+pub put_elements_in_order-decode_elements_in_order-requires : goal.put_elements_in_order-decode_elements_in_order-requires
+put_elements_in_order-decode_elements_in_order-requires g t c = λ κs o. (search rules, (search rules, (c.requires.lawful, (c.requires.counts, (c.new-values.ensures.items, c.requires.clear)))))
+
+pub put_elements_in_order-returns-in_err-decode_elements_in_order-clause-exact : goal.put_elements_in_order-returns-in_err-decode_elements_in_order-clause-exact
+put_elements_in_order-returns-in_err-decode_elements_in_order-clause-exact g t c = rw (residual _ c.from_residual.ensures.1) c.in_err-decode_elements_in_order.ensures.reads
+
+pub put_elements_in_order-returns-clause-exact : goal.put_elements_in_order-returns-clause-exact
+put_elements_in_order-returns-clause-exact g t c =
+    let w = c.in_ok-decode_elements_in_order.ensures.reads in
+    (elements w.0, (λ k. ap tree_of (c.put_in_any_order.ensures k) ∙ elements_made _ c.decode_elements_in_order.new.values w.0 w.1 k), w.2 ∙ sym (count_items w.0), (w.0, refl, w.3))
+
+pub put_elements_in_order-returns-clause-fits : goal.put_elements_in_order-returns-clause-fits
+put_elements_in_order-returns-clause-fits g t c = λ k. rw (c.put_in_any_order.ensures k) (are_elements (EachFits (Fits c.args.types.now c.args.below c.args.element.0)) c.decode_elements_in_order.new.values (c.in_ok-decode_elements_in_order.ensures.fits k))
+
+pub put_set-decode_set-requires : goal.put_set-decode_set-requires
+put_set-decode_set-requires g t c = λ κs o. (
+  search rules,
+  (
+    search rules,
+    (
+      rw c.named_components-extensible.ensures.named c.requires.lawful,
+      (
+        c.in_ok-found.ensures.ok,
+        (c.requires.clear, λ x. ap (shape_of_type c.args.types.now c.args.below) c.last_type-other_id.ensures ∙ last_unknown (shape_of_type c.args.types.now c.args.below) c.args.components.now (sym c.named_components-extensible.ensures.extensible ∙ x)),
+      ),
+    ),
+  ),
+)
+
+pub put_set-returns-in_err-found-clause-exact : goal.put_set-returns-in_err-found-clause-exact
+put_set-returns-in_err-found-clause-exact g t c = rw (residual _ c.from_residual.ensures.1) (set_runs_out (shape_of_type c.args.types.now c.args.below) _ _ _ _ _ c.in_err-found.ensures.err)
+
+pub put_set-returns-in_err-found-clause-itself : goal.put_set-returns-in_err-found-clause-itself
+put_set-returns-in_err-found-clause-itself g t c = rw (residual _ c.from_residual.ensures.1) (λ n. inl c.in_err-found.ensures.err)
+
+pub put_set-returns-in_err-values-clause-exact : goal.put_set-returns-in_err-values-clause-exact
+put_set-returns-in_err-values-clause-exact g t c = rw (residual _ c.from_residual-in_err-values.ensures.1) (subst (λ b. MayRunOut (DecodesSetPartContents b (components_by (shape_of_type c.args.types.now c.args.below) (named_components (shape_of_type c.args.types.now c.args.below) c.args.components.now)) items (names_of (named_components (shape_of_type c.args.types.now c.args.below) c.args.components.now))) c.args.decoder.now (Err c.decode_set.new.walk.error) _) c.named_components-extensible.ensures.extensible (subst (λ l. MayRunOut (DecodesSetPartContents c.named_components-extensible.result.1 (components_by (shape_of_type c.args.types.now c.args.below) l) items (names_of l)) c.args.decoder.now (Err c.decode_set.new.walk.error) _) c.named_components-extensible.ensures.named c.in_err-values.ensures.exact))
+
+pub put_set-returns-in_err-values-clause-told : goal.put_set-returns-in_err-values-clause-told
+put_set-returns-in_err-values-clause-told g t c = rw (residual _ c.from_residual-in_err-values.ensures.1) (λ x q. subst (λ n. IsFaultIn c.args.types.now c.args.below (IsMemberAfter (shape_of_type c.args.types.now c.args.below) (is_extensible (shape_of_type c.args.types.now c.args.below) c.args.components.now) (named_components (shape_of_type c.args.types.now c.args.below) c.args.components.now) n c.args.decoder.now) c.args.decoder.now c.args.decoder.now c.decode_set.new.walk.error x) c.last_type-other_id.ensures
+    (subst (λ b. IsFaultIn c.args.types.now c.args.below (IsMemberAfter (shape_of_type c.args.types.now c.args.below) b (named_components (shape_of_type c.args.types.now c.args.below) c.args.components.now) c.last_type-other_id.result.0 c.args.decoder.now) c.args.decoder.now c.args.decoder.now c.decode_set.new.walk.error x) c.named_components-extensible.ensures.extensible (subst (λ l. IsFaultIn c.args.types.now c.args.below (IsMemberAfter (shape_of_type c.args.types.now c.args.below) c.named_components-extensible.result.1 l c.last_type-other_id.result.0 c.args.decoder.now) c.args.decoder.now c.args.decoder.now c.decode_set.new.walk.error x) c.named_components-extensible.ensures.named (c.in_err-values.ensures.told x q))))
+
+pub put_set-returns-in_err-values-clause-itself : goal.put_set-returns-in_err-values-clause-itself
+put_set-returns-in_err-values-clause-itself g t c = rw (residual _ c.from_residual-in_err-values.ensures.1) (λ n. (subst (λ b. StopsInSet (shape_of_type c.args.types.now c.args.below) b (named_components (shape_of_type c.args.types.now c.args.below) c.args.components.now) c.args.decoder.now c.decode_set.new.walk.error) c.named_components-extensible.ensures.extensible (subst (λ l. StopsInSet (shape_of_type c.args.types.now c.args.below) c.named_components-extensible.result.1 l c.args.decoder.now c.decode_set.new.walk.error) c.named_components-extensible.ensures.named (c.in_err-values.ensures.itself n))))
+
+pub put_set-returns-clause-exact : goal.put_set-returns-clause-exact
+put_set-returns-clause-exact g t c =
+    let w = c.in_ok-values.ensures.exact in
+    (items w.0, (λ k. ap tree_of (c.put_items.ensures k) ∙ items_made _ c.in_ok-values.values w.0 w.1 k), (w.0, refl, (subst (λ b. MayRunOut (DecodesSetPartContents b (components_by (shape_of_type c.args.types.now c.args.below) (named_components (shape_of_type c.args.types.now c.args.below) c.args.components.now)) items (names_of (named_components (shape_of_type c.args.types.now c.args.below) c.args.components.now))) c.args.decoder.now (Ok w.0) _) c.named_components-extensible.ensures.extensible (subst (λ l. MayRunOut (DecodesSetPartContents c.named_components-extensible.result.1 (components_by (shape_of_type c.args.types.now c.args.below) l) items (names_of l)) c.args.decoder.now (Ok w.0) _) c.named_components-extensible.ensures.named w.2))))
+
+pub put_set-returns-clause-fits : goal.put_set-returns-clause-fits
+put_set-returns-clause-fits g t c = λ k. rw (c.put_items.ensures k) (are_items (ComponentsFit (Fits c.args.types.now c.args.below) c.args.components.now) c.in_ok-values.values
+    (members_fit c.args.types.now c.args.below c.args.components.now c.in_ok-values.values.items (subst (λ b. MembersFit (Fits c.args.types.now c.args.below) b (named_components (shape_of_type c.args.types.now c.args.below) c.args.components.now) c.in_ok-values.values.items) c.named_components-extensible.ensures.extensible (subst (λ l. MembersFit (Fits c.args.types.now c.args.below) c.named_components-extensible.result.1 l c.in_ok-values.values.items) c.named_components-extensible.ensures.named (c.in_ok-values.ensures.fits k)))))
+
+pub put_set-returns-clause-listed : goal.put_set-returns-clause-listed
+put_set-returns-clause-listed g t c = subst (λ k. Lists (λ n es. MembersListed (shape_of_type c.args.types.now c.args.below) c.args.below (Inside c.args.types.now c.args.below) (is_extensible (shape_of_type c.args.types.now c.args.below) c.args.components.now) (named_components (shape_of_type c.args.types.now c.args.below) c.args.components.now) k n c.args.decoder.now es) c.args.walk.now.spans c.decode_set.new.walk.spans) c.last_type-other_id.ensures
+    (subst (λ b. Lists (λ n es. MembersListed (shape_of_type c.args.types.now c.args.below) c.args.below (Inside c.args.types.now c.args.below) b (named_components (shape_of_type c.args.types.now c.args.below) c.args.components.now) c.last_type-other_id.result.0 n c.args.decoder.now es) c.args.walk.now.spans c.decode_set.new.walk.spans) c.named_components-extensible.ensures.extensible (subst (λ l. Lists (λ n es. MembersListed (shape_of_type c.args.types.now c.args.below) c.args.below (Inside c.args.types.now c.args.below) c.named_components-extensible.result.1 l c.last_type-other_id.result.0 n c.args.decoder.now es) c.args.walk.now.spans c.decode_set.new.walk.spans) c.named_components-extensible.ensures.named c.in_ok-values.ensures.listed))

@@ -20,52 +20,52 @@ use Rattle.rasn_dynamic.proofs.FitsRead.{FitSoFar}
 use Rattle.rasn_dynamic.proofs.reader.+decode.Given as goal
 
 abbrev pub decreases-decode_at : goal.decreases-decode_at
-decreases-decode_at g l = 16 * l.levels + 1
+decreases-decode_at g l = 32 * l.levels + 1
 
 abbrev pub decreases-decode_found : goal.decreases-decode_found
-decreases-decode_found g l = 16 * l.levels
+decreases-decode_found g l = 32 * l.levels
 
 abbrev pub decreases-decode_part : goal.decreases-decode_part
-decreases-decode_part g l = 16 * l.levels + 2
+decreases-decode_part g l = 32 * l.levels + 2
 
 abbrev pub decreases-decode_compared : goal.decreases-decode_compared
-decreases-decode_compared g l = 16 * l.levels + 3
+decreases-decode_compared g l = 32 * l.levels + 3
 
 abbrev pub decreases-decode_type : goal.decreases-decode_type
-decreases-decode_type g l = 16 * l.below + 12
+decreases-decode_type g l = 32 * l.below + 24
 
 abbrev pub decreases-decode_list : goal.decreases-decode_list
-decreases-decode_list g l = 16 * l.below + 11
+decreases-decode_list g l = 32 * l.below + 23
 
 abbrev pub decreases-decode_choice : goal.decreases-decode_choice
-decreases-decode_choice g l = 16 * l.below + 10
+decreases-decode_choice g l = 32 * l.below + 22
 
 abbrev pub decreases-decode_inside : goal.decreases-decode_inside
-decreases-decode_inside g l = 16 * l.below + 10
+decreases-decode_inside g l = 32 * l.below + 22
 
 abbrev pub decreases-decode_contents : goal.decreases-decode_contents
-decreases-decode_contents g l = 16 * l.below + 9
+decreases-decode_contents g l = 32 * l.below + 21
 
 abbrev pub decreases-decode_sequence : goal.decreases-decode_sequence
-decreases-decode_sequence g l = 16 * l.below + 8
+decreases-decode_sequence g l = 32 * l.below + 18
 
 abbrev pub decreases-decode_elements : goal.decreases-decode_elements
-decreases-decode_elements g l = 16 * l.below + 4
+decreases-decode_elements g l = 32 * l.below + 14
 
 abbrev pub decreases-decode_elements_in_order : goal.decreases-decode_elements_in_order
-decreases-decode_elements_in_order g l = 16 * l.below + 4
+decreases-decode_elements_in_order g l = 32 * l.below + 14
 
 abbrev pub decreases-decode_component : goal.decreases-decode_component
-decreases-decode_component g l = 16 * l.below + 7
+decreases-decode_component g l = 32 * l.below + 17
 
 abbrev pub decreases-decode_present : goal.decreases-decode_present
-decreases-decode_present g l = 16 * l.below + 6
+decreases-decode_present g l = 32 * l.below + 16
 
 abbrev pub decreases-decode_set : goal.decreases-decode_set
-decreases-decode_set g l = 16 * l.below + 8
+decreases-decode_set g l = 32 * l.below + 18
 
 abbrev pub decreases-decode_set_component : goal.decreases-decode_set_component
-decreases-decode_set_component g l = 16 * l.below + 7
+decreases-decode_set_component g l = 32 * l.below + 17
 
 abbrev pub invariant-decode_elements-loop-element : goal.invariant-decode_elements-loop-element
 invariant-decode_elements-loop-element g l = ((ts : List Tree) × (g.M.Made.KEEP ≡ true → map tree_of l.values.items ≡ ts) × (l.count ≡ length ts) × DecodesInTurn (DecodesTree (shape_of_type l.types l.below l.element.0)) l.fn.decoder ts l.decoder)
@@ -102,3 +102,15 @@ invariant-decode_set-loop-other_id g l = ((slots : List (Option Tree)) × (us : 
 
 abbrev pub decreases-decode_set-loop-other_id : goal.decreases-decode_set-loop-other_id
 decreases-decode_set-loop-other_id g l = length l.decoder.rest
+
+abbrev pub decreases-put_sequence : goal.decreases-put_sequence
+decreases-put_sequence g l = 32 * l.below + 20
+
+abbrev pub decreases-put_elements : goal.decreases-put_elements
+decreases-put_elements g l = 32 * l.below + 20
+
+abbrev pub decreases-put_elements_in_order : goal.decreases-put_elements_in_order
+decreases-put_elements_in_order g l = 32 * l.below + 20
+
+abbrev pub decreases-put_set : goal.decreases-put_set
+decreases-put_set g l = 32 * l.below + 20
