@@ -1,9 +1,14 @@
 -- Headers of one identifier octet and one length octet.
-use Rattle.std.proofs.Common.{arith, ◌≡◌, ◌≢◌, ℕ, zero, suc, ◌+◌, ◌*◌, ◌/◌, ◌%◌, ◌<◌, ◌≤◌, List, [], ◌∷◌, length, Bool, true, false, length-append, refl, sym, ap, ◌∙◌, inl}
-use Rattle.std.specs.Prelude.{take, drop}
+use Rattle.std.proofs.Common.{arith, ◌≡◌, ◌≢◌, ℕ, zero, suc, ◌+◌, ◌-◌, ◌*◌, ◌/◌, ◌%◌, ◌<◌, ◌≤◌, List, [], ◌∷◌, length, Bool, true, false, length-append, refl, sym, ap, subst, ◌∙◌, inl}
+use Rattle.std.specs.Prelude.{take, drop, slice_index_or}
 use Rattle.std.proofs.lemmas.List.{take-append-drop, length-take-le}
-use Rattle.rasn_types.specs.Tags.{form, Ber, Class, Universal, Application, Context, Private, Tag, rank, eoc}
-use Rattle.rasn_types.specs.Framing.{Frame, with_length, SpellsIdentifier, bit_of}
+use Rattle.rasn_types.specs.declared.types.codec.Codec.TheVariants.{Ber}
+use Rattle.rasn_types.specs.declared.types.tag.Class.{Class}
+use Rattle.rasn_types.specs.declared.types.tag.Class.TheVariants.{Universal, Application, Context, Private}
+use Rattle.rasn_types.specs.declared.types.tag.Tag.{Tag}
+use Rattle.rasn_types.specs.Tags.{form, rank, eoc}
+use Rattle.rasn_types.specs.Framing.{Frame, with_length, SpellsIdentifier, bit_of, AreOctets}
+use Rattle.rasn_schema.proofs.Lists.{split}
 use Rattle.rasn_dynamic.specs.Parts.{IsHeader}
 
 class_at : ℕ → Class
@@ -57,3 +62,19 @@ short_header a n l small low one short fits =
       with_length (a ∷ []) (n ∷ []) (take n l) (identifies a small low one) (inl (short, refl, len)) (λ strict. absurd strict) (ap (λ z. a ∷ (n ∷ z)) (sym (take-append-drop n l))),
       omega (arith, whole),
     )
+
+split_first : (l : List ℕ) → 1 ≤ length l → l ≡ slice_index_or l 0 0 ∷ take (length l - 1) (drop 1 l)
+split_first [] h = absurd (omega (arith, h))
+split_first (y ∷ l) h = split (y ∷ l) y h refl
+
+-- The same of octets of which the first two are looked at.
+pub is_short : (octets : List ℕ) → AreOctets octets → 1 ≤ length octets → 1 ≤ length (take (length octets - 1) (drop 1 octets))
+    → (slice_index_or octets 0 0 % 32 ≡ 31 → ⊥) → (slice_index_or octets 0 0 < 64 → slice_index_or octets 0 0 % 32 ≢ 0)
+    → slice_index_or (take (length octets - 1) (drop 1 octets)) 0 0 < 128
+    → slice_index_or (take (length octets - 1) (drop 1 octets)) 0 0 ≤ length (take (length (take (length octets - 1) (drop 1 octets)) - 1) (drop 1 (take (length octets - 1) (drop 1 octets))))
+    → IsHeader octets 2 false
+is_short octets a h k low one short fits =
+    let after : List ℕ = take (length octets - 1) (drop 1 octets) in
+    let e : octets ≡ slice_index_or octets 0 0 ∷ (slice_index_or after 0 0 ∷ take (length after - 1) (drop 1 after)) = split_first octets h ∙ ap (λ m. slice_index_or octets 0 0 ∷ m) (split_first after k) in
+    let small : slice_index_or octets 0 0 < 256 = (subst AreOctets e a).0 in
+    subst (λ l. IsHeader l 2 false) (sym e) (short_header (slice_index_or octets 0 0) (slice_index_or after 0 0) (take (length after - 1) (drop 1 after)) small (omega (arith, low)) one short fits)
