@@ -14,7 +14,9 @@ ghost use Rattle.rasn_dynamic.specs.Sets.{AreLawfulMembers, is_extensible, named
 ghost use Rattle.rasn_de.specs.Steps.{IsErrorOf};
 ghost use Rattle.rasn_de.specs.declared.ber.de.parser.ParseError.TheVariants.{UnexpectedExtraData, UnexpectedEmptyInput, OutOfMemory, SizeConstraintNotSatisfied, Der};
 ghost use Rattle.rasn_schema.specs.declared.types.«Type».{«Type»};
+ghost use Rattle.rasn_schema.specs.declared.types.Presence.TheVariants.{Default};
 ghost use Rattle.rasn_schema.specs.declared.value.Value.{Items, Elements};
+ghost use Rattle.rasn_types.specs.Tags.{IsStrict};
 ghost use Rattle.rasn_schema.specs.Trees.{tree_of};
 ghost use Rattle.rasn_schema.specs.Shapes.{shape_of_type, type_by, alternatives_by, choice_among, components_by, key_of, presence_in, presence_of, IsReadable, AreReadable};
 ghost use Rattle.rasn_dynamic.specs.Inside.{ReadsSequence, DecodesTree, DecodesComponent};
@@ -1142,6 +1144,34 @@ pub fn decode_present<'input, M: Made>(
     if !decoder.is_strict() {
         return decode_part::<M>(decoder, walk, types, below, component.type_id, index, out);
     }
+    decode_stated::<M>(decoder, walk, types, below, component, default, index, out)
+}
+
+/// Reads a component that is present and has this default, which it must not be under DER
+/// (X.690 11.5).
+#[cycle(decode)]
+#[inline(never)]
+fn decode_stated<'input, M: Made>(
+    decoder: &mut Decoder<'input>,
+    walk: &mut Walk<'input>,
+    types: &[Type],
+    below: usize,
+    component: &Component,
+    default: &Value<'_>,
+    index: usize,
+    out: &mut Value<'input>,
+) -> Result<(), Refused>
+    requires stated { component.now.presence ≡ Default default.now }
+    requires strict { IsStrict decoder.old.rule }
+    requires lawful { IsReadable (shape_of_type types.now below component.now.type_id.0) }
+    requires clear { walk.old.fault ≡ None }
+    ensures reads { Making M.KEEP tree_of (DecodesPresent (presence_in (shape_of_type types.now below) component.now) (shape_of_type types.now below component.now.type_id.0)) decoder.old (outcome result out.new walk.new.error) decoder.new }
+    ensures fits { M.KEEP ≡ true → IfOk (outcome result out.new walk.new.error) (λ v. Fits types.now below component.now.type_id.0 v) }
+    ensures rules { IfErr (outcome result out.new walk.new.error) (λ e. e.codec ≡ decoder.old.rule) }
+    ensures told { Told (IsFaultIn types.now below (IsOnly index component.now.type_id.0 decoder.old) decoder.old decoder.old) (outcome result out.new walk.new.error) walk.new.fault }
+    ensures itself { IfErr (outcome result out.new walk.new.error) (λ e. walk.new.fault ≡ None → IsDefaultWritten (shape_of_type types.now below) component.now decoder.old e) }
+    ensures listed { IfOk (outcome result out.new walk.new.error) (λ v. Lists (λ b es. PartListed (shape_of_type types.now below) below (Inside types.now below) component.now.type_id.0 index b decoder.old decoder.new es) walk.old.spans walk.new.spans) }
+{
     let mut value = Value::Absent;
     decode_compared::<M>(
         decoder,
@@ -1215,9 +1245,10 @@ fn decode_set<'input, M: Made>(
         return Err(Refused);
     }
     let mut values = gather_found::<M>(decoder, &mut walk.error, components, found)?;
-    if extensible {
-        append::<M>(decoder, &mut walk.error, &mut values, Value::Items(unknown))?;
+    if !extensible {
+        return Ok(values);
     }
+    append::<M>(decoder, &mut walk.error, &mut values, Value::Items(unknown))?;
     Ok(values)
 }
 

@@ -51,10 +51,11 @@ use Rattle.rasn_dynamic.proofs.AllMembers.{set_trees, all_trees, none_unknown, m
 use Rattle.rasn_de.proofs.OwnTypes.SetPartTypes.{ReadTo, read_rules, none_read, untold, next_fails, next_passes, one_twice}
 use Rattle.rasn_dynamic.proofs.Members.{passed_unknown}
 use Rattle.rasn_dynamic.proofs.Named.{named_lawful, last_unknown}
-use Rattle.rasn_dynamic.specs.Sets.{is_extensible, named_components, last_type}
+use Rattle.rasn_dynamic.specs.Sets.{is_extensible, named_components, last_type, AreLawfulMembers}
+use Rattle.rasn_de.proofs.Constructed.Opening.{kept}
 use Rattle.rasn_dynamic.specs.Found.{MembersFit}
 use Rattle.rasn_dynamic.proofs.Parts.{shorter}
-use Rattle.rasn_dynamic.proofs.reader.+decode.Goals.{decode_elements_in_order-else-is_strict-via-then-is_strict+else-is_less, decode_elements_in_order-else-is_strict-via-else-is_strict, decode_set-then-extensible+in_ok-append, decode_set-else-extensible}
+use Rattle.rasn_dynamic.proofs.reader.+decode.Goals.{decode_elements_in_order-else-is_strict-via-then-is_strict+else-is_less, decode_elements_in_order-else-is_strict-via-else-is_strict}
 use Rattle.rasn_dynamic.specs.Listed.{Lists, Inside, PartListed, ComponentAt, MemberListed, MembersListed}
 use Rattle.rasn_de.specs.Constructed.{list_header}
 use Rattle.rasn_dynamic.specs.declared.span.Spans.{Spans}
@@ -65,7 +66,7 @@ use Rattle.rasn_de.specs.SequenceOf.{DecodesSized}
 use Rattle.rasn_de.specs.SetPartTypes.{DecodesSetPartContents}
 use Rattle.rasn_de.specs.Set.{not_read}
 use Rattle.rasn_de.proofs.Headers.Tags.{look_refused, look_follows}
-use Rattle.rasn_dynamic.specs.Faults.{IsFaultOf, IsFaultIn, IsFaultInside, IsOnly, IsAlternativeAt, IsComponentAt, IsMemberAfter, ReadsEachPart, StopsAtMember, StopsInSequence, StopsInSet, TellsOf}
+use Rattle.rasn_dynamic.specs.Faults.{IsFaultOf, IsFaultIn, IsFaultInside, IsOnly, IsAlternativeAt, IsComponentAt, IsMemberAfter, Told, ReadsEachPart, StopsAtMember, StopsInSequence, StopsInSet, TellsOf}
 use Rattle.rasn_dynamic.proofs.Faults.{any_err, if_err_map, unnamed, one_taken, turns_long, marked, stepped, further, weaker, entered, opened, opened_short, told_map, tells, tells_err, alternative_there, element_there, forgotten, one_part_more, part_there, member_there, member_behind, unknown_there, turns_keep, named, not_named, unmoved, got_inside, found_itself, itself_leaf, present_stops, itself_prefix, itself_sequence, itself_set, itself_list, itself_set_of, itself_choice, element_stops, set_element_stops, default_stops, unmade_stops, only_memory}
 
 -- ---- the type with a number
@@ -110,10 +111,10 @@ pub decode_choice-returns-in_default-clause-reads : goal.decode_choice-returns-i
 decode_choice-returns-in_default-clause-reads g t c = none_for (shape_of_type c.args.types.now c.args.below) c.args.alternatives.now c.in_ok-tag.tag _ c.in_ok-tag.ensures.next c.in_default.ensures _
 
 pub decode_choice-returns-in_default-clause-unknown : goal.decode_choice-returns-in_default-clause-unknown
-decode_choice-returns-in_default-clause-unknown g t c = λ tag n others. (rw (← c.codec.ensures) c.refuse_choice.ensures, refl)
+decode_choice-returns-in_default-clause-unknown g t c = λ tag n others. (c.refuse_choice.ensures, refl)
 
 pub decode_choice-returns-in_default-clause-rules : goal.decode_choice-returns-in_default-clause-rules
-decode_choice-returns-in_default-clause-rules g t c = c.refuse_choice.ensures.0 ∙ c.codec.ensures
+decode_choice-returns-in_default-clause-rules g t c = c.refuse_choice.ensures.0
 
 pub decode_choice-bounds-alternatives-number : goal.decode_choice-bounds-alternatives-number
 decode_choice-bounds-alternatives-number g t c = slice_get_within c.args.alternatives.now c.in-Some.number c.in-Some.ensures.0 (sym c.in-Some.ensures.1.0)
@@ -610,8 +611,8 @@ pub decode_present-returns-in_default-clause-reads : goal.decode_present-returns
 decode_present-returns-in_default-clause-reads g t c =
     made_as _ tree_of (DecodesTree ((shape_of_type c.args.types.now c.args.below) c.args.component.now.type_id.0)) (DecodesPresent (presence_in (shape_of_type c.args.types.now c.args.below) c.args.component.now) ((shape_of_type c.args.types.now c.args.below) c.args.component.now.type_id.0)) c.args.decoder.now _ _ (λ r h. plain (key_of ((shape_of_type c.args.types.now c.args.below) c.args.component.now.type_id.0)) ((shape_of_type c.args.types.now c.args.below) c.args.component.now.type_id.0) c.args.component.now.presence _ _ c.in_default.not-Default r h) c.decode_part.ensures.reads
 
-pub decode_present-returns-in_err-decode_compared-clause-reads : goal.decode_present-returns-in_err-decode_compared-clause-reads
-decode_present-returns-in_err-decode_compared-clause-reads g t c = rw (residual _ c.from_residual.ensures.1) (inl c.in_err-decode_compared.ensures.reads)
+pub decode_stated-returns-in_err-decode_compared-clause-reads : goal.decode_stated-returns-in_err-decode_compared-clause-reads
+decode_stated-returns-in_err-decode_compared-clause-reads g t c = rw (residual _ c.from_residual.ensures.1) (inl c.in_err-decode_compared.ensures.reads)
 
 pub decode_present-returns-then-not-is_strict-clause-reads : goal.decode_present-returns-then-not-is_strict-clause-reads
 decode_present-returns-then-not-is_strict-clause-reads g t c =
@@ -623,21 +624,21 @@ decode_present-returns-then-not-is_strict-clause-itself g t c = named _ _ _ _ c.
 pub decode_present-returns-then-not-is_strict-clause-told : goal.decode_present-returns-then-not-is_strict-clause-told
 decode_present-returns-then-not-is_strict-clause-told g t c = tells _ _ (λ k f i. i) _ _ c.decode_part-then-not-is_strict.ensures.told
 
-pub decode_present-returns-then-means_same-clause-reads : goal.decode_present-returns-then-means_same-clause-reads
-decode_present-returns-then-means_same-clause-reads g t c =
+pub decode_stated-returns-then-means_same-clause-reads : goal.decode_stated-returns-then-means_same-clause-reads
+decode_stated-returns-then-means_same-clause-reads g t c =
     let w = c.in_ok-decode_compared.ensures.reads in
-    default_is_written (key_of ((shape_of_type c.args.types.now c.args.below) c.args.component.now.type_id.0)) ((shape_of_type c.args.types.now c.args.below) c.args.component.now.type_id.0) c.args.component.now.presence c.in-Default.default c.in-Default.is _ _ w.0 w.2 c.if-not-is_strict.ensures (subst (λ z. Same z (tree_of c.in-Default.default)) (w.1 refl) (c.means_same.ensures.same c.if-means_same.true)) c.refuse_default.new.error c.refuse_default.ensures
+    default_is_written (key_of ((shape_of_type c.args.types.now c.args.below) c.args.component.now.type_id.0)) ((shape_of_type c.args.types.now c.args.below) c.args.component.now.type_id.0) c.args.component.now.presence c.args.default.now c.requires.stated _ _ w.0 w.2 c.requires.strict (subst (λ z. Same z (tree_of c.args.default.now)) (w.1 refl) (c.means_same.ensures.same c.if-means_same.true)) c.refuse_default.new.error c.refuse_default.ensures
 
-pub decode_present-returns-then-means_same-clause-rules : goal.decode_present-returns-then-means_same-clause-rules
-decode_present-returns-then-means_same-clause-rules g t c = codec_is c.refuse_default.ensures ∙ same_rules c.in_ok-decode_compared.ensures.reads.2.stays
+pub decode_stated-returns-then-means_same-clause-rules : goal.decode_stated-returns-then-means_same-clause-rules
+decode_stated-returns-then-means_same-clause-rules g t c = codec_is c.refuse_default.ensures ∙ same_rules c.in_ok-decode_compared.ensures.reads.2.stays
 
-pub decode_present-returns-clause-reads : goal.decode_present-returns-clause-reads
-decode_present-returns-clause-reads g t c =
+pub decode_stated-returns-clause-reads : goal.decode_stated-returns-clause-reads
+decode_stated-returns-clause-reads g t c =
     let w = c.in_ok-decode_compared.ensures.reads in
-    (w.0, (λ k. w.1 refl), differs (key_of ((shape_of_type c.args.types.now c.args.below) c.args.component.now.type_id.0)) ((shape_of_type c.args.types.now c.args.below) c.args.component.now.type_id.0) c.args.component.now.presence c.in-Default.default c.in-Default.is _ _ w.0 w.2 (λ s. let h = c.means_same.ensures.equal (subst (λ z. Same z (tree_of c.in-Default.default)) (sym (w.1 refl)) s) in let f = c.if-means_same.false in cc))
+    (w.0, (λ k. w.1 refl), differs (key_of ((shape_of_type c.args.types.now c.args.below) c.args.component.now.type_id.0)) ((shape_of_type c.args.types.now c.args.below) c.args.component.now.type_id.0) c.args.component.now.presence c.args.default.now c.requires.stated _ _ w.0 w.2 (λ s. let h = c.means_same.ensures.equal (subst (λ z. Same z (tree_of c.args.default.now)) (sym (w.1 refl)) s) in let f = c.if-means_same.false in cc))
 
-pub decode_present-returns-clause-fits : goal.decode_present-returns-clause-fits
-decode_present-returns-clause-fits g t c = λ k. c.in_ok-decode_compared.ensures.fits
+pub decode_stated-returns-clause-fits : goal.decode_stated-returns-clause-fits
+decode_stated-returns-clause-fits g t c = λ k. c.in_ok-decode_compared.ensures.fits
 
 -- ---- a part that has to be compared
 
@@ -835,33 +836,47 @@ decode_set-returns-in_err-append-clause-exact g t c =
 
 pub decode_set-returns-clause-exact : goal.decode_set-returns-clause-exact
 decode_set-returns-clause-exact g t c =
+    let on : c.args.extensible ≡ true = search rules in
     let at = c.loop-other_id in
     let i = at.invariant.0 in
-    let ps = (components_by (shape_of_type c.args.types.now c.args.below) c.args.components.now) in
+    let ps = components_by (shape_of_type c.args.types.now c.args.below) c.args.components.now in
     let names = names_of c.args.components.now in
     let h : at.twice ≡ None = search rules in
-    let a : (c.args.extensible ≡ true → g.M.Made.KEEP ≡ true → c.if-extensible.values.items ≡ c.in_ok-values.values.items ++ Items c.loop-other_id.unknown ∷ []) × (c.args.extensible ≡ false → c.if-extensible.values.items ≡ c.in_ok-values.values.items) =
-    elim c.if-extensible.branch [
-      | decode_set-then-extensible+in_ok-append w ↦ ((λ e k. ap (λ (v : Vec Value Global). v.items) w.values-is ∙ w.in_ok-append.ensures.ok k), λ e. absurd (true≢false (sym w.if-extensible.true ∙ e)))
-      | decode_set-else-extensible w ↦ ((λ e k. absurd (true≢false (sym e ∙ w.if-extensible.false))), λ e. ap (λ (v : Vec Value Global). v.items) w.values-is)
-    ] in
     let m = made_parts _ (shape_of_type c.args.types.now c.args.below) c.args.components.now at.decoder.rule at.found.items i.0 c.in_ok-values.values (found_length _ c.args.components.now _ at.invariant.1) i.2 c.in_ok-values.ensures.gathers in (
       set_trees c.args.extensible m.0 i.1,
-      all_trees c.args.extensible _ c.in_ok-values.values.items c.if-extensible.values.items m.0 i.1 at.unknown m.1 i.3 a.0 a.1,
+      all_trees c.args.extensible _ c.in_ok-values.values.items c.append.new.values.items m.0 i.1 at.unknown m.1 i.3 (λ e k. c.in_ok-append.ensures.ok k) (λ e. absurd (true≢false (sym on ∙ e))),
+      members_made c.args.extensible ps names c.args.decoder.now at.decoder at.last i.0 i.1 c.loop-other_id-test.ensures (subst (λ z. ReadTo c.args.extensible ps names c.args.decoder.now at.decoder at.last z i.0 i.1) h i.4) m.0 m.2 i.5,
+    )
+
+pub decode_set-returns-then-not-extensible-clause-exact : goal.decode_set-returns-then-not-extensible-clause-exact
+decode_set-returns-then-not-extensible-clause-exact g t c =
+    let off : c.args.extensible ≡ false = search rules in
+    let at = c.loop-other_id in
+    let i = at.invariant.0 in
+    let ps = components_by (shape_of_type c.args.types.now c.args.below) c.args.components.now in
+    let names = names_of c.args.components.now in
+    let h : at.twice ≡ None = search rules in
+    let m = made_parts _ (shape_of_type c.args.types.now c.args.below) c.args.components.now at.decoder.rule at.found.items i.0 c.in_ok-values.values (found_length _ c.args.components.now _ at.invariant.1) i.2 c.in_ok-values.ensures.gathers in (
+      set_trees c.args.extensible m.0 i.1,
+      all_trees c.args.extensible _ c.in_ok-values.values.items c.in_ok-values.values.items m.0 i.1 at.unknown m.1 i.3 (λ e k. absurd (true≢false (sym e ∙ off))) (λ e. refl),
       members_made c.args.extensible ps names c.args.decoder.now at.decoder at.last i.0 i.1 c.loop-other_id-test.ensures (subst (λ z. ReadTo c.args.extensible ps names c.args.decoder.now at.decoder at.last z i.0 i.1) h i.4) m.0 m.2 i.5,
     )
 
 pub decode_set-returns-clause-fits : goal.decode_set-returns-clause-fits
 decode_set-returns-clause-fits g t c = λ k.
     let at = c.loop-other_id in
-    let a : (c.args.extensible ≡ true → g.M.Made.KEEP ≡ true → c.if-extensible.values.items ≡ c.in_ok-values.values.items ++ Items c.loop-other_id.unknown ∷ []) × (c.args.extensible ≡ false → c.if-extensible.values.items ≡ c.in_ok-values.values.items) =
-    elim c.if-extensible.branch [
-      | decode_set-then-extensible+in_ok-append w ↦ ((λ e k. ap (λ (v : Vec Value Global). v.items) w.values-is ∙ w.in_ok-append.ensures.ok k), λ e. absurd (true≢false (sym w.if-extensible.true ∙ e)))
-      | decode_set-else-extensible w ↦ ((λ e k. absurd (true≢false (sym e ∙ w.if-extensible.false))), λ e. ap (λ (v : Vec Value Global). v.items) w.values-is)
-    ] in
-    all_fit (Fits c.args.types.now c.args.below) c.args.extensible c.args.components.now c.in_ok-values.values.items c.if-extensible.values.items at.unknown
+    let on : c.args.extensible ≡ true = search rules in
+    all_fit (Fits c.args.types.now c.args.below) c.args.extensible c.args.components.now c.in_ok-values.values.items c.append.new.values.items at.unknown
     (gathered_fit (Fits c.args.types.now c.args.below) g.M.Made.KEEP k c.args.components.now at.decoder.rule at.found.items (Ok c.in_ok-values.values) (found_kept g.M.Made.KEEP (Fits c.args.types.now c.args.below) k c.args.components.now at.found.items at.invariant.1) c.in_ok-values.ensures.gathers)
-    (at.invariant.2 k) (λ e. a.0 e k) a.1
+    (at.invariant.2 k) (λ e. c.in_ok-append.ensures.ok k) (λ e. absurd (true≢false (sym on ∙ e)))
+
+pub decode_set-returns-then-not-extensible-clause-fits : goal.decode_set-returns-then-not-extensible-clause-fits
+decode_set-returns-then-not-extensible-clause-fits g t c = λ k.
+    let at = c.loop-other_id in
+    let off : c.args.extensible ≡ false = search rules in
+    all_fit (Fits c.args.types.now c.args.below) c.args.extensible c.args.components.now c.in_ok-values.values.items c.in_ok-values.values.items at.unknown
+    (gathered_fit (Fits c.args.types.now c.args.below) g.M.Made.KEEP k c.args.components.now at.decoder.rule at.found.items (Ok c.in_ok-values.values) (found_kept g.M.Made.KEEP (Fits c.args.types.now c.args.below) k c.args.components.now at.found.items at.invariant.1) c.in_ok-values.ensures.gathers)
+    (at.invariant.2 k) (λ e. absurd (true≢false (sym e ∙ off))) (λ e. refl)
 
 pub decode_set-returns-in_err-values-clause-rules : goal.decode_set-returns-in_err-values-clause-rules
 decode_set-returns-in_err-values-clause-rules g t c = rw (residual _ c.from_residual-in_err-values.ensures.1) (c.in_err-values.ensures.rules ∙ read_rules c.args.extensible (components_by (shape_of_type c.args.types.now c.args.below) c.args.components.now) (names_of c.args.components.now) _ _ _ _ _ _ c.loop-other_id.invariant.0.4)
@@ -1040,8 +1055,8 @@ pub decode_present-returns-in_default-clause-told : goal.decode_present-returns-
 decode_present-returns-in_default-clause-told g t c =
     tells _ _ (λ k f i. i) _ _ c.decode_part.ensures.told
 
-pub decode_present-returns-in_err-decode_compared-clause-told : goal.decode_present-returns-in_err-decode_compared-clause-told
-decode_present-returns-in_err-decode_compared-clause-told g t c =
+pub decode_stated-returns-in_err-decode_compared-clause-told : goal.decode_stated-returns-in_err-decode_compared-clause-told
+decode_stated-returns-in_err-decode_compared-clause-told g t c =
     let P = IsFaultIn c.args.types.now c.args.below (IsOnly c.args.index c.args.component.now.type_id.0 c.args.decoder.now) c.args.decoder.now c.args.decoder.now in
     rw (residual _ c.from_residual.ensures.1) (tells_err P P (λ k f i. i) c.decode_compared.new.walk.error _ c.in_err-decode_compared.ensures.told)
 
@@ -1249,14 +1264,14 @@ pub decode_present-returns-in_default-clause-itself : goal.decode_present-return
 decode_present-returns-in_default-clause-itself g t c =
     named _ _ _ _ c.decode_part.ensures.told
 
-pub decode_present-returns-in_err-decode_compared-clause-itself : goal.decode_present-returns-in_err-decode_compared-clause-itself
-decode_present-returns-in_err-decode_compared-clause-itself g t c =
+pub decode_stated-returns-in_err-decode_compared-clause-itself : goal.decode_stated-returns-in_err-decode_compared-clause-itself
+decode_stated-returns-in_err-decode_compared-clause-itself g t c =
     rw (residual _ c.from_residual.ensures.1) (λ n. absurd (not_named _ _ c.in_err-decode_compared.ensures.told.1 n))
 
-pub decode_present-returns-then-means_same-clause-itself : goal.decode_present-returns-then-means_same-clause-itself
-decode_present-returns-then-means_same-clause-itself g t c =
+pub decode_stated-returns-then-means_same-clause-itself : goal.decode_stated-returns-then-means_same-clause-itself
+decode_stated-returns-then-means_same-clause-itself g t c =
     let w = c.in_ok-decode_compared.ensures.reads in
-    λ n. default_stops (shape_of_type c.args.types.now c.args.below) c.args.component.now c.in-Default.default c.in-Default.is c.args.decoder.now _ w.0 w.2 c.if-not-is_strict.ensures (subst (λ z. Same z (tree_of c.in-Default.default)) (w.1 refl) (c.means_same.ensures.same c.if-means_same.true)) c.refuse_default.new.error c.refuse_default.ensures
+    λ n. default_stops (shape_of_type c.args.types.now c.args.below) c.args.component.now c.args.default.now c.requires.stated c.args.decoder.now _ w.0 w.2 c.requires.strict (subst (λ z. Same z (tree_of c.args.default.now)) (w.1 refl) (c.means_same.ensures.same c.if-means_same.true)) c.refuse_default.new.error c.refuse_default.ensures
 
 pub decode_set-returns-in_err-last-clause-itself : goal.decode_set-returns-in_err-last-clause-itself
 decode_set-returns-in_err-last-clause-itself g t c =
@@ -1411,8 +1426,10 @@ decode_component-returns-in-Ok-false-clause-listed g t c =
     (c.if-is_always_there.ensures, subst (λ b. NextIs (sought_by (key_of s) s) c.args.decoder.now (Ok b)) h c.in-Ok-false.ensures))
 
 pub decode_set-returns-clause-listed : goal.decode_set-returns-clause-listed
-decode_set-returns-clause-listed g t c =
-    members_listed (shape_of_type c.args.types.now c.args.below) c.args.below (Inside c.args.types.now c.args.below) c.args.extensible c.args.components.now c.args.other_id.0 c.loop-other_id.invariant.4 c.args.decoder.now c.loop-other_id.decoder _ _ c.loop-other_id-test.ensures c.loop-other_id.invariant.5
+decode_set-returns-clause-listed g t c = members_listed (shape_of_type c.args.types.now c.args.below) c.args.below (Inside c.args.types.now c.args.below) c.args.extensible c.args.components.now c.args.other_id.0 c.loop-other_id.invariant.4 c.args.decoder.now c.loop-other_id.decoder _ _ c.loop-other_id-test.ensures c.loop-other_id.invariant.5
+
+pub decode_set-returns-then-not-extensible-clause-listed : goal.decode_set-returns-then-not-extensible-clause-listed
+decode_set-returns-then-not-extensible-clause-listed g t c = members_listed (shape_of_type c.args.types.now c.args.below) c.args.below (Inside c.args.types.now c.args.below) c.args.extensible c.args.components.now c.args.other_id.0 c.loop-other_id.invariant.4 c.args.decoder.now c.loop-other_id.decoder _ _ c.loop-other_id-test.ensures c.loop-other_id.invariant.5
 
 pub decode_set_component-returns-clause-listed : goal.decode_set_component-returns-clause-listed
 decode_set_component-returns-clause-listed g t c = member_listed (shape_of_type c.args.types.now c.args.below) c.args.below (Inside c.args.types.now c.args.below) c.args.extensible c.args.components.now c.args.other_id.0 c.in-Some.number c.in-Some.component.now c.args.decoder.now _ _ _ c.in-Some.ensures.0 c.in_ok-decode_present.ensures.listed
@@ -1443,10 +1460,13 @@ pub decode_contents-put_set-requires : goal.decode_contents-put_set-requires
 decode_contents-put_set-requires g t c = λ κs o. (search rules, (search rules, (rw c.deref-in-Set.ensures.value (named_lawful (shape_of_type c.args.types.now c.args.below) c.in-Set.tag c.in-Set.components.items _ refl (subst (λ n. IsReadable (type_by (shape_of_type c.args.types.now c.args.below) n)) c.in-Set.is c.requires.lawful)), c.requires.clear)))
 
 pub decode_contents-returns-in-Sequence-clause-exact : goal.decode_contents-returns-in-Sequence-clause-exact
-decode_contents-returns-in-Sequence-clause-exact g t c = rw (c.in-Sequence.is, ← c.deref.ensures.value) (counted_nothing _ tree_of (CountsElements (Sequence c.in-Sequence.tag c.in-Sequence.components)) (Makes items (DecodesComponents (components_by (shape_of_type c.args.types.now c.args.below) c.deref.result.now))) c.args.decoder.now (outcome c.put_sequence.result c.put_sequence.new.out c.put_sequence.new.walk.error) _ _ (λ d. tt) c.put_sequence.ensures.exact)
+decode_contents-returns-in-Sequence-clause-exact g t c =
+    let l = c.in-Sequence.components.items in
+    rw c.in-Sequence.is (counted_nothing _ tree_of (CountsElements (Sequence c.in-Sequence.tag c.in-Sequence.components)) (Makes items (DecodesComponents (components_by (shape_of_type c.args.types.now c.args.below) l))) c.args.decoder.now (outcome c.put_sequence.result c.put_sequence.new.out c.put_sequence.new.walk.error) _ _ (λ d. tt)
+    (subst (λ l. Making g.M.Made.KEEP tree_of (Makes items (DecodesComponents (components_by (shape_of_type c.args.types.now c.args.below) l))) c.args.decoder.now (outcome c.put_sequence.result c.put_sequence.new.out c.put_sequence.new.walk.error) c.put_sequence.new.decoder) c.deref.ensures.value c.put_sequence.ensures.exact))
 
 pub decode_contents-returns-in-Sequence-clause-told : goal.decode_contents-returns-in-Sequence-clause-told
-decode_contents-returns-in-Sequence-clause-told g t c = rw (c.in-Sequence.is, ← c.deref.ensures.value) c.put_sequence.ensures.told
+decode_contents-returns-in-Sequence-clause-told g t c = rw c.in-Sequence.is (subst (λ l. Told (IsFaultIn c.args.types.now c.args.below (IsComponentAt (shape_of_type c.args.types.now c.args.below) l c.args.decoder.now) c.args.decoder.now c.args.decoder.now) (outcome c.put_sequence.result c.put_sequence.new.out c.put_sequence.new.walk.error) c.put_sequence.new.walk.fault) c.deref.ensures.value c.put_sequence.ensures.told)
 
 pub decode_contents-returns-in-Sequence-clause-itself : goal.decode_contents-returns-in-Sequence-clause-itself
 decode_contents-returns-in-Sequence-clause-itself g t c = rw (c.in-Sequence.is, ← c.deref.ensures.value) c.put_sequence.ensures.itself
@@ -1489,11 +1509,12 @@ decode_contents-returns-in-SetOf-clause-fits g t c = λ k. rw c.in-SetOf.is (c.p
 
 pub decode_contents-returns-in-Set-clause-exact : goal.decode_contents-returns-in-Set-clause-exact
 decode_contents-returns-in-Set-clause-exact g t c =
-    rw (c.in-Set.is, ← c.deref-in-Set.ensures.value) (counted_nothing _ tree_of (CountsElements (Set c.in-Set.name c.in-Set.tag c.in-Set.components)) (Makes items (MayRunOut (DecodesSetPartContents (is_extensible (shape_of_type c.args.types.now c.args.below) c.deref-in-Set.result.now) (components_by (shape_of_type c.args.types.now c.args.below) (named_components (shape_of_type c.args.types.now c.args.below) c.deref-in-Set.result.now)) items (names_of (named_components (shape_of_type c.args.types.now c.args.below) c.deref-in-Set.result.now)))))
-    c.args.decoder.now (outcome c.put_set.result c.put_set.new.out c.put_set.new.walk.error) _ _ (λ d. tt) c.put_set.ensures.exact)
+    let l = c.in-Set.components.items in
+    rw c.in-Set.is (counted_nothing _ tree_of (CountsElements (Set c.in-Set.name c.in-Set.tag c.in-Set.components)) (Makes items (MayRunOut (DecodesSetPartContents (is_extensible (shape_of_type c.args.types.now c.args.below) l) (components_by (shape_of_type c.args.types.now c.args.below) (named_components (shape_of_type c.args.types.now c.args.below) l)) items (names_of (named_components (shape_of_type c.args.types.now c.args.below) l))))) c.args.decoder.now (outcome c.put_set.result c.put_set.new.out c.put_set.new.walk.error) _ _ (λ d. tt)
+    (subst (λ l. Making g.M.Made.KEEP tree_of (Makes items (MayRunOut (DecodesSetPartContents (is_extensible (shape_of_type c.args.types.now c.args.below) l) (components_by (shape_of_type c.args.types.now c.args.below) (named_components (shape_of_type c.args.types.now c.args.below) l)) items (names_of (named_components (shape_of_type c.args.types.now c.args.below) l))))) c.args.decoder.now (outcome c.put_set.result c.put_set.new.out c.put_set.new.walk.error) c.put_set.new.decoder) c.deref-in-Set.ensures.value c.put_set.ensures.exact))
 
 pub decode_contents-returns-in-Set-clause-told : goal.decode_contents-returns-in-Set-clause-told
-decode_contents-returns-in-Set-clause-told g t c = rw (c.in-Set.is, ← c.deref-in-Set.ensures.value) c.put_set.ensures.told
+decode_contents-returns-in-Set-clause-told g t c = rw c.in-Set.is (subst (λ l. Told (IsFaultIn c.args.types.now c.args.below (IsMemberAfter (shape_of_type c.args.types.now c.args.below) (is_extensible (shape_of_type c.args.types.now c.args.below) l) (named_components (shape_of_type c.args.types.now c.args.below) l) (last_type l) c.args.decoder.now) c.args.decoder.now c.args.decoder.now) (outcome c.put_set.result c.put_set.new.out c.put_set.new.walk.error) c.put_set.new.walk.fault) c.deref-in-Set.ensures.value c.put_set.ensures.told)
 
 pub decode_contents-returns-in-Set-clause-itself : goal.decode_contents-returns-in-Set-clause-itself
 decode_contents-returns-in-Set-clause-itself g t c = rw (c.in-Set.is, ← c.deref-in-Set.ensures.value) c.put_set.ensures.itself
@@ -1558,40 +1579,43 @@ put_set-decode_set-requires g t c = λ κs o. (
   (
     search rules,
     (
-      rw c.named_components-extensible.ensures.named c.requires.lawful,
+      subst (λ l. AreLawfulMembers (components_by (shape_of_type c.args.types.now c.args.below) l)) (sym c.named_components-extensible.ensures.named) c.requires.1.1.1.0,
       (
         c.in_ok-found.ensures.ok,
-        (c.requires.clear, λ x. ap (shape_of_type c.args.types.now c.args.below) c.last_type-other_id.ensures ∙ last_unknown (shape_of_type c.args.types.now c.args.below) c.args.components.now (sym c.named_components-extensible.ensures.extensible ∙ x)),
+        (c.requires.1.1.1.1, λ x. ap (shape_of_type c.args.types.now c.args.below) c.last_type-other_id.ensures ∙ last_unknown (shape_of_type c.args.types.now c.args.below) c.args.components.now (sym c.named_components-extensible.ensures.extensible ∙ x)),
       ),
     ),
   ),
 )
 
 pub put_set-returns-in_err-found-clause-exact : goal.put_set-returns-in_err-found-clause-exact
-put_set-returns-in_err-found-clause-exact g t c = rw (residual _ c.from_residual.ensures.1) (set_runs_out (shape_of_type c.args.types.now c.args.below) _ _ _ _ _ c.in_err-found.ensures.err)
+put_set-returns-in_err-found-clause-exact g t c = rw (residual _ c.from_residual.ensures.1) (inr (c.in_err-found.ensures.err, kept c.args.decoder.now))
 
 pub put_set-returns-in_err-found-clause-itself : goal.put_set-returns-in_err-found-clause-itself
 put_set-returns-in_err-found-clause-itself g t c = rw (residual _ c.from_residual.ensures.1) (λ n. inl c.in_err-found.ensures.err)
 
 pub put_set-returns-in_err-values-clause-exact : goal.put_set-returns-in_err-values-clause-exact
-put_set-returns-in_err-values-clause-exact g t c = rw (residual _ c.from_residual-in_err-values.ensures.1) (subst (λ b. MayRunOut (DecodesSetPartContents b (components_by (shape_of_type c.args.types.now c.args.below) (named_components (shape_of_type c.args.types.now c.args.below) c.args.components.now)) items (names_of (named_components (shape_of_type c.args.types.now c.args.below) c.args.components.now))) c.args.decoder.now (Err c.decode_set.new.walk.error) _) c.named_components-extensible.ensures.extensible (subst (λ l. MayRunOut (DecodesSetPartContents c.named_components-extensible.result.1 (components_by (shape_of_type c.args.types.now c.args.below) l) items (names_of l)) c.args.decoder.now (Err c.decode_set.new.walk.error) _) c.named_components-extensible.ensures.named c.in_err-values.ensures.exact))
+put_set-returns-in_err-values-clause-exact g t c = rw (residual _ c.from_residual-in_err-values.ensures.1) (named_so (shape_of_type c.args.types.now c.args.below) c.named_components-extensible.result.1 c.named_components-extensible.result.0.now c.args.components.now c.named_components-extensible.ensures.extensible c.named_components-extensible.ensures.named (λ b l. MayRunOut (DecodesSetPartContents b (components_by (shape_of_type c.args.types.now c.args.below) l) items (names_of l)) c.args.decoder.now (Err c.decode_set.new.walk.error) c.decode_set.new.decoder) c.in_err-values.ensures.exact)
 
 pub put_set-returns-in_err-values-clause-told : goal.put_set-returns-in_err-values-clause-told
 put_set-returns-in_err-values-clause-told g t c = rw (residual _ c.from_residual-in_err-values.ensures.1) (λ x q. subst (λ n. IsFaultIn c.args.types.now c.args.below (IsMemberAfter (shape_of_type c.args.types.now c.args.below) (is_extensible (shape_of_type c.args.types.now c.args.below) c.args.components.now) (named_components (shape_of_type c.args.types.now c.args.below) c.args.components.now) n c.args.decoder.now) c.args.decoder.now c.args.decoder.now c.decode_set.new.walk.error x) c.last_type-other_id.ensures
-    (subst (λ b. IsFaultIn c.args.types.now c.args.below (IsMemberAfter (shape_of_type c.args.types.now c.args.below) b (named_components (shape_of_type c.args.types.now c.args.below) c.args.components.now) c.last_type-other_id.result.0 c.args.decoder.now) c.args.decoder.now c.args.decoder.now c.decode_set.new.walk.error x) c.named_components-extensible.ensures.extensible (subst (λ l. IsFaultIn c.args.types.now c.args.below (IsMemberAfter (shape_of_type c.args.types.now c.args.below) c.named_components-extensible.result.1 l c.last_type-other_id.result.0 c.args.decoder.now) c.args.decoder.now c.args.decoder.now c.decode_set.new.walk.error x) c.named_components-extensible.ensures.named (c.in_err-values.ensures.told x q))))
+    (named_so (shape_of_type c.args.types.now c.args.below) c.named_components-extensible.result.1 c.named_components-extensible.result.0.now c.args.components.now c.named_components-extensible.ensures.extensible c.named_components-extensible.ensures.named (λ b l. IsFaultIn c.args.types.now c.args.below (IsMemberAfter (shape_of_type c.args.types.now c.args.below) b l c.last_type-other_id.result.0 c.args.decoder.now) c.args.decoder.now c.args.decoder.now c.decode_set.new.walk.error x) (c.in_err-values.ensures.told x q)))
 
 pub put_set-returns-in_err-values-clause-itself : goal.put_set-returns-in_err-values-clause-itself
-put_set-returns-in_err-values-clause-itself g t c = rw (residual _ c.from_residual-in_err-values.ensures.1) (λ n. (subst (λ b. StopsInSet (shape_of_type c.args.types.now c.args.below) b (named_components (shape_of_type c.args.types.now c.args.below) c.args.components.now) c.args.decoder.now c.decode_set.new.walk.error) c.named_components-extensible.ensures.extensible (subst (λ l. StopsInSet (shape_of_type c.args.types.now c.args.below) c.named_components-extensible.result.1 l c.args.decoder.now c.decode_set.new.walk.error) c.named_components-extensible.ensures.named (c.in_err-values.ensures.itself n))))
+put_set-returns-in_err-values-clause-itself g t c = rw (residual _ c.from_residual-in_err-values.ensures.1) (λ n. named_so (shape_of_type c.args.types.now c.args.below) c.named_components-extensible.result.1 c.named_components-extensible.result.0.now c.args.components.now c.named_components-extensible.ensures.extensible c.named_components-extensible.ensures.named (λ b l. StopsInSet (shape_of_type c.args.types.now c.args.below) b l c.args.decoder.now c.decode_set.new.walk.error) (c.in_err-values.ensures.itself n))
 
 pub put_set-returns-clause-exact : goal.put_set-returns-clause-exact
 put_set-returns-clause-exact g t c =
     let w = c.in_ok-values.ensures.exact in
-    (items w.0, (λ k. ap tree_of (c.put_items.ensures k) ∙ items_made _ c.in_ok-values.values w.0 w.1 k), (w.0, refl, (subst (λ b. MayRunOut (DecodesSetPartContents b (components_by (shape_of_type c.args.types.now c.args.below) (named_components (shape_of_type c.args.types.now c.args.below) c.args.components.now)) items (names_of (named_components (shape_of_type c.args.types.now c.args.below) c.args.components.now))) c.args.decoder.now (Ok w.0) _) c.named_components-extensible.ensures.extensible (subst (λ l. MayRunOut (DecodesSetPartContents c.named_components-extensible.result.1 (components_by (shape_of_type c.args.types.now c.args.below) l) items (names_of l)) c.args.decoder.now (Ok w.0) _) c.named_components-extensible.ensures.named w.2))))
+    (items w.0, (λ k. ap tree_of (c.put_items.ensures k) ∙ items_made _ c.in_ok-values.values w.0 w.1 k), (w.0, refl, named_so (shape_of_type c.args.types.now c.args.below) c.named_components-extensible.result.1 c.named_components-extensible.result.0.now c.args.components.now c.named_components-extensible.ensures.extensible c.named_components-extensible.ensures.named (λ b l. MayRunOut (DecodesSetPartContents b (components_by (shape_of_type c.args.types.now c.args.below) l) items (names_of l)) c.args.decoder.now (Ok w.0) c.decode_set.new.decoder) w.2))
 
 pub put_set-returns-clause-fits : goal.put_set-returns-clause-fits
 put_set-returns-clause-fits g t c = λ k. rw (c.put_items.ensures k) (are_items (ComponentsFit (Fits c.args.types.now c.args.below) c.args.components.now) c.in_ok-values.values
-    (members_fit c.args.types.now c.args.below c.args.components.now c.in_ok-values.values.items (subst (λ b. MembersFit (Fits c.args.types.now c.args.below) b (named_components (shape_of_type c.args.types.now c.args.below) c.args.components.now) c.in_ok-values.values.items) c.named_components-extensible.ensures.extensible (subst (λ l. MembersFit (Fits c.args.types.now c.args.below) c.named_components-extensible.result.1 l c.in_ok-values.values.items) c.named_components-extensible.ensures.named (c.in_ok-values.ensures.fits k)))))
+    (members_fit c.args.types.now c.args.below c.args.components.now c.in_ok-values.values.items (named_so (shape_of_type c.args.types.now c.args.below) c.named_components-extensible.result.1 c.named_components-extensible.result.0.now c.args.components.now c.named_components-extensible.ensures.extensible c.named_components-extensible.ensures.named (λ b l. MembersFit (Fits c.args.types.now c.args.below) b l c.in_ok-values.values.items) (c.in_ok-values.ensures.fits k))))
 
 pub put_set-returns-clause-listed : goal.put_set-returns-clause-listed
 put_set-returns-clause-listed g t c = subst (λ k. Lists (λ n es. MembersListed (shape_of_type c.args.types.now c.args.below) c.args.below (Inside c.args.types.now c.args.below) (is_extensible (shape_of_type c.args.types.now c.args.below) c.args.components.now) (named_components (shape_of_type c.args.types.now c.args.below) c.args.components.now) k n c.args.decoder.now es) c.args.walk.now.spans c.decode_set.new.walk.spans) c.last_type-other_id.ensures
-    (subst (λ b. Lists (λ n es. MembersListed (shape_of_type c.args.types.now c.args.below) c.args.below (Inside c.args.types.now c.args.below) b (named_components (shape_of_type c.args.types.now c.args.below) c.args.components.now) c.last_type-other_id.result.0 n c.args.decoder.now es) c.args.walk.now.spans c.decode_set.new.walk.spans) c.named_components-extensible.ensures.extensible (subst (λ l. Lists (λ n es. MembersListed (shape_of_type c.args.types.now c.args.below) c.args.below (Inside c.args.types.now c.args.below) c.named_components-extensible.result.1 l c.last_type-other_id.result.0 n c.args.decoder.now es) c.args.walk.now.spans c.decode_set.new.walk.spans) c.named_components-extensible.ensures.named c.in_ok-values.ensures.listed))
+    (named_so (shape_of_type c.args.types.now c.args.below) c.named_components-extensible.result.1 c.named_components-extensible.result.0.now c.args.components.now c.named_components-extensible.ensures.extensible c.named_components-extensible.ensures.named (λ b l. Lists (λ n es. MembersListed (shape_of_type c.args.types.now c.args.below) c.args.below (Inside c.args.types.now c.args.below) b l c.last_type-other_id.result.0 n c.args.decoder.now es) c.args.walk.now.spans c.decode_set.new.walk.spans) c.in_ok-values.ensures.listed)
+
+pub decode_present-decode_stated-requires : goal.decode_present-decode_stated-requires
+decode_present-decode_stated-requires g t c = λ κs o. (search rules, (search rules, (c.in-Default.is, (c.if-not-is_strict.ensures, (c.requires.lawful, c.requires.clear)))))

@@ -61,6 +61,9 @@ decreases-decode_component g l = 32 * l.below + 17
 abbrev pub decreases-decode_present : goal.decreases-decode_present
 decreases-decode_present g l = 32 * l.below + 16
 
+abbrev pub decreases-decode_stated : goal.decreases-decode_stated
+decreases-decode_stated g l = 32 * l.below + 15
+
 abbrev pub decreases-decode_set : goal.decreases-decode_set
 decreases-decode_set g l = 32 * l.below + 18
 
