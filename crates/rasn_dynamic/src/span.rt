@@ -1,5 +1,5 @@
 //! The parts of a message, as they are read.
-ghost use Rattle.std.specs.Prelude.{◌≡◌, length};
+ghost use Rattle.std.specs.Prelude.{◌≡◌, [], length};
 ghost use Rattle.rasn_dynamic.specs.Faults.{octets_after};
 ghost use Rattle.rasn_dynamic.specs.Listed.{IsEmpty, IsNoted, IsFinished, IsInside, IsOutside, IsCut};
 
@@ -7,6 +7,9 @@ use crate::trace::octets_after;
 use rasn_de::ber::de::Decoder;
 use rasn_schema::TypeId;
 use std::alloc::Global;
+
+/// For how many parts there is room from the start at most.
+const MOST_EXPECTED: usize = 1024;
 
 /// A part of a message as it was read: a value that is in it, or the message itself.
 #[derive(Debug, Drop)]
@@ -41,12 +44,23 @@ pub fn no_list<'input>() -> Spans<'input> {
     }
 }
 
-/// Returns what notes the parts of a message from its start on.
-pub fn new_list<'input>(alloc: Global) -> Spans<'input>
+/// Returns an empty list of parts, with room for those that so many octets may have.
+fn empty_list<'input>(alloc: Global, len: usize) -> Vec<Span<'input>>
+    ensures { result.items ≡ [] }
+{
+    let count = (len / 12).min(MOST_EXPECTED);
+    match Vec::with_capacity(alloc, count) {
+        Ok(list) => list,
+        Err(_) => Vec::new(alloc),
+    }
+}
+
+/// Returns what notes the parts of a message of so many octets from its start on.
+pub fn new_list<'input>(alloc: Global, len: usize) -> Spans<'input>
     ensures { IsEmpty result }
 {
     Spans {
-        list: Some(Vec::new(alloc)),
+        list: Some(empty_list(alloc, len)),
         after: 0,
     }
 }
