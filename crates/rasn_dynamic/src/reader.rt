@@ -16,7 +16,9 @@ ghost use Rattle.rasn_de.specs.declared.ber.de.parser.ParseError.TheVariants.{Un
 ghost use Rattle.rasn_schema.specs.declared.types.«Type».{«Type»};
 ghost use Rattle.rasn_schema.specs.declared.types.Presence.TheVariants.{Default};
 ghost use Rattle.rasn_schema.specs.declared.value.Value.{Items, Elements};
-ghost use Rattle.rasn_types.specs.Tags.{IsStrict};
+ghost use Rattle.rasn_types.specs.Tags.{IsStrict, eoc};
+ghost use Rattle.rasn_types.specs.Trees.{unconstrained};
+ghost use Rattle.rasn_schema.specs.declared.types.«Type».TheVariants.{Tagged, Sequence, Set, SequenceOf, SetOf};
 ghost use Rattle.rasn_schema.specs.Trees.{tree_of};
 ghost use Rattle.rasn_schema.specs.Shapes.{shape_of_type, type_by, alternatives_by, choice_among, components_by, key_of, presence_in, presence_of, IsReadable, AreReadable};
 ghost use Rattle.rasn_dynamic.specs.Inside.{ReadsSequence, DecodesTree, DecodesComponent};
@@ -27,7 +29,7 @@ ghost use Rattle.rasn_schema.specs.Fitting.{Fits, FitsBy, IsChosen, AlternativeF
 ghost use Rattle.rasn_dynamic.specs.Found.{FoundFit, MembersFit};
 ghost use Rattle.rasn_dynamic.specs.Faults.{IsFault, IsFaultIn, IsFaultOf, IsFaultInside, IsOnly, IsAlternativeAt, IsElementAt, IsComponentAt, IsMemberHere, IsMemberAfter, IsAnyPart, Told, TellsOf, FailsAt, FailsItself, ReadsEachPart, StopsAtChoice, StopsInside, StopsInElements, StopsInOrder, StopsInSequence, StopsAtComponent, IsDefaultWritten, StopsInSet, StopsAtMember};
 ghost use Rattle.rasn_dynamic.specs.Listed.{Lists, Inside, PartsInside, PartListed, UnknownListed, ValueListed, AlternativeListed, InsideListed, ContentsListed, ElementsListed, ComponentsListed, ComponentListed, MembersListed, MemberListed};
-ghost use Rattle.rasn_de.specs.Constructed.{list_header};
+ghost use Rattle.rasn_de.specs.Constructed.{sequence_header, list_header, prefix_header};
 ghost use Rattle.rasn_types.specs.declared.error.decode.DerDecodeErrorKind.TheVariants.{DefaultValuePresent, SetOfOutOfOrder};
 ghost use Rattle.rasn_de.specs.NamedErrors.{IsNamedError, IsNoValidChoice};
 
@@ -595,52 +597,49 @@ fn decode_type<'input, M: Made>(
                 out,
             )
         }
-        Type::Tagged { tag, .. } => {
-            decode_inside::<M>(
-                decoder,
-                walk,
-                types,
-                below,
-                ty,
-                ConstructedHeader::prefix(*tag),
-                &mut 0,
-                out,
-            )
+        Type::Tagged { tag, inner } => {
+            decode_tagged::<M>(decoder, walk, types, below, *tag, *inner, out)
         }
-        Type::Sequence { tag, .. } => {
-            decode_inside::<M>(
-                decoder,
-                walk,
-                types,
-                below,
-                ty,
-                ConstructedHeader::sequence(*tag),
-                &mut 0,
-                out,
-            )
+        Type::Sequence { tag, components } => {
+            decode_record::<M>(decoder, walk, types, below, *tag, components, out)
         }
-        Type::Set { tag, .. } => {
-            decode_inside::<M>(
-                decoder,
-                walk,
-                types,
-                below,
-                ty,
-                ConstructedHeader::sequence(*tag),
-                &mut 0,
-                out,
-            )
-        }
+        Type::Set {
+            name,
+            tag,
+            components,
+        } => { decode_members::<M>(decoder, walk, types, below, *tag, name, components, out) }
         Type::SequenceOf {
             tag,
+            element,
             constraints,
-            ..
-        } => decode_list::<M>(decoder, walk, types, below, ty, *tag, constraints, out),
+        } => {
+            decode_list::<M>(
+                decoder,
+                walk,
+                types,
+                below,
+                *tag,
+                *element,
+                constraints,
+                out,
+            )
+        }
         Type::SetOf {
             tag,
+            element,
             constraints,
-            ..
-        } => decode_list::<M>(decoder, walk, types, below, ty, *tag, constraints, out),
+        } => {
+            decode_set_of::<M>(
+                decoder,
+                walk,
+                types,
+                below,
+                *tag,
+                *element,
+                constraints,
+                out,
+            )
+        }
     }
 }
 
@@ -649,6 +648,7 @@ fn decode_type<'input, M: Made>(
 /// # Errors
 /// `NoValidChoice` with the name of the CHOICE if the tag is no alternative's, which consumes nothing.
 #[cycle(decode)]
+#[inline(never)]
 fn decode_choice<'input, M: Made>(
     decoder: &mut Decoder<'input>,
     walk: &mut Walk<'input>,
@@ -679,70 +679,60 @@ fn decode_choice<'input, M: Made>(
     choose::<M>(decoder, &mut walk.error, number, value, out)
 }
 
-/// Reads a SEQUENCE OF or a SET OF (X.690 8.10, 8.12).
-///
-/// # Errors
-/// `SizeConstraintNotSatisfied` if the number of elements isn't within the bound, which consumes the value.
+/// Reads an explicit tag and the value that it holds (X.690 8.14).
 #[cycle(decode)]
-fn decode_list<'input, M: Made>(
+#[inline(never)]
+fn decode_tagged<'input, M: Made>(
     decoder: &mut Decoder<'input>,
     walk: &mut Walk<'input>,
     types: &[Type],
     below: usize,
-    ty: &Type,
     tag: Tag,
-    constraints: &Constraints,
+    id: TypeId,
     out: &mut Value<'input>,
 ) -> Result<(), Refused>
-    requires lawful { IsReadable (type_by (shape_of_type types.now below) ty.now) }
-    requires elements { HoldsElements ty.now }
+    requires lawful { IsReadable (shape_of_type types.now below id.0) }
     requires clear { walk.old.fault ≡ None }
-    ensures exact { Making M.KEEP tree_of (DecodesSized (DecodesContents (shape_of_type types.now below) ty.now) element_count tag constraints.now) decoder.old (outcome result out.new walk.new.error) decoder.new }
+    ensures exact { Making M.KEEP tree_of (DecodesInside (DecodesContents (shape_of_type types.now below) (Tagged eoc id)) (prefix_header tag)) decoder.old (outcome result out.new walk.new.error) decoder.new }
     ensures octets { decoder.old.depth ≢ 0 → AreOctets decoder.old.rest }
-    ensures fits { M.KEEP ≡ true → IfOk (outcome result out.new walk.new.error) (λ v. FitsBy (Fits types.now below) ty.now v) }
+    ensures fits { M.KEEP ≡ true → IfOk (outcome result out.new walk.new.error) (λ v. FitsBy (Fits types.now below) (Tagged eoc id) v) }
     ensures rules { IfErr (outcome result out.new walk.new.error) (λ e. e.codec ≡ decoder.old.rule) }
-    ensures told { Told (IsFaultInside types.now below (list_header tag) ty.now decoder.old) (outcome result out.new walk.new.error) walk.new.fault }
-    ensures itself { IfErr (outcome result out.new walk.new.error) (λ e. walk.new.fault ≡ None → DecodesSized (ReadsEachPart (shape_of_type types.now below) ty.now) element_count tag constraints.now decoder.old (Err e) decoder.new) }
-    ensures listed { IfOk (outcome result out.new walk.new.error) (λ v. Lists (λ b es. InsideListed (shape_of_type types.now below) below (Inside types.now below) (list_header tag) ty.now b decoder.old es) walk.old.spans walk.new.spans) }
+    ensures told { Told (IsFaultInside types.now below (prefix_header tag) (Tagged eoc id) decoder.old) (outcome result out.new walk.new.error) walk.new.fault }
+    ensures itself { IfErr (outcome result out.new walk.new.error) (λ e. walk.new.fault ≡ None → DecodesInside (ReadsEachPart (shape_of_type types.now below) (Tagged eoc id)) (prefix_header tag) decoder.old (Err e) decoder.new) }
+    ensures listed { IfOk (outcome result out.new walk.new.error) (λ v. Lists (λ b es. InsideListed (shape_of_type types.now below) below (Inside types.now below) (prefix_header tag) (Tagged eoc id) b decoder.old es) walk.old.spans walk.new.spans) }
 {
-    let mut count = 0;
-    decode_inside::<M>(
+    decode_tagged_inside::<M>(
         decoder,
         walk,
         types,
         below,
-        ty,
-        ConstructedHeader::list(tag),
-        &mut count,
+        ConstructedHeader::prefix(tag),
+        id,
         out,
-    )?;
-    check_size(decoder, &mut walk.error, constraints, count)?;
-    Ok(())
+    )
 }
 
-/// Reads a value that holds other values, and its header.
+/// Reads what an explicit tag holds, with the header before it (X.690 8.14).
 #[cycle(decode)]
-fn decode_inside<'input, M: Made>(
+#[inline(always)]
+fn decode_tagged_inside<'input, M: Made>(
     decoder: &mut Decoder<'input>,
     walk: &mut Walk<'input>,
     types: &[Type],
     below: usize,
-    ty: &Type,
     header: ConstructedHeader,
-    count: &mut usize,
+    id: TypeId,
     out: &mut Value<'input>,
 ) -> Result<(), Refused>
-    requires lawful { IsReadable (type_by (shape_of_type types.now below) ty.now) }
-    requires holds { HoldsOthers ty.now }
-    requires counts { count.old ≡ 0 }
+    requires lawful { IsReadable (shape_of_type types.now below id.0) }
     requires clear { walk.old.fault ≡ None }
-    ensures exact { Counting M.KEEP tree_of (CountsElements ty.now) (DecodesInside (DecodesContents (shape_of_type types.now below) ty.now) header) decoder.old (outcome result out.new walk.new.error) decoder.new count.new }
+    ensures exact { Making M.KEEP tree_of (DecodesInside (DecodesContents (shape_of_type types.now below) (Tagged eoc id)) header) decoder.old (outcome result out.new walk.new.error) decoder.new }
     ensures octets { decoder.old.depth ≢ 0 → AreOctets decoder.old.rest }
-    ensures fits { M.KEEP ≡ true → IfOk (outcome result out.new walk.new.error) (λ v. FitsBy (Fits types.now below) ty.now v) }
+    ensures fits { M.KEEP ≡ true → IfOk (outcome result out.new walk.new.error) (λ v. FitsBy (Fits types.now below) (Tagged eoc id) v) }
     ensures rules { IfErr (outcome result out.new walk.new.error) (λ e. e.codec ≡ decoder.old.rule) }
-    ensures told { Told (IsFaultInside types.now below header ty.now decoder.old) (outcome result out.new walk.new.error) walk.new.fault }
-    ensures itself { IfErr (outcome result out.new walk.new.error) (λ e. walk.new.fault ≡ None → DecodesInside (ReadsEachPart (shape_of_type types.now below) ty.now) header decoder.old (Err e) decoder.new) }
-    ensures listed { IfOk (outcome result out.new walk.new.error) (λ v. Lists (λ b es. InsideListed (shape_of_type types.now below) below (Inside types.now below) header ty.now b decoder.old es) walk.old.spans walk.new.spans) }
+    ensures told { Told (IsFaultInside types.now below header (Tagged eoc id) decoder.old) (outcome result out.new walk.new.error) walk.new.fault }
+    ensures itself { IfErr (outcome result out.new walk.new.error) (λ e. walk.new.fault ≡ None → DecodesInside (ReadsEachPart (shape_of_type types.now below) (Tagged eoc id)) header decoder.old (Err e) decoder.new) }
+    ensures listed { IfOk (outcome result out.new walk.new.error) (λ v. Lists (λ b es. InsideListed (shape_of_type types.now below) below (Inside types.now below) header (Tagged eoc id) b decoder.old es) walk.old.spans walk.new.spans) }
 {
     // The octets that are left have a number of this type, so the sum in `add_after` has too.
     let _ = octets_left(decoder);
@@ -754,7 +744,7 @@ fn decode_inside<'input, M: Made>(
         }
     };
     let after = go_inside(&mut walk.spans, decoder, &inner);
-    match decode_contents::<M>(&mut inner, walk, types, below, ty, count, out) {
+    match put_tagged::<M>(&mut inner, walk, types, below, id, out) {
         Ok(()) => {}
         Err(refused) => {
             add_after(&mut walk.fault, octets_after(decoder, &inner));
@@ -773,47 +763,407 @@ fn decode_inside<'input, M: Made>(
     }
 }
 
-/// Reads the contents of a value that holds other values.
+/// Reads what an explicit tag holds as its value.
 #[cycle(decode)]
 #[inline(always)]
-fn decode_contents<'input, M: Made>(
+fn put_tagged<'input, M: Made>(
     decoder: &mut Decoder<'input>,
     walk: &mut Walk<'input>,
     types: &[Type],
     below: usize,
-    ty: &Type,
+    id: TypeId,
+    out: &mut Value<'input>,
+) -> Result<(), Refused>
+    requires lawful { IsReadable (shape_of_type types.now below id.0) }
+    requires clear { walk.old.fault ≡ None }
+    ensures exact { Making M.KEEP tree_of (DecodesContents (shape_of_type types.now below) (Tagged eoc id)) decoder.old (outcome result out.new walk.new.error) decoder.new }
+    ensures fits { M.KEEP ≡ true → IfOk (outcome result out.new walk.new.error) (λ v. FitsBy (Fits types.now below) (Tagged eoc id) v) }
+    ensures rules { IfErr (outcome result out.new walk.new.error) (λ e. e.codec ≡ decoder.old.rule) }
+    ensures told { Told (IsFaultIn types.now below (IsAnyPart (shape_of_type types.now below) (Tagged eoc id) decoder.old) decoder.old decoder.old) (outcome result out.new walk.new.error) walk.new.fault }
+    ensures itself { IfErr (outcome result out.new walk.new.error) (λ e. walk.new.fault ≡ None → StopsInside (shape_of_type types.now below) (Tagged eoc id) decoder.old e) }
+    ensures listed { IfOk (outcome result out.new walk.new.error) (λ v. Lists (λ b es. ContentsListed (shape_of_type types.now below) below (Inside types.now below) (Tagged eoc id) b decoder.old es) walk.old.spans walk.new.spans) }
+{
+    decode_part::<M>(decoder, walk, types, below, id, 0, out)
+}
+
+/// Reads a SEQUENCE (X.690 8.9).
+#[cycle(decode)]
+#[inline(never)]
+fn decode_record<'input, M: Made>(
+    decoder: &mut Decoder<'input>,
+    walk: &mut Walk<'input>,
+    types: &[Type],
+    below: usize,
+    tag: Tag,
+    components: &Vec<Component>,
+    out: &mut Value<'input>,
+) -> Result<(), Refused>
+    requires lawful { AreReadable (components_by (shape_of_type types.now below) components.now.items) }
+    requires clear { walk.old.fault ≡ None }
+    ensures exact { Making M.KEEP tree_of (DecodesInside (DecodesContents (shape_of_type types.now below) (Sequence eoc components.now)) (sequence_header tag)) decoder.old (outcome result out.new walk.new.error) decoder.new }
+    ensures octets { decoder.old.depth ≢ 0 → AreOctets decoder.old.rest }
+    ensures fits { M.KEEP ≡ true → IfOk (outcome result out.new walk.new.error) (λ v. FitsBy (Fits types.now below) (Sequence eoc components.now) v) }
+    ensures rules { IfErr (outcome result out.new walk.new.error) (λ e. e.codec ≡ decoder.old.rule) }
+    ensures told { Told (IsFaultInside types.now below (sequence_header tag) (Sequence eoc components.now) decoder.old) (outcome result out.new walk.new.error) walk.new.fault }
+    ensures itself { IfErr (outcome result out.new walk.new.error) (λ e. walk.new.fault ≡ None → DecodesInside (ReadsEachPart (shape_of_type types.now below) (Sequence eoc components.now)) (sequence_header tag) decoder.old (Err e) decoder.new) }
+    ensures listed { IfOk (outcome result out.new walk.new.error) (λ v. Lists (λ b es. InsideListed (shape_of_type types.now below) below (Inside types.now below) (sequence_header tag) (Sequence eoc components.now) b decoder.old es) walk.old.spans walk.new.spans) }
+{
+    decode_record_inside::<M>(
+        decoder,
+        walk,
+        types,
+        below,
+        ConstructedHeader::sequence(tag),
+        components,
+        out,
+    )
+}
+
+/// Reads a SEQUENCE (X.690 8.9).
+#[cycle(decode)]
+#[inline(always)]
+fn decode_record_inside<'input, M: Made>(
+    decoder: &mut Decoder<'input>,
+    walk: &mut Walk<'input>,
+    types: &[Type],
+    below: usize,
+    header: ConstructedHeader,
+    components: &Vec<Component>,
+    out: &mut Value<'input>,
+) -> Result<(), Refused>
+    requires lawful { AreReadable (components_by (shape_of_type types.now below) components.now.items) }
+    requires clear { walk.old.fault ≡ None }
+    ensures exact { Making M.KEEP tree_of (DecodesInside (DecodesContents (shape_of_type types.now below) (Sequence eoc components.now)) header) decoder.old (outcome result out.new walk.new.error) decoder.new }
+    ensures octets { decoder.old.depth ≢ 0 → AreOctets decoder.old.rest }
+    ensures fits { M.KEEP ≡ true → IfOk (outcome result out.new walk.new.error) (λ v. FitsBy (Fits types.now below) (Sequence eoc components.now) v) }
+    ensures rules { IfErr (outcome result out.new walk.new.error) (λ e. e.codec ≡ decoder.old.rule) }
+    ensures told { Told (IsFaultInside types.now below header (Sequence eoc components.now) decoder.old) (outcome result out.new walk.new.error) walk.new.fault }
+    ensures itself { IfErr (outcome result out.new walk.new.error) (λ e. walk.new.fault ≡ None → DecodesInside (ReadsEachPart (shape_of_type types.now below) (Sequence eoc components.now)) header decoder.old (Err e) decoder.new) }
+    ensures listed { IfOk (outcome result out.new walk.new.error) (λ v. Lists (λ b es. InsideListed (shape_of_type types.now below) below (Inside types.now below) header (Sequence eoc components.now) b decoder.old es) walk.old.spans walk.new.spans) }
+{
+    // The octets that are left have a number of this type, so the sum in `add_after` has too.
+    let _ = octets_left(decoder);
+    let (mut inner, contents) = match decoder.open(header) {
+        Ok(opened) => opened,
+        Err(error) => {
+            walk.error = error;
+            return Err(Refused);
+        }
+    };
+    let after = go_inside(&mut walk.spans, decoder, &inner);
+    match put_record::<M>(&mut inner, walk, types, below, components, out) {
+        Ok(()) => {}
+        Err(refused) => {
+            add_after(&mut walk.fault, octets_after(decoder, &inner));
+            return Err(refused);
+        }
+    }
+    match decoder.close(contents, inner.remaining()) {
+        Ok(()) => {
+            go_outside(&mut walk.spans, after);
+            Ok(())
+        }
+        Err(error) => {
+            walk.error = error;
+            Err(Refused)
+        }
+    }
+}
+
+/// Reads the contents of a SEQUENCE as its value.
+#[cycle(decode)]
+#[inline(always)]
+fn put_record<'input, M: Made>(
+    decoder: &mut Decoder<'input>,
+    walk: &mut Walk<'input>,
+    types: &[Type],
+    below: usize,
+    components: &Vec<Component>,
+    out: &mut Value<'input>,
+) -> Result<(), Refused>
+    requires lawful { AreReadable (components_by (shape_of_type types.now below) components.now.items) }
+    requires clear { walk.old.fault ≡ None }
+    ensures exact { Making M.KEEP tree_of (DecodesContents (shape_of_type types.now below) (Sequence eoc components.now)) decoder.old (outcome result out.new walk.new.error) decoder.new }
+    ensures fits { M.KEEP ≡ true → IfOk (outcome result out.new walk.new.error) (λ v. FitsBy (Fits types.now below) (Sequence eoc components.now) v) }
+    ensures rules { IfErr (outcome result out.new walk.new.error) (λ e. e.codec ≡ decoder.old.rule) }
+    ensures told { Told (IsFaultIn types.now below (IsAnyPart (shape_of_type types.now below) (Sequence eoc components.now) decoder.old) decoder.old decoder.old) (outcome result out.new walk.new.error) walk.new.fault }
+    ensures itself { IfErr (outcome result out.new walk.new.error) (λ e. walk.new.fault ≡ None → StopsInside (shape_of_type types.now below) (Sequence eoc components.now) decoder.old e) }
+    ensures listed { IfOk (outcome result out.new walk.new.error) (λ v. Lists (λ b es. ContentsListed (shape_of_type types.now below) below (Inside types.now below) (Sequence eoc components.now) b decoder.old es) walk.old.spans walk.new.spans) }
+{
+    put_sequence::<M>(decoder, walk, types, below, components, out)
+}
+
+/// Reads a SET (X.690 8.11).
+#[cycle(decode)]
+#[inline(never)]
+fn decode_members<'input, M: Made>(
+    decoder: &mut Decoder<'input>,
+    walk: &mut Walk<'input>,
+    types: &[Type],
+    below: usize,
+    tag: Tag,
+    name: &String,
+    components: &Vec<Component>,
+    out: &mut Value<'input>,
+) -> Result<(), Refused>
+    requires lawful { AreLawfulMembers (components_by (shape_of_type types.now below) (named_in (shape_of_type types.now below) components.now.items)) }
+    requires clear { walk.old.fault ≡ None }
+    ensures exact { Making M.KEEP tree_of (DecodesInside (DecodesContents (shape_of_type types.now below) (Set name.now eoc components.now)) (sequence_header tag)) decoder.old (outcome result out.new walk.new.error) decoder.new }
+    ensures octets { decoder.old.depth ≢ 0 → AreOctets decoder.old.rest }
+    ensures fits { M.KEEP ≡ true → IfOk (outcome result out.new walk.new.error) (λ v. FitsBy (Fits types.now below) (Set name.now eoc components.now) v) }
+    ensures rules { IfErr (outcome result out.new walk.new.error) (λ e. e.codec ≡ decoder.old.rule) }
+    ensures told { Told (IsFaultInside types.now below (sequence_header tag) (Set name.now eoc components.now) decoder.old) (outcome result out.new walk.new.error) walk.new.fault }
+    ensures itself { IfErr (outcome result out.new walk.new.error) (λ e. walk.new.fault ≡ None → DecodesInside (ReadsEachPart (shape_of_type types.now below) (Set name.now eoc components.now)) (sequence_header tag) decoder.old (Err e) decoder.new) }
+    ensures listed { IfOk (outcome result out.new walk.new.error) (λ v. Lists (λ b es. InsideListed (shape_of_type types.now below) below (Inside types.now below) (sequence_header tag) (Set name.now eoc components.now) b decoder.old es) walk.old.spans walk.new.spans) }
+{
+    decode_members_inside::<M>(
+        decoder,
+        walk,
+        types,
+        below,
+        ConstructedHeader::sequence(tag),
+        name,
+        components,
+        out,
+    )
+}
+
+/// Reads a SET (X.690 8.11).
+#[cycle(decode)]
+#[inline(always)]
+fn decode_members_inside<'input, M: Made>(
+    decoder: &mut Decoder<'input>,
+    walk: &mut Walk<'input>,
+    types: &[Type],
+    below: usize,
+    header: ConstructedHeader,
+    name: &String,
+    components: &Vec<Component>,
+    out: &mut Value<'input>,
+) -> Result<(), Refused>
+    requires lawful { AreLawfulMembers (components_by (shape_of_type types.now below) (named_in (shape_of_type types.now below) components.now.items)) }
+    requires clear { walk.old.fault ≡ None }
+    ensures exact { Making M.KEEP tree_of (DecodesInside (DecodesContents (shape_of_type types.now below) (Set name.now eoc components.now)) header) decoder.old (outcome result out.new walk.new.error) decoder.new }
+    ensures octets { decoder.old.depth ≢ 0 → AreOctets decoder.old.rest }
+    ensures fits { M.KEEP ≡ true → IfOk (outcome result out.new walk.new.error) (λ v. FitsBy (Fits types.now below) (Set name.now eoc components.now) v) }
+    ensures rules { IfErr (outcome result out.new walk.new.error) (λ e. e.codec ≡ decoder.old.rule) }
+    ensures told { Told (IsFaultInside types.now below header (Set name.now eoc components.now) decoder.old) (outcome result out.new walk.new.error) walk.new.fault }
+    ensures itself { IfErr (outcome result out.new walk.new.error) (λ e. walk.new.fault ≡ None → DecodesInside (ReadsEachPart (shape_of_type types.now below) (Set name.now eoc components.now)) header decoder.old (Err e) decoder.new) }
+    ensures listed { IfOk (outcome result out.new walk.new.error) (λ v. Lists (λ b es. InsideListed (shape_of_type types.now below) below (Inside types.now below) header (Set name.now eoc components.now) b decoder.old es) walk.old.spans walk.new.spans) }
+{
+    // The octets that are left have a number of this type, so the sum in `add_after` has too.
+    let _ = octets_left(decoder);
+    let (mut inner, contents) = match decoder.open(header) {
+        Ok(opened) => opened,
+        Err(error) => {
+            walk.error = error;
+            return Err(Refused);
+        }
+    };
+    let after = go_inside(&mut walk.spans, decoder, &inner);
+    match put_members::<M>(&mut inner, walk, types, below, name, components, out) {
+        Ok(()) => {}
+        Err(refused) => {
+            add_after(&mut walk.fault, octets_after(decoder, &inner));
+            return Err(refused);
+        }
+    }
+    match decoder.close(contents, inner.remaining()) {
+        Ok(()) => {
+            go_outside(&mut walk.spans, after);
+            Ok(())
+        }
+        Err(error) => {
+            walk.error = error;
+            Err(Refused)
+        }
+    }
+}
+
+/// Reads the contents of a SET as its value.
+#[cycle(decode)]
+#[inline(always)]
+fn put_members<'input, M: Made>(
+    decoder: &mut Decoder<'input>,
+    walk: &mut Walk<'input>,
+    types: &[Type],
+    below: usize,
+    name: &String,
+    components: &Vec<Component>,
+    out: &mut Value<'input>,
+) -> Result<(), Refused>
+    requires lawful { AreLawfulMembers (components_by (shape_of_type types.now below) (named_in (shape_of_type types.now below) components.now.items)) }
+    requires clear { walk.old.fault ≡ None }
+    ensures exact { Making M.KEEP tree_of (DecodesContents (shape_of_type types.now below) (Set name.now eoc components.now)) decoder.old (outcome result out.new walk.new.error) decoder.new }
+    ensures fits { M.KEEP ≡ true → IfOk (outcome result out.new walk.new.error) (λ v. FitsBy (Fits types.now below) (Set name.now eoc components.now) v) }
+    ensures rules { IfErr (outcome result out.new walk.new.error) (λ e. e.codec ≡ decoder.old.rule) }
+    ensures told { Told (IsFaultIn types.now below (IsAnyPart (shape_of_type types.now below) (Set name.now eoc components.now) decoder.old) decoder.old decoder.old) (outcome result out.new walk.new.error) walk.new.fault }
+    ensures itself { IfErr (outcome result out.new walk.new.error) (λ e. walk.new.fault ≡ None → StopsInside (shape_of_type types.now below) (Set name.now eoc components.now) decoder.old e) }
+    ensures listed { IfOk (outcome result out.new walk.new.error) (λ v. Lists (λ b es. ContentsListed (shape_of_type types.now below) below (Inside types.now below) (Set name.now eoc components.now) b decoder.old es) walk.old.spans walk.new.spans) }
+{
+    put_set::<M>(decoder, walk, types, below, name.as_str(), components, out)
+}
+
+/// Reads a SEQUENCE OF (X.690 8.10) of any number of elements, and counts them.
+#[cycle(decode)]
+#[inline(always)]
+fn decode_list_inside<'input, M: Made>(
+    decoder: &mut Decoder<'input>,
+    walk: &mut Walk<'input>,
+    types: &[Type],
+    below: usize,
+    header: ConstructedHeader,
+    element: TypeId,
     count: &mut usize,
     out: &mut Value<'input>,
 ) -> Result<(), Refused>
-    requires lawful { IsReadable (type_by (shape_of_type types.now below) ty.now) }
-    requires holds { HoldsOthers ty.now }
+    requires lawful { IsReadable (shape_of_type types.now below element.0) }
     requires counts { count.old ≡ 0 }
     requires clear { walk.old.fault ≡ None }
-    ensures exact { Counting M.KEEP tree_of (CountsElements ty.now) (DecodesContents (shape_of_type types.now below) ty.now) decoder.old (outcome result out.new walk.new.error) decoder.new count.new }
-    ensures fits { M.KEEP ≡ true → IfOk (outcome result out.new walk.new.error) (λ v. FitsBy (Fits types.now below) ty.now v) }
+    ensures exact { Counting M.KEEP tree_of (CountsElements (SequenceOf eoc element unconstrained)) (DecodesInside (DecodesContents (shape_of_type types.now below) (SequenceOf eoc element unconstrained)) header) decoder.old (outcome result out.new walk.new.error) decoder.new count.new }
+    ensures octets { decoder.old.depth ≢ 0 → AreOctets decoder.old.rest }
+    ensures fits { M.KEEP ≡ true → IfOk (outcome result out.new walk.new.error) (λ v. FitsBy (Fits types.now below) (SequenceOf eoc element unconstrained) v) }
     ensures rules { IfErr (outcome result out.new walk.new.error) (λ e. e.codec ≡ decoder.old.rule) }
-    ensures told { Told (IsFaultIn types.now below (IsAnyPart (shape_of_type types.now below) ty.now decoder.old) decoder.old decoder.old) (outcome result out.new walk.new.error) walk.new.fault }
-    ensures itself { IfErr (outcome result out.new walk.new.error) (λ e. walk.new.fault ≡ None → StopsInside (shape_of_type types.now below) ty.now decoder.old e) }
-    ensures listed { IfOk (outcome result out.new walk.new.error) (λ v. Lists (λ b es. ContentsListed (shape_of_type types.now below) below (Inside types.now below) ty.now b decoder.old es) walk.old.spans walk.new.spans) }
+    ensures told { Told (IsFaultInside types.now below header (SequenceOf eoc element unconstrained) decoder.old) (outcome result out.new walk.new.error) walk.new.fault }
+    ensures itself { IfErr (outcome result out.new walk.new.error) (λ e. walk.new.fault ≡ None → DecodesInside (ReadsEachPart (shape_of_type types.now below) (SequenceOf eoc element unconstrained)) header decoder.old (Err e) decoder.new) }
+    ensures listed { IfOk (outcome result out.new walk.new.error) (λ v. Lists (λ b es. InsideListed (shape_of_type types.now below) below (Inside types.now below) header (SequenceOf eoc element unconstrained) b decoder.old es) walk.old.spans walk.new.spans) }
 {
-    match ty {
-        Type::Tagged { inner, .. } => decode_part::<M>(decoder, walk, types, below, *inner, 0, out),
-        Type::Sequence { components, .. } => {
-            put_sequence::<M>(decoder, walk, types, below, components, out)
+    // The octets that are left have a number of this type, so the sum in `add_after` has too.
+    let _ = octets_left(decoder);
+    let (mut inner, contents) = match decoder.open(header) {
+        Ok(opened) => opened,
+        Err(error) => {
+            walk.error = error;
+            return Err(Refused);
         }
-        Type::SequenceOf { element, .. } => {
-            put_elements::<M>(decoder, walk, types, below, *element, count, out)
+    };
+    let after = go_inside(&mut walk.spans, decoder, &inner);
+    match put_elements::<M>(&mut inner, walk, types, below, element, count, out) {
+        Ok(()) => {}
+        Err(refused) => {
+            add_after(&mut walk.fault, octets_after(decoder, &inner));
+            return Err(refused);
         }
-        Type::SetOf { element, .. } => {
-            put_elements_in_order::<M>(decoder, walk, types, below, *element, count, out)
-        }
-        Type::Set {
-            name,
-            components,
-            ..
-        } => { put_set::<M>(decoder, walk, types, below, name.as_str(), components, out) }
-        _ => unreachable!(),
     }
+    match decoder.close(contents, inner.remaining()) {
+        Ok(()) => {
+            go_outside(&mut walk.spans, after);
+            Ok(())
+        }
+        Err(error) => {
+            walk.error = error;
+            Err(Refused)
+        }
+    }
+}
+
+/// Reads elements as the value of a SEQUENCE OF.
+#[cycle(decode)]
+#[inline(always)]
+fn put_elements<'input, M: Made>(
+    decoder: &mut Decoder<'input>,
+    walk: &mut Walk<'input>,
+    types: &[Type],
+    below: usize,
+    element: TypeId,
+    count: &mut usize,
+    out: &mut Value<'input>,
+) -> Result<(), Refused>
+    requires lawful { IsReadable (shape_of_type types.now below element.0) }
+    requires counts { count.old ≡ 0 }
+    requires clear { walk.old.fault ≡ None }
+    ensures exact { Counting M.KEEP tree_of (CountsElements (SequenceOf eoc element unconstrained)) (DecodesContents (shape_of_type types.now below) (SequenceOf eoc element unconstrained)) decoder.old (outcome result out.new walk.new.error) decoder.new count.new }
+    ensures fits { M.KEEP ≡ true → IfOk (outcome result out.new walk.new.error) (λ v. FitsBy (Fits types.now below) (SequenceOf eoc element unconstrained) v) }
+    ensures rules { IfErr (outcome result out.new walk.new.error) (λ e. e.codec ≡ decoder.old.rule) }
+    ensures told { Told (IsFaultIn types.now below (IsAnyPart (shape_of_type types.now below) (SequenceOf eoc element unconstrained) decoder.old) decoder.old decoder.old) (outcome result out.new walk.new.error) walk.new.fault }
+    ensures itself { IfErr (outcome result out.new walk.new.error) (λ e. walk.new.fault ≡ None → StopsInside (shape_of_type types.now below) (SequenceOf eoc element unconstrained) decoder.old e) }
+    ensures listed { IfOk (outcome result out.new walk.new.error) (λ v. Lists (λ b es. ContentsListed (shape_of_type types.now below) below (Inside types.now below) (SequenceOf eoc element unconstrained) b decoder.old es) walk.old.spans walk.new.spans) }
+{
+    let mut values = Vec::new(decoder.alloc());
+    decode_elements::<M>(decoder, walk, types, below, element, count, &mut values)?;
+    put_items::<M>(values, out);
+    Ok(())
+}
+
+/// Reads a SET OF (X.690 8.12) of any number of elements, and counts them.
+#[cycle(decode)]
+#[inline(always)]
+fn decode_set_of_inside<'input, M: Made>(
+    decoder: &mut Decoder<'input>,
+    walk: &mut Walk<'input>,
+    types: &[Type],
+    below: usize,
+    header: ConstructedHeader,
+    element: TypeId,
+    count: &mut usize,
+    out: &mut Value<'input>,
+) -> Result<(), Refused>
+    requires lawful { IsReadable (shape_of_type types.now below element.0) }
+    requires counts { count.old ≡ 0 }
+    requires clear { walk.old.fault ≡ None }
+    ensures exact { Counting M.KEEP tree_of (CountsElements (SetOf eoc element unconstrained)) (DecodesInside (DecodesContents (shape_of_type types.now below) (SetOf eoc element unconstrained)) header) decoder.old (outcome result out.new walk.new.error) decoder.new count.new }
+    ensures octets { decoder.old.depth ≢ 0 → AreOctets decoder.old.rest }
+    ensures fits { M.KEEP ≡ true → IfOk (outcome result out.new walk.new.error) (λ v. FitsBy (Fits types.now below) (SetOf eoc element unconstrained) v) }
+    ensures rules { IfErr (outcome result out.new walk.new.error) (λ e. e.codec ≡ decoder.old.rule) }
+    ensures told { Told (IsFaultInside types.now below header (SetOf eoc element unconstrained) decoder.old) (outcome result out.new walk.new.error) walk.new.fault }
+    ensures itself { IfErr (outcome result out.new walk.new.error) (λ e. walk.new.fault ≡ None → DecodesInside (ReadsEachPart (shape_of_type types.now below) (SetOf eoc element unconstrained)) header decoder.old (Err e) decoder.new) }
+    ensures listed { IfOk (outcome result out.new walk.new.error) (λ v. Lists (λ b es. InsideListed (shape_of_type types.now below) below (Inside types.now below) header (SetOf eoc element unconstrained) b decoder.old es) walk.old.spans walk.new.spans) }
+{
+    // The octets that are left have a number of this type, so the sum in `add_after` has too.
+    let _ = octets_left(decoder);
+    let (mut inner, contents) = match decoder.open(header) {
+        Ok(opened) => opened,
+        Err(error) => {
+            walk.error = error;
+            return Err(Refused);
+        }
+    };
+    let after = go_inside(&mut walk.spans, decoder, &inner);
+    match put_elements_in_order::<M>(&mut inner, walk, types, below, element, count, out) {
+        Ok(()) => {}
+        Err(refused) => {
+            add_after(&mut walk.fault, octets_after(decoder, &inner));
+            return Err(refused);
+        }
+    }
+    match decoder.close(contents, inner.remaining()) {
+        Ok(()) => {
+            go_outside(&mut walk.spans, after);
+            Ok(())
+        }
+        Err(error) => {
+            walk.error = error;
+            Err(Refused)
+        }
+    }
+}
+
+/// Reads elements as the value of a SET OF.
+#[cycle(decode)]
+#[inline(always)]
+fn put_elements_in_order<'input, M: Made>(
+    decoder: &mut Decoder<'input>,
+    walk: &mut Walk<'input>,
+    types: &[Type],
+    below: usize,
+    element: TypeId,
+    count: &mut usize,
+    out: &mut Value<'input>,
+) -> Result<(), Refused>
+    requires lawful { IsReadable (shape_of_type types.now below element.0) }
+    requires counts { count.old ≡ 0 }
+    requires clear { walk.old.fault ≡ None }
+    ensures exact { Counting M.KEEP tree_of (CountsElements (SetOf eoc element unconstrained)) (DecodesContents (shape_of_type types.now below) (SetOf eoc element unconstrained)) decoder.old (outcome result out.new walk.new.error) decoder.new count.new }
+    ensures fits { M.KEEP ≡ true → IfOk (outcome result out.new walk.new.error) (λ v. FitsBy (Fits types.now below) (SetOf eoc element unconstrained) v) }
+    ensures rules { IfErr (outcome result out.new walk.new.error) (λ e. e.codec ≡ decoder.old.rule) }
+    ensures told { Told (IsFaultIn types.now below (IsAnyPart (shape_of_type types.now below) (SetOf eoc element unconstrained) decoder.old) decoder.old decoder.old) (outcome result out.new walk.new.error) walk.new.fault }
+    ensures itself { IfErr (outcome result out.new walk.new.error) (λ e. walk.new.fault ≡ None → StopsInside (shape_of_type types.now below) (SetOf eoc element unconstrained) decoder.old e) }
+    ensures listed { IfOk (outcome result out.new walk.new.error) (λ v. Lists (λ b es. ContentsListed (shape_of_type types.now below) below (Inside types.now below) (SetOf eoc element unconstrained) b decoder.old es) walk.old.spans walk.new.spans) }
+{
+    let mut values = Vec::new(decoder.alloc());
+    decode_elements_in_order::<M>(decoder, walk, types, below, element, count, &mut values)?;
+    put_in_any_order::<M>(values, out);
+    Ok(())
 }
 
 /// Reads the components of a SEQUENCE as its value.
@@ -839,62 +1189,6 @@ fn put_sequence<'input, M: Made>(
     let mut values = list_for::<M>(decoder, &mut walk.error, components.len())?;
     decode_sequence::<M>(decoder, walk, types, below, components, &mut values)?;
     put_items::<M>(values, out);
-    Ok(())
-}
-
-/// Reads elements as the value of a SEQUENCE OF.
-#[cycle(decode)]
-#[inline(always)]
-fn put_elements<'input, M: Made>(
-    decoder: &mut Decoder<'input>,
-    walk: &mut Walk<'input>,
-    types: &[Type],
-    below: usize,
-    element: TypeId,
-    count: &mut usize,
-    out: &mut Value<'input>,
-) -> Result<(), Refused>
-    requires lawful { IsReadable (shape_of_type types.now below element.0) }
-    requires counts { count.old ≡ 0 }
-    requires clear { walk.old.fault ≡ None }
-    ensures exact { Counting M.KEEP tree_of (λ n t. n ≡ element_count t) (Makes items (DecodesElements (DecodesTree (shape_of_type types.now below element.0)) these)) decoder.old (outcome result out.new walk.new.error) decoder.new count.new }
-    ensures fits { M.KEEP ≡ true → IfOk (outcome result out.new walk.new.error) (AreItems (EachFits (Fits types.now below element.0))) }
-    ensures rules { IfErr (outcome result out.new walk.new.error) (λ e. e.codec ≡ decoder.old.rule) }
-    ensures told { Told (IsFaultIn types.now below (IsElementAt (shape_of_type types.now below) element.0 decoder.old) decoder.old decoder.old) (outcome result out.new walk.new.error) walk.new.fault }
-    ensures itself { IfErr (outcome result out.new walk.new.error) (λ e. walk.new.fault ≡ None → StopsInElements (shape_of_type types.now below) element.0 decoder.old e) }
-    ensures listed { IfOk (outcome result out.new walk.new.error) (λ v. Lists (λ b es. ElementsListed (shape_of_type types.now below) below (Inside types.now below) element.0 b decoder.old es) walk.old.spans walk.new.spans) }
-{
-    let mut values = Vec::new(decoder.alloc());
-    decode_elements::<M>(decoder, walk, types, below, element, count, &mut values)?;
-    put_items::<M>(values, out);
-    Ok(())
-}
-
-/// Reads elements as the value of a SET OF.
-#[cycle(decode)]
-#[inline(always)]
-fn put_elements_in_order<'input, M: Made>(
-    decoder: &mut Decoder<'input>,
-    walk: &mut Walk<'input>,
-    types: &[Type],
-    below: usize,
-    element: TypeId,
-    count: &mut usize,
-    out: &mut Value<'input>,
-) -> Result<(), Refused>
-    requires lawful { IsReadable (shape_of_type types.now below element.0) }
-    requires counts { count.old ≡ 0 }
-    requires clear { walk.old.fault ≡ None }
-    ensures exact { Counting M.KEEP tree_of (λ n t. n ≡ element_count t) (Makes elements (DecodesElementsInOrder (DecodesTree (shape_of_type types.now below element.0)) these)) decoder.old (outcome result out.new walk.new.error) decoder.new count.new }
-    ensures fits { M.KEEP ≡ true → IfOk (outcome result out.new walk.new.error) (AreElements (EachFits (Fits types.now below element.0))) }
-    ensures rules { IfErr (outcome result out.new walk.new.error) (λ e. e.codec ≡ decoder.old.rule) }
-    ensures told { Told (IsFaultIn types.now below (IsElementAt (shape_of_type types.now below) element.0 decoder.old) decoder.old decoder.old) (outcome result out.new walk.new.error) walk.new.fault }
-    ensures itself { IfErr (outcome result out.new walk.new.error) (λ e. walk.new.fault ≡ None → StopsInOrder (shape_of_type types.now below) element.0 decoder.old e) }
-    ensures listed { IfOk (outcome result out.new walk.new.error) (λ v. Lists (λ b es. ElementsListed (shape_of_type types.now below) below (Inside types.now below) element.0 b decoder.old es) walk.old.spans walk.new.spans) }
-{
-    let mut values = Vec::new(decoder.alloc());
-    decode_elements_in_order::<M>(decoder, walk, types, below, element, count, &mut values)?;
-    put_in_any_order::<M>(values, out);
     Ok(())
 }
 
@@ -926,6 +1220,88 @@ fn put_set<'input, M: Made>(
         decoder, walk, types, below, name, named, extensible, other_id, found,
     )?;
     put_items::<M>(values, out);
+    Ok(())
+}
+
+/// Reads a SEQUENCE OF (X.690 8.10).
+///
+/// # Errors
+/// `SizeConstraintNotSatisfied` if the number of elements isn't within the bound, which consumes the value.
+#[cycle(decode)]
+#[inline(never)]
+fn decode_list<'input, M: Made>(
+    decoder: &mut Decoder<'input>,
+    walk: &mut Walk<'input>,
+    types: &[Type],
+    below: usize,
+    tag: Tag,
+    element: TypeId,
+    constraints: &Constraints,
+    out: &mut Value<'input>,
+) -> Result<(), Refused>
+    requires lawful { IsReadable (shape_of_type types.now below element.0) }
+    requires clear { walk.old.fault ≡ None }
+    ensures exact { Making M.KEEP tree_of (DecodesSized (DecodesContents (shape_of_type types.now below) (SequenceOf eoc element unconstrained)) element_count tag constraints.now) decoder.old (outcome result out.new walk.new.error) decoder.new }
+    ensures octets { decoder.old.depth ≢ 0 → AreOctets decoder.old.rest }
+    ensures fits { M.KEEP ≡ true → IfOk (outcome result out.new walk.new.error) (λ v. FitsBy (Fits types.now below) (SequenceOf eoc element unconstrained) v) }
+    ensures rules { IfErr (outcome result out.new walk.new.error) (λ e. e.codec ≡ decoder.old.rule) }
+    ensures told { Told (IsFaultInside types.now below (list_header tag) (SequenceOf eoc element unconstrained) decoder.old) (outcome result out.new walk.new.error) walk.new.fault }
+    ensures itself { IfErr (outcome result out.new walk.new.error) (λ e. walk.new.fault ≡ None → DecodesSized (ReadsEachPart (shape_of_type types.now below) (SequenceOf eoc element unconstrained)) element_count tag constraints.now decoder.old (Err e) decoder.new) }
+    ensures listed { IfOk (outcome result out.new walk.new.error) (λ v. Lists (λ b es. InsideListed (shape_of_type types.now below) below (Inside types.now below) (list_header tag) (SequenceOf eoc element unconstrained) b decoder.old es) walk.old.spans walk.new.spans) }
+{
+    let mut count = 0;
+    decode_list_inside::<M>(
+        decoder,
+        walk,
+        types,
+        below,
+        ConstructedHeader::list(tag),
+        element,
+        &mut count,
+        out,
+    )?;
+    check_size(decoder, &mut walk.error, constraints, count)?;
+    Ok(())
+}
+
+/// Reads a SET OF (X.690 8.12).
+///
+/// # Errors
+/// `SizeConstraintNotSatisfied` if the number of elements isn't within the bound, which consumes the value.
+#[cycle(decode)]
+#[inline(never)]
+fn decode_set_of<'input, M: Made>(
+    decoder: &mut Decoder<'input>,
+    walk: &mut Walk<'input>,
+    types: &[Type],
+    below: usize,
+    tag: Tag,
+    element: TypeId,
+    constraints: &Constraints,
+    out: &mut Value<'input>,
+) -> Result<(), Refused>
+    requires lawful { IsReadable (shape_of_type types.now below element.0) }
+    requires clear { walk.old.fault ≡ None }
+    ensures exact { Making M.KEEP tree_of (DecodesSized (DecodesContents (shape_of_type types.now below) (SetOf eoc element unconstrained)) element_count tag constraints.now) decoder.old (outcome result out.new walk.new.error) decoder.new }
+    ensures octets { decoder.old.depth ≢ 0 → AreOctets decoder.old.rest }
+    ensures fits { M.KEEP ≡ true → IfOk (outcome result out.new walk.new.error) (λ v. FitsBy (Fits types.now below) (SetOf eoc element unconstrained) v) }
+    ensures rules { IfErr (outcome result out.new walk.new.error) (λ e. e.codec ≡ decoder.old.rule) }
+    ensures told { Told (IsFaultInside types.now below (list_header tag) (SetOf eoc element unconstrained) decoder.old) (outcome result out.new walk.new.error) walk.new.fault }
+    ensures itself { IfErr (outcome result out.new walk.new.error) (λ e. walk.new.fault ≡ None → DecodesSized (ReadsEachPart (shape_of_type types.now below) (SetOf eoc element unconstrained)) element_count tag constraints.now decoder.old (Err e) decoder.new) }
+    ensures listed { IfOk (outcome result out.new walk.new.error) (λ v. Lists (λ b es. InsideListed (shape_of_type types.now below) below (Inside types.now below) (list_header tag) (SetOf eoc element unconstrained) b decoder.old es) walk.old.spans walk.new.spans) }
+{
+    let mut count = 0;
+    decode_set_of_inside::<M>(
+        decoder,
+        walk,
+        types,
+        below,
+        ConstructedHeader::list(tag),
+        element,
+        &mut count,
+        out,
+    )?;
+    check_size(decoder, &mut walk.error, constraints, count)?;
     Ok(())
 }
 

@@ -8,7 +8,8 @@ use Rattle.rasn_de.specs.SetPartTypes.{text}
 use Rattle.rasn_de.specs.Constructed.{DecodesInside, list_header}
 use Rattle.rasn_de.proofs.Leaves.Outcomes.{alloc_failed}
 use Rattle.rasn_schema.proofs.Alternatives.{first_of_all}
-use Rattle.rasn_types.specs.Tags.{IsStrict}
+use Rattle.rasn_types.specs.Tags.{IsStrict, eoc}
+use Rattle.rasn_types.specs.Trees.{unconstrained}
 use Rattle.rasn_types.specs.Order.{IsLess}
 use Rattle.rasn_types.specs.declared.error.decode.DerDecodeErrorKind.TheVariants.{SetOfOutOfOrder}
 use Rattle.rasn_types.proofs.SetOf.Ascending.{ends_more, in_order, out_of_order}
@@ -30,13 +31,13 @@ use Rattle.rasn_schema.specs.Shapes.{numbers_of, shape_of_type, type_by, alterna
 use Rattle.rasn_schema.proofs.Presences.{always_by}
 use Rattle.rasn_schema.proofs.TypeShapes.{shape_below}
 use Rattle.rasn_schema.proofs.Lists.{split, nothing_left, read_at}
-use Rattle.rasn_schema.specs.declared.types.«Type».TheVariants.{Tagged, Sequence, Set}
+use Rattle.rasn_schema.specs.declared.types.«Type».TheVariants.{Tagged, Sequence, Set, SequenceOf, SetOf}
 use Rattle.rasn_dynamic.specs.Inside.{DecodesTree, DecodesComponent}
 use Rattle.rasn_dynamic.specs.Making.{Making, outcome, reported}
 use Rattle.rasn_dynamic.specs.Typed.{Makes, MayRunOut, DecodesComponents, DecodesContents, DecodesType, CountsElements, element_count, elements}
 use Rattle.rasn_dynamic.specs.Calls.{held, names_of, nones, DecodesPresent}
 use Rattle.rasn_dynamic.proofs.Making.{made_as, made_fails_as, choice_exact, uncounted, counted_nothing, made_of_value, if_kept, items_made, elements_made, one_made, choice_made, choice_fits}
-use Rattle.rasn_schema.specs.Fitting.{Fits, IsNumber, AreOctets, ComponentsFit, EachFits}
+use Rattle.rasn_schema.specs.Fitting.{Fits, IsNumber, AreOctets, AreItems, ComponentsFit, EachFits}
 use Rattle.rasn_dynamic.proofs.FitsRead.{if_ok, fits_below, are_items, are_elements, each_more, fit_more, fit_end, made_fits, gathered_fit, members_fit, all_fit, all_left_fit, nones_fit, found_length, found_kept, put_fits}
 use Rattle.rasn_dynamic.proofs.Nothing.{refused_at_zero, refused_not_there, found_here}
 use Rattle.rasn_dynamic.proofs.OpenChoice.{lawful_at}
@@ -56,8 +57,8 @@ use Rattle.rasn_de.proofs.Constructed.Opening.{kept}
 use Rattle.rasn_dynamic.specs.Found.{MembersFit}
 use Rattle.rasn_dynamic.proofs.Parts.{shorter}
 use Rattle.rasn_dynamic.proofs.reader.+decode.Goals.{decode_elements_in_order-else-is_strict-via-then-is_strict+else-is_less, decode_elements_in_order-else-is_strict-via-else-is_strict}
-use Rattle.rasn_dynamic.specs.Listed.{Lists, Inside, PartListed, ComponentAt, MemberListed, MembersListed}
-use Rattle.rasn_de.specs.Constructed.{list_header}
+use Rattle.rasn_dynamic.specs.Listed.{Lists, Inside, PartListed, ComponentAt, MemberListed, MembersListed, InsideListed}
+use Rattle.rasn_de.specs.Constructed.{sequence_header, prefix_header}
 use Rattle.rasn_dynamic.specs.declared.span.Spans.{Spans}
 use Rattle.std.specs.Prelude.{IfOk}
 use Rattle.rasn_dynamic.proofs.Listed.{if_any, lists_start, lists_more, part_listed, value_listed, none_listed, choice_listed, alternative_listed, holder_listed, inside_listed, tagged_listed, elements_listed, component_present, component_absent, component_more, components_left_out, components_listed, member_listed, unknown_passed, members_listed, header_listed, contents_same, components_same}
@@ -169,18 +170,6 @@ decode_choice-returns-clause-reads g t c =
     (λ e m. alloc_failed _ (λ (z : Tree). z) c.args.decoder.now _ e m w.2.stays w.2.end)
 
 -- ---- contents
-
-pub decode_contents-decode_part-requires : goal.decode_contents-decode_part-requires
-decode_contents-decode_part-requires g t c = λ κs o. (search rules, (search rules, (prefix_lawful _ _ (subst (λ n. IsReadable (type_by (shape_of_type c.args.types.now c.args.below) n)) c.in-Tagged.is c.requires.lawful), c.requires.clear)))
-
-pub decode_contents-returns-in-Tagged-clause-fits : goal.decode_contents-returns-in-Tagged-clause-fits
-decode_contents-returns-in-Tagged-clause-fits g t c = λ k. rw c.in-Tagged.is (c.decode_part.ensures.fits k)
-
-pub decode_contents-returns-in-Tagged-clause-exact : goal.decode_contents-returns-in-Tagged-clause-exact
-decode_contents-returns-in-Tagged-clause-exact g t c = rw c.in-Tagged.is (counted_nothing _ tree_of (CountsElements (Tagged c.in-Tagged.tag c.in-Tagged.inner)) (DecodesTree (shape_of_type c.args.types.now c.args.below c.in-Tagged.inner.0)) c.args.decoder.now (outcome c.decode_part.result c.decode_part.new.out c.decode_part.new.walk.error) _ _ (λ d. tt) c.decode_part.ensures.reads)
-
-pub decode_contents-unreachable-requires : goal.decode_contents-unreachable-requires
-decode_contents-unreachable-requires g t c = none_holds c.args.ty.now c.in_default.not-Tagged c.in_default.not-Sequence c.in_default.not-Set c.in_default.not-SequenceOf c.in_default.not-SetOf c.requires.holds
 
 pub decode_elements-loop-element-preserved : goal.decode_elements-loop-element-preserved
 decode_elements-loop-element-preserved g t c =
@@ -374,70 +363,6 @@ decode_elements_in_order-returns-then-is_less-clause-rules g t c = codec_is c.re
 
 -- ---- a value that holds others
 
-pub decode_inside-returns-in-Err-clause-exact :
-    goal.decode_inside-returns-in-Err-clause-exact
-decode_inside-returns-in-Err-clause-exact g t c =
-    (step_none _ c.args.header c.args.decoder.now _ _ c.in-Err.ensures.exact)
-
-pub decode_inside-returns-in-Err-decode_contents-clause-exact :
-    goal.decode_inside-returns-in-Err-decode_contents-clause-exact
-decode_inside-returns-in-Err-decode_contents-clause-exact g t c =
-    (step_refused _ c.args.header c.args.decoder.now _ _ _ c.in-Ok.ensures.exact _ _ c.in-Err-decode_contents.ensures.exact)
-
-pub decode_inside-returns-in-Err-close-clause-exact : goal.decode_inside-returns-in-Err-close-clause-exact
-decode_inside-returns-in-Err-close-clause-exact g t c =
-    let w = c.in-Ok-decode_contents.ensures.exact in
-    (step_unclosed _ c.args.header c.args.decoder.now _ _ _ c.in-Ok.ensures.exact w.0 _ w.3 _ c.remaining.ensures.value _ _ c.in-Err-close.ensures)
-
-pub decode_inside-close-requires : goal.decode_inside-close-requires
-decode_inside-close-requires g t c = λ x.
-    let w = c.in-Ok-decode_contents.ensures.exact in
-    step_end (DecodesContents (shape_of_type c.args.types.now c.args.below) c.args.ty.now) c.args.header c.args.decoder.now _ _ _ c.in-Ok.ensures.exact _ _
-    (contents_end (shape_of_type c.args.types.now c.args.below) c.args.ty.now _ w.0 _ w.3) c.remaining.ensures.value x
-
-pub decode_inside-returns-in-Ok-close-clause-exact : goal.decode_inside-returns-in-Ok-close-clause-exact
-decode_inside-returns-in-Ok-close-clause-exact g t c =
-    let w = c.in-Ok-decode_contents.ensures.exact in
-    (w.0, w.1, w.2, step_closed _ c.args.header c.args.decoder.now _ _ _ c.in-Ok.ensures.exact w.0 _ w.3 _ c.remaining.ensures.value _ c.in-Ok-close.ensures)
-
-pub decode_inside-returns-in-Err-clause-rules : goal.decode_inside-returns-in-Err-clause-rules
-decode_inside-returns-in-Err-clause-rules g t c = (codec_is c.in-Err.ensures.exact.2)
-
-pub decode_list-returns-in_err-decode_inside-clause-exact : goal.decode_list-returns-in_err-decode_inside-clause-exact
-decode_list-returns-in_err-decode_inside-clause-exact g t c = rw (residual _ c.from_residual.ensures.1) (not_sized (DecodesContents (shape_of_type c.args.types.now c.args.below) c.args.ty.now) c.args.tag c.args.constraints.now c.list.result c.list.ensures c.args.decoder.now _ _ c.in_err-decode_inside.ensures.exact)
-
-pub decode_list-decode_inside-requires : goal.decode_list-decode_inside-requires
-decode_list-decode_inside-requires g t c = λ κs o. (search rules, (search rules, (c.requires.lawful, (holds_others c.args.ty.now c.requires.elements, (refl, c.requires.clear)))))
-
-pub decode_list-returns-clause-exact : goal.decode_list-returns-clause-exact
-decode_list-returns-clause-exact g t c =
-    let w = c.in_ok-decode_inside.ensures.exact in
-    (w.0, w.1, is_sized (DecodesContents (shape_of_type c.args.types.now c.args.below) c.args.ty.now) c.args.tag c.args.constraints.now c.list.result c.list.ensures c.args.decoder.now _ w.0 w.3 _ (is_counted c.args.ty.now _ w.0 c.requires.elements w.2) c.in_ok-check_size.ensures.sized)
-
-pub decode_list-returns-in_err-check_size-clause-itself : goal.decode_list-returns-in_err-check_size-clause-itself
-decode_list-returns-in_err-check_size-clause-itself g t c =
-    let w = c.in_ok-decode_inside.ensures.exact in
-    rw (residual _ c.from_residual-in_err-check_size.ensures.1)
-    (λ n. missized (ReadsEachPart (shape_of_type c.args.types.now c.args.below) c.args.ty.now) c.args.tag c.args.constraints.now c.list.result c.list.ensures c.args.decoder.now _ w.0
-    (got_inside (DecodesContents (shape_of_type c.args.types.now c.args.below) c.args.ty.now) (ReadsEachPart (shape_of_type c.args.types.now c.args.below) c.args.ty.now) (λ o v n h. h) c.list.result c.args.decoder.now w.0 _ w.3) _ (is_counted c.args.ty.now _ w.0 c.requires.elements w.2) _ c.in_err-check_size.ensures.sized)
-
-pub decode_list-returns-in_err-check_size-clause-told : goal.decode_list-returns-in_err-check_size-clause-told
-decode_list-returns-in_err-check_size-clause-told g t c =
-    rw (residual _ c.from_residual-in_err-check_size.ensures.1)
-    (unnamed {T = Value} (IsFaultInside c.args.types.now c.args.below (list_header c.args.tag) c.args.ty.now c.args.decoder.now) (Err c.check_size.new.error) _ c.in_ok-decode_inside.ensures.told)
-
-pub decode_list-returns-in_err-check_size-clause-rules : goal.decode_list-returns-in_err-check_size-clause-rules
-decode_list-returns-in_err-check_size-clause-rules g t c = rw (residual _ c.from_residual-in_err-check_size.ensures.1) (c.in_err-check_size.ensures.rules ∙ same_rules c.in_ok-decode_inside.ensures.exact.3.0.stays)
-
-pub decode_list-returns-in_err-check_size-clause-exact : goal.decode_list-returns-in_err-check_size-clause-exact
-decode_list-returns-in_err-check_size-clause-exact g t c =
-    let w = c.in_ok-decode_inside.ensures.exact in
-    rw (residual _ c.from_residual-in_err-check_size.ensures.1)
-    (missized (DecodesContents (shape_of_type c.args.types.now c.args.below) c.args.ty.now) c.args.tag c.args.constraints.now c.list.result c.list.ensures c.args.decoder.now _ w.0 w.3 _ (is_counted c.args.ty.now _ w.0 c.requires.elements w.2) _ c.in_err-check_size.ensures.sized)
-
-pub decode_list-returns-clause-fits : goal.decode_list-returns-clause-fits
-decode_list-returns-clause-fits g t c = c.in_ok-decode_inside.ensures.fits
-
 pub decode_type-returns-in-Any-clause-exact : goal.decode_type-returns-in-Any-clause-exact
 decode_type-returns-in-Any-clause-exact g t c = rw c.in-Any.is c.put_any.ensures.reads
 
@@ -494,73 +419,7 @@ decode_type-returns-in-Leaf-clause-exact g t c = rw c.in-Leaf.is c.put_leaf.ensu
 pub decode_type-returns-in-Leaf-clause-reads : goal.decode_type-returns-in-Leaf-clause-reads
 decode_type-returns-in-Leaf-clause-reads g t c = rw c.in-Leaf.is c.put_leaf.ensures.reads
 
-pub decode_inside-returns-in-Err-decode_contents-clause-rules : goal.decode_inside-returns-in-Err-decode_contents-clause-rules
-decode_inside-returns-in-Err-decode_contents-clause-rules g t c = (c.in-Err-decode_contents.ensures.rules ∙ same_rules c.in-Ok.ensures.exact.2)
-
-pub decode_inside-returns-in-Err-close-clause-rules : goal.decode_inside-returns-in-Err-close-clause-rules
-decode_inside-returns-in-Err-close-clause-rules g t c = (codec_is c.in-Err-close.ensures.2 ∙ same_rules c.in-Ok.ensures.exact.5.stays)
-
 -- ---- a type
-
-pub decode_type-returns-in-Tagged-clause-reads : goal.decode_type-returns-in-Tagged-clause-reads
-decode_type-returns-in-Tagged-clause-reads g t c =
-    made_as _ tree_of (DecodesType (shape_of_type c.args.types.now c.args.below) c.args.ty.now) (DecodesTree (type_by (shape_of_type c.args.types.now c.args.below) c.args.ty.now)) c.args.decoder.now _ _
-    (λ q h. type_decodes (shape_of_type c.args.types.now c.args.below) c.args.decoder.now c.decode_inside.ensures.octets q _ c.args.ty.now h)
-    (uncounted _ tree_of (CountsElements c.args.ty.now) (DecodesInside (DecodesContents (shape_of_type c.args.types.now c.args.below) c.args.ty.now) _) (DecodesType (shape_of_type c.args.types.now c.args.below) c.args.ty.now) c.args.decoder.now _ _ _
-    (λ q h. by_prefix (shape_of_type c.args.types.now c.args.below) c.args.ty.now c.args.decoder.now q _ c.in-Tagged.tag c.in-Tagged.inner c.prefix.result c.in-Tagged.is c.prefix.ensures h) c.decode_inside.ensures.exact)
-
-pub decode_type-returns-in-Tagged-clause-exact : goal.decode_type-returns-in-Tagged-clause-exact
-decode_type-returns-in-Tagged-clause-exact g t c =
-    uncounted _ tree_of (CountsElements c.args.ty.now) (DecodesInside (DecodesContents (shape_of_type c.args.types.now c.args.below) c.args.ty.now) _) (DecodesType (shape_of_type c.args.types.now c.args.below) c.args.ty.now) c.args.decoder.now _ _ _
-    (λ q h. by_prefix (shape_of_type c.args.types.now c.args.below) c.args.ty.now c.args.decoder.now q _ c.in-Tagged.tag c.in-Tagged.inner c.prefix.result c.in-Tagged.is c.prefix.ensures h) c.decode_inside.ensures.exact
-
-pub decode_type-returns-in-Sequence-clause-reads : goal.decode_type-returns-in-Sequence-clause-reads
-decode_type-returns-in-Sequence-clause-reads g t c =
-    made_as _ tree_of (DecodesType (shape_of_type c.args.types.now c.args.below) c.args.ty.now) (DecodesTree (type_by (shape_of_type c.args.types.now c.args.below) c.args.ty.now)) c.args.decoder.now _ _
-    (λ q h. type_decodes (shape_of_type c.args.types.now c.args.below) c.args.decoder.now c.decode_inside-in-Sequence.ensures.octets q _ c.args.ty.now h)
-    (uncounted _ tree_of (CountsElements c.args.ty.now) (DecodesInside (DecodesContents (shape_of_type c.args.types.now c.args.below) c.args.ty.now) _) (DecodesType (shape_of_type c.args.types.now c.args.below) c.args.ty.now) c.args.decoder.now _ _ _
-    (λ q h. by_sequence (shape_of_type c.args.types.now c.args.below) c.args.ty.now c.args.decoder.now q _ c.in-Sequence.tag c.in-Sequence.components c.sequence.result c.in-Sequence.is c.sequence.ensures h) c.decode_inside-in-Sequence.ensures.exact)
-
-pub decode_type-returns-in-Sequence-clause-exact : goal.decode_type-returns-in-Sequence-clause-exact
-decode_type-returns-in-Sequence-clause-exact g t c =
-    uncounted _ tree_of (CountsElements c.args.ty.now) (DecodesInside (DecodesContents (shape_of_type c.args.types.now c.args.below) c.args.ty.now) _) (DecodesType (shape_of_type c.args.types.now c.args.below) c.args.ty.now) c.args.decoder.now _ _ _
-    (λ q h. by_sequence (shape_of_type c.args.types.now c.args.below) c.args.ty.now c.args.decoder.now q _ c.in-Sequence.tag c.in-Sequence.components c.sequence.result c.in-Sequence.is c.sequence.ensures h) c.decode_inside-in-Sequence.ensures.exact
-
-pub decode_type-returns-in-Set-clause-reads : goal.decode_type-returns-in-Set-clause-reads
-decode_type-returns-in-Set-clause-reads g t c =
-    made_as _ tree_of (DecodesType (shape_of_type c.args.types.now c.args.below) c.args.ty.now) (DecodesTree (type_by (shape_of_type c.args.types.now c.args.below) c.args.ty.now)) c.args.decoder.now _ _
-    (λ q h. type_decodes (shape_of_type c.args.types.now c.args.below) c.args.decoder.now c.decode_inside-in-Set.ensures.octets q _ c.args.ty.now h)
-    (uncounted _ tree_of (CountsElements c.args.ty.now) (DecodesInside (DecodesContents (shape_of_type c.args.types.now c.args.below) c.args.ty.now) _) (DecodesType (shape_of_type c.args.types.now c.args.below) c.args.ty.now) c.args.decoder.now _ _ _
-    (λ q h. by_set (shape_of_type c.args.types.now c.args.below) c.args.ty.now c.args.decoder.now q _ c.in-Set.name c.in-Set.tag c.in-Set.components c.sequence-in-Set.result c.in-Set.is c.sequence-in-Set.ensures h) c.decode_inside-in-Set.ensures.exact)
-
-pub decode_type-returns-in-Set-clause-exact : goal.decode_type-returns-in-Set-clause-exact
-decode_type-returns-in-Set-clause-exact g t c =
-    uncounted _ tree_of (CountsElements c.args.ty.now) (DecodesInside (DecodesContents (shape_of_type c.args.types.now c.args.below) c.args.ty.now) _) (DecodesType (shape_of_type c.args.types.now c.args.below) c.args.ty.now) c.args.decoder.now _ _ _
-    (λ q h. by_set (shape_of_type c.args.types.now c.args.below) c.args.ty.now c.args.decoder.now q _ c.in-Set.name c.in-Set.tag c.in-Set.components c.sequence-in-Set.result c.in-Set.is c.sequence-in-Set.ensures h) c.decode_inside-in-Set.ensures.exact
-
-pub decode_type-returns-in-SequenceOf-clause-reads : goal.decode_type-returns-in-SequenceOf-clause-reads
-decode_type-returns-in-SequenceOf-clause-reads g t c =
-    made_as _ tree_of (DecodesType (shape_of_type c.args.types.now c.args.below) c.args.ty.now) (DecodesTree (type_by (shape_of_type c.args.types.now c.args.below) c.args.ty.now)) c.args.decoder.now _ _
-    (λ q h. type_decodes (shape_of_type c.args.types.now c.args.below) c.args.decoder.now c.decode_list.ensures.octets q _ c.args.ty.now h)
-    (made_as _ tree_of (DecodesSized (DecodesContents (shape_of_type c.args.types.now c.args.below) c.args.ty.now) element_count c.in-SequenceOf.tag c.in-SequenceOf.constraints) (DecodesType (shape_of_type c.args.types.now c.args.below) c.args.ty.now) c.args.decoder.now _ _
-    (λ q h. by_list (shape_of_type c.args.types.now c.args.below) c.args.ty.now c.args.decoder.now q _ c.in-SequenceOf.tag c.in-SequenceOf.element c.in-SequenceOf.constraints c.in-SequenceOf.is h) c.decode_list.ensures.exact)
-
-pub decode_type-returns-in-SequenceOf-clause-exact : goal.decode_type-returns-in-SequenceOf-clause-exact
-decode_type-returns-in-SequenceOf-clause-exact g t c =
-    made_as _ tree_of (DecodesSized (DecodesContents (shape_of_type c.args.types.now c.args.below) c.args.ty.now) element_count c.in-SequenceOf.tag c.in-SequenceOf.constraints) (DecodesType (shape_of_type c.args.types.now c.args.below) c.args.ty.now) c.args.decoder.now _ _
-    (λ q h. by_list (shape_of_type c.args.types.now c.args.below) c.args.ty.now c.args.decoder.now q _ c.in-SequenceOf.tag c.in-SequenceOf.element c.in-SequenceOf.constraints c.in-SequenceOf.is h) c.decode_list.ensures.exact
-
-pub decode_type-returns-in-SetOf-clause-reads : goal.decode_type-returns-in-SetOf-clause-reads
-decode_type-returns-in-SetOf-clause-reads g t c =
-    made_as _ tree_of (DecodesType (shape_of_type c.args.types.now c.args.below) c.args.ty.now) (DecodesTree (type_by (shape_of_type c.args.types.now c.args.below) c.args.ty.now)) c.args.decoder.now _ _
-    (λ q h. type_decodes (shape_of_type c.args.types.now c.args.below) c.args.decoder.now c.decode_list-in-SetOf.ensures.octets q _ c.args.ty.now h)
-    (made_as _ tree_of (DecodesSized (DecodesContents (shape_of_type c.args.types.now c.args.below) c.args.ty.now) element_count c.in-SetOf.tag c.in-SetOf.constraints) (DecodesType (shape_of_type c.args.types.now c.args.below) c.args.ty.now) c.args.decoder.now _ _
-    (λ q h. by_set_of (shape_of_type c.args.types.now c.args.below) c.args.ty.now c.args.decoder.now q _ c.in-SetOf.tag c.in-SetOf.element c.in-SetOf.constraints c.in-SetOf.is h) c.decode_list-in-SetOf.ensures.exact)
-
-pub decode_type-returns-in-SetOf-clause-exact : goal.decode_type-returns-in-SetOf-clause-exact
-decode_type-returns-in-SetOf-clause-exact g t c =
-    made_as _ tree_of (DecodesSized (DecodesContents (shape_of_type c.args.types.now c.args.below) c.args.ty.now) element_count c.in-SetOf.tag c.in-SetOf.constraints) (DecodesType (shape_of_type c.args.types.now c.args.below) c.args.ty.now) c.args.decoder.now _ _
-    (λ q h. by_set_of (shape_of_type c.args.types.now c.args.below) c.args.ty.now c.args.decoder.now q _ c.in-SetOf.tag c.in-SetOf.element c.in-SetOf.constraints c.in-SetOf.is h) c.decode_list-in-SetOf.ensures.exact
 
 -- ---- components
 
@@ -1008,22 +867,6 @@ decode_choice-returns-in_err-decode_part-clause-told g t c =
     (tells_err _ _ (λ k f. weaker c.args.types.now c.args.below _ _ c.args.decoder.now c.args.decoder.now (alternative_there (shape_of_type c.args.types.now c.args.below) c.args.alternatives.now c.in-Some.number el c.args.decoder.now
     (c.in_ok-tag.tag, c.in_ok-tag.ensures.next, for_both (shape_of_type c.args.types.now c.args.below) c.args.alternatives.now c.in-Some.number c.in-Some.ensures.0 el c.in_ok-tag.tag c.in-Some.ensures.1 at)) k f) c.decode_part.new.walk.error _ c.in_err-decode_part.ensures.told)
 
-pub decode_inside-add_after-requires : goal.decode_inside-add_after-requires
-decode_inside-add_after-requires g t c =
-    λ f q.
-    let n = opened_short c.args.types.now c.args.header c.args.decoder.now c.in-Ok.ensures.octets _ _ _ c.in-Ok.ensures.exact c.args.below _ _ f c.decode_contents.new.decoder.closing c.octets_after.result
-    (ap (λ (s : State). s.closing) (contents_stay (shape_of_type c.args.types.now c.args.below) c.args.ty.now _ c.decode_contents.new.walk.error _ c.in-Err-decode_contents.ensures.exact)) c.octets_after.ensures (c.in-Err-decode_contents.ensures.told f q) in
-    omega (arith, n, c.octets_left.ensures, c.octets_left.type_inv)
-
-pub decode_inside-returns-in-Err-decode_contents-clause-told : goal.decode_inside-returns-in-Err-decode_contents-clause-told
-decode_inside-returns-in-Err-decode_contents-clause-told g t c =
-    opened c.args.types.now c.args.header c.args.decoder.now c.in-Ok.ensures.octets _ _ _ c.in-Ok.ensures.exact c.args.below c.args.ty.now _ c.decode_contents.new.decoder.closing c.octets_after.result
-    (ap (λ (s : State). s.closing) (contents_stay (shape_of_type c.args.types.now c.args.below) c.args.ty.now _ c.decode_contents.new.walk.error _ c.in-Err-decode_contents.ensures.exact)) c.octets_after.ensures _ _ c.in-Err-decode_contents.ensures.told c.add_after.ensures
-
-pub decode_contents-returns-in-Tagged-clause-told : goal.decode_contents-returns-in-Tagged-clause-told
-decode_contents-returns-in-Tagged-clause-told g t c =
-    rw c.in-Tagged.is (tells _ _ (λ k f i. i) _ _ c.decode_part.ensures.told)
-
 pub decode_elements-returns-in_err-decode_part-clause-told : goal.decode_elements-returns-in_err-decode_part-clause-told
 decode_elements-returns-in_err-decode_part-clause-told g t c =
     let i = c.loop-element.invariant.0 in
@@ -1126,26 +969,6 @@ pub decode_type-returns-in-Choice-clause-itself : goal.decode_type-returns-in-Ch
 decode_type-returns-in-Choice-clause-itself g t c =
     itself_choice (shape_of_type c.args.types.now c.args.below) c.args.ty.now c.args.decoder.now c.args.decoder.now _ c.in-Choice.name c.in-Choice.alternatives _ c.in-Choice.is c.deref-in-Choice.ensures.value _ c.decode_choice.ensures.itself
 
-pub decode_type-returns-in-Tagged-clause-itself : goal.decode_type-returns-in-Tagged-clause-itself
-decode_type-returns-in-Tagged-clause-itself g t c =
-    itself_prefix (shape_of_type c.args.types.now c.args.below) c.args.ty.now c.args.decoder.now _ _ c.in-Tagged.tag c.in-Tagged.inner c.prefix.result c.in-Tagged.is c.prefix.ensures _ c.decode_inside.ensures.itself
-
-pub decode_type-returns-in-Sequence-clause-itself : goal.decode_type-returns-in-Sequence-clause-itself
-decode_type-returns-in-Sequence-clause-itself g t c =
-    itself_sequence (shape_of_type c.args.types.now c.args.below) c.args.ty.now c.args.decoder.now _ _ c.in-Sequence.tag c.in-Sequence.components c.sequence.result c.in-Sequence.is c.sequence.ensures _ c.decode_inside-in-Sequence.ensures.itself
-
-pub decode_type-returns-in-Set-clause-itself : goal.decode_type-returns-in-Set-clause-itself
-decode_type-returns-in-Set-clause-itself g t c =
-    itself_set (shape_of_type c.args.types.now c.args.below) c.args.ty.now c.args.decoder.now _ _ c.in-Set.name c.in-Set.tag c.in-Set.components c.sequence-in-Set.result c.in-Set.is c.sequence-in-Set.ensures _ c.decode_inside-in-Set.ensures.itself
-
-pub decode_type-returns-in-SequenceOf-clause-itself : goal.decode_type-returns-in-SequenceOf-clause-itself
-decode_type-returns-in-SequenceOf-clause-itself g t c =
-    itself_list (shape_of_type c.args.types.now c.args.below) c.args.ty.now c.args.decoder.now _ _ c.in-SequenceOf.tag c.in-SequenceOf.element c.in-SequenceOf.constraints c.in-SequenceOf.is _ c.decode_list.ensures.itself
-
-pub decode_type-returns-in-SetOf-clause-itself : goal.decode_type-returns-in-SetOf-clause-itself
-decode_type-returns-in-SetOf-clause-itself g t c =
-    itself_set_of (shape_of_type c.args.types.now c.args.below) c.args.ty.now c.args.decoder.now _ _ c.in-SetOf.tag c.in-SetOf.element c.in-SetOf.constraints c.in-SetOf.is _ c.decode_list-in-SetOf.ensures.itself
-
 pub decode_choice-returns-in_err-tag-clause-itself : goal.decode_choice-returns-in_err-tag-clause-itself
 decode_choice-returns-in_err-tag-clause-itself g t c =
     rw (residual _ c.from_residual.ensures.1) (λ n. inl c.in_err-tag.ensures.exact)
@@ -1161,27 +984,6 @@ decode_choice-returns-in_err-decode_part-clause-itself g t c =
 pub decode_choice-returns-clause-itself : goal.decode_choice-returns-clause-itself
 decode_choice-returns-clause-itself g t c =
     if_err_map _ _ (λ e m n. inr (inr m)) (outcome c.choose.result c.choose.new.out c.choose.new.error) c.choose.ensures.kind
-
-pub decode_list-returns-in_err-decode_inside-clause-itself : goal.decode_list-returns-in_err-decode_inside-clause-itself
-decode_list-returns-in_err-decode_inside-clause-itself g t c =
-    rw (residual _ c.from_residual.ensures.1) (λ n. not_sized (ReadsEachPart (shape_of_type c.args.types.now c.args.below) c.args.ty.now) c.args.tag c.args.constraints.now c.list.result c.list.ensures c.args.decoder.now _ _ (c.in_err-decode_inside.ensures.itself n))
-
-pub decode_inside-returns-in-Err-clause-itself : goal.decode_inside-returns-in-Err-clause-itself
-decode_inside-returns-in-Err-clause-itself g t c =
-    (λ n. step_none (ReadsEachPart (shape_of_type c.args.types.now c.args.below) c.args.ty.now) c.args.header c.args.decoder.now _ _ c.in-Err.ensures.exact)
-
-pub decode_inside-returns-in-Err-decode_contents-clause-itself : goal.decode_inside-returns-in-Err-decode_contents-clause-itself
-decode_inside-returns-in-Err-decode_contents-clause-itself g t c =
-    λ n. step_refused (ReadsEachPart (shape_of_type c.args.types.now c.args.below) c.args.ty.now) c.args.header c.args.decoder.now _ _ _ c.in-Ok.ensures.exact _ c.decode_contents.new.decoder (c.in-Err-decode_contents.ensures.itself (unmoved _ _ _ c.add_after.ensures n))
-
-pub decode_inside-returns-in-Err-close-clause-itself : goal.decode_inside-returns-in-Err-close-clause-itself
-decode_inside-returns-in-Err-close-clause-itself g t c =
-    let w = c.in-Ok-decode_contents.ensures.exact in
-    (λ n. step_unclosed (ReadsEachPart (shape_of_type c.args.types.now c.args.below) c.args.ty.now) c.args.header c.args.decoder.now _ _ _ c.in-Ok.ensures.exact w.0 _ w.3 _ c.remaining.ensures.value _ _ c.in-Err-close.ensures)
-
-pub decode_contents-returns-in-Tagged-clause-itself : goal.decode_contents-returns-in-Tagged-clause-itself
-decode_contents-returns-in-Tagged-clause-itself g t c =
-    named _ _ _ _ c.decode_part.ensures.told
 
 pub decode_elements-returns-in_err-decode_part-clause-itself : goal.decode_elements-returns-in_err-decode_part-clause-itself
 decode_elements-returns-in_err-decode_part-clause-itself g t c =
@@ -1359,25 +1161,6 @@ pub decode_type-returns-in-Choice-clause-listed : goal.decode_type-returns-in-Ch
 decode_type-returns-in-Choice-clause-listed g t c =
     if_ok _ _ _ (λ v. choice_listed (shape_of_type c.args.types.now c.args.below) c.args.below (Inside c.args.types.now c.args.below) c.args.ty.now c.deref-in-Choice.result.now c.args.decoder.now _ _ (rw c.in-Choice.is c.deref-in-Choice.ensures.value)) c.decode_choice.ensures.listed
 
-pub decode_type-returns-in-Tagged-clause-listed : goal.decode_type-returns-in-Tagged-clause-listed
-decode_type-returns-in-Tagged-clause-listed g t c = if_ok _ _ _ (λ v. holder_listed (shape_of_type c.args.types.now c.args.below) c.args.below (Inside c.args.types.now c.args.below) c.args.ty.now c.prefix.result c.args.decoder.now _ _ (rw c.in-Tagged.is c.prefix.ensures)) c.decode_inside.ensures.listed
-
-pub decode_type-returns-in-Sequence-clause-listed : goal.decode_type-returns-in-Sequence-clause-listed
-decode_type-returns-in-Sequence-clause-listed g t c =
-    if_ok _ _ _ (λ v. holder_listed (shape_of_type c.args.types.now c.args.below) c.args.below (Inside c.args.types.now c.args.below) c.args.ty.now c.sequence.result c.args.decoder.now _ _ (rw c.in-Sequence.is c.sequence.ensures)) c.decode_inside-in-Sequence.ensures.listed
-
-pub decode_type-returns-in-Set-clause-listed : goal.decode_type-returns-in-Set-clause-listed
-decode_type-returns-in-Set-clause-listed g t c =
-    if_ok _ _ _ (λ v. holder_listed (shape_of_type c.args.types.now c.args.below) c.args.below (Inside c.args.types.now c.args.below) c.args.ty.now c.sequence-in-Set.result c.args.decoder.now _ _ (rw c.in-Set.is c.sequence-in-Set.ensures)) c.decode_inside-in-Set.ensures.listed
-
-pub decode_type-returns-in-SequenceOf-clause-listed : goal.decode_type-returns-in-SequenceOf-clause-listed
-decode_type-returns-in-SequenceOf-clause-listed g t c =
-    if_ok _ _ _ (λ v. holder_listed (shape_of_type c.args.types.now c.args.below) c.args.below (Inside c.args.types.now c.args.below) c.args.ty.now (list_header c.in-SequenceOf.tag) c.args.decoder.now _ _ (rw c.in-SequenceOf.is refl)) c.decode_list.ensures.listed
-
-pub decode_type-returns-in-SetOf-clause-listed : goal.decode_type-returns-in-SetOf-clause-listed
-decode_type-returns-in-SetOf-clause-listed g t c =
-    if_ok _ _ _ (λ v. holder_listed (shape_of_type c.args.types.now c.args.below) c.args.below (Inside c.args.types.now c.args.below) c.args.ty.now (list_header c.in-SetOf.tag) c.args.decoder.now _ _ (rw c.in-SetOf.is refl)) c.decode_list-in-SetOf.ensures.listed
-
 pub decode_choice-returns-clause-listed : goal.decode_choice-returns-clause-listed
 decode_choice-returns-clause-listed g t c =
     let el = get_or c.args.alternatives.now c.in-Some.number c.index-alternatives-number.result in
@@ -1385,18 +1168,6 @@ decode_choice-returns-clause-listed g t c =
     (read_at c.args.alternatives.now c.in-Some.number c.index-alternatives-number.result (slice_get_within c.args.alternatives.now c.in-Some.number c.in-Some.ensures.0 (sym c.in-Some.ensures.1.0)) c.index-alternatives-number.is) in
     if_any _ (alternative_listed (shape_of_type c.args.types.now c.args.below) c.args.below (Inside c.args.types.now c.args.below) c.args.alternatives.now c.in-Some.number el c.args.decoder.now _ _ _
     (c.in_ok-tag.tag, c.in_ok-tag.ensures.next, for_both (shape_of_type c.args.types.now c.args.below) c.args.alternatives.now c.in-Some.number c.in-Some.ensures.0 el c.in_ok-tag.tag c.in-Some.ensures.1 at) c.in_ok-decode_part.ensures.listed)
-
-pub decode_list-returns-clause-listed : goal.decode_list-returns-clause-listed
-decode_list-returns-clause-listed g t c =
-    header_listed (shape_of_type c.args.types.now c.args.below) c.args.below (Inside c.args.types.now c.args.below) c.list.result (list_header c.args.tag) c.args.ty.now c.args.decoder.now _ _ c.list.ensures c.in_ok-decode_inside.ensures.listed
-
-pub decode_inside-returns-in-Ok-close-clause-listed : goal.decode_inside-returns-in-Ok-close-clause-listed
-decode_inside-returns-in-Ok-close-clause-listed g t c =
-    inside_listed (shape_of_type c.args.types.now c.args.below) c.args.below (Inside c.args.types.now c.args.below) c.args.ty.now c.args.header c.args.decoder.now _ _ _ _ _ _ _ _ c.in-Ok.ensures.exact c.go_inside-after.ensures c.in-Ok-decode_contents.ensures.listed c.go_outside.ensures
-
-pub decode_contents-returns-in-Tagged-clause-listed : goal.decode_contents-returns-in-Tagged-clause-listed
-decode_contents-returns-in-Tagged-clause-listed g t c =
-    if_ok _ _ _ (λ v. tagged_listed (shape_of_type c.args.types.now c.args.below) c.args.below (Inside c.args.types.now c.args.below) c.args.ty.now c.in-Tagged.inner.0 c.args.decoder.now _ _ _ (rw c.in-Tagged.is refl)) c.decode_part.ensures.listed
 
 pub decode_elements-returns-clause-listed : goal.decode_elements-returns-clause-listed
 decode_elements-returns-clause-listed g t c = elements_listed (shape_of_type c.args.types.now c.args.below) c.args.below (Inside c.args.types.now c.args.below) c.args.element.0 c.loop-element.count c.args.decoder.now c.loop-element.decoder _ _ c.loop-element-test.ensures c.loop-element.invariant.3
@@ -1446,84 +1217,6 @@ decode_compared-returns-in-None-clause-listed g t c =
     subst (λ o. P c.args.decoder.now o) c.in-None.ensures.listed (subst (λ z. P z c.decode_value.new.walk.spans) w.1 c.decode_part.ensures.listed)
 
 -- ---- contents of each kind
-
-pub decode_contents-put_sequence-requires : goal.decode_contents-put_sequence-requires
-decode_contents-put_sequence-requires g t c = λ κs o. (search rules, (search rules, (rw c.deref.ensures.value (lawful_parts (shape_of_type c.args.types.now c.args.below) _ (seq_lawful _ _ (subst (λ n. IsReadable (type_by (shape_of_type c.args.types.now c.args.below) n)) c.in-Sequence.is c.requires.lawful))), c.requires.clear)))
-
-pub decode_contents-put_elements-requires : goal.decode_contents-put_elements-requires
-decode_contents-put_elements-requires g t c = λ κs o. (search rules, (search rules, (list_lawful _ _ c.in-SequenceOf.constraints.size (subst (λ n. IsReadable (type_by (shape_of_type c.args.types.now c.args.below) n)) c.in-SequenceOf.is c.requires.lawful), (c.requires.counts, c.requires.clear))))
-
-pub decode_contents-put_elements_in_order-requires : goal.decode_contents-put_elements_in_order-requires
-decode_contents-put_elements_in_order-requires g t c = λ κs o. (search rules, (search rules, (set_of_lawful _ _ c.in-SetOf.constraints.size (subst (λ n. IsReadable (type_by (shape_of_type c.args.types.now c.args.below) n)) c.in-SetOf.is c.requires.lawful), (c.requires.counts, c.requires.clear))))
-
-pub decode_contents-put_set-requires : goal.decode_contents-put_set-requires
-decode_contents-put_set-requires g t c = λ κs o. (search rules, (search rules, (rw c.deref-in-Set.ensures.value (named_lawful (shape_of_type c.args.types.now c.args.below) c.in-Set.tag c.in-Set.components.items _ refl (subst (λ n. IsReadable (type_by (shape_of_type c.args.types.now c.args.below) n)) c.in-Set.is c.requires.lawful)), c.requires.clear)))
-
-pub decode_contents-returns-in-Sequence-clause-exact : goal.decode_contents-returns-in-Sequence-clause-exact
-decode_contents-returns-in-Sequence-clause-exact g t c =
-    let l = c.in-Sequence.components.items in
-    rw c.in-Sequence.is (counted_nothing _ tree_of (CountsElements (Sequence c.in-Sequence.tag c.in-Sequence.components)) (Makes items (DecodesComponents (components_by (shape_of_type c.args.types.now c.args.below) l))) c.args.decoder.now (outcome c.put_sequence.result c.put_sequence.new.out c.put_sequence.new.walk.error) _ _ (λ d. tt)
-    (subst (λ l. Making g.M.Made.KEEP tree_of (Makes items (DecodesComponents (components_by (shape_of_type c.args.types.now c.args.below) l))) c.args.decoder.now (outcome c.put_sequence.result c.put_sequence.new.out c.put_sequence.new.walk.error) c.put_sequence.new.decoder) c.deref.ensures.value c.put_sequence.ensures.exact))
-
-pub decode_contents-returns-in-Sequence-clause-told : goal.decode_contents-returns-in-Sequence-clause-told
-decode_contents-returns-in-Sequence-clause-told g t c = rw c.in-Sequence.is (subst (λ l. Told (IsFaultIn c.args.types.now c.args.below (IsComponentAt (shape_of_type c.args.types.now c.args.below) l c.args.decoder.now) c.args.decoder.now c.args.decoder.now) (outcome c.put_sequence.result c.put_sequence.new.out c.put_sequence.new.walk.error) c.put_sequence.new.walk.fault) c.deref.ensures.value c.put_sequence.ensures.told)
-
-pub decode_contents-returns-in-Sequence-clause-itself : goal.decode_contents-returns-in-Sequence-clause-itself
-decode_contents-returns-in-Sequence-clause-itself g t c = rw (c.in-Sequence.is, ← c.deref.ensures.value) c.put_sequence.ensures.itself
-
-pub decode_contents-returns-in-Sequence-clause-listed : goal.decode_contents-returns-in-Sequence-clause-listed
-decode_contents-returns-in-Sequence-clause-listed g t c = if_ok _ _ _ (λ v h. contents_same (shape_of_type c.args.types.now c.args.below) c.args.below (Inside c.args.types.now c.args.below) c.args.ty.now _ c.args.decoder.now _ _ c.in-Sequence.is (components_same (shape_of_type c.args.types.now c.args.below) c.args.below (Inside c.args.types.now c.args.below) _ _ c.args.decoder.now _ _ c.deref.ensures.value h)) c.put_sequence.ensures.listed
-
-pub decode_contents-returns-in-Sequence-clause-fits : goal.decode_contents-returns-in-Sequence-clause-fits
-decode_contents-returns-in-Sequence-clause-fits g t c = λ k. rw (c.in-Sequence.is, ← c.deref.ensures.value) (c.put_sequence.ensures.fits k)
-
-pub decode_contents-returns-in-SequenceOf-clause-exact : goal.decode_contents-returns-in-SequenceOf-clause-exact
-decode_contents-returns-in-SequenceOf-clause-exact g t c = rw c.in-SequenceOf.is c.put_elements.ensures.exact
-
-pub decode_contents-returns-in-SequenceOf-clause-told : goal.decode_contents-returns-in-SequenceOf-clause-told
-decode_contents-returns-in-SequenceOf-clause-told g t c = rw c.in-SequenceOf.is c.put_elements.ensures.told
-
-pub decode_contents-returns-in-SequenceOf-clause-itself : goal.decode_contents-returns-in-SequenceOf-clause-itself
-decode_contents-returns-in-SequenceOf-clause-itself g t c = rw c.in-SequenceOf.is c.put_elements.ensures.itself
-
-pub decode_contents-returns-in-SequenceOf-clause-listed : goal.decode_contents-returns-in-SequenceOf-clause-listed
-decode_contents-returns-in-SequenceOf-clause-listed g t c = if_ok _ _ _ (λ v h. contents_same (shape_of_type c.args.types.now c.args.below) c.args.below (Inside c.args.types.now c.args.below) c.args.ty.now _ c.args.decoder.now _ _ c.in-SequenceOf.is h) c.put_elements.ensures.listed
-
-pub decode_contents-returns-in-SequenceOf-clause-fits : goal.decode_contents-returns-in-SequenceOf-clause-fits
-decode_contents-returns-in-SequenceOf-clause-fits g t c = λ k. rw c.in-SequenceOf.is (c.put_elements.ensures.fits k)
-
-pub decode_contents-returns-in-SetOf-clause-exact : goal.decode_contents-returns-in-SetOf-clause-exact
-decode_contents-returns-in-SetOf-clause-exact g t c = rw c.in-SetOf.is c.put_elements_in_order.ensures.exact
-
-pub decode_contents-returns-in-SetOf-clause-told : goal.decode_contents-returns-in-SetOf-clause-told
-decode_contents-returns-in-SetOf-clause-told g t c = rw c.in-SetOf.is c.put_elements_in_order.ensures.told
-
-pub decode_contents-returns-in-SetOf-clause-itself : goal.decode_contents-returns-in-SetOf-clause-itself
-decode_contents-returns-in-SetOf-clause-itself g t c = rw c.in-SetOf.is c.put_elements_in_order.ensures.itself
-
-pub decode_contents-returns-in-SetOf-clause-listed : goal.decode_contents-returns-in-SetOf-clause-listed
-decode_contents-returns-in-SetOf-clause-listed g t c = if_ok _ _ _ (λ v h. contents_same (shape_of_type c.args.types.now c.args.below) c.args.below (Inside c.args.types.now c.args.below) c.args.ty.now _ c.args.decoder.now _ _ c.in-SetOf.is h) c.put_elements_in_order.ensures.listed
-
-pub decode_contents-returns-in-SetOf-clause-fits : goal.decode_contents-returns-in-SetOf-clause-fits
-decode_contents-returns-in-SetOf-clause-fits g t c = λ k. rw c.in-SetOf.is (c.put_elements_in_order.ensures.fits k)
-
-pub decode_contents-returns-in-Set-clause-exact : goal.decode_contents-returns-in-Set-clause-exact
-decode_contents-returns-in-Set-clause-exact g t c =
-    let l = c.in-Set.components.items in
-    rw c.in-Set.is (counted_nothing _ tree_of (CountsElements (Set c.in-Set.name c.in-Set.tag c.in-Set.components)) (Makes items (MayRunOut (DecodesSetPartContents (is_extensible (shape_of_type c.args.types.now c.args.below) l) (components_by (shape_of_type c.args.types.now c.args.below) (named_components (shape_of_type c.args.types.now c.args.below) l)) items (names_of (named_components (shape_of_type c.args.types.now c.args.below) l))))) c.args.decoder.now (outcome c.put_set.result c.put_set.new.out c.put_set.new.walk.error) _ _ (λ d. tt)
-    (subst (λ l. Making g.M.Made.KEEP tree_of (Makes items (MayRunOut (DecodesSetPartContents (is_extensible (shape_of_type c.args.types.now c.args.below) l) (components_by (shape_of_type c.args.types.now c.args.below) (named_components (shape_of_type c.args.types.now c.args.below) l)) items (names_of (named_components (shape_of_type c.args.types.now c.args.below) l))))) c.args.decoder.now (outcome c.put_set.result c.put_set.new.out c.put_set.new.walk.error) c.put_set.new.decoder) c.deref-in-Set.ensures.value c.put_set.ensures.exact))
-
-pub decode_contents-returns-in-Set-clause-told : goal.decode_contents-returns-in-Set-clause-told
-decode_contents-returns-in-Set-clause-told g t c = rw c.in-Set.is (subst (λ l. Told (IsFaultIn c.args.types.now c.args.below (IsMemberAfter (shape_of_type c.args.types.now c.args.below) (is_extensible (shape_of_type c.args.types.now c.args.below) l) (named_components (shape_of_type c.args.types.now c.args.below) l) (last_type l) c.args.decoder.now) c.args.decoder.now c.args.decoder.now) (outcome c.put_set.result c.put_set.new.out c.put_set.new.walk.error) c.put_set.new.walk.fault) c.deref-in-Set.ensures.value c.put_set.ensures.told)
-
-pub decode_contents-returns-in-Set-clause-itself : goal.decode_contents-returns-in-Set-clause-itself
-decode_contents-returns-in-Set-clause-itself g t c = rw (c.in-Set.is, ← c.deref-in-Set.ensures.value) c.put_set.ensures.itself
-
-pub decode_contents-returns-in-Set-clause-listed : goal.decode_contents-returns-in-Set-clause-listed
-decode_contents-returns-in-Set-clause-listed g t c = if_ok _ _ _ (λ v h. contents_same (shape_of_type c.args.types.now c.args.below) c.args.below (Inside c.args.types.now c.args.below) c.args.ty.now _ c.args.decoder.now _ _ c.in-Set.is (subst (λ l. Lists (λ n es. MembersListed (shape_of_type c.args.types.now c.args.below) c.args.below (Inside c.args.types.now c.args.below) (is_extensible (shape_of_type c.args.types.now c.args.below) l) (named_components (shape_of_type c.args.types.now c.args.below) l) (last_type l) n c.args.decoder.now es) c.args.walk.now.spans c.put_set.new.walk.spans) c.deref-in-Set.ensures.value h)) c.put_set.ensures.listed
-
-pub decode_contents-returns-in-Set-clause-fits : goal.decode_contents-returns-in-Set-clause-fits
-decode_contents-returns-in-Set-clause-fits g t c = λ k. rw (c.in-Set.is, ← c.deref-in-Set.ensures.value) (c.put_set.ensures.fits k)
 
 pub put_sequence-decode_sequence-requires : goal.put_sequence-decode_sequence-requires
 put_sequence-decode_sequence-requires g t c = λ κs o. (search rules, (search rules, (c.requires.lawful, (c.in_ok-values.ensures.ok, c.requires.clear))))
@@ -1619,3 +1312,631 @@ put_set-returns-clause-listed g t c = subst (λ k. Lists (λ n es. MembersListed
 
 pub decode_present-decode_stated-requires : goal.decode_present-decode_stated-requires
 decode_present-decode_stated-requires g t c = λ κs o. (search rules, (search rules, (c.in-Default.is, (c.if-not-is_strict.ensures, (c.requires.lawful, c.requires.clear)))))
+
+-- ---- a value that holds others: tagged
+
+pub decode_tagged_inside-returns-in-Err-clause-exact :
+    goal.decode_tagged_inside-returns-in-Err-clause-exact
+decode_tagged_inside-returns-in-Err-clause-exact g t c =
+    (step_none _ c.args.header c.args.decoder.now _ _ c.in-Err.ensures.exact)
+
+pub decode_tagged_inside-returns-in-Err-put_tagged-clause-exact :
+    goal.decode_tagged_inside-returns-in-Err-put_tagged-clause-exact
+decode_tagged_inside-returns-in-Err-put_tagged-clause-exact g t c =
+    (step_refused _ c.args.header c.args.decoder.now _ _ _ c.in-Ok.ensures.exact _ _ c.in-Err-put_tagged.ensures.exact)
+
+pub decode_tagged_inside-returns-in-Err-close-clause-exact : goal.decode_tagged_inside-returns-in-Err-close-clause-exact
+decode_tagged_inside-returns-in-Err-close-clause-exact g t c =
+    let w = c.in-Ok-put_tagged.ensures.exact in
+    (step_unclosed _ c.args.header c.args.decoder.now _ _ _ c.in-Ok.ensures.exact w.0 _ w.2 _ c.remaining.ensures.value _ _ c.in-Err-close.ensures)
+
+pub decode_tagged_inside-close-requires : goal.decode_tagged_inside-close-requires
+decode_tagged_inside-close-requires g t c = λ x.
+    let w = c.in-Ok-put_tagged.ensures.exact in
+    step_end (DecodesContents (shape_of_type c.args.types.now c.args.below) (Tagged eoc c.args.id)) c.args.header c.args.decoder.now _ _ _ c.in-Ok.ensures.exact _ _
+    (contents_end (shape_of_type c.args.types.now c.args.below) (Tagged eoc c.args.id) _ w.0 _ w.2) c.remaining.ensures.value x
+
+pub decode_tagged_inside-returns-in-Ok-close-clause-exact : goal.decode_tagged_inside-returns-in-Ok-close-clause-exact
+decode_tagged_inside-returns-in-Ok-close-clause-exact g t c =
+    let w = c.in-Ok-put_tagged.ensures.exact in
+    (w.0, w.1, step_closed _ c.args.header c.args.decoder.now _ _ _ c.in-Ok.ensures.exact w.0 _ w.2 _ c.remaining.ensures.value _ c.in-Ok-close.ensures)
+
+pub decode_tagged_inside-returns-in-Err-clause-rules : goal.decode_tagged_inside-returns-in-Err-clause-rules
+decode_tagged_inside-returns-in-Err-clause-rules g t c = (codec_is c.in-Err.ensures.exact.2)
+
+pub decode_tagged_inside-returns-in-Err-put_tagged-clause-rules : goal.decode_tagged_inside-returns-in-Err-put_tagged-clause-rules
+decode_tagged_inside-returns-in-Err-put_tagged-clause-rules g t c = (c.in-Err-put_tagged.ensures.rules ∙ same_rules c.in-Ok.ensures.exact.2)
+
+pub decode_tagged_inside-returns-in-Err-close-clause-rules : goal.decode_tagged_inside-returns-in-Err-close-clause-rules
+decode_tagged_inside-returns-in-Err-close-clause-rules g t c = (codec_is c.in-Err-close.ensures.2 ∙ same_rules c.in-Ok.ensures.exact.5.stays)
+
+pub decode_tagged_inside-add_after-requires : goal.decode_tagged_inside-add_after-requires
+decode_tagged_inside-add_after-requires g t c =
+    λ f q.
+    let n = opened_short c.args.types.now c.args.header c.args.decoder.now c.in-Ok.ensures.octets _ _ _ c.in-Ok.ensures.exact c.args.below _ _ f c.put_tagged.new.decoder.closing c.octets_after.result
+    (ap (λ (s : State). s.closing) (contents_stay (shape_of_type c.args.types.now c.args.below) (Tagged eoc c.args.id) _ c.put_tagged.new.walk.error _ c.in-Err-put_tagged.ensures.exact)) c.octets_after.ensures (c.in-Err-put_tagged.ensures.told f q) in
+    omega (arith, n, c.octets_left.ensures, c.octets_left.type_inv)
+
+pub decode_tagged_inside-returns-in-Err-put_tagged-clause-told : goal.decode_tagged_inside-returns-in-Err-put_tagged-clause-told
+decode_tagged_inside-returns-in-Err-put_tagged-clause-told g t c =
+    opened c.args.types.now c.args.header c.args.decoder.now c.in-Ok.ensures.octets _ _ _ c.in-Ok.ensures.exact c.args.below (Tagged eoc c.args.id) _ c.put_tagged.new.decoder.closing c.octets_after.result
+    (ap (λ (s : State). s.closing) (contents_stay (shape_of_type c.args.types.now c.args.below) (Tagged eoc c.args.id) _ c.put_tagged.new.walk.error _ c.in-Err-put_tagged.ensures.exact)) c.octets_after.ensures _ _ c.in-Err-put_tagged.ensures.told c.add_after.ensures
+
+pub decode_tagged_inside-returns-in-Err-clause-itself : goal.decode_tagged_inside-returns-in-Err-clause-itself
+decode_tagged_inside-returns-in-Err-clause-itself g t c =
+    (λ n. step_none (ReadsEachPart (shape_of_type c.args.types.now c.args.below) (Tagged eoc c.args.id)) c.args.header c.args.decoder.now _ _ c.in-Err.ensures.exact)
+
+pub decode_tagged_inside-returns-in-Err-put_tagged-clause-itself : goal.decode_tagged_inside-returns-in-Err-put_tagged-clause-itself
+decode_tagged_inside-returns-in-Err-put_tagged-clause-itself g t c =
+    λ n. step_refused (ReadsEachPart (shape_of_type c.args.types.now c.args.below) (Tagged eoc c.args.id)) c.args.header c.args.decoder.now _ _ _ c.in-Ok.ensures.exact _ c.put_tagged.new.decoder (c.in-Err-put_tagged.ensures.itself (unmoved _ _ _ c.add_after.ensures n))
+
+pub decode_tagged_inside-returns-in-Err-close-clause-itself : goal.decode_tagged_inside-returns-in-Err-close-clause-itself
+decode_tagged_inside-returns-in-Err-close-clause-itself g t c =
+    let w = c.in-Ok-put_tagged.ensures.exact in
+    (λ n. step_unclosed (ReadsEachPart (shape_of_type c.args.types.now c.args.below) (Tagged eoc c.args.id)) c.args.header c.args.decoder.now _ _ _ c.in-Ok.ensures.exact w.0 _ w.2 _ c.remaining.ensures.value _ _ c.in-Err-close.ensures)
+
+pub decode_tagged_inside-returns-in-Ok-close-clause-listed : goal.decode_tagged_inside-returns-in-Ok-close-clause-listed
+decode_tagged_inside-returns-in-Ok-close-clause-listed g t c =
+    inside_listed (shape_of_type c.args.types.now c.args.below) c.args.below (Inside c.args.types.now c.args.below) (Tagged eoc c.args.id) c.args.header c.args.decoder.now _ _ _ _ _ _ _ _ c.in-Ok.ensures.exact c.go_inside-after.ensures c.in-Ok-put_tagged.ensures.listed c.go_outside.ensures
+
+-- ---- a value that holds others: record
+
+pub decode_record_inside-returns-in-Err-clause-exact :
+    goal.decode_record_inside-returns-in-Err-clause-exact
+decode_record_inside-returns-in-Err-clause-exact g t c =
+    (step_none _ c.args.header c.args.decoder.now _ _ c.in-Err.ensures.exact)
+
+pub decode_record_inside-returns-in-Err-put_record-clause-exact :
+    goal.decode_record_inside-returns-in-Err-put_record-clause-exact
+decode_record_inside-returns-in-Err-put_record-clause-exact g t c =
+    (step_refused _ c.args.header c.args.decoder.now _ _ _ c.in-Ok.ensures.exact _ _ c.in-Err-put_record.ensures.exact)
+
+pub decode_record_inside-returns-in-Err-close-clause-exact : goal.decode_record_inside-returns-in-Err-close-clause-exact
+decode_record_inside-returns-in-Err-close-clause-exact g t c =
+    let w = c.in-Ok-put_record.ensures.exact in
+    (step_unclosed _ c.args.header c.args.decoder.now _ _ _ c.in-Ok.ensures.exact w.0 _ w.2 _ c.remaining.ensures.value _ _ c.in-Err-close.ensures)
+
+pub decode_record_inside-close-requires : goal.decode_record_inside-close-requires
+decode_record_inside-close-requires g t c = λ x.
+    let w = c.in-Ok-put_record.ensures.exact in
+    step_end (DecodesContents (shape_of_type c.args.types.now c.args.below) (Sequence eoc c.args.components.now)) c.args.header c.args.decoder.now _ _ _ c.in-Ok.ensures.exact _ _
+    (contents_end (shape_of_type c.args.types.now c.args.below) (Sequence eoc c.args.components.now) _ w.0 _ w.2) c.remaining.ensures.value x
+
+pub decode_record_inside-returns-in-Ok-close-clause-exact : goal.decode_record_inside-returns-in-Ok-close-clause-exact
+decode_record_inside-returns-in-Ok-close-clause-exact g t c =
+    let w = c.in-Ok-put_record.ensures.exact in
+    (w.0, w.1, step_closed _ c.args.header c.args.decoder.now _ _ _ c.in-Ok.ensures.exact w.0 _ w.2 _ c.remaining.ensures.value _ c.in-Ok-close.ensures)
+
+pub decode_record_inside-returns-in-Err-clause-rules : goal.decode_record_inside-returns-in-Err-clause-rules
+decode_record_inside-returns-in-Err-clause-rules g t c = (codec_is c.in-Err.ensures.exact.2)
+
+pub decode_record_inside-returns-in-Err-put_record-clause-rules : goal.decode_record_inside-returns-in-Err-put_record-clause-rules
+decode_record_inside-returns-in-Err-put_record-clause-rules g t c = (c.in-Err-put_record.ensures.rules ∙ same_rules c.in-Ok.ensures.exact.2)
+
+pub decode_record_inside-returns-in-Err-close-clause-rules : goal.decode_record_inside-returns-in-Err-close-clause-rules
+decode_record_inside-returns-in-Err-close-clause-rules g t c = (codec_is c.in-Err-close.ensures.2 ∙ same_rules c.in-Ok.ensures.exact.5.stays)
+
+pub decode_record_inside-add_after-requires : goal.decode_record_inside-add_after-requires
+decode_record_inside-add_after-requires g t c =
+    λ f q.
+    let n = opened_short c.args.types.now c.args.header c.args.decoder.now c.in-Ok.ensures.octets _ _ _ c.in-Ok.ensures.exact c.args.below _ _ f c.put_record.new.decoder.closing c.octets_after.result
+    (ap (λ (s : State). s.closing) (contents_stay (shape_of_type c.args.types.now c.args.below) (Sequence eoc c.args.components.now) _ c.put_record.new.walk.error _ c.in-Err-put_record.ensures.exact)) c.octets_after.ensures (c.in-Err-put_record.ensures.told f q) in
+    omega (arith, n, c.octets_left.ensures, c.octets_left.type_inv)
+
+pub decode_record_inside-returns-in-Err-put_record-clause-told : goal.decode_record_inside-returns-in-Err-put_record-clause-told
+decode_record_inside-returns-in-Err-put_record-clause-told g t c =
+    opened c.args.types.now c.args.header c.args.decoder.now c.in-Ok.ensures.octets _ _ _ c.in-Ok.ensures.exact c.args.below (Sequence eoc c.args.components.now) _ c.put_record.new.decoder.closing c.octets_after.result
+    (ap (λ (s : State). s.closing) (contents_stay (shape_of_type c.args.types.now c.args.below) (Sequence eoc c.args.components.now) _ c.put_record.new.walk.error _ c.in-Err-put_record.ensures.exact)) c.octets_after.ensures _ _ c.in-Err-put_record.ensures.told c.add_after.ensures
+
+pub decode_record_inside-returns-in-Err-clause-itself : goal.decode_record_inside-returns-in-Err-clause-itself
+decode_record_inside-returns-in-Err-clause-itself g t c =
+    (λ n. step_none (ReadsEachPart (shape_of_type c.args.types.now c.args.below) (Sequence eoc c.args.components.now)) c.args.header c.args.decoder.now _ _ c.in-Err.ensures.exact)
+
+pub decode_record_inside-returns-in-Err-put_record-clause-itself : goal.decode_record_inside-returns-in-Err-put_record-clause-itself
+decode_record_inside-returns-in-Err-put_record-clause-itself g t c =
+    λ n. step_refused (ReadsEachPart (shape_of_type c.args.types.now c.args.below) (Sequence eoc c.args.components.now)) c.args.header c.args.decoder.now _ _ _ c.in-Ok.ensures.exact _ c.put_record.new.decoder (c.in-Err-put_record.ensures.itself (unmoved _ _ _ c.add_after.ensures n))
+
+pub decode_record_inside-returns-in-Err-close-clause-itself : goal.decode_record_inside-returns-in-Err-close-clause-itself
+decode_record_inside-returns-in-Err-close-clause-itself g t c =
+    let w = c.in-Ok-put_record.ensures.exact in
+    (λ n. step_unclosed (ReadsEachPart (shape_of_type c.args.types.now c.args.below) (Sequence eoc c.args.components.now)) c.args.header c.args.decoder.now _ _ _ c.in-Ok.ensures.exact w.0 _ w.2 _ c.remaining.ensures.value _ _ c.in-Err-close.ensures)
+
+pub decode_record_inside-returns-in-Ok-close-clause-listed : goal.decode_record_inside-returns-in-Ok-close-clause-listed
+decode_record_inside-returns-in-Ok-close-clause-listed g t c =
+    inside_listed (shape_of_type c.args.types.now c.args.below) c.args.below (Inside c.args.types.now c.args.below) (Sequence eoc c.args.components.now) c.args.header c.args.decoder.now _ _ _ _ _ _ _ _ c.in-Ok.ensures.exact c.go_inside-after.ensures c.in-Ok-put_record.ensures.listed c.go_outside.ensures
+
+-- ---- a value that holds others: members
+
+pub decode_members_inside-returns-in-Err-clause-exact :
+    goal.decode_members_inside-returns-in-Err-clause-exact
+decode_members_inside-returns-in-Err-clause-exact g t c =
+    (step_none _ c.args.header c.args.decoder.now _ _ c.in-Err.ensures.exact)
+
+pub decode_members_inside-returns-in-Err-put_members-clause-exact :
+    goal.decode_members_inside-returns-in-Err-put_members-clause-exact
+decode_members_inside-returns-in-Err-put_members-clause-exact g t c =
+    (step_refused _ c.args.header c.args.decoder.now _ _ _ c.in-Ok.ensures.exact _ _ c.in-Err-put_members.ensures.exact)
+
+pub decode_members_inside-returns-in-Err-close-clause-exact : goal.decode_members_inside-returns-in-Err-close-clause-exact
+decode_members_inside-returns-in-Err-close-clause-exact g t c =
+    let w = c.in-Ok-put_members.ensures.exact in
+    (step_unclosed _ c.args.header c.args.decoder.now _ _ _ c.in-Ok.ensures.exact w.0 _ w.2 _ c.remaining.ensures.value _ _ c.in-Err-close.ensures)
+
+pub decode_members_inside-close-requires : goal.decode_members_inside-close-requires
+decode_members_inside-close-requires g t c = λ x.
+    let w = c.in-Ok-put_members.ensures.exact in
+    step_end (DecodesContents (shape_of_type c.args.types.now c.args.below) (Set c.args.name.now eoc c.args.components.now)) c.args.header c.args.decoder.now _ _ _ c.in-Ok.ensures.exact _ _
+    (contents_end (shape_of_type c.args.types.now c.args.below) (Set c.args.name.now eoc c.args.components.now) _ w.0 _ w.2) c.remaining.ensures.value x
+
+pub decode_members_inside-returns-in-Ok-close-clause-exact : goal.decode_members_inside-returns-in-Ok-close-clause-exact
+decode_members_inside-returns-in-Ok-close-clause-exact g t c =
+    let w = c.in-Ok-put_members.ensures.exact in
+    (w.0, w.1, step_closed _ c.args.header c.args.decoder.now _ _ _ c.in-Ok.ensures.exact w.0 _ w.2 _ c.remaining.ensures.value _ c.in-Ok-close.ensures)
+
+pub decode_members_inside-returns-in-Err-clause-rules : goal.decode_members_inside-returns-in-Err-clause-rules
+decode_members_inside-returns-in-Err-clause-rules g t c = (codec_is c.in-Err.ensures.exact.2)
+
+pub decode_members_inside-returns-in-Err-put_members-clause-rules : goal.decode_members_inside-returns-in-Err-put_members-clause-rules
+decode_members_inside-returns-in-Err-put_members-clause-rules g t c = (c.in-Err-put_members.ensures.rules ∙ same_rules c.in-Ok.ensures.exact.2)
+
+pub decode_members_inside-returns-in-Err-close-clause-rules : goal.decode_members_inside-returns-in-Err-close-clause-rules
+decode_members_inside-returns-in-Err-close-clause-rules g t c = (codec_is c.in-Err-close.ensures.2 ∙ same_rules c.in-Ok.ensures.exact.5.stays)
+
+pub decode_members_inside-add_after-requires : goal.decode_members_inside-add_after-requires
+decode_members_inside-add_after-requires g t c =
+    λ f q.
+    let n = opened_short c.args.types.now c.args.header c.args.decoder.now c.in-Ok.ensures.octets _ _ _ c.in-Ok.ensures.exact c.args.below _ _ f c.put_members.new.decoder.closing c.octets_after.result
+    (ap (λ (s : State). s.closing) (contents_stay (shape_of_type c.args.types.now c.args.below) (Set c.args.name.now eoc c.args.components.now) _ c.put_members.new.walk.error _ c.in-Err-put_members.ensures.exact)) c.octets_after.ensures (c.in-Err-put_members.ensures.told f q) in
+    omega (arith, n, c.octets_left.ensures, c.octets_left.type_inv)
+
+pub decode_members_inside-returns-in-Err-put_members-clause-told : goal.decode_members_inside-returns-in-Err-put_members-clause-told
+decode_members_inside-returns-in-Err-put_members-clause-told g t c =
+    opened c.args.types.now c.args.header c.args.decoder.now c.in-Ok.ensures.octets _ _ _ c.in-Ok.ensures.exact c.args.below (Set c.args.name.now eoc c.args.components.now) _ c.put_members.new.decoder.closing c.octets_after.result
+    (ap (λ (s : State). s.closing) (contents_stay (shape_of_type c.args.types.now c.args.below) (Set c.args.name.now eoc c.args.components.now) _ c.put_members.new.walk.error _ c.in-Err-put_members.ensures.exact)) c.octets_after.ensures _ _ c.in-Err-put_members.ensures.told c.add_after.ensures
+
+pub decode_members_inside-returns-in-Err-clause-itself : goal.decode_members_inside-returns-in-Err-clause-itself
+decode_members_inside-returns-in-Err-clause-itself g t c =
+    (λ n. step_none (ReadsEachPart (shape_of_type c.args.types.now c.args.below) (Set c.args.name.now eoc c.args.components.now)) c.args.header c.args.decoder.now _ _ c.in-Err.ensures.exact)
+
+pub decode_members_inside-returns-in-Err-put_members-clause-itself : goal.decode_members_inside-returns-in-Err-put_members-clause-itself
+decode_members_inside-returns-in-Err-put_members-clause-itself g t c =
+    λ n. step_refused (ReadsEachPart (shape_of_type c.args.types.now c.args.below) (Set c.args.name.now eoc c.args.components.now)) c.args.header c.args.decoder.now _ _ _ c.in-Ok.ensures.exact _ c.put_members.new.decoder (c.in-Err-put_members.ensures.itself (unmoved _ _ _ c.add_after.ensures n))
+
+pub decode_members_inside-returns-in-Err-close-clause-itself : goal.decode_members_inside-returns-in-Err-close-clause-itself
+decode_members_inside-returns-in-Err-close-clause-itself g t c =
+    let w = c.in-Ok-put_members.ensures.exact in
+    (λ n. step_unclosed (ReadsEachPart (shape_of_type c.args.types.now c.args.below) (Set c.args.name.now eoc c.args.components.now)) c.args.header c.args.decoder.now _ _ _ c.in-Ok.ensures.exact w.0 _ w.2 _ c.remaining.ensures.value _ _ c.in-Err-close.ensures)
+
+pub decode_members_inside-returns-in-Ok-close-clause-listed : goal.decode_members_inside-returns-in-Ok-close-clause-listed
+decode_members_inside-returns-in-Ok-close-clause-listed g t c =
+    inside_listed (shape_of_type c.args.types.now c.args.below) c.args.below (Inside c.args.types.now c.args.below) (Set c.args.name.now eoc c.args.components.now) c.args.header c.args.decoder.now _ _ _ _ _ _ _ _ c.in-Ok.ensures.exact c.go_inside-after.ensures c.in-Ok-put_members.ensures.listed c.go_outside.ensures
+
+-- ---- a value that holds others: list
+
+pub decode_list_inside-returns-in-Err-clause-exact :
+    goal.decode_list_inside-returns-in-Err-clause-exact
+decode_list_inside-returns-in-Err-clause-exact g t c =
+    (step_none _ c.args.header c.args.decoder.now _ _ c.in-Err.ensures.exact)
+
+pub decode_list_inside-returns-in-Err-put_elements-clause-exact :
+    goal.decode_list_inside-returns-in-Err-put_elements-clause-exact
+decode_list_inside-returns-in-Err-put_elements-clause-exact g t c =
+    (step_refused _ c.args.header c.args.decoder.now _ _ _ c.in-Ok.ensures.exact _ _ c.in-Err-put_elements.ensures.exact)
+
+pub decode_list_inside-returns-in-Err-close-clause-exact : goal.decode_list_inside-returns-in-Err-close-clause-exact
+decode_list_inside-returns-in-Err-close-clause-exact g t c =
+    let w = c.in-Ok-put_elements.ensures.exact in
+    (step_unclosed _ c.args.header c.args.decoder.now _ _ _ c.in-Ok.ensures.exact w.0 _ w.3 _ c.remaining.ensures.value _ _ c.in-Err-close.ensures)
+
+pub decode_list_inside-close-requires : goal.decode_list_inside-close-requires
+decode_list_inside-close-requires g t c = λ x.
+    let w = c.in-Ok-put_elements.ensures.exact in
+    step_end (DecodesContents (shape_of_type c.args.types.now c.args.below) (SequenceOf eoc c.args.element unconstrained)) c.args.header c.args.decoder.now _ _ _ c.in-Ok.ensures.exact _ _
+    (contents_end (shape_of_type c.args.types.now c.args.below) (SequenceOf eoc c.args.element unconstrained) _ w.0 _ w.3) c.remaining.ensures.value x
+
+pub decode_list_inside-returns-in-Ok-close-clause-exact : goal.decode_list_inside-returns-in-Ok-close-clause-exact
+decode_list_inside-returns-in-Ok-close-clause-exact g t c =
+    let w = c.in-Ok-put_elements.ensures.exact in
+    (w.0, w.1, w.2, step_closed _ c.args.header c.args.decoder.now _ _ _ c.in-Ok.ensures.exact w.0 _ w.3 _ c.remaining.ensures.value _ c.in-Ok-close.ensures)
+
+pub decode_list_inside-returns-in-Err-clause-rules : goal.decode_list_inside-returns-in-Err-clause-rules
+decode_list_inside-returns-in-Err-clause-rules g t c = (codec_is c.in-Err.ensures.exact.2)
+
+pub decode_list_inside-returns-in-Err-put_elements-clause-rules : goal.decode_list_inside-returns-in-Err-put_elements-clause-rules
+decode_list_inside-returns-in-Err-put_elements-clause-rules g t c = (c.in-Err-put_elements.ensures.rules ∙ same_rules c.in-Ok.ensures.exact.2)
+
+pub decode_list_inside-returns-in-Err-close-clause-rules : goal.decode_list_inside-returns-in-Err-close-clause-rules
+decode_list_inside-returns-in-Err-close-clause-rules g t c = (codec_is c.in-Err-close.ensures.2 ∙ same_rules c.in-Ok.ensures.exact.5.stays)
+
+pub decode_list_inside-add_after-requires : goal.decode_list_inside-add_after-requires
+decode_list_inside-add_after-requires g t c =
+    λ f q.
+    let n = opened_short c.args.types.now c.args.header c.args.decoder.now c.in-Ok.ensures.octets _ _ _ c.in-Ok.ensures.exact c.args.below _ _ f c.put_elements.new.decoder.closing c.octets_after.result
+    (ap (λ (s : State). s.closing) (contents_stay (shape_of_type c.args.types.now c.args.below) (SequenceOf eoc c.args.element unconstrained) _ c.put_elements.new.walk.error _ c.in-Err-put_elements.ensures.exact)) c.octets_after.ensures (c.in-Err-put_elements.ensures.told f q) in
+    omega (arith, n, c.octets_left.ensures, c.octets_left.type_inv)
+
+pub decode_list_inside-returns-in-Err-put_elements-clause-told : goal.decode_list_inside-returns-in-Err-put_elements-clause-told
+decode_list_inside-returns-in-Err-put_elements-clause-told g t c =
+    opened c.args.types.now c.args.header c.args.decoder.now c.in-Ok.ensures.octets _ _ _ c.in-Ok.ensures.exact c.args.below (SequenceOf eoc c.args.element unconstrained) _ c.put_elements.new.decoder.closing c.octets_after.result
+    (ap (λ (s : State). s.closing) (contents_stay (shape_of_type c.args.types.now c.args.below) (SequenceOf eoc c.args.element unconstrained) _ c.put_elements.new.walk.error _ c.in-Err-put_elements.ensures.exact)) c.octets_after.ensures _ _ c.in-Err-put_elements.ensures.told c.add_after.ensures
+
+pub decode_list_inside-returns-in-Err-clause-itself : goal.decode_list_inside-returns-in-Err-clause-itself
+decode_list_inside-returns-in-Err-clause-itself g t c =
+    (λ n. step_none (ReadsEachPart (shape_of_type c.args.types.now c.args.below) (SequenceOf eoc c.args.element unconstrained)) c.args.header c.args.decoder.now _ _ c.in-Err.ensures.exact)
+
+pub decode_list_inside-returns-in-Err-put_elements-clause-itself : goal.decode_list_inside-returns-in-Err-put_elements-clause-itself
+decode_list_inside-returns-in-Err-put_elements-clause-itself g t c =
+    λ n. step_refused (ReadsEachPart (shape_of_type c.args.types.now c.args.below) (SequenceOf eoc c.args.element unconstrained)) c.args.header c.args.decoder.now _ _ _ c.in-Ok.ensures.exact _ c.put_elements.new.decoder (c.in-Err-put_elements.ensures.itself (unmoved _ _ _ c.add_after.ensures n))
+
+pub decode_list_inside-returns-in-Err-close-clause-itself : goal.decode_list_inside-returns-in-Err-close-clause-itself
+decode_list_inside-returns-in-Err-close-clause-itself g t c =
+    let w = c.in-Ok-put_elements.ensures.exact in
+    (λ n. step_unclosed (ReadsEachPart (shape_of_type c.args.types.now c.args.below) (SequenceOf eoc c.args.element unconstrained)) c.args.header c.args.decoder.now _ _ _ c.in-Ok.ensures.exact w.0 _ w.3 _ c.remaining.ensures.value _ _ c.in-Err-close.ensures)
+
+pub decode_list_inside-returns-in-Ok-close-clause-listed : goal.decode_list_inside-returns-in-Ok-close-clause-listed
+decode_list_inside-returns-in-Ok-close-clause-listed g t c =
+    inside_listed (shape_of_type c.args.types.now c.args.below) c.args.below (Inside c.args.types.now c.args.below) (SequenceOf eoc c.args.element unconstrained) c.args.header c.args.decoder.now _ _ _ _ _ _ _ _ c.in-Ok.ensures.exact c.go_inside-after.ensures c.in-Ok-put_elements.ensures.listed c.go_outside.ensures
+
+-- ---- a value that holds others: set_of
+
+pub decode_set_of_inside-returns-in-Err-clause-exact :
+    goal.decode_set_of_inside-returns-in-Err-clause-exact
+decode_set_of_inside-returns-in-Err-clause-exact g t c =
+    (step_none _ c.args.header c.args.decoder.now _ _ c.in-Err.ensures.exact)
+
+pub decode_set_of_inside-returns-in-Err-put_elements_in_order-clause-exact :
+    goal.decode_set_of_inside-returns-in-Err-put_elements_in_order-clause-exact
+decode_set_of_inside-returns-in-Err-put_elements_in_order-clause-exact g t c =
+    (step_refused _ c.args.header c.args.decoder.now _ _ _ c.in-Ok.ensures.exact _ _ c.in-Err-put_elements_in_order.ensures.exact)
+
+pub decode_set_of_inside-returns-in-Err-close-clause-exact : goal.decode_set_of_inside-returns-in-Err-close-clause-exact
+decode_set_of_inside-returns-in-Err-close-clause-exact g t c =
+    let w = c.in-Ok-put_elements_in_order.ensures.exact in
+    (step_unclosed _ c.args.header c.args.decoder.now _ _ _ c.in-Ok.ensures.exact w.0 _ w.3 _ c.remaining.ensures.value _ _ c.in-Err-close.ensures)
+
+pub decode_set_of_inside-close-requires : goal.decode_set_of_inside-close-requires
+decode_set_of_inside-close-requires g t c = λ x.
+    let w = c.in-Ok-put_elements_in_order.ensures.exact in
+    step_end (DecodesContents (shape_of_type c.args.types.now c.args.below) (SetOf eoc c.args.element unconstrained)) c.args.header c.args.decoder.now _ _ _ c.in-Ok.ensures.exact _ _
+    (contents_end (shape_of_type c.args.types.now c.args.below) (SetOf eoc c.args.element unconstrained) _ w.0 _ w.3) c.remaining.ensures.value x
+
+pub decode_set_of_inside-returns-in-Ok-close-clause-exact : goal.decode_set_of_inside-returns-in-Ok-close-clause-exact
+decode_set_of_inside-returns-in-Ok-close-clause-exact g t c =
+    let w = c.in-Ok-put_elements_in_order.ensures.exact in
+    (w.0, w.1, w.2, step_closed _ c.args.header c.args.decoder.now _ _ _ c.in-Ok.ensures.exact w.0 _ w.3 _ c.remaining.ensures.value _ c.in-Ok-close.ensures)
+
+pub decode_set_of_inside-returns-in-Err-clause-rules : goal.decode_set_of_inside-returns-in-Err-clause-rules
+decode_set_of_inside-returns-in-Err-clause-rules g t c = (codec_is c.in-Err.ensures.exact.2)
+
+pub decode_set_of_inside-returns-in-Err-put_elements_in_order-clause-rules : goal.decode_set_of_inside-returns-in-Err-put_elements_in_order-clause-rules
+decode_set_of_inside-returns-in-Err-put_elements_in_order-clause-rules g t c = (c.in-Err-put_elements_in_order.ensures.rules ∙ same_rules c.in-Ok.ensures.exact.2)
+
+pub decode_set_of_inside-returns-in-Err-close-clause-rules : goal.decode_set_of_inside-returns-in-Err-close-clause-rules
+decode_set_of_inside-returns-in-Err-close-clause-rules g t c = (codec_is c.in-Err-close.ensures.2 ∙ same_rules c.in-Ok.ensures.exact.5.stays)
+
+pub decode_set_of_inside-add_after-requires : goal.decode_set_of_inside-add_after-requires
+decode_set_of_inside-add_after-requires g t c =
+    λ f q.
+    let n = opened_short c.args.types.now c.args.header c.args.decoder.now c.in-Ok.ensures.octets _ _ _ c.in-Ok.ensures.exact c.args.below _ _ f c.put_elements_in_order.new.decoder.closing c.octets_after.result
+    (ap (λ (s : State). s.closing) (contents_stay (shape_of_type c.args.types.now c.args.below) (SetOf eoc c.args.element unconstrained) _ c.put_elements_in_order.new.walk.error _ c.in-Err-put_elements_in_order.ensures.exact)) c.octets_after.ensures (c.in-Err-put_elements_in_order.ensures.told f q) in
+    omega (arith, n, c.octets_left.ensures, c.octets_left.type_inv)
+
+pub decode_set_of_inside-returns-in-Err-put_elements_in_order-clause-told : goal.decode_set_of_inside-returns-in-Err-put_elements_in_order-clause-told
+decode_set_of_inside-returns-in-Err-put_elements_in_order-clause-told g t c =
+    opened c.args.types.now c.args.header c.args.decoder.now c.in-Ok.ensures.octets _ _ _ c.in-Ok.ensures.exact c.args.below (SetOf eoc c.args.element unconstrained) _ c.put_elements_in_order.new.decoder.closing c.octets_after.result
+    (ap (λ (s : State). s.closing) (contents_stay (shape_of_type c.args.types.now c.args.below) (SetOf eoc c.args.element unconstrained) _ c.put_elements_in_order.new.walk.error _ c.in-Err-put_elements_in_order.ensures.exact)) c.octets_after.ensures _ _ c.in-Err-put_elements_in_order.ensures.told c.add_after.ensures
+
+pub decode_set_of_inside-returns-in-Err-clause-itself : goal.decode_set_of_inside-returns-in-Err-clause-itself
+decode_set_of_inside-returns-in-Err-clause-itself g t c =
+    (λ n. step_none (ReadsEachPart (shape_of_type c.args.types.now c.args.below) (SetOf eoc c.args.element unconstrained)) c.args.header c.args.decoder.now _ _ c.in-Err.ensures.exact)
+
+pub decode_set_of_inside-returns-in-Err-put_elements_in_order-clause-itself : goal.decode_set_of_inside-returns-in-Err-put_elements_in_order-clause-itself
+decode_set_of_inside-returns-in-Err-put_elements_in_order-clause-itself g t c =
+    λ n. step_refused (ReadsEachPart (shape_of_type c.args.types.now c.args.below) (SetOf eoc c.args.element unconstrained)) c.args.header c.args.decoder.now _ _ _ c.in-Ok.ensures.exact _ c.put_elements_in_order.new.decoder (c.in-Err-put_elements_in_order.ensures.itself (unmoved _ _ _ c.add_after.ensures n))
+
+pub decode_set_of_inside-returns-in-Err-close-clause-itself : goal.decode_set_of_inside-returns-in-Err-close-clause-itself
+decode_set_of_inside-returns-in-Err-close-clause-itself g t c =
+    let w = c.in-Ok-put_elements_in_order.ensures.exact in
+    (λ n. step_unclosed (ReadsEachPart (shape_of_type c.args.types.now c.args.below) (SetOf eoc c.args.element unconstrained)) c.args.header c.args.decoder.now _ _ _ c.in-Ok.ensures.exact w.0 _ w.3 _ c.remaining.ensures.value _ _ c.in-Err-close.ensures)
+
+pub decode_set_of_inside-returns-in-Ok-close-clause-listed : goal.decode_set_of_inside-returns-in-Ok-close-clause-listed
+decode_set_of_inside-returns-in-Ok-close-clause-listed g t c =
+    inside_listed (shape_of_type c.args.types.now c.args.below) c.args.below (Inside c.args.types.now c.args.below) (SetOf eoc c.args.element unconstrained) c.args.header c.args.decoder.now _ _ _ _ _ _ _ _ c.in-Ok.ensures.exact c.go_inside-after.ensures c.in-Ok-put_elements_in_order.ensures.listed c.go_outside.ensures
+
+-- ---- and the number of elements: decode_list
+
+pub decode_list-returns-in_err-decode_list_inside-clause-exact : goal.decode_list-returns-in_err-decode_list_inside-clause-exact
+decode_list-returns-in_err-decode_list_inside-clause-exact g t c = rw (residual _ c.from_residual.ensures.1) (not_sized (DecodesContents (shape_of_type c.args.types.now c.args.below) (SequenceOf eoc c.args.element unconstrained)) c.args.tag c.args.constraints.now c.list.result c.list.ensures c.args.decoder.now _ _ c.in_err-decode_list_inside.ensures.exact)
+
+pub decode_list-returns-clause-exact : goal.decode_list-returns-clause-exact
+decode_list-returns-clause-exact g t c =
+    let w = c.in_ok-decode_list_inside.ensures.exact in
+    (w.0, w.1, is_sized (DecodesContents (shape_of_type c.args.types.now c.args.below) (SequenceOf eoc c.args.element unconstrained)) c.args.tag c.args.constraints.now c.list.result c.list.ensures c.args.decoder.now _ w.0 w.3 _ (is_counted (SequenceOf eoc c.args.element unconstrained) _ w.0 tt w.2) c.in_ok-check_size.ensures.sized)
+
+pub decode_list-returns-in_err-check_size-clause-itself : goal.decode_list-returns-in_err-check_size-clause-itself
+decode_list-returns-in_err-check_size-clause-itself g t c =
+    let w = c.in_ok-decode_list_inside.ensures.exact in
+    rw (residual _ c.from_residual-in_err-check_size.ensures.1)
+    (λ n. missized (ReadsEachPart (shape_of_type c.args.types.now c.args.below) (SequenceOf eoc c.args.element unconstrained)) c.args.tag c.args.constraints.now c.list.result c.list.ensures c.args.decoder.now _ w.0
+    (got_inside (DecodesContents (shape_of_type c.args.types.now c.args.below) (SequenceOf eoc c.args.element unconstrained)) (ReadsEachPart (shape_of_type c.args.types.now c.args.below) (SequenceOf eoc c.args.element unconstrained)) (λ o v n h. h) c.list.result c.args.decoder.now w.0 _ w.3) _ (is_counted (SequenceOf eoc c.args.element unconstrained) _ w.0 tt w.2) _ c.in_err-check_size.ensures.sized)
+
+pub decode_list-returns-in_err-check_size-clause-told : goal.decode_list-returns-in_err-check_size-clause-told
+decode_list-returns-in_err-check_size-clause-told g t c =
+    rw (residual _ c.from_residual-in_err-check_size.ensures.1)
+    (unnamed {T = Value} (IsFaultInside c.args.types.now c.args.below (list_header c.args.tag) (SequenceOf eoc c.args.element unconstrained) c.args.decoder.now) (Err c.check_size.new.error) _ c.in_ok-decode_list_inside.ensures.told)
+
+pub decode_list-returns-in_err-check_size-clause-rules : goal.decode_list-returns-in_err-check_size-clause-rules
+decode_list-returns-in_err-check_size-clause-rules g t c = rw (residual _ c.from_residual-in_err-check_size.ensures.1) (c.in_err-check_size.ensures.rules ∙ same_rules c.in_ok-decode_list_inside.ensures.exact.3.0.stays)
+
+pub decode_list-returns-in_err-check_size-clause-exact : goal.decode_list-returns-in_err-check_size-clause-exact
+decode_list-returns-in_err-check_size-clause-exact g t c =
+    let w = c.in_ok-decode_list_inside.ensures.exact in
+    rw (residual _ c.from_residual-in_err-check_size.ensures.1)
+    (missized (DecodesContents (shape_of_type c.args.types.now c.args.below) (SequenceOf eoc c.args.element unconstrained)) c.args.tag c.args.constraints.now c.list.result c.list.ensures c.args.decoder.now _ w.0 w.3 _ (is_counted (SequenceOf eoc c.args.element unconstrained) _ w.0 tt w.2) _ c.in_err-check_size.ensures.sized)
+
+pub decode_list-returns-clause-fits : goal.decode_list-returns-clause-fits
+decode_list-returns-clause-fits g t c = c.in_ok-decode_list_inside.ensures.fits
+
+pub decode_list-returns-in_err-decode_list_inside-clause-itself : goal.decode_list-returns-in_err-decode_list_inside-clause-itself
+decode_list-returns-in_err-decode_list_inside-clause-itself g t c =
+    rw (residual _ c.from_residual.ensures.1) (λ n. not_sized (ReadsEachPart (shape_of_type c.args.types.now c.args.below) (SequenceOf eoc c.args.element unconstrained)) c.args.tag c.args.constraints.now c.list.result c.list.ensures c.args.decoder.now _ _ (c.in_err-decode_list_inside.ensures.itself n))
+
+pub decode_list-returns-clause-listed : goal.decode_list-returns-clause-listed
+decode_list-returns-clause-listed g t c =
+    header_listed (shape_of_type c.args.types.now c.args.below) c.args.below (Inside c.args.types.now c.args.below) c.list.result (list_header c.args.tag) (SequenceOf eoc c.args.element unconstrained) c.args.decoder.now _ _ c.list.ensures c.in_ok-decode_list_inside.ensures.listed
+
+pub decode_list-decode_list_inside-requires : goal.decode_list-decode_list_inside-requires
+decode_list-decode_list_inside-requires g t c = λ κs o. (search rules, (search rules, (c.requires.lawful, (refl, c.requires.clear))))
+
+-- ---- and the number of elements: decode_set_of
+
+pub decode_set_of-returns-in_err-decode_set_of_inside-clause-exact : goal.decode_set_of-returns-in_err-decode_set_of_inside-clause-exact
+decode_set_of-returns-in_err-decode_set_of_inside-clause-exact g t c = rw (residual _ c.from_residual.ensures.1) (not_sized (DecodesContents (shape_of_type c.args.types.now c.args.below) (SetOf eoc c.args.element unconstrained)) c.args.tag c.args.constraints.now c.list.result c.list.ensures c.args.decoder.now _ _ c.in_err-decode_set_of_inside.ensures.exact)
+
+pub decode_set_of-returns-clause-exact : goal.decode_set_of-returns-clause-exact
+decode_set_of-returns-clause-exact g t c =
+    let w = c.in_ok-decode_set_of_inside.ensures.exact in
+    (w.0, w.1, is_sized (DecodesContents (shape_of_type c.args.types.now c.args.below) (SetOf eoc c.args.element unconstrained)) c.args.tag c.args.constraints.now c.list.result c.list.ensures c.args.decoder.now _ w.0 w.3 _ (is_counted (SetOf eoc c.args.element unconstrained) _ w.0 tt w.2) c.in_ok-check_size.ensures.sized)
+
+pub decode_set_of-returns-in_err-check_size-clause-itself : goal.decode_set_of-returns-in_err-check_size-clause-itself
+decode_set_of-returns-in_err-check_size-clause-itself g t c =
+    let w = c.in_ok-decode_set_of_inside.ensures.exact in
+    rw (residual _ c.from_residual-in_err-check_size.ensures.1)
+    (λ n. missized (ReadsEachPart (shape_of_type c.args.types.now c.args.below) (SetOf eoc c.args.element unconstrained)) c.args.tag c.args.constraints.now c.list.result c.list.ensures c.args.decoder.now _ w.0
+    (got_inside (DecodesContents (shape_of_type c.args.types.now c.args.below) (SetOf eoc c.args.element unconstrained)) (ReadsEachPart (shape_of_type c.args.types.now c.args.below) (SetOf eoc c.args.element unconstrained)) (λ o v n h. h) c.list.result c.args.decoder.now w.0 _ w.3) _ (is_counted (SetOf eoc c.args.element unconstrained) _ w.0 tt w.2) _ c.in_err-check_size.ensures.sized)
+
+pub decode_set_of-returns-in_err-check_size-clause-told : goal.decode_set_of-returns-in_err-check_size-clause-told
+decode_set_of-returns-in_err-check_size-clause-told g t c =
+    rw (residual _ c.from_residual-in_err-check_size.ensures.1)
+    (unnamed {T = Value} (IsFaultInside c.args.types.now c.args.below (list_header c.args.tag) (SetOf eoc c.args.element unconstrained) c.args.decoder.now) (Err c.check_size.new.error) _ c.in_ok-decode_set_of_inside.ensures.told)
+
+pub decode_set_of-returns-in_err-check_size-clause-rules : goal.decode_set_of-returns-in_err-check_size-clause-rules
+decode_set_of-returns-in_err-check_size-clause-rules g t c = rw (residual _ c.from_residual-in_err-check_size.ensures.1) (c.in_err-check_size.ensures.rules ∙ same_rules c.in_ok-decode_set_of_inside.ensures.exact.3.0.stays)
+
+pub decode_set_of-returns-in_err-check_size-clause-exact : goal.decode_set_of-returns-in_err-check_size-clause-exact
+decode_set_of-returns-in_err-check_size-clause-exact g t c =
+    let w = c.in_ok-decode_set_of_inside.ensures.exact in
+    rw (residual _ c.from_residual-in_err-check_size.ensures.1)
+    (missized (DecodesContents (shape_of_type c.args.types.now c.args.below) (SetOf eoc c.args.element unconstrained)) c.args.tag c.args.constraints.now c.list.result c.list.ensures c.args.decoder.now _ w.0 w.3 _ (is_counted (SetOf eoc c.args.element unconstrained) _ w.0 tt w.2) _ c.in_err-check_size.ensures.sized)
+
+pub decode_set_of-returns-clause-fits : goal.decode_set_of-returns-clause-fits
+decode_set_of-returns-clause-fits g t c = c.in_ok-decode_set_of_inside.ensures.fits
+
+pub decode_set_of-returns-in_err-decode_set_of_inside-clause-itself : goal.decode_set_of-returns-in_err-decode_set_of_inside-clause-itself
+decode_set_of-returns-in_err-decode_set_of_inside-clause-itself g t c =
+    rw (residual _ c.from_residual.ensures.1) (λ n. not_sized (ReadsEachPart (shape_of_type c.args.types.now c.args.below) (SetOf eoc c.args.element unconstrained)) c.args.tag c.args.constraints.now c.list.result c.list.ensures c.args.decoder.now _ _ (c.in_err-decode_set_of_inside.ensures.itself n))
+
+pub decode_set_of-returns-clause-listed : goal.decode_set_of-returns-clause-listed
+decode_set_of-returns-clause-listed g t c =
+    header_listed (shape_of_type c.args.types.now c.args.below) c.args.below (Inside c.args.types.now c.args.below) c.list.result (list_header c.args.tag) (SetOf eoc c.args.element unconstrained) c.args.decoder.now _ _ c.list.ensures c.in_ok-decode_set_of_inside.ensures.listed
+
+pub decode_set_of-decode_set_of_inside-requires : goal.decode_set_of-decode_set_of_inside-requires
+decode_set_of-decode_set_of_inside-requires g t c = λ κs o. (search rules, (search rules, (c.requires.lawful, (refl, c.requires.clear))))
+
+-- ---- contents of each kind
+
+pub put_tagged-returns-clause-exact : goal.put_tagged-returns-clause-exact
+put_tagged-returns-clause-exact g t c = c.decode_part.ensures.reads
+
+pub put_tagged-returns-clause-fits : goal.put_tagged-returns-clause-fits
+put_tagged-returns-clause-fits g t c = c.decode_part.ensures.fits
+
+pub put_tagged-returns-clause-told : goal.put_tagged-returns-clause-told
+put_tagged-returns-clause-told g t c = tells _ _ (λ k f i. i) _ _ c.decode_part.ensures.told
+
+pub put_tagged-returns-clause-itself : goal.put_tagged-returns-clause-itself
+put_tagged-returns-clause-itself g t c = named _ _ _ _ c.decode_part.ensures.told
+
+pub put_tagged-returns-clause-listed : goal.put_tagged-returns-clause-listed
+put_tagged-returns-clause-listed g t c = if_ok _ _ _ (λ v. tagged_listed (shape_of_type c.args.types.now c.args.below) c.args.below (Inside c.args.types.now c.args.below) (Tagged eoc c.args.id) c.args.id.0 c.args.decoder.now _ _ _ refl) c.decode_part.ensures.listed
+
+pub put_record-put_sequence-requires : goal.put_record-put_sequence-requires
+put_record-put_sequence-requires g t c = λ κs o. (search rules, (search rules, (rw c.deref.ensures.value c.requires.lawful, c.requires.clear)))
+
+pub put_record-returns-clause-exact : goal.put_record-returns-clause-exact
+put_record-returns-clause-exact g t c = subst (λ l. Making g.M.Made.KEEP tree_of (Makes items (DecodesComponents (components_by (shape_of_type c.args.types.now c.args.below) l))) c.args.decoder.now (outcome c.put_sequence.result c.put_sequence.new.out c.put_sequence.new.walk.error) c.put_sequence.new.decoder) c.deref.ensures.value c.put_sequence.ensures.exact
+
+pub put_record-returns-clause-fits : goal.put_record-returns-clause-fits
+put_record-returns-clause-fits g t c = λ k. subst (λ l. IfOk (outcome c.put_sequence.result c.put_sequence.new.out c.put_sequence.new.walk.error) (AreItems (ComponentsFit (Fits c.args.types.now c.args.below) l))) c.deref.ensures.value (c.put_sequence.ensures.fits k)
+
+pub put_record-returns-clause-told : goal.put_record-returns-clause-told
+put_record-returns-clause-told g t c = subst (λ l. Told (IsFaultIn c.args.types.now c.args.below (IsComponentAt (shape_of_type c.args.types.now c.args.below) l c.args.decoder.now) c.args.decoder.now c.args.decoder.now) (outcome c.put_sequence.result c.put_sequence.new.out c.put_sequence.new.walk.error) c.put_sequence.new.walk.fault) c.deref.ensures.value c.put_sequence.ensures.told
+
+pub put_record-returns-clause-itself : goal.put_record-returns-clause-itself
+put_record-returns-clause-itself g t c = subst (λ l. IfErr (outcome c.put_sequence.result c.put_sequence.new.out c.put_sequence.new.walk.error) (λ e. c.put_sequence.new.walk.fault ≡ None → StopsInSequence (shape_of_type c.args.types.now c.args.below) l c.args.decoder.now e)) c.deref.ensures.value c.put_sequence.ensures.itself
+
+pub put_record-returns-clause-listed : goal.put_record-returns-clause-listed
+put_record-returns-clause-listed g t c = if_ok _ _ _ (λ v h. components_same (shape_of_type c.args.types.now c.args.below) c.args.below (Inside c.args.types.now c.args.below) _ _ c.args.decoder.now _ _ c.deref.ensures.value h) c.put_sequence.ensures.listed
+
+pub put_members-put_set-requires : goal.put_members-put_set-requires
+put_members-put_set-requires g t c = λ κs o. (search rules, (search rules, (rw c.deref.ensures.value c.requires.lawful, c.requires.clear)))
+
+pub put_members-returns-clause-exact : goal.put_members-returns-clause-exact
+put_members-returns-clause-exact g t c = subst (λ l. Making g.M.Made.KEEP tree_of (Makes items (MayRunOut (DecodesSetPartContents (is_extensible (shape_of_type c.args.types.now c.args.below) l) (components_by (shape_of_type c.args.types.now c.args.below) (named_components (shape_of_type c.args.types.now c.args.below) l)) items (names_of (named_components (shape_of_type c.args.types.now c.args.below) l))))) c.args.decoder.now (outcome c.put_set.result c.put_set.new.out c.put_set.new.walk.error) c.put_set.new.decoder) c.deref.ensures.value c.put_set.ensures.exact
+
+pub put_members-returns-clause-fits : goal.put_members-returns-clause-fits
+put_members-returns-clause-fits g t c = λ k. subst (λ l. IfOk (outcome c.put_set.result c.put_set.new.out c.put_set.new.walk.error) (AreItems (ComponentsFit (Fits c.args.types.now c.args.below) l))) c.deref.ensures.value (c.put_set.ensures.fits k)
+
+pub put_members-returns-clause-told : goal.put_members-returns-clause-told
+put_members-returns-clause-told g t c = subst (λ l. Told (IsFaultIn c.args.types.now c.args.below (IsMemberAfter (shape_of_type c.args.types.now c.args.below) (is_extensible (shape_of_type c.args.types.now c.args.below) l) (named_components (shape_of_type c.args.types.now c.args.below) l) (last_type l) c.args.decoder.now) c.args.decoder.now c.args.decoder.now) (outcome c.put_set.result c.put_set.new.out c.put_set.new.walk.error) c.put_set.new.walk.fault) c.deref.ensures.value c.put_set.ensures.told
+
+pub put_members-returns-clause-itself : goal.put_members-returns-clause-itself
+put_members-returns-clause-itself g t c = subst (λ l. IfErr (outcome c.put_set.result c.put_set.new.out c.put_set.new.walk.error) (λ e. c.put_set.new.walk.fault ≡ None → StopsInSet (shape_of_type c.args.types.now c.args.below) (is_extensible (shape_of_type c.args.types.now c.args.below) l) (named_components (shape_of_type c.args.types.now c.args.below) l) c.args.decoder.now e)) c.deref.ensures.value c.put_set.ensures.itself
+
+pub put_members-returns-clause-listed : goal.put_members-returns-clause-listed
+put_members-returns-clause-listed g t c = if_ok _ _ _ (λ v h. subst (λ l. Lists (λ n es. MembersListed (shape_of_type c.args.types.now c.args.below) c.args.below (Inside c.args.types.now c.args.below) (is_extensible (shape_of_type c.args.types.now c.args.below) l) (named_components (shape_of_type c.args.types.now c.args.below) l) (last_type l) n c.args.decoder.now es) c.args.walk.now.spans c.put_set.new.walk.spans) c.deref.ensures.value h) c.put_set.ensures.listed
+
+-- ---- with its header
+
+pub decode_tagged-returns-clause-exact : goal.decode_tagged-returns-clause-exact
+decode_tagged-returns-clause-exact g t c = subst (λ d. Making g.M.Made.KEEP tree_of (DecodesInside (DecodesContents (shape_of_type c.args.types.now c.args.below) (Tagged eoc c.args.id)) d) c.args.decoder.now (outcome c.decode_tagged_inside.result c.decode_tagged_inside.new.out c.decode_tagged_inside.new.walk.error) c.decode_tagged_inside.new.decoder) c.prefix.ensures c.decode_tagged_inside.ensures.exact
+
+pub decode_tagged-returns-clause-told : goal.decode_tagged-returns-clause-told
+decode_tagged-returns-clause-told g t c = subst (λ d. Told (IsFaultInside c.args.types.now c.args.below d (Tagged eoc c.args.id) c.args.decoder.now) (outcome c.decode_tagged_inside.result c.decode_tagged_inside.new.out c.decode_tagged_inside.new.walk.error) c.decode_tagged_inside.new.walk.fault) c.prefix.ensures c.decode_tagged_inside.ensures.told
+
+pub decode_tagged-returns-clause-itself : goal.decode_tagged-returns-clause-itself
+decode_tagged-returns-clause-itself g t c = subst (λ d. IfErr (outcome c.decode_tagged_inside.result c.decode_tagged_inside.new.out c.decode_tagged_inside.new.walk.error) (λ e. c.decode_tagged_inside.new.walk.fault ≡ None → DecodesInside (ReadsEachPart (shape_of_type c.args.types.now c.args.below) (Tagged eoc c.args.id)) d c.args.decoder.now (Err e) c.decode_tagged_inside.new.decoder)) c.prefix.ensures c.decode_tagged_inside.ensures.itself
+
+pub decode_tagged-returns-clause-listed : goal.decode_tagged-returns-clause-listed
+decode_tagged-returns-clause-listed g t c = subst (λ d. IfOk (outcome c.decode_tagged_inside.result c.decode_tagged_inside.new.out c.decode_tagged_inside.new.walk.error) (λ v. Lists (λ b es. InsideListed (shape_of_type c.args.types.now c.args.below) c.args.below (Inside c.args.types.now c.args.below) d (Tagged eoc c.args.id) b c.args.decoder.now es) c.args.walk.now.spans c.decode_tagged_inside.new.walk.spans)) c.prefix.ensures c.decode_tagged_inside.ensures.listed
+
+pub decode_record-returns-clause-exact : goal.decode_record-returns-clause-exact
+decode_record-returns-clause-exact g t c = subst (λ d. Making g.M.Made.KEEP tree_of (DecodesInside (DecodesContents (shape_of_type c.args.types.now c.args.below) (Sequence eoc c.args.components.now)) d) c.args.decoder.now (outcome c.decode_record_inside.result c.decode_record_inside.new.out c.decode_record_inside.new.walk.error) c.decode_record_inside.new.decoder) c.sequence.ensures c.decode_record_inside.ensures.exact
+
+pub decode_record-returns-clause-told : goal.decode_record-returns-clause-told
+decode_record-returns-clause-told g t c = subst (λ d. Told (IsFaultInside c.args.types.now c.args.below d (Sequence eoc c.args.components.now) c.args.decoder.now) (outcome c.decode_record_inside.result c.decode_record_inside.new.out c.decode_record_inside.new.walk.error) c.decode_record_inside.new.walk.fault) c.sequence.ensures c.decode_record_inside.ensures.told
+
+pub decode_record-returns-clause-itself : goal.decode_record-returns-clause-itself
+decode_record-returns-clause-itself g t c = subst (λ d. IfErr (outcome c.decode_record_inside.result c.decode_record_inside.new.out c.decode_record_inside.new.walk.error) (λ e. c.decode_record_inside.new.walk.fault ≡ None → DecodesInside (ReadsEachPart (shape_of_type c.args.types.now c.args.below) (Sequence eoc c.args.components.now)) d c.args.decoder.now (Err e) c.decode_record_inside.new.decoder)) c.sequence.ensures c.decode_record_inside.ensures.itself
+
+pub decode_record-returns-clause-listed : goal.decode_record-returns-clause-listed
+decode_record-returns-clause-listed g t c = subst (λ d. IfOk (outcome c.decode_record_inside.result c.decode_record_inside.new.out c.decode_record_inside.new.walk.error) (λ v. Lists (λ b es. InsideListed (shape_of_type c.args.types.now c.args.below) c.args.below (Inside c.args.types.now c.args.below) d (Sequence eoc c.args.components.now) b c.args.decoder.now es) c.args.walk.now.spans c.decode_record_inside.new.walk.spans)) c.sequence.ensures c.decode_record_inside.ensures.listed
+
+pub decode_members-returns-clause-exact : goal.decode_members-returns-clause-exact
+decode_members-returns-clause-exact g t c = subst (λ d. Making g.M.Made.KEEP tree_of (DecodesInside (DecodesContents (shape_of_type c.args.types.now c.args.below) (Set c.args.name.now eoc c.args.components.now)) d) c.args.decoder.now (outcome c.decode_members_inside.result c.decode_members_inside.new.out c.decode_members_inside.new.walk.error) c.decode_members_inside.new.decoder) c.sequence.ensures c.decode_members_inside.ensures.exact
+
+pub decode_members-returns-clause-told : goal.decode_members-returns-clause-told
+decode_members-returns-clause-told g t c = subst (λ d. Told (IsFaultInside c.args.types.now c.args.below d (Set c.args.name.now eoc c.args.components.now) c.args.decoder.now) (outcome c.decode_members_inside.result c.decode_members_inside.new.out c.decode_members_inside.new.walk.error) c.decode_members_inside.new.walk.fault) c.sequence.ensures c.decode_members_inside.ensures.told
+
+pub decode_members-returns-clause-itself : goal.decode_members-returns-clause-itself
+decode_members-returns-clause-itself g t c = subst (λ d. IfErr (outcome c.decode_members_inside.result c.decode_members_inside.new.out c.decode_members_inside.new.walk.error) (λ e. c.decode_members_inside.new.walk.fault ≡ None → DecodesInside (ReadsEachPart (shape_of_type c.args.types.now c.args.below) (Set c.args.name.now eoc c.args.components.now)) d c.args.decoder.now (Err e) c.decode_members_inside.new.decoder)) c.sequence.ensures c.decode_members_inside.ensures.itself
+
+pub decode_members-returns-clause-listed : goal.decode_members-returns-clause-listed
+decode_members-returns-clause-listed g t c = subst (λ d. IfOk (outcome c.decode_members_inside.result c.decode_members_inside.new.out c.decode_members_inside.new.walk.error) (λ v. Lists (λ b es. InsideListed (shape_of_type c.args.types.now c.args.below) c.args.below (Inside c.args.types.now c.args.below) d (Set c.args.name.now eoc c.args.components.now) b c.args.decoder.now es) c.args.walk.now.spans c.decode_members_inside.new.walk.spans)) c.sequence.ensures c.decode_members_inside.ensures.listed
+
+-- ---- a type
+
+pub decode_type-decode_tagged-requires : goal.decode_type-decode_tagged-requires
+decode_type-decode_tagged-requires g t c = λ κs o. (search rules, (search rules, (prefix_lawful _ _ (subst (λ n. IsReadable (type_by (shape_of_type c.args.types.now c.args.below) n)) c.in-Tagged.is c.requires.lawful), c.requires.clear)))
+
+pub decode_type-returns-in-Tagged-clause-exact : goal.decode_type-returns-in-Tagged-clause-exact
+decode_type-returns-in-Tagged-clause-exact g t c = rw c.in-Tagged.is c.decode_tagged.ensures.exact
+
+pub decode_type-returns-in-Tagged-clause-reads : goal.decode_type-returns-in-Tagged-clause-reads
+decode_type-returns-in-Tagged-clause-reads g t c =
+    made_as _ tree_of (DecodesType (shape_of_type c.args.types.now c.args.below) c.args.ty.now) (DecodesTree (type_by (shape_of_type c.args.types.now c.args.below) c.args.ty.now)) c.args.decoder.now (outcome c.decode_tagged.result c.decode_tagged.new.out c.decode_tagged.new.walk.error) c.decode_tagged.new.decoder
+    (λ q h. type_decodes (shape_of_type c.args.types.now c.args.below) c.args.decoder.now c.decode_tagged.ensures.octets q c.decode_tagged.new.decoder c.args.ty.now h) (rw c.in-Tagged.is c.decode_tagged.ensures.exact)
+
+pub decode_type-returns-in-Tagged-clause-fits : goal.decode_type-returns-in-Tagged-clause-fits
+decode_type-returns-in-Tagged-clause-fits g t c = λ k. rw c.in-Tagged.is (c.decode_tagged.ensures.fits k)
+
+pub decode_type-returns-in-Tagged-clause-told : goal.decode_type-returns-in-Tagged-clause-told
+decode_type-returns-in-Tagged-clause-told g t c = rw c.in-Tagged.is c.decode_tagged.ensures.told
+
+pub decode_type-returns-in-Tagged-clause-itself : goal.decode_type-returns-in-Tagged-clause-itself
+decode_type-returns-in-Tagged-clause-itself g t c = rw c.in-Tagged.is (itself_prefix (shape_of_type c.args.types.now c.args.below) (Tagged c.in-Tagged.tag c.in-Tagged.inner) c.args.decoder.now c.decode_tagged.new.decoder _ c.in-Tagged.tag c.in-Tagged.inner (prefix_header c.in-Tagged.tag) refl refl (outcome c.decode_tagged.result c.decode_tagged.new.out c.decode_tagged.new.walk.error) c.decode_tagged.ensures.itself)
+
+pub decode_type-returns-in-Tagged-clause-listed : goal.decode_type-returns-in-Tagged-clause-listed
+decode_type-returns-in-Tagged-clause-listed g t c = rw c.in-Tagged.is (if_ok _ _ _ (λ v. holder_listed (shape_of_type c.args.types.now c.args.below) c.args.below (Inside c.args.types.now c.args.below) (Tagged c.in-Tagged.tag c.in-Tagged.inner) (prefix_header c.in-Tagged.tag) c.args.decoder.now _ _ refl) c.decode_tagged.ensures.listed)
+
+pub decode_type-decode_record-requires : goal.decode_type-decode_record-requires
+decode_type-decode_record-requires g t c = λ κs o. (search rules, (search rules, (lawful_parts (shape_of_type c.args.types.now c.args.below) _ (seq_lawful _ _ (subst (λ n. IsReadable (type_by (shape_of_type c.args.types.now c.args.below) n)) c.in-Sequence.is c.requires.lawful)), c.requires.clear)))
+
+pub decode_type-returns-in-Sequence-clause-exact : goal.decode_type-returns-in-Sequence-clause-exact
+decode_type-returns-in-Sequence-clause-exact g t c = rw c.in-Sequence.is c.decode_record.ensures.exact
+
+pub decode_type-returns-in-Sequence-clause-reads : goal.decode_type-returns-in-Sequence-clause-reads
+decode_type-returns-in-Sequence-clause-reads g t c =
+    made_as _ tree_of (DecodesType (shape_of_type c.args.types.now c.args.below) c.args.ty.now) (DecodesTree (type_by (shape_of_type c.args.types.now c.args.below) c.args.ty.now)) c.args.decoder.now (outcome c.decode_record.result c.decode_record.new.out c.decode_record.new.walk.error) c.decode_record.new.decoder
+    (λ q h. type_decodes (shape_of_type c.args.types.now c.args.below) c.args.decoder.now c.decode_record.ensures.octets q c.decode_record.new.decoder c.args.ty.now h) (rw c.in-Sequence.is c.decode_record.ensures.exact)
+
+pub decode_type-returns-in-Sequence-clause-fits : goal.decode_type-returns-in-Sequence-clause-fits
+decode_type-returns-in-Sequence-clause-fits g t c = λ k. rw c.in-Sequence.is (c.decode_record.ensures.fits k)
+
+pub decode_type-returns-in-Sequence-clause-told : goal.decode_type-returns-in-Sequence-clause-told
+decode_type-returns-in-Sequence-clause-told g t c = rw c.in-Sequence.is c.decode_record.ensures.told
+
+pub decode_type-returns-in-Sequence-clause-itself : goal.decode_type-returns-in-Sequence-clause-itself
+decode_type-returns-in-Sequence-clause-itself g t c = rw c.in-Sequence.is (itself_sequence (shape_of_type c.args.types.now c.args.below) (Sequence c.in-Sequence.tag c.in-Sequence.components) c.args.decoder.now c.decode_record.new.decoder _ c.in-Sequence.tag c.in-Sequence.components (sequence_header c.in-Sequence.tag) refl refl (outcome c.decode_record.result c.decode_record.new.out c.decode_record.new.walk.error) c.decode_record.ensures.itself)
+
+pub decode_type-returns-in-Sequence-clause-listed : goal.decode_type-returns-in-Sequence-clause-listed
+decode_type-returns-in-Sequence-clause-listed g t c = rw c.in-Sequence.is (if_ok _ _ _ (λ v. holder_listed (shape_of_type c.args.types.now c.args.below) c.args.below (Inside c.args.types.now c.args.below) (Sequence c.in-Sequence.tag c.in-Sequence.components) (sequence_header c.in-Sequence.tag) c.args.decoder.now _ _ refl) c.decode_record.ensures.listed)
+
+pub decode_type-decode_members-requires : goal.decode_type-decode_members-requires
+decode_type-decode_members-requires g t c = λ κs o. (search rules, (search rules, (named_lawful (shape_of_type c.args.types.now c.args.below) c.in-Set.tag c.in-Set.components.items _ refl (subst (λ n. IsReadable (type_by (shape_of_type c.args.types.now c.args.below) n)) c.in-Set.is c.requires.lawful), c.requires.clear)))
+
+pub decode_type-returns-in-Set-clause-exact : goal.decode_type-returns-in-Set-clause-exact
+decode_type-returns-in-Set-clause-exact g t c = rw c.in-Set.is c.decode_members.ensures.exact
+
+pub decode_type-returns-in-Set-clause-reads : goal.decode_type-returns-in-Set-clause-reads
+decode_type-returns-in-Set-clause-reads g t c =
+    made_as _ tree_of (DecodesType (shape_of_type c.args.types.now c.args.below) c.args.ty.now) (DecodesTree (type_by (shape_of_type c.args.types.now c.args.below) c.args.ty.now)) c.args.decoder.now (outcome c.decode_members.result c.decode_members.new.out c.decode_members.new.walk.error) c.decode_members.new.decoder
+    (λ q h. type_decodes (shape_of_type c.args.types.now c.args.below) c.args.decoder.now c.decode_members.ensures.octets q c.decode_members.new.decoder c.args.ty.now h) (rw c.in-Set.is c.decode_members.ensures.exact)
+
+pub decode_type-returns-in-Set-clause-fits : goal.decode_type-returns-in-Set-clause-fits
+decode_type-returns-in-Set-clause-fits g t c = λ k. rw c.in-Set.is (c.decode_members.ensures.fits k)
+
+pub decode_type-returns-in-Set-clause-told : goal.decode_type-returns-in-Set-clause-told
+decode_type-returns-in-Set-clause-told g t c = rw c.in-Set.is c.decode_members.ensures.told
+
+pub decode_type-returns-in-Set-clause-itself : goal.decode_type-returns-in-Set-clause-itself
+decode_type-returns-in-Set-clause-itself g t c = rw c.in-Set.is (itself_set (shape_of_type c.args.types.now c.args.below) (Set c.in-Set.name c.in-Set.tag c.in-Set.components) c.args.decoder.now c.decode_members.new.decoder _ c.in-Set.name c.in-Set.tag c.in-Set.components (sequence_header c.in-Set.tag) refl refl (outcome c.decode_members.result c.decode_members.new.out c.decode_members.new.walk.error) c.decode_members.ensures.itself)
+
+pub decode_type-returns-in-Set-clause-listed : goal.decode_type-returns-in-Set-clause-listed
+decode_type-returns-in-Set-clause-listed g t c = rw c.in-Set.is (if_ok _ _ _ (λ v. holder_listed (shape_of_type c.args.types.now c.args.below) c.args.below (Inside c.args.types.now c.args.below) (Set c.in-Set.name c.in-Set.tag c.in-Set.components) (sequence_header c.in-Set.tag) c.args.decoder.now _ _ refl) c.decode_members.ensures.listed)
+
+pub decode_type-decode_list-requires : goal.decode_type-decode_list-requires
+decode_type-decode_list-requires g t c = λ κs o. (search rules, (search rules, (list_lawful _ _ c.in-SequenceOf.constraints.size (subst (λ n. IsReadable (type_by (shape_of_type c.args.types.now c.args.below) n)) c.in-SequenceOf.is c.requires.lawful), c.requires.clear)))
+
+pub decode_type-returns-in-SequenceOf-clause-exact : goal.decode_type-returns-in-SequenceOf-clause-exact
+decode_type-returns-in-SequenceOf-clause-exact g t c = rw c.in-SequenceOf.is c.decode_list.ensures.exact
+
+pub decode_type-returns-in-SequenceOf-clause-reads : goal.decode_type-returns-in-SequenceOf-clause-reads
+decode_type-returns-in-SequenceOf-clause-reads g t c =
+    made_as _ tree_of (DecodesType (shape_of_type c.args.types.now c.args.below) c.args.ty.now) (DecodesTree (type_by (shape_of_type c.args.types.now c.args.below) c.args.ty.now)) c.args.decoder.now (outcome c.decode_list.result c.decode_list.new.out c.decode_list.new.walk.error) c.decode_list.new.decoder
+    (λ q h. type_decodes (shape_of_type c.args.types.now c.args.below) c.args.decoder.now c.decode_list.ensures.octets q c.decode_list.new.decoder c.args.ty.now h) (rw c.in-SequenceOf.is c.decode_list.ensures.exact)
+
+pub decode_type-returns-in-SequenceOf-clause-fits : goal.decode_type-returns-in-SequenceOf-clause-fits
+decode_type-returns-in-SequenceOf-clause-fits g t c = λ k. rw c.in-SequenceOf.is (c.decode_list.ensures.fits k)
+
+pub decode_type-returns-in-SequenceOf-clause-told : goal.decode_type-returns-in-SequenceOf-clause-told
+decode_type-returns-in-SequenceOf-clause-told g t c = rw c.in-SequenceOf.is c.decode_list.ensures.told
+
+pub decode_type-returns-in-SequenceOf-clause-itself : goal.decode_type-returns-in-SequenceOf-clause-itself
+decode_type-returns-in-SequenceOf-clause-itself g t c = rw c.in-SequenceOf.is (itself_list (shape_of_type c.args.types.now c.args.below) (SequenceOf c.in-SequenceOf.tag c.in-SequenceOf.element c.in-SequenceOf.constraints) c.args.decoder.now c.decode_list.new.decoder _ c.in-SequenceOf.tag c.in-SequenceOf.element c.in-SequenceOf.constraints refl (outcome c.decode_list.result c.decode_list.new.out c.decode_list.new.walk.error) c.decode_list.ensures.itself)
+
+pub decode_type-returns-in-SequenceOf-clause-listed : goal.decode_type-returns-in-SequenceOf-clause-listed
+decode_type-returns-in-SequenceOf-clause-listed g t c = rw c.in-SequenceOf.is (if_ok _ _ _ (λ v. holder_listed (shape_of_type c.args.types.now c.args.below) c.args.below (Inside c.args.types.now c.args.below) (SequenceOf c.in-SequenceOf.tag c.in-SequenceOf.element c.in-SequenceOf.constraints) (list_header c.in-SequenceOf.tag) c.args.decoder.now _ _ refl) c.decode_list.ensures.listed)
+
+pub decode_type-decode_set_of-requires : goal.decode_type-decode_set_of-requires
+decode_type-decode_set_of-requires g t c = λ κs o. (search rules, (search rules, (set_of_lawful _ _ c.in-SetOf.constraints.size (subst (λ n. IsReadable (type_by (shape_of_type c.args.types.now c.args.below) n)) c.in-SetOf.is c.requires.lawful), c.requires.clear)))
+
+pub decode_type-returns-in-SetOf-clause-exact : goal.decode_type-returns-in-SetOf-clause-exact
+decode_type-returns-in-SetOf-clause-exact g t c = rw c.in-SetOf.is c.decode_set_of.ensures.exact
+
+pub decode_type-returns-in-SetOf-clause-reads : goal.decode_type-returns-in-SetOf-clause-reads
+decode_type-returns-in-SetOf-clause-reads g t c =
+    made_as _ tree_of (DecodesType (shape_of_type c.args.types.now c.args.below) c.args.ty.now) (DecodesTree (type_by (shape_of_type c.args.types.now c.args.below) c.args.ty.now)) c.args.decoder.now (outcome c.decode_set_of.result c.decode_set_of.new.out c.decode_set_of.new.walk.error) c.decode_set_of.new.decoder
+    (λ q h. type_decodes (shape_of_type c.args.types.now c.args.below) c.args.decoder.now c.decode_set_of.ensures.octets q c.decode_set_of.new.decoder c.args.ty.now h) (rw c.in-SetOf.is c.decode_set_of.ensures.exact)
+
+pub decode_type-returns-in-SetOf-clause-fits : goal.decode_type-returns-in-SetOf-clause-fits
+decode_type-returns-in-SetOf-clause-fits g t c = λ k. rw c.in-SetOf.is (c.decode_set_of.ensures.fits k)
+
+pub decode_type-returns-in-SetOf-clause-told : goal.decode_type-returns-in-SetOf-clause-told
+decode_type-returns-in-SetOf-clause-told g t c = rw c.in-SetOf.is c.decode_set_of.ensures.told
+
+pub decode_type-returns-in-SetOf-clause-itself : goal.decode_type-returns-in-SetOf-clause-itself
+decode_type-returns-in-SetOf-clause-itself g t c = rw c.in-SetOf.is (itself_set_of (shape_of_type c.args.types.now c.args.below) (SetOf c.in-SetOf.tag c.in-SetOf.element c.in-SetOf.constraints) c.args.decoder.now c.decode_set_of.new.decoder _ c.in-SetOf.tag c.in-SetOf.element c.in-SetOf.constraints refl (outcome c.decode_set_of.result c.decode_set_of.new.out c.decode_set_of.new.walk.error) c.decode_set_of.ensures.itself)
+
+pub decode_type-returns-in-SetOf-clause-listed : goal.decode_type-returns-in-SetOf-clause-listed
+decode_type-returns-in-SetOf-clause-listed g t c = rw c.in-SetOf.is (if_ok _ _ _ (λ v. holder_listed (shape_of_type c.args.types.now c.args.below) c.args.below (Inside c.args.types.now c.args.below) (SetOf c.in-SetOf.tag c.in-SetOf.element c.in-SetOf.constraints) (list_header c.in-SetOf.tag) c.args.decoder.now _ _ refl) c.decode_set_of.ensures.listed)

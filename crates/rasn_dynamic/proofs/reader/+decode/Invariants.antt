@@ -34,17 +34,8 @@ decreases-decode_compared g l = 32 * l.levels + 3
 abbrev pub decreases-decode_type : goal.decreases-decode_type
 decreases-decode_type g l = 32 * l.below + 24
 
-abbrev pub decreases-decode_list : goal.decreases-decode_list
-decreases-decode_list g l = 32 * l.below + 23
-
 abbrev pub decreases-decode_choice : goal.decreases-decode_choice
 decreases-decode_choice g l = 32 * l.below + 22
-
-abbrev pub decreases-decode_inside : goal.decreases-decode_inside
-decreases-decode_inside g l = 32 * l.below + 22
-
-abbrev pub decreases-decode_contents : goal.decreases-decode_contents
-decreases-decode_contents g l = 32 * l.below + 21
 
 abbrev pub decreases-decode_sequence : goal.decreases-decode_sequence
 decreases-decode_sequence g l = 32 * l.below + 18
@@ -117,3 +108,42 @@ decreases-put_elements_in_order g l = 32 * l.below + 20
 
 abbrev pub decreases-put_set : goal.decreases-put_set
 decreases-put_set g l = 32 * l.below + 20
+
+abbrev pub decreases-decode_tagged : goal.decreases-decode_tagged
+decreases-decode_tagged g l = 32 * l.below + 23
+
+abbrev pub decreases-decode_record : goal.decreases-decode_record
+decreases-decode_record g l = 32 * l.below + 23
+
+abbrev pub decreases-decode_members : goal.decreases-decode_members
+decreases-decode_members g l = 32 * l.below + 23
+
+abbrev pub decreases-decode_tagged_inside : goal.decreases-decode_tagged_inside
+decreases-decode_tagged_inside g l = 32 * l.below + 22
+
+abbrev pub decreases-decode_record_inside : goal.decreases-decode_record_inside
+decreases-decode_record_inside g l = 32 * l.below + 22
+
+abbrev pub decreases-decode_members_inside : goal.decreases-decode_members_inside
+decreases-decode_members_inside g l = 32 * l.below + 22
+
+abbrev pub decreases-decode_list_inside : goal.decreases-decode_list_inside
+decreases-decode_list_inside g l = 32 * l.below + 22
+
+abbrev pub decreases-decode_set_of_inside : goal.decreases-decode_set_of_inside
+decreases-decode_set_of_inside g l = 32 * l.below + 22
+
+abbrev pub decreases-decode_list : goal.decreases-decode_list
+decreases-decode_list g l = 32 * l.below + 23
+
+abbrev pub decreases-decode_set_of : goal.decreases-decode_set_of
+decreases-decode_set_of g l = 32 * l.below + 23
+
+abbrev pub decreases-put_tagged : goal.decreases-put_tagged
+decreases-put_tagged g l = 32 * l.below + 21
+
+abbrev pub decreases-put_record : goal.decreases-put_record
+decreases-put_record g l = 32 * l.below + 21
+
+abbrev pub decreases-put_members : goal.decreases-put_members
+decreases-put_members g l = 32 * l.below + 21
