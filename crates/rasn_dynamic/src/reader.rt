@@ -344,6 +344,9 @@ fn put_missing<'input, M: Made>(
     ensures made { IsMade M.KEEP (presence_of component.now.presence) decoder.now (outcome result out.new error.new) }
     ensures rules { IfErr (outcome result out.new error.new) (λ e. e.codec ≡ decoder.now.rule) }
 {
+    if !M::KEEP {
+        return Ok(());
+    }
     match missing::<M>(decoder, component) {
         Ok(value) => {
             *out = value;
@@ -678,6 +681,10 @@ fn decode_choice<'input, M: Made>(
     decode_part::<M>(decoder, walk, types, below, id, number, &mut value)?;
     choose::<M>(decoder, &mut walk.error, number, value, out)
 }
+
+// A function for each kind of type reads its header and its contents. Clauses name the type by what
+// its values hold, with the tag universal 0 and no bound: the tag is in the header, and a bound is
+// checked at the end.
 
 /// Reads an explicit tag and the value that it holds (X.690 8.14).
 #[cycle(decode)]
