@@ -1,6 +1,5 @@
 //! Reads a value of a type.
 ghost use Rattle.std.specs.Prelude.{◌≡◌, ◌≢◌, ◌⊎◌, ◌++◌, ◌∷◌, List, [], length, true, false, slice_get, None, Err, OnOk, IfOk, IfErr};
-ghost use Rattle.std.specs.String.{string_bytes};
 ghost use Rattle.rasn_types.specs.Framing.{AreOctets, Ended};
 ghost use Rattle.rasn_types.specs.Errors.{IsOutOfMemory};
 ghost use Rattle.rasn_types.specs.Shapes.{any, unknown as unknown_values, items, sought_by, constraint_of};
@@ -23,9 +22,9 @@ ghost use Rattle.rasn_schema.specs.Trees.{tree_of};
 ghost use Rattle.rasn_schema.specs.Shapes.{shape_of_type, type_by, alternatives_by, choice_among, components_by, key_of, presence_in, presence_of, IsReadable, AreReadable};
 ghost use Rattle.rasn_dynamic.specs.Inside.{ReadsSequence, DecodesTree, DecodesComponent};
 ghost use Rattle.rasn_dynamic.specs.Making.{Making, Counting, IsLength, outcome, reported, trees_of, these};
-ghost use Rattle.rasn_dynamic.specs.Typed.{Makes, DecodesComponents, elements, element_count, IsSized, HoldsOthers, HoldsElements, CountsElements, MayRunOut, DecodesContents, DecodesType};
+ghost use Rattle.rasn_dynamic.specs.Typed.{Makes, DecodesComponents, elements, element_count, IsSized, CountsElements, MayRunOut, DecodesContents, DecodesType};
 ghost use Rattle.rasn_dynamic.specs.Calls.{Gathers, any_required, is_required, IsMade, AreSettled, nones, names_of, IsKept, DecodesPresent, DecodesMember, IsNoAlternative, IsNoMember};
-ghost use Rattle.rasn_schema.specs.Fitting.{Fits, FitsBy, IsChosen, AlternativeFits, ComponentFits, ComponentsFit, EachFits, AreItems, AreElements, AreOctets as AreOctetsValue};
+ghost use Rattle.rasn_schema.specs.Fitting.{Fits, FitsBy, IsChosen, AlternativeFits, ComponentFits, ComponentsFit, EachFits, AreItems, AreOctets as AreOctetsValue};
 ghost use Rattle.rasn_dynamic.specs.Found.{FoundFit, MembersFit};
 ghost use Rattle.rasn_dynamic.specs.Faults.{IsFault, IsFaultIn, IsFaultOf, IsFaultInside, IsOnly, IsAlternativeAt, IsElementAt, IsComponentAt, IsMemberHere, IsMemberAfter, IsAnyPart, Told, TellsOf, FailsAt, FailsItself, ReadsEachPart, StopsAtChoice, StopsInside, StopsInElements, StopsInOrder, StopsInSequence, StopsAtComponent, IsDefaultWritten, StopsInSet, StopsAtMember};
 ghost use Rattle.rasn_dynamic.specs.Listed.{Lists, Inside, PartsInside, PartListed, UnknownListed, ValueListed, AlternativeListed, InsideListed, ContentsListed, ElementsListed, ComponentsListed, ComponentListed, MembersListed, MemberListed};

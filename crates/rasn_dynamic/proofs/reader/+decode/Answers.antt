@@ -1,4 +1,4 @@
-use Rattle.std.proofs.Common.{rules, arith, append_assoc, length-append, map, Vec, Global, true≢false, ◌≡◌, ◌+◌, ◌-◌, [], ◌∷◌, ◌++◌, length, true, false, Some, None, Ok, Err, refl, sym, ap, ◌∙◌, subst, inl, inr}
+use Rattle.std.proofs.Common.{rules, arith, append_assoc, length-append, map, true≢false, ◌≡◌, ◌+◌, ◌-◌, [], ◌∷◌, ◌++◌, length, true, false, Some, None, Ok, Err, refl, sym, ap, ◌∙◌, subst, inl, inr}
 use Rattle.std.specs.Prelude.{get_or, slice_get, IfOk, IfErr}
 use Rattle.std.proofs.lemmas.Option.{slice_get_within}
 use Rattle.rasn_types.specs.Shapes.{Tree, Same, items, choice_by, IsFirstOf, own_tag, sought_by}
@@ -25,7 +25,7 @@ use Rattle.rasn_de.proofs.Constructed.Steps.{step_none, step_refused, step_end, 
 use Rattle.rasn_de.proofs.Constructed.Optional.{strict_before, strict_after}
 use Rattle.rasn_de.proofs.OwnTypes.Parts.{call_keeps}
 use Rattle.rasn_schema.specs.declared.types.Alternative.{Alternative}
-use Rattle.rasn_schema.specs.declared.value.Value.{Value, Items}
+use Rattle.rasn_schema.specs.declared.value.Value.{Value}
 use Rattle.rasn_schema.specs.Trees.{tree_of}
 use Rattle.rasn_schema.specs.Shapes.{numbers_of, shape_of_type, type_by, alternatives_by, choice_among, components_by, key_of, presence_in, AreReadable, IsReadable}
 use Rattle.rasn_schema.proofs.Presences.{always_by}
@@ -33,10 +33,10 @@ use Rattle.rasn_schema.proofs.TypeShapes.{shape_below}
 use Rattle.rasn_schema.proofs.Lists.{split, nothing_left, read_at}
 use Rattle.rasn_schema.specs.declared.types.«Type».TheVariants.{Tagged, Sequence, Set, SequenceOf, SetOf}
 use Rattle.rasn_dynamic.specs.Inside.{DecodesTree, DecodesComponent}
-use Rattle.rasn_dynamic.specs.Making.{Making, outcome, reported}
-use Rattle.rasn_dynamic.specs.Typed.{Makes, MayRunOut, DecodesComponents, DecodesContents, DecodesType, CountsElements, element_count, elements}
+use Rattle.rasn_dynamic.specs.Making.{Making, outcome}
+use Rattle.rasn_dynamic.specs.Typed.{Makes, MayRunOut, DecodesComponents, DecodesContents, DecodesType, elements}
 use Rattle.rasn_dynamic.specs.Calls.{held, names_of, nones, DecodesPresent}
-use Rattle.rasn_dynamic.proofs.Making.{made_as, made_fails_as, choice_exact, uncounted, counted_nothing, made_of_value, if_kept, items_made, elements_made, one_made, choice_made, choice_fits}
+use Rattle.rasn_dynamic.proofs.Making.{made_as, made_fails_as, choice_exact, if_kept, items_made, elements_made, one_made, choice_made, choice_fits}
 use Rattle.rasn_schema.specs.Fitting.{Fits, IsNumber, AreOctets, AreItems, ComponentsFit, EachFits}
 use Rattle.rasn_dynamic.proofs.FitsRead.{if_ok, fits_below, are_items, are_elements, each_more, fit_more, fit_end, made_fits, gathered_fit, members_fit, all_fit, all_left_fit, nones_fit, found_length, found_kept, put_fits}
 use Rattle.rasn_dynamic.proofs.Nothing.{refused_at_zero, refused_not_there, found_here}
@@ -44,8 +44,8 @@ use Rattle.rasn_dynamic.proofs.OpenChoice.{lawful_at}
 use Rattle.rasn_dynamic.proofs.Chosen.{no_tag, none_for, for_both, chosen_got, chosen_refused}
 use Rattle.rasn_dynamic.proofs.InOrder.{lawful_parts, all_left_read, in_turn}
 use Rattle.rasn_dynamic.proofs.OnePart.{always, always_fails, looked, looked_fails, made, made_fails, unread, unread_fails, plain, loose, differs, default_is_written, not_required, next_of, made_of}
-use Rattle.rasn_dynamic.proofs.Contents.{prefix_lawful, list_lawful, set_of_lawful, seq_lawful, none_holds, sequence_runs_out, parts_start, parts_more, part_fails, part_fails_at, parts_run_out, parts_end}
-use Rattle.rasn_dynamic.proofs.Typed.{contents_end, contents_stay, not_sized, is_sized, missized, holds_others, is_counted, count_items, by_prefix, by_sequence, by_set, by_list, by_set_of, type_decodes, sequence_fails, sequence_made, named_so, set_fails, set_made, set_runs_out}
+use Rattle.rasn_dynamic.proofs.Contents.{prefix_lawful, list_lawful, set_of_lawful, seq_lawful, sequence_runs_out, parts_start, parts_more, part_fails, part_fails_at, parts_run_out, parts_end}
+use Rattle.rasn_dynamic.proofs.Typed.{contents_end, contents_stay, not_sized, is_sized, missized, is_counted, count_items, type_decodes, named_so}
 use Rattle.rasn_dynamic.proofs.Pieces.{got_below, first_of_part, part_lawful, nones_come, nones_held, made_parts, lacks_part}
 use Rattle.rasn_dynamic.proofs.Component.{member_unpeeked, member_none, unknown_unread, unknown_kept, unknown_left, member_unread, member_idle, member_put, member_shorter}
 use Rattle.rasn_dynamic.proofs.AllMembers.{set_trees, all_trees, none_unknown, members_lack, members_made, members_keep}
@@ -61,9 +61,8 @@ use Rattle.rasn_dynamic.specs.Listed.{Lists, Inside, PartListed, ComponentAt, Me
 use Rattle.rasn_de.specs.Constructed.{sequence_header, prefix_header}
 use Rattle.rasn_dynamic.specs.declared.span.Spans.{Spans}
 use Rattle.std.specs.Prelude.{IfOk}
-use Rattle.rasn_dynamic.proofs.Listed.{if_any, lists_start, lists_more, part_listed, value_listed, none_listed, choice_listed, alternative_listed, holder_listed, inside_listed, tagged_listed, elements_listed, component_present, component_absent, component_more, components_left_out, components_listed, member_listed, unknown_passed, members_listed, header_listed, contents_same, components_same}
+use Rattle.rasn_dynamic.proofs.Listed.{if_any, lists_start, lists_more, part_listed, value_listed, none_listed, choice_listed, alternative_listed, holder_listed, inside_listed, tagged_listed, elements_listed, component_present, component_absent, component_more, components_left_out, components_listed, member_listed, unknown_passed, members_listed, header_listed, components_same}
 use Rattle.rasn_dynamic.proofs.reader.+decode.Goals as goal
-use Rattle.rasn_de.specs.SequenceOf.{DecodesSized}
 use Rattle.rasn_de.specs.SetPartTypes.{DecodesSetPartContents}
 use Rattle.rasn_de.specs.Set.{not_read}
 use Rattle.rasn_de.proofs.Headers.Tags.{look_refused, look_follows}
