@@ -38,3 +38,4 @@ pub mod LeastTags
 pub mod SetWritten
 pub mod AllMembers
 pub mod Members
+pub mod ShortHeader

@@ -276,9 +276,6 @@ module _ (f : ℕ → Shape) (levels : ℕ) (P : ℕ → ℕ → State → List 
   pub header_listed : (d e : ConstructedHeader) (ty : «Type») (s : State) (o n : Spans) → d ≡ e → Lists (λ b es. InsideListed f levels P d ty b s es) o n → Lists (λ b es. InsideListed f levels P e ty b s es) o n
   header_listed d e ty s o n q l = subst (λ x. Lists (λ b es. InsideListed f levels P x ty b s es) o n) q l
 
-  pub contents_same : (ty y : «Type») (s : State) (o n : Spans) → ty ≡ y → Lists (λ b es. ContentsListed f levels P y b s es) o n → Lists (λ b es. ContentsListed f levels P ty b s es) o n
-  contents_same ty y s o n q l = subst (λ x. Lists (λ b es. ContentsListed f levels P x b s es) o n) (sym q) l
-
   pub components_same : (l k : List Component) (s : State) (o n : Spans) → l ≡ k → Lists (λ b es. ComponentsListed f levels P l b s es) o n → Lists (λ b es. ComponentsListed f levels P k b s es) o n
   components_same l k s o n q x = subst (λ z. Lists (λ b es. ComponentsListed f levels P z b s es) o n) q x
 

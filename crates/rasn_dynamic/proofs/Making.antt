@@ -16,7 +16,7 @@ use Rattle.rasn_schema.specs.Trees.{tree_of}
 use Rattle.rasn_schema.specs.Fitting.{IsChosen}
 use Rattle.rasn_schema.proofs.Values.{tree_items, tree_elements}
 use Rattle.rasn_dynamic.specs.Inside.{DecodesTree}
-use Rattle.rasn_dynamic.specs.Making.{Making, Counting, trees_of}
+use Rattle.rasn_dynamic.specs.Making.{Making, trees_of}
 use Rattle.rasn_dynamic.specs.Calls.{IsNoAlternative}
 use Rattle.rasn_dynamic.specs.Typed.{DecodesType}
 use Rattle.rasn_dynamic.proofs.Contents.{one_more}
@@ -46,12 +46,6 @@ choice_exact f ty keep old r new name ks qs text i j n h q =
     both (Ok v) (d, e, h) q = (d, e, (h, tt))
     both (Err x) h q = (h, q)
 
--- How many there are is forgotten.
-pub uncounted : {T D : Type 0} (keep : Bool) (view : T → D) (counts : ℕ → D → Type 0) (read other : Call D) (old : State) (r : Result T DecodeError) (new : State) (n : ℕ) → ((q : Result D DecodeError) → read old q new → other old q new)
-    → Counting keep view counts read old r new n → Making keep view other old r new
-uncounted keep view counts read other old (Ok v) new n f (d, e, c, h) = (d, e, f (Ok d) h)
-uncounted keep view counts read other old (Err x) new n f h = f (Err x) h
-
 -- A call that makes values does, whether they are kept or not.
 pub made_of_value : (keep : Bool) (s : Shape) (old : State) (r : Result Value DecodeError) (new : State) → Decodes s tree_of old r new → Making keep tree_of (DecodesTree s) old r new
 made_of_value keep s old (Ok v) new h = (tree_of v, (λ k. refl), h)
@@ -65,11 +59,6 @@ kept_tree view read old v new (d, e, h) = subst (λ z. read old (Ok z) new) (sym
 pub if_kept : {T : Type 0} (keep : Bool) (P Q : T → Type 0) (r : Result T DecodeError) → ((v : T) → P v → Q v) → (keep ≡ true → IfOk r P) → keep ≡ true → IfOk r Q
 if_kept keep P Q (Ok v) f h k = f v (h k)
 if_kept keep P Q (Err x) f h k = tt
-
-pub counted_nothing : {T D : Type 0} (keep : Bool) (view : T → D) (counts : ℕ → D → Type 0) (read : Call D) (old : State) (r : Result T DecodeError) (new : State) (n : ℕ) → ((d : D) → counts n d)
-    → Making keep view read old r new → Counting keep view counts read old r new n
-counted_nothing keep view counts read old (Ok v) new n f (d, e, h) = (d, e, f d, h)
-counted_nothing keep view counts read old (Err x) new n f h = h
 
 -- ---- lists
 

@@ -4,7 +4,6 @@ use Rattle.rasn_types.specs.declared.types.tag.Tag.{Tag}
 use Rattle.rasn_types.specs.declared.types.constraints.Constraints.{Constraints}
 use Rattle.rasn_types.specs.declared.error.decode.DecodeError.{DecodeError}
 use Rattle.rasn_types.specs.Framing.{AreOctets}
-use Rattle.rasn_types.specs.Errors.{IsOutOfMemory}
 use Rattle.rasn_types.specs.Grammar.{Reads, ReadsList, ReadsSetOf}
 use Rattle.rasn_types.specs.Shapes.{Tree, items, Shape, list, set_of, Admits, constraint_of}
 use Rattle.rasn_de.specs.declared.ber.de.parser.ParseError.TheVariants.{SizeConstraintNotSatisfied}
@@ -16,7 +15,6 @@ use Rattle.rasn_de.specs.declared.ber.de.constructed.ConstructedHeader.{Construc
 use Rattle.rasn_de.specs.Constructed.{sequence_header, list_header, prefix_header, contents_state, DecodesInside}
 use Rattle.rasn_de.specs.SequenceOf.{ReadsElements, ReadsSetElements, DecodesElements, DecodesElementsInOrder, DecodesSized}
 use Rattle.rasn_de.proofs.Leaves.Outcomes.{alloc_failed}
-use Rattle.rasn_de.proofs.Constructed.Opening.{kept}
 use Rattle.rasn_de.specs.SetPartTypes.{DecodesSetPartContents}
 use Rattle.rasn_de.proofs.Constructed.Steps.{rules_same, inside_by}
 use Rattle.rasn_de.proofs.Constructed.SetOfElements.{each_decodes, in_order_decodes, each_leaves, in_order_leaves}
@@ -29,7 +27,7 @@ use Rattle.rasn_schema.specs.Shapes.{type_by, components_by, known_parts, set_am
 use Rattle.rasn_dynamic.specs.Inside.{ReadsInside, DecodesTree}
 use Rattle.rasn_dynamic.specs.Making.{these}
 use Rattle.rasn_dynamic.specs.Sets.{is_extensible, named_components}
-use Rattle.rasn_dynamic.specs.Typed.{Makes, elements, DecodesComponents, MayRunOut, element_count, IsSized, HoldsOthers, HoldsElements, CountsElements, DecodesContents, DecodesType}
+use Rattle.rasn_dynamic.specs.Typed.{Makes, elements, element_count, IsSized, HoldsElements, CountsElements, DecodesContents, DecodesType}
 use Rattle.rasn_dynamic.specs.Calls.{names_of}
 use Rattle.rasn_dynamic.proofs.Contents.{inside_prefix, inside_seq, inside_seq_got, inside_set}
 use Rattle.rasn_dynamic.proofs.Inside.{inside_decodes}
@@ -56,18 +54,6 @@ module _ (read : Call Tree) (tag : Tag) (c : Constraints) (d : ConstructedHeader
           (λ b. a (subst (Admits ◌≤◌ c.size) (sym g) b)),
           rules_same old new (SizeConstraintNotSatisfied (element_count t) (constraint_of c.size)) x k.0 (subst (λ z. IsErrorOf (SizeConstraintNotSatisfied z (constraint_of c.size)) new x) g w),
         )
-
-pub holds_others : (ty : «Type») → HoldsElements ty → HoldsOthers ty
-holds_others (Leaf kind tag c names) h = absurd h
-holds_others (Enumerated tag ns) h = absurd h
-holds_others (Any tag) h = absurd h
-holds_others Unknown h = absurd h
-holds_others (Tagged tag k) h = tt
-holds_others (Choice name ks) h = absurd h
-holds_others (Sequence tag ps) h = tt
-holds_others (Set name tag ps) h = tt
-holds_others (SequenceOf tag k c) h = tt
-holds_others (SetOf tag k c) h = tt
 
 pub is_counted : (ty : «Type») (n : ℕ) (t : Tree) → HoldsElements ty → CountsElements ty n t → n ≡ element_count t
 is_counted (Leaf kind tag c names) n t h k = absurd h
@@ -125,58 +111,12 @@ module _ (s : Shape) (tag : Tag) (c : Constraints) (old : State) (o : old.depth 
       (λ h q left w. (set_elements_read s (contents_state (list_header tag) old h) q left w).exact) r new k in
       record { stays = m.0.stays; end = m.0.end; exact = m.1 }
 
--- ---- types
-
-module _ (f : ℕ → Shape) (ty : «Type») (old : State) (r : Result Tree DecodeError) (new : State) where
-  -- What is read inside, if the type is this one and the header that one.
-  abbrev Holds : «Type» → ConstructedHeader → Type 0
-  Holds t d = DecodesInside (DecodesContents f t) d old r new
-
-  abbrev Bounds : «Type» → Tag → Constraints → Type 0
-  Bounds t tag c = DecodesSized (DecodesContents f t) element_count tag c old r new
-
-  moved : (t : «Type») (d e : ConstructedHeader) → ty ≡ t → d ≡ e → Holds ty d → Holds t e
-  moved t d e i j k = subst (Holds t) j (subst (λ z. Holds z d) i k)
-
-  pub by_prefix : (tag : Tag) (k : TypeId) (d : ConstructedHeader) → ty ≡ Tagged tag k → d ≡ prefix_header tag → Holds ty d → DecodesType f ty old r new
-  by_prefix tag k d i j h = subst (λ z. DecodesType f z old r new) (sym i) (moved (Tagged tag k) d (prefix_header tag) i j h)
-
-  pub by_sequence : (tag : Tag) (ps : Vec Component Global) (d : ConstructedHeader) → ty ≡ Sequence tag ps → d ≡ sequence_header tag → Holds ty d → DecodesType f ty old r new
-  by_sequence tag ps d i j h = subst (λ z. DecodesType f z old r new) (sym i) (moved (Sequence tag ps) d (sequence_header tag) i j h)
-
-  pub by_set : (name : String Global) (tag : Tag) (ps : Vec Component Global) (d : ConstructedHeader) → ty ≡ Set name tag ps → d ≡ sequence_header tag → Holds ty d → DecodesType f ty old r new
-  by_set name tag ps d i j h = subst (λ z. DecodesType f z old r new) (sym i) (moved (Set name tag ps) d (sequence_header tag) i j h)
-
-  pub by_list : (tag : Tag) (k : TypeId) (c : Constraints) → ty ≡ SequenceOf tag k c → Bounds ty tag c → DecodesType f ty old r new
-  by_list tag k c i h = subst (λ z. DecodesType f z old r new) (sym i) (subst (λ z. Bounds z tag c) i h)
-
-  pub by_set_of : (tag : Tag) (k : TypeId) (c : Constraints) → ty ≡ SetOf tag k c → Bounds ty tag c → DecodesType f ty old r new
-  by_set_of tag k c i h = subst (λ z. DecodesType f z old r new) (sym i) (subst (λ z. Bounds z tag c) i h)
-
 -- ---- contents
-
-module _ (f : ℕ → Shape) (qs : List Component) (ps : Vec Component Global) (same : qs ≡ ps.items) (old new : State) where
-  pub sequence_fails : (tag : Tag) (e : DecodeError) → DecodesComponents (components_by f qs) old (Err e) new → DecodesContents f (Sequence tag ps) old (Err e) new
-  sequence_fails tag e h = subst (λ l. DecodesComponents (components_by f l) old (Err e) new) same h
-
-  pub sequence_made : (tag : Tag) (ts : List Tree) → DecodesComponents (components_by f qs) old (Ok ts) new → DecodesContents f (Sequence tag ps) old (Ok (items ts)) new
-  sequence_made tag ts h = (ts, refl, subst (λ l. DecodesComponents (components_by f l) old (Ok ts) new) same h)
 
 -- Of a SET, these are its named components, and there are unknown ones or not.
 module _ (f : ℕ → Shape) (extensible : Bool) (qs : List Component) (ps : List Component) (marked : extensible ≡ is_extensible f ps) (same : qs ≡ named_components f ps) where
   pub named_so : (P : Bool → List Component → Type 0) → P extensible qs → P (is_extensible f ps) (named_components f ps)
   named_so P h = subst (λ l. P (is_extensible f ps) l) same (subst (λ b. P b qs) marked h)
-
-module _ (f : ℕ → Shape) (extensible : Bool) (qs : List Component) (ps : Vec Component Global) (marked : extensible ≡ is_extensible f ps.items) (same : qs ≡ named_components f ps.items) (old new : State) where
-  pub set_fails : (name : String Global) (tag : Tag) (e : DecodeError) → MayRunOut (DecodesSetPartContents extensible (components_by f qs) items (names_of qs)) old (Err e) new → DecodesContents f (Set name tag ps) old (Err e) new
-  set_fails name tag e h = named_so f extensible qs ps.items marked same (λ b l. MayRunOut (DecodesSetPartContents b (components_by f l) items (names_of l)) old (Err e) new) h
-
-  pub set_made : (name : String Global) (tag : Tag) (ts : List Tree) → DecodesSetPartContents extensible (components_by f qs) items (names_of qs) old (Ok ts) new → DecodesContents f (Set name tag ps) old (Ok (items ts)) new
-  set_made name tag ts h = (ts, refl, named_so f extensible qs ps.items marked same (λ b l. DecodesSetPartContents b (components_by f l) items (names_of l) old (Ok ts) new) h)
-
--- Memory runs out before anything is read.
-pub set_runs_out : (f : ℕ → Shape) (name : String Global) (tag : Tag) (ps : Vec Component Global) (old : State) (e : DecodeError) → IsOutOfMemory e.kind → DecodesContents f (Set name tag ps) old (Err e) old
-set_runs_out f name tag ps old e m = inr (m, kept old)
 
 -- A value of a type that holds others is one that the grammar relates.
 module _ (f : ℕ → Shape) where

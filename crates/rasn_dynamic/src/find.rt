@@ -19,8 +19,9 @@ use crate::refusal::Refusal;
 use crate::set::{component_for, named_components};
 use crate::span::no_list;
 use crate::trace::octets_after;
+use crate::walk::new_walk;
 use rasn_de::ber::de::{ConstructedHeader, Decoder, DecoderOptions};
-use rasn_schema::{Alternative, Component, Schema, Type, TypeId, alternative_for, type_at};
+use rasn_schema::{Alternative, Component, Schema, Type, TypeId, Value, alternative_for, type_at};
 use rasn_types::error::DecodeError;
 use rasn_types::types::{Codec, Tag};
 use std::alloc::Global;
@@ -118,21 +119,11 @@ fn pass_component(
     requires lawful { IsReadable (shape_of_type types.now below component.now.type_id.0) }
     ensures { OnOk result (PassesBy (ReadsComponent (presence_in (shape_of_type types.now below) component.now) (shape_of_type types.now below component.now.type_id.0)) decoder.old decoder.new) }
 {
-    let mut trace = None;
-    match decode_component::<Nothing>(
-        decoder,
-        &mut trace,
-        &mut no_list(),
-        types,
-        below,
-        component,
-        0,
-    ) {
-        Ok(value) => {
-            drop(value);
-            Ok(())
-        }
-        Err(error) => Err(error),
+    let mut walk = new_walk(decoder.codec(), no_list());
+    let mut value = Value::Absent;
+    match decode_component::<Nothing>(decoder, &mut walk, types, below, component, 0, &mut value) {
+        Ok(()) => Ok(()),
+        Err(_) => Err(walk.error),
     }
 }
 
@@ -184,21 +175,11 @@ fn pass_member(
     ensures { OnOk result (PassesPresent (presence_in (shape_of_type types.now below) component.now) (shape_of_type types.now below component.now.type_id.0) decoder.old decoder.new) }
 {
     let left = decoder.remaining().len();
-    let mut trace = None;
-    match decode_present::<Nothing>(
-        decoder,
-        &mut trace,
-        &mut no_list(),
-        types,
-        below,
-        component,
-        0,
-    ) {
-        Ok(value) => {
-            drop(value);
-            check_taken(decoder, left)
-        }
-        Err(error) => Err(error),
+    let mut walk = new_walk(decoder.codec(), no_list());
+    let mut value = Value::Absent;
+    match decode_present::<Nothing>(decoder, &mut walk, types, below, component, 0, &mut value) {
+        Ok(()) => check_taken(decoder, left),
+        Err(_) => Err(walk.error),
     }
 }
 
@@ -256,13 +237,11 @@ fn pass_element(
     ensures { OnOk result (PassesElement (shape_of_type types.now below element.0) decoder.old decoder.new) }
 {
     let left = decoder.remaining().len();
-    let mut trace = None;
-    match decode_at::<Nothing>(decoder, &mut trace, &mut no_list(), types, below, element) {
-        Ok(value) => {
-            drop(value);
-            check_taken(decoder, left)
-        }
-        Err(error) => Err(error),
+    let mut walk = new_walk(decoder.codec(), no_list());
+    let mut value = Value::Absent;
+    match decode_at::<Nothing>(decoder, &mut walk, types, below, element, &mut value) {
+        Ok(()) => check_taken(decoder, left),
+        Err(_) => Err(walk.error),
     }
 }
 
@@ -380,17 +359,17 @@ fn read_part<'input>(place: &mut Place<'input>, types: &[Type]) -> Result<Part<'
     ensures at { IfOk result (λ p. (p.id ≡ place.old.id) × (p.offset + length place.old.decoder.rest ≡ place.old.end)) }
 {
     let start = place.decoder.remaining();
-    let mut trace = None;
+    let mut walk = new_walk(place.decoder.codec(), no_list());
+    let mut value = Value::Absent;
     match decode_at::<Nothing>(
         &mut place.decoder,
-        &mut trace,
-        &mut no_list(),
+        &mut walk,
         types,
         place.levels,
         place.id,
+        &mut value,
     ) {
-        Ok(value) => {
-            drop(value);
+        Ok(()) => {
             let octets = octets_before(start, place.decoder.remaining());
             let (header_len, is_indefinite) = part_header(place.decoder.alloc(), octets)?;
             Ok(Part {
@@ -401,7 +380,7 @@ fn read_part<'input>(place: &mut Place<'input>, types: &[Type]) -> Result<Part<'
                 octets,
             })
         }
-        Err(error) => Err(error),
+        Err(_) => Err(walk.error),
     }
 }
 

@@ -24,6 +24,7 @@ mod span;
 mod steps;
 mod trace;
 mod unfit;
+mod walk;
 mod write_leaf;
 mod writer;
 

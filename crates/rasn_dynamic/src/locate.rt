@@ -13,6 +13,7 @@ use crate::reader::decode_at;
 use crate::refusal::Refusal;
 use crate::span::{Spans, no_list};
 use crate::trace::{Fault, octets_left};
+use crate::walk::new_walk;
 use rasn_de::ber::de::{Decoder, DecoderOptions};
 use rasn_schema::{Schema, TypeId, Value};
 use rasn_types::error::{DecodeError, DecodeErrorKind};
@@ -93,17 +94,21 @@ pub(crate) fn read_first<'input, M: Made>(
     let mut decoder = Decoder::new(alloc, input, DecoderOptions::of(rule));
     // The octets have a number of this type, so the places in them have too.
     let _ = octets_left(&decoder);
-    let mut trace = None;
+    let mut walk = new_walk(rule, std::mem::replace(spans, no_list()));
+    let mut value = Value::Absent;
     match decode_at::<M>(
         &mut decoder,
-        &mut trace,
-        spans,
+        &mut walk,
         schema.types(),
         usize::MAX,
         id,
+        &mut value,
     ) {
-        Ok(value) => Ok((value, decoder.remaining())),
-        Err(error) => Err(refusal_of(alloc, error, trace, id, input.len())),
+        Ok(()) => {
+            *spans = walk.spans;
+            Ok((value, decoder.remaining()))
+        }
+        Err(_) => Err(refusal_of(alloc, walk.error, walk.fault, id, input.len())),
     }
 }
 

@@ -4,16 +4,14 @@ ghost use Rattle.rasn_schema.specs.Shapes.{shape_of_type, IsReadable};
 ghost use Rattle.rasn_schema.specs.Trees.{tree_of};
 ghost use Rattle.rasn_schema.specs.Fitting.{Fits};
 ghost use Rattle.rasn_dynamic.specs.Inside.{DecodesTree};
-ghost use Rattle.rasn_dynamic.specs.Making.{Making};
+ghost use Rattle.rasn_dynamic.specs.Making.{Making, outcome};
 ghost use Rattle.rasn_dynamic.specs.Faults.{IsFaultIn, IsOnly, TellsOf};
 ghost use Rattle.rasn_dynamic.specs.Listed.{Lists, Inside, PartListed};
 
 use crate::reader::decode_part;
-use crate::span::Spans;
-use crate::trace::Fault;
+use crate::walk::{Refused, Walk};
 use rasn_de::ber::de::Decoder;
 use rasn_schema::{Type, TypeId, Value};
-use rasn_types::error::DecodeError;
 
 /// What a reader makes of what it reads.
 pub trait Made {
@@ -25,20 +23,20 @@ pub trait Made {
     /// Reads a part and makes its value, if the reader itself makes none.
     fn decode_value<'input>(
         decoder: &mut Decoder<'input>,
-        trace: &mut Option<Fault>,
-        spans: &mut Spans<'input>,
+        walk: &mut Walk<'input>,
         types: &[Type],
         levels: usize,
         id: TypeId,
         index: usize,
-    ) -> Option<Result<Value<'input>, DecodeError>>
+        out: &mut Value<'input>,
+    ) -> Option<Result<(), Refused>>
         requires lawful { IsReadable (shape_of_type types.now levels id.0) }
-        requires clear { trace.old ≡ None }
-        ensures reads { MatchOption result ((KEEP ≡ true) × (decoder.new ≡ decoder.old) × (trace.new ≡ None)) (λ r. Making true tree_of (DecodesTree (shape_of_type types.now levels id.0)) decoder.old r decoder.new) }
-        ensures fits { IfSome result (λ r. IfOk r (λ v. Fits types.now levels id.0 v)) }
-        ensures rules { IfSome result (λ r. IfErr r (λ e. e.codec ≡ decoder.old.rule)) }
-        ensures told { IfSome result (λ r. TellsOf (IsFaultIn types.now levels (IsOnly index id.0 decoder.old) decoder.old decoder.old) r trace.new) }
-        ensures listed { MatchOption result (spans.new ≡ spans.old) (λ r. IfOk r (λ v. Lists (λ b es. PartListed (shape_of_type types.now levels) levels (Inside types.now levels) id.0 index b decoder.old decoder.new es) spans.old spans.new)) };
+        requires clear { walk.old.fault ≡ None }
+        ensures reads { MatchOption result ((KEEP ≡ true) × (decoder.new ≡ decoder.old) × (walk.new.fault ≡ None)) (λ r. Making true tree_of (DecodesTree (shape_of_type types.now levels id.0)) decoder.old (outcome r out.new walk.new.error) decoder.new) }
+        ensures fits { IfSome result (λ r. IfOk (outcome r out.new walk.new.error) (λ v. Fits types.now levels id.0 v)) }
+        ensures rules { IfSome result (λ r. IfErr (outcome r out.new walk.new.error) (λ e. e.codec ≡ decoder.old.rule)) }
+        ensures told { IfSome result (λ r. TellsOf (IsFaultIn types.now levels (IsOnly index id.0 decoder.old) decoder.old decoder.old) (outcome r out.new walk.new.error) walk.new.fault) }
+        ensures listed { MatchOption result (walk.new.spans ≡ walk.old.spans) (λ r. IfOk (outcome r out.new walk.new.error) (λ v. Lists (λ b es. PartListed (shape_of_type types.now levels) levels (Inside types.now levels) id.0 index b decoder.old decoder.new es) walk.old.spans walk.new.spans)) };
 }
 
 /// Values.
@@ -55,13 +53,13 @@ impl Made for Values {
     #[inline(always)]
     fn decode_value<'input>(
         _decoder: &mut Decoder<'input>,
-        _trace: &mut Option<Fault>,
-        _spans: &mut Spans<'input>,
+        _walk: &mut Walk<'input>,
         _types: &[Type],
         _levels: usize,
         _id: TypeId,
         _index: usize,
-    ) -> Option<Result<Value<'input>, DecodeError>> {
+        _out: &mut Value<'input>,
+    ) -> Option<Result<(), Refused>> {
         None
     }
 }
@@ -73,13 +71,13 @@ impl Made for Nothing {
 
     fn decode_value<'input>(
         decoder: &mut Decoder<'input>,
-        trace: &mut Option<Fault>,
-        spans: &mut Spans<'input>,
+        walk: &mut Walk<'input>,
         types: &[Type],
         levels: usize,
         id: TypeId,
         index: usize,
-    ) -> Option<Result<Value<'input>, DecodeError>> {
-        Some(decode_part::<Values>(decoder, trace, spans, types, levels, id, index))
+        out: &mut Value<'input>,
+    ) -> Option<Result<(), Refused>> {
+        Some(decode_part::<Values>(decoder, walk, types, levels, id, index, out))
     }
 }

@@ -55,7 +55,7 @@ pub fn parts_of<'input>(
     ensures located { IfErr result (λ r. IsOutOfMemory r.error.kind ⊎ IsLocated schema.now.types.items rule id.0 input.now r) }
     ensures rules { IfErr result (λ r. r.error.codec ≡ rule) }
 {
-    let mut spans = new_list(alloc);
+    let mut spans = new_list(alloc, input.len());
     let place = note(&mut spans, id, 0, usize::MAX, input);
     match read_first::<Nothing>(alloc, rule, schema, id, input, &mut spans) {
         Ok((value, rest)) => {

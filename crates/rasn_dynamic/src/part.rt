@@ -1,5 +1,5 @@
 //! A part of a message.
-ghost use Rattle.std.specs.Prelude.{◌≡◌, ◌+◌, ◌≤◌, length, IfOk};
+ghost use Rattle.std.specs.Prelude.{◌≡◌, ◌+◌, ◌≤◌, true, false, length, IfOk};
 ghost use Rattle.rasn_dynamic.specs.Parts.{IsHeader, IsPartHeader, end_len, AreContents};
 
 use crate::trace::octets_after;
@@ -49,6 +49,26 @@ impl<'input> Part<'input> {
     }
 }
 
+/// Returns whether octets begin with an encoding that has one identifier octet and one length
+/// octet.
+fn has_short_header(octets: &[u8]) -> bool
+    ensures { result ≡ true → IsHeader octets.now 2 false }
+{
+    let [first, after @ ..] = octets else {
+        return false;
+    };
+    let [len, contents @ ..] = after else {
+        return false;
+    };
+    if *first % 32 == 31 {
+        return false;
+    }
+    if *first < 64 && *first % 32 == 0 {
+        return false;
+    }
+    *len < 128 && *len as usize <= contents.len()
+}
+
 /// Returns the number of identifier and length octets of a part with these octets, and whether its
 /// length is indefinite.
 ///
@@ -59,6 +79,9 @@ pub fn part_header(alloc: Global, octets: &[u8]) -> Result<(usize, bool), Decode
 {
     if octets.is_empty() {
         return Ok((0, false));
+    }
+    if has_short_header(octets) {
+        return Ok((2, false));
     }
     header_of(alloc, octets)
 }

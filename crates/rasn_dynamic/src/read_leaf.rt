@@ -3,24 +3,23 @@ ghost use Rattle.std.specs.Prelude.{◌≡◌, true, ◌++◌, ◌∷◌, [], On
 ghost use Rattle.rasn_types.specs.Errors.{IsOutOfMemory};
 ghost use Rattle.rasn_types.specs.Numbered.{fit_isize};
 ghost use Rattle.rasn_types.specs.CharacterString.{string_kind};
-ghost use Rattle.rasn_types.specs.Shapes.{leaf, any, unknown, looked_for, fixed, integer, enumerated, utc_time};
+ghost use Rattle.rasn_types.specs.Shapes.{leaf, any, unknown, looked_for, fixed, integer, every, enumerated, object_identifier, bit_string, octet_string, bmp, utc_time};
 ghost use Rattle.rasn_types.specs.Trees.{unconstrained};
 ghost use Rattle.rasn_types.specs.Truth.{IsWhether};
 ghost use Rattle.rasn_de.specs.Decodes.{Decodes};
 ghost use Rattle.rasn_de.specs.Checks.{Checks};
 ghost use Rattle.rasn_de.specs.Steps.{IsErrorOf};
 ghost use Rattle.rasn_dynamic.specs.Inside.{DecodesTree};
-ghost use Rattle.rasn_dynamic.specs.Making.{Making};
+ghost use Rattle.rasn_dynamic.specs.Making.{Making, outcome, reported};
 ghost use Rattle.rasn_de.specs.declared.ber.de.parser.ParseError.TheVariants.{OutOfMemory, SizeConstraintNotSatisfied};
 ghost use Rattle.rasn_schema.specs.Trees.{tree_of};
 ghost use Rattle.rasn_schema.specs.Shapes.{kind_of, numbers_of};
 ghost use Rattle.rasn_schema.specs.declared.types.LeafKind.TheVariants.{FixedOctetString as FixedKind, UtcTime as UtcTimeKind};
-ghost use Rattle.rasn_dynamic.specs.Inside.{DecodesTree};
-ghost use Rattle.rasn_dynamic.specs.Making.{Making};
 ghost use Rattle.rasn_dynamic.specs.Calls.{IsNumberIn, IsStringOf, FailsAtNumber, FailsAtFixed};
 ghost use Rattle.rasn_schema.specs.Fitting.{FitsLeaf, IsNumber, AreOctets, AreItems, EachFits};
 
 use crate::made::Made;
+use crate::walk::Refused;
 use rasn_de::ber::de::Decoder;
 use rasn_de::de::Decode;
 use rasn_schema::{LeafKind, NamedNumber, Value};
@@ -213,53 +212,225 @@ fn decode_leaf<'input>(
     }
 }
 
+/// Checks an OBJECT IDENTIFIER, which no constraint bounds.
+#[inline(never)]
+fn check_arcs(decoder: &mut Decoder<'_>, error: &mut DecodeError, tag: Tag) -> Result<(), Refused>
+    ensures reads { Checks (leaf object_identifier tag unconstrained) decoder.old (reported result error.new) decoder.new }
+    ensures rules { IfErr (reported result error.new) (λ e. e.codec ≡ decoder.old.rule) }
+{
+    match decoder.check_object_identifier(tag) {
+        Ok(()) => Ok(()),
+        Err(fault) => {
+            *error = fault;
+            Err(Refused)
+        }
+    }
+}
+
+/// Checks an INTEGER of any length.
+#[inline(never)]
+fn check_integer(
+    decoder: &mut Decoder<'_>,
+    error: &mut DecodeError,
+    tag: Tag,
+    bounds: &Constraints,
+) -> Result<(), Refused>
+    ensures reads { Checks (leaf (integer every) tag bounds.now) decoder.old (reported result error.new) decoder.new }
+    ensures rules { IfErr (reported result error.new) (λ e. e.codec ≡ decoder.old.rule) }
+{
+    match decoder.check_integer(tag, bounds) {
+        Ok(()) => Ok(()),
+        Err(fault) => {
+            *error = fault;
+            Err(Refused)
+        }
+    }
+}
+
+/// Checks a BIT STRING.
+#[inline(never)]
+fn check_bits(
+    decoder: &mut Decoder<'_>,
+    error: &mut DecodeError,
+    tag: Tag,
+    bounds: &Constraints,
+) -> Result<(), Refused>
+    ensures reads { Checks (leaf bit_string tag bounds.now) decoder.old (reported result error.new) decoder.new }
+    ensures rules { IfErr (reported result error.new) (λ e. e.codec ≡ decoder.old.rule) }
+{
+    match decoder.decode_bits(tag, bounds) {
+        Ok(value) => {
+            drop(value);
+            Ok(())
+        }
+        Err(fault) => {
+            *error = fault;
+            Err(Refused)
+        }
+    }
+}
+
+/// Checks an OCTET STRING.
+#[inline(never)]
+fn check_octets(
+    decoder: &mut Decoder<'_>,
+    error: &mut DecodeError,
+    tag: Tag,
+    bounds: &Constraints,
+) -> Result<(), Refused>
+    ensures reads { Checks (leaf octet_string tag bounds.now) decoder.old (reported result error.new) decoder.new }
+    ensures rules { IfErr (reported result error.new) (λ e. e.codec ≡ decoder.old.rule) }
+{
+    match decoder.decode_octet_string(tag, bounds) {
+        Ok(value) => {
+            drop(value);
+            Ok(())
+        }
+        Err(fault) => {
+            *error = fault;
+            Err(Refused)
+        }
+    }
+}
+
+/// Checks a BMPString.
+#[inline(never)]
+fn check_bmp(
+    decoder: &mut Decoder<'_>,
+    error: &mut DecodeError,
+    tag: Tag,
+    bounds: &Constraints,
+) -> Result<(), Refused>
+    ensures reads { Checks (leaf bmp tag bounds.now) decoder.old (reported result error.new) decoder.new }
+    ensures rules { IfErr (reported result error.new) (λ e. e.codec ≡ decoder.old.rule) }
+{
+    match decoder.check_bmp_string(tag, bounds) {
+        Ok(()) => Ok(()),
+        Err(fault) => {
+            *error = fault;
+            Err(Refused)
+        }
+    }
+}
+
+/// Checks a UTCTime.
+#[inline(never)]
+fn check_utc_time(
+    decoder: &mut Decoder<'_>,
+    error: &mut DecodeError,
+    tag: Tag,
+    bounds: &Constraints,
+) -> Result<(), Refused>
+    ensures reads { Checks (leaf utc_time tag bounds.now) decoder.old (reported result error.new) decoder.new }
+    ensures rules { IfErr (reported result error.new) (λ e. e.codec ≡ decoder.old.rule) }
+{
+    match UtcTime::decode_with_tag_and_constraints(decoder, tag, bounds) {
+        Ok(value) => {
+            drop(value);
+            Ok(())
+        }
+        Err(fault) => {
+            *error = fault;
+            Err(Refused)
+        }
+    }
+}
+
+/// Checks a value by making it.
+#[inline(never)]
+fn check_by_value(
+    decoder: &mut Decoder<'_>,
+    error: &mut DecodeError,
+    kind: LeafKind,
+    tag: Tag,
+    bounds: &Constraints,
+) -> Result<(), Refused>
+    ensures reads { Checks (leaf (kind_of kind) tag bounds.now) decoder.old (reported result error.new) decoder.new }
+    ensures rules { IfErr (reported result error.new) (λ e. e.codec ≡ decoder.old.rule) }
+{
+    match decode_leaf(decoder, kind, tag, bounds) {
+        Ok(value) => {
+            drop(value);
+            Ok(())
+        }
+        Err(fault) => {
+            *error = fault;
+            Err(Refused)
+        }
+    }
+}
+
 /// Checks a value that holds no other values. Nothing is allocated, except for a string in segments.
 ///
 /// # Errors
 /// As [`decode_leaf`], except `OutOfMemory` for the value.
+#[inline(always)]
 fn check_leaf(
     decoder: &mut Decoder<'_>,
+    error: &mut DecodeError,
     kind: LeafKind,
     tag: Tag,
     bounds: &Constraints,
-) -> Result<(), DecodeError>
-    ensures reads { Checks (leaf (kind_of kind) tag bounds.now) decoder.old result decoder.new }
-    ensures rules { IfErr result (λ e. e.codec ≡ decoder.old.rule) }
+) -> Result<(), Refused>
+    ensures reads { Checks (leaf (kind_of kind) tag bounds.now) decoder.old (reported result error.new) decoder.new }
+    ensures rules { IfErr (reported result error.new) (λ e. e.codec ≡ decoder.old.rule) }
 {
     match kind {
-        LeafKind::ObjectIdentifier => decoder.check_object_identifier(tag),
-        LeafKind::Integer => decoder.check_integer(tag, bounds),
-        LeafKind::Bmp => decoder.check_bmp_string(tag, bounds),
-        _ => match decode_leaf(decoder, kind, tag, bounds) {
-            Ok(value) => {
-                drop(value);
-                Ok(())
-            }
-            Err(error) => Err(error),
-        },
+        LeafKind::ObjectIdentifier => check_arcs(decoder, error, tag),
+        LeafKind::Integer => check_integer(decoder, error, tag, bounds),
+        LeafKind::BitString => check_bits(decoder, error, tag, bounds),
+        LeafKind::OctetString => check_octets(decoder, error, tag, bounds),
+        LeafKind::Bmp => check_bmp(decoder, error, tag, bounds),
+        LeafKind::UtcTime => check_utc_time(decoder, error, tag, bounds),
+        _ => check_by_value(decoder, error, kind, tag, bounds),
+    }
+}
+
+/// Reads a value that holds no other values, and makes it.
+#[inline(never)]
+fn make_leaf<'input>(
+    decoder: &mut Decoder<'input>,
+    error: &mut DecodeError,
+    kind: LeafKind,
+    tag: Tag,
+    bounds: &Constraints,
+    out: &mut Value<'input>,
+) -> Result<(), Refused>
+    ensures reads { Decodes (leaf (kind_of kind) tag bounds.now) tree_of decoder.old (outcome result out.new error.new) decoder.new }
+    ensures fits { IfOk (outcome result out.new error.new) (λ v. FitsLeaf kind v) }
+    ensures rules { IfErr (outcome result out.new error.new) (λ e. e.codec ≡ decoder.old.rule) }
+{
+    match decode_leaf(decoder, kind, tag, bounds) {
+        Ok(value) => {
+            *out = value;
+            Ok(())
+        }
+        Err(fault) => {
+            *error = fault;
+            Err(Refused)
+        }
     }
 }
 
 /// Reads a value that holds no other values, where values are kept; else checks it.
 #[tactic(auto, using(crate::proofs::Making::made_of_value))]
 #[inline(always)]
-pub fn leaf_value<'input, M: Made>(
+pub fn put_leaf<'input, M: Made>(
     decoder: &mut Decoder<'input>,
+    error: &mut DecodeError,
     kind: LeafKind,
     tag: Tag,
     bounds: &Constraints,
-) -> Result<Value<'input>, DecodeError>
-    ensures reads { Making M.KEEP tree_of (DecodesTree (leaf (kind_of kind) tag bounds.now)) decoder.old result decoder.new }
-    ensures fits { M.KEEP ≡ true → IfOk result (λ v. FitsLeaf kind v) }
-    ensures rules { IfErr result (λ e. e.codec ≡ decoder.old.rule) }
+    out: &mut Value<'input>,
+) -> Result<(), Refused>
+    ensures reads { Making M.KEEP tree_of (DecodesTree (leaf (kind_of kind) tag bounds.now)) decoder.old (outcome result out.new error.new) decoder.new }
+    ensures fits { M.KEEP ≡ true → IfOk (outcome result out.new error.new) (λ v. FitsLeaf kind v) }
+    ensures rules { IfErr (outcome result out.new error.new) (λ e. e.codec ≡ decoder.old.rule) }
 {
     if M::KEEP {
-        return decode_leaf(decoder, kind, tag, bounds);
+        return make_leaf(decoder, error, kind, tag, bounds, out);
     }
-    match check_leaf(decoder, kind, tag, bounds) {
-        Ok(()) => Ok(Value::Absent),
-        Err(error) => Err(error),
-    }
+    check_leaf(decoder, error, kind, tag, bounds)
 }
 
 fn has_number(named: &NamedNumber, number: &isize) -> bool
@@ -363,4 +534,80 @@ pub fn decode_unknown_values<'input, M: Made>(
         push::<M>(decoder, &mut values, value)?;
     }
     Ok(Value::Items(values))
+}
+
+/// Reads an ENUMERATED with these numbers, and keeps it where values are kept.
+#[inline(never)]
+pub fn put_number<'input, M: Made>(
+    decoder: &mut Decoder<'input>,
+    error: &mut DecodeError,
+    tag: Tag,
+    numbers: &[NamedNumber],
+    out: &mut Value<'input>,
+) -> Result<(), Refused>
+    ensures reads { Making M.KEEP tree_of (DecodesTree (leaf (enumerated (numbers_of numbers.now)) tag unconstrained)) decoder.old (outcome result out.new error.new) decoder.new }
+    ensures fits { M.KEEP ≡ true → IfOk (outcome result out.new error.new) (λ v. IsNumber (numbers_of numbers.now) v) }
+    ensures rules { IfErr (outcome result out.new error.new) (λ e. e.codec ≡ decoder.old.rule) }
+{
+    match decode_number(decoder, tag, numbers) {
+        Ok(value) => {
+            if M::KEEP {
+                *out = value;
+            }
+            Ok(())
+        }
+        Err(fault) => {
+            *error = fault;
+            Err(Refused)
+        }
+    }
+}
+
+/// Reads a value of an open type, and keeps it where values are kept.
+#[inline(never)]
+pub fn put_any<'input, M: Made>(
+    decoder: &mut Decoder<'input>,
+    error: &mut DecodeError,
+    tag: Tag,
+    out: &mut Value<'input>,
+) -> Result<(), Refused>
+    ensures reads { Making M.KEEP tree_of (DecodesTree (any (looked_for tag))) decoder.old (outcome result out.new error.new) decoder.new }
+    ensures fits { M.KEEP ≡ true → IfOk (outcome result out.new error.new) AreOctets }
+    ensures rules { IfErr (outcome result out.new error.new) (λ e. e.codec ≡ decoder.old.rule) }
+{
+    match decode_any_value(decoder, tag) {
+        Ok(value) => {
+            if M::KEEP {
+                *out = value;
+            }
+            Ok(())
+        }
+        Err(fault) => {
+            *error = fault;
+            Err(Refused)
+        }
+    }
+}
+
+/// Reads unknown values, and keeps them where values are kept.
+#[inline(never)]
+pub fn put_unknown<'input, M: Made>(
+    decoder: &mut Decoder<'input>,
+    error: &mut DecodeError,
+    out: &mut Value<'input>,
+) -> Result<(), Refused>
+    ensures reads { Making M.KEEP tree_of (DecodesTree unknown) decoder.old (outcome result out.new error.new) decoder.new }
+    ensures fits { M.KEEP ≡ true → IfOk (outcome result out.new error.new) (AreItems (EachFits AreOctets)) }
+    ensures rules { IfErr (outcome result out.new error.new) (λ e. e.codec ≡ decoder.old.rule) }
+{
+    match decode_unknown_values::<M>(decoder) {
+        Ok(value) => {
+            *out = value;
+            Ok(())
+        }
+        Err(fault) => {
+            *error = fault;
+            Err(Refused)
+        }
+    }
 }

@@ -1,42 +1,49 @@
 //! Reads a value of a type.
-ghost use Rattle.std.specs.Prelude.{◌≡◌, ◌≢◌, ◌⊎◌, List, [], true, slice_get, None, Err, IfOk, IfErr};
-ghost use Rattle.std.specs.String.{string_bytes};
+ghost use Rattle.std.specs.Prelude.{◌≡◌, ◌≢◌, ◌⊎◌, ◌++◌, ◌∷◌, List, [], length, true, false, slice_get, None, Err, OnOk, IfOk, IfErr};
 ghost use Rattle.rasn_types.specs.Framing.{AreOctets, Ended};
 ghost use Rattle.rasn_types.specs.Errors.{IsOutOfMemory};
-ghost use Rattle.rasn_types.specs.Shapes.{any, unknown as unknown_values, items, sought_by};
+ghost use Rattle.rasn_types.specs.Shapes.{any, unknown as unknown_values, items, sought_by, constraint_of};
 ghost use Rattle.rasn_de.specs.Decodes.{Decodes, DecodesBy};
 ghost use Rattle.rasn_de.specs.Constructed.{DecodesInside};
 ghost use Rattle.rasn_de.specs.SequenceOf.{DecodesElements, DecodesElementsInOrder, DecodesSized};
 ghost use Rattle.rasn_de.specs.Optional.{NextIs};
 ghost use Rattle.rasn_de.specs.PartTypes.{FailsAtPart, FailsAtOnePart};
 ghost use Rattle.rasn_de.specs.SetPartTypes.{DecodesSetPartContents};
-ghost use Rattle.rasn_dynamic.specs.Sets.{AreLawfulMembers};
+ghost use Rattle.rasn_dynamic.specs.Sets.{AreLawfulMembers, is_extensible, named_components as named_in, last_type as last_in};
 ghost use Rattle.rasn_de.specs.Steps.{IsErrorOf};
-ghost use Rattle.rasn_de.specs.declared.ber.de.parser.ParseError.TheVariants.{UnexpectedExtraData, UnexpectedEmptyInput};
+ghost use Rattle.rasn_de.specs.declared.ber.de.parser.ParseError.TheVariants.{UnexpectedExtraData, UnexpectedEmptyInput, OutOfMemory, SizeConstraintNotSatisfied, Der};
 ghost use Rattle.rasn_schema.specs.declared.types.«Type».{«Type»};
+ghost use Rattle.rasn_schema.specs.declared.types.Presence.TheVariants.{Default};
+ghost use Rattle.rasn_schema.specs.declared.value.Value.{Items, Elements};
+ghost use Rattle.rasn_types.specs.Tags.{IsStrict, eoc};
+ghost use Rattle.rasn_types.specs.Trees.{unconstrained};
+ghost use Rattle.rasn_schema.specs.declared.types.«Type».TheVariants.{Tagged, Sequence, Set, SequenceOf, SetOf};
 ghost use Rattle.rasn_schema.specs.Trees.{tree_of};
-ghost use Rattle.rasn_schema.specs.Shapes.{shape_of_type, type_by, alternatives_by, choice_among, components_by, key_of, presence_in, IsReadable, AreReadable};
+ghost use Rattle.rasn_schema.specs.Shapes.{shape_of_type, type_by, alternatives_by, choice_among, components_by, key_of, presence_in, presence_of, IsReadable, AreReadable};
 ghost use Rattle.rasn_dynamic.specs.Inside.{ReadsSequence, DecodesTree, DecodesComponent};
-ghost use Rattle.rasn_dynamic.specs.Making.{Making, Counting, IsLength, trees_of, these};
-ghost use Rattle.rasn_dynamic.specs.Typed.{element_count, IsSized, HoldsOthers, HoldsElements, CountsElements, MayRunOut, DecodesContents, DecodesType};
-ghost use Rattle.rasn_dynamic.specs.Calls.{nones, names_of, IsKept, DecodesPresent, DecodesMember, IsNoAlternative, IsNoMember};
-ghost use Rattle.rasn_schema.specs.Fitting.{Fits, FitsBy, IsChosen, AlternativeFits, ComponentFits, ComponentsFit, EachFits, AreOctets as AreOctetsValue};
+ghost use Rattle.rasn_dynamic.specs.Making.{Making, Counting, IsLength, outcome, reported, trees_of, these};
+ghost use Rattle.rasn_dynamic.specs.Typed.{Makes, DecodesComponents, elements, element_count, IsSized, CountsElements, MayRunOut, DecodesContents, DecodesType};
+ghost use Rattle.rasn_dynamic.specs.Calls.{Gathers, any_required, is_required, IsMade, AreSettled, nones, names_of, IsKept, DecodesPresent, DecodesMember, IsNoAlternative, IsNoMember};
+ghost use Rattle.rasn_schema.specs.Fitting.{Fits, FitsBy, IsChosen, AlternativeFits, ComponentFits, ComponentsFit, EachFits, AreItems, AreOctets as AreOctetsValue};
 ghost use Rattle.rasn_dynamic.specs.Found.{FoundFit, MembersFit};
 ghost use Rattle.rasn_dynamic.specs.Faults.{IsFault, IsFaultIn, IsFaultOf, IsFaultInside, IsOnly, IsAlternativeAt, IsElementAt, IsComponentAt, IsMemberHere, IsMemberAfter, IsAnyPart, Told, TellsOf, FailsAt, FailsItself, ReadsEachPart, StopsAtChoice, StopsInside, StopsInElements, StopsInOrder, StopsInSequence, StopsAtComponent, IsDefaultWritten, StopsInSet, StopsAtMember};
 ghost use Rattle.rasn_dynamic.specs.Listed.{Lists, Inside, PartsInside, PartListed, UnknownListed, ValueListed, AlternativeListed, InsideListed, ContentsListed, ElementsListed, ComponentsListed, ComponentListed, MembersListed, MemberListed};
-ghost use Rattle.rasn_de.specs.Constructed.{list_header};
+ghost use Rattle.rasn_de.specs.Constructed.{sequence_header, list_header, prefix_header};
+ghost use Rattle.rasn_types.specs.declared.error.decode.DerDecodeErrorKind.TheVariants.{DefaultValuePresent, SetOfOutOfOrder};
+ghost use Rattle.rasn_de.specs.NamedErrors.{IsNamedError, IsNoValidChoice};
 
 use crate::components::{default_present, is_always_there, leaves_all_out, missing};
 use crate::made::Made;
 use crate::order::{is_less, octets_before, out_of_order};
 use crate::read_leaf::{
-    decode_any_value, decode_number, decode_unknown_values, leaf_value, out_of_memory, push,
+    decode_any_value, out_of_memory, put_any, put_leaf, put_number, put_unknown,
 };
 use crate::set::{
     all_absent, component_for, gather, last_type, named_components, no_components, put,
 };
-use crate::span::{Spans, finish, go_inside, go_outside, note};
-use crate::trace::{Fault, add_after, mark, mark_part, octets_after, octets_left, step};
+use crate::span::{finish, go_inside, go_outside, note};
+use crate::trace::{add_after, mark, mark_part, octets_after, octets_left, step};
+use crate::walk::{Refused, Walk, peek, peek_in_order};
 use rasn_de::ber::de::{ConstructedHeader, Decoder};
 use rasn_de::de::Error;
 use rasn_schema::{
@@ -66,79 +73,330 @@ pub fn extra(decoder: &Decoder<'_>, left: usize) -> DecodeError
     }
 }
 
-/// Appends a value, where values are kept. It must have taken some of the input.
+/// Keeps the error that there is no such type.
+#[cold]
+#[inline(never)]
+fn refuse_no_value(error: &mut DecodeError, decoder: &Decoder<'_>)
+    ensures { IsErrorOf UnexpectedEmptyInput decoder.now error.new }
+{
+    *error = no_value(decoder);
+}
+
+/// Keeps the error that a value took nothing.
+#[cold]
+#[inline(never)]
+fn refuse_extra(error: &mut DecodeError, decoder: &Decoder<'_>, left: usize)
+    ensures { IsErrorOf (UnexpectedExtraData left) decoder.now error.new }
+{
+    *error = extra(decoder, left);
+}
+
+/// Keeps the error that memory ran out.
+#[cold]
+#[inline(never)]
+fn refuse_memory(error: &mut DecodeError, decoder: &Decoder<'_>)
+    ensures kind { IsOutOfMemory error.new.kind }
+    ensures told { IsErrorOf OutOfMemory decoder.now error.new }
+{
+    *error = out_of_memory(decoder);
+}
+
+/// Keeps the error that the elements of a SET OF aren't in order.
+#[cold]
+#[inline(never)]
+fn refuse_order(error: &mut DecodeError, decoder: &Decoder<'_>)
+    ensures { IsErrorOf (Der SetOfOutOfOrder) decoder.now error.new }
+{
+    *error = out_of_order(decoder);
+}
+
+/// Keeps the error that a component is its default.
+#[cold]
+#[inline(never)]
+fn refuse_default(error: &mut DecodeError, decoder: &Decoder<'_>)
+    ensures { IsErrorOf (Der DefaultValuePresent) decoder.now error.new }
+{
+    *error = default_present(decoder);
+}
+
+/// Keeps the error that the next tag is none of those in the value with this name.
+#[cold]
+#[inline(never)]
+fn refuse_choice(error: &mut DecodeError, decoder: &Decoder<'_>, name: &str)
+    ensures { IsNamedError (IsNoValidChoice name.now) decoder.now.rule error.new }
+{
+    *error = DecodeError::no_valid_choice(decoder.alloc(), name, decoder.codec());
+}
+
+/// Keeps the error that the number of elements isn't within the bound.
+#[cold]
+#[inline(never)]
+fn refuse_size(
+    error: &mut DecodeError,
+    decoder: &Decoder<'_>,
+    constraints: &Constraints,
+    count: usize,
+)
+    ensures { IsErrorOf (SizeConstraintNotSatisfied count (constraint_of constraints.now.size)) decoder.now error.new }
+{
+    *error = DecodeError {
+        kind: DecodeErrorKind::SizeConstraintNotSatisfied {
+            size: Some(count),
+            expected: constraints.size_bounds(),
+        },
+        codec: decoder.codec(),
+    };
+}
+
+/// Appends a value, where values are kept.
+#[inline(always)]
+fn append<'input, M: Made>(
+    decoder: &Decoder<'input>,
+    error: &mut DecodeError,
+    values: &mut Vec<Value<'input>>,
+    value: Value<'input>,
+) -> Result<(), Refused>
+    ensures ok { M.KEEP ≡ true → OnOk result (values.new.items ≡ values.old.items ++ value.entry ∷ []) }
+    ensures memory { IfErr (reported result error.new) (IsErrorOf OutOfMemory decoder.now) }
+    ensures kind { IfErr (reported result error.new) (λ e. IsOutOfMemory e.kind) }
+    ensures rules { IfErr (reported result error.new) (λ e. e.codec ≡ decoder.now.rule) }
+{
+    if !M::KEEP {
+        return Ok(());
+    }
+    match values.push(value) {
+        Ok(()) => Ok(()),
+        Err(_) => {
+            refuse_memory(error, decoder);
+            Err(Refused)
+        }
+    }
+}
+
+/// Moves a value to the end of a list, where values are kept.
+#[inline(always)]
+fn take<'input, M: Made>(
+    decoder: &Decoder<'input>,
+    error: &mut DecodeError,
+    value: &mut Value<'input>,
+    values: &mut Vec<Value<'input>>,
+) -> Result<(), Refused>
+    ensures ok { M.KEEP ≡ true → OnOk result (values.new.items ≡ values.old.items ++ value.old ∷ []) }
+    ensures memory { IfErr (reported result error.new) (IsErrorOf OutOfMemory decoder.now) }
+    ensures kind { IfErr (reported result error.new) (λ e. IsOutOfMemory e.kind) }
+    ensures rules { IfErr (reported result error.new) (λ e. e.codec ≡ decoder.now.rule) }
+{
+    if !M::KEEP {
+        return Ok(());
+    }
+    append::<M>(
+        decoder,
+        error,
+        values,
+        std::mem::replace(value, Value::Absent),
+    )
+}
+
+/// Moves a value to the end of a list, where values are kept. It must have taken some of the input.
 #[inline(always)]
 fn keep<'input, M: Made>(
     decoder: &Decoder<'input>,
+    error: &mut DecodeError,
     left: usize,
-    value: Value<'input>,
+    value: &mut Value<'input>,
     values: &mut Vec<Value<'input>>,
-) -> Result<(), DecodeError>
-    ensures kept { IsKept M.KEEP left decoder.now value.entry values.old.items result values.new.items }
-    ensures rules { IfErr result (λ e. e.codec ≡ decoder.now.rule) }
+) -> Result<(), Refused>
+    ensures kept { IsKept M.KEEP left decoder.now value.old values.old.items (reported result error.new) values.new.items }
+    ensures rules { IfErr (reported result error.new) (λ e. e.codec ≡ decoder.now.rule) }
 {
     if decoder.remaining().len() == left {
-        return Err(extra(decoder, left));
+        refuse_extra(error, decoder, left);
+        return Err(Refused);
     }
-    push::<M>(decoder, values, value)
+    take::<M>(decoder, error, value, values)
 }
 
 /// Returns an error if the number of elements isn't within the bound.
 #[inline(always)]
 fn check_size(
     decoder: &Decoder<'_>,
+    error: &mut DecodeError,
     constraints: &Constraints,
     count: usize,
-) -> Result<(), DecodeError>
-    ensures sized { IsSized constraints.now decoder.now count result }
-    ensures rules { IfErr result (λ e. e.codec ≡ decoder.now.rule) }
+) -> Result<(), Refused>
+    ensures sized { IsSized constraints.now decoder.now count (reported result error.new) }
+    ensures rules { IfErr (reported result error.new) (λ e. e.codec ≡ decoder.now.rule) }
 {
     if constraints.admits_size(count) {
         return Ok(());
     }
-    Err(DecodeError {
-        kind: DecodeErrorKind::SizeConstraintNotSatisfied {
-            size: Some(count),
-            expected: constraints.size_bounds(),
-        },
-        codec: decoder.codec(),
-    })
+    refuse_size(error, decoder, constraints, count);
+    Err(Refused)
 }
 
-/// Returns the value of a CHOICE, where values are kept.
+/// Makes the value of a CHOICE, where values are kept.
+#[inline(always)]
 fn choose<'input, M: Made>(
     decoder: &Decoder<'input>,
+    error: &mut DecodeError,
     number: usize,
     value: Value<'input>,
-) -> Result<Value<'input>, DecodeError>
-    ensures ok { M.KEEP ≡ true → IfOk result (IsChosen (λ k v. (k ≡ number) × (v ≡ value.entry))) }
-    ensures kind { IfErr result (λ e. IsOutOfMemory e.kind) }
-    ensures rules { IfErr result (λ e. e.codec ≡ decoder.now.rule) }
+    out: &mut Value<'input>,
+) -> Result<(), Refused>
+    ensures ok { M.KEEP ≡ true → IfOk (outcome result out.new error.new) (IsChosen (λ k v. (k ≡ number) × (v ≡ value.entry))) }
+    ensures kind { IfErr (outcome result out.new error.new) (λ e. IsOutOfMemory e.kind) }
+    ensures rules { IfErr (outcome result out.new error.new) (λ e. e.codec ≡ decoder.now.rule) }
 {
     if !M::KEEP {
-        return Ok(Value::Absent);
+        return Ok(());
     }
     match Box::new(decoder.alloc(), value) {
-        Ok(value) => Ok(Value::Chosen(number, value)),
-        Err(_) => Err(out_of_memory(decoder)),
+        Ok(value) => {
+            *out = Value::Chosen(number, value);
+            Ok(())
+        }
+        Err(_) => {
+            refuse_memory(error, decoder);
+            Err(Refused)
+        }
     }
 }
 
 /// Returns an empty list, with room for so many values where values are kept.
+#[inline(always)]
 fn list_for<'input, M: Made>(
     decoder: &Decoder<'input>,
+    error: &mut DecodeError,
     count: usize,
-) -> Result<Vec<Value<'input>>, DecodeError>
-    ensures ok { IfOk result (λ v. v.items ≡ []) }
-    ensures kind { IfErr result (λ e. IsOutOfMemory e.kind) }
-    ensures rules { IfErr result (λ e. e.codec ≡ decoder.now.rule) }
+) -> Result<Vec<Value<'input>>, Refused>
+    ensures ok { IfOk (reported result error.new) (λ v. v.items ≡ []) }
+    ensures kind { IfErr (reported result error.new) (λ e. IsOutOfMemory e.kind) }
+    ensures rules { IfErr (reported result error.new) (λ e. e.codec ≡ decoder.now.rule) }
 {
     if !M::KEEP {
         return Ok(Vec::new(decoder.alloc()));
     }
     match Vec::with_capacity(decoder.alloc(), count) {
         Ok(values) => Ok(values),
-        Err(_) => Err(out_of_memory(decoder)),
+        Err(_) => {
+            refuse_memory(error, decoder);
+            Err(Refused)
+        }
+    }
+}
+
+/// Makes a value of those that it holds in order, where values are kept.
+#[inline(always)]
+fn put_items<'input, M: Made>(values: Vec<Value<'input>>, out: &mut Value<'input>)
+    ensures { M.KEEP ≡ true → out.new ≡ Items values.entry }
+{
+    if M::KEEP {
+        *out = Value::Items(values);
+    }
+}
+
+/// Makes a value of those that it holds in any order, where values are kept.
+#[inline(always)]
+fn put_in_any_order<'input, M: Made>(values: Vec<Value<'input>>, out: &mut Value<'input>)
+    ensures { M.KEEP ≡ true → out.new ≡ Elements values.entry }
+{
+    if M::KEEP {
+        *out = Value::Elements(values);
+    }
+}
+
+/// Returns the values of components that are all absent, where values are kept.
+#[cold]
+#[inline(never)]
+fn leave_all_out<'input, M: Made>(
+    decoder: &Decoder<'input>,
+    error: &mut DecodeError,
+    components: &[Component],
+    values: &mut Vec<Value<'input>>,
+) -> Result<(), Refused>
+    requires { any_required components.now ≡ false }
+    ensures settled { M.KEEP ≡ true → IfOk (outcome result values.new error.new) (λ v. AreSettled components.now (nones components.now) v.items) }
+    ensures memory { IfErr (outcome result values.new error.new) (λ e. IsOutOfMemory e.kind) }
+    ensures rules { IfErr (outcome result values.new error.new) (λ e. e.codec ≡ decoder.now.rule) }
+{
+    match all_absent::<M>(decoder, components) {
+        Ok(all) => {
+            *values = all;
+            Ok(())
+        }
+        Err(fault) => {
+            *error = fault;
+            Err(Refused)
+        }
+    }
+}
+
+/// Makes the value of a component that is absent, where values are kept.
+#[inline(never)]
+fn put_missing<'input, M: Made>(
+    decoder: &Decoder<'input>,
+    error: &mut DecodeError,
+    component: &Component,
+    out: &mut Value<'input>,
+) -> Result<(), Refused>
+    requires { is_required component.now.presence ≡ false }
+    ensures made { IsMade M.KEEP (presence_of component.now.presence) decoder.now (outcome result out.new error.new) }
+    ensures rules { IfErr (outcome result out.new error.new) (λ e. e.codec ≡ decoder.now.rule) }
+{
+    if !M::KEEP {
+        return Ok(());
+    }
+    match missing::<M>(decoder, component) {
+        Ok(value) => {
+            *out = value;
+            Ok(())
+        }
+        Err(fault) => {
+            *error = fault;
+            Err(Refused)
+        }
+    }
+}
+
+/// Returns that no component was read yet.
+fn start_components<'input>(
+    decoder: &Decoder<'input>,
+    error: &mut DecodeError,
+    components: &[Component],
+) -> Result<Vec<Option<Value<'input>>>, Refused>
+    ensures ok { IfOk (reported result error.new) (λ v. v.items ≡ nones components.now) }
+    ensures err { IfErr (reported result error.new) (λ e. IsOutOfMemory e.kind) }
+    ensures rules { IfErr (reported result error.new) (λ e. e.codec ≡ decoder.now.rule) }
+{
+    match no_components(decoder, components) {
+        Ok(found) => Ok(found),
+        Err(fault) => {
+            *error = fault;
+            Err(Refused)
+        }
+    }
+}
+
+/// Returns all components, those that are absent with the values that they have then, where values are kept.
+///
+/// # Errors
+/// Those of [`gather`].
+fn gather_found<'input, M: Made>(
+    decoder: &Decoder<'input>,
+    error: &mut DecodeError,
+    components: &[Component],
+    found: Vec<Option<Value<'input>>>,
+) -> Result<Vec<Value<'input>>, Refused>
+    requires { length found.items ≡ length components.now }
+    ensures gathers { Gathers M.KEEP components.now decoder.now.rule found.entry.items (reported result error.new) }
+    ensures rules { IfErr (reported result error.new) (λ e. e.codec ≡ decoder.now.rule) }
+{
+    match gather::<M>(decoder, components, found) {
+        Ok(values) => Ok(values),
+        Err(fault) => {
+            *error = fault;
+            Err(Refused)
+        }
     }
 }
 
@@ -146,30 +404,30 @@ fn list_for<'input, M: Made>(
 /// with this type and this index. If it can't be read, names it.
 fn decode_unknown_component<'input>(
     decoder: &mut Decoder<'input>,
-    trace: &mut Option<Fault>,
-    spans: &mut Spans<'input>,
+    walk: &mut Walk<'input>,
     levels: usize,
     id: TypeId,
     index: usize,
-) -> Result<Value<'input>, DecodeError>
-    requires clear { trace.old ≡ None }
+) -> Result<Value<'input>, Refused>
+    requires clear { walk.old.fault ≡ None }
     requires more { Ended decoder.old.closing decoder.old.rest → ⊥ }
-    ensures reads { Decodes (any None) tree_of decoder.old result decoder.new }
-    ensures fits { IfOk result AreOctetsValue }
-    ensures rules { IfErr result (λ e. e.codec ≡ decoder.old.rule) }
-    ensures told { (types : List «Type») → shape_of_type types levels id.0 ≡ unknown_values → TellsOf (IsFaultIn types levels (IsOnly index id.0 decoder.old) decoder.old decoder.old) result trace.new }
-    ensures listed { IfOk result (λ v. Lists (λ b es. UnknownListed levels id.0 index b decoder.old decoder.new es) spans.old spans.new) }
+    ensures reads { Decodes (any None) tree_of decoder.old (reported result walk.new.error) decoder.new }
+    ensures fits { IfOk (reported result walk.new.error) AreOctetsValue }
+    ensures rules { IfErr (reported result walk.new.error) (λ e. e.codec ≡ decoder.old.rule) }
+    ensures told { (types : List «Type») → shape_of_type types levels id.0 ≡ unknown_values → TellsOf (IsFaultIn types levels (IsOnly index id.0 decoder.old) decoder.old decoder.old) (reported result walk.new.error) walk.new.fault }
+    ensures listed { IfOk (reported result walk.new.error) (λ v. Lists (λ b es. UnknownListed levels id.0 index b decoder.old decoder.new es) walk.old.spans walk.new.spans) }
 {
     let start = decoder.remaining();
-    let place = note(spans, id, index, levels, start);
+    let place = note(&mut walk.spans, id, index, levels, start);
     match decode_any_value(decoder, Tag::EOC) {
         Ok(value) => {
-            finish(spans, place, decoder.remaining());
+            finish(&mut walk.spans, place, decoder.remaining());
             Ok(value)
         }
         Err(error) => {
-            mark_part(decoder.alloc(), trace, id, start.len(), index);
-            Err(error)
+            mark_part(decoder.alloc(), &mut walk.fault, id, start.len(), index);
+            walk.error = error;
+            Err(Refused)
         }
     }
 }
@@ -180,27 +438,27 @@ fn decode_unknown_component<'input>(
 #[inline(always)]
 pub fn decode_at<'input, M: Made>(
     decoder: &mut Decoder<'input>,
-    trace: &mut Option<Fault>,
-    spans: &mut Spans<'input>,
+    walk: &mut Walk<'input>,
     types: &[Type],
     levels: usize,
     id: TypeId,
-) -> Result<Value<'input>, DecodeError>
+    out: &mut Value<'input>,
+) -> Result<(), Refused>
     requires lawful { IsReadable (shape_of_type types.now levels id.0) }
-    requires clear { trace.old ≡ None }
-    ensures reads { Making M.KEEP tree_of (DecodesTree (shape_of_type types.now levels id.0)) decoder.old result decoder.new }
-    ensures nothing { IfErr result (λ e. None ≡ slice_get types.now id.0 → IsErrorOf UnexpectedEmptyInput decoder.old e × (decoder.new ≡ decoder.old)) }
-    ensures fits { M.KEEP ≡ true → IfOk result (λ v. Fits types.now levels id.0 v) }
-    ensures rules { IfErr result (λ e. e.codec ≡ decoder.old.rule) }
-    ensures told { TellsOf (IsFault types.now levels id.0 decoder.old) result trace.new }
-    ensures listed { IfOk result (λ v. Lists (λ b es. PartsInside types.now levels id.0 b decoder.old es) spans.old spans.new) }
+    requires clear { walk.old.fault ≡ None }
+    ensures reads { Making M.KEEP tree_of (DecodesTree (shape_of_type types.now levels id.0)) decoder.old (outcome result out.new walk.new.error) decoder.new }
+    ensures nothing { IfErr (outcome result out.new walk.new.error) (λ e. None ≡ slice_get types.now id.0 → IsErrorOf UnexpectedEmptyInput decoder.old e × (decoder.new ≡ decoder.old)) }
+    ensures fits { M.KEEP ≡ true → IfOk (outcome result out.new walk.new.error) (λ v. Fits types.now levels id.0 v) }
+    ensures rules { IfErr (outcome result out.new walk.new.error) (λ e. e.codec ≡ decoder.old.rule) }
+    ensures told { TellsOf (IsFault types.now levels id.0 decoder.old) (outcome result out.new walk.new.error) walk.new.fault }
+    ensures listed { IfOk (outcome result out.new walk.new.error) (λ v. Lists (λ b es. PartsInside types.now levels id.0 b decoder.old es) walk.old.spans walk.new.spans) }
 {
     let left = decoder.remaining().len();
-    match decode_found::<M>(decoder, trace, spans, types, levels, id) {
-        Ok(value) => Ok(value),
-        Err(error) => {
-            mark(decoder.alloc(), trace, id, left);
-            Err(error)
+    match decode_found::<M>(decoder, walk, types, levels, id, out) {
+        Ok(()) => Ok(()),
+        Err(refused) => {
+            mark(decoder.alloc(), &mut walk.fault, id, left);
+            Err(refused)
         }
     }
 }
@@ -210,57 +468,57 @@ pub fn decode_at<'input, M: Made>(
 #[inline(always)]
 pub fn decode_part<'input, M: Made>(
     decoder: &mut Decoder<'input>,
-    trace: &mut Option<Fault>,
-    spans: &mut Spans<'input>,
+    walk: &mut Walk<'input>,
     types: &[Type],
     levels: usize,
     id: TypeId,
     index: usize,
-) -> Result<Value<'input>, DecodeError>
+    out: &mut Value<'input>,
+) -> Result<(), Refused>
     requires lawful { IsReadable (shape_of_type types.now levels id.0) }
-    requires clear { trace.old ≡ None }
-    ensures reads { Making M.KEEP tree_of (DecodesTree (shape_of_type types.now levels id.0)) decoder.old result decoder.new }
-    ensures fits { M.KEEP ≡ true → IfOk result (λ v. Fits types.now levels id.0 v) }
-    ensures rules { IfErr result (λ e. e.codec ≡ decoder.old.rule) }
-    ensures told { TellsOf (IsFaultIn types.now levels (IsOnly index id.0 decoder.old) decoder.old decoder.old) result trace.new }
-    ensures listed { IfOk result (λ v. Lists (λ b es. PartListed (shape_of_type types.now levels) levels (Inside types.now levels) id.0 index b decoder.old decoder.new es) spans.old spans.new) }
+    requires clear { walk.old.fault ≡ None }
+    ensures reads { Making M.KEEP tree_of (DecodesTree (shape_of_type types.now levels id.0)) decoder.old (outcome result out.new walk.new.error) decoder.new }
+    ensures fits { M.KEEP ≡ true → IfOk (outcome result out.new walk.new.error) (λ v. Fits types.now levels id.0 v) }
+    ensures rules { IfErr (outcome result out.new walk.new.error) (λ e. e.codec ≡ decoder.old.rule) }
+    ensures told { TellsOf (IsFaultIn types.now levels (IsOnly index id.0 decoder.old) decoder.old decoder.old) (outcome result out.new walk.new.error) walk.new.fault }
+    ensures listed { IfOk (outcome result out.new walk.new.error) (λ v. Lists (λ b es. PartListed (shape_of_type types.now levels) levels (Inside types.now levels) id.0 index b decoder.old decoder.new es) walk.old.spans walk.new.spans) }
 {
-    let place = note(spans, id, index, levels, decoder.remaining());
-    match decode_at::<M>(decoder, trace, spans, types, levels, id) {
-        Ok(value) => {
-            finish(spans, place, decoder.remaining());
-            Ok(value)
+    let place = note(&mut walk.spans, id, index, levels, decoder.remaining());
+    match decode_at::<M>(decoder, walk, types, levels, id, out) {
+        Ok(()) => {
+            finish(&mut walk.spans, place, decoder.remaining());
+            Ok(())
         }
-        Err(error) => {
-            step(trace, index);
-            Err(error)
+        Err(refused) => {
+            step(&mut walk.fault, index);
+            Err(refused)
         }
     }
 }
 
 /// Reads such a part and makes its value, even if the reader makes none.
 #[cycle(decode)]
-#[inline(always)]
+#[inline(never)]
 fn decode_compared<'input, M: Made>(
     decoder: &mut Decoder<'input>,
-    trace: &mut Option<Fault>,
-    spans: &mut Spans<'input>,
+    walk: &mut Walk<'input>,
     types: &[Type],
     levels: usize,
     id: TypeId,
     index: usize,
-) -> Result<Value<'input>, DecodeError>
+    out: &mut Value<'input>,
+) -> Result<(), Refused>
     requires lawful { IsReadable (shape_of_type types.now levels id.0) }
-    requires clear { trace.old ≡ None }
-    ensures reads { Making true tree_of (DecodesTree (shape_of_type types.now levels id.0)) decoder.old result decoder.new }
-    ensures fits { IfOk result (λ v. Fits types.now levels id.0 v) }
-    ensures rules { IfErr result (λ e. e.codec ≡ decoder.old.rule) }
-    ensures told { TellsOf (IsFaultIn types.now levels (IsOnly index id.0 decoder.old) decoder.old decoder.old) result trace.new }
-    ensures listed { IfOk result (λ v. Lists (λ b es. PartListed (shape_of_type types.now levels) levels (Inside types.now levels) id.0 index b decoder.old decoder.new es) spans.old spans.new) }
+    requires clear { walk.old.fault ≡ None }
+    ensures reads { Making true tree_of (DecodesTree (shape_of_type types.now levels id.0)) decoder.old (outcome result out.new walk.new.error) decoder.new }
+    ensures fits { IfOk (outcome result out.new walk.new.error) (λ v. Fits types.now levels id.0 v) }
+    ensures rules { IfErr (outcome result out.new walk.new.error) (λ e. e.codec ≡ decoder.old.rule) }
+    ensures told { TellsOf (IsFaultIn types.now levels (IsOnly index id.0 decoder.old) decoder.old decoder.old) (outcome result out.new walk.new.error) walk.new.fault }
+    ensures listed { IfOk (outcome result out.new walk.new.error) (λ v. Lists (λ b es. PartListed (shape_of_type types.now levels) levels (Inside types.now levels) id.0 index b decoder.old decoder.new es) walk.old.spans walk.new.spans) }
 {
-    match M::decode_value(decoder, trace, spans, types, levels, id, index) {
+    match M::decode_value(decoder, walk, types, levels, id, index, out) {
         Some(read) => read,
-        None => decode_part::<M>(decoder, trace, spans, types, levels, id, index),
+        None => decode_part::<M>(decoder, walk, types, levels, id, index, out),
     }
 }
 
@@ -268,28 +526,32 @@ fn decode_compared<'input, M: Made>(
 #[cycle(decode)]
 fn decode_found<'input, M: Made>(
     decoder: &mut Decoder<'input>,
-    trace: &mut Option<Fault>,
-    spans: &mut Spans<'input>,
+    walk: &mut Walk<'input>,
     types: &[Type],
     levels: usize,
     id: TypeId,
-) -> Result<Value<'input>, DecodeError>
+    out: &mut Value<'input>,
+) -> Result<(), Refused>
     requires lawful { IsReadable (shape_of_type types.now levels id.0) }
-    requires clear { trace.old ≡ None }
-    ensures reads { Making M.KEEP tree_of (DecodesTree (shape_of_type types.now levels id.0)) decoder.old result decoder.new }
-    ensures nothing { IfErr result (λ e. None ≡ slice_get types.now id.0 → IsErrorOf UnexpectedEmptyInput decoder.old e × (decoder.new ≡ decoder.old)) }
-    ensures fits { M.KEEP ≡ true → IfOk result (λ v. Fits types.now levels id.0 v) }
-    ensures rules { IfErr result (λ e. e.codec ≡ decoder.old.rule) }
-    ensures told { Told (IsFault types.now levels id.0 decoder.old) result trace.new }
-    ensures itself { IfErr result (λ e. trace.new ≡ None → FailsAt types.now levels id.0 decoder.old e) }
-    ensures listed { IfOk result (λ v. Lists (λ b es. PartsInside types.now levels id.0 b decoder.old es) spans.old spans.new) }
+    requires clear { walk.old.fault ≡ None }
+    ensures reads { Making M.KEEP tree_of (DecodesTree (shape_of_type types.now levels id.0)) decoder.old (outcome result out.new walk.new.error) decoder.new }
+    ensures nothing { IfErr (outcome result out.new walk.new.error) (λ e. None ≡ slice_get types.now id.0 → IsErrorOf UnexpectedEmptyInput decoder.old e × (decoder.new ≡ decoder.old)) }
+    ensures fits { M.KEEP ≡ true → IfOk (outcome result out.new walk.new.error) (λ v. Fits types.now levels id.0 v) }
+    ensures rules { IfErr (outcome result out.new walk.new.error) (λ e. e.codec ≡ decoder.old.rule) }
+    ensures told { Told (IsFault types.now levels id.0 decoder.old) (outcome result out.new walk.new.error) walk.new.fault }
+    ensures itself { IfErr (outcome result out.new walk.new.error) (λ e. walk.new.fault ≡ None → FailsAt types.now levels id.0 decoder.old e) }
+    ensures listed { IfOk (outcome result out.new walk.new.error) (λ v. Lists (λ b es. PartsInside types.now levels id.0 b decoder.old es) walk.old.spans walk.new.spans) }
 {
     if levels == 0 {
-        return Err(no_value(decoder));
+        refuse_no_value(&mut walk.error, decoder);
+        return Err(Refused);
     }
     match type_at(types, id) {
-        Some(ty) => decode_type::<M>(decoder, trace, spans, types, levels - 1, ty),
-        None => Err(no_value(decoder)),
+        Some(ty) => decode_type::<M>(decoder, walk, types, levels - 1, ty, out),
+        None => {
+            refuse_no_value(&mut walk.error, decoder);
+            Err(Refused)
+        }
     }
 }
 
@@ -298,21 +560,21 @@ fn decode_found<'input, M: Made>(
 #[inline(always)]
 fn decode_type<'input, M: Made>(
     decoder: &mut Decoder<'input>,
-    trace: &mut Option<Fault>,
-    spans: &mut Spans<'input>,
+    walk: &mut Walk<'input>,
     types: &[Type],
     below: usize,
     ty: &Type,
-) -> Result<Value<'input>, DecodeError>
+    out: &mut Value<'input>,
+) -> Result<(), Refused>
     requires lawful { IsReadable (type_by (shape_of_type types.now below) ty.now) }
-    requires clear { trace.old ≡ None }
-    ensures exact { Making M.KEEP tree_of (DecodesType (shape_of_type types.now below) ty.now) decoder.old result decoder.new }
-    ensures reads { Making M.KEEP tree_of (DecodesTree (type_by (shape_of_type types.now below) ty.now)) decoder.old result decoder.new }
-    ensures fits { M.KEEP ≡ true → IfOk result (λ v. FitsBy (Fits types.now below) ty.now v) }
-    ensures rules { IfErr result (λ e. e.codec ≡ decoder.old.rule) }
-    ensures told { Told (IsFaultOf types.now below ty.now decoder.old) result trace.new }
-    ensures itself { IfErr result (λ e. trace.new ≡ None → FailsItself (shape_of_type types.now below) ty.now decoder.old e) }
-    ensures listed { IfOk result (λ v. Lists (λ b es. ValueListed (shape_of_type types.now below) below (Inside types.now below) ty.now b decoder.old es) spans.old spans.new) }
+    requires clear { walk.old.fault ≡ None }
+    ensures exact { Making M.KEEP tree_of (DecodesType (shape_of_type types.now below) ty.now) decoder.old (outcome result out.new walk.new.error) decoder.new }
+    ensures reads { Making M.KEEP tree_of (DecodesTree (type_by (shape_of_type types.now below) ty.now)) decoder.old (outcome result out.new walk.new.error) decoder.new }
+    ensures fits { M.KEEP ≡ true → IfOk (outcome result out.new walk.new.error) (λ v. FitsBy (Fits types.now below) ty.now v) }
+    ensures rules { IfErr (outcome result out.new walk.new.error) (λ e. e.codec ≡ decoder.old.rule) }
+    ensures told { Told (IsFaultOf types.now below ty.now decoder.old) (outcome result out.new walk.new.error) walk.new.fault }
+    ensures itself { IfErr (outcome result out.new walk.new.error) (λ e. walk.new.fault ≡ None → FailsItself (shape_of_type types.now below) ty.now decoder.old e) }
+    ensures listed { IfOk (outcome result out.new walk.new.error) (λ v. Lists (λ b es. ValueListed (shape_of_type types.now below) below (Inside types.now below) ty.now b decoder.old es) walk.old.spans walk.new.spans) }
 {
     match ty {
         Type::Leaf {
@@ -320,67 +582,66 @@ fn decode_type<'input, M: Made>(
             tag,
             constraints,
             ..
-        } => leaf_value::<M>(decoder, *kind, *tag, constraints),
-        Type::Enumerated { tag, numbers } => decode_number(decoder, *tag, numbers),
-        Type::Any { tag } => decode_any_value(decoder, *tag),
-        Type::Unknown => decode_unknown_values::<M>(decoder),
+        } => put_leaf::<M>(decoder, &mut walk.error, *kind, *tag, constraints, out),
+        Type::Enumerated { tag, numbers } => {
+            put_number::<M>(decoder, &mut walk.error, *tag, numbers, out)
+        }
+        Type::Any { tag } => put_any::<M>(decoder, &mut walk.error, *tag, out),
+        Type::Unknown => put_unknown::<M>(decoder, &mut walk.error, out),
         Type::Choice { name, alternatives } => {
             decode_choice::<M>(
                 decoder,
-                trace,
-                spans,
+                walk,
                 types,
                 below,
                 name.as_str(),
                 alternatives,
+                out,
             )
         }
-        Type::Tagged { tag, .. } => {
-            decode_inside::<M>(
-                decoder,
-                trace,
-                spans,
-                types,
-                below,
-                ty,
-                ConstructedHeader::prefix(*tag),
-                &mut 0,
-            )
+        Type::Tagged { tag, inner } => {
+            decode_tagged::<M>(decoder, walk, types, below, *tag, *inner, out)
         }
-        Type::Sequence { tag, .. } => {
-            decode_inside::<M>(
-                decoder,
-                trace,
-                spans,
-                types,
-                below,
-                ty,
-                ConstructedHeader::sequence(*tag),
-                &mut 0,
-            )
+        Type::Sequence { tag, components } => {
+            decode_record::<M>(decoder, walk, types, below, *tag, components, out)
         }
-        Type::Set { tag, .. } => {
-            decode_inside::<M>(
-                decoder,
-                trace,
-                spans,
-                types,
-                below,
-                ty,
-                ConstructedHeader::sequence(*tag),
-                &mut 0,
-            )
-        }
+        Type::Set {
+            name,
+            tag,
+            components,
+        } => { decode_members::<M>(decoder, walk, types, below, *tag, name, components, out) }
         Type::SequenceOf {
             tag,
+            element,
             constraints,
-            ..
-        } => decode_list::<M>(decoder, trace, spans, types, below, ty, *tag, constraints),
+        } => {
+            decode_list::<M>(
+                decoder,
+                walk,
+                types,
+                below,
+                *tag,
+                *element,
+                constraints,
+                out,
+            )
+        }
         Type::SetOf {
             tag,
+            element,
             constraints,
-            ..
-        } => decode_list::<M>(decoder, trace, spans, types, below, ty, *tag, constraints),
+        } => {
+            decode_set_of::<M>(
+                decoder,
+                walk,
+                types,
+                below,
+                *tag,
+                *element,
+                constraints,
+                out,
+            )
+        }
     }
 }
 
@@ -389,287 +650,778 @@ fn decode_type<'input, M: Made>(
 /// # Errors
 /// `NoValidChoice` with the name of the CHOICE if the tag is no alternative's, which consumes nothing.
 #[cycle(decode)]
+#[inline(never)]
 fn decode_choice<'input, M: Made>(
     decoder: &mut Decoder<'input>,
-    trace: &mut Option<Fault>,
-    spans: &mut Spans<'input>,
+    walk: &mut Walk<'input>,
     types: &[Type],
     below: usize,
     name: &str,
     alternatives: &[Alternative],
-) -> Result<Value<'input>, DecodeError>
+    out: &mut Value<'input>,
+) -> Result<(), Refused>
     requires lawful { IsReadable (choice_among (alternatives_by (shape_of_type types.now below) alternatives.now)) }
-    requires clear { trace.old ≡ None }
-    ensures reads { Making M.KEEP tree_of (DecodesTree (choice_among (alternatives_by (shape_of_type types.now below) alternatives.now))) decoder.old result decoder.new }
-    ensures fits { M.KEEP ≡ true → IfOk result (λ v. IsChosen (AlternativeFits (Fits types.now below) alternatives.now) v) }
-    ensures unknown { IfErr result (λ e. IsNoAlternative (alternatives_by (shape_of_type types.now below) alternatives.now) name.now decoder.old e decoder.new) }
-    ensures rules { IfErr result (λ e. e.codec ≡ decoder.old.rule) }
-    ensures told { Told (IsFaultIn types.now below (IsAlternativeAt (shape_of_type types.now below) alternatives.now decoder.old) decoder.old decoder.old) result trace.new }
-    ensures itself { IfErr result (λ e. trace.new ≡ None → StopsAtChoice (shape_of_type types.now below) alternatives.now decoder.old e) }
-    ensures listed { IfOk result (λ v. Lists (λ b es. AlternativeListed (shape_of_type types.now below) below (Inside types.now below) alternatives.now b decoder.old es) spans.old spans.new) }
+    requires clear { walk.old.fault ≡ None }
+    ensures reads { Making M.KEEP tree_of (DecodesTree (choice_among (alternatives_by (shape_of_type types.now below) alternatives.now))) decoder.old (outcome result out.new walk.new.error) decoder.new }
+    ensures fits { M.KEEP ≡ true → IfOk (outcome result out.new walk.new.error) (λ v. IsChosen (AlternativeFits (Fits types.now below) alternatives.now) v) }
+    ensures unknown { IfErr (outcome result out.new walk.new.error) (λ e. IsNoAlternative (alternatives_by (shape_of_type types.now below) alternatives.now) name.now decoder.old e decoder.new) }
+    ensures rules { IfErr (outcome result out.new walk.new.error) (λ e. e.codec ≡ decoder.old.rule) }
+    ensures told { Told (IsFaultIn types.now below (IsAlternativeAt (shape_of_type types.now below) alternatives.now decoder.old) decoder.old decoder.old) (outcome result out.new walk.new.error) walk.new.fault }
+    ensures itself { IfErr (outcome result out.new walk.new.error) (λ e. walk.new.fault ≡ None → StopsAtChoice (shape_of_type types.now below) alternatives.now decoder.old e) }
+    ensures listed { IfOk (outcome result out.new walk.new.error) (λ v. Lists (λ b es. AlternativeListed (shape_of_type types.now below) below (Inside types.now below) alternatives.now b decoder.old es) walk.old.spans walk.new.spans) }
 {
-    let tag = decoder.peek_tag()?;
+    let tag = peek(decoder, &mut walk.error)?;
     let Some(number) = alternative_for(types, below, alternatives, tag) else {
-        return Err(DecodeError::no_valid_choice(decoder.alloc(), name, decoder.codec()));
+        refuse_choice(&mut walk.error, decoder, name);
+        return Err(Refused);
     };
     let id = alternatives[number].type_id;
-    let value = decode_part::<M>(decoder, trace, spans, types, below, id, number)?;
-    choose::<M>(decoder, number, value)
+    let mut value = Value::Absent;
+    decode_part::<M>(decoder, walk, types, below, id, number, &mut value)?;
+    choose::<M>(decoder, &mut walk.error, number, value, out)
 }
 
-/// Reads a SEQUENCE OF or a SET OF (X.690 8.10, 8.12).
+// A function for each kind of type reads its header and its contents. Clauses name the type by what
+// its values hold, with the tag universal 0 and no bound: the tag is in the header, and a bound is
+// checked at the end.
+
+/// Reads an explicit tag and the value that it holds (X.690 8.14).
+#[cycle(decode)]
+#[inline(never)]
+fn decode_tagged<'input, M: Made>(
+    decoder: &mut Decoder<'input>,
+    walk: &mut Walk<'input>,
+    types: &[Type],
+    below: usize,
+    tag: Tag,
+    id: TypeId,
+    out: &mut Value<'input>,
+) -> Result<(), Refused>
+    requires lawful { IsReadable (shape_of_type types.now below id.0) }
+    requires clear { walk.old.fault ≡ None }
+    ensures exact { Making M.KEEP tree_of (DecodesInside (DecodesContents (shape_of_type types.now below) (Tagged eoc id)) (prefix_header tag)) decoder.old (outcome result out.new walk.new.error) decoder.new }
+    ensures octets { decoder.old.depth ≢ 0 → AreOctets decoder.old.rest }
+    ensures fits { M.KEEP ≡ true → IfOk (outcome result out.new walk.new.error) (λ v. FitsBy (Fits types.now below) (Tagged eoc id) v) }
+    ensures rules { IfErr (outcome result out.new walk.new.error) (λ e. e.codec ≡ decoder.old.rule) }
+    ensures told { Told (IsFaultInside types.now below (prefix_header tag) (Tagged eoc id) decoder.old) (outcome result out.new walk.new.error) walk.new.fault }
+    ensures itself { IfErr (outcome result out.new walk.new.error) (λ e. walk.new.fault ≡ None → DecodesInside (ReadsEachPart (shape_of_type types.now below) (Tagged eoc id)) (prefix_header tag) decoder.old (Err e) decoder.new) }
+    ensures listed { IfOk (outcome result out.new walk.new.error) (λ v. Lists (λ b es. InsideListed (shape_of_type types.now below) below (Inside types.now below) (prefix_header tag) (Tagged eoc id) b decoder.old es) walk.old.spans walk.new.spans) }
+{
+    decode_tagged_inside::<M>(
+        decoder,
+        walk,
+        types,
+        below,
+        ConstructedHeader::prefix(tag),
+        id,
+        out,
+    )
+}
+
+/// Reads what an explicit tag holds, with the header before it (X.690 8.14).
+#[cycle(decode)]
+#[inline(always)]
+fn decode_tagged_inside<'input, M: Made>(
+    decoder: &mut Decoder<'input>,
+    walk: &mut Walk<'input>,
+    types: &[Type],
+    below: usize,
+    header: ConstructedHeader,
+    id: TypeId,
+    out: &mut Value<'input>,
+) -> Result<(), Refused>
+    requires lawful { IsReadable (shape_of_type types.now below id.0) }
+    requires clear { walk.old.fault ≡ None }
+    ensures exact { Making M.KEEP tree_of (DecodesInside (DecodesContents (shape_of_type types.now below) (Tagged eoc id)) header) decoder.old (outcome result out.new walk.new.error) decoder.new }
+    ensures octets { decoder.old.depth ≢ 0 → AreOctets decoder.old.rest }
+    ensures fits { M.KEEP ≡ true → IfOk (outcome result out.new walk.new.error) (λ v. FitsBy (Fits types.now below) (Tagged eoc id) v) }
+    ensures rules { IfErr (outcome result out.new walk.new.error) (λ e. e.codec ≡ decoder.old.rule) }
+    ensures told { Told (IsFaultInside types.now below header (Tagged eoc id) decoder.old) (outcome result out.new walk.new.error) walk.new.fault }
+    ensures itself { IfErr (outcome result out.new walk.new.error) (λ e. walk.new.fault ≡ None → DecodesInside (ReadsEachPart (shape_of_type types.now below) (Tagged eoc id)) header decoder.old (Err e) decoder.new) }
+    ensures listed { IfOk (outcome result out.new walk.new.error) (λ v. Lists (λ b es. InsideListed (shape_of_type types.now below) below (Inside types.now below) header (Tagged eoc id) b decoder.old es) walk.old.spans walk.new.spans) }
+{
+    // The octets that are left have a number of this type, so the sum in `add_after` has too.
+    let _ = octets_left(decoder);
+    let (mut inner, contents) = match decoder.open(header) {
+        Ok(opened) => opened,
+        Err(error) => {
+            walk.error = error;
+            return Err(Refused);
+        }
+    };
+    let after = go_inside(&mut walk.spans, decoder, &inner);
+    match put_tagged::<M>(&mut inner, walk, types, below, id, out) {
+        Ok(()) => {}
+        Err(refused) => {
+            add_after(&mut walk.fault, octets_after(decoder, &inner));
+            return Err(refused);
+        }
+    }
+    match decoder.close(contents, inner.remaining()) {
+        Ok(()) => {
+            go_outside(&mut walk.spans, after);
+            Ok(())
+        }
+        Err(error) => {
+            walk.error = error;
+            Err(Refused)
+        }
+    }
+}
+
+/// Reads what an explicit tag holds as its value.
+#[cycle(decode)]
+#[inline(always)]
+fn put_tagged<'input, M: Made>(
+    decoder: &mut Decoder<'input>,
+    walk: &mut Walk<'input>,
+    types: &[Type],
+    below: usize,
+    id: TypeId,
+    out: &mut Value<'input>,
+) -> Result<(), Refused>
+    requires lawful { IsReadable (shape_of_type types.now below id.0) }
+    requires clear { walk.old.fault ≡ None }
+    ensures exact { Making M.KEEP tree_of (DecodesContents (shape_of_type types.now below) (Tagged eoc id)) decoder.old (outcome result out.new walk.new.error) decoder.new }
+    ensures fits { M.KEEP ≡ true → IfOk (outcome result out.new walk.new.error) (λ v. FitsBy (Fits types.now below) (Tagged eoc id) v) }
+    ensures rules { IfErr (outcome result out.new walk.new.error) (λ e. e.codec ≡ decoder.old.rule) }
+    ensures told { Told (IsFaultIn types.now below (IsAnyPart (shape_of_type types.now below) (Tagged eoc id) decoder.old) decoder.old decoder.old) (outcome result out.new walk.new.error) walk.new.fault }
+    ensures itself { IfErr (outcome result out.new walk.new.error) (λ e. walk.new.fault ≡ None → StopsInside (shape_of_type types.now below) (Tagged eoc id) decoder.old e) }
+    ensures listed { IfOk (outcome result out.new walk.new.error) (λ v. Lists (λ b es. ContentsListed (shape_of_type types.now below) below (Inside types.now below) (Tagged eoc id) b decoder.old es) walk.old.spans walk.new.spans) }
+{
+    decode_part::<M>(decoder, walk, types, below, id, 0, out)
+}
+
+/// Reads a SEQUENCE (X.690 8.9).
+#[cycle(decode)]
+#[inline(never)]
+fn decode_record<'input, M: Made>(
+    decoder: &mut Decoder<'input>,
+    walk: &mut Walk<'input>,
+    types: &[Type],
+    below: usize,
+    tag: Tag,
+    components: &Vec<Component>,
+    out: &mut Value<'input>,
+) -> Result<(), Refused>
+    requires lawful { AreReadable (components_by (shape_of_type types.now below) components.now.items) }
+    requires clear { walk.old.fault ≡ None }
+    ensures exact { Making M.KEEP tree_of (DecodesInside (DecodesContents (shape_of_type types.now below) (Sequence eoc components.now)) (sequence_header tag)) decoder.old (outcome result out.new walk.new.error) decoder.new }
+    ensures octets { decoder.old.depth ≢ 0 → AreOctets decoder.old.rest }
+    ensures fits { M.KEEP ≡ true → IfOk (outcome result out.new walk.new.error) (λ v. FitsBy (Fits types.now below) (Sequence eoc components.now) v) }
+    ensures rules { IfErr (outcome result out.new walk.new.error) (λ e. e.codec ≡ decoder.old.rule) }
+    ensures told { Told (IsFaultInside types.now below (sequence_header tag) (Sequence eoc components.now) decoder.old) (outcome result out.new walk.new.error) walk.new.fault }
+    ensures itself { IfErr (outcome result out.new walk.new.error) (λ e. walk.new.fault ≡ None → DecodesInside (ReadsEachPart (shape_of_type types.now below) (Sequence eoc components.now)) (sequence_header tag) decoder.old (Err e) decoder.new) }
+    ensures listed { IfOk (outcome result out.new walk.new.error) (λ v. Lists (λ b es. InsideListed (shape_of_type types.now below) below (Inside types.now below) (sequence_header tag) (Sequence eoc components.now) b decoder.old es) walk.old.spans walk.new.spans) }
+{
+    decode_record_inside::<M>(
+        decoder,
+        walk,
+        types,
+        below,
+        ConstructedHeader::sequence(tag),
+        components,
+        out,
+    )
+}
+
+/// Reads a SEQUENCE (X.690 8.9).
+#[cycle(decode)]
+#[inline(always)]
+fn decode_record_inside<'input, M: Made>(
+    decoder: &mut Decoder<'input>,
+    walk: &mut Walk<'input>,
+    types: &[Type],
+    below: usize,
+    header: ConstructedHeader,
+    components: &Vec<Component>,
+    out: &mut Value<'input>,
+) -> Result<(), Refused>
+    requires lawful { AreReadable (components_by (shape_of_type types.now below) components.now.items) }
+    requires clear { walk.old.fault ≡ None }
+    ensures exact { Making M.KEEP tree_of (DecodesInside (DecodesContents (shape_of_type types.now below) (Sequence eoc components.now)) header) decoder.old (outcome result out.new walk.new.error) decoder.new }
+    ensures octets { decoder.old.depth ≢ 0 → AreOctets decoder.old.rest }
+    ensures fits { M.KEEP ≡ true → IfOk (outcome result out.new walk.new.error) (λ v. FitsBy (Fits types.now below) (Sequence eoc components.now) v) }
+    ensures rules { IfErr (outcome result out.new walk.new.error) (λ e. e.codec ≡ decoder.old.rule) }
+    ensures told { Told (IsFaultInside types.now below header (Sequence eoc components.now) decoder.old) (outcome result out.new walk.new.error) walk.new.fault }
+    ensures itself { IfErr (outcome result out.new walk.new.error) (λ e. walk.new.fault ≡ None → DecodesInside (ReadsEachPart (shape_of_type types.now below) (Sequence eoc components.now)) header decoder.old (Err e) decoder.new) }
+    ensures listed { IfOk (outcome result out.new walk.new.error) (λ v. Lists (λ b es. InsideListed (shape_of_type types.now below) below (Inside types.now below) header (Sequence eoc components.now) b decoder.old es) walk.old.spans walk.new.spans) }
+{
+    // The octets that are left have a number of this type, so the sum in `add_after` has too.
+    let _ = octets_left(decoder);
+    let (mut inner, contents) = match decoder.open(header) {
+        Ok(opened) => opened,
+        Err(error) => {
+            walk.error = error;
+            return Err(Refused);
+        }
+    };
+    let after = go_inside(&mut walk.spans, decoder, &inner);
+    match put_record::<M>(&mut inner, walk, types, below, components, out) {
+        Ok(()) => {}
+        Err(refused) => {
+            add_after(&mut walk.fault, octets_after(decoder, &inner));
+            return Err(refused);
+        }
+    }
+    match decoder.close(contents, inner.remaining()) {
+        Ok(()) => {
+            go_outside(&mut walk.spans, after);
+            Ok(())
+        }
+        Err(error) => {
+            walk.error = error;
+            Err(Refused)
+        }
+    }
+}
+
+/// Reads the contents of a SEQUENCE as its value.
+#[cycle(decode)]
+#[inline(always)]
+fn put_record<'input, M: Made>(
+    decoder: &mut Decoder<'input>,
+    walk: &mut Walk<'input>,
+    types: &[Type],
+    below: usize,
+    components: &Vec<Component>,
+    out: &mut Value<'input>,
+) -> Result<(), Refused>
+    requires lawful { AreReadable (components_by (shape_of_type types.now below) components.now.items) }
+    requires clear { walk.old.fault ≡ None }
+    ensures exact { Making M.KEEP tree_of (DecodesContents (shape_of_type types.now below) (Sequence eoc components.now)) decoder.old (outcome result out.new walk.new.error) decoder.new }
+    ensures fits { M.KEEP ≡ true → IfOk (outcome result out.new walk.new.error) (λ v. FitsBy (Fits types.now below) (Sequence eoc components.now) v) }
+    ensures rules { IfErr (outcome result out.new walk.new.error) (λ e. e.codec ≡ decoder.old.rule) }
+    ensures told { Told (IsFaultIn types.now below (IsAnyPart (shape_of_type types.now below) (Sequence eoc components.now) decoder.old) decoder.old decoder.old) (outcome result out.new walk.new.error) walk.new.fault }
+    ensures itself { IfErr (outcome result out.new walk.new.error) (λ e. walk.new.fault ≡ None → StopsInside (shape_of_type types.now below) (Sequence eoc components.now) decoder.old e) }
+    ensures listed { IfOk (outcome result out.new walk.new.error) (λ v. Lists (λ b es. ContentsListed (shape_of_type types.now below) below (Inside types.now below) (Sequence eoc components.now) b decoder.old es) walk.old.spans walk.new.spans) }
+{
+    put_sequence::<M>(decoder, walk, types, below, components, out)
+}
+
+/// Reads a SET (X.690 8.11).
+#[cycle(decode)]
+#[inline(never)]
+fn decode_members<'input, M: Made>(
+    decoder: &mut Decoder<'input>,
+    walk: &mut Walk<'input>,
+    types: &[Type],
+    below: usize,
+    tag: Tag,
+    name: &String,
+    components: &Vec<Component>,
+    out: &mut Value<'input>,
+) -> Result<(), Refused>
+    requires lawful { AreLawfulMembers (components_by (shape_of_type types.now below) (named_in (shape_of_type types.now below) components.now.items)) }
+    requires clear { walk.old.fault ≡ None }
+    ensures exact { Making M.KEEP tree_of (DecodesInside (DecodesContents (shape_of_type types.now below) (Set name.now eoc components.now)) (sequence_header tag)) decoder.old (outcome result out.new walk.new.error) decoder.new }
+    ensures octets { decoder.old.depth ≢ 0 → AreOctets decoder.old.rest }
+    ensures fits { M.KEEP ≡ true → IfOk (outcome result out.new walk.new.error) (λ v. FitsBy (Fits types.now below) (Set name.now eoc components.now) v) }
+    ensures rules { IfErr (outcome result out.new walk.new.error) (λ e. e.codec ≡ decoder.old.rule) }
+    ensures told { Told (IsFaultInside types.now below (sequence_header tag) (Set name.now eoc components.now) decoder.old) (outcome result out.new walk.new.error) walk.new.fault }
+    ensures itself { IfErr (outcome result out.new walk.new.error) (λ e. walk.new.fault ≡ None → DecodesInside (ReadsEachPart (shape_of_type types.now below) (Set name.now eoc components.now)) (sequence_header tag) decoder.old (Err e) decoder.new) }
+    ensures listed { IfOk (outcome result out.new walk.new.error) (λ v. Lists (λ b es. InsideListed (shape_of_type types.now below) below (Inside types.now below) (sequence_header tag) (Set name.now eoc components.now) b decoder.old es) walk.old.spans walk.new.spans) }
+{
+    decode_members_inside::<M>(
+        decoder,
+        walk,
+        types,
+        below,
+        ConstructedHeader::sequence(tag),
+        name,
+        components,
+        out,
+    )
+}
+
+/// Reads a SET (X.690 8.11).
+#[cycle(decode)]
+#[inline(always)]
+fn decode_members_inside<'input, M: Made>(
+    decoder: &mut Decoder<'input>,
+    walk: &mut Walk<'input>,
+    types: &[Type],
+    below: usize,
+    header: ConstructedHeader,
+    name: &String,
+    components: &Vec<Component>,
+    out: &mut Value<'input>,
+) -> Result<(), Refused>
+    requires lawful { AreLawfulMembers (components_by (shape_of_type types.now below) (named_in (shape_of_type types.now below) components.now.items)) }
+    requires clear { walk.old.fault ≡ None }
+    ensures exact { Making M.KEEP tree_of (DecodesInside (DecodesContents (shape_of_type types.now below) (Set name.now eoc components.now)) header) decoder.old (outcome result out.new walk.new.error) decoder.new }
+    ensures octets { decoder.old.depth ≢ 0 → AreOctets decoder.old.rest }
+    ensures fits { M.KEEP ≡ true → IfOk (outcome result out.new walk.new.error) (λ v. FitsBy (Fits types.now below) (Set name.now eoc components.now) v) }
+    ensures rules { IfErr (outcome result out.new walk.new.error) (λ e. e.codec ≡ decoder.old.rule) }
+    ensures told { Told (IsFaultInside types.now below header (Set name.now eoc components.now) decoder.old) (outcome result out.new walk.new.error) walk.new.fault }
+    ensures itself { IfErr (outcome result out.new walk.new.error) (λ e. walk.new.fault ≡ None → DecodesInside (ReadsEachPart (shape_of_type types.now below) (Set name.now eoc components.now)) header decoder.old (Err e) decoder.new) }
+    ensures listed { IfOk (outcome result out.new walk.new.error) (λ v. Lists (λ b es. InsideListed (shape_of_type types.now below) below (Inside types.now below) header (Set name.now eoc components.now) b decoder.old es) walk.old.spans walk.new.spans) }
+{
+    // The octets that are left have a number of this type, so the sum in `add_after` has too.
+    let _ = octets_left(decoder);
+    let (mut inner, contents) = match decoder.open(header) {
+        Ok(opened) => opened,
+        Err(error) => {
+            walk.error = error;
+            return Err(Refused);
+        }
+    };
+    let after = go_inside(&mut walk.spans, decoder, &inner);
+    match put_members::<M>(&mut inner, walk, types, below, name, components, out) {
+        Ok(()) => {}
+        Err(refused) => {
+            add_after(&mut walk.fault, octets_after(decoder, &inner));
+            return Err(refused);
+        }
+    }
+    match decoder.close(contents, inner.remaining()) {
+        Ok(()) => {
+            go_outside(&mut walk.spans, after);
+            Ok(())
+        }
+        Err(error) => {
+            walk.error = error;
+            Err(Refused)
+        }
+    }
+}
+
+/// Reads the contents of a SET as its value.
+#[cycle(decode)]
+#[inline(always)]
+fn put_members<'input, M: Made>(
+    decoder: &mut Decoder<'input>,
+    walk: &mut Walk<'input>,
+    types: &[Type],
+    below: usize,
+    name: &String,
+    components: &Vec<Component>,
+    out: &mut Value<'input>,
+) -> Result<(), Refused>
+    requires lawful { AreLawfulMembers (components_by (shape_of_type types.now below) (named_in (shape_of_type types.now below) components.now.items)) }
+    requires clear { walk.old.fault ≡ None }
+    ensures exact { Making M.KEEP tree_of (DecodesContents (shape_of_type types.now below) (Set name.now eoc components.now)) decoder.old (outcome result out.new walk.new.error) decoder.new }
+    ensures fits { M.KEEP ≡ true → IfOk (outcome result out.new walk.new.error) (λ v. FitsBy (Fits types.now below) (Set name.now eoc components.now) v) }
+    ensures rules { IfErr (outcome result out.new walk.new.error) (λ e. e.codec ≡ decoder.old.rule) }
+    ensures told { Told (IsFaultIn types.now below (IsAnyPart (shape_of_type types.now below) (Set name.now eoc components.now) decoder.old) decoder.old decoder.old) (outcome result out.new walk.new.error) walk.new.fault }
+    ensures itself { IfErr (outcome result out.new walk.new.error) (λ e. walk.new.fault ≡ None → StopsInside (shape_of_type types.now below) (Set name.now eoc components.now) decoder.old e) }
+    ensures listed { IfOk (outcome result out.new walk.new.error) (λ v. Lists (λ b es. ContentsListed (shape_of_type types.now below) below (Inside types.now below) (Set name.now eoc components.now) b decoder.old es) walk.old.spans walk.new.spans) }
+{
+    put_set::<M>(decoder, walk, types, below, name.as_str(), components, out)
+}
+
+/// Reads a SEQUENCE OF (X.690 8.10) of any number of elements, and counts them.
+#[cycle(decode)]
+#[inline(always)]
+fn decode_list_inside<'input, M: Made>(
+    decoder: &mut Decoder<'input>,
+    walk: &mut Walk<'input>,
+    types: &[Type],
+    below: usize,
+    header: ConstructedHeader,
+    element: TypeId,
+    count: &mut usize,
+    out: &mut Value<'input>,
+) -> Result<(), Refused>
+    requires lawful { IsReadable (shape_of_type types.now below element.0) }
+    requires counts { count.old ≡ 0 }
+    requires clear { walk.old.fault ≡ None }
+    ensures exact { Counting M.KEEP tree_of (CountsElements (SequenceOf eoc element unconstrained)) (DecodesInside (DecodesContents (shape_of_type types.now below) (SequenceOf eoc element unconstrained)) header) decoder.old (outcome result out.new walk.new.error) decoder.new count.new }
+    ensures octets { decoder.old.depth ≢ 0 → AreOctets decoder.old.rest }
+    ensures fits { M.KEEP ≡ true → IfOk (outcome result out.new walk.new.error) (λ v. FitsBy (Fits types.now below) (SequenceOf eoc element unconstrained) v) }
+    ensures rules { IfErr (outcome result out.new walk.new.error) (λ e. e.codec ≡ decoder.old.rule) }
+    ensures told { Told (IsFaultInside types.now below header (SequenceOf eoc element unconstrained) decoder.old) (outcome result out.new walk.new.error) walk.new.fault }
+    ensures itself { IfErr (outcome result out.new walk.new.error) (λ e. walk.new.fault ≡ None → DecodesInside (ReadsEachPart (shape_of_type types.now below) (SequenceOf eoc element unconstrained)) header decoder.old (Err e) decoder.new) }
+    ensures listed { IfOk (outcome result out.new walk.new.error) (λ v. Lists (λ b es. InsideListed (shape_of_type types.now below) below (Inside types.now below) header (SequenceOf eoc element unconstrained) b decoder.old es) walk.old.spans walk.new.spans) }
+{
+    // The octets that are left have a number of this type, so the sum in `add_after` has too.
+    let _ = octets_left(decoder);
+    let (mut inner, contents) = match decoder.open(header) {
+        Ok(opened) => opened,
+        Err(error) => {
+            walk.error = error;
+            return Err(Refused);
+        }
+    };
+    let after = go_inside(&mut walk.spans, decoder, &inner);
+    match put_elements::<M>(&mut inner, walk, types, below, element, count, out) {
+        Ok(()) => {}
+        Err(refused) => {
+            add_after(&mut walk.fault, octets_after(decoder, &inner));
+            return Err(refused);
+        }
+    }
+    match decoder.close(contents, inner.remaining()) {
+        Ok(()) => {
+            go_outside(&mut walk.spans, after);
+            Ok(())
+        }
+        Err(error) => {
+            walk.error = error;
+            Err(Refused)
+        }
+    }
+}
+
+/// Reads elements as the value of a SEQUENCE OF.
+#[cycle(decode)]
+#[inline(always)]
+fn put_elements<'input, M: Made>(
+    decoder: &mut Decoder<'input>,
+    walk: &mut Walk<'input>,
+    types: &[Type],
+    below: usize,
+    element: TypeId,
+    count: &mut usize,
+    out: &mut Value<'input>,
+) -> Result<(), Refused>
+    requires lawful { IsReadable (shape_of_type types.now below element.0) }
+    requires counts { count.old ≡ 0 }
+    requires clear { walk.old.fault ≡ None }
+    ensures exact { Counting M.KEEP tree_of (CountsElements (SequenceOf eoc element unconstrained)) (DecodesContents (shape_of_type types.now below) (SequenceOf eoc element unconstrained)) decoder.old (outcome result out.new walk.new.error) decoder.new count.new }
+    ensures fits { M.KEEP ≡ true → IfOk (outcome result out.new walk.new.error) (λ v. FitsBy (Fits types.now below) (SequenceOf eoc element unconstrained) v) }
+    ensures rules { IfErr (outcome result out.new walk.new.error) (λ e. e.codec ≡ decoder.old.rule) }
+    ensures told { Told (IsFaultIn types.now below (IsAnyPart (shape_of_type types.now below) (SequenceOf eoc element unconstrained) decoder.old) decoder.old decoder.old) (outcome result out.new walk.new.error) walk.new.fault }
+    ensures itself { IfErr (outcome result out.new walk.new.error) (λ e. walk.new.fault ≡ None → StopsInside (shape_of_type types.now below) (SequenceOf eoc element unconstrained) decoder.old e) }
+    ensures listed { IfOk (outcome result out.new walk.new.error) (λ v. Lists (λ b es. ContentsListed (shape_of_type types.now below) below (Inside types.now below) (SequenceOf eoc element unconstrained) b decoder.old es) walk.old.spans walk.new.spans) }
+{
+    let mut values = Vec::new(decoder.alloc());
+    decode_elements::<M>(decoder, walk, types, below, element, count, &mut values)?;
+    put_items::<M>(values, out);
+    Ok(())
+}
+
+/// Reads a SET OF (X.690 8.12) of any number of elements, and counts them.
+#[cycle(decode)]
+#[inline(always)]
+fn decode_set_of_inside<'input, M: Made>(
+    decoder: &mut Decoder<'input>,
+    walk: &mut Walk<'input>,
+    types: &[Type],
+    below: usize,
+    header: ConstructedHeader,
+    element: TypeId,
+    count: &mut usize,
+    out: &mut Value<'input>,
+) -> Result<(), Refused>
+    requires lawful { IsReadable (shape_of_type types.now below element.0) }
+    requires counts { count.old ≡ 0 }
+    requires clear { walk.old.fault ≡ None }
+    ensures exact { Counting M.KEEP tree_of (CountsElements (SetOf eoc element unconstrained)) (DecodesInside (DecodesContents (shape_of_type types.now below) (SetOf eoc element unconstrained)) header) decoder.old (outcome result out.new walk.new.error) decoder.new count.new }
+    ensures octets { decoder.old.depth ≢ 0 → AreOctets decoder.old.rest }
+    ensures fits { M.KEEP ≡ true → IfOk (outcome result out.new walk.new.error) (λ v. FitsBy (Fits types.now below) (SetOf eoc element unconstrained) v) }
+    ensures rules { IfErr (outcome result out.new walk.new.error) (λ e. e.codec ≡ decoder.old.rule) }
+    ensures told { Told (IsFaultInside types.now below header (SetOf eoc element unconstrained) decoder.old) (outcome result out.new walk.new.error) walk.new.fault }
+    ensures itself { IfErr (outcome result out.new walk.new.error) (λ e. walk.new.fault ≡ None → DecodesInside (ReadsEachPart (shape_of_type types.now below) (SetOf eoc element unconstrained)) header decoder.old (Err e) decoder.new) }
+    ensures listed { IfOk (outcome result out.new walk.new.error) (λ v. Lists (λ b es. InsideListed (shape_of_type types.now below) below (Inside types.now below) header (SetOf eoc element unconstrained) b decoder.old es) walk.old.spans walk.new.spans) }
+{
+    // The octets that are left have a number of this type, so the sum in `add_after` has too.
+    let _ = octets_left(decoder);
+    let (mut inner, contents) = match decoder.open(header) {
+        Ok(opened) => opened,
+        Err(error) => {
+            walk.error = error;
+            return Err(Refused);
+        }
+    };
+    let after = go_inside(&mut walk.spans, decoder, &inner);
+    match put_elements_in_order::<M>(&mut inner, walk, types, below, element, count, out) {
+        Ok(()) => {}
+        Err(refused) => {
+            add_after(&mut walk.fault, octets_after(decoder, &inner));
+            return Err(refused);
+        }
+    }
+    match decoder.close(contents, inner.remaining()) {
+        Ok(()) => {
+            go_outside(&mut walk.spans, after);
+            Ok(())
+        }
+        Err(error) => {
+            walk.error = error;
+            Err(Refused)
+        }
+    }
+}
+
+/// Reads elements as the value of a SET OF.
+#[cycle(decode)]
+#[inline(always)]
+fn put_elements_in_order<'input, M: Made>(
+    decoder: &mut Decoder<'input>,
+    walk: &mut Walk<'input>,
+    types: &[Type],
+    below: usize,
+    element: TypeId,
+    count: &mut usize,
+    out: &mut Value<'input>,
+) -> Result<(), Refused>
+    requires lawful { IsReadable (shape_of_type types.now below element.0) }
+    requires counts { count.old ≡ 0 }
+    requires clear { walk.old.fault ≡ None }
+    ensures exact { Counting M.KEEP tree_of (CountsElements (SetOf eoc element unconstrained)) (DecodesContents (shape_of_type types.now below) (SetOf eoc element unconstrained)) decoder.old (outcome result out.new walk.new.error) decoder.new count.new }
+    ensures fits { M.KEEP ≡ true → IfOk (outcome result out.new walk.new.error) (λ v. FitsBy (Fits types.now below) (SetOf eoc element unconstrained) v) }
+    ensures rules { IfErr (outcome result out.new walk.new.error) (λ e. e.codec ≡ decoder.old.rule) }
+    ensures told { Told (IsFaultIn types.now below (IsAnyPart (shape_of_type types.now below) (SetOf eoc element unconstrained) decoder.old) decoder.old decoder.old) (outcome result out.new walk.new.error) walk.new.fault }
+    ensures itself { IfErr (outcome result out.new walk.new.error) (λ e. walk.new.fault ≡ None → StopsInside (shape_of_type types.now below) (SetOf eoc element unconstrained) decoder.old e) }
+    ensures listed { IfOk (outcome result out.new walk.new.error) (λ v. Lists (λ b es. ContentsListed (shape_of_type types.now below) below (Inside types.now below) (SetOf eoc element unconstrained) b decoder.old es) walk.old.spans walk.new.spans) }
+{
+    let mut values = Vec::new(decoder.alloc());
+    decode_elements_in_order::<M>(decoder, walk, types, below, element, count, &mut values)?;
+    put_in_any_order::<M>(values, out);
+    Ok(())
+}
+
+/// Reads the components of a SEQUENCE as its value.
+#[cycle(decode)]
+#[inline(always)]
+fn put_sequence<'input, M: Made>(
+    decoder: &mut Decoder<'input>,
+    walk: &mut Walk<'input>,
+    types: &[Type],
+    below: usize,
+    components: &[Component],
+    out: &mut Value<'input>,
+) -> Result<(), Refused>
+    requires lawful { AreReadable (components_by (shape_of_type types.now below) components.now) }
+    requires clear { walk.old.fault ≡ None }
+    ensures exact { Making M.KEEP tree_of (Makes items (DecodesComponents (components_by (shape_of_type types.now below) components.now))) decoder.old (outcome result out.new walk.new.error) decoder.new }
+    ensures fits { M.KEEP ≡ true → IfOk (outcome result out.new walk.new.error) (AreItems (ComponentsFit (Fits types.now below) components.now)) }
+    ensures rules { IfErr (outcome result out.new walk.new.error) (λ e. e.codec ≡ decoder.old.rule) }
+    ensures told { Told (IsFaultIn types.now below (IsComponentAt (shape_of_type types.now below) components.now decoder.old) decoder.old decoder.old) (outcome result out.new walk.new.error) walk.new.fault }
+    ensures itself { IfErr (outcome result out.new walk.new.error) (λ e. walk.new.fault ≡ None → StopsInSequence (shape_of_type types.now below) components.now decoder.old e) }
+    ensures listed { IfOk (outcome result out.new walk.new.error) (λ v. Lists (λ b es. ComponentsListed (shape_of_type types.now below) below (Inside types.now below) components.now b decoder.old es) walk.old.spans walk.new.spans) }
+{
+    let mut values = list_for::<M>(decoder, &mut walk.error, components.len())?;
+    decode_sequence::<M>(decoder, walk, types, below, components, &mut values)?;
+    put_items::<M>(values, out);
+    Ok(())
+}
+
+/// Reads the components of a SET as its value.
+#[cycle(decode)]
+#[inline(never)]
+fn put_set<'input, M: Made>(
+    decoder: &mut Decoder<'input>,
+    walk: &mut Walk<'input>,
+    types: &[Type],
+    below: usize,
+    name: &str,
+    components: &[Component],
+    out: &mut Value<'input>,
+) -> Result<(), Refused>
+    requires lawful { AreLawfulMembers (components_by (shape_of_type types.now below) (named_in (shape_of_type types.now below) components.now)) }
+    requires clear { walk.old.fault ≡ None }
+    ensures exact { Making M.KEEP tree_of (Makes items (MayRunOut (DecodesSetPartContents (is_extensible (shape_of_type types.now below) components.now) (components_by (shape_of_type types.now below) (named_in (shape_of_type types.now below) components.now)) items (names_of (named_in (shape_of_type types.now below) components.now))))) decoder.old (outcome result out.new walk.new.error) decoder.new }
+    ensures fits { M.KEEP ≡ true → IfOk (outcome result out.new walk.new.error) (AreItems (ComponentsFit (Fits types.now below) components.now)) }
+    ensures rules { IfErr (outcome result out.new walk.new.error) (λ e. e.codec ≡ decoder.old.rule) }
+    ensures told { Told (IsFaultIn types.now below (IsMemberAfter (shape_of_type types.now below) (is_extensible (shape_of_type types.now below) components.now) (named_in (shape_of_type types.now below) components.now) (last_in components.now) decoder.old) decoder.old decoder.old) (outcome result out.new walk.new.error) walk.new.fault }
+    ensures itself { IfErr (outcome result out.new walk.new.error) (λ e. walk.new.fault ≡ None → StopsInSet (shape_of_type types.now below) (is_extensible (shape_of_type types.now below) components.now) (named_in (shape_of_type types.now below) components.now) decoder.old e) }
+    ensures listed { IfOk (outcome result out.new walk.new.error) (λ v. Lists (λ b es. MembersListed (shape_of_type types.now below) below (Inside types.now below) (is_extensible (shape_of_type types.now below) components.now) (named_in (shape_of_type types.now below) components.now) (last_in components.now) b decoder.old es) walk.old.spans walk.new.spans) }
+{
+    let (named, extensible) = named_components(types, below, components);
+    let other_id = last_type(components);
+    let found = start_components(decoder, &mut walk.error, named)?;
+    let values = decode_set::<M>(
+        decoder, walk, types, below, name, named, extensible, other_id, found,
+    )?;
+    put_items::<M>(values, out);
+    Ok(())
+}
+
+/// Reads a SEQUENCE OF (X.690 8.10).
 ///
 /// # Errors
 /// `SizeConstraintNotSatisfied` if the number of elements isn't within the bound, which consumes the value.
 #[cycle(decode)]
+#[inline(never)]
 fn decode_list<'input, M: Made>(
     decoder: &mut Decoder<'input>,
-    trace: &mut Option<Fault>,
-    spans: &mut Spans<'input>,
+    walk: &mut Walk<'input>,
     types: &[Type],
     below: usize,
-    ty: &Type,
     tag: Tag,
+    element: TypeId,
     constraints: &Constraints,
-) -> Result<Value<'input>, DecodeError>
-    requires lawful { IsReadable (type_by (shape_of_type types.now below) ty.now) }
-    requires elements { HoldsElements ty.now }
-    requires clear { trace.old ≡ None }
-    ensures exact { Making M.KEEP tree_of (DecodesSized (DecodesContents (shape_of_type types.now below) ty.now) element_count tag constraints.now) decoder.old result decoder.new }
+    out: &mut Value<'input>,
+) -> Result<(), Refused>
+    requires lawful { IsReadable (shape_of_type types.now below element.0) }
+    requires clear { walk.old.fault ≡ None }
+    ensures exact { Making M.KEEP tree_of (DecodesSized (DecodesContents (shape_of_type types.now below) (SequenceOf eoc element unconstrained)) element_count tag constraints.now) decoder.old (outcome result out.new walk.new.error) decoder.new }
     ensures octets { decoder.old.depth ≢ 0 → AreOctets decoder.old.rest }
-    ensures fits { M.KEEP ≡ true → IfOk result (λ v. FitsBy (Fits types.now below) ty.now v) }
-    ensures rules { IfErr result (λ e. e.codec ≡ decoder.old.rule) }
-    ensures told { Told (IsFaultInside types.now below (list_header tag) ty.now decoder.old) result trace.new }
-    ensures itself { IfErr result (λ e. trace.new ≡ None → DecodesSized (ReadsEachPart (shape_of_type types.now below) ty.now) element_count tag constraints.now decoder.old (Err e) decoder.new) }
-    ensures listed { IfOk result (λ v. Lists (λ b es. InsideListed (shape_of_type types.now below) below (Inside types.now below) (list_header tag) ty.now b decoder.old es) spans.old spans.new) }
+    ensures fits { M.KEEP ≡ true → IfOk (outcome result out.new walk.new.error) (λ v. FitsBy (Fits types.now below) (SequenceOf eoc element unconstrained) v) }
+    ensures rules { IfErr (outcome result out.new walk.new.error) (λ e. e.codec ≡ decoder.old.rule) }
+    ensures told { Told (IsFaultInside types.now below (list_header tag) (SequenceOf eoc element unconstrained) decoder.old) (outcome result out.new walk.new.error) walk.new.fault }
+    ensures itself { IfErr (outcome result out.new walk.new.error) (λ e. walk.new.fault ≡ None → DecodesSized (ReadsEachPart (shape_of_type types.now below) (SequenceOf eoc element unconstrained)) element_count tag constraints.now decoder.old (Err e) decoder.new) }
+    ensures listed { IfOk (outcome result out.new walk.new.error) (λ v. Lists (λ b es. InsideListed (shape_of_type types.now below) below (Inside types.now below) (list_header tag) (SequenceOf eoc element unconstrained) b decoder.old es) walk.old.spans walk.new.spans) }
 {
     let mut count = 0;
-    let value = decode_inside::<M>(
+    decode_list_inside::<M>(
         decoder,
-        trace,
-        spans,
+        walk,
         types,
         below,
-        ty,
         ConstructedHeader::list(tag),
+        element,
         &mut count,
+        out,
     )?;
-    check_size(decoder, constraints, count)?;
-    Ok(value)
+    check_size(decoder, &mut walk.error, constraints, count)?;
+    Ok(())
 }
 
-/// Reads a value that holds other values, and its header.
+/// Reads a SET OF (X.690 8.12).
+///
+/// # Errors
+/// `SizeConstraintNotSatisfied` if the number of elements isn't within the bound, which consumes the value.
 #[cycle(decode)]
-fn decode_inside<'input, M: Made>(
+#[inline(never)]
+fn decode_set_of<'input, M: Made>(
     decoder: &mut Decoder<'input>,
-    trace: &mut Option<Fault>,
-    spans: &mut Spans<'input>,
+    walk: &mut Walk<'input>,
     types: &[Type],
     below: usize,
-    ty: &Type,
-    header: ConstructedHeader,
-    count: &mut usize,
-) -> Result<Value<'input>, DecodeError>
-    requires lawful { IsReadable (type_by (shape_of_type types.now below) ty.now) }
-    requires holds { HoldsOthers ty.now }
-    requires counts { count.old ≡ 0 }
-    requires clear { trace.old ≡ None }
-    ensures exact { Counting M.KEEP tree_of (CountsElements ty.now) (DecodesInside (DecodesContents (shape_of_type types.now below) ty.now) header) decoder.old result decoder.new count.new }
+    tag: Tag,
+    element: TypeId,
+    constraints: &Constraints,
+    out: &mut Value<'input>,
+) -> Result<(), Refused>
+    requires lawful { IsReadable (shape_of_type types.now below element.0) }
+    requires clear { walk.old.fault ≡ None }
+    ensures exact { Making M.KEEP tree_of (DecodesSized (DecodesContents (shape_of_type types.now below) (SetOf eoc element unconstrained)) element_count tag constraints.now) decoder.old (outcome result out.new walk.new.error) decoder.new }
     ensures octets { decoder.old.depth ≢ 0 → AreOctets decoder.old.rest }
-    ensures fits { M.KEEP ≡ true → IfOk result (λ v. FitsBy (Fits types.now below) ty.now v) }
-    ensures rules { IfErr result (λ e. e.codec ≡ decoder.old.rule) }
-    ensures told { Told (IsFaultInside types.now below header ty.now decoder.old) result trace.new }
-    ensures itself { IfErr result (λ e. trace.new ≡ None → DecodesInside (ReadsEachPart (shape_of_type types.now below) ty.now) header decoder.old (Err e) decoder.new) }
-    ensures listed { IfOk result (λ v. Lists (λ b es. InsideListed (shape_of_type types.now below) below (Inside types.now below) header ty.now b decoder.old es) spans.old spans.new) }
+    ensures fits { M.KEEP ≡ true → IfOk (outcome result out.new walk.new.error) (λ v. FitsBy (Fits types.now below) (SetOf eoc element unconstrained) v) }
+    ensures rules { IfErr (outcome result out.new walk.new.error) (λ e. e.codec ≡ decoder.old.rule) }
+    ensures told { Told (IsFaultInside types.now below (list_header tag) (SetOf eoc element unconstrained) decoder.old) (outcome result out.new walk.new.error) walk.new.fault }
+    ensures itself { IfErr (outcome result out.new walk.new.error) (λ e. walk.new.fault ≡ None → DecodesSized (ReadsEachPart (shape_of_type types.now below) (SetOf eoc element unconstrained)) element_count tag constraints.now decoder.old (Err e) decoder.new) }
+    ensures listed { IfOk (outcome result out.new walk.new.error) (λ v. Lists (λ b es. InsideListed (shape_of_type types.now below) below (Inside types.now below) (list_header tag) (SetOf eoc element unconstrained) b decoder.old es) walk.old.spans walk.new.spans) }
 {
-    // The octets that are left have a number of this type, so the sum in `add_after` has too.
-    let _ = octets_left(decoder);
-    let (mut inner, contents) = decoder.open(header)?;
-    let after = go_inside(spans, decoder, &inner);
-    let value = match decode_contents::<M>(&mut inner, trace, spans, types, below, ty, count) {
-        Ok(value) => value,
-        Err(error) => {
-            add_after(trace, octets_after(decoder, &inner));
-            return Err(error);
-        }
-    };
-    decoder.close(contents, inner.remaining())?;
-    go_outside(spans, after);
-    Ok(value)
-}
-
-/// Reads the contents of a value that holds other values.
-#[cycle(decode)]
-fn decode_contents<'input, M: Made>(
-    decoder: &mut Decoder<'input>,
-    trace: &mut Option<Fault>,
-    spans: &mut Spans<'input>,
-    types: &[Type],
-    below: usize,
-    ty: &Type,
-    count: &mut usize,
-) -> Result<Value<'input>, DecodeError>
-    requires lawful { IsReadable (type_by (shape_of_type types.now below) ty.now) }
-    requires holds { HoldsOthers ty.now }
-    requires counts { count.old ≡ 0 }
-    requires clear { trace.old ≡ None }
-    ensures exact { Counting M.KEEP tree_of (CountsElements ty.now) (DecodesContents (shape_of_type types.now below) ty.now) decoder.old result decoder.new count.new }
-    ensures fits { M.KEEP ≡ true → IfOk result (λ v. FitsBy (Fits types.now below) ty.now v) }
-    ensures rules { IfErr result (λ e. e.codec ≡ decoder.old.rule) }
-    ensures told { Told (IsFaultIn types.now below (IsAnyPart (shape_of_type types.now below) ty.now decoder.old) decoder.old decoder.old) result trace.new }
-    ensures itself { IfErr result (λ e. trace.new ≡ None → StopsInside (shape_of_type types.now below) ty.now decoder.old e) }
-    ensures listed { IfOk result (λ v. Lists (λ b es. ContentsListed (shape_of_type types.now below) below (Inside types.now below) ty.now b decoder.old es) spans.old spans.new) }
-{
-    match ty {
-        Type::Tagged { inner, .. } => decode_part::<M>(
-            decoder, trace, spans, types, below, *inner, 0,
-        ),
-        Type::Sequence { components, .. } => {
-            let values = decode_sequence::<M>(decoder, trace, spans, types, below, components)?;
-            Ok(Value::Items(values))
-        }
-        Type::SequenceOf { element, .. } => {
-            let values = decode_elements::<M>(
-                decoder, trace, spans, types, below, *element, count,
-            )?;
-            Ok(Value::Items(values))
-        }
-        Type::SetOf { element, .. } => {
-            let values = decode_elements_in_order::<M>(
-                decoder, trace, spans, types, below, *element, count,
-            )?;
-            Ok(Value::Elements(values))
-        }
-        Type::Set {
-            name,
-            components,
-            ..
-        } => {
-            let (named, extensible) = named_components(types, below, components);
-            let other_id = last_type(components);
-            let found = no_components(decoder, named)?;
-            let values = decode_set::<M>(
-                decoder,
-                trace,
-                spans,
-                types,
-                below,
-                name.as_str(),
-                named,
-                extensible,
-                other_id,
-                found,
-            )?;
-            Ok(Value::Items(values))
-        }
-        _ => unreachable!(),
-    }
+    let mut count = 0;
+    decode_set_of_inside::<M>(
+        decoder,
+        walk,
+        types,
+        below,
+        ConstructedHeader::list(tag),
+        element,
+        &mut count,
+        out,
+    )?;
+    check_size(decoder, &mut walk.error, constraints, count)?;
+    Ok(())
 }
 
 /// Reads elements up to the end of the contents (X.690 8.10).
 #[cycle(decode)]
+#[inline(always)]
 fn decode_elements<'input, M: Made>(
     decoder: &mut Decoder<'input>,
-    trace: &mut Option<Fault>,
-    spans: &mut Spans<'input>,
+    walk: &mut Walk<'input>,
     types: &[Type],
     below: usize,
     element: TypeId,
     count: &mut usize,
-) -> Result<Vec<Value<'input>>, DecodeError>
+    values: &mut Vec<Value<'input>>,
+) -> Result<(), Refused>
     requires lawful { IsReadable (shape_of_type types.now below element.0) }
     requires counts { count.old ≡ 0 }
-    requires clear { trace.old ≡ None }
-    ensures reads { Counting M.KEEP trees_of IsLength (DecodesElements (DecodesTree (shape_of_type types.now below element.0)) these) decoder.old result decoder.new count.new }
-    ensures fits { M.KEEP ≡ true → IfOk result (λ v. EachFits (Fits types.now below element.0) v.items) }
-    ensures rules { IfErr result (λ e. e.codec ≡ decoder.old.rule) }
-    ensures told { Told (IsFaultIn types.now below (IsElementAt (shape_of_type types.now below) element.0 decoder.old) decoder.old decoder.old) result trace.new }
-    ensures itself { IfErr result (λ e. trace.new ≡ None → StopsInElements (shape_of_type types.now below) element.0 decoder.old e) }
-    ensures listed { IfOk result (λ v. Lists (λ b es. ElementsListed (shape_of_type types.now below) below (Inside types.now below) element.0 b decoder.old es) spans.old spans.new) }
+    requires empty { values.old.items ≡ [] }
+    requires clear { walk.old.fault ≡ None }
+    ensures reads { Counting M.KEEP trees_of IsLength (DecodesElements (DecodesTree (shape_of_type types.now below element.0)) these) decoder.old (outcome result values.new walk.new.error) decoder.new count.new }
+    ensures fits { M.KEEP ≡ true → IfOk (outcome result values.new walk.new.error) (λ v. EachFits (Fits types.now below element.0) v.items) }
+    ensures rules { IfErr (outcome result values.new walk.new.error) (λ e. e.codec ≡ decoder.old.rule) }
+    ensures told { Told (IsFaultIn types.now below (IsElementAt (shape_of_type types.now below) element.0 decoder.old) decoder.old decoder.old) (outcome result values.new walk.new.error) walk.new.fault }
+    ensures itself { IfErr (outcome result values.new walk.new.error) (λ e. walk.new.fault ≡ None → StopsInElements (shape_of_type types.now below) element.0 decoder.old e) }
+    ensures listed { IfOk (outcome result values.new walk.new.error) (λ v. Lists (λ b es. ElementsListed (shape_of_type types.now below) below (Inside types.now below) element.0 b decoder.old es) walk.old.spans walk.new.spans) }
 {
-    let mut values = Vec::new(decoder.alloc());
     // Each element takes some of these octets, so their number has this type.
     let _ = octets_left(decoder);
+    let mut value = Value::Absent;
     while !decoder.has_ended() {
         let left = decoder.remaining().len();
-        let value = decode_part::<M>(decoder, trace, spans, types, below, element, *count)?;
-        keep::<M>(decoder, left, value, &mut values)?;
+        decode_part::<M>(decoder, walk, types, below, element, *count, &mut value)?;
+        keep::<M>(decoder, &mut walk.error, left, &mut value, values)?;
         *count += 1;
     }
-    Ok(values)
+    Ok(())
 }
 
 /// Reads elements up to the end of the contents. Under DER their octets have to be in ascending order (X.690 11.6).
 #[cycle(decode)]
+#[inline(always)]
 fn decode_elements_in_order<'input, M: Made>(
     decoder: &mut Decoder<'input>,
-    trace: &mut Option<Fault>,
-    spans: &mut Spans<'input>,
+    walk: &mut Walk<'input>,
     types: &[Type],
     below: usize,
     element: TypeId,
     count: &mut usize,
-) -> Result<Vec<Value<'input>>, DecodeError>
+    values: &mut Vec<Value<'input>>,
+) -> Result<(), Refused>
     requires lawful { IsReadable (shape_of_type types.now below element.0) }
     requires counts { count.old ≡ 0 }
-    requires clear { trace.old ≡ None }
-    ensures reads { Counting M.KEEP trees_of IsLength (DecodesElementsInOrder (DecodesTree (shape_of_type types.now below element.0)) these) decoder.old result decoder.new count.new }
-    ensures fits { M.KEEP ≡ true → IfOk result (λ v. EachFits (Fits types.now below element.0) v.items) }
-    ensures rules { IfErr result (λ e. e.codec ≡ decoder.old.rule) }
-    ensures told { Told (IsFaultIn types.now below (IsElementAt (shape_of_type types.now below) element.0 decoder.old) decoder.old decoder.old) result trace.new }
-    ensures itself { IfErr result (λ e. trace.new ≡ None → StopsInOrder (shape_of_type types.now below) element.0 decoder.old e) }
-    ensures listed { IfOk result (λ v. Lists (λ b es. ElementsListed (shape_of_type types.now below) below (Inside types.now below) element.0 b decoder.old es) spans.old spans.new) }
+    requires empty { values.old.items ≡ [] }
+    requires clear { walk.old.fault ≡ None }
+    ensures reads { Counting M.KEEP trees_of IsLength (DecodesElementsInOrder (DecodesTree (shape_of_type types.now below element.0)) these) decoder.old (outcome result values.new walk.new.error) decoder.new count.new }
+    ensures fits { M.KEEP ≡ true → IfOk (outcome result values.new walk.new.error) (λ v. EachFits (Fits types.now below element.0) v.items) }
+    ensures rules { IfErr (outcome result values.new walk.new.error) (λ e. e.codec ≡ decoder.old.rule) }
+    ensures told { Told (IsFaultIn types.now below (IsElementAt (shape_of_type types.now below) element.0 decoder.old) decoder.old decoder.old) (outcome result values.new walk.new.error) walk.new.fault }
+    ensures itself { IfErr (outcome result values.new walk.new.error) (λ e. walk.new.fault ≡ None → StopsInOrder (shape_of_type types.now below) element.0 decoder.old e) }
+    ensures listed { IfOk (outcome result values.new walk.new.error) (λ v. Lists (λ b es. ElementsListed (shape_of_type types.now below) below (Inside types.now below) element.0 b decoder.old es) walk.old.spans walk.new.spans) }
 {
-    let mut values = Vec::new(decoder.alloc());
     let mut last: &[u8] = &[];
     // Each element takes some of these octets, so their number has this type.
     let _ = octets_left(decoder);
+    let mut value = Value::Absent;
     while !decoder.has_ended() {
         let start = decoder.remaining();
-        let value = decode_part::<M>(decoder, trace, spans, types, below, element, *count)?;
-        keep::<M>(decoder, start.len(), value, &mut values)?;
+        decode_part::<M>(decoder, walk, types, below, element, *count, &mut value)?;
+        keep::<M>(decoder, &mut walk.error, start.len(), &mut value, values)?;
         *count += 1;
         let octets = octets_before(start, decoder.remaining());
         if decoder.is_strict() && is_less(octets, last) {
-            return Err(out_of_order(decoder));
+            refuse_order(&mut walk.error, decoder);
+            return Err(Refused);
         }
         last = octets;
     }
-    Ok(values)
+    Ok(())
 }
 
 /// Reads the components of a SEQUENCE, up to the end of the contents (X.690 8.9).
 #[cycle(decode)]
+#[inline(always)]
 fn decode_sequence<'input, M: Made>(
     decoder: &mut Decoder<'input>,
-    trace: &mut Option<Fault>,
-    spans: &mut Spans<'input>,
+    walk: &mut Walk<'input>,
     types: &[Type],
     below: usize,
     components: &[Component],
-) -> Result<Vec<Value<'input>>, DecodeError>
+    values: &mut Vec<Value<'input>>,
+) -> Result<(), Refused>
     requires lawful { AreReadable (components_by (shape_of_type types.now below) components.now) }
-    requires clear { trace.old ≡ None }
-    ensures reads { Making M.KEEP trees_of (DecodesBy (ReadsSequence (components_by (shape_of_type types.now below) components.now)) items) decoder.old result decoder.new }
-    ensures fails { IfErr result (λ e. FailsAtPart (components_by (shape_of_type types.now below) components.now) decoder.old e decoder.new ⊎ IsOutOfMemory e.kind) }
-    ensures fits { M.KEEP ≡ true → IfOk result (λ v. ComponentsFit (Fits types.now below) components.now v.items) }
-    ensures rules { IfErr result (λ e. e.codec ≡ decoder.old.rule) }
-    ensures told { Told (IsFaultIn types.now below (IsComponentAt (shape_of_type types.now below) components.now decoder.old) decoder.old decoder.old) result trace.new }
-    ensures itself { IfErr result (λ e. trace.new ≡ None → StopsInSequence (shape_of_type types.now below) components.now decoder.old e) }
-    ensures listed { IfOk result (λ v. Lists (λ b es. ComponentsListed (shape_of_type types.now below) below (Inside types.now below) components.now b decoder.old es) spans.old spans.new) }
+    requires empty { values.old.items ≡ [] }
+    requires clear { walk.old.fault ≡ None }
+    ensures reads { Making M.KEEP trees_of (DecodesBy (ReadsSequence (components_by (shape_of_type types.now below) components.now)) items) decoder.old (outcome result values.new walk.new.error) decoder.new }
+    ensures fails { IfErr (outcome result values.new walk.new.error) (λ e. FailsAtPart (components_by (shape_of_type types.now below) components.now) decoder.old e decoder.new ⊎ IsOutOfMemory e.kind) }
+    ensures fits { M.KEEP ≡ true → IfOk (outcome result values.new walk.new.error) (λ v. ComponentsFit (Fits types.now below) components.now v.items) }
+    ensures rules { IfErr (outcome result values.new walk.new.error) (λ e. e.codec ≡ decoder.old.rule) }
+    ensures told { Told (IsFaultIn types.now below (IsComponentAt (shape_of_type types.now below) components.now decoder.old) decoder.old decoder.old) (outcome result values.new walk.new.error) walk.new.fault }
+    ensures itself { IfErr (outcome result values.new walk.new.error) (λ e. walk.new.fault ≡ None → StopsInSequence (shape_of_type types.now below) components.now decoder.old e) }
+    ensures listed { IfOk (outcome result values.new walk.new.error) (λ v. Lists (λ b es. ComponentsListed (shape_of_type types.now below) below (Inside types.now below) components.now b decoder.old es) walk.old.spans walk.new.spans) }
 {
     if leaves_all_out(decoder, components) {
-        return all_absent::<M>(decoder, components);
+        return leave_all_out::<M>(decoder, &mut walk.error, components, values);
     }
-    let mut values = list_for::<M>(decoder, components.len())?;
+    let mut value = Value::Absent;
     let mut rest = components;
     while let [component, after @ ..] = rest {
         let index = components.len() - rest.len();
-        let value = decode_component::<M>(decoder, trace, spans, types, below, component, index)?;
-        push::<M>(decoder, &mut values, value)?;
+        decode_component::<M>(decoder, walk, types, below, component, index, &mut value)?;
+        take::<M>(decoder, &mut walk.error, &mut value, values)?;
         rest = after;
     }
-    Ok(values)
+    Ok(())
 }
 
 /// Returns whether the next value is one of the type with this number: a CHOICE is recognized by its first tags, and any other type by its
@@ -694,34 +1446,56 @@ pub(crate) fn is_next(
     Ok(begins(types, levels, id, tag))
 }
 
+/// Returns whether the next value is one of the type with this number, as [`is_next`] does.
+#[inline(never)]
+fn follows(
+    decoder: &Decoder<'_>,
+    error: &mut DecodeError,
+    types: &[Type],
+    levels: usize,
+    id: TypeId,
+) -> Result<bool, Refused>
+    requires { IsReadable (shape_of_type types.now levels id.0) }
+    ensures { NextIs (sought_by (key_of (shape_of_type types.now levels id.0)) (shape_of_type types.now levels id.0)) decoder.now (reported result error.new) }
+{
+    match is_next(decoder, types, levels, id) {
+        Ok(found) => Ok(found),
+        Err(fault) => {
+            *error = fault;
+            Err(Refused)
+        }
+    }
+}
+
 /// Reads a component of a SEQUENCE, unless it is absent.
 #[cycle(decode)]
+#[inline(always)]
 pub fn decode_component<'input, M: Made>(
     decoder: &mut Decoder<'input>,
-    trace: &mut Option<Fault>,
-    spans: &mut Spans<'input>,
+    walk: &mut Walk<'input>,
     types: &[Type],
     below: usize,
     component: &Component,
     index: usize,
-) -> Result<Value<'input>, DecodeError>
+    out: &mut Value<'input>,
+) -> Result<(), Refused>
     requires lawful { IsReadable (shape_of_type types.now below component.now.type_id.0) }
-    requires clear { trace.old ≡ None }
-    ensures reads { Making M.KEEP tree_of (DecodesComponent (presence_in (shape_of_type types.now below) component.now) (shape_of_type types.now below component.now.type_id.0)) decoder.old result decoder.new }
-    ensures fails { IfErr result (λ e. FailsAtOnePart (presence_in (shape_of_type types.now below) component.now) (shape_of_type types.now below component.now.type_id.0) decoder.old e decoder.new) }
-    ensures fits { M.KEEP ≡ true → IfOk result (λ v. ComponentFits (Fits types.now below) component.now v) }
-    ensures rules { IfErr result (λ e. e.codec ≡ decoder.old.rule) }
-    ensures told { Told (IsFaultIn types.now below (IsOnly index component.now.type_id.0 decoder.old) decoder.old decoder.old) result trace.new }
-    ensures itself { IfErr result (λ e. trace.new ≡ None → StopsAtComponent (shape_of_type types.now below) component.now decoder.old e) }
-    ensures listed { IfOk result (λ v. Lists (λ b es. ComponentListed (shape_of_type types.now below) below (Inside types.now below) component.now index b decoder.old decoder.new es) spans.old spans.new) }
+    requires clear { walk.old.fault ≡ None }
+    ensures reads { Making M.KEEP tree_of (DecodesComponent (presence_in (shape_of_type types.now below) component.now) (shape_of_type types.now below component.now.type_id.0)) decoder.old (outcome result out.new walk.new.error) decoder.new }
+    ensures fails { IfErr (outcome result out.new walk.new.error) (λ e. FailsAtOnePart (presence_in (shape_of_type types.now below) component.now) (shape_of_type types.now below component.now.type_id.0) decoder.old e decoder.new) }
+    ensures fits { M.KEEP ≡ true → IfOk (outcome result out.new walk.new.error) (λ v. ComponentFits (Fits types.now below) component.now v) }
+    ensures rules { IfErr (outcome result out.new walk.new.error) (λ e. e.codec ≡ decoder.old.rule) }
+    ensures told { Told (IsFaultIn types.now below (IsOnly index component.now.type_id.0 decoder.old) decoder.old decoder.old) (outcome result out.new walk.new.error) walk.new.fault }
+    ensures itself { IfErr (outcome result out.new walk.new.error) (λ e. walk.new.fault ≡ None → StopsAtComponent (shape_of_type types.now below) component.now decoder.old e) }
+    ensures listed { IfOk (outcome result out.new walk.new.error) (λ v. Lists (λ b es. ComponentListed (shape_of_type types.now below) below (Inside types.now below) component.now index b decoder.old decoder.new es) walk.old.spans walk.new.spans) }
 {
     if is_always_there(component) {
-        return decode_present::<M>(decoder, trace, spans, types, below, component, index);
+        return decode_present::<M>(decoder, walk, types, below, component, index, out);
     }
-    match is_next(decoder, types, below, component.type_id) {
-        Ok(true) => decode_present::<M>(decoder, trace, spans, types, below, component, index),
-        Ok(false) => missing::<M>(decoder, component),
-        Err(error) => Err(error),
+    match follows(decoder, &mut walk.error, types, below, component.type_id) {
+        Ok(true) => decode_present::<M>(decoder, walk, types, below, component, index, out),
+        Ok(false) => put_missing::<M>(decoder, &mut walk.error, component, out),
+        Err(refused) => Err(refused),
     }
 }
 
@@ -730,57 +1504,72 @@ pub fn decode_component<'input, M: Made>(
 #[inline(always)]
 pub fn decode_present<'input, M: Made>(
     decoder: &mut Decoder<'input>,
-    trace: &mut Option<Fault>,
-    spans: &mut Spans<'input>,
+    walk: &mut Walk<'input>,
     types: &[Type],
     below: usize,
     component: &Component,
     index: usize,
-) -> Result<Value<'input>, DecodeError>
+    out: &mut Value<'input>,
+) -> Result<(), Refused>
     requires lawful { IsReadable (shape_of_type types.now below component.now.type_id.0) }
-    requires clear { trace.old ≡ None }
-    ensures reads { Making M.KEEP tree_of (DecodesPresent (presence_in (shape_of_type types.now below) component.now) (shape_of_type types.now below component.now.type_id.0)) decoder.old result decoder.new }
-    ensures fits { M.KEEP ≡ true → IfOk result (λ v. Fits types.now below component.now.type_id.0 v) }
-    ensures rules { IfErr result (λ e. e.codec ≡ decoder.old.rule) }
-    ensures told { Told (IsFaultIn types.now below (IsOnly index component.now.type_id.0 decoder.old) decoder.old decoder.old) result trace.new }
-    ensures itself { IfErr result (λ e. trace.new ≡ None → IsDefaultWritten (shape_of_type types.now below) component.now decoder.old e) }
-    ensures listed { IfOk result (λ v. Lists (λ b es. PartListed (shape_of_type types.now below) below (Inside types.now below) component.now.type_id.0 index b decoder.old decoder.new es) spans.old spans.new) }
+    requires clear { walk.old.fault ≡ None }
+    ensures reads { Making M.KEEP tree_of (DecodesPresent (presence_in (shape_of_type types.now below) component.now) (shape_of_type types.now below component.now.type_id.0)) decoder.old (outcome result out.new walk.new.error) decoder.new }
+    ensures fits { M.KEEP ≡ true → IfOk (outcome result out.new walk.new.error) (λ v. Fits types.now below component.now.type_id.0 v) }
+    ensures rules { IfErr (outcome result out.new walk.new.error) (λ e. e.codec ≡ decoder.old.rule) }
+    ensures told { Told (IsFaultIn types.now below (IsOnly index component.now.type_id.0 decoder.old) decoder.old decoder.old) (outcome result out.new walk.new.error) walk.new.fault }
+    ensures itself { IfErr (outcome result out.new walk.new.error) (λ e. walk.new.fault ≡ None → IsDefaultWritten (shape_of_type types.now below) component.now decoder.old e) }
+    ensures listed { IfOk (outcome result out.new walk.new.error) (λ v. Lists (λ b es. PartListed (shape_of_type types.now below) below (Inside types.now below) component.now.type_id.0 index b decoder.old decoder.new es) walk.old.spans walk.new.spans) }
 {
     let Presence::Default(default) = &component.presence else {
-        return decode_part::<M>(
-            decoder,
-            trace,
-            spans,
-            types,
-            below,
-            component.type_id,
-            index,
-        );
+        return decode_part::<M>(decoder, walk, types, below, component.type_id, index, out);
     };
     if !decoder.is_strict() {
-        return decode_part::<M>(
-            decoder,
-            trace,
-            spans,
-            types,
-            below,
-            component.type_id,
-            index,
-        );
+        return decode_part::<M>(decoder, walk, types, below, component.type_id, index, out);
     }
-    let value = decode_compared::<M>(
+    decode_stated::<M>(decoder, walk, types, below, component, default, index, out)
+}
+
+/// Reads a component that is present and has this default, which it must not be under DER
+/// (X.690 11.5).
+#[cycle(decode)]
+#[inline(never)]
+fn decode_stated<'input, M: Made>(
+    decoder: &mut Decoder<'input>,
+    walk: &mut Walk<'input>,
+    types: &[Type],
+    below: usize,
+    component: &Component,
+    default: &Value<'_>,
+    index: usize,
+    out: &mut Value<'input>,
+) -> Result<(), Refused>
+    requires stated { component.now.presence ≡ Default default.now }
+    requires strict { IsStrict decoder.old.rule }
+    requires lawful { IsReadable (shape_of_type types.now below component.now.type_id.0) }
+    requires clear { walk.old.fault ≡ None }
+    ensures reads { Making M.KEEP tree_of (DecodesPresent (presence_in (shape_of_type types.now below) component.now) (shape_of_type types.now below component.now.type_id.0)) decoder.old (outcome result out.new walk.new.error) decoder.new }
+    ensures fits { M.KEEP ≡ true → IfOk (outcome result out.new walk.new.error) (λ v. Fits types.now below component.now.type_id.0 v) }
+    ensures rules { IfErr (outcome result out.new walk.new.error) (λ e. e.codec ≡ decoder.old.rule) }
+    ensures told { Told (IsFaultIn types.now below (IsOnly index component.now.type_id.0 decoder.old) decoder.old decoder.old) (outcome result out.new walk.new.error) walk.new.fault }
+    ensures itself { IfErr (outcome result out.new walk.new.error) (λ e. walk.new.fault ≡ None → IsDefaultWritten (shape_of_type types.now below) component.now decoder.old e) }
+    ensures listed { IfOk (outcome result out.new walk.new.error) (λ v. Lists (λ b es. PartListed (shape_of_type types.now below) below (Inside types.now below) component.now.type_id.0 index b decoder.old decoder.new es) walk.old.spans walk.new.spans) }
+{
+    let mut value = Value::Absent;
+    decode_compared::<M>(
         decoder,
-        trace,
-        spans,
+        walk,
         types,
         below,
         component.type_id,
         index,
+        &mut value,
     )?;
     if value.means_same(default) {
-        return Err(default_present(decoder));
+        refuse_default(&mut walk.error, decoder);
+        return Err(Refused);
     }
-    Ok(value)
+    *out = value;
+    Ok(())
 }
 
 /// Reads the components of a SET, in any order, up to the end of the contents (X.690 8.11). None was found yet. If the SET is
@@ -794,8 +1583,7 @@ pub fn decode_present<'input, M: Made>(
 #[cycle(decode)]
 fn decode_set<'input, M: Made>(
     decoder: &mut Decoder<'input>,
-    trace: &mut Option<Fault>,
-    spans: &mut Spans<'input>,
+    walk: &mut Walk<'input>,
     types: &[Type],
     below: usize,
     name: &str,
@@ -803,27 +1591,26 @@ fn decode_set<'input, M: Made>(
     extensible: bool,
     other_id: TypeId,
     mut found: Vec<Option<Value<'input>>>,
-) -> Result<Vec<Value<'input>>, DecodeError>
+) -> Result<Vec<Value<'input>>, Refused>
     requires lawful { AreLawfulMembers (components_by (shape_of_type types.now below) components.now) }
     requires none { found.items ≡ nones components.now }
-    requires clear { trace.old ≡ None }
+    requires clear { walk.old.fault ≡ None }
     requires other { extensible ≡ true → shape_of_type types.now below other_id.0 ≡ unknown_values }
-    ensures exact { Making M.KEEP trees_of (MayRunOut (DecodesSetPartContents extensible (components_by (shape_of_type types.now below) components.now) items (names_of components.now))) decoder.old result decoder.new }
-    ensures fits { M.KEEP ≡ true → IfOk result (λ v. MembersFit (Fits types.now below) extensible components.now v.items) }
-    ensures rules { IfErr result (λ e. e.codec ≡ decoder.old.rule) }
-    ensures told { Told (IsFaultIn types.now below (IsMemberAfter (shape_of_type types.now below) extensible components.now other_id.0 decoder.old) decoder.old decoder.old) result trace.new }
-    ensures itself { IfErr result (λ e. trace.new ≡ None → StopsInSet (shape_of_type types.now below) extensible components.now decoder.old e) }
-    ensures listed { IfOk result (λ v. Lists (λ b es. MembersListed (shape_of_type types.now below) below (Inside types.now below) extensible components.now other_id.0 b decoder.old es) spans.old spans.new) }
+    ensures exact { Making M.KEEP trees_of (MayRunOut (DecodesSetPartContents extensible (components_by (shape_of_type types.now below) components.now) items (names_of components.now))) decoder.old (reported result walk.new.error) decoder.new }
+    ensures fits { M.KEEP ≡ true → IfOk (reported result walk.new.error) (λ v. MembersFit (Fits types.now below) extensible components.now v.items) }
+    ensures rules { IfErr (reported result walk.new.error) (λ e. e.codec ≡ decoder.old.rule) }
+    ensures told { Told (IsFaultIn types.now below (IsMemberAfter (shape_of_type types.now below) extensible components.now other_id.0 decoder.old) decoder.old decoder.old) (reported result walk.new.error) walk.new.fault }
+    ensures itself { IfErr (reported result walk.new.error) (λ e. walk.new.fault ≡ None → StopsInSet (shape_of_type types.now below) extensible components.now decoder.old e) }
+    ensures listed { IfOk (reported result walk.new.error) (λ v. Lists (λ b es. MembersListed (shape_of_type types.now below) below (Inside types.now below) extensible components.now other_id.0 b decoder.old es) walk.old.spans walk.new.spans) }
 {
     let mut unknown = Vec::new(decoder.alloc());
     let mut twice = None;
     let mut last = None;
     while !decoder.has_ended() {
-        last = decoder.peek_tag_in_order(last)?;
+        last = peek_in_order(decoder, &mut walk.error, last)?;
         let next = decode_set_component::<M>(
             decoder,
-            trace,
-            spans,
+            walk,
             types,
             below,
             name,
@@ -836,12 +1623,14 @@ fn decode_set<'input, M: Made>(
         twice = twice.or(next);
     }
     if let Some(repeated) = twice {
-        return Err(DecodeError::duplicate_field(decoder.alloc(), repeated, decoder.codec()));
+        walk.error = DecodeError::duplicate_field(decoder.alloc(), repeated, decoder.codec());
+        return Err(Refused);
     }
-    let mut values = gather::<M>(decoder, components, found)?;
-    if extensible {
-        push::<M>(decoder, &mut values, Value::Items(unknown))?;
+    let mut values = gather_found::<M>(decoder, &mut walk.error, components, found)?;
+    if !extensible {
+        return Ok(values);
     }
+    append::<M>(decoder, &mut walk.error, &mut values, Value::Items(unknown))?;
     Ok(values)
 }
 
@@ -855,8 +1644,7 @@ fn decode_set<'input, M: Made>(
 #[cycle(decode)]
 fn decode_set_component<'input, 'names, M: Made>(
     decoder: &mut Decoder<'input>,
-    trace: &mut Option<Fault>,
-    spans: &mut Spans<'input>,
+    walk: &mut Walk<'input>,
     types: &[Type],
     below: usize,
     name: &str,
@@ -865,34 +1653,37 @@ fn decode_set_component<'input, 'names, M: Made>(
     other_id: TypeId,
     found: &mut Vec<Option<Value<'input>>>,
     unknown: &mut Vec<Value<'input>>,
-) -> Result<Option<&'names str>, DecodeError>
+) -> Result<Option<&'names str>, Refused>
     requires lawful { AreLawfulMembers (components_by (shape_of_type types.now below) components.now) }
     requires found { FoundFit (λ k v. M.KEEP ≡ true → Fits types.now below k v) components.now found.old.items }
-    requires clear { trace.old ≡ None }
+    requires clear { walk.old.fault ≡ None }
     requires other { extensible ≡ true → shape_of_type types.now below other_id.0 ≡ unknown_values }
-    ensures next { DecodesMember M.KEEP extensible (components_by (shape_of_type types.now below) components.now) (names_of components.now) found.old.items unknown.old.items decoder.old result decoder.new found.new.items unknown.new.items }
+    ensures next { DecodesMember M.KEEP extensible (components_by (shape_of_type types.now below) components.now) (names_of components.now) found.old.items unknown.old.items decoder.old (reported result walk.new.error) decoder.new found.new.items unknown.new.items }
     ensures found { FoundFit (λ k v. M.KEEP ≡ true → Fits types.now below k v) components.now found.new.items }
-    ensures octets { M.KEEP ≡ true → IfOk result (λ v. EachFits AreOctetsValue unknown.old.items → EachFits AreOctetsValue unknown.new.items) }
-    ensures unknown { IfErr result (λ e. IsNoMember extensible (components_by (shape_of_type types.now below) components.now) name.now decoder.old e decoder.new) }
-    ensures rules { IfErr result (λ e. e.codec ≡ decoder.old.rule) }
-    ensures told { Told (IsFaultIn types.now below (IsMemberHere (shape_of_type types.now below) extensible components.now other_id.0 decoder.old) decoder.old decoder.old) result trace.new }
-    ensures itself { IfErr result (λ e. trace.new ≡ None → StopsAtMember (shape_of_type types.now below) extensible components.now decoder.old e) }
-    ensures listed { IfOk result (λ v. Lists (λ b es. MemberListed (shape_of_type types.now below) below (Inside types.now below) extensible components.now other_id.0 b decoder.old decoder.new es) spans.old spans.new) }
+    ensures octets { M.KEEP ≡ true → IfOk (reported result walk.new.error) (λ v. EachFits AreOctetsValue unknown.old.items → EachFits AreOctetsValue unknown.new.items) }
+    ensures unknown { IfErr (reported result walk.new.error) (λ e. IsNoMember extensible (components_by (shape_of_type types.now below) components.now) name.now decoder.old e decoder.new) }
+    ensures rules { IfErr (reported result walk.new.error) (λ e. e.codec ≡ decoder.old.rule) }
+    ensures told { Told (IsFaultIn types.now below (IsMemberHere (shape_of_type types.now below) extensible components.now other_id.0 decoder.old) decoder.old decoder.old) (reported result walk.new.error) walk.new.fault }
+    ensures itself { IfErr (reported result walk.new.error) (λ e. walk.new.fault ≡ None → StopsAtMember (shape_of_type types.now below) extensible components.now decoder.old e) }
+    ensures listed { IfOk (reported result walk.new.error) (λ v. Lists (λ b es. MemberListed (shape_of_type types.now below) below (Inside types.now below) extensible components.now other_id.0 b decoder.old decoder.new es) walk.old.spans walk.new.spans) }
 {
     let left = decoder.remaining().len();
-    let tag = decoder.peek_tag()?;
+    let tag = peek(decoder, &mut walk.error)?;
     let Some((number, component)) = component_for(types, below, components, tag) else {
         if !extensible {
-            return Err(DecodeError::no_valid_choice(decoder.alloc(), name, decoder.codec()));
+            refuse_choice(&mut walk.error, decoder, name);
+            return Err(Refused);
         }
         let index = components.len();
-        let other = decode_unknown_component(decoder, trace, spans, below, other_id, index)?;
-        push::<M>(decoder, unknown, other)?;
+        let other = decode_unknown_component(decoder, walk, below, other_id, index)?;
+        append::<M>(decoder, &mut walk.error, unknown, other)?;
         return Ok(None);
     };
-    let value = decode_present::<M>(decoder, trace, spans, types, below, component, number)?;
+    let mut value = Value::Absent;
+    decode_present::<M>(decoder, walk, types, below, component, number, &mut value)?;
     if decoder.remaining().len() == left {
-        return Err(extra(decoder, left));
+        refuse_extra(&mut walk.error, decoder, left);
+        return Err(Refused);
     }
     Ok(put(found, number, value, component.name.as_str()))
 }

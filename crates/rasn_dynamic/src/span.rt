@@ -1,5 +1,5 @@
 //! The parts of a message, as they are read.
-ghost use Rattle.std.specs.Prelude.{◌≡◌, length};
+ghost use Rattle.std.specs.Prelude.{◌≡◌, [], length};
 ghost use Rattle.rasn_dynamic.specs.Faults.{octets_after};
 ghost use Rattle.rasn_dynamic.specs.Listed.{IsEmpty, IsNoted, IsFinished, IsInside, IsOutside, IsCut};
 
@@ -7,6 +7,9 @@ use crate::trace::octets_after;
 use rasn_de::ber::de::Decoder;
 use rasn_schema::TypeId;
 use std::alloc::Global;
+
+/// For how many parts there is room from the start at most.
+const MOST_EXPECTED: usize = 1024;
 
 /// A part of a message as it was read: a value that is in it, or the message itself.
 #[derive(Debug, Drop)]
@@ -41,19 +44,48 @@ pub fn no_list<'input>() -> Spans<'input> {
     }
 }
 
-/// Returns what notes the parts of a message from its start on.
-pub fn new_list<'input>(alloc: Global) -> Spans<'input>
+/// Returns an empty list of parts, with room for those that so many octets may have.
+fn empty_list<'input>(alloc: Global, len: usize) -> Vec<Span<'input>>
+    ensures { result.items ≡ [] }
+{
+    let count = (len / 12).min(MOST_EXPECTED);
+    match Vec::with_capacity(alloc, count) {
+        Ok(list) => list,
+        Err(_) => Vec::new(alloc),
+    }
+}
+
+/// Returns what notes the parts of a message of so many octets from its start on.
+pub fn new_list<'input>(alloc: Global, len: usize) -> Spans<'input>
     ensures { IsEmpty result }
 {
     Spans {
-        list: Some(Vec::new(alloc)),
+        list: Some(empty_list(alloc, len)),
         after: 0,
     }
 }
 
 /// Notes a part that is read next. Returns its place in the list. If memory runs out, there is no
 /// list from then on.
+#[inline(always)]
 pub fn note<'input>(
+    spans: &mut Spans<'input>,
+    id: TypeId,
+    index: usize,
+    levels: usize,
+    octets: &'input [u8],
+) -> usize
+    ensures { IsNoted id index levels octets.now spans.old result spans.new }
+{
+    if spans.list.is_none() {
+        return 0;
+    }
+    note_in_list(spans, id, index, levels, octets)
+}
+
+/// Notes such a part in the list, if there is one.
+#[inline(never)]
+fn note_in_list<'input>(
     spans: &mut Spans<'input>,
     id: TypeId,
     index: usize,
@@ -91,7 +123,18 @@ fn cut<'input>(octets: &'input [u8], rest: &[u8]) -> &'input [u8]
 }
 
 /// Ends the part at this place of the list: its octets are those before the rest.
+#[inline(always)]
 pub fn finish(spans: &mut Spans<'_>, place: usize, rest: &[u8])
+    ensures { IsFinished place rest.now spans.old spans.new }
+{
+    if spans.list.is_some() {
+        finish_in_list(spans, place, rest);
+    }
+}
+
+/// Ends such a part of the list, if there is one.
+#[inline(never)]
+fn finish_in_list(spans: &mut Spans<'_>, place: usize, rest: &[u8])
     ensures { IsFinished place rest.now spans.old spans.new }
 {
     let Some(list) = &mut spans.list else {

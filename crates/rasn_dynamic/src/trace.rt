@@ -21,6 +21,8 @@ pub struct Fault {
 }
 
 /// Names a value, unless one inside it is named.
+#[cold]
+#[inline(never)]
 pub fn mark(alloc: Global, trace: &mut Option<Fault>, id: TypeId, left: usize)
     ensures { IsMarked id left trace.old trace.new }
 {
@@ -50,6 +52,8 @@ fn lengthen(fault: &mut Fault, index: usize)
 }
 
 /// Adds a step outwards. What is named stays named.
+#[cold]
+#[inline(never)]
 pub fn step(trace: &mut Option<Fault>, index: usize)
     ensures { IsStepped index trace.old trace.new }
 {
@@ -59,6 +63,8 @@ pub fn step(trace: &mut Option<Fault>, index: usize)
 }
 
 /// Names a value that holds no others as the part with this index, unless one inside it is named.
+#[cold]
+#[inline(never)]
 pub fn mark_part(alloc: Global, trace: &mut Option<Fault>, id: TypeId, left: usize, index: usize)
     ensures { (mid : Option Fault) × IsMarked id left trace.old mid × IsStepped index mid trace.new }
 {
@@ -76,6 +82,7 @@ pub fn octets_left(decoder: &Decoder<'_>) -> usize
 
 /// Returns how many octets follow the contents of a value: of those that end-of-contents octets
 /// end, none, since `inner` sees what follows them.
+#[inline(always)]
 pub fn octets_after(decoder: &Decoder<'_>, inner: &Decoder<'_>) -> usize
     ensures { result ≡ octets_after inner.now.closing (length decoder.now.rest) }
 {
@@ -87,6 +94,8 @@ pub fn octets_after(decoder: &Decoder<'_>, inner: &Decoder<'_>) -> usize
 }
 
 /// Counts octets that follow the contents, which the decoder of the contents doesn't see.
+#[cold]
+#[inline(never)]
 pub fn add_after(trace: &mut Option<Fault>, after: usize)
     requires { (f : Fault) → trace.old ≡ Some f → f.left + after < 2 ^ 64 }
     ensures { IsMoved after trace.old trace.new }

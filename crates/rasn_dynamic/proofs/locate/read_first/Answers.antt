@@ -16,7 +16,7 @@ refusal_of-requires g c = λ f q.
     let t = c.in-Err.ensures.told in
     let e : c.new-decoder.result ≡ start c.args.rule c.args.input.now = c.new-decoder.ensures ∙ ap (λ z. start z c.args.input.now) c.of.ensures in
     let same : t.0 ≡ f = cc in
-    let i = subst (λ z. IsFault c.types.result.now 18446744073709551615 c.args.id.0 c.new-decoder.result c.in-Err.error z) same t.2 in
+    let i = subst (λ z. IsFault c.types.result.now 18446744073709551615 c.args.id.0 c.new-decoder.result c.decode_at.new.walk.error z) same t.2 in
     subst (λ (z : State). f.left ≤ length z.rest) e (fault_short c.types.result.now _ _ c.new-decoder.result _ f i)
 
 pub returns-clause-located : goal.returns-clause-located
@@ -24,8 +24,8 @@ returns-clause-located g c =
     let t = c.in-Err.ensures.told in
     let e : c.new-decoder.result ≡ start c.args.rule c.args.input.now = c.new-decoder.ensures ∙ ap (λ z. start z c.args.input.now) c.of.ensures in
     rw (← c.types.ensures.types)
-    (located c.types.result.now c.args.rule c.args.id.0 c.args.input.now c.in-Err.error _ _ refl _
-    (t.0, t.1, subst (λ z. IsFault c.types.result.now 18446744073709551615 c.args.id.0 z c.in-Err.error t.0) e t.2) c.refusal_of.ensures)
+    (located c.types.result.now c.args.rule c.args.id.0 c.args.input.now c.decode_at.new.walk.error _ _ refl _
+    (t.0, t.1, subst (λ z. IsFault c.types.result.now 18446744073709551615 c.args.id.0 z c.decode_at.new.walk.error t.0) e t.2) c.refusal_of.ensures)
 
 pub returns-clause-read : goal.returns-clause-read
 returns-clause-read g c =
@@ -33,14 +33,14 @@ returns-clause-read g c =
     let s = shape_of c.types.result.now c.args.id.0 in
     let last = c.decode_at.new.decoder in
     rw (← c.types.ensures.types)
-    (last, subst (λ (x : DecodeError). DecodesTree s (start c.args.rule c.args.input.now) (Err x) last) (sym (same_error _ _ _ _ c.refusal_of.ensures)) (subst (λ z. DecodesTree s z (Err c.in-Err.error) last) e c.in-Err.ensures.reads))
+    (last, subst (λ (x : DecodeError). DecodesTree s (start c.args.rule c.args.input.now) (Err x) last) (sym (same_error _ _ _ _ c.refusal_of.ensures)) (subst (λ z. DecodesTree s z (Err c.decode_at.new.walk.error) last) e c.in-Err.ensures.reads))
 
 pub returns-in-Ok-clause-read : goal.returns-in-Ok-clause-read
 returns-in-Ok-clause-read g c =
     let e : c.new-decoder.result ≡ start c.args.rule c.args.input.now = c.new-decoder.ensures ∙ ap (λ z. start z c.args.input.now) c.of.ensures in
     let s = shape_of c.types.result.now c.args.id.0 in
     let last = c.decode_at.new.decoder in
-    rw (← c.types.ensures.types) (last, sym c.remaining.ensures.value, subst (λ z. Making g.M.Made.KEEP tree_of (DecodesTree s) z (Ok c.in-Ok.value) last) e c.in-Ok.ensures.reads)
+    rw (← c.types.ensures.types) (last, sym c.remaining.ensures.value, subst (λ z. Making g.M.Made.KEEP tree_of (DecodesTree s) z (Ok c.decode_at.new.out) last) e c.in-Ok.ensures.reads)
 
 pub returns-in-Ok-clause-fits : goal.returns-in-Ok-clause-fits
 returns-in-Ok-clause-fits g c = rw (← c.types.ensures.types) c.in-Ok.ensures.fits
@@ -48,7 +48,9 @@ returns-in-Ok-clause-fits g c = rw (← c.types.ensures.types) c.in-Ok.ensures.f
 pub returns-in-Ok-clause-listed : goal.returns-in-Ok-clause-listed
 returns-in-Ok-clause-listed g c =
     let e : c.new-decoder.result ≡ start c.args.rule c.args.input.now = c.new-decoder.ensures ∙ ap (λ z. start z c.args.input.now) c.of.ensures in
-    rw (← c.types.ensures.types) (subst (λ z. Lists (λ b es. PartsInside c.types.result.now 18446744073709551615 c.args.id.0 b z es) c.args.spans.now c.decode_at.new.spans) e c.in-Ok.ensures.listed)
+    rw (← c.types.ensures.types)
+    (subst (λ o. Lists (λ b es. PartsInside c.types.result.now 18446744073709551615 c.args.id.0 b (start c.args.rule c.args.input.now) es) o c.decode_at.new.walk.spans) (c.new_walk-walk.ensures.spans ∙ c.replace.ensures.value)
+    (subst (λ z. Lists (λ b es. PartsInside c.types.result.now 18446744073709551615 c.args.id.0 b z es) c.new_walk-walk.result.spans c.decode_at.new.walk.spans) e c.in-Ok.ensures.listed))
 
 pub returns-clause-short : goal.returns-clause-short
 returns-clause-short g c =

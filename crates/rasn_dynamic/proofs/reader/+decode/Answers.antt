@@ -1,4 +1,4 @@
-use Rattle.std.proofs.Common.{rules, arith, append_assoc, length-append, map, Vec, Global, true≢false, ◌≡◌, ◌+◌, ◌-◌, [], ◌∷◌, ◌++◌, length, true, false, Some, None, Ok, Err, refl, sym, ap, ◌∙◌, subst, inl, inr}
+use Rattle.std.proofs.Common.{rules, arith, append_assoc, length-append, map, true≢false, ◌≡◌, ◌+◌, ◌-◌, [], ◌∷◌, ◌++◌, length, true, false, Some, None, Ok, Err, refl, sym, ap, ◌∙◌, subst, inl, inr}
 use Rattle.std.specs.Prelude.{get_or, slice_get, IfOk, IfErr}
 use Rattle.std.proofs.lemmas.Option.{slice_get_within}
 use Rattle.rasn_types.specs.Shapes.{Tree, Same, items, choice_by, IsFirstOf, own_tag, sought_by}
@@ -8,7 +8,8 @@ use Rattle.rasn_de.specs.SetPartTypes.{text}
 use Rattle.rasn_de.specs.Constructed.{DecodesInside, list_header}
 use Rattle.rasn_de.proofs.Leaves.Outcomes.{alloc_failed}
 use Rattle.rasn_schema.proofs.Alternatives.{first_of_all}
-use Rattle.rasn_types.specs.Tags.{IsStrict}
+use Rattle.rasn_types.specs.Tags.{IsStrict, eoc}
+use Rattle.rasn_types.specs.Trees.{unconstrained}
 use Rattle.rasn_types.specs.Order.{IsLess}
 use Rattle.rasn_types.specs.declared.error.decode.DerDecodeErrorKind.TheVariants.{SetOfOutOfOrder}
 use Rattle.rasn_types.proofs.SetOf.Ascending.{ends_more, in_order, out_of_order}
@@ -24,47 +25,48 @@ use Rattle.rasn_de.proofs.Constructed.Steps.{step_none, step_refused, step_end, 
 use Rattle.rasn_de.proofs.Constructed.Optional.{strict_before, strict_after}
 use Rattle.rasn_de.proofs.OwnTypes.Parts.{call_keeps}
 use Rattle.rasn_schema.specs.declared.types.Alternative.{Alternative}
-use Rattle.rasn_schema.specs.declared.value.Value.{Value, Items}
+use Rattle.rasn_schema.specs.declared.value.Value.{Value}
 use Rattle.rasn_schema.specs.Trees.{tree_of}
 use Rattle.rasn_schema.specs.Shapes.{numbers_of, shape_of_type, type_by, alternatives_by, choice_among, components_by, key_of, presence_in, AreReadable, IsReadable}
 use Rattle.rasn_schema.proofs.Presences.{always_by}
 use Rattle.rasn_schema.proofs.TypeShapes.{shape_below}
 use Rattle.rasn_schema.proofs.Lists.{split, nothing_left, read_at}
-use Rattle.rasn_schema.specs.declared.types.«Type».TheVariants.{Tagged}
+use Rattle.rasn_schema.specs.declared.types.«Type».TheVariants.{Tagged, Sequence, Set, SequenceOf, SetOf}
 use Rattle.rasn_dynamic.specs.Inside.{DecodesTree, DecodesComponent}
-use Rattle.rasn_dynamic.specs.Making.{Making}
-use Rattle.rasn_dynamic.specs.Typed.{DecodesContents, DecodesType, CountsElements, element_count, elements}
+use Rattle.rasn_dynamic.specs.Making.{Making, outcome}
+use Rattle.rasn_dynamic.specs.Typed.{Makes, MayRunOut, DecodesComponents, DecodesContents, DecodesType, elements}
 use Rattle.rasn_dynamic.specs.Calls.{held, names_of, nones, DecodesPresent}
-use Rattle.rasn_dynamic.proofs.Making.{made_as, made_fails_as, choice_exact, uncounted, counted_nothing, made_of_value, if_kept, items_made, elements_made, one_made, choice_made, choice_fits}
-use Rattle.rasn_schema.specs.Fitting.{Fits, IsNumber, AreOctets, ComponentsFit, EachFits}
+use Rattle.rasn_dynamic.proofs.Making.{made_as, made_fails_as, choice_exact, if_kept, items_made, elements_made, one_made, choice_made, choice_fits}
+use Rattle.rasn_schema.specs.Fitting.{Fits, IsNumber, AreOctets, AreItems, ComponentsFit, EachFits}
 use Rattle.rasn_dynamic.proofs.FitsRead.{if_ok, fits_below, are_items, are_elements, each_more, fit_more, fit_end, made_fits, gathered_fit, members_fit, all_fit, all_left_fit, nones_fit, found_length, found_kept, put_fits}
 use Rattle.rasn_dynamic.proofs.Nothing.{refused_at_zero, refused_not_there, found_here}
 use Rattle.rasn_dynamic.proofs.OpenChoice.{lawful_at}
 use Rattle.rasn_dynamic.proofs.Chosen.{no_tag, none_for, for_both, chosen_got, chosen_refused}
 use Rattle.rasn_dynamic.proofs.InOrder.{lawful_parts, all_left_read, in_turn}
 use Rattle.rasn_dynamic.proofs.OnePart.{always, always_fails, looked, looked_fails, made, made_fails, unread, unread_fails, plain, loose, differs, default_is_written, not_required, next_of, made_of}
-use Rattle.rasn_dynamic.proofs.Contents.{prefix_lawful, list_lawful, set_of_lawful, seq_lawful, none_holds, sequence_runs_out, parts_start, parts_more, part_fails, part_fails_at, parts_run_out, parts_end}
-use Rattle.rasn_dynamic.proofs.Typed.{contents_end, contents_stay, not_sized, is_sized, missized, holds_others, is_counted, count_items, by_prefix, by_sequence, by_set, by_list, by_set_of, type_decodes, sequence_fails, sequence_made, named_so, set_fails, set_made, set_runs_out}
+use Rattle.rasn_dynamic.proofs.Contents.{prefix_lawful, list_lawful, set_of_lawful, seq_lawful, sequence_runs_out, parts_start, parts_more, part_fails, part_fails_at, parts_run_out, parts_end}
+use Rattle.rasn_dynamic.proofs.Typed.{contents_end, contents_stay, not_sized, is_sized, missized, is_counted, count_items, type_decodes, named_so}
 use Rattle.rasn_dynamic.proofs.Pieces.{got_below, first_of_part, part_lawful, nones_come, nones_held, made_parts, lacks_part}
 use Rattle.rasn_dynamic.proofs.Component.{member_unpeeked, member_none, unknown_unread, unknown_kept, unknown_left, member_unread, member_idle, member_put, member_shorter}
 use Rattle.rasn_dynamic.proofs.AllMembers.{set_trees, all_trees, none_unknown, members_lack, members_made, members_keep}
 use Rattle.rasn_de.proofs.OwnTypes.SetPartTypes.{ReadTo, read_rules, none_read, untold, next_fails, next_passes, one_twice}
 use Rattle.rasn_dynamic.proofs.Members.{passed_unknown}
 use Rattle.rasn_dynamic.proofs.Named.{named_lawful, last_unknown}
-use Rattle.rasn_dynamic.specs.Sets.{is_extensible, named_components, last_type}
+use Rattle.rasn_dynamic.specs.Sets.{is_extensible, named_components, last_type, AreLawfulMembers}
+use Rattle.rasn_de.proofs.Constructed.Opening.{kept}
 use Rattle.rasn_dynamic.specs.Found.{MembersFit}
 use Rattle.rasn_dynamic.proofs.Parts.{shorter}
-use Rattle.rasn_dynamic.proofs.reader.+decode.Goals.{decode_elements_in_order-else-is_strict-via-then-is_strict+else-is_less, decode_elements_in_order-else-is_strict-via-else-is_strict, decode_set-then-extensible+in_ok-push, decode_set-else-extensible}
-use Rattle.rasn_dynamic.specs.Listed.{Lists, Inside, PartListed, ComponentAt, MemberListed, MembersListed}
-use Rattle.rasn_de.specs.Constructed.{list_header}
+use Rattle.rasn_dynamic.proofs.reader.+decode.Goals.{decode_elements_in_order-else-is_strict-via-then-is_strict+else-is_less, decode_elements_in_order-else-is_strict-via-else-is_strict}
+use Rattle.rasn_dynamic.specs.Listed.{Lists, Inside, PartListed, ComponentAt, MemberListed, MembersListed, InsideListed}
+use Rattle.rasn_de.specs.Constructed.{sequence_header, prefix_header}
 use Rattle.rasn_dynamic.specs.declared.span.Spans.{Spans}
 use Rattle.std.specs.Prelude.{IfOk}
-use Rattle.rasn_dynamic.proofs.Listed.{if_any, lists_start, lists_more, part_listed, value_listed, none_listed, choice_listed, alternative_listed, holder_listed, inside_listed, tagged_listed, elements_listed, component_present, component_absent, component_more, components_left_out, components_listed, member_listed, unknown_passed, members_listed, header_listed, contents_same, components_same}
+use Rattle.rasn_dynamic.proofs.Listed.{if_any, lists_start, lists_more, part_listed, value_listed, none_listed, choice_listed, alternative_listed, holder_listed, inside_listed, tagged_listed, elements_listed, component_present, component_absent, component_more, components_left_out, components_listed, member_listed, unknown_passed, members_listed, header_listed, components_same}
 use Rattle.rasn_dynamic.proofs.reader.+decode.Goals as goal
-use Rattle.rasn_de.specs.SequenceOf.{DecodesSized}
+use Rattle.rasn_de.specs.SetPartTypes.{DecodesSetPartContents}
 use Rattle.rasn_de.specs.Set.{not_read}
 use Rattle.rasn_de.proofs.Headers.Tags.{look_refused, look_follows}
-use Rattle.rasn_dynamic.specs.Faults.{IsFaultOf, IsFaultIn, IsFaultInside, IsOnly, IsAlternativeAt, IsComponentAt, IsMemberAfter, ReadsEachPart, StopsAtMember, StopsInSequence, StopsInSet, TellsOf}
+use Rattle.rasn_dynamic.specs.Faults.{IsFaultOf, IsFaultIn, IsFaultInside, IsOnly, IsAlternativeAt, IsComponentAt, IsMemberAfter, Told, ReadsEachPart, StopsAtMember, StopsInSequence, StopsInSet, TellsOf}
 use Rattle.rasn_dynamic.proofs.Faults.{any_err, if_err_map, unnamed, one_taken, turns_long, marked, stepped, further, weaker, entered, opened, opened_short, told_map, tells, tells_err, alternative_there, element_there, forgotten, one_part_more, part_there, member_there, member_behind, unknown_there, turns_keep, named, not_named, unmoved, got_inside, found_itself, itself_leaf, present_stops, itself_prefix, itself_sequence, itself_set, itself_list, itself_set_of, itself_choice, element_stops, set_element_stops, default_stops, unmade_stops, only_memory}
 
 -- ---- the type with a number
@@ -83,13 +85,13 @@ decode_found-returns-in-Some-clause-fits g t c = λ k.
     if_ok _ _ _ (λ v. fits_below c.args.types.now c.args.levels (c.args.levels - 1) c.args.id.0 c.in-Some.ty.now v (let n = c.if-levels-eq0.false in omega arith) c.in-Some.ensures) (c.decode_type.ensures.fits k)
 
 pub decode_found-returns-then-levels-eq0-clause-nothing : goal.decode_found-returns-then-levels-eq0-clause-nothing
-decode_found-returns-then-levels-eq0-clause-nothing g t c = λ h. (c.no_value.ensures, refl)
+decode_found-returns-then-levels-eq0-clause-nothing g t c = λ h. (c.refuse_no_value.ensures, refl)
 
 pub decode_found-returns-in-Some-clause-nothing : goal.decode_found-returns-in-Some-clause-nothing
 decode_found-returns-in-Some-clause-nothing g t c = found_here _ c.in-Some.ty.now c.in-Some.ensures _ _
 
 pub decode_found-returns-in-None-clause-nothing : goal.decode_found-returns-in-None-clause-nothing
-decode_found-returns-in-None-clause-nothing g t c = λ h. (c.no_value-in-None.ensures, refl)
+decode_found-returns-in-None-clause-nothing g t c = λ h. (c.refuse_no_value-in-None.ensures, refl)
 
 pub decode_found-returns-in-None-clause-reads : goal.decode_found-returns-in-None-clause-reads
 decode_found-returns-in-None-clause-reads g t c = refused_not_there _ _ _ _ _ c.in-None.ensures
@@ -109,10 +111,10 @@ pub decode_choice-returns-in_default-clause-reads : goal.decode_choice-returns-i
 decode_choice-returns-in_default-clause-reads g t c = none_for (shape_of_type c.args.types.now c.args.below) c.args.alternatives.now c.in_ok-tag.tag _ c.in_ok-tag.ensures.next c.in_default.ensures _
 
 pub decode_choice-returns-in_default-clause-unknown : goal.decode_choice-returns-in_default-clause-unknown
-decode_choice-returns-in_default-clause-unknown g t c = λ tag n others. (rw (← c.codec.ensures) c.no_valid_choice.ensures, refl)
+decode_choice-returns-in_default-clause-unknown g t c = λ tag n others. (c.refuse_choice.ensures, refl)
 
 pub decode_choice-returns-in_default-clause-rules : goal.decode_choice-returns-in_default-clause-rules
-decode_choice-returns-in_default-clause-rules g t c = c.no_valid_choice.ensures.0 ∙ c.codec.ensures
+decode_choice-returns-in_default-clause-rules g t c = c.refuse_choice.ensures.0
 
 pub decode_choice-bounds-alternatives-number : goal.decode_choice-bounds-alternatives-number
 decode_choice-bounds-alternatives-number g t c = slice_get_within c.args.alternatives.now c.in-Some.number c.in-Some.ensures.0 (sym c.in-Some.ensures.1.0)
@@ -124,178 +126,72 @@ decode_choice-decode_part-requires g t c =
     (read_at c.args.alternatives.now c.in-Some.number c.index-alternatives-number.result (slice_get_within c.args.alternatives.now c.in-Some.number c.in-Some.ensures.0 (sym c.in-Some.ensures.1.0)) c.index-alternatives-number.is) in
     λ κs o. (search rules, (search rules, (lawful_at (shape_of_type c.args.types.now c.args.below) c.args.alternatives.now c.in-Some.number el c.requires.1.1.1.0 at, c.requires.1.1.1.1)))
 
-pub decode_choice-returns-in_err-value-clause-reads : goal.decode_choice-returns-in_err-value-clause-reads
-decode_choice-returns-in_err-value-clause-reads g t c =
+pub decode_choice-returns-in_err-decode_part-clause-reads : goal.decode_choice-returns-in_err-decode_part-clause-reads
+decode_choice-returns-in_err-decode_part-clause-reads g t c =
     let el = get_or c.args.alternatives.now c.in-Some.number c.index-alternatives-number.result in
     let at : Some el ≡ slice_get c.args.alternatives.now c.in-Some.number = subst (λ (a : Alternative). Some a ≡ slice_get c.args.alternatives.now c.in-Some.number) c.index-alternatives-number.is
     (read_at c.args.alternatives.now c.in-Some.number c.index-alternatives-number.result (slice_get_within c.args.alternatives.now c.in-Some.number c.in-Some.ensures.0 (sym c.in-Some.ensures.1.0)) c.index-alternatives-number.is) in
-    rw (residual _ c.from_residual-in_err-value.ensures.1)
+    rw (residual _ c.from_residual-in_err-decode_part.ensures.1)
     (chosen_refused (shape_of_type c.args.types.now c.args.below) c.args.alternatives.now c.in-Some.number el c.in_ok-tag.tag c.requires.1.1.1.0
-    (for_both (shape_of_type c.args.types.now c.args.below) c.args.alternatives.now c.in-Some.number c.in-Some.ensures.0 _ c.in_ok-tag.tag c.in-Some.ensures.1 at) _ _ c.in_ok-tag.ensures.next _ c.in_err-value.ensures.reads)
+    (for_both (shape_of_type c.args.types.now c.args.below) c.args.alternatives.now c.in-Some.number c.in-Some.ensures.0 _ c.in_ok-tag.tag c.in-Some.ensures.1 at) _ _ c.in_ok-tag.ensures.next _ c.in_err-decode_part.ensures.reads)
 
-pub decode_choice-returns-in_err-value-clause-unknown : goal.decode_choice-returns-in_err-value-clause-unknown
-decode_choice-returns-in_err-value-clause-unknown g t c = rw (residual _ c.from_residual-in_err-value.ensures.1) (λ tag n others.
+pub decode_choice-returns-in_err-decode_part-clause-unknown : goal.decode_choice-returns-in_err-decode_part-clause-unknown
+decode_choice-returns-in_err-decode_part-clause-unknown g t c = rw (residual _ c.from_residual-in_err-decode_part.ensures.1) (λ tag n others.
     absurd (others (subst (IsFirstOf (alternatives_by (shape_of_type c.args.types.now c.args.below) c.args.alternatives.now)) (next_one c.args.decoder.now.rest c.in_ok-tag.tag tag c.in_ok-tag.ensures.next n)
     (first_of_all (shape_of_type c.args.types.now c.args.below) c.in_ok-tag.tag c.args.alternatives.now c.in-Some.number c.in-Some.ensures.0 c.in-Some.ensures.1.0 c.in-Some.ensures.1.1))))
 
 pub decode_choice-returns-clause-unknown : goal.decode_choice-returns-clause-unknown
 decode_choice-returns-clause-unknown g t c = any_err _ (λ e tag n others.
     absurd (others (subst (IsFirstOf (alternatives_by (shape_of_type c.args.types.now c.args.below) c.args.alternatives.now)) (next_one c.args.decoder.now.rest c.in_ok-tag.tag tag c.in_ok-tag.ensures.next n)
-    (first_of_all (shape_of_type c.args.types.now c.args.below) c.in_ok-tag.tag c.args.alternatives.now c.in-Some.number c.in-Some.ensures.0 c.in-Some.ensures.1.0 c.in-Some.ensures.1.1)))) c.choose.result
+    (first_of_all (shape_of_type c.args.types.now c.args.below) c.in_ok-tag.tag c.args.alternatives.now c.in-Some.number c.in-Some.ensures.0 c.in-Some.ensures.1.0 c.in-Some.ensures.1.1)))) (outcome c.choose.result c.choose.new.out c.choose.new.error)
 
 pub decode_choice-returns-clause-told : goal.decode_choice-returns-clause-told
-decode_choice-returns-clause-told g t c = unnamed _ c.choose.result _ c.in_ok-value.ensures.told
+decode_choice-returns-clause-told g t c = unnamed _ (outcome c.choose.result c.choose.new.out c.choose.new.error) _ c.in_ok-decode_part.ensures.told
 
 pub decode_choice-returns-clause-rules : goal.decode_choice-returns-clause-rules
-decode_choice-returns-clause-rules g t c = subst (λ z. IfErr c.choose.result (λ e. e.codec ≡ z)) (same_rules c.in_ok-value.ensures.reads.2.stays) c.choose.ensures.rules
+decode_choice-returns-clause-rules g t c = subst (λ z. IfErr (outcome c.choose.result c.choose.new.out c.choose.new.error) (λ e. e.codec ≡ z)) (same_rules c.in_ok-decode_part.ensures.reads.2.stays) c.choose.ensures.rules
 
 pub decode_choice-returns-clause-fits : goal.decode_choice-returns-clause-fits
 decode_choice-returns-clause-fits g t c =
     let at = read_at c.args.alternatives.now c.in-Some.number c.index-alternatives-number.result (slice_get_within c.args.alternatives.now c.in-Some.number c.in-Some.ensures.0 (sym c.in-Some.ensures.1.0)) c.index-alternatives-number.is in
-    choice_fits _ c.in-Some.number c.in_ok-value.value _ c.choose.result c.choose.ensures.ok
-    (λ k. (c.index-alternatives-number.result, at, subst (λ (a : Alternative). Fits c.args.types.now c.args.below a.type_id.0 c.in_ok-value.value) (sym c.index-alternatives-number.is) (c.in_ok-value.ensures.fits k)))
+    choice_fits _ c.in-Some.number c.decode_part.new.out _ (outcome c.choose.result c.choose.new.out c.choose.new.error) c.choose.ensures.ok
+    (λ k. (c.index-alternatives-number.result, at, subst (λ (a : Alternative). Fits c.args.types.now c.args.below a.type_id.0 c.decode_part.new.out) (sym c.index-alternatives-number.is) (c.in_ok-decode_part.ensures.fits k)))
 
 pub decode_choice-returns-clause-reads : goal.decode_choice-returns-clause-reads
 decode_choice-returns-clause-reads g t c =
     let el = get_or c.args.alternatives.now c.in-Some.number c.index-alternatives-number.result in
     let at : Some el ≡ slice_get c.args.alternatives.now c.in-Some.number = subst (λ (a : Alternative). Some a ≡ slice_get c.args.alternatives.now c.in-Some.number) c.index-alternatives-number.is
     (read_at c.args.alternatives.now c.in-Some.number c.index-alternatives-number.result (slice_get_within c.args.alternatives.now c.in-Some.number c.in-Some.ensures.0 (sym c.in-Some.ensures.1.0)) c.index-alternatives-number.is) in
-    let w = c.in_ok-value.ensures.reads in
-    choice_made _ c.in-Some.number c.in_ok-value.value (DecodesTree (choice_among (alternatives_by (shape_of_type c.args.types.now c.args.below) c.args.alternatives.now))) c.args.decoder.now w.0 c.choose.result _ w.1 c.choose.ensures.ok c.choose.ensures.kind
+    let w = c.in_ok-decode_part.ensures.reads in
+    choice_made _ c.in-Some.number c.decode_part.new.out (DecodesTree (choice_among (alternatives_by (shape_of_type c.args.types.now c.args.below) c.args.alternatives.now))) c.args.decoder.now w.0 (outcome c.choose.result c.choose.new.out c.choose.new.error) _ w.1 c.choose.ensures.ok c.choose.ensures.kind
     (chosen_got (shape_of_type c.args.types.now c.args.below) c.args.alternatives.now c.in-Some.number el c.in_ok-tag.tag c.requires.1.1.1.0
     (for_both (shape_of_type c.args.types.now c.args.below) c.args.alternatives.now c.in-Some.number c.in-Some.ensures.0 _ c.in_ok-tag.tag c.in-Some.ensures.1 at) _ _ c.in_ok-tag.ensures.next w.0 w.2)
     (λ e m. alloc_failed _ (λ (z : Tree). z) c.args.decoder.now _ e m w.2.stays w.2.end)
 
 -- ---- contents
 
-pub decode_contents-decode_part-requires : goal.decode_contents-decode_part-requires
-decode_contents-decode_part-requires g t c = λ κs o. (search rules, (search rules, (prefix_lawful _ _ (subst (λ n. IsReadable (type_by (shape_of_type c.args.types.now c.args.below) n)) c.in-Tagged.is c.requires.lawful), c.requires.clear)))
-
-pub decode_contents-decode_sequence-requires : goal.decode_contents-decode_sequence-requires
-decode_contents-decode_sequence-requires g t c = λ κs o. (search rules, (search rules, (rw c.deref.ensures.value (lawful_parts (shape_of_type c.args.types.now c.args.below) _ (seq_lawful _ _ (subst (λ n. IsReadable (type_by (shape_of_type c.args.types.now c.args.below) n)) c.in-Sequence.is c.requires.lawful))), c.requires.clear)))
-
-pub decode_contents-returns-in_ok-values-in-Sequence-clause-exact : goal.decode_contents-returns-in_ok-values-in-Sequence-clause-exact
-decode_contents-returns-in_ok-values-in-Sequence-clause-exact g t c =
-    let w = c.in_ok-values-in-Sequence.ensures.reads in
-    rw c.in-Sequence.is (items w.0, items_made _ c.in_ok-values-in-Sequence.values w.0 w.1, tt, sequence_made (shape_of_type c.args.types.now c.args.below) _ c.in-Sequence.components c.deref.ensures.value _ _ c.in-Sequence.tag w.0 (w.2, tt))
-
-pub decode_contents-returns-in_err-values-in-Sequence-clause-exact : goal.decode_contents-returns-in_err-values-in-Sequence-clause-exact
-decode_contents-returns-in_err-values-in-Sequence-clause-exact g t c = rw (residual _ c.from_residual.ensures.1, c.in-Sequence.is) (sequence_fails (shape_of_type c.args.types.now c.args.below) _ c.in-Sequence.components c.deref.ensures.value _ _ c.in-Sequence.tag _ (c.in_err-values-in-Sequence.ensures.reads, c.in_err-values-in-Sequence.ensures.fails))
-
-pub decode_contents-decode_elements-requires : goal.decode_contents-decode_elements-requires
-decode_contents-decode_elements-requires g t c = λ κs o. (search rules, (search rules, (list_lawful _ _ c.in-SequenceOf.constraints.size (subst (λ n. IsReadable (type_by (shape_of_type c.args.types.now c.args.below) n)) c.in-SequenceOf.is c.requires.lawful), (c.requires.counts, c.requires.clear))))
-
-pub decode_contents-returns-in_ok-values-in-SequenceOf-clause-fits : goal.decode_contents-returns-in_ok-values-in-SequenceOf-clause-fits
-decode_contents-returns-in_ok-values-in-SequenceOf-clause-fits g t c = λ k. rw c.in-SequenceOf.is (are_items (EachFits (Fits c.args.types.now c.args.below c.in-SequenceOf.element.0)) c.in_ok-values-in-SequenceOf.values (c.in_ok-values-in-SequenceOf.ensures.fits k))
-
-pub decode_contents-returns-in_ok-values-in-SequenceOf-clause-exact : goal.decode_contents-returns-in_ok-values-in-SequenceOf-clause-exact
-decode_contents-returns-in_ok-values-in-SequenceOf-clause-exact g t c =
-    let w = c.in_ok-values-in-SequenceOf.ensures.reads in
-    rw c.in-SequenceOf.is (items w.0, items_made _ c.in_ok-values-in-SequenceOf.values w.0 w.1, w.2 ∙ sym (count_items w.0), (w.0, refl, w.3))
-
-pub decode_contents-returns-in_err-values-in-SequenceOf-clause-exact : goal.decode_contents-returns-in_err-values-in-SequenceOf-clause-exact
-decode_contents-returns-in_err-values-in-SequenceOf-clause-exact g t c = rw (residual _ c.from_residual-in_err-values-in-SequenceOf.ensures.1, c.in-SequenceOf.is) c.in_err-values-in-SequenceOf.ensures.reads
-
-pub decode_contents-returns-in-Tagged-clause-fits : goal.decode_contents-returns-in-Tagged-clause-fits
-decode_contents-returns-in-Tagged-clause-fits g t c = λ k. rw c.in-Tagged.is (c.decode_part.ensures.fits k)
-
-pub decode_contents-returns-in-Tagged-clause-exact : goal.decode_contents-returns-in-Tagged-clause-exact
-decode_contents-returns-in-Tagged-clause-exact g t c = rw c.in-Tagged.is (counted_nothing _ tree_of (CountsElements (Tagged c.in-Tagged.tag c.in-Tagged.inner)) (DecodesTree (shape_of_type c.args.types.now c.args.below c.in-Tagged.inner.0)) c.args.decoder.now c.decode_part.result _ _ (λ d. tt) c.decode_part.ensures.reads)
-
-pub decode_contents-returns-in_ok-values-in-Sequence-clause-fits : goal.decode_contents-returns-in_ok-values-in-Sequence-clause-fits
-decode_contents-returns-in_ok-values-in-Sequence-clause-fits g t c = λ k.
-    rw c.in-Sequence.is (are_items (ComponentsFit (Fits c.args.types.now c.args.below) c.in-Sequence.components.items) c.in_ok-values-in-Sequence.values (rw (← c.deref.ensures.value) (c.in_ok-values-in-Sequence.ensures.fits k)))
-
-pub decode_contents-decode_elements_in_order-requires : goal.decode_contents-decode_elements_in_order-requires
-decode_contents-decode_elements_in_order-requires g t c = λ κs o. (search rules, (search rules, (set_of_lawful _ _ c.in-SetOf.constraints.size (subst (λ n. IsReadable (type_by (shape_of_type c.args.types.now c.args.below) n)) c.in-SetOf.is c.requires.lawful), (c.requires.counts, c.requires.clear))))
-
-pub decode_contents-returns-in_ok-values-in-SetOf-clause-fits : goal.decode_contents-returns-in_ok-values-in-SetOf-clause-fits
-decode_contents-returns-in_ok-values-in-SetOf-clause-fits g t c = λ k. rw c.in-SetOf.is (are_elements (EachFits (Fits c.args.types.now c.args.below c.in-SetOf.element.0)) c.in_ok-values-in-SetOf.values (c.in_ok-values-in-SetOf.ensures.fits k))
-
-pub decode_contents-returns-in_ok-values-in-SetOf-clause-exact : goal.decode_contents-returns-in_ok-values-in-SetOf-clause-exact
-decode_contents-returns-in_ok-values-in-SetOf-clause-exact g t c =
-    let w = c.in_ok-values-in-SetOf.ensures.reads in
-    rw c.in-SetOf.is (elements w.0, elements_made _ c.in_ok-values-in-SetOf.values w.0 w.1, w.2 ∙ sym (count_items w.0), (w.0, refl, w.3))
-
-pub decode_contents-returns-in_err-values-in-SetOf-clause-exact : goal.decode_contents-returns-in_err-values-in-SetOf-clause-exact
-decode_contents-returns-in_err-values-in-SetOf-clause-exact g t c = rw (residual _ c.from_residual-in_err-values-in-SetOf.ensures.1, c.in-SetOf.is) c.in_err-values-in-SetOf.ensures.reads
-
-pub decode_contents-decode_set-requires : goal.decode_contents-decode_set-requires
-decode_contents-decode_set-requires g t c = λ κs o.
-    let f = shape_of_type c.args.types.now c.args.below in
-    let same = c.named_components-extensible.ensures.named ∙ ap (named_components f) c.deref-in-Set.ensures.value in (
-      search rules,
-      (
-        search rules,
-        (
-          named_lawful f c.in-Set.tag c.in-Set.components.items c.named_components-extensible.result.0.now same (subst (λ n. IsReadable (type_by f n)) c.in-Set.is c.requires.lawful),
-          (
-            c.in_ok-found-in-Set.ensures.ok,
-            (
-              c.requires.clear,
-              λ x.
-                  let marked = c.named_components-extensible.ensures.extensible ∙ ap (is_extensible f) c.deref-in-Set.ensures.value in
-                  ap f (c.last_type-other_id.ensures ∙ ap last_type c.deref-in-Set-2.ensures.value) ∙ last_unknown f c.in-Set.components.items (sym marked ∙ x),
-            ),
-          ),
-        ),
-      ),
-    )
-
-pub decode_contents-returns-in_ok-values-in-Set-clause-exact : goal.decode_contents-returns-in_ok-values-in-Set-clause-exact
-decode_contents-returns-in_ok-values-in-Set-clause-exact g t c =
-    let f = shape_of_type c.args.types.now c.args.below in
-    let same = c.named_components-extensible.ensures.named ∙ ap (named_components f) c.deref-in-Set.ensures.value in
-    let marked = c.named_components-extensible.ensures.extensible ∙ ap (is_extensible f) c.deref-in-Set.ensures.value in
-    let w = c.in_ok-values-in-Set.ensures.exact in
-    rw c.in-Set.is (items w.0, items_made _ c.in_ok-values-in-Set.values w.0 w.1, tt, set_made f c.named_components-extensible.result.1 _ c.in-Set.components marked same _ _ c.in-Set.name c.in-Set.tag w.0 w.2)
-
-pub decode_contents-returns-in_err-values-in-Set-clause-exact : goal.decode_contents-returns-in_err-values-in-Set-clause-exact
-decode_contents-returns-in_err-values-in-Set-clause-exact g t c =
-    let f = shape_of_type c.args.types.now c.args.below in
-    let same = c.named_components-extensible.ensures.named ∙ ap (named_components f) c.deref-in-Set.ensures.value in
-    let marked = c.named_components-extensible.ensures.extensible ∙ ap (is_extensible f) c.deref-in-Set.ensures.value in
-    rw (residual _ c.from_residual-in_err-values-in-Set.ensures.1, c.in-Set.is) (set_fails f c.named_components-extensible.result.1 _ c.in-Set.components marked same _ _ c.in-Set.name c.in-Set.tag _ c.in_err-values-in-Set.ensures.exact)
-
-pub decode_contents-returns-in_ok-values-in-Set-clause-fits : goal.decode_contents-returns-in_ok-values-in-Set-clause-fits
-decode_contents-returns-in_ok-values-in-Set-clause-fits g t c = λ k.
-    let f = shape_of_type c.args.types.now c.args.below in
-    let same = c.named_components-extensible.ensures.named ∙ ap (named_components f) c.deref-in-Set.ensures.value in
-    let marked = c.named_components-extensible.ensures.extensible ∙ ap (is_extensible f) c.deref-in-Set.ensures.value in
-    rw c.in-Set.is (are_items (ComponentsFit (Fits c.args.types.now c.args.below) c.in-Set.components.items) c.in_ok-values-in-Set.values
-    (members_fit c.args.types.now c.args.below c.in-Set.components.items c.in_ok-values-in-Set.values.items
-    (named_so f c.named_components-extensible.result.1 c.named_components-extensible.result.0.now c.in-Set.components.items marked same (λ b l. MembersFit (Fits c.args.types.now c.args.below) b l c.in_ok-values-in-Set.values.items) (c.in_ok-values-in-Set.ensures.fits k))))
-
-pub decode_contents-unreachable-requires : goal.decode_contents-unreachable-requires
-decode_contents-unreachable-requires g t c = none_holds c.args.ty.now c.in_default.not-Tagged c.in_default.not-Sequence c.in_default.not-Set c.in_default.not-SequenceOf c.in_default.not-SetOf c.requires.holds
-
-pub decode_contents-returns-in_err-found-in-Set-clause-exact : goal.decode_contents-returns-in_err-found-in-Set-clause-exact
-decode_contents-returns-in_err-found-in-Set-clause-exact g t c = rw (residual _ c.from_residual-in_err-found-in-Set.ensures.1, c.in-Set.is) (set_runs_out (shape_of_type c.args.types.now c.args.below) c.in-Set.name c.in-Set.tag c.in-Set.components _ _ c.in_err-found-in-Set.ensures.err)
-
--- ---- elements
-
 pub decode_elements-loop-element-preserved : goal.decode_elements-loop-element-preserved
 decode_elements-loop-element-preserved g t c =
     let i = c.loop-element.invariant.0 in
-    let w = c.in_ok-value.ensures.reads in (
+    let w = c.in_ok-decode_part.ensures.reads in (
       (
         i.0 ++ w.0 ∷ [],
-        one_made _ c.loop-element.values.items _ i.0 c.in_ok-value.value w.0 i.1 w.1 c.in_ok-keep.ensures.kept.0,
+        one_made _ c.loop-element.values.items _ i.0 c.decode_part.new.out w.0 i.1 w.1 c.in_ok-keep.ensures.kept.0,
         ap (λ n. n + 1) i.2 ∙ sym (length-append i.0 (w.0 ∷ [])),
         passes_more (DecodesTree (shape_of_type c.args.types.now c.args.below c.args.element.0)) c.loop-element.decoder _ w.0 c.loop-element-test.ensures w.2
             (λ e. c.in_ok-keep.ensures.kept.1 (e ∙ sym (ap length c.remaining-left.ensures.value))) c.args.decoder.now i.0 _ refl i.3,
       ),
-      (λ k. each_more (Fits c.args.types.now c.args.below c.args.element.0) c.loop-element.values.items _ c.in_ok-value.value (c.in_ok-keep.ensures.kept.0 k) (c.loop-element.invariant.1 k) (c.in_ok-value.ensures.fits k)),
-      c.in_ok-value.ensures.told,
-      lists_more (λ b k. PartListed (shape_of_type c.args.types.now c.args.below) c.args.below (Inside c.args.types.now c.args.below) c.args.element.0 k b) c.loop-element.count c.args.decoder.now c.loop-element.decoder _ _ _ _ c.loop-element.invariant.3 c.in_ok-value.ensures.listed,
+      (λ k. each_more (Fits c.args.types.now c.args.below c.args.element.0) c.loop-element.values.items _ c.decode_part.new.out (c.in_ok-keep.ensures.kept.0 k) (c.loop-element.invariant.1 k) (c.in_ok-decode_part.ensures.fits k)),
+      c.in_ok-decode_part.ensures.told,
+      lists_more (λ b k. PartListed (shape_of_type c.args.types.now c.args.below) c.args.below (Inside c.args.types.now c.args.below) c.args.element.0 k b) c.loop-element.count c.args.decoder.now c.loop-element.decoder _ _ _ _ c.loop-element.invariant.3 c.in_ok-decode_part.ensures.listed,
     )
 
 pub decode_elements-returns-in_err-keep-clause-reads : goal.decode_elements-returns-in_err-keep-clause-reads
 decode_elements-returns-in_err-keep-clause-reads g t c =
     let i = c.loop-element.invariant.0 in
-    let w = c.in_ok-value.ensures.reads in
+    let w = c.in_ok-decode_part.ensures.reads in
     let k = call_keeps w.2 in
-    let e = c.in_err-keep.field-0.0 in
+    let e = c.keep.new.error in
     let at : length c.remaining-left.result.now ≡ length c.loop-element.decoder.rest = ap length c.remaining-left.ensures.value in
     rw (residual _ c.from_residual-in_err-keep.ensures.1) (
       i.0,
@@ -312,10 +208,10 @@ decode_elements-returns-in_err-keep-clause-reads g t c =
       ),
     )
 
-pub decode_elements-returns-in_err-value-clause-reads : goal.decode_elements-returns-in_err-value-clause-reads
-decode_elements-returns-in_err-value-clause-reads g t c =
+pub decode_elements-returns-in_err-decode_part-clause-reads : goal.decode_elements-returns-in_err-decode_part-clause-reads
+decode_elements-returns-in_err-decode_part-clause-reads g t c =
     let i = c.loop-element.invariant.0 in
-    rw (residual _ c.from_residual.ensures.1) (i.0, c.loop-element.decoder, i.3, c.loop-element-test.ensures, inl c.in_err-value.ensures.reads)
+    rw (residual _ c.from_residual.ensures.1) (i.0, c.loop-element.decoder, i.3, c.loop-element-test.ensures, inl c.in_err-decode_part.ensures.reads)
 
 pub decode_elements-returns-clause-reads : goal.decode_elements-returns-clause-reads
 decode_elements-returns-clause-reads g t c =
@@ -324,14 +220,14 @@ decode_elements-returns-clause-reads g t c =
 pub decode_elements-overflow_add-count : goal.decode_elements-overflow_add-count
 decode_elements-overflow_add-count g t c =
     let i = c.loop-element.invariant.0 in
-    let w = c.in_ok-value.ensures.reads in
+    let w = c.in_ok-decode_part.ensures.reads in
     let n = turns_long (shape_of_type c.args.types.now c.args.below c.args.element.0) (λ (z : Tree). z) c.args.decoder.now i.0 c.loop-element.decoder i.3 in
     let m = one_taken c.loop-element.decoder.rest w.2.end.0 _ w.2.end.1 (λ e. c.in_ok-keep.ensures.kept.1 (e ∙ sym (ap length c.remaining-left.ensures.value))) in
     let l = i.2 in
     omega (arith, l, n, m, c.octets_left.ensures, c.octets_left.type_inv)
 
 pub decode_elements-loop-element-init : goal.decode_elements-loop-element-init
-decode_elements-loop-element-init g t c = rw c.new-values.ensures.items (([], (λ k. refl), c.requires.counts, refl), (λ k. tt), c.requires.clear, lists_start (λ b k. PartListed (shape_of_type c.args.types.now c.args.below) c.args.below (Inside c.args.types.now c.args.below) c.args.element.0 k b) _ c.args.decoder.now _ c.requires.counts)
+decode_elements-loop-element-init g t c = rw c.requires.empty (([], (λ k. refl), c.requires.counts, refl), (λ k. tt), c.requires.clear, lists_start (λ b k. PartListed (shape_of_type c.args.types.now c.args.below) c.args.below (Inside c.args.types.now c.args.below) c.args.element.0 k b) _ c.args.decoder.now _ c.requires.counts)
 
 pub decode_elements-returns-clause-told : goal.decode_elements-returns-clause-told
 decode_elements-returns-clause-told g t c = c.loop-element.invariant.2
@@ -340,16 +236,16 @@ pub decode_elements-returns-clause-fits : goal.decode_elements-returns-clause-fi
 decode_elements-returns-clause-fits g t c = c.loop-element.invariant.1
 
 pub decode_elements-loop-element-smaller : goal.decode_elements-loop-element-smaller
-decode_elements-loop-element-smaller g t c = shorter _ _ c.in_ok-value.ensures.reads.2.end (λ e. c.in_ok-keep.ensures.kept.1 (e ∙ sym (ap length c.remaining-left.ensures.value)))
+decode_elements-loop-element-smaller g t c = shorter _ _ c.in_ok-decode_part.ensures.reads.2.end (λ e. c.in_ok-keep.ensures.kept.1 (e ∙ sym (ap length c.remaining-left.ensures.value)))
 
-pub decode_elements-returns-in_err-value-clause-rules : goal.decode_elements-returns-in_err-value-clause-rules
-decode_elements-returns-in_err-value-clause-rules g t c = rw (residual _ c.from_residual.ensures.1) (c.in_err-value.ensures.rules ∙ turn_rules (shape_of_type c.args.types.now c.args.below c.args.element.0) (λ (z : Tree). z) _ _ _ c.loop-element.invariant.0.3)
+pub decode_elements-returns-in_err-decode_part-clause-rules : goal.decode_elements-returns-in_err-decode_part-clause-rules
+decode_elements-returns-in_err-decode_part-clause-rules g t c = rw (residual _ c.from_residual.ensures.1) (c.in_err-decode_part.ensures.rules ∙ turn_rules (shape_of_type c.args.types.now c.args.below c.args.element.0) (λ (z : Tree). z) _ _ _ c.loop-element.invariant.0.3)
 
 pub decode_elements-returns-in_err-keep-clause-rules : goal.decode_elements-returns-in_err-keep-clause-rules
-decode_elements-returns-in_err-keep-clause-rules g t c = rw (residual _ c.from_residual-in_err-keep.ensures.1) (c.in_err-keep.ensures.rules ∙ same_rules c.in_ok-value.ensures.reads.2.stays ∙ turn_rules (shape_of_type c.args.types.now c.args.below c.args.element.0) (λ (z : Tree). z) _ _ _ c.loop-element.invariant.0.3)
+decode_elements-returns-in_err-keep-clause-rules g t c = rw (residual _ c.from_residual-in_err-keep.ensures.1) (c.in_err-keep.ensures.rules ∙ same_rules c.in_ok-decode_part.ensures.reads.2.stays ∙ turn_rules (shape_of_type c.args.types.now c.args.below c.args.element.0) (λ (z : Tree). z) _ _ _ c.loop-element.invariant.0.3)
 
 pub decode_elements_in_order-loop-last-init : goal.decode_elements_in_order-loop-last-init
-decode_elements_in_order-loop-last-init g t c = rw c.new-values.ensures.items (([], [], (λ k. refl), c.requires.counts, (refl, refl), (λ strict. tt), refl), (λ k. tt), c.requires.clear, lists_start (λ b k. PartListed (shape_of_type c.args.types.now c.args.below) c.args.below (Inside c.args.types.now c.args.below) c.args.element.0 k b) _ c.args.decoder.now _ c.requires.counts)
+decode_elements_in_order-loop-last-init g t c = rw c.requires.empty (([], [], (λ k. refl), c.requires.counts, (refl, refl), (λ strict. tt), refl), (λ k. tt), c.requires.clear, lists_start (λ b k. PartListed (shape_of_type c.args.types.now c.args.below) c.args.below (Inside c.args.types.now c.args.below) c.args.element.0 k b) _ c.args.decoder.now _ c.requires.counts)
 
 pub decode_elements_in_order-returns-clause-told : goal.decode_elements_in_order-returns-clause-told
 decode_elements_in_order-returns-clause-told g t c = c.loop-last.invariant.2
@@ -358,12 +254,12 @@ pub decode_elements_in_order-returns-clause-fits : goal.decode_elements_in_order
 decode_elements_in_order-returns-clause-fits g t c = c.loop-last.invariant.1
 
 pub decode_elements_in_order-loop-last-smaller : goal.decode_elements_in_order-loop-last-smaller
-decode_elements_in_order-loop-last-smaller g t c = shorter _ _ c.in_ok-value.ensures.reads.2.end (λ e. c.in_ok-keep.ensures.kept.1 (e ∙ sym (ap length c.remaining-start.ensures.value)))
+decode_elements_in_order-loop-last-smaller g t c = shorter _ _ c.in_ok-decode_part.ensures.reads.2.end (λ e. c.in_ok-keep.ensures.kept.1 (e ∙ sym (ap length c.remaining-start.ensures.value)))
 
-pub decode_elements_in_order-returns-in_err-value-clause-reads : goal.decode_elements_in_order-returns-in_err-value-clause-reads
-decode_elements_in_order-returns-in_err-value-clause-reads g t c =
+pub decode_elements_in_order-returns-in_err-decode_part-clause-reads : goal.decode_elements_in_order-returns-in_err-decode_part-clause-reads
+decode_elements_in_order-returns-in_err-decode_part-clause-reads g t c =
     let i = c.loop-last.invariant.0 in
-    rw (residual _ c.from_residual.ensures.1) (i.0, i.1, c.loop-last.decoder, i.4, i.5, c.loop-last-test.ensures, inl (inl c.in_err-value.ensures.reads))
+    rw (residual _ c.from_residual.ensures.1) (i.0, i.1, c.loop-last.decoder, i.4, i.5, c.loop-last-test.ensures, inl (inl c.in_err-decode_part.ensures.reads))
 
 pub decode_elements_in_order-returns-clause-reads : goal.decode_elements_in_order-returns-clause-reads
 decode_elements_in_order-returns-clause-reads g t c =
@@ -372,7 +268,7 @@ decode_elements_in_order-returns-clause-reads g t c =
 pub decode_elements_in_order-overflow_add-count : goal.decode_elements_in_order-overflow_add-count
 decode_elements_in_order-overflow_add-count g t c =
     let i = c.loop-last.invariant.0 in
-    let w = c.in_ok-value.ensures.reads in
+    let w = c.in_ok-decode_part.ensures.reads in
     let p = forgotten (DecodesTree (shape_of_type c.args.types.now c.args.below c.args.element.0)) c.args.decoder.now i.0 i.1 c.loop-last.decoder i.4 in
     let n = turns_long (shape_of_type c.args.types.now c.args.below c.args.element.0) (λ (z : Tree). z) c.args.decoder.now i.0 c.loop-last.decoder p in
     let m = one_taken c.loop-last.decoder.rest w.2.end.0 _ w.2.end.1 (λ e. c.in_ok-keep.ensures.kept.1 (e ∙ sym (ap length c.remaining-start.ensures.value))) in
@@ -384,9 +280,9 @@ decode_elements_in_order-overflow_add-count g t c =
 pub decode_elements_in_order-returns-in_err-keep-clause-reads : goal.decode_elements_in_order-returns-in_err-keep-clause-reads
 decode_elements_in_order-returns-in_err-keep-clause-reads g t c =
     let i = c.loop-last.invariant.0 in
-    let w = c.in_ok-value.ensures.reads in
+    let w = c.in_ok-decode_part.ensures.reads in
     let k = call_keeps w.2 in
-    let e = c.in_err-keep.field-0.0 in
+    let e = c.keep.new.error in
     let at : length c.remaining-start.result.now ≡ length c.loop-last.decoder.rest = ap length c.remaining-start.ensures.value in
     rw (residual _ c.from_residual-in_err-keep.ensures.1) (
       i.0,
@@ -408,7 +304,7 @@ decode_elements_in_order-returns-in_err-keep-clause-reads g t c =
 pub decode_elements_in_order-returns-then-is_less-clause-reads : goal.decode_elements_in_order-returns-then-is_less-clause-reads
 decode_elements_in_order-returns-then-is_less-clause-reads g t c =
     let i = c.loop-last.invariant.0 in
-    let w = c.in_ok-value.ensures.reads in
+    let w = c.in_ok-decode_part.ensures.reads in
     let k = call_keeps w.2 in (
       i.0,
       i.1,
@@ -424,14 +320,14 @@ decode_elements_in_order-returns-then-is_less-clause-reads g t c =
         (λ e. c.in_ok-keep.ensures.kept.1 (e ∙ sym (ap length c.remaining-start.ensures.value))),
         strict_before c.loop-last.decoder _ k c.if-is_strict.ensures,
         out_of_order i.1 c.loop-last.last.now c.octets_before-octets.result.now i.6 c.if-is_less.ensures,
-        rules_same c.loop-last.decoder _ (Der SetOfOutOfOrder) c.out_of_order.result k c.out_of_order.ensures,
+        rules_same c.loop-last.decoder _ (Der SetOfOutOfOrder) c.refuse_order.new.error k c.refuse_order.ensures,
       ),
     )
 
 pub decode_elements_in_order-loop-last-preserved : goal.decode_elements_in_order-loop-last-preserved
 decode_elements_in_order-loop-last-preserved g t c =
     let i = c.loop-last.invariant.0 in
-    let w = c.in_ok-value.ensures.reads in
+    let w = c.in_ok-decode_part.ensures.reads in
     let k = call_keeps w.2 in
     let strict_here : IsStrict c.args.decoder.now.rule → IsStrict c.loop-last.decoder.rule = λ h.
     subst (λ (s : State). IsStrict s.rule) (sym (came_stays (shape_of_type c.args.types.now c.args.below c.args.element.0) (λ (z : Tree). z) c.args.decoder.now c.loop-last.decoder i.0 i.1 i.4)) h in
@@ -442,7 +338,7 @@ decode_elements_in_order-loop-last-preserved g t c =
       (
         i.0 ++ w.0 ∷ [],
         i.1 ++ (c.octets_before-octets.result.now ∷ []),
-        one_made _ c.loop-last.values.items _ i.0 c.in_ok-value.value w.0 i.2 w.1 c.in_ok-keep.ensures.kept.0,
+        one_made _ c.loop-last.values.items _ i.0 c.decode_part.new.out w.0 i.2 w.1 c.in_ok-keep.ensures.kept.0,
         ap (λ n. n + 1) i.3 ∙ sym (length-append i.0 (w.0 ∷ [])),
         passes_from (DecodesTree (shape_of_type c.args.types.now c.args.below c.args.element.0)) c.loop-last.decoder _ w.0 c.octets_before-octets.result.now
             (rw (← c.remaining-start.ensures.value, ← c.remaining.ensures.value) c.octets_before-octets.ensures) c.loop-last-test.ensures w.2
@@ -450,98 +346,33 @@ decode_elements_in_order-loop-last-preserved g t c =
         (λ s. in_order i.1 c.loop-last.last.now c.octets_before-octets.result.now (i.5 s) i.6 (not_less s)),
         ends_more i.1 c.octets_before-octets.result.now,
       ),
-      (λ q. each_more (Fits c.args.types.now c.args.below c.args.element.0) c.loop-last.values.items _ c.in_ok-value.value (c.in_ok-keep.ensures.kept.0 q) (c.loop-last.invariant.1 q) (c.in_ok-value.ensures.fits q)),
-      c.in_ok-value.ensures.told,
-      lists_more (λ b k. PartListed (shape_of_type c.args.types.now c.args.below) c.args.below (Inside c.args.types.now c.args.below) c.args.element.0 k b) c.loop-last.count c.args.decoder.now c.loop-last.decoder _ _ _ _ c.loop-last.invariant.3 c.in_ok-value.ensures.listed,
+      (λ q. each_more (Fits c.args.types.now c.args.below c.args.element.0) c.loop-last.values.items _ c.decode_part.new.out (c.in_ok-keep.ensures.kept.0 q) (c.loop-last.invariant.1 q) (c.in_ok-decode_part.ensures.fits q)),
+      c.in_ok-decode_part.ensures.told,
+      lists_more (λ b k. PartListed (shape_of_type c.args.types.now c.args.below) c.args.below (Inside c.args.types.now c.args.below) c.args.element.0 k b) c.loop-last.count c.args.decoder.now c.loop-last.decoder _ _ _ _ c.loop-last.invariant.3 c.in_ok-decode_part.ensures.listed,
     )
 
-pub decode_elements_in_order-returns-in_err-value-clause-rules : goal.decode_elements_in_order-returns-in_err-value-clause-rules
-decode_elements_in_order-returns-in_err-value-clause-rules g t c = rw (residual _ c.from_residual.ensures.1) (c.in_err-value.ensures.rules ∙ same_rules (came_stays (shape_of_type c.args.types.now c.args.below c.args.element.0) (λ (z : Tree). z) c.args.decoder.now c.loop-last.decoder c.loop-last.invariant.0.0 c.loop-last.invariant.0.1 c.loop-last.invariant.0.4))
+pub decode_elements_in_order-returns-in_err-decode_part-clause-rules : goal.decode_elements_in_order-returns-in_err-decode_part-clause-rules
+decode_elements_in_order-returns-in_err-decode_part-clause-rules g t c = rw (residual _ c.from_residual.ensures.1) (c.in_err-decode_part.ensures.rules ∙ same_rules (came_stays (shape_of_type c.args.types.now c.args.below c.args.element.0) (λ (z : Tree). z) c.args.decoder.now c.loop-last.decoder c.loop-last.invariant.0.0 c.loop-last.invariant.0.1 c.loop-last.invariant.0.4))
 
 pub decode_elements_in_order-returns-in_err-keep-clause-rules : goal.decode_elements_in_order-returns-in_err-keep-clause-rules
-decode_elements_in_order-returns-in_err-keep-clause-rules g t c = rw (residual _ c.from_residual-in_err-keep.ensures.1) (c.in_err-keep.ensures.rules ∙ same_rules c.in_ok-value.ensures.reads.2.stays ∙ same_rules (came_stays (shape_of_type c.args.types.now c.args.below c.args.element.0) (λ (z : Tree). z) c.args.decoder.now c.loop-last.decoder c.loop-last.invariant.0.0 c.loop-last.invariant.0.1 c.loop-last.invariant.0.4))
+decode_elements_in_order-returns-in_err-keep-clause-rules g t c = rw (residual _ c.from_residual-in_err-keep.ensures.1) (c.in_err-keep.ensures.rules ∙ same_rules c.in_ok-decode_part.ensures.reads.2.stays ∙ same_rules (came_stays (shape_of_type c.args.types.now c.args.below c.args.element.0) (λ (z : Tree). z) c.args.decoder.now c.loop-last.decoder c.loop-last.invariant.0.0 c.loop-last.invariant.0.1 c.loop-last.invariant.0.4))
 
 pub decode_elements_in_order-returns-then-is_less-clause-rules : goal.decode_elements_in_order-returns-then-is_less-clause-rules
-decode_elements_in_order-returns-then-is_less-clause-rules g t c = codec_is c.out_of_order.ensures ∙ same_rules c.in_ok-value.ensures.reads.2.stays ∙ same_rules (came_stays (shape_of_type c.args.types.now c.args.below c.args.element.0) (λ (z : Tree). z) c.args.decoder.now c.loop-last.decoder c.loop-last.invariant.0.0 c.loop-last.invariant.0.1 c.loop-last.invariant.0.4)
+decode_elements_in_order-returns-then-is_less-clause-rules g t c = codec_is c.refuse_order.ensures ∙ same_rules c.in_ok-decode_part.ensures.reads.2.stays ∙ same_rules (came_stays (shape_of_type c.args.types.now c.args.below c.args.element.0) (λ (z : Tree). z) c.args.decoder.now c.loop-last.decoder c.loop-last.invariant.0.0 c.loop-last.invariant.0.1 c.loop-last.invariant.0.4)
 
 -- ---- a value that holds others
 
-pub decode_inside-returns-in_err-inner-clause-exact :
-    goal.decode_inside-returns-in_err-inner-clause-exact
-decode_inside-returns-in_err-inner-clause-exact g t c =
-    rw (residual _ c.from_residual.ensures.1) (step_none _ c.args.header c.args.decoder.now _ _ c.in_err-inner.ensures.exact)
-
-pub decode_inside-returns-in-Err-clause-exact :
-    goal.decode_inside-returns-in-Err-clause-exact
-decode_inside-returns-in-Err-clause-exact g t c =
-    (step_refused _ c.args.header c.args.decoder.now _ _ _ c.in_ok-inner.ensures.exact _ _ c.in-Err.ensures.exact)
-
-pub decode_inside-returns-in_err-close-clause-exact : goal.decode_inside-returns-in_err-close-clause-exact
-decode_inside-returns-in_err-close-clause-exact g t c =
-    let w = c.in-Ok.ensures.exact in
-    rw (residual _ c.from_residual-in_err-close.ensures.1)
-    (step_unclosed _ c.args.header c.args.decoder.now _ _ _ c.in_ok-inner.ensures.exact w.0 _ w.3 _ c.remaining.ensures.value _ _ c.in_err-close.ensures)
-
-pub decode_inside-close-requires : goal.decode_inside-close-requires
-decode_inside-close-requires g t c = λ x.
-    let w = c.in-Ok.ensures.exact in
-    step_end (DecodesContents (shape_of_type c.args.types.now c.args.below) c.args.ty.now) c.args.header c.args.decoder.now _ _ _ c.in_ok-inner.ensures.exact _ _
-    (contents_end (shape_of_type c.args.types.now c.args.below) c.args.ty.now _ w.0 _ w.3) c.remaining.ensures.value x
-
-pub decode_inside-returns-clause-exact : goal.decode_inside-returns-clause-exact
-decode_inside-returns-clause-exact g t c =
-    let w = c.in-Ok.ensures.exact in
-    (w.0, w.1, w.2, step_closed _ c.args.header c.args.decoder.now _ _ _ c.in_ok-inner.ensures.exact w.0 _ w.3 _ c.remaining.ensures.value _ c.in_ok-close.ensures)
-
-pub decode_inside-returns-in_err-inner-clause-rules : goal.decode_inside-returns-in_err-inner-clause-rules
-decode_inside-returns-in_err-inner-clause-rules g t c = rw (residual _ c.from_residual.ensures.1) (codec_is c.in_err-inner.ensures.exact.2)
-
-pub decode_list-returns-in_err-value-clause-exact : goal.decode_list-returns-in_err-value-clause-exact
-decode_list-returns-in_err-value-clause-exact g t c = rw (residual _ c.from_residual.ensures.1) (not_sized (DecodesContents (shape_of_type c.args.types.now c.args.below) c.args.ty.now) c.args.tag c.args.constraints.now c.list.result c.list.ensures c.args.decoder.now _ _ c.in_err-value.ensures.exact)
-
-pub decode_list-decode_inside-requires : goal.decode_list-decode_inside-requires
-decode_list-decode_inside-requires g t c = λ κs o. (search rules, (search rules, (c.requires.lawful, (holds_others c.args.ty.now c.requires.elements, (refl, c.requires.clear)))))
-
-pub decode_list-returns-clause-exact : goal.decode_list-returns-clause-exact
-decode_list-returns-clause-exact g t c =
-    let w = c.in_ok-value.ensures.exact in
-    (w.0, w.1, is_sized (DecodesContents (shape_of_type c.args.types.now c.args.below) c.args.ty.now) c.args.tag c.args.constraints.now c.list.result c.list.ensures c.args.decoder.now _ w.0 w.3 _ (is_counted c.args.ty.now _ w.0 c.requires.elements w.2) c.in_ok-check_size.ensures.sized)
-
-pub decode_list-returns-in_err-check_size-clause-itself : goal.decode_list-returns-in_err-check_size-clause-itself
-decode_list-returns-in_err-check_size-clause-itself g t c =
-    let w = c.in_ok-value.ensures.exact in
-    rw (residual _ c.from_residual-in_err-check_size.ensures.1)
-    (λ n. missized (ReadsEachPart (shape_of_type c.args.types.now c.args.below) c.args.ty.now) c.args.tag c.args.constraints.now c.list.result c.list.ensures c.args.decoder.now _ w.0
-    (got_inside (DecodesContents (shape_of_type c.args.types.now c.args.below) c.args.ty.now) (ReadsEachPart (shape_of_type c.args.types.now c.args.below) c.args.ty.now) (λ o v n h. h) c.list.result c.args.decoder.now w.0 _ w.3) _ (is_counted c.args.ty.now _ w.0 c.requires.elements w.2) _ c.in_err-check_size.ensures.sized)
-
-pub decode_list-returns-in_err-check_size-clause-told : goal.decode_list-returns-in_err-check_size-clause-told
-decode_list-returns-in_err-check_size-clause-told g t c =
-    rw (residual _ c.from_residual-in_err-check_size.ensures.1)
-    (unnamed {T = Value} (IsFaultInside c.args.types.now c.args.below (list_header c.args.tag) c.args.ty.now c.args.decoder.now) (Err c.in_err-check_size.field-0.0) _ c.in_ok-value.ensures.told)
-
-pub decode_list-returns-in_err-check_size-clause-rules : goal.decode_list-returns-in_err-check_size-clause-rules
-decode_list-returns-in_err-check_size-clause-rules g t c = rw (residual _ c.from_residual-in_err-check_size.ensures.1) (c.in_err-check_size.ensures.rules ∙ same_rules c.in_ok-value.ensures.exact.3.0.stays)
-
-pub decode_list-returns-in_err-check_size-clause-exact : goal.decode_list-returns-in_err-check_size-clause-exact
-decode_list-returns-in_err-check_size-clause-exact g t c =
-    let w = c.in_ok-value.ensures.exact in
-    rw (residual _ c.from_residual-in_err-check_size.ensures.1)
-    (missized (DecodesContents (shape_of_type c.args.types.now c.args.below) c.args.ty.now) c.args.tag c.args.constraints.now c.list.result c.list.ensures c.args.decoder.now _ w.0 w.3 _ (is_counted c.args.ty.now _ w.0 c.requires.elements w.2) _ c.in_err-check_size.ensures.sized)
-
-pub decode_list-returns-clause-fits : goal.decode_list-returns-clause-fits
-decode_list-returns-clause-fits g t c = c.in_ok-value.ensures.fits
-
 pub decode_type-returns-in-Any-clause-exact : goal.decode_type-returns-in-Any-clause-exact
-decode_type-returns-in-Any-clause-exact g t c = rw c.in-Any.is (made_of_value _ _ c.args.decoder.now c.decode_any_value.result _ c.decode_any_value.ensures.reads)
+decode_type-returns-in-Any-clause-exact g t c = rw c.in-Any.is c.put_any.ensures.reads
 
 pub decode_type-returns-in-Unknown-clause-exact : goal.decode_type-returns-in-Unknown-clause-exact
-decode_type-returns-in-Unknown-clause-exact g t c = rw c.in-Unknown.is c.decode_unknown_values.ensures.reads
+decode_type-returns-in-Unknown-clause-exact g t c = rw c.in-Unknown.is c.put_unknown.ensures.reads
 
 pub decode_type-returns-in-Unknown-clause-fits : goal.decode_type-returns-in-Unknown-clause-fits
-decode_type-returns-in-Unknown-clause-fits g t c = λ k. rw c.in-Unknown.is (c.decode_unknown_values.ensures.fits k)
+decode_type-returns-in-Unknown-clause-fits g t c = λ k. rw c.in-Unknown.is (c.put_unknown.ensures.fits k)
 
 pub decode_type-returns-in-Unknown-clause-reads : goal.decode_type-returns-in-Unknown-clause-reads
-decode_type-returns-in-Unknown-clause-reads g t c = rw c.in-Unknown.is c.decode_unknown_values.ensures.reads
+decode_type-returns-in-Unknown-clause-reads g t c = rw c.in-Unknown.is c.put_unknown.ensures.reads
 
 pub decode_type-returns-in-Unknown-clause-itself : goal.decode_type-returns-in-Unknown-clause-itself
 decode_type-returns-in-Unknown-clause-itself g t c =
@@ -552,108 +383,42 @@ decode_type-returns-in-Unknown-clause-listed g t c = if_any _ (none_listed (shap
 
 pub decode_type-returns-in-Choice-clause-exact : goal.decode_type-returns-in-Choice-clause-exact
 decode_type-returns-in-Choice-clause-exact g t c =
-    choice_exact (shape_of_type c.args.types.now c.args.below) c.args.ty.now _ c.args.decoder.now c.decode_choice.result _ c.in-Choice.name c.in-Choice.alternatives c.deref-in-Choice.result.now c.as_str.result.now c.in-Choice.is c.deref-in-Choice.ensures.value c.as_str.ensures.value c.decode_choice.ensures.reads c.decode_choice.ensures.unknown
+    choice_exact (shape_of_type c.args.types.now c.args.below) c.args.ty.now _ c.args.decoder.now (outcome c.decode_choice.result c.decode_choice.new.out c.decode_choice.new.walk.error) _ c.in-Choice.name c.in-Choice.alternatives c.deref-in-Choice.result.now c.as_str.result.now c.in-Choice.is c.deref-in-Choice.ensures.value c.as_str.ensures.value c.decode_choice.ensures.reads c.decode_choice.ensures.unknown
 
 pub decode_type-returns-in-Choice-clause-fits : goal.decode_type-returns-in-Choice-clause-fits
 decode_type-returns-in-Choice-clause-fits g t c = λ k. rw (c.in-Choice.is, ← c.deref-in-Choice.ensures.value) (c.decode_choice.ensures.fits k)
 
 pub decode_type-returns-in-Any-clause-fits : goal.decode_type-returns-in-Any-clause-fits
-decode_type-returns-in-Any-clause-fits g t c = λ k. rw c.in-Any.is c.decode_any_value.ensures.fits
+decode_type-returns-in-Any-clause-fits g t c = λ k. rw c.in-Any.is (c.put_any.ensures.fits k)
 
 pub decode_type-returns-in-Enumerated-clause-fits : goal.decode_type-returns-in-Enumerated-clause-fits
 decode_type-returns-in-Enumerated-clause-fits g t c = λ k.
-    rw c.in-Enumerated.is (subst (λ l. IfOk c.decode_number.result (λ v. IsNumber (numbers_of l) v)) c.deref.ensures.value c.decode_number.ensures.fits)
+    rw c.in-Enumerated.is (subst (λ l. IfOk (outcome c.put_number.result c.put_number.new.out c.put_number.new.error) (λ v. IsNumber (numbers_of l) v)) c.deref.ensures.value (c.put_number.ensures.fits k))
 
 pub decode_type-returns-in-Leaf-clause-fits : goal.decode_type-returns-in-Leaf-clause-fits
-decode_type-returns-in-Leaf-clause-fits g t c = λ k. rw c.in-Leaf.is (c.leaf_value.ensures.fits k)
+decode_type-returns-in-Leaf-clause-fits g t c = λ k. rw c.in-Leaf.is (c.put_leaf.ensures.fits k)
 
 pub decode_type-returns-in-Choice-clause-reads : goal.decode_type-returns-in-Choice-clause-reads
 decode_type-returns-in-Choice-clause-reads g t c = rw (c.in-Choice.is, ← c.deref-in-Choice.ensures.value) c.decode_choice.ensures.reads
 
 pub decode_type-returns-in-Any-clause-reads : goal.decode_type-returns-in-Any-clause-reads
-decode_type-returns-in-Any-clause-reads g t c = rw c.in-Any.is (made_of_value _ _ c.args.decoder.now c.decode_any_value.result _ c.decode_any_value.ensures.reads)
+decode_type-returns-in-Any-clause-reads g t c = rw c.in-Any.is c.put_any.ensures.reads
 
 pub decode_type-returns-in-Enumerated-clause-exact : goal.decode_type-returns-in-Enumerated-clause-exact
 decode_type-returns-in-Enumerated-clause-exact g t c =
-    rw (c.in-Enumerated.is, ← c.deref.ensures.value) (made_of_value _ _ c.args.decoder.now c.decode_number.result _ c.decode_number.ensures.reads)
+    rw (c.in-Enumerated.is, ← c.deref.ensures.value) c.put_number.ensures.reads
 
 pub decode_type-returns-in-Enumerated-clause-reads : goal.decode_type-returns-in-Enumerated-clause-reads
 decode_type-returns-in-Enumerated-clause-reads g t c =
-    rw (c.in-Enumerated.is, ← c.deref.ensures.value) (made_of_value _ _ c.args.decoder.now c.decode_number.result _ c.decode_number.ensures.reads)
+    rw (c.in-Enumerated.is, ← c.deref.ensures.value) c.put_number.ensures.reads
 
 pub decode_type-returns-in-Leaf-clause-exact : goal.decode_type-returns-in-Leaf-clause-exact
-decode_type-returns-in-Leaf-clause-exact g t c = rw c.in-Leaf.is c.leaf_value.ensures.reads
+decode_type-returns-in-Leaf-clause-exact g t c = rw c.in-Leaf.is c.put_leaf.ensures.reads
 
 pub decode_type-returns-in-Leaf-clause-reads : goal.decode_type-returns-in-Leaf-clause-reads
-decode_type-returns-in-Leaf-clause-reads g t c = rw c.in-Leaf.is c.leaf_value.ensures.reads
-
-pub decode_inside-returns-in-Err-clause-rules : goal.decode_inside-returns-in-Err-clause-rules
-decode_inside-returns-in-Err-clause-rules g t c = (c.in-Err.ensures.rules ∙ same_rules c.in_ok-inner.ensures.exact.2)
-
-pub decode_inside-returns-in_err-close-clause-rules : goal.decode_inside-returns-in_err-close-clause-rules
-decode_inside-returns-in_err-close-clause-rules g t c = rw (residual _ c.from_residual-in_err-close.ensures.1) (codec_is c.in_err-close.ensures.2 ∙ same_rules c.in_ok-inner.ensures.exact.5.stays)
+decode_type-returns-in-Leaf-clause-reads g t c = rw c.in-Leaf.is c.put_leaf.ensures.reads
 
 -- ---- a type
-
-pub decode_type-returns-in-Tagged-clause-reads : goal.decode_type-returns-in-Tagged-clause-reads
-decode_type-returns-in-Tagged-clause-reads g t c =
-    made_as _ tree_of (DecodesType (shape_of_type c.args.types.now c.args.below) c.args.ty.now) (DecodesTree (type_by (shape_of_type c.args.types.now c.args.below) c.args.ty.now)) c.args.decoder.now _ _
-    (λ q h. type_decodes (shape_of_type c.args.types.now c.args.below) c.args.decoder.now c.decode_inside.ensures.octets q _ c.args.ty.now h)
-    (uncounted _ tree_of (CountsElements c.args.ty.now) (DecodesInside (DecodesContents (shape_of_type c.args.types.now c.args.below) c.args.ty.now) _) (DecodesType (shape_of_type c.args.types.now c.args.below) c.args.ty.now) c.args.decoder.now _ _ _
-    (λ q h. by_prefix (shape_of_type c.args.types.now c.args.below) c.args.ty.now c.args.decoder.now q _ c.in-Tagged.tag c.in-Tagged.inner c.prefix.result c.in-Tagged.is c.prefix.ensures h) c.decode_inside.ensures.exact)
-
-pub decode_type-returns-in-Tagged-clause-exact : goal.decode_type-returns-in-Tagged-clause-exact
-decode_type-returns-in-Tagged-clause-exact g t c =
-    uncounted _ tree_of (CountsElements c.args.ty.now) (DecodesInside (DecodesContents (shape_of_type c.args.types.now c.args.below) c.args.ty.now) _) (DecodesType (shape_of_type c.args.types.now c.args.below) c.args.ty.now) c.args.decoder.now _ _ _
-    (λ q h. by_prefix (shape_of_type c.args.types.now c.args.below) c.args.ty.now c.args.decoder.now q _ c.in-Tagged.tag c.in-Tagged.inner c.prefix.result c.in-Tagged.is c.prefix.ensures h) c.decode_inside.ensures.exact
-
-pub decode_type-returns-in-Sequence-clause-reads : goal.decode_type-returns-in-Sequence-clause-reads
-decode_type-returns-in-Sequence-clause-reads g t c =
-    made_as _ tree_of (DecodesType (shape_of_type c.args.types.now c.args.below) c.args.ty.now) (DecodesTree (type_by (shape_of_type c.args.types.now c.args.below) c.args.ty.now)) c.args.decoder.now _ _
-    (λ q h. type_decodes (shape_of_type c.args.types.now c.args.below) c.args.decoder.now c.decode_inside-in-Sequence.ensures.octets q _ c.args.ty.now h)
-    (uncounted _ tree_of (CountsElements c.args.ty.now) (DecodesInside (DecodesContents (shape_of_type c.args.types.now c.args.below) c.args.ty.now) _) (DecodesType (shape_of_type c.args.types.now c.args.below) c.args.ty.now) c.args.decoder.now _ _ _
-    (λ q h. by_sequence (shape_of_type c.args.types.now c.args.below) c.args.ty.now c.args.decoder.now q _ c.in-Sequence.tag c.in-Sequence.components c.sequence.result c.in-Sequence.is c.sequence.ensures h) c.decode_inside-in-Sequence.ensures.exact)
-
-pub decode_type-returns-in-Sequence-clause-exact : goal.decode_type-returns-in-Sequence-clause-exact
-decode_type-returns-in-Sequence-clause-exact g t c =
-    uncounted _ tree_of (CountsElements c.args.ty.now) (DecodesInside (DecodesContents (shape_of_type c.args.types.now c.args.below) c.args.ty.now) _) (DecodesType (shape_of_type c.args.types.now c.args.below) c.args.ty.now) c.args.decoder.now _ _ _
-    (λ q h. by_sequence (shape_of_type c.args.types.now c.args.below) c.args.ty.now c.args.decoder.now q _ c.in-Sequence.tag c.in-Sequence.components c.sequence.result c.in-Sequence.is c.sequence.ensures h) c.decode_inside-in-Sequence.ensures.exact
-
-pub decode_type-returns-in-Set-clause-reads : goal.decode_type-returns-in-Set-clause-reads
-decode_type-returns-in-Set-clause-reads g t c =
-    made_as _ tree_of (DecodesType (shape_of_type c.args.types.now c.args.below) c.args.ty.now) (DecodesTree (type_by (shape_of_type c.args.types.now c.args.below) c.args.ty.now)) c.args.decoder.now _ _
-    (λ q h. type_decodes (shape_of_type c.args.types.now c.args.below) c.args.decoder.now c.decode_inside-in-Set.ensures.octets q _ c.args.ty.now h)
-    (uncounted _ tree_of (CountsElements c.args.ty.now) (DecodesInside (DecodesContents (shape_of_type c.args.types.now c.args.below) c.args.ty.now) _) (DecodesType (shape_of_type c.args.types.now c.args.below) c.args.ty.now) c.args.decoder.now _ _ _
-    (λ q h. by_set (shape_of_type c.args.types.now c.args.below) c.args.ty.now c.args.decoder.now q _ c.in-Set.name c.in-Set.tag c.in-Set.components c.sequence-in-Set.result c.in-Set.is c.sequence-in-Set.ensures h) c.decode_inside-in-Set.ensures.exact)
-
-pub decode_type-returns-in-Set-clause-exact : goal.decode_type-returns-in-Set-clause-exact
-decode_type-returns-in-Set-clause-exact g t c =
-    uncounted _ tree_of (CountsElements c.args.ty.now) (DecodesInside (DecodesContents (shape_of_type c.args.types.now c.args.below) c.args.ty.now) _) (DecodesType (shape_of_type c.args.types.now c.args.below) c.args.ty.now) c.args.decoder.now _ _ _
-    (λ q h. by_set (shape_of_type c.args.types.now c.args.below) c.args.ty.now c.args.decoder.now q _ c.in-Set.name c.in-Set.tag c.in-Set.components c.sequence-in-Set.result c.in-Set.is c.sequence-in-Set.ensures h) c.decode_inside-in-Set.ensures.exact
-
-pub decode_type-returns-in-SequenceOf-clause-reads : goal.decode_type-returns-in-SequenceOf-clause-reads
-decode_type-returns-in-SequenceOf-clause-reads g t c =
-    made_as _ tree_of (DecodesType (shape_of_type c.args.types.now c.args.below) c.args.ty.now) (DecodesTree (type_by (shape_of_type c.args.types.now c.args.below) c.args.ty.now)) c.args.decoder.now _ _
-    (λ q h. type_decodes (shape_of_type c.args.types.now c.args.below) c.args.decoder.now c.decode_list.ensures.octets q _ c.args.ty.now h)
-    (made_as _ tree_of (DecodesSized (DecodesContents (shape_of_type c.args.types.now c.args.below) c.args.ty.now) element_count c.in-SequenceOf.tag c.in-SequenceOf.constraints) (DecodesType (shape_of_type c.args.types.now c.args.below) c.args.ty.now) c.args.decoder.now _ _
-    (λ q h. by_list (shape_of_type c.args.types.now c.args.below) c.args.ty.now c.args.decoder.now q _ c.in-SequenceOf.tag c.in-SequenceOf.element c.in-SequenceOf.constraints c.in-SequenceOf.is h) c.decode_list.ensures.exact)
-
-pub decode_type-returns-in-SequenceOf-clause-exact : goal.decode_type-returns-in-SequenceOf-clause-exact
-decode_type-returns-in-SequenceOf-clause-exact g t c =
-    made_as _ tree_of (DecodesSized (DecodesContents (shape_of_type c.args.types.now c.args.below) c.args.ty.now) element_count c.in-SequenceOf.tag c.in-SequenceOf.constraints) (DecodesType (shape_of_type c.args.types.now c.args.below) c.args.ty.now) c.args.decoder.now _ _
-    (λ q h. by_list (shape_of_type c.args.types.now c.args.below) c.args.ty.now c.args.decoder.now q _ c.in-SequenceOf.tag c.in-SequenceOf.element c.in-SequenceOf.constraints c.in-SequenceOf.is h) c.decode_list.ensures.exact
-
-pub decode_type-returns-in-SetOf-clause-reads : goal.decode_type-returns-in-SetOf-clause-reads
-decode_type-returns-in-SetOf-clause-reads g t c =
-    made_as _ tree_of (DecodesType (shape_of_type c.args.types.now c.args.below) c.args.ty.now) (DecodesTree (type_by (shape_of_type c.args.types.now c.args.below) c.args.ty.now)) c.args.decoder.now _ _
-    (λ q h. type_decodes (shape_of_type c.args.types.now c.args.below) c.args.decoder.now c.decode_list-in-SetOf.ensures.octets q _ c.args.ty.now h)
-    (made_as _ tree_of (DecodesSized (DecodesContents (shape_of_type c.args.types.now c.args.below) c.args.ty.now) element_count c.in-SetOf.tag c.in-SetOf.constraints) (DecodesType (shape_of_type c.args.types.now c.args.below) c.args.ty.now) c.args.decoder.now _ _
-    (λ q h. by_set_of (shape_of_type c.args.types.now c.args.below) c.args.ty.now c.args.decoder.now q _ c.in-SetOf.tag c.in-SetOf.element c.in-SetOf.constraints c.in-SetOf.is h) c.decode_list-in-SetOf.ensures.exact)
-
-pub decode_type-returns-in-SetOf-clause-exact : goal.decode_type-returns-in-SetOf-clause-exact
-decode_type-returns-in-SetOf-clause-exact g t c =
-    made_as _ tree_of (DecodesSized (DecodesContents (shape_of_type c.args.types.now c.args.below) c.args.ty.now) element_count c.in-SetOf.tag c.in-SetOf.constraints) (DecodesType (shape_of_type c.args.types.now c.args.below) c.args.ty.now) c.args.decoder.now _ _
-    (λ q h. by_set_of (shape_of_type c.args.types.now c.args.below) c.args.ty.now c.args.decoder.now q _ c.in-SetOf.tag c.in-SetOf.element c.in-SetOf.constraints c.in-SetOf.is h) c.decode_list-in-SetOf.ensures.exact
 
 -- ---- components
 
@@ -671,17 +436,17 @@ decode_component-returns-in-Ok-true-clause-reads g t c =
 pub decode_component-returns-in-Ok-true-clause-fits : goal.decode_component-returns-in-Ok-true-clause-fits
 decode_component-returns-in-Ok-true-clause-fits g t c = if_kept _ _ _ _ (λ v h. inr h) c.decode_present-in-Ok-true.ensures.fits
 
-pub decode_component-missing-requires : goal.decode_component-missing-requires
-decode_component-missing-requires g t c = not_required c.args.component.now.presence c.if-is_always_there.ensures
+pub decode_component-put_missing-requires : goal.decode_component-put_missing-requires
+decode_component-put_missing-requires g t c = not_required c.args.component.now.presence c.if-is_always_there.ensures
 
 pub decode_component-returns-in-Ok-false-clause-reads : goal.decode_component-returns-in-Ok-false-clause-reads
-decode_component-returns-in-Ok-false-clause-reads g t c = made ((shape_of_type c.args.types.now c.args.below) c.args.component.now.type_id.0) _ _ (presence_in (shape_of_type c.args.types.now c.args.below) c.args.component.now) (λ a. c.if-is_always_there.ensures (always_by (key_of ((shape_of_type c.args.types.now c.args.below) c.args.component.now.type_id.0)) own_tag c.args.component.now.presence a)) (let w = c.in-Ok-false.field-0-test in let h : c.in-Ok-false.field-0 ≡ false = cc in next_of (key_of ((shape_of_type c.args.types.now c.args.below) c.args.component.now.type_id.0)) ((shape_of_type c.args.types.now c.args.below) c.args.component.now.type_id.0) c.args.component.now.presence c.args.decoder.now (Ok false) c.if-is_always_there.ensures (subst (λ b. NextIs (sought_by (key_of ((shape_of_type c.args.types.now c.args.below) c.args.component.now.type_id.0)) ((shape_of_type c.args.types.now c.args.below) c.args.component.now.type_id.0)) c.args.decoder.now (Ok b)) h c.in-Ok-false.ensures)) _ (made_of _ (key_of ((shape_of_type c.args.types.now c.args.below) c.args.component.now.type_id.0)) c.args.component.now.presence c.args.decoder.now _ c.missing.ensures.made)
+decode_component-returns-in-Ok-false-clause-reads g t c = made ((shape_of_type c.args.types.now c.args.below) c.args.component.now.type_id.0) _ _ (presence_in (shape_of_type c.args.types.now c.args.below) c.args.component.now) (λ a. c.if-is_always_there.ensures (always_by (key_of ((shape_of_type c.args.types.now c.args.below) c.args.component.now.type_id.0)) own_tag c.args.component.now.presence a)) (let w = c.in-Ok-false.field-0-test in let h : c.in-Ok-false.field-0 ≡ false = cc in next_of (key_of ((shape_of_type c.args.types.now c.args.below) c.args.component.now.type_id.0)) ((shape_of_type c.args.types.now c.args.below) c.args.component.now.type_id.0) c.args.component.now.presence c.args.decoder.now (Ok false) c.if-is_always_there.ensures (subst (λ b. NextIs (sought_by (key_of ((shape_of_type c.args.types.now c.args.below) c.args.component.now.type_id.0)) ((shape_of_type c.args.types.now c.args.below) c.args.component.now.type_id.0)) c.args.decoder.now (Ok b)) h c.in-Ok-false.ensures)) _ (made_of _ (key_of ((shape_of_type c.args.types.now c.args.below) c.args.component.now.type_id.0)) c.args.component.now.presence c.args.decoder.now _ c.put_missing.ensures.made)
 
 pub decode_component-returns-in-Ok-false-clause-fits : goal.decode_component-returns-in-Ok-false-clause-fits
-decode_component-returns-in-Ok-false-clause-fits g t c = λ k. made_fits (Fits c.args.types.now c.args.below) _ k c.args.component.now c.args.decoder.now _ c.missing.ensures.made
+decode_component-returns-in-Ok-false-clause-fits g t c = λ k. made_fits (Fits c.args.types.now c.args.below) _ k c.args.component.now c.args.decoder.now _ c.put_missing.ensures.made
 
 pub decode_component-returns-in-Err-clause-reads : goal.decode_component-returns-in-Err-clause-reads
-decode_component-returns-in-Err-clause-reads g t c = unread ((shape_of_type c.args.types.now c.args.below) c.args.component.now.type_id.0) _ (presence_in (shape_of_type c.args.types.now c.args.below) c.args.component.now) (λ a. c.if-is_always_there.ensures (always_by (key_of ((shape_of_type c.args.types.now c.args.below) c.args.component.now.type_id.0)) own_tag c.args.component.now.presence a)) c.in-Err.error (next_of (key_of ((shape_of_type c.args.types.now c.args.below) c.args.component.now.type_id.0)) ((shape_of_type c.args.types.now c.args.below) c.args.component.now.type_id.0) c.args.component.now.presence c.args.decoder.now (Err c.in-Err.error) c.if-is_always_there.ensures c.in-Err.ensures)
+decode_component-returns-in-Err-clause-reads g t c = unread ((shape_of_type c.args.types.now c.args.below) c.args.component.now.type_id.0) _ (presence_in (shape_of_type c.args.types.now c.args.below) c.args.component.now) (λ a. c.if-is_always_there.ensures (always_by (key_of ((shape_of_type c.args.types.now c.args.below) c.args.component.now.type_id.0)) own_tag c.args.component.now.presence a)) c.follows.new.error (next_of (key_of ((shape_of_type c.args.types.now c.args.below) c.args.component.now.type_id.0)) ((shape_of_type c.args.types.now c.args.below) c.args.component.now.type_id.0) c.args.component.now.presence c.args.decoder.now (Err c.follows.new.error) c.if-is_always_there.ensures c.in-Err.ensures)
 
 pub decode_component-returns-then-is_always_there-clause-fails : goal.decode_component-returns-then-is_always_there-clause-fails
 decode_component-returns-then-is_always_there-clause-fails g t c =
@@ -692,10 +457,10 @@ decode_component-returns-in-Ok-true-clause-fails g t c =
     made_fails_as _ tree_of (DecodesPresent (presence_in (shape_of_type c.args.types.now c.args.below) c.args.component.now) ((shape_of_type c.args.types.now c.args.below) c.args.component.now.type_id.0)) c.args.decoder.now _ _ (λ q h. looked_fails ((shape_of_type c.args.types.now c.args.below) c.args.component.now.type_id.0) _ (presence_in (shape_of_type c.args.types.now c.args.below) c.args.component.now) (λ a. c.if-is_always_there.ensures (always_by (key_of ((shape_of_type c.args.types.now c.args.below) c.args.component.now.type_id.0)) own_tag c.args.component.now.presence a)) (let w = c.in-Ok-true.field-0-test in let h : c.in-Ok-true.field-0 ≡ true = cc in next_of (key_of ((shape_of_type c.args.types.now c.args.below) c.args.component.now.type_id.0)) ((shape_of_type c.args.types.now c.args.below) c.args.component.now.type_id.0) c.args.component.now.presence c.args.decoder.now (Ok true) c.if-is_always_there.ensures (subst (λ b. NextIs (sought_by (key_of ((shape_of_type c.args.types.now c.args.below) c.args.component.now.type_id.0)) ((shape_of_type c.args.types.now c.args.below) c.args.component.now.type_id.0)) c.args.decoder.now (Ok b)) h c.in-Ok-true.ensures)) q _ h) c.decode_present-in-Ok-true.ensures.reads
 
 pub decode_component-returns-in-Ok-false-clause-fails : goal.decode_component-returns-in-Ok-false-clause-fails
-decode_component-returns-in-Ok-false-clause-fails g t c = made_fails ((shape_of_type c.args.types.now c.args.below) c.args.component.now.type_id.0) _ _ (presence_in (shape_of_type c.args.types.now c.args.below) c.args.component.now) (λ a. c.if-is_always_there.ensures (always_by (key_of ((shape_of_type c.args.types.now c.args.below) c.args.component.now.type_id.0)) own_tag c.args.component.now.presence a)) (let w = c.in-Ok-false.field-0-test in let h : c.in-Ok-false.field-0 ≡ false = cc in next_of (key_of ((shape_of_type c.args.types.now c.args.below) c.args.component.now.type_id.0)) ((shape_of_type c.args.types.now c.args.below) c.args.component.now.type_id.0) c.args.component.now.presence c.args.decoder.now (Ok false) c.if-is_always_there.ensures (subst (λ b. NextIs (sought_by (key_of ((shape_of_type c.args.types.now c.args.below) c.args.component.now.type_id.0)) ((shape_of_type c.args.types.now c.args.below) c.args.component.now.type_id.0)) c.args.decoder.now (Ok b)) h c.in-Ok-false.ensures)) _ (made_of _ (key_of ((shape_of_type c.args.types.now c.args.below) c.args.component.now.type_id.0)) c.args.component.now.presence c.args.decoder.now _ c.missing.ensures.made)
+decode_component-returns-in-Ok-false-clause-fails g t c = made_fails ((shape_of_type c.args.types.now c.args.below) c.args.component.now.type_id.0) _ _ (presence_in (shape_of_type c.args.types.now c.args.below) c.args.component.now) (λ a. c.if-is_always_there.ensures (always_by (key_of ((shape_of_type c.args.types.now c.args.below) c.args.component.now.type_id.0)) own_tag c.args.component.now.presence a)) (let w = c.in-Ok-false.field-0-test in let h : c.in-Ok-false.field-0 ≡ false = cc in next_of (key_of ((shape_of_type c.args.types.now c.args.below) c.args.component.now.type_id.0)) ((shape_of_type c.args.types.now c.args.below) c.args.component.now.type_id.0) c.args.component.now.presence c.args.decoder.now (Ok false) c.if-is_always_there.ensures (subst (λ b. NextIs (sought_by (key_of ((shape_of_type c.args.types.now c.args.below) c.args.component.now.type_id.0)) ((shape_of_type c.args.types.now c.args.below) c.args.component.now.type_id.0)) c.args.decoder.now (Ok b)) h c.in-Ok-false.ensures)) _ (made_of _ (key_of ((shape_of_type c.args.types.now c.args.below) c.args.component.now.type_id.0)) c.args.component.now.presence c.args.decoder.now _ c.put_missing.ensures.made)
 
 pub decode_component-returns-in-Err-clause-fails : goal.decode_component-returns-in-Err-clause-fails
-decode_component-returns-in-Err-clause-fails g t c = unread_fails ((shape_of_type c.args.types.now c.args.below) c.args.component.now.type_id.0) _ (presence_in (shape_of_type c.args.types.now c.args.below) c.args.component.now) (λ a. c.if-is_always_there.ensures (always_by (key_of ((shape_of_type c.args.types.now c.args.below) c.args.component.now.type_id.0)) own_tag c.args.component.now.presence a)) c.in-Err.error (next_of (key_of ((shape_of_type c.args.types.now c.args.below) c.args.component.now.type_id.0)) ((shape_of_type c.args.types.now c.args.below) c.args.component.now.type_id.0) c.args.component.now.presence c.args.decoder.now (Err c.in-Err.error) c.if-is_always_there.ensures c.in-Err.ensures)
+decode_component-returns-in-Err-clause-fails g t c = unread_fails ((shape_of_type c.args.types.now c.args.below) c.args.component.now.type_id.0) _ (presence_in (shape_of_type c.args.types.now c.args.below) c.args.component.now) (λ a. c.if-is_always_there.ensures (always_by (key_of ((shape_of_type c.args.types.now c.args.below) c.args.component.now.type_id.0)) own_tag c.args.component.now.presence a)) c.follows.new.error (next_of (key_of ((shape_of_type c.args.types.now c.args.below) c.args.component.now.type_id.0)) ((shape_of_type c.args.types.now c.args.below) c.args.component.now.type_id.0) c.args.component.now.presence c.args.decoder.now (Err c.follows.new.error) c.if-is_always_there.ensures c.in-Err.ensures)
 
 pub decode_component-returns-in-Err-clause-rules : goal.decode_component-returns-in-Err-clause-rules
 decode_component-returns-in-Err-clause-rules g t c = look_rules (sought_by (key_of ((shape_of_type c.args.types.now c.args.below) c.args.component.now.type_id.0)) ((shape_of_type c.args.types.now c.args.below) c.args.component.now.type_id.0)) c.args.decoder.now _ c.in-Err.ensures
@@ -704,8 +469,8 @@ pub decode_present-returns-in_default-clause-reads : goal.decode_present-returns
 decode_present-returns-in_default-clause-reads g t c =
     made_as _ tree_of (DecodesTree ((shape_of_type c.args.types.now c.args.below) c.args.component.now.type_id.0)) (DecodesPresent (presence_in (shape_of_type c.args.types.now c.args.below) c.args.component.now) ((shape_of_type c.args.types.now c.args.below) c.args.component.now.type_id.0)) c.args.decoder.now _ _ (λ r h. plain (key_of ((shape_of_type c.args.types.now c.args.below) c.args.component.now.type_id.0)) ((shape_of_type c.args.types.now c.args.below) c.args.component.now.type_id.0) c.args.component.now.presence _ _ c.in_default.not-Default r h) c.decode_part.ensures.reads
 
-pub decode_present-returns-in_err-value-clause-reads : goal.decode_present-returns-in_err-value-clause-reads
-decode_present-returns-in_err-value-clause-reads g t c = rw (residual _ c.from_residual.ensures.1) (inl c.in_err-value.ensures.reads)
+pub decode_stated-returns-in_err-decode_compared-clause-reads : goal.decode_stated-returns-in_err-decode_compared-clause-reads
+decode_stated-returns-in_err-decode_compared-clause-reads g t c = rw (residual _ c.from_residual.ensures.1) (inl c.in_err-decode_compared.ensures.reads)
 
 pub decode_present-returns-then-not-is_strict-clause-reads : goal.decode_present-returns-then-not-is_strict-clause-reads
 decode_present-returns-then-not-is_strict-clause-reads g t c =
@@ -717,21 +482,21 @@ decode_present-returns-then-not-is_strict-clause-itself g t c = named _ _ _ _ c.
 pub decode_present-returns-then-not-is_strict-clause-told : goal.decode_present-returns-then-not-is_strict-clause-told
 decode_present-returns-then-not-is_strict-clause-told g t c = tells _ _ (λ k f i. i) _ _ c.decode_part-then-not-is_strict.ensures.told
 
-pub decode_present-returns-then-means_same-clause-reads : goal.decode_present-returns-then-means_same-clause-reads
-decode_present-returns-then-means_same-clause-reads g t c =
-    let w = c.in_ok-value.ensures.reads in
-    default_is_written (key_of ((shape_of_type c.args.types.now c.args.below) c.args.component.now.type_id.0)) ((shape_of_type c.args.types.now c.args.below) c.args.component.now.type_id.0) c.args.component.now.presence c.in-Default.default c.in-Default.is _ _ w.0 w.2 c.if-not-is_strict.ensures (subst (λ z. Same z (tree_of c.in-Default.default)) (w.1 refl) (c.means_same.ensures.same c.if-means_same.true)) c.default_present.result c.default_present.ensures
+pub decode_stated-returns-then-means_same-clause-reads : goal.decode_stated-returns-then-means_same-clause-reads
+decode_stated-returns-then-means_same-clause-reads g t c =
+    let w = c.in_ok-decode_compared.ensures.reads in
+    default_is_written (key_of ((shape_of_type c.args.types.now c.args.below) c.args.component.now.type_id.0)) ((shape_of_type c.args.types.now c.args.below) c.args.component.now.type_id.0) c.args.component.now.presence c.args.default.now c.requires.stated _ _ w.0 w.2 c.requires.strict (subst (λ z. Same z (tree_of c.args.default.now)) (w.1 refl) (c.means_same.ensures.same c.if-means_same.true)) c.refuse_default.new.error c.refuse_default.ensures
 
-pub decode_present-returns-then-means_same-clause-rules : goal.decode_present-returns-then-means_same-clause-rules
-decode_present-returns-then-means_same-clause-rules g t c = codec_is c.default_present.ensures ∙ same_rules c.in_ok-value.ensures.reads.2.stays
+pub decode_stated-returns-then-means_same-clause-rules : goal.decode_stated-returns-then-means_same-clause-rules
+decode_stated-returns-then-means_same-clause-rules g t c = codec_is c.refuse_default.ensures ∙ same_rules c.in_ok-decode_compared.ensures.reads.2.stays
 
-pub decode_present-returns-clause-reads : goal.decode_present-returns-clause-reads
-decode_present-returns-clause-reads g t c =
-    let w = c.in_ok-value.ensures.reads in
-    (w.0, (λ k. w.1 refl), differs (key_of ((shape_of_type c.args.types.now c.args.below) c.args.component.now.type_id.0)) ((shape_of_type c.args.types.now c.args.below) c.args.component.now.type_id.0) c.args.component.now.presence c.in-Default.default c.in-Default.is _ _ w.0 w.2 (λ s. let h = c.means_same.ensures.equal (subst (λ z. Same z (tree_of c.in-Default.default)) (sym (w.1 refl)) s) in let f = c.if-means_same.false in cc))
+pub decode_stated-returns-clause-reads : goal.decode_stated-returns-clause-reads
+decode_stated-returns-clause-reads g t c =
+    let w = c.in_ok-decode_compared.ensures.reads in
+    (w.0, (λ k. w.1 refl), differs (key_of ((shape_of_type c.args.types.now c.args.below) c.args.component.now.type_id.0)) ((shape_of_type c.args.types.now c.args.below) c.args.component.now.type_id.0) c.args.component.now.presence c.args.default.now c.requires.stated _ _ w.0 w.2 (λ s. let h = c.means_same.ensures.equal (subst (λ z. Same z (tree_of c.args.default.now)) (sym (w.1 refl)) s) in let f = c.if-means_same.false in cc))
 
-pub decode_present-returns-clause-fits : goal.decode_present-returns-clause-fits
-decode_present-returns-clause-fits g t c = λ k. c.in_ok-value.ensures.fits
+pub decode_stated-returns-clause-fits : goal.decode_stated-returns-clause-fits
+decode_stated-returns-clause-fits g t c = λ k. c.in_ok-decode_compared.ensures.fits
 
 -- ---- a part that has to be compared
 
@@ -742,34 +507,31 @@ pub decode_compared-returns-in-None-clause-reads : goal.decode_compared-returns-
 decode_compared-returns-in-None-clause-reads g t c =
     let w = c.in-None.ensures.reads in
     let s = shape_of_type c.args.types.now c.args.levels c.args.id.0 in
-    subst (λ k. Making k tree_of (DecodesTree s) c.args.decoder.now c.decode_part.result c.decode_part.new.decoder) w.0 (subst (λ z. Making g.M.Made.KEEP tree_of (DecodesTree s) z c.decode_part.result c.decode_part.new.decoder) w.1 c.decode_part.ensures.reads)
+    subst (λ k. Making k tree_of (DecodesTree s) c.args.decoder.now (outcome c.decode_part.result c.decode_part.new.out c.decode_part.new.walk.error) c.decode_part.new.decoder) w.0 (subst (λ z. Making g.M.Made.KEEP tree_of (DecodesTree s) z (outcome c.decode_part.result c.decode_part.new.out c.decode_part.new.walk.error) c.decode_part.new.decoder) w.1 c.decode_part.ensures.reads)
 
 pub decode_compared-returns-in-None-clause-fits : goal.decode_compared-returns-in-None-clause-fits
 decode_compared-returns-in-None-clause-fits g t c = c.decode_part.ensures.fits c.in-None.ensures.reads.0
 
 pub decode_compared-returns-in-None-clause-rules : goal.decode_compared-returns-in-None-clause-rules
-decode_compared-returns-in-None-clause-rules g t c = subst (λ (z : State). IfErr c.decode_part.result (λ e. e.codec ≡ z.rule)) c.in-None.ensures.reads.1 c.decode_part.ensures.rules
+decode_compared-returns-in-None-clause-rules g t c = subst (λ (z : State). IfErr (outcome c.decode_part.result c.decode_part.new.out c.decode_part.new.walk.error) (λ e. e.codec ≡ z.rule)) c.in-None.ensures.reads.1 c.decode_part.ensures.rules
 
 pub decode_compared-returns-in-None-clause-told : goal.decode_compared-returns-in-None-clause-told
-decode_compared-returns-in-None-clause-told g t c = subst (λ (z : State). TellsOf (IsFaultIn c.args.types.now c.args.levels (IsOnly c.args.index c.args.id.0 z) z z) c.decode_part.result c.decode_part.new.trace) c.in-None.ensures.reads.1 c.decode_part.ensures.told
+decode_compared-returns-in-None-clause-told g t c = subst (λ (z : State). TellsOf (IsFaultIn c.args.types.now c.args.levels (IsOnly c.args.index c.args.id.0 z) z z) (outcome c.decode_part.result c.decode_part.new.out c.decode_part.new.walk.error) c.decode_part.new.walk.fault) c.in-None.ensures.reads.1 c.decode_part.ensures.told
 
 -- ---- the components of a SEQUENCE
 
 pub decode_sequence-returns-then-leaves_all_out-clause-reads : goal.decode_sequence-returns-then-leaves_all_out-clause-reads
 decode_sequence-returns-then-leaves_all_out-clause-reads g t c =
-    all_left_read (shape_of_type c.args.types.now c.args.below) c.args.components.now c.args.decoder.now _ c.if-leaves_all_out.ensures _ c.all_absent.ensures.settled c.all_absent.ensures.memory
+    all_left_read (shape_of_type c.args.types.now c.args.below) c.args.components.now c.args.decoder.now _ c.if-leaves_all_out.ensures _ c.leave_all_out.ensures.settled c.leave_all_out.ensures.memory
 
-pub decode_sequence-returns-in_err-values-clause-reads : goal.decode_sequence-returns-in_err-values-clause-reads
-decode_sequence-returns-in_err-values-clause-reads g t c = rw (residual _ c.from_residual.ensures.1) (sequence_runs_out _ _ c.in_err-values.field-0.0 c.in_err-values.ensures.kind)
-
-pub decode_sequence-all_absent-requires : goal.decode_sequence-all_absent-requires
-decode_sequence-all_absent-requires g t c = c.if-leaves_all_out.ensures.0
+pub decode_sequence-leave_all_out-requires : goal.decode_sequence-leave_all_out-requires
+decode_sequence-leave_all_out-requires g t c = c.if-leaves_all_out.ensures.0
 
 pub decode_sequence-returns-then-leaves_all_out-clause-fits : goal.decode_sequence-returns-then-leaves_all_out-clause-fits
-decode_sequence-returns-then-leaves_all_out-clause-fits g t c = λ k. all_left_fit (Fits c.args.types.now c.args.below) c.args.components.now _ (c.all_absent.ensures.settled k)
+decode_sequence-returns-then-leaves_all_out-clause-fits g t c = λ k. all_left_fit (Fits c.args.types.now c.args.below) c.args.components.now _ (c.leave_all_out.ensures.settled k)
 
 pub decode_sequence-loop-rest-init : goal.decode_sequence-loop-rest-init
-decode_sequence-loop-rest-init g t c = rw c.in_ok-values.ensures.ok (([], (λ k. refl), parts_start _ _), c.requires.lawful, (λ k us h. h), c.requires.clear, [], refl, refl, lists_start (λ b. ComponentAt (shape_of_type c.args.types.now c.args.below) c.args.below (Inside c.args.types.now c.args.below) c.args.components.now b) _ c.args.decoder.now _ refl)
+decode_sequence-loop-rest-init g t c = rw c.requires.empty (([], (λ k. refl), parts_start _ _), c.requires.lawful, (λ k us h. h), c.requires.clear, [], refl, refl, lists_start (λ b. ComponentAt (shape_of_type c.args.types.now c.args.below) c.args.below (Inside c.args.types.now c.args.below) c.args.components.now b) _ c.args.decoder.now _ refl)
 
 pub decode_sequence-overflow_sub-index : goal.decode_sequence-overflow_sub-index
 decode_sequence-overflow_sub-index g t c =
@@ -777,39 +539,39 @@ decode_sequence-overflow_sub-index g t c =
     let len : length c.args.components.now ≡ length k.4 + length c.loop-rest.rest.now = ap length k.5 ∙ length-append k.4 c.loop-rest.rest.now in
     omega (arith, len)
 
-pub decode_sequence-returns-in_err-value-clause-reads : goal.decode_sequence-returns-in_err-value-clause-reads
-decode_sequence-returns-in_err-value-clause-reads g t c =
-    rw (residual _ c.from_residual-in_err-value.ensures.1)
+pub decode_sequence-returns-in_err-decode_component-clause-reads : goal.decode_sequence-returns-in_err-decode_component-clause-reads
+decode_sequence-returns-in_err-decode_component-clause-reads g t c =
+    rw (residual _ c.from_residual.ensures.1)
     (in_turn (shape_of_type c.args.types.now c.args.below) c.args.components.now c.args.decoder.now c.if-leaves_all_out.ensures _ _
-    (part_fails _ _ _ (presence_in (shape_of_type c.args.types.now c.args.below) c.component-item.result) ((shape_of_type c.args.types.now c.args.below) c.component-item.result.type_id.0) _ _ _ c.loop-rest.invariant.0.2 (ap (components_by (shape_of_type c.args.types.now c.args.below)) (split c.loop-rest.rest.now _ c.in-len1-up.len_at_least c.component-item.is)) _ _ c.in_err-value.ensures.reads))
+    (part_fails _ _ _ (presence_in (shape_of_type c.args.types.now c.args.below) c.component-item.result) ((shape_of_type c.args.types.now c.args.below) c.component-item.result.type_id.0) _ _ _ c.loop-rest.invariant.0.2 (ap (components_by (shape_of_type c.args.types.now c.args.below)) (split c.loop-rest.rest.now _ c.in-len1-up.len_at_least c.component-item.is)) _ _ c.in_err-decode_component.ensures.reads))
 
-pub decode_sequence-returns-in_err-push-clause-reads : goal.decode_sequence-returns-in_err-push-clause-reads
-decode_sequence-returns-in_err-push-clause-reads g t c =
-    rw (residual _ c.from_residual-in_err-push.ensures.1)
+pub decode_sequence-returns-in_err-take-clause-reads : goal.decode_sequence-returns-in_err-take-clause-reads
+decode_sequence-returns-in_err-take-clause-reads g t c =
+    rw (residual _ c.from_residual-in_err-take.ensures.1)
     (in_turn (shape_of_type c.args.types.now c.args.below) c.args.components.now c.args.decoder.now c.if-leaves_all_out.ensures _ _
-    (parts_run_out _ _ _ _ _ _ c.loop-rest.invariant.0.2 (record { stays = c.in_ok-value.ensures.reads.2.stays; end = c.in_ok-value.ensures.reads.2.end }) c.in_err-push.field-0.0 c.in_err-push.ensures.kind))
+    (parts_run_out _ _ _ _ _ _ c.loop-rest.invariant.0.2 (record { stays = c.in_ok-decode_component.ensures.reads.2.stays; end = c.in_ok-decode_component.ensures.reads.2.end }) c.take.new.error c.in_err-take.ensures.kind))
 
 pub decode_sequence-loop-rest-preserved : goal.decode_sequence-loop-rest-preserved
 decode_sequence-loop-rest-preserved g t c =
     let at = split c.loop-rest.rest.now _ c.in-len1-up.len_at_least c.component-item.is in
     let e = ap (components_by (shape_of_type c.args.types.now c.args.below)) at in
     let i = c.loop-rest.invariant.0 in
-    let w = c.in_ok-value.ensures.reads in (
+    let w = c.in_ok-decode_component.ensures.reads in (
       (
         i.0 ++ w.0 ∷ [],
-        one_made _ c.loop-rest.values.items _ i.0 c.in_ok-value.value w.0 i.1 w.1 c.in_ok-push.ensures.ok,
+        one_made _ c.loop-rest.values.items _ i.0 c.decode_component.new.out w.0 i.1 w.1 c.in_ok-take.ensures.ok,
         parts_more _ _ _ (presence_in (shape_of_type c.args.types.now c.args.below) c.component-item.result) ((shape_of_type c.args.types.now c.args.below) c.component-item.result.type_id.0) _ _ _ i.2 e w.0 _ _ refl w.2,
       ),
       (subst AreReadable e c.loop-rest.invariant.1).1,
-      (λ k. fit_more (Fits c.args.types.now c.args.below) _ _ _ c.component-item.result c.loop-rest.values.items _ c.in_ok-value.value (c.loop-rest.invariant.2 k) at (c.in_ok-push.ensures.ok k) (c.in_ok-value.ensures.fits k)),
-      c.in_ok-value.ensures.told,
+      (λ k. fit_more (Fits c.args.types.now c.args.below) _ _ _ c.component-item.result c.loop-rest.values.items _ c.decode_component.new.out (c.loop-rest.invariant.2 k) at (c.in_ok-take.ensures.ok k) (c.in_ok-decode_component.ensures.fits k)),
+      c.in_ok-decode_component.ensures.told,
       c.loop-rest.invariant.4 ++ c.component-item.result ∷ [],
       c.loop-rest.invariant.5 ∙ ap (λ l. c.loop-rest.invariant.4 ++ l) at ∙ sym (append_assoc c.loop-rest.invariant.4 (c.component-item.result ∷ []) _),
       one_part_more (shape_of_type c.args.types.now c.args.below) c.loop-rest.invariant.4 c.component-item.result c.args.decoder.now c.loop-rest.decoder _ w.0 c.loop-rest.invariant.6 w.2,
       component_more (shape_of_type c.args.types.now c.args.below) c.args.below (Inside c.args.types.now c.args.below) c.args.components.now c.loop-rest.invariant.4 _ c.component-item.result (length c.args.components.now - length c.loop-rest.rest.now) c.args.decoder.now c.loop-rest.decoder _ _ _ _
           (c.loop-rest.invariant.5 ∙ ap (λ z. c.loop-rest.invariant.4 ++ z) at)
           (let len : length c.args.components.now ≡ length c.loop-rest.invariant.4 + length c.loop-rest.rest.now = ap length c.loop-rest.invariant.5 ∙ length-append c.loop-rest.invariant.4 c.loop-rest.rest.now in omega (arith, len))
-          c.loop-rest.invariant.7 c.in_ok-value.ensures.listed,
+          c.loop-rest.invariant.7 c.in_ok-decode_component.ensures.listed,
     )
 
 pub decode_sequence-returns-clause-reads : goal.decode_sequence-returns-clause-reads
@@ -824,25 +586,19 @@ pub decode_sequence-returns-clause-fits : goal.decode_sequence-returns-clause-fi
 decode_sequence-returns-clause-fits g t c = λ k. fit_end (Fits c.args.types.now c.args.below) _ _ _ (c.loop-rest.invariant.2 k) (nothing_left _ c.in_default.len_below)
 
 pub decode_sequence-returns-then-leaves_all_out-clause-fails : goal.decode_sequence-returns-then-leaves_all_out-clause-fails
-decode_sequence-returns-then-leaves_all_out-clause-fails g t c = if_err_map _ _ (λ e m. inr m) c.all_absent.result c.all_absent.ensures.memory
+decode_sequence-returns-then-leaves_all_out-clause-fails g t c = if_err_map _ _ (λ e m. inr m) (outcome c.leave_all_out.result c.leave_all_out.new.values c.leave_all_out.new.error) c.leave_all_out.ensures.memory
 
-pub decode_sequence-returns-in_err-values-clause-itself : goal.decode_sequence-returns-in_err-values-clause-itself
-decode_sequence-returns-in_err-values-clause-itself g t c = rw (residual _ c.from_residual.ensures.1) (λ n. inl c.in_err-values.ensures.kind)
+pub decode_sequence-returns-in_err-decode_component-clause-fails : goal.decode_sequence-returns-in_err-decode_component-clause-fails
+decode_sequence-returns-in_err-decode_component-clause-fails g t c = rw (residual _ c.from_residual.ensures.1) (inl (part_fails_at _ _ _ (presence_in (shape_of_type c.args.types.now c.args.below) c.component-item.result) ((shape_of_type c.args.types.now c.args.below) c.component-item.result.type_id.0) _ _ _ c.loop-rest.invariant.0.2 (ap (components_by (shape_of_type c.args.types.now c.args.below)) (split c.loop-rest.rest.now _ c.in-len1-up.len_at_least c.component-item.is)) _ _ c.in_err-decode_component.ensures.fails))
 
-pub decode_sequence-returns-in_err-values-clause-fails : goal.decode_sequence-returns-in_err-values-clause-fails
-decode_sequence-returns-in_err-values-clause-fails g t c = rw (residual _ c.from_residual.ensures.1) (inr c.in_err-values.ensures.kind)
+pub decode_sequence-returns-in_err-take-clause-fails : goal.decode_sequence-returns-in_err-take-clause-fails
+decode_sequence-returns-in_err-take-clause-fails g t c = rw (residual _ c.from_residual-in_err-take.ensures.1) (inr c.in_err-take.ensures.kind)
 
-pub decode_sequence-returns-in_err-value-clause-fails : goal.decode_sequence-returns-in_err-value-clause-fails
-decode_sequence-returns-in_err-value-clause-fails g t c = rw (residual _ c.from_residual-in_err-value.ensures.1) (inl (part_fails_at _ _ _ (presence_in (shape_of_type c.args.types.now c.args.below) c.component-item.result) ((shape_of_type c.args.types.now c.args.below) c.component-item.result.type_id.0) _ _ _ c.loop-rest.invariant.0.2 (ap (components_by (shape_of_type c.args.types.now c.args.below)) (split c.loop-rest.rest.now _ c.in-len1-up.len_at_least c.component-item.is)) _ _ c.in_err-value.ensures.fails))
+pub decode_sequence-returns-in_err-decode_component-clause-rules : goal.decode_sequence-returns-in_err-decode_component-clause-rules
+decode_sequence-returns-in_err-decode_component-clause-rules g t c = rw (residual _ c.from_residual.ensures.1) (c.in_err-decode_component.ensures.rules ∙ same_rules c.loop-rest.invariant.0.2.keeps.stays)
 
-pub decode_sequence-returns-in_err-push-clause-fails : goal.decode_sequence-returns-in_err-push-clause-fails
-decode_sequence-returns-in_err-push-clause-fails g t c = rw (residual _ c.from_residual-in_err-push.ensures.1) (inr c.in_err-push.ensures.kind)
-
-pub decode_sequence-returns-in_err-value-clause-rules : goal.decode_sequence-returns-in_err-value-clause-rules
-decode_sequence-returns-in_err-value-clause-rules g t c = rw (residual _ c.from_residual-in_err-value.ensures.1) (c.in_err-value.ensures.rules ∙ same_rules c.loop-rest.invariant.0.2.keeps.stays)
-
-pub decode_sequence-returns-in_err-push-clause-rules : goal.decode_sequence-returns-in_err-push-clause-rules
-decode_sequence-returns-in_err-push-clause-rules g t c = rw (residual _ c.from_residual-in_err-push.ensures.1) (c.in_err-push.ensures.rules ∙ same_rules c.in_ok-value.ensures.reads.2.stays ∙ same_rules c.loop-rest.invariant.0.2.keeps.stays)
+pub decode_sequence-returns-in_err-take-clause-rules : goal.decode_sequence-returns-in_err-take-clause-rules
+decode_sequence-returns-in_err-take-clause-rules g t c = rw (residual _ c.from_residual-in_err-take.ensures.1) (c.in_err-take.ensures.rules ∙ same_rules c.in_ok-decode_component.ensures.reads.2.stays ∙ same_rules c.loop-rest.invariant.0.2.keeps.stays)
 
 -- ---- the components of a SET
 
@@ -912,8 +668,8 @@ decode_set-returns-in-Some-clause-exact g t c =
     (subst (λ z. ReadTo c.args.extensible ps names c.args.decoder.now at.decoder at.last z i.0 i.1) h i.4) _
     (subst (λ z. IsNamedError (IsDuplicateField (text c.in-Some.repeated)) z c.duplicate_field.result) c.codec.ensures c.duplicate_field.ensures))
 
-pub decode_set-gather-requires : goal.decode_set-gather-requires
-decode_set-gather-requires g t c = found_length _ c.args.components.now _ c.loop-other_id.invariant.1
+pub decode_set-gather_found-requires : goal.decode_set-gather_found-requires
+decode_set-gather_found-requires g t c = found_length _ c.args.components.now _ c.loop-other_id.invariant.1
 
 pub decode_set-returns-in_err-values-clause-exact : goal.decode_set-returns-in_err-values-clause-exact
 decode_set-returns-in_err-values-clause-exact g t c =
@@ -922,55 +678,69 @@ decode_set-returns-in_err-values-clause-exact g t c =
     let ps = (components_by (shape_of_type c.args.types.now c.args.below) c.args.components.now) in
     let names = names_of c.args.components.now in
     let h : at.twice ≡ None = search rules in
-    let e = c.in_err-values.field-0.0 in
+    let e = c.gather_found.new.error in
     rw (residual _ c.from_residual-in_err-values.ensures.1)
     (members_lack c.args.extensible ps names c.args.decoder.now at.decoder at.last i.0 i.1 c.loop-other_id-test.ensures (subst (λ z. ReadTo c.args.extensible ps names c.args.decoder.now at.decoder at.last z i.0 i.1) h i.4) e
     (lacks_part _ (shape_of_type c.args.types.now c.args.below) c.args.components.now at.decoder.rule at.found.items i.0 e i.2 c.in_err-values.ensures.gathers))
 
-pub decode_set-returns-in_err-push-clause-exact : goal.decode_set-returns-in_err-push-clause-exact
-decode_set-returns-in_err-push-clause-exact g t c =
+pub decode_set-returns-in_err-append-clause-exact : goal.decode_set-returns-in_err-append-clause-exact
+decode_set-returns-in_err-append-clause-exact g t c =
     let at = c.loop-other_id in
     let i = at.invariant.0 in
     let ps = (components_by (shape_of_type c.args.types.now c.args.below) c.args.components.now) in
     let names = names_of c.args.components.now in
-    rw (residual _ c.from_residual-in_err-push.ensures.1)
-    (inr (c.in_err-push.ensures.kind, members_keep c.args.extensible ps names c.args.decoder.now at.decoder at.last i.0 i.1 at.twice i.4))
+    rw (residual _ c.from_residual-in_err-append.ensures.1)
+    (inr (c.in_err-append.ensures.kind, members_keep c.args.extensible ps names c.args.decoder.now at.decoder at.last i.0 i.1 at.twice i.4))
 
 pub decode_set-returns-clause-exact : goal.decode_set-returns-clause-exact
 decode_set-returns-clause-exact g t c =
+    let on : c.args.extensible ≡ true = search rules in
     let at = c.loop-other_id in
     let i = at.invariant.0 in
-    let ps = (components_by (shape_of_type c.args.types.now c.args.below) c.args.components.now) in
+    let ps = components_by (shape_of_type c.args.types.now c.args.below) c.args.components.now in
     let names = names_of c.args.components.now in
     let h : at.twice ≡ None = search rules in
-    let a : (c.args.extensible ≡ true → g.M.Made.KEEP ≡ true → c.if-extensible.values.items ≡ c.in_ok-values.values.items ++ Items c.loop-other_id.unknown ∷ []) × (c.args.extensible ≡ false → c.if-extensible.values.items ≡ c.in_ok-values.values.items) =
-    elim c.if-extensible.branch [
-      | decode_set-then-extensible+in_ok-push w ↦ ((λ e k. ap (λ (v : Vec Value Global). v.items) w.values-is ∙ w.in_ok-push.ensures.ok k), λ e. absurd (true≢false (sym w.if-extensible.true ∙ e)))
-      | decode_set-else-extensible w ↦ ((λ e k. absurd (true≢false (sym e ∙ w.if-extensible.false))), λ e. ap (λ (v : Vec Value Global). v.items) w.values-is)
-    ] in
     let m = made_parts _ (shape_of_type c.args.types.now c.args.below) c.args.components.now at.decoder.rule at.found.items i.0 c.in_ok-values.values (found_length _ c.args.components.now _ at.invariant.1) i.2 c.in_ok-values.ensures.gathers in (
       set_trees c.args.extensible m.0 i.1,
-      all_trees c.args.extensible _ c.in_ok-values.values.items c.if-extensible.values.items m.0 i.1 at.unknown m.1 i.3 a.0 a.1,
+      all_trees c.args.extensible _ c.in_ok-values.values.items c.append.new.values.items m.0 i.1 at.unknown m.1 i.3 (λ e k. c.in_ok-append.ensures.ok k) (λ e. absurd (true≢false (sym on ∙ e))),
+      members_made c.args.extensible ps names c.args.decoder.now at.decoder at.last i.0 i.1 c.loop-other_id-test.ensures (subst (λ z. ReadTo c.args.extensible ps names c.args.decoder.now at.decoder at.last z i.0 i.1) h i.4) m.0 m.2 i.5,
+    )
+
+pub decode_set-returns-then-not-extensible-clause-exact : goal.decode_set-returns-then-not-extensible-clause-exact
+decode_set-returns-then-not-extensible-clause-exact g t c =
+    let off : c.args.extensible ≡ false = search rules in
+    let at = c.loop-other_id in
+    let i = at.invariant.0 in
+    let ps = components_by (shape_of_type c.args.types.now c.args.below) c.args.components.now in
+    let names = names_of c.args.components.now in
+    let h : at.twice ≡ None = search rules in
+    let m = made_parts _ (shape_of_type c.args.types.now c.args.below) c.args.components.now at.decoder.rule at.found.items i.0 c.in_ok-values.values (found_length _ c.args.components.now _ at.invariant.1) i.2 c.in_ok-values.ensures.gathers in (
+      set_trees c.args.extensible m.0 i.1,
+      all_trees c.args.extensible _ c.in_ok-values.values.items c.in_ok-values.values.items m.0 i.1 at.unknown m.1 i.3 (λ e k. absurd (true≢false (sym e ∙ off))) (λ e. refl),
       members_made c.args.extensible ps names c.args.decoder.now at.decoder at.last i.0 i.1 c.loop-other_id-test.ensures (subst (λ z. ReadTo c.args.extensible ps names c.args.decoder.now at.decoder at.last z i.0 i.1) h i.4) m.0 m.2 i.5,
     )
 
 pub decode_set-returns-clause-fits : goal.decode_set-returns-clause-fits
 decode_set-returns-clause-fits g t c = λ k.
     let at = c.loop-other_id in
-    let a : (c.args.extensible ≡ true → g.M.Made.KEEP ≡ true → c.if-extensible.values.items ≡ c.in_ok-values.values.items ++ Items c.loop-other_id.unknown ∷ []) × (c.args.extensible ≡ false → c.if-extensible.values.items ≡ c.in_ok-values.values.items) =
-    elim c.if-extensible.branch [
-      | decode_set-then-extensible+in_ok-push w ↦ ((λ e k. ap (λ (v : Vec Value Global). v.items) w.values-is ∙ w.in_ok-push.ensures.ok k), λ e. absurd (true≢false (sym w.if-extensible.true ∙ e)))
-      | decode_set-else-extensible w ↦ ((λ e k. absurd (true≢false (sym e ∙ w.if-extensible.false))), λ e. ap (λ (v : Vec Value Global). v.items) w.values-is)
-    ] in
-    all_fit (Fits c.args.types.now c.args.below) c.args.extensible c.args.components.now c.in_ok-values.values.items c.if-extensible.values.items at.unknown
+    let on : c.args.extensible ≡ true = search rules in
+    all_fit (Fits c.args.types.now c.args.below) c.args.extensible c.args.components.now c.in_ok-values.values.items c.append.new.values.items at.unknown
     (gathered_fit (Fits c.args.types.now c.args.below) g.M.Made.KEEP k c.args.components.now at.decoder.rule at.found.items (Ok c.in_ok-values.values) (found_kept g.M.Made.KEEP (Fits c.args.types.now c.args.below) k c.args.components.now at.found.items at.invariant.1) c.in_ok-values.ensures.gathers)
-    (at.invariant.2 k) (λ e. a.0 e k) a.1
+    (at.invariant.2 k) (λ e. c.in_ok-append.ensures.ok k) (λ e. absurd (true≢false (sym on ∙ e)))
+
+pub decode_set-returns-then-not-extensible-clause-fits : goal.decode_set-returns-then-not-extensible-clause-fits
+decode_set-returns-then-not-extensible-clause-fits g t c = λ k.
+    let at = c.loop-other_id in
+    let off : c.args.extensible ≡ false = search rules in
+    all_fit (Fits c.args.types.now c.args.below) c.args.extensible c.args.components.now c.in_ok-values.values.items c.in_ok-values.values.items at.unknown
+    (gathered_fit (Fits c.args.types.now c.args.below) g.M.Made.KEEP k c.args.components.now at.decoder.rule at.found.items (Ok c.in_ok-values.values) (found_kept g.M.Made.KEEP (Fits c.args.types.now c.args.below) k c.args.components.now at.found.items at.invariant.1) c.in_ok-values.ensures.gathers)
+    (at.invariant.2 k) (λ e. absurd (true≢false (sym e ∙ off))) (λ e. refl)
 
 pub decode_set-returns-in_err-values-clause-rules : goal.decode_set-returns-in_err-values-clause-rules
 decode_set-returns-in_err-values-clause-rules g t c = rw (residual _ c.from_residual-in_err-values.ensures.1) (c.in_err-values.ensures.rules ∙ read_rules c.args.extensible (components_by (shape_of_type c.args.types.now c.args.below) c.args.components.now) (names_of c.args.components.now) _ _ _ _ _ _ c.loop-other_id.invariant.0.4)
 
-pub decode_set-returns-in_err-push-clause-rules : goal.decode_set-returns-in_err-push-clause-rules
-decode_set-returns-in_err-push-clause-rules g t c = rw (residual _ c.from_residual-in_err-push.ensures.1) (c.in_err-push.ensures.rules ∙ read_rules c.args.extensible (components_by (shape_of_type c.args.types.now c.args.below) c.args.components.now) (names_of c.args.components.now) _ _ _ _ _ _ c.loop-other_id.invariant.0.4)
+pub decode_set-returns-in_err-append-clause-rules : goal.decode_set-returns-in_err-append-clause-rules
+decode_set-returns-in_err-append-clause-rules g t c = rw (residual _ c.from_residual-in_err-append.ensures.1) (c.in_err-append.ensures.rules ∙ read_rules c.args.extensible (components_by (shape_of_type c.args.types.now c.args.below) c.args.components.now) (names_of c.args.components.now) _ _ _ _ _ _ c.loop-other_id.invariant.0.4)
 
 pub decode_set-returns-in_err-last-clause-rules : goal.decode_set-returns-in_err-last-clause-rules
 decode_set-returns-in_err-last-clause-rules g t c = rw (residual _ c.from_residual.ensures.1) (order_rules _ c.loop-other_id.decoder _ c.in_err-last.ensures ∙ read_rules c.args.extensible (components_by (shape_of_type c.args.types.now c.args.below) c.args.components.now) (names_of c.args.components.now) _ _ _ _ _ _ c.loop-other_id.invariant.0.4)
@@ -989,52 +759,52 @@ decode_set_component-returns-in_err-tag-clause-next g t c =
 
 pub decode_set_component-returns-then-not-extensible-clause-next : goal.decode_set_component-returns-then-not-extensible-clause-next
 decode_set_component-returns-then-not-extensible-clause-next g t c =
-    member_none _ c.args.extensible (components_by (shape_of_type c.args.types.now c.args.below) c.args.components.now) (names_of c.args.components.now) c.args.found.now.items c.args.unknown.now.items _ _ c.in_ok-tag.tag c.in_ok-tag.ensures.next c.in_default.ensures (search rules) c.no_valid_choice.result refl
+    member_none _ c.args.extensible (components_by (shape_of_type c.args.types.now c.args.below) c.args.components.now) (names_of c.args.components.now) c.args.found.now.items c.args.unknown.now.items _ _ c.in_ok-tag.tag c.in_ok-tag.ensures.next c.in_default.ensures (search rules) c.refuse_choice.new.error refl
 
 pub decode_set_component-returns-in_err-other-clause-next : goal.decode_set_component-returns-in_err-other-clause-next
 decode_set_component-returns-in_err-other-clause-next g t c =
     rw (residual _ c.from_residual-in_err-other.ensures.1)
-    (unknown_unread _ c.args.extensible (components_by (shape_of_type c.args.types.now c.args.below) c.args.components.now) (names_of c.args.components.now) c.args.found.now.items c.args.unknown.now.items _ _ c.in_ok-tag.tag c.in_ok-tag.ensures.next c.in_default.ensures (search rules) c.in_err-other.field-0.0 c.in_err-other.ensures.reads)
+    (unknown_unread _ c.args.extensible (components_by (shape_of_type c.args.types.now c.args.below) c.args.components.now) (names_of c.args.components.now) c.args.found.now.items c.args.unknown.now.items _ _ c.in_ok-tag.tag c.in_ok-tag.ensures.next c.in_default.ensures (search rules) c.decode_unknown_component.new.walk.error c.in_err-other.ensures.reads)
 
-pub decode_set_component-returns-in_err-push-clause-next : goal.decode_set_component-returns-in_err-push-clause-next
-decode_set_component-returns-in_err-push-clause-next g t c =
-    rw (residual _ c.from_residual-in_err-push.ensures.1)
-    (unknown_left _ c.args.extensible (components_by (shape_of_type c.args.types.now c.args.below) c.args.components.now) (names_of c.args.components.now) c.args.found.now.items c.args.unknown.now.items _ _ c.in_err-push.field-0.0 c.in_err-push.ensures.kind (call_keeps c.in_ok-other.ensures.reads) _)
+pub decode_set_component-returns-in_err-append-clause-next : goal.decode_set_component-returns-in_err-append-clause-next
+decode_set_component-returns-in_err-append-clause-next g t c =
+    rw (residual _ c.from_residual-in_err-append.ensures.1)
+    (unknown_left _ c.args.extensible (components_by (shape_of_type c.args.types.now c.args.below) c.args.components.now) (names_of c.args.components.now) c.args.found.now.items c.args.unknown.now.items _ _ c.append.new.error c.in_err-append.ensures.kind (call_keeps c.in_ok-other.ensures.reads) _)
 
 pub decode_set_component-returns-in_default-clause-next : goal.decode_set_component-returns-in_default-clause-next
 decode_set_component-returns-in_default-clause-next g t c =
-    unknown_kept _ c.args.extensible (components_by (shape_of_type c.args.types.now c.args.below) c.args.components.now) (names_of c.args.components.now) c.args.found.now.items c.args.unknown.now.items _ _ c.in_ok-tag.tag c.in_ok-tag.ensures.next c.in_default.ensures (search rules) c.in_ok-other.other c.in_ok-other.ensures.reads _ c.in_ok-push.ensures.ok
+    unknown_kept _ c.args.extensible (components_by (shape_of_type c.args.types.now c.args.below) c.args.components.now) (names_of c.args.components.now) c.args.found.now.items c.args.unknown.now.items _ _ c.in_ok-tag.tag c.in_ok-tag.ensures.next c.in_default.ensures (search rules) c.in_ok-other.other c.in_ok-other.ensures.reads _ c.in_ok-append.ensures.ok
 
 pub decode_set_component-returns-in_default-clause-octets : goal.decode_set_component-returns-in_default-clause-octets
-decode_set_component-returns-in_default-clause-octets g t c = λ k h. each_more AreOctets c.args.unknown.now.items _ c.in_ok-other.other (c.in_ok-push.ensures.ok k) h c.in_ok-other.ensures.fits
+decode_set_component-returns-in_default-clause-octets g t c = λ k h. each_more AreOctets c.args.unknown.now.items _ c.in_ok-other.other (c.in_ok-append.ensures.ok k) h c.in_ok-other.ensures.fits
 
 pub decode_set_component-decode_present-requires : goal.decode_set_component-decode_present-requires
 decode_set_component-decode_present-requires g t c = λ κs o. (search rules, (search rules, (part_lawful (shape_of_type c.args.types.now c.args.below) c.args.components.now c.in-Some.number c.in-Some.component.now c.requires.1.1.1.0 c.in-Some.ensures.0, c.requires.1.1.1.1.1.0)))
 
-pub decode_set_component-returns-in_err-value-clause-next : goal.decode_set_component-returns-in_err-value-clause-next
-decode_set_component-returns-in_err-value-clause-next g t c =
-    rw (residual _ c.from_residual-in_err-value.ensures.1)
-    (member_unread (shape_of_type c.args.types.now c.args.below) c.args.components.now c.in-Some.number c.in-Some.component.now c.in_ok-tag.tag c.requires.1.1.1.0 c.in-Some.ensures _ _ c.in_ok-tag.ensures.next _ c.args.extensible c.args.found.now.items c.args.unknown.now.items c.in_err-value.field-0.0 c.in_err-value.ensures.reads)
+pub decode_set_component-returns-in_err-decode_present-clause-next : goal.decode_set_component-returns-in_err-decode_present-clause-next
+decode_set_component-returns-in_err-decode_present-clause-next g t c =
+    rw (residual _ c.from_residual-in_err-decode_present.ensures.1)
+    (member_unread (shape_of_type c.args.types.now c.args.below) c.args.components.now c.in-Some.number c.in-Some.component.now c.in_ok-tag.tag c.requires.1.1.1.0 c.in-Some.ensures _ _ c.in_ok-tag.ensures.next _ c.args.extensible c.args.found.now.items c.args.unknown.now.items c.decode_present.new.walk.error c.in_err-decode_present.ensures.reads)
 
 pub decode_set_component-returns-then-remaining-left-clause-next : goal.decode_set_component-returns-then-remaining-left-clause-next
 decode_set_component-returns-then-remaining-left-clause-next g t c =
-    let w = c.in_ok-value.ensures.reads in
+    let w = c.in_ok-decode_present.ensures.reads in
     member_idle (shape_of_type c.args.types.now c.args.below) c.args.components.now c.in-Some.number c.in-Some.component.now c.in_ok-tag.tag c.requires.1.1.1.0 c.in-Some.ensures _ _ c.in_ok-tag.ensures.next _ c.args.extensible c.args.found.now.items c.args.unknown.now.items w.0 w.2
-    _ (ap length c.remaining-left.ensures.value) (sym (ap length c.remaining.ensures.value) ∙ c.if-remaining-left.true) c.extra.result c.extra.ensures
+    _ (ap length c.remaining-left.ensures.value) (sym (ap length c.remaining.ensures.value) ∙ c.if-remaining-left.true) c.refuse_extra.new.error c.refuse_extra.ensures
 
 pub decode_set_component-put-requires : goal.decode_set_component-put-requires
 decode_set_component-put-requires g t c = rw (found_length _ c.args.components.now _ c.requires.1.1.1.1.0) (got_below c.args.components.now c.in-Some.number c.in-Some.component.now c.in-Some.ensures.0)
 
 pub decode_set_component-returns-clause-next : goal.decode_set_component-returns-clause-next
 decode_set_component-returns-clause-next g t c =
-    let w = c.in_ok-value.ensures.reads in
+    let w = c.in_ok-decode_present.ensures.reads in
     member_put (shape_of_type c.args.types.now c.args.below) c.args.components.now c.in-Some.number c.in-Some.component.now c.in_ok-tag.tag c.requires.1.1.1.0 c.in-Some.ensures _ _ c.in_ok-tag.ensures.next _ c.args.extensible c.args.found.now.items c.args.unknown.now.items w.0 w.2
-    c.in_ok-value.value w.1 (rw (found_length _ c.args.components.now _ c.requires.1.1.1.1.0) (got_below c.args.components.now c.in-Some.number c.in-Some.component.now c.in-Some.ensures.0)) _ (ap length c.remaining-left.ensures.value)
+    c.decode_present.new.out w.1 (rw (found_length _ c.args.components.now _ c.requires.1.1.1.1.0) (got_below c.args.components.now c.in-Some.number c.in-Some.component.now c.in-Some.ensures.0)) _ (ap length c.remaining-left.ensures.value)
     (λ e. c.if-remaining-left.false (ap length c.remaining.ensures.value ∙ e)) _ _ (rw (← c.as_str.ensures.value) c.put.ensures)
 
 pub decode_set_component-returns-clause-found : goal.decode_set_component-returns-clause-found
 decode_set_component-returns-clause-found g t c =
-    put_fits _ c.args.components.now c.args.found.now.items _ c.in-Some.number c.in-Some.component.now c.in_ok-value.value _ _ c.requires.1.1.1.1.0 c.in-Some.ensures.0 c.in_ok-value.ensures.fits c.put.ensures
+    put_fits _ c.args.components.now c.args.found.now.items _ c.in-Some.number c.in-Some.component.now c.decode_present.new.out _ _ c.requires.1.1.1.1.0 c.in-Some.ensures.0 c.in_ok-decode_present.ensures.fits c.put.ensures
 
 pub decode_set_component-returns-in_err-tag-clause-rules : goal.decode_set_component-returns-in_err-tag-clause-rules
 decode_set_component-returns-in_err-tag-clause-rules g t c = rw (residual _ c.from_residual.ensures.1) (peek_rules c.args.decoder.now _ c.in_err-tag.ensures.exact)
@@ -1042,14 +812,14 @@ decode_set_component-returns-in_err-tag-clause-rules g t c = rw (residual _ c.fr
 pub decode_set_component-returns-in_err-tag-clause-unknown : goal.decode_set_component-returns-in_err-tag-clause-unknown
 decode_set_component-returns-in_err-tag-clause-unknown g t c = rw (residual _ c.from_residual.ensures.1) (λ x tag n others. absurd (c.in_err-tag.ensures.next tag n))
 
-pub decode_set_component-returns-in_err-value-clause-unknown : goal.decode_set_component-returns-in_err-value-clause-unknown
-decode_set_component-returns-in_err-value-clause-unknown g t c = rw (residual _ c.from_residual-in_err-value.ensures.1) (λ x tag n others. absurd (others (subst (IsFirstOf (components_by (shape_of_type c.args.types.now c.args.below) c.args.components.now)) (next_one c.args.decoder.now.rest c.in_ok-tag.tag tag c.in_ok-tag.ensures.next n) (first_of_part (shape_of_type c.args.types.now c.args.below) c.in_ok-tag.tag c.args.components.now c.in-Some.number c.in-Some.component.now c.in-Some.ensures.0 c.in-Some.ensures.1))))
+pub decode_set_component-returns-in_err-decode_present-clause-unknown : goal.decode_set_component-returns-in_err-decode_present-clause-unknown
+decode_set_component-returns-in_err-decode_present-clause-unknown g t c = rw (residual _ c.from_residual-in_err-decode_present.ensures.1) (λ x tag n others. absurd (others (subst (IsFirstOf (components_by (shape_of_type c.args.types.now c.args.below) c.args.components.now)) (next_one c.args.decoder.now.rest c.in_ok-tag.tag tag c.in_ok-tag.ensures.next n) (first_of_part (shape_of_type c.args.types.now c.args.below) c.in_ok-tag.tag c.args.components.now c.in-Some.number c.in-Some.component.now c.in-Some.ensures.0 c.in-Some.ensures.1))))
 
 pub decode_set_component-returns-then-remaining-left-clause-unknown : goal.decode_set_component-returns-then-remaining-left-clause-unknown
 decode_set_component-returns-then-remaining-left-clause-unknown g t c = λ x tag n others. absurd (others (subst (IsFirstOf (components_by (shape_of_type c.args.types.now c.args.below) c.args.components.now)) (next_one c.args.decoder.now.rest c.in_ok-tag.tag tag c.in_ok-tag.ensures.next n) (first_of_part (shape_of_type c.args.types.now c.args.below) c.in_ok-tag.tag c.args.components.now c.in-Some.number c.in-Some.component.now c.in-Some.ensures.0 c.in-Some.ensures.1)))
 
 pub decode_set_component-returns-then-remaining-left-clause-rules : goal.decode_set_component-returns-then-remaining-left-clause-rules
-decode_set_component-returns-then-remaining-left-clause-rules g t c = codec_is c.extra.ensures ∙ same_rules c.in_ok-value.ensures.reads.2.0.stays
+decode_set_component-returns-then-remaining-left-clause-rules g t c = codec_is c.refuse_extra.ensures ∙ same_rules c.in_ok-decode_present.ensures.reads.2.0.stays
 
 -- ---- where a value can't be read
 
@@ -1069,89 +839,68 @@ decode_type-returns-in-Choice-clause-told g t c =
     told_map _ _ (λ k f i. subst (λ n. IsFaultOf c.args.types.now c.args.below n c.args.decoder.now k f) (sym c.in-Choice.is)
     (c.args.decoder.now, refl, subst (λ l. IsFaultIn c.args.types.now c.args.below (IsAlternativeAt (shape_of_type c.args.types.now c.args.below) l c.args.decoder.now) c.args.decoder.now c.args.decoder.now k f) c.deref-in-Choice.ensures.value i)) _ _ c.decode_choice.ensures.told
 
-pub decode_choice-returns-in_err-value-clause-told : goal.decode_choice-returns-in_err-value-clause-told
-decode_choice-returns-in_err-value-clause-told g t c =
+pub decode_type-returns-in-Leaf-clause-told : goal.decode_type-returns-in-Leaf-clause-told
+decode_type-returns-in-Leaf-clause-told g t c = unnamed _ _ _ c.requires.clear
+
+pub decode_type-returns-in-Enumerated-clause-told : goal.decode_type-returns-in-Enumerated-clause-told
+decode_type-returns-in-Enumerated-clause-told g t c = unnamed _ _ _ c.requires.clear
+
+pub decode_type-returns-in-Any-clause-told : goal.decode_type-returns-in-Any-clause-told
+decode_type-returns-in-Any-clause-told g t c = unnamed _ _ _ c.requires.clear
+
+pub decode_type-returns-in-Unknown-clause-told : goal.decode_type-returns-in-Unknown-clause-told
+decode_type-returns-in-Unknown-clause-told g t c = unnamed _ _ _ c.requires.clear
+
+pub decode_sequence-returns-then-leaves_all_out-clause-told : goal.decode_sequence-returns-then-leaves_all_out-clause-told
+decode_sequence-returns-then-leaves_all_out-clause-told g t c = unnamed _ _ _ c.requires.clear
+
+pub decode_component-returns-in-Ok-false-clause-told : goal.decode_component-returns-in-Ok-false-clause-told
+decode_component-returns-in-Ok-false-clause-told g t c = unnamed _ _ _ c.requires.clear
+
+pub decode_choice-returns-in_err-decode_part-clause-told : goal.decode_choice-returns-in_err-decode_part-clause-told
+decode_choice-returns-in_err-decode_part-clause-told g t c =
     let el = get_or c.args.alternatives.now c.in-Some.number c.index-alternatives-number.result in
     let at : Some el ≡ slice_get c.args.alternatives.now c.in-Some.number = subst (λ (a : Alternative). Some a ≡ slice_get c.args.alternatives.now c.in-Some.number) c.index-alternatives-number.is
     (read_at c.args.alternatives.now c.in-Some.number c.index-alternatives-number.result (slice_get_within c.args.alternatives.now c.in-Some.number c.in-Some.ensures.0 (sym c.in-Some.ensures.1.0)) c.index-alternatives-number.is) in
-    rw (residual _ c.from_residual-in_err-value.ensures.1)
+    rw (residual _ c.from_residual-in_err-decode_part.ensures.1)
     (tells_err _ _ (λ k f. weaker c.args.types.now c.args.below _ _ c.args.decoder.now c.args.decoder.now (alternative_there (shape_of_type c.args.types.now c.args.below) c.args.alternatives.now c.in-Some.number el c.args.decoder.now
-    (c.in_ok-tag.tag, c.in_ok-tag.ensures.next, for_both (shape_of_type c.args.types.now c.args.below) c.args.alternatives.now c.in-Some.number c.in-Some.ensures.0 el c.in_ok-tag.tag c.in-Some.ensures.1 at)) k f) c.in_err-value.field-0.0 _ c.in_err-value.ensures.told)
+    (c.in_ok-tag.tag, c.in_ok-tag.ensures.next, for_both (shape_of_type c.args.types.now c.args.below) c.args.alternatives.now c.in-Some.number c.in-Some.ensures.0 el c.in_ok-tag.tag c.in-Some.ensures.1 at)) k f) c.decode_part.new.walk.error _ c.in_err-decode_part.ensures.told)
 
-pub decode_inside-add_after-requires : goal.decode_inside-add_after-requires
-decode_inside-add_after-requires g t c =
-    λ f q.
-    let n = opened_short c.args.types.now c.args.header c.args.decoder.now c.in_ok-inner.ensures.octets _ _ _ c.in_ok-inner.ensures.exact c.args.below _ _ f c.decode_contents.new.decoder.closing c.octets_after.result
-    (ap (λ (s : State). s.closing) (contents_stay (shape_of_type c.args.types.now c.args.below) c.args.ty.now _ c.in-Err.error _ c.in-Err.ensures.exact)) c.octets_after.ensures (c.in-Err.ensures.told f q) in
-    omega (arith, n, c.octets_left.ensures, c.octets_left.type_inv)
-
-pub decode_inside-returns-in-Err-clause-told : goal.decode_inside-returns-in-Err-clause-told
-decode_inside-returns-in-Err-clause-told g t c =
-    opened c.args.types.now c.args.header c.args.decoder.now c.in_ok-inner.ensures.octets _ _ _ c.in_ok-inner.ensures.exact c.args.below c.args.ty.now _ c.decode_contents.new.decoder.closing c.octets_after.result
-    (ap (λ (s : State). s.closing) (contents_stay (shape_of_type c.args.types.now c.args.below) c.args.ty.now _ c.in-Err.error _ c.in-Err.ensures.exact)) c.octets_after.ensures _ _ c.in-Err.ensures.told c.add_after.ensures
-
-pub decode_contents-returns-in-Tagged-clause-told : goal.decode_contents-returns-in-Tagged-clause-told
-decode_contents-returns-in-Tagged-clause-told g t c =
-    rw c.in-Tagged.is (tells _ _ (λ k f i. i) _ _ c.decode_part.ensures.told)
-
-pub decode_contents-returns-in_err-values-in-Sequence-clause-told : goal.decode_contents-returns-in_err-values-in-Sequence-clause-told
-decode_contents-returns-in_err-values-in-Sequence-clause-told g t c =
-    rw (residual _ c.from_residual.ensures.1, c.in-Sequence.is) (λ f q. subst (λ l. IsFaultIn c.args.types.now c.args.below (IsComponentAt (shape_of_type c.args.types.now c.args.below) l c.args.decoder.now) c.args.decoder.now c.args.decoder.now c.in_err-values-in-Sequence.field-0.0 f) c.deref.ensures.value (c.in_err-values-in-Sequence.ensures.told f q))
-
-pub decode_contents-returns-in_err-values-in-Set-clause-told : goal.decode_contents-returns-in_err-values-in-Set-clause-told
-decode_contents-returns-in_err-values-in-Set-clause-told g t c =
-    let f = shape_of_type c.args.types.now c.args.below in
-    let same = c.named_components-extensible.ensures.named ∙ ap (named_components f) c.deref-in-Set.ensures.value in
-    let marked = c.named_components-extensible.ensures.extensible ∙ ap (is_extensible f) c.deref-in-Set.ensures.value in
-    rw (residual _ c.from_residual-in_err-values-in-Set.ensures.1, c.in-Set.is)
-    (λ x q. named_so f c.named_components-extensible.result.1 c.named_components-extensible.result.0.now c.in-Set.components.items marked same
-    (λ b l. IsFaultIn c.args.types.now c.args.below (IsMemberAfter f b l (last_type c.in-Set.components.items) c.args.decoder.now) c.args.decoder.now c.args.decoder.now c.in_err-values-in-Set.field-0.0 x)
-    (subst (λ n. IsFaultIn c.args.types.now c.args.below (IsMemberAfter f c.named_components-extensible.result.1 c.named_components-extensible.result.0.now n c.args.decoder.now) c.args.decoder.now c.args.decoder.now c.in_err-values-in-Set.field-0.0 x)
-    (c.last_type-other_id.ensures ∙ ap last_type c.deref-in-Set-2.ensures.value) (c.in_err-values-in-Set.ensures.told x q)))
-
-pub decode_contents-returns-in_err-values-in-SequenceOf-clause-told : goal.decode_contents-returns-in_err-values-in-SequenceOf-clause-told
-decode_contents-returns-in_err-values-in-SequenceOf-clause-told g t c =
-    rw (residual _ c.from_residual-in_err-values-in-SequenceOf.ensures.1, c.in-SequenceOf.is) c.in_err-values-in-SequenceOf.ensures.told
-
-pub decode_contents-returns-in_err-values-in-SetOf-clause-told : goal.decode_contents-returns-in_err-values-in-SetOf-clause-told
-decode_contents-returns-in_err-values-in-SetOf-clause-told g t c =
-    rw (residual _ c.from_residual-in_err-values-in-SetOf.ensures.1, c.in-SetOf.is) c.in_err-values-in-SetOf.ensures.told
-
-pub decode_elements-returns-in_err-value-clause-told : goal.decode_elements-returns-in_err-value-clause-told
-decode_elements-returns-in_err-value-clause-told g t c =
+pub decode_elements-returns-in_err-decode_part-clause-told : goal.decode_elements-returns-in_err-decode_part-clause-told
+decode_elements-returns-in_err-decode_part-clause-told g t c =
     let i = c.loop-element.invariant.0 in
     let k = turns_keep (shape_of_type c.args.types.now c.args.below c.args.element.0) (λ (z : Tree). z) c.args.decoder.now i.0 c.loop-element.decoder i.3 in
     rw (residual _ c.from_residual.ensures.1)
     (tells_err _ _ (λ kind f x. further c.args.types.now c.args.below _ _ c.args.decoder.now c.loop-element.decoder kind f k.0 k.1
-    (element_there (shape_of_type c.args.types.now c.args.below) c.args.element.0 c.args.decoder.now c.loop-element.decoder i.0 _ (sym i.2) i.3 c.loop-element-test.ensures) x) c.in_err-value.field-0.0 _ c.in_err-value.ensures.told)
+    (element_there (shape_of_type c.args.types.now c.args.below) c.args.element.0 c.args.decoder.now c.loop-element.decoder i.0 _ (sym i.2) i.3 c.loop-element-test.ensures) x) c.decode_part.new.walk.error _ c.in_err-decode_part.ensures.told)
 
-pub decode_elements_in_order-returns-in_err-value-clause-told : goal.decode_elements_in_order-returns-in_err-value-clause-told
-decode_elements_in_order-returns-in_err-value-clause-told g t c =
+pub decode_elements_in_order-returns-in_err-decode_part-clause-told : goal.decode_elements_in_order-returns-in_err-decode_part-clause-told
+decode_elements_in_order-returns-in_err-decode_part-clause-told g t c =
     let i = c.loop-last.invariant.0 in
     let p = forgotten (DecodesTree (shape_of_type c.args.types.now c.args.below c.args.element.0)) c.args.decoder.now i.0 i.1 c.loop-last.decoder i.4 in
     let k = turns_keep (shape_of_type c.args.types.now c.args.below c.args.element.0) (λ (z : Tree). z) c.args.decoder.now i.0 c.loop-last.decoder p in
     rw (residual _ c.from_residual.ensures.1)
     (tells_err _ _ (λ kind f x. further c.args.types.now c.args.below _ _ c.args.decoder.now c.loop-last.decoder kind f k.0 k.1
-    (element_there (shape_of_type c.args.types.now c.args.below) c.args.element.0 c.args.decoder.now c.loop-last.decoder i.0 _ (sym i.3) p c.loop-last-test.ensures) x) c.in_err-value.field-0.0 _ c.in_err-value.ensures.told)
+    (element_there (shape_of_type c.args.types.now c.args.below) c.args.element.0 c.args.decoder.now c.loop-last.decoder i.0 _ (sym i.3) p c.loop-last-test.ensures) x) c.decode_part.new.walk.error _ c.in_err-decode_part.ensures.told)
 
-pub decode_sequence-returns-in_err-value-clause-told : goal.decode_sequence-returns-in_err-value-clause-told
-decode_sequence-returns-in_err-value-clause-told g t c =
+pub decode_sequence-returns-in_err-decode_component-clause-told : goal.decode_sequence-returns-in_err-decode_component-clause-told
+decode_sequence-returns-in_err-decode_component-clause-told g t c =
     let k = c.loop-rest.invariant in
     let at = split c.loop-rest.rest.now _ c.in-len1-up.len_at_least c.component-item.is in
     let len : length c.args.components.now ≡ length k.4 + length c.loop-rest.rest.now = ap length k.5 ∙ length-append k.4 c.loop-rest.rest.now in
     let l : length k.4 ≡ length c.args.components.now - length c.loop-rest.rest.now = omega (arith, len) in
-    rw (residual _ c.from_residual-in_err-value.ensures.1)
+    rw (residual _ c.from_residual.ensures.1)
     (λ f q. further c.args.types.now c.args.below _ _ c.args.decoder.now c.loop-rest.decoder _ f k.0.2.keeps.stays k.0.2.keeps.end
-    (part_there (shape_of_type c.args.types.now c.args.below) c.args.components.now k.4 _ c.component-item.result c.args.decoder.now c.loop-rest.decoder (length c.args.components.now - length c.loop-rest.rest.now) (k.5 ∙ ap (λ z. k.4 ++ z) at) l k.6) (c.in_err-value.ensures.told f q))
+    (part_there (shape_of_type c.args.types.now c.args.below) c.args.components.now k.4 _ c.component-item.result c.args.decoder.now c.loop-rest.decoder (length c.args.components.now - length c.loop-rest.rest.now) (k.5 ∙ ap (λ z. k.4 ++ z) at) l k.6) (c.in_err-decode_component.ensures.told f q))
 
 pub decode_present-returns-in_default-clause-told : goal.decode_present-returns-in_default-clause-told
 decode_present-returns-in_default-clause-told g t c =
     tells _ _ (λ k f i. i) _ _ c.decode_part.ensures.told
 
-pub decode_present-returns-in_err-value-clause-told : goal.decode_present-returns-in_err-value-clause-told
-decode_present-returns-in_err-value-clause-told g t c =
+pub decode_stated-returns-in_err-decode_compared-clause-told : goal.decode_stated-returns-in_err-decode_compared-clause-told
+decode_stated-returns-in_err-decode_compared-clause-told g t c =
     let P = IsFaultIn c.args.types.now c.args.below (IsOnly c.args.index c.args.component.now.type_id.0 c.args.decoder.now) c.args.decoder.now c.args.decoder.now in
-    rw (residual _ c.from_residual.ensures.1) (tells_err P P (λ k f i. i) c.in_err-value.field-0.0 _ c.in_err-value.ensures.told)
+    rw (residual _ c.from_residual.ensures.1) (tells_err P P (λ k f i. i) c.decode_compared.new.walk.error _ c.in_err-decode_compared.ensures.told)
 
 pub decode_set-returns-in_err-next-clause-told : goal.decode_set-returns-in_err-next-clause-told
 decode_set-returns-in_err-next-clause-told g t c =
@@ -1162,9 +911,9 @@ decode_set-returns-in_err-next-clause-told g t c =
     rw (residual _ c.from_residual-in_err-next.ensures.1)
     (λ f e. further c.args.types.now c.args.below _ _ c.args.decoder.now at.decoder _ f q.0 q.1 (member_behind (shape_of_type c.args.types.now c.args.below) c.args.extensible c.args.components.now c.args.other_id.0 c.args.decoder.now at.decoder k.0 k.1 k.2) (c.in_err-next.ensures.told f e))
 
-pub decode_set_component-returns-in_err-value-clause-told : goal.decode_set_component-returns-in_err-value-clause-told
-decode_set_component-returns-in_err-value-clause-told g t c =
-    rw (residual _ c.from_residual-in_err-value.ensures.1) (λ f q. weaker c.args.types.now c.args.below _ _ _ _ (member_there (shape_of_type c.args.types.now c.args.below) c.args.extensible c.args.components.now c.args.other_id.0 c.in-Some.number c.in-Some.component.now c.args.decoder.now c.in-Some.ensures.0) _ f (c.in_err-value.ensures.told f q))
+pub decode_set_component-returns-in_err-decode_present-clause-told : goal.decode_set_component-returns-in_err-decode_present-clause-told
+decode_set_component-returns-in_err-decode_present-clause-told g t c =
+    rw (residual _ c.from_residual-in_err-decode_present.ensures.1) (λ f q. weaker c.args.types.now c.args.below _ _ _ _ (member_there (shape_of_type c.args.types.now c.args.below) c.args.extensible c.args.components.now c.args.other_id.0 c.in-Some.number c.in-Some.component.now c.args.decoder.now c.in-Some.ensures.0) _ f (c.in_err-decode_present.ensures.told f q))
 
 pub decode_set_component-decode_unknown_component-requires : goal.decode_set_component-decode_unknown_component-requires
 decode_set_component-decode_unknown_component-requires g t c =
@@ -1177,12 +926,12 @@ decode_set_component-returns-in_err-other-clause-told g t c =
     rw (residual _ c.from_residual-in_err-other.ensures.1)
     (tells_err _ _ (λ kind x. weaker c.args.types.now c.args.below _ _ c.args.decoder.now c.args.decoder.now
     (unknown_there f c.args.extensible c.args.components.now c.args.other_id.0 c.args.decoder.now extends (c.in_ok-tag.tag, c.in_ok-tag.ensures.next, c.in_default.ensures)) kind x)
-    c.in_err-other.field-0.0 _ (c.in_err-other.ensures.told c.args.types.now (c.requires.1.1.1.1.1.1 extends)))
+    c.decode_unknown_component.new.walk.error _ (c.in_err-other.ensures.told c.args.types.now (c.requires.1.1.1.1.1.1 extends)))
 
-pub decode_set_component-returns-in_err-push-clause-told : goal.decode_set_component-returns-in_err-push-clause-told
-decode_set_component-returns-in_err-push-clause-told g t c =
+pub decode_set_component-returns-in_err-append-clause-told : goal.decode_set_component-returns-in_err-append-clause-told
+decode_set_component-returns-in_err-append-clause-told g t c =
     let extends : c.args.extensible ≡ true = search rules in
-    rw (residual _ c.from_residual-in_err-push.ensures.1) (λ x q. absurd (not_named _ x q (c.in_ok-other.ensures.told c.args.types.now (c.requires.1.1.1.1.1.1 extends))))
+    rw (residual _ c.from_residual-in_err-append.ensures.1) (λ x q. absurd (not_named _ x q (c.in_ok-other.ensures.told c.args.types.now (c.requires.1.1.1.1.1.1 extends))))
 
 pub decode_set_component-returns-in_default-clause-told : goal.decode_set_component-returns-in_default-clause-told
 decode_set_component-returns-in_default-clause-told g t c =
@@ -1219,26 +968,6 @@ pub decode_type-returns-in-Choice-clause-itself : goal.decode_type-returns-in-Ch
 decode_type-returns-in-Choice-clause-itself g t c =
     itself_choice (shape_of_type c.args.types.now c.args.below) c.args.ty.now c.args.decoder.now c.args.decoder.now _ c.in-Choice.name c.in-Choice.alternatives _ c.in-Choice.is c.deref-in-Choice.ensures.value _ c.decode_choice.ensures.itself
 
-pub decode_type-returns-in-Tagged-clause-itself : goal.decode_type-returns-in-Tagged-clause-itself
-decode_type-returns-in-Tagged-clause-itself g t c =
-    itself_prefix (shape_of_type c.args.types.now c.args.below) c.args.ty.now c.args.decoder.now _ _ c.in-Tagged.tag c.in-Tagged.inner c.prefix.result c.in-Tagged.is c.prefix.ensures _ c.decode_inside.ensures.itself
-
-pub decode_type-returns-in-Sequence-clause-itself : goal.decode_type-returns-in-Sequence-clause-itself
-decode_type-returns-in-Sequence-clause-itself g t c =
-    itself_sequence (shape_of_type c.args.types.now c.args.below) c.args.ty.now c.args.decoder.now _ _ c.in-Sequence.tag c.in-Sequence.components c.sequence.result c.in-Sequence.is c.sequence.ensures _ c.decode_inside-in-Sequence.ensures.itself
-
-pub decode_type-returns-in-Set-clause-itself : goal.decode_type-returns-in-Set-clause-itself
-decode_type-returns-in-Set-clause-itself g t c =
-    itself_set (shape_of_type c.args.types.now c.args.below) c.args.ty.now c.args.decoder.now _ _ c.in-Set.name c.in-Set.tag c.in-Set.components c.sequence-in-Set.result c.in-Set.is c.sequence-in-Set.ensures _ c.decode_inside-in-Set.ensures.itself
-
-pub decode_type-returns-in-SequenceOf-clause-itself : goal.decode_type-returns-in-SequenceOf-clause-itself
-decode_type-returns-in-SequenceOf-clause-itself g t c =
-    itself_list (shape_of_type c.args.types.now c.args.below) c.args.ty.now c.args.decoder.now _ _ c.in-SequenceOf.tag c.in-SequenceOf.element c.in-SequenceOf.constraints c.in-SequenceOf.is _ c.decode_list.ensures.itself
-
-pub decode_type-returns-in-SetOf-clause-itself : goal.decode_type-returns-in-SetOf-clause-itself
-decode_type-returns-in-SetOf-clause-itself g t c =
-    itself_set_of (shape_of_type c.args.types.now c.args.below) c.args.ty.now c.args.decoder.now _ _ c.in-SetOf.tag c.in-SetOf.element c.in-SetOf.constraints c.in-SetOf.is _ c.decode_list-in-SetOf.ensures.itself
-
 pub decode_choice-returns-in_err-tag-clause-itself : goal.decode_choice-returns-in_err-tag-clause-itself
 decode_choice-returns-in_err-tag-clause-itself g t c =
     rw (residual _ c.from_residual.ensures.1) (λ n. inl c.in_err-tag.ensures.exact)
@@ -1247,78 +976,32 @@ pub decode_choice-returns-in_default-clause-itself : goal.decode_choice-returns-
 decode_choice-returns-in_default-clause-itself g t c =
     λ n. inr (inl (c.in_ok-tag.tag, c.in_ok-tag.ensures.next, c.in_default.ensures))
 
-pub decode_choice-returns-in_err-value-clause-itself : goal.decode_choice-returns-in_err-value-clause-itself
-decode_choice-returns-in_err-value-clause-itself g t c =
-    rw (residual _ c.from_residual-in_err-value.ensures.1) (λ n. absurd (not_named _ _ c.in_err-value.ensures.told.1 n))
+pub decode_choice-returns-in_err-decode_part-clause-itself : goal.decode_choice-returns-in_err-decode_part-clause-itself
+decode_choice-returns-in_err-decode_part-clause-itself g t c =
+    rw (residual _ c.from_residual-in_err-decode_part.ensures.1) (λ n. absurd (not_named _ _ c.in_err-decode_part.ensures.told.1 n))
 
 pub decode_choice-returns-clause-itself : goal.decode_choice-returns-clause-itself
 decode_choice-returns-clause-itself g t c =
-    if_err_map _ _ (λ e m n. inr (inr m)) c.choose.result c.choose.ensures.kind
+    if_err_map _ _ (λ e m n. inr (inr m)) (outcome c.choose.result c.choose.new.out c.choose.new.error) c.choose.ensures.kind
 
-pub decode_list-returns-in_err-value-clause-itself : goal.decode_list-returns-in_err-value-clause-itself
-decode_list-returns-in_err-value-clause-itself g t c =
-    rw (residual _ c.from_residual.ensures.1) (λ n. not_sized (ReadsEachPart (shape_of_type c.args.types.now c.args.below) c.args.ty.now) c.args.tag c.args.constraints.now c.list.result c.list.ensures c.args.decoder.now _ _ (c.in_err-value.ensures.itself n))
-
-pub decode_inside-returns-in_err-inner-clause-itself : goal.decode_inside-returns-in_err-inner-clause-itself
-decode_inside-returns-in_err-inner-clause-itself g t c =
-    rw (residual _ c.from_residual.ensures.1) (λ n. step_none (ReadsEachPart (shape_of_type c.args.types.now c.args.below) c.args.ty.now) c.args.header c.args.decoder.now _ _ c.in_err-inner.ensures.exact)
-
-pub decode_inside-returns-in-Err-clause-itself : goal.decode_inside-returns-in-Err-clause-itself
-decode_inside-returns-in-Err-clause-itself g t c =
-    λ n. step_refused (ReadsEachPart (shape_of_type c.args.types.now c.args.below) c.args.ty.now) c.args.header c.args.decoder.now _ _ _ c.in_ok-inner.ensures.exact _ c.decode_contents.new.decoder (c.in-Err.ensures.itself (unmoved _ _ _ c.add_after.ensures n))
-
-pub decode_inside-returns-in_err-close-clause-itself : goal.decode_inside-returns-in_err-close-clause-itself
-decode_inside-returns-in_err-close-clause-itself g t c =
-    let w = c.in-Ok.ensures.exact in
-    rw (residual _ c.from_residual-in_err-close.ensures.1)
-    (λ n. step_unclosed (ReadsEachPart (shape_of_type c.args.types.now c.args.below) c.args.ty.now) c.args.header c.args.decoder.now _ _ _ c.in_ok-inner.ensures.exact w.0 _ w.3 _ c.remaining.ensures.value _ _ c.in_err-close.ensures)
-
-pub decode_contents-returns-in-Tagged-clause-itself : goal.decode_contents-returns-in-Tagged-clause-itself
-decode_contents-returns-in-Tagged-clause-itself g t c =
-    named _ _ _ _ c.decode_part.ensures.told
-
-pub decode_contents-returns-in_err-values-in-Sequence-clause-itself : goal.decode_contents-returns-in_err-values-in-Sequence-clause-itself
-decode_contents-returns-in_err-values-in-Sequence-clause-itself g t c =
-    rw (residual _ c.from_residual.ensures.1, c.in-Sequence.is) (λ n. subst (λ l. StopsInSequence (shape_of_type c.args.types.now c.args.below) l c.args.decoder.now c.in_err-values-in-Sequence.field-0.0) c.deref.ensures.value (c.in_err-values-in-Sequence.ensures.itself n))
-
-pub decode_contents-returns-in_err-values-in-Set-clause-itself : goal.decode_contents-returns-in_err-values-in-Set-clause-itself
-decode_contents-returns-in_err-values-in-Set-clause-itself g t c =
-    let f = shape_of_type c.args.types.now c.args.below in
-    let same = c.named_components-extensible.ensures.named ∙ ap (named_components f) c.deref-in-Set.ensures.value in
-    let marked = c.named_components-extensible.ensures.extensible ∙ ap (is_extensible f) c.deref-in-Set.ensures.value in
-    rw (residual _ c.from_residual-in_err-values-in-Set.ensures.1, c.in-Set.is)
-    (λ n. named_so f c.named_components-extensible.result.1 c.named_components-extensible.result.0.now c.in-Set.components.items marked same (λ b l. StopsInSet f b l c.args.decoder.now c.in_err-values-in-Set.field-0.0) (c.in_err-values-in-Set.ensures.itself n))
-
-pub decode_contents-returns-in_err-found-in-Set-clause-itself : goal.decode_contents-returns-in_err-found-in-Set-clause-itself
-decode_contents-returns-in_err-found-in-Set-clause-itself g t c =
-    rw (residual _ c.from_residual-in_err-found-in-Set.ensures.1, c.in-Set.is) (λ n. inl c.in_err-found-in-Set.ensures.err)
-
-pub decode_contents-returns-in_err-values-in-SequenceOf-clause-itself : goal.decode_contents-returns-in_err-values-in-SequenceOf-clause-itself
-decode_contents-returns-in_err-values-in-SequenceOf-clause-itself g t c =
-    rw (residual _ c.from_residual-in_err-values-in-SequenceOf.ensures.1, c.in-SequenceOf.is) c.in_err-values-in-SequenceOf.ensures.itself
-
-pub decode_contents-returns-in_err-values-in-SetOf-clause-itself : goal.decode_contents-returns-in_err-values-in-SetOf-clause-itself
-decode_contents-returns-in_err-values-in-SetOf-clause-itself g t c =
-    rw (residual _ c.from_residual-in_err-values-in-SetOf.ensures.1, c.in-SetOf.is) c.in_err-values-in-SetOf.ensures.itself
-
-pub decode_elements-returns-in_err-value-clause-itself : goal.decode_elements-returns-in_err-value-clause-itself
-decode_elements-returns-in_err-value-clause-itself g t c =
-    rw (residual _ c.from_residual.ensures.1) (λ n. absurd (not_named _ _ c.in_err-value.ensures.told.1 n))
+pub decode_elements-returns-in_err-decode_part-clause-itself : goal.decode_elements-returns-in_err-decode_part-clause-itself
+decode_elements-returns-in_err-decode_part-clause-itself g t c =
+    rw (residual _ c.from_residual.ensures.1) (λ n. absurd (not_named _ _ c.in_err-decode_part.ensures.told.1 n))
 
 pub decode_elements-returns-in_err-keep-clause-itself : goal.decode_elements-returns-in_err-keep-clause-itself
 decode_elements-returns-in_err-keep-clause-itself g t c =
-    let w = c.in_ok-value.ensures.reads in
+    let w = c.in_ok-decode_part.ensures.reads in
     rw (residual _ c.from_residual-in_err-keep.ensures.1)
     (λ n. element_stops (shape_of_type c.args.types.now c.args.below) c.args.element.0 c.args.decoder.now c.loop-element.decoder _ w.0 w.2 _ (ap length c.remaining-left.ensures.value) _ c.in_err-keep.ensures.kept
     c.loop-element.invariant.0.0 c.loop-element.invariant.0.3)
 
-pub decode_elements_in_order-returns-in_err-value-clause-itself : goal.decode_elements_in_order-returns-in_err-value-clause-itself
-decode_elements_in_order-returns-in_err-value-clause-itself g t c =
-    rw (residual _ c.from_residual.ensures.1) (λ n. absurd (not_named _ _ c.in_err-value.ensures.told.1 n))
+pub decode_elements_in_order-returns-in_err-decode_part-clause-itself : goal.decode_elements_in_order-returns-in_err-decode_part-clause-itself
+decode_elements_in_order-returns-in_err-decode_part-clause-itself g t c =
+    rw (residual _ c.from_residual.ensures.1) (λ n. absurd (not_named _ _ c.in_err-decode_part.ensures.told.1 n))
 
 pub decode_elements_in_order-returns-in_err-keep-clause-itself : goal.decode_elements_in_order-returns-in_err-keep-clause-itself
 decode_elements_in_order-returns-in_err-keep-clause-itself g t c =
-    let w = c.in_ok-value.ensures.reads in
+    let w = c.in_ok-decode_part.ensures.reads in
     rw (residual _ c.from_residual-in_err-keep.ensures.1)
     (λ n. set_element_stops (shape_of_type c.args.types.now c.args.below) c.args.element.0 c.args.decoder.now c.loop-last.decoder _ w.0 w.2 _ (ap length c.remaining-start.ensures.value) _ c.in_err-keep.ensures.kept
     c.loop-last.invariant.0.0 c.loop-last.invariant.0.1 c.loop-last.invariant.0.4)
@@ -1326,7 +1009,7 @@ decode_elements_in_order-returns-in_err-keep-clause-itself g t c =
 pub decode_elements_in_order-returns-then-is_less-clause-itself : goal.decode_elements_in_order-returns-then-is_less-clause-itself
 decode_elements_in_order-returns-then-is_less-clause-itself g t c =
     let i = c.loop-last.invariant.0 in
-    let w = c.in_ok-value.ensures.reads in
+    let w = c.in_ok-decode_part.ensures.reads in
     let k = call_keeps w.2 in
     λ none. inr (
       i.0,
@@ -1343,24 +1026,24 @@ decode_elements_in_order-returns-then-is_less-clause-itself g t c =
           (λ e. c.in_ok-keep.ensures.kept.1 (e ∙ sym (ap length c.remaining-start.ensures.value))),
           strict_before c.loop-last.decoder _ k c.if-is_strict.ensures,
           out_of_order i.1 c.loop-last.last.now c.octets_before-octets.result.now i.6 c.if-is_less.ensures,
-          rules_same c.loop-last.decoder _ (Der SetOfOutOfOrder) c.out_of_order.result k c.out_of_order.ensures,
+          rules_same c.loop-last.decoder _ (Der SetOfOutOfOrder) c.refuse_order.new.error k c.refuse_order.ensures,
         ),
       ),
     )
 
 pub decode_sequence-returns-then-leaves_all_out-clause-itself : goal.decode_sequence-returns-then-leaves_all_out-clause-itself
-decode_sequence-returns-then-leaves_all_out-clause-itself g t c = only_memory (shape_of_type c.args.types.now c.args.below) c.args.components.now c.args.decoder.now _ _ c.all_absent.ensures.memory
+decode_sequence-returns-then-leaves_all_out-clause-itself g t c = only_memory (shape_of_type c.args.types.now c.args.below) c.args.components.now c.args.decoder.now _ _ c.leave_all_out.ensures.memory
 
-pub decode_sequence-returns-in_err-value-clause-itself : goal.decode_sequence-returns-in_err-value-clause-itself
-decode_sequence-returns-in_err-value-clause-itself g t c =
+pub decode_sequence-returns-in_err-decode_component-clause-itself : goal.decode_sequence-returns-in_err-decode_component-clause-itself
+decode_sequence-returns-in_err-decode_component-clause-itself g t c =
     let k = c.loop-rest.invariant in
     let at = split c.loop-rest.rest.now _ c.in-len1-up.len_at_least c.component-item.is in
-    rw (residual _ c.from_residual-in_err-value.ensures.1)
-    (λ n. inr (k.4, c.component-item.result, _, c.loop-rest.decoder, k.5 ∙ ap (λ z. k.4 ++ z) at, k.6, c.in_err-value.ensures.itself n))
+    rw (residual _ c.from_residual.ensures.1)
+    (λ n. inr (k.4, c.component-item.result, _, c.loop-rest.decoder, k.5 ∙ ap (λ z. k.4 ++ z) at, k.6, c.in_err-decode_component.ensures.itself n))
 
-pub decode_sequence-returns-in_err-push-clause-itself : goal.decode_sequence-returns-in_err-push-clause-itself
-decode_sequence-returns-in_err-push-clause-itself g t c =
-    rw (residual _ c.from_residual-in_err-push.ensures.1) (λ n. inl c.in_err-push.ensures.kind)
+pub decode_sequence-returns-in_err-take-clause-itself : goal.decode_sequence-returns-in_err-take-clause-itself
+decode_sequence-returns-in_err-take-clause-itself g t c =
+    rw (residual _ c.from_residual-in_err-take.ensures.1) (λ n. inl c.in_err-take.ensures.kind)
 
 pub decode_component-returns-then-is_always_there-clause-itself : goal.decode_component-returns-then-is_always_there-clause-itself
 decode_component-returns-then-is_always_there-clause-itself g t c =
@@ -1372,7 +1055,7 @@ decode_component-returns-in-Ok-true-clause-itself g t c =
 
 pub decode_component-returns-in-Ok-false-clause-itself : goal.decode_component-returns-in-Ok-false-clause-itself
 decode_component-returns-in-Ok-false-clause-itself g t c =
-    unmade_stops _ (shape_of_type c.args.types.now c.args.below) c.args.component.now c.args.decoder.now _ _ c.missing.ensures.made
+    unmade_stops _ (shape_of_type c.args.types.now c.args.below) c.args.component.now c.args.decoder.now _ _ c.put_missing.ensures.made
 
 pub decode_component-returns-in-Err-clause-itself : goal.decode_component-returns-in-Err-clause-itself
 decode_component-returns-in-Err-clause-itself g t c =
@@ -1382,14 +1065,14 @@ pub decode_present-returns-in_default-clause-itself : goal.decode_present-return
 decode_present-returns-in_default-clause-itself g t c =
     named _ _ _ _ c.decode_part.ensures.told
 
-pub decode_present-returns-in_err-value-clause-itself : goal.decode_present-returns-in_err-value-clause-itself
-decode_present-returns-in_err-value-clause-itself g t c =
-    rw (residual _ c.from_residual.ensures.1) (λ n. absurd (not_named _ _ c.in_err-value.ensures.told.1 n))
+pub decode_stated-returns-in_err-decode_compared-clause-itself : goal.decode_stated-returns-in_err-decode_compared-clause-itself
+decode_stated-returns-in_err-decode_compared-clause-itself g t c =
+    rw (residual _ c.from_residual.ensures.1) (λ n. absurd (not_named _ _ c.in_err-decode_compared.ensures.told.1 n))
 
-pub decode_present-returns-then-means_same-clause-itself : goal.decode_present-returns-then-means_same-clause-itself
-decode_present-returns-then-means_same-clause-itself g t c =
-    let w = c.in_ok-value.ensures.reads in
-    λ n. default_stops (shape_of_type c.args.types.now c.args.below) c.args.component.now c.in-Default.default c.in-Default.is c.args.decoder.now _ w.0 w.2 c.if-not-is_strict.ensures (subst (λ z. Same z (tree_of c.in-Default.default)) (w.1 refl) (c.means_same.ensures.same c.if-means_same.true)) c.default_present.result c.default_present.ensures
+pub decode_stated-returns-then-means_same-clause-itself : goal.decode_stated-returns-then-means_same-clause-itself
+decode_stated-returns-then-means_same-clause-itself g t c =
+    let w = c.in_ok-decode_compared.ensures.reads in
+    λ n. default_stops (shape_of_type c.args.types.now c.args.below) c.args.component.now c.args.default.now c.requires.stated c.args.decoder.now _ w.0 w.2 c.requires.strict (subst (λ z. Same z (tree_of c.args.default.now)) (w.1 refl) (c.means_same.ensures.same c.if-means_same.true)) c.refuse_default.new.error c.refuse_default.ensures
 
 pub decode_set-returns-in_err-last-clause-itself : goal.decode_set-returns-in_err-last-clause-itself
 decode_set-returns-in_err-last-clause-itself g t c =
@@ -1417,9 +1100,9 @@ decode_set-returns-in_err-values-clause-itself g t c =
     let k = c.loop-other_id.invariant.0.4 in
     rw (residual _ c.from_residual-in_err-values.ensures.1) (λ n. inr (k.0, k.1, c.loop-other_id.decoder, k.2, inl c.loop-other_id-test.ensures))
 
-pub decode_set-returns-in_err-push-clause-itself : goal.decode_set-returns-in_err-push-clause-itself
-decode_set-returns-in_err-push-clause-itself g t c =
-    rw (residual _ c.from_residual-in_err-push.ensures.1) (λ n. inl c.in_err-push.ensures.kind)
+pub decode_set-returns-in_err-append-clause-itself : goal.decode_set-returns-in_err-append-clause-itself
+decode_set-returns-in_err-append-clause-itself g t c =
+    rw (residual _ c.from_residual-in_err-append.ensures.1) (λ n. inl c.in_err-append.ensures.kind)
 
 pub decode_set_component-returns-in_err-tag-clause-itself : goal.decode_set_component-returns-in_err-tag-clause-itself
 decode_set_component-returns-in_err-tag-clause-itself g t c =
@@ -1435,17 +1118,17 @@ decode_set_component-returns-in_err-other-clause-itself g t c =
     let w = c.in_err-other.ensures.told c.args.types.now (c.requires.1.1.1.1.1.1 extends) in
     rw (residual _ c.from_residual-in_err-other.ensures.1) (λ n. absurd (not_named _ w.0 w.1 n))
 
-pub decode_set_component-returns-in_err-push-clause-itself : goal.decode_set_component-returns-in_err-push-clause-itself
-decode_set_component-returns-in_err-push-clause-itself g t c =
-    rw (residual _ c.from_residual-in_err-push.ensures.1) (λ n. inr (inr (inl c.in_err-push.ensures.kind)))
+pub decode_set_component-returns-in_err-append-clause-itself : goal.decode_set_component-returns-in_err-append-clause-itself
+decode_set_component-returns-in_err-append-clause-itself g t c =
+    rw (residual _ c.from_residual-in_err-append.ensures.1) (λ n. inr (inr (inl c.in_err-append.ensures.kind)))
 
-pub decode_set_component-returns-in_err-value-clause-itself : goal.decode_set_component-returns-in_err-value-clause-itself
-decode_set_component-returns-in_err-value-clause-itself g t c =
-    rw (residual _ c.from_residual-in_err-value.ensures.1) (λ n. inr (inr (inr (c.in-Some.number, c.in-Some.component.now, c.in-Some.ensures.0, inl (c.in_err-value.ensures.itself n)))))
+pub decode_set_component-returns-in_err-decode_present-clause-itself : goal.decode_set_component-returns-in_err-decode_present-clause-itself
+decode_set_component-returns-in_err-decode_present-clause-itself g t c =
+    rw (residual _ c.from_residual-in_err-decode_present.ensures.1) (λ n. inr (inr (inr (c.in-Some.number, c.in-Some.component.now, c.in-Some.ensures.0, inl (c.in_err-decode_present.ensures.itself n)))))
 
 pub decode_set_component-returns-then-remaining-left-clause-itself : goal.decode_set_component-returns-then-remaining-left-clause-itself
 decode_set_component-returns-then-remaining-left-clause-itself g t c =
-    let w = c.in_ok-value.ensures.reads in
+    let w = c.in_ok-decode_present.ensures.reads in
     λ n. inr (inr (inr (
       c.in-Some.number,
       c.in-Some.component.now,
@@ -1477,64 +1160,13 @@ pub decode_type-returns-in-Choice-clause-listed : goal.decode_type-returns-in-Ch
 decode_type-returns-in-Choice-clause-listed g t c =
     if_ok _ _ _ (λ v. choice_listed (shape_of_type c.args.types.now c.args.below) c.args.below (Inside c.args.types.now c.args.below) c.args.ty.now c.deref-in-Choice.result.now c.args.decoder.now _ _ (rw c.in-Choice.is c.deref-in-Choice.ensures.value)) c.decode_choice.ensures.listed
 
-pub decode_type-returns-in-Tagged-clause-listed : goal.decode_type-returns-in-Tagged-clause-listed
-decode_type-returns-in-Tagged-clause-listed g t c = if_ok _ _ _ (λ v. holder_listed (shape_of_type c.args.types.now c.args.below) c.args.below (Inside c.args.types.now c.args.below) c.args.ty.now c.prefix.result c.args.decoder.now _ _ (rw c.in-Tagged.is c.prefix.ensures)) c.decode_inside.ensures.listed
-
-pub decode_type-returns-in-Sequence-clause-listed : goal.decode_type-returns-in-Sequence-clause-listed
-decode_type-returns-in-Sequence-clause-listed g t c =
-    if_ok _ _ _ (λ v. holder_listed (shape_of_type c.args.types.now c.args.below) c.args.below (Inside c.args.types.now c.args.below) c.args.ty.now c.sequence.result c.args.decoder.now _ _ (rw c.in-Sequence.is c.sequence.ensures)) c.decode_inside-in-Sequence.ensures.listed
-
-pub decode_type-returns-in-Set-clause-listed : goal.decode_type-returns-in-Set-clause-listed
-decode_type-returns-in-Set-clause-listed g t c =
-    if_ok _ _ _ (λ v. holder_listed (shape_of_type c.args.types.now c.args.below) c.args.below (Inside c.args.types.now c.args.below) c.args.ty.now c.sequence-in-Set.result c.args.decoder.now _ _ (rw c.in-Set.is c.sequence-in-Set.ensures)) c.decode_inside-in-Set.ensures.listed
-
-pub decode_type-returns-in-SequenceOf-clause-listed : goal.decode_type-returns-in-SequenceOf-clause-listed
-decode_type-returns-in-SequenceOf-clause-listed g t c =
-    if_ok _ _ _ (λ v. holder_listed (shape_of_type c.args.types.now c.args.below) c.args.below (Inside c.args.types.now c.args.below) c.args.ty.now (list_header c.in-SequenceOf.tag) c.args.decoder.now _ _ (rw c.in-SequenceOf.is refl)) c.decode_list.ensures.listed
-
-pub decode_type-returns-in-SetOf-clause-listed : goal.decode_type-returns-in-SetOf-clause-listed
-decode_type-returns-in-SetOf-clause-listed g t c =
-    if_ok _ _ _ (λ v. holder_listed (shape_of_type c.args.types.now c.args.below) c.args.below (Inside c.args.types.now c.args.below) c.args.ty.now (list_header c.in-SetOf.tag) c.args.decoder.now _ _ (rw c.in-SetOf.is refl)) c.decode_list-in-SetOf.ensures.listed
-
 pub decode_choice-returns-clause-listed : goal.decode_choice-returns-clause-listed
 decode_choice-returns-clause-listed g t c =
     let el = get_or c.args.alternatives.now c.in-Some.number c.index-alternatives-number.result in
     let at : Some el ≡ slice_get c.args.alternatives.now c.in-Some.number = subst (λ (a : Alternative). Some a ≡ slice_get c.args.alternatives.now c.in-Some.number) c.index-alternatives-number.is
     (read_at c.args.alternatives.now c.in-Some.number c.index-alternatives-number.result (slice_get_within c.args.alternatives.now c.in-Some.number c.in-Some.ensures.0 (sym c.in-Some.ensures.1.0)) c.index-alternatives-number.is) in
     if_any _ (alternative_listed (shape_of_type c.args.types.now c.args.below) c.args.below (Inside c.args.types.now c.args.below) c.args.alternatives.now c.in-Some.number el c.args.decoder.now _ _ _
-    (c.in_ok-tag.tag, c.in_ok-tag.ensures.next, for_both (shape_of_type c.args.types.now c.args.below) c.args.alternatives.now c.in-Some.number c.in-Some.ensures.0 el c.in_ok-tag.tag c.in-Some.ensures.1 at) c.in_ok-value.ensures.listed)
-
-pub decode_list-returns-clause-listed : goal.decode_list-returns-clause-listed
-decode_list-returns-clause-listed g t c =
-    header_listed (shape_of_type c.args.types.now c.args.below) c.args.below (Inside c.args.types.now c.args.below) c.list.result (list_header c.args.tag) c.args.ty.now c.args.decoder.now _ _ c.list.ensures c.in_ok-value.ensures.listed
-
-pub decode_inside-returns-clause-listed : goal.decode_inside-returns-clause-listed
-decode_inside-returns-clause-listed g t c =
-    inside_listed (shape_of_type c.args.types.now c.args.below) c.args.below (Inside c.args.types.now c.args.below) c.args.ty.now c.args.header c.args.decoder.now _ _ _ _ _ _ _ _ c.in_ok-inner.ensures.exact c.go_inside-after.ensures c.in-Ok.ensures.listed c.go_outside.ensures
-
-pub decode_contents-returns-in-Tagged-clause-listed : goal.decode_contents-returns-in-Tagged-clause-listed
-decode_contents-returns-in-Tagged-clause-listed g t c =
-    if_ok _ _ _ (λ v. tagged_listed (shape_of_type c.args.types.now c.args.below) c.args.below (Inside c.args.types.now c.args.below) c.args.ty.now c.in-Tagged.inner.0 c.args.decoder.now _ _ _ (rw c.in-Tagged.is refl)) c.decode_part.ensures.listed
-
-pub decode_contents-returns-in_ok-values-in-Sequence-clause-listed : goal.decode_contents-returns-in_ok-values-in-Sequence-clause-listed
-decode_contents-returns-in_ok-values-in-Sequence-clause-listed g t c =
-    contents_same (shape_of_type c.args.types.now c.args.below) c.args.below (Inside c.args.types.now c.args.below) c.args.ty.now _ c.args.decoder.now _ _ c.in-Sequence.is (components_same (shape_of_type c.args.types.now c.args.below) c.args.below (Inside c.args.types.now c.args.below) _ _ c.args.decoder.now _ _ c.deref.ensures.value c.in_ok-values-in-Sequence.ensures.listed)
-
-pub decode_contents-returns-in_ok-values-in-Set-clause-listed : goal.decode_contents-returns-in_ok-values-in-Set-clause-listed
-decode_contents-returns-in_ok-values-in-Set-clause-listed g t c =
-    let f = shape_of_type c.args.types.now c.args.below in
-    let same = c.named_components-extensible.ensures.named ∙ ap (named_components f) c.deref-in-Set.ensures.value in
-    let marked = c.named_components-extensible.ensures.extensible ∙ ap (is_extensible f) c.deref-in-Set.ensures.value in
-    contents_same f c.args.below (Inside c.args.types.now c.args.below) c.args.ty.now _ c.args.decoder.now _ _ c.in-Set.is
-    (named_so f c.named_components-extensible.result.1 c.named_components-extensible.result.0.now c.in-Set.components.items marked same (λ b l. Lists (λ n es. MembersListed f c.args.below (Inside c.args.types.now c.args.below) b l (last_type c.in-Set.components.items) n c.args.decoder.now es) c.args.spans.now c.decode_set.new.spans)
-    (subst (λ k. Lists (λ n es. MembersListed f c.args.below (Inside c.args.types.now c.args.below) c.named_components-extensible.result.1 c.named_components-extensible.result.0.now k n c.args.decoder.now es) c.args.spans.now c.decode_set.new.spans)
-    (c.last_type-other_id.ensures ∙ ap last_type c.deref-in-Set-2.ensures.value) c.in_ok-values-in-Set.ensures.listed))
-
-pub decode_contents-returns-in_ok-values-in-SequenceOf-clause-listed : goal.decode_contents-returns-in_ok-values-in-SequenceOf-clause-listed
-decode_contents-returns-in_ok-values-in-SequenceOf-clause-listed g t c = contents_same (shape_of_type c.args.types.now c.args.below) c.args.below (Inside c.args.types.now c.args.below) c.args.ty.now _ c.args.decoder.now _ _ c.in-SequenceOf.is c.in_ok-values-in-SequenceOf.ensures.listed
-
-pub decode_contents-returns-in_ok-values-in-SetOf-clause-listed : goal.decode_contents-returns-in_ok-values-in-SetOf-clause-listed
-decode_contents-returns-in_ok-values-in-SetOf-clause-listed g t c = contents_same (shape_of_type c.args.types.now c.args.below) c.args.below (Inside c.args.types.now c.args.below) c.args.ty.now _ c.args.decoder.now _ _ c.in-SetOf.is c.in_ok-values-in-SetOf.ensures.listed
+    (c.in_ok-tag.tag, c.in_ok-tag.ensures.next, for_both (shape_of_type c.args.types.now c.args.below) c.args.alternatives.now c.in-Some.number c.in-Some.ensures.0 el c.in_ok-tag.tag c.in-Some.ensures.1 at) c.in_ok-decode_part.ensures.listed)
 
 pub decode_elements-returns-clause-listed : goal.decode_elements-returns-clause-listed
 decode_elements-returns-clause-listed g t c = elements_listed (shape_of_type c.args.types.now c.args.below) c.args.below (Inside c.args.types.now c.args.below) c.args.element.0 c.loop-element.count c.args.decoder.now c.loop-element.decoder _ _ c.loop-element-test.ensures c.loop-element.invariant.3
@@ -1564,11 +1196,13 @@ decode_component-returns-in-Ok-false-clause-listed g t c =
     (c.if-is_always_there.ensures, subst (λ b. NextIs (sought_by (key_of s) s) c.args.decoder.now (Ok b)) h c.in-Ok-false.ensures))
 
 pub decode_set-returns-clause-listed : goal.decode_set-returns-clause-listed
-decode_set-returns-clause-listed g t c =
-    members_listed (shape_of_type c.args.types.now c.args.below) c.args.below (Inside c.args.types.now c.args.below) c.args.extensible c.args.components.now c.args.other_id.0 c.loop-other_id.invariant.4 c.args.decoder.now c.loop-other_id.decoder _ _ c.loop-other_id-test.ensures c.loop-other_id.invariant.5
+decode_set-returns-clause-listed g t c = members_listed (shape_of_type c.args.types.now c.args.below) c.args.below (Inside c.args.types.now c.args.below) c.args.extensible c.args.components.now c.args.other_id.0 c.loop-other_id.invariant.4 c.args.decoder.now c.loop-other_id.decoder _ _ c.loop-other_id-test.ensures c.loop-other_id.invariant.5
+
+pub decode_set-returns-then-not-extensible-clause-listed : goal.decode_set-returns-then-not-extensible-clause-listed
+decode_set-returns-then-not-extensible-clause-listed g t c = members_listed (shape_of_type c.args.types.now c.args.below) c.args.below (Inside c.args.types.now c.args.below) c.args.extensible c.args.components.now c.args.other_id.0 c.loop-other_id.invariant.4 c.args.decoder.now c.loop-other_id.decoder _ _ c.loop-other_id-test.ensures c.loop-other_id.invariant.5
 
 pub decode_set_component-returns-clause-listed : goal.decode_set_component-returns-clause-listed
-decode_set_component-returns-clause-listed g t c = member_listed (shape_of_type c.args.types.now c.args.below) c.args.below (Inside c.args.types.now c.args.below) c.args.extensible c.args.components.now c.args.other_id.0 c.in-Some.number c.in-Some.component.now c.args.decoder.now _ _ _ c.in-Some.ensures.0 c.in_ok-value.ensures.listed
+decode_set_component-returns-clause-listed g t c = member_listed (shape_of_type c.args.types.now c.args.below) c.args.below (Inside c.args.types.now c.args.below) c.args.extensible c.args.components.now c.args.other_id.0 c.in-Some.number c.in-Some.component.now c.args.decoder.now _ _ _ c.in-Some.ensures.0 c.in_ok-decode_present.ensures.listed
 
 pub decode_set_component-returns-in_default-clause-listed : goal.decode_set_component-returns-in_default-clause-listed
 decode_set_component-returns-in_default-clause-listed g t c =
@@ -1578,5 +1212,730 @@ decode_set_component-returns-in_default-clause-listed g t c =
 pub decode_compared-returns-in-None-clause-listed : goal.decode_compared-returns-in-None-clause-listed
 decode_compared-returns-in-None-clause-listed g t c =
     let w = c.in-None.ensures.reads in
-    let P : State → Spans → Type 0 = λ z o. IfOk c.decode_part.result (λ v. Lists (λ b es. PartListed (shape_of_type c.args.types.now c.args.levels) c.args.levels (Inside c.args.types.now c.args.levels) c.args.id.0 c.args.index b z c.decode_part.new.decoder es) o c.decode_part.new.spans) in
-    subst (λ o. P c.args.decoder.now o) c.in-None.ensures.listed (subst (λ z. P z c.decode_value.new.spans) w.1 c.decode_part.ensures.listed)
+    let P : State → Spans → Type 0 = λ z o. IfOk (outcome c.decode_part.result c.decode_part.new.out c.decode_part.new.walk.error) (λ v. Lists (λ b es. PartListed (shape_of_type c.args.types.now c.args.levels) c.args.levels (Inside c.args.types.now c.args.levels) c.args.id.0 c.args.index b z c.decode_part.new.decoder es) o c.decode_part.new.walk.spans) in
+    subst (λ o. P c.args.decoder.now o) c.in-None.ensures.listed (subst (λ z. P z c.decode_value.new.walk.spans) w.1 c.decode_part.ensures.listed)
+
+-- ---- contents of each kind
+
+pub put_sequence-decode_sequence-requires : goal.put_sequence-decode_sequence-requires
+put_sequence-decode_sequence-requires g t c = λ κs o. (search rules, (search rules, (c.requires.lawful, (c.in_ok-values.ensures.ok, c.requires.clear))))
+
+pub put_sequence-returns-in_err-values-clause-exact : goal.put_sequence-returns-in_err-values-clause-exact
+put_sequence-returns-in_err-values-clause-exact g t c = rw (residual _ c.from_residual.ensures.1) (sequence_runs_out _ _ c.list_for.new.error c.in_err-values.ensures.kind, inr c.in_err-values.ensures.kind)
+
+pub put_sequence-returns-in_err-values-clause-itself : goal.put_sequence-returns-in_err-values-clause-itself
+put_sequence-returns-in_err-values-clause-itself g t c = rw (residual _ c.from_residual.ensures.1) (λ n. inl c.in_err-values.ensures.kind)
+
+pub put_sequence-returns-in_err-decode_sequence-clause-exact : goal.put_sequence-returns-in_err-decode_sequence-clause-exact
+put_sequence-returns-in_err-decode_sequence-clause-exact g t c = rw (residual _ c.from_residual-in_err-decode_sequence.ensures.1) (c.in_err-decode_sequence.ensures.reads, c.in_err-decode_sequence.ensures.fails)
+
+pub put_sequence-returns-clause-exact : goal.put_sequence-returns-clause-exact
+put_sequence-returns-clause-exact g t c =
+    let w = c.in_ok-decode_sequence.ensures.reads in
+    (items w.0, (λ k. ap tree_of (c.put_items.ensures k) ∙ items_made _ c.decode_sequence.new.values w.0 w.1 k), (w.0, refl, (w.2, tt)))
+
+pub put_sequence-returns-clause-fits : goal.put_sequence-returns-clause-fits
+put_sequence-returns-clause-fits g t c = λ k. rw (c.put_items.ensures k) (are_items (ComponentsFit (Fits c.args.types.now c.args.below) c.args.components.now) c.decode_sequence.new.values (c.in_ok-decode_sequence.ensures.fits k))
+
+pub put_elements-decode_elements-requires : goal.put_elements-decode_elements-requires
+put_elements-decode_elements-requires g t c = λ κs o. (search rules, (search rules, (c.requires.lawful, (c.requires.counts, (c.new-values.ensures.items, c.requires.clear)))))
+
+pub put_elements-returns-in_err-decode_elements-clause-exact : goal.put_elements-returns-in_err-decode_elements-clause-exact
+put_elements-returns-in_err-decode_elements-clause-exact g t c = rw (residual _ c.from_residual.ensures.1) c.in_err-decode_elements.ensures.reads
+
+pub put_elements-returns-clause-exact : goal.put_elements-returns-clause-exact
+put_elements-returns-clause-exact g t c =
+    let w = c.in_ok-decode_elements.ensures.reads in
+    (items w.0, (λ k. ap tree_of (c.put_items.ensures k) ∙ items_made _ c.decode_elements.new.values w.0 w.1 k), w.2 ∙ sym (count_items w.0), (w.0, refl, w.3))
+
+pub put_elements-returns-clause-fits : goal.put_elements-returns-clause-fits
+put_elements-returns-clause-fits g t c = λ k. rw (c.put_items.ensures k) (are_items (EachFits (Fits c.args.types.now c.args.below c.args.element.0)) c.decode_elements.new.values (c.in_ok-decode_elements.ensures.fits k))
+
+pub put_elements_in_order-decode_elements_in_order-requires : goal.put_elements_in_order-decode_elements_in_order-requires
+put_elements_in_order-decode_elements_in_order-requires g t c = λ κs o. (search rules, (search rules, (c.requires.lawful, (c.requires.counts, (c.new-values.ensures.items, c.requires.clear)))))
+
+pub put_elements_in_order-returns-in_err-decode_elements_in_order-clause-exact : goal.put_elements_in_order-returns-in_err-decode_elements_in_order-clause-exact
+put_elements_in_order-returns-in_err-decode_elements_in_order-clause-exact g t c = rw (residual _ c.from_residual.ensures.1) c.in_err-decode_elements_in_order.ensures.reads
+
+pub put_elements_in_order-returns-clause-exact : goal.put_elements_in_order-returns-clause-exact
+put_elements_in_order-returns-clause-exact g t c =
+    let w = c.in_ok-decode_elements_in_order.ensures.reads in
+    (elements w.0, (λ k. ap tree_of (c.put_in_any_order.ensures k) ∙ elements_made _ c.decode_elements_in_order.new.values w.0 w.1 k), w.2 ∙ sym (count_items w.0), (w.0, refl, w.3))
+
+pub put_elements_in_order-returns-clause-fits : goal.put_elements_in_order-returns-clause-fits
+put_elements_in_order-returns-clause-fits g t c = λ k. rw (c.put_in_any_order.ensures k) (are_elements (EachFits (Fits c.args.types.now c.args.below c.args.element.0)) c.decode_elements_in_order.new.values (c.in_ok-decode_elements_in_order.ensures.fits k))
+
+pub put_set-decode_set-requires : goal.put_set-decode_set-requires
+put_set-decode_set-requires g t c = λ κs o. (
+  search rules,
+  (
+    search rules,
+    (
+      subst (λ l. AreLawfulMembers (components_by (shape_of_type c.args.types.now c.args.below) l)) (sym c.named_components-extensible.ensures.named) c.requires.1.1.1.0,
+      (
+        c.in_ok-found.ensures.ok,
+        (c.requires.1.1.1.1, λ x. ap (shape_of_type c.args.types.now c.args.below) c.last_type-other_id.ensures ∙ last_unknown (shape_of_type c.args.types.now c.args.below) c.args.components.now (sym c.named_components-extensible.ensures.extensible ∙ x)),
+      ),
+    ),
+  ),
+)
+
+pub put_set-returns-in_err-found-clause-exact : goal.put_set-returns-in_err-found-clause-exact
+put_set-returns-in_err-found-clause-exact g t c = rw (residual _ c.from_residual.ensures.1) (inr (c.in_err-found.ensures.err, kept c.args.decoder.now))
+
+pub put_set-returns-in_err-found-clause-itself : goal.put_set-returns-in_err-found-clause-itself
+put_set-returns-in_err-found-clause-itself g t c = rw (residual _ c.from_residual.ensures.1) (λ n. inl c.in_err-found.ensures.err)
+
+pub put_set-returns-in_err-values-clause-exact : goal.put_set-returns-in_err-values-clause-exact
+put_set-returns-in_err-values-clause-exact g t c = rw (residual _ c.from_residual-in_err-values.ensures.1) (named_so (shape_of_type c.args.types.now c.args.below) c.named_components-extensible.result.1 c.named_components-extensible.result.0.now c.args.components.now c.named_components-extensible.ensures.extensible c.named_components-extensible.ensures.named (λ b l. MayRunOut (DecodesSetPartContents b (components_by (shape_of_type c.args.types.now c.args.below) l) items (names_of l)) c.args.decoder.now (Err c.decode_set.new.walk.error) c.decode_set.new.decoder) c.in_err-values.ensures.exact)
+
+pub put_set-returns-in_err-values-clause-told : goal.put_set-returns-in_err-values-clause-told
+put_set-returns-in_err-values-clause-told g t c = rw (residual _ c.from_residual-in_err-values.ensures.1) (λ x q. subst (λ n. IsFaultIn c.args.types.now c.args.below (IsMemberAfter (shape_of_type c.args.types.now c.args.below) (is_extensible (shape_of_type c.args.types.now c.args.below) c.args.components.now) (named_components (shape_of_type c.args.types.now c.args.below) c.args.components.now) n c.args.decoder.now) c.args.decoder.now c.args.decoder.now c.decode_set.new.walk.error x) c.last_type-other_id.ensures
+    (named_so (shape_of_type c.args.types.now c.args.below) c.named_components-extensible.result.1 c.named_components-extensible.result.0.now c.args.components.now c.named_components-extensible.ensures.extensible c.named_components-extensible.ensures.named (λ b l. IsFaultIn c.args.types.now c.args.below (IsMemberAfter (shape_of_type c.args.types.now c.args.below) b l c.last_type-other_id.result.0 c.args.decoder.now) c.args.decoder.now c.args.decoder.now c.decode_set.new.walk.error x) (c.in_err-values.ensures.told x q)))
+
+pub put_set-returns-in_err-values-clause-itself : goal.put_set-returns-in_err-values-clause-itself
+put_set-returns-in_err-values-clause-itself g t c = rw (residual _ c.from_residual-in_err-values.ensures.1) (λ n. named_so (shape_of_type c.args.types.now c.args.below) c.named_components-extensible.result.1 c.named_components-extensible.result.0.now c.args.components.now c.named_components-extensible.ensures.extensible c.named_components-extensible.ensures.named (λ b l. StopsInSet (shape_of_type c.args.types.now c.args.below) b l c.args.decoder.now c.decode_set.new.walk.error) (c.in_err-values.ensures.itself n))
+
+pub put_set-returns-clause-exact : goal.put_set-returns-clause-exact
+put_set-returns-clause-exact g t c =
+    let w = c.in_ok-values.ensures.exact in
+    (items w.0, (λ k. ap tree_of (c.put_items.ensures k) ∙ items_made _ c.in_ok-values.values w.0 w.1 k), (w.0, refl, named_so (shape_of_type c.args.types.now c.args.below) c.named_components-extensible.result.1 c.named_components-extensible.result.0.now c.args.components.now c.named_components-extensible.ensures.extensible c.named_components-extensible.ensures.named (λ b l. MayRunOut (DecodesSetPartContents b (components_by (shape_of_type c.args.types.now c.args.below) l) items (names_of l)) c.args.decoder.now (Ok w.0) c.decode_set.new.decoder) w.2))
+
+pub put_set-returns-clause-fits : goal.put_set-returns-clause-fits
+put_set-returns-clause-fits g t c = λ k. rw (c.put_items.ensures k) (are_items (ComponentsFit (Fits c.args.types.now c.args.below) c.args.components.now) c.in_ok-values.values
+    (members_fit c.args.types.now c.args.below c.args.components.now c.in_ok-values.values.items (named_so (shape_of_type c.args.types.now c.args.below) c.named_components-extensible.result.1 c.named_components-extensible.result.0.now c.args.components.now c.named_components-extensible.ensures.extensible c.named_components-extensible.ensures.named (λ b l. MembersFit (Fits c.args.types.now c.args.below) b l c.in_ok-values.values.items) (c.in_ok-values.ensures.fits k))))
+
+pub put_set-returns-clause-listed : goal.put_set-returns-clause-listed
+put_set-returns-clause-listed g t c = subst (λ k. Lists (λ n es. MembersListed (shape_of_type c.args.types.now c.args.below) c.args.below (Inside c.args.types.now c.args.below) (is_extensible (shape_of_type c.args.types.now c.args.below) c.args.components.now) (named_components (shape_of_type c.args.types.now c.args.below) c.args.components.now) k n c.args.decoder.now es) c.args.walk.now.spans c.decode_set.new.walk.spans) c.last_type-other_id.ensures
+    (named_so (shape_of_type c.args.types.now c.args.below) c.named_components-extensible.result.1 c.named_components-extensible.result.0.now c.args.components.now c.named_components-extensible.ensures.extensible c.named_components-extensible.ensures.named (λ b l. Lists (λ n es. MembersListed (shape_of_type c.args.types.now c.args.below) c.args.below (Inside c.args.types.now c.args.below) b l c.last_type-other_id.result.0 n c.args.decoder.now es) c.args.walk.now.spans c.decode_set.new.walk.spans) c.in_ok-values.ensures.listed)
+
+pub decode_present-decode_stated-requires : goal.decode_present-decode_stated-requires
+decode_present-decode_stated-requires g t c = λ κs o. (search rules, (search rules, (c.in-Default.is, (c.if-not-is_strict.ensures, (c.requires.lawful, c.requires.clear)))))
+
+-- ---- a value that holds others: tagged
+
+pub decode_tagged_inside-returns-in-Err-clause-exact :
+    goal.decode_tagged_inside-returns-in-Err-clause-exact
+decode_tagged_inside-returns-in-Err-clause-exact g t c =
+    (step_none _ c.args.header c.args.decoder.now _ _ c.in-Err.ensures.exact)
+
+pub decode_tagged_inside-returns-in-Err-put_tagged-clause-exact :
+    goal.decode_tagged_inside-returns-in-Err-put_tagged-clause-exact
+decode_tagged_inside-returns-in-Err-put_tagged-clause-exact g t c =
+    (step_refused _ c.args.header c.args.decoder.now _ _ _ c.in-Ok.ensures.exact _ _ c.in-Err-put_tagged.ensures.exact)
+
+pub decode_tagged_inside-returns-in-Err-close-clause-exact : goal.decode_tagged_inside-returns-in-Err-close-clause-exact
+decode_tagged_inside-returns-in-Err-close-clause-exact g t c =
+    let w = c.in-Ok-put_tagged.ensures.exact in
+    (step_unclosed _ c.args.header c.args.decoder.now _ _ _ c.in-Ok.ensures.exact w.0 _ w.2 _ c.remaining.ensures.value _ _ c.in-Err-close.ensures)
+
+pub decode_tagged_inside-close-requires : goal.decode_tagged_inside-close-requires
+decode_tagged_inside-close-requires g t c = λ x.
+    let w = c.in-Ok-put_tagged.ensures.exact in
+    step_end (DecodesContents (shape_of_type c.args.types.now c.args.below) (Tagged eoc c.args.id)) c.args.header c.args.decoder.now _ _ _ c.in-Ok.ensures.exact _ _
+    (contents_end (shape_of_type c.args.types.now c.args.below) (Tagged eoc c.args.id) _ w.0 _ w.2) c.remaining.ensures.value x
+
+pub decode_tagged_inside-returns-in-Ok-close-clause-exact : goal.decode_tagged_inside-returns-in-Ok-close-clause-exact
+decode_tagged_inside-returns-in-Ok-close-clause-exact g t c =
+    let w = c.in-Ok-put_tagged.ensures.exact in
+    (w.0, w.1, step_closed _ c.args.header c.args.decoder.now _ _ _ c.in-Ok.ensures.exact w.0 _ w.2 _ c.remaining.ensures.value _ c.in-Ok-close.ensures)
+
+pub decode_tagged_inside-returns-in-Err-clause-rules : goal.decode_tagged_inside-returns-in-Err-clause-rules
+decode_tagged_inside-returns-in-Err-clause-rules g t c = (codec_is c.in-Err.ensures.exact.2)
+
+pub decode_tagged_inside-returns-in-Err-put_tagged-clause-rules : goal.decode_tagged_inside-returns-in-Err-put_tagged-clause-rules
+decode_tagged_inside-returns-in-Err-put_tagged-clause-rules g t c = (c.in-Err-put_tagged.ensures.rules ∙ same_rules c.in-Ok.ensures.exact.2)
+
+pub decode_tagged_inside-returns-in-Err-close-clause-rules : goal.decode_tagged_inside-returns-in-Err-close-clause-rules
+decode_tagged_inside-returns-in-Err-close-clause-rules g t c = (codec_is c.in-Err-close.ensures.2 ∙ same_rules c.in-Ok.ensures.exact.5.stays)
+
+pub decode_tagged_inside-add_after-requires : goal.decode_tagged_inside-add_after-requires
+decode_tagged_inside-add_after-requires g t c =
+    λ f q.
+    let n = opened_short c.args.types.now c.args.header c.args.decoder.now c.in-Ok.ensures.octets _ _ _ c.in-Ok.ensures.exact c.args.below _ _ f c.put_tagged.new.decoder.closing c.octets_after.result
+    (ap (λ (s : State). s.closing) (contents_stay (shape_of_type c.args.types.now c.args.below) (Tagged eoc c.args.id) _ c.put_tagged.new.walk.error _ c.in-Err-put_tagged.ensures.exact)) c.octets_after.ensures (c.in-Err-put_tagged.ensures.told f q) in
+    omega (arith, n, c.octets_left.ensures, c.octets_left.type_inv)
+
+pub decode_tagged_inside-returns-in-Err-put_tagged-clause-told : goal.decode_tagged_inside-returns-in-Err-put_tagged-clause-told
+decode_tagged_inside-returns-in-Err-put_tagged-clause-told g t c =
+    opened c.args.types.now c.args.header c.args.decoder.now c.in-Ok.ensures.octets _ _ _ c.in-Ok.ensures.exact c.args.below (Tagged eoc c.args.id) _ c.put_tagged.new.decoder.closing c.octets_after.result
+    (ap (λ (s : State). s.closing) (contents_stay (shape_of_type c.args.types.now c.args.below) (Tagged eoc c.args.id) _ c.put_tagged.new.walk.error _ c.in-Err-put_tagged.ensures.exact)) c.octets_after.ensures _ _ c.in-Err-put_tagged.ensures.told c.add_after.ensures
+
+pub decode_tagged_inside-returns-in-Err-clause-itself : goal.decode_tagged_inside-returns-in-Err-clause-itself
+decode_tagged_inside-returns-in-Err-clause-itself g t c =
+    (λ n. step_none (ReadsEachPart (shape_of_type c.args.types.now c.args.below) (Tagged eoc c.args.id)) c.args.header c.args.decoder.now _ _ c.in-Err.ensures.exact)
+
+pub decode_tagged_inside-returns-in-Err-put_tagged-clause-itself : goal.decode_tagged_inside-returns-in-Err-put_tagged-clause-itself
+decode_tagged_inside-returns-in-Err-put_tagged-clause-itself g t c =
+    λ n. step_refused (ReadsEachPart (shape_of_type c.args.types.now c.args.below) (Tagged eoc c.args.id)) c.args.header c.args.decoder.now _ _ _ c.in-Ok.ensures.exact _ c.put_tagged.new.decoder (c.in-Err-put_tagged.ensures.itself (unmoved _ _ _ c.add_after.ensures n))
+
+pub decode_tagged_inside-returns-in-Err-close-clause-itself : goal.decode_tagged_inside-returns-in-Err-close-clause-itself
+decode_tagged_inside-returns-in-Err-close-clause-itself g t c =
+    let w = c.in-Ok-put_tagged.ensures.exact in
+    (λ n. step_unclosed (ReadsEachPart (shape_of_type c.args.types.now c.args.below) (Tagged eoc c.args.id)) c.args.header c.args.decoder.now _ _ _ c.in-Ok.ensures.exact w.0 _ w.2 _ c.remaining.ensures.value _ _ c.in-Err-close.ensures)
+
+pub decode_tagged_inside-returns-in-Ok-close-clause-listed : goal.decode_tagged_inside-returns-in-Ok-close-clause-listed
+decode_tagged_inside-returns-in-Ok-close-clause-listed g t c =
+    inside_listed (shape_of_type c.args.types.now c.args.below) c.args.below (Inside c.args.types.now c.args.below) (Tagged eoc c.args.id) c.args.header c.args.decoder.now _ _ _ _ _ _ _ _ c.in-Ok.ensures.exact c.go_inside-after.ensures c.in-Ok-put_tagged.ensures.listed c.go_outside.ensures
+
+-- ---- a value that holds others: record
+
+pub decode_record_inside-returns-in-Err-clause-exact :
+    goal.decode_record_inside-returns-in-Err-clause-exact
+decode_record_inside-returns-in-Err-clause-exact g t c =
+    (step_none _ c.args.header c.args.decoder.now _ _ c.in-Err.ensures.exact)
+
+pub decode_record_inside-returns-in-Err-put_record-clause-exact :
+    goal.decode_record_inside-returns-in-Err-put_record-clause-exact
+decode_record_inside-returns-in-Err-put_record-clause-exact g t c =
+    (step_refused _ c.args.header c.args.decoder.now _ _ _ c.in-Ok.ensures.exact _ _ c.in-Err-put_record.ensures.exact)
+
+pub decode_record_inside-returns-in-Err-close-clause-exact : goal.decode_record_inside-returns-in-Err-close-clause-exact
+decode_record_inside-returns-in-Err-close-clause-exact g t c =
+    let w = c.in-Ok-put_record.ensures.exact in
+    (step_unclosed _ c.args.header c.args.decoder.now _ _ _ c.in-Ok.ensures.exact w.0 _ w.2 _ c.remaining.ensures.value _ _ c.in-Err-close.ensures)
+
+pub decode_record_inside-close-requires : goal.decode_record_inside-close-requires
+decode_record_inside-close-requires g t c = λ x.
+    let w = c.in-Ok-put_record.ensures.exact in
+    step_end (DecodesContents (shape_of_type c.args.types.now c.args.below) (Sequence eoc c.args.components.now)) c.args.header c.args.decoder.now _ _ _ c.in-Ok.ensures.exact _ _
+    (contents_end (shape_of_type c.args.types.now c.args.below) (Sequence eoc c.args.components.now) _ w.0 _ w.2) c.remaining.ensures.value x
+
+pub decode_record_inside-returns-in-Ok-close-clause-exact : goal.decode_record_inside-returns-in-Ok-close-clause-exact
+decode_record_inside-returns-in-Ok-close-clause-exact g t c =
+    let w = c.in-Ok-put_record.ensures.exact in
+    (w.0, w.1, step_closed _ c.args.header c.args.decoder.now _ _ _ c.in-Ok.ensures.exact w.0 _ w.2 _ c.remaining.ensures.value _ c.in-Ok-close.ensures)
+
+pub decode_record_inside-returns-in-Err-clause-rules : goal.decode_record_inside-returns-in-Err-clause-rules
+decode_record_inside-returns-in-Err-clause-rules g t c = (codec_is c.in-Err.ensures.exact.2)
+
+pub decode_record_inside-returns-in-Err-put_record-clause-rules : goal.decode_record_inside-returns-in-Err-put_record-clause-rules
+decode_record_inside-returns-in-Err-put_record-clause-rules g t c = (c.in-Err-put_record.ensures.rules ∙ same_rules c.in-Ok.ensures.exact.2)
+
+pub decode_record_inside-returns-in-Err-close-clause-rules : goal.decode_record_inside-returns-in-Err-close-clause-rules
+decode_record_inside-returns-in-Err-close-clause-rules g t c = (codec_is c.in-Err-close.ensures.2 ∙ same_rules c.in-Ok.ensures.exact.5.stays)
+
+pub decode_record_inside-add_after-requires : goal.decode_record_inside-add_after-requires
+decode_record_inside-add_after-requires g t c =
+    λ f q.
+    let n = opened_short c.args.types.now c.args.header c.args.decoder.now c.in-Ok.ensures.octets _ _ _ c.in-Ok.ensures.exact c.args.below _ _ f c.put_record.new.decoder.closing c.octets_after.result
+    (ap (λ (s : State). s.closing) (contents_stay (shape_of_type c.args.types.now c.args.below) (Sequence eoc c.args.components.now) _ c.put_record.new.walk.error _ c.in-Err-put_record.ensures.exact)) c.octets_after.ensures (c.in-Err-put_record.ensures.told f q) in
+    omega (arith, n, c.octets_left.ensures, c.octets_left.type_inv)
+
+pub decode_record_inside-returns-in-Err-put_record-clause-told : goal.decode_record_inside-returns-in-Err-put_record-clause-told
+decode_record_inside-returns-in-Err-put_record-clause-told g t c =
+    opened c.args.types.now c.args.header c.args.decoder.now c.in-Ok.ensures.octets _ _ _ c.in-Ok.ensures.exact c.args.below (Sequence eoc c.args.components.now) _ c.put_record.new.decoder.closing c.octets_after.result
+    (ap (λ (s : State). s.closing) (contents_stay (shape_of_type c.args.types.now c.args.below) (Sequence eoc c.args.components.now) _ c.put_record.new.walk.error _ c.in-Err-put_record.ensures.exact)) c.octets_after.ensures _ _ c.in-Err-put_record.ensures.told c.add_after.ensures
+
+pub decode_record_inside-returns-in-Err-clause-itself : goal.decode_record_inside-returns-in-Err-clause-itself
+decode_record_inside-returns-in-Err-clause-itself g t c =
+    (λ n. step_none (ReadsEachPart (shape_of_type c.args.types.now c.args.below) (Sequence eoc c.args.components.now)) c.args.header c.args.decoder.now _ _ c.in-Err.ensures.exact)
+
+pub decode_record_inside-returns-in-Err-put_record-clause-itself : goal.decode_record_inside-returns-in-Err-put_record-clause-itself
+decode_record_inside-returns-in-Err-put_record-clause-itself g t c =
+    λ n. step_refused (ReadsEachPart (shape_of_type c.args.types.now c.args.below) (Sequence eoc c.args.components.now)) c.args.header c.args.decoder.now _ _ _ c.in-Ok.ensures.exact _ c.put_record.new.decoder (c.in-Err-put_record.ensures.itself (unmoved _ _ _ c.add_after.ensures n))
+
+pub decode_record_inside-returns-in-Err-close-clause-itself : goal.decode_record_inside-returns-in-Err-close-clause-itself
+decode_record_inside-returns-in-Err-close-clause-itself g t c =
+    let w = c.in-Ok-put_record.ensures.exact in
+    (λ n. step_unclosed (ReadsEachPart (shape_of_type c.args.types.now c.args.below) (Sequence eoc c.args.components.now)) c.args.header c.args.decoder.now _ _ _ c.in-Ok.ensures.exact w.0 _ w.2 _ c.remaining.ensures.value _ _ c.in-Err-close.ensures)
+
+pub decode_record_inside-returns-in-Ok-close-clause-listed : goal.decode_record_inside-returns-in-Ok-close-clause-listed
+decode_record_inside-returns-in-Ok-close-clause-listed g t c =
+    inside_listed (shape_of_type c.args.types.now c.args.below) c.args.below (Inside c.args.types.now c.args.below) (Sequence eoc c.args.components.now) c.args.header c.args.decoder.now _ _ _ _ _ _ _ _ c.in-Ok.ensures.exact c.go_inside-after.ensures c.in-Ok-put_record.ensures.listed c.go_outside.ensures
+
+-- ---- a value that holds others: members
+
+pub decode_members_inside-returns-in-Err-clause-exact :
+    goal.decode_members_inside-returns-in-Err-clause-exact
+decode_members_inside-returns-in-Err-clause-exact g t c =
+    (step_none _ c.args.header c.args.decoder.now _ _ c.in-Err.ensures.exact)
+
+pub decode_members_inside-returns-in-Err-put_members-clause-exact :
+    goal.decode_members_inside-returns-in-Err-put_members-clause-exact
+decode_members_inside-returns-in-Err-put_members-clause-exact g t c =
+    (step_refused _ c.args.header c.args.decoder.now _ _ _ c.in-Ok.ensures.exact _ _ c.in-Err-put_members.ensures.exact)
+
+pub decode_members_inside-returns-in-Err-close-clause-exact : goal.decode_members_inside-returns-in-Err-close-clause-exact
+decode_members_inside-returns-in-Err-close-clause-exact g t c =
+    let w = c.in-Ok-put_members.ensures.exact in
+    (step_unclosed _ c.args.header c.args.decoder.now _ _ _ c.in-Ok.ensures.exact w.0 _ w.2 _ c.remaining.ensures.value _ _ c.in-Err-close.ensures)
+
+pub decode_members_inside-close-requires : goal.decode_members_inside-close-requires
+decode_members_inside-close-requires g t c = λ x.
+    let w = c.in-Ok-put_members.ensures.exact in
+    step_end (DecodesContents (shape_of_type c.args.types.now c.args.below) (Set c.args.name.now eoc c.args.components.now)) c.args.header c.args.decoder.now _ _ _ c.in-Ok.ensures.exact _ _
+    (contents_end (shape_of_type c.args.types.now c.args.below) (Set c.args.name.now eoc c.args.components.now) _ w.0 _ w.2) c.remaining.ensures.value x
+
+pub decode_members_inside-returns-in-Ok-close-clause-exact : goal.decode_members_inside-returns-in-Ok-close-clause-exact
+decode_members_inside-returns-in-Ok-close-clause-exact g t c =
+    let w = c.in-Ok-put_members.ensures.exact in
+    (w.0, w.1, step_closed _ c.args.header c.args.decoder.now _ _ _ c.in-Ok.ensures.exact w.0 _ w.2 _ c.remaining.ensures.value _ c.in-Ok-close.ensures)
+
+pub decode_members_inside-returns-in-Err-clause-rules : goal.decode_members_inside-returns-in-Err-clause-rules
+decode_members_inside-returns-in-Err-clause-rules g t c = (codec_is c.in-Err.ensures.exact.2)
+
+pub decode_members_inside-returns-in-Err-put_members-clause-rules : goal.decode_members_inside-returns-in-Err-put_members-clause-rules
+decode_members_inside-returns-in-Err-put_members-clause-rules g t c = (c.in-Err-put_members.ensures.rules ∙ same_rules c.in-Ok.ensures.exact.2)
+
+pub decode_members_inside-returns-in-Err-close-clause-rules : goal.decode_members_inside-returns-in-Err-close-clause-rules
+decode_members_inside-returns-in-Err-close-clause-rules g t c = (codec_is c.in-Err-close.ensures.2 ∙ same_rules c.in-Ok.ensures.exact.5.stays)
+
+pub decode_members_inside-add_after-requires : goal.decode_members_inside-add_after-requires
+decode_members_inside-add_after-requires g t c =
+    λ f q.
+    let n = opened_short c.args.types.now c.args.header c.args.decoder.now c.in-Ok.ensures.octets _ _ _ c.in-Ok.ensures.exact c.args.below _ _ f c.put_members.new.decoder.closing c.octets_after.result
+    (ap (λ (s : State). s.closing) (contents_stay (shape_of_type c.args.types.now c.args.below) (Set c.args.name.now eoc c.args.components.now) _ c.put_members.new.walk.error _ c.in-Err-put_members.ensures.exact)) c.octets_after.ensures (c.in-Err-put_members.ensures.told f q) in
+    omega (arith, n, c.octets_left.ensures, c.octets_left.type_inv)
+
+pub decode_members_inside-returns-in-Err-put_members-clause-told : goal.decode_members_inside-returns-in-Err-put_members-clause-told
+decode_members_inside-returns-in-Err-put_members-clause-told g t c =
+    opened c.args.types.now c.args.header c.args.decoder.now c.in-Ok.ensures.octets _ _ _ c.in-Ok.ensures.exact c.args.below (Set c.args.name.now eoc c.args.components.now) _ c.put_members.new.decoder.closing c.octets_after.result
+    (ap (λ (s : State). s.closing) (contents_stay (shape_of_type c.args.types.now c.args.below) (Set c.args.name.now eoc c.args.components.now) _ c.put_members.new.walk.error _ c.in-Err-put_members.ensures.exact)) c.octets_after.ensures _ _ c.in-Err-put_members.ensures.told c.add_after.ensures
+
+pub decode_members_inside-returns-in-Err-clause-itself : goal.decode_members_inside-returns-in-Err-clause-itself
+decode_members_inside-returns-in-Err-clause-itself g t c =
+    (λ n. step_none (ReadsEachPart (shape_of_type c.args.types.now c.args.below) (Set c.args.name.now eoc c.args.components.now)) c.args.header c.args.decoder.now _ _ c.in-Err.ensures.exact)
+
+pub decode_members_inside-returns-in-Err-put_members-clause-itself : goal.decode_members_inside-returns-in-Err-put_members-clause-itself
+decode_members_inside-returns-in-Err-put_members-clause-itself g t c =
+    λ n. step_refused (ReadsEachPart (shape_of_type c.args.types.now c.args.below) (Set c.args.name.now eoc c.args.components.now)) c.args.header c.args.decoder.now _ _ _ c.in-Ok.ensures.exact _ c.put_members.new.decoder (c.in-Err-put_members.ensures.itself (unmoved _ _ _ c.add_after.ensures n))
+
+pub decode_members_inside-returns-in-Err-close-clause-itself : goal.decode_members_inside-returns-in-Err-close-clause-itself
+decode_members_inside-returns-in-Err-close-clause-itself g t c =
+    let w = c.in-Ok-put_members.ensures.exact in
+    (λ n. step_unclosed (ReadsEachPart (shape_of_type c.args.types.now c.args.below) (Set c.args.name.now eoc c.args.components.now)) c.args.header c.args.decoder.now _ _ _ c.in-Ok.ensures.exact w.0 _ w.2 _ c.remaining.ensures.value _ _ c.in-Err-close.ensures)
+
+pub decode_members_inside-returns-in-Ok-close-clause-listed : goal.decode_members_inside-returns-in-Ok-close-clause-listed
+decode_members_inside-returns-in-Ok-close-clause-listed g t c =
+    inside_listed (shape_of_type c.args.types.now c.args.below) c.args.below (Inside c.args.types.now c.args.below) (Set c.args.name.now eoc c.args.components.now) c.args.header c.args.decoder.now _ _ _ _ _ _ _ _ c.in-Ok.ensures.exact c.go_inside-after.ensures c.in-Ok-put_members.ensures.listed c.go_outside.ensures
+
+-- ---- a value that holds others: list
+
+pub decode_list_inside-returns-in-Err-clause-exact :
+    goal.decode_list_inside-returns-in-Err-clause-exact
+decode_list_inside-returns-in-Err-clause-exact g t c =
+    (step_none _ c.args.header c.args.decoder.now _ _ c.in-Err.ensures.exact)
+
+pub decode_list_inside-returns-in-Err-put_elements-clause-exact :
+    goal.decode_list_inside-returns-in-Err-put_elements-clause-exact
+decode_list_inside-returns-in-Err-put_elements-clause-exact g t c =
+    (step_refused _ c.args.header c.args.decoder.now _ _ _ c.in-Ok.ensures.exact _ _ c.in-Err-put_elements.ensures.exact)
+
+pub decode_list_inside-returns-in-Err-close-clause-exact : goal.decode_list_inside-returns-in-Err-close-clause-exact
+decode_list_inside-returns-in-Err-close-clause-exact g t c =
+    let w = c.in-Ok-put_elements.ensures.exact in
+    (step_unclosed _ c.args.header c.args.decoder.now _ _ _ c.in-Ok.ensures.exact w.0 _ w.3 _ c.remaining.ensures.value _ _ c.in-Err-close.ensures)
+
+pub decode_list_inside-close-requires : goal.decode_list_inside-close-requires
+decode_list_inside-close-requires g t c = λ x.
+    let w = c.in-Ok-put_elements.ensures.exact in
+    step_end (DecodesContents (shape_of_type c.args.types.now c.args.below) (SequenceOf eoc c.args.element unconstrained)) c.args.header c.args.decoder.now _ _ _ c.in-Ok.ensures.exact _ _
+    (contents_end (shape_of_type c.args.types.now c.args.below) (SequenceOf eoc c.args.element unconstrained) _ w.0 _ w.3) c.remaining.ensures.value x
+
+pub decode_list_inside-returns-in-Ok-close-clause-exact : goal.decode_list_inside-returns-in-Ok-close-clause-exact
+decode_list_inside-returns-in-Ok-close-clause-exact g t c =
+    let w = c.in-Ok-put_elements.ensures.exact in
+    (w.0, w.1, w.2, step_closed _ c.args.header c.args.decoder.now _ _ _ c.in-Ok.ensures.exact w.0 _ w.3 _ c.remaining.ensures.value _ c.in-Ok-close.ensures)
+
+pub decode_list_inside-returns-in-Err-clause-rules : goal.decode_list_inside-returns-in-Err-clause-rules
+decode_list_inside-returns-in-Err-clause-rules g t c = (codec_is c.in-Err.ensures.exact.2)
+
+pub decode_list_inside-returns-in-Err-put_elements-clause-rules : goal.decode_list_inside-returns-in-Err-put_elements-clause-rules
+decode_list_inside-returns-in-Err-put_elements-clause-rules g t c = (c.in-Err-put_elements.ensures.rules ∙ same_rules c.in-Ok.ensures.exact.2)
+
+pub decode_list_inside-returns-in-Err-close-clause-rules : goal.decode_list_inside-returns-in-Err-close-clause-rules
+decode_list_inside-returns-in-Err-close-clause-rules g t c = (codec_is c.in-Err-close.ensures.2 ∙ same_rules c.in-Ok.ensures.exact.5.stays)
+
+pub decode_list_inside-add_after-requires : goal.decode_list_inside-add_after-requires
+decode_list_inside-add_after-requires g t c =
+    λ f q.
+    let n = opened_short c.args.types.now c.args.header c.args.decoder.now c.in-Ok.ensures.octets _ _ _ c.in-Ok.ensures.exact c.args.below _ _ f c.put_elements.new.decoder.closing c.octets_after.result
+    (ap (λ (s : State). s.closing) (contents_stay (shape_of_type c.args.types.now c.args.below) (SequenceOf eoc c.args.element unconstrained) _ c.put_elements.new.walk.error _ c.in-Err-put_elements.ensures.exact)) c.octets_after.ensures (c.in-Err-put_elements.ensures.told f q) in
+    omega (arith, n, c.octets_left.ensures, c.octets_left.type_inv)
+
+pub decode_list_inside-returns-in-Err-put_elements-clause-told : goal.decode_list_inside-returns-in-Err-put_elements-clause-told
+decode_list_inside-returns-in-Err-put_elements-clause-told g t c =
+    opened c.args.types.now c.args.header c.args.decoder.now c.in-Ok.ensures.octets _ _ _ c.in-Ok.ensures.exact c.args.below (SequenceOf eoc c.args.element unconstrained) _ c.put_elements.new.decoder.closing c.octets_after.result
+    (ap (λ (s : State). s.closing) (contents_stay (shape_of_type c.args.types.now c.args.below) (SequenceOf eoc c.args.element unconstrained) _ c.put_elements.new.walk.error _ c.in-Err-put_elements.ensures.exact)) c.octets_after.ensures _ _ c.in-Err-put_elements.ensures.told c.add_after.ensures
+
+pub decode_list_inside-returns-in-Err-clause-itself : goal.decode_list_inside-returns-in-Err-clause-itself
+decode_list_inside-returns-in-Err-clause-itself g t c =
+    (λ n. step_none (ReadsEachPart (shape_of_type c.args.types.now c.args.below) (SequenceOf eoc c.args.element unconstrained)) c.args.header c.args.decoder.now _ _ c.in-Err.ensures.exact)
+
+pub decode_list_inside-returns-in-Err-put_elements-clause-itself : goal.decode_list_inside-returns-in-Err-put_elements-clause-itself
+decode_list_inside-returns-in-Err-put_elements-clause-itself g t c =
+    λ n. step_refused (ReadsEachPart (shape_of_type c.args.types.now c.args.below) (SequenceOf eoc c.args.element unconstrained)) c.args.header c.args.decoder.now _ _ _ c.in-Ok.ensures.exact _ c.put_elements.new.decoder (c.in-Err-put_elements.ensures.itself (unmoved _ _ _ c.add_after.ensures n))
+
+pub decode_list_inside-returns-in-Err-close-clause-itself : goal.decode_list_inside-returns-in-Err-close-clause-itself
+decode_list_inside-returns-in-Err-close-clause-itself g t c =
+    let w = c.in-Ok-put_elements.ensures.exact in
+    (λ n. step_unclosed (ReadsEachPart (shape_of_type c.args.types.now c.args.below) (SequenceOf eoc c.args.element unconstrained)) c.args.header c.args.decoder.now _ _ _ c.in-Ok.ensures.exact w.0 _ w.3 _ c.remaining.ensures.value _ _ c.in-Err-close.ensures)
+
+pub decode_list_inside-returns-in-Ok-close-clause-listed : goal.decode_list_inside-returns-in-Ok-close-clause-listed
+decode_list_inside-returns-in-Ok-close-clause-listed g t c =
+    inside_listed (shape_of_type c.args.types.now c.args.below) c.args.below (Inside c.args.types.now c.args.below) (SequenceOf eoc c.args.element unconstrained) c.args.header c.args.decoder.now _ _ _ _ _ _ _ _ c.in-Ok.ensures.exact c.go_inside-after.ensures c.in-Ok-put_elements.ensures.listed c.go_outside.ensures
+
+-- ---- a value that holds others: set_of
+
+pub decode_set_of_inside-returns-in-Err-clause-exact :
+    goal.decode_set_of_inside-returns-in-Err-clause-exact
+decode_set_of_inside-returns-in-Err-clause-exact g t c =
+    (step_none _ c.args.header c.args.decoder.now _ _ c.in-Err.ensures.exact)
+
+pub decode_set_of_inside-returns-in-Err-put_elements_in_order-clause-exact :
+    goal.decode_set_of_inside-returns-in-Err-put_elements_in_order-clause-exact
+decode_set_of_inside-returns-in-Err-put_elements_in_order-clause-exact g t c =
+    (step_refused _ c.args.header c.args.decoder.now _ _ _ c.in-Ok.ensures.exact _ _ c.in-Err-put_elements_in_order.ensures.exact)
+
+pub decode_set_of_inside-returns-in-Err-close-clause-exact : goal.decode_set_of_inside-returns-in-Err-close-clause-exact
+decode_set_of_inside-returns-in-Err-close-clause-exact g t c =
+    let w = c.in-Ok-put_elements_in_order.ensures.exact in
+    (step_unclosed _ c.args.header c.args.decoder.now _ _ _ c.in-Ok.ensures.exact w.0 _ w.3 _ c.remaining.ensures.value _ _ c.in-Err-close.ensures)
+
+pub decode_set_of_inside-close-requires : goal.decode_set_of_inside-close-requires
+decode_set_of_inside-close-requires g t c = λ x.
+    let w = c.in-Ok-put_elements_in_order.ensures.exact in
+    step_end (DecodesContents (shape_of_type c.args.types.now c.args.below) (SetOf eoc c.args.element unconstrained)) c.args.header c.args.decoder.now _ _ _ c.in-Ok.ensures.exact _ _
+    (contents_end (shape_of_type c.args.types.now c.args.below) (SetOf eoc c.args.element unconstrained) _ w.0 _ w.3) c.remaining.ensures.value x
+
+pub decode_set_of_inside-returns-in-Ok-close-clause-exact : goal.decode_set_of_inside-returns-in-Ok-close-clause-exact
+decode_set_of_inside-returns-in-Ok-close-clause-exact g t c =
+    let w = c.in-Ok-put_elements_in_order.ensures.exact in
+    (w.0, w.1, w.2, step_closed _ c.args.header c.args.decoder.now _ _ _ c.in-Ok.ensures.exact w.0 _ w.3 _ c.remaining.ensures.value _ c.in-Ok-close.ensures)
+
+pub decode_set_of_inside-returns-in-Err-clause-rules : goal.decode_set_of_inside-returns-in-Err-clause-rules
+decode_set_of_inside-returns-in-Err-clause-rules g t c = (codec_is c.in-Err.ensures.exact.2)
+
+pub decode_set_of_inside-returns-in-Err-put_elements_in_order-clause-rules : goal.decode_set_of_inside-returns-in-Err-put_elements_in_order-clause-rules
+decode_set_of_inside-returns-in-Err-put_elements_in_order-clause-rules g t c = (c.in-Err-put_elements_in_order.ensures.rules ∙ same_rules c.in-Ok.ensures.exact.2)
+
+pub decode_set_of_inside-returns-in-Err-close-clause-rules : goal.decode_set_of_inside-returns-in-Err-close-clause-rules
+decode_set_of_inside-returns-in-Err-close-clause-rules g t c = (codec_is c.in-Err-close.ensures.2 ∙ same_rules c.in-Ok.ensures.exact.5.stays)
+
+pub decode_set_of_inside-add_after-requires : goal.decode_set_of_inside-add_after-requires
+decode_set_of_inside-add_after-requires g t c =
+    λ f q.
+    let n = opened_short c.args.types.now c.args.header c.args.decoder.now c.in-Ok.ensures.octets _ _ _ c.in-Ok.ensures.exact c.args.below _ _ f c.put_elements_in_order.new.decoder.closing c.octets_after.result
+    (ap (λ (s : State). s.closing) (contents_stay (shape_of_type c.args.types.now c.args.below) (SetOf eoc c.args.element unconstrained) _ c.put_elements_in_order.new.walk.error _ c.in-Err-put_elements_in_order.ensures.exact)) c.octets_after.ensures (c.in-Err-put_elements_in_order.ensures.told f q) in
+    omega (arith, n, c.octets_left.ensures, c.octets_left.type_inv)
+
+pub decode_set_of_inside-returns-in-Err-put_elements_in_order-clause-told : goal.decode_set_of_inside-returns-in-Err-put_elements_in_order-clause-told
+decode_set_of_inside-returns-in-Err-put_elements_in_order-clause-told g t c =
+    opened c.args.types.now c.args.header c.args.decoder.now c.in-Ok.ensures.octets _ _ _ c.in-Ok.ensures.exact c.args.below (SetOf eoc c.args.element unconstrained) _ c.put_elements_in_order.new.decoder.closing c.octets_after.result
+    (ap (λ (s : State). s.closing) (contents_stay (shape_of_type c.args.types.now c.args.below) (SetOf eoc c.args.element unconstrained) _ c.put_elements_in_order.new.walk.error _ c.in-Err-put_elements_in_order.ensures.exact)) c.octets_after.ensures _ _ c.in-Err-put_elements_in_order.ensures.told c.add_after.ensures
+
+pub decode_set_of_inside-returns-in-Err-clause-itself : goal.decode_set_of_inside-returns-in-Err-clause-itself
+decode_set_of_inside-returns-in-Err-clause-itself g t c =
+    (λ n. step_none (ReadsEachPart (shape_of_type c.args.types.now c.args.below) (SetOf eoc c.args.element unconstrained)) c.args.header c.args.decoder.now _ _ c.in-Err.ensures.exact)
+
+pub decode_set_of_inside-returns-in-Err-put_elements_in_order-clause-itself : goal.decode_set_of_inside-returns-in-Err-put_elements_in_order-clause-itself
+decode_set_of_inside-returns-in-Err-put_elements_in_order-clause-itself g t c =
+    λ n. step_refused (ReadsEachPart (shape_of_type c.args.types.now c.args.below) (SetOf eoc c.args.element unconstrained)) c.args.header c.args.decoder.now _ _ _ c.in-Ok.ensures.exact _ c.put_elements_in_order.new.decoder (c.in-Err-put_elements_in_order.ensures.itself (unmoved _ _ _ c.add_after.ensures n))
+
+pub decode_set_of_inside-returns-in-Err-close-clause-itself : goal.decode_set_of_inside-returns-in-Err-close-clause-itself
+decode_set_of_inside-returns-in-Err-close-clause-itself g t c =
+    let w = c.in-Ok-put_elements_in_order.ensures.exact in
+    (λ n. step_unclosed (ReadsEachPart (shape_of_type c.args.types.now c.args.below) (SetOf eoc c.args.element unconstrained)) c.args.header c.args.decoder.now _ _ _ c.in-Ok.ensures.exact w.0 _ w.3 _ c.remaining.ensures.value _ _ c.in-Err-close.ensures)
+
+pub decode_set_of_inside-returns-in-Ok-close-clause-listed : goal.decode_set_of_inside-returns-in-Ok-close-clause-listed
+decode_set_of_inside-returns-in-Ok-close-clause-listed g t c =
+    inside_listed (shape_of_type c.args.types.now c.args.below) c.args.below (Inside c.args.types.now c.args.below) (SetOf eoc c.args.element unconstrained) c.args.header c.args.decoder.now _ _ _ _ _ _ _ _ c.in-Ok.ensures.exact c.go_inside-after.ensures c.in-Ok-put_elements_in_order.ensures.listed c.go_outside.ensures
+
+-- ---- and the number of elements: decode_list
+
+pub decode_list-returns-in_err-decode_list_inside-clause-exact : goal.decode_list-returns-in_err-decode_list_inside-clause-exact
+decode_list-returns-in_err-decode_list_inside-clause-exact g t c = rw (residual _ c.from_residual.ensures.1) (not_sized (DecodesContents (shape_of_type c.args.types.now c.args.below) (SequenceOf eoc c.args.element unconstrained)) c.args.tag c.args.constraints.now c.list.result c.list.ensures c.args.decoder.now _ _ c.in_err-decode_list_inside.ensures.exact)
+
+pub decode_list-returns-clause-exact : goal.decode_list-returns-clause-exact
+decode_list-returns-clause-exact g t c =
+    let w = c.in_ok-decode_list_inside.ensures.exact in
+    (w.0, w.1, is_sized (DecodesContents (shape_of_type c.args.types.now c.args.below) (SequenceOf eoc c.args.element unconstrained)) c.args.tag c.args.constraints.now c.list.result c.list.ensures c.args.decoder.now _ w.0 w.3 _ (is_counted (SequenceOf eoc c.args.element unconstrained) _ w.0 tt w.2) c.in_ok-check_size.ensures.sized)
+
+pub decode_list-returns-in_err-check_size-clause-itself : goal.decode_list-returns-in_err-check_size-clause-itself
+decode_list-returns-in_err-check_size-clause-itself g t c =
+    let w = c.in_ok-decode_list_inside.ensures.exact in
+    rw (residual _ c.from_residual-in_err-check_size.ensures.1)
+    (λ n. missized (ReadsEachPart (shape_of_type c.args.types.now c.args.below) (SequenceOf eoc c.args.element unconstrained)) c.args.tag c.args.constraints.now c.list.result c.list.ensures c.args.decoder.now _ w.0
+    (got_inside (DecodesContents (shape_of_type c.args.types.now c.args.below) (SequenceOf eoc c.args.element unconstrained)) (ReadsEachPart (shape_of_type c.args.types.now c.args.below) (SequenceOf eoc c.args.element unconstrained)) (λ o v n h. h) c.list.result c.args.decoder.now w.0 _ w.3) _ (is_counted (SequenceOf eoc c.args.element unconstrained) _ w.0 tt w.2) _ c.in_err-check_size.ensures.sized)
+
+pub decode_list-returns-in_err-check_size-clause-told : goal.decode_list-returns-in_err-check_size-clause-told
+decode_list-returns-in_err-check_size-clause-told g t c =
+    rw (residual _ c.from_residual-in_err-check_size.ensures.1)
+    (unnamed {T = Value} (IsFaultInside c.args.types.now c.args.below (list_header c.args.tag) (SequenceOf eoc c.args.element unconstrained) c.args.decoder.now) (Err c.check_size.new.error) _ c.in_ok-decode_list_inside.ensures.told)
+
+pub decode_list-returns-in_err-check_size-clause-rules : goal.decode_list-returns-in_err-check_size-clause-rules
+decode_list-returns-in_err-check_size-clause-rules g t c = rw (residual _ c.from_residual-in_err-check_size.ensures.1) (c.in_err-check_size.ensures.rules ∙ same_rules c.in_ok-decode_list_inside.ensures.exact.3.0.stays)
+
+pub decode_list-returns-in_err-check_size-clause-exact : goal.decode_list-returns-in_err-check_size-clause-exact
+decode_list-returns-in_err-check_size-clause-exact g t c =
+    let w = c.in_ok-decode_list_inside.ensures.exact in
+    rw (residual _ c.from_residual-in_err-check_size.ensures.1)
+    (missized (DecodesContents (shape_of_type c.args.types.now c.args.below) (SequenceOf eoc c.args.element unconstrained)) c.args.tag c.args.constraints.now c.list.result c.list.ensures c.args.decoder.now _ w.0 w.3 _ (is_counted (SequenceOf eoc c.args.element unconstrained) _ w.0 tt w.2) _ c.in_err-check_size.ensures.sized)
+
+pub decode_list-returns-clause-fits : goal.decode_list-returns-clause-fits
+decode_list-returns-clause-fits g t c = c.in_ok-decode_list_inside.ensures.fits
+
+pub decode_list-returns-in_err-decode_list_inside-clause-itself : goal.decode_list-returns-in_err-decode_list_inside-clause-itself
+decode_list-returns-in_err-decode_list_inside-clause-itself g t c =
+    rw (residual _ c.from_residual.ensures.1) (λ n. not_sized (ReadsEachPart (shape_of_type c.args.types.now c.args.below) (SequenceOf eoc c.args.element unconstrained)) c.args.tag c.args.constraints.now c.list.result c.list.ensures c.args.decoder.now _ _ (c.in_err-decode_list_inside.ensures.itself n))
+
+pub decode_list-returns-clause-listed : goal.decode_list-returns-clause-listed
+decode_list-returns-clause-listed g t c =
+    header_listed (shape_of_type c.args.types.now c.args.below) c.args.below (Inside c.args.types.now c.args.below) c.list.result (list_header c.args.tag) (SequenceOf eoc c.args.element unconstrained) c.args.decoder.now _ _ c.list.ensures c.in_ok-decode_list_inside.ensures.listed
+
+pub decode_list-decode_list_inside-requires : goal.decode_list-decode_list_inside-requires
+decode_list-decode_list_inside-requires g t c = λ κs o. (search rules, (search rules, (c.requires.lawful, (refl, c.requires.clear))))
+
+-- ---- and the number of elements: decode_set_of
+
+pub decode_set_of-returns-in_err-decode_set_of_inside-clause-exact : goal.decode_set_of-returns-in_err-decode_set_of_inside-clause-exact
+decode_set_of-returns-in_err-decode_set_of_inside-clause-exact g t c = rw (residual _ c.from_residual.ensures.1) (not_sized (DecodesContents (shape_of_type c.args.types.now c.args.below) (SetOf eoc c.args.element unconstrained)) c.args.tag c.args.constraints.now c.list.result c.list.ensures c.args.decoder.now _ _ c.in_err-decode_set_of_inside.ensures.exact)
+
+pub decode_set_of-returns-clause-exact : goal.decode_set_of-returns-clause-exact
+decode_set_of-returns-clause-exact g t c =
+    let w = c.in_ok-decode_set_of_inside.ensures.exact in
+    (w.0, w.1, is_sized (DecodesContents (shape_of_type c.args.types.now c.args.below) (SetOf eoc c.args.element unconstrained)) c.args.tag c.args.constraints.now c.list.result c.list.ensures c.args.decoder.now _ w.0 w.3 _ (is_counted (SetOf eoc c.args.element unconstrained) _ w.0 tt w.2) c.in_ok-check_size.ensures.sized)
+
+pub decode_set_of-returns-in_err-check_size-clause-itself : goal.decode_set_of-returns-in_err-check_size-clause-itself
+decode_set_of-returns-in_err-check_size-clause-itself g t c =
+    let w = c.in_ok-decode_set_of_inside.ensures.exact in
+    rw (residual _ c.from_residual-in_err-check_size.ensures.1)
+    (λ n. missized (ReadsEachPart (shape_of_type c.args.types.now c.args.below) (SetOf eoc c.args.element unconstrained)) c.args.tag c.args.constraints.now c.list.result c.list.ensures c.args.decoder.now _ w.0
+    (got_inside (DecodesContents (shape_of_type c.args.types.now c.args.below) (SetOf eoc c.args.element unconstrained)) (ReadsEachPart (shape_of_type c.args.types.now c.args.below) (SetOf eoc c.args.element unconstrained)) (λ o v n h. h) c.list.result c.args.decoder.now w.0 _ w.3) _ (is_counted (SetOf eoc c.args.element unconstrained) _ w.0 tt w.2) _ c.in_err-check_size.ensures.sized)
+
+pub decode_set_of-returns-in_err-check_size-clause-told : goal.decode_set_of-returns-in_err-check_size-clause-told
+decode_set_of-returns-in_err-check_size-clause-told g t c =
+    rw (residual _ c.from_residual-in_err-check_size.ensures.1)
+    (unnamed {T = Value} (IsFaultInside c.args.types.now c.args.below (list_header c.args.tag) (SetOf eoc c.args.element unconstrained) c.args.decoder.now) (Err c.check_size.new.error) _ c.in_ok-decode_set_of_inside.ensures.told)
+
+pub decode_set_of-returns-in_err-check_size-clause-rules : goal.decode_set_of-returns-in_err-check_size-clause-rules
+decode_set_of-returns-in_err-check_size-clause-rules g t c = rw (residual _ c.from_residual-in_err-check_size.ensures.1) (c.in_err-check_size.ensures.rules ∙ same_rules c.in_ok-decode_set_of_inside.ensures.exact.3.0.stays)
+
+pub decode_set_of-returns-in_err-check_size-clause-exact : goal.decode_set_of-returns-in_err-check_size-clause-exact
+decode_set_of-returns-in_err-check_size-clause-exact g t c =
+    let w = c.in_ok-decode_set_of_inside.ensures.exact in
+    rw (residual _ c.from_residual-in_err-check_size.ensures.1)
+    (missized (DecodesContents (shape_of_type c.args.types.now c.args.below) (SetOf eoc c.args.element unconstrained)) c.args.tag c.args.constraints.now c.list.result c.list.ensures c.args.decoder.now _ w.0 w.3 _ (is_counted (SetOf eoc c.args.element unconstrained) _ w.0 tt w.2) _ c.in_err-check_size.ensures.sized)
+
+pub decode_set_of-returns-clause-fits : goal.decode_set_of-returns-clause-fits
+decode_set_of-returns-clause-fits g t c = c.in_ok-decode_set_of_inside.ensures.fits
+
+pub decode_set_of-returns-in_err-decode_set_of_inside-clause-itself : goal.decode_set_of-returns-in_err-decode_set_of_inside-clause-itself
+decode_set_of-returns-in_err-decode_set_of_inside-clause-itself g t c =
+    rw (residual _ c.from_residual.ensures.1) (λ n. not_sized (ReadsEachPart (shape_of_type c.args.types.now c.args.below) (SetOf eoc c.args.element unconstrained)) c.args.tag c.args.constraints.now c.list.result c.list.ensures c.args.decoder.now _ _ (c.in_err-decode_set_of_inside.ensures.itself n))
+
+pub decode_set_of-returns-clause-listed : goal.decode_set_of-returns-clause-listed
+decode_set_of-returns-clause-listed g t c =
+    header_listed (shape_of_type c.args.types.now c.args.below) c.args.below (Inside c.args.types.now c.args.below) c.list.result (list_header c.args.tag) (SetOf eoc c.args.element unconstrained) c.args.decoder.now _ _ c.list.ensures c.in_ok-decode_set_of_inside.ensures.listed
+
+pub decode_set_of-decode_set_of_inside-requires : goal.decode_set_of-decode_set_of_inside-requires
+decode_set_of-decode_set_of_inside-requires g t c = λ κs o. (search rules, (search rules, (c.requires.lawful, (refl, c.requires.clear))))
+
+-- ---- contents of each kind
+
+pub put_tagged-returns-clause-exact : goal.put_tagged-returns-clause-exact
+put_tagged-returns-clause-exact g t c = c.decode_part.ensures.reads
+
+pub put_tagged-returns-clause-fits : goal.put_tagged-returns-clause-fits
+put_tagged-returns-clause-fits g t c = c.decode_part.ensures.fits
+
+pub put_tagged-returns-clause-told : goal.put_tagged-returns-clause-told
+put_tagged-returns-clause-told g t c = tells _ _ (λ k f i. i) _ _ c.decode_part.ensures.told
+
+pub put_tagged-returns-clause-itself : goal.put_tagged-returns-clause-itself
+put_tagged-returns-clause-itself g t c = named _ _ _ _ c.decode_part.ensures.told
+
+pub put_tagged-returns-clause-listed : goal.put_tagged-returns-clause-listed
+put_tagged-returns-clause-listed g t c = if_ok _ _ _ (λ v. tagged_listed (shape_of_type c.args.types.now c.args.below) c.args.below (Inside c.args.types.now c.args.below) (Tagged eoc c.args.id) c.args.id.0 c.args.decoder.now _ _ _ refl) c.decode_part.ensures.listed
+
+pub put_record-put_sequence-requires : goal.put_record-put_sequence-requires
+put_record-put_sequence-requires g t c = λ κs o. (search rules, (search rules, (rw c.deref.ensures.value c.requires.lawful, c.requires.clear)))
+
+pub put_record-returns-clause-exact : goal.put_record-returns-clause-exact
+put_record-returns-clause-exact g t c = subst (λ l. Making g.M.Made.KEEP tree_of (Makes items (DecodesComponents (components_by (shape_of_type c.args.types.now c.args.below) l))) c.args.decoder.now (outcome c.put_sequence.result c.put_sequence.new.out c.put_sequence.new.walk.error) c.put_sequence.new.decoder) c.deref.ensures.value c.put_sequence.ensures.exact
+
+pub put_record-returns-clause-fits : goal.put_record-returns-clause-fits
+put_record-returns-clause-fits g t c = λ k. subst (λ l. IfOk (outcome c.put_sequence.result c.put_sequence.new.out c.put_sequence.new.walk.error) (AreItems (ComponentsFit (Fits c.args.types.now c.args.below) l))) c.deref.ensures.value (c.put_sequence.ensures.fits k)
+
+pub put_record-returns-clause-told : goal.put_record-returns-clause-told
+put_record-returns-clause-told g t c = subst (λ l. Told (IsFaultIn c.args.types.now c.args.below (IsComponentAt (shape_of_type c.args.types.now c.args.below) l c.args.decoder.now) c.args.decoder.now c.args.decoder.now) (outcome c.put_sequence.result c.put_sequence.new.out c.put_sequence.new.walk.error) c.put_sequence.new.walk.fault) c.deref.ensures.value c.put_sequence.ensures.told
+
+pub put_record-returns-clause-itself : goal.put_record-returns-clause-itself
+put_record-returns-clause-itself g t c = subst (λ l. IfErr (outcome c.put_sequence.result c.put_sequence.new.out c.put_sequence.new.walk.error) (λ e. c.put_sequence.new.walk.fault ≡ None → StopsInSequence (shape_of_type c.args.types.now c.args.below) l c.args.decoder.now e)) c.deref.ensures.value c.put_sequence.ensures.itself
+
+pub put_record-returns-clause-listed : goal.put_record-returns-clause-listed
+put_record-returns-clause-listed g t c = if_ok _ _ _ (λ v h. components_same (shape_of_type c.args.types.now c.args.below) c.args.below (Inside c.args.types.now c.args.below) _ _ c.args.decoder.now _ _ c.deref.ensures.value h) c.put_sequence.ensures.listed
+
+pub put_members-put_set-requires : goal.put_members-put_set-requires
+put_members-put_set-requires g t c = λ κs o. (search rules, (search rules, (rw c.deref.ensures.value c.requires.lawful, c.requires.clear)))
+
+pub put_members-returns-clause-exact : goal.put_members-returns-clause-exact
+put_members-returns-clause-exact g t c = subst (λ l. Making g.M.Made.KEEP tree_of (Makes items (MayRunOut (DecodesSetPartContents (is_extensible (shape_of_type c.args.types.now c.args.below) l) (components_by (shape_of_type c.args.types.now c.args.below) (named_components (shape_of_type c.args.types.now c.args.below) l)) items (names_of (named_components (shape_of_type c.args.types.now c.args.below) l))))) c.args.decoder.now (outcome c.put_set.result c.put_set.new.out c.put_set.new.walk.error) c.put_set.new.decoder) c.deref.ensures.value c.put_set.ensures.exact
+
+pub put_members-returns-clause-fits : goal.put_members-returns-clause-fits
+put_members-returns-clause-fits g t c = λ k. subst (λ l. IfOk (outcome c.put_set.result c.put_set.new.out c.put_set.new.walk.error) (AreItems (ComponentsFit (Fits c.args.types.now c.args.below) l))) c.deref.ensures.value (c.put_set.ensures.fits k)
+
+pub put_members-returns-clause-told : goal.put_members-returns-clause-told
+put_members-returns-clause-told g t c = subst (λ l. Told (IsFaultIn c.args.types.now c.args.below (IsMemberAfter (shape_of_type c.args.types.now c.args.below) (is_extensible (shape_of_type c.args.types.now c.args.below) l) (named_components (shape_of_type c.args.types.now c.args.below) l) (last_type l) c.args.decoder.now) c.args.decoder.now c.args.decoder.now) (outcome c.put_set.result c.put_set.new.out c.put_set.new.walk.error) c.put_set.new.walk.fault) c.deref.ensures.value c.put_set.ensures.told
+
+pub put_members-returns-clause-itself : goal.put_members-returns-clause-itself
+put_members-returns-clause-itself g t c = subst (λ l. IfErr (outcome c.put_set.result c.put_set.new.out c.put_set.new.walk.error) (λ e. c.put_set.new.walk.fault ≡ None → StopsInSet (shape_of_type c.args.types.now c.args.below) (is_extensible (shape_of_type c.args.types.now c.args.below) l) (named_components (shape_of_type c.args.types.now c.args.below) l) c.args.decoder.now e)) c.deref.ensures.value c.put_set.ensures.itself
+
+pub put_members-returns-clause-listed : goal.put_members-returns-clause-listed
+put_members-returns-clause-listed g t c = if_ok _ _ _ (λ v h. subst (λ l. Lists (λ n es. MembersListed (shape_of_type c.args.types.now c.args.below) c.args.below (Inside c.args.types.now c.args.below) (is_extensible (shape_of_type c.args.types.now c.args.below) l) (named_components (shape_of_type c.args.types.now c.args.below) l) (last_type l) n c.args.decoder.now es) c.args.walk.now.spans c.put_set.new.walk.spans) c.deref.ensures.value h) c.put_set.ensures.listed
+
+-- ---- with its header
+
+pub decode_tagged-returns-clause-exact : goal.decode_tagged-returns-clause-exact
+decode_tagged-returns-clause-exact g t c = subst (λ d. Making g.M.Made.KEEP tree_of (DecodesInside (DecodesContents (shape_of_type c.args.types.now c.args.below) (Tagged eoc c.args.id)) d) c.args.decoder.now (outcome c.decode_tagged_inside.result c.decode_tagged_inside.new.out c.decode_tagged_inside.new.walk.error) c.decode_tagged_inside.new.decoder) c.prefix.ensures c.decode_tagged_inside.ensures.exact
+
+pub decode_tagged-returns-clause-told : goal.decode_tagged-returns-clause-told
+decode_tagged-returns-clause-told g t c = subst (λ d. Told (IsFaultInside c.args.types.now c.args.below d (Tagged eoc c.args.id) c.args.decoder.now) (outcome c.decode_tagged_inside.result c.decode_tagged_inside.new.out c.decode_tagged_inside.new.walk.error) c.decode_tagged_inside.new.walk.fault) c.prefix.ensures c.decode_tagged_inside.ensures.told
+
+pub decode_tagged-returns-clause-itself : goal.decode_tagged-returns-clause-itself
+decode_tagged-returns-clause-itself g t c = subst (λ d. IfErr (outcome c.decode_tagged_inside.result c.decode_tagged_inside.new.out c.decode_tagged_inside.new.walk.error) (λ e. c.decode_tagged_inside.new.walk.fault ≡ None → DecodesInside (ReadsEachPart (shape_of_type c.args.types.now c.args.below) (Tagged eoc c.args.id)) d c.args.decoder.now (Err e) c.decode_tagged_inside.new.decoder)) c.prefix.ensures c.decode_tagged_inside.ensures.itself
+
+pub decode_tagged-returns-clause-listed : goal.decode_tagged-returns-clause-listed
+decode_tagged-returns-clause-listed g t c = subst (λ d. IfOk (outcome c.decode_tagged_inside.result c.decode_tagged_inside.new.out c.decode_tagged_inside.new.walk.error) (λ v. Lists (λ b es. InsideListed (shape_of_type c.args.types.now c.args.below) c.args.below (Inside c.args.types.now c.args.below) d (Tagged eoc c.args.id) b c.args.decoder.now es) c.args.walk.now.spans c.decode_tagged_inside.new.walk.spans)) c.prefix.ensures c.decode_tagged_inside.ensures.listed
+
+pub decode_record-returns-clause-exact : goal.decode_record-returns-clause-exact
+decode_record-returns-clause-exact g t c = subst (λ d. Making g.M.Made.KEEP tree_of (DecodesInside (DecodesContents (shape_of_type c.args.types.now c.args.below) (Sequence eoc c.args.components.now)) d) c.args.decoder.now (outcome c.decode_record_inside.result c.decode_record_inside.new.out c.decode_record_inside.new.walk.error) c.decode_record_inside.new.decoder) c.sequence.ensures c.decode_record_inside.ensures.exact
+
+pub decode_record-returns-clause-told : goal.decode_record-returns-clause-told
+decode_record-returns-clause-told g t c = subst (λ d. Told (IsFaultInside c.args.types.now c.args.below d (Sequence eoc c.args.components.now) c.args.decoder.now) (outcome c.decode_record_inside.result c.decode_record_inside.new.out c.decode_record_inside.new.walk.error) c.decode_record_inside.new.walk.fault) c.sequence.ensures c.decode_record_inside.ensures.told
+
+pub decode_record-returns-clause-itself : goal.decode_record-returns-clause-itself
+decode_record-returns-clause-itself g t c = subst (λ d. IfErr (outcome c.decode_record_inside.result c.decode_record_inside.new.out c.decode_record_inside.new.walk.error) (λ e. c.decode_record_inside.new.walk.fault ≡ None → DecodesInside (ReadsEachPart (shape_of_type c.args.types.now c.args.below) (Sequence eoc c.args.components.now)) d c.args.decoder.now (Err e) c.decode_record_inside.new.decoder)) c.sequence.ensures c.decode_record_inside.ensures.itself
+
+pub decode_record-returns-clause-listed : goal.decode_record-returns-clause-listed
+decode_record-returns-clause-listed g t c = subst (λ d. IfOk (outcome c.decode_record_inside.result c.decode_record_inside.new.out c.decode_record_inside.new.walk.error) (λ v. Lists (λ b es. InsideListed (shape_of_type c.args.types.now c.args.below) c.args.below (Inside c.args.types.now c.args.below) d (Sequence eoc c.args.components.now) b c.args.decoder.now es) c.args.walk.now.spans c.decode_record_inside.new.walk.spans)) c.sequence.ensures c.decode_record_inside.ensures.listed
+
+pub decode_members-returns-clause-exact : goal.decode_members-returns-clause-exact
+decode_members-returns-clause-exact g t c = subst (λ d. Making g.M.Made.KEEP tree_of (DecodesInside (DecodesContents (shape_of_type c.args.types.now c.args.below) (Set c.args.name.now eoc c.args.components.now)) d) c.args.decoder.now (outcome c.decode_members_inside.result c.decode_members_inside.new.out c.decode_members_inside.new.walk.error) c.decode_members_inside.new.decoder) c.sequence.ensures c.decode_members_inside.ensures.exact
+
+pub decode_members-returns-clause-told : goal.decode_members-returns-clause-told
+decode_members-returns-clause-told g t c = subst (λ d. Told (IsFaultInside c.args.types.now c.args.below d (Set c.args.name.now eoc c.args.components.now) c.args.decoder.now) (outcome c.decode_members_inside.result c.decode_members_inside.new.out c.decode_members_inside.new.walk.error) c.decode_members_inside.new.walk.fault) c.sequence.ensures c.decode_members_inside.ensures.told
+
+pub decode_members-returns-clause-itself : goal.decode_members-returns-clause-itself
+decode_members-returns-clause-itself g t c = subst (λ d. IfErr (outcome c.decode_members_inside.result c.decode_members_inside.new.out c.decode_members_inside.new.walk.error) (λ e. c.decode_members_inside.new.walk.fault ≡ None → DecodesInside (ReadsEachPart (shape_of_type c.args.types.now c.args.below) (Set c.args.name.now eoc c.args.components.now)) d c.args.decoder.now (Err e) c.decode_members_inside.new.decoder)) c.sequence.ensures c.decode_members_inside.ensures.itself
+
+pub decode_members-returns-clause-listed : goal.decode_members-returns-clause-listed
+decode_members-returns-clause-listed g t c = subst (λ d. IfOk (outcome c.decode_members_inside.result c.decode_members_inside.new.out c.decode_members_inside.new.walk.error) (λ v. Lists (λ b es. InsideListed (shape_of_type c.args.types.now c.args.below) c.args.below (Inside c.args.types.now c.args.below) d (Set c.args.name.now eoc c.args.components.now) b c.args.decoder.now es) c.args.walk.now.spans c.decode_members_inside.new.walk.spans)) c.sequence.ensures c.decode_members_inside.ensures.listed
+
+-- ---- a type
+
+pub decode_type-decode_tagged-requires : goal.decode_type-decode_tagged-requires
+decode_type-decode_tagged-requires g t c = λ κs o. (search rules, (search rules, (prefix_lawful _ _ (subst (λ n. IsReadable (type_by (shape_of_type c.args.types.now c.args.below) n)) c.in-Tagged.is c.requires.lawful), c.requires.clear)))
+
+pub decode_type-returns-in-Tagged-clause-exact : goal.decode_type-returns-in-Tagged-clause-exact
+decode_type-returns-in-Tagged-clause-exact g t c = rw c.in-Tagged.is c.decode_tagged.ensures.exact
+
+pub decode_type-returns-in-Tagged-clause-reads : goal.decode_type-returns-in-Tagged-clause-reads
+decode_type-returns-in-Tagged-clause-reads g t c =
+    made_as _ tree_of (DecodesType (shape_of_type c.args.types.now c.args.below) c.args.ty.now) (DecodesTree (type_by (shape_of_type c.args.types.now c.args.below) c.args.ty.now)) c.args.decoder.now (outcome c.decode_tagged.result c.decode_tagged.new.out c.decode_tagged.new.walk.error) c.decode_tagged.new.decoder
+    (λ q h. type_decodes (shape_of_type c.args.types.now c.args.below) c.args.decoder.now c.decode_tagged.ensures.octets q c.decode_tagged.new.decoder c.args.ty.now h) (rw c.in-Tagged.is c.decode_tagged.ensures.exact)
+
+pub decode_type-returns-in-Tagged-clause-fits : goal.decode_type-returns-in-Tagged-clause-fits
+decode_type-returns-in-Tagged-clause-fits g t c = λ k. rw c.in-Tagged.is (c.decode_tagged.ensures.fits k)
+
+pub decode_type-returns-in-Tagged-clause-told : goal.decode_type-returns-in-Tagged-clause-told
+decode_type-returns-in-Tagged-clause-told g t c = rw c.in-Tagged.is c.decode_tagged.ensures.told
+
+pub decode_type-returns-in-Tagged-clause-itself : goal.decode_type-returns-in-Tagged-clause-itself
+decode_type-returns-in-Tagged-clause-itself g t c = rw c.in-Tagged.is (itself_prefix (shape_of_type c.args.types.now c.args.below) (Tagged c.in-Tagged.tag c.in-Tagged.inner) c.args.decoder.now c.decode_tagged.new.decoder _ c.in-Tagged.tag c.in-Tagged.inner (prefix_header c.in-Tagged.tag) refl refl (outcome c.decode_tagged.result c.decode_tagged.new.out c.decode_tagged.new.walk.error) c.decode_tagged.ensures.itself)
+
+pub decode_type-returns-in-Tagged-clause-listed : goal.decode_type-returns-in-Tagged-clause-listed
+decode_type-returns-in-Tagged-clause-listed g t c = rw c.in-Tagged.is (if_ok _ _ _ (λ v. holder_listed (shape_of_type c.args.types.now c.args.below) c.args.below (Inside c.args.types.now c.args.below) (Tagged c.in-Tagged.tag c.in-Tagged.inner) (prefix_header c.in-Tagged.tag) c.args.decoder.now _ _ refl) c.decode_tagged.ensures.listed)
+
+pub decode_type-decode_record-requires : goal.decode_type-decode_record-requires
+decode_type-decode_record-requires g t c = λ κs o. (search rules, (search rules, (lawful_parts (shape_of_type c.args.types.now c.args.below) _ (seq_lawful _ _ (subst (λ n. IsReadable (type_by (shape_of_type c.args.types.now c.args.below) n)) c.in-Sequence.is c.requires.lawful)), c.requires.clear)))
+
+pub decode_type-returns-in-Sequence-clause-exact : goal.decode_type-returns-in-Sequence-clause-exact
+decode_type-returns-in-Sequence-clause-exact g t c = rw c.in-Sequence.is c.decode_record.ensures.exact
+
+pub decode_type-returns-in-Sequence-clause-reads : goal.decode_type-returns-in-Sequence-clause-reads
+decode_type-returns-in-Sequence-clause-reads g t c =
+    made_as _ tree_of (DecodesType (shape_of_type c.args.types.now c.args.below) c.args.ty.now) (DecodesTree (type_by (shape_of_type c.args.types.now c.args.below) c.args.ty.now)) c.args.decoder.now (outcome c.decode_record.result c.decode_record.new.out c.decode_record.new.walk.error) c.decode_record.new.decoder
+    (λ q h. type_decodes (shape_of_type c.args.types.now c.args.below) c.args.decoder.now c.decode_record.ensures.octets q c.decode_record.new.decoder c.args.ty.now h) (rw c.in-Sequence.is c.decode_record.ensures.exact)
+
+pub decode_type-returns-in-Sequence-clause-fits : goal.decode_type-returns-in-Sequence-clause-fits
+decode_type-returns-in-Sequence-clause-fits g t c = λ k. rw c.in-Sequence.is (c.decode_record.ensures.fits k)
+
+pub decode_type-returns-in-Sequence-clause-told : goal.decode_type-returns-in-Sequence-clause-told
+decode_type-returns-in-Sequence-clause-told g t c = rw c.in-Sequence.is c.decode_record.ensures.told
+
+pub decode_type-returns-in-Sequence-clause-itself : goal.decode_type-returns-in-Sequence-clause-itself
+decode_type-returns-in-Sequence-clause-itself g t c = rw c.in-Sequence.is (itself_sequence (shape_of_type c.args.types.now c.args.below) (Sequence c.in-Sequence.tag c.in-Sequence.components) c.args.decoder.now c.decode_record.new.decoder _ c.in-Sequence.tag c.in-Sequence.components (sequence_header c.in-Sequence.tag) refl refl (outcome c.decode_record.result c.decode_record.new.out c.decode_record.new.walk.error) c.decode_record.ensures.itself)
+
+pub decode_type-returns-in-Sequence-clause-listed : goal.decode_type-returns-in-Sequence-clause-listed
+decode_type-returns-in-Sequence-clause-listed g t c = rw c.in-Sequence.is (if_ok _ _ _ (λ v. holder_listed (shape_of_type c.args.types.now c.args.below) c.args.below (Inside c.args.types.now c.args.below) (Sequence c.in-Sequence.tag c.in-Sequence.components) (sequence_header c.in-Sequence.tag) c.args.decoder.now _ _ refl) c.decode_record.ensures.listed)
+
+pub decode_type-decode_members-requires : goal.decode_type-decode_members-requires
+decode_type-decode_members-requires g t c = λ κs o. (search rules, (search rules, (named_lawful (shape_of_type c.args.types.now c.args.below) c.in-Set.tag c.in-Set.components.items _ refl (subst (λ n. IsReadable (type_by (shape_of_type c.args.types.now c.args.below) n)) c.in-Set.is c.requires.lawful), c.requires.clear)))
+
+pub decode_type-returns-in-Set-clause-exact : goal.decode_type-returns-in-Set-clause-exact
+decode_type-returns-in-Set-clause-exact g t c = rw c.in-Set.is c.decode_members.ensures.exact
+
+pub decode_type-returns-in-Set-clause-reads : goal.decode_type-returns-in-Set-clause-reads
+decode_type-returns-in-Set-clause-reads g t c =
+    made_as _ tree_of (DecodesType (shape_of_type c.args.types.now c.args.below) c.args.ty.now) (DecodesTree (type_by (shape_of_type c.args.types.now c.args.below) c.args.ty.now)) c.args.decoder.now (outcome c.decode_members.result c.decode_members.new.out c.decode_members.new.walk.error) c.decode_members.new.decoder
+    (λ q h. type_decodes (shape_of_type c.args.types.now c.args.below) c.args.decoder.now c.decode_members.ensures.octets q c.decode_members.new.decoder c.args.ty.now h) (rw c.in-Set.is c.decode_members.ensures.exact)
+
+pub decode_type-returns-in-Set-clause-fits : goal.decode_type-returns-in-Set-clause-fits
+decode_type-returns-in-Set-clause-fits g t c = λ k. rw c.in-Set.is (c.decode_members.ensures.fits k)
+
+pub decode_type-returns-in-Set-clause-told : goal.decode_type-returns-in-Set-clause-told
+decode_type-returns-in-Set-clause-told g t c = rw c.in-Set.is c.decode_members.ensures.told
+
+pub decode_type-returns-in-Set-clause-itself : goal.decode_type-returns-in-Set-clause-itself
+decode_type-returns-in-Set-clause-itself g t c = rw c.in-Set.is (itself_set (shape_of_type c.args.types.now c.args.below) (Set c.in-Set.name c.in-Set.tag c.in-Set.components) c.args.decoder.now c.decode_members.new.decoder _ c.in-Set.name c.in-Set.tag c.in-Set.components (sequence_header c.in-Set.tag) refl refl (outcome c.decode_members.result c.decode_members.new.out c.decode_members.new.walk.error) c.decode_members.ensures.itself)
+
+pub decode_type-returns-in-Set-clause-listed : goal.decode_type-returns-in-Set-clause-listed
+decode_type-returns-in-Set-clause-listed g t c = rw c.in-Set.is (if_ok _ _ _ (λ v. holder_listed (shape_of_type c.args.types.now c.args.below) c.args.below (Inside c.args.types.now c.args.below) (Set c.in-Set.name c.in-Set.tag c.in-Set.components) (sequence_header c.in-Set.tag) c.args.decoder.now _ _ refl) c.decode_members.ensures.listed)
+
+pub decode_type-decode_list-requires : goal.decode_type-decode_list-requires
+decode_type-decode_list-requires g t c = λ κs o. (search rules, (search rules, (list_lawful _ _ c.in-SequenceOf.constraints.size (subst (λ n. IsReadable (type_by (shape_of_type c.args.types.now c.args.below) n)) c.in-SequenceOf.is c.requires.lawful), c.requires.clear)))
+
+pub decode_type-returns-in-SequenceOf-clause-exact : goal.decode_type-returns-in-SequenceOf-clause-exact
+decode_type-returns-in-SequenceOf-clause-exact g t c = rw c.in-SequenceOf.is c.decode_list.ensures.exact
+
+pub decode_type-returns-in-SequenceOf-clause-reads : goal.decode_type-returns-in-SequenceOf-clause-reads
+decode_type-returns-in-SequenceOf-clause-reads g t c =
+    made_as _ tree_of (DecodesType (shape_of_type c.args.types.now c.args.below) c.args.ty.now) (DecodesTree (type_by (shape_of_type c.args.types.now c.args.below) c.args.ty.now)) c.args.decoder.now (outcome c.decode_list.result c.decode_list.new.out c.decode_list.new.walk.error) c.decode_list.new.decoder
+    (λ q h. type_decodes (shape_of_type c.args.types.now c.args.below) c.args.decoder.now c.decode_list.ensures.octets q c.decode_list.new.decoder c.args.ty.now h) (rw c.in-SequenceOf.is c.decode_list.ensures.exact)
+
+pub decode_type-returns-in-SequenceOf-clause-fits : goal.decode_type-returns-in-SequenceOf-clause-fits
+decode_type-returns-in-SequenceOf-clause-fits g t c = λ k. rw c.in-SequenceOf.is (c.decode_list.ensures.fits k)
+
+pub decode_type-returns-in-SequenceOf-clause-told : goal.decode_type-returns-in-SequenceOf-clause-told
+decode_type-returns-in-SequenceOf-clause-told g t c = rw c.in-SequenceOf.is c.decode_list.ensures.told
+
+pub decode_type-returns-in-SequenceOf-clause-itself : goal.decode_type-returns-in-SequenceOf-clause-itself
+decode_type-returns-in-SequenceOf-clause-itself g t c = rw c.in-SequenceOf.is (itself_list (shape_of_type c.args.types.now c.args.below) (SequenceOf c.in-SequenceOf.tag c.in-SequenceOf.element c.in-SequenceOf.constraints) c.args.decoder.now c.decode_list.new.decoder _ c.in-SequenceOf.tag c.in-SequenceOf.element c.in-SequenceOf.constraints refl (outcome c.decode_list.result c.decode_list.new.out c.decode_list.new.walk.error) c.decode_list.ensures.itself)
+
+pub decode_type-returns-in-SequenceOf-clause-listed : goal.decode_type-returns-in-SequenceOf-clause-listed
+decode_type-returns-in-SequenceOf-clause-listed g t c = rw c.in-SequenceOf.is (if_ok _ _ _ (λ v. holder_listed (shape_of_type c.args.types.now c.args.below) c.args.below (Inside c.args.types.now c.args.below) (SequenceOf c.in-SequenceOf.tag c.in-SequenceOf.element c.in-SequenceOf.constraints) (list_header c.in-SequenceOf.tag) c.args.decoder.now _ _ refl) c.decode_list.ensures.listed)
+
+pub decode_type-decode_set_of-requires : goal.decode_type-decode_set_of-requires
+decode_type-decode_set_of-requires g t c = λ κs o. (search rules, (search rules, (set_of_lawful _ _ c.in-SetOf.constraints.size (subst (λ n. IsReadable (type_by (shape_of_type c.args.types.now c.args.below) n)) c.in-SetOf.is c.requires.lawful), c.requires.clear)))
+
+pub decode_type-returns-in-SetOf-clause-exact : goal.decode_type-returns-in-SetOf-clause-exact
+decode_type-returns-in-SetOf-clause-exact g t c = rw c.in-SetOf.is c.decode_set_of.ensures.exact
+
+pub decode_type-returns-in-SetOf-clause-reads : goal.decode_type-returns-in-SetOf-clause-reads
+decode_type-returns-in-SetOf-clause-reads g t c =
+    made_as _ tree_of (DecodesType (shape_of_type c.args.types.now c.args.below) c.args.ty.now) (DecodesTree (type_by (shape_of_type c.args.types.now c.args.below) c.args.ty.now)) c.args.decoder.now (outcome c.decode_set_of.result c.decode_set_of.new.out c.decode_set_of.new.walk.error) c.decode_set_of.new.decoder
+    (λ q h. type_decodes (shape_of_type c.args.types.now c.args.below) c.args.decoder.now c.decode_set_of.ensures.octets q c.decode_set_of.new.decoder c.args.ty.now h) (rw c.in-SetOf.is c.decode_set_of.ensures.exact)
+
+pub decode_type-returns-in-SetOf-clause-fits : goal.decode_type-returns-in-SetOf-clause-fits
+decode_type-returns-in-SetOf-clause-fits g t c = λ k. rw c.in-SetOf.is (c.decode_set_of.ensures.fits k)
+
+pub decode_type-returns-in-SetOf-clause-told : goal.decode_type-returns-in-SetOf-clause-told
+decode_type-returns-in-SetOf-clause-told g t c = rw c.in-SetOf.is c.decode_set_of.ensures.told
+
+pub decode_type-returns-in-SetOf-clause-itself : goal.decode_type-returns-in-SetOf-clause-itself
+decode_type-returns-in-SetOf-clause-itself g t c = rw c.in-SetOf.is (itself_set_of (shape_of_type c.args.types.now c.args.below) (SetOf c.in-SetOf.tag c.in-SetOf.element c.in-SetOf.constraints) c.args.decoder.now c.decode_set_of.new.decoder _ c.in-SetOf.tag c.in-SetOf.element c.in-SetOf.constraints refl (outcome c.decode_set_of.result c.decode_set_of.new.out c.decode_set_of.new.walk.error) c.decode_set_of.ensures.itself)
+
+pub decode_type-returns-in-SetOf-clause-listed : goal.decode_type-returns-in-SetOf-clause-listed
+decode_type-returns-in-SetOf-clause-listed g t c = rw c.in-SetOf.is (if_ok _ _ _ (λ v. holder_listed (shape_of_type c.args.types.now c.args.below) c.args.below (Inside c.args.types.now c.args.below) (SetOf c.in-SetOf.tag c.in-SetOf.element c.in-SetOf.constraints) (list_header c.in-SetOf.tag) c.args.decoder.now _ _ refl) c.decode_set_of.ensures.listed)

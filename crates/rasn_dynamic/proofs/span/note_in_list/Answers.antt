@@ -2,7 +2,7 @@ use Rattle.std.proofs.Common.{◌≡◌, ◌∷◌, ◌++◌, [], ◌∙◌, Vec
 use Rattle.std.specs.Global.{Global}
 use Rattle.rasn_dynamic.specs.declared.span.Span.{Span}
 use Rattle.rasn_dynamic.proofs.Listed.{same_list}
-use Rattle.rasn_dynamic.proofs.span.note.Goals as goal
+use Rattle.rasn_dynamic.proofs.span.note_in_list.Goals as goal
 
 pub returns-in-Ok : goal.returns-in-Ok
 returns-in-Ok c = (
