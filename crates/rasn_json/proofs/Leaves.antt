@@ -27,7 +27,7 @@ use Rattle.rasn_json.specs.Names.{HaveOwnNames, name_of_number}
 use Rattle.rasn_json.specs.Reading.{NameRead, WholeRead, IntegerRead, OctetsRead, DigitsRead, AllBitsRead, BitsRead, LeafRead}
 use Rattle.rasn_json.specs.Texts.{InstantText, UnitsText, ArcsText, DayText}
 use Rattle.rasn_json.proofs.DayTexts.{one_day_text}
-use Rattle.rasn_json.proofs.Strings.{one_string, octets_once, characters_once, units_once, whole_once, count_once, arcs_once, instant_once}
+use Rattle.rasn_json.proofs.Strings.{one_string, octets_once, characters_once, units_once, whole_once, count_once, arcs_once, instant_once, written_told}
 
 -- ---- names and numbers
 
@@ -169,7 +169,7 @@ module _ (kind : LeafKind) (c : Constraints) (names : List NamedNumber) (j : Jso
   formed_once (Text s) (Text t) e f a r = ap (λ l. numbers (chars l)) (one_string (cow_str_bytes s) (cow_str_bytes t) j a r)
   formed_once (Units u) (Units x) e f (s, a, h) (t, b, k) = ap numbers (units_once t u x (subst (λ l. UnitsText l u) (one_string s t j a b) h) k)
   formed_once (Arcs l) (Arcs m) e f (s, a, h) (t, b, k) = ap numbers (arcs_once t l m (subst (λ x. ArcsText x l) (one_string s t j a b) h) k)
-  formed_once (Instant x) (Instant y) e f (s, a, h) (t, b, k) = ap instant (instant_once kind t x.moment y.moment (subst (λ l. InstantText kind l x.moment) (one_string s t j a b) h) k)
+  formed_once (Instant x) (Instant y) e f (s, a, h) (t, b, k) = ap instant (instant_once kind t x.moment y.moment (subst (λ l. InstantText kind l x.moment) (one_string s t j a b) (written_told kind s x.moment h)) k)
   formed_once (Day x) (Day y) e f (s, a, h) (t, b, k) = ap on_day (one_day_text t x y (subst (λ l. DayText l x) (one_string s t j a b) h) k)
   formed_once (Items' _ row) w e f a r = absurd f
   formed_once (Elements' _ row) w e f a r = absurd f

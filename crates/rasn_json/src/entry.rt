@@ -7,7 +7,7 @@ ghost use Rattle.rasn.specs.Headline.{AnsweredAlone};
 ghost use Rattle.rasn_schema.specs.declared.value.Value.{Value};
 ghost use Rattle.rasn_schema.specs.Trees.{tree_of};
 ghost use Rattle.rasn_dynamic.specs.Entry.{FitsType, IsEncoded, shape_of};
-ghost use Rattle.rasn_json.specs.Entry.{HasJson, IsLaidOut, IsNoJsonOf, IsNotEncodedFrom, IsReadAs};
+ghost use Rattle.rasn_json.specs.Entry.{HasJson, HasNoJson, IsLaidOut, IsNoJsonOf, IsNotEncodedFrom, IsReadAs};
 
 use crate::error::JsonError;
 use crate::layout::Layout;
@@ -48,6 +48,7 @@ pub fn to_json(
 ) -> Result<String, JsonError>
     ensures json { IfOk result (λ text. HasJson schema.now.types.items id.0 value.now (string_bytes text)) }
     ensures layout { IfOk result (λ text. IsLaidOut layout (string_bytes text)) }
+    ensures err { IfErr result (HasNoJson schema.now.types.items id.0 value.now) }
 {
     match layout {
         Layout::Compact => compact(alloc, schema, id, value),
@@ -64,6 +65,7 @@ fn compact(
 ) -> Result<String, JsonError>
     ensures json { IfOk result (λ text. HasJson schema.now.types.items id.0 value.now (string_bytes text)) }
     ensures text { IfOk result (λ text. string_bytes text ≡ print (tokens (string_bytes text))) }
+    ensures err { IfErr result (HasNoJson schema.now.types.items id.0 value.now) }
 {
     let mut out = Compact {
         out: Writer::new(Vec::new(alloc)),
@@ -89,6 +91,7 @@ fn indented(
 ) -> Result<String, JsonError>
     ensures json { IfOk result (λ text. HasJson schema.now.types.items id.0 value.now (string_bytes text)) }
     ensures text { IfOk result (λ text. string_bytes text ≡ pretty (tokens (string_bytes text))) }
+    ensures err { IfErr result (HasNoJson schema.now.types.items id.0 value.now) }
 {
     let mut out = Pretty::new(alloc);
     put_at(
