@@ -290,7 +290,7 @@ one_json ts i j e h =
     ap (λ (x : Json × List Token). x.0) same
 
 pub means_the_same : MeansTheSame
-means_the_same types id text v w schema names (i, e, a) (j, h, b) =
+means_the_same types id text v w schema names (i, e, (a, le)) (j, h, b) =
     alike_at types schema names 18446744073709551615 id j v w (subst (JsonAt types 18446744073709551615 id v) (one_json (tokens text) i j e h) a) b
 
 pub gives_the_octets : GivesTheOctets

@@ -26,12 +26,16 @@ use thiserror::Error;
 /// Returns a value as JSON text (X.697).
 ///
 /// # Errors
-/// - `Unfit` at the part that isn't a value of its type, as `fits` tells.
-/// - `NoJson` for a value without JSON: a BMPString with an unpaired surrogate, arcs without a
-///   subidentifier, a time of a year that its text can't have, or with more than the text says.
+/// If the value has no JSON that is nested at most [`MAX_NESTING`] deep. The error is that of the
+/// first part without, in the order of components and elements:
+/// - `Unfit` if it isn't a value of its type, as `fits` tells, or a number of an ENUMERATED.
+/// - `NoJson` for a BMPString with an unpaired surrogate, arcs without a subidentifier, and a time of
+///   a year that its text can't have, or with more than the text says.
 /// - `WrongSize` for a BIT STRING that hasn't the one size of its type.
-/// - `TooDeep` if arrays and objects would be nested more than [`MAX_NESTING`] deep.
-/// - `OutOfMemory`.
+/// - `TooDeep` if it is an array or an object and would be nested deeper.
+/// - `NoType` if the schema has no such type.
+///
+/// `OutOfMemory` if an allocation fails.
 ///
 /// # Examples
 /// ```
