@@ -1,16 +1,15 @@
 -- JSON of a value that holds no others is read as this value.
-use Rattle.std.proofs.Common.{◌≡◌, ◌⊎◌, ℕ, zero, suc, ◌+◌, ◌*◌, ◌/◌, ◌^◌, ◌<◌, ℤ, pos, List, [], ◌∷◌, ◌++◌, Bool, false, length, length-append, take, Option, Some, None, inl, inr, refl, sym, ap, ◌∙◌, subst, arith, decimal}
-use Rattle.std.specs.Prelude.{slice_get, encode_utf8_all, chars, codes}
+use Rattle.std.proofs.Common.{◌≡◌, ℕ, ◌+◌, ℤ, pos, List, [], ◌++◌, Bool, length, take, Option, Some, None, inl, inr, refl, sym, ap, ◌∙◌, subst, arith, decimal}
+use Rattle.std.specs.Prelude.{slice_get, chars, codes}
 use Rattle.std.specs.Cow.{cow_slice_items, cow_str_bytes}
 use Rattle.std.specs.String.{string_bytes}
 use Rattle.std.proofs.Math.Seq.{take-append_seam}
-use Rattle.std.proofs.lemmas.List.{length-replicate}
-use Rattle.json.specs.Json.{Json, string, number}
+use Rattle.json.specs.Json.{Json, number}
 use Rattle.json.specs.Find.{as_str, as_number, get}
-use Rattle.rasn_types.specs.Shapes.{Tree, numbers, bits, instant, on_day}
+use Rattle.rasn_types.specs.Shapes.{numbers, bits, instant, on_day}
 use Rattle.rasn_types.specs.Shapes as shapes
 use Rattle.rasn_types.specs.Trees.{bool_tree}
-use Rattle.rasn_types.specs.BitString.{Packs, bits_in, bits_from, significant, zeros}
+use Rattle.rasn_types.specs.BitString.{bits_from, significant, zeros}
 use Rattle.rasn_types.specs.CowBits.{cow_bits}
 use Rattle.rasn_types.specs.declared.types.constraints.Constraints.{Constraints}
 use Rattle.rasn_types.proofs.BitString.Significant.{significant_zeros}
@@ -22,7 +21,7 @@ use Rattle.rasn_schema.specs.Trees.{tree_of}
 use Rattle.rasn_schema.specs.Fitting.{FitsLeaf, NumberFits, OctetsFit, BitsFit}
 use Rattle.rasn_schema.proofs.Lists.{some_is}
 use Rattle.rasn_json.specs.Decimal.{IsWhole}
-use Rattle.rasn_json.specs.Json.{NameJson, NumberJson, IntegerJson, OctetsJson, DigitsJson, IsFilled, BitsJson, LeafJson, one_size, counted}
+use Rattle.rasn_json.specs.Json.{NameJson, NumberJson, IntegerJson, OctetsJson, DigitsJson, BitsJson, LeafJson, one_size, counted}
 use Rattle.rasn_json.specs.Names.{HaveOwnNames, name_of_number}
 use Rattle.rasn_json.specs.Reading.{NameRead, WholeRead, IntegerRead, OctetsRead, DigitsRead, AllBitsRead, BitsRead, LeafRead}
 use Rattle.rasn_json.specs.Texts.{InstantText, UnitsText, ArcsText, DayText}

@@ -5,7 +5,7 @@ use Rattle.std.specs.Cow.{cow_slice_items}
 use Rattle.std.specs.String.{string_bytes}
 use Rattle.std.proofs.lemmas.List.{length-replicate}
 use Rattle.json.specs.Token.{Token}
-use Rattle.json.specs.Json.{Json, object, array, Items, no_items, item, Members, no_members, member}
+use Rattle.json.specs.Json.{Json, Items, Members}
 use Rattle.json.specs.Tree.{depth, items_depth, members_depth}
 use Rattle.rasn_types.specs.BitString.{zeros}
 use Rattle.rasn_types.specs.CowBits.{cow_bits}
@@ -25,40 +25,46 @@ use Rattle.rasn_json.specs.declared.error.JsonError.{JsonError}
 use Rattle.rasn_json.specs.declared.error.JsonErrorKind.TheVariants.{NoJson, NoType, Unfit}
 use Rattle.rasn_json.specs.declared.error.JsonStep.{JsonStep}
 use Rattle.rasn_json.specs.declared.error.JsonStep.TheVariants.{Element}
-use Rattle.rasn_json.specs.Json.{BitsJson, IntegerJson, NameJson, NumberJson, HexadecimalJson, IsFilled, IsSize, LeafJson, OctetsJson, OpenJson, MembersJson, ItemsJson, ObjectJson, ArrayJson, ChosenJson, EnumeratedJson, Appends, IsCounted, IsLeftOut, JsonBy, JsonFound, JsonAt, JsonWithin, AppendsComponent, one_size, unknown_in}
-use Rattle.rasn_json.specs.Refusals.{IsMemory, OrMemory, HasNone, IsOfItself, IsOfElement, IsOfMember, IsOfPart, IsAlternative, IsRefusedAlternative, AreRefusedBits, IsRefusedForm, IsRefusedLeaf, IsRefusedOpen, HasOpen, IsRefusedChoice, IsRefusedList, IsRefusedSet, IsRefusedComponent, IsWritten, AreRefusedComponents, AreRefusedElements, IsRefusedNested, IsRefusedInside, IsRefusedBy, IsRefusedFound, HasJsonWithin, IsRefusedAt}
+use Rattle.rasn_json.specs.Json.{BitsJson, IntegerJson, IsFilled, IsSize, LeafJson, OctetsJson, OpenJson, MembersJson, ItemsJson, ObjectJson, ArrayJson, ChosenJson, EnumeratedJson, Appends, IsCounted, JsonBy, JsonFound, JsonAt, JsonWithin, AppendsComponent, one_size, unknown_in}
+use Rattle.rasn_json.specs.Refusals.{IsMemory, OrMemory, HasNone, IsOfItself, IsOfElement, IsOfMember, IsOfPart, IsAlternative, IsRefusedAlternative, AreRefusedBits, IsRefusedForm, IsRefusedLeaf, IsRefusedOpen, HasOpen, IsRefusedChoice, IsRefusedList, IsRefusedSet, IsRefusedComponent, AreRefusedComponents, AreRefusedElements, IsRefusedNested, IsRefusedInside, IsRefusedBy, IsRefusedFound, HasJsonWithin, IsRefusedAt}
 
 -- ---- errors of parts
 
 -- The error of a part, from which that of the value is made.
-pub part_fails : (S : JsonStep → Type 0) (P : JsonError → Type 0) (d e : JsonError) → OrMemory P d → OrMemory (IsOfPart S (λ x. x ≡ d)) e → OrMemory (IsOfPart S P) e
+pub part_fails : (S : JsonStep → Type 0) (P : JsonError → Type 0) (d e : JsonError) → OrMemory P d
+    → OrMemory (IsOfPart S (λ x. x ≡ d)) e → OrMemory (IsOfPart S P) e
 part_fails S P d e h (inl m) = inl m
 part_fails S P d e (inl m) (inr (x, step, s, is, k, t)) = inl (k ∙ (ap (λ (z : JsonError). z.kind) is ∙ m))
 part_fails S P d e (inr h) (inr (x, step, s, is, k, t)) = inr (x, step, s, subst P (sym is) h, k, t)
 
 -- The step is one of which less is said.
-pub part_is : (S T : JsonStep → Type 0) (P : JsonError → Type 0) (e : JsonError) → ((step : JsonStep) → S step → T step) → OrMemory (IsOfPart S P) e → OrMemory (IsOfPart T P) e
+pub part_is : (S T : JsonStep → Type 0) (P : JsonError → Type 0) (e : JsonError) → ((step : JsonStep) → S step → T step)
+    → OrMemory (IsOfPart S P) e → OrMemory (IsOfPart T P) e
 part_is S T P e f (inl m) = inl m
 part_is S T P e f (inr (d, step, s, h, k, t)) = inr (d, step, f step s, h, k, t)
 
 -- What holds of the error that `?` hands on.
-pub handed_on : {T : Type 0} (P : JsonError → Type 0) (e : JsonError) (r : Result T JsonError) → IsErrAnd r (λ y. y ≡ e) → P e → IfErr r P
+pub handed_on : {T : Type 0} (P : JsonError → Type 0) (e : JsonError) (r : Result T JsonError) → IsErrAnd r (λ y. y ≡ e)
+    → P e → IfErr r P
 handed_on P e (Ok v) h x = tt
 handed_on P e (Err y) h x = subst P (sym h) x
 
 -- What holds of a result's error unless memory ran out.
-pub fails_as : {A : Type 0} (P Q : JsonError → Type 0) (r : Result A JsonError) → ((e : JsonError) → P e → Q e) → IfErr r (OrMemory P) → IfErr r (OrMemory Q)
+pub fails_as : {A : Type 0} (P Q : JsonError → Type 0) (r : Result A JsonError) → ((e : JsonError) → P e → Q e)
+    → IfErr r (OrMemory P) → IfErr r (OrMemory Q)
 fails_as P Q (Ok v) f h = tt
 fails_as P Q (Err e) f (inl m) = inl m
 fails_as P Q (Err e) f (inr x) = inr (f e x)
 
-pub fails_by_memory : {A : Type 0} (P : JsonError → Type 0) (r : Result A JsonError) → IfErr r IsMemory → IfErr r (OrMemory P)
+pub fails_by_memory : {A : Type 0} (P : JsonError → Type 0) (r : Result A JsonError) → IfErr r IsMemory
+    → IfErr r (OrMemory P)
 fails_by_memory P (Ok v) h = tt
 fails_by_memory P (Err e) m = inl m
 
 -- A value has no text.
 pub no_text_fails : {S E : Type 0} (Q : List ℕ → Type 0) (P : S → Type 0) (text : Result (Option S) E) (J : Json → Type 0) (e : JsonError) → ((j : Json) → J j → (s : List ℕ) × Q s)
-    → IfOk text (λ o. MatchOption o ((s : List ℕ) → Q s → ⊥) P) → OrMemory (λ x. (text ≡ Ok None) × IsOfItself NoJson x) e → OrMemory (HasNone NoJson J) e
+    → IfOk text (λ o. MatchOption o ((s : List ℕ) → Q s → ⊥) P)
+    → OrMemory (λ x. (text ≡ Ok None) × IsOfItself NoJson x) e → OrMemory (HasNone NoJson J) e
 no_text_fails Q P text J e f h (inl m) = inl m
 no_text_fails Q P text J e f h (inr (is, x)) =
     let none = subst (λ r. IfOk r (λ o. MatchOption o ((s : List ℕ) → Q s → ⊥) P)) is h in
@@ -67,7 +73,8 @@ no_text_fails Q P text J e f h (inr (is, x)) =
 -- ---- how deep JSON is nested
 
 module _ (d : ℕ) (j : Json) where
-  bits_depth : (kind : LeafKind) (size : Option ℕ) (bs : List Bool) → BitsJson kind size bs j → (size ≡ None → 0 < d) → depth j ≤ d
+  bits_depth : (kind : LeafKind) (size : Option ℕ) (bs : List Bool) → BitsJson kind size bs j → (size ≡ None → 0 < d)
+      → depth j ≤ d
   bits_depth kind (Some n) bs (all, f, (o, p, (a, is))) h = let k = ap depth is in omega (arith, k)
   bits_depth kind None bs (w, (x, (o, p, (a, is)), e)) h =
       let k = ap depth e in
@@ -84,7 +91,8 @@ module _ (d : ℕ) (j : Json) where
   octets_depth (FixedOctetString n) o (a, is) = let k = ap depth is in omega (arith, k)
   octets_depth kind o is = let k = ap depth is in omega (arith, k)
 
-  pub leaf_depth : (kind : LeafKind) (c : Constraints) (names : List NamedNumber) (v : Value) → LeafJson kind c names v j → (IsCounted c v → 0 < d) → depth j ≤ d
+  pub leaf_depth : (kind : LeafKind) (c : Constraints) (names : List NamedNumber) (v : Value)
+      → LeafJson kind c names v j → (IsCounted c v → 0 < d) → depth j ≤ d
   leaf_depth kind c names (Boolean b) is h = let k = ap depth is in omega (arith, k)
   leaf_depth kind c names Null is h = let k = ap depth is in omega (arith, k)
   leaf_depth kind c names (Integer n) x h = integer_depth kind names n x
@@ -107,12 +115,15 @@ module _ (d : ℕ) (j : Json) where
 
 -- What is written of a value that holds no others.
 pub leaf_put : {A E : Type 0} (d : ℕ) (kind : LeafKind) (c : Constraints) (names : List NamedNumber) (v : Value) (old new : List Token) (r : Result A E) → OnOk r (FitsLeaf kind v) → OnOk r (Appends (LeafJson kind c names v) old new)
-    → OnOk r (IsCounted c v → 0 < d) → OnOk r (Appends (λ j. (FitsLeaf kind v × LeafJson kind c names v j) × (depth j ≤ d)) old new)
+    → OnOk r (IsCounted c v → 0 < d)
+    → OnOk r (Appends (λ j. (FitsLeaf kind v × LeafJson kind c names v j) × (depth j ≤ d)) old new)
 leaf_put d kind c names v old new (Ok x) f (j, s, h) n = (j, s, ((f, h), leaf_depth d j kind c names v h n))
 leaf_put d kind c names v old new (Err x) f h n = tt
 
 module _ (u : ℕ → Bool) (g : ℕ → Value → Json → Type 0) (limit : ℕ) where
-  members_within : (ps : List Component) (vs : List Value) (ms : Members) → MembersJson u (λ k v j. g k v j × (depth j ≤ limit)) ps vs ms → MembersJson u g ps vs ms × (members_depth ms ≤ limit)
+  members_within : (ps : List Component) (vs : List Value) (ms : Members)
+      → MembersJson u (λ k v j. g k v j × (depth j ≤ limit)) ps vs ms
+      → MembersJson u g ps vs ms × (members_depth ms ≤ limit)
   members_within [] [] ms e = let k = ap members_depth e in (e, omega (arith, k))
   members_within [] (v ∷ vs) ms h = absurd h
   members_within (p ∷ ps) [] ms h = absurd h
@@ -123,15 +134,21 @@ module _ (u : ℕ → Bool) (g : ℕ → Value → Json → Type 0) (limit : ℕ
       let m = r.1 in
       (inr (n, (x, rest, e, b, r.0)), omega (arith, k, le, m))
 
-  pub object_within : (ps : List Component) (vs : List Value) (j : Json) → ObjectJson u (λ k v j. g k v j × (depth j ≤ limit)) ps j vs → ObjectJson u g ps j vs × (depth j ≤ limit + 1)
-  object_within ps vs j (ms, e, h) = let r = members_within ps vs ms h in let k = ap depth e in let m = r.1 in ((ms, e, r.0), omega (arith, k, m))
+  pub object_within : (ps : List Component) (vs : List Value) (j : Json)
+      → ObjectJson u (λ k v j. g k v j × (depth j ≤ limit)) ps j vs → ObjectJson u g ps j vs × (depth j ≤ limit + 1)
+  object_within ps vs j (ms, e, h) =
+      let r = members_within ps vs ms h in let k = ap depth e in let m = r.1 in ((ms, e, r.0), omega (arith, k, m))
 
-  pub chosen_within : (ks : List Alternative) (j : Json) (v : Value) → IsChosen (ChosenJson (λ k v j. g k v j × (depth j ≤ limit)) ks j) v → IsChosen (ChosenJson g ks j) v × (depth j ≤ limit + 1)
-  chosen_within ks j (Chosen' i _ w) (a, x, at, e, (b, le)) = let k = ap depth e in ((a, x, at, e, b), omega (arith, k, le))
+  pub chosen_within : (ks : List Alternative) (j : Json) (v : Value)
+      → IsChosen (ChosenJson (λ k v j. g k v j × (depth j ≤ limit)) ks j) v
+      → IsChosen (ChosenJson g ks j) v × (depth j ≤ limit + 1)
+  chosen_within ks j (Chosen' i _ w) (a, x, at, e, (b, le)) =
+      let k = ap depth e in ((a, x, at, e, b), omega (arith, k, le))
   chosen_within ks j v h = absurd h
 
 module _ (P : Value → Json → Type 0) (limit : ℕ) where
-  items_within : (vs : List Value) (js : Items) → ItemsJson (λ v j. P v j × (depth j ≤ limit)) vs js → ItemsJson P vs js × (items_depth js ≤ limit)
+  items_within : (vs : List Value) (js : Items) → ItemsJson (λ v j. P v j × (depth j ≤ limit)) vs js
+      → ItemsJson P vs js × (items_depth js ≤ limit)
   items_within [] js e = let k = ap items_depth e in (e, omega (arith, k))
   items_within (v ∷ vs) js (x, rest, e, (b, le), h) =
       let r = items_within vs rest h in
@@ -139,8 +156,10 @@ module _ (P : Value → Json → Type 0) (limit : ℕ) where
       let m = r.1 in
       ((x, rest, e, b, r.0), omega (arith, k, le, m))
 
-  pub array_within : (vs : List Value) (j : Json) → ArrayJson (λ v j. P v j × (depth j ≤ limit)) j vs → ArrayJson P j vs × (depth j ≤ limit + 1)
-  array_within vs j (js, e, h) = let r = items_within vs js h in let k = ap depth e in let m = r.1 in ((js, e, r.0), omega (arith, k, m))
+  pub array_within : (vs : List Value) (j : Json) → ArrayJson (λ v j. P v j × (depth j ≤ limit)) j vs
+      → ArrayJson P j vs × (depth j ≤ limit + 1)
+  array_within vs j (js, e, h) =
+      let r = items_within vs js h in let k = ap depth e in let m = r.1 in ((js, e, r.0), omega (arith, k, m))
 
 open_items : (limit : ℕ) (vs : List Value) (js : Items) → ItemsJson OpenJson vs js → items_depth js ≤ limit
 open_items limit [] js e = let k = ap items_depth e in omega (arith, k)
@@ -167,7 +186,8 @@ both_items : (P Q : List Value → Type 0) (v : Value) → AreItems P v → AreI
 both_items P Q (Items' _ row) a b = (items-the_row-Value _ row, a, b)
 both_items P Q v a b = absurd a
 
-both_elements : (P Q : List Value → Type 0) (v : Value) → AreElements P v → AreElements Q v → (vs : List Value) × P vs × Q vs
+both_elements : (P Q : List Value → Type 0) (v : Value) → AreElements P v → AreElements Q v
+    → (vs : List Value) × P vs × Q vs
 both_elements P Q (Elements' _ row) a b = (items-the_row-Value _ row, a, b)
 both_elements P Q v a b = absurd a
 
@@ -183,14 +203,16 @@ any_elements P v a = absurd a
 
 named_size : (n k : ℕ) (bs all : List Bool) → all ≡ bs ++ zeros k → length all ≡ n → IsSize NamedBits n (length bs)
 named_size n zero bs all e l = inl (omega (arith, ap length e, length-append bs (zeros 0), length-replicate 0 false, l))
-named_size n (suc k) bs all e l = inr (refl, omega (arith, ap length e, length-append bs (zeros (suc k)), length-replicate (suc k) false, l))
+named_size n (suc k) bs all e l =
+    inr (refl, omega (arith, ap length e, length-append bs (zeros (suc k)), length-replicate (suc k) false, l))
 
 size_filled : (kind : LeafKind) (n : ℕ) (bs all : List Bool) → IsFilled kind n bs all → IsSize kind n (length bs)
 size_filled NamedBits n bs all (k, e, l) = named_size n k bs all e l
 size_filled kind n bs all f = inl (sym (ap length f.0) ∙ f.1)
 
 module _ (d : ℕ) (kind : LeafKind) (c : Constraints) (names : List NamedNumber) (e : JsonError) (j : Json) where
-  none_bits : (size : Option ℕ) (bs : List Bool) → AreRefusedBits d kind c size bs e → BitsJson kind size bs j → depth j ≤ d → ⊥
+  none_bits : (size : Option ℕ) (bs : List Bool) → AreRefusedBits d kind c size bs e → BitsJson kind size bs j
+      → depth j ≤ d → ⊥
   none_bits (Some n) bs (wrong, i) (all, f, x) le = wrong (size_filled kind n bs all f)
   none_bits None bs (z, i) (w, (x, y, is)) le = let k = ap depth is in omega (arith, k, le, z)
 
@@ -207,38 +229,51 @@ module _ (d : ℕ) (kind : LeafKind) (c : Constraints) (names : List NamedNumber
   none_leaf v (inr (f, x)) g h le = none_form v x h le
 
 module _ (P : Value → Json → Type 0) (h : Value → Type 0) (g : Value → JsonError → Type 0) (limit : ℕ) (none : (v : Value) (e : JsonError) (j : Json) → g v e → P v j → depth j ≤ limit → ⊥) where
-  none_items : (i : ℕ) (vs : List Value) (e : JsonError) (js : Items) → AreRefusedElements h g i vs e → ItemsJson P vs js → items_depth js ≤ limit → ⊥
+  none_items : (i : ℕ) (vs : List Value) (e : JsonError) (js : Items) → AreRefusedElements h g i vs e
+      → ItemsJson P vs js → items_depth js ≤ limit → ⊥
   none_items i [] e js x b le = x
-  none_items i (v ∷ vs) e js (inl (d, step, s, x, k, t)) (y, rest, is, b, r) le = let m = ap items_depth is in none v d y x b (omega (arith, m, le))
-  none_items i (v ∷ vs) e js (inr (w, x)) (y, rest, is, b, r) le = let m = ap items_depth is in none_items (i + 1) vs e rest x r (omega (arith, m, le))
+  none_items i (v ∷ vs) e js (inl (d, step, s, x, k, t)) (y, rest, is, b, r) le =
+      let m = ap items_depth is in none v d y x b (omega (arith, m, le))
+  none_items i (v ∷ vs) e js (inr (w, x)) (y, rest, is, b, r) le =
+      let m = ap items_depth is in none_items (i + 1) vs e rest x r (omega (arith, m, le))
 
-  none_array : (vs : List Value) (e : JsonError) (j : Json) → AreRefusedElements h g 0 vs e → ArrayJson P j vs → depth j ≤ limit + 1 → ⊥
+  none_array : (vs : List Value) (e : JsonError) (j : Json) → AreRefusedElements h g 0 vs e → ArrayJson P j vs
+      → depth j ≤ limit + 1 → ⊥
   none_array vs e j x (js, is, b) le = let m = ap depth is in none_items 0 vs e js x b (omega (arith, m, le))
 
 array_deep : (P : Value → Json → Type 0) (vs : List Value) (j : Json) → ArrayJson P j vs → 0 < depth j
 array_deep P vs j (js, is, b) = let m = ap depth is in omega (arith, m)
 
-object_deep : (u : ℕ → Bool) (g : ℕ → Value → Json → Type 0) (ps : List Component) (vs : List Value) (j : Json) → ObjectJson u g ps j vs → 0 < depth j
+object_deep : (u : ℕ → Bool) (g : ℕ → Value → Json → Type 0) (ps : List Component) (vs : List Value) (j : Json)
+    → ObjectJson u g ps j vs → 0 < depth j
 object_deep u g ps vs j (ms, is, b) = let m = ap depth is in omega (arith, m)
 
 module _ (u : ℕ → Bool) (g : ℕ → Value → Json → Type 0) (h : ℕ → Value → Type 0) (r : ℕ → Value → JsonError → Type 0) (limit : ℕ) (none : (k : ℕ) (v : Value) (e : JsonError) (j : Json) → r k v e → g k v j → depth j ≤ limit → ⊥) where
-  none_members : (ps : List Component) (vs : List Value) (e : JsonError) (ms : Members) → AreRefusedComponents u h r ps vs e → MembersJson u g ps vs ms → members_depth ms ≤ limit → ⊥
+  none_members : (ps : List Component) (vs : List Value) (e : JsonError) (ms : Members)
+      → AreRefusedComponents u h r ps vs e → MembersJson u g ps vs ms → members_depth ms ≤ limit → ⊥
   none_members [] [] e ms x b le = x
   none_members [] (v ∷ vs) e ms x b le = b
   none_members (p ∷ ps) [] e ms x b le = b
   none_members (p ∷ ps) (v ∷ vs) e ms (inl (n, x)) (inl (o, b)) le = n o
-  none_members (p ∷ ps) (v ∷ vs) e ms (inl (n, (d, step, s, x, k, t))) (inr (m, (y, rest, is, b, c))) le = let q = ap members_depth is in none p.type_id.0 v d y x b (omega (arith, q, le))
+  none_members (p ∷ ps) (v ∷ vs) e ms (inl (n, (d, step, s, x, k, t))) (inr (m, (y, rest, is, b, c))) le =
+      let q = ap members_depth is in none p.type_id.0 v d y x b (omega (arith, q, le))
   none_members (p ∷ ps) (v ∷ vs) e ms (inr (w, x)) (inl (o, b)) le = none_members ps vs e ms x b le
-  none_members (p ∷ ps) (v ∷ vs) e ms (inr (w, x)) (inr (m, (y, rest, is, b, c))) le = let q = ap members_depth is in none_members ps vs e rest x c (omega (arith, q, le))
+  none_members (p ∷ ps) (v ∷ vs) e ms (inr (w, x)) (inr (m, (y, rest, is, b, c))) le =
+      let q = ap members_depth is in none_members ps vs e rest x c (omega (arith, q, le))
 
-  none_object : (ps : List Component) (vs : List Value) (e : JsonError) (j : Json) → AreRefusedComponents u h r ps vs e → ObjectJson u g ps j vs → depth j ≤ limit + 1 → ⊥
+  none_object : (ps : List Component) (vs : List Value) (e : JsonError) (j : Json) → AreRefusedComponents u h r ps vs e
+      → ObjectJson u g ps j vs → depth j ≤ limit + 1 → ⊥
   none_object ps vs e j x (ms, is, b) le = let q = ap depth is in none_members ps vs e ms x b (omega (arith, q, le))
 
-  none_objects : (ps : List Component) (v : Value) (e : JsonError) (j : Json) → IsRefusedList (AreRefusedComponents u h r ps) v e → AreItems (ObjectJson u g ps j) v → depth j ≤ limit + 1 → ⊥
+  none_objects : (ps : List Component) (v : Value) (e : JsonError) (j : Json)
+      → IsRefusedList (AreRefusedComponents u h r ps) v e → AreItems (ObjectJson u g ps j) v → depth j ≤ limit + 1 → ⊥
   none_objects ps v e j (inl (n, i)) b le = n (any_items (ObjectJson u g ps j) v b)
-  none_objects ps v e j (inr x) b le = let p = both_items (λ vs. AreRefusedComponents u h r ps vs e) (ObjectJson u g ps j) v x b in none_object ps p.0 e j p.1 p.2 le
+  none_objects ps v e j (inr x) b le =
+      let p =
+      both_items (λ vs. AreRefusedComponents u h r ps vs e) (ObjectJson u g ps j) v x b in none_object ps p.0 e j p.1 p.2 le
 
-  none_chosen : (ks : List Alternative) (v : Value) (e : JsonError) (j : Json) → IsRefusedChoice r ks v e → IsChosen (ChosenJson g ks j) v → depth j ≤ limit + 1 → ⊥
+  none_chosen : (ks : List Alternative) (v : Value) (e : JsonError) (j : Json) → IsRefusedChoice r ks v e
+      → IsChosen (ChosenJson g ks j) v → depth j ≤ limit + 1 → ⊥
   none_chosen ks (Chosen' i _ w) e j (inl (n, x)) (a, y, at, is, b) le = n (a, at)
   none_chosen ks (Chosen' i _ w) e j (inr (c, here, (d, step, s, x, k, t))) (a, y, at, is, b) le =
       let same : c ≡ a = some_is c a (here ∙ sym at) in
@@ -250,27 +285,38 @@ module _ (u : ℕ → Bool) (g : ℕ → Value → Json → Type 0) (h : ℕ →
   chosen_deep ks (Chosen' i _ w) j (a, y, at, is, b) = let q = ap depth is in omega (arith, q)
   chosen_deep ks v j b = absurd b
 
-none_lists : (P : Value → Json → Type 0) (h : Value → Type 0) (g : Value → JsonError → Type 0) (limit : ℕ) → ((v : Value) (e : JsonError) (j : Json) → g v e → P v j → depth j ≤ limit → ⊥)
-    → (v : Value) (e : JsonError) (j : Json) → IsRefusedList (AreRefusedElements h g 0) v e → AreItems (ArrayJson P j) v → depth j ≤ limit + 1 → ⊥
+none_lists : (P : Value → Json → Type 0) (h : Value → Type 0) (g : Value → JsonError → Type 0) (limit : ℕ)
+    → ((v : Value) (e : JsonError) (j : Json) → g v e → P v j → depth j ≤ limit → ⊥)
+    → (v : Value) (e : JsonError) (j : Json) → IsRefusedList (AreRefusedElements h g 0) v e → AreItems (ArrayJson P j) v
+    → depth j ≤ limit + 1 → ⊥
 none_lists P h g limit none v e j (inl (n, i)) b le = n (any_items (ArrayJson P j) v b)
-none_lists P h g limit none v e j (inr x) b le = let p = both_items (λ vs. AreRefusedElements h g 0 vs e) (ArrayJson P j) v x b in none_array P h g limit none p.0 e j p.1 p.2 le
+none_lists P h g limit none v e j (inr x) b le =
+    let p =
+    both_items (λ vs. AreRefusedElements h g 0 vs e) (ArrayJson P j) v x b in none_array P h g limit none p.0 e j p.1 p.2 le
 
-none_sets : (P : Value → Json → Type 0) (h : Value → Type 0) (g : Value → JsonError → Type 0) (limit : ℕ) → ((v : Value) (e : JsonError) (j : Json) → g v e → P v j → depth j ≤ limit → ⊥)
-    → (v : Value) (e : JsonError) (j : Json) → IsRefusedSet (AreRefusedElements h g 0) v e → AreElements (ArrayJson P j) v → depth j ≤ limit + 1 → ⊥
+none_sets : (P : Value → Json → Type 0) (h : Value → Type 0) (g : Value → JsonError → Type 0) (limit : ℕ)
+    → ((v : Value) (e : JsonError) (j : Json) → g v e → P v j → depth j ≤ limit → ⊥)
+    → (v : Value) (e : JsonError) (j : Json) → IsRefusedSet (AreRefusedElements h g 0) v e
+    → AreElements (ArrayJson P j) v → depth j ≤ limit + 1 → ⊥
 none_sets P h g limit none v e j (inl (n, i)) b le = n (any_elements (ArrayJson P j) v b)
-none_sets P h g limit none v e j (inr x) b le = let p = both_elements (λ vs. AreRefusedElements h g 0 vs e) (ArrayJson P j) v x b in none_array P h g limit none p.0 e j p.1 p.2 le
+none_sets P h g limit none v e j (inr x) b le =
+    let p =
+    both_elements (λ vs. AreRefusedElements h g 0 vs e) (ArrayJson P j) v x b in none_array P h g limit none p.0 e j p.1 p.2 le
 
-items_deep : (P : List Value → Type 0) (j : Json) (v : Value) → ((vs : List Value) → P vs → 0 < depth j) → AreItems P v → 0 < depth j
+items_deep : (P : List Value → Type 0) (j : Json) (v : Value) → ((vs : List Value) → P vs → 0 < depth j) → AreItems P v
+    → 0 < depth j
 items_deep P j (Items' _ row) f h = f (items-the_row-Value _ row) h
 items_deep P j v f h = absurd h
 
-elements_deep : (P : List Value → Type 0) (j : Json) (v : Value) → ((vs : List Value) → P vs → 0 < depth j) → AreElements P v → 0 < depth j
+elements_deep : (P : List Value → Type 0) (j : Json) (v : Value) → ((vs : List Value) → P vs → 0 < depth j)
+    → AreElements P v → 0 < depth j
 elements_deep P j (Elements' _ row) f h = f (items-the_row-Value _ row) h
 elements_deep P j v f h = absurd h
 
 module _ (u : ℕ → Bool) (g : ℕ → Value → Json → Type 0) (h : ℕ → ℕ → Value → Type 0) (r : ℕ → ℕ → Value → JsonError → Type 0)
     (none : (limit k : ℕ) (v : Value) (e : JsonError) (j : Json) → r limit k v e → g k v j → depth j ≤ limit → ⊥) (limit : ℕ) (v : Value) (e : JsonError) (j : Json) where
-  none_nested : (ty : «Type») → IsRefusedNested u h r limit ty v e → 0 < depth j → (IsRefusedInside u (h (limit - 1)) (r (limit - 1)) ty v e → depth j ≤ limit - 1 + 1 → ⊥) → depth j ≤ limit → ⊥
+  none_nested : (ty : «Type») → IsRefusedNested u h r limit ty v e → 0 < depth j
+      → (IsRefusedInside u (h (limit - 1)) (r (limit - 1)) ty v e → depth j ≤ limit - 1 + 1 → ⊥) → depth j ≤ limit → ⊥
   none_nested ty (inl (z, i)) deep inside le = omega (arith, z, deep, le)
   none_nested ty (inr (some, x)) deep inside le = inside x (omega (arith, some, le))
 
@@ -292,11 +338,13 @@ module _ (u : ℕ → Bool) (g : ℕ → Value → Json → Type 0) (h : ℕ →
   none_by Unknown x b le =
       none_nested Unknown x (items_deep _ j v (λ vs. array_deep OpenJson vs j) b) (λ y. none_lists OpenJson HasOpen IsRefusedOpen (limit - 1) (λ w d i p q s. p.0 i q) v e j y b) le
 
-  none_found : (k : ℕ) (o : Option «Type») → IsRefusedFound u h r limit k o v e → JsonFound u g o v j → depth j ≤ limit → ⊥
+  none_found : (k : ℕ) (o : Option «Type») → IsRefusedFound u h r limit k o v e → JsonFound u g o v j → depth j ≤ limit
+      → ⊥
   none_found k None x b le = b
   none_found k (Some ty) x b le = none_by ty x b le
 
-pub none_at : (types : List «Type») (levels limit k : ℕ) (v : Value) (e : JsonError) (j : Json) → IsRefusedAt types levels limit k v e → JsonAt types levels k v j → depth j ≤ limit → ⊥
+pub none_at : (types : List «Type») (levels limit k : ℕ) (v : Value) (e : JsonError) (j : Json)
+    → IsRefusedAt types levels limit k v e → JsonAt types levels k v j → depth j ≤ limit → ⊥
 unfolding IsRefusedAt JsonAt
 none_at types zero limit k v e j x b le = b
 none_at types (suc levels) limit k v e j x b le =
@@ -305,8 +353,10 @@ none_at types (suc levels) limit k v e j x b le =
 
 -- ---- what is refused, one level deeper
 
-pub refused_below : (types : List «Type») (levels below limit k : ℕ) (ty : «Type») (v : Value) (e : JsonError) → levels ≡ suc below → Some ty ≡ slice_get types k
-    → IsRefusedBy (unknown_in types) (HasJsonWithin types below) (IsRefusedAt types below) limit ty v e → IsRefusedAt types levels limit k v e
+pub refused_below : (types : List «Type») (levels below limit k : ℕ) (ty : «Type») (v : Value) (e : JsonError)
+    → levels ≡ suc below → Some ty ≡ slice_get types k
+    → IsRefusedBy (unknown_in types) (HasJsonWithin types below) (IsRefusedAt types below) limit ty v e
+    → IsRefusedAt types levels limit k v e
 unfolding IsRefusedAt
 refused_below types zero below limit k ty v e n at x = absurd (omega (arith, n))
 refused_below types (suc m) below limit k ty v e n at x =
@@ -314,12 +364,14 @@ refused_below types (suc m) below limit k ty v e n at x =
     subst (λ o. IsRefusedFound (unknown_in types) (λ d i w. HasJsonWithin types m d i w) (λ d i w z. IsRefusedAt types m d i w z) limit k o v e) at
     (subst (λ b. IsRefusedBy (unknown_in types) (λ d i w. HasJsonWithin types b d i w) (λ d i w z. IsRefusedAt types b d i w z) limit ty v e) (sym s) x)
 
-pub no_level : (types : List «Type») (levels limit k : ℕ) (v : Value) (e : JsonError) → levels ≡ 0 → IsOfItself Unfit e → IsRefusedAt types levels limit k v e
+pub no_level : (types : List «Type») (levels limit k : ℕ) (v : Value) (e : JsonError) → levels ≡ 0 → IsOfItself Unfit e
+    → IsRefusedAt types levels limit k v e
 unfolding IsRefusedAt
 no_level types zero limit k v e z x = x
 no_level types (suc m) limit k v e z x = absurd (omega (arith, z))
 
-pub no_type : (types : List «Type») (levels limit k : ℕ) (id : TypeId) (v : Value) (e : JsonError) → 0 < levels → None ≡ slice_get types k → id.0 ≡ k → IsOfItself (NoType id) e → IsRefusedAt types levels limit k v e
+pub no_type : (types : List «Type») (levels limit k : ℕ) (id : TypeId) (v : Value) (e : JsonError) → 0 < levels
+    → None ≡ slice_get types k → id.0 ≡ k → IsOfItself (NoType id) e → IsRefusedAt types levels limit k v e
 unfolding IsRefusedAt
 no_type types zero limit k id v e z at is x = absurd (omega (arith, z))
 no_type types (suc m) limit k id v e z at is x =
@@ -327,7 +379,9 @@ no_type types (suc m) limit k id v e z at is x =
 
 -- An array or an object that is refused.
 pub refused_nested : (u : ℕ → Bool) (h : ℕ → ℕ → Value → Type 0) (r : ℕ → ℕ → Value → JsonError → Type 0) (limit : ℕ) (ty : «Type») (v : Value) (e : JsonError)
-    → ((kind : _) (tag : _) (c : _) (names : _) → ty ≢ Leaf kind tag c names) → ((tag : _) (ns : _) → ty ≢ Enumerated tag ns) → ((tag : _) → ty ≢ Any tag) → ((tag : _) (k : _) → ty ≢ Tagged tag k)
+    → ((kind : _) (tag : _) (c : _) (names : _) → ty ≢ Leaf kind tag c names)
+    → ((tag : _) (ns : _) → ty ≢ Enumerated tag ns) → ((tag : _) → ty ≢ Any tag)
+    → ((tag : _) (k : _) → ty ≢ Tagged tag k)
     → IsRefusedNested u h r limit ty v e → IsRefusedBy u h r limit ty v e
 refused_nested u h r limit (Leaf kind tag c names) v e a b c' d x = absurd (a kind tag c names refl)
 refused_nested u h r limit (Enumerated tag ns) v e a b c d x = absurd (b tag ns refl)
@@ -337,33 +391,46 @@ refused_nested u h r limit ty v e a b c d x = x
 
 -- The member of the alternative that is chosen is refused.
 pub chosen_refused : (g : ℕ → Value → JsonError → Type 0) (ks : List Alternative) (i : ℕ) (w x : Value) (a : Alternative) (name : List ℕ) (e : JsonError) → Some a ≡ slice_get ks i → name ≡ string_bytes a.name → x ≡ w
-    → OrMemory (IsOfMember name (g a.type_id.0 x)) e → OrMemory (λ d. ((IsAlternative ks i w → ⊥) × IsOfItself Unfit d) ⊎ IsRefusedAlternative g ks d i w) e
+    → OrMemory (IsOfMember name (g a.type_id.0 x)) e
+    → OrMemory (λ d. ((IsAlternative ks i w → ⊥) × IsOfItself Unfit d) ⊎ IsRefusedAlternative g ks d i w) e
 chosen_refused g ks i w x a name e at n same (inl m) = inl m
-chosen_refused g ks i w x a name e at n same (inr h) = inr (inr (a, at, subst (λ s. IsOfMember s (g a.type_id.0 w) e) n (subst (λ y. IsOfMember name (g a.type_id.0 y) e) same h)))
+chosen_refused g ks i w x a name e at n same (inr h) =
+    inr (inr (a, at, subst (λ s. IsOfMember s (g a.type_id.0 w) e) n (subst (λ y. IsOfMember name (g a.type_id.0 y) e) same h)))
 
 -- ---- components and elements, one after the other
 
 -- What is wrong with those that are left is what is wrong with all.
-abbrev pub ComponentsSoFar : (ℕ → Bool) → (ℕ → Value → Type 0) → (ℕ → Value → JsonError → Type 0) → List Component → List Component → List Value → List Value → Type 0
-ComponentsSoFar u h r all rest vs left = (e : JsonError) → AreRefusedComponents u h r rest left e → AreRefusedComponents u h r all vs e
+abbrev pub ComponentsSoFar : (ℕ → Bool) → (ℕ → Value → Type 0) → (ℕ → Value → JsonError → Type 0) → List Component
+    → List Component → List Value → List Value → Type 0
+ComponentsSoFar u h r all rest vs left =
+    (e : JsonError) → AreRefusedComponents u h r rest left e → AreRefusedComponents u h r all vs e
 
 module _ (u : ℕ → Bool) (g : ℕ → Value → Json → Type 0) (h : ℕ → Value → Type 0) (r : ℕ → Value → JsonError → Type 0) (all rest : List Component) (vs left : List Value) (k : ComponentsSoFar u h r all rest vs left) where
   refused_rest : (ps : List Component) (ws : List Value) → rest ≡ ps → left ≡ ws → ComponentsSoFar u h r all ps vs ws
-  refused_rest ps ws a b e x = k e (subst (λ l. AreRefusedComponents u h r l left e) (sym a) (subst (λ l. AreRefusedComponents u h r ps l e) (sym b) x))
+  refused_rest ps ws a b e x =
+      k e (subst (λ l. AreRefusedComponents u h r l left e) (sym a) (subst (λ l. AreRefusedComponents u h r ps l e) (sym b) x))
 
-  pub component_written : (after : List Component) (others : List Value) (p : Component) (v : Value) (old new : _) → rest ≡ p ∷ after → left ≡ v ∷ others
-      → ((k : ℕ) (w : Value) → ((j : Json) × g k w j) → h k w) → AppendsComponent u g p v old new → ComponentsSoFar u h r all after vs others
-  component_written after others p v old new a b f (inl (o, s)) e x = refused_rest (p ∷ after) (v ∷ others) a b e (inr (inl o, x))
-  component_written after others p v old new a b f (inr (n, (j, s, i))) e x = refused_rest (p ∷ after) (v ∷ others) a b e (inr (inr (f p.type_id.0 v (j, i)), x))
+  pub component_written : (after : List Component) (others : List Value) (p : Component) (v : Value) (old new : _)
+      → rest ≡ p ∷ after → left ≡ v ∷ others
+      → ((k : ℕ) (w : Value) → ((j : Json) × g k w j) → h k w) → AppendsComponent u g p v old new
+      → ComponentsSoFar u h r all after vs others
+  component_written after others p v old new a b f (inl (o, s)) e x =
+      refused_rest (p ∷ after) (v ∷ others) a b e (inr (inl o, x))
+  component_written after others p v old new a b f (inr (n, (j, s, i))) e x =
+      refused_rest (p ∷ after) (v ∷ others) a b e (inr (inr (f p.type_id.0 v (j, i)), x))
 
-  pub component_refused : (after : List Component) (others : List Value) (p : Component) (v : Value) (e : JsonError) → rest ≡ p ∷ after → left ≡ v ∷ others → OrMemory (IsRefusedComponent u r p v) e → OrMemory (AreRefusedComponents u h r all vs) e
+  pub component_refused : (after : List Component) (others : List Value) (p : Component) (v : Value) (e : JsonError)
+      → rest ≡ p ∷ after → left ≡ v ∷ others → OrMemory (IsRefusedComponent u r p v) e
+      → OrMemory (AreRefusedComponents u h r all vs) e
   component_refused after others p v e a b (inl m) = inl m
   component_refused after others p v e a b (inr x) = inr (refused_rest (p ∷ after) (v ∷ others) a b e (inl x))
 
-  pub value_missing : (after : List Component) (p : Component) (e : JsonError) → rest ≡ p ∷ after → left ≡ [] → IsOfItself Unfit e → OrMemory (AreRefusedComponents u h r all vs) e
+  pub value_missing : (after : List Component) (p : Component) (e : JsonError) → rest ≡ p ∷ after → left ≡ []
+      → IsOfItself Unfit e → OrMemory (AreRefusedComponents u h r all vs) e
   value_missing after p e a b x = inr (refused_rest (p ∷ after) [] a b e x)
 
-  pub value_left : (e : JsonError) → rest ≡ [] → 0 < length left → IsOfItself Unfit e → OrMemory (AreRefusedComponents u h r all vs) e
+  pub value_left : (e : JsonError) → rest ≡ [] → 0 < length left → IsOfItself Unfit e
+      → OrMemory (AreRefusedComponents u h r all vs) e
   value_left e a some x = go left refl some
     where
       go : (l : List Value) → left ≡ l → 0 < length l → OrMemory (AreRefusedComponents u h r all vs) e
@@ -377,7 +444,8 @@ module _ (h : Value → Type 0) (r : Value → JsonError → Type 0) (i : ℕ) (
   pub element_written : h v → ElementsSoFar h r (i + 1) all others
   element_written w e x = k e (subst (λ l. AreRefusedElements h r i l e) (sym at) (inr (w, x)))
 
-  pub element_refused : (d e : JsonError) → OrMemory (r v) d → OrMemory (IsOfElement i (λ x. x ≡ d)) e → OrMemory (AreRefusedElements h r 0 all) e
+  pub element_refused : (d e : JsonError) → OrMemory (r v) d → OrMemory (IsOfElement i (λ x. x ≡ d)) e
+      → OrMemory (AreRefusedElements h r 0 all) e
   element_refused d e w x = go (part_fails (λ step. step ≡ Element i) (r v) d e w x)
     where
       go : OrMemory (IsOfElement i (r v)) e → OrMemory (AreRefusedElements h r 0 all) e
@@ -385,7 +453,8 @@ module _ (h : Value → Type 0) (r : Value → JsonError → Type 0) (i : ℕ) (
       go (inr y) = inr (k e (subst (λ l. AreRefusedElements h r i l e) (sym at) (inl y)))
 
 -- What is refused has no JSON.
-pub refused_json : (types : List «Type») (levels limit k : ℕ) (v : Value) (e : JsonError) → OrMemory (IsRefusedAt types levels limit k v) e
+pub refused_json : (types : List «Type») (levels limit k : ℕ) (v : Value) (e : JsonError)
+    → OrMemory (IsRefusedAt types levels limit k v) e
     → OrMemory (λ x. ((j : Json) → JsonWithin types levels limit k v j → ⊥) × IsRefusedAt types levels limit k v x) e
 refused_json types levels limit k v e (inl m) = inl m
 refused_json types levels limit k v e (inr x) = inr (λ j h. none_at types levels limit k v e j x h.0 h.1, x)

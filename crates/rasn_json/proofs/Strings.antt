@@ -1,5 +1,5 @@
 -- Each JSON string and each number is read in one way.
-use Rattle.std.proofs.Common.{◌≡◌, ◌≢◌, ◌⊎◌, ℕ, zero, suc, ◌+◌, ◌*◌, ◌/◌, ◌%◌, ◌^◌, ◌<◌, ℤ, pos, neg_ℤ, List, [], ◌∷◌, ◌++◌, Bool, true, false, ◌&&◌, ◌==◌, length, get_or, All, Some, None, Result, Ok, Err, inl, inr, refl, sym, ap, ◌∙◌, subst, arith, decimal}
+use Rattle.std.proofs.Common.{◌≡◌, ◌≢◌, ℕ, zero, suc, ◌+◌, ◌/◌, ◌%◌, ◌^◌, ◌<◌, ℤ, pos, neg_ℤ, List, [], ◌∷◌, ◌++◌, Bool, true, ◌&&◌, ◌==◌, length, get_or, All, Some, Ok, inl, inr, refl, sym, ap, ◌∙◌, subst, arith, decimal}
 use Rattle.std.specs.Prelude.{encode_utf8_all, slice_index}
 use Rattle.std.specs.List.{flat_map}
 use Rattle.std.specs.Char.Escape.{encode_utf16}
@@ -10,8 +10,8 @@ use Rattle.std.proofs.lemmas.List.Elements.{All-head, All-tail}
 use Rattle.std.proofs.lemmas.Str.{encodes_same}
 use Rattle.std.proofs.lemmas.Str.Parse.{not_in_digits}
 use Rattle.std.proofs.lemmas.Fmt.{digits_decimal, digits_value-decimal, decimal_injective, decimal_nonempty}
-use Rattle.json.specs.Json.{Json, number, string}
-use Rattle.json.specs.Find.{as_str, as_number}
+use Rattle.json.specs.Json.{Json, string}
+use Rattle.json.specs.Find.{as_str}
 use Rattle.hex.specs.Hex.{decode_of, encode_upper, encode_with, upper_digits}
 use Rattle.hex.proofs.HexLemmas.{decode_of-encode_upper}
 use Rattle.std.specs.Fmt.{digit_glyph}
@@ -20,16 +20,15 @@ use Rattle.rasn_types.specs.CharacterString.{units_of}
 use Rattle.rasn_types.specs.declared.ber.time.text.Fields.{Fields}
 use Rattle.rasn_types.specs.Calendar.{Moment, Stamp}
 use Rattle.rasn_types.specs.Time.{TimeText, GeneralUtc, GeneralGeneralized, at_utc, both, fields_of, written_generalized, written_utc}
-use Rattle.rasn_types.specs.Numbered.{AreArcs}
-use Rattle.rasn_types.specs.Text.{hexadecimal, dotted, point_and_arc, IsSmall, IsDotted}
+use Rattle.rasn_types.specs.Text.{hexadecimal, point_and_arc, IsSmall}
 use Rattle.rasn_types.proofs.Dotted.{own, wide}
 use Rattle.rasn.proofs.LawsHold.Grammar.{one_meaning}
 use Rattle.rasn.proofs.ReadBack.Written.{generalized_read_back, utc_read_back}
 use Rattle.rasn_schema.specs.declared.types.LeafKind.{LeafKind}
 use Rattle.rasn_schema.specs.declared.types.LeafKind.TheVariants.{UtcTime}
-use Rattle.rasn_json.specs.Decimal.{IsSigned, IsWhole}
+use Rattle.rasn_json.specs.Decimal.{IsWhole}
 use Rattle.rasn_json.specs.Json.{HexadecimalJson}
-use Rattle.rasn_json.specs.Reading.{HexadecimalRead, WholeRead}
+use Rattle.rasn_json.specs.Reading.{HexadecimalRead}
 use Rattle.rasn_json.specs.Texts.{InstantText, WrittenInstant, UnitsText, ArcsText}
 use Rattle.rasn_json.proofs.LowFirst.{digits_of_octets}
 

@@ -1,15 +1,13 @@
 -- Names and refusals that were worked out by hand.
-use Rattle.std.proofs.Common.{◌≡◌, ◌⊎◌, ◌<◌, ◌++◌, ◌∙◌, ℕ, zero, suc, Vec, List, [], ◌∷◌, true, Option, Some, None, length, length-append, inl, inr, refl, sym, ap, subst, arith}
+use Rattle.std.proofs.Common.{◌≡◌, ◌<◌, ◌++◌, ◌∙◌, ℕ, zero, suc, Vec, List, [], ◌∷◌, true, Some, length, length-append, inl, inr, refl, sym, ap, subst, arith}
 use Rattle.std.specs.Prelude.{codes, slice_get}
 use Rattle.std.specs.Global.{Global}
 use Rattle.std.specs.String.{string_bytes}
-use Rattle.json.specs.Json.{Json}
 use Rattle.rasn_types.specs.Tags.{eoc}
 use Rattle.rasn_types.specs.declared.types.constraints.Constraints.{Constraints}
 use Rattle.rasn_schema.specs.declared.type_id.TypeId.{TypeId}
 use Rattle.rasn_schema.specs.declared.types.LeafKind.TheVariants.{BitString, NamedBits}
 use Rattle.rasn_schema.specs.declared.types.Alternative.{Alternative}
-use Rattle.rasn_schema.specs.declared.types.Component.{Component}
 use Rattle.rasn_schema.specs.declared.types.NamedNumber.{NamedNumber}
 use Rattle.rasn_schema.specs.declared.types.«Type».{«Type»}
 use Rattle.rasn_schema.specs.declared.types.«Type».TheVariants.{Any, Enumerated}
@@ -23,7 +21,7 @@ use Rattle.rasn_json.specs.declared.error.JsonStep.TheVariants.{Element}
 use Rattle.rasn_json.specs.Json.{IsSize}
 use Rattle.rasn_json.specs.Names.{HaveDistinctNames, HaveOwnNames, HasDistinctNames, name_of_alternative, name_of_number}
 use Rattle.rasn_json.specs.Reading.{AreNames, IsComponentName, IsNameOfBits}
-use Rattle.rasn_json.specs.Refusals.{AreRefusedBits, AreRefusedElements, HasOpen, IsMemory, IsOfElement, IsOfItself, IsOfMember, IsOfPart, IsRefusedAt, IsRefusedOpen}
+use Rattle.rasn_json.specs.Refusals.{AreRefusedBits, AreRefusedElements, HasOpen, IsMemory, IsOfElement, IsOfItself, IsOfPart, IsRefusedAt, IsRefusedOpen}
 use Rattle.rasn_json.specs.WorkedParts.{WorkedNames, WorkedRefusals}
 
 -- ---- names
@@ -33,7 +31,8 @@ two_names zero s e = (inr (some_is s (codes "length") e), λ i lt at. absurd (om
 two_names (suc zero) s e = (inl (some_is s (codes "value") e), λ i lt at. before i lt at)
   where
     before : (i : ℕ) → i < 1 → Some s ≡ slice_get (codes "length" ∷ codes "value" ∷ []) i → ⊥
-    before zero lt at = let d = ap length (sym (some_is s (codes "length") at) ∙ some_is s (codes "value") e) in omega (arith, d)
+    before zero lt at =
+        let d = ap length (sym (some_is s (codes "length") at) ∙ some_is s (codes "value") e) in omega (arith, d)
     before (suc i) lt at = omega (arith, lt)
 two_names (suc (suc k)) s e = cc
 
@@ -52,9 +51,11 @@ one_alternative a zero zero x y d e f = refl
 one_alternative a (suc i) k x y d e f = cc
 one_alternative a zero (suc k) x y d e f = cc
 
-not_two : (m n : NamedNumber) (ns : Vec NamedNumber Global) → ns.items ≡ m ∷ n ∷ [] → string_bytes m.name ≡ string_bytes n.name → HaveDistinctNames (Enumerated eoc ns ∷ []) → ⊥
+not_two : (m n : NamedNumber) (ns : Vec NamedNumber Global) → ns.items ≡ m ∷ n ∷ []
+    → string_bytes m.name ≡ string_bytes n.name → HaveDistinctNames (Enumerated eoc ns ∷ []) → ⊥
 not_two m n ns e same h =
-    let own : HaveOwnNames name_of_number (m ∷ n ∷ []) = subst (HaveOwnNames name_of_number) e (h 0 (Enumerated eoc ns) refl) in
+    let own : HaveOwnNames name_of_number (m ∷ n ∷ []) =
+    subst (HaveOwnNames name_of_number) e (h 0 (Enumerated eoc ns) refl) in
     let d : 0 ≡ 1 = own 0 1 m n refl refl same in omega (arith, d)
 
 one_type : HaveDistinctNames (Any eoc ∷ [])
@@ -86,7 +87,8 @@ worked_names = record {
 no_steps : (l : List JsonStep) (x : JsonStep) → [] ≡ l ++ x ∷ [] → ⊥
 no_steps l x e = omega (arith, ap length e, length-append l (x ∷ []))
 
-no_part : (kind : JsonErrorKind) (S : JsonStep → Type 0) (P : JsonError → Type 0) (e : JsonError) → IsOfItself kind e → IsOfPart S P e → ⊥
+no_part : (kind : JsonErrorKind) (S : JsonStep → Type 0) (P : JsonError → Type 0) (e : JsonError) → IsOfItself kind e
+    → IsOfPart S P e → ⊥
 no_part kind S P e (k, none) (d, step, s, p, same, steps) = no_steps d.steps.items step (sym none ∙ steps)
 
 too_few : (c : Constraints) (e : JsonError) → AreRefusedBits 0 NamedBits c (Some 8) (true ∷ []) e → ⊥
@@ -113,14 +115,16 @@ open_is_not_refused o e (j, h) x = x.0 j h
 null_is_refused : (e : JsonError) → IsOfItself Unfit e → IsRefusedOpen Null e
 null_is_refused e x = (λ j h. h, x)
 
-second : (o : _) (e : JsonError) → HasOpen (Octets o) → IsOfElement 1 (IsOfItself Unfit) e → AreRefusedElements HasOpen IsRefusedOpen 0 (Octets o ∷ Null ∷ []) e
+second : (o : _) (e : JsonError) → HasOpen (Octets o) → IsOfElement 1 (IsOfItself Unfit) e
+    → AreRefusedElements HasOpen IsRefusedOpen 0 (Octets o ∷ Null ∷ []) e
 second o e h (d, step, s, p, same, steps) = inr (h, inl (d, step, s, null_is_refused d p, same, steps))
 
 first : (o : _) (e : JsonError) → HasOpen (Octets o) → AreRefusedElements HasOpen IsRefusedOpen 0 (Octets o ∷ []) e → ⊥
 first o e h (inl (d, step, s, p, same, steps)) = open_is_not_refused o d h p
 first o e h (inr (w, x)) = x
 
-past : (e : JsonError) → IsOfElement 1 (IsOfItself Unfit) e → AreRefusedElements HasOpen IsRefusedOpen 0 (Null ∷ Null ∷ []) e → ⊥
+past : (e : JsonError) → IsOfElement 1 (IsOfItself Unfit) e
+    → AreRefusedElements HasOpen IsRefusedOpen 0 (Null ∷ Null ∷ []) e → ⊥
 past e h (inl x) = other_element (IsOfItself Unfit) (IsRefusedOpen Null) e h x
 past e h (inr ((j, w), x)) = w
 

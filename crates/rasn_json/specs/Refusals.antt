@@ -35,7 +35,9 @@ IsOfItself kind e = (e.kind ≡ kind) × (e.steps.items ≡ [])
 
 -- The error is that of a part, to which this step leads.
 abbrev pub IsOfPart : (JsonStep → Type 0) → (JsonError → Type 0) → JsonError → Type 0
-IsOfPart S P e = (d : JsonError) × (step : JsonStep) × S step × P d × (e.kind ≡ d.kind) × (e.steps.items ≡ d.steps.items ++ step ∷ [])
+IsOfPart S P e =
+    (d : JsonError) × (step : JsonStep) × S step × P d × (e.kind ≡ d.kind)
+    × (e.steps.items ≡ d.steps.items ++ step ∷ [])
 
 abbrev pub LeadsToMember : List ℕ → JsonStep → Type 0
 LeadsToMember name (Member s) = string_bytes s ≡ name
@@ -56,7 +58,8 @@ HasNone kind P e = ((j : Json) → P j → ⊥) × IsOfItself kind e
 
 -- Bits aren't as many as those of the type, or they would be an object where none may be nested.
 abbrev pub AreRefusedBits : ℕ → LeafKind → Constraints → Option ℕ → List Bool → JsonError → Type 0
-AreRefusedBits depth kind c (Some n) bs e = (IsSize kind n (length bs) → ⊥) × IsOfItself (WrongSize (length bs) (constraint_of c.size)) e
+AreRefusedBits depth kind c (Some n) bs e =
+    (IsSize kind n (length bs) → ⊥) × IsOfItself (WrongSize (length bs) (constraint_of c.size)) e
 AreRefusedBits depth kind c None bs e = (depth ≡ 0) × IsOfItself TooDeep e
 
 -- A value of the kind has no text, or its bits are refused.
@@ -69,7 +72,8 @@ IsRefusedForm depth kind c (OnDay d) e = HasNone NoJson (DayJson d) e
 IsRefusedForm depth kind c _ e = ⊥
 
 abbrev pub IsRefusedLeaf : ℕ → LeafKind → Constraints → Value → JsonError → Type 0
-IsRefusedLeaf depth kind c v e = ((FitsLeaf kind v → ⊥) × IsOfItself Unfit e) ⊎ (FitsLeaf kind v × IsRefusedForm depth kind c v e)
+IsRefusedLeaf depth kind c v e =
+    ((FitsLeaf kind v → ⊥) × IsOfItself Unfit e) ⊎ (FitsLeaf kind v × IsRefusedForm depth kind c v e)
 
 abbrev pub IsRefusedOpen : Value → JsonError → Type 0
 IsRefusedOpen v e = HasNone Unfit (OpenJson v) e
@@ -77,18 +81,20 @@ IsRefusedOpen v e = HasNone Unfit (OpenJson v) e
 abbrev pub HasOpen : Value → Type 0
 HasOpen v = (j : Json) × OpenJson v j
 
--- ---- values that hold others. Of a type with a number, h tells which values have JSON that may be nested there, g why one hasn't, and
--- u whether it is that of unknown values.
+-- ---- values that hold others. Of a type with a number, h tells which values have JSON that may be nested there, g why one
+-- hasn't, and u whether it is that of unknown values.
 
 abbrev pub IsAlternative : List Alternative → ℕ → Value → Type 0
 IsAlternative ks i w = (a : Alternative) × (Some a ≡ slice_get ks i)
 
 abbrev pub IsRefusedAlternative : (ℕ → Value → JsonError → Type 0) → List Alternative → JsonError → ℕ → Value → Type 0
-IsRefusedAlternative g ks e i w = (a : Alternative) × (Some a ≡ slice_get ks i) × IsOfMember (string_bytes a.name) (g a.type_id.0 w) e
+IsRefusedAlternative g ks e i w =
+    (a : Alternative) × (Some a ≡ slice_get ks i) × IsOfMember (string_bytes a.name) (g a.type_id.0 w) e
 
 -- The value is no alternative of the type, or that of the alternative is refused.
 abbrev pub IsRefusedChoice : (ℕ → Value → JsonError → Type 0) → List Alternative → Value → JsonError → Type 0
-IsRefusedChoice g ks v e = ((IsChosen (IsAlternative ks) v → ⊥) × IsOfItself Unfit e) ⊎ IsChosen (IsRefusedAlternative g ks e) v
+IsRefusedChoice g ks v e =
+    ((IsChosen (IsAlternative ks) v → ⊥) × IsOfItself Unfit e) ⊎ IsChosen (IsRefusedAlternative g ks e) v
 
 -- The component isn't left out, and its value is refused; or it is left out, or its value has JSON.
 abbrev pub IsRefusedComponent : (ℕ → Bool) → (ℕ → Value → JsonError → Type 0) → Component → Value → JsonError → Type 0
@@ -98,11 +104,13 @@ abbrev pub IsWritten : (ℕ → Bool) → (ℕ → Value → Type 0) → Compone
 IsWritten u h p v = IsLeftOut u p v ⊎ h p.type_id.0 v
 
 -- A component is refused, of which those before are written; or there are more or fewer values than components.
-abbrev pub AreRefusedComponents : (ℕ → Bool) → (ℕ → Value → Type 0) → (ℕ → Value → JsonError → Type 0) → List Component → List Value → JsonError → Type 0
+abbrev pub AreRefusedComponents : (ℕ → Bool) → (ℕ → Value → Type 0) → (ℕ → Value → JsonError → Type 0) → List Component
+    → List Value → JsonError → Type 0
 AreRefusedComponents u h g [] [] e = ⊥
 AreRefusedComponents u h g [] (v ∷ vs) e = IsOfItself Unfit e
 AreRefusedComponents u h g (p ∷ ps) [] e = IsOfItself Unfit e
-AreRefusedComponents u h g (p ∷ ps) (v ∷ vs) e = IsRefusedComponent u g p v e ⊎ (IsWritten u h p v × AreRefusedComponents u h g ps vs e)
+AreRefusedComponents u h g (p ∷ ps) (v ∷ vs) e =
+    IsRefusedComponent u g p v e ⊎ (IsWritten u h p v × AreRefusedComponents u h g ps vs e)
 
 -- An element is refused, of which those before have JSON. The first has this index.
 abbrev pub AreRefusedElements : (Value → Type 0) → (Value → JsonError → Type 0) → ℕ → List Value → JsonError → Type 0
@@ -116,7 +124,8 @@ IsRefusedList P v e = (IsNoList v × IsOfItself Unfit e) ⊎ AreItems (λ vs. P 
 abbrev pub IsRefusedSet : (List Value → JsonError → Type 0) → Value → JsonError → Type 0
 IsRefusedSet P v e = (IsNoSet v × IsOfItself Unfit e) ⊎ AreElements (λ vs. P vs e) v
 
-abbrev pub IsRefusedInside : (ℕ → Bool) → (ℕ → Value → Type 0) → (ℕ → Value → JsonError → Type 0) → «Type» → Value → JsonError → Type 0
+abbrev pub IsRefusedInside : (ℕ → Bool) → (ℕ → Value → Type 0) → (ℕ → Value → JsonError → Type 0) → «Type» → Value
+    → JsonError → Type 0
 IsRefusedInside u h g (Choice name ks) v e = IsRefusedChoice g ks.items v e
 IsRefusedInside u h g (Sequence tag ps) v e = IsRefusedList (AreRefusedComponents u h g ps.items) v e
 IsRefusedInside u h g (Set name tag ps) v e = IsRefusedList (AreRefusedComponents u h g ps.items) v e
@@ -126,24 +135,31 @@ IsRefusedInside u h g Unknown v e = IsRefusedList (AreRefusedElements HasOpen Is
 IsRefusedInside u h g _ v e = IsOfItself Unfit e
 
 -- An array or an object may not be nested there, or what is in it is refused.
-abbrev pub IsRefusedNested : (ℕ → Bool) → (ℕ → ℕ → Value → Type 0) → (ℕ → ℕ → Value → JsonError → Type 0) → ℕ → «Type» → Value → JsonError → Type 0
-IsRefusedNested u h g depth ty v e = ((depth ≡ 0) × IsOfItself TooDeep e) ⊎ ((0 < depth) × IsRefusedInside u (h (depth - 1)) (g (depth - 1)) ty v e)
+abbrev pub IsRefusedNested : (ℕ → Bool) → (ℕ → ℕ → Value → Type 0) → (ℕ → ℕ → Value → JsonError → Type 0) → ℕ → «Type»
+    → Value → JsonError → Type 0
+IsRefusedNested u h g depth ty v e =
+    ((depth ≡ 0) × IsOfItself TooDeep e) ⊎ ((0 < depth) × IsRefusedInside u (h (depth - 1)) (g (depth - 1)) ty v e)
 
-abbrev pub IsRefusedBy : (ℕ → Bool) → (ℕ → ℕ → Value → Type 0) → (ℕ → ℕ → Value → JsonError → Type 0) → ℕ → «Type» → Value → JsonError → Type 0
+abbrev pub IsRefusedBy : (ℕ → Bool) → (ℕ → ℕ → Value → Type 0) → (ℕ → ℕ → Value → JsonError → Type 0) → ℕ → «Type»
+    → Value → JsonError → Type 0
 IsRefusedBy u h g depth (Leaf kind tag c names) v e = IsRefusedLeaf depth kind c v e
 IsRefusedBy u h g depth (Enumerated tag ns) v e = HasNone Unfit (EnumeratedJson ns.items v) e
 IsRefusedBy u h g depth (Any tag) v e = IsRefusedOpen v e
 IsRefusedBy u h g depth (Tagged tag k) v e = g depth k.0 v e
 IsRefusedBy u h g depth ty v e = IsRefusedNested u h g depth ty v e
 
-abbrev pub IsRefusedFound : (ℕ → Bool) → (ℕ → ℕ → Value → Type 0) → (ℕ → ℕ → Value → JsonError → Type 0) → ℕ → ℕ → Option «Type» → Value → JsonError → Type 0
+abbrev pub IsRefusedFound : (ℕ → Bool) → (ℕ → ℕ → Value → Type 0) → (ℕ → ℕ → Value → JsonError → Type 0) → ℕ → ℕ
+    → Option «Type» → Value → JsonError → Type 0
 IsRefusedFound u h g depth k None v e = (id : TypeId) × (id.0 ≡ k) × IsOfItself (NoType id) e
 IsRefusedFound u h g depth k (Some ty) v e = IsRefusedBy u h g depth ty v e
 
 abbrev pub HasJsonWithin : List «Type» → ℕ → ℕ → ℕ → Value → Type 0
 HasJsonWithin types levels depth k v = (j : Json) × JsonWithin types levels depth k v j
 
--- The value of the type with this number is refused, types followed so many levels deep, where so many arrays and objects may be nested.
+-- The value of the type with this number is refused, types followed so many levels deep, where so many arrays and objects
+-- may be nested.
 unfoldable pub IsRefusedAt : List «Type» → ℕ → ℕ → ℕ → Value → JsonError → Type 0
 IsRefusedAt types zero depth k v e = IsOfItself Unfit e
-IsRefusedAt types (suc levels) depth k v e = IsRefusedFound (unknown_in types) (λ d i w. HasJsonWithin types levels d i w) (λ d i w x. IsRefusedAt types levels d i w x) depth k (slice_get types k) v e
+IsRefusedAt types (suc levels) depth k v e =
+    IsRefusedFound (unknown_in types) (λ d i w. HasJsonWithin types levels d i w) (λ d i w x. IsRefusedAt types levels d i w x)
+    depth k (slice_get types k) v e

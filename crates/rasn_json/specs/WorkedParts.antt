@@ -36,15 +36,20 @@ pub record WorkedRefusals : Type 0 where
   pub too_few_bits : (c : Constraints) (e : JsonError) → IsOfItself (WrongSize 1 (constraint_of c.size)) e
       → AreRefusedBits 0 BitString c (Some 8) (true ∷ []) e
   pub filled_bits : (c : Constraints) (e : JsonError) → AreRefusedBits 0 NamedBits c (Some 8) (true ∷ []) e → ⊥
-  pub no_object_inside : (c : Constraints) (e : JsonError) → IsOfItself TooDeep e → AreRefusedBits 0 BitString c None [] e
+  pub no_object_inside : (c : Constraints) (e : JsonError) → IsOfItself TooDeep e
+      → AreRefusedBits 0 BitString c None [] e
   pub an_object_inside : (c : Constraints) (e : JsonError) → AreRefusedBits 1 BitString c None [] e → ⊥
   pub null_is_not_open : (e : JsonError) → IsOfItself Unfit e → IsRefusedAt (Any eoc ∷ []) 1 0 0 Null e
   pub open_value : (o : _) (e : JsonError) → HasOpen (Octets o) → IsRefusedAt (Any eoc ∷ []) 1 0 0 (Octets o) e → ⊥
-  pub missing_type : (v : Value) (id : TypeId) (e : JsonError) → id.0 ≡ 7 → IsOfItself (NoType id) e → IsRefusedAt [] 1 0 7 v e
-  pub no_memory : (types : List «Type») (k : ℕ) (v : Value) (e : JsonError) → IsMemory e → IsRefusedAt types 0 0 k v e → ⊥
+  pub missing_type : (v : Value) (id : TypeId) (e : JsonError) → id.0 ≡ 7 → IsOfItself (NoType id) e
+      → IsRefusedAt [] 1 0 7 v e
+  pub no_memory : (types : List «Type») (k : ℕ) (v : Value) (e : JsonError) → IsMemory e → IsRefusedAt types 0 0 k v e
+      → ⊥
   pub second_element : (o : _) (e : JsonError) → HasOpen (Octets o) → IsOfElement 1 (IsOfItself Unfit) e
       → AreRefusedElements HasOpen IsRefusedOpen 0 (Octets o ∷ (Null ∷ [])) e
-  pub not_the_first : (o : _) (e : JsonError) → HasOpen (Octets o) → AreRefusedElements HasOpen IsRefusedOpen 0 (Octets o ∷ []) e → ⊥
+  pub not_the_first : (o : _) (e : JsonError) → HasOpen (Octets o)
+      → AreRefusedElements HasOpen IsRefusedOpen 0 (Octets o ∷ []) e → ⊥
   pub not_past_the_first : (e : JsonError) → IsOfElement 1 (IsOfItself Unfit) e
       → AreRefusedElements HasOpen IsRefusedOpen 0 (Null ∷ (Null ∷ [])) e → ⊥
-  pub no_part_of_itself : (kind : JsonErrorKind) (name : List ℕ) (e : JsonError) → IsOfItself kind e → IsOfMember name (IsOfItself kind) e → ⊥
+  pub no_part_of_itself : (kind : JsonErrorKind) (name : List ℕ) (e : JsonError) → IsOfItself kind e
+      → IsOfMember name (IsOfItself kind) e → ⊥

@@ -1,4 +1,3 @@
-use Rattle.std.proofs.Common.{◌≡◌, string_bytes}
 use Rattle.std.proofs.lemmas.Str.{IsUtf8-string_bytes}
 use Rattle.rasn_json.proofs.Utf16.{text_more, text_end, no_text, character_taken, all_taken, units_left}
 use Rattle.rasn_json.proofs.characters.text_of_units.Goals as goal

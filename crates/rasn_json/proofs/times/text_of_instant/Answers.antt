@@ -1,4 +1,4 @@
-use Rattle.std.proofs.Common.{◌≡◌, Vec, Global, ℕ, ap, ◌∙◌, subst}
+use Rattle.std.proofs.Common.{Vec, ℕ, ap, ◌∙◌, subst}
 use Rattle.std.proofs.lemmas.Str.{IsUtf8-string_bytes}
 use Rattle.rasn_json.specs.Texts.{IsCarriedInstant}
 use Rattle.rasn_json.proofs.times.text_of_instant.Goals as goal

@@ -1,4 +1,4 @@
-use Rattle.std.proofs.Common.{◌≡◌, ◌^◌, ◌<◌, refl, sym, ap, ◌∙◌, subst, arith, string_bytes}
+use Rattle.std.proofs.Common.{◌≡◌, refl, ◌∙◌, subst, arith, string_bytes}
 use Rattle.std.specs.List.{All}
 use Rattle.json.specs.Json as json
 use Rattle.rasn_types.specs.Text.{dotted, IsSmall}

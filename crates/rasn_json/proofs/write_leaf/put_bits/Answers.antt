@@ -1,4 +1,4 @@
-use Rattle.std.proofs.Common.{◌≡◌, ◌∙◌, sym, ap, subst, Some, length}
+use Rattle.std.proofs.Common.{◌∙◌, sym, subst}
 use Rattle.rasn_json.specs.Json.{BitsJson, IsSize}
 use Rattle.rasn_json.proofs.Appended.{on_appends}
 use Rattle.rasn_json.proofs.Filled.{bits_written}

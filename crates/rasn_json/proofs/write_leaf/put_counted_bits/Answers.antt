@@ -1,5 +1,4 @@
-use Rattle.std.proofs.Common.{◌≡◌, ◌≢◌, ◌++◌, ◌∷◌, [], ℕ, List, refl, sym, ap, ◌∙◌, subst, arith, inl, inr, Option, Some, None, Result, Ok, Err, string_bytes}
-use Rattle.std.specs.Prelude.{OnOk}
+use Rattle.std.proofs.Common.{◌≡◌, [], ℕ, refl, subst, arith}
 use Rattle.rasn_types.specs.BitString.{Packs}
 use Rattle.rasn_json.specs.Json.{Appends, HexadecimalJson}
 use Rattle.rasn_json.proofs.Appended.{counted_appended, on_ok}

@@ -1,4 +1,4 @@
-use Rattle.std.proofs.Common.{◌≡◌, ℕ, List, refl, sym, subst, string_bytes}
+use Rattle.std.proofs.Common.{ℕ, List, refl, sym, subst, string_bytes}
 use Rattle.std.specs.Prelude.{IfOk, MatchOption}
 use Rattle.json.specs.Json as json
 use Rattle.rasn_json.specs.Json.{DayJson}

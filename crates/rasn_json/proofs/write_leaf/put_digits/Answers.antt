@@ -1,4 +1,4 @@
-use Rattle.std.proofs.Common.{◌≡◌, ◌<◌, ap, ◌∙◌, arith, string_bytes}
+use Rattle.std.proofs.Common.{◌≡◌, ap, ◌∙◌, arith, string_bytes}
 use Rattle.json.specs.Json as json
 use Rattle.rasn_types.specs.Text.{hexadecimal}
 use Rattle.rasn_json.specs.Json.{HexadecimalJson}

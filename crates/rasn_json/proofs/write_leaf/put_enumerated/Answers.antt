@@ -1,6 +1,5 @@
-use Rattle.std.proofs.Common.{◌≡◌, ◌≢◌, ◌++◌, ◌∷◌, [], ℕ, List, refl, sym, ap, ◌∙◌, subst, arith, inl, inr, Option, Some, None, Result, Ok, Err, string_bytes}
+use Rattle.std.proofs.Common.{[], ℕ, refl, sym, subst, arith}
 use Rattle.json.specs.Json as json
-use Rattle.rasn_schema.specs.declared.value.Value.{Integer}
 use Rattle.rasn_json.specs.Json.{EnumeratedJson}
 use Rattle.rasn_json.proofs.Appended.{on_one}
 use Rattle.rasn_json.proofs.write_leaf.put_enumerated.Goals as goal

@@ -1,6 +1,6 @@
 use Rattle.std.proofs.Common.{◌≡◌, ◌+◌, ◌-◌, ◌++◌, ◌∙◌, sym, subst, length, arith}
 use Rattle.rasn_types.specs.BitString.{Packs, zeros}
-use Rattle.rasn_json.specs.Json.{Appends, DigitsJson, HexadecimalJson}
+use Rattle.rasn_json.specs.Json.{HexadecimalJson}
 use Rattle.rasn_json.proofs.Appended.{on_appends}
 use Rattle.rasn_json.proofs.Filled.{filled_up, octets_taken}
 use Rattle.rasn_json.proofs.Levels.{handed, was_ok}

@@ -1,4 +1,4 @@
-use Rattle.std.proofs.Common.{◌≡◌, ◌≢◌, ◌+◌, ◌-◌, ◌++◌, ◌∷◌, [], ℕ, List, length, refl, sym, ap, ◌∙◌, subst, arith, Option, Some, None, Result, Ok, Err, string_bytes}
+use Rattle.std.proofs.Common.{◌-◌, [], ℕ, refl, sym, ap, subst, arith}
 use Rattle.json.specs.Json as json
 use Rattle.rasn_json.specs.Json.{LeafJson}
 use Rattle.rasn_json.proofs.Appended.{on_one}

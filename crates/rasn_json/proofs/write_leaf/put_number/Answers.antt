@@ -1,4 +1,4 @@
-use Rattle.std.proofs.Common.{◌≡◌, refl, sym, subst, string_bytes}
+use Rattle.std.proofs.Common.{refl, sym, subst, string_bytes}
 use Rattle.json.specs.Json as json
 use Rattle.json.specs.Print.{IsNumber}
 use Rattle.rasn_json.specs.Decimal.{IsWhole}

@@ -1,4 +1,4 @@
-use Rattle.std.proofs.Common.{◌≡◌, ◌≢◌, ◌++◌, ◌∷◌, [], ℕ, List, refl, sym, ap, ◌∙◌, subst, arith, inl, inr, Option, Some, None, Result, Ok, Err, string_bytes}
+use Rattle.std.proofs.Common.{◌≡◌, [], ℕ, refl, ap, ◌∙◌, arith, string_bytes}
 use Rattle.json.specs.Json as json
 use Rattle.std.specs.Prelude.{encode_utf8_all}
 use Rattle.rasn_json.specs.Json.{OctetsJson}

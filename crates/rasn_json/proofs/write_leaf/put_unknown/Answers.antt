@@ -1,4 +1,4 @@
-use Rattle.std.proofs.Common.{◌≡◌, ◌+◌, length, ap, arith}
+use Rattle.std.proofs.Common.{length, ap, arith}
 use Rattle.rasn_schema.proofs.Lists.{split, nothing_left}
 use Rattle.rasn_json.specs.Json.{OpenJson}
 use Rattle.rasn_json.specs.Refusals.{HasOpen, IsRefusedOpen}

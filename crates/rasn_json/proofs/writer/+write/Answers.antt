@@ -1,4 +1,4 @@
-use Rattle.std.proofs.Common.{inl, inr, ◌≤◌, ◌≡◌, ◌≢◌, ◌+◌, ◌-◌, ◌++◌, ◌∷◌, [], ℕ, List, length, refl, sym, ap, ◌∙◌, subst, arith, Option, Some, None, Result, Ok, Err, string_bytes}
+use Rattle.std.proofs.Common.{inl, inr, ◌≤◌, ◌+◌, ◌-◌, [], ℕ, length, refl, ap, subst, arith}
 use Rattle.rasn_json.specs.Json.{unknown_in, ArrayJson, ChosenJson, JsonAt, JsonWithin, ObjectJson, OpenJson}
 use Rattle.rasn_json.specs.Refusals.{AreRefusedComponents, HasJsonWithin, IsOfMember, IsRefusedAt, LeadsToMember, OrMemory}
 use Rattle.json.specs.Json.{Json}

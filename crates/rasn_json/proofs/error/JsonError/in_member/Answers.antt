@@ -1,4 +1,4 @@
-use Rattle.std.proofs.Common.{◌≡◌, sym, subst}
+use Rattle.std.proofs.Common.{sym, subst}
 use Rattle.rasn_json.specs.Refusals.{LeadsToMember}
 use Rattle.rasn_json.proofs.Refused.{part_is}
 use Rattle.rasn_json.proofs.error.JsonError.in_member.Goals as goal

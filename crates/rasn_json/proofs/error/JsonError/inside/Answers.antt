@@ -1,4 +1,4 @@
-use Rattle.std.proofs.Common.{◌≡◌, inr, refl}
+use Rattle.std.proofs.Common.{inr, refl}
 use Rattle.rasn_json.proofs.error.JsonError.inside.Goals as goal
 
 pub returns-in-Ok : goal.returns-in-Ok
