@@ -1,7 +1,7 @@
 -- The text of a day, with and without hyphens.
-use Rattle.std.proofs.Common.{◌≡◌, ◌<◌, ◌≤◌, ◌+◌, ◌/◌, ◌%◌, ℕ, ℤ, pos, negsuc, Bool, true, false, List, [], ◌∷◌, ◌++◌, length, length-append, get_or, take, drop, Option, Some, None, refl, sym, ap, ◌∙◌, subst, arith}
-use Rattle.std.specs.Prelude.{nat_lt, if◌then◌else◌, IfSome}
-use Rattle.std.proofs.lemmas.Bool.{lt-ltb, ltb-true}
+use Rattle.std.proofs.Common.{◌≡◌, ◌<◌, ◌+◌, ℕ, pos, List, [], ◌∷◌, ◌++◌, length, get_or, take, drop, Option, Some, None, refl, sym, ap, ◌∙◌, arith}
+use Rattle.std.specs.Prelude.{if◌then◌else◌, IfSome}
+use Rattle.std.proofs.lemmas.Bool.{lt-ltb}
 use Rattle.rasn_types.specs.Calendar.{Day}
 use Rattle.rasn_types.specs.Options.{IsSomeRelated}
 use Rattle.rasn_types.specs.Text.{shown_day}
@@ -52,31 +52,6 @@ shown_with d = refl
 
 carried_shown : (d : Day) (c : CarriedDay d) → shown_day d ≡ with_year (four c.year) d
 carried_shown d c = shown_with d ∙ ap (λ y. with_year y d) (ap written_year c.same ∙ four_digits c.year c.below)
-
-long_length : (n : ℕ) → 4 ≤ length (long_year n)
-long_length n = go (nat_lt n 10000)
-  where
-    go : (b : Bool) → 4 ≤ length (if b then four n else (48 + n / 10000) ∷ four (n % 10000))
-    go true = omega arith
-    go false = omega arith
-
-year_of_four : (y : ℤ) → length (written_year y) ≡ 4 → (n : ℕ) × (y ≡ pos n) × (n < 10000)
-year_of_four (pos n) e = go (nat_lt n 10000) refl e
-  where
-    go : (b : Bool) → nat_lt n 10000 ≡ b → length (if b then four n else 43 ∷ long_year n) ≡ 4 → (m : ℕ) × (pos n ≡ pos m) × (m < 10000)
-    go true h e = (n, refl, ltb-true n 10000 h)
-    go false h e = absurd (omega (arith, long_length n))
-year_of_four (negsuc n) e = absurd (omega (arith, long_length (n + 1)))
-
-carried_if_ten : (d : Day) → length (shown_day d) ≡ 10 → CarriedDay d
-carried_if_ten d e =
-    let four : length (written_year d.year) ≡ 4 = omega (arith, sym (ap length (shown_with d)) ∙ e, length-append (written_year d.year) (45 ∷ (two d.month ++ (45 ∷ two d.day)))) in
-    let y = year_of_four d.year four in
-    record { year = y.0; same = y.1; below = y.2 }
-
--- A day whose text is that of a day with four digits of the year has such a year too.
-pub day_told : (t : List ℕ) (d g : Day) → t ≡ shown_day d → DayText t g → DayText t d
-day_told t d g e h = (carried_if_ten d (ap length (sym e ∙ (h.1 ∙ carried_shown g h.0))), e)
 
 pub one_day_text : (t : List ℕ) (d g : Day) → DayText t d → DayText t g → d ≡ g
 one_day_text t d g (c, e) (k, f) = λ i. record { year = (c.same ∙ (ap pos year ∙ sym k.same)) i; month = month i; day = day i }

@@ -1,16 +1,15 @@
 -- JSON of a value that holds no others is read as this value.
-use Rattle.std.proofs.Common.{◌≡◌, ◌⊎◌, ℕ, zero, suc, ◌+◌, ◌*◌, ◌/◌, ◌^◌, ◌<◌, ℤ, pos, List, [], ◌∷◌, ◌++◌, Bool, false, length, length-append, take, Option, Some, None, inl, inr, refl, sym, ap, ◌∙◌, subst, arith, decimal}
-use Rattle.std.specs.Prelude.{slice_get, encode_utf8_all, chars, codes}
+use Rattle.std.proofs.Common.{◌≡◌, ℕ, ◌+◌, ℤ, pos, List, [], ◌++◌, Bool, length, take, Option, Some, None, inl, inr, refl, sym, ap, ◌∙◌, subst, arith, decimal}
+use Rattle.std.specs.Prelude.{slice_get, chars, codes}
 use Rattle.std.specs.Cow.{cow_slice_items, cow_str_bytes}
 use Rattle.std.specs.String.{string_bytes}
 use Rattle.std.proofs.Math.Seq.{take-append_seam}
-use Rattle.std.proofs.lemmas.List.{length-replicate}
-use Rattle.json.specs.Json.{Json, string, number}
+use Rattle.json.specs.Json.{Json, number}
 use Rattle.json.specs.Find.{as_str, as_number, get}
-use Rattle.rasn_types.specs.Shapes.{Tree, numbers, bits, instant, on_day}
+use Rattle.rasn_types.specs.Shapes.{numbers, bits, instant, on_day}
 use Rattle.rasn_types.specs.Shapes as shapes
 use Rattle.rasn_types.specs.Trees.{bool_tree}
-use Rattle.rasn_types.specs.BitString.{Packs, bits_in, bits_from, significant, zeros}
+use Rattle.rasn_types.specs.BitString.{bits_from, significant, zeros}
 use Rattle.rasn_types.specs.CowBits.{cow_bits}
 use Rattle.rasn_types.specs.declared.types.constraints.Constraints.{Constraints}
 use Rattle.rasn_types.proofs.BitString.Significant.{significant_zeros}
@@ -22,12 +21,12 @@ use Rattle.rasn_schema.specs.Trees.{tree_of}
 use Rattle.rasn_schema.specs.Fitting.{FitsLeaf, NumberFits, OctetsFit, BitsFit}
 use Rattle.rasn_schema.proofs.Lists.{some_is}
 use Rattle.rasn_json.specs.Decimal.{IsWhole}
-use Rattle.rasn_json.specs.Json.{NameJson, NumberJson, IntegerJson, OctetsJson, DigitsJson, IsFilled, BitsJson, LeafJson, one_size, counted}
+use Rattle.rasn_json.specs.Json.{NameJson, NumberJson, IntegerJson, OctetsJson, DigitsJson, BitsJson, LeafJson, one_size, counted}
 use Rattle.rasn_json.specs.Names.{HaveOwnNames, name_of_number}
 use Rattle.rasn_json.specs.Reading.{NameRead, WholeRead, IntegerRead, OctetsRead, DigitsRead, AllBitsRead, BitsRead, LeafRead}
 use Rattle.rasn_json.specs.Texts.{InstantText, UnitsText, ArcsText, DayText}
 use Rattle.rasn_json.proofs.DayTexts.{one_day_text}
-use Rattle.rasn_json.proofs.Strings.{one_string, octets_once, characters_once, units_once, whole_once, count_once, arcs_once, instant_once}
+use Rattle.rasn_json.proofs.Strings.{one_string, octets_once, characters_once, units_once, whole_once, count_once, arcs_once, instant_once, written_told}
 
 -- ---- names and numbers
 
@@ -169,7 +168,7 @@ module _ (kind : LeafKind) (c : Constraints) (names : List NamedNumber) (j : Jso
   formed_once (Text s) (Text t) e f a r = ap (λ l. numbers (chars l)) (one_string (cow_str_bytes s) (cow_str_bytes t) j a r)
   formed_once (Units u) (Units x) e f (s, a, h) (t, b, k) = ap numbers (units_once t u x (subst (λ l. UnitsText l u) (one_string s t j a b) h) k)
   formed_once (Arcs l) (Arcs m) e f (s, a, h) (t, b, k) = ap numbers (arcs_once t l m (subst (λ x. ArcsText x l) (one_string s t j a b) h) k)
-  formed_once (Instant x) (Instant y) e f (s, a, h) (t, b, k) = ap instant (instant_once kind t x.moment y.moment (subst (λ l. InstantText kind l x.moment) (one_string s t j a b) h) k)
+  formed_once (Instant x) (Instant y) e f (s, a, h) (t, b, k) = ap instant (instant_once kind t x.moment y.moment (subst (λ l. InstantText kind l x.moment) (one_string s t j a b) (written_told kind s x.moment h)) k)
   formed_once (Day x) (Day y) e f (s, a, h) (t, b, k) = ap on_day (one_day_text t x y (subst (λ l. DayText l x) (one_string s t j a b) h) k)
   formed_once (Items' _ row) w e f a r = absurd f
   formed_once (Elements' _ row) w e f a r = absurd f

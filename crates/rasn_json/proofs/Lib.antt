@@ -1,7 +1,9 @@
 pub mod LowFirst
 pub mod Signs
+pub mod Numerals
 pub mod Levels
 pub mod Appended
+pub mod Refused
 pub mod ReadParts
 pub mod DayTexts
 pub mod MemberNames
@@ -12,3 +14,4 @@ pub mod Strings
 pub mod Leaves
 pub mod ReadBack
 pub mod Worked
+pub mod WorkedParts

@@ -1,12 +1,12 @@
 -- JSON of a value is read as a value that means the same.
-use Rattle.std.proofs.Common.{◌≡◌, ◌≢◌, ◌⊎◌, ℕ, zero, suc, ◌+◌, ◌<◌, List, [], ◌∷◌, ◌++◌, Bool, true, false, cond, length, map, Option, Some, None, inl, inr, refl, sym, ap, ◌∙◌, subst, arith, IsPermutation}
+use Rattle.std.proofs.Common.{◌≡◌, ◌≢◌, ◌⊎◌, ℕ, zero, suc, List, [], ◌∷◌, Bool, true, false, cond, length, map, Option, Some, None, inl, inr, refl, sym, ap, ◌∙◌, subst, arith}
 use Rattle.std.specs.Prelude.{slice_get}
 use Rattle.std.specs.String.{string_bytes}
 use Rattle.std.specs.Str.{bytes_eq}
 use Rattle.std.proofs.lemmas.List.{append-nil}
 use Rattle.std.proofs.lemmas.List.Sorted.{IsPermutation-refl}
 use Rattle.std.proofs.lemmas.Slice.Eq.{bytes_eq-Decides}
-use Rattle.json.specs.Json.{Json, string, object, array, Items, no_items, item, Members, no_members, member}
+use Rattle.json.specs.Json.{Json, object, array, Items, Members, no_members, member}
 use Rattle.json.specs.Json.{value}
 use Rattle.json.specs.Lex.{tokens}
 use Rattle.json.specs.Token.{Token}
@@ -14,7 +14,7 @@ use Rattle.json.specs.Tree.{json_tokens, depth}
 use Rattle.json.proofs.Found.{one_reading, Some_inj}
 use Rattle.json.proofs.Printed.Trees.{value-json_tokens}
 use Rattle.json.specs.Find.{get, get_member, later_or}
-use Rattle.rasn_types.specs.Shapes.{Tree, Same, Presence, required, addition, optional_by, default_by, absent, joined, set_elements, chosen, numbers, number}
+use Rattle.rasn_types.specs.Shapes.{Same, Presence, required, addition, optional_by, default_by, set_elements, chosen, numbers, number}
 use Rattle.rasn_types.specs.Trees.{list_tree}
 use Rattle.rasn_types.specs.Same.{same_sym}
 use Rattle.rasn_types.specs.Bytes.{Bytes}
@@ -35,7 +35,6 @@ use Rattle.rasn_schema.specs.declared.types.Presence.{Presence as DeclaredPresen
 use Rattle.rasn_schema.specs.declared.types.Presence.TheVariants.{Required}
 use Rattle.rasn_schema.specs.Held.{is_unknown_found}
 use Rattle.rasn_schema.specs.Schemas.{IsSchema, IsRequired, components_in, begin_at}
-use Rattle.rasn_schema.proofs.Lists.{some_is}
 use Rattle.rasn_schema.proofs.ListsOf.{list_means}
 use Rattle.rasn_schema.proofs.Values.{trees_listed}
 use Rattle.rasn_json.specs.Json.{EnumeratedJson, OpenJson, ItemsJson, ArrayJson, ObjectJson, MembersJson, ChosenJson, IsLeftOut, IsNothing, JsonBy, JsonFound, JsonAt, unknown_in}
@@ -290,7 +289,7 @@ one_json ts i j e h =
     ap (λ (x : Json × List Token). x.0) same
 
 pub means_the_same : MeansTheSame
-means_the_same types id text v w schema names (i, e, a) (j, h, b) =
+means_the_same types id text v w schema names (i, e, (a, le)) (j, h, b) =
     alike_at types schema names 18446744073709551615 id j v w (subst (JsonAt types 18446744073709551615 id v) (one_json (tokens text) i j e h) a) b
 
 pub gives_the_octets : GivesTheOctets

@@ -1,5 +1,5 @@
 -- Each JSON string and each number is read in one way.
-use Rattle.std.proofs.Common.{◌≡◌, ◌≢◌, ◌⊎◌, ℕ, zero, suc, ◌+◌, ◌*◌, ◌/◌, ◌%◌, ◌^◌, ◌<◌, ℤ, pos, neg_ℤ, List, [], ◌∷◌, ◌++◌, Bool, true, false, ◌&&◌, ◌==◌, length, get_or, All, Some, None, Result, Ok, Err, inl, inr, refl, sym, ap, ◌∙◌, subst, arith, decimal}
+use Rattle.std.proofs.Common.{◌≡◌, ◌≢◌, ℕ, zero, suc, ◌+◌, ◌/◌, ◌%◌, ◌^◌, ◌<◌, ℤ, pos, neg_ℤ, List, [], ◌∷◌, ◌++◌, Bool, true, ◌&&◌, ◌==◌, length, get_or, All, Some, Ok, inl, inr, refl, sym, ap, ◌∙◌, subst, arith, decimal}
 use Rattle.std.specs.Prelude.{encode_utf8_all, slice_index}
 use Rattle.std.specs.List.{flat_map}
 use Rattle.std.specs.Char.Escape.{encode_utf16}
@@ -10,24 +10,26 @@ use Rattle.std.proofs.lemmas.List.Elements.{All-head, All-tail}
 use Rattle.std.proofs.lemmas.Str.{encodes_same}
 use Rattle.std.proofs.lemmas.Str.Parse.{not_in_digits}
 use Rattle.std.proofs.lemmas.Fmt.{digits_decimal, digits_value-decimal, decimal_injective, decimal_nonempty}
-use Rattle.json.specs.Json.{Json, number, string}
-use Rattle.json.specs.Find.{as_str, as_number}
+use Rattle.json.specs.Json.{Json, string}
+use Rattle.json.specs.Find.{as_str}
 use Rattle.hex.specs.Hex.{decode_of, encode_upper, encode_with, upper_digits}
 use Rattle.hex.proofs.HexLemmas.{decode_of-encode_upper}
 use Rattle.std.specs.Fmt.{digit_glyph}
 use Rattle.rasn_types.specs.Framing.{AreOctets}
 use Rattle.rasn_types.specs.CharacterString.{units_of}
-use Rattle.rasn_types.specs.Calendar.{Moment}
-use Rattle.rasn_types.specs.Numbered.{AreArcs}
-use Rattle.rasn_types.specs.Text.{hexadecimal, dotted, point_and_arc, IsSmall, IsDotted}
+use Rattle.rasn_types.specs.declared.ber.time.text.Fields.{Fields}
+use Rattle.rasn_types.specs.Calendar.{Moment, Stamp}
+use Rattle.rasn_types.specs.Time.{TimeText, GeneralUtc, GeneralGeneralized, at_utc, both, fields_of, written_generalized, written_utc}
+use Rattle.rasn_types.specs.Text.{hexadecimal, point_and_arc, IsSmall}
 use Rattle.rasn_types.proofs.Dotted.{own, wide}
 use Rattle.rasn.proofs.LawsHold.Grammar.{one_meaning}
+use Rattle.rasn.proofs.ReadBack.Written.{generalized_read_back, utc_read_back}
 use Rattle.rasn_schema.specs.declared.types.LeafKind.{LeafKind}
 use Rattle.rasn_schema.specs.declared.types.LeafKind.TheVariants.{UtcTime}
-use Rattle.rasn_json.specs.Decimal.{IsSigned, IsWhole}
+use Rattle.rasn_json.specs.Decimal.{IsWhole}
 use Rattle.rasn_json.specs.Json.{HexadecimalJson}
-use Rattle.rasn_json.specs.Reading.{HexadecimalRead, WholeRead}
-use Rattle.rasn_json.specs.Texts.{InstantText, UnitsText, ArcsText}
+use Rattle.rasn_json.specs.Reading.{HexadecimalRead}
+use Rattle.rasn_json.specs.Texts.{InstantText, WrittenInstant, UnitsText, ArcsText}
 use Rattle.rasn_json.proofs.LowFirst.{digits_of_octets}
 
 pub one_string : (s t : List ℕ) (j : Json) → j ≡ string s → as_str j ≡ Some t → s ≡ t
@@ -149,3 +151,20 @@ arcs_once s (x ∷ l) (y ∷ m) ((p, a, e), g) ((q, b, f), h) =
 pub instant_once : (kind : LeafKind) (s : List ℕ) (m n : Moment) → InstantText kind s m → InstantText kind s n → m ≡ n
 instant_once UtcTime s m n (o, a) (p, b) = ap (λ t. t.moment) (one_meaning.utc s (record { moment = m; offset = o }) (record { moment = n; offset = p }) a b)
 instant_once kind s m n (o, a) (p, b) = ap (λ t. t.moment) (one_meaning.generalized s (record { moment = m; offset = o }) (record { moment = n; offset = p }) a b)
+
+weaker : (year_text : ℕ → List ℕ) (limit : ℕ) (year_of : ℕ → ℕ) (f g : Fields → Bool) (l : List ℕ) (t : Stamp) → TimeText year_text limit year_of (both f g) l t → TimeText year_text limit year_of f l t
+weaker year_text limit year_of f g l t x = record {
+  year = x.year;
+  rest = x.rest;
+  below = x.below;
+  spelled = x.spelled;
+  allowed = (and_parts (f (fields_of x.rest)) (g (fields_of x.rest)) x.allowed).0;
+  is = x.is;
+  exists = x.exists;
+  meant = x.meant;
+}
+
+-- The text that is written of an instant is a text of it.
+pub written_told : (kind : LeafKind) (s : List ℕ) (m : Moment) → WrittenInstant kind s m → InstantText kind s m
+written_told UtcTime s m (h, c, u, e) = (pos 0, subst (λ l. GeneralUtc l (at_utc m)) (sym e) (weaker _ _ _ _ _ (written_utc m) (at_utc m) (utc_read_back m h c)))
+written_told kind s m (h, c, u, e) = (pos 0, subst (λ l. GeneralGeneralized l (at_utc m)) (sym e) (weaker _ _ _ _ _ (written_generalized m) (at_utc m) (generalized_read_back m h c).is))

@@ -17,21 +17,33 @@ use Rattle.rasn_json.specs.declared.entry.ToJsonError.{ToJsonError}
 use Rattle.rasn_json.specs.declared.entry.ToJsonError.TheVariants.{Decode, Json as NoJson}
 use Rattle.rasn_json.specs.declared.entry.EncodeJsonError.{EncodeJsonError}
 use Rattle.rasn_json.specs.declared.entry.EncodeJsonError.TheVariants.{Json as NotRead, Encode}
-use Rattle.rasn_json.specs.Json.{JsonAt}
+use Rattle.rasn_json.specs.declared.error.JsonError.{JsonError}
+use Rattle.rasn_json.specs.Json.{JsonWithin}
 use Rattle.rasn_json.specs.Reading.{ReadAt}
+use Rattle.rasn_json.specs.Refusals.{IsRefusedAt, OrMemory}
 
--- The text is JSON of the value.
+-- The text is JSON of the value, in which at most 512 arrays and objects are nested.
 abbrev pub HasJson : List «Type» → ℕ → Value → List ℕ → Type 0
-HasJson types id v text = (j : Json) × (tokens text ≡ json_tokens j) × JsonAt types 18446744073709551615 id v j
+HasJson types id v text = (j : Json) × (tokens text ≡ json_tokens j) × JsonWithin types 18446744073709551615 512 id v j
 
 abbrev pub IsLaidOut : Layout → List ℕ → Type 0
 IsLaidOut Compact text = text ≡ print (tokens text)
 IsLaidOut Indented text = text ≡ pretty (tokens text)
 
+-- The value has no such JSON, and the error says which part is refused, and why.
+abbrev pub IsRefusedJson : List «Type» → ℕ → Value → JsonError → Type 0
+IsRefusedJson types id v e =
+    ((j : Json) → JsonWithin types 18446744073709551615 512 id v j → ⊥) × IsRefusedAt types 18446744073709551615 512 id v e
+
+-- Memory ran out, or there is none.
+abbrev pub HasNoJson : List «Type» → ℕ → Value → JsonError → Type 0
+HasNoJson types id v = OrMemory (IsRefusedJson types id v)
+
 -- The octets aren't those of a value, or the value has no JSON.
 abbrev pub IsNoJsonOf : Codec → List «Type» → ℕ → List ℕ → ToJsonError → Type 0
 IsNoJsonOf rule types id input (Decode e) = AnsweredAlone rule (shape_of types id) tree_of input (Err e)
-IsNoJsonOf rule types id input (NoJson e) = (v : Value) × AnsweredAlone rule (shape_of types id) tree_of input (Ok v)
+IsNoJsonOf rule types id input (NoJson e) =
+    (v : Value) × AnsweredAlone rule (shape_of types id) tree_of input (Ok v) × HasNoJson types id v e
 
 -- The text is JSON, nested within the limit, and is read as this value.
 abbrev pub IsReadAs : List «Type» → ℕ → List ℕ → Value → Type 0

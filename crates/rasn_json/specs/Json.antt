@@ -1,11 +1,11 @@
 -- The JSON of a value (X.697).
-use Rattle.std.specs.Prelude.{◌≡◌, ◌≢◌, ◌⊎◌, ◌++◌, ℕ, zero, suc, ◌<◌, ◌^◌, ℤ, List, [], ◌∷◌, Bool, true, Option, Some, None, slice_get, codes, decimal, length, encode_utf8_all, ◌==◌, if◌then◌else◌}
+use Rattle.std.specs.Prelude.{◌≡◌, ◌≢◌, ◌⊎◌, ◌++◌, ℕ, zero, suc, ◌<◌, ◌≤◌, ◌^◌, ℤ, List, [], ◌∷◌, Bool, true, Option, Some, None, slice_get, codes, decimal, length, encode_utf8_all, ◌==◌, if◌then◌else◌}
 use Rattle.std.specs.Cow.{cow_slice_items, cow_str_bytes}
 use Rattle.std.specs.String.{string_bytes}
 use Rattle.json.specs.Token.{Token, key}
 use Rattle.json.specs.Json.{Json, null, boolean, number, string, array, object, Items, no_items, item, Members, no_members, member}
 use Rattle.json.specs.Print.{IsNumber}
-use Rattle.json.specs.Tree.{json_tokens}
+use Rattle.json.specs.Tree.{json_tokens, depth}
 use Rattle.rasn_types.specs.Calendar.{Day, Moment}
 use Rattle.rasn_types.specs.declared.types.constraints.Bound.{Bound}
 use Rattle.rasn_types.specs.declared.types.constraints.Bounded.{Bounded}
@@ -22,11 +22,11 @@ use Rattle.rasn_schema.specs.declared.types.Alternative.{Alternative}
 use Rattle.rasn_schema.specs.declared.types.Component.{Component}
 use Rattle.rasn_schema.specs.declared.types.«Type».{«Type»}
 use Rattle.rasn_schema.specs.declared.types.«Type».TheVariants.{Leaf, Enumerated, Any, Tagged, Choice, Sequence, Set, SequenceOf, SetOf, Unknown}
-use Rattle.rasn_schema.specs.declared.value.Value.{Value, Boolean, Null, Integer as Number, Bits, Octets, Text, Units, Arcs, Instant, Day as OnDay, Absent, Items', Elements', Chosen'}
+use Rattle.rasn_schema.specs.declared.value.Value.{Value, Boolean, Null, Integer as Number, Bits, Octets, Text, Units, Arcs, Instant, Day as OnDay}
 use Rattle.rasn_schema.specs.Trees.{tree_of}
 use Rattle.rasn_schema.specs.Shapes.{presence_of}
 use Rattle.rasn_json.specs.Decimal.{IsWhole}
-use Rattle.rasn_json.specs.Texts.{InstantText, UnitsText, ArcsText, DayText}
+use Rattle.rasn_json.specs.Texts.{WrittenInstant, UnitsText, ArcsText, DayText}
 use Rattle.rasn_schema.specs.Fitting.{AreItems, AreElements, FitsLeaf, IsListOf, IsChosen, IsLeftOutAs}
 use Rattle.rasn_schema.specs.Held.{is_unknown_found}
 
@@ -116,9 +116,9 @@ UnitsJson octets j = (s : List ℕ) × (j ≡ string s) × UnitsText s octets
 abbrev pub ArcsJson : List ℕ → Json → Type 0
 ArcsJson a j = (s : List ℕ) × (j ≡ string s) × ArcsText s a
 
--- The text of an instant, as InstantText has it.
+-- The text of an instant, as DER has it.
 abbrev pub InstantJson : LeafKind → Moment → Json → Type 0
-InstantJson kind m j = (s : List ℕ) × (j ≡ string s) × InstantText kind s m
+InstantJson kind m j = (s : List ℕ) × (j ≡ string s) × WrittenInstant kind s m
 
 abbrev pub DayJson : Day → Json → Type 0
 DayJson d j = (s : List ℕ) × (j ≡ string s) × DayText s d
@@ -137,6 +137,11 @@ LeafJson kind c names (Arcs a) j = ArcsJson a j
 LeafJson kind c names (Instant t) j = InstantJson kind t.moment j
 LeafJson kind c names (OnDay d) j = DayJson d j
 LeafJson kind c names _ j = ⊥
+
+-- Bits are an object exactly if their type has no one size.
+abbrev pub IsCounted : Constraints → Value → Type 0
+IsCounted c (Bits b) = one_size c ≡ None
+IsCounted c _ = ⊥
 
 -- ---- values that hold others. Of a type with a number, g tells which JSON a value has, and u whether it is that of unknown values.
 
@@ -192,6 +197,10 @@ JsonFound u g (Some ty) v j = JsonBy u g ty v j
 unfoldable pub JsonAt : List «Type» → ℕ → ℕ → Value → Json → Type 0
 JsonAt types zero k v j = ⊥
 JsonAt types (suc levels) k v j = JsonFound (unknown_in types) (λ i w x. JsonAt types levels i w x) (slice_get types k) v j
+
+-- The same of JSON in which at most so many arrays and objects are nested.
+abbrev pub JsonWithin : List «Type» → ℕ → ℕ → ℕ → Value → Json → Type 0
+JsonWithin types levels limit k v j = JsonAt types levels k v j × (depth j ≤ limit)
 
 -- ---- what is written
 

@@ -3,6 +3,8 @@ pub mod Texts
 pub mod Json
 pub mod Reading
 pub mod Names
+pub mod Refusals
 pub mod Entry
 pub mod Laws
 pub mod Worked
+pub mod WorkedParts

@@ -1,18 +1,30 @@
 -- The texts of values in JSON strings.
 use Rattle.std.specs.Prelude.{◌≡◌, ◌⊎◌, ℕ, ◌+◌, ◌/◌, ◌<◌, List, [], ◌∷◌, Bool, length, IsUtf8}
 use Rattle.std.specs.String.{IsUtf16Of}
-use Rattle.rasn_types.specs.Calendar.{Day, Moment}
-use Rattle.rasn_types.specs.Time.{GeneralUtc, GeneralGeneralized, CarriedDay}
+use Rattle.rasn_types.specs.Calendar.{Day, Moment, IsMoment}
+use Rattle.rasn_types.specs.Time.{GeneralUtc, GeneralGeneralized, CarriedDay, CarriedUtc, written_generalized, written_utc}
 use Rattle.rasn_types.specs.Text.{IsDotted, shown_day}
 use Rattle.rasn_types.specs.BitString.{bits_from}
 use Rattle.rasn_types.specs.CharacterString.{units_of}
 use Rattle.rasn_schema.specs.declared.types.LeafKind.{LeafKind}
 use Rattle.rasn_schema.specs.declared.types.LeafKind.TheVariants.{UtcTime}
 
--- The text of a time of the type, as BER has it (X.690 11.7, 11.8 say how DER has it).
+-- The text of a time of the type, as BER has it.
 abbrev pub InstantText : LeafKind → List ℕ → Moment → Type 0
 InstantText UtcTime s m = (offset : _) × GeneralUtc s (record { moment = m; offset = offset })
 InstantText _ s m = (offset : _) × GeneralGeneralized s (record { moment = m; offset = offset })
+
+-- The text of a time of the type, as DER has it (X.690 11.7, 11.8), which has less than all instants.
+abbrev pub IsCarriedInstant : LeafKind → Moment → Type 0
+IsCarriedInstant UtcTime m = CarriedUtc m
+IsCarriedInstant _ m = CarriedDay m.day
+
+abbrev pub written_instant : LeafKind → Moment → List ℕ
+written_instant UtcTime m = written_utc m
+written_instant _ m = written_generalized m
+
+abbrev pub WrittenInstant : LeafKind → List ℕ → Moment → Type 0
+WrittenInstant kind s m = IsMoment m × IsCarriedInstant kind m × IsUtf8 s × (s ≡ written_instant kind m)
 
 -- So many bits, in as few octets as they take.
 abbrev pub ArePacked : List ℕ → ℕ → List Bool → Type 0

@@ -1,5 +1,5 @@
 //! Strings whose characters are octets, and BMPStrings (X.697, character strings).
-ghost use Rattle.std.specs.Prelude.{◌≡◌, ◌/◌, ◌%◌, ◌∷◌, ◌++◌, [], IfOk, IfSome, OnOk, string_bytes, encode_utf8_all};
+ghost use Rattle.std.specs.Prelude.{◌≡◌, ◌/◌, ◌%◌, ◌∷◌, ◌++◌, [], ℕ, List, IfOk, MatchOption, OnOk, string_bytes, encode_utf8_all};
 ghost use Rattle.rasn_json.specs.Texts.{UnitsText};
 
 use crate::error::{JsonError, JsonErrorKind};
@@ -42,7 +42,7 @@ pub fn foreign(alloc: Global, position: usize) -> JsonError {
 /// Returns the text of a BMPString, whose units may be pairs of surrogates, or `None` if one is
 /// unpaired.
 pub fn text_of_units(alloc: Global, units: &BmpString) -> Result<Option<String>, AllocError>
-    ensures { IfOk result (λ o. IfSome o (λ s. UnitsText (string_bytes s) units.now)) }
+    ensures { IfOk result (λ o. MatchOption o ((s : List ℕ) → UnitsText s units.now → ⊥) (λ s. UnitsText (string_bytes s) units.now)) }
 {
     let mut text = String::new(alloc);
     for character in char::decode_utf16(units.units()) {

@@ -7,7 +7,7 @@ ghost use Rattle.rasn.specs.Headline.{AnsweredAlone};
 ghost use Rattle.rasn_schema.specs.declared.value.Value.{Value};
 ghost use Rattle.rasn_schema.specs.Trees.{tree_of};
 ghost use Rattle.rasn_dynamic.specs.Entry.{FitsType, IsEncoded, shape_of};
-ghost use Rattle.rasn_json.specs.Entry.{HasJson, IsLaidOut, IsNoJsonOf, IsNotEncodedFrom, IsReadAs};
+ghost use Rattle.rasn_json.specs.Entry.{HasJson, HasNoJson, IsLaidOut, IsNoJsonOf, IsNotEncodedFrom, IsReadAs};
 
 use crate::error::JsonError;
 use crate::layout::Layout;
@@ -26,12 +26,16 @@ use thiserror::Error;
 /// Returns a value as JSON text (X.697).
 ///
 /// # Errors
-/// - `Unfit` at the part that isn't a value of its type, as `fits` tells.
-/// - `NoJson` for a value without JSON: a BMPString with an unpaired surrogate, arcs without a
-///   subidentifier, a time of a year that its text can't have, or with more than the text says.
+/// If the value has no JSON that is nested at most [`MAX_NESTING`] deep. The error is that of the
+/// first part without, in the order of components and elements:
+/// - `Unfit` if it isn't a value of its type, as `fits` tells, or a number of an ENUMERATED.
+/// - `NoJson` for a BMPString with an unpaired surrogate, arcs without a subidentifier, and a time of
+///   a year that its text can't have, or with more than the text says.
 /// - `WrongSize` for a BIT STRING that hasn't the one size of its type.
-/// - `TooDeep` if arrays and objects would be nested more than [`MAX_NESTING`] deep.
-/// - `OutOfMemory`.
+/// - `TooDeep` if it is an array or an object and would be nested deeper.
+/// - `NoType` if the schema has no such type.
+///
+/// `OutOfMemory` if an allocation fails.
 ///
 /// # Examples
 /// ```
@@ -48,6 +52,7 @@ pub fn to_json(
 ) -> Result<String, JsonError>
     ensures json { IfOk result (λ text. HasJson schema.now.types.items id.0 value.now (string_bytes text)) }
     ensures layout { IfOk result (λ text. IsLaidOut layout (string_bytes text)) }
+    ensures err { IfErr result (HasNoJson schema.now.types.items id.0 value.now) }
 {
     match layout {
         Layout::Compact => compact(alloc, schema, id, value),
@@ -64,6 +69,7 @@ fn compact(
 ) -> Result<String, JsonError>
     ensures json { IfOk result (λ text. HasJson schema.now.types.items id.0 value.now (string_bytes text)) }
     ensures text { IfOk result (λ text. string_bytes text ≡ print (tokens (string_bytes text))) }
+    ensures err { IfErr result (HasNoJson schema.now.types.items id.0 value.now) }
 {
     let mut out = Compact {
         out: Writer::new(Vec::new(alloc)),
@@ -89,6 +95,7 @@ fn indented(
 ) -> Result<String, JsonError>
     ensures json { IfOk result (λ text. HasJson schema.now.types.items id.0 value.now (string_bytes text)) }
     ensures text { IfOk result (λ text. string_bytes text ≡ pretty (tokens (string_bytes text))) }
+    ensures err { IfErr result (HasNoJson schema.now.types.items id.0 value.now) }
 {
     let mut out = Pretty::new(alloc);
     put_at(

@@ -1,5 +1,6 @@
 //! What is wrong with JSON, or with a value that has none.
-ghost use Rattle.std.specs.Prelude.{◌≡◌, Ok, IsErr, MatchResult};
+ghost use Rattle.std.specs.Prelude.{◌≡◌, Ok, IfErr, IsErr, MatchResult};
+ghost use Rattle.rasn_json.specs.Refusals.{IsMemory};
 
 use rasn_schema::TypeId;
 use rasn_types::types::Bounded;
@@ -129,8 +130,13 @@ pub struct JsonError {
 }
 
 impl JsonError {
+    ghost use Rattle.std.specs.Prelude.{◌≡◌};
+    ghost use Rattle.rasn_json.specs.Refusals.{IsMemory, IsOfElement, IsOfItself, IsOfMember, IsOfPart, OrMemory};
+
     /// Returns an error of the value itself.
-    pub(crate) fn new(alloc: Global, kind: JsonErrorKind) -> JsonError {
+    pub(crate) fn new(alloc: Global, kind: JsonErrorKind) -> JsonError
+        ensures { IsOfItself kind result }
+    {
         JsonError {
             kind,
             steps: Vec::new(alloc),
@@ -138,7 +144,9 @@ impl JsonError {
     }
 
     /// Returns the error that memory ran out.
-    pub(crate) fn memory(alloc: Global) -> JsonError {
+    pub(crate) fn memory(alloc: Global) -> JsonError
+        ensures { IsMemory result }
+    {
         JsonError::new(alloc, JsonErrorKind::OutOfMemory)
     }
 
@@ -148,7 +156,9 @@ impl JsonError {
     }
 
     /// Returns the error of a value of which the one with the error is the member with this name.
-    pub(crate) fn in_member(self, alloc: Global, name: &str) -> JsonError {
+    pub(crate) fn in_member(self, alloc: Global, name: &str) -> JsonError
+        ensures { OrMemory (IsOfMember name.now (λ e. e ≡ self)) result }
+    {
         match String::from_str(alloc, name) {
             Ok(name) => self.inside(alloc, JsonStep::Member(name)),
             Err(_) => JsonError::memory(alloc),
@@ -156,11 +166,16 @@ impl JsonError {
     }
 
     /// Returns the error of a value of which the one with the error is the element with this index.
-    pub(crate) fn in_element(self, alloc: Global, index: usize) -> JsonError {
+    pub(crate) fn in_element(self, alloc: Global, index: usize) -> JsonError
+        ensures { OrMemory (IsOfElement index (λ e. e ≡ self)) result }
+    {
         self.inside(alloc, JsonStep::Element(index))
     }
 
-    fn inside(self, alloc: Global, step: JsonStep) -> JsonError {
+    /// Returns the error of a value of which the one with the error is the part after this step.
+    fn inside(self, alloc: Global, step: JsonStep) -> JsonError
+        ensures { OrMemory (IsOfPart (λ s. s ≡ step) (λ e. e ≡ self)) result }
+    {
         let mut error = self;
         match error.steps.push(step) {
             Ok(()) => error,
@@ -201,7 +216,8 @@ fn write_steps<W: fmt::Write>(f: &mut fmt::Formatter<W>, steps: &[JsonStep]) -> 
 
 /// Returns a result whose error is that memory ran out.
 pub(crate) fn or_memory<T>(alloc: Global, outcome: Result<T, AllocError>) -> Result<T, JsonError>
-    ensures { MatchResult outcome (λ v. result ≡ Ok v) (λ _. IsErr result) }
+    ensures ok { MatchResult outcome (λ v. result ≡ Ok v) (λ _. IsErr result) }
+    ensures err { IfErr result IsMemory }
 {
     match outcome {
         Ok(value) => Ok(value),

@@ -4,6 +4,7 @@
 //! read and write octets too, by the reader and the writer of `rasn_dynamic`.
 #![tactic(auto)]
 
+mod arcs;
 mod bits;
 mod characters;
 mod decimal;

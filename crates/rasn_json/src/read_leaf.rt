@@ -1,16 +1,14 @@
 //! Values that hold no others, of JSON.
-ghost use Rattle.std.specs.Prelude.{◌≡◌, All, Some, length, IfOk, string_bytes, encode_utf8_all};
+ghost use Rattle.std.specs.Prelude.{◌≡◌, Some, length, IfOk, string_bytes, encode_utf8_all};
 ghost use Rattle.json.specs.Find.{as_str};
 ghost use Rattle.json.specs.Value.{value_view};
 ghost use Rattle.rasn_types.specs.CharacterString.{AreAdmitted};
 ghost use Rattle.rasn_types.specs.CowBits.{cow_bits};
-ghost use Rattle.rasn_types.specs.Text.{IsSmall};
-ghost use Rattle.rasn_types.specs.Truth.{IsWhether};
 ghost use Rattle.rasn_schema.specs.Fitting.{AreOctets, FitsLeaf};
 ghost use Rattle.rasn_json.specs.Json.{one_size};
-ghost use Rattle.rasn_json.specs.Texts.{HaveSubidentifier};
 ghost use Rattle.rasn_json.specs.Reading.{AllBitsRead, ArcsRead, DayRead, HexadecimalRead, InstantRead, LeafRead, NamedBitsRead, OpenRead, UnitsRead};
 
+use crate::arcs::have_subidentifier;
 use crate::bits::bits_of;
 use crate::characters::{foreign, octets_of, units_of};
 use crate::digits::octets_in;
@@ -113,18 +111,6 @@ fn arcs_of(alloc: Global, json: &Json<'_>) -> Result<ObjectIdentifier, JsonError
         }
     }
     Err(JsonError::new(alloc, JsonErrorKind::NotArcs))
-}
-
-/// Returns whether the first two arcs have a subidentifier: under 0 and 1 there are 40 arcs (X.660
-/// 7.6, X.690 8.19.4).
-pub fn have_subidentifier(arcs: &[u32]) -> bool
-    ensures whether { IsWhether result (HaveSubidentifier arcs.now) }
-    ensures small { All IsSmall arcs.now }
-{
-    match arcs {
-        [first, second, ..] => *first == 2 || *second < 40,
-        _ => false,
-    }
 }
 
 fn wrong_size(alloc: Global, size: usize, expected: Bounded<usize>) -> JsonError {

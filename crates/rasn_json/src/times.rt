@@ -1,12 +1,14 @@
 //! Days and instants (X.697, useful types and time types).
-ghost use Rattle.std.specs.Prelude.{IfOk, IfSome, string_bytes};
-ghost use Rattle.rasn_json.specs.Texts.{DayText, InstantText};
+ghost use Rattle.std.specs.Prelude.{◌≡◌, ℕ, List, IfOk, IfSome, MatchOption, string_bytes};
+ghost use Rattle.rasn_types.specs.Truth.{IsWhether};
+ghost use Rattle.rasn_json.specs.Texts.{DayText, InstantText, IsCarriedInstant, WrittenInstant, written_instant};
+ghost use Rattle.rasn_types.specs.Calendar.{IsMoment};
 
 use rasn_schema::LeafKind;
 use rasn_types::ber::time::{
     parse_date, parse_generalized_time, parse_utc_time, write_generalized_time, write_utc_time,
 };
-use rasn_types::types::{Date, GeneralizedTime};
+use rasn_types::types::{Date, GeneralizedTime, UtcTime};
 use std::alloc::{AllocError, Global};
 
 /// Returns the instant that the text of a GeneralizedTime is, or that of a UTCTime.
@@ -20,31 +22,51 @@ pub fn instant_of(kind: LeafKind, text: &str) -> Option<GeneralizedTime>
     GeneralizedTime::new(utc, 0)
 }
 
+/// Returns whether an instant has a text by DER: a UTCTime has two digits of the year and no
+/// fraction, a GeneralizedTime four digits of the year.
+fn is_carried(kind: LeafKind, time: &UtcTime) -> bool
+    ensures { IsWhether result (IsCarriedInstant kind time.now) }
+{
+    let year = time.date().year();
+    if kind == LeafKind::UtcTime {
+        let is_whole = time.nanosecond() == 0 || time.nanosecond() == 1_000_000_000;
+        return 1970 <= year && year <= 2069 && is_whole;
+    }
+    0 <= year && year < 10000
+}
+
+/// Returns the octets of an instant's text.
+fn octets_of_instant(
+    alloc: Global,
+    kind: LeafKind,
+    time: &GeneralizedTime,
+) -> Result<Vec<u8>, AllocError>
+    ensures exists { IfOk result (λ _. IsMoment time.now.moment) }
+    ensures written { IfOk result (λ octets. octets.items ≡ written_instant kind time.now.moment) }
+{
+    let mut octets = Vec::new(alloc);
+    if kind == LeafKind::UtcTime {
+        write_utc_time(&mut octets, &time.utc())?;
+        return Ok(octets);
+    }
+    write_generalized_time(&mut octets, time)?;
+    Ok(octets)
+}
+
 /// Returns the text of an instant, as DER has it, or `None` if there is none of it.
 pub fn text_of_instant(
     alloc: Global,
     kind: LeafKind,
     time: &GeneralizedTime,
 ) -> Result<Option<String>, AllocError>
-    ensures { IfOk result (λ o. IfSome o (λ s. InstantText kind (string_bytes s) time.now.moment)) }
+    ensures { IfOk result (λ o. MatchOption o ((s : List ℕ) → WrittenInstant kind s time.now.moment → ⊥) (λ s. WrittenInstant kind (string_bytes s) time.now.moment)) }
 {
-    let mut octets = Vec::new(alloc);
-    if kind == LeafKind::UtcTime {
-        write_utc_time(&mut octets, &time.utc())?;
-    } else {
-        write_generalized_time(&mut octets, time)?;
-    }
-    let Ok(text) = String::from_utf8(octets) else {
+    if !is_carried(kind, &time.utc()) {
         return Ok(None);
-    };
-    match instant_of(kind, text.as_str()) {
-        Some(again) => {
-            if again.is_same(time) {
-                return Ok(Some(text));
-            }
-            Ok(None)
-        }
-        None => Ok(None),
+    }
+    match String::from_utf8(octets_of_instant(alloc, kind, time)?) {
+        Ok(text) => Ok(Some(text)),
+        Err(_) => Ok(None),
     }
 }
 
@@ -63,11 +85,12 @@ pub fn day_of(text: &str) -> Option<Date>
 
 /// Returns the text of a day, or `None` if its year hasn't four digits.
 pub fn text_of_day(alloc: Global, day: &Date) -> Result<Option<String>, AllocError>
-    ensures { IfOk result (λ o. IfSome o (λ s. DayText (string_bytes s) day.now)) }
+    ensures { IfOk result (λ o. MatchOption o ((s : List ℕ) → DayText s day.now → ⊥) (λ s. DayText (string_bytes s) day.now)) }
 {
-    let text = format!(in alloc; "{day}")?;
-    match day_of(text.as_str()) {
-        Some(_) => Ok(Some(text)),
-        None => Ok(None),
+    let year = day.year();
+    if year < 0 || year >= 10000 {
+        return Ok(None);
     }
+    let text = format!(in alloc; "{day}")?;
+    Ok(Some(text))
 }

@@ -1,5 +1,5 @@
 //! Values that hold no others, as JSON.
-ghost use Rattle.std.specs.Prelude.{◌≡◌, ◌≤◌, ◌-◌, ◌∷◌, ◌++◌, [], Some, Ok, length, OnOk, IfOk, string_bytes, decimal};
+ghost use Rattle.std.specs.Prelude.{◌≡◌, ◌≤◌, ◌<◌, ◌-◌, ◌∷◌, ◌++◌, [], None, Some, Ok, length, OnOk, IfErr, IfOk, string_bytes, decimal};
 ghost use Rattle.json.specs.Reads.{token_of};
 ghost use Rattle.json.specs.Print.{IsPrintable};
 ghost use Rattle.json.specs.Json.{string};
@@ -7,18 +7,20 @@ ghost use Rattle.json.specs.Token.{number};
 ghost use Rattle.rasn_types.specs.BitString.{zeros};
 ghost use Rattle.rasn_types.specs.Truth.{IsWhether};
 ghost use Rattle.rasn_schema.specs.Fitting.{FitsLeaf};
-ghost use Rattle.rasn_json.specs.Json.{Appends, ArcsJson, BitsJson, CountedJson, DayJson, DigitsJson, EnumeratedJson, HexadecimalJson, InstantJson, IntegerJson, IsSize, LeafJson, NumberJson, OctetsJson, OpenJson, ArrayJson, UnitsJson, one_size};
+ghost use Rattle.rasn_json.specs.Json.{Appends, ArcsJson, BitsJson, CountedJson, DayJson, DigitsJson, EnumeratedJson, HexadecimalJson, InstantJson, IntegerJson, IsCounted, IsSize, LeafJson, NumberJson, OctetsJson, OpenJson, ArrayJson, UnitsJson, one_size};
+ghost use Rattle.rasn_json.specs.declared.error.JsonErrorKind.TheVariants.{NoJson, Unfit};
+ghost use Rattle.rasn_json.specs.Refusals.{AreRefusedBits, AreRefusedElements, HasNone, HasOpen, IsMemory, IsOfItself, IsRefusedLeaf, IsRefusedOpen, OrMemory};
 
+use crate::arcs::have_subidentifier;
 use crate::bits::fixed_size;
 use crate::characters::{text_of, text_of_units};
 use crate::decimal::decimal_of;
 use crate::digits::digits_of;
 use crate::error::{JsonError, JsonErrorKind, or_memory};
 use crate::number::{is_enumerated, name_of};
-use crate::read_leaf::have_subidentifier;
 use crate::times::{text_of_day, text_of_instant};
 use crate::tokens::Tokens;
-use json::{Token, is_number};
+use json::Token;
 use rasn_schema::{LeafKind, NamedNumber, Value, leaf_fits};
 use rasn_types::types::{
     BitStr, BitString, BmpString, Constraints, Date, GeneralizedTime, Integer, ObjectIdentifier,
@@ -28,14 +30,16 @@ use std::alloc::{AllocError, Global};
 /// Appends a token.
 pub fn put<T: Tokens>(out: &mut T, alloc: Global, token: Token<'_>) -> Result<(), JsonError>
     requires { IsPrintable (token_of token) }
-    ensures { OnOk result (T.Tokens.written out.new ≡ T.Tokens.written out.old ++ token_of token.entry ∷ []) }
+    ensures ok { OnOk result (T.Tokens.written out.new ≡ T.Tokens.written out.old ++ token_of token.entry ∷ []) }
+    ensures err { IfErr result IsMemory }
 {
     or_memory(alloc, out.put(token))
 }
 
 /// Returns a text, or an error if memory ran out or the value has none.
 fn some_text(alloc: Global, text: Result<Option<String>, AllocError>) -> Result<String, JsonError>
-    ensures { IfOk result (λ s. text ≡ Ok (Some s)) }
+    ensures ok { IfOk result (λ s. text ≡ Ok (Some s)) }
+    ensures err { IfErr result (OrMemory (λ e. (text ≡ Ok None) × IsOfItself NoJson e)) }
 {
     match text {
         Ok(Some(text)) => Ok(text),
@@ -45,19 +49,19 @@ fn some_text(alloc: Global, text: Result<Option<String>, AllocError>) -> Result<
 }
 
 /// Returns the error of a value that isn't one of its type.
-pub fn unfit(alloc: Global) -> JsonError {
+pub fn unfit(alloc: Global) -> JsonError
+    ensures { IsOfItself Unfit result }
+{
     JsonError::new(alloc, JsonErrorKind::Unfit)
 }
 
 /// Appends a number.
 fn put_number<T: Tokens>(out: &mut T, alloc: Global, number: &Integer) -> Result<(), JsonError>
-    ensures { OnOk result (Appends (NumberJson number.now) (T.Tokens.written out.old) (T.Tokens.written out.new)) }
+    ensures ok { OnOk result (Appends (NumberJson number.now) (T.Tokens.written out.old) (T.Tokens.written out.new)) }
+    ensures err { IfErr result IsMemory }
 {
     let text = or_memory(alloc, decimal_of(alloc, number))?;
-    if is_number(text.as_str()) {
-        return put(out, alloc, Token::Number(text.as_str()));
-    }
-    Err(JsonError::new(alloc, JsonErrorKind::NoJson))
+    put(out, alloc, Token::Number(text.as_str()))
 }
 
 /// Appends the number of an INTEGER, or of an ENUMERATED with an extension marker: its name or, if
@@ -69,7 +73,8 @@ fn put_integer<T: Tokens>(
     names: &[NamedNumber],
     number: &Integer,
 ) -> Result<(), JsonError>
-    ensures { OnOk result (Appends (IntegerJson kind names.now number.now) (T.Tokens.written out.old) (T.Tokens.written out.new)) }
+    ensures ok { OnOk result (Appends (IntegerJson kind names.now number.now) (T.Tokens.written out.old) (T.Tokens.written out.new)) }
+    ensures err { IfErr result IsMemory }
 {
     if is_enumerated(kind, names) {
         if let Some(name) = name_of(names, number) {
@@ -86,7 +91,8 @@ pub fn put_enumerated<T: Tokens>(
     numbers: &[NamedNumber],
     value: &Value<'_>,
 ) -> Result<(), JsonError>
-    ensures { OnOk result (Appends (EnumeratedJson numbers.now value.now) (T.Tokens.written out.old) (T.Tokens.written out.new)) }
+    ensures ok { OnOk result (Appends (EnumeratedJson numbers.now value.now) (T.Tokens.written out.old) (T.Tokens.written out.new)) }
+    ensures err { IfErr result (OrMemory (HasNone Unfit (EnumeratedJson numbers.now value.now))) }
 {
     let Value::Integer(number) = value else {
         return Err(unfit(alloc));
@@ -99,7 +105,8 @@ pub fn put_enumerated<T: Tokens>(
 
 /// Appends octets as hexadecimal digits.
 fn put_digits<T: Tokens>(out: &mut T, alloc: Global, octets: &[u8]) -> Result<(), JsonError>
-    ensures { OnOk result (Appends (HexadecimalJson octets.now) (T.Tokens.written out.old) (T.Tokens.written out.new)) }
+    ensures ok { OnOk result (Appends (HexadecimalJson octets.now) (T.Tokens.written out.old) (T.Tokens.written out.new)) }
+    ensures err { IfErr result IsMemory }
 {
     let digits = or_memory(alloc, digits_of(alloc, octets))?;
     put(out, alloc, Token::String(digits.as_str()))
@@ -107,7 +114,8 @@ fn put_digits<T: Tokens>(out: &mut T, alloc: Global, octets: &[u8]) -> Result<()
 
 /// Appends the octets of an open type.
 pub fn put_open<T: Tokens>(out: &mut T, alloc: Global, value: &Value<'_>) -> Result<(), JsonError>
-    ensures { OnOk result (Appends (OpenJson value.now) (T.Tokens.written out.old) (T.Tokens.written out.new)) }
+    ensures ok { OnOk result (Appends (OpenJson value.now) (T.Tokens.written out.old) (T.Tokens.written out.new)) }
+    ensures err { IfErr result (OrMemory (IsRefusedOpen value.now)) }
 {
     match value {
         Value::Octets(octets) => put_digits(out, alloc, octets.as_slice()),
@@ -121,7 +129,8 @@ pub fn put_unknown<T: Tokens>(
     alloc: Global,
     values: &[Value<'_>],
 ) -> Result<(), JsonError>
-    ensures { OnOk result (Appends (λ j. ArrayJson OpenJson j values.now) (T.Tokens.written out.old) (T.Tokens.written out.new)) }
+    ensures ok { OnOk result (Appends (λ j. ArrayJson OpenJson j values.now) (T.Tokens.written out.old) (T.Tokens.written out.new)) }
+    ensures err { IfErr result (OrMemory (AreRefusedElements HasOpen IsRefusedOpen 0 values.now)) }
 {
     put(out, alloc, Token::BeginArray)?;
     let mut index = 0usize;
@@ -154,7 +163,9 @@ fn put_bits<T: Tokens>(
     constraints: &Constraints,
     bits: &BitStr<'_>,
 ) -> Result<(), JsonError>
-    ensures { OnOk result (Appends (BitsJson kind (one_size constraints.now) bits.now) (T.Tokens.written out.old) (T.Tokens.written out.new)) }
+    ensures ok { OnOk result (Appends (BitsJson kind (one_size constraints.now) bits.now) (T.Tokens.written out.old) (T.Tokens.written out.new)) }
+    ensures nested { OnOk result (one_size constraints.now ≡ None → 0 < depth) }
+    ensures err { IfErr result (OrMemory (AreRefusedBits depth kind constraints.now (one_size constraints.now) bits.now)) }
 {
     match fixed_size(constraints) {
         Some(size) => {
@@ -184,7 +195,8 @@ fn put_fixed_bits<T: Tokens>(
     bits: &BitStr<'_>,
 ) -> Result<(), JsonError>
     requires { length bits.now ≤ size }
-    ensures { OnOk result (Appends (DigitsJson (bits.now ++ zeros (size - length bits.now))) (T.Tokens.written out.old) (T.Tokens.written out.new)) }
+    ensures ok { OnOk result (Appends (DigitsJson (bits.now ++ zeros (size - length bits.now))) (T.Tokens.written out.old) (T.Tokens.written out.new)) }
+    ensures err { IfErr result IsMemory }
 {
     let mut octets = or_memory(alloc, BitString::from_bitstr(alloc, bits))?.into_vec();
     or_memory(alloc, octets.resize(size.div_ceil(8), 0))?;
@@ -197,7 +209,8 @@ fn put_counted_bits<T: Tokens>(
     alloc: Global,
     bits: &BitStr<'_>,
 ) -> Result<(), JsonError>
-    ensures { OnOk result (Appends (CountedJson bits.now) (T.Tokens.written out.old) (T.Tokens.written out.new)) }
+    ensures ok { OnOk result (Appends (CountedJson bits.now) (T.Tokens.written out.old) (T.Tokens.written out.new)) }
+    ensures err { IfErr result IsMemory }
 {
     let octets = or_memory(alloc, BitString::from_bitstr(alloc, bits))?.into_vec();
     put(out, alloc, Token::BeginObject)?;
@@ -210,7 +223,8 @@ fn put_counted_bits<T: Tokens>(
 
 /// Appends a size.
 fn put_size<T: Tokens>(out: &mut T, alloc: Global, size: usize) -> Result<(), JsonError>
-    ensures { OnOk result (T.Tokens.written out.new ≡ T.Tokens.written out.old ++ number (decimal size) ∷ []) }
+    ensures ok { OnOk result (T.Tokens.written out.new ≡ T.Tokens.written out.old ++ number (decimal size) ∷ []) }
+    ensures err { IfErr result IsMemory }
 {
     let mut buffer = itoa::Buffer::new();
     put(out, alloc, Token::Number(buffer.format(size)))
@@ -223,7 +237,8 @@ fn put_octets<T: Tokens>(
     kind: LeafKind,
     octets: &[u8],
 ) -> Result<(), JsonError>
-    ensures { OnOk result (Appends (OctetsJson kind octets.now) (T.Tokens.written out.old) (T.Tokens.written out.new)) }
+    ensures ok { OnOk result (Appends (OctetsJson kind octets.now) (T.Tokens.written out.old) (T.Tokens.written out.new)) }
+    ensures err { IfErr result IsMemory }
 {
     match kind {
         LeafKind::OctetString => put_digits(out, alloc, octets),
@@ -237,7 +252,8 @@ fn put_octets<T: Tokens>(
 
 /// Appends the units of a BMPString.
 fn put_units<T: Tokens>(out: &mut T, alloc: Global, units: &BmpString) -> Result<(), JsonError>
-    ensures { OnOk result (Appends (UnitsJson units.now) (T.Tokens.written out.old) (T.Tokens.written out.new)) }
+    ensures ok { OnOk result (Appends (UnitsJson units.now) (T.Tokens.written out.old) (T.Tokens.written out.new)) }
+    ensures err { IfErr result (OrMemory (HasNone NoJson (UnitsJson units.now))) }
 {
     let text = some_text(alloc, text_of_units(alloc, units))?;
     put(out, alloc, Token::String(text.as_str()))
@@ -246,7 +262,8 @@ fn put_units<T: Tokens>(out: &mut T, alloc: Global, units: &BmpString) -> Result
 /// Appends the arcs of an OBJECT IDENTIFIER, if they have a subidentifier, as they have to where
 /// they are read.
 fn put_arcs<T: Tokens>(out: &mut T, alloc: Global, arcs: &ObjectIdentifier) -> Result<(), JsonError>
-    ensures { OnOk result (Appends (ArcsJson arcs.now) (T.Tokens.written out.old) (T.Tokens.written out.new)) }
+    ensures ok { OnOk result (Appends (ArcsJson arcs.now) (T.Tokens.written out.old) (T.Tokens.written out.new)) }
+    ensures err { IfErr result (OrMemory (HasNone NoJson (ArcsJson arcs.now))) }
 {
     if !have_subidentifier(arcs.arcs()) {
         return Err(JsonError::new(alloc, JsonErrorKind::NoJson));
@@ -262,7 +279,8 @@ fn put_instant<T: Tokens>(
     kind: LeafKind,
     time: &GeneralizedTime,
 ) -> Result<(), JsonError>
-    ensures { OnOk result (Appends (InstantJson kind time.now.moment) (T.Tokens.written out.old) (T.Tokens.written out.new)) }
+    ensures ok { OnOk result (Appends (InstantJson kind time.now.moment) (T.Tokens.written out.old) (T.Tokens.written out.new)) }
+    ensures err { IfErr result (OrMemory (HasNone NoJson (InstantJson kind time.now.moment))) }
 {
     let text = some_text(alloc, text_of_instant(alloc, kind, time))?;
     put(out, alloc, Token::String(text.as_str()))
@@ -270,7 +288,8 @@ fn put_instant<T: Tokens>(
 
 /// Appends a day.
 fn put_day<T: Tokens>(out: &mut T, alloc: Global, day: &Date) -> Result<(), JsonError>
-    ensures { OnOk result (Appends (DayJson day.now) (T.Tokens.written out.old) (T.Tokens.written out.new)) }
+    ensures ok { OnOk result (Appends (DayJson day.now) (T.Tokens.written out.old) (T.Tokens.written out.new)) }
+    ensures err { IfErr result (OrMemory (HasNone NoJson (DayJson day.now))) }
 {
     let text = some_text(alloc, text_of_day(alloc, day))?;
     put(out, alloc, Token::String(text.as_str()))
@@ -288,6 +307,8 @@ pub fn put_leaf<T: Tokens>(
 ) -> Result<(), JsonError>
     ensures fits { OnOk result (FitsLeaf kind value.now) }
     ensures json { OnOk result (Appends (LeafJson kind constraints.now names.now value.now) (T.Tokens.written out.old) (T.Tokens.written out.new)) }
+    ensures nested { OnOk result (IsCounted constraints.now value.now → 0 < depth) }
+    ensures err { IfErr result (OrMemory (IsRefusedLeaf depth kind constraints.now value.now)) }
 {
     if !leaf_fits(kind, value) {
         return Err(unfit(alloc));

@@ -1,9 +1,11 @@
 //! Values as JSON.
-ghost use Rattle.std.specs.Prelude.{◌≡◌, ◌<◌, OnOk};
+ghost use Rattle.std.specs.Prelude.{◌≡◌, ◌≤◌, ◌<◌, ◌+◌, IfErr, OnOk};
 ghost use Rattle.rasn_types.specs.Truth.{IsWhether};
 ghost use Rattle.json.specs.Json.{object, array};
+ghost use Rattle.json.specs.Tree.{depth as json_depth};
 ghost use Rattle.rasn_schema.specs.Fitting.{IsChosen};
-ghost use Rattle.rasn_json.specs.Json.{Appends, AppendsComponent, AppendsMember, ArrayJson, ChosenJson, JsonAt, JsonBy, IsLeftOut, IsNothing, ObjectJson, unknown_in};
+ghost use Rattle.rasn_json.specs.Json.{Appends, AppendsComponent, AppendsMember, ArrayJson, ChosenJson, JsonAt, JsonBy, JsonWithin, IsLeftOut, IsNothing, ObjectJson, unknown_in};
+ghost use Rattle.rasn_json.specs.Refusals.{AreRefusedComponents, AreRefusedElements, HasJsonWithin, IsOfMember, IsRefusedAt, IsRefusedBy, IsRefusedChoice, IsRefusedComponent, IsRefusedInside, OrMemory};
 
 use crate::error::{JsonError, JsonErrorKind};
 use crate::tokens::Tokens;
@@ -27,7 +29,8 @@ pub fn put_at<T: Tokens>(
     id: TypeId,
     value: &Value<'_>,
 ) -> Result<(), JsonError>
-    ensures { OnOk result (Appends (JsonAt types.now levels id.0 value.now) (T.Tokens.written out.old) (T.Tokens.written out.new)) }
+    ensures ok { OnOk result (Appends (JsonWithin types.now levels depth id.0 value.now) (T.Tokens.written out.old) (T.Tokens.written out.new)) }
+    ensures err { IfErr result (OrMemory (IsRefusedAt types.now levels depth id.0 value.now)) }
 {
     if levels == 0 {
         return Err(unfit(alloc));
@@ -49,7 +52,8 @@ fn put_value<T: Tokens>(
     ty: &Type,
     value: &Value<'_>,
 ) -> Result<(), JsonError>
-    ensures { OnOk result (Appends (JsonBy (unknown_in types.now) (JsonAt types.now below) ty.now value.now) (T.Tokens.written out.old) (T.Tokens.written out.new)) }
+    ensures ok { OnOk result (Appends (λ j. JsonBy (unknown_in types.now) (JsonAt types.now below) ty.now value.now j × (json_depth j ≤ depth)) (T.Tokens.written out.old) (T.Tokens.written out.new)) }
+    ensures err { IfErr result (OrMemory (IsRefusedBy (unknown_in types.now) (HasJsonWithin types.now below) (IsRefusedAt types.now below) depth ty.now value.now)) }
 {
     match ty {
         Type::Leaf {
@@ -81,7 +85,8 @@ fn put_inside<T: Tokens>(
     ty: &Type,
     value: &Value<'_>,
 ) -> Result<(), JsonError>
-    ensures { OnOk result (Appends (JsonBy (unknown_in types.now) (JsonAt types.now below) ty.now value.now) (T.Tokens.written out.old) (T.Tokens.written out.new)) }
+    ensures ok { OnOk result (Appends (λ j. JsonBy (unknown_in types.now) (JsonAt types.now below) ty.now value.now j × (json_depth j ≤ depth + 1)) (T.Tokens.written out.old) (T.Tokens.written out.new)) }
+    ensures err { IfErr result (OrMemory (IsRefusedInside (unknown_in types.now) (HasJsonWithin types.now below depth) (IsRefusedAt types.now below depth) ty.now value.now)) }
 {
     match ty {
         Type::Choice { alternatives, .. } => {
@@ -118,7 +123,8 @@ fn put_chosen<T: Tokens>(
     alternatives: &[Alternative],
     value: &Value<'_>,
 ) -> Result<(), JsonError>
-    ensures { OnOk result (Appends (λ j. IsChosen (ChosenJson (JsonAt types.now below) alternatives.now j) value.now) (T.Tokens.written out.old) (T.Tokens.written out.new)) }
+    ensures ok { OnOk result (Appends (λ j. IsChosen (ChosenJson (JsonWithin types.now below depth) alternatives.now j) value.now) (T.Tokens.written out.old) (T.Tokens.written out.new)) }
+    ensures err { IfErr result (OrMemory (IsRefusedChoice (IsRefusedAt types.now below depth) alternatives.now value.now)) }
 {
     let Value::Chosen(index, inner) = value else {
         return Err(unfit(alloc));
@@ -152,7 +158,8 @@ fn put_member<T: Tokens>(
     id: TypeId,
     value: &Value<'_>,
 ) -> Result<(), JsonError>
-    ensures { OnOk result (AppendsMember (JsonAt types.now below id.0 value.now) name.now (T.Tokens.written out.old) (T.Tokens.written out.new)) }
+    ensures ok { OnOk result (AppendsMember (JsonWithin types.now below depth id.0 value.now) name.now (T.Tokens.written out.old) (T.Tokens.written out.new)) }
+    ensures err { IfErr result (OrMemory (IsOfMember name.now (IsRefusedAt types.now below depth id.0 value.now))) }
 {
     put(out, alloc, Token::Key(name))?;
     match put_at(out, alloc, types, below, depth, id, value) {
@@ -172,7 +179,8 @@ fn put_object<T: Tokens>(
     components: &[Component],
     values: &[Value<'_>],
 ) -> Result<(), JsonError>
-    ensures { OnOk result (Appends (λ j. ObjectJson (unknown_in types.now) (JsonAt types.now below) components.now j values.now) (T.Tokens.written out.old) (T.Tokens.written out.new)) }
+    ensures ok { OnOk result (Appends (λ j. ObjectJson (unknown_in types.now) (JsonWithin types.now below depth) components.now j values.now) (T.Tokens.written out.old) (T.Tokens.written out.new)) }
+    ensures err { IfErr result (OrMemory (AreRefusedComponents (unknown_in types.now) (HasJsonWithin types.now below depth) (IsRefusedAt types.now below depth) components.now values.now)) }
 {
     put(out, alloc, Token::BeginObject)?;
     let mut rest = components;
@@ -223,7 +231,8 @@ fn put_component<T: Tokens>(
     component: &Component,
     value: &Value<'_>,
 ) -> Result<(), JsonError>
-    ensures { OnOk result (AppendsComponent (unknown_in types.now) (JsonAt types.now below) component.now value.now (T.Tokens.written out.old) (T.Tokens.written out.new)) }
+    ensures ok { OnOk result (AppendsComponent (unknown_in types.now) (JsonWithin types.now below depth) component.now value.now (T.Tokens.written out.old) (T.Tokens.written out.new)) }
+    ensures err { IfErr result (OrMemory (IsRefusedComponent (unknown_in types.now) (IsRefusedAt types.now below depth) component.now value.now)) }
 {
     if is_unwritten(types, component, value) {
         return Ok(());
@@ -252,7 +261,8 @@ fn put_array<T: Tokens>(
     element: TypeId,
     values: &[Value<'_>],
 ) -> Result<(), JsonError>
-    ensures { OnOk result (Appends (λ j. ArrayJson (JsonAt types.now below element.0) j values.now) (T.Tokens.written out.old) (T.Tokens.written out.new)) }
+    ensures ok { OnOk result (Appends (λ j. ArrayJson (JsonWithin types.now below depth element.0) j values.now) (T.Tokens.written out.old) (T.Tokens.written out.new)) }
+    ensures err { IfErr result (OrMemory (AreRefusedElements (HasJsonWithin types.now below depth element.0) (IsRefusedAt types.now below depth element.0) 0 values.now)) }
 {
     put(out, alloc, Token::BeginArray)?;
     let mut index = 0usize;

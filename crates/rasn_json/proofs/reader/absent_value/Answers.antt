@@ -15,5 +15,5 @@ default_left p v d e t = subst (λ q. IsLeftOutAs (presence_of q) (tree_of v)) (
 
 pub returns-in-Default-clause-fits : goal.returns-in-Default-clause-fits
 returns-in-Default-clause-fits c =
-    or_ok (ComponentFits (Fits c.args.types.now c.args.below) c.args.component.now) c.try_clone.result c.or_memory.result c.or_memory.ensures
+    or_ok (ComponentFits (Fits c.args.types.now c.args.below) c.args.component.now) c.try_clone.result c.or_memory.result c.or_memory.ensures.ok
     (if_ok _ _ c.try_clone.result (λ v e. inl (default_left c.args.component.now.presence v _ c.in-Default.is e)) c.try_clone.ensures.means)

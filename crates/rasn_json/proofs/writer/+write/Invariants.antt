@@ -1,6 +1,8 @@
 use Rattle.std.proofs.Common.{◌≡◌, ◌+◌, ◌*◌, length}
-use Rattle.rasn_json.specs.Json.{unknown_in, JsonAt}
+use Rattle.rasn_json.specs.Json.{unknown_in, JsonWithin}
+use Rattle.rasn_json.specs.Refusals.{HasJsonWithin, IsRefusedAt}
 use Rattle.rasn_json.proofs.Appended.{ObjectSoFar, ArraySoFar}
+use Rattle.rasn_json.proofs.Refused.{ComponentsSoFar, ElementsSoFar}
 use Rattle.rasn_json.proofs.writer.+write.Given as goal
 
 abbrev pub decreases-put_at : goal.decreases-put_at
@@ -28,13 +30,18 @@ abbrev pub decreases-put_array : goal.decreases-put_array
 decreases-put_array g l = 8 * l.below + 5
 
 abbrev pub invariant-put_object-loop-rest : goal.invariant-put_object-loop-rest
-invariant-put_object-loop-rest g l = ObjectSoFar (unknown_in l.types) (JsonAt l.types l.below) l.components l.rest l.values l.left (g.T.Tokens.written l.fn.out) (g.T.Tokens.written l.out)
+invariant-put_object-loop-rest g l =
+    ObjectSoFar (unknown_in l.types) (JsonWithin l.types l.below l.depth) l.components l.rest l.values l.left (g.T.Tokens.written l.fn.out) (g.T.Tokens.written l.out)
+    × ComponentsSoFar (unknown_in l.types) (HasJsonWithin l.types l.below l.depth) (IsRefusedAt l.types l.below l.depth) l.components l.rest l.values l.left
 
 abbrev pub decreases-put_object-loop-rest : goal.decreases-put_object-loop-rest
 decreases-put_object-loop-rest g l = length l.rest
 
 abbrev pub invariant-put_array-loop-left : goal.invariant-put_array-loop-left
-invariant-put_array-loop-left g l = (l.index + length l.left ≡ length l.values) × ArraySoFar (JsonAt l.types l.below l.element.0) l.values l.left (g.T.Tokens.written l.fn.out) (g.T.Tokens.written l.out)
+invariant-put_array-loop-left g l =
+    (l.index + length l.left ≡ length l.values)
+    × ArraySoFar (JsonWithin l.types l.below l.depth l.element.0) l.values l.left (g.T.Tokens.written l.fn.out) (g.T.Tokens.written l.out)
+    × ElementsSoFar (HasJsonWithin l.types l.below l.depth l.element.0) (IsRefusedAt l.types l.below l.depth l.element.0) l.index l.values l.left
 
 abbrev pub decreases-put_array-loop-left : goal.decreases-put_array-loop-left
 decreases-put_array-loop-left g l = length l.left
