@@ -6,8 +6,8 @@ use Rattle.rasn_schema.specs.declared.value.Value.{Value}
 use Rattle.rasn_schema.specs.Trees.{tree_of}
 use Rattle.rasn_json.specs.Entry.{HasJson}
 use Rattle.rasn_print.specs.Reading.{IsRead, IsMessage, IsRefused}
-use Rattle.rasn_print.specs.declared.conversion.NoJson.{NoJson}
-use Rattle.rasn_print.specs.declared.conversion.NoJson.TheVariants.{Unread, Unwritten}
+use Rattle.rasn_print.specs.declared.reading.NoJson.{NoJson}
+use Rattle.rasn_print.specs.declared.reading.NoJson.TheVariants.{Unread, Unwritten}
 
 -- The text is the JSON of the value that all of the octets encode.
 abbrev pub IsJsonOf : Codec → List «Type» → ℕ → List ℕ → List ℕ → Type 0

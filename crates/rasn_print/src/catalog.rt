@@ -112,7 +112,7 @@ fn print_types_of<W: Write>(
 }
 
 /// Returns whether an assignment is one of a type without parameters.
-fn is_plain_type(assignment: &Assignment<'_>) -> bool {
+pub(crate) fn is_plain_type(assignment: &Assignment<'_>) -> bool {
     match assignment.assigned {
         Assigned::Type(_) => assignment.parameters.is_none(),
         _ => false,

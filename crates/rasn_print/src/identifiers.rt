@@ -1,4 +1,4 @@
-//! The names of well-known object identifiers.
+//! The names of well-known object identifiers and of universal types.
 
 use rasn_types::types::ObjectIdentifier;
 use std::alloc::{AllocError, Global};
@@ -139,6 +139,43 @@ const ATTRIBUTES: &[Named] = &[
     (&[1, 2, 840, 113549, 1, 9, 1], "emailAddress"),
 ];
 
+/// The numbers of universal tags, and the names of their types (X.680 8.4).
+const UNIVERSAL: &[Named] = &[
+    (&[1], "BOOLEAN"),
+    (&[2], "INTEGER"),
+    (&[3], "BIT STRING"),
+    (&[4], "OCTET STRING"),
+    (&[5], "NULL"),
+    (&[6], "OBJECT IDENTIFIER"),
+    (&[7], "ObjectDescriptor"),
+    (&[8], "EXTERNAL"),
+    (&[9], "REAL"),
+    (&[10], "ENUMERATED"),
+    (&[11], "EMBEDDED PDV"),
+    (&[12], "UTF8String"),
+    (&[13], "RELATIVE-OID"),
+    (&[14], "TIME"),
+    (&[16], "SEQUENCE"),
+    (&[17], "SET"),
+    (&[18], "NumericString"),
+    (&[19], "PrintableString"),
+    (&[20], "TeletexString"),
+    (&[21], "VideotexString"),
+    (&[22], "IA5String"),
+    (&[23], "UTCTime"),
+    (&[24], "GeneralizedTime"),
+    (&[25], "GraphicString"),
+    (&[26], "VisibleString"),
+    (&[27], "GeneralString"),
+    (&[28], "UniversalString"),
+    (&[29], "CHARACTER STRING"),
+    (&[30], "BMPString"),
+    (&[31], "DATE"),
+    (&[32], "TIME-OF-DAY"),
+    (&[33], "DATE-TIME"),
+    (&[34], "DURATION"),
+];
+
 /// Returns the name of these arcs.
 fn name_of(arcs: &[u32], names: &[Named]) -> Option<&'static str> {
     for (known, name) in names {
@@ -166,4 +203,9 @@ pub(crate) fn attribute_name(arcs: &[u32]) -> Option<&'static str> {
 /// Returns the name of an object identifier, if it is well known.
 pub(crate) fn identifier_name(arcs: &[u32]) -> Option<&'static str> {
     name_of(arcs, IDENTIFIERS)
+}
+
+/// Returns the name of the type with this universal tag.
+pub(crate) fn universal_name(number: u32) -> Option<&'static str> {
+    name_of(&[number], UNIVERSAL)
 }

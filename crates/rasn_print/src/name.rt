@@ -8,137 +8,107 @@ use rasn_types::types::{Hexadecimal, ObjectIdentifier};
 use std::alloc::{AllocError, Global};
 use std::str;
 
+/// The text of a name, to which is appended.
+#[derive(Drop)]
+struct NameText<'a> {
+    alloc: Global,
+    known: &'a Known,
+    text: String,
+}
+
 /// Returns the attributes of a name in their order, `C=DE, O=Example, CN=example.org`. Those of one
-/// relative distinguished name are separated by `+`. Returns `None` if the value has another form.
+/// relative distinguished name, as which any value but `Items` is taken, are separated by `+`.
+/// Returns `None` if the value has another form.
 pub(crate) fn name_text(
     alloc: Global,
     known: &Known,
     value: &Value<'_>,
 ) -> Result<Option<String>, AllocError> {
-    let Value::Items(relatives) = value else {
-        return Ok(None);
+    let text = String::new(alloc);
+    let mut name = NameText { alloc, known, text };
+    let is_name = match value {
+        Value::Items(relatives) => name.push_relatives(relatives.as_slice())?,
+        relative => name.push_relative(relative)?,
     };
-    let mut text = String::new(alloc);
-    for relative in relatives {
-        if !text.is_empty() {
-            text.push_str(", ")?;
-        }
-        if !push_relative(&mut text, alloc, known, relative)? {
-            return Ok(None);
-        }
-    }
-    Ok(Some(text))
+    let NameText { text, .. } = name;
+    Ok(if is_name { Some(text) } else { None })
 }
 
-/// Returns the attributes of one relative distinguished name.
-pub(crate) fn relative_text(
-    alloc: Global,
-    known: &Known,
-    value: &Value<'_>,
-) -> Result<Option<String>, AllocError> {
-    let mut text = String::new(alloc);
-    if push_relative(&mut text, alloc, known, value)? {
-        Ok(Some(text))
-    } else {
-        Ok(None)
-    }
-}
-
-/// Appends the attributes of one relative distinguished name, unless the value has another form.
-fn push_relative(
-    text: &mut String,
-    alloc: Global,
-    known: &Known,
-    relative: &Value<'_>,
-) -> Result<bool, AllocError> {
-    let Value::Elements(attributes) = relative else {
-        return Ok(false);
-    };
-    let mut is_first = true;
-    for attribute in attributes {
-        if !is_first {
-            text.push_str(" + ")?;
+impl NameText<'_> {
+    /// Appends relative distinguished names. Returns false if one has another form.
+    fn push_relatives(&mut self, relatives: &[Value<'_>]) -> Result<bool, AllocError> {
+        for relative in relatives {
+            if !self.text.is_empty() {
+                self.text.push_str(", ")?;
+            }
+            if !self.push_relative(relative)? {
+                return Ok(false);
+            }
         }
-        if !push_attribute(text, alloc, known, attribute)? {
+        Ok(true)
+    }
+
+    /// Appends the attributes of one relative distinguished name. Returns false if the value has
+    /// another form.
+    fn push_relative(&mut self, relative: &Value<'_>) -> Result<bool, AllocError> {
+        let Value::Elements(attributes) = relative else {
             return Ok(false);
+        };
+        for (place, attribute) in attributes.iter().enumerate() {
+            if place > 0 {
+                self.text.push_str(" + ")?;
+            }
+            if !self.push_attribute(attribute)? {
+                return Ok(false);
+            }
         }
-        is_first = false;
+        Ok(true)
     }
-    Ok(true)
-}
 
-/// Appends one attribute, unless the value has another form.
-fn push_attribute(
-    text: &mut String,
-    alloc: Global,
-    known: &Known,
-    attribute: &Value<'_>,
-) -> Result<bool, AllocError> {
-    let Value::Items(parts) = attribute else {
-        return Ok(false);
-    };
-    let [kind, value] = parts.as_slice() else {
-        return Ok(false);
-    };
-    let (Value::Arcs(kind), Value::Octets(octets)) = (kind, value) else {
-        return Ok(false);
-    };
-    push_type(text, kind)?;
-    text.push('=')?;
-    push_value(text, alloc, known, octets.as_slice())?;
-    Ok(true)
-}
-
-/// Appends the type of an attribute, by its short name if it has one.
-fn push_type(text: &mut String, kind: &ObjectIdentifier) -> Result<(), AllocError> {
-    match attribute_name(kind.arcs()) {
-        Some(name) => text.push_str(name),
-        None => write!(text, "{kind}"),
+    /// Appends one attribute. Returns false if the value has another form.
+    fn push_attribute(&mut self, attribute: &Value<'_>) -> Result<bool, AllocError> {
+        let Value::Items(parts) = attribute else {
+            return Ok(false);
+        };
+        let [kind, value] = parts.as_slice() else {
+            return Ok(false);
+        };
+        let (Value::Arcs(kind), Value::Octets(octets)) = (kind, value) else {
+            return Ok(false);
+        };
+        self.push_typed(kind, octets.as_slice())?;
+        Ok(true)
     }
-}
 
-/// Appends the characters of an attribute's value, or its octets in hexadecimal after `#` if it is
-/// no string (RFC 4514 2.4).
-fn push_value(
-    text: &mut String,
-    alloc: Global,
-    known: &Known,
-    octets: &[u8],
-) -> Result<(), AllocError> {
-    match string_of(alloc, known, octets)? {
-        Some(value) => push_escaped(text, value.as_str()),
-        None => {
-            let shown = Hexadecimal::new(octets);
-            write!(text, "#{shown}")
+    /// Appends the type of an attribute, by its short name if it has one, and the characters of its
+    /// value, or its octets in hexadecimal after `#` if it is no string (RFC 4514 2.3, 2.4).
+    fn push_typed(&mut self, kind: &ObjectIdentifier, octets: &[u8]) -> Result<(), AllocError> {
+        match attribute_name(kind.arcs()) {
+            Some(name) => write!(self.text, "{name}=")?,
+            None => write!(self.text, "{kind}=")?,
+        }
+        match string_of(self.alloc, self.known, octets)? {
+            Some(value) => push_escaped(&mut self.text, value.as_str()),
+            None => {
+                let shown = Hexadecimal::new(octets);
+                write!(self.text, "#{shown}")
+            }
         }
     }
 }
 
-/// Returns the text of an encoding of a string type; `None` for other encodings.
+/// Returns the characters of an encoding of a string type whose characters are known: UTF8String,
+/// NumericString, PrintableString, TeletexString, IA5String, VisibleString or BMPString. Returns
+/// `None` for other encodings, and of a TeletexString that isn't ASCII, since few programs use the
+/// other octets as T.61 defines them.
 fn string_of(alloc: Global, known: &Known, octets: &[u8]) -> Result<Option<String>, AllocError> {
-    if !is_string(octets) {
+    let Some(0x0C | 0x12 | 0x13 | 0x14 | 0x16 | 0x1A | 0x1E) = octets.first() else {
         return Ok(None);
-    }
-    match known.universal_value(alloc, octets)? {
-        Some(Value::Chosen(_, value)) => characters(alloc, &value),
-        _ => Ok(None),
-    }
-}
-
-/// Returns whether the octets begin with the identifier of a string type whose characters are
-/// known: UTF8String, NumericString, PrintableString, TeletexString, IA5String, VisibleString or
-/// BMPString.
-fn is_string(octets: &[u8]) -> bool {
-    matches!(
-        octets.first(),
-        Some(0x0C | 0x12 | 0x13 | 0x14 | 0x16 | 0x1A | 0x1E)
-    )
-}
-
-/// Returns the characters of a string; `None` of a TeletexString that isn't ASCII, since few
-/// programs use the other octets as T.61 defines them.
-fn characters(alloc: Global, value: &Value<'_>) -> Result<Option<String>, AllocError> {
-    match value {
+    };
+    let Some(Value::Chosen(_, value)) = known.universal_value(alloc, octets)? else {
+        return Ok(None);
+    };
+    match &*value {
         Value::Text(text) => Ok(Some(String::from_str(alloc, text.as_str())?)),
         Value::Units(units) => characters_of(alloc, units),
         Value::Octets(octets) => match str::from_utf8(octets.as_slice()) {
@@ -157,33 +127,13 @@ fn push_escaped(text: &mut String, value: &str) -> Result<(), AllocError> {
         text.push('\\')?;
     }
     for character in value.chars() {
-        push_character(text, character)?;
+        let number = u32::from(character);
+        match character {
+            '"' | '+' | ',' | ';' | '<' | '>' | '\\' => write!(text, "\\{character}")?,
+            '\0'..='\u{1F}' | '\u{7F}' => write!(text, "\\{number:02X}")?,
+            '\u{80}'..='\u{9F}' => write!(text, "\\C2\\{number:02X}")?,
+            _ => text.push(character)?,
+        }
     }
     Ok(())
-}
-
-/// Appends one character.
-fn push_character(text: &mut String, character: char) -> Result<(), AllocError> {
-    if is_special(character) {
-        text.push('\\')?;
-        text.push(character)
-    } else if character.is_control() {
-        push_control(text, u32::from(character))
-    } else {
-        text.push(character)
-    }
-}
-
-/// Returns whether the character has a meaning of its own in names.
-fn is_special(character: char) -> bool {
-    matches!(character, '"' | '+' | ',' | ';' | '<' | '>' | '\\')
-}
-
-/// Appends a control character. Those from 80 on have two octets in UTF-8, and the first of the two
-/// is C2.
-fn push_control(text: &mut String, number: u32) -> Result<(), AllocError> {
-    if number >= 0x80 {
-        text.push_str("\\C2")?;
-    }
-    write!(text, "\\{number:02X}")
 }

@@ -4,9 +4,7 @@ use crate::dump::push_indent;
 use crate::leaf::{hexadecimal_text, leaf_text};
 use crate::reading::{ReadError, refused};
 use rasn_dynamic::{MessageParts, Part, decode, parts_of};
-use rasn_schema::{
-    Alternative, Component, LeafKind, NamedNumber, Schema, Type, TypeId, is_unknown_at, type_at,
-};
+use rasn_schema::{LeafKind, NamedNumber, Schema, Type, TypeId, is_unknown_at, part_name, type_at};
 use rasn_types::types::Codec;
 use std::alloc::{AllocError, Global};
 
@@ -23,13 +21,12 @@ pub fn offsets_text(
     title: &str,
     octets: &[u8],
 ) -> Result<String, ReadError> {
-    let mut parts = match parts_of(alloc, rule, schema, id, octets) {
-        Ok(parts) => parts,
-        Err(refusal) => return Err(refused(refusal)),
-    };
-    match text_of(alloc, rule, schema, title, &mut parts) {
-        Ok(text) => Ok(text),
-        Err(_) => Err(ReadError::OutOfMemory),
+    match parts_of(alloc, rule, schema, id, octets) {
+        Ok(mut parts) => match text_of(alloc, rule, schema, title, &mut parts) {
+            Ok(text) => Ok(text),
+            Err(_) => Err(ReadError::OutOfMemory),
+        },
+        Err(refusal) => Err(refused(refusal)),
     }
 }
 
@@ -44,21 +41,18 @@ fn text_of(
     let mut text = String::new(alloc);
     let mut around = Vec::new(alloc);
     for _ in 0..parts.list.len() {
-        match parts.next(alloc) {
-            Ok(Some(part)) => {
-                let path = parts.path.as_slice();
-                around.truncate(path.len());
-                // Of unknown values there may be none.
-                if !part.octets.is_empty() {
-                    push_header(&mut text, schema, &part, path.len())?;
-                    push_name(&mut text, schema, around.as_slice(), path, title)?;
-                    push_value(&mut text, alloc, rule, schema, &part)?;
-                }
-                around.push(part.id)?;
-            }
-            Ok(None) => break,
-            Err(_) => return Err(AllocError),
+        let Ok(Some(part)) = parts.next(alloc) else {
+            return Err(AllocError);
+        };
+        let path = parts.path.as_slice();
+        around.truncate(path.len());
+        // Of unknown values there may be none.
+        if !part.octets.is_empty() {
+            push_header(&mut text, schema, &part, path.len())?;
+            push_name(&mut text, schema, around.as_slice(), path, title)?;
+            push_value(&mut text, alloc, rule, schema, &part)?;
         }
+        around.push(part.id)?;
     }
     Ok(text)
 }
@@ -70,14 +64,10 @@ fn push_header(
     part: &Part<'_>,
     depth: usize,
 ) -> Result<(), AllocError> {
-    let offset = part.offset;
-    let (header, is_indefinite) = if is_unknown_at(schema.types(), part.id) {
-        (0, false)
-    } else {
-        (part.header_len, part.is_indefinite)
-    };
+    let is_unknown = is_unknown_at(schema.types(), part.id);
+    let (offset, header) = (part.offset, if is_unknown { 0 } else { part.header_len });
     write!(text, "{offset:>6} {header:>2}+")?;
-    if is_indefinite {
+    if part.is_indefinite && !is_unknown {
         text.push_str("indef ")?;
     } else {
         let len = part.octets.len().saturating_sub(header);
@@ -98,24 +88,11 @@ fn push_name(
     let (Some(outer), Some(index)) = (around.last(), path.last()) else {
         return text.push_str(title);
     };
-    let name = match type_at(schema.types(), *outer) {
-        Some(Type::Sequence { components, .. }) => component_name(components.as_slice(), *index),
-        Some(Type::Set { components, .. }) => component_name(components.as_slice(), *index),
-        Some(Type::Choice { alternatives, .. }) => {
-            alternative_name(alternatives.as_slice(), *index)
-        }
-        Some(Type::SequenceOf { .. } | Type::SetOf { .. }) => return write!(text, "[{index}]"),
-        _ => None,
-    };
-    text.push_str(name.unwrap_or("value"))
-}
-
-fn component_name(components: &[Component], index: usize) -> Option<&str> {
-    Some(components.get(index)?.name.as_str())
-}
-
-fn alternative_name(alternatives: &[Alternative], index: usize) -> Option<&str> {
-    Some(alternatives.get(index)?.name.as_str())
+    match type_at(schema.types(), *outer) {
+        Some(Type::SequenceOf { .. } | Type::SetOf { .. }) => write!(text, "[{index}]"),
+        Some(ty) => text.push_str(part_name(ty, *index).unwrap_or("value")),
+        None => text.push_str("value"),
+    }
 }
 
 /// Appends the value of a part that holds no others, and ends the line.

@@ -1,17 +1,14 @@
 //! Types of modules by their names.
 
+use crate::catalog::is_plain_type;
 use crate::messages::rules_of;
-use rasn_compiler::{Assigned, Module, Modules, Resolved, Stop};
+use rasn_compiler::{Module, Modules, Resolved, Stop};
 use rasn_schema::{Schema, TypeId};
 use rasn_types::types::Codec;
 use std::alloc::Global;
 
-/// A type of a module.
-#[derive(Clone, Copy)]
-pub struct NamedType<'text> {
-    pub module: &'text str,
-    pub name: &'text str,
-}
+/// The names of a module and of a type of it.
+pub type NamedType<'text> = (&'text str, &'text str);
 
 /// The type of a message: its schema, and the rules by which it is read.
 #[derive(Drop)]
@@ -32,7 +29,7 @@ pub fn message_type<'text>(
     named: NamedType<'text>,
     rules: Option<Codec>,
 ) -> Result<MessageType<'text>, Stop<'text>> {
-    let NamedType { module, name } = named;
+    let (module, name) = named;
     let Resolved { schema, root, .. } = read.schema(alloc, module, name)?;
     Ok(MessageType {
         name,
@@ -62,13 +59,8 @@ pub fn type_named<'text>(read: &Modules<'text>, name: &str) -> Option<NamedType<
 /// Returns the type of a module with this name.
 fn type_in<'text>(module: &Module<'text>, name: &str) -> Option<NamedType<'text>> {
     for assignment in &module.assignments {
-        if assignment.name == name && assignment.parameters.is_none() {
-            if let Assigned::Type(_) = assignment.assigned {
-                return Some(NamedType {
-                    module: module.name,
-                    name: assignment.name,
-                });
-            }
+        if assignment.name == name && is_plain_type(assignment) {
+            return Some((module.name, assignment.name));
         }
     }
     None
