@@ -9,8 +9,6 @@ use Rattle.rasn_schema.specs.declared.types.«Type».{«Type»}
 use Rattle.rasn_dynamic.specs.Entry.{shape_of}
 use Rattle.rasn_dynamic.specs.Faults.{IsLocated}
 use Rattle.rasn_dynamic.specs.declared.refusal.Refusal.{Refusal}
-use Rattle.rasn_print.specs.declared.reading.ReadError.{ReadError}
-use Rattle.rasn_print.specs.declared.reading.ReadError.TheVariants.{Refused, OutOfMemory}
 
 -- The grammar relates the octets to this value, followed by the rest.
 abbrev pub IsRead : Codec → List «Type» → ℕ → List ℕ → Tree → List ℕ → Type 0
@@ -24,13 +22,10 @@ IsMessage rule types id octets = (tree : Tree) × IsRead rule types id octets tr
 abbrev pub IsFollowed : Codec → List «Type» → ℕ → List ℕ → Refusal → Type 0
 IsFollowed rule types id octets r = (tree : Tree) × (rest : List ℕ) × IsRead rule types id octets tree rest × IsExtraData rule rest r.error × (r.offset ≡ length octets - length rest)
 
--- The octets aren't the encoding of a value of the type: the refusal is at a value that can't be read, or at what follows one. Or an
--- allocation failed.
-abbrev pub IsRefused : Codec → List «Type» → ℕ → List ℕ → ReadError → Type 0
-IsRefused rule types id octets (Refused r) = (IsMessage rule types id octets → ⊥) × (IsLocated types rule id octets r ⊎ IsFollowed rule types id octets r)
-IsRefused rule types id octets OutOfMemory = Unit {0}
+-- The octets aren't the encoding of a value of the type: the refusal is at a value that can't be read, or at what follows one.
+abbrev pub IsNoMessage : Codec → List «Type» → ℕ → List ℕ → Refusal → Type 0
+IsNoMessage rule types id octets r = (IsMessage rule types id octets → ⊥) × (IsLocated types rule id octets r ⊎ IsFollowed rule types id octets r)
 
--- How a refusal is reported: as it is, unless it is one of running out of memory.
-abbrev pub IsToldOf : Refusal → ReadError → Type 0
-IsToldOf r (Refused q) = (q ≡ r) × (IsOutOfMemory r.error.kind → ⊥)
-IsToldOf r OutOfMemory = IsOutOfMemory r.error.kind
+-- Unless an allocation failed, the octets are refused for that.
+abbrev pub IsRefused : Codec → List «Type» → ℕ → List ℕ → Refusal → Type 0
+IsRefused rule types id octets r = (IsOutOfMemory r.error.kind → ⊥) → IsNoMessage rule types id octets r

@@ -4,7 +4,7 @@ use crate::identifiers::universal_name;
 use crate::known::Known;
 use crate::leaf::{leaf_text, octets_text};
 use rasn_de::ber::de::{ConstructedHeader, Decoder, DecoderOptions};
-use rasn_schema::{LeafKind, Value};
+use rasn_schema::Value;
 use rasn_types::error::DecodeError;
 use rasn_types::types::{Class, Codec, Tag};
 use std::alloc::{AllocError, Global};
@@ -29,19 +29,6 @@ pub struct Entry<'input> {
     pub octets: &'input [u8],
 }
 
-/// A way through octets.
-#[derive(Drop)]
-struct Walk<'input> {
-    alloc: Global,
-    octets: &'input [u8],
-    at: usize,
-    /// Where each encoding that hasn't ended does at the latest, and whether its length is
-    /// indefinite.
-    around: Vec<(usize, bool)>,
-    entries: Vec<Entry<'input>>,
-    fault: Option<String>,
-}
-
 /// The encodings of octets, and where and why no more can be read.
 type Entries<'input> = (Vec<Entry<'input>>, Option<String>);
 
@@ -51,64 +38,43 @@ type Entries<'input> = (Vec<Entry<'input>>, Option<String>);
 /// # Errors
 /// If an allocation fails.
 pub fn entries<'input>(alloc: Global, octets: &'input [u8]) -> Result<Entries<'input>, AllocError> {
-    let mut walk = Walk {
-        alloc,
-        octets,
-        at: 0,
-        around: Vec::new(alloc),
-        entries: Vec::new(alloc),
-        fault: None,
-    };
+    let mut list = Vec::new(alloc);
+    // Where each encoding that hasn't ended does at the latest, and whether its length is indefinite.
+    let mut around = Vec::new(alloc);
+    let mut at = 0usize;
     // A step takes two octets at least, or leaves an encoding for which another one did.
     for _ in 0..=octets.len() {
-        if !walk.step()? {
-            break;
-        }
-    }
-    let Walk { entries, fault, .. } = walk;
-    Ok((entries, fault))
-}
-
-impl<'input> Walk<'input> {
-    /// Goes over a header, and the contents if they are primitive, or leaves an encoding that ends
-    /// here. Returns false at the end of the input and at a fault.
-    fn step(&mut self) -> Result<bool, AllocError> {
-        let (end, is_indefinite) = match self.around.last() {
-            Some(around) => *around,
-            None => (self.octets.len(), false),
-        };
-        let rest = self.octets.get(self.at..end).unwrap_or(&[]);
+        let (end, is_indefinite) = around.last().copied().unwrap_or((octets.len(), false));
+        let rest = octets.get(at..end).unwrap_or(&[]);
         if is_indefinite && rest.starts_with(&[0, 0]) {
-            self.at = self.at.saturating_add(2);
-            return Ok(self.around.pop().is_some());
+            at = at.saturating_add(2);
+            around.pop();
+            continue;
         }
         if rest.is_empty() && !is_indefinite {
-            return Ok(self.around.pop().is_some());
-        }
-        match entry_of(self.alloc, rest, self.around.len(), self.at) {
-            Ok(entry) => self.enter(entry, end),
-            Err(error) if error.is_out_of_memory() => Err(AllocError),
-            Err(error) => {
-                let offset = self.at;
-                self.fault = Some(format!(in self.alloc; "byte {offset}: {error}")?);
-                Ok(false)
+            if around.pop().is_none() {
+                break;
             }
+            continue;
         }
-    }
-
-    /// Goes to the contents of an encoding, or after a primitive one.
-    fn enter(&mut self, entry: Entry<'input>, end: usize) -> Result<bool, AllocError> {
-        let after = self.at.saturating_add(entry.octets.len());
+        let entry = match entry_of(alloc, rest, around.len(), at) {
+            Ok(entry) => entry,
+            Err(error) if error.is_out_of_memory() => return Err(AllocError),
+            Err(error) => return Ok((list, Some(format!(in alloc; "byte {at}: {error}")?))),
+        };
+        let after = at.saturating_add(entry.octets.len());
         if entry.is_constructed {
             let end = if entry.is_indefinite { end } else { after };
-            self.around.push((end, entry.is_indefinite))?;
-            self.at = self.at.saturating_add(entry.header_len);
-        } else {
-            self.at = after;
+            around.push((end, entry.is_indefinite))?;
         }
-        self.entries.push(entry)?;
-        Ok(true)
+        at = if entry.is_constructed {
+            at.saturating_add(entry.header_len)
+        } else {
+            after
+        };
+        list.push(entry)?;
     }
+    Ok((list, None))
 }
 
 /// Returns the encoding with which the octets begin, which is in so many others.
@@ -154,19 +120,36 @@ pub fn dump_text(
     let (list, fault) = entries(alloc, octets)?;
     let mut text = String::new(alloc);
     for entry in &list {
-        let (offset, header) = (entry.offset, entry.header_len);
-        write!(text, "{offset:>6} {header:>2}+")?;
-        if entry.is_indefinite {
-            text.push_str("indef")?;
+        let len = if entry.is_indefinite {
+            None
         } else {
-            let len = entry.octets.len().saturating_sub(header);
-            write!(text, "{len:<5}")?;
-        }
-        push_indent(&mut text, entry.depth)?;
+            Some(entry.octets.len())
+        };
+        push_place(&mut text, entry.offset, entry.header_len, len, entry.depth)?;
         let shown = entry_text(alloc, known, entry)?;
-        writeln!(text, " {shown}")?;
+        writeln!(text, "{shown}")?;
     }
     Ok((text, fault))
+}
+
+/// Appends where an encoding begins, how many octets its header and its contents have, and its
+/// indentation. All of it has `len` octets, or an indefinite length.
+pub(crate) fn push_place(
+    text: &mut String,
+    offset: usize,
+    header_len: usize,
+    len: Option<usize>,
+    depth: usize,
+) -> Result<(), AllocError> {
+    write!(text, "{offset:>6} {header_len:>2}+")?;
+    match len {
+        Some(len) => {
+            let contents = len.saturating_sub(header_len);
+            write!(text, "{contents:<5} ")?;
+        }
+        None => text.push_str("indef ")?,
+    }
+    push_indent(text, depth)
 }
 
 /// Appends two spaces for each level.
@@ -198,7 +181,7 @@ pub(crate) fn primitive_text(
     entry: &Entry<'_>,
 ) -> Result<String, AllocError> {
     match known.universal_value(alloc, entry.octets)? {
-        Some(Value::Chosen(_, value)) => leaf_text(alloc, LeafKind::OctetString, &[], &value),
+        Some(Value::Chosen(_, value)) => leaf_text(alloc, None, &value),
         _ => octets_text(alloc, entry.octets.get(entry.header_len..).unwrap_or(&[])),
     }
 }

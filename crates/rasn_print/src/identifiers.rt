@@ -1,5 +1,6 @@
 //! The names of well-known object identifiers and of universal types.
 
+use rasn_text::short_name;
 use rasn_types::types::ObjectIdentifier;
 use std::alloc::{AllocError, Global};
 
@@ -118,24 +119,14 @@ const IDENTIFIERS: &[Named] = &[
     ),
 ];
 
-/// The short names of attribute types (RFC 4514, 3, RFC 4519, RFC 5280, appendix A.1).
+/// Names of attribute types that the table of RFC 4514, 3 hasn't: those of X.520 that RFC 4519 or
+/// RFC 5280, A.1 has, and PKCS #9 (RFC 2985).
 const ATTRIBUTES: &[Named] = &[
-    // X.520.
-    (&[2, 5, 4, 3], "CN"),
     (&[2, 5, 4, 4], "SN"),
     (&[2, 5, 4, 5], "serialNumber"),
-    (&[2, 5, 4, 6], "C"),
-    (&[2, 5, 4, 7], "L"),
-    (&[2, 5, 4, 8], "ST"),
-    (&[2, 5, 4, 9], "STREET"),
-    (&[2, 5, 4, 10], "O"),
-    (&[2, 5, 4, 11], "OU"),
     (&[2, 5, 4, 12], "title"),
     (&[2, 5, 4, 42], "GN"),
     (&[2, 5, 4, 97], "organizationIdentifier"),
-    // RFC 4519, 2.39 and 2.4, and PKCS #9 (RFC 2985).
-    (&[0, 9, 2342, 19200300, 100, 1, 1], "UID"),
-    (&[0, 9, 2342, 19200300, 100, 1, 25], "DC"),
     (&[1, 2, 840, 113549, 1, 9, 1], "emailAddress"),
 ];
 
@@ -191,13 +182,13 @@ fn name_of(arcs: &[u32], names: &[Named]) -> Option<&'static str> {
 pub fn identifier_text(alloc: Global, identifier: &ObjectIdentifier) -> Result<String, AllocError> {
     match identifier_name(identifier.arcs()) {
         Some(name) => format!(in alloc; "{name} ({identifier})"),
-        None => format!(in alloc; "{identifier}"),
+        None => identifier.to_string(alloc),
     }
 }
 
 /// Returns the short name of an attribute type.
 pub(crate) fn attribute_name(arcs: &[u32]) -> Option<&'static str> {
-    name_of(arcs, ATTRIBUTES)
+    short_name(arcs).or(name_of(arcs, ATTRIBUTES))
 }
 
 /// Returns the name of an object identifier, if it is well known.

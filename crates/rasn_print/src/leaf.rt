@@ -1,37 +1,48 @@
 //! Values that hold no other values, as text.
 
 use crate::identifiers::identifier_text;
-use rasn_schema::{LeafKind, NamedNumber, Value, name_of_number};
+use rasn_schema::{LeafKind, NamedNumber, Type, Value, name_of_number};
 use rasn_types::types::{BitStr, BmpString, Hexadecimal, Integer};
 use std::alloc::{AllocError, Global};
 use std::str;
 
-/// Returns a value that holds no others as text. The names are those of numbers or of bits.
+/// Returns a value of this type that holds no others as text. Without a type nothing in it has a
+/// name.
 pub(crate) fn leaf_text(
     alloc: Global,
-    kind: LeafKind,
-    names: &[NamedNumber],
+    ty: Option<&Type>,
     value: &Value<'_>,
 ) -> Result<String, AllocError> {
     match value {
         Value::Boolean(true) => String::from_str(alloc, "TRUE"),
         Value::Boolean(false) => String::from_str(alloc, "FALSE"),
         Value::Null => String::from_str(alloc, "NULL"),
-        Value::Integer(number) => number_text(alloc, names, number),
-        Value::Bits(bits) if kind == LeafKind::NamedBits => {
-            named_bits_text(alloc, names, &bits.as_bitstr())
-        }
-        Value::Bits(bits) => bits_text(alloc, &bits.as_bitstr()),
+        Value::Integer(number) => number_text(alloc, names_of(ty), number),
+        Value::Bits(bits) => match ty {
+            Some(Type::Leaf { kind, names, .. }) if *kind == LeafKind::NamedBits => {
+                named_bits_text(alloc, names.as_slice(), &bits.as_bitstr())
+            }
+            _ => bits_text(alloc, &bits.as_bitstr()),
+        },
         Value::Octets(octets) => octets_text(alloc, octets.as_slice()),
         Value::Text(text) => octets_text(alloc, text.as_str().as_bytes()),
         Value::Units(units) => match characters_of(alloc, units)? {
             Some(text) => octets_text(alloc, text.as_bytes()),
-            None => hexadecimal_text(alloc, units.as_octets()),
+            None => Hexadecimal::new(units.as_octets()).to_string(alloc),
         },
         Value::Arcs(identifier) => identifier_text(alloc, identifier),
-        Value::Instant(time) => format!(in alloc; "{time}"),
-        Value::Day(date) => format!(in alloc; "{date}"),
-        _ => String::from_str(alloc, ""),
+        Value::Instant(time) => time.to_string(alloc),
+        Value::Day(date) => date.to_string(alloc),
+        _ => Ok(String::new(alloc)),
+    }
+}
+
+/// Returns the names of the numbers of a type, or of its bits.
+fn names_of<'types>(ty: Option<&'types Type>) -> &'types [NamedNumber] {
+    match ty {
+        Some(Type::Leaf { names, .. } | Type::Enumerated { numbers: names, .. }) =>
+            names.as_slice(),
+        _ => &[],
     }
 }
 
@@ -51,14 +62,15 @@ fn number_text(
         if number.is_negative() {
             return format!(in alloc; "0x{shown} (negative, in two's complement)");
         }
-        let bits = bit_count(octets);
+        let unused = octets.first().copied().unwrap_or(0).leading_zeros() as usize;
+        let bits = octets.len().saturating_mul(8).saturating_sub(unused);
         return format!(in alloc; "0x{shown} ({bits} bits)");
     };
     if let Some(name) = name_of(names, small) {
         return format!(in alloc; "{small} ({name})");
     }
     if small < 0 || octets.len() <= 4 {
-        return format!(in alloc; "{small}");
+        return small.to_string(alloc);
     }
     format!(in alloc; "{small} (0x{shown})")
 }
@@ -69,15 +81,6 @@ fn name_of(names: &[NamedNumber], number: i128) -> Option<&str> {
         Ok(number) => name_of_number(names, number),
         Err(_) => None,
     }
-}
-
-/// Returns the number of bits from the first one that is 1, which is in the first octet.
-fn bit_count(octets: &[u8]) -> usize {
-    let unused = match octets.first() {
-        Some(first) => first.leading_zeros() as usize,
-        None => 0,
-    };
-    octets.len().saturating_mul(8).saturating_sub(unused)
 }
 
 /// Returns the names of the bits that are 1, separated by commas; `bit 9` of one without a name.
@@ -109,7 +112,7 @@ fn bits_text(alloc: Global, bits: &BitStr<'_>) -> Result<String, AllocError> {
     bits.append_to(&mut octets)?;
     let shown = Hexadecimal::new(&octets);
     match bits.unused() {
-        0 => format!(in alloc; "{shown}"),
+        0 => shown.to_string(alloc),
         unused => format!(in alloc; "{shown} ({unused} bits unused)"),
     }
 }
@@ -118,20 +121,9 @@ fn bits_text(alloc: Global, bits: &BitStr<'_>) -> Result<String, AllocError> {
 /// otherwise in hexadecimal.
 pub(crate) fn octets_text(alloc: Global, octets: &[u8]) -> Result<String, AllocError> {
     match str::from_utf8(octets) {
-        Ok(text) if !has_control(text) => format!(in alloc; "\"{text}\""),
-        _ => hexadecimal_text(alloc, octets),
+        Ok(text) if !text.chars().any(|it| it.is_control()) => format!(in alloc; "\"{text}\""),
+        _ => Hexadecimal::new(octets).to_string(alloc),
     }
-}
-
-/// Returns whether the text has a control character.
-fn has_control(text: &str) -> bool {
-    text.chars().any(|character| character.is_control())
-}
-
-/// Returns the octets in hexadecimal.
-pub(crate) fn hexadecimal_text(alloc: Global, octets: &[u8]) -> Result<String, AllocError> {
-    let shown = Hexadecimal::new(octets);
-    format!(in alloc; "{shown}")
 }
 
 /// Returns the characters of a BMPString; `None` if a unit isn't a character.

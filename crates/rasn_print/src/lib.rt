@@ -28,7 +28,7 @@ pub use fault::Fault;
 pub use known::Known;
 pub use offsets::offsets_text;
 pub use printer::value_text;
-pub use reading::{NoJson, ReadError, check, json_of, show};
+pub use reading::{check, show};
 pub use session::Session;
 pub use types::MessageType;
 pub use work::{Answer, Input, Tools, answer_to};

@@ -1,11 +1,11 @@
 //! The parts of a message with their places.
 
-use crate::dump::push_indent;
-use crate::leaf::{hexadecimal_text, leaf_text};
-use crate::reading::{ReadError, refused};
-use rasn_dynamic::{MessageParts, Part, decode, parts_of};
-use rasn_schema::{LeafKind, NamedNumber, Schema, Type, TypeId, is_unknown_at, part_name, type_at};
-use rasn_types::types::Codec;
+use crate::dump::push_place;
+use crate::leaf::leaf_text;
+use crate::reading::out_of_memory;
+use rasn_dynamic::{MessageParts, Part, Refusal, decode, parts_of};
+use rasn_schema::{Schema, Type, TypeId, is_unknown_at, part_name, type_at};
+use rasn_types::types::{Codec, Hexadecimal};
 use std::alloc::{AllocError, Global};
 
 /// Returns the parts of the message with which the octets begin as lines: where each begins, how
@@ -20,13 +20,11 @@ pub fn offsets_text(
     id: TypeId,
     title: &str,
     octets: &[u8],
-) -> Result<String, ReadError> {
-    match parts_of(alloc, rule, schema, id, octets) {
-        Ok(mut parts) => match text_of(alloc, rule, schema, title, &mut parts) {
-            Ok(text) => Ok(text),
-            Err(_) => Err(ReadError::OutOfMemory),
-        },
-        Err(refusal) => Err(refused(refusal)),
+) -> Result<String, Refusal> {
+    let mut parts = parts_of(alloc, rule, schema, id, octets)?;
+    match text_of(alloc, rule, schema, title, &mut parts) {
+        Ok(text) => Ok(text),
+        Err(_) => Err(out_of_memory(alloc, rule, id)),
     }
 }
 
@@ -64,16 +62,12 @@ fn push_header(
     part: &Part<'_>,
     depth: usize,
 ) -> Result<(), AllocError> {
-    let is_unknown = is_unknown_at(schema.types(), part.id);
-    let (offset, header) = (part.offset, if is_unknown { 0 } else { part.header_len });
-    write!(text, "{offset:>6} {header:>2}+")?;
-    if part.is_indefinite && !is_unknown {
-        text.push_str("indef ")?;
-    } else {
-        let len = part.octets.len().saturating_sub(header);
-        write!(text, "{len:<6}")?;
+    let len = Some(part.octets.len());
+    if is_unknown_at(schema.types(), part.id) {
+        return push_place(text, part.offset, 0, len, depth);
     }
-    push_indent(text, depth)
+    let len = if part.is_indefinite { None } else { len };
+    push_place(text, part.offset, part.header_len, len, depth)
 }
 
 /// Appends the name of the part with this path: of the message itself the title, of an element its
@@ -103,32 +97,17 @@ fn push_value(
     schema: &Schema,
     part: &Part<'_>,
 ) -> Result<(), AllocError> {
-    let shown = match type_at(schema.types(), part.id) {
-        Some(Type::Leaf { kind, names, .. }) => {
-            part_text(alloc, rule, schema, part, *kind, names.as_slice())?
+    let ty = type_at(schema.types(), part.id);
+    let shown = match ty {
+        Some(Type::Leaf { .. } | Type::Enumerated { .. }) => {
+            match decode(alloc, rule, schema, part.id, part.octets) {
+                Ok(value) => leaf_text(alloc, ty, &value)?,
+                Err(error) if error.is_out_of_memory() => return Err(AllocError),
+                Err(_) => Hexadecimal::new(part.octets).to_string(alloc)?,
+            }
         }
-        Some(Type::Enumerated { numbers, .. }) => {
-            let kind = LeafKind::Integer;
-            part_text(alloc, rule, schema, part, kind, numbers.as_slice())?
-        }
-        Some(Type::Any { .. } | Type::Unknown) => hexadecimal_text(alloc, part.octets)?,
+        Some(Type::Any { .. } | Type::Unknown) => Hexadecimal::new(part.octets).to_string(alloc)?,
         _ => return text.push('\n'),
     };
     writeln!(text, ": {shown}")
-}
-
-/// Returns the value of a part as text.
-fn part_text(
-    alloc: Global,
-    rule: Codec,
-    schema: &Schema,
-    part: &Part<'_>,
-    kind: LeafKind,
-    names: &[NamedNumber],
-) -> Result<String, AllocError> {
-    match decode(alloc, rule, schema, part.id, part.octets) {
-        Ok(value) => leaf_text(alloc, kind, names, &value),
-        Err(error) if error.is_out_of_memory() => Err(AllocError),
-        Err(_) => hexadecimal_text(alloc, part.octets),
-    }
 }

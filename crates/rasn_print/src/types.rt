@@ -2,7 +2,7 @@
 
 use crate::catalog::is_plain_type;
 use crate::messages::rules_of;
-use rasn_compiler::{Module, Modules, Resolved, Stop};
+use rasn_compiler::{Modules, Resolved, Stop};
 use rasn_schema::{Schema, TypeId};
 use rasn_types::types::Codec;
 use std::alloc::Global;
@@ -41,26 +41,12 @@ pub fn message_type<'text>(
 
 /// Returns the type that a name means: `MODULE.TYPE`, or the first type of this name.
 pub fn type_named<'text>(read: &Modules<'text>, name: &str) -> Option<NamedType<'text>> {
-    let (module_name, type_name) = match name.split_once('.') {
-        Some((module, name)) => (Some(module), name),
-        None => (None, name),
-    };
+    let (wanted, type_name) = name.split_once('.').unwrap_or(("", name));
     for module in &read.modules {
-        if module_name.is_some_and(|wanted| wanted != module.name) {
-            continue;
-        }
-        if let Some(found) = type_in(module, type_name) {
-            return Some(found);
-        }
-    }
-    None
-}
-
-/// Returns the type of a module with this name.
-fn type_in<'text>(module: &Module<'text>, name: &str) -> Option<NamedType<'text>> {
-    for assignment in &module.assignments {
-        if assignment.name == name && is_plain_type(assignment) {
-            return Some((module.name, assignment.name));
+        let is_wanted = wanted.is_empty() || wanted == module.name;
+        let mut types = module.assignments.iter().filter(|it| is_plain_type(it));
+        if let Some(found) = types.find(|it| is_wanted && it.name == type_name) {
+            return Some((module.name, found.name));
         }
     }
     None

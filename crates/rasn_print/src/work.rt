@@ -4,21 +4,17 @@ use crate::command_line::{Call, Work};
 use crate::known::Known;
 use crate::messages::{MESSAGES, type_of_label};
 use crate::offsets::offsets_text;
-use crate::reading::{NoJson, ReadError, check, json_of, show};
+use crate::reading::{check, show};
 use crate::types::{MessageType, NamedType, message_type};
 use base64::engine::general_purpose::STANDARD;
 use rasn_compiler::{Modules, Stop};
-use rasn_dynamic::{Refusal, normalise};
-use rasn_json::{Layout, encode};
-use rasn_lint::{Departure, LintError, OpenTypes, check as check_der, lint};
+use rasn_dynamic::{NormaliseError, Refusal, normalise};
+use rasn_json::{ToJsonError, encode, json};
+use rasn_lint::{Departure, LintError, check as check_der, lint};
+use rasn_types::error::DecodeError;
 use rasn_types::types::{Codec, Hexadecimal};
 use std::alloc::{AllocError, Global};
 use std::{fmt, str};
-
-/// What makes text bold on a terminal, and what ends it (ECMA-48 8.3.117).
-const BOLD: &str = "\x1b[1m";
-
-const PLAIN: &str = "\x1b[0m";
 
 /// What every message is worked on with.
 #[derive(Clone, Copy)]
@@ -104,12 +100,19 @@ fn answer_by(
     wanted: &MessageType<'_>,
     input: &Input<'_>,
 ) -> Result<Answer, AllocError> {
-    let read = Message {
+    let message = Message {
         tools,
         wanted,
         input,
     };
-    read.answer()
+    match tools.call.work {
+        Work::Normalise => message.normalised(),
+        Work::Lint => message.linted(),
+        Work::Json => message.json(),
+        Work::Encode => message.encoded(),
+        Work::Check if wanted.rule == Codec::Der => message.checked(),
+        _ => message.shown(),
+    }
 }
 
 /// Returns the refusal for this reason, unless that is that memory ran out.
@@ -121,7 +124,7 @@ fn refused_for<T: fmt::Display>(
     if is_out_of_memory {
         return Err(AllocError);
     }
-    Ok(Answer::Refused(format!(in alloc; "{reason}")?))
+    Ok(Answer::Refused(reason.to_string(alloc)?))
 }
 
 /// A message that is worked on, with its type.
@@ -133,24 +136,16 @@ struct Message<'m, 'a, 'text> {
 }
 
 impl Message<'_, '_, '_> {
-    /// Returns what is printed for it.
-    fn answer(&self) -> Result<Answer, AllocError> {
-        match self.tools.call.work {
-            Work::Normalise => self.normalised(),
-            Work::Lint => self.linted(),
-            Work::Json => self.json(),
-            Work::Encode => self.encoded(),
-            Work::Check if self.wanted.rule == Codec::Der => self.checked(),
-            _ => self.shown(),
-        }
-    }
-
-    /// Returns why it can't be read.
-    fn unread(&self, error: &ReadError) -> Result<Answer, AllocError> {
-        match error {
-            ReadError::Refused(refusal) => self.refused(refusal),
-            ReadError::OutOfMemory => Err(AllocError),
-        }
+    /// Refuses it unless it is exactly one value of its type.
+    fn check(&self) -> Result<(), Refusal> {
+        let wanted = self.wanted;
+        check(
+            self.tools.alloc,
+            wanted.rule,
+            &wanted.schema,
+            wanted.root,
+            self.input.octets,
+        )
     }
 
     /// Returns why it is refused.
@@ -159,20 +154,26 @@ impl Message<'_, '_, '_> {
         refused_for(self.tools.alloc, refusal.error.is_out_of_memory(), &shown)
     }
 
-    /// Returns whether open types are looked into.
-    fn open_types(&self) -> OpenTypes {
-        if self.tools.call.is_outer {
-            OpenTypes::Unexamined
-        } else {
-            OpenTypes::Examined
+    /// Returns why it can't be read, with the place, for which it is read again.
+    fn unread(&self, error: &DecodeError) -> Result<Answer, AllocError> {
+        match self.check() {
+            Ok(()) => refused_for(self.tools.alloc, error.is_out_of_memory(), error),
+            Err(refusal) => self.refused(&refusal),
         }
     }
 
     /// Returns nothing for a message of DER, and else what is to be mended first. Inside an open
     /// type the path goes on by indices.
     fn checked(&self) -> Result<Answer, AllocError> {
-        let (alloc, schema, root) = (self.tools.alloc, &self.wanted.schema, self.wanted.root);
-        match check_der(alloc, schema, root, self.input.octets, self.open_types()) {
+        let (tools, schema, root) = (self.tools, &self.wanted.schema, self.wanted.root);
+        let alloc = tools.alloc;
+        match check_der(
+            alloc,
+            schema,
+            root,
+            self.input.octets,
+            tools.call.open_types,
+        ) {
             Ok(()) => Ok(Answer::Done(Vec::new(alloc))),
             Err(departure) => {
                 let shown = departure.place_with_names(schema, root);
@@ -183,8 +184,15 @@ impl Message<'_, '_, '_> {
 
     /// Returns everything of a message of BER that departs from DER: a line for each departure.
     fn linted(&self) -> Result<Answer, AllocError> {
-        let (alloc, schema, root) = (self.tools.alloc, &self.wanted.schema, self.wanted.root);
-        match lint(alloc, schema, root, self.input.octets, self.open_types()) {
+        let (tools, schema, root) = (self.tools, &self.wanted.schema, self.wanted.root);
+        let alloc = tools.alloc;
+        match lint(
+            alloc,
+            schema,
+            root,
+            self.input.octets,
+            tools.call.open_types,
+        ) {
             Ok(list) if list.is_empty() => Ok(Answer::Done(Vec::new(alloc))),
             Ok(list) => self.departures(list.as_slice()),
             Err(LintError::OutOfMemory) => Err(AllocError),
@@ -195,10 +203,11 @@ impl Message<'_, '_, '_> {
 
     /// Returns a line for each departure.
     fn departures(&self, list: &[Departure]) -> Result<Answer, AllocError> {
-        let mut lines = Vec::new(self.tools.alloc);
+        let alloc = self.tools.alloc;
+        let mut lines = Vec::new(alloc);
         for departure in list {
             let shown = departure.with_names(&self.wanted.schema, self.wanted.root);
-            lines.push(format!(in self.tools.alloc; "{shown}")?)?;
+            lines.push(shown.to_string(alloc)?)?;
         }
         Ok(Answer::Departures(lines))
     }
@@ -210,19 +219,19 @@ impl Message<'_, '_, '_> {
                 Ok(Answer::Done(colored(self.tools.alloc, text.as_str())?.into_bytes()))
             }
             Ok(text) => Ok(Answer::Done(text.into_bytes())),
-            Err(error) => self.unread(&error),
+            Err(refusal) => self.refused(&refusal),
         }
     }
 
     /// Returns it as text or the parts of it, or no text if it is only checked.
-    fn text(&self) -> Result<String, ReadError> {
+    fn text(&self) -> Result<String, Refusal> {
         let (tools, wanted, octets) = (self.tools, self.wanted, self.input.octets);
         let (alloc, call) = (tools.alloc, tools.call);
         let (rule, schema, root) = (wanted.rule, &wanted.schema, wanted.root);
         if call.work == Work::Show && !call.has_offsets {
             return show(alloc, tools.known, rule, schema, root, wanted.name, octets);
         }
-        check(alloc, rule, schema, root, octets)?;
+        self.check()?;
         if call.work == Work::Show {
             return offsets_text(alloc, rule, schema, root, wanted.name, octets);
         }
@@ -231,17 +240,12 @@ impl Message<'_, '_, '_> {
 
     /// Returns it as JSON: in one line if a line holds a message.
     fn json(&self) -> Result<Answer, AllocError> {
-        let (alloc, wanted) = (self.tools.alloc, self.wanted);
+        let (alloc, wanted, layout) = (self.tools.alloc, self.wanted, self.tools.call.layout());
         let (rule, schema, root) = (wanted.rule, &wanted.schema, wanted.root);
-        let layout = if self.tools.call.has_lines {
-            Layout::Compact
-        } else {
-            Layout::Indented
-        };
-        match json_of(alloc, rule, schema, root, self.input.octets, layout) {
+        match json(alloc, rule, schema, root, self.input.octets, layout) {
             Ok(text) => Ok(Answer::Done(format!(in alloc; "{text}\n")?.into_bytes())),
-            Err(NoJson::Unread(error)) => self.unread(&error),
-            Err(NoJson::Unwritten(error)) => refused_for(alloc, error.is_out_of_memory(), &error),
+            Err(ToJsonError::Decode(error)) => self.unread(&error),
+            Err(ToJsonError::Json(error)) => refused_for(alloc, error.is_out_of_memory(), &error),
         }
     }
 
@@ -259,13 +263,11 @@ impl Message<'_, '_, '_> {
 
     /// Returns its DER octets.
     fn normalised(&self) -> Result<Answer, AllocError> {
-        let (alloc, wanted, octets) = (self.tools.alloc, self.wanted, self.input.octets);
+        let (alloc, wanted) = (self.tools.alloc, self.wanted);
         let (rule, schema, root) = (wanted.rule, &wanted.schema, wanted.root);
-        if let Err(error) = check(alloc, rule, schema, root, octets) {
-            return self.unread(&error);
-        }
-        match normalise(alloc, rule, schema, root, octets) {
+        match normalise(alloc, rule, schema, root, self.input.octets) {
             Ok(octets) => in_form(alloc, self.input, octets),
+            Err(NormaliseError::Decode(error)) => self.unread(&error),
             Err(error) => refused_for(alloc, error.is_out_of_memory(), &error),
         }
     }
@@ -276,8 +278,8 @@ fn colored(alloc: Global, text: &str) -> Result<String, AllocError> {
     let mut shown = String::new(alloc);
     for line in text.lines() {
         match line.split_once(": ") {
-            Some((name, value)) => writeln!(shown, "{BOLD}{name}{PLAIN}: {value}")?,
-            None => writeln!(shown, "{BOLD}{line}{PLAIN}")?,
+            Some((name, value)) => writeln!(shown, "\x1b[1m{name}\x1b[0m: {value}")?,
+            None => writeln!(shown, "\x1b[1m{line}\x1b[0m")?,
         }
     }
     Ok(shown)

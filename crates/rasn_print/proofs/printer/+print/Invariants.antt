@@ -1,5 +1,5 @@
 use Rattle.std.proofs.Common.{◌+◌, ◌*◌}
-use Rattle.rasn_print.proofs.printer.Printer.+print.Given as goal
+use Rattle.rasn_print.proofs.printer.+print.Given as goal
 
 abbrev pub decreases-print : goal.decreases-print
 decreases-print l = 4 * l.place.levels
