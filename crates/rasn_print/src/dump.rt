@@ -46,12 +46,8 @@ pub fn entries<'input>(alloc: Global, octets: &'input [u8]) -> Result<Entries<'i
     for _ in 0..=octets.len() {
         let (end, is_indefinite) = around.last().copied().unwrap_or((octets.len(), false));
         let rest = octets.get(at..end).unwrap_or(&[]);
-        if is_indefinite && rest.starts_with(&[0, 0]) {
-            at = at.saturating_add(2);
-            around.pop();
-            continue;
-        }
-        if rest.is_empty() && !is_indefinite {
+        if is_indefinite && rest.starts_with(&[0, 0]) || !is_indefinite && rest.is_empty() {
+            at = at.saturating_add(if is_indefinite { 2 } else { 0 });
             if around.pop().is_none() {
                 break;
             }
@@ -63,15 +59,13 @@ pub fn entries<'input>(alloc: Global, octets: &'input [u8]) -> Result<Entries<'i
             Err(error) => return Ok((list, Some(format!(in alloc; "byte {at}: {error}")?))),
         };
         let after = at.saturating_add(entry.octets.len());
+        at = at.saturating_add(entry.header_len);
         if entry.is_constructed {
             let end = if entry.is_indefinite { end } else { after };
             around.push((end, entry.is_indefinite))?;
-        }
-        at = if entry.is_constructed {
-            at.saturating_add(entry.header_len)
         } else {
-            after
-        };
+            at = after;
+        }
         list.push(entry)?;
     }
     Ok((list, None))
@@ -88,12 +82,10 @@ fn entry_of(
     let tag = decoder.peek_tag()?;
     let (inner, _) = decoder.open(ConstructedHeader::prefix(tag))?;
     let is_indefinite = inner.may_be_closed();
-    let after = if is_indefinite {
-        0
-    } else {
-        decoder.remaining().len()
-    };
-    let end = octets.len().saturating_sub(after);
+    let rest = decoder.remaining().len();
+    let end = octets
+        .len()
+        .saturating_sub(if is_indefinite { 0 } else { rest });
     Ok(Entry {
         depth,
         offset,
@@ -120,34 +112,31 @@ pub fn dump_text(
     let (list, fault) = entries(alloc, octets)?;
     let mut text = String::new(alloc);
     for entry in &list {
-        let len = if entry.is_indefinite {
-            None
-        } else {
-            Some(entry.octets.len())
-        };
-        push_place(&mut text, entry.offset, entry.header_len, len, entry.depth)?;
+        let (offset, header_len, len) = (entry.offset, entry.header_len, entry.octets.len());
+        let (is_indefinite, depth) = (entry.is_indefinite, entry.depth);
+        push_place(&mut text, offset, header_len, len, is_indefinite, depth)?;
         let shown = entry_text(alloc, known, entry)?;
         writeln!(text, "{shown}")?;
     }
     Ok((text, fault))
 }
 
-/// Appends where an encoding begins, how many octets its header and its contents have, and its
-/// indentation. All of it has `len` octets, or an indefinite length.
+/// Appends where an encoding of so many octets begins, how many its header and its contents have,
+/// and its indentation.
 pub(crate) fn push_place(
     text: &mut String,
     offset: usize,
     header_len: usize,
-    len: Option<usize>,
+    len: usize,
+    is_indefinite: bool,
     depth: usize,
 ) -> Result<(), AllocError> {
     write!(text, "{offset:>6} {header_len:>2}+")?;
-    match len {
-        Some(len) => {
-            let contents = len.saturating_sub(header_len);
-            write!(text, "{contents:<5} ")?;
-        }
-        None => text.push_str("indef ")?,
+    if is_indefinite {
+        text.push_str("indef ")?;
+    } else {
+        let contents = len.saturating_sub(header_len);
+        write!(text, "{contents:<5} ")?;
     }
     push_indent(text, depth)
 }

@@ -3,9 +3,10 @@
 use crate::dump::push_place;
 use crate::leaf::leaf_text;
 use crate::reading::out_of_memory;
+use crate::types::MessageType;
 use rasn_dynamic::{MessageParts, Part, Refusal, decode, parts_of};
-use rasn_schema::{Schema, Type, TypeId, is_unknown_at, part_name, type_at};
-use rasn_types::types::{Codec, Hexadecimal};
+use rasn_schema::{Type, TypeId, is_unknown_at, part_name, type_at};
+use rasn_types::types::Hexadecimal;
 use std::alloc::{AllocError, Global};
 
 /// Returns the parts of the message with which the octets begin as lines: where each begins, how
@@ -15,25 +16,20 @@ use std::alloc::{AllocError, Global};
 /// As [`check`](crate::check), but what follows the message isn't refused.
 pub fn offsets_text(
     alloc: Global,
-    rule: Codec,
-    schema: &Schema,
-    id: TypeId,
-    title: &str,
+    wanted: &MessageType<'_>,
     octets: &[u8],
 ) -> Result<String, Refusal> {
-    let mut parts = parts_of(alloc, rule, schema, id, octets)?;
-    match text_of(alloc, rule, schema, title, &mut parts) {
+    let mut parts = parts_of(alloc, wanted.rule, &wanted.schema, wanted.root, octets)?;
+    match text_of(alloc, wanted, &mut parts) {
         Ok(text) => Ok(text),
-        Err(_) => Err(out_of_memory(alloc, rule, id)),
+        Err(_) => Err(out_of_memory(alloc, wanted)),
     }
 }
 
 /// Returns the lines of all parts.
 fn text_of(
     alloc: Global,
-    rule: Codec,
-    schema: &Schema,
-    title: &str,
+    wanted: &MessageType<'_>,
     parts: &mut MessageParts<'_>,
 ) -> Result<String, AllocError> {
     let mut text = String::new(alloc);
@@ -46,9 +42,9 @@ fn text_of(
         around.truncate(path.len());
         // Of unknown values there may be none.
         if !part.octets.is_empty() {
-            push_header(&mut text, schema, &part, path.len())?;
-            push_name(&mut text, schema, around.as_slice(), path, title)?;
-            push_value(&mut text, alloc, rule, schema, &part)?;
+            push_header(&mut text, wanted, &part, path.len())?;
+            push_name(&mut text, wanted, around.as_slice(), path)?;
+            push_value(&mut text, alloc, wanted, &part)?;
         }
         around.push(part.id)?;
     }
@@ -58,31 +54,29 @@ fn text_of(
 /// Appends where a part begins and its lengths. Unknown values have no header around them.
 fn push_header(
     text: &mut String,
-    schema: &Schema,
+    wanted: &MessageType<'_>,
     part: &Part<'_>,
     depth: usize,
 ) -> Result<(), AllocError> {
-    let len = Some(part.octets.len());
-    if is_unknown_at(schema.types(), part.id) {
-        return push_place(text, part.offset, 0, len, depth);
+    let (offset, len, is_indefinite) = (part.offset, part.octets.len(), part.is_indefinite);
+    if is_unknown_at(wanted.schema.types(), part.id) {
+        return push_place(text, offset, 0, len, false, depth);
     }
-    let len = if part.is_indefinite { None } else { len };
-    push_place(text, part.offset, part.header_len, len, depth)
+    push_place(text, offset, part.header_len, len, is_indefinite, depth)
 }
 
-/// Appends the name of the part with this path: of the message itself the title, of an element its
-/// index in brackets, and of what is in an explicit tag `value`.
+/// Appends the name of the part with this path: of the message itself that of its type, of an
+/// element its index in brackets, and of what is in an explicit tag `value`.
 fn push_name(
     text: &mut String,
-    schema: &Schema,
+    wanted: &MessageType<'_>,
     around: &[TypeId],
     path: &[usize],
-    title: &str,
 ) -> Result<(), AllocError> {
     let (Some(outer), Some(index)) = (around.last(), path.last()) else {
-        return text.push_str(title);
+        return text.push_str(wanted.name);
     };
-    match type_at(schema.types(), *outer) {
+    match type_at(wanted.schema.types(), *outer) {
         Some(Type::SequenceOf { .. } | Type::SetOf { .. }) => write!(text, "[{index}]"),
         Some(ty) => text.push_str(part_name(ty, *index).unwrap_or("value")),
         None => text.push_str("value"),
@@ -93,14 +87,13 @@ fn push_name(
 fn push_value(
     text: &mut String,
     alloc: Global,
-    rule: Codec,
-    schema: &Schema,
+    wanted: &MessageType<'_>,
     part: &Part<'_>,
 ) -> Result<(), AllocError> {
-    let ty = type_at(schema.types(), part.id);
+    let ty = type_at(wanted.schema.types(), part.id);
     let shown = match ty {
         Some(Type::Leaf { .. } | Type::Enumerated { .. }) => {
-            match decode(alloc, rule, schema, part.id, part.octets) {
+            match decode(alloc, wanted.rule, &wanted.schema, part.id, part.octets) {
                 Ok(value) => leaf_text(alloc, ty, &value)?,
                 Err(error) if error.is_out_of_memory() => return Err(AllocError),
                 Err(_) => Hexadecimal::new(part.octets).to_string(alloc)?,

@@ -5,6 +5,7 @@ use crate::identifiers::{identifier_name, identifier_text};
 use crate::known::{Form, Known};
 use crate::leaf::leaf_text;
 use crate::name::name_text;
+use crate::types::MessageType;
 use rasn_dynamic::decode;
 use rasn_schema::{LeafKind, Schema, Type, TypeId, Value, View, part_name, part_type, type_at};
 use rasn_types::types::{Codec, Hexadecimal};
@@ -35,28 +36,27 @@ struct Place<'a> {
 /// Whether there was memory for what is appended.
 type Appended = Result<(), AllocError>;
 
-/// Returns a value as indented lines, the first of which has this title.
+/// Returns a value of this type as indented lines, the first of which has the name of the type.
 ///
 /// # Errors
 /// `AllocError` if memory runs out.
 pub fn value_text(
     alloc: Global,
     known: &Known,
-    rule: Codec,
-    title: &str,
-    view: &View<'_, '_>,
+    wanted: &MessageType<'_>,
+    value: &Value<'_>,
 ) -> Result<String, AllocError> {
     let place = Place {
         alloc,
         known,
-        rule,
+        rule: wanted.rule,
         levels: LEVELS,
         depth: 0,
-        title,
+        title: wanted.name,
         hint: None,
     };
     let mut text = String::new(alloc);
-    print(&mut text, place, view)?;
+    print(&mut text, place, &wanted.schema.view(wanted.root, value))?;
     Ok(text)
 }
 

@@ -19,6 +19,13 @@ pub struct MessageType<'text> {
     pub root: TypeId,
 }
 
+impl MessageType<'_> {
+    /// Returns its rules, its schema and the number that it has there.
+    pub(crate) fn parts(&self) -> (Codec, &Schema, TypeId) {
+        (self.rule, &self.schema, self.root)
+    }
+}
+
 /// Returns a type with these rules, or with those of its standard.
 ///
 /// # Errors

@@ -50,6 +50,9 @@ pub enum Answer {
     Refused(String),
 }
 
+/// What is printed, unless memory runs out.
+type Answered = Result<Answer, AllocError>;
+
 /// Returns what is printed for a message: of the type that is asked for, or that its label names,
 /// or of the first of the messages of standards that it is.
 ///
@@ -66,7 +69,7 @@ pub fn answer_to(tools: &Tools<'_, '_>, input: &Input<'_>) -> Result<Answer, All
 }
 
 /// Returns what is printed for a message of the first type that it is of.
-fn answer_by_trial(tools: &Tools<'_, '_>, input: &Input<'_>) -> Result<Answer, AllocError> {
+fn answer_by_trial(tools: &Tools<'_, '_>, input: &Input<'_>) -> Answered {
     let mut tried = Vec::new(tools.alloc);
     for named in MESSAGES {
         match answer_as(tools, *named, input)? {
@@ -82,11 +85,7 @@ fn answer_by_trial(tools: &Tools<'_, '_>, input: &Input<'_>) -> Result<Answer, A
 }
 
 /// Returns what is printed for a message of this type of the modules.
-fn answer_as(
-    tools: &Tools<'_, '_>,
-    named: NamedType<'static>,
-    input: &Input<'_>,
-) -> Result<Answer, AllocError> {
+fn answer_as(tools: &Tools<'_, '_>, named: NamedType<'static>, input: &Input<'_>) -> Answered {
     match message_type(tools.alloc, tools.read, named, tools.call.rules) {
         Ok(found) => answer_by(tools, &found, input),
         Err(Stop::OutOfMemory) => Err(AllocError),
@@ -95,15 +94,14 @@ fn answer_as(
 }
 
 /// Returns what is printed for a message of this type.
-fn answer_by(
-    tools: &Tools<'_, '_>,
-    wanted: &MessageType<'_>,
-    input: &Input<'_>,
-) -> Result<Answer, AllocError> {
+fn answer_by(tools: &Tools<'_, '_>, wanted: &MessageType<'_>, input: &Input<'_>) -> Answered {
     let message = Message {
         tools,
         wanted,
         input,
+        octets: input.octets,
+        alloc: tools.alloc,
+        call: tools.call,
     };
     match tools.call.work {
         Work::Normalise => message.normalised(),
@@ -116,11 +114,7 @@ fn answer_by(
 }
 
 /// Returns the refusal for this reason, unless that is that memory ran out.
-fn refused_for<T: fmt::Display>(
-    alloc: Global,
-    is_out_of_memory: bool,
-    reason: &T,
-) -> Result<Answer, AllocError> {
+fn refused_for<T: fmt::Display>(alloc: Global, is_out_of_memory: bool, reason: &T) -> Answered {
     if is_out_of_memory {
         return Err(AllocError);
     }
@@ -130,93 +124,70 @@ fn refused_for<T: fmt::Display>(
 /// A message that is worked on, with its type.
 #[derive(Clone, Copy)]
 struct Message<'m, 'a, 'text> {
+    alloc: Global,
+    call: &'m Call,
     tools: &'m Tools<'a, 'text>,
     wanted: &'m MessageType<'text>,
     input: &'m Input<'m>,
+    octets: &'m [u8],
 }
 
 impl Message<'_, '_, '_> {
-    /// Refuses it unless it is exactly one value of its type.
-    fn check(&self) -> Result<(), Refusal> {
-        let wanted = self.wanted;
-        check(
-            self.tools.alloc,
-            wanted.rule,
-            &wanted.schema,
-            wanted.root,
-            self.input.octets,
-        )
-    }
-
     /// Returns why it is refused.
-    fn refused(&self, refusal: &Refusal) -> Result<Answer, AllocError> {
+    fn refused(&self, refusal: &Refusal) -> Answered {
         let shown = refusal.with_names(&self.wanted.schema, self.wanted.root);
-        refused_for(self.tools.alloc, refusal.error.is_out_of_memory(), &shown)
+        refused_for(self.alloc, refusal.error.is_out_of_memory(), &shown)
     }
 
     /// Returns why it can't be read, with the place, for which it is read again.
-    fn unread(&self, error: &DecodeError) -> Result<Answer, AllocError> {
-        match self.check() {
-            Ok(()) => refused_for(self.tools.alloc, error.is_out_of_memory(), error),
+    fn unread(&self, error: &DecodeError) -> Answered {
+        match check(self.alloc, self.wanted, self.octets) {
+            Ok(()) => refused_for(self.alloc, error.is_out_of_memory(), error),
             Err(refusal) => self.refused(&refusal),
         }
     }
 
     /// Returns nothing for a message of DER, and else what is to be mended first. Inside an open
     /// type the path goes on by indices.
-    fn checked(&self) -> Result<Answer, AllocError> {
-        let (tools, schema, root) = (self.tools, &self.wanted.schema, self.wanted.root);
-        let alloc = tools.alloc;
-        match check_der(
-            alloc,
-            schema,
-            root,
-            self.input.octets,
-            tools.call.open_types,
-        ) {
-            Ok(()) => Ok(Answer::Done(Vec::new(alloc))),
+    fn checked(&self) -> Answered {
+        let (_, schema, root) = self.wanted.parts();
+        match check_der(self.alloc, schema, root, self.octets, self.call.open_types) {
+            Ok(()) => Ok(Answer::Done(Vec::new(self.alloc))),
             Err(departure) => {
                 let shown = departure.place_with_names(schema, root);
-                refused_for(alloc, departure.refusal.error.is_out_of_memory(), &shown)
+                let error = &departure.refusal.error;
+                refused_for(self.alloc, error.is_out_of_memory(), &shown)
             }
         }
     }
 
     /// Returns everything of a message of BER that departs from DER: a line for each departure.
-    fn linted(&self) -> Result<Answer, AllocError> {
-        let (tools, schema, root) = (self.tools, &self.wanted.schema, self.wanted.root);
-        let alloc = tools.alloc;
-        match lint(
-            alloc,
-            schema,
-            root,
-            self.input.octets,
-            tools.call.open_types,
-        ) {
-            Ok(list) if list.is_empty() => Ok(Answer::Done(Vec::new(alloc))),
+    fn linted(&self) -> Answered {
+        let (_, schema, root) = self.wanted.parts();
+        match lint(self.alloc, schema, root, self.octets, self.call.open_types) {
+            Ok(list) if list.is_empty() => Ok(Answer::Done(Vec::new(self.alloc))),
             Ok(list) => self.departures(list.as_slice()),
             Err(LintError::OutOfMemory) => Err(AllocError),
             Err(LintError::Refused(refusal)) => self.refused(&refusal),
-            Err(error) => refused_for(alloc, false, &error),
+            Err(error) => refused_for(self.alloc, false, &error),
         }
     }
 
     /// Returns a line for each departure.
-    fn departures(&self, list: &[Departure]) -> Result<Answer, AllocError> {
-        let alloc = self.tools.alloc;
-        let mut lines = Vec::new(alloc);
+    fn departures(&self, list: &[Departure]) -> Answered {
+        let mut lines = Vec::new(self.alloc);
         for departure in list {
             let shown = departure.with_names(&self.wanted.schema, self.wanted.root);
-            lines.push(shown.to_string(alloc)?)?;
+            lines.push(shown.to_string(self.alloc)?)?;
         }
         Ok(Answer::Departures(lines))
     }
 
     /// Returns its text, in colour if that is asked for.
-    fn shown(&self) -> Result<Answer, AllocError> {
+    fn shown(&self) -> Answered {
         match self.text() {
             Ok(text) if self.tools.is_colored => {
-                Ok(Answer::Done(colored(self.tools.alloc, text.as_str())?.into_bytes()))
+                Ok(Answer::Done(colored(self.alloc, text.as_str())?.into_bytes()))
             }
             Ok(text) => Ok(Answer::Done(text.into_bytes())),
             Err(refusal) => self.refused(&refusal),
@@ -225,24 +196,22 @@ impl Message<'_, '_, '_> {
 
     /// Returns it as text or the parts of it, or no text if it is only checked.
     fn text(&self) -> Result<String, Refusal> {
-        let (tools, wanted, octets) = (self.tools, self.wanted, self.input.octets);
-        let (alloc, call) = (tools.alloc, tools.call);
-        let (rule, schema, root) = (wanted.rule, &wanted.schema, wanted.root);
+        let call = self.call;
         if call.work == Work::Show && !call.has_offsets {
-            return show(alloc, tools.known, rule, schema, root, wanted.name, octets);
+            return show(self.alloc, self.tools.known, self.wanted, self.octets);
         }
-        self.check()?;
+        check(self.alloc, self.wanted, self.octets)?;
         if call.work == Work::Show {
-            return offsets_text(alloc, rule, schema, root, wanted.name, octets);
+            return offsets_text(self.alloc, self.wanted, self.octets);
         }
-        Ok(String::new(alloc))
+        Ok(String::new(self.alloc))
     }
 
     /// Returns it as JSON: in one line if a line holds a message.
-    fn json(&self) -> Result<Answer, AllocError> {
-        let (alloc, wanted, layout) = (self.tools.alloc, self.wanted, self.tools.call.layout());
-        let (rule, schema, root) = (wanted.rule, &wanted.schema, wanted.root);
-        match json(alloc, rule, schema, root, self.input.octets, layout) {
+    fn json(&self) -> Answered {
+        let (alloc, octets, layout) = (self.alloc, self.octets, self.call.layout());
+        let (rule, schema, root) = self.wanted.parts();
+        match json(alloc, rule, schema, root, octets, layout) {
             Ok(text) => Ok(Answer::Done(format!(in alloc; "{text}\n")?.into_bytes())),
             Err(ToJsonError::Decode(error)) => self.unread(&error),
             Err(ToJsonError::Json(error)) => refused_for(alloc, error.is_out_of_memory(), &error),
@@ -250,9 +219,9 @@ impl Message<'_, '_, '_> {
     }
 
     /// Returns the octets of the message whose JSON is read.
-    fn encoded(&self) -> Result<Answer, AllocError> {
-        let (alloc, wanted) = (self.tools.alloc, self.wanted);
-        let Ok(text) = str::from_utf8(self.input.octets) else {
+    fn encoded(&self) -> Answered {
+        let (alloc, wanted) = (self.alloc, self.wanted);
+        let Ok(text) = str::from_utf8(self.octets) else {
             return refused_for(alloc, false, &"not UTF-8");
         };
         match encode(alloc, wanted.rule, &wanted.schema, wanted.root, text) {
@@ -262,10 +231,9 @@ impl Message<'_, '_, '_> {
     }
 
     /// Returns its DER octets.
-    fn normalised(&self) -> Result<Answer, AllocError> {
-        let (alloc, wanted) = (self.tools.alloc, self.wanted);
-        let (rule, schema, root) = (wanted.rule, &wanted.schema, wanted.root);
-        match normalise(alloc, rule, schema, root, self.input.octets) {
+    fn normalised(&self) -> Answered {
+        let (alloc, wanted) = (self.alloc, self.wanted);
+        match normalise(alloc, wanted.rule, &wanted.schema, wanted.root, self.octets) {
             Ok(octets) => in_form(alloc, self.input, octets),
             Err(NormaliseError::Decode(error)) => self.unread(&error),
             Err(error) => refused_for(alloc, error.is_out_of_memory(), &error),
@@ -287,7 +255,7 @@ fn colored(alloc: Global, text: &str) -> Result<String, AllocError> {
 
 /// Returns octets in the form of an input: as a block of PEM (RFC 7468 2), a line of hexadecimal
 /// digits, or as they are.
-fn in_form(alloc: Global, input: &Input<'_>, octets: Vec<u8>) -> Result<Answer, AllocError> {
+fn in_form(alloc: Global, input: &Input<'_>, octets: Vec<u8>) -> Answered {
     let text = match input.label {
         Some(label) => {
             let lines = base64_lines(alloc, &octets)?;
