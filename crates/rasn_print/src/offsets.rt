@@ -90,17 +90,26 @@ fn push_value(
     wanted: &MessageType<'_>,
     part: &Part<'_>,
 ) -> Result<(), AllocError> {
-    let ty = type_at(wanted.schema.types(), part.id);
-    let shown = match ty {
-        Some(Type::Leaf { .. } | Type::Enumerated { .. }) => {
-            match decode(alloc, wanted.rule, &wanted.schema, part.id, part.octets) {
-                Ok(value) => leaf_text(alloc, ty, &value)?,
-                Err(error) if error.is_out_of_memory() => return Err(AllocError),
-                Err(_) => Hexadecimal::new(part.octets).to_string(alloc)?,
-            }
-        }
+    let shown = match type_at(wanted.schema.types(), part.id) {
         Some(Type::Any { .. } | Type::Unknown) => Hexadecimal::new(part.octets).to_string(alloc)?,
+        Some(ty) if matches!(ty, Type::Leaf { .. } | Type::Enumerated { .. }) => {
+            part_text(alloc, wanted, part, ty)?
+        }
         _ => return text.push('\n'),
     };
     writeln!(text, ": {shown}")
+}
+
+/// Returns the value of a part of this type, which holds no others, as text.
+fn part_text(
+    alloc: Global,
+    wanted: &MessageType<'_>,
+    part: &Part<'_>,
+    ty: &Type,
+) -> Result<String, AllocError> {
+    match decode(alloc, wanted.rule, &wanted.schema, part.id, part.octets) {
+        Ok(value) => leaf_text(alloc, Some(ty), &value),
+        Err(error) if error.is_out_of_memory() => Err(AllocError),
+        Err(_) => Hexadecimal::new(part.octets).to_string(alloc),
+    }
 }

@@ -131,12 +131,12 @@ fn print_held(text: &mut String, place: Place<'_>, view: &View<'_, '_>, ty: &Typ
 /// Appends the lines of components or elements. An identifier that is the first component is in the
 /// line of the title.
 #[cycle(print)]
-fn print_parts(
+fn print_parts<'view>(
     text: &mut String,
     place: Place<'_>,
-    schema: &Schema,
+    schema: &'view Schema,
     ty: &Type,
-    values: &[Value<'_>],
+    values: &'view [Value<'_>],
 ) -> Appended {
     let is_list = matches!(ty, Type::SequenceOf { .. } | Type::SetOf { .. });
     print_heading(text, place, is_list, values)?;
