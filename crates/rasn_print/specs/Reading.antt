@@ -1,36 +1,33 @@
--- Octets that are one whole value of a type of a schema.
+-- Octets that are one whole value of a type of a schema, under the rules of that type.
 use Rattle.std.specs.Prelude.{◌≡◌, ◌⊎◌, ◌-◌, ℕ, List, [], length}
-use Rattle.rasn_types.specs.declared.types.codec.Codec.{Codec}
 use Rattle.rasn_types.specs.Shapes.{Tree}
 use Rattle.rasn_types.specs.Errors.{IsOutOfMemory}
 use Rattle.rasn_types.specs.Grammar.{Reads, top}
 use Rattle.rasn.specs.Headline.{IsExtraData}
-use Rattle.rasn_schema.specs.declared.types.«Type».{«Type»}
 use Rattle.rasn_dynamic.specs.Entry.{shape_of}
 use Rattle.rasn_dynamic.specs.Faults.{IsLocated}
 use Rattle.rasn_dynamic.specs.declared.refusal.Refusal.{Refusal}
-use Rattle.rasn_print.specs.declared.reading.ReadError.{ReadError}
-use Rattle.rasn_print.specs.declared.reading.ReadError.TheVariants.{Refused, OutOfMemory}
+use Rattle.rasn_print.specs.declared.types.MessageType.{MessageType}
 
 -- The grammar relates the octets to this value, followed by the rest.
-abbrev pub IsRead : Codec → List «Type» → ℕ → List ℕ → Tree → List ℕ → Type 0
-IsRead rule types id octets tree rest = Reads rule (shape_of types id) 128 (top rule) octets tree rest
+abbrev pub IsRead : MessageType → List ℕ → Tree → List ℕ → Type 0
+IsRead m octets tree rest = Reads m.rule (shape_of m.schema.types.items m.root.0) 128 (top m.rule) octets tree rest
 
 -- All of the octets are the encoding of a value of the type.
-abbrev pub IsMessage : Codec → List «Type» → ℕ → List ℕ → Type 0
-IsMessage rule types id octets = (tree : Tree) × IsRead rule types id octets tree []
+abbrev pub IsMessage : MessageType → List ℕ → Type 0
+IsMessage m octets = (tree : Tree) × IsRead m octets tree []
 
 -- After a value there are octets. The refusal is at the first of them.
-abbrev pub IsFollowed : Codec → List «Type» → ℕ → List ℕ → Refusal → Type 0
-IsFollowed rule types id octets r = (tree : Tree) × (rest : List ℕ) × IsRead rule types id octets tree rest × IsExtraData rule rest r.error × (r.offset ≡ length octets - length rest)
+abbrev pub IsFollowed : MessageType → List ℕ → Refusal → Type 0
+IsFollowed m octets r = (tree : Tree) × (rest : List ℕ) × IsRead m octets tree rest × IsExtraData m.rule rest r.error
+    × (r.offset ≡ length octets - length rest)
 
--- The octets aren't the encoding of a value of the type: the refusal is at a value that can't be read, or at what follows one. Or an
--- allocation failed.
-abbrev pub IsRefused : Codec → List «Type» → ℕ → List ℕ → ReadError → Type 0
-IsRefused rule types id octets (Refused r) = (IsMessage rule types id octets → ⊥) × (IsLocated types rule id octets r ⊎ IsFollowed rule types id octets r)
-IsRefused rule types id octets OutOfMemory = Unit {0}
+-- The octets aren't the encoding of a value of the type: the refusal is at a value that can't be read, or at what
+-- follows one.
+abbrev pub IsNoMessage : MessageType → List ℕ → Refusal → Type 0
+IsNoMessage m octets r = (IsMessage m octets → ⊥)
+    × (IsLocated m.schema.types.items m.rule m.root.0 octets r ⊎ IsFollowed m octets r)
 
--- How a refusal is reported: as it is, unless it is one of running out of memory.
-abbrev pub IsToldOf : Refusal → ReadError → Type 0
-IsToldOf r (Refused q) = (q ≡ r) × (IsOutOfMemory r.error.kind → ⊥)
-IsToldOf r OutOfMemory = IsOutOfMemory r.error.kind
+-- Unless an allocation failed, the octets are refused for that.
+abbrev pub IsRefused : MessageType → List ℕ → Refusal → Type 0
+IsRefused m octets r = (IsOutOfMemory r.error.kind → ⊥) → IsNoMessage m octets r

@@ -38,16 +38,10 @@ pub fn modules_of<'text>(alloc: Global, texts: &[Source<'text>]) -> Result<Modul
 /// Returns the types of what is in open types.
 ///
 /// # Errors
-/// `Call` if the modules lack one.
+/// `Call` if they have no schema.
 pub fn known_of(alloc: Global, read: &Modules<'_>) -> Result<Known, Fault> {
     match read.schema(alloc, CONTENTS, "Contents") {
-        Ok(resolved) => {
-            let Resolved { schema, .. } = resolved;
-            match Known::new(schema) {
-                Some(known) => Ok(known),
-                None => Err(Fault::of_call(alloc, &"no types of what is in open types")),
-            }
-        }
+        Ok(Resolved { schema, .. }) => Ok(Known { schema }),
         Err(Stop::OutOfMemory) => Err(Fault::Memory),
         Err(stop) => Err(Fault::of_call(alloc, &stop)),
     }
@@ -112,7 +106,7 @@ fn print_types_of<W: Write>(
 }
 
 /// Returns whether an assignment is one of a type without parameters.
-fn is_plain_type(assignment: &Assignment<'_>) -> bool {
+pub(crate) fn is_plain_type(assignment: &Assignment<'_>) -> bool {
     match assignment.assigned {
         Assigned::Type(_) => assignment.parameters.is_none(),
         _ => false,

@@ -2,6 +2,8 @@
 
 use clap::builder::ValueParser;
 use clap::{Arg, ArgAction, ArgMatches, Command};
+use rasn_json::Layout;
+use rasn_lint::OpenTypes;
 use rasn_types::types::Codec;
 use std::alloc::{AllocError, Global};
 
@@ -47,13 +49,24 @@ pub struct Call {
     pub type_name: Option<String>,
     pub rules: Option<Codec>,
     pub input: Option<InputForm>,
-    /// Whether open types aren't looked into.
-    pub is_outer: bool,
+    /// Whether open types are looked into.
+    pub open_types: OpenTypes,
     /// Whether where each part begins is shown.
     pub has_offsets: bool,
     /// Whether each line is a message.
     pub has_lines: bool,
     pub color: ColorChoice,
+}
+
+impl Call {
+    /// Returns how JSON is laid out: in one line if a line holds a message.
+    pub(crate) fn layout(&self) -> Layout {
+        if self.has_lines {
+            Layout::Compact
+        } else {
+            Layout::Indented
+        }
+    }
 }
 
 /// Returns the program's command: its subcommands, options and help.
@@ -228,7 +241,7 @@ pub fn call_of(alloc: Global, matches: &ArgMatches<'_>) -> Result<Option<Call>, 
         },
         rules: rules_of(inner.get_str("rules")),
         input: form_of(inner.get_str("input")),
-        is_outer: inner.get_flag("outer"),
+        open_types: open_types_of(inner.get_flag("outer")),
         has_offsets: inner.get_flag("offsets"),
         has_lines: inner.get_flag("lines"),
         color: color_of(inner.get_str("color")),
@@ -274,6 +287,14 @@ fn form_of(name: Option<&str>) -> Option<InputForm> {
         "pem" => Some(InputForm::Pem),
         "hex" => Some(InputForm::Hex),
         _ => None,
+    }
+}
+
+fn open_types_of(is_outer: bool) -> OpenTypes {
+    if is_outer {
+        OpenTypes::Unexamined
+    } else {
+        OpenTypes::Examined
     }
 }
 

@@ -1,5 +1,6 @@
-//! The names of well-known object identifiers.
+//! The names of well-known object identifiers and of universal types.
 
+use rasn_text::short_name;
 use rasn_types::types::ObjectIdentifier;
 use std::alloc::{AllocError, Global};
 
@@ -118,25 +119,52 @@ const IDENTIFIERS: &[Named] = &[
     ),
 ];
 
-/// The short names of attribute types (RFC 4514, 3, RFC 4519, RFC 5280, appendix A.1).
+/// Names of attribute types that the table of RFC 4514, 3 hasn't: those of X.520 that RFC 4519 or
+/// RFC 5280, A.1 has, and PKCS #9 (RFC 2985).
 const ATTRIBUTES: &[Named] = &[
-    // X.520.
-    (&[2, 5, 4, 3], "CN"),
     (&[2, 5, 4, 4], "SN"),
     (&[2, 5, 4, 5], "serialNumber"),
-    (&[2, 5, 4, 6], "C"),
-    (&[2, 5, 4, 7], "L"),
-    (&[2, 5, 4, 8], "ST"),
-    (&[2, 5, 4, 9], "STREET"),
-    (&[2, 5, 4, 10], "O"),
-    (&[2, 5, 4, 11], "OU"),
     (&[2, 5, 4, 12], "title"),
     (&[2, 5, 4, 42], "GN"),
     (&[2, 5, 4, 97], "organizationIdentifier"),
-    // RFC 4519, 2.39 and 2.4, and PKCS #9 (RFC 2985).
-    (&[0, 9, 2342, 19200300, 100, 1, 1], "UID"),
-    (&[0, 9, 2342, 19200300, 100, 1, 25], "DC"),
     (&[1, 2, 840, 113549, 1, 9, 1], "emailAddress"),
+];
+
+/// The numbers of universal tags, and the names of their types (X.680 8.4).
+const UNIVERSAL: &[Named] = &[
+    (&[1], "BOOLEAN"),
+    (&[2], "INTEGER"),
+    (&[3], "BIT STRING"),
+    (&[4], "OCTET STRING"),
+    (&[5], "NULL"),
+    (&[6], "OBJECT IDENTIFIER"),
+    (&[7], "ObjectDescriptor"),
+    (&[8], "EXTERNAL"),
+    (&[9], "REAL"),
+    (&[10], "ENUMERATED"),
+    (&[11], "EMBEDDED PDV"),
+    (&[12], "UTF8String"),
+    (&[13], "RELATIVE-OID"),
+    (&[14], "TIME"),
+    (&[16], "SEQUENCE"),
+    (&[17], "SET"),
+    (&[18], "NumericString"),
+    (&[19], "PrintableString"),
+    (&[20], "TeletexString"),
+    (&[21], "VideotexString"),
+    (&[22], "IA5String"),
+    (&[23], "UTCTime"),
+    (&[24], "GeneralizedTime"),
+    (&[25], "GraphicString"),
+    (&[26], "VisibleString"),
+    (&[27], "GeneralString"),
+    (&[28], "UniversalString"),
+    (&[29], "CHARACTER STRING"),
+    (&[30], "BMPString"),
+    (&[31], "DATE"),
+    (&[32], "TIME-OF-DAY"),
+    (&[33], "DATE-TIME"),
+    (&[34], "DURATION"),
 ];
 
 /// Returns the name of these arcs.
@@ -154,16 +182,21 @@ fn name_of(arcs: &[u32], names: &[Named]) -> Option<&'static str> {
 pub fn identifier_text(alloc: Global, identifier: &ObjectIdentifier) -> Result<String, AllocError> {
     match identifier_name(identifier.arcs()) {
         Some(name) => format!(in alloc; "{name} ({identifier})"),
-        None => format!(in alloc; "{identifier}"),
+        None => identifier.to_string(alloc),
     }
 }
 
 /// Returns the short name of an attribute type.
 pub(crate) fn attribute_name(arcs: &[u32]) -> Option<&'static str> {
-    name_of(arcs, ATTRIBUTES)
+    short_name(arcs).or(name_of(arcs, ATTRIBUTES))
 }
 
 /// Returns the name of an object identifier, if it is well known.
 pub(crate) fn identifier_name(arcs: &[u32]) -> Option<&'static str> {
     name_of(arcs, IDENTIFIERS)
+}
+
+/// Returns the name of the type with this universal tag.
+pub(crate) fn universal_name(number: u32) -> Option<&'static str> {
+    name_of(&[number], UNIVERSAL)
 }

@@ -1,34 +1,28 @@
 //! The form of an input.
 
-use crate::command_line::InputForm;
+use crate::command_line::{Call, InputForm, Work};
 use base64::DecodeAllocError;
 use base64::engine::general_purpose::STANDARD;
 use hex::FromHexError;
 use rasn_text::blocks;
 use std::alloc::{AllocError, Global};
 
-/// Returns the form of octets: PEM if a line begins a block, hexadecimal if there is nothing else
-/// but digits and white space.
-pub fn form_of(
-    alloc: Global,
-    asked: Option<InputForm>,
-    octets: &[u8],
-) -> Result<InputForm, AllocError> {
-    if let Some(form) = asked {
+/// Returns the form of octets that a call doesn't say, and of JSON: PEM if a line begins a block,
+/// hexadecimal if there is nothing else but digits and white space, and octets as they are.
+pub fn form_of(alloc: Global, call: &Call, octets: &[u8]) -> Result<InputForm, AllocError> {
+    if call.work == Work::Encode {
+        return Ok(InputForm::Der);
+    }
+    if let Some(form) = call.input {
         return Ok(form);
     }
     if !blocks(alloc, octets)?.is_empty() {
         return Ok(InputForm::Pem);
     }
-    if octets.iter().all(|octet| is_digit_or_space(*octet)) {
+    if octets.iter().all(|octet| octet.is_ascii_hexdigit() || octet.is_ascii_whitespace()) {
         return Ok(InputForm::Hex);
     }
     Ok(InputForm::Der)
-}
-
-/// Returns whether this is a hexadecimal digit or white space.
-fn is_digit_or_space(octet: u8) -> bool {
-    octet.is_ascii_hexdigit() || octet.is_ascii_whitespace()
 }
 
 /// Returns the octets that hexadecimal digits denote, between which white space may be; `None` if
@@ -47,8 +41,12 @@ pub fn from_hexadecimal(alloc: Global, text: &[u8]) -> Result<Option<Vec<u8>>, A
     }
 }
 
-/// Returns the octets that a line denotes, in hexadecimal or else in base64.
-pub fn from_line(alloc: Global, line: &str) -> Result<Option<Vec<u8>>, AllocError> {
+/// Returns the octets of a line of JSON, or those that a line denotes, in hexadecimal or else in
+/// base64.
+pub fn from_line(alloc: Global, work: Work, line: &str) -> Result<Option<Vec<u8>>, AllocError> {
+    if work == Work::Encode {
+        return Ok(Some(Vec::from_slice(alloc, line.as_bytes())?));
+    }
     if let Some(octets) = from_hexadecimal(alloc, line.as_bytes())? {
         return Ok(Some(octets));
     }

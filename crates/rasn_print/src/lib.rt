@@ -5,7 +5,6 @@
 
 mod catalog;
 mod command_line;
-mod conversion;
 mod dump;
 mod fault;
 mod identifiers;
@@ -24,13 +23,12 @@ mod work;
 
 pub use catalog::{known_of, modules_of, print_types, wanted_type};
 pub use command_line::{Call, ColorChoice, InputForm, Work, call_of, command};
-pub use conversion::{NoJson, json_of};
-pub use dump::{DumpError, Entry, dump_text, entries};
+pub use dump::{Entry, dump_text, entries};
 pub use fault::Fault;
 pub use known::Known;
 pub use offsets::offsets_text;
 pub use printer::value_text;
-pub use reading::{ReadError, check, show};
+pub use reading::{check, show};
 pub use session::Session;
 pub use types::MessageType;
 pub use work::{Answer, Input, Tools, answer_to};

@@ -5,7 +5,7 @@ use rasn_types::types::Codec;
 
 /// The modules and the types of the messages, in the order in which they are tried: that of LDAP, whose
 /// operations are extensible, is the last.
-pub const MESSAGES: &[(&str, &str)] = &[
+pub const MESSAGES: &[NamedType<'static>] = &[
     ("Certificates", "Certificate"),
     ("Revocation", "CertificateList"),
     ("Requests", "CertificationRequest"),
@@ -55,7 +55,7 @@ pub fn type_of_label(label: &str) -> Option<NamedType<'static>> {
         "OCSP RESPONSE" => ("OCSP", "OCSPResponse"),
         _ => return None,
     };
-    Some(NamedType { module, name })
+    Some((module, name))
 }
 
 /// Returns the rules by which the standard of a module has its messages: BER for CMS (RFC 5652 2),

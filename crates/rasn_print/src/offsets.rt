@@ -1,13 +1,12 @@
 //! The parts of a message with their places.
 
-use crate::dump::push_indent;
-use crate::leaf::{hexadecimal_text, leaf_text};
-use crate::reading::{ReadError, refused};
-use rasn_dynamic::{MessageParts, Part, decode, parts_of};
-use rasn_schema::{
-    Alternative, Component, LeafKind, NamedNumber, Schema, Type, TypeId, is_unknown_at, type_at,
-};
-use rasn_types::types::Codec;
+use crate::dump::push_place;
+use crate::leaf::leaf_text;
+use crate::reading::out_of_memory;
+use crate::types::MessageType;
+use rasn_dynamic::{MessageParts, Part, Refusal, decode, parts_of};
+use rasn_schema::{Type, TypeId, is_unknown_at, part_name, type_at};
+use rasn_types::types::Hexadecimal;
 use std::alloc::{AllocError, Global};
 
 /// Returns the parts of the message with which the octets begin as lines: where each begins, how
@@ -17,48 +16,37 @@ use std::alloc::{AllocError, Global};
 /// As [`check`](crate::check), but what follows the message isn't refused.
 pub fn offsets_text(
     alloc: Global,
-    rule: Codec,
-    schema: &Schema,
-    id: TypeId,
-    title: &str,
+    wanted: &MessageType<'_>,
     octets: &[u8],
-) -> Result<String, ReadError> {
-    let mut parts = match parts_of(alloc, rule, schema, id, octets) {
-        Ok(parts) => parts,
-        Err(refusal) => return Err(refused(refusal)),
-    };
-    match text_of(alloc, rule, schema, title, &mut parts) {
+) -> Result<String, Refusal> {
+    let mut parts = parts_of(alloc, wanted.rule, &wanted.schema, wanted.root, octets)?;
+    match text_of(alloc, wanted, &mut parts) {
         Ok(text) => Ok(text),
-        Err(_) => Err(ReadError::OutOfMemory),
+        Err(_) => Err(out_of_memory(alloc, wanted)),
     }
 }
 
 /// Returns the lines of all parts.
 fn text_of(
     alloc: Global,
-    rule: Codec,
-    schema: &Schema,
-    title: &str,
+    wanted: &MessageType<'_>,
     parts: &mut MessageParts<'_>,
 ) -> Result<String, AllocError> {
     let mut text = String::new(alloc);
     let mut around = Vec::new(alloc);
     for _ in 0..parts.list.len() {
-        match parts.next(alloc) {
-            Ok(Some(part)) => {
-                let path = parts.path.as_slice();
-                around.truncate(path.len());
-                // Of unknown values there may be none.
-                if !part.octets.is_empty() {
-                    push_header(&mut text, schema, &part, path.len())?;
-                    push_name(&mut text, schema, around.as_slice(), path, title)?;
-                    push_value(&mut text, alloc, rule, schema, &part)?;
-                }
-                around.push(part.id)?;
-            }
-            Ok(None) => break,
-            Err(_) => return Err(AllocError),
+        let Ok(Some(part)) = parts.next(alloc) else {
+            return Err(AllocError);
+        };
+        let path = parts.path.as_slice();
+        around.truncate(path.len());
+        // Of unknown values there may be none.
+        if !part.octets.is_empty() {
+            push_header(&mut text, wanted, &part, path.len())?;
+            push_name(&mut text, wanted, around.as_slice(), path)?;
+            push_value(&mut text, alloc, wanted, &part)?;
         }
+        around.push(part.id)?;
     }
     Ok(text)
 }
@@ -66,92 +54,62 @@ fn text_of(
 /// Appends where a part begins and its lengths. Unknown values have no header around them.
 fn push_header(
     text: &mut String,
-    schema: &Schema,
+    wanted: &MessageType<'_>,
     part: &Part<'_>,
     depth: usize,
 ) -> Result<(), AllocError> {
-    let offset = part.offset;
-    let (header, is_indefinite) = if is_unknown_at(schema.types(), part.id) {
-        (0, false)
-    } else {
-        (part.header_len, part.is_indefinite)
-    };
-    write!(text, "{offset:>6} {header:>2}+")?;
-    if is_indefinite {
-        text.push_str("indef ")?;
-    } else {
-        let len = part.octets.len().saturating_sub(header);
-        write!(text, "{len:<6}")?;
+    let (offset, len, is_indefinite) = (part.offset, part.octets.len(), part.is_indefinite);
+    if is_unknown_at(wanted.schema.types(), part.id) {
+        return push_place(text, offset, 0, len, false, depth);
     }
-    push_indent(text, depth)
+    push_place(text, offset, part.header_len, len, is_indefinite, depth)
 }
 
-/// Appends the name of the part with this path: of the message itself the title, of an element its
-/// index in brackets, and of what is in an explicit tag `value`.
+/// Appends the name of the part with this path: of the message itself that of its type, of an
+/// element its index in brackets, and of what is in an explicit tag `value`.
 fn push_name(
     text: &mut String,
-    schema: &Schema,
+    wanted: &MessageType<'_>,
     around: &[TypeId],
     path: &[usize],
-    title: &str,
 ) -> Result<(), AllocError> {
     let (Some(outer), Some(index)) = (around.last(), path.last()) else {
-        return text.push_str(title);
+        return text.push_str(wanted.name);
     };
-    let name = match type_at(schema.types(), *outer) {
-        Some(Type::Sequence { components, .. }) => component_name(components.as_slice(), *index),
-        Some(Type::Set { components, .. }) => component_name(components.as_slice(), *index),
-        Some(Type::Choice { alternatives, .. }) => {
-            alternative_name(alternatives.as_slice(), *index)
-        }
-        Some(Type::SequenceOf { .. } | Type::SetOf { .. }) => return write!(text, "[{index}]"),
-        _ => None,
-    };
-    text.push_str(name.unwrap_or("value"))
-}
-
-fn component_name(components: &[Component], index: usize) -> Option<&str> {
-    Some(components.get(index)?.name.as_str())
-}
-
-fn alternative_name(alternatives: &[Alternative], index: usize) -> Option<&str> {
-    Some(alternatives.get(index)?.name.as_str())
+    match type_at(wanted.schema.types(), *outer) {
+        Some(Type::SequenceOf { .. } | Type::SetOf { .. }) => write!(text, "[{index}]"),
+        Some(ty) => text.push_str(part_name(ty, *index).unwrap_or("value")),
+        None => text.push_str("value"),
+    }
 }
 
 /// Appends the value of a part that holds no others, and ends the line.
 fn push_value(
     text: &mut String,
     alloc: Global,
-    rule: Codec,
-    schema: &Schema,
+    wanted: &MessageType<'_>,
     part: &Part<'_>,
 ) -> Result<(), AllocError> {
-    let shown = match type_at(schema.types(), part.id) {
-        Some(Type::Leaf { kind, names, .. }) => {
-            part_text(alloc, rule, schema, part, *kind, names.as_slice())?
+    let shown = match type_at(wanted.schema.types(), part.id) {
+        Some(Type::Any { .. } | Type::Unknown) => Hexadecimal::new(part.octets).to_string(alloc)?,
+        Some(ty) if matches!(ty, Type::Leaf { .. } | Type::Enumerated { .. }) => {
+            part_text(alloc, wanted, part, ty)?
         }
-        Some(Type::Enumerated { numbers, .. }) => {
-            let kind = LeafKind::Integer;
-            part_text(alloc, rule, schema, part, kind, numbers.as_slice())?
-        }
-        Some(Type::Any { .. } | Type::Unknown) => hexadecimal_text(alloc, part.octets)?,
         _ => return text.push('\n'),
     };
     writeln!(text, ": {shown}")
 }
 
-/// Returns the value of a part as text.
+/// Returns the value of a part of this type, which holds no others, as text.
 fn part_text(
     alloc: Global,
-    rule: Codec,
-    schema: &Schema,
+    wanted: &MessageType<'_>,
     part: &Part<'_>,
-    kind: LeafKind,
-    names: &[NamedNumber],
+    ty: &Type,
 ) -> Result<String, AllocError> {
-    match decode(alloc, rule, schema, part.id, part.octets) {
-        Ok(value) => leaf_text(alloc, kind, names, &value),
+    match decode(alloc, wanted.rule, &wanted.schema, part.id, part.octets) {
+        Ok(value) => leaf_text(alloc, Some(ty), &value),
         Err(error) if error.is_out_of_memory() => Err(AllocError),
-        Err(_) => hexadecimal_text(alloc, part.octets),
+        Err(_) => Hexadecimal::new(part.octets).to_string(alloc),
     }
 }

@@ -1,105 +1,104 @@
-//! Octets that are one whole value of a type.
-ghost use Rattle.std.specs.Prelude.{◌≡◌, ◌-◌, [], length, MatchResult};
+//! Octets that are one whole value of a type, and that value as text.
+ghost use Rattle.std.specs.Prelude.{◌≡◌, ◌-◌, [], length, IfOk, IfErr, MatchResult};
+ghost use Rattle.rasn_types.specs.Errors.{IsOutOfMemory};
+ghost use Rattle.rasn_schema.specs.Trees.{tree_of};
 ghost use Rattle.rasn.specs.Headline.{IsExtraData};
-ghost use Rattle.rasn_print.specs.Reading.{IsMessage, IsRefused, IsToldOf};
+ghost use Rattle.rasn_print.specs.Reading.{IsRead, IsMessage, IsRefused};
 
 use crate::known::Known;
 use crate::printer::value_text;
+use crate::types::MessageType;
 use rasn::refuse_remainder;
 use rasn_dynamic::{Refusal, check_or_locate, decode_or_locate};
-use rasn_schema::{Schema, TypeId};
-use rasn_types::types::Codec;
+use rasn_schema::Value;
+use rasn_types::error::{DecodeError, DecodeErrorKind};
 use std::alloc::Global;
 
-/// The reason why octets aren't shown.
-#[derive(Debug, Drop)]
-pub enum ReadError {
-    /// The octets aren't exactly one value of the type.
-    Refused(Refusal),
-    /// An allocation fails.
-    OutOfMemory,
+/// Returns the refusal at a place that is in no part of a value of this type.
+fn refusal_at(alloc: Global, wanted: &MessageType<'_>, error: DecodeError, offset: usize) -> Refusal
+    ensures { (result.error ≡ error) × (result.offset ≡ offset) }
+{
+    Refusal {
+        error,
+        offset,
+        id: wanted.root,
+        steps: Vec::new(alloc),
+        is_cut: false,
+    }
 }
 
-/// Returns the error to report for a refusal.
-pub(crate) fn refused(refusal: Refusal) -> ReadError
-    ensures { IsToldOf refusal result }
+/// Returns the refusal that memory ran out.
+pub(crate) fn out_of_memory(alloc: Global, wanted: &MessageType<'_>) -> Refusal
+    ensures { IsOutOfMemory result.error.kind }
 {
-    if refusal.error.is_out_of_memory() {
-        ReadError::OutOfMemory
-    } else {
-        ReadError::Refused(refusal)
-    }
+    let (kind, codec) = (DecodeErrorKind::OutOfMemory, wanted.rule);
+    refusal_at(alloc, wanted, DecodeError { kind, codec }, 0)
 }
 
 /// Refuses octets after the value, which begin at this place.
-pub(crate) fn refuse_rest(
+fn refuse_rest(
     alloc: Global,
-    rule: Codec,
-    id: TypeId,
+    wanted: &MessageType<'_>,
     octets: &[u8],
     rest: &[u8],
 ) -> Result<(), Refusal>
-    ensures { MatchResult result (λ _. rest.now ≡ []) (λ r. IsExtraData rule rest.now r.error × (r.offset ≡ length octets.now - length rest.now)) }
+    ensures { MatchResult result (λ _. rest.now ≡ []) (λ r. IsExtraData wanted.now.rule rest.now r.error × (r.offset ≡ length octets.now - length rest.now)) }
 {
-    match refuse_remainder(rule, rest) {
+    match refuse_remainder(wanted.rule, rest) {
         Ok(()) => Ok(()),
-        Err(error) => Err(Refusal {
-            error,
-            offset: octets.len().saturating_sub(rest.len()),
-            id,
-            steps: Vec::new(alloc),
-            is_cut: false,
-        }),
+        Err(error) => {
+            let offset = octets.len().saturating_sub(rest.len());
+            Err(refusal_at(alloc, wanted, error, offset))
+        }
     }
 }
 
-/// Checks that all of the octets encode one value of the type under the rules. Under DER they are
+/// Checks that all of the octets encode one value of the type under its rules. Under DER they are
 /// then its only encoding (X.690 10).
 ///
 /// # Errors
-/// `Refused` exactly if they don't, `OutOfMemory` if an allocation fails.
-pub fn check(
-    alloc: Global,
-    rule: Codec,
-    schema: &Schema,
-    id: TypeId,
-    octets: &[u8],
-) -> Result<(), ReadError>
-    ensures { MatchResult result (λ _. IsMessage rule schema.now.types.items id.0 octets.now) (IsRefused rule schema.now.types.items id.0 octets.now) }
+/// Memory aside, exactly if they don't: the innermost value that can't be read, or what follows the
+/// value.
+pub fn check(alloc: Global, wanted: &MessageType<'_>, octets: &[u8]) -> Result<(), Refusal>
+    ensures { MatchResult result (λ _. IsMessage wanted.now octets.now) (IsRefused wanted.now octets.now) }
 {
-    match check_or_locate(alloc, rule, schema, id, octets) {
-        Ok(rest) => match refuse_rest(alloc, rule, id, octets, rest) {
-            Ok(()) => Ok(()),
-            Err(refusal) => Err(ReadError::Refused(refusal)),
-        },
-        Err(refusal) => Err(refused(refusal)),
-    }
+    let rest = check_or_locate(alloc, wanted.rule, &wanted.schema, wanted.root, octets)?;
+    refuse_rest(alloc, wanted, octets, rest)
 }
 
-/// Returns the value that all of the octets encode under the rules, as lines, the first of which
-/// has this title.
+/// Returns the value that all of the octets encode under the rules of the type.
 ///
 /// # Errors
-/// `Refused` exactly if there is none, `OutOfMemory` if an allocation fails.
+/// As [`check`].
+fn read_alone<'input>(
+    alloc: Global,
+    wanted: &MessageType<'_>,
+    octets: &'input [u8],
+) -> Result<Value<'input>, Refusal>
+    ensures ok { IfOk result (λ v. IsRead wanted.now octets.now (tree_of v) []) }
+    ensures err { IfErr result (IsRefused wanted.now octets.now) }
+{
+    let (value, rest) = decode_or_locate(alloc, wanted.rule, &wanted.schema, wanted.root, octets)?;
+    refuse_rest(alloc, wanted, octets, rest)?;
+    Ok(value)
+}
+
+/// Returns the value that all of the octets encode under the rules of the type, as lines, the first
+/// of which has the name of the type.
+///
+/// # Errors
+/// As [`check`].
 pub fn show(
     alloc: Global,
     known: &Known,
-    rule: Codec,
-    schema: &Schema,
-    id: TypeId,
-    title: &str,
+    wanted: &MessageType<'_>,
     octets: &[u8],
-) -> Result<String, ReadError>
-    ensures { MatchResult result (λ _. IsMessage rule schema.now.types.items id.0 octets.now) (IsRefused rule schema.now.types.items id.0 octets.now) }
+) -> Result<String, Refusal>
+    ensures { MatchResult result (λ _. IsMessage wanted.now octets.now) (IsRefused wanted.now octets.now) }
 {
-    match decode_or_locate(alloc, rule, schema, id, octets) {
-        Ok((value, rest)) => match refuse_rest(alloc, rule, id, octets, rest) {
-            Ok(()) => match value_text(alloc, known, rule, title, &schema.view(id, &value)) {
-                Ok(text) => Ok(text),
-                Err(_) => Err(ReadError::OutOfMemory),
-            },
-            Err(refusal) => Err(ReadError::Refused(refusal)),
-        },
-        Err(refusal) => Err(refused(refusal)),
+    let value = read_alone(alloc, wanted, octets)?;
+    match value_text(alloc, known, wanted, &value) {
+        Ok(text) => Ok(text),
+        Err(_) => Err(out_of_memory(alloc, wanted)),
     }
 }

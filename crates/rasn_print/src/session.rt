@@ -5,10 +5,10 @@ use crate::dump::dump_text;
 use crate::fault::Fault;
 use crate::input::{form_of, from_hexadecimal, from_line};
 use crate::work::{Answer, Input, Tools, answer_to};
-use rasn_text::{Block, blocks};
-use std::alloc::{AllocError, Global};
+use rasn_text::blocks;
+use std::alloc::AllocError;
 use std::io::{BufRead, Write};
-use std::str;
+use std::{fmt, str};
 
 /// Prints what is to be said of messages.
 #[derive(Drop)]
@@ -27,10 +27,9 @@ impl<W: Write + Drop, E: Write + Drop> Session<'_, '_, W, E> {
     }
 
     /// Writes why a message of the input with this name is refused.
-    fn refuse(&mut self, name: &str, text: &str) -> Result<(), Fault> {
+    fn refuse<T: fmt::Display>(&mut self, name: &str, reason: &T) -> Result<(), Fault> {
         self.is_refused = true;
-        let alloc = self.tools.alloc;
-        let line = format!(in alloc; "{name}: {text}\n")?;
+        let line = format!(in self.tools.alloc; "{name}: {reason}\n")?;
         self.refusals
             .write_all(line.as_bytes())
             .map_err(Fault::of_write)
@@ -52,95 +51,72 @@ impl<W: Write + Drop, E: Write + Drop> Session<'_, '_, W, E> {
     /// As `flush`.
     pub fn input(&mut self, name: &str, octets: &[u8]) -> Result<(), Fault> {
         let alloc = self.tools.alloc;
-        if self.tools.call.work == Work::Encode {
-            return self.message(name, &plain(octets));
-        }
-        match form_of(alloc, self.tools.call.input, octets)? {
+        match form_of(alloc, self.tools.call, octets)? {
             InputForm::Pem => self.pem(name, octets),
             InputForm::Hex => match from_hexadecimal(alloc, octets)? {
-                Some(octets) => self.message(
-                    name,
-                    &Input {
-                        octets: octets.as_slice(),
-                        label: None,
-                        is_text: true,
-                    },
-                ),
-                None => self.refuse(name, "not hexadecimal digits"),
+                Some(octets) => self.message(name, &octets, None, true),
+                None => self.refuse(name, &"not hexadecimal digits"),
             },
-            InputForm::Der => self.message(name, &plain(octets)),
+            InputForm::Der => self.message(name, octets, None, false),
         }
     }
 
     /// Works on the blocks of PEM of an input.
     fn pem(&mut self, name: &str, octets: &[u8]) -> Result<(), Fault> {
-        let list = blocks(self.tools.alloc, octets)?;
+        let alloc = self.tools.alloc;
+        let list = blocks(alloc, octets)?;
         if list.is_empty() {
-            return self.refuse(name, "no line -----BEGIN LABEL-----");
+            return self.refuse(name, &"no line -----BEGIN LABEL-----");
         }
         for block in &list {
-            self.block(name, block)?;
-        }
-        Ok(())
-    }
-
-    /// Works on a block of PEM.
-    fn block(&mut self, name: &str, block: &Block<'_>) -> Result<(), Fault> {
-        let alloc = self.tools.alloc;
-        let label = str::from_utf8(block.label).unwrap_or("?");
-        let line = block.line;
-        let name = format!(in alloc; "{name}: {label} in line {line}")?;
-        match &block.contents {
-            Ok(octets) => self.message(
-                name.as_str(),
-                &Input {
-                    octets,
-                    label: Some(label),
-                    is_text: false,
-                },
-            ),
-            Err(error) => {
-                let text = format!(in alloc; "{error}")?;
-                self.refuse(name.as_str(), text.as_str())
+            let label = str::from_utf8(block.label).unwrap_or("?");
+            let line = block.line;
+            let name = format!(in alloc; "{name}: {label} in line {line}")?;
+            match &block.contents {
+                Ok(octets) => self.message(name.as_str(), octets, Some(label), false)?,
+                Err(error) => self.refuse(name.as_str(), error)?,
             }
         }
-    }
-
-    /// Works on a message.
-    fn message(&mut self, name: &str, input: &Input<'_>) -> Result<(), Fault> {
-        if self.tools.call.work == Work::Dump {
-            return self.dump(name, input.octets);
-        }
-        match answer_to(&self.tools, input)? {
-            Answer::Done(octets) => self.write(&octets),
-            Answer::Departures(lines) => self.departures(name, lines.as_slice()),
-            Answer::Refused(text) => self.refuse(name, text.as_str()),
-        }
-    }
-
-    /// Writes what departs from DER of a message of the input with this name.
-    fn departures(&mut self, name: &str, lines: &[String]) -> Result<(), Fault> {
-        self.is_refused = true;
-        let alloc = self.tools.alloc;
-        for line in lines {
-            let line = format!(in alloc; "{name}: {line}\n")?;
-            self.write(line.as_bytes())?;
-        }
         Ok(())
+    }
+
+    /// Works on a message, which may be in a block of PEM with this label or handed over as text.
+    fn message(
+        &mut self,
+        name: &str,
+        octets: &[u8],
+        label: Option<&str>,
+        is_text: bool,
+    ) -> Result<(), Fault> {
+        if self.tools.call.work == Work::Dump {
+            return self.dump(name, octets);
+        }
+        let input = Input {
+            octets,
+            label,
+            is_text,
+        };
+        match answer_to(&self.tools, &input)? {
+            Answer::Done(octets) => self.write(&octets),
+            Answer::Departures(lines) => {
+                self.is_refused = true;
+                for line in &lines {
+                    writeln!(self.output, "{name}: {line}").map_err(Fault::of_write)?;
+                }
+                Ok(())
+            }
+            Answer::Refused(text) => self.refuse(name, &text),
+        }
     }
 
     /// Prints the encodings of octets.
     fn dump(&mut self, name: &str, octets: &[u8]) -> Result<(), Fault> {
-        let alloc = self.tools.alloc;
-        let (text, fault) = dump_text(alloc, self.tools.known, octets)?;
+        let (text, fault) = dump_text(self.tools.alloc, self.tools.known, octets)?;
         self.write(text.as_bytes())?;
-        if let Some(fault) = fault {
-            let offset = fault.offset;
-            let error = &fault.error;
-            let text = format!(in alloc; "byte {offset}: {error}")?;
-            return self.refuse(name, text.as_str());
+        match fault {
+            Some(fault) => self.refuse(name, &fault),
+            None => Ok(()),
         }
-        Ok(())
     }
 
     /// Works on each line of an input, and prints a line for it. A line that is refused, and an
@@ -152,7 +128,7 @@ impl<W: Write + Drop, E: Write + Drop> Session<'_, '_, W, E> {
         for line in reader.lines(self.tools.alloc) {
             match line {
                 Ok(line) => self.line(&line)?,
-                Err(_) => return self.refuse(name, "cannot read"),
+                Err(_) => return self.refuse(name, &"cannot read"),
             }
         }
         Ok(())
@@ -160,59 +136,28 @@ impl<W: Write + Drop, E: Write + Drop> Session<'_, '_, W, E> {
 
     /// Works on a line: prints its answer, `ok` if that is empty, or why it is refused.
     fn line(&mut self, line: &str) -> Result<(), Fault> {
+        let text = match self.line_answer(line)? {
+            Answer::Done(text) if text.is_empty() => return self.write(b"ok\n"),
+            Answer::Done(text) => return self.write(&text),
+            Answer::Departures(lines) => lines.as_slice().join(self.tools.alloc, "; ")?,
+            Answer::Refused(text) => text,
+        };
+        self.is_refused = true;
+        writeln!(self.output, "{text}").map_err(Fault::of_write)
+    }
+
+    /// Returns what is printed for the octets that a line denotes, or for those of its JSON.
+    fn line_answer(&self, line: &str) -> Result<Answer, AllocError> {
         let alloc = self.tools.alloc;
-        let Some(octets) = octets_of(alloc, self.tools.call.work, line)? else {
-            self.is_refused = true;
-            return self.write(b"neither hexadecimal nor base64\n");
+        let Some(octets) = from_line(alloc, self.tools.call.work, line)? else {
+            let text = String::from_str(alloc, "neither hexadecimal nor base64")?;
+            return Ok(Answer::Refused(text));
         };
         let input = Input {
             octets: octets.as_slice(),
             label: None,
             is_text: true,
         };
-        match answer_to(&self.tools, &input)? {
-            Answer::Done(text) if text.is_empty() => self.write(b"ok\n"),
-            Answer::Done(text) => self.write(&text),
-            Answer::Departures(lines) => {
-                self.is_refused = true;
-                let text = joined(alloc, lines.as_slice())?;
-                self.write(text.as_bytes())
-            }
-            Answer::Refused(text) => {
-                self.is_refused = true;
-                let text = format!(in alloc; "{text}\n")?;
-                self.write(text.as_bytes())
-            }
-        }
+        answer_to(&self.tools, &input)
     }
-}
-
-/// Returns an input as it was handed over.
-fn plain(octets: &[u8]) -> Input<'_> {
-    Input {
-        octets,
-        label: None,
-        is_text: false,
-    }
-}
-
-/// Returns the octets of a line: those that it denotes, or those of its JSON.
-fn octets_of(alloc: Global, work: Work, line: &str) -> Result<Option<Vec<u8>>, AllocError> {
-    if work == Work::Encode {
-        return Ok(Some(Vec::from_slice(alloc, line.as_bytes())?));
-    }
-    from_line(alloc, line)
-}
-
-/// Returns these lines in one, which is ended.
-fn joined(alloc: Global, lines: &[String]) -> Result<String, AllocError> {
-    let mut text = String::new(alloc);
-    for line in lines {
-        if !text.is_empty() {
-            text.push_str("; ")?;
-        }
-        text.push_str(line)?;
-    }
-    text.push('\n')?;
-    Ok(text)
 }

@@ -1,17 +1,14 @@
 //! Types of modules by their names.
 
+use crate::catalog::is_plain_type;
 use crate::messages::rules_of;
-use rasn_compiler::{Assigned, Module, Modules, Resolved, Stop};
+use rasn_compiler::{Modules, Resolved, Stop};
 use rasn_schema::{Schema, TypeId};
 use rasn_types::types::Codec;
 use std::alloc::Global;
 
-/// A type of a module.
-#[derive(Clone, Copy)]
-pub struct NamedType<'text> {
-    pub module: &'text str,
-    pub name: &'text str,
-}
+/// The names of a module and of a type of it.
+pub type NamedType<'text> = (&'text str, &'text str);
 
 /// The type of a message: its schema, and the rules by which it is read.
 #[derive(Drop)]
@@ -20,6 +17,13 @@ pub struct MessageType<'text> {
     pub rule: Codec,
     pub schema: Schema,
     pub root: TypeId,
+}
+
+impl MessageType<'_> {
+    /// Returns its rules, its schema and the number that it has there.
+    pub(crate) fn parts(&self) -> (Codec, &Schema, TypeId) {
+        (self.rule, &self.schema, self.root)
+    }
 }
 
 /// Returns a type with these rules, or with those of its standard.
@@ -32,7 +36,7 @@ pub fn message_type<'text>(
     named: NamedType<'text>,
     rules: Option<Codec>,
 ) -> Result<MessageType<'text>, Stop<'text>> {
-    let NamedType { module, name } = named;
+    let (module, name) = named;
     let Resolved { schema, root, .. } = read.schema(alloc, module, name)?;
     Ok(MessageType {
         name,
@@ -44,31 +48,12 @@ pub fn message_type<'text>(
 
 /// Returns the type that a name means: `MODULE.TYPE`, or the first type of this name.
 pub fn type_named<'text>(read: &Modules<'text>, name: &str) -> Option<NamedType<'text>> {
-    let (module_name, type_name) = match name.split_once('.') {
-        Some((module, name)) => (Some(module), name),
-        None => (None, name),
-    };
+    let (wanted, type_name) = name.split_once('.').unwrap_or(("", name));
     for module in &read.modules {
-        if module_name.is_some_and(|wanted| wanted != module.name) {
-            continue;
-        }
-        if let Some(found) = type_in(module, type_name) {
-            return Some(found);
-        }
-    }
-    None
-}
-
-/// Returns the type of a module with this name.
-fn type_in<'text>(module: &Module<'text>, name: &str) -> Option<NamedType<'text>> {
-    for assignment in &module.assignments {
-        if assignment.name == name && assignment.parameters.is_none() {
-            if let Assigned::Type(_) = assignment.assigned {
-                return Some(NamedType {
-                    module: module.name,
-                    name: assignment.name,
-                });
-            }
+        let is_wanted = wanted.is_empty() || wanted == module.name;
+        let mut types = module.assignments.iter().filter(|it| is_plain_type(it));
+        if let Some(found) = types.find(|it| is_wanted && it.name == type_name) {
+            return Some((module.name, found.name));
         }
     }
     None

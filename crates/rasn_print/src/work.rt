@@ -1,23 +1,20 @@
 //! What is done with each message.
 
 use crate::command_line::{Call, Work};
-use crate::conversion::{encode_answer, json_answer};
 use crate::known::Known;
 use crate::messages::{MESSAGES, type_of_label};
 use crate::offsets::offsets_text;
-use crate::reading::{ReadError, check, show};
+use crate::reading::{check, show};
 use crate::types::{MessageType, NamedType, message_type};
 use base64::engine::general_purpose::STANDARD;
 use rasn_compiler::{Modules, Stop};
-use rasn_dynamic::{Refusal, normalise};
-use rasn_lint::{Departure, LintError, OpenTypes, check as check_der, lint};
+use rasn_dynamic::{NormaliseError, Refusal, normalise};
+use rasn_json::{ToJsonError, encode, json};
+use rasn_lint::{Departure, LintError, check as check_der, lint};
+use rasn_types::error::DecodeError;
 use rasn_types::types::{Codec, Hexadecimal};
 use std::alloc::{AllocError, Global};
-
-/// What makes text bold on a terminal, and what ends it (ECMA-48 8.3.117).
-const BOLD: &str = "\x1b[1m";
-
-const PLAIN: &str = "\x1b[0m";
+use std::{fmt, str};
 
 /// What every message is worked on with.
 #[derive(Clone, Copy)]
@@ -53,6 +50,9 @@ pub enum Answer {
     Refused(String),
 }
 
+/// What is printed, unless memory runs out.
+type Answered = Result<Answer, AllocError>;
+
 /// Returns what is printed for a message: of the type that is asked for, or that its label names,
 /// or of the first of the messages of standards that it is.
 ///
@@ -62,170 +62,183 @@ pub fn answer_to(tools: &Tools<'_, '_>, input: &Input<'_>) -> Result<Answer, All
     if let Some(wanted) = tools.wanted {
         return answer_by(tools, wanted, input);
     }
-    if let Some(label) = input.label {
-        if let Some(named) = type_of_label(label) {
-            return answer_as(tools, named, input);
-        }
+    match type_of_label(input.label.unwrap_or("")) {
+        Some(named) => answer_as(tools, named, input),
+        None => answer_by_trial(tools, input),
     }
-    answer_by_trial(tools, input)
 }
 
 /// Returns what is printed for a message of the first type that it is of.
-fn answer_by_trial(tools: &Tools<'_, '_>, input: &Input<'_>) -> Result<Answer, AllocError> {
-    let mut tried = String::new(tools.alloc);
-    for (module, name) in MESSAGES {
-        match answer_as(tools, NamedType { module, name }, input)? {
+fn answer_by_trial(tools: &Tools<'_, '_>, input: &Input<'_>) -> Answered {
+    let mut tried = Vec::new(tools.alloc);
+    for named in MESSAGES {
+        match answer_as(tools, *named, input)? {
             Answer::Refused(_) => {}
             answer => return Ok(answer),
         }
-        if !tried.is_empty() {
-            tried.push_str(", ")?;
-        }
-        tried.push_str(name)?;
+        tried.push(named.1)?;
     }
+    let tried = tried.as_slice().join(tools.alloc, ", ")?;
     Ok(Answer::Refused(format!(in tools.alloc;
         "none of the messages that are known: {tried}; --type names another type, and dump shows any BER"
     )?))
 }
 
 /// Returns what is printed for a message of this type of the modules.
-fn answer_as(
-    tools: &Tools<'_, '_>,
-    named: NamedType<'static>,
-    input: &Input<'_>,
-) -> Result<Answer, AllocError> {
-    let alloc = tools.alloc;
-    match message_type(alloc, tools.read, named, tools.call.rules) {
+fn answer_as(tools: &Tools<'_, '_>, named: NamedType<'static>, input: &Input<'_>) -> Answered {
+    match message_type(tools.alloc, tools.read, named, tools.call.rules) {
         Ok(found) => answer_by(tools, &found, input),
         Err(Stop::OutOfMemory) => Err(AllocError),
-        Err(stop) => Ok(Answer::Refused(format!(in alloc; "{stop}")?)),
+        Err(stop) => refused_for(tools.alloc, false, &stop),
     }
 }
 
 /// Returns what is printed for a message of this type.
-fn answer_by(
-    tools: &Tools<'_, '_>,
-    wanted: &MessageType<'_>,
-    input: &Input<'_>,
-) -> Result<Answer, AllocError> {
+fn answer_by(tools: &Tools<'_, '_>, wanted: &MessageType<'_>, input: &Input<'_>) -> Answered {
+    let message = Message {
+        tools,
+        wanted,
+        input,
+        octets: input.octets,
+        alloc: tools.alloc,
+        call: tools.call,
+    };
     match tools.call.work {
-        Work::Normalise => normalised(tools.alloc, wanted, input),
-        Work::Lint => linted(tools, wanted, input.octets),
-        Work::Json => json_answer(tools, wanted, input.octets),
-        Work::Encode => encode_answer(tools, wanted, input.octets),
-        Work::Check if wanted.rule == Codec::Der => checked(tools, wanted, input.octets),
-        _ => match text_of(tools, wanted, input.octets) {
-            Ok(text) if tools.is_colored => {
-                Ok(Answer::Done(colored(tools.alloc, text.as_str())?.into_bytes()))
+        Work::Normalise => message.normalised(),
+        Work::Lint => message.linted(),
+        Work::Json => message.json(),
+        Work::Encode => message.encoded(),
+        Work::Check if wanted.rule == Codec::Der => message.checked(),
+        _ => message.shown(),
+    }
+}
+
+/// Returns the refusal for this reason, unless that is that memory ran out.
+fn refused_for<T: fmt::Display>(alloc: Global, is_out_of_memory: bool, reason: &T) -> Answered {
+    if is_out_of_memory {
+        return Err(AllocError);
+    }
+    Ok(Answer::Refused(reason.to_string(alloc)?))
+}
+
+/// A message that is worked on, with its type.
+#[derive(Clone, Copy)]
+struct Message<'m, 'a, 'text> {
+    alloc: Global,
+    call: &'m Call,
+    tools: &'m Tools<'a, 'text>,
+    wanted: &'m MessageType<'text>,
+    input: &'m Input<'m>,
+    octets: &'m [u8],
+}
+
+impl Message<'_, '_, '_> {
+    /// Returns why it is refused.
+    fn refused(&self, refusal: &Refusal) -> Answered {
+        let shown = refusal.with_names(&self.wanted.schema, self.wanted.root);
+        refused_for(self.alloc, refusal.error.is_out_of_memory(), &shown)
+    }
+
+    /// Returns why it can't be read, with the place, for which it is read again.
+    fn unread(&self, error: &DecodeError) -> Answered {
+        match check(self.alloc, self.wanted, self.octets) {
+            Ok(()) => refused_for(self.alloc, error.is_out_of_memory(), error),
+            Err(refusal) => self.refused(&refusal),
+        }
+    }
+
+    /// Returns nothing for a message of DER, and else what is to be mended first. Inside an open
+    /// type the path goes on by indices.
+    fn checked(&self) -> Answered {
+        let (_, schema, root) = self.wanted.parts();
+        match check_der(self.alloc, schema, root, self.octets, self.call.open_types) {
+            Ok(()) => Ok(Answer::Done(Vec::new(self.alloc))),
+            Err(departure) => {
+                let shown = departure.place_with_names(schema, root);
+                let error = &departure.refusal.error;
+                refused_for(self.alloc, error.is_out_of_memory(), &shown)
+            }
+        }
+    }
+
+    /// Returns everything of a message of BER that departs from DER: a line for each departure.
+    fn linted(&self) -> Answered {
+        let (_, schema, root) = self.wanted.parts();
+        match lint(self.alloc, schema, root, self.octets, self.call.open_types) {
+            Ok(list) if list.is_empty() => Ok(Answer::Done(Vec::new(self.alloc))),
+            Ok(list) => self.departures(list.as_slice()),
+            Err(LintError::OutOfMemory) => Err(AllocError),
+            Err(LintError::Refused(refusal)) => self.refused(&refusal),
+            Err(error) => refused_for(self.alloc, false, &error),
+        }
+    }
+
+    /// Returns a line for each departure.
+    fn departures(&self, list: &[Departure]) -> Answered {
+        let mut lines = Vec::new(self.alloc);
+        for departure in list {
+            let shown = departure.with_names(&self.wanted.schema, self.wanted.root);
+            lines.push(shown.to_string(self.alloc)?)?;
+        }
+        Ok(Answer::Departures(lines))
+    }
+
+    /// Returns its text, in colour if that is asked for.
+    fn shown(&self) -> Answered {
+        match self.text() {
+            Ok(text) if self.tools.is_colored => {
+                Ok(Answer::Done(colored(self.alloc, text.as_str())?.into_bytes()))
             }
             Ok(text) => Ok(Answer::Done(text.into_bytes())),
-            Err(ReadError::OutOfMemory) => Err(AllocError),
-            Err(ReadError::Refused(refusal)) => refusal_answer(tools.alloc, wanted, &refusal),
-        },
+            Err(refusal) => self.refused(&refusal),
+        }
     }
-}
 
-/// Returns why a message of this type is refused.
-pub(crate) fn refusal_answer(
-    alloc: Global,
-    wanted: &MessageType<'_>,
-    refusal: &Refusal,
-) -> Result<Answer, AllocError> {
-    if refusal.error.is_out_of_memory() {
-        return Err(AllocError);
+    /// Returns it as text or the parts of it, or no text if it is only checked.
+    fn text(&self) -> Result<String, Refusal> {
+        let call = self.call;
+        if call.work == Work::Show && !call.has_offsets {
+            return show(self.alloc, self.tools.known, self.wanted, self.octets);
+        }
+        check(self.alloc, self.wanted, self.octets)?;
+        if call.work == Work::Show {
+            return offsets_text(self.alloc, self.wanted, self.octets);
+        }
+        Ok(String::new(self.alloc))
     }
-    let shown = refusal.with_names(&wanted.schema, wanted.root);
-    Ok(Answer::Refused(format!(in alloc; "{shown}")?))
-}
 
-/// Returns whether a call looks into open types.
-fn open_types(call: &Call) -> OpenTypes {
-    if call.is_outer {
-        OpenTypes::Unexamined
-    } else {
-        OpenTypes::Examined
+    /// Returns it as JSON: in one line if a line holds a message.
+    fn json(&self) -> Answered {
+        let (alloc, octets, layout) = (self.alloc, self.octets, self.call.layout());
+        let (rule, schema, root) = self.wanted.parts();
+        match json(alloc, rule, schema, root, octets, layout) {
+            Ok(text) => Ok(Answer::Done(format!(in alloc; "{text}\n")?.into_bytes())),
+            Err(ToJsonError::Decode(error)) => self.unread(&error),
+            Err(ToJsonError::Json(error)) => refused_for(alloc, error.is_out_of_memory(), &error),
+        }
     }
-}
 
-/// Returns nothing for a message of DER, and else what is to be mended first.
-fn checked(
-    tools: &Tools<'_, '_>,
-    wanted: &MessageType<'_>,
-    octets: &[u8],
-) -> Result<Answer, AllocError> {
-    let (alloc, opens) = (tools.alloc, open_types(tools.call));
-    match check_der(alloc, &wanted.schema, wanted.root, octets, opens) {
-        Ok(()) => Ok(Answer::Done(Vec::new(alloc))),
-        Err(departure) => departed(alloc, wanted, &departure),
+    /// Returns the octets of the message whose JSON is read.
+    fn encoded(&self) -> Answered {
+        let (alloc, wanted) = (self.alloc, self.wanted);
+        let Ok(text) = str::from_utf8(self.octets) else {
+            return refused_for(alloc, false, &"not UTF-8");
+        };
+        match encode(alloc, wanted.rule, &wanted.schema, wanted.root, text) {
+            Ok(octets) => in_form(alloc, self.input, octets),
+            Err(error) => refused_for(alloc, error.is_out_of_memory(), &error),
+        }
     }
-}
 
-/// Returns what is to be mended first. Inside an open type the path goes on by indices.
-fn departed(
-    alloc: Global,
-    wanted: &MessageType<'_>,
-    departure: &Departure,
-) -> Result<Answer, AllocError> {
-    if departure.refusal.error.is_out_of_memory() {
-        return Err(AllocError);
+    /// Returns its DER octets.
+    fn normalised(&self) -> Answered {
+        let (alloc, wanted) = (self.alloc, self.wanted);
+        match normalise(alloc, wanted.rule, &wanted.schema, wanted.root, self.octets) {
+            Ok(octets) => in_form(alloc, self.input, octets),
+            Err(NormaliseError::Decode(error)) => self.unread(&error),
+            Err(error) => refused_for(alloc, error.is_out_of_memory(), &error),
+        }
     }
-    let shown = departure.place_with_names(&wanted.schema, wanted.root);
-    Ok(Answer::Refused(format!(in alloc; "{shown}")?))
-}
-
-/// Returns everything of a message of BER that departs from DER.
-fn linted(
-    tools: &Tools<'_, '_>,
-    wanted: &MessageType<'_>,
-    octets: &[u8],
-) -> Result<Answer, AllocError> {
-    let (alloc, opens) = (tools.alloc, open_types(tools.call));
-    match lint(alloc, &wanted.schema, wanted.root, octets, opens) {
-        Ok(list) => departures(alloc, wanted, list.as_slice()),
-        Err(LintError::OutOfMemory) => Err(AllocError),
-        Err(LintError::Refused(refusal)) => refusal_answer(alloc, wanted, &refusal),
-        Err(error) => Ok(Answer::Refused(format!(in alloc; "{error}")?)),
-    }
-}
-
-/// Returns a line for each departure, if there are any.
-fn departures(
-    alloc: Global,
-    wanted: &MessageType<'_>,
-    list: &[Departure],
-) -> Result<Answer, AllocError> {
-    if list.is_empty() {
-        return Ok(Answer::Done(Vec::new(alloc)));
-    }
-    let mut lines = Vec::new(alloc);
-    for departure in list {
-        let shown = departure.with_names(&wanted.schema, wanted.root);
-        lines.push(format!(in alloc; "{shown}")?)?;
-    }
-    Ok(Answer::Departures(lines))
-}
-
-/// Returns a message as text or the parts of it, or no text if it is only checked.
-fn text_of(
-    tools: &Tools<'_, '_>,
-    wanted: &MessageType<'_>,
-    octets: &[u8],
-) -> Result<String, ReadError> {
-    let Tools {
-        alloc,
-        call,
-        known,
-        ..
-    } = *tools;
-    let (rule, schema, root) = (wanted.rule, &wanted.schema, wanted.root);
-    if call.work == Work::Show && !call.has_offsets {
-        return show(alloc, known, rule, schema, root, wanted.name, octets);
-    }
-    check(alloc, rule, schema, root, octets)?;
-    if call.work == Work::Show {
-        return offsets_text(alloc, rule, schema, root, wanted.name, octets);
-    }
-    Ok(String::new(alloc))
 }
 
 /// Returns a text in which the name that begins each line is in bold (ECMA-48 8.3.117).
@@ -233,55 +246,38 @@ fn colored(alloc: Global, text: &str) -> Result<String, AllocError> {
     let mut shown = String::new(alloc);
     for line in text.lines() {
         match line.split_once(": ") {
-            Some((name, value)) => writeln!(shown, "{BOLD}{name}{PLAIN}: {value}")?,
-            None => writeln!(shown, "{BOLD}{line}{PLAIN}")?,
+            Some((name, value)) => writeln!(shown, "\x1b[1m{name}\x1b[0m: {value}")?,
+            None => writeln!(shown, "\x1b[1m{line}\x1b[0m")?,
         }
     }
     Ok(shown)
 }
 
-/// Returns the DER octets of a message, in the form in which it was handed over.
-fn normalised(
-    alloc: Global,
-    wanted: &MessageType<'_>,
-    input: &Input<'_>,
-) -> Result<Answer, AllocError> {
-    let (rule, schema, root) = (wanted.rule, &wanted.schema, wanted.root);
-    match check(alloc, rule, schema, root, input.octets) {
-        Ok(()) => {}
-        Err(ReadError::OutOfMemory) => return Err(AllocError),
-        Err(ReadError::Refused(refusal)) => return refusal_answer(alloc, wanted, &refusal),
-    }
-    match normalise(alloc, rule, schema, root, input.octets) {
-        Ok(octets) => Ok(Answer::Done(in_form(alloc, input, octets)?)),
-        Err(error) if error.is_out_of_memory() => Err(AllocError),
-        Err(error) => Ok(Answer::Refused(format!(in alloc; "{error}")?)),
-    }
+/// Returns octets in the form of an input: as a block of PEM (RFC 7468 2), a line of hexadecimal
+/// digits, or as they are.
+fn in_form(alloc: Global, input: &Input<'_>, octets: Vec<u8>) -> Answered {
+    let text = match input.label {
+        Some(label) => {
+            let lines = base64_lines(alloc, &octets)?;
+            format!(in alloc; "-----BEGIN {label}-----\n{lines}\n-----END {label}-----\n")?
+        }
+        None if input.is_text => {
+            let shown = Hexadecimal::new(&octets);
+            format!(in alloc; "{shown}\n")?
+        }
+        None => return Ok(Answer::Done(octets)),
+    };
+    Ok(Answer::Done(text.into_bytes()))
 }
 
-/// Returns octets in the form of an input: as a block of PEM, a line of hexadecimal digits, or as
-/// they are.
-fn in_form(alloc: Global, input: &Input<'_>, octets: Vec<u8>) -> Result<Vec<u8>, AllocError> {
-    if let Some(label) = input.label {
-        return Ok(pem_text(alloc, label, &octets)?.into_bytes());
-    }
-    if input.is_text {
-        let shown = Hexadecimal::new(&octets);
-        return Ok(format!(in alloc; "{shown}\n")?.into_bytes());
-    }
-    Ok(octets)
-}
-
-/// Returns a block of PEM (RFC 7468 2).
-fn pem_text(alloc: Global, label: &str, octets: &[u8]) -> Result<String, AllocError> {
-    let symbols = STANDARD.encode(alloc, octets)?;
-    let mut text = format!(in alloc; "-----BEGIN {label}-----\n")?;
-    for (index, symbol) in symbols.chars().enumerate() {
+/// Returns octets in base64, with 64 symbols in each line but the last.
+fn base64_lines(alloc: Global, octets: &[u8]) -> Result<String, AllocError> {
+    let mut text = String::new(alloc);
+    for (index, symbol) in STANDARD.encode(alloc, octets)?.chars().enumerate() {
         if index > 0 && index % 64 == 0 {
             text.push('\n')?;
         }
         text.push(symbol)?;
     }
-    write!(text, "\n-----END {label}-----\n")?;
     Ok(text)
 }

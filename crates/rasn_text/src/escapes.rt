@@ -5,8 +5,13 @@ ghost use Rattle.rasn_text.specs.Escapes.{written, escaped, octet_digits, octets
 
 use std::alloc::AllocError;
 
-/// Appends the characters of a value, with escapes.
-pub(crate) fn push_escaped(text: &mut String, value: &str) -> Result<(), AllocError>
+/// Appends the characters of a value, with escapes (RFC 4514, 2.4): a backslash precedes each
+/// character that has a meaning of its own in names, and the hexadecimal digits of a control
+/// character of ASCII.
+///
+/// # Errors
+/// If an allocation fails.
+pub fn push_escaped(text: &mut String, value: &str) -> Result<(), AllocError>
     ensures { OnOk result (string_bytes text.new ≡ string_bytes text.old ++ escaped (chars value.now)) }
 {
     let mut is_first = true;

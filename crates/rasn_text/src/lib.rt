@@ -8,6 +8,8 @@ mod name;
 mod pem;
 mod short_names;
 
+pub use escapes::push_escaped;
 pub use laws::worked_names;
 pub use name::name_text;
 pub use pem::{Block, PemError, blocks, line_start};
+pub use short_names::short_name;

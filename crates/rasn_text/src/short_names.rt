@@ -3,7 +3,7 @@ ghost use Rattle.std.specs.Prelude.{MatchOption};
 ghost use Rattle.rasn_text.specs.ShortNames.{IsShortName, HasNoShortName};
 
 /// Returns the short name of an attribute type, if the table has one.
-pub(crate) fn short_name(kind: &[u32]) -> Option<&'static str>
+pub fn short_name(kind: &[u32]) -> Option<&'static str>
     ensures { MatchOption result (HasNoShortName kind.now) (λ name. IsShortName kind.now name.now) }
 {
     match kind {
