@@ -103,14 +103,7 @@ fn answer_by(tools: &Tools<'_, '_>, wanted: &MessageType<'_>, input: &Input<'_>)
         alloc: tools.alloc,
         call: tools.call,
     };
-    match tools.call.work {
-        Work::Normalise => message.normalised(),
-        Work::Lint => message.linted(),
-        Work::Json => message.json(),
-        Work::Encode => message.encoded(),
-        Work::Check if wanted.rule == Codec::Der => message.checked(),
-        _ => message.shown(),
-    }
+    message.answer()
 }
 
 /// Returns the refusal for this reason, unless that is that memory ran out.
@@ -133,6 +126,18 @@ struct Message<'m, 'a, 'text> {
 }
 
 impl Message<'_, '_, '_> {
+    /// Returns what is printed for the message.
+    fn answer(&self) -> Answered {
+        match self.call.work {
+            Work::Normalise => self.normalised(),
+            Work::Lint => self.linted(),
+            Work::Json => self.json(),
+            Work::Encode => self.encoded(),
+            Work::Check if self.wanted.rule == Codec::Der => self.checked(),
+            _ => self.shown(),
+        }
+    }
+
     /// Returns why it is refused.
     fn refused(&self, refusal: &Refusal) -> Answered {
         let shown = refusal.with_names(&self.wanted.schema, self.wanted.root);
