@@ -79,72 +79,88 @@ pub fn command<'a>(alloc: Global) -> Result<Command<'a>, AllocError> {
         .version("0.31.0")
         .about("Shows, checks and converts messages of ASN.1 in BER, CER and DER")
         .subcommand_required(true)
-        .subcommand(
-            messages(alloc, "show", "Prints messages as text with names")?
-                .arg(rules(alloc))?
-                .arg(flag(
-                    alloc,
-                    "offsets",
-                    "Prints where each part begins, and its lengths",
-                ))?
-                .after_help("Example: soqavise show cert.pem"),
-        )?
-        .subcommand(
-            messages(
-                alloc,
-                "check",
-                "Prints nothing, or where a message is refused and why",
-            )?
-            .arg(rules(alloc))?
-            .arg(outer(alloc))?
-            .after_help("Example: soqavise check --type Certificate *.der"),
-        )?
-        .subcommand(
-            messages(
-                alloc,
-                "lint",
-                "Prints everything of messages of BER that departs from DER",
-            )?
-            .arg(outer(alloc))?
-            .after_help("Example: soqavise lint --type Certificate message.ber"),
-        )?
-        .subcommand(
-            messages(alloc, "json", "Prints messages as JSON (X.697)")?
-                .arg(rules(alloc))?
-                .after_help("Example: soqavise json cert.pem"),
-        )?
-        .subcommand(
-            Command::new(alloc, "encode")
-                .about("Writes the messages whose JSON is read")
-                .arg(modules(alloc))?
-                .arg(type_name(alloc).required(true))?
-                .arg(rules(alloc))?
-                .arg(flag(
-                    alloc,
-                    "lines",
-                    "Reads the JSON of a message from each line, and writes hexadecimal digits",
-                ))?
-                .arg(files(alloc))?
-                .after_help("Example: soqavise encode --type Certificate cert.json"),
-        )?
-        .subcommand(
-            messages(alloc, "normalise", "Writes messages of BER or CER as DER")?
-                .arg(rules(alloc))?
-                .after_help("Example: soqavise normalise --type LDAPMessage message.ber"),
-        )?
-        .subcommand(
-            Command::new(alloc, "types")
-                .about("Prints the types that are known, and what of them isn't checked")
-                .arg(modules(alloc))?
-                .after_help("Example: soqavise types --module My.asn1"),
-        )?
-        .subcommand(
-            Command::new(alloc, "dump")
-                .about("Prints headers, lengths and strings of any BER, without a type")
-                .arg(input(alloc))?
-                .arg(files(alloc))?
-                .after_help("Example: soqavise dump message.ber"),
-        )
+        .subcommand(show_command(alloc)?)?
+        .subcommand(check_command(alloc)?)?
+        .subcommand(lint_command(alloc)?)?
+        .subcommand(json_command(alloc)?)?
+        .subcommand(encode_command(alloc)?)?
+        .subcommand(normalise_command(alloc)?)?
+        .subcommand(types_command(alloc)?)?
+        .subcommand(dump_command(alloc)?)
+}
+
+fn show_command<'a>(alloc: Global) -> Result<Command<'a>, AllocError> {
+    messages(alloc, "show", "Prints messages as text with names")?
+        .after_help("Example: soqavise show cert.pem")
+        .arg(rules(alloc))?
+        .arg(flag(
+            alloc,
+            "offsets",
+            "Prints where each part begins, and its lengths",
+        ))
+}
+
+fn check_command<'a>(alloc: Global) -> Result<Command<'a>, AllocError> {
+    messages(
+        alloc,
+        "check",
+        "Prints nothing, or where a message is refused and why",
+    )?
+    .after_help("Example: soqavise check --type Certificate *.der")
+    .arg(rules(alloc))?
+    .arg(outer(alloc))
+}
+
+fn lint_command<'a>(alloc: Global) -> Result<Command<'a>, AllocError> {
+    messages(
+        alloc,
+        "lint",
+        "Prints everything of messages of BER that departs from DER",
+    )?
+    .after_help("Example: soqavise lint --type Certificate message.ber")
+    .arg(outer(alloc))
+}
+
+fn json_command<'a>(alloc: Global) -> Result<Command<'a>, AllocError> {
+    messages(alloc, "json", "Prints messages as JSON (X.697)")?
+        .after_help("Example: soqavise json cert.pem")
+        .arg(rules(alloc))
+}
+
+fn encode_command<'a>(alloc: Global) -> Result<Command<'a>, AllocError> {
+    Command::new(alloc, "encode")
+        .about("Writes the messages whose JSON is read")
+        .after_help("Example: soqavise encode --type Certificate cert.json")
+        .arg(modules(alloc))?
+        .arg(type_name(alloc).required(true))?
+        .arg(rules(alloc))?
+        .arg(flag(
+            alloc,
+            "lines",
+            "Reads the JSON of a message from each line, and writes hexadecimal digits",
+        ))?
+        .arg(files(alloc))
+}
+
+fn normalise_command<'a>(alloc: Global) -> Result<Command<'a>, AllocError> {
+    messages(alloc, "normalise", "Writes messages of BER or CER as DER")?
+        .after_help("Example: soqavise normalise --type LDAPMessage message.ber")
+        .arg(rules(alloc))
+}
+
+fn types_command<'a>(alloc: Global) -> Result<Command<'a>, AllocError> {
+    Command::new(alloc, "types")
+        .about("Prints the types that are known, and what of them isn't checked")
+        .after_help("Example: soqavise types --module My.asn1")
+        .arg(modules(alloc))
+}
+
+fn dump_command<'a>(alloc: Global) -> Result<Command<'a>, AllocError> {
+    Command::new(alloc, "dump")
+        .about("Prints headers, lengths and strings of any BER, without a type")
+        .after_help("Example: soqavise dump message.ber")
+        .arg(input(alloc))?
+        .arg(files(alloc))
 }
 
 /// Returns a command on messages.
