@@ -96,12 +96,13 @@ fn answer_as(tools: &Tools<'_, '_>, named: NamedType<'static>, input: &Input<'_>
 /// Returns what is printed for a message of this type.
 fn answer_by(tools: &Tools<'_, '_>, wanted: &MessageType<'_>, input: &Input<'_>) -> Answered {
     let message = Message {
-        tools,
+        alloc: tools.alloc,
+        call: tools.call,
+        known: tools.known,
+        is_colored: tools.is_colored,
         wanted,
         input,
         octets: input.octets,
-        alloc: tools.alloc,
-        call: tools.call,
     };
     message.answer()
 }
@@ -116,17 +117,18 @@ fn refused_for<T: fmt::Display>(alloc: Global, is_out_of_memory: bool, reason: &
 
 /// A message that is worked on, with its type.
 #[derive(Clone, Copy)]
-struct Message<'m, 'a, 'text> {
+struct Message<'m, 'text, 'input> {
     alloc: Global,
     call: &'m Call,
-    tools: &'m Tools<'a, 'text>,
+    known: &'m Known,
+    is_colored: bool,
     wanted: &'m MessageType<'text>,
-    input: &'m Input<'m>,
-    octets: &'m [u8],
+    input: &'m Input<'input>,
+    octets: &'input [u8],
 }
 
 impl Message<'_, '_, '_> {
-    /// Returns what is printed for the message.
+    /// Returns what is printed for it.
     fn answer(&self) -> Answered {
         match self.call.work {
             Work::Normalise => self.normalised(),
@@ -191,7 +193,7 @@ impl Message<'_, '_, '_> {
     /// Returns its text, in colour if that is asked for.
     fn shown(&self) -> Answered {
         match self.text() {
-            Ok(text) if self.tools.is_colored => {
+            Ok(text) if self.is_colored => {
                 Ok(Answer::Done(colored(self.alloc, text.as_str())?.into_bytes()))
             }
             Ok(text) => Ok(Answer::Done(text.into_bytes())),
@@ -203,7 +205,7 @@ impl Message<'_, '_, '_> {
     fn text(&self) -> Result<String, Refusal> {
         let call = self.call;
         if call.work == Work::Show && !call.has_offsets {
-            return show(self.alloc, self.tools.known, self.wanted, self.octets);
+            return show(self.alloc, self.known, self.wanted, self.octets);
         }
         check(self.alloc, self.wanted, self.octets)?;
         if call.work == Work::Show {
