@@ -92,6 +92,8 @@ impl FirstTags for @Name@ {
 struct Branch<'schema> {
     /// Its name in the notation.
     name: &'schema str,
+    /// Why it is an open type, if it is.
+    reason: &'static str,
     /// The name of its variant.
     variant: String,
     /// Its type.
@@ -177,6 +179,7 @@ impl<'schema> Plan<'schema> {
         };
         Ok(Branch {
             name: alternative.name.as_str(),
+            reason: self.leads_back(id, alternative.type_id)?,
             variant,
             expression: self.expression(id, alternative.type_id)?,
             is_unknown,
@@ -224,6 +227,7 @@ impl<'schema> Plan<'schema> {
         let ty = branch.expression.as_str();
         let notation = self.part_notation(id, branch.name)?;
         texts.variants.push_str(notation.as_str())?;
+        texts.variants.push_str(branch.reason)?;
         texts
             .variants
             .push_str(format!(in self.alloc; "    {variant}({ty}),\n")?.as_str())?;

@@ -1,7 +1,7 @@
 //! A type with a constraint as a struct of one field.
 use crate::expression::word;
 use crate::layout::is_short;
-use crate::names::{Plan, inner_of};
+use crate::names::{Plan, constraints_of, inner_of};
 use crate::notation::tag_use;
 use crate::template::filled;
 use rasn_schema::{LeafKind, Type};
@@ -236,12 +236,7 @@ impl Plan<'_> {
 
     /// Returns the constraints of a type.
     fn bounds_of(&self, ty: &Type) -> Result<BoundTexts, AllocError> {
-        let constraints = match ty {
-            Type::Leaf { constraints, .. }
-            | Type::SequenceOf { constraints, .. }
-            | Type::SetOf { constraints, .. } => *constraints,
-            _ => Constraints::NONE,
-        };
+        let constraints = constraints_of(ty);
         if constraints == Constraints::NONE {
             return Ok(BoundTexts {
                 term: String::from_str(self.alloc, "record { value = None; size = None }")?,

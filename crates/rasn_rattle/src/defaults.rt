@@ -1,11 +1,11 @@
 //! Defaults of components (X.680 25.8).
-use crate::expression::integer_word;
+use crate::expression::word;
 use crate::laws::is_alias;
 use crate::layout::is_short;
 use crate::names::{Plan, has_file};
 use crate::template::filled;
 use crate::words::{camel, variant};
-use rasn_schema::{Component, LeafKind, Presence, Type, Value, name_of_number};
+use rasn_schema::{Component, LeafKind, NamedNumber, Presence, Type, Value, name_of_number};
 use rasn_types::types::{Class, Tag};
 use std::alloc::{AllocError, Global};
 
@@ -110,20 +110,18 @@ impl Plan<'_> {
 
     /// Returns a number as a value of a type.
     fn plain_value(&self, id: usize, number: i128) -> Result<Option<String>, AllocError> {
-        let text = match self.type_of(id) {
+        let ty = self.type_of(id);
+        let text = match ty {
             Type::Leaf {
                 kind: LeafKind::Boolean,
                 ..
             } => { String::from_str(self.alloc, if number == 0 { "false" } else { "true" })? }
             Type::Leaf {
                 kind: LeafKind::Integer,
-                constraints,
                 ..
-            } if integer_word(constraints).0 != "Integer" => format!(in self.alloc; "{number}")?,
-            Type::Leaf {
-                kind: LeafKind::Integer,
-                ..
-            } => { format!(in self.alloc; "Integer::from_i128(alloc, {number})?")? }
+            } if word(ty, ty.tag()) == "Integer" => {
+                format!(in self.alloc; "Integer::from_i128(alloc, {number})?")?
+            }
             Type::Leaf {
                 kind: LeafKind::Signed64,
                 names,
@@ -131,29 +129,30 @@ impl Plan<'_> {
             } if !names.is_empty() => {
                 format!(in self.alloc; "Extensible::from_number({number})")?
             }
-            Type::Leaf {
-                kind: LeafKind::Signed32 | LeafKind::Signed64,
-                ..
-            } => { format!(in self.alloc; "{number}")? }
-            Type::Leaf {
-                kind: LeafKind::Unsigned32 | LeafKind::Unsigned64,
-                ..
-            } => { format!(in self.alloc; "{number}")? }
-            Type::Enumerated { numbers, .. } => {
-                let Ok(number) = isize::try_from(number) else {
-                    return Ok(None);
-                };
-                let Some(name) = name_of_number(numbers, number) else {
-                    return Ok(None);
-                };
-                let variant = variant(self.alloc, name)?;
-                let (ty, _file) = self.names_of(id);
-                let variant = variant.as_str();
-                format!(in self.alloc; "{ty}::{variant}")?
-            }
+            Type::Leaf { kind, .. } if is_number(*kind) => format!(in self.alloc; "{number}")?,
+            Type::Enumerated { numbers, .. } => return self.enumerated_value(id, numbers, number),
             _ => return Ok(None),
         };
         Ok(Some(text))
+    }
+
+    /// Returns the variant with a number.
+    fn enumerated_value(
+        &self,
+        id: usize,
+        numbers: &[NamedNumber],
+        number: i128,
+    ) -> Result<Option<String>, AllocError> {
+        let Ok(number) = isize::try_from(number) else {
+            return Ok(None);
+        };
+        let Some(name) = name_of_number(numbers, number) else {
+            return Ok(None);
+        };
+        let variant = variant(self.alloc, name)?;
+        let variant = variant.as_str();
+        let (ty, _file) = self.names_of(id);
+        Ok(Some(format!(in self.alloc; "{ty}::{variant}")?))
     }
 
     /// Returns the value in the struct of a constraint and the tag that it has.
@@ -244,4 +243,16 @@ fn uses_of(tree: &str) -> (&'static str, &'static str) {
     } else {
         ("pos", "number")
     }
+}
+
+/// Returns whether the values of a kind are numbers.
+fn is_number(kind: LeafKind) -> bool {
+    matches!(
+        kind,
+        LeafKind::Integer
+            | LeafKind::Signed32
+            | LeafKind::Signed64
+            | LeafKind::Unsigned32
+            | LeafKind::Unsigned64
+    )
 }

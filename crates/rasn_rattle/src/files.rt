@@ -250,7 +250,9 @@ impl Plan<'_> {
         let count = alternatives.len();
         for (index, alternative) in alternatives.iter().enumerate() {
             let ty = self.type_of(alternative.type_id.0);
-            let is_last = index + 1 == count && index > 0 && matches!(ty, Type::Any { .. });
+            let is_last = index.saturating_add(1) == count
+                && index > 0
+                && matches!(ty, Type::Any { .. });
             if ty.tag() == Tag::EOC && !is_last {
                 return Some("an alternative has no tag of its own");
             }

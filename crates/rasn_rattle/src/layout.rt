@@ -142,7 +142,7 @@ impl Nested {
     /// Writes the calls, on as many lines as they need.
     fn write(&mut self, words: &[&str]) -> Result<(), AllocError> {
         let mut rest = words;
-        for _ in 0..words.len() + 1 {
+        for _ in 0..=words.len() {
             let one = self.in_a_line(rest)?;
             if is_short(one.as_str()) || rest.is_empty() {
                 self.text.push_str(one.as_str())?;

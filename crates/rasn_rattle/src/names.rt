@@ -1,7 +1,9 @@
 //! The names of types, and of their files.
 use crate::expression::integer_word;
 use crate::words::{camel, snake};
-use rasn_schema::{Alternative, Component, LeafKind, NamedNumber, Schema, Type, TypeId, type_at};
+use rasn_schema::{
+    Alternative, Component, LeafKind, NamedNumber, Schema, Type, TypeId, components_of, type_at,
+};
 use rasn_types::types::{Class, Constraints, Tag};
 use std::alloc::{AllocError, Global};
 use std::collections::{BTreeMap, BTreeSet};
@@ -101,21 +103,26 @@ impl<'schema> Plan<'schema> {
         Ok(())
     }
 
-    /// Returns the first type with a name that differs from this one in its tag alone.
+    /// Returns the first type with a name that differs from this one in its tag alone. One that has
+    /// a universal tag goes before others.
     fn twin_of(&self, ty: &Type) -> Option<usize> {
+        let mut first = None;
         for (id, other) in self.schema.types().iter().enumerate() {
             if self.names.contains_key(&id) && is_same_but_tag(ty, other) {
-                return Some(id);
+                if other.tag().class == Class::Universal {
+                    return Some(id);
+                }
+                first = first.or(Some(id));
             }
         }
-        None
+        first
     }
 
     /// Names the parts of types that have a name, from the root on.
     fn add_parts(&mut self) -> Result<(), AllocError> {
         let count = self.schema.types().len();
-        for back in 0..count {
-            self.add_parts_of(count - 1 - back)?;
+        for id in (0..count).rev() {
+            self.add_parts_of(id)?;
         }
         Ok(())
     }
@@ -187,7 +194,7 @@ impl<'schema> Plan<'schema> {
             return Ok(());
         }
         let mut notation = String::from_str(self.alloc, name)?;
-        for suffix in 2..self.names.len() + 3 {
+        for suffix in 2..self.names.len().saturating_add(3) {
             if self.is_free(notation.as_str())? {
                 break;
             }
@@ -271,73 +278,54 @@ fn is_other_string(kind: LeafKind, tag: Tag) -> bool {
 /// Returns whether two types differ in their tag alone.
 fn is_same_but_tag(ty: &Type, other: &Type) -> bool {
     match (ty, other) {
-        (
-            Type::Sequence { components, .. },
-            Type::Sequence {
-                components: others,
-                ..
-            },
-        ) => { are_same_components(components, others) }
-        (
-            Type::Set { components, .. },
-            Type::Set {
-                components: others,
-                ..
-            },
-        ) => { are_same_components(components, others) }
-        (
-            Type::SequenceOf {
-                element,
-                constraints,
-                ..
-            },
-            Type::SequenceOf {
-                element: other,
-                constraints: bounds,
-                ..
-            },
-        ) => *element == *other && *constraints == *bounds,
-        (
-            Type::SetOf {
-                element,
-                constraints,
-                ..
-            },
-            Type::SetOf {
-                element: other,
-                constraints: bounds,
-                ..
-            },
-        ) => *element == *other && *constraints == *bounds,
+        (Type::Sequence { .. }, Type::Sequence { .. }) | (Type::Set { .. }, Type::Set { .. }) => {
+            are_same_components(components_of(ty), components_of(other))
+        }
+        (Type::SequenceOf { .. }, Type::SequenceOf { .. })
+        | (Type::SetOf { .. }, Type::SetOf { .. }) => {
+            inner_of(ty) == inner_of(other) && constraints_of(ty) == constraints_of(other)
+        }
         (
             Type::Choice { alternatives, .. },
             Type::Choice {
                 alternatives: others,
                 ..
             },
-        ) => { are_same_alternatives(alternatives, others) }
+        ) => are_same_alternatives(alternatives, others),
+        (Type::Enumerated { .. }, Type::Enumerated { .. }) => {
+            are_same_numbers(numbers_of(ty), numbers_of(other))
+        }
         (
-            Type::Enumerated { numbers, .. },
-            Type::Enumerated {
-                numbers: others,
-                ..
-            },
-        ) => { are_same_numbers(numbers, others) }
-        (
+            Type::Leaf { kind, .. },
             Type::Leaf {
-                kind,
-                constraints,
-                names,
+                kind: other_kind,
                 ..
             },
-            Type::Leaf {
-                kind: other,
-                constraints: bounds,
-                names: others,
-                ..
-            },
-        ) => *kind == *other && *constraints == *bounds && are_same_numbers(names, others),
+        ) => {
+            *kind == *other_kind
+                && constraints_of(ty) == constraints_of(other)
+                && are_same_numbers(numbers_of(ty), numbers_of(other))
+        }
         _ => false,
+    }
+}
+
+/// Returns the constraints of a type.
+pub(crate) fn constraints_of(ty: &Type) -> Constraints {
+    match ty {
+        Type::Leaf { constraints, .. }
+        | Type::SequenceOf { constraints, .. }
+        | Type::SetOf { constraints, .. } => *constraints,
+        _ => Constraints::NONE,
+    }
+}
+
+/// Returns the numbers with names of a type.
+fn numbers_of(ty: &Type) -> &[NamedNumber] {
+    match ty {
+        Type::Enumerated { numbers, .. } => numbers,
+        Type::Leaf { names, .. } => names,
+        _ => &[],
     }
 }
 

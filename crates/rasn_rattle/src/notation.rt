@@ -1,6 +1,7 @@
 //! The notation of types and parts, for documentation.
 use crate::layout::{comment, import};
 use crate::names::Plan;
+use rasn_schema::TypeId;
 use rasn_types::types::{Class, Tag};
 use std::alloc::AllocError;
 
@@ -75,11 +76,20 @@ impl<'schema> Plan<'schema> {
         format!(in self.alloc; "    /// `{name}`\n")
     }
 
+    /// Returns the comment of a part that is an open type, since it leads back to the type that it
+    /// is a part of.
+    pub(crate) fn leads_back(&self, id: usize, part: TypeId) -> Result<&'static str, AllocError> {
+        Ok(if self.leads_to(part.0, id)? {
+            "    /// is an open type, since it leads back to this type.\n"
+        } else {
+            ""
+        })
+    }
+
     /// Puts notations in place of the names that types without one got, from the last type on.
     pub(crate) fn show_unnamed(&mut self) -> Result<(), AllocError> {
         let count = self.schema.types().len();
-        for back in 0..count {
-            let id = count - 1 - back;
+        for id in (0..count).rev() {
             if !self.names.contains_key(&id) {
                 let name = format!(in self.alloc; "Type-{id}")?;
                 let shown = self.shown_unnamed(id, name.as_str())?;
@@ -97,11 +107,15 @@ impl<'schema> Plan<'schema> {
     /// Returns the notation of a type without a name, or nothing if it isn't in the module.
     fn shown_unnamed(&self, id: usize, name: &str) -> Result<String, AllocError> {
         if let Some(twin) = self.twins.get(&id) {
-            let (class, value) = tag_words(self.type_of(id).tag());
+            let tag = self.type_of(id).tag();
+            let (class, value) = tag_words(tag);
             let named = match self.names.get(twin) {
                 Some(naming) => naming.notation.as_str(),
                 None => "",
             };
+            if tag == Tag::EOC {
+                return String::from_str(self.alloc, named);
+            }
             return format!(in self.alloc; "[{class}{value}] IMPLICIT {named}");
         }
         for line in self.module.as_str().lines() {

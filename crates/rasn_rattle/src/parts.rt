@@ -33,6 +33,8 @@ pub(crate) struct Part<'schema> {
     field: String,
     /// Its name in the notation.
     name: &'schema str,
+    /// Why it is an open type, if it is.
+    reason: &'static str,
     /// The presence, as the name of the type that reads it.
     presence: &'static str,
     /// The type of the field, without `Option`.
@@ -100,6 +102,7 @@ impl<'schema> Plan<'schema> {
         Ok(Part {
             field,
             name: component.name.as_str(),
+            reason: self.leads_back(id, component.type_id)?,
             presence: presence_word(&component.presence, is_choice, is_explicit),
             expression,
             default,
@@ -116,6 +119,7 @@ impl<'schema> Plan<'schema> {
             let field = part.field.as_str();
             let ty = part.expression.as_str();
             text.push_str(notation.as_str())?;
+            text.push_str(part.reason)?;
             let line = match part.presence {
                 "Optional" | "OptionalChoice" | "Addition" => {
                     format!(in self.alloc; "    pub {field}: Option<{ty}>,\n")?
@@ -136,13 +140,16 @@ impl<'schema> Plan<'schema> {
             }
             let name = parts_name(self, index)?;
             let name = name.as_str();
-            let rest = rest_name(self, parts, index + 1)?;
+            let rest = rest_name(self, parts, index.saturating_add(1))?;
             let rest = rest.as_str();
             let presence = part.presence;
             let argument = part.argument.as_str();
             let line = alias(self.alloc, name, presence, &[argument, rest])?;
             text.push_str(line.as_str())?;
-            if parts.get(index + 1).is_some_and(|next| !next.is_rest) {
+            if parts
+                .get(index.saturating_add(1))
+                .is_some_and(|next| !next.is_rest)
+            {
                 text.push_str("\n")?;
             }
         }
@@ -186,7 +193,7 @@ impl<'schema> Plan<'schema> {
             if part.is_rest {
                 break;
             }
-            let rest = match parts.get(index + 1) {
+            let rest = match parts.get(index.saturating_add(1)) {
                 Some(next) if next.is_rest => "unknown",
                 Some(_) => "rest",
                 None => "End",
@@ -271,12 +278,7 @@ impl<'schema> Plan<'schema> {
         } else {
             "End"
         };
-        let count = parts.len();
-        for back in 0..count {
-            let index = count - 1 - back;
-            let Some(part) = parts.get(index) else {
-                break;
-            };
+        for (index, part) in parts.iter().enumerate().rev() {
             if part.is_rest {
                 continue;
             }

@@ -70,6 +70,30 @@ impl Encode for @Name@ {
 }
 @defaults@";
 
+/// The words of a SEQUENCE.
+const SEQUENCE_PAIRS: &[(&str, &str)] = &[
+    ("@prelude@", "refl"),
+    ("@shape_use@", "seq"),
+    ("@shape@", "seq"),
+    ("@Trait@", "DecodeParts"),
+];
+
+/// The words of a SET.
+const SET_PAIRS: &[(&str, &str)] = &[
+    ("@prelude@", "false, refl"),
+    ("@shape_use@", "sorted_set"),
+    ("@shape@", "sorted_set false"),
+    ("@Trait@", "DecodeSetParts"),
+];
+
+/// The words of a SET with an extension marker.
+const EXTENSIBLE_SET_PAIRS: &[(&str, &str)] = &[
+    ("@prelude@", "refl, true"),
+    ("@shape_use@", "sorted_set"),
+    ("@shape@", "sorted_set true"),
+    ("@Trait@", "DecodeSetParts"),
+];
+
 impl Plan<'_> {
     /// Returns the text of the file of a SEQUENCE or a SET.
     pub(crate) fn struct_text(&self, id: usize) -> Result<String, AllocError> {
@@ -83,19 +107,10 @@ impl Plan<'_> {
         let imports = self.imports_of(laws.types.as_str(), !texts.defaults.is_empty(), false)?;
         let notation = self.notation_of(id)?;
         let (head, doc) = self.comments(notation.as_str())?;
-        let (shape, prelude) = match (is_set, texts.is_extensible) {
-            (false, _) => ("seq", "refl"),
-            (true, false) => ("sorted_set false", "false, refl"),
-            (true, true) => ("sorted_set true", "refl, true"),
-        };
-        let (shape_use, trait_name) = if is_set {
-            ("sorted_set", "DecodeSetParts")
-        } else {
-            ("seq", "DecodeParts")
-        };
+        let template = filled(self.alloc, STRUCT, kind_pairs(is_set, texts.is_extensible))?;
         filled(
             self.alloc,
-            STRUCT,
+            template.as_str(),
             &[
                 ("@head@", head.as_str()),
                 ("@doc@", doc.as_str()),
@@ -105,10 +120,6 @@ impl Plan<'_> {
                 ("@tag@", tag.as_str()),
                 ("@const_tag@", const_tag.as_str()),
                 ("@tag_use@", tag_use(ty.tag())),
-                ("@prelude@", prelude),
-                ("@shape_use@", shape_use),
-                ("@shape@", shape),
-                ("@Trait@", trait_name),
                 ("@tree@", texts.tree.as_str()),
                 ("@laws@", laws.uses.as_str()),
                 ("@search@", laws.search.as_str()),
@@ -118,5 +129,14 @@ impl Plan<'_> {
                 ("@Name@", name),
             ],
         )
+    }
+}
+
+/// Returns the words of the template that differ between a SEQUENCE, a SET and a SET with a marker.
+fn kind_pairs(is_set: bool, is_extensible: bool) -> &'static [(&'static str, &'static str)] {
+    match (is_set, is_extensible) {
+        (false, _) => SEQUENCE_PAIRS,
+        (true, false) => SET_PAIRS,
+        (true, true) => EXTENSIBLE_SET_PAIRS,
     }
 }

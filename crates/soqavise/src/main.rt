@@ -1,12 +1,15 @@
 //! Shows, checks and converts messages of any type of ASN.1.
 #![tactic(auto)]
 
+mod rust;
+
 use clap::ArgMatches;
 use rasn_compiler::{Modules, Source};
 use rasn_print::{
     Call, ColorChoice, Fault, Known, MessageType, Session, Tools, Work, call_of, command, known_of,
     modules_of, print_types, wanted_type,
 };
+use rust::run_rust;
 use std::alloc::{AllocError, Global};
 use std::fs::{self, File};
 use std::io::{BufReader, BufWriter, ErrorKind, IsTerminal, Read, Write};
@@ -43,6 +46,9 @@ fn run(rt: &HostRuntime) -> Result<u8, Fault> {
     let mut words = Vec::new(rt.alloc());
     for word in env::args(rt).map_err(Fault::of_write)? {
         words.push(word)?;
+    }
+    if words.get(1).is_some_and(|word| word == "rust") {
+        return run_rust(rt, words.get(2..).unwrap_or(&[]));
     }
     run_words(rt, words.as_slice())
 }
