@@ -3,7 +3,7 @@ use crate::layout::{Nested, alias, read_arm};
 use crate::names::Plan;
 use crate::template::filled;
 use crate::words::variant;
-use rasn_schema::{Alternative, Type};
+use rasn_schema::{Alternative, Type, TypeId};
 use std::alloc::AllocError;
 
 /// An enum with its impls.
@@ -92,6 +92,8 @@ impl FirstTags for @Name@ {
 struct Branch<'schema> {
     /// Its name in the notation.
     name: &'schema str,
+    /// Its type.
+    type_id: TypeId,
     /// Why it is an open type, if it is.
     reason: &'static str,
     /// The name of its variant.
@@ -179,6 +181,7 @@ impl<'schema> Plan<'schema> {
         };
         Ok(Branch {
             name: alternative.name.as_str(),
+            type_id: alternative.type_id,
             reason: self.leads_back(id, alternative.type_id)?,
             variant,
             expression: self.expression(id, alternative.type_id)?,
@@ -225,7 +228,7 @@ impl<'schema> Plan<'schema> {
     ) -> Result<(), AllocError> {
         let variant = branch.variant.as_str();
         let ty = branch.expression.as_str();
-        let notation = self.part_notation(id, branch.name)?;
+        let notation = self.part_notation(id, branch.name, branch.type_id)?;
         texts.variants.push_str(notation.as_str())?;
         texts.variants.push_str(branch.reason)?;
         texts

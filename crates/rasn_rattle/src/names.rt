@@ -106,7 +106,7 @@ impl<'schema> Plan<'schema> {
     /// Returns the first type with a name that differs from this one in its tag alone. One that has
     /// a universal tag goes before others.
     fn twin_of(&self, ty: &Type) -> Option<usize> {
-        let mut first = None;
+        let mut first: Option<usize> = None;
         for (id, other) in self.schema.types().iter().enumerate() {
             if self.names.contains_key(&id) && is_same_but_tag(ty, other) {
                 if other.tag().class == Class::Universal {

@@ -58,7 +58,21 @@ impl<'schema> Plan<'schema> {
     }
 
     /// Returns the notation of a part, as a comment of its field.
-    pub(crate) fn part_notation(&self, id: usize, name: &str) -> Result<String, AllocError> {
+    pub(crate) fn part_notation(
+        &self,
+        id: usize,
+        name: &str,
+        part_id: TypeId,
+    ) -> Result<String, AllocError> {
+        let line = self.part_line(id, name);
+        let shown = self.part_shown(name, line, part_id.0)?;
+        let shown = shown.as_str();
+        let text = format!(in self.alloc; "`{shown}`")?;
+        comment(self.alloc, "    ///", text.as_str())
+    }
+
+    /// Returns the line of a part in the module.
+    fn part_line<'text>(&'text self, id: usize, name: &'text str) -> &'text str {
         for line in self.lines_of(id).lines().skip(1) {
             let Some(part) = line.strip_prefix("    ") else {
                 break;
@@ -69,11 +83,26 @@ impl<'schema> Plan<'schema> {
                 continue;
             };
             if after.is_empty() || after.starts_with(' ') {
-                let part = format!(in self.alloc; "`{part}`")?;
-                return comment(self.alloc, "    ///", part.as_str());
+                return part;
             }
         }
-        format!(in self.alloc; "    /// `{name}`\n")
+        name
+    }
+
+    /// Returns the line of a part, with the name of its type if it is another one under a tag.
+    fn part_shown(&self, name: &str, line: &str, part_id: usize) -> Result<String, AllocError> {
+        if !self.twins.contains_key(&part_id) {
+            return String::from_str(self.alloc, line);
+        }
+        let shown = self.shown_unnamed(part_id, name)?;
+        let shown = shown.as_str();
+        if line.ends_with(" OPTIONAL") {
+            return format!(in self.alloc; "{name} {shown} OPTIONAL");
+        }
+        match line.rsplit_once(" DEFAULT ") {
+            Some((_before, value)) => format!(in self.alloc; "{name} {shown} DEFAULT {value}"),
+            None => format!(in self.alloc; "{name} {shown}"),
+        }
     }
 
     /// Returns the comment of a part that is an open type, since it leads back to the type that it

@@ -4,7 +4,7 @@ use crate::expression::presence_word;
 use crate::layout::alias;
 use crate::names::Plan;
 use crate::words::snake;
-use rasn_schema::{Component, Presence, Type, components_of};
+use rasn_schema::{Component, Presence, Type, TypeId, components_of};
 use std::alloc::AllocError;
 
 /// The parts of a struct's text.
@@ -33,6 +33,8 @@ pub(crate) struct Part<'schema> {
     field: String,
     /// Its name in the notation.
     name: &'schema str,
+    /// Its type.
+    type_id: TypeId,
     /// Why it is an open type, if it is.
     reason: &'static str,
     /// The presence, as the name of the type that reads it.
@@ -102,6 +104,7 @@ impl<'schema> Plan<'schema> {
         Ok(Part {
             field,
             name: component.name.as_str(),
+            type_id: component.type_id,
             reason: self.leads_back(id, component.type_id)?,
             presence: presence_word(&component.presence, is_choice, is_explicit),
             expression,
@@ -115,7 +118,7 @@ impl<'schema> Plan<'schema> {
     fn fields_text(&self, id: usize, parts: &[Part<'_>]) -> Result<String, AllocError> {
         let mut text = String::new(self.alloc);
         for part in parts {
-            let notation = self.part_notation(id, part.name)?;
+            let notation = self.part_notation(id, part.name, part.type_id)?;
             let field = part.field.as_str();
             let ty = part.expression.as_str();
             text.push_str(notation.as_str())?;
