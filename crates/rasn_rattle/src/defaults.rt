@@ -155,7 +155,8 @@ impl Plan<'_> {
         Ok(Some(format!(in self.alloc; "{ty}::{variant}")?))
     }
 
-    /// Returns the value in the struct of a constraint and the tag that it has.
+    /// Returns the value in the struct of its constraint and under the tags that no struct or enum
+    /// has: that of the type and that of the part.
     fn wrapped(&self, id: usize, own: usize, plain: String) -> Result<String, AllocError> {
         let ty = self.type_of(own);
         let mut text = plain;
@@ -164,11 +165,11 @@ impl Plan<'_> {
             let plain = text.as_str();
             text = format!(in self.alloc; "{name} {{ value: {plain} }}")?;
         }
-        let is_tagged = self.type_of(id).tag().class != Class::Universal;
-        let is_own = id == own && self.names.contains_key(&own) && has_file(ty);
-        if is_tagged && (!is_own || is_alias(ty)) {
-            let plain = text.as_str();
-            text = format!(in self.alloc; "Implicit::new({plain})")?;
+        if is_alias(ty) && ty.tag().class != Class::Universal {
+            text = implicit(self.alloc, text.as_str())?;
+        }
+        if id != own && self.type_of(id).tag().class != Class::Universal {
+            text = implicit(self.alloc, text.as_str())?;
         }
         Ok(text)
     }
@@ -255,4 +256,9 @@ fn is_number(kind: LeafKind) -> bool {
             | LeafKind::Unsigned32
             | LeafKind::Unsigned64
     )
+}
+
+/// Returns a value under an implicit tag.
+fn implicit(alloc: Global, value: &str) -> Result<String, AllocError> {
+    format!(in alloc; "Implicit::new({value})")
 }

@@ -2,7 +2,8 @@
 use crate::expression::integer_word;
 use crate::words::{camel, snake};
 use rasn_schema::{
-    Alternative, Component, LeafKind, NamedNumber, Schema, Type, TypeId, components_of, type_at,
+    Alternative, Component, LeafKind, NamedNumber, Presence, Schema, Type, TypeId, Value,
+    components_of, type_at,
 };
 use rasn_types::types::{Class, Constraints, Tag};
 use std::alloc::{AllocError, Global};
@@ -103,12 +104,14 @@ impl<'schema> Plan<'schema> {
         Ok(())
     }
 
-    /// Returns the first type with a name that differs from this one in its tag alone. One that has
-    /// a universal tag goes before others.
+    /// Returns the first type with a name that differs from this one in its tag alone, if it does.
+    /// One that has a universal tag goes before others. A universal tag can't be put in place of
+    /// another one.
     fn twin_of(&self, ty: &Type) -> Option<usize> {
         let mut first: Option<usize> = None;
         for (id, other) in self.schema.types().iter().enumerate() {
-            if self.names.contains_key(&id) && is_same_but_tag(ty, other) {
+            let is_near = ty.tag().class != Class::Universal || ty.tag() == other.tag();
+            if is_near && self.names.contains_key(&id) && is_same_but_tag(ty, other) {
                 if other.tag().class == Class::Universal {
                     return Some(id);
                 }
@@ -323,8 +326,8 @@ pub(crate) fn constraints_of(ty: &Type) -> Constraints {
 /// Returns the numbers with names of a type.
 fn numbers_of(ty: &Type) -> &[NamedNumber] {
     match ty {
-        Type::Enumerated { numbers, .. } => numbers,
-        Type::Leaf { names, .. } => names,
+        Type::Enumerated { numbers, .. } => numbers.as_slice(),
+        Type::Leaf { names, .. } => names.as_slice(),
         _ => &[],
     }
 }
@@ -342,17 +345,42 @@ fn are_same_numbers(numbers: &[NamedNumber], others: &[NamedNumber]) -> bool {
     true
 }
 
-/// Returns whether the components have the same names and types.
+/// Returns whether the components have the same names and types, and may be absent alike.
 fn are_same_components(components: &[Component], others: &[Component]) -> bool {
     if components.len() != others.len() {
         return false;
     }
     for (component, other) in components.iter().zip(others.iter()) {
-        if component.name != other.name || component.type_id != other.type_id {
+        if component.name != other.name
+            || component.type_id != other.type_id
+            || !is_same_presence(&component.presence, &other.presence)
+        {
             return false;
         }
     }
     true
+}
+
+/// Returns whether two components may be absent alike. Defaults other than a BOOLEAN, a number or
+/// an empty list are taken to differ.
+fn is_same_presence(presence: &Presence, other: &Presence) -> bool {
+    match (presence, other) {
+        (Presence::Required, Presence::Required)
+        | (Presence::Optional, Presence::Optional)
+        | (Presence::Addition, Presence::Addition) => true,
+        (Presence::Default(value), Presence::Default(other)) => is_same_value(value, other),
+        _ => false,
+    }
+}
+
+/// Returns whether two values are the same BOOLEAN or number, or both an empty list.
+fn is_same_value(value: &Value<'_>, other: &Value<'_>) -> bool {
+    match (value, other) {
+        (Value::Boolean(truth), Value::Boolean(other)) => *truth == *other,
+        (Value::Integer(number), Value::Integer(other)) => *number == *other,
+        (Value::Items(items), Value::Items(others)) => items.is_empty() && others.is_empty(),
+        _ => false,
+    }
 }
 
 /// Returns whether the alternatives have the same names and types.
