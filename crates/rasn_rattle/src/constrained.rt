@@ -122,7 +122,8 @@ impl Plan<'_> {
         )
     }
 
-    /// Returns the text of the file of a type with this tag whose values are octets, and why they are.
+    /// Returns the text of the file of a type with this tag whose values are octets, and why they
+    /// are.
     pub(crate) fn octets_text(
         &self,
         name: &str,

@@ -2,7 +2,7 @@
 use crate::expression::word;
 use crate::laws::is_alias;
 use crate::layout::is_short;
-use crate::names::{Plan, has_file};
+use crate::names::{Plan, has_file, is_extensible};
 use crate::template::filled;
 use crate::words::{camel, variant};
 use rasn_schema::{Component, LeafKind, NamedNumber, Presence, Type, Value, name_of_number};
@@ -122,11 +122,7 @@ impl Plan<'_> {
             } if word(ty, ty.tag()) == "Integer" => {
                 format!(in self.alloc; "Integer::from_i128(alloc, {number})?")?
             }
-            Type::Leaf {
-                kind: LeafKind::Signed64,
-                names,
-                ..
-            } if !names.is_empty() => {
+            _ if is_extensible(ty) => {
                 format!(in self.alloc; "Extensible::from_number({number})")?
             }
             Type::Leaf { kind, .. } if is_number(*kind) => format!(in self.alloc; "{number}")?,

@@ -241,7 +241,8 @@ pub(crate) fn word(ty: &Type, tag: Tag) -> &'static str {
     }
 }
 
-/// Returns the type of an INTEGER, and whether it holds exactly the numbers that the constraints admit.
+/// Returns the type of an INTEGER, and whether it holds exactly the numbers that the constraints
+/// admit.
 pub(crate) fn integer_word(constraints: &Constraints) -> (&'static str, bool) {
     let Some(
         Bound {

@@ -1,9 +1,9 @@
 //! The files of a crate.
 use crate::laws::is_alias;
-use crate::names::{Plan, has_file};
+use crate::names::{Naming, Plan, is_extensible};
 use rasn_compiler::Resolved;
 use rasn_schema::{
-    Alternative, Component, LeafKind, Presence, Schema, Type, TypeId, TypeName, components_of,
+    Alternative, Component, Presence, Schema, Type, TypeId, TypeName, components_of,
 };
 use rasn_types::types::Tag;
 use std::alloc::{AllocError, Global};
@@ -81,8 +81,9 @@ impl Plan<'_> {
         for (id, naming) in self.names.iter() {
             if self.reached.contains(id) {
                 let text = self.text_of(*id)?;
-                let (name, file) = (naming.rust.as_str(), naming.file.as_str());
-                self.push_file(&mut files, &mut lists, file, name, text)?;
+                let shown = self.shown_of(*id, naming)?;
+                let (shown, file) = (shown.as_str(), naming.file.as_str());
+                self.push_file(&mut files, &mut lists, file, shown, text)?;
             }
         }
         self.push_open(
@@ -116,6 +117,15 @@ impl Plan<'_> {
         Ok(text)
     }
 
+    /// Returns the names of a file that other crates may use.
+    fn shown_of(&self, id: usize, naming: &Naming) -> Result<String, AllocError> {
+        let name = naming.rust.as_str();
+        if is_extensible(self.type_of(id)) {
+            return format!(in self.alloc; "{{{name}, {name}Name}}");
+        }
+        String::from_str(self.alloc, name)
+    }
+
     /// Returns the text of the file of a type.
     fn text_of(&self, id: usize) -> Result<String, AllocError> {
         let ty = self.type_of(id);
@@ -126,11 +136,7 @@ impl Plan<'_> {
             Type::Sequence { .. } | Type::Set { .. } => self.struct_text(id),
             Type::Choice { .. } => self.choice_text(id),
             Type::Enumerated { .. } => self.enumerated_text(id),
-            Type::Leaf {
-                kind: LeafKind::Signed64,
-                names,
-                ..
-            } if !names.is_empty() => { self.extensible_text(id) }
+            _ if is_extensible(ty) => self.extensible_text(id),
             _ if is_alias(ty) => self.alias_text(id, ty),
             _ => self.constrained_text(id),
         }

@@ -1,7 +1,7 @@
 //! The laws of the types that a type is made of.
 use crate::expression::open_word;
-use crate::names::{Plan, has_file, inner_of};
-use rasn_schema::{LeafKind, Presence, Type, TypeId, components_of};
+use crate::names::{Plan, has_file, inner_of, is_extensible};
+use rasn_schema::{Presence, Type, TypeId, components_of};
 use std::alloc::AllocError;
 use std::collections::{BTreeMap, BTreeSet};
 
@@ -255,11 +255,5 @@ fn needs_within(ty: &Type, needs: Needs) -> Needs {
 
 /// Returns whether a type that has a name is written as another name of a type.
 pub(crate) fn is_alias(ty: &Type) -> bool {
-    match ty {
-        Type::Leaf { kind, names, .. } => {
-            !has_file(ty) || (*kind == LeafKind::Signed64 && !names.is_empty())
-        }
-        Type::Tagged { .. } | Type::Unknown => true,
-        _ => !has_file(ty),
-    }
+    !has_file(ty) || is_extensible(ty)
 }

@@ -205,8 +205,12 @@ impl<'schema> Plan<'schema> {
         }
         let rust = camel(self.alloc, notation.as_str())?;
         let file = snake(self.alloc, notation.as_str())?;
-        self.used
-            .insert(rust.as_str().to_ascii_lowercase(self.alloc)?)?;
+        let small = rust.as_str().to_ascii_lowercase(self.alloc)?;
+        if is_extensible(self.type_of(id)) {
+            let small = small.as_str();
+            self.used.insert(format!(in self.alloc; "{small}name")?)?;
+        }
+        self.used.insert(small)?;
         let naming = Naming {
             notation,
             rust,
@@ -244,7 +248,8 @@ pub(crate) fn has_file(ty: &Type) -> bool {
             names,
         } => {
             is_constrained(*kind, constraints)
-                || has_names(*kind, names.is_empty())
+                || is_extensible(ty)
+                || (*kind == LeafKind::NamedBits && !names.is_empty())
                 || is_other_string(*kind, *tag)
         }
         Type::SequenceOf { constraints, .. } | Type::SetOf { constraints, .. } => {
@@ -256,19 +261,22 @@ pub(crate) fn has_file(ty: &Type) -> bool {
     }
 }
 
+/// Returns whether a type is an ENUMERATED with an extension marker.
+pub(crate) fn is_extensible(ty: &Type) -> bool {
+    match ty {
+        Type::Leaf {
+            kind: LeafKind::Signed64,
+            names,
+            ..
+        } => !names.is_empty(),
+        _ => false,
+    }
+}
+
 /// Returns whether a leaf has a constraint that its type doesn't make.
 fn is_constrained(kind: LeafKind, constraints: &Constraints) -> bool {
     let is_exact = kind == LeafKind::Integer && integer_word(constraints).1;
     *constraints != Constraints::NONE && !is_exact
-}
-
-/// Returns whether the names of a leaf are those of an extensible ENUMERATED or of bits.
-fn has_names(kind: LeafKind, is_empty: bool) -> bool {
-    match kind {
-        LeafKind::Signed64 => !is_empty,
-        LeafKind::NamedBits => !is_empty,
-        _ => false,
-    }
 }
 
 /// Returns whether a string of any octets has a universal tag for which there is no type.

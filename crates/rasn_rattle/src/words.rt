@@ -1,8 +1,8 @@
 //! Names of ASN.1 as names of Rattle.
 use std::alloc::{AllocError, Global};
 
-/// Words that no field or module may be called: those of Rattle and of its contracts, and names that
-/// generated files use for themselves.
+/// Words that no field or module may be called: those of Rattle and of its contracts, and names
+/// that generated files use for themselves.
 const RESERVED: &[&str] = &[
     "as",
     "async",
@@ -299,8 +299,8 @@ pub(crate) fn variant(alloc: Global, name: &str) -> Result<String, AllocError> {
     Ok(text)
 }
 
-/// Returns a name in camel case, as `LdapMessage` of `LDAPMessage`. One that generated files use for
-/// something else ends with `Value`.
+/// Returns a name in camel case, as `LdapMessage` of `LDAPMessage`. One that generated files use
+/// for something else ends with `Value`.
 pub(crate) fn camel(alloc: Global, name: &str) -> Result<String, AllocError> {
     let snake = snake(alloc, name)?;
     let mut text = camel_of_snake(alloc, snake.as_str())?;
