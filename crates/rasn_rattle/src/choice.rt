@@ -1,7 +1,7 @@
 //! A CHOICE as an enum.
-use crate::layout::{Nested, alias, read_arm};
+use crate::layout::{Nested, alias, called, read_arm};
 use crate::names::Plan;
-use crate::template::filled;
+use crate::template::{filled, push_times};
 use crate::words::variant;
 use rasn_schema::{Alternative, Type, TypeId};
 use std::alloc::AllocError;
@@ -94,7 +94,7 @@ struct Branch<'schema> {
     name: &'schema str,
     /// Its type.
     type_id: TypeId,
-    /// Why it is an open type, if it is.
+    /// Why there is an open type in it, if there is.
     reason: &'static str,
     /// The name of its variant.
     variant: String,
@@ -211,9 +211,7 @@ impl<'schema> Plan<'schema> {
             self.write_arms(&mut texts, id, branch, words.as_slice())?;
         }
         texts.decided.push_str("tt")?;
-        for _ in branches {
-            texts.decided.push(')')?;
-        }
+        push_times(&mut texts.decided, ")", branches.len())?;
         Ok(texts)
     }
 
@@ -261,14 +259,7 @@ impl<'schema> Plan<'schema> {
         let (name, _file) = self.names_of(id);
         let variant = branch.variant.as_str();
         let variant = format!(in self.alloc; "{name}::{variant}")?;
-        let mut place = String::new(self.alloc);
-        for word in words {
-            place.push_str(*word)?;
-        }
-        place.push_str("value")?;
-        for _ in words {
-            place.push(')')?;
-        }
+        let place = called(self.alloc, words)?;
         let read = read_arm(self.alloc, place.as_str(), variant.as_str())?;
         let pattern = format!(in self.alloc; "{}(value)", variant.as_str())?;
         let write = Nested::arm(self.alloc, pattern.as_str(), words)?;

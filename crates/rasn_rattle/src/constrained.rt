@@ -1,7 +1,8 @@
 //! A type with a constraint as a struct of one field.
 use crate::expression::word;
 use crate::layout::is_short;
-use crate::names::{Plan, constraints_of, inner_of};
+use crate::members::inner_of;
+use crate::names::{Plan, constraints_of};
 use crate::notation::tag_use;
 use crate::template::filled;
 use rasn_schema::{LeafKind, Type};

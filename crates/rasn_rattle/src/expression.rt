@@ -1,5 +1,7 @@
 //! The Rattle type of a part.
-use crate::names::{Plan, inner_of};
+use crate::members::{Member, inner_of, members_of};
+use crate::names::Plan;
+use crate::template::push_times;
 use rasn_schema::{LeafKind, Presence, Type, TypeId, components_of};
 use rasn_types::types::{Bound, Bounded, Class, Constraints, Tag};
 use std::alloc::AllocError;
@@ -19,9 +21,7 @@ impl Plan<'_> {
                 next = inner;
             }
         }
-        for _ in 0..closing {
-            text.push('>')?;
-        }
+        push_times(&mut text, ">", closing)?;
         Ok(text)
     }
 
@@ -159,17 +159,9 @@ impl Plan<'_> {
 
     /// Adds the types of the parts of a type.
     fn push_parts(&self, left: &mut Vec<usize>, id: usize) -> Result<(), AllocError> {
-        let ty = self.type_of(id);
-        for component in components_of(ty) {
-            left.push(component.type_id.0)?;
-        }
-        if let Some(inner) = inner_of(ty) {
-            left.push(inner.0)?;
-        }
-        if let Type::Choice { alternatives, .. } = ty {
-            for alternative in alternatives {
-                left.push(alternative.type_id.0)?;
-            }
+        let members = members_of(self.alloc, self.type_of(id))?;
+        for member in &members {
+            left.push(member.type_id.0)?;
         }
         Ok(())
     }

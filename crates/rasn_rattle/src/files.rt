@@ -1,6 +1,7 @@
 //! The files of a crate.
 use crate::laws::is_alias;
 use crate::names::{Naming, Plan, is_extensible};
+use crate::template::push_times;
 use rasn_compiler::Resolved;
 use rasn_schema::{
     Alternative, Component, Presence, Schema, Type, TypeId, TypeName, components_of,
@@ -104,17 +105,22 @@ impl Plan<'_> {
     fn lib_text(&self, lists: &Lists) -> Result<String, AllocError> {
         let begin = "//! Types of an ASN.1 module.\n#![tactic(auto)]\n\n";
         let mut text = String::from_str(self.alloc, begin)?;
+        for (file, _word) in lists.iter() {
+            text.push_str(format!(in self.alloc; "mod {file};\n")?.as_str())?;
+        }
+        text.push_str("\n")?;
+        self.push_uses(&mut text, lists)?;
+        Ok(text)
+    }
+
+    /// Adds the lines that name the types of files. A `_` goes before all letters and digits.
+    fn push_uses(&self, text: &mut String, lists: &Lists) -> Result<(), AllocError> {
         let mut uses = BTreeMap::new(self.alloc);
         for (file, word) in lists.iter() {
-            text.push_str(format!(in self.alloc; "mod {file};\n")?.as_str())?;
             let line = format!(in self.alloc; "pub use {file}::{word};\n")?;
             uses.insert(file.as_str().replace(self.alloc, "_", "!")?, line)?;
         }
-        text.push_str("\n")?;
-        for (_place, line) in uses.iter() {
-            text.push_str(line.as_str())?;
-        }
-        Ok(text)
+        push_values(text, &uses)
     }
 
     /// Returns the names of a file that other crates may use.
@@ -152,9 +158,7 @@ impl Plan<'_> {
         if let Some(inner) = inner {
             text.push_str(self.expression(id, TypeId(inner))?.as_str())?;
         }
-        for _ in 0..opened {
-            text.push('>')?;
-        }
+        push_times(&mut text, ">", opened)?;
         let (name, _file) = self.names_of(id);
         let (head, doc) = self.comments(notation.as_str())?;
         let (head, doc) = (head.as_str(), doc.as_str());
@@ -265,6 +269,14 @@ impl Plan<'_> {
         }
         None
     }
+}
+
+/// Adds the values of a map.
+fn push_values(text: &mut String, lines: &BTreeMap<String, String>) -> Result<(), AllocError> {
+    for (_key, line) in lines.iter() {
+        text.push_str(line.as_str())?;
+    }
+    Ok(())
 }
 
 /// Returns why a SEQUENCE is written as an open type, if it is.

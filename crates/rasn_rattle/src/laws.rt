@@ -1,7 +1,8 @@
 //! The laws of the types that a type is made of.
 use crate::expression::open_word;
-use crate::names::{Plan, has_file, inner_of, is_extensible};
-use rasn_schema::{Presence, Type, TypeId, components_of};
+use crate::members::{Member, inner_of, members_of};
+use crate::names::{Plan, has_file, is_extensible};
+use rasn_schema::{Type, TypeId};
 use std::alloc::AllocError;
 use std::collections::{BTreeMap, BTreeSet};
 
@@ -42,49 +43,15 @@ impl Plan<'_> {
             shown: BTreeSet::new(self.alloc),
         };
         let ty = self.type_of(of);
-        for component in components_of(ty) {
-            let is_optional = matches!(component.presence, Presence::Optional | Presence::Addition);
-            self.add_own(of, component.type_id, is_optional, &mut found)?;
-        }
-        if let Type::Choice { alternatives, .. } = ty {
-            for alternative in alternatives {
-                self.add_own(of, alternative.type_id, false, &mut found)?;
-            }
-        }
-        if let Some(inner) = inner_of(ty) {
-            self.add_inner(of, ty, inner, &mut found)?;
+        let members = members_of(self.alloc, ty)?;
+        for member in &members {
+            let needs = Needs {
+                present: member.is_optional,
+                equivalence: matches!(ty, Type::SetOf { .. }),
+            };
+            self.add_chain(of, member.type_id, needs, &mut found)?;
         }
         self.laws_by(&found)
-    }
-
-    /// Adds the types that the type of elements, or within a tag, names.
-    fn add_inner(
-        &self,
-        of: usize,
-        ty: &Type,
-        inner: TypeId,
-        found: &mut Found,
-    ) -> Result<(), AllocError> {
-        let needs = Needs {
-            present: false,
-            equivalence: matches!(ty, Type::SetOf { .. }),
-        };
-        self.add_chain(of, inner, needs, found)
-    }
-
-    /// Adds the types that the type of a part names.
-    fn add_own(
-        &self,
-        of: usize,
-        id: TypeId,
-        is_optional: bool,
-        found: &mut Found,
-    ) -> Result<(), AllocError> {
-        let needs = Needs {
-            present: is_optional,
-            equivalence: false,
-        };
-        self.add_chain(of, id, needs, found)
     }
 
     /// Adds the types that a type names.
@@ -207,15 +174,20 @@ impl Plan<'_> {
         } else {
             format!(in self.alloc; "Prim.search ({names}deciding) depth 64")?
         };
+        Ok(Laws {
+            uses,
+            search,
+            types: self.types_by(found)?,
+        })
+    }
+
+    /// Returns the types that are imported, with commas after them.
+    fn types_by(&self, found: &Found) -> Result<String, AllocError> {
         let mut types = String::new(self.alloc);
         for name in found.shown.iter() {
             types.push_str(format!(in self.alloc; "{name}, ")?.as_str())?;
         }
-        Ok(Laws {
-            uses,
-            search,
-            types,
-        })
+        Ok(types)
     }
 
     /// Writes from where a law of a type is imported, and its name: that of its trait, its own, and

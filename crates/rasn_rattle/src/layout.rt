@@ -1,4 +1,5 @@
 //! Text as the formatter has it: lines of at most 100 columns.
+use crate::template::push_times;
 use std::alloc::{AllocError, Global};
 
 /// The columns of a line.
@@ -127,16 +128,10 @@ impl Nested {
 
     /// Returns the line with all calls in it.
     fn in_a_line(&self, words: &[&str]) -> Result<String, AllocError> {
-        let mut one = String::from_str(self.alloc, self.line.as_str())?;
-        for word in words {
-            one.push_str(*word)?;
-        }
-        one.push_str("value")?;
-        for _ in words {
-            one.push(')')?;
-        }
-        one.push_str(if self.opened.is_empty() { ")," } else { "," })?;
-        Ok(one)
+        let calls = called(self.alloc, words)?;
+        let (line, calls) = (self.line.as_str(), calls.as_str());
+        let end = if self.opened.is_empty() { ")," } else { "," };
+        format!(in self.alloc; "{line}{calls}{end}")
     }
 
     /// Writes the calls, on as many lines as they need.
@@ -177,29 +172,42 @@ impl Nested {
 
     /// Closes the calls of the lines before.
     fn close(&mut self) -> Result<(), AllocError> {
-        while let Some(count) = self.opened.pop() {
-            self.indent = self.indent.saturating_sub(4);
-            self.text
-                .push_str(spaces(self.alloc, self.indent)?.as_str())?;
-            for _ in 0..count {
-                self.text.push(')')?;
+        for _ in 0..self.opened.len() {
+            if let Some(count) = self.opened.pop() {
+                self.close_line(count)?;
             }
-            self.text.push_str(if self.opened.is_empty() {
-                "),\n"
-            } else {
-                ",\n"
-            })?;
         }
         Ok(())
     }
+
+    /// Closes the calls of a line.
+    fn close_line(&mut self, count: usize) -> Result<(), AllocError> {
+        self.indent = self.indent.saturating_sub(4);
+        push_times(&mut self.text, " ", self.indent)?;
+        push_times(&mut self.text, ")", count)?;
+        self.text.push_str(if self.opened.is_empty() {
+            "),\n"
+        } else {
+            ",\n"
+        })
+    }
+}
+
+/// Returns calls within one another around a value, as `Other(This(value))`.
+pub(crate) fn called(alloc: Global, words: &[&str]) -> Result<String, AllocError> {
+    let mut text = String::new(alloc);
+    for word in words {
+        text.push_str(*word)?;
+    }
+    text.push_str("value")?;
+    push_times(&mut text, ")", words.len())?;
+    Ok(text)
 }
 
 /// Returns so many spaces.
 fn spaces(alloc: Global, count: usize) -> Result<String, AllocError> {
     let mut text = String::new(alloc);
-    for _ in 0..count {
-        text.push(' ')?;
-    }
+    push_times(&mut text, " ", count)?;
     Ok(text)
 }
 

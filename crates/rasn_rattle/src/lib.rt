@@ -10,6 +10,7 @@ mod expression;
 mod files;
 mod laws;
 mod layout;
+mod members;
 mod modules;
 mod names;
 mod notation;

@@ -1,5 +1,6 @@
 //! The names of types, and of their files.
 use crate::expression::integer_word;
+use crate::members::{Member, inner_of, members_of};
 use crate::words::{camel, snake};
 use rasn_schema::{
     Alternative, Component, LeafKind, NamedNumber, Presence, Schema, Type, TypeId, Value,
@@ -132,24 +133,11 @@ impl<'schema> Plan<'schema> {
 
     /// Names what a type is made of, after the type and the part.
     fn add_parts_of(&mut self, id: usize) -> Result<(), AllocError> {
-        match self.type_of(id) {
-            Type::Sequence { components, .. } | Type::Set { components, .. } => {
-                for component in components {
-                    self.add_part(id, component.name.as_str(), component.type_id)?;
-                }
-                Ok(())
-            }
-            Type::Choice { alternatives, .. } => {
-                for alternative in alternatives {
-                    self.add_part(id, alternative.name.as_str(), alternative.type_id)?;
-                }
-                Ok(())
-            }
-            Type::SequenceOf { element, .. } => self.add_part(id, "item", *element),
-            Type::SetOf { element, .. } => self.add_part(id, "item", *element),
-            Type::Tagged { inner, .. } => self.add_part(id, "value", *inner),
-            _ => Ok(()),
+        let members = members_of(self.alloc, self.type_of(id))?;
+        for member in &members {
+            self.add_part(id, member.name, member.type_id)?;
         }
+        Ok(())
     }
 
     /// Names the type of a part, or the first within it that a file is written for.
@@ -225,16 +213,6 @@ impl<'schema> Plan<'schema> {
         let rust = camel(self.alloc, notation)?;
         let small = rust.as_str().to_ascii_lowercase(self.alloc)?;
         Ok(!self.used.contains(small.as_str()))
-    }
-}
-
-/// Returns the type within a tag, or of the elements of a list.
-pub(crate) fn inner_of(ty: &Type) -> Option<TypeId> {
-    match ty {
-        Type::Tagged { inner, .. } => Some(*inner),
-        Type::SequenceOf { element, .. } => Some(*element),
-        Type::SetOf { element, .. } => Some(*element),
-        _ => None,
     }
 }
 

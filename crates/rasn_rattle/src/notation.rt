@@ -105,11 +105,10 @@ impl<'schema> Plan<'schema> {
         }
     }
 
-    /// Returns the comment of a part that is an open type, since it leads back to the type that it
-    /// is a part of.
+    /// Returns the comment of a part that leads back to the type that it is a part of.
     pub(crate) fn leads_back(&self, id: usize, part: TypeId) -> Result<&'static str, AllocError> {
         Ok(if self.leads_to(part.0, id)? {
-            "    /// is an open type, since it leads back to this type.\n"
+            "    /// leads back to this type, which is an open type here.\n"
         } else {
             ""
         })

@@ -3,6 +3,7 @@ use crate::defaults::{DefaultText, default_name};
 use crate::expression::presence_word;
 use crate::layout::alias;
 use crate::names::Plan;
+use crate::template::push_times;
 use crate::words::snake;
 use rasn_schema::{Component, Presence, Type, TypeId, components_of};
 use std::alloc::AllocError;
@@ -35,7 +36,7 @@ pub(crate) struct Part<'schema> {
     name: &'schema str,
     /// Its type.
     type_id: TypeId,
-    /// Why it is an open type, if it is.
+    /// Why there is an open type in it, if there is.
     reason: &'static str,
     /// The presence, as the name of the type that reads it.
     presence: &'static str,
@@ -165,22 +166,21 @@ impl<'schema> Plan<'schema> {
     /// Returns the fields as the value of the parts.
     fn tree_text(&self, parts: &[Part<'_>]) -> Result<String, AllocError> {
         let mut text = String::new(self.alloc);
+        let mut count: usize = 0;
         for part in parts {
-            let field = part.field.as_str();
             if part.is_rest {
-                text.push_str("a.unknown")?;
                 break;
             }
+            let field = part.field.as_str();
             text.push_str(format!(in self.alloc; "record {{ 0 = a.{field}; 1 = ")?.as_str())?;
+            count = count.saturating_add(1);
         }
-        if !ends_with_rest(parts) {
-            text.push_str("record {}")?;
-        }
-        for part in parts {
-            if !part.is_rest {
-                text.push_str(" }")?;
-            }
-        }
+        text.push_str(if ends_with_rest(parts) {
+            "a.unknown"
+        } else {
+            "record {}"
+        })?;
+        push_times(&mut text, " }", count)?;
         Ok(text)
     }
 

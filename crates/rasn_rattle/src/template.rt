@@ -13,3 +13,11 @@ pub(crate) fn filled(
     }
     Ok(text)
 }
+
+/// Adds a word as often as is said.
+pub(crate) fn push_times(text: &mut String, word: &str, count: usize) -> Result<(), AllocError> {
+    for _ in 0..count {
+        text.push_str(word)?;
+    }
+    Ok(())
+}

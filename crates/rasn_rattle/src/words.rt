@@ -221,31 +221,47 @@ fn is_among(words: &[&str], word: &str) -> bool {
 /// before capitals is one of them, as in `cRLIssuer`.
 pub(crate) fn snake(alloc: Global, name: &str) -> Result<String, AllocError> {
     let mut text = String::new(alloc);
-    let mut letters = name.chars().peekable();
     let mut before = '_';
-    let mut is_capital = begins_with_capitals(name);
-    while let Some(letter) = letters.next() {
-        if letter == '-' || letter == '.' {
-            before = '_';
-            text.push('_')?;
-            continue;
+    let mut current = None;
+    for next in name.chars() {
+        if let Some(letter) = current {
+            push_letter(&mut text, before, letter, Some(next))?;
+            before = if before == '_' && text.len() == 1 && begins_with_capitals(name) {
+                letter.to_ascii_uppercase()
+            } else {
+                letter
+            };
         }
-        let next = letters.peek().copied();
-        if letter.is_ascii_uppercase() && begins_word(before, next) {
-            text.push('_')?;
-        }
-        text.push(letter.to_ascii_lowercase())?;
-        before = if is_capital {
-            letter.to_ascii_uppercase()
-        } else {
-            letter
-        };
-        is_capital = false;
+        current = Some(next);
+    }
+    if let Some(letter) = current {
+        push_letter(&mut text, before, letter, None)?;
     }
     if is_among(RESERVED, text.as_str()) {
         text.push_str("_value")?;
     }
     Ok(text)
+}
+
+/// Adds a letter in small letters, with `_` before it if it begins a word or is no letter.
+fn push_letter(
+    text: &mut String,
+    before: char,
+    letter: char,
+    next: Option<char>,
+) -> Result<(), AllocError> {
+    if is_hyphen(letter) {
+        return text.push('_');
+    }
+    if letter.is_ascii_uppercase() && begins_word(before, next) {
+        text.push('_')?;
+    }
+    text.push(letter.to_ascii_lowercase())
+}
+
+/// Returns whether a letter is between the words of a name.
+fn is_hyphen(letter: char) -> bool {
+    matches!(letter, '-' | '.' | '_')
 }
 
 /// Returns whether two capitals, or one alone, are after the first letter.
@@ -263,7 +279,7 @@ fn begins_with_capitals(name: &str) -> bool {
 /// Returns whether a capital begins a word, after and before these letters.
 fn begins_word(before: char, next: Option<char>) -> bool {
     match next {
-        _ if before == '_' => false,
+        _ if is_hyphen(before) => false,
         _ if !before.is_ascii_uppercase() => true,
         Some(next) => next.is_ascii_lowercase(),
         None => false,

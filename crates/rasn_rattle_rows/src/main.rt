@@ -1,4 +1,4 @@
-//! Reads a module from standard input and prints the files of a crate for its types.
+//! Reads modules from standard input and prints the files of a crate for their types.
 #![tactic(auto)]
 
 use rasn_compiler::{Modules, Source};
@@ -12,35 +12,32 @@ fn main(rt: HostRuntime) -> io::Result<()> {
         name: "stdin",
         text: text.as_str(),
     };
-    let sources = [source];
-    let read = Modules::parse(alloc, &sources)?;
+    let read = Modules::parse(alloc, &[source])?;
     for fault in &read.faults {
         println!(rt; "{fault}")?;
     }
     let held = holder(alloc, &read, read.modules.len())?;
-    let sources = [
-        Source {
-            name: "stdin",
-            text: text.as_str(),
-        },
-        Source {
-            name: "types",
-            text: held.text.as_str(),
-        },
-    ];
-    let read = Modules::parse(alloc, &sources)?;
+    let held_source = Source {
+        name: "types",
+        text: held.text.as_str(),
+    };
+    let read = Modules::parse(alloc, &[source, held_source])?;
+    print_files(&rt, &read, held.wanted)
+}
+
+/// Prints the files of the crate `made`, or why the types have no schema.
+fn print_files(rt: &HostRuntime, read: &Modules<'_>, wanted: usize) -> io::Result<()> {
+    let alloc = rt.alloc();
     let (module, name) = HOLDER;
     match read.schema(alloc, module, name) {
         Ok(resolved) => {
-            let written = files(alloc, resolved, held.wanted, "made")?;
+            let written = files(alloc, resolved, wanted, "made")?;
             for file in &written {
-                let path = file.path.as_str();
-                let text = file.text.as_str();
-                println!(rt; "=== {path}")?;
-                print!(rt; "{text}")?;
+                let (path, text) = (file.path.as_str(), file.text.as_str());
+                print!(rt; "=== {path}\n{text}")?;
             }
+            Ok(())
         }
-        Err(stop) => println!(rt; "{stop}")?,
+        Err(stop) => println!(rt; "{stop}"),
     }
-    Ok(())
 }
