@@ -1,0 +1,5 @@
+//! `Serial ::= INTEGER`
+use rasn::prelude::*;
+
+/// `Serial ::= INTEGER`
+pub type Serial = Integer;

@@ -1,0 +1,80 @@
+//! `Usage ::= BIT STRING { sign(0), read(3) }`
+use rasn::prelude::*;
+
+/// `Usage ::= BIT STRING { sign(0), read(3) }`
+#[derive(Debug, PartialEq, Eq, Drop)]
+pub struct Usage {
+    /// The value.
+    pub value: NamedBits,
+}
+
+impl AsnType for Usage {
+    ghost use Rattle.std.specs.Prelude.{None, Some, false, true, refl, pos, neg_ℤ};
+    ghost use Rattle.rasn_types.specs.declared.types.constraints.Bounded.TheVariants.{Single, Range};
+    ghost use Rattle.rasn_types.specs.declared.types.tag.Class.TheVariants.{Context, Application, Private};
+    ghost use Rattle.rasn_types.specs.Shapes.{tagged_as};
+    ghost use Rattle.rasn_types.specs.Tags.{in_universal};
+
+    ghost TAG = { in_universal 3 };
+
+    const TAG: Tag = Tag {
+        class: Class::Universal,
+        value: 3,
+    };
+
+    ghost CONSTRAINTS = { record { value = None; size = None } };
+
+    const CONSTRAINTS: Constraints = Constraints::NONE;
+
+    ghost shape = { tagged_as (in_universal 3) (record { value = None; size = None }) ⟦<NamedBits as AsnType>⟧.shape };
+
+    ghost tree = { λ a. ⟦<NamedBits as AsnType>⟧.tree a.value };
+
+    ghost own = { refl };
+}
+
+impl LawfulEq for Usage {
+    ghost use Rattle.rasn_types.specs.Deciding.{deciding};
+    ghost use Rattle.rasn_types.specs.NamedBits.{named_bits_decided, named_bits_not_absent};
+
+    ghost decides = { Prim.search (named_bits_decided, named_bits_not_absent, deciding) depth 64 };
+}
+
+impl Present for Usage {
+    ghost use Rattle.rasn_types.specs.Deciding.{deciding};
+    ghost use Rattle.rasn_types.specs.NamedBits.{named_bits_decided, named_bits_not_absent};
+
+    ghost present = { Prim.search (named_bits_decided, named_bits_not_absent, deciding) depth 64 };
+}
+
+impl Decode for Usage {
+    fn decode_with_tag_and_constraints(
+        decoder: &mut Decoder<'_>,
+        tag: Tag,
+        constraints: &Constraints,
+    ) -> Result<Usage, DecodeError> {
+        let value = <NamedBits as Decode>::decode_with_tag_and_constraints(
+            decoder,
+            tag,
+            constraints,
+        )?;
+        Ok(Usage { value })
+    }
+}
+
+impl Encode for Usage {
+    fn encode_with_tag_and_constraints(
+        &self,
+        encoder: &mut Encoder,
+        tag: Tag,
+        constraints: &Constraints,
+        identifier: Identifier,
+    ) -> Result<(), EncodeError> {
+        self.value
+            .encode_with_tag_and_constraints(encoder, tag, constraints, identifier)
+    }
+
+    fn is_present(&self) -> bool {
+        true
+    }
+}
