@@ -31,5 +31,5 @@ returns c =
       root = c.in_ok-schema.field-0.root;
       rule = c.in_ok-schema.field-0.rule;
       asked = c.in_ok-schema.ensures;
-      why = inr had;
+      why = inr (had.0, had.1);
     }) tt
