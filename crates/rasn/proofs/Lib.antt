@@ -7,5 +7,5 @@ pub mod TagOrder
 pub mod ReadBack
 pub mod StrictDer
 pub mod Time
-pub mod OwnMessages
+pub mod WholeMessages
 pub mod Normalised

@@ -1,6 +1,7 @@
 pub mod Headline
 pub mod Laws
 pub mod Carries
+pub mod Messages
 pub mod TimeLaws
 pub mod Worked
 pub mod WorkedShapes

@@ -7,6 +7,7 @@ pub mod cer;
 pub mod der;
 mod entry;
 pub mod laws;
+mod message;
 mod normal;
 pub mod open_type;
 pub mod parts;
@@ -15,6 +16,7 @@ pub mod time_laws;
 pub mod types;
 
 pub use entry::{decode, decode_with_remainder, refuse_remainder};
+pub use message::WholeMessage;
 pub use normal::{NormaliseError, normalise, same_exactly_if_equal};
 pub use rasn_de::ber::de::Decoder;
 pub use rasn_de::de;

@@ -1,5 +1,6 @@
 //! The items that your own types need: `use rasn::prelude::*;`.
 
+pub use crate::WholeMessage;
 pub use crate::parts::{
     Addition, DecodeAlternatives, DecodeParts, DecodeSetParts, DefaultValue, Defaulted,
     DefaultedChoice, DefaultedExplicit, EncodeAlternative, EncodeParts, EncodeSetParts, End,

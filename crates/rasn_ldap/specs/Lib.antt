@@ -21,4 +21,3 @@ pub mod ExtendedRequest
 pub mod ExtendedResponse
 pub mod Operations
 pub mod Message
-pub mod ReadBack

@@ -6,7 +6,7 @@ use rasn::parts::{End, Optional, Put, PutOptional, Required};
 use rasn::types::{
     AsnType, Constraints, ContextTag, Identifier, Implicit, LawfulEq, Present, Tag, Unknown,
 };
-use rasn::{Decode, Decoder, Encode, Encoder};
+use rasn::{Codec, Decode, Decoder, Encode, Encoder, WholeMessage};
 
 /// SEQUENCE { messageID INTEGER (0..maxInt), protocolOp CHOICE,
 /// controls \[0\] SEQUENCE OF Control OPTIONAL }: a message between a client and a server.
@@ -95,4 +95,15 @@ impl Encode for LdapMessage {
     fn is_present(&self) -> bool {
         true
     }
+}
+
+impl WholeMessage for LdapMessage {
+    ghost use Rattle.std.specs.Prelude.{refl};
+    ghost use Rattle.rasn_types.specs.declared.types.codec.Codec.TheVariants.{Ber};
+
+    ghost RULES = { Ber };
+
+    const RULES: Codec = Codec::Ber;
+
+    ghost whole = { refl };
 }

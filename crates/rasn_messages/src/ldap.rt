@@ -5,5 +5,5 @@ pub use rasn_ldap::{
     Control, DerefAliases, ExtendedRequest, ExtendedResponse, IntegerWithin, LdapMessage,
     LdapResult, LdapString, MaxInt, ModifyRequest, ModifyResponse, NotCritical, PartialAttribute,
     ProtocolOp, ResultCode, SaslCredentials, SearchRequest, SearchResultDone, SearchResultEntry,
-    SearchResultReference, SearchScope, has_lawful_shape, read_message, write_message,
+    SearchResultReference, SearchScope,
 };

@@ -3,5 +3,5 @@
 pub use rasn_snmp::{
     BulkPdu, Counter32, Counter64, Gauge32, IpAddress, Message, ObjectName, Opaque, Pdu, Pdus,
     TimeTicks, TrapPdu, Unsigned32, VERSION_1, VERSION_2C, VarBind, VarBindList, VarBindValue,
-    error_status, has_lawful_shape, read_message, write_message,
+    error_status,
 };

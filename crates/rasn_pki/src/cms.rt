@@ -3,7 +3,6 @@
 mod content_info;
 mod encapsulated_content_info;
 mod issuer_and_serial_number;
-mod reading;
 mod signed_data;
 mod signed_message;
 mod signer_identifier;
@@ -12,9 +11,6 @@ mod signer_info;
 pub use content_info::ContentInfo;
 pub use encapsulated_content_info::EncapsulatedContentInfo;
 pub use issuer_and_serial_number::IssuerAndSerialNumber;
-pub use reading::{
-    has_lawful_shape, read_signed_message, read_streamed_message, write_signed_message,
-};
 pub use signed_data::SignedData;
 pub use signed_message::SignedMessage;
 pub use signer_identifier::SignerIdentifier;

@@ -8,5 +8,4 @@ pub use attribute::Attribute;
 pub use rasn_x509::{
     AlgorithmIdentifier, AttributeTypeAndValue, Certificate, Extension, Name, NotCritical,
     RelativeDistinguishedName, SubjectPublicKeyInfo, TbsCertificate, Time, Validity, VersionOne,
-    has_lawful_shape, read_certificate, write_certificate,
 };

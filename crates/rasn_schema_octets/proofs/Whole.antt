@@ -10,7 +10,7 @@ use Rattle.rasn_types.specs.Lawful.{IsLawful}
 use Rattle.rasn_types.specs.Shapes.{Tree, items, absent}
 use Rattle.rasn_types.proofs.Lawful.{lawful}
 use Rattle.rasn.specs.Headline.{AnsweredAlone}
-use Rattle.rasn.proofs.OwnMessages.{carried_as_written}
+use Rattle.rasn.proofs.WholeMessages.{carried_as_written}
 use Rattle.rasn_schema.specs.declared.types.«Type».{«Type»}
 use Rattle.rasn_schema.specs.declared.named.TypeName.{TypeName}
 use Rattle.rasn_schema_octets.specs.declared.fault.Stop.{Stop}
@@ -32,7 +32,7 @@ octets_lawful = lawful octets_shape refl
 -- What DER reads has these octets.
 pub read_ok : (input : List ℕ) → AreOctets input → (r : Result SchemaForm DecodeError) → AnsweredAlone Der octets_shape schema_form_tree input r → IfOk r (λ f. IsRead input (schema_form_tree f))
 read_ok input o (Ok f) a =
-    let k = carried_as_written octets_shape octets_lawful refl schema_form_tree input o (Ok f) a in
+    let k = carried_as_written octets_shape refl schema_form_tree input o (Ok f) a in
     (a.0, subst (Bytes Der octets_shape (schema_form_tree f)) (sym k.1) k.0.is)
 read_ok input o (Err e) a = tt
 

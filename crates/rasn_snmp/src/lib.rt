@@ -8,7 +8,6 @@ pub mod error_status;
 mod message;
 mod pdu;
 mod pdus;
-mod reading;
 mod syntax;
 mod trap_pdu;
 mod var_bind;
@@ -18,7 +17,6 @@ pub use bulk_pdu::BulkPdu;
 pub use message::Message;
 pub use pdu::Pdu;
 pub use pdus::Pdus;
-pub use reading::{has_lawful_shape, read_message, write_message};
 pub use syntax::{
     Counter32, Counter64, Gauge32, IpAddress, ObjectName, Opaque, TimeTicks, Unsigned32,
     VarBindList,

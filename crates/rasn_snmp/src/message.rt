@@ -4,7 +4,7 @@ use crate::Pdus;
 use rasn::error::{DecodeError, EncodeError};
 use rasn::parts::{End, Put, Required};
 use rasn::types::{AsnType, Constraints, Identifier, LawfulEq, OctetString, Present, Tag};
-use rasn::{Decode, Decoder, Encode, Encoder};
+use rasn::{Codec, Decode, Decoder, Encode, Encoder, WholeMessage};
 
 /// SEQUENCE { version INTEGER, community OCTET STRING, data PDUs }
 #[derive(Debug, PartialEq, Eq, Drop)]
@@ -85,4 +85,15 @@ impl Encode for Message {
     fn is_present(&self) -> bool {
         true
     }
+}
+
+impl WholeMessage for Message {
+    ghost use Rattle.std.specs.Prelude.{refl};
+    ghost use Rattle.rasn_types.specs.declared.types.codec.Codec.TheVariants.{Ber};
+
+    ghost RULES = { Ber };
+
+    const RULES: Codec = Codec::Ber;
+
+    ghost whole = { refl };
 }

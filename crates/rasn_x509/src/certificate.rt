@@ -4,7 +4,7 @@ use crate::{AlgorithmIdentifier, TbsCertificate};
 use rasn::error::{DecodeError, EncodeError};
 use rasn::parts::{DecodeParts, End, Put, Required};
 use rasn::types::{AsnType, BitString, Constraints, Identifier, LawfulEq, Present, Tag};
-use rasn::{Decode, Decoder, Encode, Encoder};
+use rasn::{Codec, Decode, Decoder, Encode, Encoder, WholeMessage};
 
 /// SEQUENCE { tbsCertificate TBSCertificate, signatureAlgorithm AlgorithmIdentifier,
 /// signatureValue BIT STRING }
@@ -100,4 +100,15 @@ impl Encode for Certificate {
     fn is_present(&self) -> bool {
         true
     }
+}
+
+impl WholeMessage for Certificate {
+    ghost use Rattle.std.specs.Prelude.{refl};
+    ghost use Rattle.rasn_types.specs.declared.types.codec.Codec.TheVariants.{Der};
+
+    ghost RULES = { Der };
+
+    const RULES: Codec = Codec::Der;
+
+    ghost whole = { refl };
 }

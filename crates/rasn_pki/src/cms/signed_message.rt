@@ -7,7 +7,7 @@ use rasn::types::{
     AsnType, Constraints, ContextTag, Explicit, Identifier, LawfulEq, ObjectIdentifier, Present,
     Tag,
 };
-use rasn::{Decode, Decoder, Encode, Encoder};
+use rasn::{Codec, Decode, Decoder, Encode, Encoder, WholeMessage};
 
 /// SEQUENCE { contentType OBJECT IDENTIFIER, content \[0\] EXPLICIT SignedData }. RFC 5652 requires
 /// 1.2.840.113549.1.7.2 as `content_type`; the type admits any.
@@ -81,4 +81,15 @@ impl Encode for SignedMessage {
     fn is_present(&self) -> bool {
         true
     }
+}
+
+impl WholeMessage for SignedMessage {
+    ghost use Rattle.std.specs.Prelude.{refl};
+    ghost use Rattle.rasn_types.specs.declared.types.codec.Codec.TheVariants.{Ber};
+
+    ghost RULES = { Ber };
+
+    const RULES: Codec = Codec::Ber;
+
+    ghost whole = { refl };
 }

@@ -5,7 +5,7 @@ use crate::x509::AlgorithmIdentifier;
 use rasn::error::{DecodeError, EncodeError};
 use rasn::parts::{End, Put, Required};
 use rasn::types::{AsnType, BitString, Constraints, Identifier, LawfulEq, Present, Tag};
-use rasn::{Decode, Decoder, Encode, Encoder};
+use rasn::{Codec, Decode, Decoder, Encode, Encoder, WholeMessage};
 
 /// SEQUENCE { certificationRequestInfo CertificationRequestInfo,
 /// signatureAlgorithm AlgorithmIdentifier, signature BIT STRING }
@@ -90,4 +90,15 @@ impl Encode for CertificationRequest {
     fn is_present(&self) -> bool {
         true
     }
+}
+
+impl WholeMessage for CertificationRequest {
+    ghost use Rattle.std.specs.Prelude.{refl};
+    ghost use Rattle.rasn_types.specs.declared.types.codec.Codec.TheVariants.{Der};
+
+    ghost RULES = { Der };
+
+    const RULES: Codec = Codec::Der;
+
+    ghost whole = { refl };
 }

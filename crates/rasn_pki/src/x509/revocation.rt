@@ -1,11 +1,9 @@
 //! Revocation lists (RFC 5280, 5).
 
 mod certificate_list;
-mod reading;
 mod revoked_certificate;
 mod tbs_cert_list;
 
 pub use certificate_list::CertificateList;
-pub use reading::{has_lawful_shape, read_revocation_list, write_revocation_list};
 pub use revoked_certificate::RevokedCertificate;
 pub use tbs_cert_list::TbsCertList;

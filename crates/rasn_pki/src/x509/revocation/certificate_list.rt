@@ -5,7 +5,7 @@ use crate::x509::revocation::TbsCertList;
 use rasn::error::{DecodeError, EncodeError};
 use rasn::parts::{DecodeParts, End, Put, Required};
 use rasn::types::{AsnType, BitString, Constraints, Identifier, LawfulEq, Present, Tag};
-use rasn::{Decode, Decoder, Encode, Encoder};
+use rasn::{Codec, Decode, Decoder, Encode, Encoder, WholeMessage};
 
 /// SEQUENCE { tbsCertList TBSCertList, signatureAlgorithm AlgorithmIdentifier,
 /// signatureValue BIT STRING }
@@ -99,4 +99,15 @@ impl Encode for CertificateList {
     fn is_present(&self) -> bool {
         true
     }
+}
+
+impl WholeMessage for CertificateList {
+    ghost use Rattle.std.specs.Prelude.{refl};
+    ghost use Rattle.rasn_types.specs.declared.types.codec.Codec.TheVariants.{Der};
+
+    ghost RULES = { Der };
+
+    const RULES: Codec = Codec::Der;
+
+    ghost whole = { refl };
 }
