@@ -100,3 +100,14 @@ impl Encode for Account {
         true
     }
 }
+
+impl WholeMessage for Account {
+    ghost use Rattle.std.specs.Prelude.{refl};
+    ghost use Rattle.rasn_types.specs.declared.types.codec.Codec.TheVariants.{Der};
+
+    ghost RULES = { Der };
+
+    const RULES: Codec = Codec::Der;
+
+    ghost whole = { refl };
+}

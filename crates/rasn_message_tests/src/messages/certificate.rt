@@ -2,9 +2,10 @@
 
 use crate::asserts::{assert_has, assert_written_as};
 use crate::messages::spoilt::{READ, Spoilt, assert_spoilt};
+use rasn::WholeMessage;
 use rasn::types::Codec;
 use rasn_samples::certificate::CERTIFICATE;
-use rasn_x509::{Certificate, Extension, Time, read_certificate, write_certificate};
+use rasn_x509::{Certificate, Extension, Time};
 
 /// Returns whether the time is 13:07 on a day in 2026, as a UTCTime.
 fn is_start(time: &Time) -> bool {
@@ -32,14 +33,14 @@ fn has_parts(certificate: &Certificate) -> bool {
 
 #[test]
 fn a_certificate_has_its_parts(rt: HostRuntime) {
-    assert_has(&rt, read_certificate(rt.alloc(), CERTIFICATE), has_parts);
+    assert_has(&rt, Certificate::read(rt.alloc(), CERTIFICATE), has_parts);
 }
 
 #[test]
 fn a_certificate_is_written_back(rt: HostRuntime) {
     let alloc = rt.alloc();
-    let answer = read_certificate(alloc, CERTIFICATE);
-    let write = |alloc, certificate: &Certificate| write_certificate(alloc, certificate);
+    let answer = Certificate::read(alloc, CERTIFICATE);
+    let write = |alloc, certificate: &Certificate| certificate.write(alloc);
     assert_written_as(&rt, alloc, answer, write, CERTIFICATE);
 }
 

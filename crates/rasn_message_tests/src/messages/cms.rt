@@ -4,11 +4,9 @@ use crate::asserts::{
     Answer, ahead_of, assert_decodes, assert_has, assert_read_back, assert_written_as,
 };
 use crate::messages::spoilt::{READ, Spoilt, assert_spoilt};
+use rasn::WholeMessage;
 use rasn::types::Codec;
-use rasn_messages::cms::{
-    SignedMessage, SignerIdentifier, read_signed_message, read_streamed_message,
-    write_signed_message,
-};
+use rasn_messages::cms::{SignedMessage, SignerIdentifier};
 use rasn_samples::cms::{MESSAGE, STREAMED};
 
 /// Returns whether these are the parts that OpenSSL was given.
@@ -27,14 +25,14 @@ fn has_parts(message: &SignedMessage) -> bool {
 
 #[test]
 fn a_signed_message_has_its_parts(rt: HostRuntime) {
-    assert_has(&rt, read_signed_message(rt.alloc(), MESSAGE), has_parts);
+    assert_has(&rt, SignedMessage::read_der(rt.alloc(), MESSAGE), has_parts);
 }
 
 #[test]
 fn a_signed_message_is_written_back(rt: HostRuntime) {
     let alloc = rt.alloc();
-    let answer = read_signed_message(alloc, MESSAGE);
-    let write = |alloc, message: &SignedMessage| write_signed_message(alloc, message);
+    let answer = SignedMessage::read_der(alloc, MESSAGE);
+    let write = |alloc, message: &SignedMessage| message.write(alloc);
     assert_written_as(&rt, alloc, answer, write, MESSAGE);
 }
 
@@ -47,7 +45,7 @@ fn is_signed_by_keys(message: &SignedMessage) -> bool {
 // BER reads indefinite lengths, and contents in segments.
 #[test]
 fn a_streamed_message_is_read(rt: HostRuntime) {
-    let answer = read_streamed_message(rt.alloc(), STREAMED);
+    let answer = SignedMessage::read_with_remainder(rt.alloc(), STREAMED);
     assert_has(&rt, ahead_of(&rt, answer, &[]), is_signed_by_keys);
 }
 
@@ -56,9 +54,13 @@ fn a_streamed_message_is_read(rt: HostRuntime) {
 #[test]
 fn a_streamed_message_is_written_in_der(rt: HostRuntime) {
     let alloc = rt.alloc();
-    let answer = ahead_of(&rt, read_streamed_message(alloc, STREAMED), &[]);
-    let write = |alloc, message: &SignedMessage| write_signed_message(alloc, message);
-    let read = |alloc, octets: &[u8]| read_signed_message(alloc, octets);
+    let answer = ahead_of(
+        &rt,
+        SignedMessage::read_with_remainder(alloc, STREAMED),
+        &[],
+    );
+    let write = |alloc, message: &SignedMessage| message.write(alloc);
+    let read = |alloc, octets: &[u8]| SignedMessage::read_der(alloc, octets);
     assert_read_back(&rt, alloc, answer, write, read);
 }
 

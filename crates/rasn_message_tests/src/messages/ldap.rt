@@ -4,11 +4,12 @@ use crate::asserts::{
     Answer, Rewritten, ahead_of, assert_decodes, assert_has, assert_output, assert_rewrites,
     assert_written_as,
 };
+use rasn::WholeMessage;
 use rasn::error::EncodeError;
 use rasn::types::{Codec, Unknown};
 use rasn_ldap::{
     ChangeOperation, DerefAliases, LdapMessage, MaxInt, ProtocolOp, ResultCode, SearchRequest,
-    SearchScope, read_message, write_message,
+    SearchScope,
 };
 use rasn_samples::ldap::{
     BIND, BIND_CONTINUES, BIND_STEP, BOUND, CHILDREN, DONE, ENTRY, EXTENDED, MODIFIED, MODIFY,
@@ -20,8 +21,8 @@ use std::process::Abort;
 /// Asserts that each of the messages is read, without octets after it, and written back.
 fn assert_written_back(rt: &impl Abort, alloc: Global, messages: &[&[u8]]) {
     for octets in messages {
-        let answer = ahead_of(rt, read_message(alloc, octets), &[]);
-        let write = |alloc, message: &LdapMessage| write_message(alloc, message);
+        let answer = ahead_of(rt, LdapMessage::read_with_remainder(alloc, octets), &[]);
+        let write = |alloc, message: &LdapMessage| message.write(alloc);
         assert_written_as(rt, alloc, answer, write, octets);
     }
 }
@@ -62,7 +63,11 @@ fn is_search(message: &LdapMessage) -> bool {
 
 #[test]
 fn a_search_has_its_parts(rt: HostRuntime) {
-    let answer = ahead_of(&rt, read_message(rt.alloc(), SEARCH), &[]);
+    let answer = ahead_of(
+        &rt,
+        LdapMessage::read_with_remainder(rt.alloc(), SEARCH),
+        &[],
+    );
     assert_has(&rt, answer, is_search);
 }
 
@@ -95,9 +100,13 @@ fn is_third(message: &LdapMessage) -> bool {
 #[test]
 fn named_numbers_are_read(rt: HostRuntime) {
     let alloc = rt.alloc();
-    let answer = ahead_of(&rt, read_message(alloc, BIND_CONTINUES), &[]);
+    let answer = ahead_of(
+        &rt,
+        LdapMessage::read_with_remainder(alloc, BIND_CONTINUES),
+        &[],
+    );
     assert_has(&rt, answer, is_bind_in_progress);
-    let answer = ahead_of(&rt, read_message(alloc, MODIFY), &[]);
+    let answer = ahead_of(&rt, LdapMessage::read_with_remainder(alloc, MODIFY), &[]);
     assert_has(&rt, answer, is_replaced_first);
 }
 
@@ -131,7 +140,7 @@ fn what_is_unknown_is_kept(rt: HostRuntime) {
     ];
     let alloc = rt.alloc();
     assert_written_back(&rt, alloc, ROWS);
-    let answer = ahead_of(&rt, read_message(alloc, NEWER), &[]);
+    let answer = ahead_of(&rt, LdapMessage::read_with_remainder(alloc, NEWER), &[]);
     assert_has(&rt, answer, has_unknown_null);
 }
 
@@ -141,7 +150,11 @@ fn what_follows_a_message_is_left(rt: HostRuntime) {
     const BOTH: &[u8] = &[
         0x30, 0x05, 0x02, 0x01, 0x03, 0x42, 0x00, 0x30, 0x05, 0x02, 0x01, 0x03, 0x42, 0x00,
     ];
-    let answer = ahead_of(&rt, read_message(rt.alloc(), BOTH), UNBIND);
+    let answer = ahead_of(
+        &rt,
+        LdapMessage::read_with_remainder(rt.alloc(), BOTH),
+        UNBIND,
+    );
     assert_has(&rt, answer, is_third);
 }
 
@@ -256,7 +269,7 @@ fn written_unbind(alloc: Global, number: u32) -> Result<Vec<u8>, EncodeError> {
         controls: None,
         unknown: Unknown::new(alloc),
     };
-    write_message(alloc, &message)
+    message.write(alloc)
 }
 
 // The largest INTEGER (0..maxInt) is 2147483647 (RFC 4511, 4.1.1).

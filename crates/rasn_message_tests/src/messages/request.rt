@@ -2,8 +2,9 @@
 
 use crate::asserts::{assert_has, assert_written_as};
 use crate::messages::spoilt::{READ, Spoilt, assert_spoilt};
+use rasn::WholeMessage;
 use rasn::types::Codec;
-use rasn_messages::pkcs10::{CertificationRequest, read_request, write_request};
+use rasn_messages::pkcs10::CertificationRequest;
 use rasn_samples::request::REQUEST;
 
 /// Returns whether these are the parts that OpenSSL was given.
@@ -18,14 +19,18 @@ fn has_parts(request: &CertificationRequest) -> bool {
 
 #[test]
 fn a_request_has_its_parts(rt: HostRuntime) {
-    assert_has(&rt, read_request(rt.alloc(), REQUEST), has_parts);
+    assert_has(
+        &rt,
+        CertificationRequest::read(rt.alloc(), REQUEST),
+        has_parts,
+    );
 }
 
 #[test]
 fn a_request_is_written_back(rt: HostRuntime) {
     let alloc = rt.alloc();
-    let answer = read_request(alloc, REQUEST);
-    let write = |alloc, request: &CertificationRequest| write_request(alloc, request);
+    let answer = CertificationRequest::read(alloc, REQUEST);
+    let write = |alloc, request: &CertificationRequest| request.write(alloc);
     assert_written_as(&rt, alloc, answer, write, REQUEST);
 }
 

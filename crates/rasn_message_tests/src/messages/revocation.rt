@@ -2,12 +2,11 @@
 
 use crate::asserts::{assert_has, assert_written_as};
 use crate::messages::spoilt::{READ, Spoilt, assert_spoilt};
+use rasn::WholeMessage;
 use rasn::error::DecodeErrorKind;
 use rasn::types::Codec;
 use rasn_messages::x509::Time;
-use rasn_messages::x509::revocation::{
-    CertificateList, read_revocation_list, write_revocation_list,
-};
+use rasn_messages::x509::revocation::CertificateList;
 use rasn_samples::revocation::REVOCATION_LIST;
 
 // The same list without revoked certificates and extensions, which is of version 1.
@@ -82,8 +81,12 @@ fn is_empty(list: &CertificateList) -> bool {
 #[test]
 fn revocation_lists_have_their_parts(rt: HostRuntime) {
     let alloc = rt.alloc();
-    assert_has(&rt, read_revocation_list(alloc, REVOCATION_LIST), has_parts);
-    assert_has(&rt, read_revocation_list(alloc, EMPTY_LIST), is_empty);
+    assert_has(
+        &rt,
+        CertificateList::read(alloc, REVOCATION_LIST),
+        has_parts,
+    );
+    assert_has(&rt, CertificateList::read(alloc, EMPTY_LIST), is_empty);
 }
 
 /// Returns whether the next list is issued at a GeneralizedTime.
@@ -100,9 +103,9 @@ fn is_undated(list: &CertificateList) -> bool {
 #[test]
 fn revocation_lists_have_one_next_update(rt: HostRuntime) {
     let alloc = rt.alloc();
-    assert_has(&rt, read_revocation_list(alloc, GENERAL_LIST), is_general);
-    assert_has(&rt, read_revocation_list(alloc, UNDATED_LIST), is_undated);
-    let refused = read_revocation_list(alloc, TWICE_DATED_LIST);
+    assert_has(&rt, CertificateList::read(alloc, GENERAL_LIST), is_general);
+    assert_has(&rt, CertificateList::read(alloc, UNDATED_LIST), is_undated);
+    let refused = CertificateList::read(alloc, TWICE_DATED_LIST);
     let kind = refused.map_err(|error| error.kind);
     assert!(rt;
         matches!(kind, Err(DecodeErrorKind::UnexpectedExtraData { .. })),
@@ -114,8 +117,8 @@ fn revocation_lists_have_one_next_update(rt: HostRuntime) {
 fn revocation_lists_are_written_back(rt: HostRuntime) {
     let alloc = rt.alloc();
     for octets in [REVOCATION_LIST, EMPTY_LIST, GENERAL_LIST, UNDATED_LIST] {
-        let answer = read_revocation_list(alloc, octets);
-        let write = |alloc, list: &CertificateList| write_revocation_list(alloc, list);
+        let answer = CertificateList::read(alloc, octets);
+        let write = |alloc, list: &CertificateList| list.write(alloc);
         assert_written_as(&rt, alloc, answer, write, octets);
     }
 }

@@ -2,12 +2,13 @@
 
 use crate::asserts::{Answer, ahead_of, assert_decodes, assert_has, assert_written_as};
 use crate::messages::spoilt::{Spoilt, assert_spoilt, spoilt};
+use rasn::WholeMessage;
 use rasn::types::Codec;
 use rasn_samples::snmp::{
     END_OF_VIEW, GET, GET_BULK, GET_NEXT, INFORM, NOT_WRITABLE, RESPONSE, SET, TRAP,
     TRAP_OF_VERSION_1,
 };
-use rasn_snmp::{Message, Pdus, VarBindValue, read_message, write_message};
+use rasn_snmp::{Message, Pdus, VarBindValue};
 use std::alloc::Global;
 use std::process::Abort;
 
@@ -42,14 +43,14 @@ fn operation(data: &Pdus) -> &'static str {
 
 /// Asserts that the octets are a message with this alternative of PDUs, and are written back.
 fn assert_is_message(rt: &impl Abort, alloc: Global, octets: &[u8], name: &str) {
-    let answer = ahead_of(rt, read_message(alloc, octets), &[]);
+    let answer = ahead_of(rt, Message::read_with_remainder(alloc, octets), &[]);
     assert_has(
         rt,
         answer,
         |message: &Message| operation(&message.data) == name,
     );
-    let answer = ahead_of(rt, read_message(alloc, octets), &[]);
-    let write = |alloc, message: &Message| write_message(alloc, message);
+    let answer = ahead_of(rt, Message::read_with_remainder(alloc, octets), &[]);
+    let write = |alloc, message: &Message| message.write(alloc);
     assert_written_as(rt, alloc, answer, write, octets);
 }
 
@@ -277,7 +278,11 @@ fn a_message_of_indefinite_length_is_written_definite(rt: HostRuntime) {
         0x0B, 0x06, 0x07, 0x2B, 0x06, 0x01, 0x02, 0x01, 0x01, 0x05, 0x05, 0x00, 0x00, 0x00, 0xAB,
         0xCD,
     ];
-    let answer = ahead_of(&rt, read_message(alloc, INDEFINITE), &[0xAB, 0xCD]);
-    let write = |alloc, message: &Message| write_message(alloc, message);
+    let answer = ahead_of(
+        &rt,
+        Message::read_with_remainder(alloc, INDEFINITE),
+        &[0xAB, 0xCD],
+    );
+    let write = |alloc, message: &Message| message.write(alloc);
     assert_written_as(&rt, alloc, answer, write, GET_NEXT);
 }
