@@ -1,8 +1,9 @@
-//! An account, whose ASN.1 is in `specs/Accounts.antt`.
+//! An account of a system.
 use rasn::prelude::*;
 use std::alloc::{AllocError, Global};
 
-/// An account of the system.
+/// SEQUENCE { id INTEGER, name UTF8String, active BOOLEAN DEFAULT TRUE, quota INTEGER (0..65535),
+/// email IA5String OPTIONAL, role OBJECT IDENTIFIER }
 #[derive(Debug, PartialEq, Eq, Drop)]
 pub struct Account {
     pub id: Integer,
@@ -13,11 +14,16 @@ pub struct Account {
     pub role: ObjectIdentifier,
 }
 
+/// The components in their order.
+type Parts = Required<Integer, Required<Utf8String, Defaulted<Active, Quota>>>;
+
+type Quota = Required<u16, Optional<Ia5String, Required<ObjectIdentifier, End>>>;
+
 impl AsnType for Account {
     ghost use Rattle.std.specs.Prelude.{refl};
     ghost use Rattle.rasn_types.specs.Tags.{in_universal};
+    ghost use Rattle.rasn_types.specs.Shapes.{seq};
     ghost use Rattle.rasn_types.specs.Trees.{unconstrained};
-    ghost use Rattle.rasn_tutorial.specs.Accounts.{account_shape, account_tree};
 
     ghost TAG = { in_universal 16 };
 
@@ -27,9 +33,9 @@ impl AsnType for Account {
 
     const CONSTRAINTS: Constraints = Constraints::NONE;
 
-    ghost shape = { account_shape };
+    ghost shape = { seq (in_universal 16) ⟦<Parts as DecodeParts>⟧.parts };
 
-    ghost tree = { account_tree };
+    ghost tree = { λ a. ⟦<Parts as DecodeParts>⟧.tree (record { 0 = a.id; 1 = record { 0 = a.name; 1 = record { 0 = a.active; 1 = record { 0 = a.quota; 1 = record { 0 = a.email; 1 = record { 0 = a.role; 1 = record {} } } } } } }) };
 
     ghost own = { refl };
 }
@@ -51,12 +57,11 @@ impl Present for Account {
 pub struct Active;
 
 impl DefaultValue for Active {
-    ghost use Rattle.std.specs.Prelude.{pos};
-    ghost use Rattle.rasn_types.specs.Shapes.{number};
+    ghost use Rattle.std.specs.Prelude.{true};
 
     type Value = bool;
 
-    ghost default_tree = { number (pos 1) };
+    ghost default_tree = { ⟦<bool as AsnType>⟧.tree true };
 
     fn default_value(_alloc: Global) -> Result<bool, AllocError> {
         Ok(true)
@@ -69,8 +74,9 @@ impl Decode for Account {
         tag: Tag,
         _constraints: &Constraints,
     ) -> Result<Account, DecodeError> {
-        let Required(id, Required(name, Defaulted::<Active, _>(active, rest))) =
-            decoder.read_sequence(tag)?;
+        let Required(id, Required(name, Defaulted(active, rest))) = decoder.read_sequence::<Parts>(
+            tag,
+        )?;
         let Required(quota, Optional(email, Required(role, End))) = rest;
         Ok(Account {
             id,

@@ -1,18 +1,22 @@
-//! The choice of ways to reach somebody, whose ASN.1 is in `specs/Contacts.antt`.
+//! How to reach somebody.
 use rasn::prelude::*;
 
-/// How to reach the holder of an account.
+/// CHOICE { email IA5String, phone NumericString }
 #[derive(Debug, PartialEq, Eq, Drop)]
 pub enum Contact {
     Email(Ia5String),
     Phone(NumericString),
 }
 
+/// The alternatives in their order.
+type Alternatives = OneOf<Ia5String, Last<NumericString>>;
+
 impl AsnType for Contact {
     ghost use Rattle.std.specs.Prelude.{refl};
     ghost use Rattle.rasn_types.specs.Tags.{eoc};
+    ghost use Rattle.rasn_types.specs.Shapes.{choice, chosen};
     ghost use Rattle.rasn_types.specs.Trees.{unconstrained};
-    ghost use Rattle.rasn_tutorial.specs.Contacts.{contact_shape, contact_tree};
+    ghost use Rattle.rasn_tutorial.specs.declared.contact.Contact.TheVariants.{Email, Phone};
 
     ghost TAG = { eoc };
 
@@ -22,25 +26,26 @@ impl AsnType for Contact {
 
     const CONSTRAINTS: Constraints = Constraints::NONE;
 
-    ghost shape = { contact_shape };
+    ghost shape = { choice ⟦<Alternatives as DecodeAlternatives>⟧.parts };
 
-    ghost tree = { contact_tree };
+    ghost tree = { elim [ Email x ↦ chosen 0 (⟦<Ia5String as AsnType>⟧.tree x) | Phone x ↦ chosen 1 (⟦<NumericString as AsnType>⟧.tree x) ] };
 
     ghost own = { refl };
 }
 
 impl LawfulEq for Contact {
-    ghost use Rattle.rasn_types.specs.Equality.{choice_decided, alternative, octets_decided};
+    ghost use Rattle.rasn_types.specs.Deciding.{deciding};
+    ghost use Rattle.rasn_types.specs.Equality.{choice_decided, alternative};
     ghost use Rattle.rasn_tutorial.specs.contracts.contact.Contact.{enum as contact_enum};
-    ghost use Rattle.rasn_tutorial.specs.Contacts.{contact_tree};
 
-    ghost decides = { choice_decided contact_enum _ contact_tree (alternative (λ x. x.0) octets_decided, (alternative (λ x. x.0) octets_decided, tt)) };
+    ghost decides = { choice_decided contact_enum _ _ (alternative (λ x. x.0) (Prim.search deciding depth 64), (alternative (λ x. x.0) (Prim.search deciding depth 64), tt)) };
 }
 
 impl Present for Contact {
-    ghost use Rattle.rasn_tutorial.specs.Contacts.{contact_not_absent};
+    ghost use Rattle.rasn_types.specs.Equality.{chosen_not_absent};
+    ghost use Rattle.rasn_tutorial.specs.declared.contact.Contact.TheVariants.{Email, Phone};
 
-    ghost present = { contact_not_absent };
+    ghost present = { elim [ Email x ↦ chosen_not_absent | Phone x ↦ chosen_not_absent ] };
 }
 
 impl Decode for Contact {
@@ -49,7 +54,7 @@ impl Decode for Contact {
         _tag: Tag,
         _constraints: &Constraints,
     ) -> Result<Contact, DecodeError> {
-        match decoder.read_choice::<OneOf<Ia5String, Last<NumericString>>>("Contact")? {
+        match decoder.read_choice::<Alternatives>("Contact")? {
             OneOf::This(address) => Ok(Contact::Email(address)),
             OneOf::Other(Last(number)) => Ok(Contact::Phone(number)),
         }
@@ -57,7 +62,7 @@ impl Decode for Contact {
 }
 
 /// The alternatives, as they are written.
-type Alternatives<'a> = OneOf<&'a Ia5String, Last<&'a NumericString>>;
+type Written<'a> = OneOf<&'a Ia5String, Last<&'a NumericString>>;
 
 impl Encode for Contact {
     fn encode_with_tag_and_constraints(
@@ -68,11 +73,9 @@ impl Encode for Contact {
         _identifier: Identifier,
     ) -> Result<(), EncodeError> {
         match self {
-            Contact::Email(address) => encoder.write_choice::<Alternatives<'_>>(OneOf::This(
-                address,
-            )),
+            Contact::Email(address) => encoder.write_choice::<Written<'_>>(OneOf::This(address)),
             Contact::Phone(number) => {
-                encoder.write_choice::<Alternatives<'_>>(OneOf::Other(Last(number)))
+                encoder.write_choice::<Written<'_>>(OneOf::Other(Last(number)))
             }
         }
     }
