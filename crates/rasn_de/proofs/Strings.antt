@@ -11,3 +11,5 @@ pub mod CharacterString
 pub mod Checks
 pub mod Appends
 pub mod Time
+pub mod Lengths
+pub mod Seen
