@@ -13,3 +13,4 @@ pub mod Appends
 pub mod Time
 pub mod Lengths
 pub mod Seen
+pub mod SeenBits

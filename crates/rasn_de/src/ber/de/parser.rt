@@ -11,6 +11,7 @@ use rasn_types::error::DerDecodeErrorKind;
 use rasn_types::types::{Bounded, Class, Tag};
 
 pub mod alphabet_scan;
+pub mod bit_count;
 pub mod bit_string;
 pub mod constructed;
 pub mod headers;
