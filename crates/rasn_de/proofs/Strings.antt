@@ -14,3 +14,4 @@ pub mod Time
 pub mod Lengths
 pub mod Seen
 pub mod SeenBits
+pub mod SeenNamed

@@ -1,8 +1,10 @@
 -- What a call returns that checks a value and makes nothing of it.
-use Rattle.std.specs.Prelude.{◌≡◌, ◌≢◌, ◌<◌, ◌^◌, ℕ, List, length, slice_index, Option, Some, None, Result, Ok, Err}
+use Rattle.std.specs.Prelude.{◌≡◌, ◌≢◌, ◌<◌, ◌^◌, ℕ, Bool, List, length, slice_index, Option, Some, None, Result, Ok, Err}
 use Rattle.rasn_types.specs.declared.types.codec.Codec.{Codec}
 use Rattle.rasn_types.specs.declared.types.tag.Tag.{Tag}
 use Rattle.rasn_types.specs.declared.types.constraints.Bound.{Bound}
+use Rattle.rasn_types.specs.declared.types.constraints.Constraints.{Constraints}
+use Rattle.rasn_types.specs.BitString.{significant}
 use Rattle.rasn_types.specs.declared.types.strings.alphabet.Alphabet.{Alphabet}
 use Rattle.rasn_types.specs.CharacterString.{AreAdmitted, IsFirstForeign, units_of}
 use Rattle.rasn_types.specs.Shapes.{Shape, Tree}
@@ -12,8 +14,9 @@ use Rattle.rasn_de.specs.Segments.{string_at}
 use Rattle.rasn_de.specs.ParserViews.{SeesMore}
 use Rattle.rasn_de.specs.State.{at, Call}
 use Rattle.rasn_de.specs.Steps.{IsErrorOf}
-use Rattle.rasn_de.specs.CharacterString.{StringCheck, ByAlphabet, ByUnits, DecodesBorrowed, ChecksString}
+use Rattle.rasn_de.specs.CharacterString.{StringCheck, ByAlphabet, ByLength, ByUnits, DecodesBorrowed, ChecksString}
 use Rattle.rasn_de.specs.Decodes.{Decodes}
+use Rattle.rasn_de.specs.NamedBits.{AreNamedBits}
 use Rattle.rasn_de.specs.ObjectIdentifier.{ReadsArcs, FailsAtSubidentifier}
 
 -- It returns what some result of the call that makes a value is.
@@ -66,3 +69,15 @@ ChecksScanned a size len foreign result = (l : List ℕ) → length l < 2 ^ 64 �
 -- So many octets are accepted or refused as 16-bit units.
 abbrev pub ChecksUnits : Option (Bound ℕ) → ℕ → Result (Unit {0}) ParseError → Type 0
 ChecksUnits size len result = (l : List ℕ) → len ≡ length l → ChecksString (ByUnits size) l (units_of l) result
+
+-- So many octets are accepted or refused as n octets.
+abbrev pub ChecksLength : ℕ → Option (Bound ℕ) → ℕ → Result (Unit {0}) ParseError → Type 0
+ChecksLength n size len result = (l : List ℕ) → len ≡ length l → ChecksString (ByLength n size) l l result
+
+-- The number of bits that were seen, and of those up to the last that is 1. Each is right only if the bits aren't too many.
+abbrev pub CountsNamed : ℕ → ℕ → List Bool → Type 0
+CountsNamed len size bs = Counts (2 ^ 128) len bs × (length bs < 2 ^ 64 → size ≡ length (significant bs))
+
+-- Bits of these numbers are accepted or refused as named bits.
+abbrev pub ChecksNamedBits : Codec → Constraints → ℕ → ℕ → Result (Unit {0}) ParseError → Type 0
+ChecksNamedBits rule bounds size len result = (bs : List Bool) → size ≡ length (significant bs) → len ≡ length bs → AreNamedBits rule bounds bs result

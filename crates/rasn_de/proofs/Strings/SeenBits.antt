@@ -41,7 +41,7 @@ segment_fits rule (u ∷ octets) bs e =
     let k : length (but_last u octets) ≡ length bs = ap length m in
     omega (arith, length-but_last u octets)
 
-bits_fit : (rule : Codec) (d : ℕ) (tag : Tag) (l : List ℕ) → AreOctets l → (bs : List Bool) (rest : List ℕ) → bit_string_at rule d tag l ≡ Ok (bs, rest) → length bs ≤ 8 * length l
+pub bits_fit : (rule : Codec) (d : ℕ) (tag : Tag) (l : List ℕ) → AreOctets l → (bs : List Bool) (rest : List ℕ) → bit_string_at rule d tag l ≡ Ok (bs, rest) → length bs ≤ 8 * length l
 bits_fit rule d tag l o bs rest e =
     items_fit (λ c. 8 * length c) (λ a b. omega (arith, length-append a b)) rule (segment_bits rule) (segment_fits rule) (in_universal 3) d tag l o bs rest e
 

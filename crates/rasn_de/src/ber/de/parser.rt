@@ -15,6 +15,7 @@ pub mod bit_count;
 pub mod bit_string;
 pub mod constructed;
 pub mod headers;
+pub mod named_count;
 pub mod object_identifier;
 pub mod octet_count;
 pub mod segments;
