@@ -1,7 +1,7 @@
 //! Strings in segments that are checked, and of which nothing is made (X.690 8.6.4, 8.7.3, 8.23).
 
 use crate::reading::{assert_answer, decoder_of, sized};
-use rasn_types::types::{Alphabet, Codec, Tag};
+use rasn_types::types::{Alphabet, Codec, Constraints, Tag};
 
 /// Octets, the size that the string has to have, and the text of the result.
 type Checked = (&'static [u8], usize, &'static str);
@@ -109,6 +109,52 @@ fn counts_units(rt: HostRuntime) {
     for (octets, size, text) in UNITS {
         let mut decoder = decoder_of(rt.alloc(), octets, Codec::Ber);
         let answer = decoder.check_bmp_string(Tag::BMP_STRING, &sized(*size));
+        assert_answer(&rt, rt.alloc(), Codec::Ber, answer, text);
+        assert!(rt; decoder.remaining().is_empty());
+    }
+}
+
+/// The octets A1 B2 C3, of which there have to be three, or four.
+const FIXED: &[(usize, &str)] = &[
+    (3, "()"),
+    (
+        4,
+        "SizeConstraintNotSatisfied { size: Some(3), expected: Single(4) }",
+    ),
+];
+
+// A type of a fixed size has so many octets in all segments together (X.690 8.7.3).
+#[test]
+fn counts_to_a_fixed_size(rt: HostRuntime) {
+    for (len, text) in FIXED {
+        let mut decoder = decoder_of(rt.alloc(), THREE_OCTETS, Codec::Ber);
+        let tag = Tag::OCTET_STRING;
+        let answer = decoder.check_fixed_octet_string(*len, tag, &Constraints::NONE);
+        assert_answer(&rt, rt.alloc(), Codec::Ber, answer, text);
+        assert!(rt; decoder.remaining().is_empty());
+    }
+}
+
+/// The bits 1010 0000 and then, in a segment of their own, 0000 0000.
+const THREE_NAMED_BITS: &[u8] = &[
+    0x23, 0x80, 0x03, 0x02, 0x00, 0xA0, 0x03, 0x02, 0x00, 0x00, 0x00, 0x00,
+];
+
+const NAMED: &[Checked] = &[
+    (THREE_NAMED_BITS, 3, "()"),
+    (
+        THREE_NAMED_BITS,
+        2,
+        "SizeConstraintNotSatisfied { size: Some(3), expected: Single(2) }",
+    ),
+];
+
+// Named bits count up to the last that is 1, in whatever segment it is (X.680 22.7).
+#[test]
+fn counts_named_bits(rt: HostRuntime) {
+    for (octets, size, text) in NAMED {
+        let mut decoder = decoder_of(rt.alloc(), octets, Codec::Ber);
+        let answer = decoder.check_named_bits(Tag::BIT_STRING, &sized(*size));
         assert_answer(&rt, rt.alloc(), Codec::Ber, answer, text);
         assert!(rt; decoder.remaining().is_empty());
     }
