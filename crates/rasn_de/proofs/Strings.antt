@@ -11,3 +11,7 @@ pub mod CharacterString
 pub mod Checks
 pub mod Appends
 pub mod Time
+pub mod Lengths
+pub mod Seen
+pub mod SeenBits
+pub mod SeenNamed

@@ -40,14 +40,18 @@ header p = header_with p.0 p.1.now
 abbrev pub FailsToParse : {Y : Type 0} → Result Y ParseError → Result Y ParseError → ParseError → Type 0
 FailsToParse read bare e = (e ≢ OutOfMemory → read ≡ Err e) × (e ≡ OutOfMemory → bare ≡ Err OutOfMemory)
 
--- What is read is appended, and the rest is returned.
-abbrev pub ParsesSegments : {X : Type 0} → Result (List X × List ℕ) ParseError → Result (List X × List ℕ) ParseError → List X → List X → Result (Bor (List ℕ)) ParseError → Type 0
-ParsesSegments {X} read bare old new (Ok r) = (xs : List X) × (read ≡ Ok (xs, r.now)) × (new ≡ old ++ xs)
-ParsesSegments read bare old new (Err e) = FailsToParse read bare e
+-- What has seen a list has then seen that list followed by xs.
+abbrev pub SeesMore : {X : Type 0} → List X → (List X → Type 0) → (List X → Type 0) → Type 0
+SeesMore {X} xs Old New = (seen : List X) → Old seen → New (seen ++ xs)
 
-abbrev pub ParsesSegment : {X : Type 0} → Result (List X) ParseError → Result (List X) ParseError → List X → List X → Result (Unit {0}) ParseError → Type 0
-ParsesSegment {X} read bare old new (Ok u) = (xs : List X) × (read ≡ Ok xs) × (new ≡ old ++ xs)
-ParsesSegment read bare old new (Err e) = FailsToParse read bare e
+-- What is read is seen, and the rest is returned.
+abbrev pub ParsesSegments : {X : Type 0} → Result (List X × List ℕ) ParseError → Result (List X × List ℕ) ParseError → (List X → Type 0) → (List X → Type 0) → Result (Bor (List ℕ)) ParseError → Type 0
+ParsesSegments {X} read bare Old New (Ok r) = (xs : List X) × (read ≡ Ok (xs, r.now)) × SeesMore xs Old New
+ParsesSegments read bare Old New (Err e) = FailsToParse read bare e
+
+abbrev pub ParsesSegment : {X : Type 0} → Result (List X) ParseError → Result (List X) ParseError → (List X → Type 0) → (List X → Type 0) → Result (Unit {0}) ParseError → Type 0
+ParsesSegment {X} read bare Old New (Ok u) = (xs : List X) × (read ≡ Ok xs) × SeesMore xs Old New
+ParsesSegment read bare Old New (Err e) = FailsToParse read bare e
 
 abbrev pub IsNestedValue : Value → Type 0
 IsNestedValue v = (v.is_constructed ≡ true) ⊎ (extent v.contents ≡ indefinite)

@@ -155,7 +155,7 @@ module _ {kind : Kind} {bounds : Constraints} {Told : StringCheck} (fits : Fits 
   abbrev pub Borrows : Result X DecodeError → Type 0
   Borrows result = record { reads : Decodes (leaf kind tag bounds) (λ x. numbers (see x)) old result new; exact : DecodesBorrowed see borrowed Told tag old result new; rules : IfErr result (λ e. e.codec ≡ old.rule) }
 
-  borrows : (result : Result X DecodeError) → DecodesBorrowed see borrowed Told tag old result new → Borrows result
+  pub borrows : (result : Result X DecodeError) → DecodesBorrowed see borrowed Told tag old result new → Borrows result
   borrows (Ok v) g = record { reads = string_decodes fits see tag old new (Ok v) o g.0; exact = g; rules = tt }
   borrows (Err e) (inl g) = record { reads = string_decodes fits see tag old new (Err e) o (inl g); exact = inl g; rules = string_rules see Told tag old new (Err e) (inl g) }
   borrows (Err e) (inr g) = record { reads = string_decodes fits see tag old new (Err e) o (inr (inr g)); exact = inr g; rules = string_rules see Told tag old new (Err e) (inr (inr g)) }

@@ -1,5 +1,5 @@
 -- Segments one after the other.
-use Rattle.std.proofs.Common.{◌≡◌, ◌≢◌, ℕ, zero, suc, ◌-◌, ◌<◌, ◌≤◌, ◌⊎◌, inl, inr, Bool, true, false, ◌&&◌, cond, List, [], ◌∷◌, ◌++◌, length, Result, Ok, Err, refl, sym, ap, ◌∙◌, arith, append_assoc, append-nil}
+use Rattle.std.proofs.Common.{◌≡◌, ◌≢◌, ℕ, zero, suc, ◌-◌, ◌<◌, ◌≤◌, ◌⊎◌, inl, inr, Bool, true, false, ◌&&◌, cond, List, [], ◌∷◌, ◌++◌, length, Result, Ok, Err, refl, sym, ap, ◌∙◌, subst, arith, append_assoc, append-nil}
 use Rattle.std.proofs.lemmas.Bool.Decides.{nat_tests}
 use Rattle.std.specs.Prelude.{nat_eq, MatchBool}
 use Rattle.rasn_types.specs.declared.types.tag.Tag.{Tag}
@@ -11,6 +11,7 @@ use Rattle.rasn_types.specs.Framing.{Extent, definite, indefinite, Ended}
 use Rattle.rasn_types.specs.Tags.{form}
 use Rattle.rasn_de.specs.declared.ber.de.parser.headers.Expected.TheVariants.{Tagged}
 use Rattle.rasn_de.specs.Headers.{◌>>=◌, spelled, Header, header_at, is_der}
+use Rattle.rasn_de.specs.ParserViews.{SeesMore}
 use Rattle.rasn_de.specs.Segments.{ends, segments_at, end_of_contents_at, octets_inside, definite_end, end_at, string_in, too_deep, segments_in, string_of, segment_at}
 use Rattle.rasn_de.proofs.Headers.Results.{bind_ok, chosen, guarded}
 use Rattle.rasn_de.proofs.Headers.Shorter.{header_shorter}
@@ -150,34 +151,34 @@ segment_shorter rule segment tag d l p e =
     let g = bind_ok (header_at (form rule) (Tagged tag) l) _ p e in omega (arith, header_shorter (spelled (form rule)) (Tagged tag) l g.0 g.1, string_shorter rule segment tag d g.0 p g.2)
 
 -- What has been gathered from start up to left.
-pub record Gathering {X : Type 0} (read : List ℕ → Result (List X × List ℕ) ParseError) (start left : List ℕ) (old new : List X) : Type 0 where
+pub record Gathering {X : Type 0} (read : List ℕ → Result (List X × List ℕ) ParseError) (start left : List ℕ) (Old New : List X → Type 0) : Type 0 where
   pub found : List X
-  pub appended : new ≡ old ++ found
+  pub more : SeesMore found Old New
   pub same : with_front found (segments read left) ≡ segments read start
 
 pub with_none : {X : Type 0} (r : Result (List X × List ℕ) ParseError) → with_front [] r ≡ r
 with_none (Ok q) = refl
 with_none (Err e) = refl
 
-pub gathering_start : {X : Type 0} (read : List ℕ → Result (List X × List ℕ) ParseError) (start : List ℕ) (old : List X) → Gathering read start start old old
-gathering_start read start old = record { found = []; appended = sym (append-nil old); same = with_none (segments read start) }
+pub gathering_start : {X : Type 0} (read : List ℕ → Result (List X × List ℕ) ParseError) (start : List ℕ) (Old : List X → Type 0) → Gathering read start start Old Old
+gathering_start read start Old = record { found = []; more = λ seen h. subst Old (sym (append-nil seen)) h; same = with_none (segments read start) }
 
-pub gathering_step : {X : Type 0} (read : List ℕ → Result (List X × List ℕ) ParseError) → AllShorten read → (start left : List ℕ) (old mid new : List X) (p : List X × List ℕ)
-    → Gathering read start left old mid → ends left ≡ false → read left ≡ Ok p → new ≡ mid ++ p.0 → Gathering read start p.1 old new
-gathering_step read s start left old mid new p g e f h = record {
+pub gathering_step : {X : Type 0} (read : List ℕ → Result (List X × List ℕ) ParseError) → AllShorten read → (start left : List ℕ) (Old Mid New : List X → Type 0) (p : List X × List ℕ)
+    → Gathering read start left Old Mid → ends left ≡ false → read left ≡ Ok p → SeesMore p.0 Mid New → Gathering read start p.1 Old New
+gathering_step read s start left Old Mid New p g e f h = record {
   found = g.found ++ p.0;
-  appended = h ∙ (ap (λ z. z ++ p.0) g.appended ∙ append_assoc old g.found p.0);
+  more = λ seen k. subst New (append_assoc seen g.found p.0) (h (seen ++ g.found) (g.more seen k));
   same = sym (with_front_twice g.found p.0 (segments read p.1)) ∙ (ap (λ z. with_front g.found z) (sym (segments_step read s left p e f)) ∙ g.same);
 }
 
-pub gathering_end : {X : Type 0} (read : List ℕ → Result (List X × List ℕ) ParseError) (start left : List ℕ) (old new : List X)
-    → Gathering read start left old new → ends left ≡ true → (xs : List X) × (segments read start ≡ Ok (xs, left)) × (new ≡ old ++ xs)
-gathering_end read start left old new g e =
-    (g.found, sym g.same ∙ (ap (λ z. with_front g.found z) (segments_end read left e) ∙ ap (λ z. Ok (z, left)) (append-nil g.found)), g.appended)
+pub gathering_end : {X : Type 0} (read : List ℕ → Result (List X × List ℕ) ParseError) (start left : List ℕ) (Old New : List X → Type 0)
+    → Gathering read start left Old New → ends left ≡ true → (xs : List X) × (segments read start ≡ Ok (xs, left)) × SeesMore xs Old New
+gathering_end read start left Old New g e =
+    (g.found, sym g.same ∙ (ap (λ z. with_front g.found z) (segments_end read left e) ∙ ap (λ z. Ok (z, left)) (append-nil g.found)), g.more)
 
-pub gathering_fault : {X : Type 0} (read : List ℕ → Result (List X × List ℕ) ParseError) (start left : List ℕ) (old new : List X) (f : ParseError)
-    → Gathering read start left old new → ends left ≡ false → read left ≡ Err f → segments read start ≡ Err f
-gathering_fault read start left old new f g e h = sym g.same ∙ ap (λ z. with_front g.found z) (segments_fault read left f e h)
+pub gathering_fault : {X : Type 0} (read : List ℕ → Result (List X × List ℕ) ParseError) (start left : List ℕ) (Old New : List X → Type 0) (f : ParseError)
+    → Gathering read start left Old New → ends left ≡ false → read left ≡ Err f → segments read start ≡ Err f
+gathering_fault read start left Old New f g e h = sym g.same ∙ ap (λ z. with_front g.found z) (segments_fault read left f e h)
 
 -- A value that isn't one segment alone.
 abbrev pub IsNested : Header → Type 0

@@ -33,6 +33,7 @@ mod any;
 mod bit_string;
 mod boolean;
 mod character_string;
+mod checks;
 mod choice;
 mod config;
 mod constructed;

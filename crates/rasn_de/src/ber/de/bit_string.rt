@@ -3,8 +3,11 @@ ghost use Rattle.std.specs.Prelude.{◌≡◌, IfErr};
 ghost use Rattle.rasn_types.specs.Framing.{AreOctets};
 ghost use Rattle.rasn_types.specs.Shapes.{leaf, bit_string};
 ghost use Rattle.rasn_de.specs.BitString.{bits_tree, DecodesBits, DecodesBitString};
+ghost use Rattle.rasn_types.specs.Errors.{IsOutOfMemory};
+ghost use Rattle.rasn_de.specs.Checks.{Checks, ChecksBy};
 ghost use Rattle.rasn_de.specs.Decodes.{Decodes};
 
+use crate::ber::de::parser::bit_count::BitCount;
 use crate::ber::de::parser::bit_string::counted;
 use crate::ber::de::parser::headers::{Expected, Spelling};
 use crate::ber::de::parser::segments::{segment_of, string_contents};
@@ -76,6 +79,33 @@ impl<'input> Decoder<'input> {
         };
         match check_size(constraints, bits.len()) {
             Ok(()) => Ok(bits),
+            Err(fault) => Err(self.error(fault)),
+        }
+    }
+
+    /// Reads a BIT STRING whose size in bits meets the constraint, and makes nothing of it. Nothing
+    /// is allocated.
+    ///
+    /// # Errors
+    /// As `decode_bit_string`, except `OutOfMemory`.
+    #[inline(always)]
+    pub fn check_bit_string(
+        &mut self,
+        tag: Tag,
+        constraints: &Constraints,
+    ) -> Result<(), DecodeError>
+        ensures reads { Checks (leaf bit_string tag constraints.now) self.old result self.new }
+        ensures exact { ChecksBy (DecodesBitString tag constraints.now) self.old result self.new }
+        ensures memory { IfErr result (λ e. IsOutOfMemory e.kind → ⊥) }
+        ensures rules { IfErr result (λ e. e.codec ≡ self.old.rule) }
+    {
+        let mut count = BitCount { len: 0 };
+        self.see_segments(Tag::BIT_STRING, tag, &mut count)?;
+        let Some(size) = count.size() else {
+            return Err(self.error(ParseError::LengthExceedsPlatformWidth));
+        };
+        match check_size(constraints, size) {
+            Ok(()) => Ok(()),
             Err(fault) => Err(self.error(fault)),
         }
     }

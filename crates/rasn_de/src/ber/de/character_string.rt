@@ -6,12 +6,15 @@ ghost use Rattle.rasn_types.specs.declared.types.strings.alphabet.Alphabet.TheVa
 ghost use Rattle.rasn_types.specs.CharacterString.{string_kind, units_of};
 ghost use Rattle.rasn_types.specs.Shapes.{leaf, numbers, numeric, printable, visible, ia5, any_octets, bmp, utf8};
 ghost use Rattle.rasn_de.specs.Decodes.{Decodes};
-ghost use Rattle.rasn_de.specs.Checks.{Checks, ChecksBy, IsAnyEncoding};
+ghost use Rattle.rasn_types.specs.Errors.{IsOutOfMemory};
+ghost use Rattle.rasn_de.specs.Checks.{Checks, ChecksText, ChecksUnits};
 ghost use Rattle.rasn_de.specs.OctetString.{cow_tree};
 ghost use Rattle.rasn_de.specs.CharacterString.{DecodesBorrowed, ByAlphabet, ByUnits, ByUtf8, DecodesString, DecodesRestricted, DecodesText, ChecksString, ParsesUtf8};
 
 use crate::ber::de::octet_string::owned;
 use crate::ber::de::parser::ParseError;
+use crate::ber::de::parser::alphabet_scan::AlphabetScan;
+use crate::ber::de::parser::octet_count::OctetCount;
 use crate::ber::de::{Decoder, check_size};
 use crate::de::Decode;
 use rasn_types::error::DecodeError;
@@ -22,6 +25,7 @@ use rasn_types::types::{
 };
 use std::alloc::{AllocError, Global};
 use std::borrow::{CowSlice, CowStr};
+use std::marker::PhantomData;
 
 /// Checks that the number of octets is within its bound, and then that all octets are in the
 /// alphabet.
@@ -43,16 +47,17 @@ fn check_alphabet(
     }
 }
 
-/// Checks that octets form 16-bit units, and then that the number of units is within its bound.
-fn check_units(constraints: &Constraints, octets: &[u8]) -> Result<(), ParseError>
-    ensures { ChecksString (ByUnits constraints.now.size) octets.now (units_of octets.now) result }
+/// Checks that so many octets form 16-bit units, and then that the number of units is within its
+/// bound.
+fn check_units(constraints: &Constraints, len: usize) -> Result<(), ParseError>
+    ensures { ChecksUnits constraints.now.size len result }
 {
-    if octets.len() % 2 != 0 {
+    if len % 2 != 0 {
         return Err(ParseError::StringConversionFailed {
             tag: Tag::BMP_STRING,
         });
     }
-    check_size(constraints, octets.len() / 2)
+    check_size(constraints, len / 2)
 }
 
 /// Checks that the number of characters is within its bound. The characters are counted only if
@@ -248,7 +253,7 @@ impl<'input> Decoder<'input> {
         ensures rules { IfErr result (λ e. e.codec ≡ self.old.rule) }
     {
         let octets = self.octets(tag)?;
-        if let Err(fault) = check_units(constraints, octets.as_slice()) {
+        if let Err(fault) = check_units(constraints, octets.len()) {
             return Err(self.error(fault));
         }
         match owned(self.alloc(), octets) {
@@ -257,21 +262,23 @@ impl<'input> Decoder<'input> {
         }
     }
 
-    /// Reads a BMPString, and makes nothing of it. Nothing is allocated for a primitive one.
+    /// Reads a BMPString, and makes nothing of it. Nothing is allocated.
     ///
     /// # Errors
-    /// As `decode_bmp_string`, except `OutOfMemory` for a copy.
+    /// As `decode_bmp_string`, except `OutOfMemory`.
     pub fn check_bmp_string(
         &mut self,
         tag: Tag,
         constraints: &Constraints,
     ) -> Result<(), DecodeError>
         ensures reads { Checks (leaf bmp tag constraints.now) self.old result self.new }
-        ensures exact { ChecksBy (DecodesBorrowed (λ (l : List ℕ). l) IsAnyEncoding (ByUnits constraints.now.size) tag) self.old result self.new }
+        ensures exact { ChecksText (ByUnits constraints.now.size) tag self.old result self.new }
+        ensures memory { IfErr result (λ e. IsOutOfMemory e.kind → ⊥) }
         ensures rules { IfErr result (λ e. e.codec ≡ self.old.rule) }
     {
-        let units = self.octets(tag)?;
-        match check_units(constraints, units.as_slice()) {
+        let mut count = OctetCount { len: 0 };
+        self.see_segments(Tag::OCTET_STRING, tag, &mut count)?;
+        match check_units(constraints, count.len) {
             Ok(()) => Ok(()),
             Err(fault) => Err(self.error(fault)),
         }
@@ -348,6 +355,56 @@ impl<'input> Decoder<'input> {
         let octets = self.octets(tag)?;
         match check_alphabet(alphabet, constraints, octets.as_slice()) {
             Ok(()) => Ok(octets),
+            Err(fault) => Err(self.error(fault)),
+        }
+    }
+
+    /// Reads a string as `decode_restricted_string` does, and makes nothing of it. Nothing is
+    /// allocated.
+    ///
+    /// # Errors
+    /// As `decode_restricted_string`, except `OutOfMemory`.
+    pub fn check_restricted_string(
+        &mut self,
+        alphabet: Alphabet,
+        tag: Tag,
+        constraints: &Constraints,
+    ) -> Result<(), DecodeError>
+        ensures reads { Checks (leaf (string_kind alphabet) tag constraints.now) self.old result self.new }
+        ensures exact { ChecksText (ByAlphabet alphabet constraints.now.size) tag self.old result self.new }
+        ensures memory { IfErr result (λ e. IsOutOfMemory e.kind → ⊥) }
+        ensures rules { IfErr result (λ e. e.codec ≡ self.old.rule) }
+    {
+        match alphabet {
+            Alphabet::Numeric => self.check_restricted::<NumericType>(tag, constraints),
+            Alphabet::Printable => self.check_restricted::<PrintableType>(tag, constraints),
+            Alphabet::Visible => self.check_restricted::<VisibleType>(tag, constraints),
+            Alphabet::Ia5 => self.check_restricted::<Ia5Type>(tag, constraints),
+            Alphabet::Every => self.check_restricted::<GeneralType>(tag, constraints),
+        }
+    }
+
+    /// Reads a string of a type whose octets are characters of one alphabet, and makes nothing of
+    /// it.
+    #[inline(always)]
+    fn check_restricted<S: StringType>(
+        &mut self,
+        tag: Tag,
+        constraints: &Constraints,
+    ) -> Result<(), DecodeError>
+        ensures reads { Checks (leaf (string_kind S.ALPHABET) tag constraints.now) self.old result self.new }
+        ensures exact { ChecksText (ByAlphabet S.ALPHABET constraints.now.size) tag self.old result self.new }
+        ensures memory { IfErr result (λ e. IsOutOfMemory e.kind → ⊥) }
+        ensures rules { IfErr result (λ e. e.codec ≡ self.old.rule) }
+    {
+        let mut scan = AlphabetScan::<S> {
+            len: 0,
+            foreign: None,
+            of: PhantomData,
+        };
+        self.see_segments(Tag::OCTET_STRING, tag, &mut scan)?;
+        match scan.check(constraints) {
+            Ok(()) => Ok(()),
             Err(fault) => Err(self.error(fault)),
         }
     }

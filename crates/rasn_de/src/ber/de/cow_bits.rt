@@ -16,7 +16,7 @@ use rasn_types::error::DecodeError;
 use rasn_types::types::{BitStr, Constraints, CowBits, Tag};
 
 /// The bits of octets except the last `unused` ones. `None` where there are 2^64 or more.
-fn bits_of(octets: &[u8], unused: usize) -> Option<BitStr<'_>>
+pub(super) fn bits_of(octets: &[u8], unused: usize) -> Option<BitStr<'_>>
     requires few { unused < 8 }
     requires held { unused ≤ 8 * length octets.now }
     ensures { MatchOption result (2 ^ 64 ≤ length (but_last unused octets.now)) (λ bits. bits ≡ but_last unused octets.now) }

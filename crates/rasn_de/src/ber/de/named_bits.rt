@@ -5,10 +5,13 @@ ghost use Rattle.rasn_types.specs.CowBits.{cow_bits, cow_bits_tree};
 ghost use Rattle.rasn_types.specs.Shapes.{leaf, named_bits};
 ghost use Rattle.rasn_types.specs.NamedBits.{named_bits_tree};
 ghost use Rattle.rasn_de.specs.NamedBits.{AreNamedBits, DecodesNamedBits, DecodesSignificantBits};
+ghost use Rattle.rasn_types.specs.Errors.{IsOutOfMemory};
+ghost use Rattle.rasn_de.specs.Checks.{Checks, ChecksBy, ChecksNamedBits};
 ghost use Rattle.rasn_de.specs.Decodes.{Decodes};
 
 use crate::ber::de::Decoder;
 use crate::ber::de::parser::ParseError;
+use crate::ber::de::parser::named_count::NamedCount;
 use crate::ber::rules::is_ber;
 use crate::de::Decode;
 use rasn_types::error::DecodeError;
@@ -18,8 +21,18 @@ use rasn_types::types::{BitStr, Codec, Constraints, CowBits, NamedBits, Tag};
 fn check_named(rules: Codec, constraints: &Constraints, bits: &BitStr<'_>) -> Result<(), ParseError>
     ensures { AreNamedBits rules constraints.now bits.now result }
 {
-    let len = bits.len();
-    let size = bits.significant_len();
+    check_named_size(rules, constraints, bits.significant_len(), bits.len())
+}
+
+/// Checks that `len` bits, of which those up to the last that is 1 are `size`, may be named bits.
+fn check_named_size(
+    rules: Codec,
+    constraints: &Constraints,
+    size: usize,
+    len: usize,
+) -> Result<(), ParseError>
+    ensures { ChecksNamedBits rules constraints.now size len result }
+{
     let is_basic = is_ber(rules);
     if size != len && !is_basic {
         return Err(ParseError::TrailingZeroBits);
@@ -76,6 +89,34 @@ impl<'input> Decoder<'input> {
         let bits = self.decode_bits(tag, &Constraints::NONE)?;
         match check_named(rules, constraints, &bits.as_bitstr()) {
             Ok(()) => Ok(bits.into_significant()),
+            Err(fault) => Err(self.error(fault)),
+        }
+    }
+
+    /// Reads a BIT STRING whose bits have names, as
+    /// [`decode_named_bits`](Decoder::decode_named_bits) does, and makes nothing of it. Nothing is
+    /// allocated.
+    ///
+    /// # Errors
+    /// As `decode_named_bits`, except `OutOfMemory`.
+    pub fn check_named_bits(
+        &mut self,
+        tag: Tag,
+        constraints: &Constraints,
+    ) -> Result<(), DecodeError>
+        ensures reads { Checks (leaf named_bits tag constraints.now) self.old result self.new }
+        ensures exact { ChecksBy (DecodesNamedBits tag constraints.now) self.old result self.new }
+        ensures memory { IfErr result (λ e. IsOutOfMemory e.kind → ⊥) }
+        ensures rules { IfErr result (λ e. e.codec ≡ self.old.rule) }
+    {
+        let rules = self.codec();
+        let mut count = NamedCount { len: 0, size: 0 };
+        self.see_segments(Tag::BIT_STRING, tag, &mut count)?;
+        let Some((size, len)) = count.sizes() else {
+            return Err(self.error(ParseError::LengthExceedsPlatformWidth));
+        };
+        match check_named_size(rules, constraints, size, len) {
+            Ok(()) => Ok(()),
             Err(fault) => Err(self.error(fault)),
         }
     }

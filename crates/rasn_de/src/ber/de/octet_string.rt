@@ -6,9 +6,11 @@ ghost use Rattle.rasn_types.specs.Framing.{AreOctets};
 ghost use Rattle.rasn_types.specs.Shapes.{leaf, octet_string};
 ghost use Rattle.rasn_de.specs.Decodes.{Decodes};
 ghost use Rattle.rasn_de.specs.OctetString.{DecodesOctets, IsPrimitive, cow_tree};
-ghost use Rattle.rasn_de.specs.CharacterString.{DecodesOctetString};
+ghost use Rattle.rasn_de.specs.CharacterString.{BySize, DecodesOctetString};
+ghost use Rattle.rasn_de.specs.Checks.{Checks, ChecksText};
 
 use crate::ber::de::parser::headers::{Expected, Spelling};
+use crate::ber::de::parser::octet_count::OctetCount;
 use crate::ber::de::parser::read_value;
 use crate::ber::de::parser::segments::{segment_of, string_contents};
 use crate::ber::de::{Decoder, check_size};
@@ -83,6 +85,30 @@ impl<'input> Decoder<'input> {
         let octets = self.octets(tag)?;
         match check_size(constraints, octets.len()) {
             Ok(()) => Ok(octets),
+            Err(fault) => Err(self.error(fault)),
+        }
+    }
+
+    /// Reads an OCTET STRING whose size in octets meets the constraint, and makes nothing of it.
+    /// Nothing is allocated.
+    ///
+    /// # Errors
+    /// As `decode_octet_string`, except `OutOfMemory`.
+    #[inline(always)]
+    pub fn check_octet_string(
+        &mut self,
+        tag: Tag,
+        constraints: &Constraints,
+    ) -> Result<(), DecodeError>
+        ensures reads { Checks (leaf octet_string tag constraints.now) self.old result self.new }
+        ensures exact { ChecksText (BySize constraints.now.size) tag self.old result self.new }
+        ensures memory { IfErr result (λ e. IsOutOfMemory e.kind → ⊥) }
+        ensures rules { IfErr result (λ e. e.codec ≡ self.old.rule) }
+    {
+        let mut count = OctetCount { len: 0 };
+        self.see_segments(Tag::OCTET_STRING, tag, &mut count)?;
+        match check_size(constraints, count.len) {
+            Ok(()) => Ok(()),
             Err(fault) => Err(self.error(fault)),
         }
     }

@@ -10,10 +10,14 @@ use rasn_types::ber::Identifier;
 use rasn_types::error::DerDecodeErrorKind;
 use rasn_types::types::{Bounded, Class, Tag};
 
+pub mod alphabet_scan;
+pub mod bit_count;
 pub mod bit_string;
 pub mod constructed;
 pub mod headers;
+pub mod named_count;
 pub mod object_identifier;
+pub mod octet_count;
 pub mod segments;
 pub mod skipping;
 

@@ -52,9 +52,11 @@ pub fn counted(rules: Codec, segment: &[u8]) -> Result<(usize, &[u8]), ParseErro
 impl Segmented for CollectedBits {
     type Item = bool;
 
-    ghost items = { λ g. g };
+    ghost has_seen = { λ g bits. g ≡ bits };
 
     ghost segment = { segment_bits };
+
+    ghost allocates = { Unit {0} };
 
     fn append_segment(&mut self, rules: Codec, octets: &[u8]) -> Result<(), ParseError> {
         let (unused, octets) = counted(rules, octets)?;

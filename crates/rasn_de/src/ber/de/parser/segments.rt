@@ -1,6 +1,7 @@
 //! Strings, either primitive or in segments (X.690 8.6.4, 8.7.3, 8.23).
-ghost use Rattle.std.specs.Prelude.{List, ℕ, MatchOption, Result};
+ghost use Rattle.std.specs.Prelude.{◌≡◌, List, ℕ, MatchOption, Result, IfErr};
 ghost use Rattle.rasn_de.specs.declared.ber.de.parser.ParseError.{ParseError};
+ghost use Rattle.rasn_de.specs.declared.ber.de.parser.ParseError.TheVariants.{OutOfMemory};
 ghost use Rattle.rasn_types.specs.declared.types.codec.Codec.{Codec};
 ghost use Rattle.rasn_de.specs.Segments.{string_from, bare_from, without_memory, octets};
 ghost use Rattle.rasn_de.specs.ParserViews.{IsNestedValue, IsPlainValue, ParsesSegments, ParsesSegment};
@@ -12,25 +13,31 @@ use crate::ber::rules::is_der;
 use rasn_types::error::DerDecodeErrorKind;
 use rasn_types::types::{Codec, Tag};
 
-/// A collector of the segments of a string, in their order.
+/// What is given the segments of a string, in their order: it collects what they contain, or keeps
+/// only what is asked of it.
 pub trait Segmented: Drop {
     type Item;
 
-    ghost items: { Self → List Self.Item };
+    ghost has_seen: { Self → List Self.Item → Type 0 };
 
     ghost segment: { Codec → List ℕ → Result (List Self.Item) ParseError };
 
-    /// Appends what the octets of a segment contain.
+    ghost allocates: { Type 0 };
+
+    /// Takes what the octets of the next segment contain.
     fn append_segment(&mut self, rules: Codec, octets: &[u8]) -> Result<(), ParseError>
-        ensures { ParsesSegment (segment rules octets.now) (without_memory (segment rules) octets.now) (items self.old) (items self.new) result };
+        ensures exact { ParsesSegment (segment rules octets.now) (without_memory (segment rules) octets.now) (has_seen self.old) (has_seen self.new) result }
+        ensures memory { IfErr result (λ e. e ≡ OutOfMemory → allocates) };
 }
 
 impl Segmented for Vec<u8> {
     type Item = u8;
 
-    ghost items = { λ v. v.items };
+    ghost has_seen = { λ v octets. v.items ≡ octets };
 
     ghost segment = { λ rules. octets };
+
+    ghost allocates = { Unit {0} };
 
     fn append_segment(&mut self, _rules: Codec, octets: &[u8]) -> Result<(), ParseError> {
         match self.extend_from_slice(octets) {
@@ -55,8 +62,8 @@ pub(crate) fn segment_of(value: Value<'_>) -> Option<&[u8]>
     }
 }
 
-/// Collects the string of a value, of which the header is already read, from its segments in their
-/// order. Returns what follows the value.
+/// Gives the segments of a value, of which the header is already read, to `out` in their order.
+/// Returns what follows the value.
 pub fn string_contents<'a, T: Segmented>(
     rule: Codec,
     tag: Tag,
@@ -65,7 +72,8 @@ pub fn string_contents<'a, T: Segmented>(
     rest: &'a [u8],
     out: &mut T,
 ) -> Result<&'a [u8], ParseError>
-    ensures { ParsesSegments (string_from rule T.segment tag depth value.entry rest.entry.now) (bare_from rule T.segment tag depth value.entry rest.entry.now) (T.items out.old) (T.items out.new) result }
+    ensures exact { ParsesSegments (string_from rule T.segment tag depth value.entry rest.entry.now) (bare_from rule T.segment tag depth value.entry rest.entry.now) (T.has_seen out.old) (T.has_seen out.new) result }
+    ensures memory { IfErr result (λ e. e ≡ OutOfMemory → T.allocates) }
 {
     if let Some(segment) = segment_of(value) {
         out.append_segment(rule, segment)?;

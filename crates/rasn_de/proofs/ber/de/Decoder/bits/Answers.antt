@@ -14,18 +14,18 @@ returns-in-Err-clause-exact c =
 pub advance-requires : goal.advance-requires
 advance-requires c =
     let h = spelled_by (form c.self.inside.rules) _ c.of_rule.ensures (Tagged c.args.tag) c.self.inside.rest.now _ c.in-Ok.ensures.exact in
-    rw (← c.self.view_is) (bits_end c.self.inside.rules c.self.inside.depth c.args.tag c.self.inside.rest.now c.in-Ok.ensures.octets _ _ (many_segments c.self.inside.rules c.self.inside.depth c.args.tag c.self.inside.rest.now _ h _ c.in-Ok-string_contents.ensures.1))
+    rw (← c.self.view_is) (bits_end c.self.inside.rules c.self.inside.depth c.args.tag c.self.inside.rest.now c.in-Ok.ensures.octets _ _ (many_segments c.self.inside.rules c.self.inside.depth c.args.tag c.self.inside.rest.now _ h _ c.in-Ok-string_contents.ensures.exact.1))
 
 pub returns-in-Ok-string_contents-clause-exact : goal.returns-in-Ok-string_contents-clause-exact
 returns-in-Ok-string_contents-clause-exact c =
     let h = spelled_by (form c.self.inside.rules) _ c.of_rule.ensures (Tagged c.args.tag) c.self.inside.rest.now _ c.in-Ok.ensures.exact in
     collected_bits c.args.tag c.args.self.now _ c.string_contents.new.out c.in-Ok-string_contents.rest.now
-    (rw (← c.self.view_is, c.in-Ok-string_contents.ensures.2, c.new-bits.ensures) (many_segments c.self.inside.rules c.self.inside.depth c.args.tag c.self.inside.rest.now _ h _ c.in-Ok-string_contents.ensures.1)) c.advance.ensures
+    (rw (← c.self.view_is, c.in-Ok-string_contents.ensures.exact.2 _ c.new-bits.ensures) (many_segments c.self.inside.rules c.self.inside.depth c.args.tag c.self.inside.rest.now _ h _ c.in-Ok-string_contents.ensures.exact.1)) c.advance.ensures
 
 pub returns-in-Err-string_contents-clause-exact : goal.returns-in-Err-string_contents-clause-exact
 returns-in-Err-string_contents-clause-exact c =
     let h = spelled_by (form c.self.inside.rules) _ c.of_rule.ensures (Tagged c.args.tag) c.self.inside.rest.now _ c.in-Ok.ensures.exact in
-    (c.in-Err-string_contents.fault, c.error-in-Err-string_contents.ensures, refl, rw (← c.self.view_is) (segments_lack c.self.inside.rules c.self.inside.depth c.args.tag c.self.inside.rest.now _ h _ c.in-Ok.ensures.octets c.in_default.ensures c.in-Err-string_contents.ensures))
+    (c.in-Err-string_contents.fault, c.error-in-Err-string_contents.ensures, refl, rw (← c.self.view_is) (segments_lack c.self.inside.rules c.self.inside.depth c.args.tag c.self.inside.rest.now _ h _ c.in-Ok.ensures.octets c.in_default.ensures c.in-Err-string_contents.ensures.exact))
 
 pub returns-in-Err-counted-clause-exact : goal.returns-in-Err-counted-clause-exact
 returns-in-Err-counted-clause-exact c =

@@ -1,4 +1,5 @@
-use Rattle.std.proofs.Common.{sym, ◌∙◌, subst}
+use Rattle.std.proofs.Common.{sym, subst}
+use Rattle.std.specs.Cow.{cow_slice_items}
 use Rattle.rasn_types.specs.CharacterString.{ArePaired, units_of}
 use Rattle.rasn_types.proofs.CharacterString.Texts.{units_only}
 use Rattle.rasn_de.proofs.Leaves.Returns.{residual}
@@ -13,19 +14,23 @@ returns-in_err-octets c =
 pub returns-in-Err : goal.returns-in-Err
 returns-in-Err c =
     string_refused (by_units c.args.constraints.now) units_of c.args.tag c.args.self.now _ c.octets.ensures.octets c.in_ok-octets.octets c.in_ok-octets.ensures.exact
-    c.in-Err.fault _ (rw (← c.as_slice.ensures.value) c.in-Err.ensures) c.error.ensures
+    c.in-Err.fault _ (c.in-Err.ensures (cow_slice_items c.in_ok-octets.octets) c.len.ensures) c.error.ensures
 
 pub from_paired-requires : goal.from_paired-requires
 from_paired-requires c =
-    subst ArePaired (c.as_slice.ensures.value ∙ sym c.in-Ok.ensures.items) (units_only c.as_slice.result.now (units_of c.as_slice.result.now) c.in_default.ensures.0).0
+    let items = cow_slice_items c.in_ok-octets.octets in
+    let d = c.in_default.ensures items c.len.ensures in
+    subst ArePaired (sym c.in-Ok.ensures.items) (units_only items (units_of items) d.0).0
 
 pub returns-in-Ok : goal.returns-in-Ok
 returns-in-Ok c =
+    let d = c.in_default.ensures (cow_slice_items c.in_ok-octets.octets) c.len.ensures in
     string_given (by_units c.args.constraints.now) units_of c.args.tag c.args.self.now _ c.octets.ensures.octets c.in_ok-octets.octets c.in_ok-octets.ensures.exact c.from_paired.result
-    (rw (c.from_paired.ensures, c.in-Ok.ensures.items, ← c.as_slice.ensures.value) c.in_default.ensures)
+    (rw (c.from_paired.ensures, c.in-Ok.ensures.items) d)
 
 pub returns-in-Err-owned : goal.returns-in-Err-owned
 returns-in-Err-owned c =
+    let items = cow_slice_items c.in_ok-octets.octets in
+    let d = c.in_default.ensures items c.len.ensures in
     string_alloc_failed (by_units c.args.constraints.now) units_of c.args.tag c.args.self.now _ c.octets.ensures.octets c.in_ok-octets.octets c.in_ok-octets.ensures.exact
-    (units_of c.as_slice.result.now) _ (rw (← c.as_slice.ensures.value) c.in_default.ensures) c.in-Err-owned.ensures.succeeds
-    (λ z. some_units _ (units_only c.as_slice.result.now _ c.in_default.ensures.0).0 (rw c.as_slice.ensures.value c.in-Err-owned.ensures.empty) z) c.error-in-Err-owned.ensures
+    (units_of items) _ d c.in-Err-owned.ensures.succeeds (λ z. some_units items (units_only items (units_of items) d.0).0 c.in-Err-owned.ensures.empty z) c.error-in-Err-owned.ensures

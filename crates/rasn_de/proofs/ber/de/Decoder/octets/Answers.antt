@@ -27,13 +27,13 @@ returns-in-Some-clause-exact c =
 pub advance-requires-in-Ok-string_contents : goal.advance-requires-in-Ok-string_contents
 advance-requires-in-Ok-string_contents c =
     let h = spelled_by (form c.self.inside.rules) _ c.of_rule.ensures (Tagged c.args.tag) c.self.inside.rest.now _ c.in-Ok.ensures.exact in
-    rw (← c.self.view_is) (octets_end c.self.inside.rules c.self.inside.depth c.args.tag c.self.inside.rest.now c.in-Ok.ensures.octets _ _ (nested_octets c.self.inside.rules c.self.inside.depth c.args.tag c.self.inside.rest.now _ _ h c.in-Ok-string_contents.ensures.1))
+    rw (← c.self.view_is) (octets_end c.self.inside.rules c.self.inside.depth c.args.tag c.self.inside.rest.now c.in-Ok.ensures.octets _ _ (nested_octets c.self.inside.rules c.self.inside.depth c.args.tag c.self.inside.rest.now _ _ h c.in-Ok-string_contents.ensures.exact.1))
 
 pub returns-in-Ok-string_contents-clause-exact : goal.returns-in-Ok-string_contents-clause-exact
 returns-in-Ok-string_contents-clause-exact c =
     let h = spelled_by (form c.self.inside.rules) _ c.of_rule.ensures (Tagged c.args.tag) c.self.inside.rest.now _ c.in-Ok.ensures.exact in
     gathered c.args.tag c.args.self.now _ (Owned c.string_contents.new.out) c.in-Ok-string_contents.rest.now
-    (rw (← c.self.view_is, c.in-Ok-string_contents.ensures.2, c.new-gathered.ensures.items) (nested_octets c.self.inside.rules c.self.inside.depth c.args.tag c.self.inside.rest.now _ _ h c.in-Ok-string_contents.ensures.1))
+    (rw (← c.self.view_is, c.in-Ok-string_contents.ensures.exact.2 _ c.new-gathered.ensures.items) (nested_octets c.self.inside.rules c.self.inside.depth c.args.tag c.self.inside.rest.now _ _ h c.in-Ok-string_contents.ensures.exact.1))
     (rw (← c.self.view_is) (constructed_form c.self.inside.rules c.args.tag c.self.inside.rest.now _ c.in-Ok.ensures.octets h c.in_default.ensures)) c.advance-in-Ok-string_contents.ensures
 
 pub returns-clause-exact : goal.returns-clause-exact
@@ -42,9 +42,9 @@ returns-clause-exact c =
       c.in-Err-string_contents.fault,
       c.error-in-Err-string_contents.ensures,
       refl,
-      (λ n. rw (← c.self.view_is) (nested_octets c.self.inside.rules c.self.inside.depth c.args.tag c.self.inside.rest.now _ _ h (c.in-Err-string_contents.ensures.0 n))),
+      (λ n. rw (← c.self.view_is) (nested_octets c.self.inside.rules c.self.inside.depth c.args.tag c.self.inside.rest.now _ _ h (c.in-Err-string_contents.ensures.exact.0 n))),
       (λ m. rw (← c.self.view_is) (
         constructed_form c.self.inside.rules c.args.tag c.self.inside.rest.now _ c.in-Ok.ensures.octets h c.in_default.ensures,
-        nested_bare c.self.inside.rules c.self.inside.depth c.args.tag c.self.inside.rest.now _ h (c.in-Err-string_contents.ensures.1 m),
+        nested_bare c.self.inside.rules c.self.inside.depth c.args.tag c.self.inside.rest.now _ h (c.in-Err-string_contents.ensures.exact.1 m),
       )),
     )

@@ -10,7 +10,7 @@ decreases-string_contents g l = l.depth
 
 abbrev pub invariant-segments : goal.invariant-segments
 invariant-segments g l =
-    Gathering (segment_at l.rule (g.T.Segmented.segment l.rule) l.tag (l.depth - 1)) (octets_inside (extent l.value.contents) l.rest) l.left (g.T.Segmented.items l.fn.out) (g.T.Segmented.items l.out)
+    Gathering (segment_at l.rule (g.T.Segmented.segment l.rule) l.tag (l.depth - 1)) (octets_inside (extent l.value.contents) l.rest) l.left (g.T.Segmented.has_seen l.fn.out) (g.T.Segmented.has_seen l.out)
     × BareTo (segment_at l.rule (without_memory (g.T.Segmented.segment l.rule)) l.tag (l.depth - 1)) (octets_inside (extent l.value.contents) l.rest) l.left
 
 abbrev pub decreases-segments : goal.decreases-segments

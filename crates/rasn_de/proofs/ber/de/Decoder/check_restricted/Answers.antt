@@ -1,0 +1,24 @@
+use Rattle.std.proofs.Common.{◌<◌, ◌^◌, [], length, arith}
+use Rattle.rasn_de.proofs.Leaves.Returns.{residual}
+use Rattle.rasn_de.proofs.Strings.Checks.{by_alphabet}
+use Rattle.rasn_de.proofs.Strings.Seen.{check_unseen, check_passed, check_failed, octets_fit, scanned_nothing}
+use Rattle.rasn_de.proofs.ber.de.Decoder.check_restricted.Goals as goal
+
+pub returns-in_err-see_segments : goal.returns-in_err-see_segments
+returns-in_err-see_segments g c =
+    rw (residual _ c.from_residual.ensures.1)
+    (check_unseen (by_alphabet g.S.StringType.ALPHABET c.args.constraints.now) c.args.tag c.args.self.now _ c.see_segments.ensures.octets _ c.in_err-see_segments.ensures.exact c.in_err-see_segments.ensures.memory)
+
+pub returns-in-Ok : goal.returns-in-Ok
+returns-in-Ok g c =
+    let t = c.in_ok-see_segments.ensures.exact in
+    let k = octets_fit c.args.self.now.rule c.args.self.now.depth c.args.tag c.args.self.now.rest c.see_segments.ensures.octets t.0 _ t.1 in
+    let n : length t.0 < 2 ^ 64 = omega (arith, k, c.see_segments.ensures.bounded) in
+    check_passed (by_alphabet g.S.StringType.ALPHABET c.args.constraints.now) c.args.tag c.args.self.now _ c.see_segments.ensures.octets t.0 t.1 t.2 t.0 (c.in-Ok.ensures t.0 n (t.3 [] (scanned_nothing g.S.StringType.ALPHABET)))
+
+pub returns-in-Err : goal.returns-in-Err
+returns-in-Err g c =
+    let t = c.in_ok-see_segments.ensures.exact in
+    let k = octets_fit c.args.self.now.rule c.args.self.now.depth c.args.tag c.args.self.now.rest c.see_segments.ensures.octets t.0 _ t.1 in
+    let n : length t.0 < 2 ^ 64 = omega (arith, k, c.see_segments.ensures.bounded) in
+    check_failed (by_alphabet g.S.StringType.ALPHABET c.args.constraints.now) c.args.tag c.args.self.now _ c.see_segments.ensures.octets t.0 t.1 t.2 c.in-Err.fault _ (c.in-Err.ensures t.0 n (t.3 [] (scanned_nothing g.S.StringType.ALPHABET))) c.error.ensures
