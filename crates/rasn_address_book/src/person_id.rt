@@ -1,0 +1,5 @@
+//! `PersonId ::= INTEGER`
+use rasn::prelude::*;
+
+/// `PersonId ::= INTEGER`
+pub type PersonId = Integer;
