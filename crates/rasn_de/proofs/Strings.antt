@@ -15,3 +15,4 @@ pub mod Lengths
 pub mod Seen
 pub mod SeenBits
 pub mod SeenNamed
+pub mod SeenText

@@ -10,7 +10,9 @@ use Rattle.rasn_types.specs.CharacterString.{AreAdmitted, IsFirstForeign, units_
 use Rattle.rasn_types.specs.Shapes.{Shape, Tree}
 use Rattle.rasn_de.specs.declared.ber.de.parser.ParseError.{ParseError}
 use Rattle.rasn_de.specs.declared.ber.de.parser.ParseError.TheVariants.{OutOfMemory}
+use Rattle.std.specs.Borrow.{Bor}
 use Rattle.rasn_de.specs.Segments.{string_at}
+use Rattle.rasn_de.specs.OctetString.{octet_string_at}
 use Rattle.rasn_de.specs.ParserViews.{SeesMore}
 use Rattle.rasn_de.specs.State.{at, Call}
 use Rattle.rasn_de.specs.Steps.{IsErrorOf}
@@ -81,3 +83,11 @@ CountsNamed len size bs = Counts (2 ^ 128) len bs × (length bs < 2 ^ 64 → siz
 -- Bits of these numbers are accepted or refused as named bits.
 abbrev pub ChecksNamedBits : Codec → Constraints → ℕ → ℕ → Result (Unit {0}) ParseError → Type 0
 ChecksNamedBits rule bounds size len result = (bs : List Bool) → size ≡ length (significant bs) → len ≡ length bs → AreNamedBits rule bounds bs result
+
+-- The octets of a primitive string are read; or it is constructed, and nothing is consumed; or there is none, and nothing is
+-- consumed.
+abbrev pub DecodesPrimitiveOctets : Tag → Call (Option (Bor (List ℕ)))
+DecodesPrimitiveOctets tag old (Ok (Some s)) new = (octet_string_at old.rule old.depth tag old.rest ≡ Ok (s.now, new.rest)) × (new ≡ at old new.rest)
+DecodesPrimitiveOctets tag old (Ok None) new = new ≡ old
+DecodesPrimitiveOctets tag old (Err e) new =
+    (f : ParseError) × IsErrorOf f old e × (new ≡ old) × (octet_string_at old.rule old.depth tag old.rest ≡ Err f) × (f ≢ OutOfMemory)

@@ -10,6 +10,7 @@ pub mod Outcomes
 pub mod Prefix
 pub mod Decodes
 pub mod Checks
+pub mod TextScan
 pub mod Causes
 pub mod Choice
 pub mod NamedErrors

@@ -1,6 +1,7 @@
 -- Strings whose segments are seen.
 use Rattle.std.proofs.Common.{◌≡◌, ◌≢◌, ◌≤◌, ◌<◌, ◌^◌, ℕ, inl, inr, ◌⊎◌, false, List, [], length, Result, Ok, Err, refl, sym, ap, ◌∙◌, subst, arith}
-use Rattle.std.specs.Prelude.{None, IfErr}
+use Rattle.std.specs.Prelude.{Some, None, IfErr}
+use Rattle.std.specs.Borrow.{Bor}
 use Rattle.std.proofs.lemmas.List.Elements.{All-nil}
 use Rattle.std.proofs.lemmas.List.{length-append}
 use Rattle.rasn_types.specs.declared.types.tag.Tag.{Tag}
@@ -22,7 +23,7 @@ use Rattle.rasn_de.specs.Segments.{string_of, string_at, octets}
 use Rattle.rasn_de.specs.ParserViews.{SeesMore}
 use Rattle.rasn_de.specs.OctetString.{octet_string_at}
 use Rattle.rasn_de.specs.CharacterString.{StringCheck, StringAt}
-use Rattle.rasn_de.specs.Checks.{SeesString, Counts, Checks, ChecksText, IsAnyEncoding, ScansAlphabet}
+use Rattle.rasn_de.specs.Checks.{SeesString, Counts, Checks, ChecksText, IsAnyEncoding, ScansAlphabet, DecodesPrimitiveOctets}
 use Rattle.rasn_de.specs.State.{State, at, IsEnd}
 use Rattle.rasn_de.specs.Steps.{IsErrorOf}
 use Rattle.rasn_de.proofs.Headers.NextTag.{kind_memory, memory_or}
@@ -118,3 +119,14 @@ octets_counted old new tag first last o b t z =
 -- Of no octets there is nothing to know.
 pub scanned_nothing : (a : Alphabet) → ScansAlphabet a 0 None []
 scanned_nothing a b = (refl, All-nil (IsAdmitted a))
+
+-- Octets that were read of a primitive string.
+pub primitive_read : (tag : Tag) (old new : State) (s : Bor (List ℕ)) (rest : List ℕ) → octet_string_at old.rule old.depth tag old.rest ≡ Ok (s.now, rest) → new ≡ at old rest → DecodesPrimitiveOctets tag old (Ok (Some s)) new
+primitive_read tag old new s rest h e =
+    let P : State → Type 0 = λ n. DecodesPrimitiveOctets tag old (Ok (Some s)) n in
+    subst P (sym e) (h, refl)
+
+pub check_unread : {kind : Kind} {bounds : Constraints} {Told : StringCheck} (fits : Fits kind bounds Told) (tag : Tag) (old new : State) (o : AreOctets old.rest) (e : DecodeError) → DecodesPrimitiveOctets tag old (Err e) new
+    → Checked fits tag old new o (Err e)
+check_unread fits tag old new o e (f, x, k, read, plain) =
+    check_unseen fits tag old new o e (f, x, k, λ n. read) (λ m. kind_memory f plain (sym (ap (λ (y : DecodeError). y.kind) x) ∙ m))

@@ -15,6 +15,7 @@ use crate::ber::de::octet_string::owned;
 use crate::ber::de::parser::ParseError;
 use crate::ber::de::parser::alphabet_scan::AlphabetScan;
 use crate::ber::de::parser::octet_count::OctetCount;
+use crate::ber::de::parser::text_scan::{Held, TextScan};
 use crate::ber::de::{Decoder, check_size};
 use crate::de::Decode;
 use rasn_types::error::DecodeError;
@@ -69,6 +70,19 @@ fn check_characters(constraints: &Constraints, text: &str) -> Result<(), ParseEr
     match constraints.size {
         None => Ok(()),
         Some(_) => check_size(constraints, text.chars().count()),
+    }
+}
+
+/// Checks that octets are UTF-8, and then that the number of characters is within its bound.
+#[inline(always)]
+fn check_utf8(constraints: &Constraints, octets: &[u8]) -> Result<(), ParseError>
+    ensures { ChecksString (ByUtf8 constraints.now.size) octets.now (chars octets.now) result }
+{
+    match str::from_utf8(octets) {
+        Ok(text) => check_characters(constraints, text),
+        Err(_) => Err(ParseError::StringConversionFailed {
+            tag: Tag::UTF8_STRING,
+        }),
     }
 }
 
@@ -330,6 +344,52 @@ impl<'input> Decoder<'input> {
         };
         match check_characters(constraints, text.as_str()) {
             Ok(()) => Ok(text),
+            Err(fault) => Err(self.error(fault)),
+        }
+    }
+
+    /// Reads a UTF8String as `decode_utf8_string` does, and makes nothing of it. Nothing is
+    /// allocated.
+    ///
+    /// # Errors
+    /// As `decode_utf8_string`, except `OutOfMemory`.
+    pub fn check_utf8_string(
+        &mut self,
+        tag: Tag,
+        constraints: &Constraints,
+    ) -> Result<(), DecodeError>
+        ensures reads { Checks (leaf utf8 tag constraints.now) self.old result self.new }
+        ensures exact { ChecksText (ByUtf8 constraints.now.size) tag self.old result self.new }
+        ensures memory { IfErr result (λ e. IsOutOfMemory e.kind → ⊥) }
+        ensures rules { IfErr result (λ e. e.codec ≡ self.old.rule) }
+    {
+        let Some(octets) = self.primitive_octets(tag)? else {
+            return self.check_utf8_segments(tag, constraints);
+        };
+        match check_utf8(constraints, octets) {
+            Ok(()) => Ok(()),
+            Err(fault) => Err(self.error(fault)),
+        }
+    }
+
+    /// Checks a UTF8String segment by segment.
+    fn check_utf8_segments(
+        &mut self,
+        tag: Tag,
+        constraints: &Constraints,
+    ) -> Result<(), DecodeError>
+        ensures reads { Checks (leaf utf8 tag constraints.now) self.old result self.new }
+        ensures exact { ChecksText (ByUtf8 constraints.now.size) tag self.old result self.new }
+        ensures memory { IfErr result (λ e. IsOutOfMemory e.kind → ⊥) }
+        ensures rules { IfErr result (λ e. e.codec ≡ self.old.rule) }
+    {
+        let mut scan = TextScan {
+            count: 0,
+            held: Held::Nothing,
+        };
+        self.see_segments(Tag::OCTET_STRING, tag, &mut scan)?;
+        match scan.check(constraints) {
+            Ok(()) => Ok(()),
             Err(fault) => Err(self.error(fault)),
         }
     }

@@ -2,7 +2,7 @@
 ghost use Rattle.std.specs.Prelude.{◌<◌, ◌^◌, length, IfErr};
 ghost use Rattle.rasn_types.specs.Errors.{IsOutOfMemory};
 ghost use Rattle.rasn_types.specs.Framing.{AreOctets};
-ghost use Rattle.rasn_de.specs.Checks.{SeesString};
+ghost use Rattle.rasn_de.specs.Checks.{SeesString, DecodesPrimitiveOctets};
 
 use crate::ber::de::Decoder;
 use crate::ber::de::parser::headers::{Expected, Spelling};
@@ -50,5 +50,27 @@ impl<'input> Decoder<'input> {
             }
             Err(fault) => Err(self.error(fault)),
         }
+    }
+
+    /// Reads the octets of the next value as a string, if it is primitive. A constructed one isn't
+    /// consumed. An error consumes nothing.
+    #[inline(always)]
+    pub(super) fn primitive_octets(&mut self, tag: Tag) -> Result<Option<&'input [u8]>, DecodeError>
+        ensures exact { DecodesPrimitiveOctets tag self.old result self.new }
+        ensures octets { AreOctets self.old.rest }
+    {
+        let (value, rest) = match read_value(
+            Spelling::of_rule(self.rules),
+            Expected::Tagged(tag),
+            self.rest,
+        ) {
+            Ok(found) => found,
+            Err(fault) => return Err(self.error(fault)),
+        };
+        let Some(segment) = segment_of(value) else {
+            return Ok(None);
+        };
+        self.advance(rest);
+        Ok(Some(segment))
     }
 }

@@ -20,6 +20,7 @@ pub mod object_identifier;
 pub mod octet_count;
 pub mod segments;
 pub mod skipping;
+pub mod text_scan;
 
 /// The reasons for which input is refused, except those that own memory.
 #[derive(Clone, Copy, Debug)]
