@@ -159,3 +159,34 @@ fn counts_named_bits(rt: HostRuntime) {
         assert!(rt; decoder.remaining().is_empty());
     }
 }
+
+/// The characters of C3 A9 and E2 82 AC, both cut by segments; and without the last octet.
+const CUT: &[Checked] = &[
+    (
+        &[
+            0x2C, 0x0F, 0x04, 0x01, 0xC3, 0x24, 0x06, 0x04, 0x01, 0xA9, 0x04, 0x01, 0xE2, 0x04,
+            0x02, 0x82, 0xAC,
+        ],
+        2,
+        "()",
+    ),
+    (
+        &[
+            0x2C, 0x0E, 0x04, 0x01, 0xC3, 0x24, 0x06, 0x04, 0x01, 0xA9, 0x04, 0x01, 0xE2, 0x04,
+            0x01, 0x82,
+        ],
+        2,
+        "StringConversionFailed { tag: Tag { class: Universal, value: 12 } }",
+    ),
+];
+
+// The octets of a character of a UTF8String may be in several segments (X.690 8.23.10).
+#[test]
+fn joins_characters(rt: HostRuntime) {
+    for (octets, size, text) in CUT {
+        let mut decoder = decoder_of(rt.alloc(), octets, Codec::Ber);
+        let answer = decoder.check_utf8_string(Tag::UTF8_STRING, &sized(*size));
+        assert_answer(&rt, rt.alloc(), Codec::Ber, answer, text);
+        assert!(rt; decoder.remaining().is_empty());
+    }
+}
