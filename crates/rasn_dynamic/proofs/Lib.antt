@@ -26,6 +26,7 @@ pub mod Worked
 pub mod Ways
 pub mod Checked
 pub mod Listed
+pub mod Readers
 pub mod Placed
 pub mod SameParts
 pub mod WorkedParts

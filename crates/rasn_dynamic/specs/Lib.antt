@@ -12,6 +12,7 @@ pub mod Faults
 pub mod Paths
 pub mod Parts
 pub mod Listed
+pub mod Readers
 pub mod Walk
 pub mod SameParts
 pub mod Worked

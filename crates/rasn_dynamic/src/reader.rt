@@ -21,6 +21,7 @@ ghost use Rattle.rasn_schema.specs.declared.types.«Type».TheVariants.{Tagged, 
 ghost use Rattle.rasn_schema.specs.Trees.{tree_of};
 ghost use Rattle.rasn_schema.specs.Shapes.{shape_of_type, type_by, alternatives_by, choice_among, components_by, key_of, presence_in, presence_of, IsReadable, AreReadable};
 ghost use Rattle.rasn_dynamic.specs.Inside.{ReadsSequence, DecodesTree, DecodesComponent};
+ghost use Rattle.rasn_dynamic.specs.Readers.{DecodesCounted, ReadsContents, ReadsType};
 ghost use Rattle.rasn_dynamic.specs.Making.{Making, Counting, IsLength, outcome, reported, trees_of, these};
 ghost use Rattle.rasn_dynamic.specs.Typed.{Makes, DecodesComponents, elements, element_count, IsSized, CountsElements, MayRunOut, DecodesContents, DecodesType};
 ghost use Rattle.rasn_dynamic.specs.Calls.{Gathers, any_required, is_required, IsMade, AreSettled, nones, names_of, IsKept, DecodesPresent, DecodesMember, IsNoAlternative, IsNoMember};
@@ -42,8 +43,8 @@ use crate::set::{
     all_absent, component_for, gather, last_type, named_components, no_components, put,
 };
 use crate::span::{finish, go_inside, go_outside, note};
-use crate::trace::{add_after, mark, mark_part, octets_after, octets_left, step};
-use crate::walk::{Refused, Walk, peek, peek_in_order};
+use crate::trace::{mark, mark_part, octets_left, step};
+use crate::walk::{Refused, Walk, count_after, kept, peek, peek_in_order};
 use rasn_de::ber::de::{ConstructedHeader, Decoder};
 use rasn_de::de::Error;
 use rasn_schema::{
@@ -358,25 +359,6 @@ fn put_missing<'input, M: Made>(
     }
 }
 
-/// Returns that no component was read yet.
-fn start_components<'input>(
-    decoder: &Decoder<'input>,
-    error: &mut DecodeError,
-    components: &[Component],
-) -> Result<Vec<Option<Value<'input>>>, Refused>
-    ensures ok { IfOk (reported result error.new) (λ v. v.items ≡ nones components.now) }
-    ensures err { IfErr (reported result error.new) (λ e. IsOutOfMemory e.kind) }
-    ensures rules { IfErr (reported result error.new) (λ e. e.codec ≡ decoder.now.rule) }
-{
-    match no_components(decoder, components) {
-        Ok(found) => Ok(found),
-        Err(fault) => {
-            *error = fault;
-            Err(Refused)
-        }
-    }
-}
-
 /// Returns all components, those that are absent with the values that they have then, where values are kept.
 ///
 /// # Errors
@@ -391,13 +373,7 @@ fn gather_found<'input, M: Made>(
     ensures gathers { Gathers M.KEEP components.now decoder.now.rule found.entry.items (reported result error.new) }
     ensures rules { IfErr (reported result error.new) (λ e. e.codec ≡ decoder.now.rule) }
 {
-    match gather::<M>(decoder, components, found) {
-        Ok(values) => Ok(values),
-        Err(fault) => {
-            *error = fault;
-            Err(Refused)
-        }
-    }
+    kept(gather::<M>(decoder, components, found), error)
 }
 
 /// Reads an unknown component of a SET as one complete encoding (X.680 27), and notes it as a part
@@ -568,13 +544,7 @@ fn decode_type<'input, M: Made>(
 ) -> Result<(), Refused>
     requires lawful { IsReadable (type_by (shape_of_type types.now below) ty.now) }
     requires clear { walk.old.fault ≡ None }
-    ensures exact { Making M.KEEP tree_of (DecodesType (shape_of_type types.now below) ty.now) decoder.old (outcome result out.new walk.new.error) decoder.new }
-    ensures reads { Making M.KEEP tree_of (DecodesTree (type_by (shape_of_type types.now below) ty.now)) decoder.old (outcome result out.new walk.new.error) decoder.new }
-    ensures fits { M.KEEP ≡ true → IfOk (outcome result out.new walk.new.error) (λ v. FitsBy (Fits types.now below) ty.now v) }
-    ensures rules { IfErr (outcome result out.new walk.new.error) (λ e. e.codec ≡ decoder.old.rule) }
-    ensures told { Told (IsFaultOf types.now below ty.now decoder.old) (outcome result out.new walk.new.error) walk.new.fault }
-    ensures itself { IfErr (outcome result out.new walk.new.error) (λ e. walk.new.fault ≡ None → FailsItself (shape_of_type types.now below) ty.now decoder.old e) }
-    ensures listed { IfOk (outcome result out.new walk.new.error) (λ v. Lists (λ b es. ValueListed (shape_of_type types.now below) below (Inside types.now below) ty.now b decoder.old es) walk.old.spans walk.new.spans) }
+    ensures { ReadsType types.now below M.KEEP ty.now decoder.old walk.old.spans (outcome result out.new walk.new.error) decoder.new walk.new.fault walk.new.spans }
 {
     match ty {
         Type::Leaf {
@@ -603,19 +573,19 @@ fn decode_type<'input, M: Made>(
             decode_tagged::<M>(decoder, walk, types, below, *tag, *inner, out)
         }
         Type::Sequence { tag, components } => {
-            decode_record::<M>(decoder, walk, types, below, *tag, components, out)
+            decode_sequence::<M>(decoder, walk, types, below, *tag, components, out)
         }
         Type::Set {
             name,
             tag,
             components,
-        } => { decode_members::<M>(decoder, walk, types, below, *tag, name, components, out) }
+        } => { decode_set::<M>(decoder, walk, types, below, *tag, name, components, out) }
         Type::SequenceOf {
             tag,
             element,
             constraints,
         } => {
-            decode_list::<M>(
+            decode_sequence_of::<M>(
                 decoder,
                 walk,
                 types,
@@ -681,10 +651,6 @@ fn decode_choice<'input, M: Made>(
     choose::<M>(decoder, &mut walk.error, number, value, out)
 }
 
-// A function for each kind of type reads its header and its contents. Clauses name the type by what
-// its values hold, with the tag universal 0 and no bound: the tag is in the header, and a bound is
-// checked at the end.
-
 /// Reads an explicit tag and the value that it holds (X.690 8.14).
 #[cycle(decode)]
 #[inline(never)]
@@ -699,49 +665,11 @@ fn decode_tagged<'input, M: Made>(
 ) -> Result<(), Refused>
     requires lawful { IsReadable (shape_of_type types.now below id.0) }
     requires clear { walk.old.fault ≡ None }
-    ensures exact { Making M.KEEP tree_of (DecodesInside (DecodesContents (shape_of_type types.now below) (Tagged eoc id)) (prefix_header tag)) decoder.old (outcome result out.new walk.new.error) decoder.new }
-    ensures octets { decoder.old.depth ≢ 0 → AreOctets decoder.old.rest }
-    ensures fits { M.KEEP ≡ true → IfOk (outcome result out.new walk.new.error) (λ v. FitsBy (Fits types.now below) (Tagged eoc id) v) }
-    ensures rules { IfErr (outcome result out.new walk.new.error) (λ e. e.codec ≡ decoder.old.rule) }
-    ensures told { Told (IsFaultInside types.now below (prefix_header tag) (Tagged eoc id) decoder.old) (outcome result out.new walk.new.error) walk.new.fault }
-    ensures itself { IfErr (outcome result out.new walk.new.error) (λ e. walk.new.fault ≡ None → DecodesInside (ReadsEachPart (shape_of_type types.now below) (Tagged eoc id)) (prefix_header tag) decoder.old (Err e) decoder.new) }
-    ensures listed { IfOk (outcome result out.new walk.new.error) (λ v. Lists (λ b es. InsideListed (shape_of_type types.now below) below (Inside types.now below) (prefix_header tag) (Tagged eoc id) b decoder.old es) walk.old.spans walk.new.spans) }
+    ensures { ReadsType types.now below M.KEEP (Tagged tag id) decoder.old walk.old.spans (outcome result out.new walk.new.error) decoder.new walk.new.fault walk.new.spans }
 {
-    decode_tagged_inside::<M>(
-        decoder,
-        walk,
-        types,
-        below,
-        ConstructedHeader::prefix(tag),
-        id,
-        out,
-    )
-}
-
-/// Reads what an explicit tag holds, with the header before it (X.690 8.14).
-#[cycle(decode)]
-#[inline(always)]
-fn decode_tagged_inside<'input, M: Made>(
-    decoder: &mut Decoder<'input>,
-    walk: &mut Walk<'input>,
-    types: &[Type],
-    below: usize,
-    header: ConstructedHeader,
-    id: TypeId,
-    out: &mut Value<'input>,
-) -> Result<(), Refused>
-    requires lawful { IsReadable (shape_of_type types.now below id.0) }
-    requires clear { walk.old.fault ≡ None }
-    ensures exact { Making M.KEEP tree_of (DecodesInside (DecodesContents (shape_of_type types.now below) (Tagged eoc id)) header) decoder.old (outcome result out.new walk.new.error) decoder.new }
-    ensures octets { decoder.old.depth ≢ 0 → AreOctets decoder.old.rest }
-    ensures fits { M.KEEP ≡ true → IfOk (outcome result out.new walk.new.error) (λ v. FitsBy (Fits types.now below) (Tagged eoc id) v) }
-    ensures rules { IfErr (outcome result out.new walk.new.error) (λ e. e.codec ≡ decoder.old.rule) }
-    ensures told { Told (IsFaultInside types.now below header (Tagged eoc id) decoder.old) (outcome result out.new walk.new.error) walk.new.fault }
-    ensures itself { IfErr (outcome result out.new walk.new.error) (λ e. walk.new.fault ≡ None → DecodesInside (ReadsEachPart (shape_of_type types.now below) (Tagged eoc id)) header decoder.old (Err e) decoder.new) }
-    ensures listed { IfOk (outcome result out.new walk.new.error) (λ v. Lists (λ b es. InsideListed (shape_of_type types.now below) below (Inside types.now below) header (Tagged eoc id) b decoder.old es) walk.old.spans walk.new.spans) }
-{
-    // The octets that are left have a number of this type, so the sum in `add_after` has too.
+    // The octets that are left have a number of this type, so the sum in `count_after` has too.
     let _ = octets_left(decoder);
+    let header = ConstructedHeader::prefix(tag);
     let (mut inner, contents) = match decoder.open(header) {
         Ok(opened) => opened,
         Err(error) => {
@@ -750,13 +678,8 @@ fn decode_tagged_inside<'input, M: Made>(
         }
     };
     let after = go_inside(&mut walk.spans, decoder, &inner);
-    match put_tagged::<M>(&mut inner, walk, types, below, id, out) {
-        Ok(()) => {}
-        Err(refused) => {
-            add_after(&mut walk.fault, octets_after(decoder, &inner));
-            return Err(refused);
-        }
-    }
+    let read = decode_part::<M>(&mut inner, walk, types, below, id, 0, out);
+    count_after(decoder, &inner, &mut walk.fault, read)?;
     match decoder.close(contents, inner.remaining()) {
         Ok(()) => {
             go_outside(&mut walk.spans, after);
@@ -769,33 +692,10 @@ fn decode_tagged_inside<'input, M: Made>(
     }
 }
 
-/// Reads what an explicit tag holds as its value.
-#[cycle(decode)]
-#[inline(always)]
-fn put_tagged<'input, M: Made>(
-    decoder: &mut Decoder<'input>,
-    walk: &mut Walk<'input>,
-    types: &[Type],
-    below: usize,
-    id: TypeId,
-    out: &mut Value<'input>,
-) -> Result<(), Refused>
-    requires lawful { IsReadable (shape_of_type types.now below id.0) }
-    requires clear { walk.old.fault ≡ None }
-    ensures exact { Making M.KEEP tree_of (DecodesContents (shape_of_type types.now below) (Tagged eoc id)) decoder.old (outcome result out.new walk.new.error) decoder.new }
-    ensures fits { M.KEEP ≡ true → IfOk (outcome result out.new walk.new.error) (λ v. FitsBy (Fits types.now below) (Tagged eoc id) v) }
-    ensures rules { IfErr (outcome result out.new walk.new.error) (λ e. e.codec ≡ decoder.old.rule) }
-    ensures told { Told (IsFaultIn types.now below (IsAnyPart (shape_of_type types.now below) (Tagged eoc id) decoder.old) decoder.old decoder.old) (outcome result out.new walk.new.error) walk.new.fault }
-    ensures itself { IfErr (outcome result out.new walk.new.error) (λ e. walk.new.fault ≡ None → StopsInside (shape_of_type types.now below) (Tagged eoc id) decoder.old e) }
-    ensures listed { IfOk (outcome result out.new walk.new.error) (λ v. Lists (λ b es. ContentsListed (shape_of_type types.now below) below (Inside types.now below) (Tagged eoc id) b decoder.old es) walk.old.spans walk.new.spans) }
-{
-    decode_part::<M>(decoder, walk, types, below, id, 0, out)
-}
-
 /// Reads a SEQUENCE (X.690 8.9).
 #[cycle(decode)]
 #[inline(never)]
-fn decode_record<'input, M: Made>(
+fn decode_sequence<'input, M: Made>(
     decoder: &mut Decoder<'input>,
     walk: &mut Walk<'input>,
     types: &[Type],
@@ -806,49 +706,11 @@ fn decode_record<'input, M: Made>(
 ) -> Result<(), Refused>
     requires lawful { AreReadable (components_by (shape_of_type types.now below) components.now.items) }
     requires clear { walk.old.fault ≡ None }
-    ensures exact { Making M.KEEP tree_of (DecodesInside (DecodesContents (shape_of_type types.now below) (Sequence eoc components.now)) (sequence_header tag)) decoder.old (outcome result out.new walk.new.error) decoder.new }
-    ensures octets { decoder.old.depth ≢ 0 → AreOctets decoder.old.rest }
-    ensures fits { M.KEEP ≡ true → IfOk (outcome result out.new walk.new.error) (λ v. FitsBy (Fits types.now below) (Sequence eoc components.now) v) }
-    ensures rules { IfErr (outcome result out.new walk.new.error) (λ e. e.codec ≡ decoder.old.rule) }
-    ensures told { Told (IsFaultInside types.now below (sequence_header tag) (Sequence eoc components.now) decoder.old) (outcome result out.new walk.new.error) walk.new.fault }
-    ensures itself { IfErr (outcome result out.new walk.new.error) (λ e. walk.new.fault ≡ None → DecodesInside (ReadsEachPart (shape_of_type types.now below) (Sequence eoc components.now)) (sequence_header tag) decoder.old (Err e) decoder.new) }
-    ensures listed { IfOk (outcome result out.new walk.new.error) (λ v. Lists (λ b es. InsideListed (shape_of_type types.now below) below (Inside types.now below) (sequence_header tag) (Sequence eoc components.now) b decoder.old es) walk.old.spans walk.new.spans) }
+    ensures { ReadsType types.now below M.KEEP (Sequence tag components.now) decoder.old walk.old.spans (outcome result out.new walk.new.error) decoder.new walk.new.fault walk.new.spans }
 {
-    decode_record_inside::<M>(
-        decoder,
-        walk,
-        types,
-        below,
-        ConstructedHeader::sequence(tag),
-        components,
-        out,
-    )
-}
-
-/// Reads a SEQUENCE (X.690 8.9).
-#[cycle(decode)]
-#[inline(always)]
-fn decode_record_inside<'input, M: Made>(
-    decoder: &mut Decoder<'input>,
-    walk: &mut Walk<'input>,
-    types: &[Type],
-    below: usize,
-    header: ConstructedHeader,
-    components: &Vec<Component>,
-    out: &mut Value<'input>,
-) -> Result<(), Refused>
-    requires lawful { AreReadable (components_by (shape_of_type types.now below) components.now.items) }
-    requires clear { walk.old.fault ≡ None }
-    ensures exact { Making M.KEEP tree_of (DecodesInside (DecodesContents (shape_of_type types.now below) (Sequence eoc components.now)) header) decoder.old (outcome result out.new walk.new.error) decoder.new }
-    ensures octets { decoder.old.depth ≢ 0 → AreOctets decoder.old.rest }
-    ensures fits { M.KEEP ≡ true → IfOk (outcome result out.new walk.new.error) (λ v. FitsBy (Fits types.now below) (Sequence eoc components.now) v) }
-    ensures rules { IfErr (outcome result out.new walk.new.error) (λ e. e.codec ≡ decoder.old.rule) }
-    ensures told { Told (IsFaultInside types.now below header (Sequence eoc components.now) decoder.old) (outcome result out.new walk.new.error) walk.new.fault }
-    ensures itself { IfErr (outcome result out.new walk.new.error) (λ e. walk.new.fault ≡ None → DecodesInside (ReadsEachPart (shape_of_type types.now below) (Sequence eoc components.now)) header decoder.old (Err e) decoder.new) }
-    ensures listed { IfOk (outcome result out.new walk.new.error) (λ v. Lists (λ b es. InsideListed (shape_of_type types.now below) below (Inside types.now below) header (Sequence eoc components.now) b decoder.old es) walk.old.spans walk.new.spans) }
-{
-    // The octets that are left have a number of this type, so the sum in `add_after` has too.
+    // The octets that are left have a number of this type, so the sum in `count_after` has too.
     let _ = octets_left(decoder);
+    let header = ConstructedHeader::sequence(tag);
     let (mut inner, contents) = match decoder.open(header) {
         Ok(opened) => opened,
         Err(error) => {
@@ -857,13 +719,8 @@ fn decode_record_inside<'input, M: Made>(
         }
     };
     let after = go_inside(&mut walk.spans, decoder, &inner);
-    match put_record::<M>(&mut inner, walk, types, below, components, out) {
-        Ok(()) => {}
-        Err(refused) => {
-            add_after(&mut walk.fault, octets_after(decoder, &inner));
-            return Err(refused);
-        }
-    }
+    let read = put_components::<M>(&mut inner, walk, types, below, components, out);
+    count_after(decoder, &inner, &mut walk.fault, read)?;
     match decoder.close(contents, inner.remaining()) {
         Ok(()) => {
             go_outside(&mut walk.spans, after);
@@ -876,10 +733,10 @@ fn decode_record_inside<'input, M: Made>(
     }
 }
 
-/// Reads the contents of a SEQUENCE as its value.
+/// Reads the components of a SEQUENCE as its value.
 #[cycle(decode)]
 #[inline(always)]
-fn put_record<'input, M: Made>(
+fn put_components<'input, M: Made>(
     decoder: &mut Decoder<'input>,
     walk: &mut Walk<'input>,
     types: &[Type],
@@ -889,20 +746,18 @@ fn put_record<'input, M: Made>(
 ) -> Result<(), Refused>
     requires lawful { AreReadable (components_by (shape_of_type types.now below) components.now.items) }
     requires clear { walk.old.fault ≡ None }
-    ensures exact { Making M.KEEP tree_of (DecodesContents (shape_of_type types.now below) (Sequence eoc components.now)) decoder.old (outcome result out.new walk.new.error) decoder.new }
-    ensures fits { M.KEEP ≡ true → IfOk (outcome result out.new walk.new.error) (λ v. FitsBy (Fits types.now below) (Sequence eoc components.now) v) }
-    ensures rules { IfErr (outcome result out.new walk.new.error) (λ e. e.codec ≡ decoder.old.rule) }
-    ensures told { Told (IsFaultIn types.now below (IsAnyPart (shape_of_type types.now below) (Sequence eoc components.now) decoder.old) decoder.old decoder.old) (outcome result out.new walk.new.error) walk.new.fault }
-    ensures itself { IfErr (outcome result out.new walk.new.error) (λ e. walk.new.fault ≡ None → StopsInside (shape_of_type types.now below) (Sequence eoc components.now) decoder.old e) }
-    ensures listed { IfOk (outcome result out.new walk.new.error) (λ v. Lists (λ b es. ContentsListed (shape_of_type types.now below) below (Inside types.now below) (Sequence eoc components.now) b decoder.old es) walk.old.spans walk.new.spans) }
+    ensures { ReadsContents types.now below M.KEEP (Sequence eoc components.now) (DecodesContents (shape_of_type types.now below) (Sequence eoc components.now)) decoder.old walk.old.spans (outcome result out.new walk.new.error) decoder.new walk.new.fault walk.new.spans }
 {
-    put_sequence::<M>(decoder, walk, types, below, components, out)
+    let mut values = list_for::<M>(decoder, &mut walk.error, components.len())?;
+    decode_components::<M>(decoder, walk, types, below, components, &mut values)?;
+    put_items::<M>(values, out);
+    Ok(())
 }
 
 /// Reads a SET (X.690 8.11).
 #[cycle(decode)]
 #[inline(never)]
-fn decode_members<'input, M: Made>(
+fn decode_set<'input, M: Made>(
     decoder: &mut Decoder<'input>,
     walk: &mut Walk<'input>,
     types: &[Type],
@@ -914,51 +769,11 @@ fn decode_members<'input, M: Made>(
 ) -> Result<(), Refused>
     requires lawful { AreLawfulMembers (components_by (shape_of_type types.now below) (named_in (shape_of_type types.now below) components.now.items)) }
     requires clear { walk.old.fault ≡ None }
-    ensures exact { Making M.KEEP tree_of (DecodesInside (DecodesContents (shape_of_type types.now below) (Set name.now eoc components.now)) (sequence_header tag)) decoder.old (outcome result out.new walk.new.error) decoder.new }
-    ensures octets { decoder.old.depth ≢ 0 → AreOctets decoder.old.rest }
-    ensures fits { M.KEEP ≡ true → IfOk (outcome result out.new walk.new.error) (λ v. FitsBy (Fits types.now below) (Set name.now eoc components.now) v) }
-    ensures rules { IfErr (outcome result out.new walk.new.error) (λ e. e.codec ≡ decoder.old.rule) }
-    ensures told { Told (IsFaultInside types.now below (sequence_header tag) (Set name.now eoc components.now) decoder.old) (outcome result out.new walk.new.error) walk.new.fault }
-    ensures itself { IfErr (outcome result out.new walk.new.error) (λ e. walk.new.fault ≡ None → DecodesInside (ReadsEachPart (shape_of_type types.now below) (Set name.now eoc components.now)) (sequence_header tag) decoder.old (Err e) decoder.new) }
-    ensures listed { IfOk (outcome result out.new walk.new.error) (λ v. Lists (λ b es. InsideListed (shape_of_type types.now below) below (Inside types.now below) (sequence_header tag) (Set name.now eoc components.now) b decoder.old es) walk.old.spans walk.new.spans) }
+    ensures { ReadsType types.now below M.KEEP (Set name.now tag components.now) decoder.old walk.old.spans (outcome result out.new walk.new.error) decoder.new walk.new.fault walk.new.spans }
 {
-    decode_members_inside::<M>(
-        decoder,
-        walk,
-        types,
-        below,
-        ConstructedHeader::sequence(tag),
-        name,
-        components,
-        out,
-    )
-}
-
-/// Reads a SET (X.690 8.11).
-#[cycle(decode)]
-#[inline(always)]
-fn decode_members_inside<'input, M: Made>(
-    decoder: &mut Decoder<'input>,
-    walk: &mut Walk<'input>,
-    types: &[Type],
-    below: usize,
-    header: ConstructedHeader,
-    name: &String,
-    components: &Vec<Component>,
-    out: &mut Value<'input>,
-) -> Result<(), Refused>
-    requires lawful { AreLawfulMembers (components_by (shape_of_type types.now below) (named_in (shape_of_type types.now below) components.now.items)) }
-    requires clear { walk.old.fault ≡ None }
-    ensures exact { Making M.KEEP tree_of (DecodesInside (DecodesContents (shape_of_type types.now below) (Set name.now eoc components.now)) header) decoder.old (outcome result out.new walk.new.error) decoder.new }
-    ensures octets { decoder.old.depth ≢ 0 → AreOctets decoder.old.rest }
-    ensures fits { M.KEEP ≡ true → IfOk (outcome result out.new walk.new.error) (λ v. FitsBy (Fits types.now below) (Set name.now eoc components.now) v) }
-    ensures rules { IfErr (outcome result out.new walk.new.error) (λ e. e.codec ≡ decoder.old.rule) }
-    ensures told { Told (IsFaultInside types.now below header (Set name.now eoc components.now) decoder.old) (outcome result out.new walk.new.error) walk.new.fault }
-    ensures itself { IfErr (outcome result out.new walk.new.error) (λ e. walk.new.fault ≡ None → DecodesInside (ReadsEachPart (shape_of_type types.now below) (Set name.now eoc components.now)) header decoder.old (Err e) decoder.new) }
-    ensures listed { IfOk (outcome result out.new walk.new.error) (λ v. Lists (λ b es. InsideListed (shape_of_type types.now below) below (Inside types.now below) header (Set name.now eoc components.now) b decoder.old es) walk.old.spans walk.new.spans) }
-{
-    // The octets that are left have a number of this type, so the sum in `add_after` has too.
+    // The octets that are left have a number of this type, so the sum in `count_after` has too.
     let _ = octets_left(decoder);
+    let header = ConstructedHeader::sequence(tag);
     let (mut inner, contents) = match decoder.open(header) {
         Ok(opened) => opened,
         Err(error) => {
@@ -967,13 +782,8 @@ fn decode_members_inside<'input, M: Made>(
         }
     };
     let after = go_inside(&mut walk.spans, decoder, &inner);
-    match put_members::<M>(&mut inner, walk, types, below, name, components, out) {
-        Ok(()) => {}
-        Err(refused) => {
-            add_after(&mut walk.fault, octets_after(decoder, &inner));
-            return Err(refused);
-        }
-    }
+    let read = put_set_components::<M>(&mut inner, walk, types, below, name, components, out);
+    count_after(decoder, &inner, &mut walk.fault, read)?;
     match decoder.close(contents, inner.remaining()) {
         Ok(()) => {
             go_outside(&mut walk.spans, after);
@@ -986,10 +796,10 @@ fn decode_members_inside<'input, M: Made>(
     }
 }
 
-/// Reads the contents of a SET as its value.
+/// Reads the components of a SET as its value.
 #[cycle(decode)]
-#[inline(always)]
-fn put_members<'input, M: Made>(
+#[inline(never)]
+fn put_set_components<'input, M: Made>(
     decoder: &mut Decoder<'input>,
     walk: &mut Walk<'input>,
     types: &[Type],
@@ -1000,42 +810,45 @@ fn put_members<'input, M: Made>(
 ) -> Result<(), Refused>
     requires lawful { AreLawfulMembers (components_by (shape_of_type types.now below) (named_in (shape_of_type types.now below) components.now.items)) }
     requires clear { walk.old.fault ≡ None }
-    ensures exact { Making M.KEEP tree_of (DecodesContents (shape_of_type types.now below) (Set name.now eoc components.now)) decoder.old (outcome result out.new walk.new.error) decoder.new }
-    ensures fits { M.KEEP ≡ true → IfOk (outcome result out.new walk.new.error) (λ v. FitsBy (Fits types.now below) (Set name.now eoc components.now) v) }
-    ensures rules { IfErr (outcome result out.new walk.new.error) (λ e. e.codec ≡ decoder.old.rule) }
-    ensures told { Told (IsFaultIn types.now below (IsAnyPart (shape_of_type types.now below) (Set name.now eoc components.now) decoder.old) decoder.old decoder.old) (outcome result out.new walk.new.error) walk.new.fault }
-    ensures itself { IfErr (outcome result out.new walk.new.error) (λ e. walk.new.fault ≡ None → StopsInside (shape_of_type types.now below) (Set name.now eoc components.now) decoder.old e) }
-    ensures listed { IfOk (outcome result out.new walk.new.error) (λ v. Lists (λ b es. ContentsListed (shape_of_type types.now below) below (Inside types.now below) (Set name.now eoc components.now) b decoder.old es) walk.old.spans walk.new.spans) }
+    ensures { ReadsContents types.now below M.KEEP (Set name.now eoc components.now) (DecodesContents (shape_of_type types.now below) (Set name.now eoc components.now)) decoder.old walk.old.spans (outcome result out.new walk.new.error) decoder.new walk.new.fault walk.new.spans }
 {
-    put_set::<M>(decoder, walk, types, below, name.as_str(), components, out)
+    let components: &[Component] = components;
+    let (named, extensible) = named_components(types, below, components);
+    let other_id = last_type(components);
+    let found = kept(no_components(decoder, named), &mut walk.error)?;
+    let name = name.as_str();
+    let values = decode_set_components::<M>(
+        decoder, walk, types, below, name, named, extensible, other_id, found,
+    )?;
+    put_items::<M>(values, out);
+    Ok(())
 }
 
-/// Reads a SEQUENCE OF (X.690 8.10) of any number of elements, and counts them.
+/// Reads a SEQUENCE OF (X.690 8.10).
+///
+/// # Errors
+/// `SizeConstraintNotSatisfied` if the number of elements isn't within the bound, which consumes
+/// the value.
 #[cycle(decode)]
-#[inline(always)]
-fn decode_list_inside<'input, M: Made>(
+#[inline(never)]
+fn decode_sequence_of<'input, M: Made>(
     decoder: &mut Decoder<'input>,
     walk: &mut Walk<'input>,
     types: &[Type],
     below: usize,
-    header: ConstructedHeader,
+    tag: Tag,
     element: TypeId,
-    count: &mut usize,
+    constraints: &Constraints,
     out: &mut Value<'input>,
 ) -> Result<(), Refused>
     requires lawful { IsReadable (shape_of_type types.now below element.0) }
-    requires counts { count.old ≡ 0 }
     requires clear { walk.old.fault ≡ None }
-    ensures exact { Counting M.KEEP tree_of (CountsElements (SequenceOf eoc element unconstrained)) (DecodesInside (DecodesContents (shape_of_type types.now below) (SequenceOf eoc element unconstrained)) header) decoder.old (outcome result out.new walk.new.error) decoder.new count.new }
-    ensures octets { decoder.old.depth ≢ 0 → AreOctets decoder.old.rest }
-    ensures fits { M.KEEP ≡ true → IfOk (outcome result out.new walk.new.error) (λ v. FitsBy (Fits types.now below) (SequenceOf eoc element unconstrained) v) }
-    ensures rules { IfErr (outcome result out.new walk.new.error) (λ e. e.codec ≡ decoder.old.rule) }
-    ensures told { Told (IsFaultInside types.now below header (SequenceOf eoc element unconstrained) decoder.old) (outcome result out.new walk.new.error) walk.new.fault }
-    ensures itself { IfErr (outcome result out.new walk.new.error) (λ e. walk.new.fault ≡ None → DecodesInside (ReadsEachPart (shape_of_type types.now below) (SequenceOf eoc element unconstrained)) header decoder.old (Err e) decoder.new) }
-    ensures listed { IfOk (outcome result out.new walk.new.error) (λ v. Lists (λ b es. InsideListed (shape_of_type types.now below) below (Inside types.now below) header (SequenceOf eoc element unconstrained) b decoder.old es) walk.old.spans walk.new.spans) }
+    ensures { ReadsType types.now below M.KEEP (SequenceOf tag element constraints.now) decoder.old walk.old.spans (outcome result out.new walk.new.error) decoder.new walk.new.fault walk.new.spans }
 {
-    // The octets that are left have a number of this type, so the sum in `add_after` has too.
+    let mut count = 0;
+    // The octets that are left have a number of this type, so the sum in `count_after` has too.
     let _ = octets_left(decoder);
+    let header = ConstructedHeader::list(tag);
     let (mut inner, contents) = match decoder.open(header) {
         Ok(opened) => opened,
         Err(error) => {
@@ -1044,26 +857,19 @@ fn decode_list_inside<'input, M: Made>(
         }
     };
     let after = go_inside(&mut walk.spans, decoder, &inner);
-    match put_elements::<M>(&mut inner, walk, types, below, element, count, out) {
-        Ok(()) => {}
-        Err(refused) => {
-            add_after(&mut walk.fault, octets_after(decoder, &inner));
-            return Err(refused);
-        }
-    }
+    let read = put_elements::<M>(&mut inner, walk, types, below, element, &mut count, out);
+    count_after(decoder, &inner, &mut walk.fault, read)?;
     match decoder.close(contents, inner.remaining()) {
-        Ok(()) => {
-            go_outside(&mut walk.spans, after);
-            Ok(())
-        }
+        Ok(()) => go_outside(&mut walk.spans, after),
         Err(error) => {
             walk.error = error;
-            Err(Refused)
+            return Err(Refused);
         }
     }
+    check_size(decoder, &mut walk.error, constraints, count)
 }
 
-/// Reads elements as the value of a SEQUENCE OF.
+/// Reads the elements of a SEQUENCE OF as its value, and counts them.
 #[cycle(decode)]
 #[inline(always)]
 fn put_elements<'input, M: Made>(
@@ -1078,12 +884,7 @@ fn put_elements<'input, M: Made>(
     requires lawful { IsReadable (shape_of_type types.now below element.0) }
     requires counts { count.old ≡ 0 }
     requires clear { walk.old.fault ≡ None }
-    ensures exact { Counting M.KEEP tree_of (CountsElements (SequenceOf eoc element unconstrained)) (DecodesContents (shape_of_type types.now below) (SequenceOf eoc element unconstrained)) decoder.old (outcome result out.new walk.new.error) decoder.new count.new }
-    ensures fits { M.KEEP ≡ true → IfOk (outcome result out.new walk.new.error) (λ v. FitsBy (Fits types.now below) (SequenceOf eoc element unconstrained) v) }
-    ensures rules { IfErr (outcome result out.new walk.new.error) (λ e. e.codec ≡ decoder.old.rule) }
-    ensures told { Told (IsFaultIn types.now below (IsAnyPart (shape_of_type types.now below) (SequenceOf eoc element unconstrained) decoder.old) decoder.old decoder.old) (outcome result out.new walk.new.error) walk.new.fault }
-    ensures itself { IfErr (outcome result out.new walk.new.error) (λ e. walk.new.fault ≡ None → StopsInside (shape_of_type types.now below) (SequenceOf eoc element unconstrained) decoder.old e) }
-    ensures listed { IfOk (outcome result out.new walk.new.error) (λ v. Lists (λ b es. ContentsListed (shape_of_type types.now below) below (Inside types.now below) (SequenceOf eoc element unconstrained) b decoder.old es) walk.old.spans walk.new.spans) }
+    ensures { ReadsContents types.now below M.KEEP (SequenceOf eoc element unconstrained) (DecodesCounted (DecodesContents (shape_of_type types.now below) (SequenceOf eoc element unconstrained)) count.new) decoder.old walk.old.spans (outcome result out.new walk.new.error) decoder.new walk.new.fault walk.new.spans }
 {
     let mut values = Vec::new(decoder.alloc());
     decode_elements::<M>(decoder, walk, types, below, element, count, &mut values)?;
@@ -1091,189 +892,11 @@ fn put_elements<'input, M: Made>(
     Ok(())
 }
 
-/// Reads a SET OF (X.690 8.12) of any number of elements, and counts them.
-#[cycle(decode)]
-#[inline(always)]
-fn decode_set_of_inside<'input, M: Made>(
-    decoder: &mut Decoder<'input>,
-    walk: &mut Walk<'input>,
-    types: &[Type],
-    below: usize,
-    header: ConstructedHeader,
-    element: TypeId,
-    count: &mut usize,
-    out: &mut Value<'input>,
-) -> Result<(), Refused>
-    requires lawful { IsReadable (shape_of_type types.now below element.0) }
-    requires counts { count.old ≡ 0 }
-    requires clear { walk.old.fault ≡ None }
-    ensures exact { Counting M.KEEP tree_of (CountsElements (SetOf eoc element unconstrained)) (DecodesInside (DecodesContents (shape_of_type types.now below) (SetOf eoc element unconstrained)) header) decoder.old (outcome result out.new walk.new.error) decoder.new count.new }
-    ensures octets { decoder.old.depth ≢ 0 → AreOctets decoder.old.rest }
-    ensures fits { M.KEEP ≡ true → IfOk (outcome result out.new walk.new.error) (λ v. FitsBy (Fits types.now below) (SetOf eoc element unconstrained) v) }
-    ensures rules { IfErr (outcome result out.new walk.new.error) (λ e. e.codec ≡ decoder.old.rule) }
-    ensures told { Told (IsFaultInside types.now below header (SetOf eoc element unconstrained) decoder.old) (outcome result out.new walk.new.error) walk.new.fault }
-    ensures itself { IfErr (outcome result out.new walk.new.error) (λ e. walk.new.fault ≡ None → DecodesInside (ReadsEachPart (shape_of_type types.now below) (SetOf eoc element unconstrained)) header decoder.old (Err e) decoder.new) }
-    ensures listed { IfOk (outcome result out.new walk.new.error) (λ v. Lists (λ b es. InsideListed (shape_of_type types.now below) below (Inside types.now below) header (SetOf eoc element unconstrained) b decoder.old es) walk.old.spans walk.new.spans) }
-{
-    // The octets that are left have a number of this type, so the sum in `add_after` has too.
-    let _ = octets_left(decoder);
-    let (mut inner, contents) = match decoder.open(header) {
-        Ok(opened) => opened,
-        Err(error) => {
-            walk.error = error;
-            return Err(Refused);
-        }
-    };
-    let after = go_inside(&mut walk.spans, decoder, &inner);
-    match put_elements_in_order::<M>(&mut inner, walk, types, below, element, count, out) {
-        Ok(()) => {}
-        Err(refused) => {
-            add_after(&mut walk.fault, octets_after(decoder, &inner));
-            return Err(refused);
-        }
-    }
-    match decoder.close(contents, inner.remaining()) {
-        Ok(()) => {
-            go_outside(&mut walk.spans, after);
-            Ok(())
-        }
-        Err(error) => {
-            walk.error = error;
-            Err(Refused)
-        }
-    }
-}
-
-/// Reads elements as the value of a SET OF.
-#[cycle(decode)]
-#[inline(always)]
-fn put_elements_in_order<'input, M: Made>(
-    decoder: &mut Decoder<'input>,
-    walk: &mut Walk<'input>,
-    types: &[Type],
-    below: usize,
-    element: TypeId,
-    count: &mut usize,
-    out: &mut Value<'input>,
-) -> Result<(), Refused>
-    requires lawful { IsReadable (shape_of_type types.now below element.0) }
-    requires counts { count.old ≡ 0 }
-    requires clear { walk.old.fault ≡ None }
-    ensures exact { Counting M.KEEP tree_of (CountsElements (SetOf eoc element unconstrained)) (DecodesContents (shape_of_type types.now below) (SetOf eoc element unconstrained)) decoder.old (outcome result out.new walk.new.error) decoder.new count.new }
-    ensures fits { M.KEEP ≡ true → IfOk (outcome result out.new walk.new.error) (λ v. FitsBy (Fits types.now below) (SetOf eoc element unconstrained) v) }
-    ensures rules { IfErr (outcome result out.new walk.new.error) (λ e. e.codec ≡ decoder.old.rule) }
-    ensures told { Told (IsFaultIn types.now below (IsAnyPart (shape_of_type types.now below) (SetOf eoc element unconstrained) decoder.old) decoder.old decoder.old) (outcome result out.new walk.new.error) walk.new.fault }
-    ensures itself { IfErr (outcome result out.new walk.new.error) (λ e. walk.new.fault ≡ None → StopsInside (shape_of_type types.now below) (SetOf eoc element unconstrained) decoder.old e) }
-    ensures listed { IfOk (outcome result out.new walk.new.error) (λ v. Lists (λ b es. ContentsListed (shape_of_type types.now below) below (Inside types.now below) (SetOf eoc element unconstrained) b decoder.old es) walk.old.spans walk.new.spans) }
-{
-    let mut values = Vec::new(decoder.alloc());
-    decode_elements_in_order::<M>(decoder, walk, types, below, element, count, &mut values)?;
-    put_in_any_order::<M>(values, out);
-    Ok(())
-}
-
-/// Reads the components of a SEQUENCE as its value.
-#[cycle(decode)]
-#[inline(always)]
-fn put_sequence<'input, M: Made>(
-    decoder: &mut Decoder<'input>,
-    walk: &mut Walk<'input>,
-    types: &[Type],
-    below: usize,
-    components: &[Component],
-    out: &mut Value<'input>,
-) -> Result<(), Refused>
-    requires lawful { AreReadable (components_by (shape_of_type types.now below) components.now) }
-    requires clear { walk.old.fault ≡ None }
-    ensures exact { Making M.KEEP tree_of (Makes items (DecodesComponents (components_by (shape_of_type types.now below) components.now))) decoder.old (outcome result out.new walk.new.error) decoder.new }
-    ensures fits { M.KEEP ≡ true → IfOk (outcome result out.new walk.new.error) (AreItems (ComponentsFit (Fits types.now below) components.now)) }
-    ensures rules { IfErr (outcome result out.new walk.new.error) (λ e. e.codec ≡ decoder.old.rule) }
-    ensures told { Told (IsFaultIn types.now below (IsComponentAt (shape_of_type types.now below) components.now decoder.old) decoder.old decoder.old) (outcome result out.new walk.new.error) walk.new.fault }
-    ensures itself { IfErr (outcome result out.new walk.new.error) (λ e. walk.new.fault ≡ None → StopsInSequence (shape_of_type types.now below) components.now decoder.old e) }
-    ensures listed { IfOk (outcome result out.new walk.new.error) (λ v. Lists (λ b es. ComponentsListed (shape_of_type types.now below) below (Inside types.now below) components.now b decoder.old es) walk.old.spans walk.new.spans) }
-{
-    let mut values = list_for::<M>(decoder, &mut walk.error, components.len())?;
-    decode_sequence::<M>(decoder, walk, types, below, components, &mut values)?;
-    put_items::<M>(values, out);
-    Ok(())
-}
-
-/// Reads the components of a SET as its value.
-#[cycle(decode)]
-#[inline(never)]
-fn put_set<'input, M: Made>(
-    decoder: &mut Decoder<'input>,
-    walk: &mut Walk<'input>,
-    types: &[Type],
-    below: usize,
-    name: &str,
-    components: &[Component],
-    out: &mut Value<'input>,
-) -> Result<(), Refused>
-    requires lawful { AreLawfulMembers (components_by (shape_of_type types.now below) (named_in (shape_of_type types.now below) components.now)) }
-    requires clear { walk.old.fault ≡ None }
-    ensures exact { Making M.KEEP tree_of (Makes items (MayRunOut (DecodesSetPartContents (is_extensible (shape_of_type types.now below) components.now) (components_by (shape_of_type types.now below) (named_in (shape_of_type types.now below) components.now)) items (names_of (named_in (shape_of_type types.now below) components.now))))) decoder.old (outcome result out.new walk.new.error) decoder.new }
-    ensures fits { M.KEEP ≡ true → IfOk (outcome result out.new walk.new.error) (AreItems (ComponentsFit (Fits types.now below) components.now)) }
-    ensures rules { IfErr (outcome result out.new walk.new.error) (λ e. e.codec ≡ decoder.old.rule) }
-    ensures told { Told (IsFaultIn types.now below (IsMemberAfter (shape_of_type types.now below) (is_extensible (shape_of_type types.now below) components.now) (named_in (shape_of_type types.now below) components.now) (last_in components.now) decoder.old) decoder.old decoder.old) (outcome result out.new walk.new.error) walk.new.fault }
-    ensures itself { IfErr (outcome result out.new walk.new.error) (λ e. walk.new.fault ≡ None → StopsInSet (shape_of_type types.now below) (is_extensible (shape_of_type types.now below) components.now) (named_in (shape_of_type types.now below) components.now) decoder.old e) }
-    ensures listed { IfOk (outcome result out.new walk.new.error) (λ v. Lists (λ b es. MembersListed (shape_of_type types.now below) below (Inside types.now below) (is_extensible (shape_of_type types.now below) components.now) (named_in (shape_of_type types.now below) components.now) (last_in components.now) b decoder.old es) walk.old.spans walk.new.spans) }
-{
-    let (named, extensible) = named_components(types, below, components);
-    let other_id = last_type(components);
-    let found = start_components(decoder, &mut walk.error, named)?;
-    let values = decode_set::<M>(
-        decoder, walk, types, below, name, named, extensible, other_id, found,
-    )?;
-    put_items::<M>(values, out);
-    Ok(())
-}
-
-/// Reads a SEQUENCE OF (X.690 8.10).
-///
-/// # Errors
-/// `SizeConstraintNotSatisfied` if the number of elements isn't within the bound, which consumes the value.
-#[cycle(decode)]
-#[inline(never)]
-fn decode_list<'input, M: Made>(
-    decoder: &mut Decoder<'input>,
-    walk: &mut Walk<'input>,
-    types: &[Type],
-    below: usize,
-    tag: Tag,
-    element: TypeId,
-    constraints: &Constraints,
-    out: &mut Value<'input>,
-) -> Result<(), Refused>
-    requires lawful { IsReadable (shape_of_type types.now below element.0) }
-    requires clear { walk.old.fault ≡ None }
-    ensures exact { Making M.KEEP tree_of (DecodesSized (DecodesContents (shape_of_type types.now below) (SequenceOf eoc element unconstrained)) element_count tag constraints.now) decoder.old (outcome result out.new walk.new.error) decoder.new }
-    ensures octets { decoder.old.depth ≢ 0 → AreOctets decoder.old.rest }
-    ensures fits { M.KEEP ≡ true → IfOk (outcome result out.new walk.new.error) (λ v. FitsBy (Fits types.now below) (SequenceOf eoc element unconstrained) v) }
-    ensures rules { IfErr (outcome result out.new walk.new.error) (λ e. e.codec ≡ decoder.old.rule) }
-    ensures told { Told (IsFaultInside types.now below (list_header tag) (SequenceOf eoc element unconstrained) decoder.old) (outcome result out.new walk.new.error) walk.new.fault }
-    ensures itself { IfErr (outcome result out.new walk.new.error) (λ e. walk.new.fault ≡ None → DecodesSized (ReadsEachPart (shape_of_type types.now below) (SequenceOf eoc element unconstrained)) element_count tag constraints.now decoder.old (Err e) decoder.new) }
-    ensures listed { IfOk (outcome result out.new walk.new.error) (λ v. Lists (λ b es. InsideListed (shape_of_type types.now below) below (Inside types.now below) (list_header tag) (SequenceOf eoc element unconstrained) b decoder.old es) walk.old.spans walk.new.spans) }
-{
-    let mut count = 0;
-    decode_list_inside::<M>(
-        decoder,
-        walk,
-        types,
-        below,
-        ConstructedHeader::list(tag),
-        element,
-        &mut count,
-        out,
-    )?;
-    check_size(decoder, &mut walk.error, constraints, count)?;
-    Ok(())
-}
-
 /// Reads a SET OF (X.690 8.12).
 ///
 /// # Errors
-/// `SizeConstraintNotSatisfied` if the number of elements isn't within the bound, which consumes the value.
+/// `SizeConstraintNotSatisfied` if the number of elements isn't within the bound, which consumes
+/// the value.
 #[cycle(decode)]
 #[inline(never)]
 fn decode_set_of<'input, M: Made>(
@@ -1288,26 +911,52 @@ fn decode_set_of<'input, M: Made>(
 ) -> Result<(), Refused>
     requires lawful { IsReadable (shape_of_type types.now below element.0) }
     requires clear { walk.old.fault ≡ None }
-    ensures exact { Making M.KEEP tree_of (DecodesSized (DecodesContents (shape_of_type types.now below) (SetOf eoc element unconstrained)) element_count tag constraints.now) decoder.old (outcome result out.new walk.new.error) decoder.new }
-    ensures octets { decoder.old.depth ≢ 0 → AreOctets decoder.old.rest }
-    ensures fits { M.KEEP ≡ true → IfOk (outcome result out.new walk.new.error) (λ v. FitsBy (Fits types.now below) (SetOf eoc element unconstrained) v) }
-    ensures rules { IfErr (outcome result out.new walk.new.error) (λ e. e.codec ≡ decoder.old.rule) }
-    ensures told { Told (IsFaultInside types.now below (list_header tag) (SetOf eoc element unconstrained) decoder.old) (outcome result out.new walk.new.error) walk.new.fault }
-    ensures itself { IfErr (outcome result out.new walk.new.error) (λ e. walk.new.fault ≡ None → DecodesSized (ReadsEachPart (shape_of_type types.now below) (SetOf eoc element unconstrained)) element_count tag constraints.now decoder.old (Err e) decoder.new) }
-    ensures listed { IfOk (outcome result out.new walk.new.error) (λ v. Lists (λ b es. InsideListed (shape_of_type types.now below) below (Inside types.now below) (list_header tag) (SetOf eoc element unconstrained) b decoder.old es) walk.old.spans walk.new.spans) }
+    ensures { ReadsType types.now below M.KEEP (SetOf tag element constraints.now) decoder.old walk.old.spans (outcome result out.new walk.new.error) decoder.new walk.new.fault walk.new.spans }
 {
     let mut count = 0;
-    decode_set_of_inside::<M>(
-        decoder,
-        walk,
-        types,
-        below,
-        ConstructedHeader::list(tag),
-        element,
-        &mut count,
-        out,
-    )?;
-    check_size(decoder, &mut walk.error, constraints, count)?;
+    // The octets that are left have a number of this type, so the sum in `count_after` has too.
+    let _ = octets_left(decoder);
+    let header = ConstructedHeader::list(tag);
+    let (mut inner, contents) = match decoder.open(header) {
+        Ok(opened) => opened,
+        Err(error) => {
+            walk.error = error;
+            return Err(Refused);
+        }
+    };
+    let after = go_inside(&mut walk.spans, decoder, &inner);
+    let read = put_elements_in_order::<M>(&mut inner, walk, types, below, element, &mut count, out);
+    count_after(decoder, &inner, &mut walk.fault, read)?;
+    match decoder.close(contents, inner.remaining()) {
+        Ok(()) => go_outside(&mut walk.spans, after),
+        Err(error) => {
+            walk.error = error;
+            return Err(Refused);
+        }
+    }
+    check_size(decoder, &mut walk.error, constraints, count)
+}
+
+/// Reads the elements of a SET OF as its value, and counts them.
+#[cycle(decode)]
+#[inline(always)]
+fn put_elements_in_order<'input, M: Made>(
+    decoder: &mut Decoder<'input>,
+    walk: &mut Walk<'input>,
+    types: &[Type],
+    below: usize,
+    element: TypeId,
+    count: &mut usize,
+    out: &mut Value<'input>,
+) -> Result<(), Refused>
+    requires lawful { IsReadable (shape_of_type types.now below element.0) }
+    requires counts { count.old ≡ 0 }
+    requires clear { walk.old.fault ≡ None }
+    ensures { ReadsContents types.now below M.KEEP (SetOf eoc element unconstrained) (DecodesCounted (DecodesContents (shape_of_type types.now below) (SetOf eoc element unconstrained)) count.new) decoder.old walk.old.spans (outcome result out.new walk.new.error) decoder.new walk.new.fault walk.new.spans }
+{
+    let mut values = Vec::new(decoder.alloc());
+    decode_elements_in_order::<M>(decoder, walk, types, below, element, count, &mut values)?;
+    put_in_any_order::<M>(values, out);
     Ok(())
 }
 
@@ -1391,7 +1040,7 @@ fn decode_elements_in_order<'input, M: Made>(
 /// Reads the components of a SEQUENCE, up to the end of the contents (X.690 8.9).
 #[cycle(decode)]
 #[inline(always)]
-fn decode_sequence<'input, M: Made>(
+fn decode_components<'input, M: Made>(
     decoder: &mut Decoder<'input>,
     walk: &mut Walk<'input>,
     types: &[Type],
@@ -1458,13 +1107,7 @@ fn follows(
     requires { IsReadable (shape_of_type types.now levels id.0) }
     ensures { NextIs (sought_by (key_of (shape_of_type types.now levels id.0)) (shape_of_type types.now levels id.0)) decoder.now (reported result error.new) }
 {
-    match is_next(decoder, types, levels, id) {
-        Ok(found) => Ok(found),
-        Err(fault) => {
-            *error = fault;
-            Err(Refused)
-        }
-    }
+    kept(is_next(decoder, types, levels, id), error)
 }
 
 /// Reads a component of a SEQUENCE, unless it is absent.
@@ -1581,7 +1224,7 @@ fn decode_stated<'input, M: Made>(
 /// the SET is extensible. Once all are read, `DuplicateField` with the name of the first component that was read before, else
 /// `MissingField` with that of the first required one that is missing.
 #[cycle(decode)]
-fn decode_set<'input, M: Made>(
+fn decode_set_components<'input, M: Made>(
     decoder: &mut Decoder<'input>,
     walk: &mut Walk<'input>,
     types: &[Type],

@@ -1,11 +1,14 @@
 //! What goes along while a message is read.
-ghost use Rattle.std.specs.Prelude.{◌≡◌, None};
+ghost use Rattle.std.specs.Prelude.{◌≡◌, ◌+◌, ◌<◌, ◌^◌, length, Some, None};
 ghost use Rattle.rasn_de.specs.Set.{PeeksInOrder};
 ghost use Rattle.rasn_de.specs.Steps.{PeeksTag, IsNextTag};
+ghost use Rattle.rasn_dynamic.specs.declared.trace.Fault.{Fault};
+ghost use Rattle.rasn_dynamic.specs.Faults.{octets_after};
 ghost use Rattle.rasn_dynamic.specs.Making.{reported};
+ghost use Rattle.rasn_dynamic.specs.Readers.{IsCounted};
 
 use crate::span::Spans;
-use crate::trace::Fault;
+use crate::trace::{Fault, add_after, octets_after};
 use rasn_de::ber::de::Decoder;
 use rasn_types::error::{DecodeError, DecodeErrorKind};
 use rasn_types::types::{Codec, Tag};
@@ -40,19 +43,48 @@ pub fn new_walk<'input>(rule: Codec, spans: Spans<'input>) -> Walk<'input>
     }
 }
 
+/// Keeps the error of an outcome, if it is one.
+#[inline(always)]
+pub fn kept<T>(outcome: Result<T, DecodeError>, error: &mut DecodeError) -> Result<T, Refused>
+    ensures { reported result error.new ≡ outcome }
+{
+    match outcome {
+        Ok(value) => Ok(value),
+        Err(fault) => {
+            *error = fault;
+            Err(Refused)
+        }
+    }
+}
+
+/// Passes on whether contents were read. If they weren't, counts the octets after them, which their
+/// decoder doesn't see, for the value inside that is named.
+#[inline(always)]
+pub fn count_after(
+    decoder: &Decoder<'_>,
+    inner: &Decoder<'_>,
+    fault: &mut Option<Fault>,
+    read: Result<(), Refused>,
+) -> Result<(), Refused>
+    requires { (f : Fault) → fault.old ≡ Some f → f.left + octets_after inner.now.closing (length decoder.now.rest) < 2 ^ 64 }
+    ensures { IsCounted (octets_after inner.now.closing (length decoder.now.rest)) read fault.old result fault.new }
+{
+    match read {
+        Ok(()) => Ok(()),
+        Err(refused) => {
+            add_after(fault, octets_after(decoder, inner));
+            Err(refused)
+        }
+    }
+}
+
 /// Returns the next tag, or keeps the error that there is none.
 #[inline(never)]
 pub fn peek(decoder: &Decoder<'_>, error: &mut DecodeError) -> Result<Tag, Refused>
     ensures next { IsNextTag decoder.now (reported result error.new) }
     ensures exact { PeeksTag decoder.now (reported result error.new) }
 {
-    match decoder.peek_tag() {
-        Ok(tag) => Ok(tag),
-        Err(fault) => {
-            *error = fault;
-            Err(Refused)
-        }
-    }
+    kept(decoder.peek_tag(), error)
 }
 
 /// Returns the next tag under DER, which must not be less than the last one, or keeps the error.
@@ -63,11 +95,5 @@ pub fn peek_in_order(
 ) -> Result<Option<Tag>, Refused>
     ensures { PeeksInOrder last decoder.now (reported result error.new) }
 {
-    match decoder.peek_tag_in_order(last) {
-        Ok(tag) => Ok(tag),
-        Err(fault) => {
-            *error = fault;
-            Err(Refused)
-        }
-    }
+    kept(decoder.peek_tag_in_order(last), error)
 }

@@ -68,8 +68,13 @@ use Rattle.rasn_de.specs.Set.{not_read}
 use Rattle.rasn_de.proofs.Headers.Tags.{look_refused, look_follows}
 use Rattle.rasn_dynamic.specs.Faults.{IsFaultOf, IsFaultIn, IsFaultInside, IsOnly, IsAlternativeAt, IsComponentAt, IsMemberAfter, Told, ReadsEachPart, StopsAtMember, StopsInSequence, StopsInSet, TellsOf}
 use Rattle.rasn_dynamic.proofs.Faults.{any_err, if_err_map, unnamed, one_taken, turns_long, marked, stepped, further, weaker, entered, opened, opened_short, told_map, tells, tells_err, alternative_there, element_there, forgotten, one_part_more, part_there, member_there, member_behind, unknown_there, turns_keep, named, not_named, unmoved, got_inside, found_itself, itself_leaf, present_stops, itself_prefix, itself_sequence, itself_set, itself_list, itself_set_of, itself_choice, element_stops, set_element_stops, default_stops, unmade_stops, only_memory}
-
 -- ---- the type with a number
+
+use Rattle.rasn_de.specs.Constructed.{ConsumesOpening}
+use Rattle.rasn_dynamic.specs.Readers.{DecodesCounted}
+use Rattle.rasn_types.specs.Errors.{IsOutOfMemory}
+use Rattle.rasn_schema.specs.Fitting.{FitsBy, IsChosen, AlternativeFits}
+use Rattle.rasn_dynamic.proofs.Readers.{unopened, may_count, refused, may_close, unclosed, closed, tagged, sequence, set, tagged_contents, sequence_contents, set_contents, list_contents, set_of_contents, counted, list_unread, list_sized, set_of_unread, set_of_sized, leaf_read, components_refused, components_put, members_refused, members_put, elements_put, set_of_put}
 
 pub decode_found-returns-then-levels-eq0-clause-reads : goal.decode_found-returns-then-levels-eq0-clause-reads
 decode_found-returns-then-levels-eq0-clause-reads g t c = refused_at_zero _ _ _ _ _ c.if-levels-eq0.true
@@ -362,62 +367,6 @@ decode_elements_in_order-returns-then-is_less-clause-rules g t c = codec_is c.re
 
 -- ---- a value that holds others
 
-pub decode_type-returns-in-Any-clause-exact : goal.decode_type-returns-in-Any-clause-exact
-decode_type-returns-in-Any-clause-exact g t c = rw c.in-Any.is c.put_any.ensures.reads
-
-pub decode_type-returns-in-Unknown-clause-exact : goal.decode_type-returns-in-Unknown-clause-exact
-decode_type-returns-in-Unknown-clause-exact g t c = rw c.in-Unknown.is c.put_unknown.ensures.reads
-
-pub decode_type-returns-in-Unknown-clause-fits : goal.decode_type-returns-in-Unknown-clause-fits
-decode_type-returns-in-Unknown-clause-fits g t c = λ k. rw c.in-Unknown.is (c.put_unknown.ensures.fits k)
-
-pub decode_type-returns-in-Unknown-clause-reads : goal.decode_type-returns-in-Unknown-clause-reads
-decode_type-returns-in-Unknown-clause-reads g t c = rw c.in-Unknown.is c.put_unknown.ensures.reads
-
-pub decode_type-returns-in-Unknown-clause-itself : goal.decode_type-returns-in-Unknown-clause-itself
-decode_type-returns-in-Unknown-clause-itself g t c =
-    itself_leaf (shape_of_type c.args.types.now c.args.below) c.args.ty.now c.args.decoder.now _ (λ e. rw c.in-Unknown.is tt) _
-
-pub decode_type-returns-in-Unknown-clause-listed : goal.decode_type-returns-in-Unknown-clause-listed
-decode_type-returns-in-Unknown-clause-listed g t c = if_any _ (none_listed (shape_of_type c.args.types.now c.args.below) c.args.below (Inside c.args.types.now c.args.below) c.args.ty.now c.args.decoder.now _ (rw c.in-Unknown.is tt))
-
-pub decode_type-returns-in-Choice-clause-exact : goal.decode_type-returns-in-Choice-clause-exact
-decode_type-returns-in-Choice-clause-exact g t c =
-    choice_exact (shape_of_type c.args.types.now c.args.below) c.args.ty.now _ c.args.decoder.now (outcome c.decode_choice.result c.decode_choice.new.out c.decode_choice.new.walk.error) _ c.in-Choice.name c.in-Choice.alternatives c.deref-in-Choice.result.now c.as_str.result.now c.in-Choice.is c.deref-in-Choice.ensures.value c.as_str.ensures.value c.decode_choice.ensures.reads c.decode_choice.ensures.unknown
-
-pub decode_type-returns-in-Choice-clause-fits : goal.decode_type-returns-in-Choice-clause-fits
-decode_type-returns-in-Choice-clause-fits g t c = λ k. rw (c.in-Choice.is, ← c.deref-in-Choice.ensures.value) (c.decode_choice.ensures.fits k)
-
-pub decode_type-returns-in-Any-clause-fits : goal.decode_type-returns-in-Any-clause-fits
-decode_type-returns-in-Any-clause-fits g t c = λ k. rw c.in-Any.is (c.put_any.ensures.fits k)
-
-pub decode_type-returns-in-Enumerated-clause-fits : goal.decode_type-returns-in-Enumerated-clause-fits
-decode_type-returns-in-Enumerated-clause-fits g t c = λ k.
-    rw c.in-Enumerated.is (subst (λ l. IfOk (outcome c.put_number.result c.put_number.new.out c.put_number.new.error) (λ v. IsNumber (numbers_of l) v)) c.deref.ensures.value (c.put_number.ensures.fits k))
-
-pub decode_type-returns-in-Leaf-clause-fits : goal.decode_type-returns-in-Leaf-clause-fits
-decode_type-returns-in-Leaf-clause-fits g t c = λ k. rw c.in-Leaf.is (c.put_leaf.ensures.fits k)
-
-pub decode_type-returns-in-Choice-clause-reads : goal.decode_type-returns-in-Choice-clause-reads
-decode_type-returns-in-Choice-clause-reads g t c = rw (c.in-Choice.is, ← c.deref-in-Choice.ensures.value) c.decode_choice.ensures.reads
-
-pub decode_type-returns-in-Any-clause-reads : goal.decode_type-returns-in-Any-clause-reads
-decode_type-returns-in-Any-clause-reads g t c = rw c.in-Any.is c.put_any.ensures.reads
-
-pub decode_type-returns-in-Enumerated-clause-exact : goal.decode_type-returns-in-Enumerated-clause-exact
-decode_type-returns-in-Enumerated-clause-exact g t c =
-    rw (c.in-Enumerated.is, ← c.deref.ensures.value) c.put_number.ensures.reads
-
-pub decode_type-returns-in-Enumerated-clause-reads : goal.decode_type-returns-in-Enumerated-clause-reads
-decode_type-returns-in-Enumerated-clause-reads g t c =
-    rw (c.in-Enumerated.is, ← c.deref.ensures.value) c.put_number.ensures.reads
-
-pub decode_type-returns-in-Leaf-clause-exact : goal.decode_type-returns-in-Leaf-clause-exact
-decode_type-returns-in-Leaf-clause-exact g t c = rw c.in-Leaf.is c.put_leaf.ensures.reads
-
-pub decode_type-returns-in-Leaf-clause-reads : goal.decode_type-returns-in-Leaf-clause-reads
-decode_type-returns-in-Leaf-clause-reads g t c = rw c.in-Leaf.is c.put_leaf.ensures.reads
-
 -- ---- a type
 
 -- ---- components
@@ -520,39 +469,39 @@ decode_compared-returns-in-None-clause-told g t c = subst (λ (z : State). Tells
 
 -- ---- the components of a SEQUENCE
 
-pub decode_sequence-returns-then-leaves_all_out-clause-reads : goal.decode_sequence-returns-then-leaves_all_out-clause-reads
-decode_sequence-returns-then-leaves_all_out-clause-reads g t c =
+pub decode_components-returns-then-leaves_all_out-clause-reads : goal.decode_components-returns-then-leaves_all_out-clause-reads
+decode_components-returns-then-leaves_all_out-clause-reads g t c =
     all_left_read (shape_of_type c.args.types.now c.args.below) c.args.components.now c.args.decoder.now _ c.if-leaves_all_out.ensures _ c.leave_all_out.ensures.settled c.leave_all_out.ensures.memory
 
-pub decode_sequence-leave_all_out-requires : goal.decode_sequence-leave_all_out-requires
-decode_sequence-leave_all_out-requires g t c = c.if-leaves_all_out.ensures.0
+pub decode_components-leave_all_out-requires : goal.decode_components-leave_all_out-requires
+decode_components-leave_all_out-requires g t c = c.if-leaves_all_out.ensures.0
 
-pub decode_sequence-returns-then-leaves_all_out-clause-fits : goal.decode_sequence-returns-then-leaves_all_out-clause-fits
-decode_sequence-returns-then-leaves_all_out-clause-fits g t c = λ k. all_left_fit (Fits c.args.types.now c.args.below) c.args.components.now _ (c.leave_all_out.ensures.settled k)
+pub decode_components-returns-then-leaves_all_out-clause-fits : goal.decode_components-returns-then-leaves_all_out-clause-fits
+decode_components-returns-then-leaves_all_out-clause-fits g t c = λ k. all_left_fit (Fits c.args.types.now c.args.below) c.args.components.now _ (c.leave_all_out.ensures.settled k)
 
-pub decode_sequence-loop-rest-init : goal.decode_sequence-loop-rest-init
-decode_sequence-loop-rest-init g t c = rw c.requires.empty (([], (λ k. refl), parts_start _ _), c.requires.lawful, (λ k us h. h), c.requires.clear, [], refl, refl, lists_start (λ b. ComponentAt (shape_of_type c.args.types.now c.args.below) c.args.below (Inside c.args.types.now c.args.below) c.args.components.now b) _ c.args.decoder.now _ refl)
+pub decode_components-loop-rest-init : goal.decode_components-loop-rest-init
+decode_components-loop-rest-init g t c = rw c.requires.empty (([], (λ k. refl), parts_start _ _), c.requires.lawful, (λ k us h. h), c.requires.clear, [], refl, refl, lists_start (λ b. ComponentAt (shape_of_type c.args.types.now c.args.below) c.args.below (Inside c.args.types.now c.args.below) c.args.components.now b) _ c.args.decoder.now _ refl)
 
-pub decode_sequence-overflow_sub-index : goal.decode_sequence-overflow_sub-index
-decode_sequence-overflow_sub-index g t c =
+pub decode_components-overflow_sub-index : goal.decode_components-overflow_sub-index
+decode_components-overflow_sub-index g t c =
     let k = c.loop-rest.invariant in
     let len : length c.args.components.now ≡ length k.4 + length c.loop-rest.rest.now = ap length k.5 ∙ length-append k.4 c.loop-rest.rest.now in
     omega (arith, len)
 
-pub decode_sequence-returns-in_err-decode_component-clause-reads : goal.decode_sequence-returns-in_err-decode_component-clause-reads
-decode_sequence-returns-in_err-decode_component-clause-reads g t c =
+pub decode_components-returns-in_err-decode_component-clause-reads : goal.decode_components-returns-in_err-decode_component-clause-reads
+decode_components-returns-in_err-decode_component-clause-reads g t c =
     rw (residual _ c.from_residual.ensures.1)
     (in_turn (shape_of_type c.args.types.now c.args.below) c.args.components.now c.args.decoder.now c.if-leaves_all_out.ensures _ _
     (part_fails _ _ _ (presence_in (shape_of_type c.args.types.now c.args.below) c.component-item.result) ((shape_of_type c.args.types.now c.args.below) c.component-item.result.type_id.0) _ _ _ c.loop-rest.invariant.0.2 (ap (components_by (shape_of_type c.args.types.now c.args.below)) (split c.loop-rest.rest.now _ c.in-len1-up.len_at_least c.component-item.is)) _ _ c.in_err-decode_component.ensures.reads))
 
-pub decode_sequence-returns-in_err-take-clause-reads : goal.decode_sequence-returns-in_err-take-clause-reads
-decode_sequence-returns-in_err-take-clause-reads g t c =
+pub decode_components-returns-in_err-take-clause-reads : goal.decode_components-returns-in_err-take-clause-reads
+decode_components-returns-in_err-take-clause-reads g t c =
     rw (residual _ c.from_residual-in_err-take.ensures.1)
     (in_turn (shape_of_type c.args.types.now c.args.below) c.args.components.now c.args.decoder.now c.if-leaves_all_out.ensures _ _
     (parts_run_out _ _ _ _ _ _ c.loop-rest.invariant.0.2 (record { stays = c.in_ok-decode_component.ensures.reads.2.stays; end = c.in_ok-decode_component.ensures.reads.2.end }) c.take.new.error c.in_err-take.ensures.kind))
 
-pub decode_sequence-loop-rest-preserved : goal.decode_sequence-loop-rest-preserved
-decode_sequence-loop-rest-preserved g t c =
+pub decode_components-loop-rest-preserved : goal.decode_components-loop-rest-preserved
+decode_components-loop-rest-preserved g t c =
     let at = split c.loop-rest.rest.now _ c.in-len1-up.len_at_least c.component-item.is in
     let e = ap (components_by (shape_of_type c.args.types.now c.args.below)) at in
     let i = c.loop-rest.invariant.0 in
@@ -574,36 +523,36 @@ decode_sequence-loop-rest-preserved g t c =
           c.loop-rest.invariant.7 c.in_ok-decode_component.ensures.listed,
     )
 
-pub decode_sequence-returns-clause-reads : goal.decode_sequence-returns-clause-reads
-decode_sequence-returns-clause-reads g t c =
+pub decode_components-returns-clause-reads : goal.decode_components-returns-clause-reads
+decode_components-returns-clause-reads g t c =
     let i = c.loop-rest.invariant.0 in (
       i.0,
       i.1,
       in_turn (shape_of_type c.args.types.now c.args.below) c.args.components.now c.args.decoder.now c.if-leaves_all_out.ensures _ _ (parts_end _ _ _ _ _ i.2 (ap (components_by (shape_of_type c.args.types.now c.args.below)) (nothing_left _ c.in_default.len_below))),
     )
 
-pub decode_sequence-returns-clause-fits : goal.decode_sequence-returns-clause-fits
-decode_sequence-returns-clause-fits g t c = λ k. fit_end (Fits c.args.types.now c.args.below) _ _ _ (c.loop-rest.invariant.2 k) (nothing_left _ c.in_default.len_below)
+pub decode_components-returns-clause-fits : goal.decode_components-returns-clause-fits
+decode_components-returns-clause-fits g t c = λ k. fit_end (Fits c.args.types.now c.args.below) _ _ _ (c.loop-rest.invariant.2 k) (nothing_left _ c.in_default.len_below)
 
-pub decode_sequence-returns-then-leaves_all_out-clause-fails : goal.decode_sequence-returns-then-leaves_all_out-clause-fails
-decode_sequence-returns-then-leaves_all_out-clause-fails g t c = if_err_map _ _ (λ e m. inr m) (outcome c.leave_all_out.result c.leave_all_out.new.values c.leave_all_out.new.error) c.leave_all_out.ensures.memory
+pub decode_components-returns-then-leaves_all_out-clause-fails : goal.decode_components-returns-then-leaves_all_out-clause-fails
+decode_components-returns-then-leaves_all_out-clause-fails g t c = if_err_map _ _ (λ e m. inr m) (outcome c.leave_all_out.result c.leave_all_out.new.values c.leave_all_out.new.error) c.leave_all_out.ensures.memory
 
-pub decode_sequence-returns-in_err-decode_component-clause-fails : goal.decode_sequence-returns-in_err-decode_component-clause-fails
-decode_sequence-returns-in_err-decode_component-clause-fails g t c = rw (residual _ c.from_residual.ensures.1) (inl (part_fails_at _ _ _ (presence_in (shape_of_type c.args.types.now c.args.below) c.component-item.result) ((shape_of_type c.args.types.now c.args.below) c.component-item.result.type_id.0) _ _ _ c.loop-rest.invariant.0.2 (ap (components_by (shape_of_type c.args.types.now c.args.below)) (split c.loop-rest.rest.now _ c.in-len1-up.len_at_least c.component-item.is)) _ _ c.in_err-decode_component.ensures.fails))
+pub decode_components-returns-in_err-decode_component-clause-fails : goal.decode_components-returns-in_err-decode_component-clause-fails
+decode_components-returns-in_err-decode_component-clause-fails g t c = rw (residual _ c.from_residual.ensures.1) (inl (part_fails_at _ _ _ (presence_in (shape_of_type c.args.types.now c.args.below) c.component-item.result) ((shape_of_type c.args.types.now c.args.below) c.component-item.result.type_id.0) _ _ _ c.loop-rest.invariant.0.2 (ap (components_by (shape_of_type c.args.types.now c.args.below)) (split c.loop-rest.rest.now _ c.in-len1-up.len_at_least c.component-item.is)) _ _ c.in_err-decode_component.ensures.fails))
 
-pub decode_sequence-returns-in_err-take-clause-fails : goal.decode_sequence-returns-in_err-take-clause-fails
-decode_sequence-returns-in_err-take-clause-fails g t c = rw (residual _ c.from_residual-in_err-take.ensures.1) (inr c.in_err-take.ensures.kind)
+pub decode_components-returns-in_err-take-clause-fails : goal.decode_components-returns-in_err-take-clause-fails
+decode_components-returns-in_err-take-clause-fails g t c = rw (residual _ c.from_residual-in_err-take.ensures.1) (inr c.in_err-take.ensures.kind)
 
-pub decode_sequence-returns-in_err-decode_component-clause-rules : goal.decode_sequence-returns-in_err-decode_component-clause-rules
-decode_sequence-returns-in_err-decode_component-clause-rules g t c = rw (residual _ c.from_residual.ensures.1) (c.in_err-decode_component.ensures.rules ∙ same_rules c.loop-rest.invariant.0.2.keeps.stays)
+pub decode_components-returns-in_err-decode_component-clause-rules : goal.decode_components-returns-in_err-decode_component-clause-rules
+decode_components-returns-in_err-decode_component-clause-rules g t c = rw (residual _ c.from_residual.ensures.1) (c.in_err-decode_component.ensures.rules ∙ same_rules c.loop-rest.invariant.0.2.keeps.stays)
 
-pub decode_sequence-returns-in_err-take-clause-rules : goal.decode_sequence-returns-in_err-take-clause-rules
-decode_sequence-returns-in_err-take-clause-rules g t c = rw (residual _ c.from_residual-in_err-take.ensures.1) (c.in_err-take.ensures.rules ∙ same_rules c.in_ok-decode_component.ensures.reads.2.stays ∙ same_rules c.loop-rest.invariant.0.2.keeps.stays)
+pub decode_components-returns-in_err-take-clause-rules : goal.decode_components-returns-in_err-take-clause-rules
+decode_components-returns-in_err-take-clause-rules g t c = rw (residual _ c.from_residual-in_err-take.ensures.1) (c.in_err-take.ensures.rules ∙ same_rules c.in_ok-decode_component.ensures.reads.2.stays ∙ same_rules c.loop-rest.invariant.0.2.keeps.stays)
 
 -- ---- the components of a SET
 
-pub decode_set-loop-other_id-init : goal.decode_set-loop-other_id-init
-decode_set-loop-other_id-init g t c = (
+pub decode_set_components-loop-other_id-init : goal.decode_set_components-loop-other_id-init
+decode_set_components-loop-other_id-init g t c = (
   (
     held (nones c.args.components.now),
     [],
@@ -619,26 +568,26 @@ decode_set-loop-other_id-init g t c = (
   lists_start (λ b k. MemberListed (shape_of_type c.args.types.now c.args.below) c.args.below (Inside c.args.types.now c.args.below) c.args.extensible c.args.components.now c.args.other_id.0 b) 0 c.args.decoder.now _ refl,
 )
 
-pub decode_set-loop-other_id-smaller : goal.decode_set-loop-other_id-smaller
-decode_set-loop-other_id-smaller g t c =
+pub decode_set_components-loop-other_id-smaller : goal.decode_set_components-loop-other_id-smaller
+decode_set_components-loop-other_id-smaller g t c =
     let i = c.loop-other_id.invariant.0 in
     member_shorter _ c.args.extensible (components_by (shape_of_type c.args.types.now c.args.below) c.args.components.now) (names_of c.args.components.now) c.loop-other_id.found.items c.decode_set_component.new.found.items c.loop-other_id.unknown.items c.decode_set_component.new.unknown.items i.0 i.1 c.loop-other_id.decoder _ _ i.2 i.3 c.in_ok-next.ensures.next
 
-pub decode_set-returns-in_err-last-clause-exact : goal.decode_set-returns-in_err-last-clause-exact
-decode_set-returns-in_err-last-clause-exact g t c =
+pub decode_set_components-returns-in_err-last-clause-exact : goal.decode_set_components-returns-in_err-last-clause-exact
+decode_set_components-returns-in_err-last-clause-exact g t c =
     let at = c.loop-other_id in
     rw (residual _ c.from_residual.ensures.1) (inl (untold c.args.extensible (components_by (shape_of_type c.args.types.now c.args.below) c.args.components.now) (names_of c.args.components.now) c.args.decoder.now at.decoder at.last at.twice _ _ at.invariant.0.4 items c.loop-other_id-test.ensures _ c.in_err-last.ensures))
 
-pub decode_set-returns-in_err-next-clause-exact : goal.decode_set-returns-in_err-next-clause-exact
-decode_set-returns-in_err-next-clause-exact g t c =
+pub decode_set_components-returns-in_err-next-clause-exact : goal.decode_set_components-returns-in_err-next-clause-exact
+decode_set_components-returns-in_err-next-clause-exact g t c =
     let at = c.loop-other_id in
     let i = at.invariant.0 in
     let w = c.in_err-next.ensures.next i.0 i.1 i.2 i.3 in
     rw (residual _ c.from_residual-in_err-next.ensures.1)
     (inl (next_fails c.args.extensible (components_by (shape_of_type c.args.types.now c.args.below) c.args.components.now) (names_of c.args.components.now) c.args.decoder.now at.decoder at.last at.twice _ _ i.4 items c.loop-other_id-test.ensures _ c.in_ok-last.ensures _ _ w.0 w.1 w.4))
 
-pub decode_set-loop-other_id-preserved : goal.decode_set-loop-other_id-preserved
-decode_set-loop-other_id-preserved g t c =
+pub decode_set_components-loop-other_id-preserved : goal.decode_set_components-loop-other_id-preserved
+decode_set_components-loop-other_id-preserved g t c =
     let at = c.loop-other_id in
     let i = at.invariant.0 in
     let w = c.in_ok-next.ensures.next i.0 i.1 i.2 i.3 in (
@@ -657,8 +606,8 @@ decode_set-loop-other_id-preserved g t c =
       lists_more (λ b k. MemberListed (shape_of_type c.args.types.now c.args.below) c.args.below (Inside c.args.types.now c.args.below) c.args.extensible c.args.components.now c.args.other_id.0 b) at.invariant.4 c.args.decoder.now at.decoder _ _ _ _ at.invariant.5 c.in_ok-next.ensures.listed,
     )
 
-pub decode_set-returns-in-Some-clause-exact : goal.decode_set-returns-in-Some-clause-exact
-decode_set-returns-in-Some-clause-exact g t c =
+pub decode_set_components-returns-in-Some-clause-exact : goal.decode_set_components-returns-in-Some-clause-exact
+decode_set_components-returns-in-Some-clause-exact g t c =
     let at = c.loop-other_id in
     let i = at.invariant.0 in
     let ps = (components_by (shape_of_type c.args.types.now c.args.below) c.args.components.now) in
@@ -668,11 +617,11 @@ decode_set-returns-in-Some-clause-exact g t c =
     (subst (λ z. ReadTo c.args.extensible ps names c.args.decoder.now at.decoder at.last z i.0 i.1) h i.4) _
     (subst (λ z. IsNamedError (IsDuplicateField (text c.in-Some.repeated)) z c.duplicate_field.result) c.codec.ensures c.duplicate_field.ensures))
 
-pub decode_set-gather_found-requires : goal.decode_set-gather_found-requires
-decode_set-gather_found-requires g t c = found_length _ c.args.components.now _ c.loop-other_id.invariant.1
+pub decode_set_components-gather_found-requires : goal.decode_set_components-gather_found-requires
+decode_set_components-gather_found-requires g t c = found_length _ c.args.components.now _ c.loop-other_id.invariant.1
 
-pub decode_set-returns-in_err-values-clause-exact : goal.decode_set-returns-in_err-values-clause-exact
-decode_set-returns-in_err-values-clause-exact g t c =
+pub decode_set_components-returns-in_err-values-clause-exact : goal.decode_set_components-returns-in_err-values-clause-exact
+decode_set_components-returns-in_err-values-clause-exact g t c =
     let at = c.loop-other_id in
     let i = at.invariant.0 in
     let ps = (components_by (shape_of_type c.args.types.now c.args.below) c.args.components.now) in
@@ -683,8 +632,8 @@ decode_set-returns-in_err-values-clause-exact g t c =
     (members_lack c.args.extensible ps names c.args.decoder.now at.decoder at.last i.0 i.1 c.loop-other_id-test.ensures (subst (λ z. ReadTo c.args.extensible ps names c.args.decoder.now at.decoder at.last z i.0 i.1) h i.4) e
     (lacks_part _ (shape_of_type c.args.types.now c.args.below) c.args.components.now at.decoder.rule at.found.items i.0 e i.2 c.in_err-values.ensures.gathers))
 
-pub decode_set-returns-in_err-append-clause-exact : goal.decode_set-returns-in_err-append-clause-exact
-decode_set-returns-in_err-append-clause-exact g t c =
+pub decode_set_components-returns-in_err-append-clause-exact : goal.decode_set_components-returns-in_err-append-clause-exact
+decode_set_components-returns-in_err-append-clause-exact g t c =
     let at = c.loop-other_id in
     let i = at.invariant.0 in
     let ps = (components_by (shape_of_type c.args.types.now c.args.below) c.args.components.now) in
@@ -692,8 +641,8 @@ decode_set-returns-in_err-append-clause-exact g t c =
     rw (residual _ c.from_residual-in_err-append.ensures.1)
     (inr (c.in_err-append.ensures.kind, members_keep c.args.extensible ps names c.args.decoder.now at.decoder at.last i.0 i.1 at.twice i.4))
 
-pub decode_set-returns-clause-exact : goal.decode_set-returns-clause-exact
-decode_set-returns-clause-exact g t c =
+pub decode_set_components-returns-clause-exact : goal.decode_set_components-returns-clause-exact
+decode_set_components-returns-clause-exact g t c =
     let on : c.args.extensible ≡ true = search rules in
     let at = c.loop-other_id in
     let i = at.invariant.0 in
@@ -706,8 +655,8 @@ decode_set-returns-clause-exact g t c =
       members_made c.args.extensible ps names c.args.decoder.now at.decoder at.last i.0 i.1 c.loop-other_id-test.ensures (subst (λ z. ReadTo c.args.extensible ps names c.args.decoder.now at.decoder at.last z i.0 i.1) h i.4) m.0 m.2 i.5,
     )
 
-pub decode_set-returns-then-not-extensible-clause-exact : goal.decode_set-returns-then-not-extensible-clause-exact
-decode_set-returns-then-not-extensible-clause-exact g t c =
+pub decode_set_components-returns-then-not-extensible-clause-exact : goal.decode_set_components-returns-then-not-extensible-clause-exact
+decode_set_components-returns-then-not-extensible-clause-exact g t c =
     let off : c.args.extensible ≡ false = search rules in
     let at = c.loop-other_id in
     let i = at.invariant.0 in
@@ -720,36 +669,36 @@ decode_set-returns-then-not-extensible-clause-exact g t c =
       members_made c.args.extensible ps names c.args.decoder.now at.decoder at.last i.0 i.1 c.loop-other_id-test.ensures (subst (λ z. ReadTo c.args.extensible ps names c.args.decoder.now at.decoder at.last z i.0 i.1) h i.4) m.0 m.2 i.5,
     )
 
-pub decode_set-returns-clause-fits : goal.decode_set-returns-clause-fits
-decode_set-returns-clause-fits g t c = λ k.
+pub decode_set_components-returns-clause-fits : goal.decode_set_components-returns-clause-fits
+decode_set_components-returns-clause-fits g t c = λ k.
     let at = c.loop-other_id in
     let on : c.args.extensible ≡ true = search rules in
     all_fit (Fits c.args.types.now c.args.below) c.args.extensible c.args.components.now c.in_ok-values.values.items c.append.new.values.items at.unknown
     (gathered_fit (Fits c.args.types.now c.args.below) g.M.Made.KEEP k c.args.components.now at.decoder.rule at.found.items (Ok c.in_ok-values.values) (found_kept g.M.Made.KEEP (Fits c.args.types.now c.args.below) k c.args.components.now at.found.items at.invariant.1) c.in_ok-values.ensures.gathers)
     (at.invariant.2 k) (λ e. c.in_ok-append.ensures.ok k) (λ e. absurd (true≢false (sym on ∙ e)))
 
-pub decode_set-returns-then-not-extensible-clause-fits : goal.decode_set-returns-then-not-extensible-clause-fits
-decode_set-returns-then-not-extensible-clause-fits g t c = λ k.
+pub decode_set_components-returns-then-not-extensible-clause-fits : goal.decode_set_components-returns-then-not-extensible-clause-fits
+decode_set_components-returns-then-not-extensible-clause-fits g t c = λ k.
     let at = c.loop-other_id in
     let off : c.args.extensible ≡ false = search rules in
     all_fit (Fits c.args.types.now c.args.below) c.args.extensible c.args.components.now c.in_ok-values.values.items c.in_ok-values.values.items at.unknown
     (gathered_fit (Fits c.args.types.now c.args.below) g.M.Made.KEEP k c.args.components.now at.decoder.rule at.found.items (Ok c.in_ok-values.values) (found_kept g.M.Made.KEEP (Fits c.args.types.now c.args.below) k c.args.components.now at.found.items at.invariant.1) c.in_ok-values.ensures.gathers)
     (at.invariant.2 k) (λ e. absurd (true≢false (sym e ∙ off))) (λ e. refl)
 
-pub decode_set-returns-in_err-values-clause-rules : goal.decode_set-returns-in_err-values-clause-rules
-decode_set-returns-in_err-values-clause-rules g t c = rw (residual _ c.from_residual-in_err-values.ensures.1) (c.in_err-values.ensures.rules ∙ read_rules c.args.extensible (components_by (shape_of_type c.args.types.now c.args.below) c.args.components.now) (names_of c.args.components.now) _ _ _ _ _ _ c.loop-other_id.invariant.0.4)
+pub decode_set_components-returns-in_err-values-clause-rules : goal.decode_set_components-returns-in_err-values-clause-rules
+decode_set_components-returns-in_err-values-clause-rules g t c = rw (residual _ c.from_residual-in_err-values.ensures.1) (c.in_err-values.ensures.rules ∙ read_rules c.args.extensible (components_by (shape_of_type c.args.types.now c.args.below) c.args.components.now) (names_of c.args.components.now) _ _ _ _ _ _ c.loop-other_id.invariant.0.4)
 
-pub decode_set-returns-in_err-append-clause-rules : goal.decode_set-returns-in_err-append-clause-rules
-decode_set-returns-in_err-append-clause-rules g t c = rw (residual _ c.from_residual-in_err-append.ensures.1) (c.in_err-append.ensures.rules ∙ read_rules c.args.extensible (components_by (shape_of_type c.args.types.now c.args.below) c.args.components.now) (names_of c.args.components.now) _ _ _ _ _ _ c.loop-other_id.invariant.0.4)
+pub decode_set_components-returns-in_err-append-clause-rules : goal.decode_set_components-returns-in_err-append-clause-rules
+decode_set_components-returns-in_err-append-clause-rules g t c = rw (residual _ c.from_residual-in_err-append.ensures.1) (c.in_err-append.ensures.rules ∙ read_rules c.args.extensible (components_by (shape_of_type c.args.types.now c.args.below) c.args.components.now) (names_of c.args.components.now) _ _ _ _ _ _ c.loop-other_id.invariant.0.4)
 
-pub decode_set-returns-in_err-last-clause-rules : goal.decode_set-returns-in_err-last-clause-rules
-decode_set-returns-in_err-last-clause-rules g t c = rw (residual _ c.from_residual.ensures.1) (order_rules _ c.loop-other_id.decoder _ c.in_err-last.ensures ∙ read_rules c.args.extensible (components_by (shape_of_type c.args.types.now c.args.below) c.args.components.now) (names_of c.args.components.now) _ _ _ _ _ _ c.loop-other_id.invariant.0.4)
+pub decode_set_components-returns-in_err-last-clause-rules : goal.decode_set_components-returns-in_err-last-clause-rules
+decode_set_components-returns-in_err-last-clause-rules g t c = rw (residual _ c.from_residual.ensures.1) (order_rules _ c.loop-other_id.decoder _ c.in_err-last.ensures ∙ read_rules c.args.extensible (components_by (shape_of_type c.args.types.now c.args.below) c.args.components.now) (names_of c.args.components.now) _ _ _ _ _ _ c.loop-other_id.invariant.0.4)
 
-pub decode_set-returns-in_err-next-clause-rules : goal.decode_set-returns-in_err-next-clause-rules
-decode_set-returns-in_err-next-clause-rules g t c = rw (residual _ c.from_residual-in_err-next.ensures.1) (c.in_err-next.ensures.rules ∙ read_rules c.args.extensible (components_by (shape_of_type c.args.types.now c.args.below) c.args.components.now) (names_of c.args.components.now) _ _ _ _ _ _ c.loop-other_id.invariant.0.4)
+pub decode_set_components-returns-in_err-next-clause-rules : goal.decode_set_components-returns-in_err-next-clause-rules
+decode_set_components-returns-in_err-next-clause-rules g t c = rw (residual _ c.from_residual-in_err-next.ensures.1) (c.in_err-next.ensures.rules ∙ read_rules c.args.extensible (components_by (shape_of_type c.args.types.now c.args.below) c.args.components.now) (names_of c.args.components.now) _ _ _ _ _ _ c.loop-other_id.invariant.0.4)
 
-pub decode_set-returns-in-Some-clause-rules : goal.decode_set-returns-in-Some-clause-rules
-decode_set-returns-in-Some-clause-rules g t c = c.duplicate_field.ensures.0 ∙ c.codec.ensures ∙ read_rules c.args.extensible (components_by (shape_of_type c.args.types.now c.args.below) c.args.components.now) (names_of c.args.components.now) _ _ _ _ _ _ c.loop-other_id.invariant.0.4
+pub decode_set_components-returns-in-Some-clause-rules : goal.decode_set_components-returns-in-Some-clause-rules
+decode_set_components-returns-in-Some-clause-rules g t c = c.duplicate_field.ensures.0 ∙ c.codec.ensures ∙ read_rules c.args.extensible (components_by (shape_of_type c.args.types.now c.args.below) c.args.components.now) (names_of c.args.components.now) _ _ _ _ _ _ c.loop-other_id.invariant.0.4
 
 -- ---- one of them
 
@@ -834,25 +783,8 @@ pub decode_found-returns-in-Some-clause-told : goal.decode_found-returns-in-Some
 decode_found-returns-in-Some-clause-told g t c =
     told_map _ _ (λ k f. entered c.args.types.now c.args.levels c.args.id.0 (c.args.levels - 1) c.in-Some.ty.now c.args.decoder.now (let n = c.if-levels-eq0.false in omega arith) (sym c.in-Some.ensures) k f) _ _ c.decode_type.ensures.told
 
-pub decode_type-returns-in-Choice-clause-told : goal.decode_type-returns-in-Choice-clause-told
-decode_type-returns-in-Choice-clause-told g t c =
-    told_map _ _ (λ k f i. subst (λ n. IsFaultOf c.args.types.now c.args.below n c.args.decoder.now k f) (sym c.in-Choice.is)
-    (c.args.decoder.now, refl, subst (λ l. IsFaultIn c.args.types.now c.args.below (IsAlternativeAt (shape_of_type c.args.types.now c.args.below) l c.args.decoder.now) c.args.decoder.now c.args.decoder.now k f) c.deref-in-Choice.ensures.value i)) _ _ c.decode_choice.ensures.told
-
-pub decode_type-returns-in-Leaf-clause-told : goal.decode_type-returns-in-Leaf-clause-told
-decode_type-returns-in-Leaf-clause-told g t c = unnamed _ _ _ c.requires.clear
-
-pub decode_type-returns-in-Enumerated-clause-told : goal.decode_type-returns-in-Enumerated-clause-told
-decode_type-returns-in-Enumerated-clause-told g t c = unnamed _ _ _ c.requires.clear
-
-pub decode_type-returns-in-Any-clause-told : goal.decode_type-returns-in-Any-clause-told
-decode_type-returns-in-Any-clause-told g t c = unnamed _ _ _ c.requires.clear
-
-pub decode_type-returns-in-Unknown-clause-told : goal.decode_type-returns-in-Unknown-clause-told
-decode_type-returns-in-Unknown-clause-told g t c = unnamed _ _ _ c.requires.clear
-
-pub decode_sequence-returns-then-leaves_all_out-clause-told : goal.decode_sequence-returns-then-leaves_all_out-clause-told
-decode_sequence-returns-then-leaves_all_out-clause-told g t c = unnamed _ _ _ c.requires.clear
+pub decode_components-returns-then-leaves_all_out-clause-told : goal.decode_components-returns-then-leaves_all_out-clause-told
+decode_components-returns-then-leaves_all_out-clause-told g t c = unnamed _ _ _ c.requires.clear
 
 pub decode_component-returns-in-Ok-false-clause-told : goal.decode_component-returns-in-Ok-false-clause-told
 decode_component-returns-in-Ok-false-clause-told g t c = unnamed _ _ _ c.requires.clear
@@ -883,8 +815,8 @@ decode_elements_in_order-returns-in_err-decode_part-clause-told g t c =
     (tells_err _ _ (λ kind f x. further c.args.types.now c.args.below _ _ c.args.decoder.now c.loop-last.decoder kind f k.0 k.1
     (element_there (shape_of_type c.args.types.now c.args.below) c.args.element.0 c.args.decoder.now c.loop-last.decoder i.0 _ (sym i.3) p c.loop-last-test.ensures) x) c.decode_part.new.walk.error _ c.in_err-decode_part.ensures.told)
 
-pub decode_sequence-returns-in_err-decode_component-clause-told : goal.decode_sequence-returns-in_err-decode_component-clause-told
-decode_sequence-returns-in_err-decode_component-clause-told g t c =
+pub decode_components-returns-in_err-decode_component-clause-told : goal.decode_components-returns-in_err-decode_component-clause-told
+decode_components-returns-in_err-decode_component-clause-told g t c =
     let k = c.loop-rest.invariant in
     let at = split c.loop-rest.rest.now _ c.in-len1-up.len_at_least c.component-item.is in
     let len : length c.args.components.now ≡ length k.4 + length c.loop-rest.rest.now = ap length k.5 ∙ length-append k.4 c.loop-rest.rest.now in
@@ -902,8 +834,8 @@ decode_stated-returns-in_err-decode_compared-clause-told g t c =
     let P = IsFaultIn c.args.types.now c.args.below (IsOnly c.args.index c.args.component.now.type_id.0 c.args.decoder.now) c.args.decoder.now c.args.decoder.now in
     rw (residual _ c.from_residual.ensures.1) (tells_err P P (λ k f i. i) c.decode_compared.new.walk.error _ c.in_err-decode_compared.ensures.told)
 
-pub decode_set-returns-in_err-next-clause-told : goal.decode_set-returns-in_err-next-clause-told
-decode_set-returns-in_err-next-clause-told g t c =
+pub decode_set_components-returns-in_err-next-clause-told : goal.decode_set_components-returns-in_err-next-clause-told
+decode_set_components-returns-in_err-next-clause-told g t c =
     let at = c.loop-other_id in
     let k = at.invariant.0.4 in
     let s = choice_by c.args.extensible (components_by (shape_of_type c.args.types.now c.args.below) c.args.components.now) in
@@ -951,22 +883,6 @@ decode_found-returns-in-None-clause-itself g t c =
 pub decode_found-returns-in-Some-clause-itself : goal.decode_found-returns-in-Some-clause-itself
 decode_found-returns-in-Some-clause-itself g t c =
     found_itself c.args.types.now c.args.levels c.args.id.0 (c.args.levels - 1) c.in-Some.ty.now c.args.decoder.now _ (let n = c.if-levels-eq0.false in omega arith) (sym c.in-Some.ensures) _ c.decode_type.ensures.itself
-
-pub decode_type-returns-in-Leaf-clause-itself : goal.decode_type-returns-in-Leaf-clause-itself
-decode_type-returns-in-Leaf-clause-itself g t c =
-    itself_leaf (shape_of_type c.args.types.now c.args.below) c.args.ty.now c.args.decoder.now _ (λ e. rw c.in-Leaf.is tt) _
-
-pub decode_type-returns-in-Enumerated-clause-itself : goal.decode_type-returns-in-Enumerated-clause-itself
-decode_type-returns-in-Enumerated-clause-itself g t c =
-    itself_leaf (shape_of_type c.args.types.now c.args.below) c.args.ty.now c.args.decoder.now _ (λ e. rw c.in-Enumerated.is tt) _
-
-pub decode_type-returns-in-Any-clause-itself : goal.decode_type-returns-in-Any-clause-itself
-decode_type-returns-in-Any-clause-itself g t c =
-    itself_leaf (shape_of_type c.args.types.now c.args.below) c.args.ty.now c.args.decoder.now _ (λ e. rw c.in-Any.is tt) _
-
-pub decode_type-returns-in-Choice-clause-itself : goal.decode_type-returns-in-Choice-clause-itself
-decode_type-returns-in-Choice-clause-itself g t c =
-    itself_choice (shape_of_type c.args.types.now c.args.below) c.args.ty.now c.args.decoder.now c.args.decoder.now _ c.in-Choice.name c.in-Choice.alternatives _ c.in-Choice.is c.deref-in-Choice.ensures.value _ c.decode_choice.ensures.itself
 
 pub decode_choice-returns-in_err-tag-clause-itself : goal.decode_choice-returns-in_err-tag-clause-itself
 decode_choice-returns-in_err-tag-clause-itself g t c =
@@ -1031,18 +947,18 @@ decode_elements_in_order-returns-then-is_less-clause-itself g t c =
       ),
     )
 
-pub decode_sequence-returns-then-leaves_all_out-clause-itself : goal.decode_sequence-returns-then-leaves_all_out-clause-itself
-decode_sequence-returns-then-leaves_all_out-clause-itself g t c = only_memory (shape_of_type c.args.types.now c.args.below) c.args.components.now c.args.decoder.now _ _ c.leave_all_out.ensures.memory
+pub decode_components-returns-then-leaves_all_out-clause-itself : goal.decode_components-returns-then-leaves_all_out-clause-itself
+decode_components-returns-then-leaves_all_out-clause-itself g t c = only_memory (shape_of_type c.args.types.now c.args.below) c.args.components.now c.args.decoder.now _ _ c.leave_all_out.ensures.memory
 
-pub decode_sequence-returns-in_err-decode_component-clause-itself : goal.decode_sequence-returns-in_err-decode_component-clause-itself
-decode_sequence-returns-in_err-decode_component-clause-itself g t c =
+pub decode_components-returns-in_err-decode_component-clause-itself : goal.decode_components-returns-in_err-decode_component-clause-itself
+decode_components-returns-in_err-decode_component-clause-itself g t c =
     let k = c.loop-rest.invariant in
     let at = split c.loop-rest.rest.now _ c.in-len1-up.len_at_least c.component-item.is in
     rw (residual _ c.from_residual.ensures.1)
     (λ n. inr (k.4, c.component-item.result, _, c.loop-rest.decoder, k.5 ∙ ap (λ z. k.4 ++ z) at, k.6, c.in_err-decode_component.ensures.itself n))
 
-pub decode_sequence-returns-in_err-take-clause-itself : goal.decode_sequence-returns-in_err-take-clause-itself
-decode_sequence-returns-in_err-take-clause-itself g t c =
+pub decode_components-returns-in_err-take-clause-itself : goal.decode_components-returns-in_err-take-clause-itself
+decode_components-returns-in_err-take-clause-itself g t c =
     rw (residual _ c.from_residual-in_err-take.ensures.1) (λ n. inl c.in_err-take.ensures.kind)
 
 pub decode_component-returns-then-is_always_there-clause-itself : goal.decode_component-returns-then-is_always_there-clause-itself
@@ -1074,34 +990,34 @@ decode_stated-returns-then-means_same-clause-itself g t c =
     let w = c.in_ok-decode_compared.ensures.reads in
     λ n. default_stops (shape_of_type c.args.types.now c.args.below) c.args.component.now c.args.default.now c.requires.stated c.args.decoder.now _ w.0 w.2 c.requires.strict (subst (λ z. Same z (tree_of c.args.default.now)) (w.1 refl) (c.means_same.ensures.same c.if-means_same.true)) c.refuse_default.new.error c.refuse_default.ensures
 
-pub decode_set-returns-in_err-last-clause-itself : goal.decode_set-returns-in_err-last-clause-itself
-decode_set-returns-in_err-last-clause-itself g t c =
+pub decode_set_components-returns-in_err-last-clause-itself : goal.decode_set_components-returns-in_err-last-clause-itself
+decode_set_components-returns-in_err-last-clause-itself g t c =
     let at = c.loop-other_id in
     let k = at.invariant.0.4 in
     let stays = came_stays (choice_by c.args.extensible (components_by (shape_of_type c.args.types.now c.args.below) c.args.components.now)) (λ (z : Tree). z) c.args.decoder.now at.decoder k.0 k.1 k.2 in
     rw (residual _ c.from_residual.ensures.1)
     (λ n. inr (k.0, k.1, at.decoder, k.2, inr (_, look_refused c.args.decoder.now at.decoder stays k.1 at.last k.3 (λ there x after. StopsAtMember (shape_of_type c.args.types.now c.args.below) c.args.extensible c.args.components.now there x) _ c.in_err-last.ensures)))
 
-pub decode_set-returns-in_err-next-clause-itself : goal.decode_set-returns-in_err-next-clause-itself
-decode_set-returns-in_err-next-clause-itself g t c =
+pub decode_set_components-returns-in_err-next-clause-itself : goal.decode_set_components-returns-in_err-next-clause-itself
+decode_set_components-returns-in_err-next-clause-itself g t c =
     let at = c.loop-other_id in
     let k = at.invariant.0.4 in
     let stays = came_stays (choice_by c.args.extensible (components_by (shape_of_type c.args.types.now c.args.below) c.args.components.now)) (λ (z : Tree). z) c.args.decoder.now at.decoder k.0 k.1 k.2 in
     rw (residual _ c.from_residual-in_err-next.ensures.1)
     (λ n. inr (k.0, k.1, at.decoder, k.2, inr (at.decoder, not_read (look_follows c.args.decoder.now at.decoder stays k.1 at.last k.3 _ c.in_ok-last.ensures) (c.in_err-next.ensures.itself n))))
 
-pub decode_set-returns-in-Some-clause-itself : goal.decode_set-returns-in-Some-clause-itself
-decode_set-returns-in-Some-clause-itself g t c =
+pub decode_set_components-returns-in-Some-clause-itself : goal.decode_set_components-returns-in-Some-clause-itself
+decode_set_components-returns-in-Some-clause-itself g t c =
     let k = c.loop-other_id.invariant.0.4 in
     λ n. inr (k.0, k.1, c.loop-other_id.decoder, k.2, inl c.loop-other_id-test.ensures)
 
-pub decode_set-returns-in_err-values-clause-itself : goal.decode_set-returns-in_err-values-clause-itself
-decode_set-returns-in_err-values-clause-itself g t c =
+pub decode_set_components-returns-in_err-values-clause-itself : goal.decode_set_components-returns-in_err-values-clause-itself
+decode_set_components-returns-in_err-values-clause-itself g t c =
     let k = c.loop-other_id.invariant.0.4 in
     rw (residual _ c.from_residual-in_err-values.ensures.1) (λ n. inr (k.0, k.1, c.loop-other_id.decoder, k.2, inl c.loop-other_id-test.ensures))
 
-pub decode_set-returns-in_err-append-clause-itself : goal.decode_set-returns-in_err-append-clause-itself
-decode_set-returns-in_err-append-clause-itself g t c =
+pub decode_set_components-returns-in_err-append-clause-itself : goal.decode_set_components-returns-in_err-append-clause-itself
+decode_set_components-returns-in_err-append-clause-itself g t c =
     rw (residual _ c.from_residual-in_err-append.ensures.1) (λ n. inl c.in_err-append.ensures.kind)
 
 pub decode_set_component-returns-in_err-tag-clause-itself : goal.decode_set_component-returns-in_err-tag-clause-itself
@@ -1147,19 +1063,6 @@ pub decode_found-returns-in-Some-clause-listed : goal.decode_found-returns-in-So
 decode_found-returns-in-Some-clause-listed g t c =
     if_ok _ _ _ (λ v. value_listed c.args.types.now c.args.levels (c.args.levels - 1) c.args.id.0 c.in-Some.ty.now c.args.decoder.now _ _ (let n = c.if-levels-eq0.false in omega arith) (sym c.in-Some.ensures)) c.decode_type.ensures.listed
 
-pub decode_type-returns-in-Leaf-clause-listed : goal.decode_type-returns-in-Leaf-clause-listed
-decode_type-returns-in-Leaf-clause-listed g t c = if_any _ (none_listed (shape_of_type c.args.types.now c.args.below) c.args.below (Inside c.args.types.now c.args.below) c.args.ty.now c.args.decoder.now _ (rw c.in-Leaf.is tt))
-
-pub decode_type-returns-in-Enumerated-clause-listed : goal.decode_type-returns-in-Enumerated-clause-listed
-decode_type-returns-in-Enumerated-clause-listed g t c = if_any _ (none_listed (shape_of_type c.args.types.now c.args.below) c.args.below (Inside c.args.types.now c.args.below) c.args.ty.now c.args.decoder.now _ (rw c.in-Enumerated.is tt))
-
-pub decode_type-returns-in-Any-clause-listed : goal.decode_type-returns-in-Any-clause-listed
-decode_type-returns-in-Any-clause-listed g t c = if_any _ (none_listed (shape_of_type c.args.types.now c.args.below) c.args.below (Inside c.args.types.now c.args.below) c.args.ty.now c.args.decoder.now _ (rw c.in-Any.is tt))
-
-pub decode_type-returns-in-Choice-clause-listed : goal.decode_type-returns-in-Choice-clause-listed
-decode_type-returns-in-Choice-clause-listed g t c =
-    if_ok _ _ _ (λ v. choice_listed (shape_of_type c.args.types.now c.args.below) c.args.below (Inside c.args.types.now c.args.below) c.args.ty.now c.deref-in-Choice.result.now c.args.decoder.now _ _ (rw c.in-Choice.is c.deref-in-Choice.ensures.value)) c.decode_choice.ensures.listed
-
 pub decode_choice-returns-clause-listed : goal.decode_choice-returns-clause-listed
 decode_choice-returns-clause-listed g t c =
     let el = get_or c.args.alternatives.now c.in-Some.number c.index-alternatives-number.result in
@@ -1174,11 +1077,11 @@ decode_elements-returns-clause-listed g t c = elements_listed (shape_of_type c.a
 pub decode_elements_in_order-returns-clause-listed : goal.decode_elements_in_order-returns-clause-listed
 decode_elements_in_order-returns-clause-listed g t c = elements_listed (shape_of_type c.args.types.now c.args.below) c.args.below (Inside c.args.types.now c.args.below) c.args.element.0 c.loop-last.count c.args.decoder.now c.loop-last.decoder _ _ c.loop-last-test.ensures c.loop-last.invariant.3
 
-pub decode_sequence-returns-then-leaves_all_out-clause-listed : goal.decode_sequence-returns-then-leaves_all_out-clause-listed
-decode_sequence-returns-then-leaves_all_out-clause-listed g t c = if_any _ (components_left_out (shape_of_type c.args.types.now c.args.below) c.args.below (Inside c.args.types.now c.args.below) c.args.components.now c.args.decoder.now _ c.if-leaves_all_out.ensures)
+pub decode_components-returns-then-leaves_all_out-clause-listed : goal.decode_components-returns-then-leaves_all_out-clause-listed
+decode_components-returns-then-leaves_all_out-clause-listed g t c = if_any _ (components_left_out (shape_of_type c.args.types.now c.args.below) c.args.below (Inside c.args.types.now c.args.below) c.args.components.now c.args.decoder.now _ c.if-leaves_all_out.ensures)
 
-pub decode_sequence-returns-clause-listed : goal.decode_sequence-returns-clause-listed
-decode_sequence-returns-clause-listed g t c =
+pub decode_components-returns-clause-listed : goal.decode_components-returns-clause-listed
+decode_components-returns-clause-listed g t c =
     components_listed (shape_of_type c.args.types.now c.args.below) c.args.below (Inside c.args.types.now c.args.below) c.args.components.now c.loop-rest.invariant.4 c.loop-rest.rest.now c.args.decoder.now c.loop-rest.decoder _ _ c.loop-rest.invariant.5 (nothing_left _ c.in_default.len_below) c.loop-rest.invariant.7
 
 pub decode_component-returns-then-is_always_there-clause-listed : goal.decode_component-returns-then-is_always_there-clause-listed
@@ -1195,11 +1098,11 @@ decode_component-returns-in-Ok-false-clause-listed g t c =
     if_any _ (component_absent (shape_of_type c.args.types.now c.args.below) c.args.below (Inside c.args.types.now c.args.below) c.args.component.now c.args.index c.args.decoder.now _
     (c.if-is_always_there.ensures, subst (λ b. NextIs (sought_by (key_of s) s) c.args.decoder.now (Ok b)) h c.in-Ok-false.ensures))
 
-pub decode_set-returns-clause-listed : goal.decode_set-returns-clause-listed
-decode_set-returns-clause-listed g t c = members_listed (shape_of_type c.args.types.now c.args.below) c.args.below (Inside c.args.types.now c.args.below) c.args.extensible c.args.components.now c.args.other_id.0 c.loop-other_id.invariant.4 c.args.decoder.now c.loop-other_id.decoder _ _ c.loop-other_id-test.ensures c.loop-other_id.invariant.5
+pub decode_set_components-returns-clause-listed : goal.decode_set_components-returns-clause-listed
+decode_set_components-returns-clause-listed g t c = members_listed (shape_of_type c.args.types.now c.args.below) c.args.below (Inside c.args.types.now c.args.below) c.args.extensible c.args.components.now c.args.other_id.0 c.loop-other_id.invariant.4 c.args.decoder.now c.loop-other_id.decoder _ _ c.loop-other_id-test.ensures c.loop-other_id.invariant.5
 
-pub decode_set-returns-then-not-extensible-clause-listed : goal.decode_set-returns-then-not-extensible-clause-listed
-decode_set-returns-then-not-extensible-clause-listed g t c = members_listed (shape_of_type c.args.types.now c.args.below) c.args.below (Inside c.args.types.now c.args.below) c.args.extensible c.args.components.now c.args.other_id.0 c.loop-other_id.invariant.4 c.args.decoder.now c.loop-other_id.decoder _ _ c.loop-other_id-test.ensures c.loop-other_id.invariant.5
+pub decode_set_components-returns-then-not-extensible-clause-listed : goal.decode_set_components-returns-then-not-extensible-clause-listed
+decode_set_components-returns-then-not-extensible-clause-listed g t c = members_listed (shape_of_type c.args.types.now c.args.below) c.args.below (Inside c.args.types.now c.args.below) c.args.extensible c.args.components.now c.args.other_id.0 c.loop-other_id.invariant.4 c.args.decoder.now c.loop-other_id.decoder _ _ c.loop-other_id-test.ensures c.loop-other_id.invariant.5
 
 pub decode_set_component-returns-clause-listed : goal.decode_set_component-returns-clause-listed
 decode_set_component-returns-clause-listed g t c = member_listed (shape_of_type c.args.types.now c.args.below) c.args.below (Inside c.args.types.now c.args.below) c.args.extensible c.args.components.now c.args.other_id.0 c.in-Some.number c.in-Some.component.now c.args.decoder.now _ _ _ c.in-Some.ensures.0 c.in_ok-decode_present.ensures.listed
@@ -1217,725 +1120,337 @@ decode_compared-returns-in-None-clause-listed g t c =
 
 -- ---- contents of each kind
 
-pub put_sequence-decode_sequence-requires : goal.put_sequence-decode_sequence-requires
-put_sequence-decode_sequence-requires g t c = λ κs o. (search rules, (search rules, (c.requires.lawful, (c.in_ok-values.ensures.ok, c.requires.clear))))
-
-pub put_sequence-returns-in_err-values-clause-exact : goal.put_sequence-returns-in_err-values-clause-exact
-put_sequence-returns-in_err-values-clause-exact g t c = rw (residual _ c.from_residual.ensures.1) (sequence_runs_out _ _ c.list_for.new.error c.in_err-values.ensures.kind, inr c.in_err-values.ensures.kind)
-
-pub put_sequence-returns-in_err-values-clause-itself : goal.put_sequence-returns-in_err-values-clause-itself
-put_sequence-returns-in_err-values-clause-itself g t c = rw (residual _ c.from_residual.ensures.1) (λ n. inl c.in_err-values.ensures.kind)
-
-pub put_sequence-returns-in_err-decode_sequence-clause-exact : goal.put_sequence-returns-in_err-decode_sequence-clause-exact
-put_sequence-returns-in_err-decode_sequence-clause-exact g t c = rw (residual _ c.from_residual-in_err-decode_sequence.ensures.1) (c.in_err-decode_sequence.ensures.reads, c.in_err-decode_sequence.ensures.fails)
-
-pub put_sequence-returns-clause-exact : goal.put_sequence-returns-clause-exact
-put_sequence-returns-clause-exact g t c =
-    let w = c.in_ok-decode_sequence.ensures.reads in
-    (items w.0, (λ k. ap tree_of (c.put_items.ensures k) ∙ items_made _ c.decode_sequence.new.values w.0 w.1 k), (w.0, refl, (w.2, tt)))
-
-pub put_sequence-returns-clause-fits : goal.put_sequence-returns-clause-fits
-put_sequence-returns-clause-fits g t c = λ k. rw (c.put_items.ensures k) (are_items (ComponentsFit (Fits c.args.types.now c.args.below) c.args.components.now) c.decode_sequence.new.values (c.in_ok-decode_sequence.ensures.fits k))
-
-pub put_elements-decode_elements-requires : goal.put_elements-decode_elements-requires
-put_elements-decode_elements-requires g t c = λ κs o. (search rules, (search rules, (c.requires.lawful, (c.requires.counts, (c.new-values.ensures.items, c.requires.clear)))))
-
-pub put_elements-returns-in_err-decode_elements-clause-exact : goal.put_elements-returns-in_err-decode_elements-clause-exact
-put_elements-returns-in_err-decode_elements-clause-exact g t c = rw (residual _ c.from_residual.ensures.1) c.in_err-decode_elements.ensures.reads
-
-pub put_elements-returns-clause-exact : goal.put_elements-returns-clause-exact
-put_elements-returns-clause-exact g t c =
-    let w = c.in_ok-decode_elements.ensures.reads in
-    (items w.0, (λ k. ap tree_of (c.put_items.ensures k) ∙ items_made _ c.decode_elements.new.values w.0 w.1 k), w.2 ∙ sym (count_items w.0), (w.0, refl, w.3))
-
-pub put_elements-returns-clause-fits : goal.put_elements-returns-clause-fits
-put_elements-returns-clause-fits g t c = λ k. rw (c.put_items.ensures k) (are_items (EachFits (Fits c.args.types.now c.args.below c.args.element.0)) c.decode_elements.new.values (c.in_ok-decode_elements.ensures.fits k))
-
-pub put_elements_in_order-decode_elements_in_order-requires : goal.put_elements_in_order-decode_elements_in_order-requires
-put_elements_in_order-decode_elements_in_order-requires g t c = λ κs o. (search rules, (search rules, (c.requires.lawful, (c.requires.counts, (c.new-values.ensures.items, c.requires.clear)))))
-
-pub put_elements_in_order-returns-in_err-decode_elements_in_order-clause-exact : goal.put_elements_in_order-returns-in_err-decode_elements_in_order-clause-exact
-put_elements_in_order-returns-in_err-decode_elements_in_order-clause-exact g t c = rw (residual _ c.from_residual.ensures.1) c.in_err-decode_elements_in_order.ensures.reads
-
-pub put_elements_in_order-returns-clause-exact : goal.put_elements_in_order-returns-clause-exact
-put_elements_in_order-returns-clause-exact g t c =
-    let w = c.in_ok-decode_elements_in_order.ensures.reads in
-    (elements w.0, (λ k. ap tree_of (c.put_in_any_order.ensures k) ∙ elements_made _ c.decode_elements_in_order.new.values w.0 w.1 k), w.2 ∙ sym (count_items w.0), (w.0, refl, w.3))
-
-pub put_elements_in_order-returns-clause-fits : goal.put_elements_in_order-returns-clause-fits
-put_elements_in_order-returns-clause-fits g t c = λ k. rw (c.put_in_any_order.ensures k) (are_elements (EachFits (Fits c.args.types.now c.args.below c.args.element.0)) c.decode_elements_in_order.new.values (c.in_ok-decode_elements_in_order.ensures.fits k))
-
-pub put_set-decode_set-requires : goal.put_set-decode_set-requires
-put_set-decode_set-requires g t c = λ κs o. (
-  search rules,
-  (
-    search rules,
-    (
-      subst (λ l. AreLawfulMembers (components_by (shape_of_type c.args.types.now c.args.below) l)) (sym c.named_components-extensible.ensures.named) c.requires.1.1.1.0,
-      (
-        c.in_ok-found.ensures.ok,
-        (c.requires.1.1.1.1, λ x. ap (shape_of_type c.args.types.now c.args.below) c.last_type-other_id.ensures ∙ last_unknown (shape_of_type c.args.types.now c.args.below) c.args.components.now (sym c.named_components-extensible.ensures.extensible ∙ x)),
-      ),
-    ),
-  ),
-)
-
-pub put_set-returns-in_err-found-clause-exact : goal.put_set-returns-in_err-found-clause-exact
-put_set-returns-in_err-found-clause-exact g t c = rw (residual _ c.from_residual.ensures.1) (inr (c.in_err-found.ensures.err, kept c.args.decoder.now))
-
-pub put_set-returns-in_err-found-clause-itself : goal.put_set-returns-in_err-found-clause-itself
-put_set-returns-in_err-found-clause-itself g t c = rw (residual _ c.from_residual.ensures.1) (λ n. inl c.in_err-found.ensures.err)
-
-pub put_set-returns-in_err-values-clause-exact : goal.put_set-returns-in_err-values-clause-exact
-put_set-returns-in_err-values-clause-exact g t c = rw (residual _ c.from_residual-in_err-values.ensures.1) (named_so (shape_of_type c.args.types.now c.args.below) c.named_components-extensible.result.1 c.named_components-extensible.result.0.now c.args.components.now c.named_components-extensible.ensures.extensible c.named_components-extensible.ensures.named (λ b l. MayRunOut (DecodesSetPartContents b (components_by (shape_of_type c.args.types.now c.args.below) l) items (names_of l)) c.args.decoder.now (Err c.decode_set.new.walk.error) c.decode_set.new.decoder) c.in_err-values.ensures.exact)
-
-pub put_set-returns-in_err-values-clause-told : goal.put_set-returns-in_err-values-clause-told
-put_set-returns-in_err-values-clause-told g t c = rw (residual _ c.from_residual-in_err-values.ensures.1) (λ x q. subst (λ n. IsFaultIn c.args.types.now c.args.below (IsMemberAfter (shape_of_type c.args.types.now c.args.below) (is_extensible (shape_of_type c.args.types.now c.args.below) c.args.components.now) (named_components (shape_of_type c.args.types.now c.args.below) c.args.components.now) n c.args.decoder.now) c.args.decoder.now c.args.decoder.now c.decode_set.new.walk.error x) c.last_type-other_id.ensures
-    (named_so (shape_of_type c.args.types.now c.args.below) c.named_components-extensible.result.1 c.named_components-extensible.result.0.now c.args.components.now c.named_components-extensible.ensures.extensible c.named_components-extensible.ensures.named (λ b l. IsFaultIn c.args.types.now c.args.below (IsMemberAfter (shape_of_type c.args.types.now c.args.below) b l c.last_type-other_id.result.0 c.args.decoder.now) c.args.decoder.now c.args.decoder.now c.decode_set.new.walk.error x) (c.in_err-values.ensures.told x q)))
-
-pub put_set-returns-in_err-values-clause-itself : goal.put_set-returns-in_err-values-clause-itself
-put_set-returns-in_err-values-clause-itself g t c = rw (residual _ c.from_residual-in_err-values.ensures.1) (λ n. named_so (shape_of_type c.args.types.now c.args.below) c.named_components-extensible.result.1 c.named_components-extensible.result.0.now c.args.components.now c.named_components-extensible.ensures.extensible c.named_components-extensible.ensures.named (λ b l. StopsInSet (shape_of_type c.args.types.now c.args.below) b l c.args.decoder.now c.decode_set.new.walk.error) (c.in_err-values.ensures.itself n))
-
-pub put_set-returns-clause-exact : goal.put_set-returns-clause-exact
-put_set-returns-clause-exact g t c =
-    let w = c.in_ok-values.ensures.exact in
-    (items w.0, (λ k. ap tree_of (c.put_items.ensures k) ∙ items_made _ c.in_ok-values.values w.0 w.1 k), (w.0, refl, named_so (shape_of_type c.args.types.now c.args.below) c.named_components-extensible.result.1 c.named_components-extensible.result.0.now c.args.components.now c.named_components-extensible.ensures.extensible c.named_components-extensible.ensures.named (λ b l. MayRunOut (DecodesSetPartContents b (components_by (shape_of_type c.args.types.now c.args.below) l) items (names_of l)) c.args.decoder.now (Ok w.0) c.decode_set.new.decoder) w.2))
-
-pub put_set-returns-clause-fits : goal.put_set-returns-clause-fits
-put_set-returns-clause-fits g t c = λ k. rw (c.put_items.ensures k) (are_items (ComponentsFit (Fits c.args.types.now c.args.below) c.args.components.now) c.in_ok-values.values
-    (members_fit c.args.types.now c.args.below c.args.components.now c.in_ok-values.values.items (named_so (shape_of_type c.args.types.now c.args.below) c.named_components-extensible.result.1 c.named_components-extensible.result.0.now c.args.components.now c.named_components-extensible.ensures.extensible c.named_components-extensible.ensures.named (λ b l. MembersFit (Fits c.args.types.now c.args.below) b l c.in_ok-values.values.items) (c.in_ok-values.ensures.fits k))))
-
-pub put_set-returns-clause-listed : goal.put_set-returns-clause-listed
-put_set-returns-clause-listed g t c = subst (λ k. Lists (λ n es. MembersListed (shape_of_type c.args.types.now c.args.below) c.args.below (Inside c.args.types.now c.args.below) (is_extensible (shape_of_type c.args.types.now c.args.below) c.args.components.now) (named_components (shape_of_type c.args.types.now c.args.below) c.args.components.now) k n c.args.decoder.now es) c.args.walk.now.spans c.decode_set.new.walk.spans) c.last_type-other_id.ensures
-    (named_so (shape_of_type c.args.types.now c.args.below) c.named_components-extensible.result.1 c.named_components-extensible.result.0.now c.args.components.now c.named_components-extensible.ensures.extensible c.named_components-extensible.ensures.named (λ b l. Lists (λ n es. MembersListed (shape_of_type c.args.types.now c.args.below) c.args.below (Inside c.args.types.now c.args.below) b l c.last_type-other_id.result.0 n c.args.decoder.now es) c.args.walk.now.spans c.decode_set.new.walk.spans) c.in_ok-values.ensures.listed)
-
 pub decode_present-decode_stated-requires : goal.decode_present-decode_stated-requires
 decode_present-decode_stated-requires g t c = λ κs o. (search rules, (search rules, (c.in-Default.is, (c.if-not-is_strict.ensures, (c.requires.lawful, c.requires.clear)))))
 
 -- ---- a value that holds others: tagged
 
-pub decode_tagged_inside-returns-in-Err-clause-exact :
-    goal.decode_tagged_inside-returns-in-Err-clause-exact
-decode_tagged_inside-returns-in-Err-clause-exact g t c =
-    (step_none _ c.args.header c.args.decoder.now _ _ c.in-Err.ensures.exact)
-
-pub decode_tagged_inside-returns-in-Err-put_tagged-clause-exact :
-    goal.decode_tagged_inside-returns-in-Err-put_tagged-clause-exact
-decode_tagged_inside-returns-in-Err-put_tagged-clause-exact g t c =
-    (step_refused _ c.args.header c.args.decoder.now _ _ _ c.in-Ok.ensures.exact _ _ c.in-Err-put_tagged.ensures.exact)
-
-pub decode_tagged_inside-returns-in-Err-close-clause-exact : goal.decode_tagged_inside-returns-in-Err-close-clause-exact
-decode_tagged_inside-returns-in-Err-close-clause-exact g t c =
-    let w = c.in-Ok-put_tagged.ensures.exact in
-    (step_unclosed _ c.args.header c.args.decoder.now _ _ _ c.in-Ok.ensures.exact w.0 _ w.2 _ c.remaining.ensures.value _ _ c.in-Err-close.ensures)
-
-pub decode_tagged_inside-close-requires : goal.decode_tagged_inside-close-requires
-decode_tagged_inside-close-requires g t c = λ x.
-    let w = c.in-Ok-put_tagged.ensures.exact in
-    step_end (DecodesContents (shape_of_type c.args.types.now c.args.below) (Tagged eoc c.args.id)) c.args.header c.args.decoder.now _ _ _ c.in-Ok.ensures.exact _ _
-    (contents_end (shape_of_type c.args.types.now c.args.below) (Tagged eoc c.args.id) _ w.0 _ w.2) c.remaining.ensures.value x
-
-pub decode_tagged_inside-returns-in-Ok-close-clause-exact : goal.decode_tagged_inside-returns-in-Ok-close-clause-exact
-decode_tagged_inside-returns-in-Ok-close-clause-exact g t c =
-    let w = c.in-Ok-put_tagged.ensures.exact in
-    (w.0, w.1, step_closed _ c.args.header c.args.decoder.now _ _ _ c.in-Ok.ensures.exact w.0 _ w.2 _ c.remaining.ensures.value _ c.in-Ok-close.ensures)
-
-pub decode_tagged_inside-returns-in-Err-clause-rules : goal.decode_tagged_inside-returns-in-Err-clause-rules
-decode_tagged_inside-returns-in-Err-clause-rules g t c = (codec_is c.in-Err.ensures.exact.2)
-
-pub decode_tagged_inside-returns-in-Err-put_tagged-clause-rules : goal.decode_tagged_inside-returns-in-Err-put_tagged-clause-rules
-decode_tagged_inside-returns-in-Err-put_tagged-clause-rules g t c = (c.in-Err-put_tagged.ensures.rules ∙ same_rules c.in-Ok.ensures.exact.2)
-
-pub decode_tagged_inside-returns-in-Err-close-clause-rules : goal.decode_tagged_inside-returns-in-Err-close-clause-rules
-decode_tagged_inside-returns-in-Err-close-clause-rules g t c = (codec_is c.in-Err-close.ensures.2 ∙ same_rules c.in-Ok.ensures.exact.5.stays)
-
-pub decode_tagged_inside-add_after-requires : goal.decode_tagged_inside-add_after-requires
-decode_tagged_inside-add_after-requires g t c =
-    λ f q.
-    let n = opened_short c.args.types.now c.args.header c.args.decoder.now c.in-Ok.ensures.octets _ _ _ c.in-Ok.ensures.exact c.args.below _ _ f c.put_tagged.new.decoder.closing c.octets_after.result
-    (ap (λ (s : State). s.closing) (contents_stay (shape_of_type c.args.types.now c.args.below) (Tagged eoc c.args.id) _ c.put_tagged.new.walk.error _ c.in-Err-put_tagged.ensures.exact)) c.octets_after.ensures (c.in-Err-put_tagged.ensures.told f q) in
-    omega (arith, n, c.octets_left.ensures, c.octets_left.type_inv)
-
-pub decode_tagged_inside-returns-in-Err-put_tagged-clause-told : goal.decode_tagged_inside-returns-in-Err-put_tagged-clause-told
-decode_tagged_inside-returns-in-Err-put_tagged-clause-told g t c =
-    opened c.args.types.now c.args.header c.args.decoder.now c.in-Ok.ensures.octets _ _ _ c.in-Ok.ensures.exact c.args.below (Tagged eoc c.args.id) _ c.put_tagged.new.decoder.closing c.octets_after.result
-    (ap (λ (s : State). s.closing) (contents_stay (shape_of_type c.args.types.now c.args.below) (Tagged eoc c.args.id) _ c.put_tagged.new.walk.error _ c.in-Err-put_tagged.ensures.exact)) c.octets_after.ensures _ _ c.in-Err-put_tagged.ensures.told c.add_after.ensures
-
-pub decode_tagged_inside-returns-in-Err-clause-itself : goal.decode_tagged_inside-returns-in-Err-clause-itself
-decode_tagged_inside-returns-in-Err-clause-itself g t c =
-    (λ n. step_none (ReadsEachPart (shape_of_type c.args.types.now c.args.below) (Tagged eoc c.args.id)) c.args.header c.args.decoder.now _ _ c.in-Err.ensures.exact)
-
-pub decode_tagged_inside-returns-in-Err-put_tagged-clause-itself : goal.decode_tagged_inside-returns-in-Err-put_tagged-clause-itself
-decode_tagged_inside-returns-in-Err-put_tagged-clause-itself g t c =
-    λ n. step_refused (ReadsEachPart (shape_of_type c.args.types.now c.args.below) (Tagged eoc c.args.id)) c.args.header c.args.decoder.now _ _ _ c.in-Ok.ensures.exact _ c.put_tagged.new.decoder (c.in-Err-put_tagged.ensures.itself (unmoved _ _ _ c.add_after.ensures n))
-
-pub decode_tagged_inside-returns-in-Err-close-clause-itself : goal.decode_tagged_inside-returns-in-Err-close-clause-itself
-decode_tagged_inside-returns-in-Err-close-clause-itself g t c =
-    let w = c.in-Ok-put_tagged.ensures.exact in
-    (λ n. step_unclosed (ReadsEachPart (shape_of_type c.args.types.now c.args.below) (Tagged eoc c.args.id)) c.args.header c.args.decoder.now _ _ _ c.in-Ok.ensures.exact w.0 _ w.2 _ c.remaining.ensures.value _ _ c.in-Err-close.ensures)
-
-pub decode_tagged_inside-returns-in-Ok-close-clause-listed : goal.decode_tagged_inside-returns-in-Ok-close-clause-listed
-decode_tagged_inside-returns-in-Ok-close-clause-listed g t c =
-    inside_listed (shape_of_type c.args.types.now c.args.below) c.args.below (Inside c.args.types.now c.args.below) (Tagged eoc c.args.id) c.args.header c.args.decoder.now _ _ _ _ _ _ _ _ c.in-Ok.ensures.exact c.go_inside-after.ensures c.in-Ok-put_tagged.ensures.listed c.go_outside.ensures
-
 -- ---- a value that holds others: record
-
-pub decode_record_inside-returns-in-Err-clause-exact :
-    goal.decode_record_inside-returns-in-Err-clause-exact
-decode_record_inside-returns-in-Err-clause-exact g t c =
-    (step_none _ c.args.header c.args.decoder.now _ _ c.in-Err.ensures.exact)
-
-pub decode_record_inside-returns-in-Err-put_record-clause-exact :
-    goal.decode_record_inside-returns-in-Err-put_record-clause-exact
-decode_record_inside-returns-in-Err-put_record-clause-exact g t c =
-    (step_refused _ c.args.header c.args.decoder.now _ _ _ c.in-Ok.ensures.exact _ _ c.in-Err-put_record.ensures.exact)
-
-pub decode_record_inside-returns-in-Err-close-clause-exact : goal.decode_record_inside-returns-in-Err-close-clause-exact
-decode_record_inside-returns-in-Err-close-clause-exact g t c =
-    let w = c.in-Ok-put_record.ensures.exact in
-    (step_unclosed _ c.args.header c.args.decoder.now _ _ _ c.in-Ok.ensures.exact w.0 _ w.2 _ c.remaining.ensures.value _ _ c.in-Err-close.ensures)
-
-pub decode_record_inside-close-requires : goal.decode_record_inside-close-requires
-decode_record_inside-close-requires g t c = λ x.
-    let w = c.in-Ok-put_record.ensures.exact in
-    step_end (DecodesContents (shape_of_type c.args.types.now c.args.below) (Sequence eoc c.args.components.now)) c.args.header c.args.decoder.now _ _ _ c.in-Ok.ensures.exact _ _
-    (contents_end (shape_of_type c.args.types.now c.args.below) (Sequence eoc c.args.components.now) _ w.0 _ w.2) c.remaining.ensures.value x
-
-pub decode_record_inside-returns-in-Ok-close-clause-exact : goal.decode_record_inside-returns-in-Ok-close-clause-exact
-decode_record_inside-returns-in-Ok-close-clause-exact g t c =
-    let w = c.in-Ok-put_record.ensures.exact in
-    (w.0, w.1, step_closed _ c.args.header c.args.decoder.now _ _ _ c.in-Ok.ensures.exact w.0 _ w.2 _ c.remaining.ensures.value _ c.in-Ok-close.ensures)
-
-pub decode_record_inside-returns-in-Err-clause-rules : goal.decode_record_inside-returns-in-Err-clause-rules
-decode_record_inside-returns-in-Err-clause-rules g t c = (codec_is c.in-Err.ensures.exact.2)
-
-pub decode_record_inside-returns-in-Err-put_record-clause-rules : goal.decode_record_inside-returns-in-Err-put_record-clause-rules
-decode_record_inside-returns-in-Err-put_record-clause-rules g t c = (c.in-Err-put_record.ensures.rules ∙ same_rules c.in-Ok.ensures.exact.2)
-
-pub decode_record_inside-returns-in-Err-close-clause-rules : goal.decode_record_inside-returns-in-Err-close-clause-rules
-decode_record_inside-returns-in-Err-close-clause-rules g t c = (codec_is c.in-Err-close.ensures.2 ∙ same_rules c.in-Ok.ensures.exact.5.stays)
-
-pub decode_record_inside-add_after-requires : goal.decode_record_inside-add_after-requires
-decode_record_inside-add_after-requires g t c =
-    λ f q.
-    let n = opened_short c.args.types.now c.args.header c.args.decoder.now c.in-Ok.ensures.octets _ _ _ c.in-Ok.ensures.exact c.args.below _ _ f c.put_record.new.decoder.closing c.octets_after.result
-    (ap (λ (s : State). s.closing) (contents_stay (shape_of_type c.args.types.now c.args.below) (Sequence eoc c.args.components.now) _ c.put_record.new.walk.error _ c.in-Err-put_record.ensures.exact)) c.octets_after.ensures (c.in-Err-put_record.ensures.told f q) in
-    omega (arith, n, c.octets_left.ensures, c.octets_left.type_inv)
-
-pub decode_record_inside-returns-in-Err-put_record-clause-told : goal.decode_record_inside-returns-in-Err-put_record-clause-told
-decode_record_inside-returns-in-Err-put_record-clause-told g t c =
-    opened c.args.types.now c.args.header c.args.decoder.now c.in-Ok.ensures.octets _ _ _ c.in-Ok.ensures.exact c.args.below (Sequence eoc c.args.components.now) _ c.put_record.new.decoder.closing c.octets_after.result
-    (ap (λ (s : State). s.closing) (contents_stay (shape_of_type c.args.types.now c.args.below) (Sequence eoc c.args.components.now) _ c.put_record.new.walk.error _ c.in-Err-put_record.ensures.exact)) c.octets_after.ensures _ _ c.in-Err-put_record.ensures.told c.add_after.ensures
-
-pub decode_record_inside-returns-in-Err-clause-itself : goal.decode_record_inside-returns-in-Err-clause-itself
-decode_record_inside-returns-in-Err-clause-itself g t c =
-    (λ n. step_none (ReadsEachPart (shape_of_type c.args.types.now c.args.below) (Sequence eoc c.args.components.now)) c.args.header c.args.decoder.now _ _ c.in-Err.ensures.exact)
-
-pub decode_record_inside-returns-in-Err-put_record-clause-itself : goal.decode_record_inside-returns-in-Err-put_record-clause-itself
-decode_record_inside-returns-in-Err-put_record-clause-itself g t c =
-    λ n. step_refused (ReadsEachPart (shape_of_type c.args.types.now c.args.below) (Sequence eoc c.args.components.now)) c.args.header c.args.decoder.now _ _ _ c.in-Ok.ensures.exact _ c.put_record.new.decoder (c.in-Err-put_record.ensures.itself (unmoved _ _ _ c.add_after.ensures n))
-
-pub decode_record_inside-returns-in-Err-close-clause-itself : goal.decode_record_inside-returns-in-Err-close-clause-itself
-decode_record_inside-returns-in-Err-close-clause-itself g t c =
-    let w = c.in-Ok-put_record.ensures.exact in
-    (λ n. step_unclosed (ReadsEachPart (shape_of_type c.args.types.now c.args.below) (Sequence eoc c.args.components.now)) c.args.header c.args.decoder.now _ _ _ c.in-Ok.ensures.exact w.0 _ w.2 _ c.remaining.ensures.value _ _ c.in-Err-close.ensures)
-
-pub decode_record_inside-returns-in-Ok-close-clause-listed : goal.decode_record_inside-returns-in-Ok-close-clause-listed
-decode_record_inside-returns-in-Ok-close-clause-listed g t c =
-    inside_listed (shape_of_type c.args.types.now c.args.below) c.args.below (Inside c.args.types.now c.args.below) (Sequence eoc c.args.components.now) c.args.header c.args.decoder.now _ _ _ _ _ _ _ _ c.in-Ok.ensures.exact c.go_inside-after.ensures c.in-Ok-put_record.ensures.listed c.go_outside.ensures
 
 -- ---- a value that holds others: members
 
-pub decode_members_inside-returns-in-Err-clause-exact :
-    goal.decode_members_inside-returns-in-Err-clause-exact
-decode_members_inside-returns-in-Err-clause-exact g t c =
-    (step_none _ c.args.header c.args.decoder.now _ _ c.in-Err.ensures.exact)
-
-pub decode_members_inside-returns-in-Err-put_members-clause-exact :
-    goal.decode_members_inside-returns-in-Err-put_members-clause-exact
-decode_members_inside-returns-in-Err-put_members-clause-exact g t c =
-    (step_refused _ c.args.header c.args.decoder.now _ _ _ c.in-Ok.ensures.exact _ _ c.in-Err-put_members.ensures.exact)
-
-pub decode_members_inside-returns-in-Err-close-clause-exact : goal.decode_members_inside-returns-in-Err-close-clause-exact
-decode_members_inside-returns-in-Err-close-clause-exact g t c =
-    let w = c.in-Ok-put_members.ensures.exact in
-    (step_unclosed _ c.args.header c.args.decoder.now _ _ _ c.in-Ok.ensures.exact w.0 _ w.2 _ c.remaining.ensures.value _ _ c.in-Err-close.ensures)
-
-pub decode_members_inside-close-requires : goal.decode_members_inside-close-requires
-decode_members_inside-close-requires g t c = λ x.
-    let w = c.in-Ok-put_members.ensures.exact in
-    step_end (DecodesContents (shape_of_type c.args.types.now c.args.below) (Set c.args.name.now eoc c.args.components.now)) c.args.header c.args.decoder.now _ _ _ c.in-Ok.ensures.exact _ _
-    (contents_end (shape_of_type c.args.types.now c.args.below) (Set c.args.name.now eoc c.args.components.now) _ w.0 _ w.2) c.remaining.ensures.value x
-
-pub decode_members_inside-returns-in-Ok-close-clause-exact : goal.decode_members_inside-returns-in-Ok-close-clause-exact
-decode_members_inside-returns-in-Ok-close-clause-exact g t c =
-    let w = c.in-Ok-put_members.ensures.exact in
-    (w.0, w.1, step_closed _ c.args.header c.args.decoder.now _ _ _ c.in-Ok.ensures.exact w.0 _ w.2 _ c.remaining.ensures.value _ c.in-Ok-close.ensures)
-
-pub decode_members_inside-returns-in-Err-clause-rules : goal.decode_members_inside-returns-in-Err-clause-rules
-decode_members_inside-returns-in-Err-clause-rules g t c = (codec_is c.in-Err.ensures.exact.2)
-
-pub decode_members_inside-returns-in-Err-put_members-clause-rules : goal.decode_members_inside-returns-in-Err-put_members-clause-rules
-decode_members_inside-returns-in-Err-put_members-clause-rules g t c = (c.in-Err-put_members.ensures.rules ∙ same_rules c.in-Ok.ensures.exact.2)
-
-pub decode_members_inside-returns-in-Err-close-clause-rules : goal.decode_members_inside-returns-in-Err-close-clause-rules
-decode_members_inside-returns-in-Err-close-clause-rules g t c = (codec_is c.in-Err-close.ensures.2 ∙ same_rules c.in-Ok.ensures.exact.5.stays)
-
-pub decode_members_inside-add_after-requires : goal.decode_members_inside-add_after-requires
-decode_members_inside-add_after-requires g t c =
-    λ f q.
-    let n = opened_short c.args.types.now c.args.header c.args.decoder.now c.in-Ok.ensures.octets _ _ _ c.in-Ok.ensures.exact c.args.below _ _ f c.put_members.new.decoder.closing c.octets_after.result
-    (ap (λ (s : State). s.closing) (contents_stay (shape_of_type c.args.types.now c.args.below) (Set c.args.name.now eoc c.args.components.now) _ c.put_members.new.walk.error _ c.in-Err-put_members.ensures.exact)) c.octets_after.ensures (c.in-Err-put_members.ensures.told f q) in
-    omega (arith, n, c.octets_left.ensures, c.octets_left.type_inv)
-
-pub decode_members_inside-returns-in-Err-put_members-clause-told : goal.decode_members_inside-returns-in-Err-put_members-clause-told
-decode_members_inside-returns-in-Err-put_members-clause-told g t c =
-    opened c.args.types.now c.args.header c.args.decoder.now c.in-Ok.ensures.octets _ _ _ c.in-Ok.ensures.exact c.args.below (Set c.args.name.now eoc c.args.components.now) _ c.put_members.new.decoder.closing c.octets_after.result
-    (ap (λ (s : State). s.closing) (contents_stay (shape_of_type c.args.types.now c.args.below) (Set c.args.name.now eoc c.args.components.now) _ c.put_members.new.walk.error _ c.in-Err-put_members.ensures.exact)) c.octets_after.ensures _ _ c.in-Err-put_members.ensures.told c.add_after.ensures
-
-pub decode_members_inside-returns-in-Err-clause-itself : goal.decode_members_inside-returns-in-Err-clause-itself
-decode_members_inside-returns-in-Err-clause-itself g t c =
-    (λ n. step_none (ReadsEachPart (shape_of_type c.args.types.now c.args.below) (Set c.args.name.now eoc c.args.components.now)) c.args.header c.args.decoder.now _ _ c.in-Err.ensures.exact)
-
-pub decode_members_inside-returns-in-Err-put_members-clause-itself : goal.decode_members_inside-returns-in-Err-put_members-clause-itself
-decode_members_inside-returns-in-Err-put_members-clause-itself g t c =
-    λ n. step_refused (ReadsEachPart (shape_of_type c.args.types.now c.args.below) (Set c.args.name.now eoc c.args.components.now)) c.args.header c.args.decoder.now _ _ _ c.in-Ok.ensures.exact _ c.put_members.new.decoder (c.in-Err-put_members.ensures.itself (unmoved _ _ _ c.add_after.ensures n))
-
-pub decode_members_inside-returns-in-Err-close-clause-itself : goal.decode_members_inside-returns-in-Err-close-clause-itself
-decode_members_inside-returns-in-Err-close-clause-itself g t c =
-    let w = c.in-Ok-put_members.ensures.exact in
-    (λ n. step_unclosed (ReadsEachPart (shape_of_type c.args.types.now c.args.below) (Set c.args.name.now eoc c.args.components.now)) c.args.header c.args.decoder.now _ _ _ c.in-Ok.ensures.exact w.0 _ w.2 _ c.remaining.ensures.value _ _ c.in-Err-close.ensures)
-
-pub decode_members_inside-returns-in-Ok-close-clause-listed : goal.decode_members_inside-returns-in-Ok-close-clause-listed
-decode_members_inside-returns-in-Ok-close-clause-listed g t c =
-    inside_listed (shape_of_type c.args.types.now c.args.below) c.args.below (Inside c.args.types.now c.args.below) (Set c.args.name.now eoc c.args.components.now) c.args.header c.args.decoder.now _ _ _ _ _ _ _ _ c.in-Ok.ensures.exact c.go_inside-after.ensures c.in-Ok-put_members.ensures.listed c.go_outside.ensures
-
 -- ---- a value that holds others: list
-
-pub decode_list_inside-returns-in-Err-clause-exact :
-    goal.decode_list_inside-returns-in-Err-clause-exact
-decode_list_inside-returns-in-Err-clause-exact g t c =
-    (step_none _ c.args.header c.args.decoder.now _ _ c.in-Err.ensures.exact)
-
-pub decode_list_inside-returns-in-Err-put_elements-clause-exact :
-    goal.decode_list_inside-returns-in-Err-put_elements-clause-exact
-decode_list_inside-returns-in-Err-put_elements-clause-exact g t c =
-    (step_refused _ c.args.header c.args.decoder.now _ _ _ c.in-Ok.ensures.exact _ _ c.in-Err-put_elements.ensures.exact)
-
-pub decode_list_inside-returns-in-Err-close-clause-exact : goal.decode_list_inside-returns-in-Err-close-clause-exact
-decode_list_inside-returns-in-Err-close-clause-exact g t c =
-    let w = c.in-Ok-put_elements.ensures.exact in
-    (step_unclosed _ c.args.header c.args.decoder.now _ _ _ c.in-Ok.ensures.exact w.0 _ w.3 _ c.remaining.ensures.value _ _ c.in-Err-close.ensures)
-
-pub decode_list_inside-close-requires : goal.decode_list_inside-close-requires
-decode_list_inside-close-requires g t c = λ x.
-    let w = c.in-Ok-put_elements.ensures.exact in
-    step_end (DecodesContents (shape_of_type c.args.types.now c.args.below) (SequenceOf eoc c.args.element unconstrained)) c.args.header c.args.decoder.now _ _ _ c.in-Ok.ensures.exact _ _
-    (contents_end (shape_of_type c.args.types.now c.args.below) (SequenceOf eoc c.args.element unconstrained) _ w.0 _ w.3) c.remaining.ensures.value x
-
-pub decode_list_inside-returns-in-Ok-close-clause-exact : goal.decode_list_inside-returns-in-Ok-close-clause-exact
-decode_list_inside-returns-in-Ok-close-clause-exact g t c =
-    let w = c.in-Ok-put_elements.ensures.exact in
-    (w.0, w.1, w.2, step_closed _ c.args.header c.args.decoder.now _ _ _ c.in-Ok.ensures.exact w.0 _ w.3 _ c.remaining.ensures.value _ c.in-Ok-close.ensures)
-
-pub decode_list_inside-returns-in-Err-clause-rules : goal.decode_list_inside-returns-in-Err-clause-rules
-decode_list_inside-returns-in-Err-clause-rules g t c = (codec_is c.in-Err.ensures.exact.2)
-
-pub decode_list_inside-returns-in-Err-put_elements-clause-rules : goal.decode_list_inside-returns-in-Err-put_elements-clause-rules
-decode_list_inside-returns-in-Err-put_elements-clause-rules g t c = (c.in-Err-put_elements.ensures.rules ∙ same_rules c.in-Ok.ensures.exact.2)
-
-pub decode_list_inside-returns-in-Err-close-clause-rules : goal.decode_list_inside-returns-in-Err-close-clause-rules
-decode_list_inside-returns-in-Err-close-clause-rules g t c = (codec_is c.in-Err-close.ensures.2 ∙ same_rules c.in-Ok.ensures.exact.5.stays)
-
-pub decode_list_inside-add_after-requires : goal.decode_list_inside-add_after-requires
-decode_list_inside-add_after-requires g t c =
-    λ f q.
-    let n = opened_short c.args.types.now c.args.header c.args.decoder.now c.in-Ok.ensures.octets _ _ _ c.in-Ok.ensures.exact c.args.below _ _ f c.put_elements.new.decoder.closing c.octets_after.result
-    (ap (λ (s : State). s.closing) (contents_stay (shape_of_type c.args.types.now c.args.below) (SequenceOf eoc c.args.element unconstrained) _ c.put_elements.new.walk.error _ c.in-Err-put_elements.ensures.exact)) c.octets_after.ensures (c.in-Err-put_elements.ensures.told f q) in
-    omega (arith, n, c.octets_left.ensures, c.octets_left.type_inv)
-
-pub decode_list_inside-returns-in-Err-put_elements-clause-told : goal.decode_list_inside-returns-in-Err-put_elements-clause-told
-decode_list_inside-returns-in-Err-put_elements-clause-told g t c =
-    opened c.args.types.now c.args.header c.args.decoder.now c.in-Ok.ensures.octets _ _ _ c.in-Ok.ensures.exact c.args.below (SequenceOf eoc c.args.element unconstrained) _ c.put_elements.new.decoder.closing c.octets_after.result
-    (ap (λ (s : State). s.closing) (contents_stay (shape_of_type c.args.types.now c.args.below) (SequenceOf eoc c.args.element unconstrained) _ c.put_elements.new.walk.error _ c.in-Err-put_elements.ensures.exact)) c.octets_after.ensures _ _ c.in-Err-put_elements.ensures.told c.add_after.ensures
-
-pub decode_list_inside-returns-in-Err-clause-itself : goal.decode_list_inside-returns-in-Err-clause-itself
-decode_list_inside-returns-in-Err-clause-itself g t c =
-    (λ n. step_none (ReadsEachPart (shape_of_type c.args.types.now c.args.below) (SequenceOf eoc c.args.element unconstrained)) c.args.header c.args.decoder.now _ _ c.in-Err.ensures.exact)
-
-pub decode_list_inside-returns-in-Err-put_elements-clause-itself : goal.decode_list_inside-returns-in-Err-put_elements-clause-itself
-decode_list_inside-returns-in-Err-put_elements-clause-itself g t c =
-    λ n. step_refused (ReadsEachPart (shape_of_type c.args.types.now c.args.below) (SequenceOf eoc c.args.element unconstrained)) c.args.header c.args.decoder.now _ _ _ c.in-Ok.ensures.exact _ c.put_elements.new.decoder (c.in-Err-put_elements.ensures.itself (unmoved _ _ _ c.add_after.ensures n))
-
-pub decode_list_inside-returns-in-Err-close-clause-itself : goal.decode_list_inside-returns-in-Err-close-clause-itself
-decode_list_inside-returns-in-Err-close-clause-itself g t c =
-    let w = c.in-Ok-put_elements.ensures.exact in
-    (λ n. step_unclosed (ReadsEachPart (shape_of_type c.args.types.now c.args.below) (SequenceOf eoc c.args.element unconstrained)) c.args.header c.args.decoder.now _ _ _ c.in-Ok.ensures.exact w.0 _ w.3 _ c.remaining.ensures.value _ _ c.in-Err-close.ensures)
-
-pub decode_list_inside-returns-in-Ok-close-clause-listed : goal.decode_list_inside-returns-in-Ok-close-clause-listed
-decode_list_inside-returns-in-Ok-close-clause-listed g t c =
-    inside_listed (shape_of_type c.args.types.now c.args.below) c.args.below (Inside c.args.types.now c.args.below) (SequenceOf eoc c.args.element unconstrained) c.args.header c.args.decoder.now _ _ _ _ _ _ _ _ c.in-Ok.ensures.exact c.go_inside-after.ensures c.in-Ok-put_elements.ensures.listed c.go_outside.ensures
 
 -- ---- a value that holds others: set_of
 
-pub decode_set_of_inside-returns-in-Err-clause-exact :
-    goal.decode_set_of_inside-returns-in-Err-clause-exact
-decode_set_of_inside-returns-in-Err-clause-exact g t c =
-    (step_none _ c.args.header c.args.decoder.now _ _ c.in-Err.ensures.exact)
-
-pub decode_set_of_inside-returns-in-Err-put_elements_in_order-clause-exact :
-    goal.decode_set_of_inside-returns-in-Err-put_elements_in_order-clause-exact
-decode_set_of_inside-returns-in-Err-put_elements_in_order-clause-exact g t c =
-    (step_refused _ c.args.header c.args.decoder.now _ _ _ c.in-Ok.ensures.exact _ _ c.in-Err-put_elements_in_order.ensures.exact)
-
-pub decode_set_of_inside-returns-in-Err-close-clause-exact : goal.decode_set_of_inside-returns-in-Err-close-clause-exact
-decode_set_of_inside-returns-in-Err-close-clause-exact g t c =
-    let w = c.in-Ok-put_elements_in_order.ensures.exact in
-    (step_unclosed _ c.args.header c.args.decoder.now _ _ _ c.in-Ok.ensures.exact w.0 _ w.3 _ c.remaining.ensures.value _ _ c.in-Err-close.ensures)
-
-pub decode_set_of_inside-close-requires : goal.decode_set_of_inside-close-requires
-decode_set_of_inside-close-requires g t c = λ x.
-    let w = c.in-Ok-put_elements_in_order.ensures.exact in
-    step_end (DecodesContents (shape_of_type c.args.types.now c.args.below) (SetOf eoc c.args.element unconstrained)) c.args.header c.args.decoder.now _ _ _ c.in-Ok.ensures.exact _ _
-    (contents_end (shape_of_type c.args.types.now c.args.below) (SetOf eoc c.args.element unconstrained) _ w.0 _ w.3) c.remaining.ensures.value x
-
-pub decode_set_of_inside-returns-in-Ok-close-clause-exact : goal.decode_set_of_inside-returns-in-Ok-close-clause-exact
-decode_set_of_inside-returns-in-Ok-close-clause-exact g t c =
-    let w = c.in-Ok-put_elements_in_order.ensures.exact in
-    (w.0, w.1, w.2, step_closed _ c.args.header c.args.decoder.now _ _ _ c.in-Ok.ensures.exact w.0 _ w.3 _ c.remaining.ensures.value _ c.in-Ok-close.ensures)
-
-pub decode_set_of_inside-returns-in-Err-clause-rules : goal.decode_set_of_inside-returns-in-Err-clause-rules
-decode_set_of_inside-returns-in-Err-clause-rules g t c = (codec_is c.in-Err.ensures.exact.2)
-
-pub decode_set_of_inside-returns-in-Err-put_elements_in_order-clause-rules : goal.decode_set_of_inside-returns-in-Err-put_elements_in_order-clause-rules
-decode_set_of_inside-returns-in-Err-put_elements_in_order-clause-rules g t c = (c.in-Err-put_elements_in_order.ensures.rules ∙ same_rules c.in-Ok.ensures.exact.2)
-
-pub decode_set_of_inside-returns-in-Err-close-clause-rules : goal.decode_set_of_inside-returns-in-Err-close-clause-rules
-decode_set_of_inside-returns-in-Err-close-clause-rules g t c = (codec_is c.in-Err-close.ensures.2 ∙ same_rules c.in-Ok.ensures.exact.5.stays)
-
-pub decode_set_of_inside-add_after-requires : goal.decode_set_of_inside-add_after-requires
-decode_set_of_inside-add_after-requires g t c =
-    λ f q.
-    let n = opened_short c.args.types.now c.args.header c.args.decoder.now c.in-Ok.ensures.octets _ _ _ c.in-Ok.ensures.exact c.args.below _ _ f c.put_elements_in_order.new.decoder.closing c.octets_after.result
-    (ap (λ (s : State). s.closing) (contents_stay (shape_of_type c.args.types.now c.args.below) (SetOf eoc c.args.element unconstrained) _ c.put_elements_in_order.new.walk.error _ c.in-Err-put_elements_in_order.ensures.exact)) c.octets_after.ensures (c.in-Err-put_elements_in_order.ensures.told f q) in
-    omega (arith, n, c.octets_left.ensures, c.octets_left.type_inv)
-
-pub decode_set_of_inside-returns-in-Err-put_elements_in_order-clause-told : goal.decode_set_of_inside-returns-in-Err-put_elements_in_order-clause-told
-decode_set_of_inside-returns-in-Err-put_elements_in_order-clause-told g t c =
-    opened c.args.types.now c.args.header c.args.decoder.now c.in-Ok.ensures.octets _ _ _ c.in-Ok.ensures.exact c.args.below (SetOf eoc c.args.element unconstrained) _ c.put_elements_in_order.new.decoder.closing c.octets_after.result
-    (ap (λ (s : State). s.closing) (contents_stay (shape_of_type c.args.types.now c.args.below) (SetOf eoc c.args.element unconstrained) _ c.put_elements_in_order.new.walk.error _ c.in-Err-put_elements_in_order.ensures.exact)) c.octets_after.ensures _ _ c.in-Err-put_elements_in_order.ensures.told c.add_after.ensures
-
-pub decode_set_of_inside-returns-in-Err-clause-itself : goal.decode_set_of_inside-returns-in-Err-clause-itself
-decode_set_of_inside-returns-in-Err-clause-itself g t c =
-    (λ n. step_none (ReadsEachPart (shape_of_type c.args.types.now c.args.below) (SetOf eoc c.args.element unconstrained)) c.args.header c.args.decoder.now _ _ c.in-Err.ensures.exact)
-
-pub decode_set_of_inside-returns-in-Err-put_elements_in_order-clause-itself : goal.decode_set_of_inside-returns-in-Err-put_elements_in_order-clause-itself
-decode_set_of_inside-returns-in-Err-put_elements_in_order-clause-itself g t c =
-    λ n. step_refused (ReadsEachPart (shape_of_type c.args.types.now c.args.below) (SetOf eoc c.args.element unconstrained)) c.args.header c.args.decoder.now _ _ _ c.in-Ok.ensures.exact _ c.put_elements_in_order.new.decoder (c.in-Err-put_elements_in_order.ensures.itself (unmoved _ _ _ c.add_after.ensures n))
-
-pub decode_set_of_inside-returns-in-Err-close-clause-itself : goal.decode_set_of_inside-returns-in-Err-close-clause-itself
-decode_set_of_inside-returns-in-Err-close-clause-itself g t c =
-    let w = c.in-Ok-put_elements_in_order.ensures.exact in
-    (λ n. step_unclosed (ReadsEachPart (shape_of_type c.args.types.now c.args.below) (SetOf eoc c.args.element unconstrained)) c.args.header c.args.decoder.now _ _ _ c.in-Ok.ensures.exact w.0 _ w.3 _ c.remaining.ensures.value _ _ c.in-Err-close.ensures)
-
-pub decode_set_of_inside-returns-in-Ok-close-clause-listed : goal.decode_set_of_inside-returns-in-Ok-close-clause-listed
-decode_set_of_inside-returns-in-Ok-close-clause-listed g t c =
-    inside_listed (shape_of_type c.args.types.now c.args.below) c.args.below (Inside c.args.types.now c.args.below) (SetOf eoc c.args.element unconstrained) c.args.header c.args.decoder.now _ _ _ _ _ _ _ _ c.in-Ok.ensures.exact c.go_inside-after.ensures c.in-Ok-put_elements_in_order.ensures.listed c.go_outside.ensures
-
 -- ---- and the number of elements: decode_list
-
-pub decode_list-returns-in_err-decode_list_inside-clause-exact : goal.decode_list-returns-in_err-decode_list_inside-clause-exact
-decode_list-returns-in_err-decode_list_inside-clause-exact g t c = rw (residual _ c.from_residual.ensures.1) (not_sized (DecodesContents (shape_of_type c.args.types.now c.args.below) (SequenceOf eoc c.args.element unconstrained)) c.args.tag c.args.constraints.now c.list.result c.list.ensures c.args.decoder.now _ _ c.in_err-decode_list_inside.ensures.exact)
-
-pub decode_list-returns-clause-exact : goal.decode_list-returns-clause-exact
-decode_list-returns-clause-exact g t c =
-    let w = c.in_ok-decode_list_inside.ensures.exact in
-    (w.0, w.1, is_sized (DecodesContents (shape_of_type c.args.types.now c.args.below) (SequenceOf eoc c.args.element unconstrained)) c.args.tag c.args.constraints.now c.list.result c.list.ensures c.args.decoder.now _ w.0 w.3 _ (is_counted (SequenceOf eoc c.args.element unconstrained) _ w.0 tt w.2) c.in_ok-check_size.ensures.sized)
-
-pub decode_list-returns-in_err-check_size-clause-itself : goal.decode_list-returns-in_err-check_size-clause-itself
-decode_list-returns-in_err-check_size-clause-itself g t c =
-    let w = c.in_ok-decode_list_inside.ensures.exact in
-    rw (residual _ c.from_residual-in_err-check_size.ensures.1)
-    (λ n. missized (ReadsEachPart (shape_of_type c.args.types.now c.args.below) (SequenceOf eoc c.args.element unconstrained)) c.args.tag c.args.constraints.now c.list.result c.list.ensures c.args.decoder.now _ w.0
-    (got_inside (DecodesContents (shape_of_type c.args.types.now c.args.below) (SequenceOf eoc c.args.element unconstrained)) (ReadsEachPart (shape_of_type c.args.types.now c.args.below) (SequenceOf eoc c.args.element unconstrained)) (λ o v n h. h) c.list.result c.args.decoder.now w.0 _ w.3) _ (is_counted (SequenceOf eoc c.args.element unconstrained) _ w.0 tt w.2) _ c.in_err-check_size.ensures.sized)
-
-pub decode_list-returns-in_err-check_size-clause-told : goal.decode_list-returns-in_err-check_size-clause-told
-decode_list-returns-in_err-check_size-clause-told g t c =
-    rw (residual _ c.from_residual-in_err-check_size.ensures.1)
-    (unnamed {T = Value} (IsFaultInside c.args.types.now c.args.below (list_header c.args.tag) (SequenceOf eoc c.args.element unconstrained) c.args.decoder.now) (Err c.check_size.new.error) _ c.in_ok-decode_list_inside.ensures.told)
-
-pub decode_list-returns-in_err-check_size-clause-rules : goal.decode_list-returns-in_err-check_size-clause-rules
-decode_list-returns-in_err-check_size-clause-rules g t c = rw (residual _ c.from_residual-in_err-check_size.ensures.1) (c.in_err-check_size.ensures.rules ∙ same_rules c.in_ok-decode_list_inside.ensures.exact.3.0.stays)
-
-pub decode_list-returns-in_err-check_size-clause-exact : goal.decode_list-returns-in_err-check_size-clause-exact
-decode_list-returns-in_err-check_size-clause-exact g t c =
-    let w = c.in_ok-decode_list_inside.ensures.exact in
-    rw (residual _ c.from_residual-in_err-check_size.ensures.1)
-    (missized (DecodesContents (shape_of_type c.args.types.now c.args.below) (SequenceOf eoc c.args.element unconstrained)) c.args.tag c.args.constraints.now c.list.result c.list.ensures c.args.decoder.now _ w.0 w.3 _ (is_counted (SequenceOf eoc c.args.element unconstrained) _ w.0 tt w.2) _ c.in_err-check_size.ensures.sized)
-
-pub decode_list-returns-clause-fits : goal.decode_list-returns-clause-fits
-decode_list-returns-clause-fits g t c = c.in_ok-decode_list_inside.ensures.fits
-
-pub decode_list-returns-in_err-decode_list_inside-clause-itself : goal.decode_list-returns-in_err-decode_list_inside-clause-itself
-decode_list-returns-in_err-decode_list_inside-clause-itself g t c =
-    rw (residual _ c.from_residual.ensures.1) (λ n. not_sized (ReadsEachPart (shape_of_type c.args.types.now c.args.below) (SequenceOf eoc c.args.element unconstrained)) c.args.tag c.args.constraints.now c.list.result c.list.ensures c.args.decoder.now _ _ (c.in_err-decode_list_inside.ensures.itself n))
-
-pub decode_list-returns-clause-listed : goal.decode_list-returns-clause-listed
-decode_list-returns-clause-listed g t c =
-    header_listed (shape_of_type c.args.types.now c.args.below) c.args.below (Inside c.args.types.now c.args.below) c.list.result (list_header c.args.tag) (SequenceOf eoc c.args.element unconstrained) c.args.decoder.now _ _ c.list.ensures c.in_ok-decode_list_inside.ensures.listed
-
-pub decode_list-decode_list_inside-requires : goal.decode_list-decode_list_inside-requires
-decode_list-decode_list_inside-requires g t c = λ κs o. (search rules, (search rules, (c.requires.lawful, (refl, c.requires.clear))))
 
 -- ---- and the number of elements: decode_set_of
 
-pub decode_set_of-returns-in_err-decode_set_of_inside-clause-exact : goal.decode_set_of-returns-in_err-decode_set_of_inside-clause-exact
-decode_set_of-returns-in_err-decode_set_of_inside-clause-exact g t c = rw (residual _ c.from_residual.ensures.1) (not_sized (DecodesContents (shape_of_type c.args.types.now c.args.below) (SetOf eoc c.args.element unconstrained)) c.args.tag c.args.constraints.now c.list.result c.list.ensures c.args.decoder.now _ _ c.in_err-decode_set_of_inside.ensures.exact)
-
-pub decode_set_of-returns-clause-exact : goal.decode_set_of-returns-clause-exact
-decode_set_of-returns-clause-exact g t c =
-    let w = c.in_ok-decode_set_of_inside.ensures.exact in
-    (w.0, w.1, is_sized (DecodesContents (shape_of_type c.args.types.now c.args.below) (SetOf eoc c.args.element unconstrained)) c.args.tag c.args.constraints.now c.list.result c.list.ensures c.args.decoder.now _ w.0 w.3 _ (is_counted (SetOf eoc c.args.element unconstrained) _ w.0 tt w.2) c.in_ok-check_size.ensures.sized)
-
-pub decode_set_of-returns-in_err-check_size-clause-itself : goal.decode_set_of-returns-in_err-check_size-clause-itself
-decode_set_of-returns-in_err-check_size-clause-itself g t c =
-    let w = c.in_ok-decode_set_of_inside.ensures.exact in
-    rw (residual _ c.from_residual-in_err-check_size.ensures.1)
-    (λ n. missized (ReadsEachPart (shape_of_type c.args.types.now c.args.below) (SetOf eoc c.args.element unconstrained)) c.args.tag c.args.constraints.now c.list.result c.list.ensures c.args.decoder.now _ w.0
-    (got_inside (DecodesContents (shape_of_type c.args.types.now c.args.below) (SetOf eoc c.args.element unconstrained)) (ReadsEachPart (shape_of_type c.args.types.now c.args.below) (SetOf eoc c.args.element unconstrained)) (λ o v n h. h) c.list.result c.args.decoder.now w.0 _ w.3) _ (is_counted (SetOf eoc c.args.element unconstrained) _ w.0 tt w.2) _ c.in_err-check_size.ensures.sized)
-
-pub decode_set_of-returns-in_err-check_size-clause-told : goal.decode_set_of-returns-in_err-check_size-clause-told
-decode_set_of-returns-in_err-check_size-clause-told g t c =
-    rw (residual _ c.from_residual-in_err-check_size.ensures.1)
-    (unnamed {T = Value} (IsFaultInside c.args.types.now c.args.below (list_header c.args.tag) (SetOf eoc c.args.element unconstrained) c.args.decoder.now) (Err c.check_size.new.error) _ c.in_ok-decode_set_of_inside.ensures.told)
-
-pub decode_set_of-returns-in_err-check_size-clause-rules : goal.decode_set_of-returns-in_err-check_size-clause-rules
-decode_set_of-returns-in_err-check_size-clause-rules g t c = rw (residual _ c.from_residual-in_err-check_size.ensures.1) (c.in_err-check_size.ensures.rules ∙ same_rules c.in_ok-decode_set_of_inside.ensures.exact.3.0.stays)
-
-pub decode_set_of-returns-in_err-check_size-clause-exact : goal.decode_set_of-returns-in_err-check_size-clause-exact
-decode_set_of-returns-in_err-check_size-clause-exact g t c =
-    let w = c.in_ok-decode_set_of_inside.ensures.exact in
-    rw (residual _ c.from_residual-in_err-check_size.ensures.1)
-    (missized (DecodesContents (shape_of_type c.args.types.now c.args.below) (SetOf eoc c.args.element unconstrained)) c.args.tag c.args.constraints.now c.list.result c.list.ensures c.args.decoder.now _ w.0 w.3 _ (is_counted (SetOf eoc c.args.element unconstrained) _ w.0 tt w.2) _ c.in_err-check_size.ensures.sized)
-
-pub decode_set_of-returns-clause-fits : goal.decode_set_of-returns-clause-fits
-decode_set_of-returns-clause-fits g t c = c.in_ok-decode_set_of_inside.ensures.fits
-
-pub decode_set_of-returns-in_err-decode_set_of_inside-clause-itself : goal.decode_set_of-returns-in_err-decode_set_of_inside-clause-itself
-decode_set_of-returns-in_err-decode_set_of_inside-clause-itself g t c =
-    rw (residual _ c.from_residual.ensures.1) (λ n. not_sized (ReadsEachPart (shape_of_type c.args.types.now c.args.below) (SetOf eoc c.args.element unconstrained)) c.args.tag c.args.constraints.now c.list.result c.list.ensures c.args.decoder.now _ _ (c.in_err-decode_set_of_inside.ensures.itself n))
-
-pub decode_set_of-returns-clause-listed : goal.decode_set_of-returns-clause-listed
-decode_set_of-returns-clause-listed g t c =
-    header_listed (shape_of_type c.args.types.now c.args.below) c.args.below (Inside c.args.types.now c.args.below) c.list.result (list_header c.args.tag) (SetOf eoc c.args.element unconstrained) c.args.decoder.now _ _ c.list.ensures c.in_ok-decode_set_of_inside.ensures.listed
-
-pub decode_set_of-decode_set_of_inside-requires : goal.decode_set_of-decode_set_of_inside-requires
-decode_set_of-decode_set_of_inside-requires g t c = λ κs o. (search rules, (search rules, (c.requires.lawful, (refl, c.requires.clear))))
-
 -- ---- contents of each kind
-
-pub put_tagged-returns-clause-exact : goal.put_tagged-returns-clause-exact
-put_tagged-returns-clause-exact g t c = c.decode_part.ensures.reads
-
-pub put_tagged-returns-clause-fits : goal.put_tagged-returns-clause-fits
-put_tagged-returns-clause-fits g t c = c.decode_part.ensures.fits
-
-pub put_tagged-returns-clause-told : goal.put_tagged-returns-clause-told
-put_tagged-returns-clause-told g t c = tells _ _ (λ k f i. i) _ _ c.decode_part.ensures.told
-
-pub put_tagged-returns-clause-itself : goal.put_tagged-returns-clause-itself
-put_tagged-returns-clause-itself g t c = named _ _ _ _ c.decode_part.ensures.told
-
-pub put_tagged-returns-clause-listed : goal.put_tagged-returns-clause-listed
-put_tagged-returns-clause-listed g t c = if_ok _ _ _ (λ v. tagged_listed (shape_of_type c.args.types.now c.args.below) c.args.below (Inside c.args.types.now c.args.below) (Tagged eoc c.args.id) c.args.id.0 c.args.decoder.now _ _ _ refl) c.decode_part.ensures.listed
-
-pub put_record-put_sequence-requires : goal.put_record-put_sequence-requires
-put_record-put_sequence-requires g t c = λ κs o. (search rules, (search rules, (rw c.deref.ensures.value c.requires.lawful, c.requires.clear)))
-
-pub put_record-returns-clause-exact : goal.put_record-returns-clause-exact
-put_record-returns-clause-exact g t c = subst (λ l. Making g.M.Made.KEEP tree_of (Makes items (DecodesComponents (components_by (shape_of_type c.args.types.now c.args.below) l))) c.args.decoder.now (outcome c.put_sequence.result c.put_sequence.new.out c.put_sequence.new.walk.error) c.put_sequence.new.decoder) c.deref.ensures.value c.put_sequence.ensures.exact
-
-pub put_record-returns-clause-fits : goal.put_record-returns-clause-fits
-put_record-returns-clause-fits g t c = λ k. subst (λ l. IfOk (outcome c.put_sequence.result c.put_sequence.new.out c.put_sequence.new.walk.error) (AreItems (ComponentsFit (Fits c.args.types.now c.args.below) l))) c.deref.ensures.value (c.put_sequence.ensures.fits k)
-
-pub put_record-returns-clause-told : goal.put_record-returns-clause-told
-put_record-returns-clause-told g t c = subst (λ l. Told (IsFaultIn c.args.types.now c.args.below (IsComponentAt (shape_of_type c.args.types.now c.args.below) l c.args.decoder.now) c.args.decoder.now c.args.decoder.now) (outcome c.put_sequence.result c.put_sequence.new.out c.put_sequence.new.walk.error) c.put_sequence.new.walk.fault) c.deref.ensures.value c.put_sequence.ensures.told
-
-pub put_record-returns-clause-itself : goal.put_record-returns-clause-itself
-put_record-returns-clause-itself g t c = subst (λ l. IfErr (outcome c.put_sequence.result c.put_sequence.new.out c.put_sequence.new.walk.error) (λ e. c.put_sequence.new.walk.fault ≡ None → StopsInSequence (shape_of_type c.args.types.now c.args.below) l c.args.decoder.now e)) c.deref.ensures.value c.put_sequence.ensures.itself
-
-pub put_record-returns-clause-listed : goal.put_record-returns-clause-listed
-put_record-returns-clause-listed g t c = if_ok _ _ _ (λ v h. components_same (shape_of_type c.args.types.now c.args.below) c.args.below (Inside c.args.types.now c.args.below) _ _ c.args.decoder.now _ _ c.deref.ensures.value h) c.put_sequence.ensures.listed
-
-pub put_members-put_set-requires : goal.put_members-put_set-requires
-put_members-put_set-requires g t c = λ κs o. (search rules, (search rules, (rw c.deref.ensures.value c.requires.lawful, c.requires.clear)))
-
-pub put_members-returns-clause-exact : goal.put_members-returns-clause-exact
-put_members-returns-clause-exact g t c = subst (λ l. Making g.M.Made.KEEP tree_of (Makes items (MayRunOut (DecodesSetPartContents (is_extensible (shape_of_type c.args.types.now c.args.below) l) (components_by (shape_of_type c.args.types.now c.args.below) (named_components (shape_of_type c.args.types.now c.args.below) l)) items (names_of (named_components (shape_of_type c.args.types.now c.args.below) l))))) c.args.decoder.now (outcome c.put_set.result c.put_set.new.out c.put_set.new.walk.error) c.put_set.new.decoder) c.deref.ensures.value c.put_set.ensures.exact
-
-pub put_members-returns-clause-fits : goal.put_members-returns-clause-fits
-put_members-returns-clause-fits g t c = λ k. subst (λ l. IfOk (outcome c.put_set.result c.put_set.new.out c.put_set.new.walk.error) (AreItems (ComponentsFit (Fits c.args.types.now c.args.below) l))) c.deref.ensures.value (c.put_set.ensures.fits k)
-
-pub put_members-returns-clause-told : goal.put_members-returns-clause-told
-put_members-returns-clause-told g t c = subst (λ l. Told (IsFaultIn c.args.types.now c.args.below (IsMemberAfter (shape_of_type c.args.types.now c.args.below) (is_extensible (shape_of_type c.args.types.now c.args.below) l) (named_components (shape_of_type c.args.types.now c.args.below) l) (last_type l) c.args.decoder.now) c.args.decoder.now c.args.decoder.now) (outcome c.put_set.result c.put_set.new.out c.put_set.new.walk.error) c.put_set.new.walk.fault) c.deref.ensures.value c.put_set.ensures.told
-
-pub put_members-returns-clause-itself : goal.put_members-returns-clause-itself
-put_members-returns-clause-itself g t c = subst (λ l. IfErr (outcome c.put_set.result c.put_set.new.out c.put_set.new.walk.error) (λ e. c.put_set.new.walk.fault ≡ None → StopsInSet (shape_of_type c.args.types.now c.args.below) (is_extensible (shape_of_type c.args.types.now c.args.below) l) (named_components (shape_of_type c.args.types.now c.args.below) l) c.args.decoder.now e)) c.deref.ensures.value c.put_set.ensures.itself
-
-pub put_members-returns-clause-listed : goal.put_members-returns-clause-listed
-put_members-returns-clause-listed g t c = if_ok _ _ _ (λ v h. subst (λ l. Lists (λ n es. MembersListed (shape_of_type c.args.types.now c.args.below) c.args.below (Inside c.args.types.now c.args.below) (is_extensible (shape_of_type c.args.types.now c.args.below) l) (named_components (shape_of_type c.args.types.now c.args.below) l) (last_type l) n c.args.decoder.now es) c.args.walk.now.spans c.put_set.new.walk.spans) c.deref.ensures.value h) c.put_set.ensures.listed
 
 -- ---- with its header
 
-pub decode_tagged-returns-clause-exact : goal.decode_tagged-returns-clause-exact
-decode_tagged-returns-clause-exact g t c = subst (λ d. Making g.M.Made.KEEP tree_of (DecodesInside (DecodesContents (shape_of_type c.args.types.now c.args.below) (Tagged eoc c.args.id)) d) c.args.decoder.now (outcome c.decode_tagged_inside.result c.decode_tagged_inside.new.out c.decode_tagged_inside.new.walk.error) c.decode_tagged_inside.new.decoder) c.prefix.ensures c.decode_tagged_inside.ensures.exact
-
-pub decode_tagged-returns-clause-told : goal.decode_tagged-returns-clause-told
-decode_tagged-returns-clause-told g t c = subst (λ d. Told (IsFaultInside c.args.types.now c.args.below d (Tagged eoc c.args.id) c.args.decoder.now) (outcome c.decode_tagged_inside.result c.decode_tagged_inside.new.out c.decode_tagged_inside.new.walk.error) c.decode_tagged_inside.new.walk.fault) c.prefix.ensures c.decode_tagged_inside.ensures.told
-
-pub decode_tagged-returns-clause-itself : goal.decode_tagged-returns-clause-itself
-decode_tagged-returns-clause-itself g t c = subst (λ d. IfErr (outcome c.decode_tagged_inside.result c.decode_tagged_inside.new.out c.decode_tagged_inside.new.walk.error) (λ e. c.decode_tagged_inside.new.walk.fault ≡ None → DecodesInside (ReadsEachPart (shape_of_type c.args.types.now c.args.below) (Tagged eoc c.args.id)) d c.args.decoder.now (Err e) c.decode_tagged_inside.new.decoder)) c.prefix.ensures c.decode_tagged_inside.ensures.itself
-
-pub decode_tagged-returns-clause-listed : goal.decode_tagged-returns-clause-listed
-decode_tagged-returns-clause-listed g t c = subst (λ d. IfOk (outcome c.decode_tagged_inside.result c.decode_tagged_inside.new.out c.decode_tagged_inside.new.walk.error) (λ v. Lists (λ b es. InsideListed (shape_of_type c.args.types.now c.args.below) c.args.below (Inside c.args.types.now c.args.below) d (Tagged eoc c.args.id) b c.args.decoder.now es) c.args.walk.now.spans c.decode_tagged_inside.new.walk.spans)) c.prefix.ensures c.decode_tagged_inside.ensures.listed
-
-pub decode_record-returns-clause-exact : goal.decode_record-returns-clause-exact
-decode_record-returns-clause-exact g t c = subst (λ d. Making g.M.Made.KEEP tree_of (DecodesInside (DecodesContents (shape_of_type c.args.types.now c.args.below) (Sequence eoc c.args.components.now)) d) c.args.decoder.now (outcome c.decode_record_inside.result c.decode_record_inside.new.out c.decode_record_inside.new.walk.error) c.decode_record_inside.new.decoder) c.sequence.ensures c.decode_record_inside.ensures.exact
-
-pub decode_record-returns-clause-told : goal.decode_record-returns-clause-told
-decode_record-returns-clause-told g t c = subst (λ d. Told (IsFaultInside c.args.types.now c.args.below d (Sequence eoc c.args.components.now) c.args.decoder.now) (outcome c.decode_record_inside.result c.decode_record_inside.new.out c.decode_record_inside.new.walk.error) c.decode_record_inside.new.walk.fault) c.sequence.ensures c.decode_record_inside.ensures.told
-
-pub decode_record-returns-clause-itself : goal.decode_record-returns-clause-itself
-decode_record-returns-clause-itself g t c = subst (λ d. IfErr (outcome c.decode_record_inside.result c.decode_record_inside.new.out c.decode_record_inside.new.walk.error) (λ e. c.decode_record_inside.new.walk.fault ≡ None → DecodesInside (ReadsEachPart (shape_of_type c.args.types.now c.args.below) (Sequence eoc c.args.components.now)) d c.args.decoder.now (Err e) c.decode_record_inside.new.decoder)) c.sequence.ensures c.decode_record_inside.ensures.itself
-
-pub decode_record-returns-clause-listed : goal.decode_record-returns-clause-listed
-decode_record-returns-clause-listed g t c = subst (λ d. IfOk (outcome c.decode_record_inside.result c.decode_record_inside.new.out c.decode_record_inside.new.walk.error) (λ v. Lists (λ b es. InsideListed (shape_of_type c.args.types.now c.args.below) c.args.below (Inside c.args.types.now c.args.below) d (Sequence eoc c.args.components.now) b c.args.decoder.now es) c.args.walk.now.spans c.decode_record_inside.new.walk.spans)) c.sequence.ensures c.decode_record_inside.ensures.listed
-
-pub decode_members-returns-clause-exact : goal.decode_members-returns-clause-exact
-decode_members-returns-clause-exact g t c = subst (λ d. Making g.M.Made.KEEP tree_of (DecodesInside (DecodesContents (shape_of_type c.args.types.now c.args.below) (Set c.args.name.now eoc c.args.components.now)) d) c.args.decoder.now (outcome c.decode_members_inside.result c.decode_members_inside.new.out c.decode_members_inside.new.walk.error) c.decode_members_inside.new.decoder) c.sequence.ensures c.decode_members_inside.ensures.exact
-
-pub decode_members-returns-clause-told : goal.decode_members-returns-clause-told
-decode_members-returns-clause-told g t c = subst (λ d. Told (IsFaultInside c.args.types.now c.args.below d (Set c.args.name.now eoc c.args.components.now) c.args.decoder.now) (outcome c.decode_members_inside.result c.decode_members_inside.new.out c.decode_members_inside.new.walk.error) c.decode_members_inside.new.walk.fault) c.sequence.ensures c.decode_members_inside.ensures.told
-
-pub decode_members-returns-clause-itself : goal.decode_members-returns-clause-itself
-decode_members-returns-clause-itself g t c = subst (λ d. IfErr (outcome c.decode_members_inside.result c.decode_members_inside.new.out c.decode_members_inside.new.walk.error) (λ e. c.decode_members_inside.new.walk.fault ≡ None → DecodesInside (ReadsEachPart (shape_of_type c.args.types.now c.args.below) (Set c.args.name.now eoc c.args.components.now)) d c.args.decoder.now (Err e) c.decode_members_inside.new.decoder)) c.sequence.ensures c.decode_members_inside.ensures.itself
-
-pub decode_members-returns-clause-listed : goal.decode_members-returns-clause-listed
-decode_members-returns-clause-listed g t c = subst (λ d. IfOk (outcome c.decode_members_inside.result c.decode_members_inside.new.out c.decode_members_inside.new.walk.error) (λ v. Lists (λ b es. InsideListed (shape_of_type c.args.types.now c.args.below) c.args.below (Inside c.args.types.now c.args.below) d (Set c.args.name.now eoc c.args.components.now) b c.args.decoder.now es) c.args.walk.now.spans c.decode_members_inside.new.walk.spans)) c.sequence.ensures c.decode_members_inside.ensures.listed
+-- ---- a type
 
 -- ---- a type
+
+pub decode_type-returns-in-Leaf : goal.decode_type-returns-in-Leaf
+decode_type-returns-in-Leaf g t c =
+    leaf_read c.args.types.now c.args.below g.M.Made.KEEP c.args.decoder.now c.args.walk.now.spans (outcome c.put_leaf.result c.put_leaf.new.out c.put_leaf.new.error) c.put_leaf.new.decoder c.args.walk.now.fault c.args.ty.now (rw c.in-Leaf.is tt)
+    (rw c.in-Leaf.is c.put_leaf.ensures.reads) (λ k. rw c.in-Leaf.is (c.put_leaf.ensures.fits k)) c.put_leaf.ensures.rules c.requires.clear
+
+pub decode_type-returns-in-Enumerated : goal.decode_type-returns-in-Enumerated
+decode_type-returns-in-Enumerated g t c =
+    leaf_read c.args.types.now c.args.below g.M.Made.KEEP c.args.decoder.now c.args.walk.now.spans (outcome c.put_number.result c.put_number.new.out c.put_number.new.error) c.put_number.new.decoder c.args.walk.now.fault c.args.ty.now (rw c.in-Enumerated.is tt)
+    (rw (c.in-Enumerated.is, ← c.deref.ensures.value) c.put_number.ensures.reads) (λ k. rw c.in-Enumerated.is (subst (λ l. IfOk (outcome c.put_number.result c.put_number.new.out c.put_number.new.error) (λ v. IsNumber (numbers_of l) v)) c.deref.ensures.value (c.put_number.ensures.fits k))) c.put_number.ensures.rules c.requires.clear
+
+pub decode_type-returns-in-Any : goal.decode_type-returns-in-Any
+decode_type-returns-in-Any g t c =
+    leaf_read c.args.types.now c.args.below g.M.Made.KEEP c.args.decoder.now c.args.walk.now.spans (outcome c.put_any.result c.put_any.new.out c.put_any.new.error) c.put_any.new.decoder c.args.walk.now.fault c.args.ty.now (rw c.in-Any.is tt)
+    (rw c.in-Any.is c.put_any.ensures.reads) (λ k. rw c.in-Any.is (c.put_any.ensures.fits k)) c.put_any.ensures.rules c.requires.clear
+
+pub decode_type-returns-in-Unknown : goal.decode_type-returns-in-Unknown
+decode_type-returns-in-Unknown g t c =
+    leaf_read c.args.types.now c.args.below g.M.Made.KEEP c.args.decoder.now c.args.walk.now.spans (outcome c.put_unknown.result c.put_unknown.new.out c.put_unknown.new.error) c.put_unknown.new.decoder c.args.walk.now.fault c.args.ty.now (rw c.in-Unknown.is tt)
+    (rw c.in-Unknown.is c.put_unknown.ensures.reads) (λ k. rw c.in-Unknown.is (c.put_unknown.ensures.fits k)) c.put_unknown.ensures.rules c.requires.clear
+
+pub decode_type-returns-in-Choice : goal.decode_type-returns-in-Choice
+decode_type-returns-in-Choice g t c = record {
+  exact = choice_exact (shape_of_type c.args.types.now c.args.below) c.args.ty.now _ c.args.decoder.now (outcome c.decode_choice.result c.decode_choice.new.out c.decode_choice.new.walk.error) _ c.in-Choice.name c.in-Choice.alternatives c.deref-in-Choice.result.now c.as_str.result.now c.in-Choice.is c.deref-in-Choice.ensures.value c.as_str.ensures.value c.decode_choice.ensures.reads c.decode_choice.ensures.unknown;
+  fits = λ k. subst (λ z. IfOk (outcome c.decode_choice.result c.decode_choice.new.out c.decode_choice.new.walk.error) (FitsBy (Fits c.args.types.now c.args.below) z)) (sym c.in-Choice.is) (subst (λ l. IfOk (outcome c.decode_choice.result c.decode_choice.new.out c.decode_choice.new.walk.error) (λ v. IsChosen (AlternativeFits (Fits c.args.types.now c.args.below) l) v)) c.deref-in-Choice.ensures.value (c.decode_choice.ensures.fits k));
+  reads = subst (λ z. Making g.M.Made.KEEP tree_of (DecodesTree (type_by (shape_of_type c.args.types.now c.args.below) z)) c.args.decoder.now (outcome c.decode_choice.result c.decode_choice.new.out c.decode_choice.new.walk.error) c.decode_choice.new.decoder) (sym c.in-Choice.is) (subst (λ l. Making g.M.Made.KEEP tree_of (DecodesTree (choice_among (alternatives_by (shape_of_type c.args.types.now c.args.below) l))) c.args.decoder.now (outcome c.decode_choice.result c.decode_choice.new.out c.decode_choice.new.walk.error) c.decode_choice.new.decoder) c.deref-in-Choice.ensures.value c.decode_choice.ensures.reads);
+  told = told_map _ _ (λ k f i. subst (λ n. IsFaultOf c.args.types.now c.args.below n c.args.decoder.now k f) (sym c.in-Choice.is)
+      (c.args.decoder.now, refl, subst (λ l. IsFaultIn c.args.types.now c.args.below (IsAlternativeAt (shape_of_type c.args.types.now c.args.below) l c.args.decoder.now) c.args.decoder.now c.args.decoder.now k f) c.deref-in-Choice.ensures.value i)) _ _ c.decode_choice.ensures.told;
+  itself = itself_choice (shape_of_type c.args.types.now c.args.below) c.args.ty.now c.args.decoder.now c.args.decoder.now _ c.in-Choice.name c.in-Choice.alternatives _ c.in-Choice.is c.deref-in-Choice.ensures.value _ c.decode_choice.ensures.itself;
+  listed = if_ok _ _ _ (λ v. choice_listed (shape_of_type c.args.types.now c.args.below) c.args.below (Inside c.args.types.now c.args.below) c.args.ty.now c.deref-in-Choice.result.now c.args.decoder.now _ _ (rw c.in-Choice.is c.deref-in-Choice.ensures.value)) c.decode_choice.ensures.listed;
+  rules = c.decode_choice.ensures.rules;
+}
 
 pub decode_type-decode_tagged-requires : goal.decode_type-decode_tagged-requires
 decode_type-decode_tagged-requires g t c = λ κs o. (search rules, (search rules, (prefix_lawful _ _ (subst (λ n. IsReadable (type_by (shape_of_type c.args.types.now c.args.below) n)) c.in-Tagged.is c.requires.lawful), c.requires.clear)))
 
-pub decode_type-returns-in-Tagged-clause-exact : goal.decode_type-returns-in-Tagged-clause-exact
-decode_type-returns-in-Tagged-clause-exact g t c = rw c.in-Tagged.is c.decode_tagged.ensures.exact
+pub decode_type-returns-in-Tagged : goal.decode_type-returns-in-Tagged
+decode_type-returns-in-Tagged g t c = rw c.in-Tagged.is c.decode_tagged.ensures
 
-pub decode_type-returns-in-Tagged-clause-reads : goal.decode_type-returns-in-Tagged-clause-reads
-decode_type-returns-in-Tagged-clause-reads g t c =
-    made_as _ tree_of (DecodesType (shape_of_type c.args.types.now c.args.below) c.args.ty.now) (DecodesTree (type_by (shape_of_type c.args.types.now c.args.below) c.args.ty.now)) c.args.decoder.now (outcome c.decode_tagged.result c.decode_tagged.new.out c.decode_tagged.new.walk.error) c.decode_tagged.new.decoder
-    (λ q h. type_decodes (shape_of_type c.args.types.now c.args.below) c.args.decoder.now c.decode_tagged.ensures.octets q c.decode_tagged.new.decoder c.args.ty.now h) (rw c.in-Tagged.is c.decode_tagged.ensures.exact)
+pub decode_type-decode_sequence-requires : goal.decode_type-decode_sequence-requires
+decode_type-decode_sequence-requires g t c = λ κs o. (search rules, (search rules, (lawful_parts (shape_of_type c.args.types.now c.args.below) _ (seq_lawful _ _ (subst (λ n. IsReadable (type_by (shape_of_type c.args.types.now c.args.below) n)) c.in-Sequence.is c.requires.lawful)), c.requires.clear)))
 
-pub decode_type-returns-in-Tagged-clause-fits : goal.decode_type-returns-in-Tagged-clause-fits
-decode_type-returns-in-Tagged-clause-fits g t c = λ k. rw c.in-Tagged.is (c.decode_tagged.ensures.fits k)
+pub decode_type-returns-in-Sequence : goal.decode_type-returns-in-Sequence
+decode_type-returns-in-Sequence g t c = rw c.in-Sequence.is c.decode_sequence.ensures
 
-pub decode_type-returns-in-Tagged-clause-told : goal.decode_type-returns-in-Tagged-clause-told
-decode_type-returns-in-Tagged-clause-told g t c = rw c.in-Tagged.is c.decode_tagged.ensures.told
+pub decode_type-decode_set-requires : goal.decode_type-decode_set-requires
+decode_type-decode_set-requires g t c = λ κs o. (search rules, (search rules, (named_lawful (shape_of_type c.args.types.now c.args.below) c.in-Set.tag c.in-Set.components.items _ refl (subst (λ n. IsReadable (type_by (shape_of_type c.args.types.now c.args.below) n)) c.in-Set.is c.requires.lawful), c.requires.clear)))
 
-pub decode_type-returns-in-Tagged-clause-itself : goal.decode_type-returns-in-Tagged-clause-itself
-decode_type-returns-in-Tagged-clause-itself g t c = rw c.in-Tagged.is (itself_prefix (shape_of_type c.args.types.now c.args.below) (Tagged c.in-Tagged.tag c.in-Tagged.inner) c.args.decoder.now c.decode_tagged.new.decoder _ c.in-Tagged.tag c.in-Tagged.inner (prefix_header c.in-Tagged.tag) refl refl (outcome c.decode_tagged.result c.decode_tagged.new.out c.decode_tagged.new.walk.error) c.decode_tagged.ensures.itself)
+pub decode_type-returns-in-Set : goal.decode_type-returns-in-Set
+decode_type-returns-in-Set g t c = rw c.in-Set.is c.decode_set.ensures
 
-pub decode_type-returns-in-Tagged-clause-listed : goal.decode_type-returns-in-Tagged-clause-listed
-decode_type-returns-in-Tagged-clause-listed g t c = rw c.in-Tagged.is (if_ok _ _ _ (λ v. holder_listed (shape_of_type c.args.types.now c.args.below) c.args.below (Inside c.args.types.now c.args.below) (Tagged c.in-Tagged.tag c.in-Tagged.inner) (prefix_header c.in-Tagged.tag) c.args.decoder.now _ _ refl) c.decode_tagged.ensures.listed)
+pub decode_type-decode_sequence_of-requires : goal.decode_type-decode_sequence_of-requires
+decode_type-decode_sequence_of-requires g t c = λ κs o. (search rules, (search rules, (list_lawful _ _ c.in-SequenceOf.constraints.size (subst (λ n. IsReadable (type_by (shape_of_type c.args.types.now c.args.below) n)) c.in-SequenceOf.is c.requires.lawful), c.requires.clear)))
 
-pub decode_type-decode_record-requires : goal.decode_type-decode_record-requires
-decode_type-decode_record-requires g t c = λ κs o. (search rules, (search rules, (lawful_parts (shape_of_type c.args.types.now c.args.below) _ (seq_lawful _ _ (subst (λ n. IsReadable (type_by (shape_of_type c.args.types.now c.args.below) n)) c.in-Sequence.is c.requires.lawful)), c.requires.clear)))
-
-pub decode_type-returns-in-Sequence-clause-exact : goal.decode_type-returns-in-Sequence-clause-exact
-decode_type-returns-in-Sequence-clause-exact g t c = rw c.in-Sequence.is c.decode_record.ensures.exact
-
-pub decode_type-returns-in-Sequence-clause-reads : goal.decode_type-returns-in-Sequence-clause-reads
-decode_type-returns-in-Sequence-clause-reads g t c =
-    made_as _ tree_of (DecodesType (shape_of_type c.args.types.now c.args.below) c.args.ty.now) (DecodesTree (type_by (shape_of_type c.args.types.now c.args.below) c.args.ty.now)) c.args.decoder.now (outcome c.decode_record.result c.decode_record.new.out c.decode_record.new.walk.error) c.decode_record.new.decoder
-    (λ q h. type_decodes (shape_of_type c.args.types.now c.args.below) c.args.decoder.now c.decode_record.ensures.octets q c.decode_record.new.decoder c.args.ty.now h) (rw c.in-Sequence.is c.decode_record.ensures.exact)
-
-pub decode_type-returns-in-Sequence-clause-fits : goal.decode_type-returns-in-Sequence-clause-fits
-decode_type-returns-in-Sequence-clause-fits g t c = λ k. rw c.in-Sequence.is (c.decode_record.ensures.fits k)
-
-pub decode_type-returns-in-Sequence-clause-told : goal.decode_type-returns-in-Sequence-clause-told
-decode_type-returns-in-Sequence-clause-told g t c = rw c.in-Sequence.is c.decode_record.ensures.told
-
-pub decode_type-returns-in-Sequence-clause-itself : goal.decode_type-returns-in-Sequence-clause-itself
-decode_type-returns-in-Sequence-clause-itself g t c = rw c.in-Sequence.is (itself_sequence (shape_of_type c.args.types.now c.args.below) (Sequence c.in-Sequence.tag c.in-Sequence.components) c.args.decoder.now c.decode_record.new.decoder _ c.in-Sequence.tag c.in-Sequence.components (sequence_header c.in-Sequence.tag) refl refl (outcome c.decode_record.result c.decode_record.new.out c.decode_record.new.walk.error) c.decode_record.ensures.itself)
-
-pub decode_type-returns-in-Sequence-clause-listed : goal.decode_type-returns-in-Sequence-clause-listed
-decode_type-returns-in-Sequence-clause-listed g t c = rw c.in-Sequence.is (if_ok _ _ _ (λ v. holder_listed (shape_of_type c.args.types.now c.args.below) c.args.below (Inside c.args.types.now c.args.below) (Sequence c.in-Sequence.tag c.in-Sequence.components) (sequence_header c.in-Sequence.tag) c.args.decoder.now _ _ refl) c.decode_record.ensures.listed)
-
-pub decode_type-decode_members-requires : goal.decode_type-decode_members-requires
-decode_type-decode_members-requires g t c = λ κs o. (search rules, (search rules, (named_lawful (shape_of_type c.args.types.now c.args.below) c.in-Set.tag c.in-Set.components.items _ refl (subst (λ n. IsReadable (type_by (shape_of_type c.args.types.now c.args.below) n)) c.in-Set.is c.requires.lawful), c.requires.clear)))
-
-pub decode_type-returns-in-Set-clause-exact : goal.decode_type-returns-in-Set-clause-exact
-decode_type-returns-in-Set-clause-exact g t c = rw c.in-Set.is c.decode_members.ensures.exact
-
-pub decode_type-returns-in-Set-clause-reads : goal.decode_type-returns-in-Set-clause-reads
-decode_type-returns-in-Set-clause-reads g t c =
-    made_as _ tree_of (DecodesType (shape_of_type c.args.types.now c.args.below) c.args.ty.now) (DecodesTree (type_by (shape_of_type c.args.types.now c.args.below) c.args.ty.now)) c.args.decoder.now (outcome c.decode_members.result c.decode_members.new.out c.decode_members.new.walk.error) c.decode_members.new.decoder
-    (λ q h. type_decodes (shape_of_type c.args.types.now c.args.below) c.args.decoder.now c.decode_members.ensures.octets q c.decode_members.new.decoder c.args.ty.now h) (rw c.in-Set.is c.decode_members.ensures.exact)
-
-pub decode_type-returns-in-Set-clause-fits : goal.decode_type-returns-in-Set-clause-fits
-decode_type-returns-in-Set-clause-fits g t c = λ k. rw c.in-Set.is (c.decode_members.ensures.fits k)
-
-pub decode_type-returns-in-Set-clause-told : goal.decode_type-returns-in-Set-clause-told
-decode_type-returns-in-Set-clause-told g t c = rw c.in-Set.is c.decode_members.ensures.told
-
-pub decode_type-returns-in-Set-clause-itself : goal.decode_type-returns-in-Set-clause-itself
-decode_type-returns-in-Set-clause-itself g t c = rw c.in-Set.is (itself_set (shape_of_type c.args.types.now c.args.below) (Set c.in-Set.name c.in-Set.tag c.in-Set.components) c.args.decoder.now c.decode_members.new.decoder _ c.in-Set.name c.in-Set.tag c.in-Set.components (sequence_header c.in-Set.tag) refl refl (outcome c.decode_members.result c.decode_members.new.out c.decode_members.new.walk.error) c.decode_members.ensures.itself)
-
-pub decode_type-returns-in-Set-clause-listed : goal.decode_type-returns-in-Set-clause-listed
-decode_type-returns-in-Set-clause-listed g t c = rw c.in-Set.is (if_ok _ _ _ (λ v. holder_listed (shape_of_type c.args.types.now c.args.below) c.args.below (Inside c.args.types.now c.args.below) (Set c.in-Set.name c.in-Set.tag c.in-Set.components) (sequence_header c.in-Set.tag) c.args.decoder.now _ _ refl) c.decode_members.ensures.listed)
-
-pub decode_type-decode_list-requires : goal.decode_type-decode_list-requires
-decode_type-decode_list-requires g t c = λ κs o. (search rules, (search rules, (list_lawful _ _ c.in-SequenceOf.constraints.size (subst (λ n. IsReadable (type_by (shape_of_type c.args.types.now c.args.below) n)) c.in-SequenceOf.is c.requires.lawful), c.requires.clear)))
-
-pub decode_type-returns-in-SequenceOf-clause-exact : goal.decode_type-returns-in-SequenceOf-clause-exact
-decode_type-returns-in-SequenceOf-clause-exact g t c = rw c.in-SequenceOf.is c.decode_list.ensures.exact
-
-pub decode_type-returns-in-SequenceOf-clause-reads : goal.decode_type-returns-in-SequenceOf-clause-reads
-decode_type-returns-in-SequenceOf-clause-reads g t c =
-    made_as _ tree_of (DecodesType (shape_of_type c.args.types.now c.args.below) c.args.ty.now) (DecodesTree (type_by (shape_of_type c.args.types.now c.args.below) c.args.ty.now)) c.args.decoder.now (outcome c.decode_list.result c.decode_list.new.out c.decode_list.new.walk.error) c.decode_list.new.decoder
-    (λ q h. type_decodes (shape_of_type c.args.types.now c.args.below) c.args.decoder.now c.decode_list.ensures.octets q c.decode_list.new.decoder c.args.ty.now h) (rw c.in-SequenceOf.is c.decode_list.ensures.exact)
-
-pub decode_type-returns-in-SequenceOf-clause-fits : goal.decode_type-returns-in-SequenceOf-clause-fits
-decode_type-returns-in-SequenceOf-clause-fits g t c = λ k. rw c.in-SequenceOf.is (c.decode_list.ensures.fits k)
-
-pub decode_type-returns-in-SequenceOf-clause-told : goal.decode_type-returns-in-SequenceOf-clause-told
-decode_type-returns-in-SequenceOf-clause-told g t c = rw c.in-SequenceOf.is c.decode_list.ensures.told
-
-pub decode_type-returns-in-SequenceOf-clause-itself : goal.decode_type-returns-in-SequenceOf-clause-itself
-decode_type-returns-in-SequenceOf-clause-itself g t c = rw c.in-SequenceOf.is (itself_list (shape_of_type c.args.types.now c.args.below) (SequenceOf c.in-SequenceOf.tag c.in-SequenceOf.element c.in-SequenceOf.constraints) c.args.decoder.now c.decode_list.new.decoder _ c.in-SequenceOf.tag c.in-SequenceOf.element c.in-SequenceOf.constraints refl (outcome c.decode_list.result c.decode_list.new.out c.decode_list.new.walk.error) c.decode_list.ensures.itself)
-
-pub decode_type-returns-in-SequenceOf-clause-listed : goal.decode_type-returns-in-SequenceOf-clause-listed
-decode_type-returns-in-SequenceOf-clause-listed g t c = rw c.in-SequenceOf.is (if_ok _ _ _ (λ v. holder_listed (shape_of_type c.args.types.now c.args.below) c.args.below (Inside c.args.types.now c.args.below) (SequenceOf c.in-SequenceOf.tag c.in-SequenceOf.element c.in-SequenceOf.constraints) (list_header c.in-SequenceOf.tag) c.args.decoder.now _ _ refl) c.decode_list.ensures.listed)
+pub decode_type-returns-in-SequenceOf : goal.decode_type-returns-in-SequenceOf
+decode_type-returns-in-SequenceOf g t c = rw c.in-SequenceOf.is c.decode_sequence_of.ensures
 
 pub decode_type-decode_set_of-requires : goal.decode_type-decode_set_of-requires
 decode_type-decode_set_of-requires g t c = λ κs o. (search rules, (search rules, (set_of_lawful _ _ c.in-SetOf.constraints.size (subst (λ n. IsReadable (type_by (shape_of_type c.args.types.now c.args.below) n)) c.in-SetOf.is c.requires.lawful), c.requires.clear)))
 
-pub decode_type-returns-in-SetOf-clause-exact : goal.decode_type-returns-in-SetOf-clause-exact
-decode_type-returns-in-SetOf-clause-exact g t c = rw c.in-SetOf.is c.decode_set_of.ensures.exact
+pub decode_type-returns-in-SetOf : goal.decode_type-returns-in-SetOf
+decode_type-returns-in-SetOf g t c = rw c.in-SetOf.is c.decode_set_of.ensures
 
-pub decode_type-returns-in-SetOf-clause-reads : goal.decode_type-returns-in-SetOf-clause-reads
-decode_type-returns-in-SetOf-clause-reads g t c =
-    made_as _ tree_of (DecodesType (shape_of_type c.args.types.now c.args.below) c.args.ty.now) (DecodesTree (type_by (shape_of_type c.args.types.now c.args.below) c.args.ty.now)) c.args.decoder.now (outcome c.decode_set_of.result c.decode_set_of.new.out c.decode_set_of.new.walk.error) c.decode_set_of.new.decoder
-    (λ q h. type_decodes (shape_of_type c.args.types.now c.args.below) c.args.decoder.now c.decode_set_of.ensures.octets q c.decode_set_of.new.decoder c.args.ty.now h) (rw c.in-SetOf.is c.decode_set_of.ensures.exact)
+-- ---- a header, contents and their end
 
-pub decode_type-returns-in-SetOf-clause-fits : goal.decode_type-returns-in-SetOf-clause-fits
-decode_type-returns-in-SetOf-clause-fits g t c = λ k. rw c.in-SetOf.is (c.decode_set_of.ensures.fits k)
+-- decode_tagged
 
-pub decode_type-returns-in-SetOf-clause-told : goal.decode_type-returns-in-SetOf-clause-told
-decode_type-returns-in-SetOf-clause-told g t c = rw c.in-SetOf.is c.decode_set_of.ensures.told
+pub decode_tagged-returns-in-Err : goal.decode_tagged-returns-in-Err
+decode_tagged-returns-in-Err g t c = (tagged c.args.types.now c.args.below g.M.Made.KEEP c.args.decoder.now c.args.walk.now.spans (Err c.in-Err.error) c.open.new.self c.args.walk.now.fault c.args.walk.now.spans c.args.tag c.args.id c.prefix-header.result c.prefix-header.ensures
+    (unopened c.args.types.now c.args.below g.M.Made.KEEP (Tagged c.args.tag c.args.id) (DecodesContents (shape_of_type c.args.types.now c.args.below) (Tagged c.args.tag c.args.id)) c.prefix-header.result c.args.decoder.now c.open.ensures.octets c.args.walk.now.spans (Err c.in-Err.error) c.in-Err.error c.open.new.self c.args.walk.now.fault c.args.walk.now.spans refl c.in-Err.ensures.exact c.requires.clear))
 
-pub decode_type-returns-in-SetOf-clause-itself : goal.decode_type-returns-in-SetOf-clause-itself
-decode_type-returns-in-SetOf-clause-itself g t c = rw c.in-SetOf.is (itself_set_of (shape_of_type c.args.types.now c.args.below) (SetOf c.in-SetOf.tag c.in-SetOf.element c.in-SetOf.constraints) c.args.decoder.now c.decode_set_of.new.decoder _ c.in-SetOf.tag c.in-SetOf.element c.in-SetOf.constraints refl (outcome c.decode_set_of.result c.decode_set_of.new.out c.decode_set_of.new.walk.error) c.decode_set_of.ensures.itself)
+pub decode_tagged-returns-in_err-count_after : goal.decode_tagged-returns-in_err-count_after
+decode_tagged-returns-in_err-count_after g t c = rw (residual _ c.from_residual.ensures.1)
+    (tagged c.args.types.now c.args.below g.M.Made.KEEP c.args.decoder.now c.args.walk.now.spans (Err c.decode_part-read.new.walk.error) c.open.new.self c.count_after.new.fault c.decode_part-read.new.walk.spans c.args.tag c.args.id c.prefix-header.result c.prefix-header.ensures
+    (refused c.args.types.now c.args.below g.M.Made.KEEP (Tagged c.args.tag c.args.id) (DecodesContents (shape_of_type c.args.types.now c.args.below) (Tagged c.args.tag c.args.id)) c.prefix-header.result c.args.decoder.now c.open.ensures.octets c.args.walk.now.spans (λ o r n k. k) c.in-Ok.opened.0 c.in-Ok.opened.1 c.open.new.self c.in-Ok.ensures.exact c.decode_part-read.result c.decode_part-read.new.out c.decode_part-read.new.walk.error c.decode_part-read.new.decoder c.decode_part-read.new.walk.fault c.go_inside-after.new.spans c.decode_part-read.new.walk.spans (tagged_contents c.args.types.now c.args.below g.M.Made.KEEP c.in-Ok.opened.0 c.go_inside-after.new.spans (outcome c.decode_part-read.result c.decode_part-read.new.out c.decode_part-read.new.walk.error) c.decode_part-read.new.decoder c.decode_part-read.new.walk.fault c.decode_part-read.new.walk.spans c.args.tag c.args.id c.decode_part-read.ensures.reads c.decode_part-read.ensures.fits c.decode_part-read.ensures.rules c.decode_part-read.ensures.told c.decode_part-read.ensures.listed) _ _ _ c.in_err-count_after.ensures))
 
-pub decode_type-returns-in-SetOf-clause-listed : goal.decode_type-returns-in-SetOf-clause-listed
-decode_type-returns-in-SetOf-clause-listed g t c = rw c.in-SetOf.is (if_ok _ _ _ (λ v. holder_listed (shape_of_type c.args.types.now c.args.below) c.args.below (Inside c.args.types.now c.args.below) (SetOf c.in-SetOf.tag c.in-SetOf.element c.in-SetOf.constraints) (list_header c.in-SetOf.tag) c.args.decoder.now _ _ refl) c.decode_set_of.ensures.listed)
+pub decode_tagged-count_after-requires : goal.decode_tagged-count_after-requires
+decode_tagged-count_after-requires g t c = may_count c.args.types.now c.args.below g.M.Made.KEEP (Tagged c.args.tag c.args.id) (DecodesContents (shape_of_type c.args.types.now c.args.below) (Tagged c.args.tag c.args.id)) c.prefix-header.result c.args.decoder.now c.open.ensures.octets c.args.walk.now.spans (λ o r n k. k) c.in-Ok.opened.0 c.in-Ok.opened.1 c.open.new.self c.in-Ok.ensures.exact c.decode_part-read.result c.decode_part-read.new.out c.decode_part-read.new.walk.error c.decode_part-read.new.decoder c.decode_part-read.new.walk.fault c.go_inside-after.new.spans c.decode_part-read.new.walk.spans (tagged_contents c.args.types.now c.args.below g.M.Made.KEEP c.in-Ok.opened.0 c.go_inside-after.new.spans (outcome c.decode_part-read.result c.decode_part-read.new.out c.decode_part-read.new.walk.error) c.decode_part-read.new.decoder c.decode_part-read.new.walk.fault c.decode_part-read.new.walk.spans c.args.tag c.args.id c.decode_part-read.ensures.reads c.decode_part-read.ensures.fits c.decode_part-read.ensures.rules c.decode_part-read.ensures.told c.decode_part-read.ensures.listed) _ c.octets_left.ensures (omega (arith, c.octets_left.type_inv))
+
+pub decode_tagged-close-requires : goal.decode_tagged-close-requires
+decode_tagged-close-requires g t c = may_close c.args.types.now c.args.below g.M.Made.KEEP (Tagged c.args.tag c.args.id) (DecodesContents (shape_of_type c.args.types.now c.args.below) (Tagged c.args.tag c.args.id)) c.prefix-header.result c.args.decoder.now c.open.ensures.octets c.args.walk.now.spans (λ o r n k. k) c.in-Ok.opened.0 c.in-Ok.opened.1 c.open.new.self c.in-Ok.ensures.exact c.decode_part-read.result c.decode_part-read.new.out c.decode_part-read.new.walk.error c.decode_part-read.new.decoder c.decode_part-read.new.walk.fault c.go_inside-after.new.spans c.decode_part-read.new.walk.spans (tagged_contents c.args.types.now c.args.below g.M.Made.KEEP c.in-Ok.opened.0 c.go_inside-after.new.spans (outcome c.decode_part-read.result c.decode_part-read.new.out c.decode_part-read.new.walk.error) c.decode_part-read.new.decoder c.decode_part-read.new.walk.fault c.decode_part-read.new.walk.spans c.args.tag c.args.id c.decode_part-read.ensures.reads c.decode_part-read.ensures.fits c.decode_part-read.ensures.rules c.decode_part-read.ensures.told c.decode_part-read.ensures.listed) _ _ c.in_ok-count_after.ensures _ c.remaining.ensures.value
+
+pub decode_tagged-returns-in-Err-close : goal.decode_tagged-returns-in-Err-close
+decode_tagged-returns-in-Err-close g t c =
+    tagged c.args.types.now c.args.below g.M.Made.KEEP c.args.decoder.now c.args.walk.now.spans (Err c.in-Err-close.error) c.close.new.self c.count_after.new.fault c.decode_part-read.new.walk.spans c.args.tag c.args.id c.prefix-header.result c.prefix-header.ensures
+    (unclosed c.args.types.now c.args.below g.M.Made.KEEP (Tagged c.args.tag c.args.id) (DecodesContents (shape_of_type c.args.types.now c.args.below) (Tagged c.args.tag c.args.id)) c.prefix-header.result c.args.decoder.now c.open.ensures.octets c.args.walk.now.spans (λ o r n k. k) c.in-Ok.opened.0 c.in-Ok.opened.1 c.open.new.self c.in-Ok.ensures.exact c.decode_part-read.result c.decode_part-read.new.out c.decode_part-read.new.walk.error c.decode_part-read.new.decoder c.decode_part-read.new.walk.fault c.go_inside-after.new.spans c.decode_part-read.new.walk.spans (tagged_contents c.args.types.now c.args.below g.M.Made.KEEP c.in-Ok.opened.0 c.go_inside-after.new.spans (outcome c.decode_part-read.result c.decode_part-read.new.out c.decode_part-read.new.walk.error) c.decode_part-read.new.decoder c.decode_part-read.new.walk.fault c.decode_part-read.new.walk.spans c.args.tag c.args.id c.decode_part-read.ensures.reads c.decode_part-read.ensures.fits c.decode_part-read.ensures.rules c.decode_part-read.ensures.told c.decode_part-read.ensures.listed) _ c.count_after.new.fault c.in_ok-count_after.ensures c.decode_part-read.new.walk.spans c.remaining.result.now c.remaining.ensures.value c.close.new.self c.in-Err-close.error c.in-Err-close.ensures)
+
+pub decode_tagged-returns-in-Ok-close : goal.decode_tagged-returns-in-Ok-close
+decode_tagged-returns-in-Ok-close g t c =
+    tagged c.args.types.now c.args.below g.M.Made.KEEP c.args.decoder.now c.args.walk.now.spans (Ok c.decode_part-read.new.out) c.close.new.self c.count_after.new.fault c.go_outside.new.spans c.args.tag c.args.id c.prefix-header.result c.prefix-header.ensures
+    (closed c.args.types.now c.args.below g.M.Made.KEEP (Tagged c.args.tag c.args.id) (DecodesContents (shape_of_type c.args.types.now c.args.below) (Tagged c.args.tag c.args.id)) c.prefix-header.result c.args.decoder.now c.open.ensures.octets c.args.walk.now.spans (λ o r n k. k) c.in-Ok.opened.0 c.in-Ok.opened.1 c.open.new.self c.in-Ok.ensures.exact c.decode_part-read.result c.decode_part-read.new.out c.decode_part-read.new.walk.error c.decode_part-read.new.decoder c.decode_part-read.new.walk.fault c.go_inside-after.new.spans c.decode_part-read.new.walk.spans (tagged_contents c.args.types.now c.args.below g.M.Made.KEEP c.in-Ok.opened.0 c.go_inside-after.new.spans (outcome c.decode_part-read.result c.decode_part-read.new.out c.decode_part-read.new.walk.error) c.decode_part-read.new.decoder c.decode_part-read.new.walk.fault c.decode_part-read.new.walk.spans c.args.tag c.args.id c.decode_part-read.ensures.reads c.decode_part-read.ensures.fits c.decode_part-read.ensures.rules c.decode_part-read.ensures.told c.decode_part-read.ensures.listed) _ c.count_after.new.fault c.in_ok-count_after.ensures c.go_outside.new.spans c.remaining.result.now c.remaining.ensures.value c.close.new.self c.go_inside-after.result c.go_inside-after.ensures c.go_outside.ensures c.in-Ok-close.ensures)
+
+-- decode_sequence
+
+pub decode_sequence-returns-in-Err : goal.decode_sequence-returns-in-Err
+decode_sequence-returns-in-Err g t c = (sequence c.args.types.now c.args.below g.M.Made.KEEP c.args.decoder.now c.args.walk.now.spans (Err c.in-Err.error) c.open.new.self c.args.walk.now.fault c.args.walk.now.spans c.args.tag c.args.components.now c.sequence-header.result c.sequence-header.ensures
+    (unopened c.args.types.now c.args.below g.M.Made.KEEP (Sequence c.args.tag c.args.components.now) (DecodesContents (shape_of_type c.args.types.now c.args.below) (Sequence c.args.tag c.args.components.now)) c.sequence-header.result c.args.decoder.now c.open.ensures.octets c.args.walk.now.spans (Err c.in-Err.error) c.in-Err.error c.open.new.self c.args.walk.now.fault c.args.walk.now.spans refl c.in-Err.ensures.exact c.requires.clear))
+
+pub decode_sequence-returns-in_err-count_after : goal.decode_sequence-returns-in_err-count_after
+decode_sequence-returns-in_err-count_after g t c = rw (residual _ c.from_residual.ensures.1)
+    (sequence c.args.types.now c.args.below g.M.Made.KEEP c.args.decoder.now c.args.walk.now.spans (Err c.put_components-read.new.walk.error) c.open.new.self c.count_after.new.fault c.put_components-read.new.walk.spans c.args.tag c.args.components.now c.sequence-header.result c.sequence-header.ensures
+    (refused c.args.types.now c.args.below g.M.Made.KEEP (Sequence c.args.tag c.args.components.now) (DecodesContents (shape_of_type c.args.types.now c.args.below) (Sequence c.args.tag c.args.components.now)) c.sequence-header.result c.args.decoder.now c.open.ensures.octets c.args.walk.now.spans (λ o r n k. k) c.in-Ok.opened.0 c.in-Ok.opened.1 c.open.new.self c.in-Ok.ensures.exact c.put_components-read.result c.put_components-read.new.out c.put_components-read.new.walk.error c.put_components-read.new.decoder c.put_components-read.new.walk.fault c.go_inside-after.new.spans c.put_components-read.new.walk.spans (sequence_contents c.args.types.now c.args.below g.M.Made.KEEP c.in-Ok.opened.0 c.go_inside-after.new.spans (outcome c.put_components-read.result c.put_components-read.new.out c.put_components-read.new.walk.error) c.put_components-read.new.decoder c.put_components-read.new.walk.fault c.put_components-read.new.walk.spans c.args.tag c.args.components.now c.put_components-read.ensures) _ _ _ c.in_err-count_after.ensures))
+
+pub decode_sequence-count_after-requires : goal.decode_sequence-count_after-requires
+decode_sequence-count_after-requires g t c = may_count c.args.types.now c.args.below g.M.Made.KEEP (Sequence c.args.tag c.args.components.now) (DecodesContents (shape_of_type c.args.types.now c.args.below) (Sequence c.args.tag c.args.components.now)) c.sequence-header.result c.args.decoder.now c.open.ensures.octets c.args.walk.now.spans (λ o r n k. k) c.in-Ok.opened.0 c.in-Ok.opened.1 c.open.new.self c.in-Ok.ensures.exact c.put_components-read.result c.put_components-read.new.out c.put_components-read.new.walk.error c.put_components-read.new.decoder c.put_components-read.new.walk.fault c.go_inside-after.new.spans c.put_components-read.new.walk.spans (sequence_contents c.args.types.now c.args.below g.M.Made.KEEP c.in-Ok.opened.0 c.go_inside-after.new.spans (outcome c.put_components-read.result c.put_components-read.new.out c.put_components-read.new.walk.error) c.put_components-read.new.decoder c.put_components-read.new.walk.fault c.put_components-read.new.walk.spans c.args.tag c.args.components.now c.put_components-read.ensures) _ c.octets_left.ensures (omega (arith, c.octets_left.type_inv))
+
+pub decode_sequence-close-requires : goal.decode_sequence-close-requires
+decode_sequence-close-requires g t c = may_close c.args.types.now c.args.below g.M.Made.KEEP (Sequence c.args.tag c.args.components.now) (DecodesContents (shape_of_type c.args.types.now c.args.below) (Sequence c.args.tag c.args.components.now)) c.sequence-header.result c.args.decoder.now c.open.ensures.octets c.args.walk.now.spans (λ o r n k. k) c.in-Ok.opened.0 c.in-Ok.opened.1 c.open.new.self c.in-Ok.ensures.exact c.put_components-read.result c.put_components-read.new.out c.put_components-read.new.walk.error c.put_components-read.new.decoder c.put_components-read.new.walk.fault c.go_inside-after.new.spans c.put_components-read.new.walk.spans (sequence_contents c.args.types.now c.args.below g.M.Made.KEEP c.in-Ok.opened.0 c.go_inside-after.new.spans (outcome c.put_components-read.result c.put_components-read.new.out c.put_components-read.new.walk.error) c.put_components-read.new.decoder c.put_components-read.new.walk.fault c.put_components-read.new.walk.spans c.args.tag c.args.components.now c.put_components-read.ensures) _ _ c.in_ok-count_after.ensures _ c.remaining.ensures.value
+
+pub decode_sequence-returns-in-Err-close : goal.decode_sequence-returns-in-Err-close
+decode_sequence-returns-in-Err-close g t c =
+    sequence c.args.types.now c.args.below g.M.Made.KEEP c.args.decoder.now c.args.walk.now.spans (Err c.in-Err-close.error) c.close.new.self c.count_after.new.fault c.put_components-read.new.walk.spans c.args.tag c.args.components.now c.sequence-header.result c.sequence-header.ensures
+    (unclosed c.args.types.now c.args.below g.M.Made.KEEP (Sequence c.args.tag c.args.components.now) (DecodesContents (shape_of_type c.args.types.now c.args.below) (Sequence c.args.tag c.args.components.now)) c.sequence-header.result c.args.decoder.now c.open.ensures.octets c.args.walk.now.spans (λ o r n k. k) c.in-Ok.opened.0 c.in-Ok.opened.1 c.open.new.self c.in-Ok.ensures.exact c.put_components-read.result c.put_components-read.new.out c.put_components-read.new.walk.error c.put_components-read.new.decoder c.put_components-read.new.walk.fault c.go_inside-after.new.spans c.put_components-read.new.walk.spans (sequence_contents c.args.types.now c.args.below g.M.Made.KEEP c.in-Ok.opened.0 c.go_inside-after.new.spans (outcome c.put_components-read.result c.put_components-read.new.out c.put_components-read.new.walk.error) c.put_components-read.new.decoder c.put_components-read.new.walk.fault c.put_components-read.new.walk.spans c.args.tag c.args.components.now c.put_components-read.ensures) _ c.count_after.new.fault c.in_ok-count_after.ensures c.put_components-read.new.walk.spans c.remaining.result.now c.remaining.ensures.value c.close.new.self c.in-Err-close.error c.in-Err-close.ensures)
+
+pub decode_sequence-returns-in-Ok-close : goal.decode_sequence-returns-in-Ok-close
+decode_sequence-returns-in-Ok-close g t c =
+    sequence c.args.types.now c.args.below g.M.Made.KEEP c.args.decoder.now c.args.walk.now.spans (Ok c.put_components-read.new.out) c.close.new.self c.count_after.new.fault c.go_outside.new.spans c.args.tag c.args.components.now c.sequence-header.result c.sequence-header.ensures
+    (closed c.args.types.now c.args.below g.M.Made.KEEP (Sequence c.args.tag c.args.components.now) (DecodesContents (shape_of_type c.args.types.now c.args.below) (Sequence c.args.tag c.args.components.now)) c.sequence-header.result c.args.decoder.now c.open.ensures.octets c.args.walk.now.spans (λ o r n k. k) c.in-Ok.opened.0 c.in-Ok.opened.1 c.open.new.self c.in-Ok.ensures.exact c.put_components-read.result c.put_components-read.new.out c.put_components-read.new.walk.error c.put_components-read.new.decoder c.put_components-read.new.walk.fault c.go_inside-after.new.spans c.put_components-read.new.walk.spans (sequence_contents c.args.types.now c.args.below g.M.Made.KEEP c.in-Ok.opened.0 c.go_inside-after.new.spans (outcome c.put_components-read.result c.put_components-read.new.out c.put_components-read.new.walk.error) c.put_components-read.new.decoder c.put_components-read.new.walk.fault c.put_components-read.new.walk.spans c.args.tag c.args.components.now c.put_components-read.ensures) _ c.count_after.new.fault c.in_ok-count_after.ensures c.go_outside.new.spans c.remaining.result.now c.remaining.ensures.value c.close.new.self c.go_inside-after.result c.go_inside-after.ensures c.go_outside.ensures c.in-Ok-close.ensures)
+
+-- decode_set
+
+pub decode_set-returns-in-Err : goal.decode_set-returns-in-Err
+decode_set-returns-in-Err g t c = (set c.args.types.now c.args.below g.M.Made.KEEP c.args.decoder.now c.args.walk.now.spans (Err c.in-Err.error) c.open.new.self c.args.walk.now.fault c.args.walk.now.spans c.args.name.now c.args.tag c.args.components.now c.sequence-header.result c.sequence-header.ensures
+    (unopened c.args.types.now c.args.below g.M.Made.KEEP (Set c.args.name.now c.args.tag c.args.components.now) (DecodesContents (shape_of_type c.args.types.now c.args.below) (Set c.args.name.now c.args.tag c.args.components.now)) c.sequence-header.result c.args.decoder.now c.open.ensures.octets c.args.walk.now.spans (Err c.in-Err.error) c.in-Err.error c.open.new.self c.args.walk.now.fault c.args.walk.now.spans refl c.in-Err.ensures.exact c.requires.clear))
+
+pub decode_set-returns-in_err-count_after : goal.decode_set-returns-in_err-count_after
+decode_set-returns-in_err-count_after g t c = rw (residual _ c.from_residual.ensures.1)
+    (set c.args.types.now c.args.below g.M.Made.KEEP c.args.decoder.now c.args.walk.now.spans (Err c.put_set_components-read.new.walk.error) c.open.new.self c.count_after.new.fault c.put_set_components-read.new.walk.spans c.args.name.now c.args.tag c.args.components.now c.sequence-header.result c.sequence-header.ensures
+    (refused c.args.types.now c.args.below g.M.Made.KEEP (Set c.args.name.now c.args.tag c.args.components.now) (DecodesContents (shape_of_type c.args.types.now c.args.below) (Set c.args.name.now c.args.tag c.args.components.now)) c.sequence-header.result c.args.decoder.now c.open.ensures.octets c.args.walk.now.spans (λ o r n k. k) c.in-Ok.opened.0 c.in-Ok.opened.1 c.open.new.self c.in-Ok.ensures.exact c.put_set_components-read.result c.put_set_components-read.new.out c.put_set_components-read.new.walk.error c.put_set_components-read.new.decoder c.put_set_components-read.new.walk.fault c.go_inside-after.new.spans c.put_set_components-read.new.walk.spans (set_contents c.args.types.now c.args.below g.M.Made.KEEP c.in-Ok.opened.0 c.go_inside-after.new.spans (outcome c.put_set_components-read.result c.put_set_components-read.new.out c.put_set_components-read.new.walk.error) c.put_set_components-read.new.decoder c.put_set_components-read.new.walk.fault c.put_set_components-read.new.walk.spans c.args.name.now c.args.tag c.args.components.now c.put_set_components-read.ensures) _ _ _ c.in_err-count_after.ensures))
+
+pub decode_set-count_after-requires : goal.decode_set-count_after-requires
+decode_set-count_after-requires g t c = may_count c.args.types.now c.args.below g.M.Made.KEEP (Set c.args.name.now c.args.tag c.args.components.now) (DecodesContents (shape_of_type c.args.types.now c.args.below) (Set c.args.name.now c.args.tag c.args.components.now)) c.sequence-header.result c.args.decoder.now c.open.ensures.octets c.args.walk.now.spans (λ o r n k. k) c.in-Ok.opened.0 c.in-Ok.opened.1 c.open.new.self c.in-Ok.ensures.exact c.put_set_components-read.result c.put_set_components-read.new.out c.put_set_components-read.new.walk.error c.put_set_components-read.new.decoder c.put_set_components-read.new.walk.fault c.go_inside-after.new.spans c.put_set_components-read.new.walk.spans (set_contents c.args.types.now c.args.below g.M.Made.KEEP c.in-Ok.opened.0 c.go_inside-after.new.spans (outcome c.put_set_components-read.result c.put_set_components-read.new.out c.put_set_components-read.new.walk.error) c.put_set_components-read.new.decoder c.put_set_components-read.new.walk.fault c.put_set_components-read.new.walk.spans c.args.name.now c.args.tag c.args.components.now c.put_set_components-read.ensures) _ c.octets_left.ensures (omega (arith, c.octets_left.type_inv))
+
+pub decode_set-close-requires : goal.decode_set-close-requires
+decode_set-close-requires g t c = may_close c.args.types.now c.args.below g.M.Made.KEEP (Set c.args.name.now c.args.tag c.args.components.now) (DecodesContents (shape_of_type c.args.types.now c.args.below) (Set c.args.name.now c.args.tag c.args.components.now)) c.sequence-header.result c.args.decoder.now c.open.ensures.octets c.args.walk.now.spans (λ o r n k. k) c.in-Ok.opened.0 c.in-Ok.opened.1 c.open.new.self c.in-Ok.ensures.exact c.put_set_components-read.result c.put_set_components-read.new.out c.put_set_components-read.new.walk.error c.put_set_components-read.new.decoder c.put_set_components-read.new.walk.fault c.go_inside-after.new.spans c.put_set_components-read.new.walk.spans (set_contents c.args.types.now c.args.below g.M.Made.KEEP c.in-Ok.opened.0 c.go_inside-after.new.spans (outcome c.put_set_components-read.result c.put_set_components-read.new.out c.put_set_components-read.new.walk.error) c.put_set_components-read.new.decoder c.put_set_components-read.new.walk.fault c.put_set_components-read.new.walk.spans c.args.name.now c.args.tag c.args.components.now c.put_set_components-read.ensures) _ _ c.in_ok-count_after.ensures _ c.remaining.ensures.value
+
+pub decode_set-returns-in-Err-close : goal.decode_set-returns-in-Err-close
+decode_set-returns-in-Err-close g t c =
+    set c.args.types.now c.args.below g.M.Made.KEEP c.args.decoder.now c.args.walk.now.spans (Err c.in-Err-close.error) c.close.new.self c.count_after.new.fault c.put_set_components-read.new.walk.spans c.args.name.now c.args.tag c.args.components.now c.sequence-header.result c.sequence-header.ensures
+    (unclosed c.args.types.now c.args.below g.M.Made.KEEP (Set c.args.name.now c.args.tag c.args.components.now) (DecodesContents (shape_of_type c.args.types.now c.args.below) (Set c.args.name.now c.args.tag c.args.components.now)) c.sequence-header.result c.args.decoder.now c.open.ensures.octets c.args.walk.now.spans (λ o r n k. k) c.in-Ok.opened.0 c.in-Ok.opened.1 c.open.new.self c.in-Ok.ensures.exact c.put_set_components-read.result c.put_set_components-read.new.out c.put_set_components-read.new.walk.error c.put_set_components-read.new.decoder c.put_set_components-read.new.walk.fault c.go_inside-after.new.spans c.put_set_components-read.new.walk.spans (set_contents c.args.types.now c.args.below g.M.Made.KEEP c.in-Ok.opened.0 c.go_inside-after.new.spans (outcome c.put_set_components-read.result c.put_set_components-read.new.out c.put_set_components-read.new.walk.error) c.put_set_components-read.new.decoder c.put_set_components-read.new.walk.fault c.put_set_components-read.new.walk.spans c.args.name.now c.args.tag c.args.components.now c.put_set_components-read.ensures) _ c.count_after.new.fault c.in_ok-count_after.ensures c.put_set_components-read.new.walk.spans c.remaining.result.now c.remaining.ensures.value c.close.new.self c.in-Err-close.error c.in-Err-close.ensures)
+
+pub decode_set-returns-in-Ok-close : goal.decode_set-returns-in-Ok-close
+decode_set-returns-in-Ok-close g t c =
+    set c.args.types.now c.args.below g.M.Made.KEEP c.args.decoder.now c.args.walk.now.spans (Ok c.put_set_components-read.new.out) c.close.new.self c.count_after.new.fault c.go_outside.new.spans c.args.name.now c.args.tag c.args.components.now c.sequence-header.result c.sequence-header.ensures
+    (closed c.args.types.now c.args.below g.M.Made.KEEP (Set c.args.name.now c.args.tag c.args.components.now) (DecodesContents (shape_of_type c.args.types.now c.args.below) (Set c.args.name.now c.args.tag c.args.components.now)) c.sequence-header.result c.args.decoder.now c.open.ensures.octets c.args.walk.now.spans (λ o r n k. k) c.in-Ok.opened.0 c.in-Ok.opened.1 c.open.new.self c.in-Ok.ensures.exact c.put_set_components-read.result c.put_set_components-read.new.out c.put_set_components-read.new.walk.error c.put_set_components-read.new.decoder c.put_set_components-read.new.walk.fault c.go_inside-after.new.spans c.put_set_components-read.new.walk.spans (set_contents c.args.types.now c.args.below g.M.Made.KEEP c.in-Ok.opened.0 c.go_inside-after.new.spans (outcome c.put_set_components-read.result c.put_set_components-read.new.out c.put_set_components-read.new.walk.error) c.put_set_components-read.new.decoder c.put_set_components-read.new.walk.fault c.put_set_components-read.new.walk.spans c.args.name.now c.args.tag c.args.components.now c.put_set_components-read.ensures) _ c.count_after.new.fault c.in_ok-count_after.ensures c.go_outside.new.spans c.remaining.result.now c.remaining.ensures.value c.close.new.self c.go_inside-after.result c.go_inside-after.ensures c.go_outside.ensures c.in-Ok-close.ensures)
+
+-- decode_sequence_of
+
+pub decode_sequence_of-returns-in-Err : goal.decode_sequence_of-returns-in-Err
+decode_sequence_of-returns-in-Err g t c = (list_unread c.args.types.now c.args.below g.M.Made.KEEP c.args.decoder.now c.args.walk.now.spans c.open.new.self c.args.walk.now.fault c.args.walk.now.spans c.args.tag c.args.constraints.now 0 c.list-header.result c.list-header.ensures c.args.element c.in-Err.error
+    (unopened c.args.types.now c.args.below g.M.Made.KEEP (SequenceOf c.args.tag c.args.element c.args.constraints.now) (DecodesCounted (DecodesContents (shape_of_type c.args.types.now c.args.below) (SequenceOf c.args.tag c.args.element c.args.constraints.now)) 0) c.list-header.result c.args.decoder.now c.open.ensures.octets c.args.walk.now.spans (Err c.in-Err.error) c.in-Err.error c.open.new.self c.args.walk.now.fault c.args.walk.now.spans refl c.in-Err.ensures.exact c.requires.clear))
+
+pub decode_sequence_of-returns-in_err-count_after : goal.decode_sequence_of-returns-in_err-count_after
+decode_sequence_of-returns-in_err-count_after g t c = rw (residual _ c.from_residual.ensures.1)
+    (list_unread c.args.types.now c.args.below g.M.Made.KEEP c.args.decoder.now c.args.walk.now.spans c.open.new.self c.count_after.new.fault c.put_elements-read.new.walk.spans c.args.tag c.args.constraints.now c.put_elements-read.new.count c.list-header.result c.list-header.ensures c.args.element c.put_elements-read.new.walk.error
+    (refused c.args.types.now c.args.below g.M.Made.KEEP (SequenceOf c.args.tag c.args.element c.args.constraints.now) (DecodesCounted (DecodesContents (shape_of_type c.args.types.now c.args.below) (SequenceOf c.args.tag c.args.element c.args.constraints.now)) c.put_elements-read.new.count) c.list-header.result c.args.decoder.now c.open.ensures.octets c.args.walk.now.spans (counted (DecodesContents (shape_of_type c.args.types.now c.args.below) (SequenceOf c.args.tag c.args.element c.args.constraints.now)) c.put_elements-read.new.count) c.in-Ok.opened.0 c.in-Ok.opened.1 c.open.new.self c.in-Ok.ensures.exact c.put_elements-read.result c.put_elements-read.new.out c.put_elements-read.new.walk.error c.put_elements-read.new.decoder c.put_elements-read.new.walk.fault c.go_inside-after.new.spans c.put_elements-read.new.walk.spans (list_contents c.args.types.now c.args.below g.M.Made.KEEP c.in-Ok.opened.0 c.go_inside-after.new.spans (outcome c.put_elements-read.result c.put_elements-read.new.out c.put_elements-read.new.walk.error) c.put_elements-read.new.decoder c.put_elements-read.new.walk.fault c.put_elements-read.new.walk.spans c.args.tag c.args.element c.args.constraints.now c.put_elements-read.new.count c.put_elements-read.ensures) _ _ _ c.in_err-count_after.ensures))
+
+pub decode_sequence_of-count_after-requires : goal.decode_sequence_of-count_after-requires
+decode_sequence_of-count_after-requires g t c = may_count c.args.types.now c.args.below g.M.Made.KEEP (SequenceOf c.args.tag c.args.element c.args.constraints.now) (DecodesCounted (DecodesContents (shape_of_type c.args.types.now c.args.below) (SequenceOf c.args.tag c.args.element c.args.constraints.now)) c.put_elements-read.new.count) c.list-header.result c.args.decoder.now c.open.ensures.octets c.args.walk.now.spans (counted (DecodesContents (shape_of_type c.args.types.now c.args.below) (SequenceOf c.args.tag c.args.element c.args.constraints.now)) c.put_elements-read.new.count) c.in-Ok.opened.0 c.in-Ok.opened.1 c.open.new.self c.in-Ok.ensures.exact c.put_elements-read.result c.put_elements-read.new.out c.put_elements-read.new.walk.error c.put_elements-read.new.decoder c.put_elements-read.new.walk.fault c.go_inside-after.new.spans c.put_elements-read.new.walk.spans (list_contents c.args.types.now c.args.below g.M.Made.KEEP c.in-Ok.opened.0 c.go_inside-after.new.spans (outcome c.put_elements-read.result c.put_elements-read.new.out c.put_elements-read.new.walk.error) c.put_elements-read.new.decoder c.put_elements-read.new.walk.fault c.put_elements-read.new.walk.spans c.args.tag c.args.element c.args.constraints.now c.put_elements-read.new.count c.put_elements-read.ensures) _ c.octets_left.ensures (omega (arith, c.octets_left.type_inv))
+
+pub decode_sequence_of-close-requires : goal.decode_sequence_of-close-requires
+decode_sequence_of-close-requires g t c = may_close c.args.types.now c.args.below g.M.Made.KEEP (SequenceOf c.args.tag c.args.element c.args.constraints.now) (DecodesCounted (DecodesContents (shape_of_type c.args.types.now c.args.below) (SequenceOf c.args.tag c.args.element c.args.constraints.now)) c.put_elements-read.new.count) c.list-header.result c.args.decoder.now c.open.ensures.octets c.args.walk.now.spans (counted (DecodesContents (shape_of_type c.args.types.now c.args.below) (SequenceOf c.args.tag c.args.element c.args.constraints.now)) c.put_elements-read.new.count) c.in-Ok.opened.0 c.in-Ok.opened.1 c.open.new.self c.in-Ok.ensures.exact c.put_elements-read.result c.put_elements-read.new.out c.put_elements-read.new.walk.error c.put_elements-read.new.decoder c.put_elements-read.new.walk.fault c.go_inside-after.new.spans c.put_elements-read.new.walk.spans (list_contents c.args.types.now c.args.below g.M.Made.KEEP c.in-Ok.opened.0 c.go_inside-after.new.spans (outcome c.put_elements-read.result c.put_elements-read.new.out c.put_elements-read.new.walk.error) c.put_elements-read.new.decoder c.put_elements-read.new.walk.fault c.put_elements-read.new.walk.spans c.args.tag c.args.element c.args.constraints.now c.put_elements-read.new.count c.put_elements-read.ensures) _ _ c.in_ok-count_after.ensures _ c.remaining.ensures.value
+
+pub decode_sequence_of-returns-in-Err-close : goal.decode_sequence_of-returns-in-Err-close
+decode_sequence_of-returns-in-Err-close g t c =
+    list_unread c.args.types.now c.args.below g.M.Made.KEEP c.args.decoder.now c.args.walk.now.spans c.close.new.self c.count_after.new.fault c.put_elements-read.new.walk.spans c.args.tag c.args.constraints.now c.put_elements-read.new.count c.list-header.result c.list-header.ensures c.args.element c.in-Err-close.error
+    (unclosed c.args.types.now c.args.below g.M.Made.KEEP (SequenceOf c.args.tag c.args.element c.args.constraints.now) (DecodesCounted (DecodesContents (shape_of_type c.args.types.now c.args.below) (SequenceOf c.args.tag c.args.element c.args.constraints.now)) c.put_elements-read.new.count) c.list-header.result c.args.decoder.now c.open.ensures.octets c.args.walk.now.spans (counted (DecodesContents (shape_of_type c.args.types.now c.args.below) (SequenceOf c.args.tag c.args.element c.args.constraints.now)) c.put_elements-read.new.count) c.in-Ok.opened.0 c.in-Ok.opened.1 c.open.new.self c.in-Ok.ensures.exact c.put_elements-read.result c.put_elements-read.new.out c.put_elements-read.new.walk.error c.put_elements-read.new.decoder c.put_elements-read.new.walk.fault c.go_inside-after.new.spans c.put_elements-read.new.walk.spans (list_contents c.args.types.now c.args.below g.M.Made.KEEP c.in-Ok.opened.0 c.go_inside-after.new.spans (outcome c.put_elements-read.result c.put_elements-read.new.out c.put_elements-read.new.walk.error) c.put_elements-read.new.decoder c.put_elements-read.new.walk.fault c.put_elements-read.new.walk.spans c.args.tag c.args.element c.args.constraints.now c.put_elements-read.new.count c.put_elements-read.ensures) _ c.count_after.new.fault c.in_ok-count_after.ensures c.put_elements-read.new.walk.spans c.remaining.result.now c.remaining.ensures.value c.close.new.self c.in-Err-close.error c.in-Err-close.ensures)
+
+pub decode_sequence_of-returns : goal.decode_sequence_of-returns
+decode_sequence_of-returns g t c =
+    list_sized c.args.types.now c.args.below g.M.Made.KEEP c.args.decoder.now c.args.walk.now.spans c.close.new.self c.count_after.new.fault c.go_outside.new.spans c.args.tag c.args.constraints.now c.put_elements-read.new.count c.list-header.result c.list-header.ensures c.args.element c.put_elements-read.new.out
+    (closed c.args.types.now c.args.below g.M.Made.KEEP (SequenceOf c.args.tag c.args.element c.args.constraints.now) (DecodesCounted (DecodesContents (shape_of_type c.args.types.now c.args.below) (SequenceOf c.args.tag c.args.element c.args.constraints.now)) c.put_elements-read.new.count) c.list-header.result c.args.decoder.now c.open.ensures.octets c.args.walk.now.spans (counted (DecodesContents (shape_of_type c.args.types.now c.args.below) (SequenceOf c.args.tag c.args.element c.args.constraints.now)) c.put_elements-read.new.count) c.in-Ok.opened.0 c.in-Ok.opened.1 c.open.new.self c.in-Ok.ensures.exact c.put_elements-read.result c.put_elements-read.new.out c.put_elements-read.new.walk.error c.put_elements-read.new.decoder c.put_elements-read.new.walk.fault c.go_inside-after.new.spans c.put_elements-read.new.walk.spans (list_contents c.args.types.now c.args.below g.M.Made.KEEP c.in-Ok.opened.0 c.go_inside-after.new.spans (outcome c.put_elements-read.result c.put_elements-read.new.out c.put_elements-read.new.walk.error) c.put_elements-read.new.decoder c.put_elements-read.new.walk.fault c.put_elements-read.new.walk.spans c.args.tag c.args.element c.args.constraints.now c.put_elements-read.new.count c.put_elements-read.ensures) _ c.count_after.new.fault c.in_ok-count_after.ensures c.go_outside.new.spans c.remaining.result.now c.remaining.ensures.value c.close.new.self c.go_inside-after.result c.go_inside-after.ensures c.go_outside.ensures c.in-Ok-close.ensures) c.check_size.result c.check_size.new.error c.check_size.ensures.sized c.check_size.ensures.rules
+
+-- decode_set_of
+
+pub decode_set_of-returns-in-Err : goal.decode_set_of-returns-in-Err
+decode_set_of-returns-in-Err g t c = (set_of_unread c.args.types.now c.args.below g.M.Made.KEEP c.args.decoder.now c.args.walk.now.spans c.open.new.self c.args.walk.now.fault c.args.walk.now.spans c.args.tag c.args.constraints.now 0 c.list-header.result c.list-header.ensures c.args.element c.in-Err.error
+    (unopened c.args.types.now c.args.below g.M.Made.KEEP (SetOf c.args.tag c.args.element c.args.constraints.now) (DecodesCounted (DecodesContents (shape_of_type c.args.types.now c.args.below) (SetOf c.args.tag c.args.element c.args.constraints.now)) 0) c.list-header.result c.args.decoder.now c.open.ensures.octets c.args.walk.now.spans (Err c.in-Err.error) c.in-Err.error c.open.new.self c.args.walk.now.fault c.args.walk.now.spans refl c.in-Err.ensures.exact c.requires.clear))
+
+pub decode_set_of-returns-in_err-count_after : goal.decode_set_of-returns-in_err-count_after
+decode_set_of-returns-in_err-count_after g t c = rw (residual _ c.from_residual.ensures.1)
+    (set_of_unread c.args.types.now c.args.below g.M.Made.KEEP c.args.decoder.now c.args.walk.now.spans c.open.new.self c.count_after.new.fault c.put_elements_in_order-read.new.walk.spans c.args.tag c.args.constraints.now c.put_elements_in_order-read.new.count c.list-header.result c.list-header.ensures c.args.element c.put_elements_in_order-read.new.walk.error
+    (refused c.args.types.now c.args.below g.M.Made.KEEP (SetOf c.args.tag c.args.element c.args.constraints.now) (DecodesCounted (DecodesContents (shape_of_type c.args.types.now c.args.below) (SetOf c.args.tag c.args.element c.args.constraints.now)) c.put_elements_in_order-read.new.count) c.list-header.result c.args.decoder.now c.open.ensures.octets c.args.walk.now.spans (counted (DecodesContents (shape_of_type c.args.types.now c.args.below) (SetOf c.args.tag c.args.element c.args.constraints.now)) c.put_elements_in_order-read.new.count) c.in-Ok.opened.0 c.in-Ok.opened.1 c.open.new.self c.in-Ok.ensures.exact c.put_elements_in_order-read.result c.put_elements_in_order-read.new.out c.put_elements_in_order-read.new.walk.error c.put_elements_in_order-read.new.decoder c.put_elements_in_order-read.new.walk.fault c.go_inside-after.new.spans c.put_elements_in_order-read.new.walk.spans (set_of_contents c.args.types.now c.args.below g.M.Made.KEEP c.in-Ok.opened.0 c.go_inside-after.new.spans (outcome c.put_elements_in_order-read.result c.put_elements_in_order-read.new.out c.put_elements_in_order-read.new.walk.error) c.put_elements_in_order-read.new.decoder c.put_elements_in_order-read.new.walk.fault c.put_elements_in_order-read.new.walk.spans c.args.tag c.args.element c.args.constraints.now c.put_elements_in_order-read.new.count c.put_elements_in_order-read.ensures) _ _ _ c.in_err-count_after.ensures))
+
+pub decode_set_of-count_after-requires : goal.decode_set_of-count_after-requires
+decode_set_of-count_after-requires g t c = may_count c.args.types.now c.args.below g.M.Made.KEEP (SetOf c.args.tag c.args.element c.args.constraints.now) (DecodesCounted (DecodesContents (shape_of_type c.args.types.now c.args.below) (SetOf c.args.tag c.args.element c.args.constraints.now)) c.put_elements_in_order-read.new.count) c.list-header.result c.args.decoder.now c.open.ensures.octets c.args.walk.now.spans (counted (DecodesContents (shape_of_type c.args.types.now c.args.below) (SetOf c.args.tag c.args.element c.args.constraints.now)) c.put_elements_in_order-read.new.count) c.in-Ok.opened.0 c.in-Ok.opened.1 c.open.new.self c.in-Ok.ensures.exact c.put_elements_in_order-read.result c.put_elements_in_order-read.new.out c.put_elements_in_order-read.new.walk.error c.put_elements_in_order-read.new.decoder c.put_elements_in_order-read.new.walk.fault c.go_inside-after.new.spans c.put_elements_in_order-read.new.walk.spans (set_of_contents c.args.types.now c.args.below g.M.Made.KEEP c.in-Ok.opened.0 c.go_inside-after.new.spans (outcome c.put_elements_in_order-read.result c.put_elements_in_order-read.new.out c.put_elements_in_order-read.new.walk.error) c.put_elements_in_order-read.new.decoder c.put_elements_in_order-read.new.walk.fault c.put_elements_in_order-read.new.walk.spans c.args.tag c.args.element c.args.constraints.now c.put_elements_in_order-read.new.count c.put_elements_in_order-read.ensures) _ c.octets_left.ensures (omega (arith, c.octets_left.type_inv))
+
+pub decode_set_of-close-requires : goal.decode_set_of-close-requires
+decode_set_of-close-requires g t c = may_close c.args.types.now c.args.below g.M.Made.KEEP (SetOf c.args.tag c.args.element c.args.constraints.now) (DecodesCounted (DecodesContents (shape_of_type c.args.types.now c.args.below) (SetOf c.args.tag c.args.element c.args.constraints.now)) c.put_elements_in_order-read.new.count) c.list-header.result c.args.decoder.now c.open.ensures.octets c.args.walk.now.spans (counted (DecodesContents (shape_of_type c.args.types.now c.args.below) (SetOf c.args.tag c.args.element c.args.constraints.now)) c.put_elements_in_order-read.new.count) c.in-Ok.opened.0 c.in-Ok.opened.1 c.open.new.self c.in-Ok.ensures.exact c.put_elements_in_order-read.result c.put_elements_in_order-read.new.out c.put_elements_in_order-read.new.walk.error c.put_elements_in_order-read.new.decoder c.put_elements_in_order-read.new.walk.fault c.go_inside-after.new.spans c.put_elements_in_order-read.new.walk.spans (set_of_contents c.args.types.now c.args.below g.M.Made.KEEP c.in-Ok.opened.0 c.go_inside-after.new.spans (outcome c.put_elements_in_order-read.result c.put_elements_in_order-read.new.out c.put_elements_in_order-read.new.walk.error) c.put_elements_in_order-read.new.decoder c.put_elements_in_order-read.new.walk.fault c.put_elements_in_order-read.new.walk.spans c.args.tag c.args.element c.args.constraints.now c.put_elements_in_order-read.new.count c.put_elements_in_order-read.ensures) _ _ c.in_ok-count_after.ensures _ c.remaining.ensures.value
+
+pub decode_set_of-returns-in-Err-close : goal.decode_set_of-returns-in-Err-close
+decode_set_of-returns-in-Err-close g t c =
+    set_of_unread c.args.types.now c.args.below g.M.Made.KEEP c.args.decoder.now c.args.walk.now.spans c.close.new.self c.count_after.new.fault c.put_elements_in_order-read.new.walk.spans c.args.tag c.args.constraints.now c.put_elements_in_order-read.new.count c.list-header.result c.list-header.ensures c.args.element c.in-Err-close.error
+    (unclosed c.args.types.now c.args.below g.M.Made.KEEP (SetOf c.args.tag c.args.element c.args.constraints.now) (DecodesCounted (DecodesContents (shape_of_type c.args.types.now c.args.below) (SetOf c.args.tag c.args.element c.args.constraints.now)) c.put_elements_in_order-read.new.count) c.list-header.result c.args.decoder.now c.open.ensures.octets c.args.walk.now.spans (counted (DecodesContents (shape_of_type c.args.types.now c.args.below) (SetOf c.args.tag c.args.element c.args.constraints.now)) c.put_elements_in_order-read.new.count) c.in-Ok.opened.0 c.in-Ok.opened.1 c.open.new.self c.in-Ok.ensures.exact c.put_elements_in_order-read.result c.put_elements_in_order-read.new.out c.put_elements_in_order-read.new.walk.error c.put_elements_in_order-read.new.decoder c.put_elements_in_order-read.new.walk.fault c.go_inside-after.new.spans c.put_elements_in_order-read.new.walk.spans (set_of_contents c.args.types.now c.args.below g.M.Made.KEEP c.in-Ok.opened.0 c.go_inside-after.new.spans (outcome c.put_elements_in_order-read.result c.put_elements_in_order-read.new.out c.put_elements_in_order-read.new.walk.error) c.put_elements_in_order-read.new.decoder c.put_elements_in_order-read.new.walk.fault c.put_elements_in_order-read.new.walk.spans c.args.tag c.args.element c.args.constraints.now c.put_elements_in_order-read.new.count c.put_elements_in_order-read.ensures) _ c.count_after.new.fault c.in_ok-count_after.ensures c.put_elements_in_order-read.new.walk.spans c.remaining.result.now c.remaining.ensures.value c.close.new.self c.in-Err-close.error c.in-Err-close.ensures)
+
+pub decode_set_of-returns : goal.decode_set_of-returns
+decode_set_of-returns g t c =
+    set_of_sized c.args.types.now c.args.below g.M.Made.KEEP c.args.decoder.now c.args.walk.now.spans c.close.new.self c.count_after.new.fault c.go_outside.new.spans c.args.tag c.args.constraints.now c.put_elements_in_order-read.new.count c.list-header.result c.list-header.ensures c.args.element c.put_elements_in_order-read.new.out
+    (closed c.args.types.now c.args.below g.M.Made.KEEP (SetOf c.args.tag c.args.element c.args.constraints.now) (DecodesCounted (DecodesContents (shape_of_type c.args.types.now c.args.below) (SetOf c.args.tag c.args.element c.args.constraints.now)) c.put_elements_in_order-read.new.count) c.list-header.result c.args.decoder.now c.open.ensures.octets c.args.walk.now.spans (counted (DecodesContents (shape_of_type c.args.types.now c.args.below) (SetOf c.args.tag c.args.element c.args.constraints.now)) c.put_elements_in_order-read.new.count) c.in-Ok.opened.0 c.in-Ok.opened.1 c.open.new.self c.in-Ok.ensures.exact c.put_elements_in_order-read.result c.put_elements_in_order-read.new.out c.put_elements_in_order-read.new.walk.error c.put_elements_in_order-read.new.decoder c.put_elements_in_order-read.new.walk.fault c.go_inside-after.new.spans c.put_elements_in_order-read.new.walk.spans (set_of_contents c.args.types.now c.args.below g.M.Made.KEEP c.in-Ok.opened.0 c.go_inside-after.new.spans (outcome c.put_elements_in_order-read.result c.put_elements_in_order-read.new.out c.put_elements_in_order-read.new.walk.error) c.put_elements_in_order-read.new.decoder c.put_elements_in_order-read.new.walk.fault c.put_elements_in_order-read.new.walk.spans c.args.tag c.args.element c.args.constraints.now c.put_elements_in_order-read.new.count c.put_elements_in_order-read.ensures) _ c.count_after.new.fault c.in_ok-count_after.ensures c.go_outside.new.spans c.remaining.result.now c.remaining.ensures.value c.close.new.self c.go_inside-after.result c.go_inside-after.ensures c.go_outside.ensures c.in-Ok-close.ensures) c.check_size.result c.check_size.new.error c.check_size.ensures.sized c.check_size.ensures.rules
+
+pub decode_tagged-decode_part-read-requires : goal.decode_tagged-decode_part-read-requires
+decode_tagged-decode_part-read-requires g t c = λ κs o. (search rules, (search rules, (c.requires.lawful, c.requires.clear)))
+
+pub decode_sequence-put_components-read-requires : goal.decode_sequence-put_components-read-requires
+decode_sequence-put_components-read-requires g t c = λ κs o. (search rules, (search rules, (c.requires.lawful, c.requires.clear)))
+
+pub decode_set-put_set_components-read-requires : goal.decode_set-put_set_components-read-requires
+decode_set-put_set_components-read-requires g t c = λ κs o. (search rules, (search rules, (c.requires.lawful, c.requires.clear)))
+
+pub decode_sequence_of-put_elements-read-requires : goal.decode_sequence_of-put_elements-read-requires
+decode_sequence_of-put_elements-read-requires g t c = λ κs o. (search rules, (search rules, (c.requires.lawful, (refl, c.requires.clear))))
+
+pub decode_set_of-put_elements_in_order-read-requires : goal.decode_set_of-put_elements_in_order-read-requires
+decode_set_of-put_elements_in_order-read-requires g t c = λ κs o. (search rules, (search rules, (c.requires.lawful, (refl, c.requires.clear))))
+
+-- ---- contents
+
+-- put_components
+
+pub put_components-decode_components-requires : goal.put_components-decode_components-requires
+put_components-decode_components-requires g t c = λ κs o. (search rules, (search rules, (rw c.deref.ensures.value c.requires.lawful, (c.in_ok-values.ensures.ok, c.requires.clear))))
+
+pub put_components-returns-in_err-values : goal.put_components-returns-in_err-values
+put_components-returns-in_err-values g t c = rw (residual _ c.from_residual.ensures.1) (record {
+  exact = (sequence_runs_out _ _ c.list_for.new.error c.in_err-values.ensures.kind, inr c.in_err-values.ensures.kind);
+  fits = λ k. tt;
+  rules = c.in_err-values.ensures.rules;
+  told = λ x q. absurd (not_named _ x q c.requires.clear);
+  itself = λ n. inl c.in_err-values.ensures.kind;
+  listed = tt;
+})
+
+pub put_components-returns-in_err-decode_components : goal.put_components-returns-in_err-decode_components
+put_components-returns-in_err-decode_components g t c = rw (residual _ c.from_residual-in_err-decode_components.ensures.1)
+    (components_refused c.args.types.now c.args.below g.M.Made.KEEP c.args.decoder.now c.args.walk.now.spans c.decode_components.new.decoder c.decode_components.new.walk.fault c.decode_components.new.walk.spans c.args.components.now c.deref.result.now c.deref.ensures.value c.decode_components.new.walk.error c.in_err-decode_components.ensures.reads c.in_err-decode_components.ensures.fails c.in_err-decode_components.ensures.rules c.in_err-decode_components.ensures.told c.in_err-decode_components.ensures.itself)
+
+pub put_components-returns : goal.put_components-returns
+put_components-returns g t c =
+    components_put c.args.types.now c.args.below g.M.Made.KEEP c.args.decoder.now c.args.walk.now.spans c.decode_components.new.decoder c.decode_components.new.walk.fault c.decode_components.new.walk.spans c.args.components.now c.deref.result.now c.deref.ensures.value c.decode_components.new.values _ c.put_items.ensures c.in_ok-decode_components.ensures.reads c.in_ok-decode_components.ensures.fits c.in_ok-decode_components.ensures.told c.in_ok-decode_components.ensures.listed
+
+-- put_elements
+
+pub put_elements-decode_elements-requires : goal.put_elements-decode_elements-requires
+put_elements-decode_elements-requires g t c = λ κs o. (search rules, (search rules, (c.requires.lawful, (c.requires.counts, (c.new-values.ensures.items, c.requires.clear)))))
+
+pub put_elements-returns-in_err-decode_elements : goal.put_elements-returns-in_err-decode_elements
+put_elements-returns-in_err-decode_elements g t c = rw (residual _ c.from_residual.ensures.1) (record {
+  exact = c.in_err-decode_elements.ensures.reads;
+  fits = λ k. tt;
+  rules = c.in_err-decode_elements.ensures.rules;
+  told = c.in_err-decode_elements.ensures.told;
+  itself = c.in_err-decode_elements.ensures.itself;
+  listed = tt;
+})
+
+pub put_elements-returns : goal.put_elements-returns
+put_elements-returns g t c =
+    elements_put c.args.types.now c.args.below g.M.Made.KEEP c.args.decoder.now c.args.walk.now.spans c.decode_elements.new.decoder c.decode_elements.new.walk.fault c.decode_elements.new.walk.spans c.args.element c.decode_elements.new.count c.decode_elements.new.values _ c.put_items.ensures c.in_ok-decode_elements.ensures.reads c.in_ok-decode_elements.ensures.fits c.in_ok-decode_elements.ensures.told c.in_ok-decode_elements.ensures.listed
+
+pub put_elements_in_order-decode_elements_in_order-requires : goal.put_elements_in_order-decode_elements_in_order-requires
+put_elements_in_order-decode_elements_in_order-requires g t c = λ κs o. (search rules, (search rules, (c.requires.lawful, (c.requires.counts, (c.new-values.ensures.items, c.requires.clear)))))
+
+pub put_elements_in_order-returns-in_err-decode_elements_in_order : goal.put_elements_in_order-returns-in_err-decode_elements_in_order
+put_elements_in_order-returns-in_err-decode_elements_in_order g t c = rw (residual _ c.from_residual.ensures.1) (record {
+  exact = c.in_err-decode_elements_in_order.ensures.reads;
+  fits = λ k. tt;
+  rules = c.in_err-decode_elements_in_order.ensures.rules;
+  told = c.in_err-decode_elements_in_order.ensures.told;
+  itself = c.in_err-decode_elements_in_order.ensures.itself;
+  listed = tt;
+})
+
+pub put_elements_in_order-returns : goal.put_elements_in_order-returns
+put_elements_in_order-returns g t c =
+    set_of_put c.args.types.now c.args.below g.M.Made.KEEP c.args.decoder.now c.args.walk.now.spans c.decode_elements_in_order.new.decoder c.decode_elements_in_order.new.walk.fault c.decode_elements_in_order.new.walk.spans c.args.element c.decode_elements_in_order.new.count c.decode_elements_in_order.new.values _ c.put_in_any_order.ensures c.in_ok-decode_elements_in_order.ensures.reads c.in_ok-decode_elements_in_order.ensures.fits c.in_ok-decode_elements_in_order.ensures.told c.in_ok-decode_elements_in_order.ensures.listed
+
+-- put_set_components
+
+pub put_set_components-decode_set_components-requires : goal.put_set_components-decode_set_components-requires
+put_set_components-decode_set_components-requires g t c = λ κs o. (
+  search rules,
+  (
+    search rules,
+    (
+      subst (λ l. AreLawfulMembers (components_by (shape_of_type c.args.types.now c.args.below) l)) (sym c.named_components-extensible.ensures.named) (rw c.deref-components.ensures.value c.requires.lawful),
+      (
+        subst (λ z. IfOk z (λ v. v.items ≡ nones c.named_components-extensible.result.0.now)) (sym c.in_ok-found.ensures) c.no_components.ensures.ok,
+        (c.requires.clear, λ x. ap (shape_of_type c.args.types.now c.args.below) c.last_type-other_id.ensures ∙ last_unknown (shape_of_type c.args.types.now c.args.below) c.deref-components.result.now (sym c.named_components-extensible.ensures.extensible ∙ x)),
+      ),
+    ),
+  ),
+)
+
+pub put_set_components-returns-in_err-found : goal.put_set_components-returns-in_err-found
+put_set_components-returns-in_err-found g t c = rw (residual _ c.from_residual.ensures.1) (record {
+  exact = inr ((subst (λ z. IfErr z (λ e. IsOutOfMemory e.kind)) (sym c.in_err-found.ensures) c.no_components.ensures.err), kept c.args.decoder.now);
+  fits = λ k. tt;
+  rules = subst (λ z. IfErr z (λ e. e.codec ≡ c.args.decoder.now.rule)) (sym c.in_err-found.ensures) c.no_components.ensures.rules;
+  told = λ x q. absurd (not_named _ x q c.requires.clear);
+  itself = λ n. inl (subst (λ z. IfErr z (λ e. IsOutOfMemory e.kind)) (sym c.in_err-found.ensures) c.no_components.ensures.err);
+  listed = tt;
+})
+
+pub put_set_components-returns-in_err-values : goal.put_set_components-returns-in_err-values
+put_set_components-returns-in_err-values g t c = rw (residual _ c.from_residual-in_err-values.ensures.1)
+    (members_refused c.args.types.now c.args.below g.M.Made.KEEP c.args.decoder.now c.args.walk.now.spans c.decode_set_components.new.decoder c.decode_set_components.new.walk.fault c.decode_set_components.new.walk.spans c.args.name.now c.args.components.now c.deref-components.result.now c.deref-components.ensures.value c.named_components-extensible.result.1 c.named_components-extensible.result.0.now c.last_type-other_id.result.0 c.named_components-extensible.ensures.extensible c.named_components-extensible.ensures.named c.last_type-other_id.ensures c.decode_set_components.new.walk.error c.in_err-values.ensures.exact c.in_err-values.ensures.rules c.in_err-values.ensures.told c.in_err-values.ensures.itself)
+
+pub put_set_components-returns : goal.put_set_components-returns
+put_set_components-returns g t c =
+    members_put c.args.types.now c.args.below g.M.Made.KEEP c.args.decoder.now c.args.walk.now.spans c.decode_set_components.new.decoder c.decode_set_components.new.walk.fault c.decode_set_components.new.walk.spans c.args.name.now c.args.components.now c.deref-components.result.now c.deref-components.ensures.value c.named_components-extensible.result.1 c.named_components-extensible.result.0.now c.last_type-other_id.result.0 c.named_components-extensible.ensures.extensible c.named_components-extensible.ensures.named c.last_type-other_id.ensures c.in_ok-values.values _ c.put_items.ensures c.in_ok-values.ensures.exact c.in_ok-values.ensures.fits c.in_ok-values.ensures.told c.in_ok-values.ensures.listed

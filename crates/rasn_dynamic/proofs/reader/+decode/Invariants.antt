@@ -37,8 +37,8 @@ decreases-decode_type g l = 32 * l.below + 24
 abbrev pub decreases-decode_choice : goal.decreases-decode_choice
 decreases-decode_choice g l = 32 * l.below + 22
 
-abbrev pub decreases-decode_sequence : goal.decreases-decode_sequence
-decreases-decode_sequence g l = 32 * l.below + 18
+abbrev pub decreases-decode_components : goal.decreases-decode_components
+decreases-decode_components g l = 32 * l.below + 18
 
 abbrev pub decreases-decode_elements : goal.decreases-decode_elements
 decreases-decode_elements g l = 32 * l.below + 14
@@ -55,8 +55,8 @@ decreases-decode_present g l = 32 * l.below + 16
 abbrev pub decreases-decode_stated : goal.decreases-decode_stated
 decreases-decode_stated g l = 32 * l.below + 15
 
-abbrev pub decreases-decode_set : goal.decreases-decode_set
-decreases-decode_set g l = 32 * l.below + 18
+abbrev pub decreases-decode_set_components : goal.decreases-decode_set_components
+decreases-decode_set_components g l = 32 * l.below + 18
 
 abbrev pub decreases-decode_set_component : goal.decreases-decode_set_component
 decreases-decode_set_component g l = 32 * l.below + 17
@@ -78,27 +78,24 @@ invariant-decode_elements_in_order-loop-last g l = ((ts : List Tree) × (bs : Li
 abbrev pub decreases-decode_elements_in_order-loop-last : goal.decreases-decode_elements_in_order-loop-last
 decreases-decode_elements_in_order-loop-last g l = length l.decoder.rest
 
-abbrev pub invariant-decode_sequence-loop-rest : goal.invariant-decode_sequence-loop-rest
-invariant-decode_sequence-loop-rest g l = ((ts : List Tree) × (g.M.Made.KEEP ≡ true → map tree_of l.values.items ≡ ts)
+abbrev pub invariant-decode_components-loop-rest : goal.invariant-decode_components-loop-rest
+invariant-decode_components-loop-rest g l = ((ts : List Tree) × (g.M.Made.KEEP ≡ true → map tree_of l.values.items ≡ ts)
     × PartsSoFar (components_by (shape_of_type l.types l.below) l.components) (components_by (shape_of_type l.types l.below) l.rest) ts l.fn.decoder l.decoder)
     × AreReadable (components_by (shape_of_type l.types l.below) l.rest) × (g.M.Made.KEEP ≡ true → FitSoFar (Fits l.types l.below) l.components l.rest l.values.items) × (l.walk.fault ≡ None)
     × (done : List Component) × (l.components ≡ done ++ l.rest) × ComponentsInTurn (shape_of_type l.types l.below) done l.fn.decoder l.decoder
     × Lists (λ b es. InTurn (ComponentAt (shape_of_type l.types l.below) l.below (Inside l.types l.below) l.components b) (length done) l.fn.decoder l.decoder es) l.fn.walk.spans l.walk.spans
 
-abbrev pub decreases-decode_sequence-loop-rest : goal.decreases-decode_sequence-loop-rest
-decreases-decode_sequence-loop-rest g l = length l.rest
+abbrev pub decreases-decode_components-loop-rest : goal.decreases-decode_components-loop-rest
+decreases-decode_components-loop-rest g l = length l.rest
 
-abbrev pub invariant-decode_set-loop-other_id : goal.invariant-decode_set-loop-other_id
-invariant-decode_set-loop-other_id g l = ((slots : List (Option Tree)) × (us : List Tree) × HoldsSlots g.M.Made.KEEP l.found.items slots × HoldsUnknown g.M.Made.KEEP l.unknown.items us
+abbrev pub invariant-decode_set_components-loop-other_id : goal.invariant-decode_set_components-loop-other_id
+invariant-decode_set_components-loop-other_id g l = ((slots : List (Option Tree)) × (us : List Tree) × HoldsSlots g.M.Made.KEEP l.found.items slots × HoldsUnknown g.M.Made.KEEP l.unknown.items us
     × ReadTo l.extensible (components_by (shape_of_type l.types l.below) l.components) (names_of l.components) l.fn.decoder l.decoder l.last l.twice slots us × (l.extensible ≡ false → us ≡ []))
     × FoundFit (λ k v. g.M.Made.KEEP ≡ true → Fits l.types l.below k v) l.components l.found.items × (g.M.Made.KEEP ≡ true → EachFits AreOctets l.unknown.items) × (l.walk.fault ≡ None)
     × (n : ℕ) × Lists (λ b es. InTurn (λ k. MemberListed (shape_of_type l.types l.below) l.below (Inside l.types l.below) l.extensible l.components l.other_id.0 b) n l.fn.decoder l.decoder es) l.fn.walk.spans l.walk.spans
 
-abbrev pub decreases-decode_set-loop-other_id : goal.decreases-decode_set-loop-other_id
-decreases-decode_set-loop-other_id g l = length l.decoder.rest
-
-abbrev pub decreases-put_sequence : goal.decreases-put_sequence
-decreases-put_sequence g l = 32 * l.below + 20
+abbrev pub decreases-decode_set_components-loop-other_id : goal.decreases-decode_set_components-loop-other_id
+decreases-decode_set_components-loop-other_id g l = length l.decoder.rest
 
 abbrev pub decreases-put_elements : goal.decreases-put_elements
 decreases-put_elements g l = 32 * l.below + 20
@@ -106,44 +103,23 @@ decreases-put_elements g l = 32 * l.below + 20
 abbrev pub decreases-put_elements_in_order : goal.decreases-put_elements_in_order
 decreases-put_elements_in_order g l = 32 * l.below + 20
 
-abbrev pub decreases-put_set : goal.decreases-put_set
-decreases-put_set g l = 32 * l.below + 20
+abbrev pub decreases-put_components : goal.decreases-put_components
+decreases-put_components g l = 32 * l.below + 20
+
+abbrev pub decreases-put_set_components : goal.decreases-put_set_components
+decreases-put_set_components g l = 32 * l.below + 20
 
 abbrev pub decreases-decode_tagged : goal.decreases-decode_tagged
 decreases-decode_tagged g l = 32 * l.below + 23
 
-abbrev pub decreases-decode_record : goal.decreases-decode_record
-decreases-decode_record g l = 32 * l.below + 23
+abbrev pub decreases-decode_sequence : goal.decreases-decode_sequence
+decreases-decode_sequence g l = 32 * l.below + 23
 
-abbrev pub decreases-decode_members : goal.decreases-decode_members
-decreases-decode_members g l = 32 * l.below + 23
+abbrev pub decreases-decode_set : goal.decreases-decode_set
+decreases-decode_set g l = 32 * l.below + 23
 
-abbrev pub decreases-decode_tagged_inside : goal.decreases-decode_tagged_inside
-decreases-decode_tagged_inside g l = 32 * l.below + 22
-
-abbrev pub decreases-decode_record_inside : goal.decreases-decode_record_inside
-decreases-decode_record_inside g l = 32 * l.below + 22
-
-abbrev pub decreases-decode_members_inside : goal.decreases-decode_members_inside
-decreases-decode_members_inside g l = 32 * l.below + 22
-
-abbrev pub decreases-decode_list_inside : goal.decreases-decode_list_inside
-decreases-decode_list_inside g l = 32 * l.below + 22
-
-abbrev pub decreases-decode_set_of_inside : goal.decreases-decode_set_of_inside
-decreases-decode_set_of_inside g l = 32 * l.below + 22
-
-abbrev pub decreases-decode_list : goal.decreases-decode_list
-decreases-decode_list g l = 32 * l.below + 23
+abbrev pub decreases-decode_sequence_of : goal.decreases-decode_sequence_of
+decreases-decode_sequence_of g l = 32 * l.below + 23
 
 abbrev pub decreases-decode_set_of : goal.decreases-decode_set_of
 decreases-decode_set_of g l = 32 * l.below + 23
-
-abbrev pub decreases-put_tagged : goal.decreases-put_tagged
-decreases-put_tagged g l = 32 * l.below + 21
-
-abbrev pub decreases-put_record : goal.decreases-put_record
-decreases-put_record g l = 32 * l.below + 21
-
-abbrev pub decreases-put_members : goal.decreases-put_members
-decreases-put_members g l = 32 * l.below + 21
