@@ -88,8 +88,9 @@ pub fn decode<'input>(
     Ok(value)
 }
 
-/// Checks that the input is exactly one value of the type, as `decode` reads it. No value is made, except of a component with a default
-/// under DER, which is compared with the default.
+/// Checks that the input is exactly one value of the type, as `decode` reads it. No value is made,
+/// except of a component with a default under DER, which is compared with the default. Otherwise a
+/// success takes memory only to note the components of a SET, and for a time in segments.
 ///
 /// # Errors
 /// As [`decode`].

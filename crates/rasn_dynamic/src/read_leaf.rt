@@ -3,7 +3,7 @@ ghost use Rattle.std.specs.Prelude.{◌≡◌, true, ◌++◌, ◌∷◌, [], On
 ghost use Rattle.rasn_types.specs.Errors.{IsOutOfMemory};
 ghost use Rattle.rasn_types.specs.Numbered.{fit_isize};
 ghost use Rattle.rasn_types.specs.CharacterString.{string_kind};
-ghost use Rattle.rasn_types.specs.Shapes.{leaf, any, unknown, looked_for, fixed, integer, every, enumerated, object_identifier, bit_string, octet_string, bmp, utc_time};
+ghost use Rattle.rasn_types.specs.Shapes.{leaf, any, unknown, looked_for, fixed, integer, every, enumerated, object_identifier, bit_string, named_bits, octet_string, bmp, utf8, utc_time};
 ghost use Rattle.rasn_types.specs.Trees.{unconstrained};
 ghost use Rattle.rasn_types.specs.Truth.{IsWhether};
 ghost use Rattle.rasn_de.specs.Decodes.{Decodes};
@@ -19,7 +19,7 @@ ghost use Rattle.rasn_dynamic.specs.Calls.{IsNumberIn, IsStringOf, FailsAtNumber
 ghost use Rattle.rasn_schema.specs.Fitting.{FitsLeaf, IsNumber, AreOctets, AreItems, EachFits};
 
 use crate::made::Made;
-use crate::walk::Refused;
+use crate::walk::{Refused, kept};
 use rasn_de::ber::de::Decoder;
 use rasn_de::de::Decode;
 use rasn_schema::{LeafKind, NamedNumber, Value};
@@ -218,13 +218,7 @@ fn check_arcs(decoder: &mut Decoder<'_>, error: &mut DecodeError, tag: Tag) -> R
     ensures reads { Checks (leaf object_identifier tag unconstrained) decoder.old (reported result error.new) decoder.new }
     ensures rules { IfErr (reported result error.new) (λ e. e.codec ≡ decoder.old.rule) }
 {
-    match decoder.check_object_identifier(tag) {
-        Ok(()) => Ok(()),
-        Err(fault) => {
-            *error = fault;
-            Err(Refused)
-        }
-    }
+    kept(decoder.check_object_identifier(tag), error)
 }
 
 /// Checks an INTEGER of any length.
@@ -238,13 +232,7 @@ fn check_integer(
     ensures reads { Checks (leaf (integer every) tag bounds.now) decoder.old (reported result error.new) decoder.new }
     ensures rules { IfErr (reported result error.new) (λ e. e.codec ≡ decoder.old.rule) }
 {
-    match decoder.check_integer(tag, bounds) {
-        Ok(()) => Ok(()),
-        Err(fault) => {
-            *error = fault;
-            Err(Refused)
-        }
-    }
+    kept(decoder.check_integer(tag, bounds), error)
 }
 
 /// Checks a BIT STRING.
@@ -258,16 +246,21 @@ fn check_bits(
     ensures reads { Checks (leaf bit_string tag bounds.now) decoder.old (reported result error.new) decoder.new }
     ensures rules { IfErr (reported result error.new) (λ e. e.codec ≡ decoder.old.rule) }
 {
-    match decoder.decode_bits(tag, bounds) {
-        Ok(value) => {
-            drop(value);
-            Ok(())
-        }
-        Err(fault) => {
-            *error = fault;
-            Err(Refused)
-        }
-    }
+    kept(decoder.check_bit_string(tag, bounds), error)
+}
+
+/// Checks a BIT STRING whose bits have names.
+#[inline(never)]
+fn check_named_bits(
+    decoder: &mut Decoder<'_>,
+    error: &mut DecodeError,
+    tag: Tag,
+    bounds: &Constraints,
+) -> Result<(), Refused>
+    ensures reads { Checks (leaf named_bits tag bounds.now) decoder.old (reported result error.new) decoder.new }
+    ensures rules { IfErr (reported result error.new) (λ e. e.codec ≡ decoder.old.rule) }
+{
+    kept(decoder.check_named_bits(tag, bounds), error)
 }
 
 /// Checks an OCTET STRING.
@@ -281,16 +274,40 @@ fn check_octets(
     ensures reads { Checks (leaf octet_string tag bounds.now) decoder.old (reported result error.new) decoder.new }
     ensures rules { IfErr (reported result error.new) (λ e. e.codec ≡ decoder.old.rule) }
 {
-    match decoder.decode_octet_string(tag, bounds) {
-        Ok(value) => {
-            drop(value);
-            Ok(())
-        }
-        Err(fault) => {
-            *error = fault;
-            Err(Refused)
-        }
-    }
+    kept(decoder.check_octet_string(tag, bounds), error)
+}
+
+/// Checks an OCTET STRING of so many octets.
+#[inline(never)]
+fn check_fixed_octets(
+    decoder: &mut Decoder<'_>,
+    error: &mut DecodeError,
+    len: usize,
+    tag: Tag,
+    bounds: &Constraints,
+) -> Result<(), Refused>
+    ensures reads { Checks (leaf (fixed len) tag bounds.now) decoder.old (reported result error.new) decoder.new }
+    ensures rules { IfErr (reported result error.new) (λ e. e.codec ≡ decoder.old.rule) }
+{
+    kept(decoder.check_fixed_octet_string(len, tag, bounds), error)
+}
+
+/// Checks a string whose characters are octets of an alphabet.
+#[inline(never)]
+fn check_string(
+    decoder: &mut Decoder<'_>,
+    error: &mut DecodeError,
+    alphabet: Alphabet,
+    tag: Tag,
+    bounds: &Constraints,
+) -> Result<(), Refused>
+    ensures reads { Checks (leaf (string_kind alphabet) tag bounds.now) decoder.old (reported result error.new) decoder.new }
+    ensures rules { IfErr (reported result error.new) (λ e. e.codec ≡ decoder.old.rule) }
+{
+    kept(
+        decoder.check_restricted_string(alphabet, tag, bounds),
+        error,
+    )
 }
 
 /// Checks a BMPString.
@@ -304,13 +321,21 @@ fn check_bmp(
     ensures reads { Checks (leaf bmp tag bounds.now) decoder.old (reported result error.new) decoder.new }
     ensures rules { IfErr (reported result error.new) (λ e. e.codec ≡ decoder.old.rule) }
 {
-    match decoder.check_bmp_string(tag, bounds) {
-        Ok(()) => Ok(()),
-        Err(fault) => {
-            *error = fault;
-            Err(Refused)
-        }
-    }
+    kept(decoder.check_bmp_string(tag, bounds), error)
+}
+
+/// Checks a UTF8String.
+#[inline(never)]
+fn check_text(
+    decoder: &mut Decoder<'_>,
+    error: &mut DecodeError,
+    tag: Tag,
+    bounds: &Constraints,
+) -> Result<(), Refused>
+    ensures reads { Checks (leaf utf8 tag bounds.now) decoder.old (reported result error.new) decoder.new }
+    ensures rules { IfErr (reported result error.new) (λ e. e.codec ≡ decoder.old.rule) }
+{
+    kept(decoder.check_utf8_string(tag, bounds), error)
 }
 
 /// Checks a UTCTime.
@@ -360,7 +385,8 @@ fn check_by_value(
     }
 }
 
-/// Checks a value that holds no other values. Nothing is allocated, except for a string in segments.
+/// Checks a value that holds no other values. Nothing is allocated, except for a time in segments
+/// and for the copy of a text that is no time, in its error.
 ///
 /// # Errors
 /// As [`decode_leaf`], except `OutOfMemory` for the value.
@@ -379,8 +405,16 @@ fn check_leaf(
         LeafKind::ObjectIdentifier => check_arcs(decoder, error, tag),
         LeafKind::Integer => check_integer(decoder, error, tag, bounds),
         LeafKind::BitString => check_bits(decoder, error, tag, bounds),
+        LeafKind::NamedBits => check_named_bits(decoder, error, tag, bounds),
         LeafKind::OctetString => check_octets(decoder, error, tag, bounds),
+        LeafKind::FixedOctetString(len) => check_fixed_octets(decoder, error, len, tag, bounds),
+        LeafKind::Numeric => check_string(decoder, error, Alphabet::Numeric, tag, bounds),
+        LeafKind::Printable => check_string(decoder, error, Alphabet::Printable, tag, bounds),
+        LeafKind::Visible => check_string(decoder, error, Alphabet::Visible, tag, bounds),
+        LeafKind::Ia5 => check_string(decoder, error, Alphabet::Ia5, tag, bounds),
+        LeafKind::AnyOctets => check_string(decoder, error, Alphabet::Every, tag, bounds),
         LeafKind::Bmp => check_bmp(decoder, error, tag, bounds),
+        LeafKind::Utf8 => check_text(decoder, error, tag, bounds),
         LeafKind::UtcTime => check_utc_time(decoder, error, tag, bounds),
         _ => check_by_value(decoder, error, kind, tag, bounds),
     }
@@ -400,16 +434,8 @@ fn make_leaf<'input>(
     ensures fits { IfOk (outcome result out.new error.new) (λ v. FitsLeaf kind v) }
     ensures rules { IfErr (outcome result out.new error.new) (λ e. e.codec ≡ decoder.old.rule) }
 {
-    match decode_leaf(decoder, kind, tag, bounds) {
-        Ok(value) => {
-            *out = value;
-            Ok(())
-        }
-        Err(fault) => {
-            *error = fault;
-            Err(Refused)
-        }
-    }
+    *out = kept(decode_leaf(decoder, kind, tag, bounds), error)?;
+    Ok(())
 }
 
 /// Reads a value that holds no other values, where values are kept; else checks it.
@@ -549,18 +575,11 @@ pub fn put_number<'input, M: Made>(
     ensures fits { M.KEEP ≡ true → IfOk (outcome result out.new error.new) (λ v. IsNumber (numbers_of numbers.now) v) }
     ensures rules { IfErr (outcome result out.new error.new) (λ e. e.codec ≡ decoder.old.rule) }
 {
-    match decode_number(decoder, tag, numbers) {
-        Ok(value) => {
-            if M::KEEP {
-                *out = value;
-            }
-            Ok(())
-        }
-        Err(fault) => {
-            *error = fault;
-            Err(Refused)
-        }
+    let value = kept(decode_number(decoder, tag, numbers), error)?;
+    if M::KEEP {
+        *out = value;
     }
+    Ok(())
 }
 
 /// Reads a value of an open type, and keeps it where values are kept.
@@ -575,18 +594,11 @@ pub fn put_any<'input, M: Made>(
     ensures fits { M.KEEP ≡ true → IfOk (outcome result out.new error.new) AreOctets }
     ensures rules { IfErr (outcome result out.new error.new) (λ e. e.codec ≡ decoder.old.rule) }
 {
-    match decode_any_value(decoder, tag) {
-        Ok(value) => {
-            if M::KEEP {
-                *out = value;
-            }
-            Ok(())
-        }
-        Err(fault) => {
-            *error = fault;
-            Err(Refused)
-        }
+    let value = kept(decode_any_value(decoder, tag), error)?;
+    if M::KEEP {
+        *out = value;
     }
+    Ok(())
 }
 
 /// Reads unknown values, and keeps them where values are kept.
@@ -600,14 +612,6 @@ pub fn put_unknown<'input, M: Made>(
     ensures fits { M.KEEP ≡ true → IfOk (outcome result out.new error.new) (AreItems (EachFits AreOctets)) }
     ensures rules { IfErr (outcome result out.new error.new) (λ e. e.codec ≡ decoder.old.rule) }
 {
-    match decode_unknown_values::<M>(decoder) {
-        Ok(value) => {
-            *out = value;
-            Ok(())
-        }
-        Err(fault) => {
-            *error = fault;
-            Err(Refused)
-        }
-    }
+    *out = kept(decode_unknown_values::<M>(decoder), error)?;
+    Ok(())
 }

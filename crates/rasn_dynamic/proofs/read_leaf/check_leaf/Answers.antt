@@ -19,3 +19,27 @@ returns-in-Bmp-clause-reads c = rw c.in-Bmp.is c.check_bmp.ensures.reads
 
 pub returns-in-UtcTime-clause-reads : goal.returns-in-UtcTime-clause-reads
 returns-in-UtcTime-clause-reads c = rw c.in-UtcTime.is c.check_utc_time.ensures.reads
+
+pub returns-in-NamedBits-clause-reads : goal.returns-in-NamedBits-clause-reads
+returns-in-NamedBits-clause-reads c = rw c.in-NamedBits.is c.check_named_bits.ensures.reads
+
+pub returns-in-FixedOctetString-clause-reads : goal.returns-in-FixedOctetString-clause-reads
+returns-in-FixedOctetString-clause-reads c = rw c.in-FixedOctetString.is c.check_fixed_octets.ensures.reads
+
+pub returns-in-Numeric-clause-reads : goal.returns-in-Numeric-clause-reads
+returns-in-Numeric-clause-reads c = rw c.in-Numeric.is c.check_string.ensures.reads
+
+pub returns-in-Printable-clause-reads : goal.returns-in-Printable-clause-reads
+returns-in-Printable-clause-reads c = rw c.in-Printable.is c.check_string-in-Printable.ensures.reads
+
+pub returns-in-Visible-clause-reads : goal.returns-in-Visible-clause-reads
+returns-in-Visible-clause-reads c = rw c.in-Visible.is c.check_string-in-Visible.ensures.reads
+
+pub returns-in-Ia5-clause-reads : goal.returns-in-Ia5-clause-reads
+returns-in-Ia5-clause-reads c = rw c.in-Ia5.is c.check_string-in-Ia5.ensures.reads
+
+pub returns-in-AnyOctets-clause-reads : goal.returns-in-AnyOctets-clause-reads
+returns-in-AnyOctets-clause-reads c = rw c.in-AnyOctets.is c.check_string-in-AnyOctets.ensures.reads
+
+pub returns-in-Utf8-clause-reads : goal.returns-in-Utf8-clause-reads
+returns-in-Utf8-clause-reads c = rw c.in-Utf8.is c.check_text.ensures.reads
