@@ -218,7 +218,13 @@ fn check_arcs(decoder: &mut Decoder<'_>, error: &mut DecodeError, tag: Tag) -> R
     ensures reads { Checks (leaf object_identifier tag unconstrained) decoder.old (reported result error.new) decoder.new }
     ensures rules { IfErr (reported result error.new) (λ e. e.codec ≡ decoder.old.rule) }
 {
-    kept(decoder.check_object_identifier(tag), error)
+    match decoder.check_object_identifier(tag) {
+        Ok(()) => Ok(()),
+        Err(fault) => {
+            *error = fault;
+            Err(Refused)
+        }
+    }
 }
 
 /// Checks an INTEGER of any length.
@@ -232,7 +238,13 @@ fn check_integer(
     ensures reads { Checks (leaf (integer every) tag bounds.now) decoder.old (reported result error.new) decoder.new }
     ensures rules { IfErr (reported result error.new) (λ e. e.codec ≡ decoder.old.rule) }
 {
-    kept(decoder.check_integer(tag, bounds), error)
+    match decoder.check_integer(tag, bounds) {
+        Ok(()) => Ok(()),
+        Err(fault) => {
+            *error = fault;
+            Err(Refused)
+        }
+    }
 }
 
 /// Checks a BIT STRING.
@@ -246,7 +258,13 @@ fn check_bits(
     ensures reads { Checks (leaf bit_string tag bounds.now) decoder.old (reported result error.new) decoder.new }
     ensures rules { IfErr (reported result error.new) (λ e. e.codec ≡ decoder.old.rule) }
 {
-    kept(decoder.check_bit_string(tag, bounds), error)
+    match decoder.check_bit_string(tag, bounds) {
+        Ok(()) => Ok(()),
+        Err(fault) => {
+            *error = fault;
+            Err(Refused)
+        }
+    }
 }
 
 /// Checks a BIT STRING whose bits have names.
@@ -260,7 +278,13 @@ fn check_named_bits(
     ensures reads { Checks (leaf named_bits tag bounds.now) decoder.old (reported result error.new) decoder.new }
     ensures rules { IfErr (reported result error.new) (λ e. e.codec ≡ decoder.old.rule) }
 {
-    kept(decoder.check_named_bits(tag, bounds), error)
+    match decoder.check_named_bits(tag, bounds) {
+        Ok(()) => Ok(()),
+        Err(fault) => {
+            *error = fault;
+            Err(Refused)
+        }
+    }
 }
 
 /// Checks an OCTET STRING.
@@ -274,7 +298,13 @@ fn check_octets(
     ensures reads { Checks (leaf octet_string tag bounds.now) decoder.old (reported result error.new) decoder.new }
     ensures rules { IfErr (reported result error.new) (λ e. e.codec ≡ decoder.old.rule) }
 {
-    kept(decoder.check_octet_string(tag, bounds), error)
+    match decoder.check_octet_string(tag, bounds) {
+        Ok(()) => Ok(()),
+        Err(fault) => {
+            *error = fault;
+            Err(Refused)
+        }
+    }
 }
 
 /// Checks an OCTET STRING of so many octets.
@@ -289,7 +319,13 @@ fn check_fixed_octets(
     ensures reads { Checks (leaf (fixed len) tag bounds.now) decoder.old (reported result error.new) decoder.new }
     ensures rules { IfErr (reported result error.new) (λ e. e.codec ≡ decoder.old.rule) }
 {
-    kept(decoder.check_fixed_octet_string(len, tag, bounds), error)
+    match decoder.check_fixed_octet_string(len, tag, bounds) {
+        Ok(()) => Ok(()),
+        Err(fault) => {
+            *error = fault;
+            Err(Refused)
+        }
+    }
 }
 
 /// Checks a string whose characters are octets of an alphabet.
@@ -304,10 +340,13 @@ fn check_string(
     ensures reads { Checks (leaf (string_kind alphabet) tag bounds.now) decoder.old (reported result error.new) decoder.new }
     ensures rules { IfErr (reported result error.new) (λ e. e.codec ≡ decoder.old.rule) }
 {
-    kept(
-        decoder.check_restricted_string(alphabet, tag, bounds),
-        error,
-    )
+    match decoder.check_restricted_string(alphabet, tag, bounds) {
+        Ok(()) => Ok(()),
+        Err(fault) => {
+            *error = fault;
+            Err(Refused)
+        }
+    }
 }
 
 /// Checks a BMPString.
@@ -321,7 +360,13 @@ fn check_bmp(
     ensures reads { Checks (leaf bmp tag bounds.now) decoder.old (reported result error.new) decoder.new }
     ensures rules { IfErr (reported result error.new) (λ e. e.codec ≡ decoder.old.rule) }
 {
-    kept(decoder.check_bmp_string(tag, bounds), error)
+    match decoder.check_bmp_string(tag, bounds) {
+        Ok(()) => Ok(()),
+        Err(fault) => {
+            *error = fault;
+            Err(Refused)
+        }
+    }
 }
 
 /// Checks a UTF8String.
@@ -335,7 +380,13 @@ fn check_text(
     ensures reads { Checks (leaf utf8 tag bounds.now) decoder.old (reported result error.new) decoder.new }
     ensures rules { IfErr (reported result error.new) (λ e. e.codec ≡ decoder.old.rule) }
 {
-    kept(decoder.check_utf8_string(tag, bounds), error)
+    match decoder.check_utf8_string(tag, bounds) {
+        Ok(()) => Ok(()),
+        Err(fault) => {
+            *error = fault;
+            Err(Refused)
+        }
+    }
 }
 
 /// Checks a UTCTime.
@@ -434,8 +485,16 @@ fn make_leaf<'input>(
     ensures fits { IfOk (outcome result out.new error.new) (λ v. FitsLeaf kind v) }
     ensures rules { IfErr (outcome result out.new error.new) (λ e. e.codec ≡ decoder.old.rule) }
 {
-    *out = kept(decode_leaf(decoder, kind, tag, bounds), error)?;
-    Ok(())
+    match decode_leaf(decoder, kind, tag, bounds) {
+        Ok(value) => {
+            *out = value;
+            Ok(())
+        }
+        Err(fault) => {
+            *error = fault;
+            Err(Refused)
+        }
+    }
 }
 
 /// Reads a value that holds no other values, where values are kept; else checks it.
@@ -575,11 +634,18 @@ pub fn put_number<'input, M: Made>(
     ensures fits { M.KEEP ≡ true → IfOk (outcome result out.new error.new) (λ v. IsNumber (numbers_of numbers.now) v) }
     ensures rules { IfErr (outcome result out.new error.new) (λ e. e.codec ≡ decoder.old.rule) }
 {
-    let value = kept(decode_number(decoder, tag, numbers), error)?;
-    if M::KEEP {
-        *out = value;
+    match decode_number(decoder, tag, numbers) {
+        Ok(value) => {
+            if M::KEEP {
+                *out = value;
+            }
+            Ok(())
+        }
+        Err(fault) => {
+            *error = fault;
+            Err(Refused)
+        }
     }
-    Ok(())
 }
 
 /// Reads a value of an open type, and keeps it where values are kept.
@@ -594,11 +660,18 @@ pub fn put_any<'input, M: Made>(
     ensures fits { M.KEEP ≡ true → IfOk (outcome result out.new error.new) AreOctets }
     ensures rules { IfErr (outcome result out.new error.new) (λ e. e.codec ≡ decoder.old.rule) }
 {
-    let value = kept(decode_any_value(decoder, tag), error)?;
-    if M::KEEP {
-        *out = value;
+    match decode_any_value(decoder, tag) {
+        Ok(value) => {
+            if M::KEEP {
+                *out = value;
+            }
+            Ok(())
+        }
+        Err(fault) => {
+            *error = fault;
+            Err(Refused)
+        }
     }
-    Ok(())
 }
 
 /// Reads unknown values, and keeps them where values are kept.

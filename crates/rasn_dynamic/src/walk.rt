@@ -44,6 +44,9 @@ pub fn new_walk<'input>(rule: Codec, spans: Spans<'input>) -> Walk<'input>
 }
 
 /// Keeps the error of an outcome, if it is one.
+///
+/// It takes the outcome by value, which costs time: where a value is opened, closed or made, and in
+/// the checks of values that hold no others, a `match` keeps the error instead.
 #[inline(always)]
 pub fn kept<T>(outcome: Result<T, DecodeError>, error: &mut DecodeError) -> Result<T, Refused>
     ensures { reported result error.new ≡ outcome }
