@@ -1,0 +1,102 @@
+//! A module that holds the types of others.
+use rasn_compiler::{Assigned, Assignment, Module, Modules};
+use std::alloc::{AllocError, Global};
+use std::collections::BTreeSet;
+
+/// The name of the module that holds types, and that of its type.
+pub const HOLDER: (&str, &str) = ("Soqavise-Holder", "Soqavise-Held");
+
+/// A module whose one type holds the types of other modules, each as a component.
+#[derive(Drop)]
+pub struct Holder {
+    /// The text of the module [`HOLDER`].
+    pub text: String,
+    /// The number of components, the first ones, for which files are written.
+    pub wanted: usize,
+}
+
+/// What the text of a holder is made of.
+#[derive(Drop)]
+struct Parts {
+    alloc: Global,
+    imports: String,
+    components: String,
+    names: BTreeSet<String>,
+}
+
+/// Returns a module whose type holds each type without parameters of the modules. Files are written
+/// for those of the first modules, as many as `wanted`. Of types with the same name the first is
+/// held.
+///
+/// # Errors
+/// `AllocError` if memory runs out.
+pub fn holder(alloc: Global, read: &Modules<'_>, wanted: usize) -> Result<Holder, AllocError> {
+    let mut parts = Parts {
+        alloc,
+        imports: String::new(alloc),
+        components: String::new(alloc),
+        names: BTreeSet::new(alloc),
+    };
+    let mut count = 0;
+    for (index, module) in read.modules.iter().enumerate() {
+        parts.add_module(read, module)?;
+        if index < wanted {
+            count = parts.names.len();
+        }
+    }
+    Ok(Holder {
+        text: parts.text()?,
+        wanted: count,
+    })
+}
+
+impl Parts {
+    /// Adds the types of a module.
+    fn add_module(&mut self, read: &Modules<'_>, module: &Module<'_>) -> Result<(), AllocError> {
+        let before = self.names.len();
+        for assignment in &module.assignments {
+            if is_plain_type(assignment) && !read.is_class(module.name, assignment.name) {
+                self.add_type(assignment.name, before)?;
+            }
+        }
+        if self.names.len() > before {
+            write!(self.imports, " FROM {}", module.name)?;
+        }
+        Ok(())
+    }
+
+    /// Adds a type of a module, before which there were so many types, unless there is one with its
+    /// name.
+    fn add_type(&mut self, name: &str, before: usize) -> Result<(), AllocError> {
+        if self.names.contains(name) {
+            return Ok(());
+        }
+        let number = self.names.len();
+        let separator = if number == before { " " } else { ", " };
+        write!(self.imports, "{separator}{name}")?;
+        let separator = if number == 0 { " " } else { ", " };
+        write!(
+            self.components,
+            "{separator}t{number} [{number}] EXPLICIT {name}"
+        )?;
+        self.names.insert(String::from_str(self.alloc, name)?)?;
+        Ok(())
+    }
+
+    /// Returns the text of the module.
+    fn text(&self) -> Result<String, AllocError> {
+        let (module, held) = HOLDER;
+        let (imports, components) = (self.imports.as_str(), self.components.as_str());
+        let mut text = format!(in self.alloc; "{module} DEFINITIONS ::= BEGIN\n")?;
+        write!(
+            text,
+            "IMPORTS{imports};\n{held} ::= SEQUENCE {{{components} }}\nEND\n"
+        )?;
+        Ok(text)
+    }
+}
+
+/// Returns whether an assignment is one of a type without parameters (X.683 8.1).
+fn is_plain_type(assignment: &Assignment<'_>) -> bool {
+    matches!(assignment.assigned, Assigned::Type(_)) && assignment.parameters.is_none()
+}

@@ -1,0 +1,31 @@
+//! Typed Rattle for ASN.1 modules: for each type of a module the text of a file with its struct or
+//! enum, and with the impls by which it is read and written, which are proved as they are.
+#![tactic(auto)]
+
+mod bounds;
+mod calls;
+mod choice;
+mod constrained;
+mod defaults;
+mod enumerated;
+mod expression;
+mod files;
+mod holder;
+mod integers;
+mod kinds;
+mod laws;
+mod layout;
+mod members;
+mod notation;
+mod parts;
+mod plan;
+mod reach;
+mod reasons;
+mod sequence;
+mod tags;
+mod template;
+mod twins;
+mod words;
+
+pub use files::{File, files};
+pub use holder::{HOLDER, Holder, holder};
