@@ -103,14 +103,15 @@ struct Nested {
 impl Nested {
     /// Writes the calls, on as many lines as they need.
     fn write(&mut self, words: &[&str]) -> Result<(), AllocError> {
-        let mut rest = words;
+        let mut done: usize = 0;
         for _ in 0..=words.len() {
+            let rest = words.get(done..).unwrap_or(&[]);
             let line = self.in_a_line(rest)?;
             if is_short(line.as_str()) || rest.is_empty() {
                 writeln!(self.text, "{line}")?;
                 break;
             }
-            rest = self.write_line(rest)?;
+            done = done.saturating_add(self.write_line(rest)?);
         }
         self.close()
     }
@@ -122,11 +123,8 @@ impl Nested {
         format!(in self.alloc; "{}{calls}{end}", self.line.as_str())
     }
 
-    /// Writes a line with as many calls as it has place for. Returns those that are left.
-    fn write_line<'words, 'word>(
-        &mut self,
-        words: &'words [&'word str],
-    ) -> Result<&'words [&'word str], AllocError> {
+    /// Writes a line with as many calls as it has place for. Returns how many they are.
+    fn write_line(&mut self, words: &[&str]) -> Result<usize, AllocError> {
         let mut count: usize = 0;
         for word in words {
             if columns(self.line.as_str()).saturating_add(columns(*word)) > COLUMNS {
@@ -139,7 +137,7 @@ impl Nested {
         self.opened.push(count)?;
         self.indent = self.indent.saturating_add(4);
         self.line = spaces(self.alloc, self.indent)?;
-        Ok(words.get(count..).unwrap_or(&[]))
+        Ok(count)
     }
 
     /// Closes the calls of the lines before.

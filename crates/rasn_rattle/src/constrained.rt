@@ -96,39 +96,16 @@ impl Plan<'_> {
     pub(crate) fn constrained_text(&self, id: usize) -> Result<String, AllocError> {
         let ty = self.type_of(id);
         let laws = self.laws_of(id)?;
-        let is_named_bits = is_named_bits(ty);
-        let is_list = matches!(ty, Type::SequenceOf { .. } | Type::SetOf { .. });
         let mut values = self.values_of(id)?;
-        values.add(
-            "imports",
-            self.imports_of(laws.types.as_str(), false, false)?,
-        )?;
-        values.add_str("reason", "")?;
-        values.add_str("bits_use", if is_named_bits { BITS_USE } else { "" })?;
+        let imports = self.imports_of(laws.types.as_str(), false, false)?;
+        values.add("imports", imports)?;
+        let (bits_use, search) = search_of(ty, laws.search.as_str());
+        values.add_str("bits_use", bits_use)?;
+        values.add_str("search", search)?;
         values.add_str("laws", laws.uses.as_str())?;
-        values.add_str(
-            "search",
-            if is_named_bits {
-                BITS_SEARCH
-            } else {
-                laws.search.as_str()
-            },
-        )?;
-        values.add_str(
-            "present",
-            if is_list {
-                "self.value.is_present()"
-            } else {
-                "true"
-            },
-        )?;
+        values.add_str("present", present_text(ty))?;
         let inner = self.inner_text(id, ty)?;
-        add_field(
-            &mut values,
-            self.names_of(id).0,
-            inner.as_str(),
-            &constraints_of(ty),
-        )?;
+        add_field(&mut values, inner.as_str(), &constraints_of(ty))?;
         values.filled(CONSTRAINED)
     }
 
@@ -155,7 +132,7 @@ impl Plan<'_> {
         values.add_str("search", "Prim.search deciding depth 64")?;
         values.add_str("present", "true")?;
         add_tag(&mut values, tag)?;
-        add_field(&mut values, name, "Any", &Constraints::NONE)?;
+        add_field(&mut values, "Any", &Constraints::NONE)?;
         values.filled(CONSTRAINED)
     }
 
@@ -170,11 +147,10 @@ impl Plan<'_> {
     }
 }
 
-/// Adds the values of the names that are about the field of a struct with this name: its type, how
-/// it is read, and its constraints.
+/// Adds the values of the names that are about the field of a struct: its type, how it is read, and
+/// its constraints.
 fn add_field(
     values: &mut Values,
-    name: &str,
     inner: &str,
     constraints: &Constraints,
 ) -> Result<(), AllocError> {
@@ -210,13 +186,22 @@ fn read_text(alloc: Global, inner: &str) -> Result<String, AllocError> {
     )
 }
 
-/// Returns whether a type is of bits with names.
-fn is_named_bits(ty: &Type) -> bool {
-    matches!(
-        ty,
+/// Returns how it is found whether a value of the type is present.
+fn present_text(ty: &Type) -> &'static str {
+    match ty {
+        Type::SequenceOf { .. } | Type::SetOf { .. } => "self.value.is_present()",
+        _ => "true",
+    }
+}
+
+/// Returns from where laws are imported for a search, and the term that finds the law of a type:
+/// this one, except for bits with names.
+fn search_of<'text>(ty: &Type, search: &'text str) -> (&'static str, &'text str) {
+    match ty {
         Type::Leaf {
             kind: LeafKind::NamedBits,
             ..
-        }
-    )
+        } => (BITS_USE, BITS_SEARCH),
+        _ => ("", search),
+    }
 }

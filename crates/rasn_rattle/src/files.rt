@@ -1,9 +1,10 @@
 //! The files of a crate.
 ghost use Rattle.std.specs.Prelude.{◌≡◌, true, IfOk};
-ghost use Rattle.std.specs.String.{string_bytes};
-ghost use Rattle.rasn_rattle.specs.Words.{is_word, EndsWithLib};
+ghost use Rattle.rasn_rattle.specs.Files.{EndsWithLib};
+ghost use Rattle.rasn_rattle.specs.Words.{is_word};
 
 use crate::kinds::{is_alias, is_extensible};
+use crate::output::File;
 use crate::plan::{Naming, Plan};
 use crate::template::push_times;
 use rasn_compiler::Resolved;
@@ -12,23 +13,13 @@ use rasn_types::types::Tag;
 use std::alloc::{AllocError, Global};
 use std::collections::BTreeMap;
 
-/// A file of a crate, which is in its folder `src`.
-#[derive(Drop)]
-pub struct File {
-    /// Its name without `.rt`, as `account`: small letters, digits and `_`.
-    pub name: String,
-    /// Its text.
-    pub text: String,
-    pub ghost word: { is_word (string_bytes name) ≡ true },
-}
-
 /// Returns the files of a crate with this name: a file for each type that the first components of
 /// the resolved type are made of, as many as `wanted`, and at last `lib`, which lists the others.
 /// A type that can't be written is an open type, and a comment in its file says why.
 ///
 /// # Errors
 /// `AllocError` if memory runs out.
-pub fn files(
+pub fn crate_files(
     alloc: Global,
     resolved: Resolved,
     wanted: usize,
@@ -51,7 +42,7 @@ pub fn files(
     let none = Type::Unknown;
     let mut plan = Plan::new(alloc, &resolved.schema, crate_name, root, &none)?;
     plan.module = module;
-    plan.reach(wanted)?;
+    plan.reached = plan.reached_by(wanted)?;
     plan.show_unnamed()?;
     plan.find_lines()?;
     plan.files()

@@ -8,9 +8,14 @@ use rasn_types::types::Tag;
 use std::alloc::AllocError;
 
 impl<'schema> Plan<'schema> {
-    /// Returns the notation of a type, in a line or its beginning.
+    /// Returns the notation of a type, in a line or its beginning, or its name if the module doesn't
+    /// have it, as EXTERNAL (X.680 37.5).
     pub(crate) fn notation_of(&self, id: usize) -> Result<String, AllocError> {
         let line = self.lines_of(id).lines().next().unwrap_or("");
+        if line.is_empty() {
+            let (name, _file) = self.names_of(id);
+            return format!(in self.alloc; "`{name}`");
+        }
         let line = line.strip_suffix(" {").unwrap_or(line);
         format!(in self.alloc; "`{line}`")
     }

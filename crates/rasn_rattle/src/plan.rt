@@ -199,7 +199,8 @@ impl<'schema> Plan<'schema> {
         }
         let mut notation = String::from_str(self.alloc, name)?;
         for suffix in 2..self.names.len().saturating_add(3) {
-            if !self.used.contains(self.small(notation.as_str())?.as_str()) {
+            let small = self.small(notation.as_str())?;
+            if !self.used.contains(small.as_str()) {
                 break;
             }
             notation = format!(in self.alloc; "{name}-{suffix}")?;

@@ -23,15 +23,16 @@ impl Plan<'_> {
         Ok(walk.reached.contains(&to))
     }
 
-    /// Finds the types that the first components of the root are made of.
-    pub(crate) fn reach(&mut self, wanted: usize) -> Result<(), AllocError> {
+    /// Returns the types that the first components of the root are made of, as many as `wanted`.
+    pub(crate) fn reached_by(&self, wanted: usize) -> Result<BTreeSet<usize>, AllocError> {
         let mut walk = self.new_walk();
-        for component in components_of(self.type_of(self.root)).iter().take(wanted) {
+        let root = self.type_of(self.root);
+        for component in components_of(root).iter().take(wanted) {
             self.visit(&mut walk, component.type_id.0)?;
         }
         self.visit_parts(&mut walk)?;
-        self.reached = walk.reached;
-        Ok(())
+        let Walk { reached, .. } = walk;
+        Ok(reached)
     }
 
     /// Returns a walk that has reached nothing.

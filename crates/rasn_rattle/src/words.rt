@@ -37,6 +37,7 @@ fn is_among(words: &str, word: &str) -> bool {
 
 /// Returns a name in snake case, as `tbs_certificate` of `tbsCertificate`, with `_` in place of what
 /// is no letter or digit. One that is reserved ends with `_value`.
+#[tactic(auto, using(crate::proofs::WordLetters::word_append))]
 pub(crate) fn snake(alloc: Global, name: &str) -> Result<String, AllocError>
     ensures { IfOk result (λ snake. is_word (string_bytes snake) ≡ true) }
 {
@@ -48,6 +49,7 @@ pub(crate) fn snake(alloc: Global, name: &str) -> Result<String, AllocError>
 }
 
 /// Returns the words of a name in small letters, with `_` between them.
+#[tactic(auto, using(crate::proofs::WordLetters::word_push))]
 fn words_of(alloc: Global, name: &str) -> Result<String, AllocError>
     ensures { IfOk result (λ words. is_word (string_bytes words) ≡ true) }
 {

@@ -3,7 +3,7 @@
 #![tactic(auto)]
 
 use rasn_compiler::{Modules, Source};
-use rasn_rattle::{File, HOLDER, files, holder};
+use rasn_rattle::{File, HOLDER_NAMES, crate_files, holder_of};
 use std::alloc::Global;
 use std::{env, io};
 
@@ -23,7 +23,7 @@ fn main(rt: HostRuntime) -> io::Result<()> {
     for fault in &read.faults {
         println!(rt; "{fault}")?;
     }
-    let held = holder(alloc, &read, read.modules.len())?;
+    let held = holder_of(alloc, &read, read.modules.len())?;
     let held_source = Source {
         name: "types",
         text: held.text.as_str(),
@@ -39,10 +39,10 @@ fn print_files(
     wanted: usize,
     crate_name: &str,
 ) -> io::Result<()> {
-    let (module, name) = HOLDER;
+    let (module, name) = HOLDER_NAMES;
     match read.schema(rt.alloc(), module, name) {
         Ok(resolved) => {
-            let written = files(rt.alloc(), resolved, wanted, crate_name)?;
+            let written = crate_files(rt.alloc(), resolved, wanted, crate_name)?;
             for file in &written {
                 print!(rt; "=== src/{}.rt\n{}", file.name.as_str(), file.text.as_str())?;
             }

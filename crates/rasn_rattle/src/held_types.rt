@@ -4,12 +4,12 @@ use std::alloc::{AllocError, Global};
 use std::collections::BTreeSet;
 
 /// The name of the module that holds types, and that of its type.
-pub const HOLDER: (&str, &str) = ("Soqavise-Holder", "Soqavise-Held");
+pub const HOLDER_NAMES: (&str, &str) = ("Soqavise-Holder", "Soqavise-Held");
 
 /// A module whose one type holds the types of other modules, each as a component.
 #[derive(Drop)]
 pub struct Holder {
-    /// The text of the module [`HOLDER`].
+    /// The text of the module [`HOLDER_NAMES`].
     pub text: String,
     /// The number of components, the first ones, for which files are written.
     pub wanted: usize,
@@ -30,7 +30,7 @@ struct Parts {
 ///
 /// # Errors
 /// `AllocError` if memory runs out.
-pub fn holder(alloc: Global, read: &Modules<'_>, wanted: usize) -> Result<Holder, AllocError> {
+pub fn holder_of(alloc: Global, read: &Modules<'_>, wanted: usize) -> Result<Holder, AllocError> {
     let mut parts = Parts {
         alloc,
         imports: String::new(alloc),
@@ -85,7 +85,7 @@ impl Parts {
 
     /// Returns the text of the module.
     fn text(&self) -> Result<String, AllocError> {
-        let (module, held) = HOLDER;
+        let (module, held) = HOLDER_NAMES;
         let (imports, components) = (self.imports.as_str(), self.components.as_str());
         let mut text = format!(in self.alloc; "{module} DEFINITIONS ::= BEGIN\n")?;
         write!(
