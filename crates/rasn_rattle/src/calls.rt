@@ -45,18 +45,19 @@ fn pattern(alloc: Global, place: &str) -> Result<String, AllocError> {
     let mut begin = String::new(alloc);
     let mut end = String::new(alloc);
     let mut indent = spaces(alloc, 12)?;
-    let mut inner = place;
+    let mut inner = String::from_str(alloc, place)?;
     for _ in 0..place.len() {
-        if columns(indent.as_str()).saturating_add(columns(inner)) < COLUMNS {
+        if columns(indent.as_str()).saturating_add(columns(inner.as_str())) < COLUMNS {
             break;
         }
-        let Some((call, within)) = inner.split_once("(") else {
+        let Some((call, within)) = inner.as_str().split_once("(") else {
             break;
         };
         writeln!(begin, "{indent}{call}(")?;
         end = format!(in alloc; ",\n{indent}){end}")?;
         indent.push_str("    ")?;
-        inner = within.strip_suffix(')').unwrap_or(within);
+        let within = String::from_str(alloc, within.strip_suffix(')').unwrap_or(within))?;
+        inner = within;
     }
     format!(in alloc; "{begin}{indent}{inner}{end}")
 }

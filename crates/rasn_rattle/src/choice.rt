@@ -2,7 +2,7 @@
 use crate::calls::{called, push_read_arm, push_write_arm};
 use crate::layout::push_alias;
 use crate::plan::Plan;
-use crate::template::{Values, push_times};
+use crate::template::{Values, push_separator, push_times};
 use crate::twins::alternatives_of;
 use crate::words::variant;
 use rasn_schema::{Alternative, TypeId};
@@ -192,10 +192,9 @@ impl<'schema> Plan<'schema> {
 /// Returns the names of the variants.
 fn names_text(alloc: Global, branches: &[Branch<'_>]) -> Result<String, AllocError> {
     let mut text = String::new(alloc);
-    let mut separator = "";
     for branch in branches {
-        write!(text, "{separator}{}", branch.variant.as_str())?;
-        separator = ", ";
+        push_separator(&mut text, ", ")?;
+        text.push_str(branch.variant.as_str())?;
     }
     Ok(text)
 }
@@ -203,12 +202,11 @@ fn names_text(alloc: Global, branches: &[Branch<'_>]) -> Result<String, AllocErr
 /// Returns the trees of the alternatives' values.
 fn trees_text(alloc: Global, branches: &[Branch<'_>]) -> Result<String, AllocError> {
     let mut text = String::new(alloc);
-    let mut separator = "";
     for (index, branch) in branches.iter().enumerate() {
         let (variant, ty) = (branch.variant.as_str(), branch.expression.as_str());
-        write!(text, "{separator}{variant} x ↦ chosen {index} ")?;
+        push_separator(&mut text, " | ")?;
+        write!(text, "{variant} x ↦ chosen {index} ")?;
         write!(text, "(⟦<{ty} as AsnType>⟧.tree x)")?;
-        separator = " | ";
     }
     Ok(text)
 }
@@ -216,14 +214,9 @@ fn trees_text(alloc: Global, branches: &[Branch<'_>]) -> Result<String, AllocErr
 /// Returns that no alternative is absent.
 fn present_text(alloc: Global, branches: &[Branch<'_>]) -> Result<String, AllocError> {
     let mut text = String::new(alloc);
-    let mut separator = "";
     for branch in branches {
-        write!(
-            text,
-            "{separator}{} x ↦ chosen_not_absent",
-            branch.variant.as_str()
-        )?;
-        separator = " | ";
+        push_separator(&mut text, " | ")?;
+        write!(text, "{} x ↦ chosen_not_absent", branch.variant.as_str())?;
     }
     Ok(text)
 }

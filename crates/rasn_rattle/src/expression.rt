@@ -10,8 +10,8 @@ use rasn_types::types::{Class, Tag};
 use std::alloc::AllocError;
 
 impl Plan<'_> {
-    /// Returns the Rattle type of a part of the type `of`. A type that leads back to `of` is written
-    /// as an open type.
+    /// Returns the Rattle type of a part of the type `of`. A type that leads back to `of` is
+    /// written as an open type.
     pub(crate) fn expression(&self, of: usize, id: TypeId) -> Result<String, AllocError> {
         let mut text = String::new(self.alloc);
         let mut closing: usize = 0;
@@ -27,7 +27,8 @@ impl Plan<'_> {
         Ok(text)
     }
 
-    /// Adds the outermost level of a type. Returns how many brackets it opens, and the type in them.
+    /// Adds the outermost level of a type. Returns how many brackets it opens, and the type in
+    /// them.
     fn push_level(
         &self,
         text: &mut String,
@@ -140,8 +141,8 @@ fn universal_number(ty: &Type) -> Option<u32> {
     }
 }
 
-/// Returns the number of the universal tag of a kind (X.680 8.4). A string of any octets has that of
-/// its own.
+/// Returns the number of the universal tag of a kind (X.680 8.4). A string of any octets has that
+/// of its own.
 fn number_of(kind: LeafKind, tag: Tag) -> u32 {
     match kind {
         LeafKind::Boolean => 1,

@@ -43,6 +43,7 @@ pub fn crate_files(
     let mut plan = Plan::new(alloc, &resolved.schema, crate_name, root, &none)?;
     plan.module = module;
     plan.reached = plan.reached_by(wanted)?;
+    plan.find_lines()?;
     plan.show_unnamed()?;
     plan.find_lines()?;
     plan.files()

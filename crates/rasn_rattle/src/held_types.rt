@@ -1,4 +1,6 @@
 //! A module that holds the types of others.
+ghost use Rattle.std.specs.Prelude.{◌≡◌, IfOk};
+
 use rasn_compiler::{Assigned, Assignment, Module, Modules};
 use std::alloc::{AllocError, Global};
 use std::collections::BTreeSet;
@@ -24,13 +26,16 @@ struct Parts {
     names: BTreeSet<String>,
 }
 
-/// Returns a module whose type holds each type without parameters of the modules. Files are written
-/// for those of the first modules, as many as `wanted`. Of types with the same name the first is
-/// held.
+/// Returns a module whose type holds each type without parameters of the first modules, as many as
+/// `wanted`, for which files are written, and then of those that they import. Of types with the
+/// same name the first is held.
 ///
 /// # Errors
 /// `AllocError` if memory runs out.
-pub fn holder_of(alloc: Global, read: &Modules<'_>, wanted: usize) -> Result<Holder, AllocError> {
+pub fn holder_of(alloc: Global, read: &Modules<'_>, wanted: usize) -> Result<Holder, AllocError>
+    ensures { wanted ≡ 0 → IfOk result (λ holder. holder.wanted ≡ 0) }
+{
+    let imported = imported(alloc, read, wanted)?;
     let mut parts = Parts {
         alloc,
         imports: String::new(alloc),
@@ -39,7 +44,9 @@ pub fn holder_of(alloc: Global, read: &Modules<'_>, wanted: usize) -> Result<Hol
     };
     let mut count = 0;
     for (index, module) in read.modules.iter().enumerate() {
-        parts.add_module(read, module)?;
+        if index < wanted || imported.contains(module.name) {
+            parts.add_module(read, module)?;
+        }
         if index < wanted {
             count = parts.names.len();
         }
@@ -48,6 +55,49 @@ pub fn holder_of(alloc: Global, read: &Modules<'_>, wanted: usize) -> Result<Hol
         text: parts.text()?,
         wanted: count,
     })
+}
+
+/// Returns the names of the modules that the first ones import, as many as `wanted`, and of those
+/// that these import.
+fn imported(
+    alloc: Global,
+    read: &Modules<'_>,
+    wanted: usize,
+) -> Result<BTreeSet<String>, AllocError> {
+    let mut names = BTreeSet::new(alloc);
+    for module in read.modules.iter().take(wanted) {
+        add_imports(alloc, &mut names, module)?;
+    }
+    for _ in 0..read.modules.len() {
+        add_further_imports(alloc, &mut names, read)?;
+    }
+    Ok(names)
+}
+
+/// Adds the names of the modules that those with these names import.
+fn add_further_imports(
+    alloc: Global,
+    names: &mut BTreeSet<String>,
+    read: &Modules<'_>,
+) -> Result<(), AllocError> {
+    for module in &read.modules {
+        if names.contains(module.name) {
+            add_imports(alloc, names, module)?;
+        }
+    }
+    Ok(())
+}
+
+/// Adds the names of the modules that this one imports.
+fn add_imports(
+    alloc: Global,
+    names: &mut BTreeSet<String>,
+    module: &Module<'_>,
+) -> Result<(), AllocError> {
+    for import in &module.imports {
+        names.insert(String::from_str(alloc, import.module)?)?;
+    }
+    Ok(())
 }
 
 impl Parts {

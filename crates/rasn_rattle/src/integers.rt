@@ -1,20 +1,62 @@
 //! The types of numbers.
+ghost use Rattle.std.specs.Prelude.{◌≤ℤ◌, IfSome};
+
 use rasn_types::types::{Bound, Bounded, Constraints};
 
-/// The types of numbers, each with its least and its greatest one, smaller ones first.
-const WORDS: &[(&str, i128, i128)] = &[
-    ("u8", 0, 255),
-    ("u16", 0, 65535),
-    ("u32", 0, 4294967295),
-    ("u64", 0, 18446744073709551615),
-    ("i8", -128, 127),
-    ("i16", -32768, 32767),
-    ("i32", -2147483648, 2147483647),
-    ("i64", -9223372036854775808, 9223372036854775807),
+/// A type of numbers.
+#[derive(Clone, Copy)]
+struct Word {
+    name: &'static str,
+    least: i128,
+    greatest: i128,
+}
+
+/// The types of numbers, smaller ones first.
+const WORDS: &[Word] = &[
+    Word {
+        name: "u8",
+        least: 0,
+        greatest: 255,
+    },
+    Word {
+        name: "u16",
+        least: 0,
+        greatest: 65535,
+    },
+    Word {
+        name: "u32",
+        least: 0,
+        greatest: 4294967295,
+    },
+    Word {
+        name: "u64",
+        least: 0,
+        greatest: 18446744073709551615,
+    },
+    Word {
+        name: "i8",
+        least: -128,
+        greatest: 127,
+    },
+    Word {
+        name: "i16",
+        least: -32768,
+        greatest: 32767,
+    },
+    Word {
+        name: "i32",
+        least: -2147483648,
+        greatest: 2147483647,
+    },
+    Word {
+        name: "i64",
+        least: -9223372036854775808,
+        greatest: 9223372036854775807,
+    },
 ];
 
-/// Returns the smallest type of the numbers that the constraints of an INTEGER admit (X.680 51.4),
-/// and whether it holds no others.
+/// Returns the type of the numbers that the constraints of an INTEGER admit (X.680 51.4), and
+/// whether it holds no others.
 pub(crate) fn integer_word(constraints: &Constraints) -> (&'static str, bool) {
     let Some(
         Bound {
@@ -28,10 +70,20 @@ pub(crate) fn integer_word(constraints: &Constraints) -> (&'static str, bool) {
     else {
         return ("Integer", false);
     };
-    for (word, least, greatest) in WORDS {
-        if *least <= low && high <= *greatest {
-            return (*word, *least == low && high == *greatest);
+    match word_of(low, high) {
+        Some(word) => (word.name, word.least == low && word.greatest == high),
+        None => ("Integer", false),
+    }
+}
+
+/// Returns the smallest type that has all numbers from `low` to `high`, if there is one.
+fn word_of(low: i128, high: i128) -> Option<Word>
+    ensures { IfSome result (λ word. (word.least ≤ℤ low) × (high ≤ℤ word.greatest)) }
+{
+    for word in WORDS {
+        if word.least <= low && high <= word.greatest {
+            return Some(*word);
         }
     }
-    ("Integer", false)
+    None
 }

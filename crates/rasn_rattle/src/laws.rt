@@ -3,6 +3,7 @@ use crate::expression::open_word;
 use crate::kinds::is_alias;
 use crate::members::{Member, inner_of, members_of};
 use crate::plan::Plan;
+use crate::template::push_separator;
 use rasn_schema::{Type, TypeId};
 use rasn_types::types::Tag;
 use std::alloc::AllocError;
@@ -177,10 +178,9 @@ impl Plan<'_> {
     /// Returns the types that are imported, with commas between them.
     fn types_by(&self, found: &Found) -> Result<String, AllocError> {
         let mut types = String::new(self.alloc);
-        let mut separator = "";
         for name in found.shown.iter() {
-            write!(types, "{separator}{name}")?;
-            separator = ", ";
+            push_separator(&mut types, ", ")?;
+            types.push_str(name)?;
         }
         Ok(types)
     }

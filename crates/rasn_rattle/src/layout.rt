@@ -1,4 +1,5 @@
 //! Text as the formatter lays it out: lines of at most 100 columns.
+use crate::template::push_separator;
 use std::alloc::{AllocError, Global};
 
 /// The columns of a line.
@@ -66,16 +67,16 @@ pub(crate) fn push_alias(
     parameters: &[&str],
 ) -> Result<(), AllocError> {
     let alloc = *text.allocator();
-    let mut line = format!(in alloc; "type {name} = {of}<")?;
-    let mut lines = format!(in alloc; "type {name} = {of}<\n")?;
-    let mut separator = "";
+    let mut short = String::new(alloc);
+    let mut long = String::new(alloc);
     for parameter in parameters {
-        write!(line, "{separator}{parameter}")?;
-        writeln!(lines, "    {parameter},")?;
-        separator = ", ";
+        push_separator(&mut short, ", ")?;
+        short.push_str(*parameter)?;
+        writeln!(long, "    {parameter},")?;
     }
-    line.push_str(">;")?;
-    lines.push_str(">;")?;
-    let shown = if is_short(line.as_str()) { line } else { lines };
-    writeln!(text, "{shown}")
+    let line = format!(in alloc; "type {name} = {of}<{short}>;")?;
+    if is_short(line.as_str()) {
+        return writeln!(text, "{line}");
+    }
+    writeln!(text, "type {name} = {of}<\n{long}>;")
 }

@@ -8,8 +8,8 @@ use rasn_types::types::Tag;
 use std::alloc::AllocError;
 
 impl<'schema> Plan<'schema> {
-    /// Returns the notation of a type, in a line or its beginning, or its name if the module doesn't
-    /// have it, as EXTERNAL (X.680 37.5).
+    /// Returns the notation of a type, in a line or its beginning, or its name if the module
+    /// doesn't have it, as EXTERNAL (X.680 37.5).
     pub(crate) fn notation_of(&self, id: usize) -> Result<String, AllocError> {
         let line = self.lines_of(id).lines().next().unwrap_or("");
         if line.is_empty() {
@@ -20,8 +20,8 @@ impl<'schema> Plan<'schema> {
         format!(in self.alloc; "`{line}`")
     }
 
-    /// Returns the values of the names that are in the templates of all types: those of the type and
-    /// its file, its notation and its tag.
+    /// Returns the values of the names that are in the templates of all types: those of the type
+    /// and its file, its notation and its tag.
     pub(crate) fn values_of(&self, id: usize) -> Result<Values, AllocError> {
         let (name, file) = self.names_of(id);
         let notation = self.notation_of(id)?;
@@ -116,17 +116,16 @@ impl<'schema> Plan<'schema> {
         })
     }
 
-    /// Puts notations in place of the names that types without one got, from the last type on.
+    /// Puts notations in place of the names that types without one have in the module, from the last
+    /// type on.
     pub(crate) fn show_unnamed(&mut self) -> Result<(), AllocError> {
         let count = self.schema.types().len();
         for id in (0..count).rev() {
-            if !self.names.contains_key(&id) {
-                let name = format!(in self.alloc; "Type-{id}")?;
+            let name = format!(in self.alloc; "Type-{id}")?;
+            if !self.names.contains_key(&id) && self.lines.contains_key(name.as_str()) {
                 let shown = self.shown_unnamed(id, name.as_str())?;
-                if !shown.is_empty() {
-                    let module = self.module.as_str();
-                    self.module = module.replace(self.alloc, name.as_str(), shown.as_str())?;
-                }
+                let module = self.module.as_str();
+                self.module = module.replace(self.alloc, name.as_str(), shown.as_str())?;
             }
         }
         Ok(())

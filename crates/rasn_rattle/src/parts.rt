@@ -2,7 +2,7 @@
 use crate::defaults::{DefaultText, default_name, push_default};
 use crate::layout::push_alias;
 use crate::plan::Plan;
-use crate::template::push_times;
+use crate::template::{push_separator, push_times};
 use crate::words::snake;
 use rasn_schema::{Component, Presence, Type, TypeId, components_of};
 use std::alloc::{AllocError, Global};
@@ -123,11 +123,10 @@ impl<'schema> Plan<'schema> {
     /// Returns the call that reads the parts of a SET.
     fn read_set_call(&self, id: usize, parts: &[Part<'_>]) -> Result<String, AllocError> {
         let mut names = String::new(self.alloc);
-        let mut separator = "";
         for part in parts {
             if !part.is_rest {
-                write!(names, "{separator}\"{}\"", part.name)?;
-                separator = ", ";
+                push_separator(&mut names, ", ")?;
+                write!(names, "\"{}\"", part.name)?;
             }
         }
         let (name, _file) = self.names_of(id);
@@ -136,9 +135,10 @@ impl<'schema> Plan<'schema> {
                 "decoder.read_set::<Parts>(tag, \"{name}\", &[{names}])?"
             );
         }
-        format!(in self.alloc;
-            "decoder.read_set::<Parts>(\n            tag,\n            \"{name}\",\n            &[{names}],\n        )?"
-        )
+        let mut call = String::from_str(self.alloc, "decoder.read_set::<Parts>(\n")?;
+        write!(call, "            tag,\n            \"{name}\",\n")?;
+        write!(call, "            &[{names}],\n        )?")?;
+        Ok(call)
     }
 
     /// Returns how the parts are read.
@@ -166,7 +166,6 @@ impl<'schema> Plan<'schema> {
 
 /// Adds the patterns that take the parts apart, one after another.
 fn push_patterns(text: &mut String, parts: &[Part<'_>], call: &str) -> Result<(), AllocError> {
-    let mut source = call;
     for (index, part) in parts.iter().enumerate() {
         if part.is_rest {
             break;
@@ -176,9 +175,9 @@ fn push_patterns(text: &mut String, parts: &[Part<'_>], call: &str) -> Result<()
             Some(_) => "rest",
             None => "End",
         };
+        let source = if index == 0 { call } else { "rest" };
         let (presence, field) = (part.presence, part.field.as_str());
         writeln!(text, "        let {presence}({field}, {rest}) = {source};")?;
-        source = "rest";
     }
     Ok(())
 }
@@ -188,12 +187,11 @@ fn push_literal(text: &mut String, name: &str, parts: &[Part<'_>]) -> Result<(),
     let alloc = *text.allocator();
     let mut short = String::new(alloc);
     let mut long = String::new(alloc);
-    let mut separator = "";
     for part in parts {
         let field = part.field.as_str();
-        write!(short, "{separator}{field}")?;
+        push_separator(&mut short, ", ")?;
+        short.push_str(field)?;
         writeln!(long, "            {field},")?;
-        separator = ", ";
     }
     if parts.is_empty() {
         writeln!(text, "        Ok({name} {{}})")

@@ -42,8 +42,8 @@ impl Plan<'_> {
         None
     }
 
-    /// Returns why a CHOICE is written as an open type, if it is. The last alternative of one with an
-    /// extension marker, which has no tag, is that of unknown values.
+    /// Returns why a CHOICE is written as an open type, if it is. The last alternative of one with
+    /// an extension marker, which has no tag, is that of unknown values.
     fn reason_against_choice(&self, alternatives: &[Alternative]) -> Option<&'static str> {
         let count = alternatives.len();
         for (index, alternative) in alternatives.iter().enumerate() {

@@ -3,8 +3,8 @@ use crate::template::Values;
 use rasn_types::types::{Class, Tag};
 use std::alloc::{AllocError, Global};
 
-/// Adds the values that a template has for a tag: in contracts, what that is imported from, and as a
-/// constant.
+/// Adds the values that a template has for a tag: in contracts, what that is imported from, and as
+/// a constant.
 pub(crate) fn add_tag(values: &mut Values, tag: Tag) -> Result<(), AllocError> {
     values.add("tag", ghost_tag(values.alloc, tag)?)?;
     values.add("const_tag", const_tag(values.alloc, tag)?)?;

@@ -51,6 +51,14 @@ impl Values {
     }
 }
 
+/// Adds what is between the items of a list, unless the text is empty.
+pub(crate) fn push_separator(text: &mut String, separator: &str) -> Result<(), AllocError> {
+    if text.is_empty() {
+        return Ok(());
+    }
+    text.push_str(separator)
+}
+
 /// Adds a word as often as is said.
 pub(crate) fn push_times(text: &mut String, word: &str, count: usize) -> Result<(), AllocError> {
     for _ in 0..count {

@@ -6,8 +6,8 @@ use rasn_schema::{
 use rasn_types::types::Constraints;
 
 /// Returns whether two types differ in their tag at most, so that one is the other with an implicit
-/// tag (X.680 31.2.7). Types with defaults other than a BOOLEAN, a number or an empty list are taken
-/// to differ in more.
+/// tag (X.680 31.2.7). Types with defaults other than a BOOLEAN, a number or an empty list are
+/// taken to differ in more.
 pub(crate) fn is_same_but_tag(ty: &Type, other: &Type) -> bool {
     match (ty, other) {
         (Type::Sequence { .. }, Type::Sequence { .. }) | (Type::Set { .. }, Type::Set { .. }) => {

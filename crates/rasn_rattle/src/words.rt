@@ -8,35 +8,35 @@ use std::alloc::{AllocError, Global};
 /// Words that no field or file may be called: those of Rattle and of its contracts, and names that
 /// generated files use for themselves.
 const RESERVED: &str =
-    "as async await break const continue crate dyn else enum extern false fn for \
-    ghost if impl in let loop match mod move mut pub ref return self static struct super trait true \
-    type unsafe use where while abstract become box do final macro override priv try typeof unsized \
-    virtual yield union data record deriving module package open unfoldable abbrev axiom unfold \
-    unfolding ruleset mutual infix infixl infixr elim coe fcoe tcoe hcom com requires ensures lib \
-    main decoder encoder tag rest unknown done now old new std core rasn tests open_sequence open_set";
+    "as async await break const continue crate dyn else enum extern false fn for ghost if impl in \
+    let loop match mod move mut pub ref return self static struct super trait true type unsafe \
+    use where while abstract become box do final macro override priv try typeof unsized virtual \
+    yield union data record deriving module package open unfoldable abbrev axiom unfold unfolding \
+    ruleset mutual infix infixl infixr elim coe fcoe tcoe hcom com requires ensures lib main \
+    decoder encoder tag rest unknown done now old new std core rasn tests open_sequence open_set";
 
 /// Names that generated files use, which no type of their own may have.
 const TAKEN: &str =
-    "Self Type Option Some None Result Ok Err Vec String Box Debug PartialEq Eq Drop \
-    Clone Copy AllocError Global This Other Parts Alternatives Written Addition DecodeAlternatives \
+    "Self Type Option Some None Result Ok Err Vec String Box Debug PartialEq Eq Drop Clone Copy \
+    AllocError Global This Other Parts Alternatives Written Addition DecodeAlternatives \
     DecodeParts DecodeSetParts DefaultValue Defaulted DefaultedChoice DefaultedExplicit \
     EncodeAlternative EncodeParts EncodeSetParts End ExplicitDefault Last LeastTag OneOf Optional \
     OptionalChoice Put PutAddition PutChoice PutDefault PutDefaultChoice PutDefaultExplicit \
     PutOptional PutOptionalChoice Required Alphabet Any ApplicationTag AsnType BitStr BitString \
-    BmpString Bound Bounded Class Codec Constraints Constructed ContextTag Date Enumerated Explicit \
-    Extensible Field FieldPresence Fields FirstTags FixedOctetString GeneralString GeneralizedTime \
-    GraphicString Ia5String Identifier Implicit Integer IntegerType LawfulEq NamedBits NumericString \
-    ObjectIdentifier OctetString Present PrintableString PrivateTag SetOf Tag TeletexString TryClone \
-    Unknown UtcTime Utf8String VisibleString Decoder Decode OpenSequence OpenSet DecodeChoice Error \
-    Encoder Encode DecodeError EncodeError";
+    BmpString Bound Bounded Class Codec Constraints Constructed ContextTag Date Enumerated \
+    Explicit Extensible Field FieldPresence Fields FirstTags FixedOctetString GeneralString \
+    GeneralizedTime GraphicString Ia5String Identifier Implicit Integer IntegerType LawfulEq \
+    NamedBits NumericString ObjectIdentifier OctetString Present PrintableString PrivateTag SetOf \
+    Tag TeletexString TryClone Unknown UtcTime Utf8String VisibleString Decoder Decode \
+    OpenSequence OpenSet DecodeChoice Error Encoder Encode DecodeError EncodeError";
 
 /// Returns whether one of the words, which have spaces between them, is this one.
 fn is_among(words: &str, word: &str) -> bool {
     words.split(' ').any(|known| known == word)
 }
 
-/// Returns a name in snake case, as `tbs_certificate` of `tbsCertificate`, with `_` in place of what
-/// is no letter or digit. One that is reserved ends with `_value`.
+/// Returns a name in snake case, as `tbs_certificate` of `tbsCertificate`, with `_` in place of
+/// what is no letter or digit. One that is reserved ends with `_value`.
 #[tactic(auto, using(crate::proofs::WordLetters::word_append))]
 pub(crate) fn snake(alloc: Global, name: &str) -> Result<String, AllocError>
     ensures { IfOk result (λ snake. is_word (string_bytes snake) ≡ true) }
