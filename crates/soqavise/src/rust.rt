@@ -2,7 +2,7 @@
 
 use crate::{REFUSED, USAGE, sources_of, unreadable};
 use clap::{Arg, ArgMatches, Command};
-use rasn_compiler::{Modules, Source};
+use rasn_compiler::Modules;
 use rasn_print::{Fault, modules_of};
 use rasn_rattle::{File, HOLDER_NAMES, Holder, crate_files, holder_of};
 use std::alloc::{AllocError, Global};
@@ -46,8 +46,7 @@ pub(crate) fn run_rust(rt: &HostRuntime, matches: &ArgMatches<'_>) -> Result<u8,
             Err(error) => return unreadable(rt, file, &error),
         }
     }
-    let sources = sources_of(rt.alloc(), texts.as_slice())?;
-    run_sources(rt, sources.as_slice(), folder, name)
+    run_texts(rt, texts, folder, name)
 }
 
 /// Returns the last part of the path of a folder.
@@ -68,40 +67,53 @@ fn is_crate_name(name: &str) -> bool {
 }
 
 /// Writes the crate of the modules of these texts, unless they have a fault, which is printed.
-fn run_sources(
+fn run_texts<'a>(
     rt: &HostRuntime,
-    sources: &[Source<'_>],
+    texts: Vec<(&'a str, String)>,
+    folder: &str,
+    name: &str,
+) -> Result<u8, Fault> {
+    let mut texts = texts;
+    match held_types(rt.alloc(), texts.as_slice()) {
+        Ok(Holder { text, wanted }) => {
+            let (module, _held) = HOLDER_NAMES;
+            texts.push((module, text))?;
+            run_held(rt, texts.as_slice(), wanted, folder, name)
+        }
+        Err(Fault::Call(faults)) => refused(rt, faults.as_str()),
+        Err(fault) => Err(fault),
+    }
+}
+
+/// Returns the module that holds the types of the modules of these texts, for which files are
+/// wanted, and of what they import.
+fn held_types<'a>(alloc: Global, texts: &'a [(&'a str, String)]) -> Result<Holder, Fault> {
+    let sources = sources_of(alloc, texts)?;
+    let own = Modules::parse(alloc, sources.as_slice())?;
+    let read = modules_of(alloc, sources.as_slice())?;
+    Ok(holder_of(alloc, &read, own.modules.len())?)
+}
+
+/// Writes the crate of the types that the last of these texts holds, for the first ones, as many as
+/// `wanted`.
+fn run_held<'a>(
+    rt: &HostRuntime,
+    texts: &'a [(&'a str, String)],
+    wanted: usize,
     folder: &str,
     name: &str,
 ) -> Result<u8, Fault> {
     let alloc = rt.alloc();
-    let held = match held_types(alloc, sources) {
-        Ok(held) => held,
-        Err(Fault::Call(text)) => return refused(rt, text.as_str()),
-        Err(fault) => return Err(fault),
-    };
-    let (module, held_type) = HOLDER_NAMES;
-    let mut all = Vec::from_slice(alloc, sources)?;
-    all.push(Source {
-        name: module,
-        text: held.text.as_str(),
-    })?;
-    let read = modules_of(alloc, all.as_slice())?;
-    match read.schema(alloc, module, held_type) {
+    let sources = sources_of(alloc, texts)?;
+    let read = modules_of(alloc, sources.as_slice())?;
+    let (module, held) = HOLDER_NAMES;
+    match read.schema(alloc, module, held) {
         Ok(resolved) => {
-            let files = crate_files(alloc, resolved, held.wanted, name)?;
+            let files = crate_files(alloc, resolved, wanted, name)?;
             write_files(rt, folder, name, files.as_slice())
         }
         Err(stop) => refused(rt, format!(in alloc; "{stop}\n")?.as_str()),
     }
-}
-
-/// Returns the module that holds the types of the modules of these texts and of this repository,
-/// where files are wanted for those of the texts alone.
-fn held_types(alloc: Global, sources: &[Source<'_>]) -> Result<Holder, Fault> {
-    let own = Modules::parse(alloc, sources)?;
-    let read = modules_of(alloc, sources)?;
-    Ok(holder_of(alloc, &read, own.modules.len())?)
 }
 
 /// Prints the faults of modules.
