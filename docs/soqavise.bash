@@ -11,6 +11,7 @@ _soqavise() {
         lint) options+=' --module --type --lines --input --color' ;;
         types) options+=' --module' ;;
         dump) options+=' --input' ;;
+        rust) options+=' --out' ;;
     esac
     case $before in
         --rules) mapfile -t COMPREPLY < <(compgen -W 'ber cer der' -- "$word") ;;
@@ -19,7 +20,7 @@ _soqavise() {
         --type) mapfile -t COMPREPLY < <(compgen -W "$(soqavise types | sed 's/[:].*//; s/^[^.]*[.]//')" -- "$word") ;;
         *)
             if ((COMP_CWORD == 1)); then
-                mapfile -t COMPREPLY < <(compgen -W 'show check lint json encode normalise types dump help' -- "$word")
+                mapfile -t COMPREPLY < <(compgen -W 'show check lint json encode normalise types dump rust help' -- "$word")
             elif [[ $word == -* ]]; then
                 mapfile -t COMPREPLY < <(compgen -W "$options" -- "$word")
             else

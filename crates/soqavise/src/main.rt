@@ -1,12 +1,15 @@
 //! Shows, checks and converts messages of any type of ASN.1.
 #![tactic(auto)]
 
+mod rust;
+
 use clap::ArgMatches;
 use rasn_compiler::{Modules, Source};
 use rasn_print::{
     Call, ColorChoice, Fault, Known, MessageType, Session, Tools, Work, call_of, command, known_of,
     modules_of, print_types, wanted_type,
 };
+use rust::{run_rust, rust_command};
 use std::alloc::{AllocError, Global};
 use std::fs::{self, File};
 use std::io::{BufReader, BufWriter, ErrorKind, IsTerminal, Read, Write};
@@ -49,7 +52,11 @@ fn run(rt: &HostRuntime) -> Result<u8, Fault> {
 
 /// Runs the program for these words.
 fn run_words(rt: &HostRuntime, words: &[String]) -> Result<u8, Fault> {
-    match command(rt.alloc())?.try_get_matches_from(words) {
+    let rust = rust_command(rt.alloc())?;
+    match command(rt.alloc())?
+        .subcommand(rust)?
+        .try_get_matches_from(words)
+    {
         Ok(matches) => run_matches(rt, matches),
         Err(error) => {
             error.print(rt).map_err(Fault::of_write)?;
@@ -60,6 +67,9 @@ fn run_words(rt: &HostRuntime, words: &[String]) -> Result<u8, Fault> {
 
 /// Runs the call that the command line asks for.
 fn run_matches(rt: &HostRuntime, matches: ArgMatches<'_>) -> Result<u8, Fault> {
+    if let Some(("rust", inner)) = matches.subcommand() {
+        return run_rust(rt, inner);
+    }
     match call_of(rt.alloc(), &matches)? {
         Some(call) => run_call(rt, &call),
         None => Ok(USAGE),

@@ -1,0 +1,216 @@
+//! The Rattle type of a part.
+use crate::integers::integer_word;
+use crate::members::inner_of;
+use crate::plan::Plan;
+use crate::tags::tag_type;
+use crate::template::push_times;
+use crate::twins::alternatives_of;
+use rasn_schema::{LeafKind, Type, TypeId};
+use rasn_types::types::{Class, Tag};
+use std::alloc::AllocError;
+
+impl Plan<'_> {
+    /// Returns the Rattle type of a part of the type `of`. A type that leads back to `of` is
+    /// written as an open type.
+    pub(crate) fn expression(&self, of: usize, id: TypeId) -> Result<String, AllocError> {
+        let mut text = String::new(self.alloc);
+        let mut closing: usize = 0;
+        let mut next = Some(id.0);
+        for _ in 0..self.schema.types().len() {
+            if let Some(id) = next {
+                let (opened, inner) = self.push_level(&mut text, of, id)?;
+                closing = closing.saturating_add(opened);
+                next = inner;
+            }
+        }
+        push_times(&mut text, ">", closing)?;
+        Ok(text)
+    }
+
+    /// Adds the outermost level of a type. Returns how many brackets it opens, and the type in
+    /// them.
+    fn push_level(
+        &self,
+        text: &mut String,
+        of: usize,
+        id: usize,
+    ) -> Result<(usize, Option<usize>), AllocError> {
+        let ty = self.type_of(id);
+        let twin = self.twins.get(&id).copied();
+        if !self.names.contains_key(&id) && twin.is_none() {
+            return self.push_unnamed(text, ty);
+        }
+        if self.leads_to(id, of)? {
+            let opened = self.push_implicit(text, ty.tag(), None)?;
+            text.push_str(open_word(ty.tag()))?;
+            return Ok((opened, None));
+        }
+        if twin.is_some() {
+            let opened = self.push_implicit(text, ty.tag(), None)?;
+            return Ok((opened, twin));
+        }
+        let (name, _file) = self.names_of(id);
+        text.push_str(name)?;
+        Ok((0, None))
+    }
+
+    /// Adds the outermost level of a type without a name.
+    pub(crate) fn push_unnamed(
+        &self,
+        text: &mut String,
+        ty: &Type,
+    ) -> Result<(usize, Option<usize>), AllocError> {
+        if let Type::Tagged { tag, inner } = ty {
+            let tag = tag_type(self.alloc, *tag)?;
+            write!(text, "Explicit<{tag}, ")?;
+            return Ok((1, Some(inner.0)));
+        }
+        let opened = self.push_implicit(text, ty.tag(), universal_number(ty))?;
+        push_word(text, ty)?;
+        match inner_of(ty) {
+            Some(inner) => Ok((opened.saturating_add(1), Some(inner.0))),
+            None => Ok((opened, None)),
+        }
+    }
+
+    /// Adds `Implicit` for a tag, unless it is the type's universal one or none. Returns how many
+    /// brackets are opened.
+    fn push_implicit(
+        &self,
+        text: &mut String,
+        tag: Tag,
+        own: Option<u32>,
+    ) -> Result<usize, AllocError> {
+        if tag.class == Class::Universal && (own.is_none() || own == Some(tag.value)) {
+            return Ok(0);
+        }
+        let tag = tag_type(self.alloc, tag)?;
+        write!(text, "Implicit<{tag}, ")?;
+        Ok(1)
+    }
+
+    /// Returns whether a part has a tag of its own.
+    pub(crate) fn has_tag(&self, id: TypeId) -> bool {
+        self.type_of(id.0).tag() != Tag::EOC
+    }
+
+    /// Returns whether a part is a CHOICE without an extension marker.
+    pub(crate) fn is_closed_choice(&self, id: TypeId) -> bool {
+        let ty = self.type_of(id.0);
+        matches!(ty, Type::Choice { .. })
+            && alternatives_of(ty)
+                .last()
+                .is_none_or(|last| self.has_tag(last.type_id))
+    }
+}
+
+/// Adds the word of a type without a name and without its tag, which for a list opens a bracket.
+pub(crate) fn push_word(text: &mut String, ty: &Type) -> Result<(), AllocError> {
+    match ty {
+        Type::Leaf {
+            kind: LeafKind::FixedOctetString(size),
+            ..
+        } => write!(text, "FixedOctetString<{size}>"),
+        _ => text.push_str(word(ty)),
+    }
+}
+
+/// Returns the word of a type without a name.
+pub(crate) fn word(ty: &Type) -> &'static str {
+    match ty {
+        Type::Leaf {
+            kind: LeafKind::Integer,
+            constraints,
+            ..
+        } => integer_word(constraints).0,
+        Type::Leaf { kind, tag, .. } => leaf_word(*kind, *tag),
+        Type::SequenceOf { .. } => "Vec<",
+        Type::SetOf { .. } => "SetOf<",
+        Type::Unknown => "Unknown",
+        _ => "Any",
+    }
+}
+
+/// Returns the number of the universal tag that a type's word has (X.680 8.4).
+fn universal_number(ty: &Type) -> Option<u32> {
+    match ty {
+        Type::Leaf { kind, tag, .. } => Some(number_of(*kind, *tag)),
+        Type::SequenceOf { .. } => Some(16),
+        Type::SetOf { .. } => Some(17),
+        _ => None,
+    }
+}
+
+/// Returns the number of the universal tag of a kind (X.680 8.4). A string of any octets has that
+/// of its own.
+fn number_of(kind: LeafKind, tag: Tag) -> u32 {
+    match kind {
+        LeafKind::Boolean => 1,
+        LeafKind::BitString | LeafKind::NamedBits => 3,
+        LeafKind::OctetString | LeafKind::FixedOctetString(_) => 4,
+        LeafKind::Null => 5,
+        LeafKind::ObjectIdentifier => 6,
+        LeafKind::Utf8 => 12,
+        LeafKind::Numeric => 18,
+        LeafKind::Printable => 19,
+        LeafKind::Ia5 => 22,
+        LeafKind::UtcTime => 23,
+        LeafKind::GeneralizedTime => 24,
+        LeafKind::Visible => 26,
+        LeafKind::AnyOctets if tag.class == Class::Universal => tag.value,
+        LeafKind::AnyOctets => 27,
+        LeafKind::Bmp => 30,
+        LeafKind::Date => 31,
+        LeafKind::Integer
+        | LeafKind::Signed32
+        | LeafKind::Signed64
+        | LeafKind::Unsigned32
+        | LeafKind::Unsigned64 => 2,
+    }
+}
+
+/// Returns the word of a type whose values hold no others.
+fn leaf_word(kind: LeafKind, tag: Tag) -> &'static str {
+    match kind {
+        LeafKind::Boolean => "bool",
+        LeafKind::Null => "()",
+        LeafKind::ObjectIdentifier => "ObjectIdentifier",
+        LeafKind::BitString => "BitString",
+        LeafKind::NamedBits => "NamedBits",
+        LeafKind::OctetString => "OctetString",
+        LeafKind::FixedOctetString(_) => "FixedOctetString",
+        LeafKind::Integer => "Integer",
+        LeafKind::Signed32 => "i32",
+        LeafKind::Signed64 => "i64",
+        LeafKind::Unsigned32 => "u32",
+        LeafKind::Unsigned64 => "u64",
+        LeafKind::Numeric => "NumericString",
+        LeafKind::Printable => "PrintableString",
+        LeafKind::Visible => "VisibleString",
+        LeafKind::Ia5 => "Ia5String",
+        LeafKind::AnyOctets => octets_word(tag),
+        LeafKind::Bmp => "BmpString",
+        LeafKind::Utf8 => "Utf8String",
+        LeafKind::UtcTime => "UtcTime",
+        LeafKind::GeneralizedTime => "GeneralizedTime",
+        LeafKind::Date => "Date",
+    }
+}
+
+/// Returns the word of a string of any octets.
+fn octets_word(tag: Tag) -> &'static str {
+    match (tag.class, tag.value) {
+        (Class::Universal, 20) => "TeletexString",
+        (Class::Universal, 25) => "GraphicString",
+        _ => "GeneralString",
+    }
+}
+
+/// Returns the word of an open type with a tag.
+pub(crate) fn open_word(tag: Tag) -> &'static str {
+    match (tag.class, tag.value) {
+        (Class::Universal, 16) => "OpenSequence",
+        (Class::Universal, 17) => "OpenSet",
+        _ => "Any",
+    }
+}

@@ -1,0 +1,242 @@
+//! The files of a crate.
+ghost use Rattle.std.specs.Prelude.{◌≡◌, true, IfOk};
+ghost use Rattle.rasn_rattle.specs.Files.{EndsWithLib};
+ghost use Rattle.rasn_rattle.specs.Words.{is_word};
+
+use crate::kinds::{is_alias, is_extensible};
+use crate::output::File;
+use crate::plan::{Naming, Plan};
+use crate::template::push_times;
+use rasn_compiler::Resolved;
+use rasn_schema::{Schema, Type, TypeId, TypeName};
+use rasn_types::types::Tag;
+use std::alloc::{AllocError, Global};
+use std::collections::BTreeMap;
+
+/// Returns the files of a crate with this name: a file for each type that the first components of
+/// the resolved type are made of, as many as `wanted`, and at last `lib`, which lists the others.
+/// A type that can't be written is an open type, and a comment in its file says why.
+///
+/// # Errors
+/// `AllocError` if memory runs out.
+pub fn crate_files(
+    alloc: Global,
+    resolved: Resolved,
+    wanted: usize,
+    crate_name: &str,
+) -> Result<Vec<File>, AllocError>
+    ensures { IfOk result (λ files. EndsWithLib files.items) }
+{
+    let Resolved {
+        schema,
+        root,
+        unchecked,
+    } = resolved;
+    let names = notation_names(alloc, &schema, crate_name, root)?;
+    let resolved = Resolved {
+        schema: schema.with_names(names),
+        root,
+        unchecked,
+    };
+    let module = format!(in alloc; "{}", resolved.notation(alloc)?)?;
+    let none = Type::Unknown;
+    let mut plan = Plan::new(alloc, &resolved.schema, crate_name, root, &none)?;
+    plan.module = module;
+    plan.reached = plan.reached_by(wanted)?;
+    plan.find_lines()?;
+    plan.show_unnamed()?;
+    plan.find_lines()?;
+    plan.files()
+}
+
+/// Returns names for all types that a file is written for.
+fn notation_names(
+    alloc: Global,
+    schema: &Schema,
+    crate_name: &str,
+    root: TypeId,
+) -> Result<Vec<TypeName>, AllocError> {
+    let none = Type::Unknown;
+    let plan = Plan::new(alloc, schema, crate_name, root, &none)?;
+    let mut names = Vec::new(alloc);
+    for (id, naming) in plan.names.iter() {
+        names.push(TypeName {
+            name: String::from_str(alloc, naming.notation.as_str())?,
+            type_id: TypeId(*id),
+        })?;
+    }
+    Ok(names)
+}
+
+/// Files, and what the file that lists them has of each.
+#[derive(Drop)]
+struct Files {
+    files: Vec<File>,
+    /// The lines that name the files, in the order of their names.
+    mods: BTreeMap<String, String>,
+    /// The lines that name what other crates may use of them, in the order of the formatter, in
+    /// which `_` precedes letters and digits.
+    uses: BTreeMap<String, String>,
+}
+
+impl Files {
+    /// Adds a file, of which other crates may use what is shown.
+    fn push(&mut self, alloc: Global, file: File, shown: &str) -> Result<(), AllocError> {
+        let name = file.name.as_str();
+        let line = format!(in alloc; "mod {name};\n")?;
+        self.mods.insert(String::from_str(alloc, name)?, line)?;
+        let line = format!(in alloc; "pub use {name}::{shown};\n")?;
+        self.uses.insert(name.replace(alloc, "_", "!")?, line)?;
+        self.files.push(file)?;
+        Ok(())
+    }
+
+    /// Returns whether the text of a file has a word in it.
+    fn have(&self, word: &str) -> bool {
+        self.files
+            .iter()
+            .any(|file| file.text.as_str().contains(word))
+    }
+
+    /// Returns the text of the file that lists the others.
+    fn lib_text(&self, alloc: Global) -> Result<String, AllocError> {
+        let mut text = String::from_str(
+            alloc,
+            "//! Types of an ASN.1 module.\n#![tactic(auto)]\n\n",
+        )?;
+        push_values(&mut text, &self.mods)?;
+        text.push('\n')?;
+        push_values(&mut text, &self.uses)?;
+        Ok(text)
+    }
+}
+
+/// Adds the values of a map.
+fn push_values(text: &mut String, lines: &BTreeMap<String, String>) -> Result<(), AllocError> {
+    for (_key, line) in lines.iter() {
+        text.push_str(line.as_str())?;
+    }
+    Ok(())
+}
+
+impl Plan<'_> {
+    /// Returns the files.
+    fn files(&self) -> Result<Vec<File>, AllocError>
+        ensures { IfOk result (λ files. EndsWithLib files.items) }
+    {
+        let mut written = self.type_files()?;
+        self.push_open(&mut written, "OpenSequence", "open_sequence", Tag::SEQUENCE)?;
+        self.push_open(&mut written, "OpenSet", "open_set", Tag::SET)?;
+        let lib = File {
+            name: String::from_str(self.alloc, "lib")?,
+            text: written.lib_text(self.alloc)?,
+        };
+        let Files { mut files, .. } = written;
+        files.push(lib)?;
+        Ok(files)
+    }
+
+    /// Returns the files of types.
+    fn type_files(&self) -> Result<Files, AllocError> {
+        let mut written = Files {
+            files: Vec::new(self.alloc),
+            mods: BTreeMap::new(self.alloc),
+            uses: BTreeMap::new(self.alloc),
+        };
+        for (id, naming) in self.names.iter() {
+            if self.reached.contains(id) {
+                let file = self.file_of(*id, naming)?;
+                let shown = self.shown_of(*id, naming.rust.as_str())?;
+                written.push(self.alloc, file, shown.as_str())?;
+            }
+        }
+        Ok(written)
+    }
+
+    /// Returns the file of a type.
+    fn file_of(&self, id: usize, naming: &Naming) -> Result<File, AllocError> {
+        let text = self.text_of(id)?;
+        let name = String::from_str(self.alloc, naming.file.as_str())?;
+        Ok(File { name, text })
+    }
+
+    /// Returns what other crates may use of the file of a type with this name.
+    fn shown_of(&self, id: usize, name: &str) -> Result<String, AllocError> {
+        if is_extensible(self.type_of(id)) {
+            return format!(in self.alloc; "{{{name}, {name}Name}}");
+        }
+        String::from_str(self.alloc, name)
+    }
+
+    /// Returns the text of the file of a type.
+    fn text_of(&self, id: usize) -> Result<String, AllocError> {
+        if let Some(reason) = self.reason_against(id)? {
+            return self.open_text(id, reason);
+        }
+        let ty = self.type_of(id);
+        match ty {
+            Type::Sequence { .. } | Type::Set { .. } => self.struct_text(id),
+            Type::Choice { .. } => self.choice_text(id),
+            Type::Enumerated { numbers, .. } => self.enumerated_text(id, numbers),
+            Type::Leaf { names, .. } if is_extensible(ty) => self.extensible_text(id, names),
+            _ if is_alias(ty) => self.alias_text(id, ty),
+            _ => self.constrained_text(id),
+        }
+    }
+
+    /// Returns the text of the file of another name of a type.
+    fn alias_text(&self, id: usize, ty: &Type) -> Result<String, AllocError> {
+        let laws = self.laws_of(id)?;
+        let imports = self.imports_of(laws.types.as_str(), false, false)?;
+        let mut text = String::new(self.alloc);
+        let (opened, inner) = self.push_unnamed(&mut text, ty)?;
+        if let Some(inner) = inner {
+            text.push_str(self.expression(id, TypeId(inner))?.as_str())?;
+        }
+        push_times(&mut text, ">", opened)?;
+        let values = self.values_of(id)?;
+        let (head, doc) = (values.value_of("head"), values.value_of("doc"));
+        let (name, _file) = self.names_of(id);
+        format!(in self.alloc; "{head}{imports}\n{doc}pub type {name} = {text};\n")
+    }
+
+    /// Returns the text of the file of a type that is written as an open type, and why.
+    fn open_text(&self, id: usize, reason: &str) -> Result<String, AllocError> {
+        let tag = self.type_of(id).tag();
+        let (name, _file) = self.names_of(id);
+        if tag != Tag::EOC {
+            let notation = self.notation_of(id)?;
+            return self.octets_text(name, tag, notation.as_str(), reason);
+        }
+        let values = self.values_of(id)?;
+        let (head, doc) = (values.value_of("head"), values.value_of("doc"));
+        let mut text = format!(in self.alloc; "{head}use rasn::prelude::*;\n\n{doc}///\n")?;
+        write!(
+            text,
+            "/// It is an open type, since {reason}.\npub type {name} = Any;\n"
+        )?;
+        Ok(text)
+    }
+
+    /// Adds a file of an open type if a text names it.
+    fn push_open(
+        &self,
+        written: &mut Files,
+        word: &str,
+        name: &str,
+        tag: Tag,
+    ) -> Result<(), AllocError>
+        requires { is_word name.now ≡ true }
+    {
+        if !written.have(word) {
+            return Ok(());
+        }
+        let notation = "Any value with this tag.";
+        let reason = "a type holds its own values";
+        let file = File {
+            name: String::from_str(self.alloc, name)?,
+            text: self.octets_text(word, tag, notation, reason)?,
+        };
+        written.push(self.alloc, file, word)
+    }
+}

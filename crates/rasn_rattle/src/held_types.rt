@@ -1,0 +1,152 @@
+//! A module that holds the types of others.
+ghost use Rattle.std.specs.Prelude.{◌≡◌, IfOk};
+
+use rasn_compiler::{Assigned, Assignment, Module, Modules};
+use std::alloc::{AllocError, Global};
+use std::collections::BTreeSet;
+
+/// The name of the module that holds types, and that of its type.
+pub const HOLDER_NAMES: (&str, &str) = ("Soqavise-Holder", "Soqavise-Held");
+
+/// A module whose one type holds the types of other modules, each as a component.
+#[derive(Drop)]
+pub struct Holder {
+    /// The text of the module [`HOLDER_NAMES`].
+    pub text: String,
+    /// The number of components, the first ones, for which files are written.
+    pub wanted: usize,
+}
+
+/// What the text of a holder is made of.
+#[derive(Drop)]
+struct Parts {
+    alloc: Global,
+    imports: String,
+    components: String,
+    names: BTreeSet<String>,
+}
+
+/// Returns a module whose type holds each type without parameters of the first modules, as many as
+/// `wanted`, for which files are written, and then of those that they import. Of types with the
+/// same name the first is held.
+///
+/// # Errors
+/// `AllocError` if memory runs out.
+pub fn holder_of(alloc: Global, read: &Modules<'_>, wanted: usize) -> Result<Holder, AllocError>
+    ensures { wanted ≡ 0 → IfOk result (λ holder. holder.wanted ≡ 0) }
+{
+    let imported = imported(alloc, read, wanted)?;
+    let mut parts = Parts {
+        alloc,
+        imports: String::new(alloc),
+        components: String::new(alloc),
+        names: BTreeSet::new(alloc),
+    };
+    let mut count = 0;
+    for (index, module) in read.modules.iter().enumerate() {
+        if index < wanted || imported.contains(module.name) {
+            parts.add_module(read, module)?;
+        }
+        if index < wanted {
+            count = parts.names.len();
+        }
+    }
+    Ok(Holder {
+        text: parts.text()?,
+        wanted: count,
+    })
+}
+
+/// Returns the names of the modules that the first ones import, as many as `wanted`, and of those
+/// that these import.
+fn imported(
+    alloc: Global,
+    read: &Modules<'_>,
+    wanted: usize,
+) -> Result<BTreeSet<String>, AllocError> {
+    let mut names = BTreeSet::new(alloc);
+    for module in read.modules.iter().take(wanted) {
+        add_imports(alloc, &mut names, module)?;
+    }
+    for _ in 0..read.modules.len() {
+        add_further_imports(alloc, &mut names, read)?;
+    }
+    Ok(names)
+}
+
+/// Adds the names of the modules that those with these names import.
+fn add_further_imports(
+    alloc: Global,
+    names: &mut BTreeSet<String>,
+    read: &Modules<'_>,
+) -> Result<(), AllocError> {
+    for module in &read.modules {
+        if names.contains(module.name) {
+            add_imports(alloc, names, module)?;
+        }
+    }
+    Ok(())
+}
+
+/// Adds the names of the modules that this one imports.
+fn add_imports(
+    alloc: Global,
+    names: &mut BTreeSet<String>,
+    module: &Module<'_>,
+) -> Result<(), AllocError> {
+    for import in &module.imports {
+        names.insert(String::from_str(alloc, import.module)?)?;
+    }
+    Ok(())
+}
+
+impl Parts {
+    /// Adds the types of a module.
+    fn add_module(&mut self, read: &Modules<'_>, module: &Module<'_>) -> Result<(), AllocError> {
+        let before = self.names.len();
+        for assignment in &module.assignments {
+            if is_plain_type(assignment) && !read.is_class(module.name, assignment.name) {
+                self.add_type(assignment.name, before)?;
+            }
+        }
+        if self.names.len() > before {
+            write!(self.imports, " FROM {}", module.name)?;
+        }
+        Ok(())
+    }
+
+    /// Adds a type of a module, before which there were so many types, unless there is one with its
+    /// name.
+    fn add_type(&mut self, name: &str, before: usize) -> Result<(), AllocError> {
+        if self.names.contains(name) {
+            return Ok(());
+        }
+        let number = self.names.len();
+        let separator = if number == before { " " } else { ", " };
+        write!(self.imports, "{separator}{name}")?;
+        let separator = if number == 0 { " " } else { ", " };
+        write!(
+            self.components,
+            "{separator}t{number} [{number}] EXPLICIT {name}"
+        )?;
+        self.names.insert(String::from_str(self.alloc, name)?)?;
+        Ok(())
+    }
+
+    /// Returns the text of the module.
+    fn text(&self) -> Result<String, AllocError> {
+        let (module, held) = HOLDER_NAMES;
+        let (imports, components) = (self.imports.as_str(), self.components.as_str());
+        let mut text = format!(in self.alloc; "{module} DEFINITIONS ::= BEGIN\n")?;
+        write!(
+            text,
+            "IMPORTS{imports};\n{held} ::= SEQUENCE {{{components} }}\nEND\n"
+        )?;
+        Ok(text)
+    }
+}
+
+/// Returns whether an assignment is one of a type without parameters (X.683 8.1).
+fn is_plain_type(assignment: &Assignment<'_>) -> bool {
+    matches!(assignment.assigned, Assigned::Type(_)) && assignment.parameters.is_none()
+}

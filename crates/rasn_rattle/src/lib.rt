@@ -1,0 +1,33 @@
+//! Typed Rattle for ASN.1 modules: for each type of a module the text of a file with its struct or
+//! enum, and with the impls by which it is read and written, which are proved as they are.
+#![tactic(auto)]
+
+mod bounds;
+mod calls;
+mod choice;
+mod constrained;
+mod defaults;
+mod enumerated;
+mod expression;
+mod files;
+mod held_types;
+mod integers;
+mod kinds;
+mod laws;
+mod layout;
+mod members;
+mod notation;
+mod output;
+mod parts;
+mod plan;
+mod reach;
+mod reasons;
+mod sequence;
+mod tags;
+mod template;
+mod twins;
+mod words;
+
+pub use files::crate_files;
+pub use held_types::{HOLDER_NAMES, Holder, holder_of};
+pub use output::File;
