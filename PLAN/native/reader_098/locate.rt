@@ -1,0 +1,140 @@
+//! Reading a value, with the place where it can't be read.
+
+use crate::made::{Made, Nothing, Values};
+use crate::reader::decode_at;
+use crate::refusal::Refusal;
+use crate::span::{Spans, no_list};
+use crate::trace::Fault;
+use crate::walk::Walk;
+use rasn_de::ber::de::{Decoder, DecoderOptions};
+use rasn_schema::{Schema, TypeId, Value};
+use rasn_types::error::{DecodeError, DecodeErrorKind};
+use rasn_types::types::Codec;
+use std::alloc::Global;
+
+/// Returns the refusal of an input of so many octets.
+pub(crate) fn refusal_of(
+    alloc: Global,
+    error: DecodeError,
+    trace: Option<Fault>,
+    id: TypeId,
+    len: usize,
+) -> Refusal
+{
+    match trace {
+        Some(fault) => {
+            let mut steps = fault.steps;
+            steps.reverse();
+            Refusal {
+                error,
+                offset: len - fault.left,
+                id: fault.id,
+                steps,
+                is_cut: fault.is_cut,
+            }
+        }
+        None => Refusal {
+            error,
+            offset: 0,
+            id,
+            steps: Vec::new(alloc),
+            is_cut: false,
+        },
+    }
+}
+
+/// Returns the refusal that memory ran out.
+pub(crate) fn out_of_memory(alloc: Global, rule: Codec, id: TypeId) -> Refusal
+{
+    let error = DecodeError {
+        kind: DecodeErrorKind::OutOfMemory,
+        codec: rule,
+    };
+    Refusal {
+        error,
+        offset: 0,
+        id,
+        steps: Vec::new(alloc),
+        is_cut: false,
+    }
+}
+
+/// Reads the value with which the input begins, and notes its parts. Returns what is made of it,
+/// and what follows it.
+///
+/// # Errors
+/// With the place of the innermost value that can't be read.
+pub(crate) fn read_first<'input, M: Made>(
+    alloc: Global,
+    rule: Codec,
+    schema: &Schema,
+    id: TypeId,
+    input: &'input [u8],
+    spans: &mut Spans<'input>,
+) -> Result<(Value<'input>, &'input [u8]), Refusal>
+{
+    let mut decoder = Decoder::new(alloc, input, DecoderOptions::of(rule));
+    // The octets have a number of this type, so the places in them have too.
+    let mut walk = Walk {
+        types: schema.types(),
+        fault: None,
+        error: None,
+        spans: std::mem::replace(spans, no_list()),
+    };
+    let mut value = Value::Absent;
+    match decode_at::<M>(&mut decoder, &mut walk, usize::MAX, id, &mut value) {
+        Ok(()) => {
+            *spans = walk.spans;
+            Ok((value, decoder.remaining()))
+        }
+        Err(_) => match walk.error {
+            Some(error) => Err(refusal_of(alloc, error, walk.fault, id, input.len())),
+            None => Err(out_of_memory(alloc, rule, id)),
+        },
+    }
+}
+
+/// Reads the value at the front of the input, and returns it with the remaining octets.
+///
+/// # Errors
+/// The error of `decode_with_remainder`, with the place of the innermost value that can't be read.
+///
+/// # Examples
+/// ```
+/// // `id` is the number of SEQUENCE { name IA5String, ok BOOLEAN } in `schema`.
+/// let octets: &[u8] = &[0x30, 0x05, 0x16, 0x00, 0x01, 0x01, 0x05];
+/// let read = rasn_dynamic::decode_or_locate(alloc, Codec::Der, &schema, id, octets);
+/// // The error has the offset 4 and the steps [1]: `ok` isn't DER (X.690 11.1).
+/// ```
+pub fn decode_or_locate<'input>(
+    alloc: Global,
+    rule: Codec,
+    schema: &Schema,
+    id: TypeId,
+    input: &'input [u8],
+) -> Result<(Value<'input>, &'input [u8]), Refusal>
+{
+    read_first::<Values>(alloc, rule, schema, id, input, &mut no_list())
+}
+
+/// Checks that a value of the type is at the front of the input, and returns the remaining octets. No
+/// value is made, as by `check`.
+///
+/// # Errors
+/// As [`decode_or_locate`].
+pub fn check_or_locate<'input>(
+    alloc: Global,
+    rule: Codec,
+    schema: &Schema,
+    id: TypeId,
+    input: &'input [u8],
+) -> Result<&'input [u8], Refusal>
+{
+    match read_first::<Nothing>(alloc, rule, schema, id, input, &mut no_list()) {
+        Ok((value, rest)) => {
+            drop(value);
+            Ok(rest)
+        }
+        Err(refusal) => Err(refusal),
+    }
+}

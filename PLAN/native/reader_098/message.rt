@@ -1,0 +1,123 @@
+//! The parts of a message, one after the other.
+ghost use Rattle.std.specs.Prelude.{◌≡◌, ◌⊎◌, OnOk, OnErr, IfOk, IfErr};
+ghost use Rattle.rasn_types.specs.Errors.{IsOutOfMemory};
+ghost use Rattle.rasn_dynamic.specs.Faults.{IsLocated};
+ghost use Rattle.rasn_dynamic.specs.Walk.{ArePartsOf, IsNextOf, path_at_depth};
+
+use crate::locate::{out_of_memory, read_first};
+use crate::made::Nothing;
+use crate::part::{Part, part_header};
+use crate::refusal::Refusal;
+use crate::span::{Span, finish, list_of, new_list, note};
+use rasn_schema::{Schema, TypeId};
+use rasn_types::error::{DecodeError, DecodeErrorKind};
+use rasn_types::types::Codec;
+use std::alloc::{AllocError, Global};
+
+/// The parts of a message, and how many of them `next` has returned.
+#[derive(Drop)]
+pub struct MessageParts<'input> {
+    /// The parts in the order of their octets, each before those inside it.
+    pub list: Vec<Span<'input>>,
+    /// The message and what follows it.
+    pub input: &'input [u8],
+    /// How many parts `next` has returned.
+    pub next: usize,
+    /// The path of the last of those, for `find_part`.
+    pub path: Vec<usize>,
+}
+
+/// Reads the value at the front of the input, and returns its parts, the value itself among them. No
+/// value is made, as by `check`. Values of a SET that its type doesn't name are no parts.
+///
+/// # Errors
+/// As [`check_or_locate`](crate::check_or_locate), or if memory for the list of parts runs out.
+///
+/// # Examples
+/// ```
+/// // `id` is the number of SEQUENCE { name IA5String, ok BOOLEAN } in `schema`.
+/// let octets: &[u8] = &[0x30, 0x05, 0x16, 0x00, 0x01, 0x01, 0xFF];
+/// let mut parts = rasn_dynamic::parts_of(alloc, Codec::Der, &schema, id, octets)?;
+/// while let Some(part) = parts.next(alloc)? {
+///     // The parts have the offsets 0, 2 and 4, and `parts.path` is [], [0] and [1].
+/// }
+/// ```
+pub fn parts_of<'input>(
+    alloc: Global,
+    rule: Codec,
+    schema: &Schema,
+    id: TypeId,
+    input: &'input [u8],
+) -> Result<MessageParts<'input>, Refusal>
+    ensures parts { IfOk result (ArePartsOf schema.now.types.items rule id.0 input.now) }
+    ensures located { IfErr result (λ r. IsOutOfMemory r.error.kind ⊎ IsLocated schema.now.types.items rule id.0 input.now r) }
+    ensures rules { IfErr result (λ r. r.error.codec ≡ rule) }
+{
+    let mut spans = new_list(alloc);
+    let place = note(&mut spans, id, 0, usize::MAX, input);
+    match read_first::<Nothing>(alloc, rule, schema, id, input, &mut spans) {
+        Ok((value, rest)) => {
+            drop(value);
+            finish(&mut spans, place, rest);
+            match list_of(spans) {
+                Some(list) => Ok(MessageParts {
+                    list,
+                    input,
+                    next: 0,
+                    path: Vec::new(alloc),
+                }),
+                None => Err(out_of_memory(alloc, rule, id)),
+            }
+        }
+        Err(refusal) => Err(refusal),
+    }
+}
+
+/// Makes the path of a part of that of the part before it: the part is in so many others.
+fn go_along(path: &mut Vec<usize>, depth: usize, index: usize) -> Result<(), AllocError>
+    ensures { OnOk result (path.new.items ≡ path_at_depth depth path.old.items index) }
+{
+    if depth == 0 {
+        path.truncate(0);
+        return Ok(());
+    }
+    path.truncate(depth - 1);
+    match path.push(index) {
+        Ok(()) => Ok(()),
+        Err(_) => Err(AllocError),
+    }
+}
+
+impl<'input> MessageParts<'input> {
+    /// Goes to the next part and returns it, or `None` after the last one.
+    ///
+    /// # Errors
+    /// `OutOfMemory` if there is no memory for the path: the next call tries the same part again.
+    /// Otherwise the framing error of the part's octets, which the parts of a message don't have.
+    pub fn next(&mut self, alloc: Global) -> Result<Option<Part<'input>>, DecodeError>
+        ensures next { IfOk result (λ found. IsNextOf self.old found self.new) }
+        ensures kept { (self.new.list ≡ self.old.list) × (self.new.input.now ≡ self.old.input.now) }
+        ensures err { OnErr result (self.new.next ≡ self.old.next) }
+    {
+        let Some(span) = self.list.get(self.next) else {
+            return Ok(None);
+        };
+        let (id, index, octets) = (span.id, span.index, span.octets);
+        let (levels, left) = (span.levels, span.left);
+        let (header_len, is_indefinite) = part_header(alloc, octets)?;
+        if go_along(&mut self.path, usize::MAX - levels, index).is_err() {
+            return Err(DecodeError {
+                kind: DecodeErrorKind::OutOfMemory,
+                codec: Codec::Ber,
+            });
+        }
+        self.next += 1;
+        Ok(Some(Part {
+            id,
+            offset: self.input.len().saturating_sub(left),
+            header_len,
+            is_indefinite,
+            octets,
+        }))
+    }
+}

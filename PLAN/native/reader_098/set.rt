@@ -1,0 +1,132 @@
+//! The components of a SET that were read so far (X.690 8.11).
+
+use crate::components::missing;
+use crate::made::Made;
+use crate::read_leaf::{out_of_memory, push};
+use rasn_de::ber::de::Decoder;
+use rasn_de::de::Error;
+use rasn_schema::{Component, Presence, Type, Value, begins, is_unknown_at};
+use rasn_types::error::DecodeError;
+use rasn_types::types::Tag;
+
+/// Returns the components that a SET names, and whether there may be unknown ones among them: then its
+/// last component is unknown values (X.680 27).
+pub fn named_components<'components>(
+    types: &[Type],
+    levels: usize,
+    components: &'components [Component],
+) -> (&'components [Component], bool)
+{
+    let Some(before) = components.len().checked_sub(1) else {
+        return (components, false);
+    };
+    if levels == 0 || !is_unknown_at(types, components[before].type_id) {
+        return (components, false);
+    }
+    (&components[..before], true)
+}
+
+/// Returns the component that may begin with the tag, and its index.
+pub fn component_for<'components>(
+    types: &[Type],
+    levels: usize,
+    components: &'components [Component],
+    tag: Tag,
+) -> Option<(usize, &'components Component)>
+{
+    for (number, component) in components.iter().enumerate() {
+        if begins(types, levels, component.type_id, tag) {
+            return Some((number, component));
+        }
+    }
+    None
+}
+
+/// Returns that no component was read yet.
+pub fn no_components<'input>(
+    decoder: &Decoder<'input>,
+    components: &[Component],
+) -> Result<Vec<Option<Value<'input>>>, DecodeError>
+{
+    let mut found = Vec::new(decoder.alloc());
+    let mut rest = components;
+    while let [_, after @ ..] = rest {
+        if found.push(None).is_err() {
+            return Err(out_of_memory(decoder));
+        }
+        rest = after;
+    }
+    Ok(found)
+}
+
+/// Puts a value in its place if that is empty; else returns the component's name and drops the value.
+pub fn put<'input, 'names>(
+    found: &mut Vec<Option<Value<'input>>>,
+    number: usize,
+    value: Value<'input>,
+    name: &'names str,
+) -> Option<&'names str>
+{
+    if found[number].is_some() {
+        return Some(name);
+    }
+    found[number] = Some(value);
+    None
+}
+
+/// Returns the component that was read or, where values are kept, the value that it has if it is absent.
+fn settle<'input, M: Made>(
+    decoder: &Decoder<'input>,
+    component: &Component,
+    found: Option<Value<'input>>,
+) -> Result<Value<'input>, DecodeError>
+{
+    if let Some(value) = found {
+        return Ok(value);
+    }
+    if let Presence::Required = component.presence {
+        let name = component.name.as_str();
+        return Err(DecodeError::missing_field(decoder.alloc(), name, decoder.codec()));
+    }
+    missing::<M>(decoder, component)
+}
+
+/// Returns all components, those that are absent with the values that they have then, where values are kept.
+///
+/// # Errors
+/// `MissingField` with the name of the first required component that is missing.
+pub fn gather<'input, M: Made>(
+    decoder: &Decoder<'input>,
+    components: &[Component],
+    found: Vec<Option<Value<'input>>>,
+) -> Result<Vec<Value<'input>>, DecodeError>
+{
+    let mut coming = found.into_iter();
+    let mut values = Vec::new(decoder.alloc());
+    let mut rest = components;
+    while let [component, after @ ..] = rest {
+        let Some(found) = coming.next() else {
+            unreachable!();
+        };
+        let value = settle::<M>(decoder, component, found)?;
+        push::<M>(decoder, &mut values, value)?;
+        rest = after;
+    }
+    Ok(values)
+}
+
+/// Returns the values of components that are all absent, where values are kept.
+///
+/// # Errors
+/// `OutOfMemory` if there is no room for them.
+pub fn all_absent<'input, M: Made>(
+    decoder: &Decoder<'input>,
+    components: &[Component],
+) -> Result<Vec<Value<'input>>, DecodeError>
+{
+    if !M::KEEP {
+        return Ok(Vec::new(decoder.alloc()));
+    }
+    let found = no_components(decoder, components)?;
+    gather::<M>(decoder, components, found)
+}

@@ -1,0 +1,389 @@
+//! Writes a value of a type.
+ghost use Rattle.std.specs.Prelude.{◌≡◌, ◌⊎◌, None, false, map, OnOk, IfOk, IfErr};
+ghost use Rattle.rasn_types.specs.Tags.{eoc};
+ghost use Rattle.rasn_types.specs.Trees.{list_tree};
+ghost use Rattle.rasn_types.specs.Bytes.{Bytes, WritesPart};
+ghost use Rattle.rasn_types.specs.Errors.{IsEncodeOutOfMemory};
+ghost use Rattle.rasn_enc.specs.Any.{IsUntaggedInSetError};
+ghost use Rattle.rasn_enc.specs.Encoding.{NoEncodingOfPart};
+ghost use Rattle.rasn_enc.specs.View.{fresh};
+ghost use Rattle.rasn_enc.specs.Primitive.{IsOrderError};
+ghost use Rattle.rasn_schema.specs.Trees.{tree_of};
+ghost use Rattle.rasn_schema.specs.Shapes.{shape_of_type, type_by, alternatives_by, choice_among, set_among, components_by, presence_in};
+ghost use Rattle.rasn_schema.specs.Fitting.{AlternativeFits, IsChosen, ComponentFits, ComponentsFit, EachFits, FitsBy, Fits};
+ghost use Rattle.rasn_dynamic.specs.Written.{EncodesIf, EncodesPartIf, EncodesInsideIf, EncodesPartsIf, EncodesElementsIf, EncodesSetOfIf, IsEnclosed, HoldsOthers, HoldsSet, FailsAtSet, AddsPart, FailsAtPart};
+
+use crate::place::place_tag;
+use crate::set::named_components;
+use crate::write_leaf::{
+    encode_leaf, encode_number, encode_open_value, encode_unknown_values, other_form, out_of_room,
+    unknown_as_components,
+};
+use rasn_enc::ber::enc::set_parts::{SetComponent, insert_component};
+use rasn_enc::ber::enc::{Encoder, EncoderOptions};
+use rasn_schema::{
+    Alternative, Component, Type, TypeId, Value, elements_of, is_left_out, items_of, type_at,
+};
+use rasn_types::error::{BerEncodeErrorKind, CodecEncodeError, EncodeError, EncodeErrorKind};
+use rasn_types::types::Tag;
+
+/// Returns the error that the octets of a set aren't in ascending order.
+fn out_of_order(encoder: &Encoder) -> EncodeError
+    ensures { IsOrderError encoder.now.rule result }
+{
+    EncodeError {
+        kind: EncodeErrorKind::CodecSpecific {
+            inner: CodecEncodeError::Ber(BerEncodeErrorKind::SetOutOfOrder),
+        },
+        codec: encoder.codec(),
+    }
+}
+
+/// Returns the error that a component doesn't begin with an identifier, so that its place isn't known.
+fn no_place(encoder: &Encoder) -> EncodeError
+    ensures { IsUntaggedInSetError encoder.now.rule result }
+{
+    EncodeError {
+        kind: EncodeErrorKind::CodecSpecific {
+            inner: CodecEncodeError::Ber(BerEncodeErrorKind::AnyInSet),
+        },
+        codec: encoder.codec(),
+    }
+}
+
+/// Writes a value of the type with this number, if it is one. Types are followed `levels` deep.
+#[cycle(encode)]
+pub fn encode_at(
+    encoder: &mut Encoder,
+    types: &[Type],
+    levels: usize,
+    id: TypeId,
+    value: &Value<'_>,
+) -> Result<(), EncodeError>
+    ensures { EncodesIf (Fits types.now levels id.0 value.now) (shape_of_type types.now levels id.0) (tree_of value.now) encoder.old result encoder.new }
+{
+    if levels == 0 {
+        return Err(other_form(encoder));
+    }
+    match type_at(types, id) {
+        Some(ty) => encode_type(encoder, types, levels - 1, ty, value),
+        None => Err(other_form(encoder)),
+    }
+}
+
+/// Writes a value of a type.
+#[cycle(encode)]
+fn encode_type(
+    encoder: &mut Encoder,
+    types: &[Type],
+    below: usize,
+    ty: &Type,
+    value: &Value<'_>,
+) -> Result<(), EncodeError>
+    ensures { EncodesIf (FitsBy (Fits types.now below) ty.now value.now) (type_by (shape_of_type types.now below) ty.now) (tree_of value.now) encoder.old result encoder.new }
+{
+    match ty {
+        Type::Leaf {
+            kind,
+            tag,
+            constraints,
+            ..
+        } => encode_leaf(encoder, *kind, *tag, constraints, value),
+        Type::Enumerated { tag, numbers } => encode_number(encoder, *tag, numbers, value),
+        Type::Any { tag } => encode_open_value(encoder, *tag, value),
+        Type::Unknown => encode_unknown_values(encoder, value),
+        Type::Choice { alternatives, .. } => encode_choice(
+            encoder,
+            types,
+            below,
+            alternatives,
+            value,
+        ),
+        Type::Tagged { tag, .. } => { encode_inside(encoder, types, below, ty, *tag, value) }
+        Type::Sequence { tag, .. } => { encode_inside(encoder, types, below, ty, *tag, value) }
+        Type::Set { tag, .. } => encode_inside(encoder, types, below, ty, *tag, value),
+        Type::SequenceOf { tag, .. } => { encode_inside(encoder, types, below, ty, *tag, value) }
+        Type::SetOf { tag, .. } => { encode_inside(encoder, types, below, ty, *tag, value) }
+    }
+}
+
+/// Writes the alternative that was chosen (X.690 8.13).
+#[cycle(encode)]
+fn encode_choice(
+    encoder: &mut Encoder,
+    types: &[Type],
+    below: usize,
+    alternatives: &[Alternative],
+    value: &Value<'_>,
+) -> Result<(), EncodeError>
+    ensures { EncodesIf (IsChosen (AlternativeFits (Fits types.now below) alternatives.now) value.now) (choice_among (alternatives_by (shape_of_type types.now below) alternatives.now)) (tree_of value.now) encoder.old result encoder.new }
+{
+    let Value::Chosen(index, inner) = value else {
+        return Err(other_form(encoder));
+    };
+    match alternatives.get(*index) {
+        Some(alternative) => encode_at(encoder, types, below, alternative.type_id, inner),
+        None => Err(other_form(encoder)),
+    }
+}
+
+/// Writes a value that holds other values, and its header.
+#[cycle(encode)]
+fn encode_inside(
+    encoder: &mut Encoder,
+    types: &[Type],
+    below: usize,
+    ty: &Type,
+    tag: Tag,
+    value: &Value<'_>,
+) -> Result<(), EncodeError>
+    requires { IsEnclosed (type_by (shape_of_type types.now below) ty.now) tag }
+    ensures { EncodesIf (FitsBy (Fits types.now below) ty.now value.now) (type_by (shape_of_type types.now below) ty.now) (tree_of value.now) encoder.old result encoder.new }
+{
+    encoder.open(false)?;
+    let outcome = encode_contents(encoder, types, below, ty, value);
+    encoder.close(tag, outcome)
+}
+
+/// Writes the contents of a value that holds other values.
+#[cycle(encode)]
+fn encode_contents(
+    encoder: &mut Encoder,
+    types: &[Type],
+    below: usize,
+    ty: &Type,
+    value: &Value<'_>,
+) -> Result<(), EncodeError>
+    requires holds { HoldsOthers (type_by (shape_of_type types.now below) ty.now) }
+    requires fresh { encoder.old.last ≡ fresh false }
+    ensures { EncodesInsideIf (FitsBy (Fits types.now below) ty.now value.now) (type_by (shape_of_type types.now below) ty.now) (tree_of value.now) encoder.old result encoder.new }
+{
+    match ty {
+        Type::Tagged { inner, .. } => encode_at(encoder, types, below, *inner, value),
+        Type::Sequence { components, .. } => match items_of(value) {
+            Some(values) => encode_components(encoder, types, below, components, values),
+            None => Err(other_form(encoder)),
+        },
+        Type::Set { components, .. } => match items_of(value) {
+            Some(values) => encode_set(encoder, types, below, components, values),
+            None => Err(other_form(encoder)),
+        },
+        Type::SequenceOf {
+            element,
+            constraints,
+            ..
+        } => match items_of(value) {
+            Some(values) => {
+                encoder.check_size(constraints, values.len())?;
+                encode_elements(encoder, types, below, *element, values)
+            }
+            None => Err(other_form(encoder)),
+        },
+        Type::SetOf {
+            element,
+            constraints,
+            ..
+        } => match elements_of(value) {
+            Some(values) => {
+                encoder.check_size(constraints, values.len())?;
+                encode_elements_in_order(encoder, types, below, *element, values)
+            }
+            None => Err(other_form(encoder)),
+        },
+        _ => unreachable!(),
+    }
+}
+
+/// Writes components, one after the other.
+#[cycle(encode)]
+fn encode_components(
+    encoder: &mut Encoder,
+    types: &[Type],
+    below: usize,
+    components: &[Component],
+    values: &[Value<'_>],
+) -> Result<(), EncodeError>
+    ensures { EncodesPartsIf (ComponentsFit (Fits types.now below) components.now values.now) (components_by (shape_of_type types.now below) components.now) (list_tree tree_of values.now) encoder.old result encoder.new }
+{
+    let mut rest = components;
+    let mut left = values;
+    while let [component, after @ ..] = rest {
+        let [value, others @ ..] = left else {
+            return Err(other_form(encoder));
+        };
+        encode_component(encoder, types, below, component, value)?;
+        rest = after;
+        left = others;
+    }
+    if left.is_empty() {
+        return Ok(());
+    }
+    Err(other_form(encoder))
+}
+
+/// Writes a component, or nothing if it is absent.
+#[cycle(encode)]
+fn encode_component(
+    encoder: &mut Encoder,
+    types: &[Type],
+    below: usize,
+    component: &Component,
+    value: &Value<'_>,
+) -> Result<(), EncodeError>
+    ensures { EncodesPartIf (ComponentFits (Fits types.now below) component.now value.now) (presence_in (shape_of_type types.now below) component.now) (shape_of_type types.now below component.now.type_id.0) (tree_of value.now) encoder.old result encoder.new }
+{
+    if is_left_out(component, value) {
+        return Ok(());
+    }
+    encode_at(encoder, types, below, component.type_id, value)
+}
+
+/// Writes the components of a SET in the order of their tags (X.690 9.3, 10.3), whatever their order in the type. If there may be unknown components,
+/// the last value is the list of them, and each is written where its tag belongs.
+#[cycle(encode)]
+fn encode_set(
+    encoder: &mut Encoder,
+    types: &[Type],
+    below: usize,
+    components: &[Component],
+    values: &[Value<'_>],
+) -> Result<(), EncodeError>
+    requires { encoder.old.last ≡ fresh false }
+    ensures { EncodesInsideIf (ComponentsFit (Fits types.now below) components.now values.now) (set_among eoc (components_by (shape_of_type types.now below) components.now)) (list_tree tree_of values.now) encoder.old result encoder.new }
+{
+    let found = set_components(encoder, types, below, components, values)?;
+    encoder.append_components(&found)
+}
+
+/// Writes each component of a SET alone, and returns them in the order of their tags.
+#[cycle(encode)]
+fn set_components(
+    encoder: &Encoder,
+    types: &[Type],
+    below: usize,
+    components: &[Component],
+    values: &[Value<'_>],
+) -> Result<Vec<SetComponent>, EncodeError>
+    ensures ok { IfOk result (λ v. ComponentsFit (Fits types.now below) components.now values.now × HoldsSet (components_by (shape_of_type types.now below) components.now) (list_tree tree_of values.now) encoder.now.rule v.items) }
+    ensures refused { ComponentsFit (Fits types.now below) components.now values.now → IfErr result (FailsAtSet (components_by (shape_of_type types.now below) components.now) (list_tree tree_of values.now) encoder.now.rule) }
+    ensures rules { IfErr result (λ e. e.codec ≡ encoder.now.rule) }
+{
+    if values.len() != components.len() {
+        return Err(other_form(encoder));
+    }
+    let (named, extensible) = named_components(types, below, components);
+    let mut found = Vec::new(encoder.alloc());
+    if extensible {
+        let last = named.len();
+        let value = &values[last];
+        // The unknown values of a schema are required, so that they aren't left out.
+        if is_left_out(&components[last], value) {
+            return Err(out_of_room(encoder));
+        }
+        found = unknown_as_components(encoder, value)?;
+    }
+    let mut left = named.len();
+    while left > 0 {
+        left -= 1;
+        add_component(
+            encoder,
+            types,
+            below,
+            &named[left],
+            &values[left],
+            &mut found,
+        )?;
+    }
+    Ok(found)
+}
+
+/// Writes a component alone, and puts it among others where its tag belongs, if it isn't left out.
+#[cycle(encode)]
+fn add_component(
+    encoder: &Encoder,
+    types: &[Type],
+    below: usize,
+    component: &Component,
+    value: &Value<'_>,
+    found: &mut Vec<SetComponent>,
+) -> Result<(), EncodeError>
+    ensures ok { OnOk result (ComponentFits (Fits types.now below) component.now value.now × AddsPart (presence_in (shape_of_type types.now below) component.now) (shape_of_type types.now below component.now.type_id.0) (tree_of value.now) encoder.now.rule found.old.items found.new.items) }
+    ensures refused { ComponentFits (Fits types.now below) component.now value.now → IfErr result (FailsAtPart (presence_in (shape_of_type types.now below) component.now) (shape_of_type types.now below component.now.type_id.0) (tree_of value.now) encoder.now.rule) }
+    ensures rules { IfErr result (λ e. e.codec ≡ encoder.now.rule) }
+{
+    let octets = component_octets(encoder, types, below, component, value)?;
+    if octets.is_empty() {
+        return Ok(());
+    }
+    let rule = encoder.codec();
+    let Some(tag) = place_tag(types, below, rule, component.type_id, &octets) else {
+        return Err(no_place(encoder));
+    };
+    insert_component(found, SetComponent { tag, octets }, rule)
+}
+
+/// Writes a component alone, and returns its octets: none if it is left out.
+#[cycle(encode)]
+fn component_octets(
+    encoder: &Encoder,
+    types: &[Type],
+    below: usize,
+    component: &Component,
+    value: &Value<'_>,
+) -> Result<Vec<u8>, EncodeError>
+    ensures ok { IfOk result (λ v. ComponentFits (Fits types.now below) component.now value.now × WritesPart (presence_in (shape_of_type types.now below) component.now) (Bytes encoder.now.rule (shape_of_type types.now below component.now.type_id.0)) (tree_of value.now) v.items) }
+    ensures refused { ComponentFits (Fits types.now below) component.now value.now → IfErr result (λ e. IsEncodeOutOfMemory e.kind ⊎ NoEncodingOfPart (presence_in (shape_of_type types.now below) component.now) encoder.now.rule (shape_of_type types.now below component.now.type_id.0) (tree_of value.now)) }
+    ensures rules { IfErr result (λ e. e.codec ≡ encoder.now.rule) }
+{
+    let alloc = encoder.alloc();
+    let options = EncoderOptions::of(encoder.codec());
+    let mut alone = Encoder::over(alloc, options, Vec::new(alloc));
+    encode_component(&mut alone, types, below, component, value)?;
+    alone.output()
+}
+
+/// Writes elements, one after the other.
+#[cycle(encode)]
+fn encode_elements(
+    encoder: &mut Encoder,
+    types: &[Type],
+    below: usize,
+    element: TypeId,
+    values: &[Value<'_>],
+) -> Result<(), EncodeError>
+    requires { encoder.old.last.tags ≡ None }
+    ensures { EncodesElementsIf (EachFits (Fits types.now below element.0) values.now) (shape_of_type types.now below element.0) (map tree_of values.now) encoder.old result encoder.new }
+{
+    let mut rest = values;
+    while let [value, after @ ..] = rest {
+        encode_at(encoder, types, below, element, value)?;
+        rest = after;
+    }
+    Ok(())
+}
+
+/// Writes elements whose octets are in ascending order.
+#[cycle(encode)]
+fn encode_elements_in_order(
+    encoder: &mut Encoder,
+    types: &[Type],
+    below: usize,
+    element: TypeId,
+    values: &[Value<'_>],
+) -> Result<(), EncodeError>
+    requires { encoder.old.last.tags ≡ None }
+    ensures { EncodesSetOfIf (EachFits (Fits types.now below element.0) values.now) (shape_of_type types.now below element.0) (map tree_of values.now) encoder.old result encoder.new }
+{
+    let mut previous = encoder.last_len();
+    let mut rest = values;
+    while let [value, after @ ..] = rest {
+        let start = encoder.last_len();
+        encode_at(encoder, types, below, element, value)?;
+        if encoder.neighbours_out_of_order(previous, start) {
+            return Err(out_of_order(encoder));
+        }
+        previous = start;
+        rest = after;
+    }
+    Ok(())
+}

@@ -1,0 +1,5 @@
+//! `LDAPString ::= OCTET STRING`
+use rasn::prelude::*;
+
+/// `LDAPString ::= OCTET STRING`
+pub type LdapString = OctetString;

@@ -1,0 +1,5 @@
+//! `LDAPOID ::= OCTET STRING`
+use rasn::prelude::*;
+
+/// `LDAPOID ::= OCTET STRING`
+pub type Ldapoid = OctetString;

@@ -1,0 +1,93 @@
+//! `SearchResultEntry ::= [APPLICATION 4] IMPLICIT SEQUENCE`
+use crate::{LdapString, PartialAttributeList};
+use rasn::prelude::*;
+
+/// `SearchResultEntry ::= [APPLICATION 4] IMPLICIT SEQUENCE`
+#[derive(Debug, PartialEq, Eq, Drop)]
+pub struct SearchResultEntry {
+    /// `objectName LDAPString`
+    pub object_name: LdapString,
+    /// `attributes PartialAttributeList`
+    pub attributes: PartialAttributeList,
+    /// `...`
+    pub unknown: Unknown,
+}
+
+/// The components, as they are read.
+type Parts = Required<LdapString, Parts1>;
+
+type Parts1 = Required<PartialAttributeList, Parts2>;
+
+type Parts2 = Required<Unknown, End>;
+
+impl AsnType for SearchResultEntry {
+    ghost use Rattle.std.specs.Prelude.{refl};
+    ghost use Rattle.rasn_types.specs.declared.types.tag.Class.TheVariants.{Application};
+    ghost use Rattle.rasn_types.specs.Shapes.{seq};
+    ghost use Rattle.rasn_types.specs.Trees.{unconstrained};
+
+    ghost TAG = { record { class = Application; value = 4 } };
+
+    const TAG: Tag = Tag {
+        class: Class::Application,
+        value: 4,
+    };
+
+    ghost CONSTRAINTS = { unconstrained };
+
+    const CONSTRAINTS: Constraints = Constraints::NONE;
+
+    ghost shape = { seq (record { class = Application; value = 4 }) ⟦<Parts as DecodeParts>⟧.parts };
+
+    ghost tree = { λ a. ⟦<Parts as DecodeParts>⟧.tree (record { 0 = a.object_name; 1 = record { 0 = a.attributes; 1 = record { 0 = a.unknown; 1 = record {} } } }) };
+
+    ghost own = { refl };
+}
+
+impl LawfulEq for SearchResultEntry {
+    ghost use Rattle.rasn_types.specs.Deciding.{deciding};
+    ghost use Rattle.m_ldap.specs.contracts.partial_attribute.PartialAttributeLawfulEq.TheImpl.Laws.{decides-law as partial_attribute_law};
+
+    ghost decides = { Prim.search (partial_attribute_law, deciding) depth 64 };
+}
+
+impl Present for SearchResultEntry {
+    ghost use Rattle.rasn_types.specs.Equality.{parts_not_absent};
+
+    ghost present = { λ _. parts_not_absent };
+}
+
+impl Decode for SearchResultEntry {
+    fn decode_with_tag_and_constraints(
+        decoder: &mut Decoder<'_>,
+        tag: Tag,
+        _constraints: &Constraints,
+    ) -> Result<SearchResultEntry, DecodeError> {
+        let Required(object_name, rest) = decoder.read_sequence::<Parts>(tag)?;
+        let Required(attributes, rest) = rest;
+        let Required(unknown, End) = rest;
+        Ok(SearchResultEntry {
+            object_name,
+            attributes,
+            unknown,
+        })
+    }
+}
+
+impl Encode for SearchResultEntry {
+    fn encode_with_tag_and_constraints(
+        &self,
+        encoder: &mut Encoder,
+        tag: Tag,
+        _constraints: &Constraints,
+        _identifier: Identifier,
+    ) -> Result<(), EncodeError> {
+        let rest = Put(&self.unknown, End);
+        let rest = Put(&self.attributes, rest);
+        encoder.write_sequence(tag, Put(&self.object_name, rest))
+    }
+
+    fn is_present(&self) -> bool {
+        true
+    }
+}
