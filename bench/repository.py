@@ -1,0 +1,19 @@
+"""What the scripts of this folder share that build programs of this repository."""
+import pathlib
+import shutil
+import subprocess
+import sys
+
+sys.dont_write_bytecode = True
+TOP = pathlib.Path(__file__).resolve().parent.parent
+
+
+def copied(scratch):
+    """Copies the files of the repository into a repository of its own in the folder `scratch`, and returns its path."""
+    top = pathlib.Path(scratch) / "repository"
+    for name in subprocess.check_output(["git", "ls-files", "-z"], cwd=TOP, text=True).split("\0"):
+        if name:
+            (top / name).parent.mkdir(parents=True, exist_ok=True)
+            shutil.copy2(TOP / name, top / name, follow_symlinks=False)
+    subprocess.run(["git", "init", "-q", "."], cwd=top, check=True)
+    return top
