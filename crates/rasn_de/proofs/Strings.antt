@@ -16,3 +16,4 @@ pub mod Seen
 pub mod SeenBits
 pub mod SeenNamed
 pub mod SeenText
+pub mod SeenTimes

@@ -11,6 +11,7 @@ pub mod Prefix
 pub mod Decodes
 pub mod Checks
 pub mod TextScan
+pub mod ShortText
 pub mod Causes
 pub mod Choice
 pub mod NamedErrors

@@ -1,5 +1,5 @@
 -- Strings whose segments are seen.
-use Rattle.std.proofs.Common.{◌≡◌, ◌≢◌, ◌≤◌, ◌<◌, ◌^◌, ℕ, inl, inr, ◌⊎◌, false, List, [], length, Result, Ok, Err, refl, sym, ap, ◌∙◌, subst, arith}
+use Rattle.std.proofs.Common.{◌≡◌, ◌≢◌, ◌≤◌, ◌<◌, ◌^◌, ℕ, inl, inr, ◌⊎◌, false, List, [], ◌++◌, length, Result, Ok, Err, refl, sym, ap, ◌∙◌, subst, arith, append_assoc}
 use Rattle.std.specs.Prelude.{Some, None, IfErr}
 use Rattle.std.specs.Borrow.{Bor}
 use Rattle.std.proofs.lemmas.List.Elements.{All-nil}
@@ -130,3 +130,7 @@ pub check_unread : {kind : Kind} {bounds : Constraints} {Told : StringCheck} (fi
     → Checked fits tag old new o (Err e)
 check_unread fits tag old new o e (f, x, k, read, plain) =
     check_unseen fits tag old new o e (f, x, k, λ n. read) (λ m. kind_memory f plain (sym (ap (λ (y : DecodeError). y.kind) x) ∙ m))
+
+-- What is seen one after the other.
+pub sees_both : {X : Type 0} (xs ys all : List X) (Old Mid New : List X → Type 0) → SeesMore xs Old Mid → SeesMore ys Mid New → all ≡ xs ++ ys → SeesMore all Old New
+sees_both xs ys all Old Mid New f g e seen h = subst New (append_assoc seen xs ys ∙ ap (λ z. seen ++ z) (sym e)) (g (seen ++ xs) (f seen h))

@@ -19,6 +19,7 @@ pub mod named_count;
 pub mod object_identifier;
 pub mod octet_count;
 pub mod segments;
+pub mod short_text;
 pub mod skipping;
 pub mod text_scan;
 

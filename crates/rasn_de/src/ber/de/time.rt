@@ -7,10 +7,16 @@ ghost use Rattle.rasn_types.specs.Shapes.{leaf, utc_time, generalized_time, date
 ghost use Rattle.rasn_types.specs.Time.{GeneralUtc, CanonicalUtc, GeneralGeneralized, StrictGeneralized, DateText};
 ghost use Rattle.rasn_types.specs.Grammar.{UtcText, GeneralizedText};
 ghost use Rattle.rasn_de.specs.Decodes.{Decodes};
+ghost use Rattle.rasn_de.specs.Checks.{Checks, ChecksBy};
+ghost use Rattle.rasn_de.specs.ShortText.{TakesTime, IsTimeIfTrue, is_constructed_next};
 ghost use Rattle.rasn_de.specs.Time.{AtAnyOffset, IsInvalidDate, IsInvalidText, IsInvalidString, ParsesTime, ParsesCopiedTime, DecodesTime};
 
 use crate::ber::de::Decoder;
 use crate::ber::de::octet_string::owned;
+use crate::ber::de::parser::headers::{Expected, Spelling};
+use crate::ber::de::parser::read_value;
+use crate::ber::de::parser::segments::string_contents;
+use crate::ber::de::parser::short_text::ShortText;
 use crate::de::Decode;
 use rasn_types::ber::time::{
     parse_canonical_generalized_time, parse_canonical_utc_time, parse_date, parse_generalized_time,
@@ -43,6 +49,19 @@ fn read_generalized_time(rules: Codec, text: &[u8]) -> Option<GeneralizedTime>
     }
 }
 
+/// Returns whether a text of at most 32 octets is a time or a date.
+fn is_time<T: TimeText>(rules: Codec, text: &ShortText) -> bool
+    ensures { IsTimeIfTrue result (T.means rules) text.now.octets text.now.len }
+{
+    let Some(octets) = text.as_slice() else {
+        return false;
+    };
+    match T::parse(rules, octets) {
+        Some(_) => true,
+        None => false,
+    }
+}
+
 /// Returns the error for a text that isn't a valid time or date.
 fn invalid_date(octets: Vec<u8>, codec: Codec) -> DecodeError
     ensures { IsInvalidDate octets.items codec result }
@@ -68,7 +87,82 @@ fn invalid_text(alloc: Global, text: &[u8], codec: Codec) -> DecodeError
     }
 }
 
+/// A time or a date that has a text.
+trait TimeText: Drop {
+    ghost use Rattle.std.specs.Prelude.{List, ℕ};
+    ghost use Rattle.rasn_types.specs.declared.types.codec.Codec.{Codec};
+    ghost use Rattle.rasn_types.specs.Options.{IsSomeRelated};
+
+    ghost means: { Codec → List ℕ → Self → Type 0 };
+
+    /// Parses a text that the rules allow.
+    fn parse(rules: Codec, text: &[u8]) -> Option<Self>
+        ensures { IsSomeRelated result (means rules text.now) };
+}
+
+impl TimeText for UtcTime {
+    ghost means = { λ rules. AtAnyOffset (UtcText rules) };
+
+    fn parse(rules: Codec, text: &[u8]) -> Option<UtcTime> {
+        read_utc_time(rules, text)
+    }
+}
+
+impl TimeText for GeneralizedTime {
+    ghost means = { GeneralizedText };
+
+    fn parse(rules: Codec, text: &[u8]) -> Option<GeneralizedTime> {
+        read_generalized_time(rules, text)
+    }
+}
+
+impl TimeText for Date {
+    ghost means = { λ rules. DateText };
+
+    fn parse(_rules: Codec, text: &[u8]) -> Option<Date> {
+        parse_date(text)
+    }
+}
+
 impl<'input> Decoder<'input> {
+    /// Consumes a string in segments if its text has at most 32 octets and is a time or a date.
+    /// Returns whether it does; otherwise nothing is consumed.
+    fn take_time<T: TimeText>(&mut self, tag: Tag) -> bool
+        ensures { TakesTime T.means tag self.old result self.new }
+    {
+        if !self.is_constructed() {
+            return false;
+        }
+        let Ok((value, rest)) = read_value(
+            Spelling::of_rule(self.rules),
+            Expected::Tagged(tag),
+            self.rest,
+        ) else {
+            return false;
+        };
+        let mut text = ShortText::new();
+        let inner = Tag::OCTET_STRING;
+        match string_contents(self.rules, inner, self.depth, value, rest, &mut text) {
+            Ok(rest) => if is_time::<T>(self.rules, &text) {
+                self.advance(rest);
+                true
+            } else {
+                false
+            },
+            Err(_) => false,
+        }
+    }
+
+    /// Returns whether the identifier that follows has the constructed bit (X.690 8.1.2.5).
+    fn is_constructed(&self) -> bool
+        ensures { result ≡ is_constructed_next self.now.rest }
+    {
+        match self.rest {
+            [first, ..] => *first % 64 >= 32,
+            [] => false,
+        }
+    }
+
     /// Returns the error for a string that isn't a valid time or date. Only borrowed octets are
     /// copied for it.
     fn invalid_date(&self, text: CowSlice<'_, u8>) -> DecodeError
@@ -133,6 +227,63 @@ impl<'input> Decoder<'input> {
         match parse_date(&text) {
             Some(day) => Ok(day),
             None => Err(self.invalid_date(text)),
+        }
+    }
+
+    /// Reads a UTCTime as `decode_utc_time` does, and returns no value. Memory is taken
+    /// only for an error, and for a text of more than 32 octets in segments.
+    ///
+    /// # Errors
+    /// As `decode_utc_time`.
+    pub fn check_utc_time(&mut self, tag: Tag) -> Result<(), DecodeError>
+        ensures reads { (c : Constraints) → Checks (leaf utc_time tag c) self.old result self.new }
+        ensures exact { ChecksBy (DecodesTime (AtAnyOffset (UtcText self.old.rule)) tag) self.old result self.new }
+        ensures rules { IfErr result (λ e. e.codec ≡ self.old.rule) }
+    {
+        if self.take_time::<UtcTime>(tag) {
+            return Ok(());
+        }
+        match self.decode_utc_time(tag) {
+            Ok(_) => Ok(()),
+            Err(error) => Err(error),
+        }
+    }
+
+    /// Reads a GeneralizedTime as `decode_generalized_time` does, and returns no value. Memory is taken
+    /// only for an error, and for a text of more than 32 octets in segments.
+    ///
+    /// # Errors
+    /// As `decode_generalized_time`.
+    pub fn check_generalized_time(&mut self, tag: Tag) -> Result<(), DecodeError>
+        ensures reads { (c : Constraints) → Checks (leaf generalized_time tag c) self.old result self.new }
+        ensures exact { ChecksBy (DecodesTime (GeneralizedText self.old.rule) tag) self.old result self.new }
+        ensures rules { IfErr result (λ e. e.codec ≡ self.old.rule) }
+    {
+        if self.take_time::<GeneralizedTime>(tag) {
+            return Ok(());
+        }
+        match self.decode_generalized_time(tag) {
+            Ok(_) => Ok(()),
+            Err(error) => Err(error),
+        }
+    }
+
+    /// Reads a DATE as `decode_date` does, and returns no value. Memory is taken
+    /// only for an error, and for a text of more than 32 octets in segments.
+    ///
+    /// # Errors
+    /// As `decode_date`.
+    pub fn check_date(&mut self, tag: Tag) -> Result<(), DecodeError>
+        ensures reads { (c : Constraints) → Checks (leaf date tag c) self.old result self.new }
+        ensures exact { ChecksBy (DecodesTime DateText tag) self.old result self.new }
+        ensures rules { IfErr result (λ e. e.codec ≡ self.old.rule) }
+    {
+        if self.take_time::<Date>(tag) {
+            return Ok(());
+        }
+        match self.decode_date(tag) {
+            Ok(_) => Ok(()),
+            Err(error) => Err(error),
         }
     }
 
