@@ -249,8 +249,8 @@ impl<'input> Decoder<'input> {
         }
     }
 
-    /// Reads a GeneralizedTime as `decode_generalized_time` does, and returns no value. Memory is taken
-    /// only for an error, and for a text of more than 32 octets in segments.
+    /// Reads a GeneralizedTime as `decode_generalized_time` does, and returns no value. Memory is
+    /// taken only for an error, and for a text of more than 32 octets in segments.
     ///
     /// # Errors
     /// As `decode_generalized_time`.
