@@ -12,10 +12,10 @@ use Rattle.rasn_de.specs.Choice.{IsOnlyAlternative}
 use Rattle.rasn_de.specs.Set.{AreParts}
 use Rattle.rasn_de.proofs.OwnTypes.Components.{Slot, slot_appended, slot_kept, component_missing, component_there, component_default, component_optional, components_end}
 use Rattle.rasn_de.proofs.OwnTypes.Tags.{only}
-use Rattle.rasn_x509.specs.declared.time.Time.{Time}
+use Rattle.rasn_bench.specs.declared.worked.time.Time.{Time}
 use Rattle.rasn_bench.specs.declared.worked.event.Component.{Component}
 use Rattle.rasn_bench.specs.declared.worked.event.Component.TheVariants.{At, Level, Confirmed}
-use Rattle.rasn_x509.specs.Times.{time_shape, time_tree}
+use Rattle.rasn_bench.specs.Times.{time_shape, time_tree}
 use Rattle.rasn_bench.specs.Event.{event_parts, level_tree, component_tree}
 
 -- Either tag of a Time is that of the first part alone.

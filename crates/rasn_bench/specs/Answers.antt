@@ -17,10 +17,10 @@ use Rattle.rasn_bench.specs.declared.answer.Answer.TheVariants.{Read, NotWritten
 use Rattle.rasn_bench.specs.Lines.{Asks, type_word}
 use Rattle.rasn.specs.WorkedShapes.{named, perhaps_bool, octets_in_set_of}
 use Rattle.rasn_bench.specs.Pair.{pair_shape}
-use Rattle.rasn_x509.specs.Period.{validity_shape}
+use Rattle.rasn_bench.specs.Period.{validity_shape}
 use Rattle.rasn_bench.specs.Colour.{colours}
-use Rattle.rasn_x509.specs.Algorithm.{algorithm_shape}
-use Rattle.rasn_x509.specs.Names.{relative_shape}
+use Rattle.rasn_bench.specs.Algorithm.{algorithm_shape}
+use Rattle.rasn_bench.specs.Names.{relative_shape}
 use Rattle.rasn_bench.specs.Set3.{set3_shape}
 
 abbrev pub shape_of : ValueType → Shape

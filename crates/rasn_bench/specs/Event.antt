@@ -12,7 +12,7 @@ use Rattle.rasn_bench.specs.declared.worked.event.Component.TheVariants.{At, Lev
 use Rattle.rasn_de.specs.State.{State, Call}
 use Rattle.rasn_de.specs.Beyond.{Beyond, Held, BeyondElements, BeyondInside}
 use Rattle.rasn_de.specs.Constructed.{sequence_header}
-use Rattle.rasn_x509.specs.Times.{time_shape, time_tree, time_beyond}
+use Rattle.rasn_bench.specs.Times.{time_shape, time_tree, time_beyond}
 
 abbrev pub context : ℕ → Tag
 context n = record { class = Context; value = n }

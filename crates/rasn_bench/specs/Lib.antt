@@ -1,3 +1,8 @@
+pub mod Algorithm
+pub mod Attribute
+pub mod Names
+pub mod Times
+pub mod Period
 pub mod Lines
 pub mod LawfulTypes
 pub mod Answers

@@ -27,7 +27,7 @@ ghost use Rattle.std.specs.Prelude.{◌≡◌, IfOk, IfErr, map};
 ghost use Rattle.rasn_types.specs.Shapes.{IsFirst};
 ghost use Rattle.rasn_de.specs.Set.{MakesSet};
 ghost use Rattle.rasn_enc.specs.Sequence.{EncodesParts};
-ghost use Rattle.rasn_x509.specs.Times.{time_shape};
+ghost use Rattle.rasn_bench.specs.Times.{time_shape};
 ghost use Rattle.rasn_bench.specs.Event.{event_parts, event_tree, component_tree, HoldsTime};
 ghost use Rattle.rasn_types.specs.Truth.{IsWhether};
 
@@ -83,7 +83,7 @@ impl AsnType for Event {
 
 impl LawfulEq for Event {
     ghost use Rattle.rasn_types.specs.Deciding.{deciding};
-    ghost use Rattle.rasn_x509.specs.contracts.time.TimeLawfulEq.TheImpl.Laws.{decides-law as time_law};
+    ghost use Rattle.rasn_bench.specs.contracts.worked.time.TimeLawfulEq.TheImpl.Laws.{decides-law as time_law};
 
     ghost decides = { Prim.search (time_law, deciding) depth 64 };
 }

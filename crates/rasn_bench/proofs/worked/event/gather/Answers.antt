@@ -4,7 +4,7 @@ use Rattle.std.proofs.lemmas.List.Elements.{Contains-push}
 use Rattle.std.specs.Vec.Iter.{into_iter_items}
 use Rattle.rasn_types.specs.Trees.{bool_tree}
 use Rattle.rasn_de.proofs.OwnTypes.Components.{component_twice}
-use Rattle.rasn_x509.specs.Times.{time_tree}
+use Rattle.rasn_bench.specs.Times.{time_tree}
 use Rattle.rasn_bench.specs.Event.{event_parts, level_tree, component_tree}
 use Rattle.rasn_bench.specs.declared.worked.event.Component.TheVariants.{At}
 use Rattle.rasn_bench.proofs.EventComponents.{appended_time, appended_level, appended_confirmed, no_time, all_there, IsThere, there_still}
