@@ -1,5 +1,4 @@
 //! Which types a type leads to.
-use crate::members::{Member, members_of};
 use crate::plan::Plan;
 use rasn_schema::components_of;
 use std::alloc::AllocError;
@@ -66,7 +65,7 @@ impl Plan<'_> {
 
     /// Reaches the parts of a type.
     fn visit_parts_of(&self, walk: &mut Walk, id: usize) -> Result<(), AllocError> {
-        let members = members_of(self.alloc, self.type_of(id))?;
+        let members = self.placed_members_of(id)?;
         for member in &members {
             self.visit(walk, member.type_id.0)?;
         }
