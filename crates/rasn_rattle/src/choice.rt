@@ -1,16 +1,15 @@
 //! A CHOICE (X.680 29) as an enum.
+use crate::alternatives::Placed;
 use crate::calls::{called, push_read_arm, push_write_arm};
-use crate::layout::push_alias;
+use crate::layout::{comment, push_alias};
 use crate::plan::Plan;
 use crate::template::{Values, push_separator, push_times};
-use crate::twins::alternatives_of;
-use crate::words::variant;
-use rasn_schema::{Alternative, TypeId};
+use rasn_schema::TypeId;
 use std::alloc::{AllocError, Global};
 
 /// An enum with its impls.
 const CHOICE: &str = "@head@@imports@
-@doc@#[derive(Debug, PartialEq, Eq, Drop)]
+@doc@@in_place@#[derive(Debug, PartialEq, Eq, Drop)]
 pub enum @Name@ {
 @variants@}
 
@@ -92,6 +91,8 @@ impl FirstTags for @Name@ {
 /// An alternative.
 #[derive(Drop)]
 struct Branch<'schema> {
+    /// The number of the CHOICE that it is an alternative of.
+    choice: usize,
     /// Its name in the notation.
     name: &'schema str,
     /// Its type.
@@ -109,7 +110,8 @@ struct Branch<'schema> {
 impl<'schema> Plan<'schema> {
     /// Returns the text of the file of a CHOICE.
     pub(crate) fn choice_text(&self, id: usize) -> Result<String, AllocError> {
-        let branches = self.branches_of(id)?;
+        let placed = self.placed_of(id)?;
+        let branches = self.branches_of(id, placed.as_slice())?;
         let branches = branches.as_slice();
         let is_open = branches.last().is_some_and(|last| last.is_unknown);
         let laws = self.laws_of(id)?;
@@ -119,7 +121,8 @@ impl<'schema> Plan<'schema> {
         values.add_str("choice", if is_open { "open_choice" } else { "choice" })?;
         values.add("first", self.first_tags_text(name, is_open)?)?;
         values.add("imports", imports)?;
-        values.add("variants", self.variants_text(id, branches)?)?;
+        values.add("in_place", self.in_place_text(placed.as_slice())?)?;
+        values.add("variants", self.variants_text(branches)?)?;
         values.add("names", names_text(self.alloc, branches)?)?;
         values.add("read_types", types_text(self.alloc, branches, false)?)?;
         values.add("write_types", types_text(self.alloc, branches, true)?)?;
@@ -136,34 +139,63 @@ impl<'schema> Plan<'schema> {
     }
 
     /// Returns the alternatives of a CHOICE.
-    fn branches_of(&self, id: usize) -> Result<Vec<Branch<'schema>>, AllocError> {
+    fn branches_of(
+        &self,
+        id: usize,
+        placed: &[Placed<'schema>],
+    ) -> Result<Vec<Branch<'schema>>, AllocError> {
         let mut branches = Vec::new(self.alloc);
-        for alternative in alternatives_of(self.type_of(id)) {
-            branches.push(self.branch_of(id, alternative)?)?;
+        let variants = self.variants_of(placed)?;
+        for (alternative, variant) in placed.iter().zip(variants) {
+            branches.push(self.branch_of(id, alternative, variant)?)?;
         }
         Ok(branches)
     }
 
-    /// Returns an alternative of a CHOICE.
+    /// Returns an alternative of a CHOICE, which has a variant with this name unless it is the
+    /// unknown one.
     fn branch_of(
         &self,
         id: usize,
-        alternative: &'schema Alternative,
+        alternative: &Placed<'schema>,
+        variant: String,
     ) -> Result<Branch<'schema>, AllocError> {
         let is_unknown = !self.has_tag(alternative.type_id);
         let variant = if is_unknown {
             String::from_str(self.alloc, "Unknown")?
         } else {
-            variant(self.alloc, alternative.name.as_str())?
+            variant
         };
         Ok(Branch {
-            name: alternative.name.as_str(),
+            choice: alternative.choice,
+            name: alternative.name,
             type_id: alternative.type_id,
             reason: self.leads_back(id, alternative.type_id)?,
             variant,
             expression: self.expression(id, alternative.type_id)?,
             is_unknown,
         })
+    }
+
+    /// Returns a comment on the alternatives that are a CHOICE, if there are any.
+    fn in_place_text(&self, placed: &[Placed<'_>]) -> Result<String, AllocError> {
+        let mut names = String::new(self.alloc);
+        let mut last = "";
+        for alternative in placed {
+            if alternative.outer != last && !alternative.outer.is_empty() {
+                push_separator(&mut names, ", ")?;
+                write!(names, "`{}`", alternative.outer)?;
+            }
+            last = alternative.outer;
+        }
+        if names.is_empty() {
+            return Ok(names);
+        }
+        let text = format!(in self.alloc;
+            "An alternative that is a CHOICE is written as its alternatives: {names}."
+        )?;
+        let lines = comment(self.alloc, "///", text.as_str())?;
+        format!(in self.alloc; "///\n{lines}")
     }
 
     /// Returns the impl by which a CHOICE is distinguished from other parts, unless any tag may
@@ -178,10 +210,10 @@ impl<'schema> Plan<'schema> {
     }
 
     /// Returns the variants, with the notation of each.
-    fn variants_text(&self, id: usize, branches: &[Branch<'_>]) -> Result<String, AllocError> {
+    fn variants_text(&self, branches: &[Branch<'_>]) -> Result<String, AllocError> {
         let mut text = String::new(self.alloc);
         for branch in branches {
-            let notation = self.part_notation(id, branch.name, branch.type_id)?;
+            let notation = self.part_notation(branch.choice, branch.name, branch.type_id)?;
             let (variant, ty) = (branch.variant.as_str(), branch.expression.as_str());
             writeln!(text, "{notation}{}    {variant}({ty}),", branch.reason)?;
         }

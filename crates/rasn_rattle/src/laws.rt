@@ -1,7 +1,7 @@
 //! The laws of the types that a type is made of, which its own law follows from.
 use crate::expression::open_word;
 use crate::kinds::is_alias;
-use crate::members::{Member, inner_of, members_of};
+use crate::members::inner_of;
 use crate::plan::Plan;
 use crate::template::push_separator;
 use rasn_schema::{Type, TypeId};
@@ -48,7 +48,7 @@ impl Plan<'_> {
             shown: BTreeSet::new(self.alloc),
         };
         let ty = self.type_of(of);
-        let members = members_of(self.alloc, ty)?;
+        let members = self.placed_members_of(of)?;
         for member in &members {
             let needs = Needs {
                 present: member.is_optional,

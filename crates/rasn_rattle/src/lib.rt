@@ -2,6 +2,7 @@
 //! enum, and with the impls by which it is read and written, which are proved as they are.
 #![tactic(auto)]
 
+mod alternatives;
 mod bounds;
 mod calls;
 mod choice;

@@ -1,6 +1,6 @@
 //! Which types a type leads to.
 use crate::held_types::Held;
-use crate::members::{Member, inner_of, members_of};
+use crate::members::inner_of;
 use crate::plan::Plan;
 use rasn_schema::components_of;
 use std::alloc::AllocError;
@@ -106,7 +106,7 @@ impl Plan<'_> {
         if self.foreign.contains_key(&id) || self.is_opened(id) {
             return Ok(());
         }
-        let members = members_of(self.alloc, self.type_of(id))?;
+        let members = self.placed_members_of(id)?;
         for member in &members {
             self.visit(walk, member.type_id.0)?;
         }
