@@ -45,7 +45,8 @@ impl<'schema> Plan<'schema> {
                 break;
             };
             let inner = next.type_id.0;
-            if self.is_closed_choice(next.type_id) && !opening.opened.contains(&inner) {
+            let is_opened = opening.opened.contains(&inner) || self.is_opened(inner);
+            if self.is_closed_choice(next.type_id) && !is_opened {
                 self.open(&mut opening, inner, next.name)?;
             } else {
                 placed.push(next)?;

@@ -115,7 +115,7 @@ impl<'schema> Plan<'schema> {
         let branches = branches.as_slice();
         let is_open = branches.last().is_some_and(|last| last.is_unknown);
         let laws = self.laws_of(id)?;
-        let imports = self.imports_of(laws.types.as_str(), false, branches.len() > 1)?;
+        let imports = self.imports_of(&laws, false, branches.len() > 1)?;
         let (name, _file) = self.names_of(id);
         let mut values = self.values_of(id)?;
         values.add_str("choice", if is_open { "open_choice" } else { "choice" })?;

@@ -97,7 +97,7 @@ impl Plan<'_> {
         let ty = self.type_of(id);
         let laws = self.laws_of(id)?;
         let mut values = self.values_of(id)?;
-        let imports = self.imports_of(laws.types.as_str(), false, false)?;
+        let imports = self.imports_of(&laws, false, false)?;
         values.add("imports", imports)?;
         let (bits_use, search) = search_of(ty, laws.search.as_str());
         values.add_str("bits_use", bits_use)?;

@@ -17,7 +17,9 @@ mod kinds;
 mod laws;
 mod layout;
 mod members;
+mod message;
 mod notation;
+mod options;
 mod output;
 mod parts;
 mod plan;
@@ -30,5 +32,6 @@ mod twins;
 mod words;
 
 pub use files::crate_files;
-pub use held_types::{HOLDER_NAMES, Holder, holder_of};
+pub use held_types::{HOLDER_NAMES, Held, Holder, holder_of};
+pub use options::{Options, is_crate_name};
 pub use output::File;

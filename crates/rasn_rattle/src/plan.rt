@@ -5,6 +5,7 @@ ghost use Rattle.rasn_rattle.specs.Words.{is_word};
 
 use crate::kinds::{has_file, is_extensible};
 use crate::members::{Member, inner_of, members_of};
+use crate::options::Options;
 use crate::twins::is_same_but_tag;
 use crate::words::{camel, snake};
 use rasn_schema::{Schema, Type, TypeId, type_at};
@@ -29,8 +30,8 @@ pub(crate) struct Naming {
 pub(crate) struct Plan<'schema> {
     pub(crate) alloc: Global,
     pub(crate) schema: &'schema Schema,
-    /// The name of the crate that is written.
-    pub(crate) crate_name: &'schema str,
+    /// How the crate is written.
+    pub(crate) options: &'schema Options,
     /// The types that have a file, by their numbers.
     pub(crate) names: BTreeMap<usize, Naming>,
     /// The types that are another one under another tag, which has a file.
@@ -41,6 +42,8 @@ pub(crate) struct Plan<'schema> {
     pub(crate) lines: BTreeMap<String, String>,
     /// The types that files are written for.
     pub(crate) reached: BTreeSet<usize>,
+    /// The types that other crates have, with the names of these.
+    pub(crate) foreign: BTreeMap<usize, String>,
     /// What has no type.
     none: &'schema Type,
     /// The type that holds all others, for which no file is written.
@@ -52,25 +55,27 @@ pub(crate) struct Plan<'schema> {
 impl<'schema> Plan<'schema> {
     /// Names each type of the schema that a file is written for.
     pub(crate) fn new(
-        alloc: Global,
+        options: &'schema Options,
         schema: &'schema Schema,
-        crate_name: &'schema str,
         root: TypeId,
         none: &'schema Type,
     ) -> Result<Plan<'schema>, AllocError> {
+        let alloc = options.alloc;
         let mut plan = Plan {
             alloc,
             schema,
-            crate_name,
+            options,
             names: BTreeMap::new(alloc),
             twins: BTreeMap::new(alloc),
             module: String::new(alloc),
             lines: BTreeMap::new(alloc),
             reached: BTreeSet::new(alloc),
+            foreign: BTreeMap::new(alloc),
             none,
             root: root.0,
             used: BTreeSet::new(alloc),
         };
+        plan.reserve_also()?;
         plan.add_known()?;
         plan.add_twins()?;
         plan.add_parts()?;
@@ -91,9 +96,34 @@ impl<'schema> Plan<'schema> {
         }
     }
 
+    /// Returns the name of the crate that has a type, if it is another one.
+    pub(crate) fn foreign_crate(&self, id: usize) -> Option<&str> {
+        match self.foreign.get(&id) {
+            Some(name) => Some(name.as_str()),
+            None => None,
+        }
+    }
+
+    /// Returns whether a type is written as an open type because an option says so.
+    pub(crate) fn is_opened(&self, id: usize) -> bool {
+        match self.names.get(&id) {
+            Some(naming) => self.options.is_opened(naming.notation.as_str()),
+            None => false,
+        }
+    }
+
     /// Returns the type that this one is under another tag, or itself.
     pub(crate) fn twin_or_self(&self, id: usize) -> usize {
         self.twins.get(&id).copied().unwrap_or(id)
+    }
+
+    /// Takes the names of the files that are written by hand.
+    fn reserve_also(&mut self) -> Result<(), AllocError> {
+        for name in &self.options.also {
+            let small = self.small(name.as_str())?;
+            self.used.insert(small)?;
+        }
+        Ok(())
     }
 
     /// Adds the names that the schema has for its types.

@@ -6,6 +6,9 @@ use std::alloc::AllocError;
 impl Plan<'_> {
     /// Returns why a type is written as an open type, if it is.
     pub(crate) fn reason_against(&self, id: usize) -> Result<Option<&'static str>, AllocError> {
+        if self.is_opened(id) {
+            return Ok(Some("the option `--open` names it"));
+        }
         let ty = self.type_of(id);
         for component in components_of(ty) {
             let has_default = matches!(component.presence, Presence::Default(_));

@@ -79,7 +79,7 @@ impl Plan<'_> {
         let parts = parts.as_slice();
         let laws = self.laws_of(id)?;
         let defaults = defaults_text(self.alloc, parts)?;
-        let imports = self.imports_of(laws.types.as_str(), !defaults.is_empty(), false)?;
+        let imports = self.imports_of(&laws, !defaults.is_empty(), false)?;
         let mut values = self.values_of(id)?;
         add_kind(&mut values, is_set, ends_with_rest(parts))?;
         values.add("imports", imports)?;
