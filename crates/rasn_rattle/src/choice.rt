@@ -1,5 +1,6 @@
 //! A CHOICE (X.680 29) as an enum.
 use crate::alternatives::Placed;
+use crate::beyond::ERRORS_OF_CHOICE;
 use crate::calls::{called, push_read_arm, push_write_arm};
 use crate::layout::{comment, push_alias};
 use crate::plan::Plan;
@@ -51,13 +52,15 @@ impl Present for @Name@ {
 }
 @first@
 impl Decode for @Name@ {
+@errors@
     fn decode_with_tag_and_constraints(
         decoder: &mut Decoder<'_>,
         _tag: Tag,
         _constraints: &Constraints,
     ) -> Result<@Name@, DecodeError> {
-        match decoder.read_choice::<Alternatives>(\"@Name@\")? {
-@read@        }
+        match decoder.read_choice::<Alternatives>(\"@Name@\") {
+@read@            Err(error) => Err(error),
+        }
     }
 }
 
@@ -103,6 +106,8 @@ struct Branch<'schema> {
     variant: String,
     /// The Rattle type of its value.
     expression: String,
+    /// Whether its values hold a GeneralizedTime.
+    holds_time: bool,
     /// Whether it is the unknown alternative.
     is_unknown: bool,
 }
@@ -123,7 +128,14 @@ impl<'schema> Plan<'schema> {
         values.add("imports", imports)?;
         values.add("in_place", self.in_place_text(placed.as_slice())?)?;
         values.add("variants", self.variants_text(branches)?)?;
-        values.add("names", names_text(self.alloc, branches)?)?;
+        let names = names_text(self.alloc, branches)?;
+        let kept = self.kept_text(branches)?;
+        values.add(
+            "beyond",
+            self.beyond_of_choice(id, names.as_str(), kept.as_str())?,
+        )?;
+        values.add("errors", values.filled(ERRORS_OF_CHOICE)?)?;
+        values.add("names", names)?;
         values.add("read_types", types_text(self.alloc, branches, false)?)?;
         values.add("write_types", types_text(self.alloc, branches, true)?)?;
         values.add("trees", trees_text(self.alloc, branches)?)?;
@@ -173,6 +185,7 @@ impl<'schema> Plan<'schema> {
             reason: self.leads_back(id, alternative.type_id)?,
             variant,
             expression: self.expression(id, alternative.type_id)?,
+            holds_time: self.holds_time(id, alternative.type_id.0)?,
             is_unknown,
         })
     }
@@ -207,6 +220,16 @@ impl<'schema> Plan<'schema> {
         let mut values = Values::new(self.alloc);
         values.add_str("Name", name)?;
         values.filled(FIRST)
+    }
+
+    /// Returns what the values of the alternatives keep.
+    fn kept_text(&self, branches: &[Branch<'_>]) -> Result<String, AllocError> {
+        let mut text = String::new(self.alloc);
+        for branch in branches {
+            let (variant, ty) = (branch.variant.as_str(), branch.expression.as_str());
+            self.push_kept(&mut text, variant, ty, branch.holds_time)?;
+        }
+        Ok(text)
     }
 
     /// Returns the variants, with the notation of each.
@@ -272,7 +295,7 @@ fn decided_text(
 fn read_text(alloc: Global, name: &str, branches: &[Branch<'_>]) -> Result<String, AllocError> {
     let mut text = String::new(alloc);
     for (index, branch) in branches.iter().enumerate() {
-        let words = words_of(alloc, index, branches)?;
+        let words = words_of(alloc, Some("Ok("), index, branches)?;
         let place = called(alloc, words.as_slice())?;
         let variant = format!(in alloc; "{name}::{}", branch.variant.as_str())?;
         push_read_arm(&mut text, place.as_str(), variant.as_str())?;
@@ -284,20 +307,25 @@ fn read_text(alloc: Global, name: &str, branches: &[Branch<'_>]) -> Result<Strin
 fn write_text(alloc: Global, name: &str, branches: &[Branch<'_>]) -> Result<String, AllocError> {
     let mut text = String::new(alloc);
     for (index, branch) in branches.iter().enumerate() {
-        let words = words_of(alloc, index, branches)?;
+        let words = words_of(alloc, None, index, branches)?;
         let pattern = format!(in alloc; "{name}::{}(value)", branch.variant.as_str())?;
         push_write_arm(&mut text, pattern.as_str(), words.as_slice())?;
     }
     Ok(text)
 }
 
-/// Returns the calls around the value of an alternative, as those of `Other(This(value))`.
+/// Returns the calls around the value of an alternative, as those of `Other(This(value))`, within
+/// the first one, if there is one.
 fn words_of(
     alloc: Global,
+    first: Option<&'static str>,
     index: usize,
     branches: &[Branch<'_>],
 ) -> Result<Vec<&'static str>, AllocError> {
     let mut words = Vec::new(alloc);
+    if let Some(first) = first {
+        words.push(first)?;
+    }
     for _ in 0..index {
         words.push("Other(")?;
     }

@@ -47,6 +47,7 @@ pub fn crate_files(
     plan.module = module;
     plan.foreign = plan.foreign_by(held)?;
     plan.reached = plan.reached_by(held.wanted)?;
+    plan.find_timed()?;
     plan.find_lines()?;
     plan.show_unnamed()?;
     plan.find_lines()?;

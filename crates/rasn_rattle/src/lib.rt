@@ -3,6 +3,7 @@
 #![tactic(auto)]
 
 mod alternatives;
+mod beyond;
 mod bounds;
 mod calls;
 mod choice;

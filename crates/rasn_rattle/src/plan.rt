@@ -44,6 +44,8 @@ pub(crate) struct Plan<'schema> {
     pub(crate) lines: BTreeMap<String, String>,
     /// The types that files are written for.
     pub(crate) reached: BTreeSet<usize>,
+    /// The types whose values hold a GeneralizedTime.
+    pub(crate) timed: BTreeSet<usize>,
     /// The types that other crates have, with the names of these.
     pub(crate) foreign: BTreeMap<usize, String>,
     /// What has no type.
@@ -73,6 +75,7 @@ impl<'schema> Plan<'schema> {
             module: String::new(alloc),
             lines: BTreeMap::new(alloc),
             reached: BTreeSet::new(alloc),
+            timed: BTreeSet::new(alloc),
             foreign: BTreeMap::new(alloc),
             none,
             root: root.0,
@@ -167,11 +170,12 @@ impl<'schema> Plan<'schema> {
 
     /// Returns the first type with a name that differs from this one in its tag alone, if one does.
     /// One that has a universal tag precedes others. A universal tag can't be put in place of
-    /// another one.
+    /// another one, and such a type is taken for one that is wanted alone.
     fn twin_of(&self, ty: &Type) -> Option<usize> {
         let mut first: Option<usize> = None;
         for (id, other) in self.schema.types().iter().enumerate() {
-            let is_near = ty.tag().class != Class::Universal || ty.tag() == other.tag();
+            let is_near = ty.tag().class != Class::Universal
+                || ty.tag() == other.tag() && self.is_wanted(id);
             if is_near && self.names.contains_key(&id) && is_same_but_tag(ty, other) {
                 if other.tag().class == Class::Universal {
                     return Some(id);

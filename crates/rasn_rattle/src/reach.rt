@@ -50,7 +50,7 @@ impl Plan<'_> {
     }
 
     /// Returns whether a file is wanted for a type.
-    fn is_wanted(&self, id: usize) -> bool {
+    pub(crate) fn is_wanted(&self, id: usize) -> bool {
         match self.names.get(&id) {
             Some(naming) => self.options.is_wanted(naming.notation.as_str()),
             None => false,

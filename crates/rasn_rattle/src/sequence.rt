@@ -46,7 +46,7 @@ impl Present for @Name@ {
 }
 
 impl Decode for @Name@ {
-    fn decode_with_tag_and_constraints(
+@beyond@    fn decode_with_tag_and_constraints(
         decoder: &mut Decoder<'_>,
         tag: Tag,
         _constraints: &Constraints,
@@ -85,7 +85,9 @@ impl Plan<'_> {
         values.add("imports", imports)?;
         values.add("fields", self.fields_text(id, parts)?)?;
         values.add("parts", parts_text(self.alloc, parts)?)?;
-        values.add("tree", tree_text(self.alloc, parts)?)?;
+        let tree = tree_text(self.alloc, parts)?;
+        values.add("beyond", self.beyond_of_struct(id, is_set, tree.as_str())?)?;
+        values.add("tree", tree)?;
         values.add("laws", laws.uses)?;
         values.add("search", laws.search)?;
         values.add("read", self.read_text(id, parts, is_set)?)?;
