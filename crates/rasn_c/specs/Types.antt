@@ -8,8 +8,8 @@ use Rattle.rasn_x509.specs.Signed.{certificate_shape}
 use Rattle.rasn_pki.specs.X509.Revocation.Signed.{certificate_list_shape}
 use Rattle.rasn_pki.specs.Pkcs10.Request.{request_shape}
 use Rattle.rasn_pki.specs.Cms.Message.{signed_message_shape}
-use Rattle.rasn_snmp.specs.CommunityMessage.{message_shape}
-use Rattle.rasn_ldap.specs.Message.{ldap_message_shape}
+use Rattle.rasn_snmp.specs.contracts.message.MessageAsnType.TheImpl.{shape-value as message_shape}
+use Rattle.rasn_ldap.specs.contracts.ldap_message.LdapMessageAsnType.TheImpl.{shape-value as ldap_message_shape}
 
 -- the shapes of the types, in the order of their numbers, beginning with 0
 abbrev pub numbered_shapes : List Shape

@@ -1716,39 +1716,41 @@ fn ldap() -> &'static str {
 
 LDAP DEFINITIONS IMPLICIT TAGS EXTENSIBILITY IMPLIED ::= BEGIN
 
--- 4.1.1
+-- 4.1.1, where the CHOICE and the range up to maxInt, which sizeLimit and timeLimit have too (4.5.1), have no
+-- names of their own
 LDAPMessage ::= SEQUENCE {
     messageID                       MessageID,
-    protocolOp                      CHOICE {
-        bindRequest                     BindRequest,
-        bindResponse                    BindResponse,
-        unbindRequest                   UnbindRequest,
-        searchRequest                   SearchRequest,
-        searchResEntry                  SearchResultEntry,
-        searchResDone                   SearchResultDone,
-        searchResRef                    SearchResultReference,
-        modifyRequest                   ModifyRequest,
-        modifyResponse                  ModifyResponse,
-        addRequest                      AddRequest,
-        addResponse                     AddResponse,
-        delRequest                      DelRequest,
-        delResponse                     DelResponse,
-        modDNRequest                    ModifyDNRequest,
-        modDNResponse                   ModifyDNResponse,
-        compareRequest                  CompareRequest,
-        compareResponse                 CompareResponse,
-        abandonRequest                  AbandonRequest,
-        extendedReq                     ExtendedRequest,
-        extendedResp                    ExtendedResponse,
-        ...,
-        intermediateResponse            IntermediateResponse
-    },
+    protocolOp                      ProtocolOp,
     controls                        [0] Controls OPTIONAL
+}
+
+ProtocolOp ::= CHOICE {
+    bindRequest                     BindRequest,
+    bindResponse                    BindResponse,
+    unbindRequest                   UnbindRequest,
+    searchRequest                   SearchRequest,
+    searchResEntry                  SearchResultEntry,
+    searchResDone                   SearchResultDone,
+    searchResRef                    SearchResultReference,
+    modifyRequest                   ModifyRequest,
+    modifyResponse                  ModifyResponse,
+    addRequest                      AddRequest,
+    addResponse                     AddResponse,
+    delRequest                      DelRequest,
+    delResponse                     DelResponse,
+    modDNRequest                    ModifyDNRequest,
+    modDNResponse                   ModifyDNResponse,
+    compareRequest                  CompareRequest,
+    compareResponse                 CompareResponse,
+    abandonRequest                  AbandonRequest,
+    extendedReq                     ExtendedRequest,
+    extendedResp                    ExtendedResponse,
+    ...,
+    intermediateResponse            IntermediateResponse
 }
 
 MessageID ::= MaxInt
 
--- a name for the range that sizeLimit and timeLimit have too (4.5.1)
 MaxInt ::= INTEGER (0..maxInt)
 
 maxInt INTEGER ::= 2147483647

@@ -10,7 +10,7 @@ pub struct Message {
     /// `community OCTET STRING`
     pub community: OctetString,
     /// `data PDUs`
-    pub data_value: Pdus,
+    pub data: Pdus,
 }
 
 /// The components, as they are read.
@@ -36,7 +36,7 @@ impl AsnType for Message {
 
     ghost shape = { seq (in_universal 16) ⟦<Parts as DecodeParts>⟧.parts };
 
-    ghost tree = { λ a. ⟦<Parts as DecodeParts>⟧.tree (record { 0 = a.version; 1 = record { 0 = a.community; 1 = record { 0 = a.data_value; 1 = record {} } } }) };
+    ghost tree = { λ a. ⟦<Parts as DecodeParts>⟧.tree (record { 0 = a.version; 1 = record { 0 = a.community; 1 = record { 0 = a.data; 1 = record {} } } }) };
 
     ghost own = { refl };
 }
@@ -62,11 +62,11 @@ impl Decode for Message {
     ) -> Result<Message, DecodeError> {
         let Required(version, rest) = decoder.read_sequence::<Parts>(tag)?;
         let Required(community, rest) = rest;
-        let Required(data_value, End) = rest;
+        let Required(data, End) = rest;
         Ok(Message {
             version,
             community,
-            data_value,
+            data,
         })
     }
 }
@@ -79,7 +79,7 @@ impl Encode for Message {
         _constraints: &Constraints,
         _identifier: Identifier,
     ) -> Result<(), EncodeError> {
-        let rest = Put(&self.data_value, End);
+        let rest = Put(&self.data, End);
         let rest = Put(&self.community, rest);
         encoder.write_sequence(tag, Put(&self.version, rest))
     }

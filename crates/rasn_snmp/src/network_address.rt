@@ -57,13 +57,20 @@ impl FirstTags for NetworkAddress {
 }
 
 impl Decode for NetworkAddress {
+    ghost use Rattle.std.specs.Prelude.{codes};
+    ghost use Rattle.rasn_de.specs.AlternativeTypes.{DecodesAlternativeBy};
+    ghost use Rattle.rasn_de.specs.ValueErrors.{errors_of};
+
+    ghost errors = { λ _ _. errors_of (DecodesAlternativeBy ⟦<Alternatives as DecodeAlternatives>⟧.extensible ⟦<Alternatives as DecodeAlternatives>⟧.parts ⟦<Alternatives as DecodeAlternatives>⟧.inner (codes "NetworkAddress")) };
+
     fn decode_with_tag_and_constraints(
         decoder: &mut Decoder<'_>,
         _tag: Tag,
         _constraints: &Constraints,
     ) -> Result<NetworkAddress, DecodeError> {
-        match decoder.read_choice::<Alternatives>("NetworkAddress")? {
-            Last(value) => Ok(NetworkAddress::Internet(value)),
+        match decoder.read_choice::<Alternatives>("NetworkAddress") {
+            Ok(Last(value)) => Ok(NetworkAddress::Internet(value)),
+            Err(error) => Err(error),
         }
     }
 }

@@ -92,25 +92,34 @@ impl FirstTags for Pdus {
 }
 
 impl Decode for Pdus {
+    ghost use Rattle.std.specs.Prelude.{codes};
+    ghost use Rattle.rasn_de.specs.AlternativeTypes.{DecodesAlternativeBy};
+    ghost use Rattle.rasn_de.specs.ValueErrors.{errors_of};
+
+    ghost errors = { λ _ _. errors_of (DecodesAlternativeBy ⟦<Alternatives as DecodeAlternatives>⟧.extensible ⟦<Alternatives as DecodeAlternatives>⟧.parts ⟦<Alternatives as DecodeAlternatives>⟧.inner (codes "Pdus")) };
+
     fn decode_with_tag_and_constraints(
         decoder: &mut Decoder<'_>,
         _tag: Tag,
         _constraints: &Constraints,
     ) -> Result<Pdus, DecodeError> {
-        match decoder.read_choice::<Alternatives>("Pdus")? {
-            This(value) => Ok(Pdus::GetRequest(value)),
-            Other(This(value)) => Ok(Pdus::GetNextRequest(value)),
-            Other(Other(This(value))) => Ok(Pdus::Response(value)),
-            Other(Other(Other(This(value)))) => Ok(Pdus::SetRequest(value)),
-            Other(Other(Other(Other(This(value))))) => Ok(Pdus::Trap(value)),
-            Other(Other(Other(Other(Other(This(value)))))) => Ok(Pdus::GetBulkRequest(value)),
-            Other(Other(Other(Other(Other(Other(This(value))))))) => Ok(Pdus::InformRequest(value)),
-            Other(Other(Other(Other(Other(Other(Other(This(value)))))))) => Ok(Pdus::SnmpV2Trap(
+        match decoder.read_choice::<Alternatives>("Pdus") {
+            Ok(This(value)) => Ok(Pdus::GetRequest(value)),
+            Ok(Other(This(value))) => Ok(Pdus::GetNextRequest(value)),
+            Ok(Other(Other(This(value)))) => Ok(Pdus::Response(value)),
+            Ok(Other(Other(Other(This(value))))) => Ok(Pdus::SetRequest(value)),
+            Ok(Other(Other(Other(Other(This(value)))))) => Ok(Pdus::Trap(value)),
+            Ok(Other(Other(Other(Other(Other(This(value))))))) => Ok(Pdus::GetBulkRequest(value)),
+            Ok(Other(Other(Other(Other(Other(Other(This(value)))))))) => Ok(Pdus::InformRequest(
                 value,
             )),
-            Other(Other(Other(Other(Other(Other(Other(Other(Last(value))))))))) => Ok(Pdus::Report(
+            Ok(Other(Other(Other(Other(Other(Other(Other(This(value))))))))) => Ok(Pdus::SnmpV2Trap(
                 value,
             )),
+            Ok(Other(Other(Other(Other(Other(Other(Other(Other(Last(value)))))))))) => Ok(
+                Pdus::Report(value),
+            ),
+            Err(error) => Err(error),
         }
     }
 }

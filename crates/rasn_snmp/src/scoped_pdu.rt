@@ -10,7 +10,7 @@ pub struct ScopedPdu {
     /// `contextName OCTET STRING`
     pub context_name: OctetString,
     /// `data PDUs`
-    pub data_value: Pdus,
+    pub data: Pdus,
 }
 
 /// The components, as they are read.
@@ -36,7 +36,7 @@ impl AsnType for ScopedPdu {
 
     ghost shape = { seq (in_universal 16) ⟦<Parts as DecodeParts>⟧.parts };
 
-    ghost tree = { λ a. ⟦<Parts as DecodeParts>⟧.tree (record { 0 = a.context_engine_id; 1 = record { 0 = a.context_name; 1 = record { 0 = a.data_value; 1 = record {} } } }) };
+    ghost tree = { λ a. ⟦<Parts as DecodeParts>⟧.tree (record { 0 = a.context_engine_id; 1 = record { 0 = a.context_name; 1 = record { 0 = a.data; 1 = record {} } } }) };
 
     ghost own = { refl };
 }
@@ -62,11 +62,11 @@ impl Decode for ScopedPdu {
     ) -> Result<ScopedPdu, DecodeError> {
         let Required(context_engine_id, rest) = decoder.read_sequence::<Parts>(tag)?;
         let Required(context_name, rest) = rest;
-        let Required(data_value, End) = rest;
+        let Required(data, End) = rest;
         Ok(ScopedPdu {
             context_engine_id,
             context_name,
-            data_value,
+            data,
         })
     }
 }
@@ -79,7 +79,7 @@ impl Encode for ScopedPdu {
         _constraints: &Constraints,
         _identifier: Identifier,
     ) -> Result<(), EncodeError> {
-        let rest = Put(&self.data_value, End);
+        let rest = Put(&self.data, End);
         let rest = Put(&self.context_name, rest);
         encoder.write_sequence(tag, Put(&self.context_engine_id, rest))
     }

@@ -62,14 +62,21 @@ impl FirstTags for ScopedPduData {
 }
 
 impl Decode for ScopedPduData {
+    ghost use Rattle.std.specs.Prelude.{codes};
+    ghost use Rattle.rasn_de.specs.AlternativeTypes.{DecodesAlternativeBy};
+    ghost use Rattle.rasn_de.specs.ValueErrors.{errors_of};
+
+    ghost errors = { λ _ _. errors_of (DecodesAlternativeBy ⟦<Alternatives as DecodeAlternatives>⟧.extensible ⟦<Alternatives as DecodeAlternatives>⟧.parts ⟦<Alternatives as DecodeAlternatives>⟧.inner (codes "ScopedPduData")) };
+
     fn decode_with_tag_and_constraints(
         decoder: &mut Decoder<'_>,
         _tag: Tag,
         _constraints: &Constraints,
     ) -> Result<ScopedPduData, DecodeError> {
-        match decoder.read_choice::<Alternatives>("ScopedPduData")? {
-            This(value) => Ok(ScopedPduData::Plaintext(value)),
-            Other(Last(value)) => Ok(ScopedPduData::EncryptedPdu(value)),
+        match decoder.read_choice::<Alternatives>("ScopedPduData") {
+            Ok(This(value)) => Ok(ScopedPduData::Plaintext(value)),
+            Ok(Other(Last(value))) => Ok(ScopedPduData::EncryptedPdu(value)),
+            Err(error) => Err(error),
         }
     }
 }

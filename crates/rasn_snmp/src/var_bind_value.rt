@@ -111,45 +111,59 @@ impl FirstTags for VarBindValue {
 }
 
 impl Decode for VarBindValue {
+    ghost use Rattle.std.specs.Prelude.{codes};
+    ghost use Rattle.rasn_de.specs.AlternativeTypes.{DecodesAlternativeBy};
+    ghost use Rattle.rasn_de.specs.ValueErrors.{errors_of};
+
+    ghost errors = { λ _ _. errors_of (DecodesAlternativeBy ⟦<Alternatives as DecodeAlternatives>⟧.extensible ⟦<Alternatives as DecodeAlternatives>⟧.parts ⟦<Alternatives as DecodeAlternatives>⟧.inner (codes "VarBindValue")) };
+
     fn decode_with_tag_and_constraints(
         decoder: &mut Decoder<'_>,
         _tag: Tag,
         _constraints: &Constraints,
     ) -> Result<VarBindValue, DecodeError> {
-        match decoder.read_choice::<Alternatives>("VarBindValue")? {
-            This(value) => Ok(VarBindValue::IntegerValue(value)),
-            Other(This(value)) => Ok(VarBindValue::StringValue(value)),
-            Other(Other(This(value))) => Ok(VarBindValue::ObjectIdValue(value)),
-            Other(Other(Other(This(value)))) => Ok(VarBindValue::IpAddressValue(value)),
-            Other(Other(Other(Other(This(value))))) => Ok(VarBindValue::CounterValue(value)),
-            Other(Other(Other(Other(Other(This(value)))))) => Ok(VarBindValue::TimeticksValue(
+        match decoder.read_choice::<Alternatives>("VarBindValue") {
+            Ok(This(value)) => Ok(VarBindValue::IntegerValue(value)),
+            Ok(Other(This(value))) => Ok(VarBindValue::StringValue(value)),
+            Ok(Other(Other(This(value)))) => Ok(VarBindValue::ObjectIdValue(value)),
+            Ok(Other(Other(Other(This(value))))) => Ok(VarBindValue::IpAddressValue(value)),
+            Ok(Other(Other(Other(Other(This(value)))))) => Ok(VarBindValue::CounterValue(value)),
+            Ok(Other(Other(Other(Other(Other(This(value))))))) => Ok(VarBindValue::TimeticksValue(
                 value,
             )),
-            Other(Other(Other(Other(Other(Other(This(value))))))) => Ok(
+            Ok(Other(Other(Other(Other(Other(Other(This(value)))))))) => Ok(
                 VarBindValue::ArbitraryValue(value),
             ),
-            Other(Other(Other(Other(Other(Other(Other(This(value)))))))) => Ok(
+            Ok(Other(Other(Other(Other(Other(Other(Other(This(value))))))))) => Ok(
                 VarBindValue::BigCounterValue(value),
             ),
-            Other(Other(Other(Other(Other(Other(Other(Other(This(value))))))))) => Ok(
+            Ok(Other(Other(Other(Other(Other(Other(Other(Other(This(value)))))))))) => Ok(
                 VarBindValue::UnsignedIntegerValue(value),
             ),
-            Other(Other(Other(Other(Other(Other(Other(Other(Other(This(value)))))))))) => Ok(
+            Ok(Other(Other(Other(Other(Other(Other(Other(Other(Other(This(value))))))))))) => Ok(
                 VarBindValue::UnSpecified(value),
             ),
-            Other(Other(Other(Other(Other(Other(Other(Other(Other(Other(This(value))))))))))) => Ok(
-                VarBindValue::NoSuchObject(value),
-            ),
-            Other(
-                Other(Other(Other(Other(Other(Other(Other(Other(Other(Other(This(value))))))))))),
-            ) => Ok(VarBindValue::NoSuchInstance(value)),
-            Other(
+            Ok(Other(Other(Other(Other(Other(Other(Other(Other(Other(Other(This(value)))))))))))) =>
+                Ok(VarBindValue::NoSuchObject(value)),
+            Ok(
                 Other(
                     Other(
-                        Other(Other(Other(Other(Other(Other(Other(Other(Other(Last(value)))))))))),
+                        Other(Other(Other(Other(Other(Other(Other(Other(Other(This(value)))))))))),
+                    ),
+                ),
+            ) => Ok(VarBindValue::NoSuchInstance(value)),
+            Ok(
+                Other(
+                    Other(
+                        Other(
+                            Other(
+                                Other(Other(Other(Other(Other(Other(Other(Other(Last(value))))))))),
+                            ),
+                        ),
                     ),
                 ),
             ) => Ok(VarBindValue::EndOfMibView(value)),
+            Err(error) => Err(error),
         }
     }
 }

@@ -1,9 +1,7 @@
 //! SNMP messages (RFC 1157, 1901, 3412 and 3416), those with a community made by net-snmp, and
 //! invalid ones.
 
-use crate::asserts::{
-    Answer, ahead_of, assert_decodes, assert_has, assert_written_as, decoded,
-};
+use crate::asserts::{Answer, ahead_of, assert_decodes, assert_has, assert_written_as, decoded};
 use crate::messages::spoilt::{Spoilt, assert_spoilt, spoilt};
 use rasn::WholeMessage;
 use rasn::types::Codec;
@@ -241,7 +239,11 @@ fn values_that_der_does_not_have_are_read(rt: HostRuntime) {
             Codec::Der,
             "CodecSpecific { inner: Der(NonMinimalInteger) }",
         ),
-        (&[0x02, 0x82, 0x00, 0x01, 0x05], Codec::Ber, "IntegerValue(5)"),
+        (
+            &[0x02, 0x82, 0x00, 0x01, 0x05],
+            Codec::Ber,
+            "IntegerValue(5)",
+        ),
         (
             &[0x02, 0x82, 0x00, 0x01, 0x05],
             Codec::Der,
@@ -340,7 +342,11 @@ fn is_discovery(alloc: Global, message: &SnmpV3Message) -> bool {
 #[test]
 fn a_message_of_version_3_is_read_and_written_back(rt: HostRuntime) {
     let alloc = rt.alloc();
-    let answer = ahead_of(&rt, SnmpV3Message::read_with_remainder(alloc, DISCOVERY), &[]);
+    let answer = ahead_of(
+        &rt,
+        SnmpV3Message::read_with_remainder(alloc, DISCOVERY),
+        &[],
+    );
     match &answer {
         Ok(message) => assert!(rt; is_discovery(alloc, message)),
         Err(error) => assert!(rt; false, "{:?}", error.kind),
@@ -381,11 +387,16 @@ fn spoilt_messages_of_version_3_are_refused(rt: HostRuntime) {
         ),
     ];
     let alloc = rt.alloc();
-    let answer = ahead_of(&rt, SnmpV3Message::read_with_remainder(alloc, ENCRYPTED), &[]);
-    assert_has(&rt, answer, |message: &SnmpV3Message| matches!(
-        message.msg_data,
-        ScopedPduData::EncryptedPdu(_)
-    ));
+    let answer = ahead_of(
+        &rt,
+        SnmpV3Message::read_with_remainder(alloc, ENCRYPTED),
+        &[],
+    );
+    assert_has(
+        &rt,
+        answer,
+        |message: &SnmpV3Message| matches!(message.msg_data, ScopedPduData::EncryptedPdu(_)),
+    );
     assert_spoilt::<SnmpV3Message>(&rt, alloc, ENCRYPTED, ROWS);
 }
 
