@@ -8,8 +8,8 @@ use Rattle.rasn_pkix.specs.contracts.certificate.CertificateAsnType.TheImpl.{sha
 use Rattle.rasn_pkix.specs.contracts.certificate_list.CertificateListAsnType.TheImpl.{shape-value as certificate_list_shape}
 use Rattle.rasn_pkix.specs.contracts.certification_request.CertificationRequestAsnType.TheImpl.{shape-value as request_shape}
 use Rattle.rasn_cms.specs.contracts.signed_message.SignedMessageAsnType.TheImpl.{shape-value as signed_message_shape}
-use Rattle.rasn_snmp.specs.CommunityMessage.{message_shape}
-use Rattle.rasn_ldap.specs.Message.{ldap_message_shape}
+use Rattle.rasn_snmp.specs.contracts.message.MessageAsnType.TheImpl.{shape-value as message_shape}
+use Rattle.rasn_ldap.specs.contracts.ldap_message.LdapMessageAsnType.TheImpl.{shape-value as ldap_message_shape}
 
 -- the shapes of the types, in the order of their numbers, beginning with 0
 abbrev pub numbered_shapes : List Shape

@@ -8,6 +8,7 @@ use crate::kinds::{is_alias, is_extensible};
 use crate::options::Options;
 use crate::output::File;
 use crate::plan::{Naming, Plan};
+use crate::tags::tag_type;
 use crate::template::push_times;
 use rasn_compiler::Resolved;
 use rasn_schema::{Schema, Type, TypeId, TypeName};
@@ -188,6 +189,9 @@ impl Plan<'_> {
         if let Some(reason) = self.reason_against(id)? {
             return self.open_text(id, reason);
         }
+        if let Some(twin) = self.retagged.get(&id) {
+            return self.retagged_text(id, *twin);
+        }
         let ty = self.type_of(id);
         match ty {
             Type::Sequence { .. } | Type::Set { .. } => self.struct_text(id),
@@ -213,6 +217,22 @@ impl Plan<'_> {
         let (head, doc) = (values.value_of("head"), values.value_of("doc"));
         let (name, _file) = self.names_of(id);
         format!(in self.alloc; "{head}{imports}\n{doc}pub type {name} = {text};\n")
+    }
+
+    /// Returns the text of the file of a type that is another one under another tag.
+    fn retagged_text(&self, id: usize, twin: usize) -> Result<String, AllocError> {
+        let tag = tag_type(self.alloc, self.type_of(id).tag())?;
+        let (inner, _file) = self.names_of(twin);
+        let imports = match self.foreign_crate(twin) {
+            Some(from) => format!(in self.alloc; "use rasn::prelude::*;\nuse {from}::{inner};\n")?,
+            None => format!(in self.alloc; "use crate::{inner};\nuse rasn::prelude::*;\n")?,
+        };
+        let values = self.values_of(id)?;
+        let (head, doc) = (values.value_of("head"), values.value_of("doc"));
+        let (name, _file) = self.names_of(id);
+        format!(in self.alloc;
+            "{head}{imports}\n{doc}pub type {name} = Implicit<{tag}, {inner}>;\n"
+        )
     }
 
     /// Returns the text of the file of a type that is written as an open type, and why.

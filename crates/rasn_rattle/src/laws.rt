@@ -79,6 +79,10 @@ impl Plan<'_> {
                 }
                 self.add_name(id, needs, is_shown, found)?;
                 is_shown = false;
+                if let Some(twin) = self.retagged.get(&id) {
+                    id = *twin;
+                    continue;
+                }
                 if !is_alias(ty) {
                     return Ok(());
                 }
@@ -109,7 +113,7 @@ impl Plan<'_> {
         }
         let ty = self.type_of(id);
         let is_open = matches!(ty, Type::Choice { .. }) && self.reason_against(id)?.is_some();
-        if is_alias(ty) || is_open {
+        if is_alias(ty) || is_open || self.retagged.contains_key(&id) {
             return Ok(());
         }
         let crate_name = self.options.crate_name.as_str();

@@ -12,6 +12,10 @@ impl<'schema> Plan<'schema> {
     /// Returns the notation of a type, in a line or its beginning, or its name if the module
     /// doesn't have it, as EXTERNAL (X.680 37.5).
     pub(crate) fn notation_of(&self, id: usize) -> Result<String, AllocError> {
+        if let (Some(twin), Some(naming)) = (self.retagged.get(&id), self.names.get(&id)) {
+            let shown = self.shown_twin(self.type_of(id).tag(), *twin)?;
+            return format!(in self.alloc; "`{} ::= {shown}`", naming.notation.as_str());
+        }
         let line = self.lines_of(id).lines().next().unwrap_or("");
         if line.is_empty() {
             let (name, _file) = self.names_of(id);

@@ -36,6 +36,8 @@ pub(crate) struct Plan<'schema> {
     pub(crate) names: BTreeMap<usize, Naming>,
     /// The types that are another one under another tag, which has a file.
     pub(crate) twins: BTreeMap<usize, usize>,
+    /// The types with a name that are another one under another tag, as `[0] IMPLICIT Account`.
+    pub(crate) retagged: BTreeMap<usize, usize>,
     /// The types as a module.
     pub(crate) module: String,
     /// The lines of each type in the module, by its name.
@@ -69,6 +71,7 @@ impl<'schema> Plan<'schema> {
             options,
             names: BTreeMap::new(alloc),
             twins: BTreeMap::new(alloc),
+            retagged: BTreeMap::new(alloc),
             module: String::new(alloc),
             lines: BTreeMap::new(alloc),
             reached: BTreeSet::new(alloc),
@@ -139,14 +142,28 @@ impl<'schema> Plan<'schema> {
         Ok(())
     }
 
-    /// Finds the types without a name that are named ones under other tags.
+    /// Finds the types that are named ones under other tags.
     fn add_twins(&mut self) -> Result<(), AllocError> {
         for (id, ty) in self.schema.types().iter().enumerate() {
-            if id != self.root && !self.names.contains_key(&id) && has_file(ty) {
+            if id != self.root && has_file(ty) && !self.is_opened(id) {
                 if let Some(twin) = self.twin_of(ty) {
-                    self.twins.insert(id, twin)?;
+                    self.add_twin(id, twin)?;
                 }
             }
+        }
+        Ok(())
+    }
+
+    /// Adds that a type is another one, which has a name, under another tag. One with a name of its
+    /// own is that only if the other one has a universal tag.
+    fn add_twin(&mut self, id: usize, twin: usize) -> Result<(), AllocError> {
+        if !self.names.contains_key(&id) {
+            self.twins.insert(id, twin)?;
+            return Ok(());
+        }
+        let is_own = self.type_of(id).tag().class == Class::Universal;
+        if !is_own && self.type_of(twin).tag().class == Class::Universal {
+            self.retagged.insert(id, twin)?;
         }
         Ok(())
     }
@@ -185,7 +202,9 @@ impl<'schema> Plan<'schema> {
     fn add_parts(&mut self) -> Result<(), AllocError> {
         let count = self.schema.types().len();
         for id in (0..count).rev() {
-            self.add_parts_of(id)?;
+            if !self.retagged.contains_key(&id) {
+                self.add_parts_of(id)?;
+            }
         }
         Ok(())
     }

@@ -106,6 +106,9 @@ impl Plan<'_> {
         if self.foreign.contains_key(&id) || self.is_opened(id) {
             return Ok(());
         }
+        if let Some(twin) = self.retagged.get(&id) {
+            return self.visit(walk, *twin);
+        }
         let members = self.placed_members_of(id)?;
         for member in &members {
             self.visit(walk, member.type_id.0)?;
