@@ -12,6 +12,7 @@ pub mod Rows
 pub mod Compiled
 pub mod Placed
 pub mod FirstWith
+pub mod NameFilled
 pub mod Counted
 pub mod PathTexts
 pub mod Checked
