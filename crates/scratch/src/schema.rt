@@ -104,46 +104,31 @@ pub const TYPES: &[StaticType] = &[
 ];
 
 impl HasSchema for Percent {
-    ghost use Rattle.std.specs.Prelude.{refl};
-    ghost use Rattle.scratch.specs.declared.schema.TheConstants.{TYPES as types};
-
-    ghost TYPES = { types.now };
-
-    const TYPES: &'static [StaticType] = TYPES;
-
     ghost ID = { 0 };
 
     const ID: usize = 0;
 
-    ghost same = { refl };
+    fn types() -> &'static [StaticType] {
+        TYPES
+    }
 }
 
 impl HasSchema for Title {
-    ghost use Rattle.std.specs.Prelude.{refl};
-    ghost use Rattle.scratch.specs.declared.schema.TheConstants.{TYPES as types};
-
-    ghost TYPES = { types.now };
-
-    const TYPES: &'static [StaticType] = TYPES;
-
     ghost ID = { 1 };
 
     const ID: usize = 1;
 
-    ghost same = { refl };
+    fn types() -> &'static [StaticType] {
+        TYPES
+    }
 }
 
 impl HasSchema for Team {
-    ghost use Rattle.std.specs.Prelude.{refl};
-    ghost use Rattle.scratch.specs.declared.schema.TheConstants.{TYPES as types};
-
-    ghost TYPES = { types.now };
-
-    const TYPES: &'static [StaticType] = TYPES;
-
     ghost ID = { 5 };
 
     const ID: usize = 5;
 
-    ghost same = { refl };
+    fn types() -> &'static [StaticType] {
+        TYPES
+    }
 }
