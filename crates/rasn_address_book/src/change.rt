@@ -100,31 +100,37 @@ impl FirstTags for Change {
 }
 
 impl Decode for Change {
+    ghost use Rattle.std.specs.Prelude.{codes};
+    ghost use Rattle.rasn_de.specs.AlternativeTypes.{DecodesAlternativeBy};
+    ghost use Rattle.rasn_de.specs.ValueErrors.{errors_of};
+
+    ghost errors = { λ _ _. errors_of (DecodesAlternativeBy ⟦<Alternatives as DecodeAlternatives>⟧.extensible ⟦<Alternatives as DecodeAlternatives>⟧.parts ⟦<Alternatives as DecodeAlternatives>⟧.inner (codes "Change")) };
+
     fn decode_with_tag_and_constraints(
         decoder: &mut Decoder<'_>,
         _tag: Tag,
         _constraints: &Constraints,
     ) -> Result<Change, DecodeError> {
-        match decoder.read_choice::<Alternatives>("Change")? {
-            This(value) => Ok(Change::Renumber(value)),
-            Other(This(value)) => Ok(Change::List(value)),
-            Other(Other(This(value))) => Ok(Change::Remove(value)),
-            Other(Other(Other(This(value)))) => Ok(Change::Rename(value)),
-            Other(Other(Other(Other(This(value))))) => Ok(Change::Reach(value)),
-            Other(Other(Other(Other(Other(This(value)))))) => Ok(Change::Relate(value)),
-            Other(Other(Other(Other(Other(Other(This(value))))))) => Ok(Change::Promote(value)),
-            Other(Other(Other(Other(Other(Other(Other(This(value)))))))) => Ok(Change::Attend(
+        match decoder.read_choice::<Alternatives>("Change") {
+            Ok(This(value)) => Ok(Change::Renumber(value)),
+            Ok(Other(This(value))) => Ok(Change::List(value)),
+            Ok(Other(Other(This(value)))) => Ok(Change::Remove(value)),
+            Ok(Other(Other(Other(This(value))))) => Ok(Change::Rename(value)),
+            Ok(Other(Other(Other(Other(This(value)))))) => Ok(Change::Reach(value)),
+            Ok(Other(Other(Other(Other(Other(This(value))))))) => Ok(Change::Relate(value)),
+            Ok(Other(Other(Other(Other(Other(Other(This(value)))))))) => Ok(Change::Promote(value)),
+            Ok(Other(Other(Other(Other(Other(Other(Other(This(value))))))))) => Ok(Change::Attend(
                 value,
             )),
-            Other(Other(Other(Other(Other(Other(Other(Other(This(value))))))))) => Ok(Change::Mark(
-                value,
-            )),
-            Other(Other(Other(Other(Other(Other(Other(Other(Other(This(value)))))))))) => Ok(
+            Ok(Other(Other(Other(Other(Other(Other(Other(Other(This(value)))))))))) => Ok(
+                Change::Mark(value),
+            ),
+            Ok(Other(Other(Other(Other(Other(Other(Other(Other(Other(This(value))))))))))) => Ok(
                 Change::Annotate(value),
             ),
-            Other(Other(Other(Other(Other(Other(Other(Other(Other(Other(Last(value))))))))))) => Ok(
-                Change::Roles(value),
-            ),
+            Ok(Other(Other(Other(Other(Other(Other(Other(Other(Other(Other(Last(value)))))))))))) =>
+                Ok(Change::Roles(value)),
+            Err(error) => Err(error),
         }
     }
 }

@@ -66,15 +66,22 @@ impl FirstTags for Contact {
 }
 
 impl Decode for Contact {
+    ghost use Rattle.std.specs.Prelude.{codes};
+    ghost use Rattle.rasn_de.specs.AlternativeTypes.{DecodesAlternativeBy};
+    ghost use Rattle.rasn_de.specs.ValueErrors.{errors_of};
+
+    ghost errors = { λ _ _. errors_of (DecodesAlternativeBy ⟦<Alternatives as DecodeAlternatives>⟧.extensible ⟦<Alternatives as DecodeAlternatives>⟧.parts ⟦<Alternatives as DecodeAlternatives>⟧.inner (codes "Contact")) };
+
     fn decode_with_tag_and_constraints(
         decoder: &mut Decoder<'_>,
         _tag: Tag,
         _constraints: &Constraints,
     ) -> Result<Contact, DecodeError> {
-        match decoder.read_choice::<Alternatives>("Contact")? {
-            This(value) => Ok(Contact::Email(value)),
-            Other(This(value)) => Ok(Contact::Phone(value)),
-            Other(Other(Last(value))) => Ok(Contact::Team(value)),
+        match decoder.read_choice::<Alternatives>("Contact") {
+            Ok(This(value)) => Ok(Contact::Email(value)),
+            Ok(Other(This(value))) => Ok(Contact::Phone(value)),
+            Ok(Other(Other(Last(value)))) => Ok(Contact::Team(value)),
+            Err(error) => Err(error),
         }
     }
 }

@@ -60,15 +60,22 @@ impl Present for Reply {
 }
 
 impl Decode for Reply {
+    ghost use Rattle.std.specs.Prelude.{codes};
+    ghost use Rattle.rasn_de.specs.AlternativeTypes.{DecodesAlternativeBy};
+    ghost use Rattle.rasn_de.specs.ValueErrors.{errors_of};
+
+    ghost errors = { λ _ _. errors_of (DecodesAlternativeBy ⟦<Alternatives as DecodeAlternatives>⟧.extensible ⟦<Alternatives as DecodeAlternatives>⟧.parts ⟦<Alternatives as DecodeAlternatives>⟧.inner (codes "Reply")) };
+
     fn decode_with_tag_and_constraints(
         decoder: &mut Decoder<'_>,
         _tag: Tag,
         _constraints: &Constraints,
     ) -> Result<Reply, DecodeError> {
-        match decoder.read_choice::<Alternatives>("Reply")? {
-            This(value) => Ok(Reply::Accepted(value)),
-            Other(This(value)) => Ok(Reply::Guests(value)),
-            Other(Other(value)) => Ok(Reply::Unknown(value)),
+        match decoder.read_choice::<Alternatives>("Reply") {
+            Ok(This(value)) => Ok(Reply::Accepted(value)),
+            Ok(Other(This(value))) => Ok(Reply::Guests(value)),
+            Ok(Other(Other(value))) => Ok(Reply::Unknown(value)),
+            Err(error) => Err(error),
         }
     }
 }

@@ -1,29 +1,32 @@
-//! `AuthenticationChoice ::= CHOICE { simple [0] OCTET STRING, sasl [3] SaslCredentials, ... }`
-//! (RFC 4511, 4.2).
+//! `AuthenticationChoice ::= CHOICE`
 use crate::SaslCredentials;
-use rasn::error::{DecodeError, EncodeError};
-use rasn::parts::OneOf;
-use rasn::types::{
-    Any, AsnType, Constraints, ContextTag, Identifier, Implicit, LawfulEq, OctetString, Present,
-    Tag,
-};
-use rasn::{Decode, Decoder, Encode, Encoder};
+use rasn::parts::OneOf::{Other, This};
+use rasn::prelude::*;
 
-/// CHOICE { simple \[0\] OCTET STRING, sasl \[3\] SaslCredentials, ... }: a password, or one step
-/// of a SASL mechanism, or a choice of a newer version of the protocol.
+/// `AuthenticationChoice ::= CHOICE`
 #[derive(Debug, PartialEq, Eq, Drop)]
 pub enum AuthenticationChoice {
+    /// `simple [0] IMPLICIT OCTET STRING`
     Simple(Implicit<ContextTag<0>, OctetString>),
+    /// `sasl [3] IMPLICIT SaslCredentials`
     Sasl(Implicit<ContextTag<3>, SaslCredentials>),
-    /// The octets of a choice with another tag.
-    Other(Any),
+    /// `...`
+    Unknown(Any),
 }
+
+/// The alternatives, as they are read.
+type Alternatives = OneOf<Implicit<ContextTag<0>, OctetString>, Alternatives1>;
+
+type Alternatives1 = OneOf<Implicit<ContextTag<3>, SaslCredentials>, Alternatives2>;
+
+type Alternatives2 = Any;
 
 impl AsnType for AuthenticationChoice {
     ghost use Rattle.std.specs.Prelude.{refl};
+    ghost use Rattle.rasn_types.specs.Shapes.{open_choice, chosen};
     ghost use Rattle.rasn_types.specs.Tags.{eoc};
     ghost use Rattle.rasn_types.specs.Trees.{unconstrained};
-    ghost use Rattle.rasn_ldap.specs.Authentication.{authentication_shape, authentication_tree};
+    ghost use Rattle.rasn_ldap.specs.declared.authentication_choice.AuthenticationChoice.TheVariants.{Simple, Sasl, Unknown};
 
     ghost TAG = { eoc };
 
@@ -33,62 +36,56 @@ impl AsnType for AuthenticationChoice {
 
     const CONSTRAINTS: Constraints = Constraints::NONE;
 
-    ghost shape = { authentication_shape };
+    ghost shape = { open_choice ⟦<Alternatives as DecodeAlternatives>⟧.parts };
 
-    ghost tree = { authentication_tree };
+    ghost tree = { elim [ Simple x ↦ chosen 0 (⟦<Implicit<ContextTag<0>, OctetString> as AsnType>⟧.tree x) | Sasl x ↦ chosen 1 (⟦<Implicit<ContextTag<3>, SaslCredentials> as AsnType>⟧.tree x) | Unknown x ↦ chosen 2 (⟦<Any as AsnType>⟧.tree x) ] };
 
     ghost own = { refl };
 }
 
 impl LawfulEq for AuthenticationChoice {
-    ghost use Rattle.rasn_types.specs.Equality.{choice_decided, alternative, octets_decided};
-    ghost use Rattle.rasn_ldap.specs.contracts.authentication_choice.AuthenticationChoice.{enum as authentication_enum};
-    ghost use Rattle.rasn_ldap.specs.contracts.sasl_credentials.SaslCredentialsLawfulEq.TheImpl.Laws.{decides-law as sasl_law};
-    ghost use Rattle.rasn_ldap.specs.Authentication.{authentication_tree};
+    ghost use Rattle.rasn_types.specs.Deciding.{deciding};
+    ghost use Rattle.rasn_types.specs.Equality.{choice_decided, alternative};
+    ghost use Rattle.rasn_ldap.specs.contracts.authentication_choice.AuthenticationChoice.{enum as own_enum};
+    ghost use Rattle.rasn_ldap.specs.contracts.sasl_credentials.SaslCredentialsLawfulEq.TheImpl.Laws.{decides-law as sasl_credentials_law};
 
-    ghost decides = { choice_decided authentication_enum _ authentication_tree (alternative (λ x. x.0) octets_decided, (alternative (λ x. x.0) sasl_law, (alternative (λ x. x.0) octets_decided, tt))) };
+    ghost decides = { choice_decided own_enum _ _ (alternative (λ x. x.0) (Prim.search (sasl_credentials_law, deciding) depth 64), (alternative (λ x. x.0) (Prim.search (sasl_credentials_law, deciding) depth 64), (alternative (λ x. x.0) (Prim.search (sasl_credentials_law, deciding) depth 64), tt))) };
 }
 
 impl Present for AuthenticationChoice {
-    ghost use Rattle.rasn_ldap.specs.Authentication.{authentication_not_absent};
+    ghost use Rattle.rasn_types.specs.Equality.{chosen_not_absent};
+    ghost use Rattle.rasn_ldap.specs.declared.authentication_choice.AuthenticationChoice.TheVariants.{Simple, Sasl, Unknown};
 
-    ghost present = { authentication_not_absent };
+    ghost present = { elim [ Simple x ↦ chosen_not_absent | Sasl x ↦ chosen_not_absent | Unknown x ↦ chosen_not_absent ] };
 }
 
-/// The alternatives, as they are read.
-type Alternatives = OneOf<
-    Implicit<ContextTag<0>, OctetString>,
-    OneOf<Implicit<ContextTag<3>, SaslCredentials>, Any>,
->;
-
 impl Decode for AuthenticationChoice {
-    ghost use Rattle.std.specs.Prelude.{◌≡◌, true, IfErr, Err};
-    ghost use Rattle.rasn_de.specs.Decodes.{Decodes};
+    ghost use Rattle.std.specs.Prelude.{codes};
     ghost use Rattle.rasn_de.specs.AlternativeTypes.{DecodesAlternativeBy};
-    ghost use Rattle.rasn_ldap.specs.Authentication.{authentication_alternatives, authentication_shape, authentication_tree, authentication_name};
+    ghost use Rattle.rasn_de.specs.ValueErrors.{errors_of};
+
+    ghost errors = { λ _ _. errors_of (DecodesAlternativeBy ⟦<Alternatives as DecodeAlternatives>⟧.extensible ⟦<Alternatives as DecodeAlternatives>⟧.parts ⟦<Alternatives as DecodeAlternatives>⟧.inner (codes "AuthenticationChoice")) };
 
     fn decode_with_tag_and_constraints(
         decoder: &mut Decoder<'_>,
         _tag: Tag,
         _constraints: &Constraints,
-    ) -> Result<AuthenticationChoice, DecodeError>
-        ensures reads { Decodes authentication_shape authentication_tree decoder.old result decoder.new }
-        ensures rules { IfErr result (λ e. e.codec ≡ decoder.old.rule) }
-        ensures fails { IfErr result (λ e. DecodesAlternativeBy true authentication_alternatives authentication_tree authentication_name decoder.old (Err e) decoder.new) }
-    {
-        match decoder.read_choice::<Alternatives>("AuthenticationChoice")? {
-            OneOf::This(password) => Ok(AuthenticationChoice::Simple(password)),
-            OneOf::Other(OneOf::This(credentials)) => Ok(AuthenticationChoice::Sasl(credentials)),
-            OneOf::Other(OneOf::Other(other)) => Ok(AuthenticationChoice::Other(other)),
+    ) -> Result<AuthenticationChoice, DecodeError> {
+        match decoder.read_choice::<Alternatives>("AuthenticationChoice") {
+            Ok(This(value)) => Ok(AuthenticationChoice::Simple(value)),
+            Ok(Other(This(value))) => Ok(AuthenticationChoice::Sasl(value)),
+            Ok(Other(Other(value))) => Ok(AuthenticationChoice::Unknown(value)),
+            Err(error) => Err(error),
         }
     }
 }
 
 /// The alternatives, as they are written.
-type Written<'a> = OneOf<
-    &'a Implicit<ContextTag<0>, OctetString>,
-    OneOf<&'a Implicit<ContextTag<3>, SaslCredentials>, &'a Any>,
->;
+type Written<'a> = OneOf<&'a Implicit<ContextTag<0>, OctetString>, Written1<'a>>;
+
+type Written1<'a> = OneOf<&'a Implicit<ContextTag<3>, SaslCredentials>, Written2<'a>>;
+
+type Written2<'a> = &'a Any;
 
 impl Encode for AuthenticationChoice {
     fn encode_with_tag_and_constraints(
@@ -99,15 +96,13 @@ impl Encode for AuthenticationChoice {
         _identifier: Identifier,
     ) -> Result<(), EncodeError> {
         match self {
-            AuthenticationChoice::Simple(password) => {
-                encoder.write_choice::<Written<'_>>(OneOf::This(password))
-            }
-            AuthenticationChoice::Sasl(credentials) => {
-                encoder.write_choice::<Written<'_>>(OneOf::Other(OneOf::This(credentials)))
-            }
-            AuthenticationChoice::Other(other) => {
-                encoder.write_choice::<Written<'_>>(OneOf::Other(OneOf::Other(other)))
-            }
+            AuthenticationChoice::Simple(value) => encoder.write_choice::<Written<'_>>(This(value)),
+            AuthenticationChoice::Sasl(value) => encoder.write_choice::<Written<'_>>(Other(This(
+                value,
+            ))),
+            AuthenticationChoice::Unknown(value) => encoder.write_choice::<Written<'_>>(Other(Other(
+                value,
+            ))),
         }
     }
 

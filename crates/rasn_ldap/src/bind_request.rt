@@ -1,29 +1,36 @@
-//! `BindRequest ::= [APPLICATION 0] SEQUENCE { version INTEGER (1..127), name LDAPDN,
-//! authentication AuthenticationChoice }` (RFC 4511, 4.2).
-use crate::{AuthenticationChoice, IntegerWithin, LdapString};
-use rasn::error::{DecodeError, EncodeError};
-use rasn::parts::{End, Put, Required};
-use rasn::types::{AsnType, Class, Constraints, Identifier, LawfulEq, Present, Tag, Unknown};
-use rasn::{Decode, Decoder, Encode, Encoder};
+//! `BindRequest ::= [APPLICATION 0] IMPLICIT SEQUENCE`
+use crate::{AuthenticationChoice, BindRequestVersion, LdapString};
+use rasn::prelude::*;
 
-/// \[APPLICATION 0\] SEQUENCE { version INTEGER (1..127), name LDAPDN,
-/// authentication AuthenticationChoice }: the request of a client to be authenticated.
+/// `BindRequest ::= [APPLICATION 0] IMPLICIT SEQUENCE`
 #[derive(Debug, PartialEq, Eq, Drop)]
 pub struct BindRequest {
-    pub version: IntegerWithin<1, 127>,
+    /// `version BindRequest-version`
+    pub version: BindRequestVersion,
+    /// `name LDAPString`
     pub name: LdapString,
+    /// `authentication AuthenticationChoice`
     pub authentication: AuthenticationChoice,
-    /// The components of newer versions.
+    /// `...`
     pub unknown: Unknown,
 }
 
+/// The components, as they are read.
+type Parts = Required<BindRequestVersion, Parts1>;
+
+type Parts1 = Required<LdapString, Parts2>;
+
+type Parts2 = Required<AuthenticationChoice, Parts3>;
+
+type Parts3 = Required<Unknown, End>;
+
 impl AsnType for BindRequest {
     ghost use Rattle.std.specs.Prelude.{refl};
+    ghost use Rattle.rasn_types.specs.declared.types.tag.Class.TheVariants.{Application};
+    ghost use Rattle.rasn_types.specs.Shapes.{seq};
     ghost use Rattle.rasn_types.specs.Trees.{unconstrained};
-    ghost use Rattle.rasn_ldap.specs.Tags.{application};
-    ghost use Rattle.rasn_ldap.specs.BindRequest.{bind_request_shape, bind_request_tree};
 
-    ghost TAG = { application 0 };
+    ghost TAG = { record { class = Application; value = 0 } };
 
     const TAG: Tag = Tag {
         class: Class::Application,
@@ -34,18 +41,19 @@ impl AsnType for BindRequest {
 
     const CONSTRAINTS: Constraints = Constraints::NONE;
 
-    ghost shape = { bind_request_shape };
+    ghost shape = { seq (record { class = Application; value = 0 }) ⟦<Parts as DecodeParts>⟧.parts };
 
-    ghost tree = { bind_request_tree };
+    ghost tree = { λ a. ⟦<Parts as DecodeParts>⟧.tree (record { 0 = a.version; 1 = record { 0 = a.name; 1 = record { 0 = a.authentication; 1 = record { 0 = a.unknown; 1 = record {} } } } }) };
 
     ghost own = { refl };
 }
 
 impl LawfulEq for BindRequest {
     ghost use Rattle.rasn_types.specs.Deciding.{deciding};
-    ghost use Rattle.rasn_ldap.specs.contracts.authentication_choice.AuthenticationChoiceLawfulEq.TheImpl.Laws.{decides-law as authentication_law};
+    ghost use Rattle.rasn_ldap.specs.contracts.authentication_choice.AuthenticationChoiceLawfulEq.TheImpl.Laws.{decides-law as authentication_choice_law};
+    ghost use Rattle.rasn_ldap.specs.contracts.bind_request_version.BindRequestVersionLawfulEq.TheImpl.Laws.{decides-law as bind_request_version_law};
 
-    ghost decides = { Prim.search (authentication_law, deciding) depth 64 };
+    ghost decides = { Prim.search (authentication_choice_law, bind_request_version_law, deciding) depth 64 };
 }
 
 impl Present for BindRequest {
@@ -60,8 +68,10 @@ impl Decode for BindRequest {
         tag: Tag,
         _constraints: &Constraints,
     ) -> Result<BindRequest, DecodeError> {
-        let Required(version, Required(name, Required(authentication, Required(unknown, End)))) =
-            decoder.read_sequence(tag)?;
+        let Required(version, rest) = decoder.read_sequence::<Parts>(tag)?;
+        let Required(name, rest) = rest;
+        let Required(authentication, rest) = rest;
+        let Required(unknown, End) = rest;
         Ok(BindRequest {
             version,
             name,
@@ -79,16 +89,10 @@ impl Encode for BindRequest {
         _constraints: &Constraints,
         _identifier: Identifier,
     ) -> Result<(), EncodeError> {
-        encoder.write_sequence(
-            tag,
-            Put(
-                &self.version,
-                Put(
-                    &self.name,
-                    Put(&self.authentication, Put(&self.unknown, End)),
-                ),
-            ),
-        )
+        let rest = Put(&self.unknown, End);
+        let rest = Put(&self.authentication, rest);
+        let rest = Put(&self.name, rest);
+        encoder.write_sequence(tag, Put(&self.version, rest))
     }
 
     fn is_present(&self) -> bool {

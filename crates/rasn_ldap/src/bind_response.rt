@@ -1,34 +1,44 @@
-//! `BindResponse ::= [APPLICATION 1] SEQUENCE { COMPONENTS OF LDAPResult,
-//! serverSaslCreds [7] OCTET STRING OPTIONAL }` (RFC 4511, 4.2.2).
-use crate::{LdapString, ResultCode};
-use rasn::error::{DecodeError, EncodeError};
-use rasn::parts::{End, Optional, Put, PutOptional, Required};
-use rasn::types::{
-    AsnType, Class, Constraints, ContextTag, Identifier, Implicit, LawfulEq, OctetString, Present,
-    Tag, Unknown,
-};
-use rasn::{Decode, Decoder, Encode, Encoder};
+//! `BindResponse ::= [APPLICATION 1] IMPLICIT SEQUENCE`
+use crate::{LdapString, Referral, ResultCode};
+use rasn::prelude::*;
 
-/// \[APPLICATION 1\] SEQUENCE { COMPONENTS OF LDAPResult,
-/// serverSaslCreds \[7\] OCTET STRING OPTIONAL }
+/// `BindResponse ::= [APPLICATION 1] IMPLICIT SEQUENCE`
 #[derive(Debug, PartialEq, Eq, Drop)]
 pub struct BindResponse {
+    /// `resultCode ResultCode`
     pub result_code: ResultCode,
+    /// `matchedDN LDAPString`
     pub matched_dn: LdapString,
+    /// `diagnosticMessage LDAPString`
     pub diagnostic_message: LdapString,
-    pub referral: Option<Implicit<ContextTag<3>, Vec<LdapString>>>,
-    pub server_sasl_credentials: Option<Implicit<ContextTag<7>, OctetString>>,
-    /// The components of newer versions.
+    /// `referral [3] IMPLICIT Referral OPTIONAL`
+    pub referral: Option<Implicit<ContextTag<3>, Referral>>,
+    /// `serverSaslCreds [7] IMPLICIT OCTET STRING OPTIONAL`
+    pub server_sasl_creds: Option<Implicit<ContextTag<7>, OctetString>>,
+    /// `...`
     pub unknown: Unknown,
 }
 
+/// The components, as they are read.
+type Parts = Required<ResultCode, Parts1>;
+
+type Parts1 = Required<LdapString, Parts2>;
+
+type Parts2 = Required<LdapString, Parts3>;
+
+type Parts3 = Optional<Implicit<ContextTag<3>, Referral>, Parts4>;
+
+type Parts4 = Optional<Implicit<ContextTag<7>, OctetString>, Parts5>;
+
+type Parts5 = Required<Unknown, End>;
+
 impl AsnType for BindResponse {
     ghost use Rattle.std.specs.Prelude.{refl};
+    ghost use Rattle.rasn_types.specs.declared.types.tag.Class.TheVariants.{Application};
+    ghost use Rattle.rasn_types.specs.Shapes.{seq};
     ghost use Rattle.rasn_types.specs.Trees.{unconstrained};
-    ghost use Rattle.rasn_ldap.specs.Tags.{application};
-    ghost use Rattle.rasn_ldap.specs.BindResponse.{bind_response_shape, bind_response_tree};
 
-    ghost TAG = { application 1 };
+    ghost TAG = { record { class = Application; value = 1 } };
 
     const TAG: Tag = Tag {
         class: Class::Application,
@@ -39,17 +49,19 @@ impl AsnType for BindResponse {
 
     const CONSTRAINTS: Constraints = Constraints::NONE;
 
-    ghost shape = { bind_response_shape };
+    ghost shape = { seq (record { class = Application; value = 1 }) ⟦<Parts as DecodeParts>⟧.parts };
 
-    ghost tree = { bind_response_tree };
+    ghost tree = { λ a. ⟦<Parts as DecodeParts>⟧.tree (record { 0 = a.result_code; 1 = record { 0 = a.matched_dn; 1 = record { 0 = a.diagnostic_message; 1 = record { 0 = a.referral; 1 = record { 0 = a.server_sasl_creds; 1 = record { 0 = a.unknown; 1 = record {} } } } } } }) };
 
     ghost own = { refl };
 }
 
 impl LawfulEq for BindResponse {
     ghost use Rattle.rasn_types.specs.Deciding.{deciding};
+    ghost use Rattle.rasn_ldap.specs.contracts.referral.ReferralLawfulEq.TheImpl.Laws.{decides-law as referral_law};
+    ghost use Rattle.rasn_ldap.specs.contracts.referral.ReferralPresent.TheImpl.Laws.{present-law as referral_present};
 
-    ghost decides = { Prim.search deciding depth 64 };
+    ghost decides = { Prim.search (referral_law, referral_present, deciding) depth 64 };
 }
 
 impl Present for BindResponse {
@@ -64,15 +76,18 @@ impl Decode for BindResponse {
         tag: Tag,
         _constraints: &Constraints,
     ) -> Result<BindResponse, DecodeError> {
-        let Required(result_code, Required(matched_dn, Required(diagnostic_message, rest))) =
-            decoder.read_sequence(tag)?;
-        let Optional(referral, Optional(server_sasl_credentials, Required(unknown, End))) = rest;
+        let Required(result_code, rest) = decoder.read_sequence::<Parts>(tag)?;
+        let Required(matched_dn, rest) = rest;
+        let Required(diagnostic_message, rest) = rest;
+        let Optional(referral, rest) = rest;
+        let Optional(server_sasl_creds, rest) = rest;
+        let Required(unknown, End) = rest;
         Ok(BindResponse {
             result_code,
             matched_dn,
             diagnostic_message,
             referral,
-            server_sasl_credentials,
+            server_sasl_creds,
             unknown,
         })
     }
@@ -86,17 +101,12 @@ impl Encode for BindResponse {
         _constraints: &Constraints,
         _identifier: Identifier,
     ) -> Result<(), EncodeError> {
-        let referral = PutOptional(
-            &self.referral,
-            PutOptional(&self.server_sasl_credentials, Put(&self.unknown, End)),
-        );
-        encoder.write_sequence(
-            tag,
-            Put(
-                &self.result_code,
-                Put(&self.matched_dn, Put(&self.diagnostic_message, referral)),
-            ),
-        )
+        let rest = Put(&self.unknown, End);
+        let rest = PutOptional(&self.server_sasl_creds, rest);
+        let rest = PutOptional(&self.referral, rest);
+        let rest = Put(&self.diagnostic_message, rest);
+        let rest = Put(&self.matched_dn, rest);
+        encoder.write_sequence(tag, Put(&self.result_code, rest))
     }
 
     fn is_present(&self) -> bool {

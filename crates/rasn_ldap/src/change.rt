@@ -1,24 +1,30 @@
-//! `change SEQUENCE { operation ENUMERATED, modification PartialAttribute }` (RFC 4511, 4.6).
+//! `Change ::= SEQUENCE`
 use crate::{ChangeOperation, PartialAttribute};
-use rasn::error::{DecodeError, EncodeError};
-use rasn::parts::{End, Put, Required};
-use rasn::types::{AsnType, Constraints, Identifier, LawfulEq, Present, Tag, Unknown};
-use rasn::{Decode, Decoder, Encode, Encoder};
+use rasn::prelude::*;
 
-/// SEQUENCE { operation ENUMERATED, modification PartialAttribute }: one change of an entry.
+/// `Change ::= SEQUENCE`
 #[derive(Debug, PartialEq, Eq, Drop)]
 pub struct Change {
+    /// `operation Change-operation`
     pub operation: ChangeOperation,
+    /// `modification PartialAttribute`
     pub modification: PartialAttribute,
-    /// The components of newer versions.
+    /// `...`
     pub unknown: Unknown,
 }
+
+/// The components, as they are read.
+type Parts = Required<ChangeOperation, Parts1>;
+
+type Parts1 = Required<PartialAttribute, Parts2>;
+
+type Parts2 = Required<Unknown, End>;
 
 impl AsnType for Change {
     ghost use Rattle.std.specs.Prelude.{refl};
     ghost use Rattle.rasn_types.specs.Tags.{in_universal};
+    ghost use Rattle.rasn_types.specs.Shapes.{seq};
     ghost use Rattle.rasn_types.specs.Trees.{unconstrained};
-    ghost use Rattle.rasn_ldap.specs.Changes.{change_shape, change_tree};
 
     ghost TAG = { in_universal 16 };
 
@@ -28,17 +34,18 @@ impl AsnType for Change {
 
     const CONSTRAINTS: Constraints = Constraints::NONE;
 
-    ghost shape = { change_shape };
+    ghost shape = { seq (in_universal 16) ⟦<Parts as DecodeParts>⟧.parts };
 
-    ghost tree = { change_tree };
+    ghost tree = { λ a. ⟦<Parts as DecodeParts>⟧.tree (record { 0 = a.operation; 1 = record { 0 = a.modification; 1 = record { 0 = a.unknown; 1 = record {} } } }) };
 
     ghost own = { refl };
 }
 
 impl LawfulEq for Change {
     ghost use Rattle.rasn_types.specs.Deciding.{deciding};
+    ghost use Rattle.rasn_ldap.specs.contracts.partial_attribute.PartialAttributeLawfulEq.TheImpl.Laws.{decides-law as partial_attribute_law};
 
-    ghost decides = { Prim.search deciding depth 64 };
+    ghost decides = { Prim.search (partial_attribute_law, deciding) depth 64 };
 }
 
 impl Present for Change {
@@ -53,8 +60,9 @@ impl Decode for Change {
         tag: Tag,
         _constraints: &Constraints,
     ) -> Result<Change, DecodeError> {
-        let Required(operation, Required(modification, Required(unknown, End))) =
-            decoder.read_sequence(tag)?;
+        let Required(operation, rest) = decoder.read_sequence::<Parts>(tag)?;
+        let Required(modification, rest) = rest;
+        let Required(unknown, End) = rest;
         Ok(Change {
             operation,
             modification,
@@ -71,13 +79,9 @@ impl Encode for Change {
         _constraints: &Constraints,
         _identifier: Identifier,
     ) -> Result<(), EncodeError> {
-        encoder.write_sequence(
-            tag,
-            Put(
-                &self.operation,
-                Put(&self.modification, Put(&self.unknown, End)),
-            ),
-        )
+        let rest = Put(&self.unknown, End);
+        let rest = Put(&self.modification, rest);
+        encoder.write_sequence(tag, Put(&self.operation, rest))
     }
 
     fn is_present(&self) -> bool {

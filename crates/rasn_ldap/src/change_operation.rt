@@ -1,84 +1,50 @@
-//! `operation ENUMERATED { add (0), delete (1), replace (2), ... }` (RFC 4511, 4.6).
-use rasn::error::{DecodeError, EncodeError};
-use rasn::types::{AsnType, Constraints, Identifier, LawfulEq, Present, Tag};
-use rasn::{Decode, Decoder, Encode, Encoder};
+//! `Change-operation ::= ENUMERATED { add(0), delete(1), replace(2), ... }`
+use rasn::prelude::*;
 
-/// ENUMERATED { add (0), delete (1), replace (2), ... }: what is done with the values of an
-/// attribute, as a number. The type is extensible, and numbers without a name here, such as
-/// increment (3) of RFC 4525, are read and written like the others.
+/// `Change-operation ::= ENUMERATED { add(0), delete(1), replace(2), ... }`
+pub type ChangeOperation = Extensible<ChangeOperationName>;
+
+/// The names of the numbers.
 #[derive(Clone, Copy, Debug, PartialEq, Eq, Drop)]
-pub struct ChangeOperation {
-    pub number: i32,
+pub enum ChangeOperationName {
+    /// `add (0)`
+    Add,
+    /// `delete (1)`
+    Delete,
+    /// `replace (2)`
+    Replace,
 }
 
-impl ChangeOperation {
-    /// `add`
-    pub const ADD: ChangeOperation = ChangeOperation { number: 0 };
+impl Enumerated for ChangeOperationName {
+    ghost use Rattle.std.specs.Prelude.{pos, refl, [], ◌∷◌};
+    ghost use Rattle.rasn_types.specs.OwnEnumerated.{all_listed, all_distinct};
+    ghost use Rattle.rasn_ldap.specs.contracts.change_operation.ChangeOperationName.{enum as own_enum};
+    ghost use Rattle.rasn_ldap.specs.declared.change_operation.ChangeOperationName.TheVariants.{Add, Delete, Replace};
 
-    /// `delete`
-    pub const DELETE: ChangeOperation = ChangeOperation { number: 1 };
+    ghost known = { pos 0 ∷ pos 1 ∷ pos 2 ∷ [] };
 
-    /// `replace`
-    pub const REPLACE: ChangeOperation = ChangeOperation { number: 2 };
-}
+    ghost number = { elim [ Add ↦ pos 0 | Delete ↦ pos 1 | Replace ↦ pos 2 ] };
 
-impl AsnType for ChangeOperation {
-    ghost use Rattle.std.specs.Prelude.{refl};
-    ghost use Rattle.rasn_types.specs.Tags.{in_universal};
-    ghost use Rattle.rasn_types.specs.Trees.{unconstrained};
-    ghost use Rattle.rasn_ldap.specs.Operation.{operation_shape, operation_tree};
+    ghost listed = { all_listed own_enum (elim [ Add ↦ pos 0 | Delete ↦ pos 1 | Replace ↦ pos 2 ]) (pos 0 ∷ pos 1 ∷ pos 2 ∷ []) refl };
 
-    ghost TAG = { in_universal 10 };
+    ghost distinct = { all_distinct own_enum _ refl };
 
-    const TAG: Tag = Tag::ENUMERATED;
+    ghost fits = { refl };
 
-    ghost CONSTRAINTS = { unconstrained };
-
-    const CONSTRAINTS: Constraints = Constraints::NONE;
-
-    ghost shape = { operation_shape };
-
-    ghost tree = { operation_tree };
-
-    ghost own = { refl };
-}
-
-impl LawfulEq for ChangeOperation {
-    ghost use Rattle.rasn_types.specs.Equality.{signed_decided};
-
-    ghost decides = { λ a b. signed_decided a.number b.number };
-}
-
-impl Present for ChangeOperation {
-    ghost use Rattle.rasn_types.specs.Equality.{number_not_absent};
-
-    ghost present = { λ x. number_not_absent x.number };
-}
-
-impl Decode for ChangeOperation {
-    fn decode_with_tag_and_constraints(
-        decoder: &mut Decoder<'_>,
-        tag: Tag,
-        constraints: &Constraints,
-    ) -> Result<ChangeOperation, DecodeError> {
-        let number = i32::decode_with_tag_and_constraints(decoder, tag, constraints)?;
-        Ok(ChangeOperation { number })
-    }
-}
-
-impl Encode for ChangeOperation {
-    fn encode_with_tag_and_constraints(
-        &self,
-        encoder: &mut Encoder,
-        tag: Tag,
-        constraints: &Constraints,
-        identifier: Identifier,
-    ) -> Result<(), EncodeError> {
-        self.number
-            .encode_with_tag_and_constraints(encoder, tag, constraints, identifier)
+    fn discriminant(&self) -> isize {
+        match self {
+            ChangeOperationName::Add => 0,
+            ChangeOperationName::Delete => 1,
+            ChangeOperationName::Replace => 2,
+        }
     }
 
-    fn is_present(&self) -> bool {
-        true
+    fn from_discriminant(discriminant: isize) -> Option<ChangeOperationName> {
+        match discriminant {
+            0 => Some(ChangeOperationName::Add),
+            1 => Some(ChangeOperationName::Delete),
+            2 => Some(ChangeOperationName::Replace),
+            _ => None,
+        }
     }
 }

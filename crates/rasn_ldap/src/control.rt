@@ -1,28 +1,35 @@
-//! `Control ::= SEQUENCE { controlType LDAPOID, criticality BOOLEAN DEFAULT FALSE,
-//! controlValue OCTET STRING OPTIONAL }` (RFC 4511, 4.1.11).
+//! `Control ::= SEQUENCE`
 use crate::LdapString;
-use rasn::error::{DecodeError, EncodeError};
-use rasn::parts::{DefaultValue, Defaulted, End, Optional, Put, PutDefault, PutOptional, Required};
-use rasn::types::{AsnType, Constraints, Identifier, LawfulEq, OctetString, Present, Tag, Unknown};
-use rasn::{Decode, Decoder, Encode, Encoder};
+use rasn::prelude::*;
 use std::alloc::{AllocError, Global};
 
-/// SEQUENCE { controlType LDAPOID, criticality BOOLEAN DEFAULT FALSE,
-/// controlValue OCTET STRING OPTIONAL }: an extension of an operation.
+/// `Control ::= SEQUENCE`
 #[derive(Debug, PartialEq, Eq, Drop)]
 pub struct Control {
+    /// `controlType LDAPString`
     pub control_type: LdapString,
+    /// `criticality BOOLEAN DEFAULT FALSE`
     pub criticality: bool,
+    /// `controlValue OCTET STRING OPTIONAL`
     pub control_value: Option<OctetString>,
-    /// The components of newer versions.
+    /// `...`
     pub unknown: Unknown,
 }
+
+/// The components, as they are read.
+type Parts = Required<LdapString, Parts1>;
+
+type Parts1 = Defaulted<CriticalityDefault, Parts2>;
+
+type Parts2 = Optional<OctetString, Parts3>;
+
+type Parts3 = Required<Unknown, End>;
 
 impl AsnType for Control {
     ghost use Rattle.std.specs.Prelude.{refl};
     ghost use Rattle.rasn_types.specs.Tags.{in_universal};
+    ghost use Rattle.rasn_types.specs.Shapes.{seq};
     ghost use Rattle.rasn_types.specs.Trees.{unconstrained};
-    ghost use Rattle.rasn_ldap.specs.Controls.{control_shape, control_tree};
 
     ghost TAG = { in_universal 16 };
 
@@ -32,9 +39,9 @@ impl AsnType for Control {
 
     const CONSTRAINTS: Constraints = Constraints::NONE;
 
-    ghost shape = { control_shape };
+    ghost shape = { seq (in_universal 16) ⟦<Parts as DecodeParts>⟧.parts };
 
-    ghost tree = { control_tree };
+    ghost tree = { λ a. ⟦<Parts as DecodeParts>⟧.tree (record { 0 = a.control_type; 1 = record { 0 = a.criticality; 1 = record { 0 = a.control_value; 1 = record { 0 = a.unknown; 1 = record {} } } } }) };
 
     ghost own = { refl };
 }
@@ -51,36 +58,16 @@ impl Present for Control {
     ghost present = { λ _. parts_not_absent };
 }
 
-/// The default of `criticality`: the control isn't critical.
-#[derive(Drop)]
-pub struct NotCritical;
-
-impl DefaultValue for NotCritical {
-    ghost use Rattle.std.specs.Prelude.{pos};
-    ghost use Rattle.rasn_types.specs.Shapes.{number};
-
-    type Value = bool;
-
-    ghost default_tree = { number (pos 0) };
-
-    fn default_value(_alloc: Global) -> Result<bool, AllocError> {
-        Ok(false)
-    }
-}
-
 impl Decode for Control {
     fn decode_with_tag_and_constraints(
         decoder: &mut Decoder<'_>,
         tag: Tag,
         _constraints: &Constraints,
     ) -> Result<Control, DecodeError> {
-        let Required(
-            control_type,
-            Defaulted::<NotCritical, _>(
-                criticality,
-                Optional(control_value, Required(unknown, End)),
-            ),
-        ) = decoder.read_sequence(tag)?;
+        let Required(control_type, rest) = decoder.read_sequence::<Parts>(tag)?;
+        let Defaulted(criticality, rest) = rest;
+        let Optional(control_value, rest) = rest;
+        let Required(unknown, End) = rest;
         Ok(Control {
             control_type,
             criticality,
@@ -98,19 +85,30 @@ impl Encode for Control {
         _constraints: &Constraints,
         _identifier: Identifier,
     ) -> Result<(), EncodeError> {
-        encoder.write_sequence(
-            tag,
-            Put(
-                &self.control_type,
-                PutDefault::<NotCritical, _>(
-                    &self.criticality,
-                    PutOptional(&self.control_value, Put(&self.unknown, End)),
-                ),
-            ),
-        )
+        let rest = Put(&self.unknown, End);
+        let rest = PutOptional(&self.control_value, rest);
+        let rest = PutDefault::<CriticalityDefault, _>(&self.criticality, rest);
+        encoder.write_sequence(tag, Put(&self.control_type, rest))
     }
 
     fn is_present(&self) -> bool {
         true
+    }
+}
+
+/// The default of `criticality`.
+#[derive(Drop)]
+pub struct CriticalityDefault;
+
+impl DefaultValue for CriticalityDefault {
+    ghost use Rattle.std.specs.Prelude.{pos};
+    ghost use Rattle.rasn_types.specs.Shapes.{number};
+
+    type Value = bool;
+
+    ghost default_tree = { number (pos 0) };
+
+    fn default_value(_alloc: Global) -> Result<bool, AllocError> {
+        Ok(false)
     }
 }

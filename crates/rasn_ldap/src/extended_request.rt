@@ -1,30 +1,31 @@
-//! `ExtendedRequest ::= [APPLICATION 23] SEQUENCE { requestName [0] LDAPOID,
-//! requestValue [1] OCTET STRING OPTIONAL }` (RFC 4511, 4.12).
-use rasn::error::{DecodeError, EncodeError};
-use rasn::parts::{End, Optional, Put, PutOptional, Required};
-use rasn::types::{
-    AsnType, Class, Constraints, ContextTag, Identifier, Implicit, LawfulEq, OctetString, Present,
-    Tag, Unknown, Utf8String,
-};
-use rasn::{Decode, Decoder, Encode, Encoder};
+//! `ExtendedRequest ::= [APPLICATION 23] IMPLICIT SEQUENCE`
+use rasn::prelude::*;
 
-/// \[APPLICATION 23\] SEQUENCE { requestName \[0\] LDAPOID,
-/// requestValue \[1\] OCTET STRING OPTIONAL }: an operation that another document defines.
+/// `ExtendedRequest ::= [APPLICATION 23] IMPLICIT SEQUENCE`
 #[derive(Debug, PartialEq, Eq, Drop)]
 pub struct ExtendedRequest {
+    /// `requestName [0] IMPLICIT UTF8String`
     pub request_name: Implicit<ContextTag<0>, Utf8String>,
+    /// `requestValue [1] IMPLICIT OCTET STRING OPTIONAL`
     pub request_value: Option<Implicit<ContextTag<1>, OctetString>>,
-    /// The components of newer versions.
+    /// `...`
     pub unknown: Unknown,
 }
 
+/// The components, as they are read.
+type Parts = Required<Implicit<ContextTag<0>, Utf8String>, Parts1>;
+
+type Parts1 = Optional<Implicit<ContextTag<1>, OctetString>, Parts2>;
+
+type Parts2 = Required<Unknown, End>;
+
 impl AsnType for ExtendedRequest {
     ghost use Rattle.std.specs.Prelude.{refl};
+    ghost use Rattle.rasn_types.specs.declared.types.tag.Class.TheVariants.{Application};
+    ghost use Rattle.rasn_types.specs.Shapes.{seq};
     ghost use Rattle.rasn_types.specs.Trees.{unconstrained};
-    ghost use Rattle.rasn_ldap.specs.Tags.{application};
-    ghost use Rattle.rasn_ldap.specs.ExtendedRequest.{extended_request_shape, extended_request_tree};
 
-    ghost TAG = { application 23 };
+    ghost TAG = { record { class = Application; value = 23 } };
 
     const TAG: Tag = Tag {
         class: Class::Application,
@@ -35,9 +36,9 @@ impl AsnType for ExtendedRequest {
 
     const CONSTRAINTS: Constraints = Constraints::NONE;
 
-    ghost shape = { extended_request_shape };
+    ghost shape = { seq (record { class = Application; value = 23 }) ⟦<Parts as DecodeParts>⟧.parts };
 
-    ghost tree = { extended_request_tree };
+    ghost tree = { λ a. ⟦<Parts as DecodeParts>⟧.tree (record { 0 = a.request_name; 1 = record { 0 = a.request_value; 1 = record { 0 = a.unknown; 1 = record {} } } }) };
 
     ghost own = { refl };
 }
@@ -60,8 +61,9 @@ impl Decode for ExtendedRequest {
         tag: Tag,
         _constraints: &Constraints,
     ) -> Result<ExtendedRequest, DecodeError> {
-        let Required(request_name, Optional(request_value, Required(unknown, End))) =
-            decoder.read_sequence(tag)?;
+        let Required(request_name, rest) = decoder.read_sequence::<Parts>(tag)?;
+        let Optional(request_value, rest) = rest;
+        let Required(unknown, End) = rest;
         Ok(ExtendedRequest {
             request_name,
             request_value,
@@ -78,13 +80,9 @@ impl Encode for ExtendedRequest {
         _constraints: &Constraints,
         _identifier: Identifier,
     ) -> Result<(), EncodeError> {
-        encoder.write_sequence(
-            tag,
-            Put(
-                &self.request_name,
-                PutOptional(&self.request_value, Put(&self.unknown, End)),
-            ),
-        )
+        let rest = Put(&self.unknown, End);
+        let rest = PutOptional(&self.request_value, rest);
+        encoder.write_sequence(tag, Put(&self.request_name, rest))
     }
 
     fn is_present(&self) -> bool {

@@ -1,35 +1,48 @@
-//! `ExtendedResponse ::= [APPLICATION 24] SEQUENCE { COMPONENTS OF LDAPResult,
-//! responseName [10] LDAPOID OPTIONAL, ..` (RFC 4511, 4.12).
-use crate::{LdapString, ResultCode};
-use rasn::error::{DecodeError, EncodeError};
-use rasn::parts::{End, Optional, Put, PutOptional, Required};
-use rasn::types::{
-    AsnType, Class, Constraints, ContextTag, Identifier, Implicit, LawfulEq, OctetString, Present,
-    Tag, Unknown, Utf8String,
-};
-use rasn::{Decode, Decoder, Encode, Encoder};
+//! `ExtendedResponse ::= [APPLICATION 24] IMPLICIT SEQUENCE`
+use crate::{LdapString, Referral, ResultCode};
+use rasn::prelude::*;
 
-/// \[APPLICATION 24\] SEQUENCE { COMPONENTS OF LDAPResult, responseName \[10\] LDAPOID OPTIONAL,
-/// responseValue \[11\] OCTET STRING OPTIONAL }
+/// `ExtendedResponse ::= [APPLICATION 24] IMPLICIT SEQUENCE`
 #[derive(Debug, PartialEq, Eq, Drop)]
 pub struct ExtendedResponse {
+    /// `resultCode ResultCode`
     pub result_code: ResultCode,
+    /// `matchedDN LDAPString`
     pub matched_dn: LdapString,
+    /// `diagnosticMessage LDAPString`
     pub diagnostic_message: LdapString,
-    pub referral: Option<Implicit<ContextTag<3>, Vec<LdapString>>>,
+    /// `referral [3] IMPLICIT Referral OPTIONAL`
+    pub referral: Option<Implicit<ContextTag<3>, Referral>>,
+    /// `responseName [10] IMPLICIT UTF8String OPTIONAL`
     pub response_name: Option<Implicit<ContextTag<10>, Utf8String>>,
+    /// `responseValue [11] IMPLICIT OCTET STRING OPTIONAL`
     pub response_value: Option<Implicit<ContextTag<11>, OctetString>>,
-    /// The components of newer versions.
+    /// `...`
     pub unknown: Unknown,
 }
 
+/// The components, as they are read.
+type Parts = Required<ResultCode, Parts1>;
+
+type Parts1 = Required<LdapString, Parts2>;
+
+type Parts2 = Required<LdapString, Parts3>;
+
+type Parts3 = Optional<Implicit<ContextTag<3>, Referral>, Parts4>;
+
+type Parts4 = Optional<Implicit<ContextTag<10>, Utf8String>, Parts5>;
+
+type Parts5 = Optional<Implicit<ContextTag<11>, OctetString>, Parts6>;
+
+type Parts6 = Required<Unknown, End>;
+
 impl AsnType for ExtendedResponse {
     ghost use Rattle.std.specs.Prelude.{refl};
+    ghost use Rattle.rasn_types.specs.declared.types.tag.Class.TheVariants.{Application};
+    ghost use Rattle.rasn_types.specs.Shapes.{seq};
     ghost use Rattle.rasn_types.specs.Trees.{unconstrained};
-    ghost use Rattle.rasn_ldap.specs.Tags.{application};
-    ghost use Rattle.rasn_ldap.specs.ExtendedResponse.{extended_response_shape, extended_response_tree};
 
-    ghost TAG = { application 24 };
+    ghost TAG = { record { class = Application; value = 24 } };
 
     const TAG: Tag = Tag {
         class: Class::Application,
@@ -40,17 +53,19 @@ impl AsnType for ExtendedResponse {
 
     const CONSTRAINTS: Constraints = Constraints::NONE;
 
-    ghost shape = { extended_response_shape };
+    ghost shape = { seq (record { class = Application; value = 24 }) ⟦<Parts as DecodeParts>⟧.parts };
 
-    ghost tree = { extended_response_tree };
+    ghost tree = { λ a. ⟦<Parts as DecodeParts>⟧.tree (record { 0 = a.result_code; 1 = record { 0 = a.matched_dn; 1 = record { 0 = a.diagnostic_message; 1 = record { 0 = a.referral; 1 = record { 0 = a.response_name; 1 = record { 0 = a.response_value; 1 = record { 0 = a.unknown; 1 = record {} } } } } } } }) };
 
     ghost own = { refl };
 }
 
 impl LawfulEq for ExtendedResponse {
     ghost use Rattle.rasn_types.specs.Deciding.{deciding};
+    ghost use Rattle.rasn_ldap.specs.contracts.referral.ReferralLawfulEq.TheImpl.Laws.{decides-law as referral_law};
+    ghost use Rattle.rasn_ldap.specs.contracts.referral.ReferralPresent.TheImpl.Laws.{present-law as referral_present};
 
-    ghost decides = { Prim.search deciding depth 64 };
+    ghost decides = { Prim.search (referral_law, referral_present, deciding) depth 64 };
 }
 
 impl Present for ExtendedResponse {
@@ -65,12 +80,13 @@ impl Decode for ExtendedResponse {
         tag: Tag,
         _constraints: &Constraints,
     ) -> Result<ExtendedResponse, DecodeError> {
-        let Required(result_code, Required(matched_dn, Required(diagnostic_message, rest))) =
-            decoder.read_sequence(tag)?;
-        let Optional(
-            referral,
-            Optional(response_name, Optional(response_value, Required(unknown, End))),
-        ) = rest;
+        let Required(result_code, rest) = decoder.read_sequence::<Parts>(tag)?;
+        let Required(matched_dn, rest) = rest;
+        let Required(diagnostic_message, rest) = rest;
+        let Optional(referral, rest) = rest;
+        let Optional(response_name, rest) = rest;
+        let Optional(response_value, rest) = rest;
+        let Required(unknown, End) = rest;
         Ok(ExtendedResponse {
             result_code,
             matched_dn,
@@ -91,20 +107,13 @@ impl Encode for ExtendedResponse {
         _constraints: &Constraints,
         _identifier: Identifier,
     ) -> Result<(), EncodeError> {
-        let referral = PutOptional(
-            &self.referral,
-            PutOptional(
-                &self.response_name,
-                PutOptional(&self.response_value, Put(&self.unknown, End)),
-            ),
-        );
-        encoder.write_sequence(
-            tag,
-            Put(
-                &self.result_code,
-                Put(&self.matched_dn, Put(&self.diagnostic_message, referral)),
-            ),
-        )
+        let rest = Put(&self.unknown, End);
+        let rest = PutOptional(&self.response_value, rest);
+        let rest = PutOptional(&self.response_name, rest);
+        let rest = PutOptional(&self.referral, rest);
+        let rest = Put(&self.diagnostic_message, rest);
+        let rest = Put(&self.matched_dn, rest);
+        encoder.write_sequence(tag, Put(&self.result_code, rest))
     }
 
     fn is_present(&self) -> bool {

@@ -1,29 +1,34 @@
-//! `LDAPMessage ::= SEQUENCE { messageID MessageID, protocolOp CHOICE,
-//! controls [0] Controls OPTIONAL }` (RFC 4511, 4.1.1).
+//! `LDAPMessage ::= SEQUENCE`
 use crate::{Control, MaxInt, ProtocolOp};
-use rasn::error::{DecodeError, EncodeError};
-use rasn::parts::{End, Optional, Put, PutOptional, Required};
-use rasn::types::{
-    AsnType, Constraints, ContextTag, Identifier, Implicit, LawfulEq, Present, Tag, Unknown,
-};
-use rasn::{Codec, Decode, Decoder, Encode, Encoder, WholeMessage};
+use rasn::prelude::*;
 
-/// SEQUENCE { messageID INTEGER (0..maxInt), protocolOp CHOICE,
-/// controls \[0\] SEQUENCE OF Control OPTIONAL }: a message between a client and a server.
+/// `LDAPMessage ::= SEQUENCE`
 #[derive(Debug, PartialEq, Eq, Drop)]
 pub struct LdapMessage {
+    /// `messageID MaxInt`
     pub message_id: MaxInt,
+    /// `protocolOp ProtocolOp`
     pub protocol_op: ProtocolOp,
+    /// `controls [0] IMPLICIT SEQUENCE OF Control OPTIONAL`
     pub controls: Option<Implicit<ContextTag<0>, Vec<Control>>>,
-    /// The components of newer versions.
+    /// `...`
     pub unknown: Unknown,
 }
+
+/// The components, as they are read.
+type Parts = Required<MaxInt, Parts1>;
+
+type Parts1 = Required<ProtocolOp, Parts2>;
+
+type Parts2 = Optional<Implicit<ContextTag<0>, Vec<Control>>, Parts3>;
+
+type Parts3 = Required<Unknown, End>;
 
 impl AsnType for LdapMessage {
     ghost use Rattle.std.specs.Prelude.{refl};
     ghost use Rattle.rasn_types.specs.Tags.{in_universal};
+    ghost use Rattle.rasn_types.specs.Shapes.{seq};
     ghost use Rattle.rasn_types.specs.Trees.{unconstrained};
-    ghost use Rattle.rasn_ldap.specs.Message.{ldap_message_shape, ldap_message_tree};
 
     ghost TAG = { in_universal 16 };
 
@@ -33,18 +38,20 @@ impl AsnType for LdapMessage {
 
     const CONSTRAINTS: Constraints = Constraints::NONE;
 
-    ghost shape = { ldap_message_shape };
+    ghost shape = { seq (in_universal 16) ⟦<Parts as DecodeParts>⟧.parts };
 
-    ghost tree = { ldap_message_tree };
+    ghost tree = { λ a. ⟦<Parts as DecodeParts>⟧.tree (record { 0 = a.message_id; 1 = record { 0 = a.protocol_op; 1 = record { 0 = a.controls; 1 = record { 0 = a.unknown; 1 = record {} } } } }) };
 
     ghost own = { refl };
 }
 
 impl LawfulEq for LdapMessage {
     ghost use Rattle.rasn_types.specs.Deciding.{deciding};
+    ghost use Rattle.rasn_ldap.specs.contracts.control.ControlLawfulEq.TheImpl.Laws.{decides-law as control_law};
+    ghost use Rattle.rasn_ldap.specs.contracts.max_int.MaxIntLawfulEq.TheImpl.Laws.{decides-law as max_int_law};
     ghost use Rattle.rasn_ldap.specs.contracts.protocol_op.ProtocolOpLawfulEq.TheImpl.Laws.{decides-law as protocol_op_law};
 
-    ghost decides = { Prim.search (protocol_op_law, deciding) depth 64 };
+    ghost decides = { Prim.search (control_law, max_int_law, protocol_op_law, deciding) depth 64 };
 }
 
 impl Present for LdapMessage {
@@ -59,10 +66,10 @@ impl Decode for LdapMessage {
         tag: Tag,
         _constraints: &Constraints,
     ) -> Result<LdapMessage, DecodeError> {
-        let Required(
-            message_id,
-            Required(protocol_op, Optional(controls, Required(unknown, End))),
-        ) = decoder.read_sequence(tag)?;
+        let Required(message_id, rest) = decoder.read_sequence::<Parts>(tag)?;
+        let Required(protocol_op, rest) = rest;
+        let Optional(controls, rest) = rest;
+        let Required(unknown, End) = rest;
         Ok(LdapMessage {
             message_id,
             protocol_op,
@@ -80,16 +87,10 @@ impl Encode for LdapMessage {
         _constraints: &Constraints,
         _identifier: Identifier,
     ) -> Result<(), EncodeError> {
-        encoder.write_sequence(
-            tag,
-            Put(
-                &self.message_id,
-                Put(
-                    &self.protocol_op,
-                    PutOptional(&self.controls, Put(&self.unknown, End)),
-                ),
-            ),
-        )
+        let rest = Put(&self.unknown, End);
+        let rest = PutOptional(&self.controls, rest);
+        let rest = Put(&self.protocol_op, rest);
+        encoder.write_sequence(tag, Put(&self.message_id, rest))
     }
 
     fn is_present(&self) -> bool {

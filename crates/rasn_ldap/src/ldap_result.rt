@@ -1,30 +1,38 @@
-//! `LDAPResult ::= SEQUENCE { resultCode ENUMERATED, matchedDN LDAPDN,
-//! diagnosticMessage LDAPString, ..` (RFC 4511, 4.1.9).
-use crate::{LdapString, ResultCode};
-use rasn::error::{DecodeError, EncodeError};
-use rasn::parts::{End, Optional, Put, PutOptional, Required};
-use rasn::types::{
-    AsnType, Constraints, ContextTag, Identifier, Implicit, LawfulEq, Present, Tag, Unknown,
-};
-use rasn::{Decode, Decoder, Encode, Encoder};
+//! `LDAPResult ::= SEQUENCE`
+use crate::{LdapString, Referral, ResultCode};
+use rasn::prelude::*;
 
-/// SEQUENCE { resultCode ENUMERATED, matchedDN LDAPDN, diagnosticMessage LDAPString,
-/// referral \[3\] SEQUENCE OF URI OPTIONAL }: the result of an operation.
+/// `LDAPResult ::= SEQUENCE`
 #[derive(Debug, PartialEq, Eq, Drop)]
 pub struct LdapResult {
+    /// `resultCode ResultCode`
     pub result_code: ResultCode,
+    /// `matchedDN LDAPString`
     pub matched_dn: LdapString,
+    /// `diagnosticMessage LDAPString`
     pub diagnostic_message: LdapString,
-    pub referral: Option<Implicit<ContextTag<3>, Vec<LdapString>>>,
-    /// The components of newer versions.
+    /// `referral [3] IMPLICIT Referral OPTIONAL`
+    pub referral: Option<Implicit<ContextTag<3>, Referral>>,
+    /// `...`
     pub unknown: Unknown,
 }
+
+/// The components, as they are read.
+type Parts = Required<ResultCode, Parts1>;
+
+type Parts1 = Required<LdapString, Parts2>;
+
+type Parts2 = Required<LdapString, Parts3>;
+
+type Parts3 = Optional<Implicit<ContextTag<3>, Referral>, Parts4>;
+
+type Parts4 = Required<Unknown, End>;
 
 impl AsnType for LdapResult {
     ghost use Rattle.std.specs.Prelude.{refl};
     ghost use Rattle.rasn_types.specs.Tags.{in_universal};
+    ghost use Rattle.rasn_types.specs.Shapes.{seq};
     ghost use Rattle.rasn_types.specs.Trees.{unconstrained};
-    ghost use Rattle.rasn_ldap.specs.Result.{ldap_result_shape, ldap_result_tree};
 
     ghost TAG = { in_universal 16 };
 
@@ -34,17 +42,19 @@ impl AsnType for LdapResult {
 
     const CONSTRAINTS: Constraints = Constraints::NONE;
 
-    ghost shape = { ldap_result_shape };
+    ghost shape = { seq (in_universal 16) ⟦<Parts as DecodeParts>⟧.parts };
 
-    ghost tree = { ldap_result_tree };
+    ghost tree = { λ a. ⟦<Parts as DecodeParts>⟧.tree (record { 0 = a.result_code; 1 = record { 0 = a.matched_dn; 1 = record { 0 = a.diagnostic_message; 1 = record { 0 = a.referral; 1 = record { 0 = a.unknown; 1 = record {} } } } } }) };
 
     ghost own = { refl };
 }
 
 impl LawfulEq for LdapResult {
     ghost use Rattle.rasn_types.specs.Deciding.{deciding};
+    ghost use Rattle.rasn_ldap.specs.contracts.referral.ReferralLawfulEq.TheImpl.Laws.{decides-law as referral_law};
+    ghost use Rattle.rasn_ldap.specs.contracts.referral.ReferralPresent.TheImpl.Laws.{present-law as referral_present};
 
-    ghost decides = { Prim.search deciding depth 64 };
+    ghost decides = { Prim.search (referral_law, referral_present, deciding) depth 64 };
 }
 
 impl Present for LdapResult {
@@ -59,9 +69,11 @@ impl Decode for LdapResult {
         tag: Tag,
         _constraints: &Constraints,
     ) -> Result<LdapResult, DecodeError> {
-        let Required(result_code, Required(matched_dn, Required(diagnostic_message, rest))) =
-            decoder.read_sequence(tag)?;
-        let Optional(referral, Required(unknown, End)) = rest;
+        let Required(result_code, rest) = decoder.read_sequence::<Parts>(tag)?;
+        let Required(matched_dn, rest) = rest;
+        let Required(diagnostic_message, rest) = rest;
+        let Optional(referral, rest) = rest;
+        let Required(unknown, End) = rest;
         Ok(LdapResult {
             result_code,
             matched_dn,
@@ -80,14 +92,11 @@ impl Encode for LdapResult {
         _constraints: &Constraints,
         _identifier: Identifier,
     ) -> Result<(), EncodeError> {
-        let referral = PutOptional(&self.referral, Put(&self.unknown, End));
-        encoder.write_sequence(
-            tag,
-            Put(
-                &self.result_code,
-                Put(&self.matched_dn, Put(&self.diagnostic_message, referral)),
-            ),
-        )
+        let rest = Put(&self.unknown, End);
+        let rest = PutOptional(&self.referral, rest);
+        let rest = Put(&self.diagnostic_message, rest);
+        let rest = Put(&self.matched_dn, rest);
+        encoder.write_sequence(tag, Put(&self.result_code, rest))
     }
 
     fn is_present(&self) -> bool {

@@ -1,69 +1,110 @@
-//! Messages of the Lightweight Directory Access Protocol (LDAP, RFC 4511) as types that are read
-//! under BER and written in the forms that LDAP requires. A valid message is refused only if an
-//! allocation fails.
+//! Types of an ASN.1 module.
 #![tactic(auto)]
 
+mod abandon_request;
+mod add_request;
+mod add_response;
+mod assertion_value;
+mod attribute;
+mod attribute_list;
+mod attribute_selection;
+mod attribute_vals;
+mod attribute_value;
+mod attribute_value_assertion;
 mod authentication_choice;
 mod bind_request;
+mod bind_request_version;
 mod bind_response;
 mod change;
 mod change_operation;
+mod compare_request;
+mod compare_response;
 mod control;
-mod deref_aliases;
+mod controls;
+mod del_request;
+mod del_response;
 mod extended_request;
 mod extended_response;
-mod integer_within;
+mod filter;
+mod filter_and;
+mod filter_or;
+mod intermediate_response;
 mod ldap_message;
 mod ldap_result;
+mod ldap_string;
+mod matching_rule_assertion;
+mod max_int;
+mod modify_dn_request;
+mod modify_dn_response;
 mod modify_request;
+mod modify_response;
 mod partial_attribute;
+mod partial_attribute_list;
 mod protocol_op;
+mod referral;
 mod result_code;
 mod sasl_credentials;
 mod search_request;
+mod search_request_deref_aliases;
+mod search_request_scope;
+mod search_result_done;
 mod search_result_entry;
-mod search_scope;
+mod search_result_reference;
+mod substring;
+mod substring_filter;
+mod substring_filter_substrings;
+mod unbind_request;
 
+pub use abandon_request::AbandonRequest;
+pub use add_request::AddRequest;
+pub use add_response::AddResponse;
+pub use assertion_value::AssertionValue;
+pub use attribute::Attribute;
+pub use attribute_list::AttributeList;
+pub use attribute_selection::AttributeSelection;
+pub use attribute_vals::AttributeVals;
+pub use attribute_value::AttributeValue;
+pub use attribute_value_assertion::AttributeValueAssertion;
 pub use authentication_choice::AuthenticationChoice;
 pub use bind_request::BindRequest;
+pub use bind_request_version::BindRequestVersion;
 pub use bind_response::BindResponse;
 pub use change::Change;
-pub use change_operation::ChangeOperation;
-pub use control::{Control, NotCritical};
-pub use deref_aliases::DerefAliases;
+pub use change_operation::{ChangeOperation, ChangeOperationName};
+pub use compare_request::CompareRequest;
+pub use compare_response::CompareResponse;
+pub use control::Control;
+pub use controls::Controls;
+pub use del_request::DelRequest;
+pub use del_response::DelResponse;
 pub use extended_request::ExtendedRequest;
 pub use extended_response::ExtendedResponse;
-pub use integer_within::IntegerWithin;
+pub use filter::Filter;
+pub use filter_and::FilterAnd;
+pub use filter_or::FilterOr;
+pub use intermediate_response::IntermediateResponse;
 pub use ldap_message::LdapMessage;
 pub use ldap_result::LdapResult;
+pub use ldap_string::LdapString;
+pub use matching_rule_assertion::MatchingRuleAssertion;
+pub use max_int::MaxInt;
+pub use modify_dn_request::ModifyDnRequest;
+pub use modify_dn_response::ModifyDnResponse;
 pub use modify_request::ModifyRequest;
+pub use modify_response::ModifyResponse;
 pub use partial_attribute::PartialAttribute;
+pub use partial_attribute_list::PartialAttributeList;
 pub use protocol_op::ProtocolOp;
-use rasn::types::{ApplicationTag, Implicit, OctetString, SetOf, Utf8String};
-pub use result_code::ResultCode;
+pub use referral::Referral;
+pub use result_code::{ResultCode, ResultCodeName};
 pub use sasl_credentials::SaslCredentials;
 pub use search_request::SearchRequest;
+pub use search_request_deref_aliases::SearchRequestDerefAliases;
+pub use search_request_scope::{SearchRequestScope, SearchRequestScopeName};
+pub use search_result_done::SearchResultDone;
 pub use search_result_entry::SearchResultEntry;
-pub use search_scope::SearchScope;
-
-/// LDAPString ::= OCTET STRING of text in UTF-8 (RFC 4511, 4.1.2). It is also the type of LDAPDN,
-/// LDAPOID, AttributeDescription and URI. Octets that aren't UTF-8 are refused.
-pub type LdapString = Implicit<OctetString, Utf8String>;
-
-/// INTEGER (0..maxInt), with maxInt 2147483647 (RFC 4511, 4.1.1): MessageID, sizeLimit and
-/// timeLimit.
-pub type MaxInt = IntegerWithin<0, 2147483647>;
-
-/// SET OF AttributeValue (RFC 4511, 4.1.7). LDAP requires no order of the values: they are read and
-/// written in their order in the vector, by which `==` compares them.
-pub type AttributeValues = Implicit<SetOf<OctetString>, Vec<OctetString>>;
-
-/// \[APPLICATION 5\] LDAPResult (RFC 4511, 4.5.2): the end of a search.
-pub type SearchResultDone = Implicit<ApplicationTag<5>, LdapResult>;
-
-/// \[APPLICATION 19\] SEQUENCE OF URI (RFC 4511, 4.5.3, which requires at least one): other servers
-/// to search.
-pub type SearchResultReference = Implicit<ApplicationTag<19>, Vec<LdapString>>;
-
-/// \[APPLICATION 7\] LDAPResult (RFC 4511, 4.6): the result of a modification.
-pub type ModifyResponse = Implicit<ApplicationTag<7>, LdapResult>;
+pub use search_result_reference::SearchResultReference;
+pub use substring::Substring;
+pub use substring_filter::SubstringFilter;
+pub use substring_filter_substrings::SubstringFilterSubstrings;
+pub use unbind_request::UnbindRequest;

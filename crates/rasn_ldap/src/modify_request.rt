@@ -1,28 +1,32 @@
-//! `ModifyRequest ::= [APPLICATION 6] SEQUENCE { object LDAPDN, changes SEQUENCE OF change }`
-//! (RFC 4511, 4.6).
+//! `ModifyRequest ::= [APPLICATION 6] IMPLICIT SEQUENCE`
 use crate::{Change, LdapString};
-use rasn::error::{DecodeError, EncodeError};
-use rasn::parts::{End, Put, Required};
-use rasn::types::{AsnType, Class, Constraints, Identifier, LawfulEq, Present, Tag, Unknown};
-use rasn::{Decode, Decoder, Encode, Encoder};
+use rasn::prelude::*;
 
-/// \[APPLICATION 6\] SEQUENCE { object LDAPDN, changes SEQUENCE OF SEQUENCE { operation ENUMERATED,
-/// modification PartialAttribute } }: changes of an entry, which are made in their order.
+/// `ModifyRequest ::= [APPLICATION 6] IMPLICIT SEQUENCE`
 #[derive(Debug, PartialEq, Eq, Drop)]
 pub struct ModifyRequest {
+    /// `object LDAPString`
     pub object: LdapString,
+    /// `changes SEQUENCE OF Change`
     pub changes: Vec<Change>,
-    /// The components of newer versions.
+    /// `...`
     pub unknown: Unknown,
 }
 
+/// The components, as they are read.
+type Parts = Required<LdapString, Parts1>;
+
+type Parts1 = Required<Vec<Change>, Parts2>;
+
+type Parts2 = Required<Unknown, End>;
+
 impl AsnType for ModifyRequest {
     ghost use Rattle.std.specs.Prelude.{refl};
+    ghost use Rattle.rasn_types.specs.declared.types.tag.Class.TheVariants.{Application};
+    ghost use Rattle.rasn_types.specs.Shapes.{seq};
     ghost use Rattle.rasn_types.specs.Trees.{unconstrained};
-    ghost use Rattle.rasn_ldap.specs.Tags.{application};
-    ghost use Rattle.rasn_ldap.specs.ModifyRequest.{modify_request_shape, modify_request_tree};
 
-    ghost TAG = { application 6 };
+    ghost TAG = { record { class = Application; value = 6 } };
 
     const TAG: Tag = Tag {
         class: Class::Application,
@@ -33,17 +37,18 @@ impl AsnType for ModifyRequest {
 
     const CONSTRAINTS: Constraints = Constraints::NONE;
 
-    ghost shape = { modify_request_shape };
+    ghost shape = { seq (record { class = Application; value = 6 }) ⟦<Parts as DecodeParts>⟧.parts };
 
-    ghost tree = { modify_request_tree };
+    ghost tree = { λ a. ⟦<Parts as DecodeParts>⟧.tree (record { 0 = a.object; 1 = record { 0 = a.changes; 1 = record { 0 = a.unknown; 1 = record {} } } }) };
 
     ghost own = { refl };
 }
 
 impl LawfulEq for ModifyRequest {
     ghost use Rattle.rasn_types.specs.Deciding.{deciding};
+    ghost use Rattle.rasn_ldap.specs.contracts.change.ChangeLawfulEq.TheImpl.Laws.{decides-law as change_law};
 
-    ghost decides = { Prim.search deciding depth 64 };
+    ghost decides = { Prim.search (change_law, deciding) depth 64 };
 }
 
 impl Present for ModifyRequest {
@@ -58,9 +63,9 @@ impl Decode for ModifyRequest {
         tag: Tag,
         _constraints: &Constraints,
     ) -> Result<ModifyRequest, DecodeError> {
-        let Required(object, Required(changes, Required(unknown, End))) = decoder.read_sequence(
-            tag,
-        )?;
+        let Required(object, rest) = decoder.read_sequence::<Parts>(tag)?;
+        let Required(changes, rest) = rest;
+        let Required(unknown, End) = rest;
         Ok(ModifyRequest {
             object,
             changes,
@@ -77,10 +82,9 @@ impl Encode for ModifyRequest {
         _constraints: &Constraints,
         _identifier: Identifier,
     ) -> Result<(), EncodeError> {
-        encoder.write_sequence(
-            tag,
-            Put(&self.object, Put(&self.changes, Put(&self.unknown, End))),
-        )
+        let rest = Put(&self.unknown, End);
+        let rest = Put(&self.changes, rest);
+        encoder.write_sequence(tag, Put(&self.object, rest))
     }
 
     fn is_present(&self) -> bool {

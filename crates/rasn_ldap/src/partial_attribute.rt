@@ -1,26 +1,30 @@
-//! `PartialAttribute ::= SEQUENCE { type AttributeDescription, vals SET OF value AttributeValue }`
-//! (RFC 4511, 4.1.7).
-use crate::{AttributeValues, LdapString};
-use rasn::error::{DecodeError, EncodeError};
-use rasn::parts::{End, Put, Required};
-use rasn::types::{AsnType, Constraints, Identifier, LawfulEq, Present, Tag, Unknown};
-use rasn::{Decode, Decoder, Encode, Encoder};
+//! `PartialAttribute ::= SEQUENCE`
+use crate::{AttributeValue, LdapString};
+use rasn::prelude::*;
 
-/// SEQUENCE { type AttributeDescription, vals SET OF AttributeValue }: an attribute and its values,
-/// of which there may be none.
+/// `PartialAttribute ::= SEQUENCE`
 #[derive(Debug, PartialEq, Eq, Drop)]
 pub struct PartialAttribute {
-    pub description: LdapString,
-    pub values: AttributeValues,
-    /// The components of newer versions.
+    /// `type LDAPString`
+    pub type_value: LdapString,
+    /// `vals SET OF AttributeValue`
+    pub vals: SetOf<AttributeValue>,
+    /// `...`
     pub unknown: Unknown,
 }
+
+/// The components, as they are read.
+type Parts = Required<LdapString, Parts1>;
+
+type Parts1 = Required<SetOf<AttributeValue>, Parts2>;
+
+type Parts2 = Required<Unknown, End>;
 
 impl AsnType for PartialAttribute {
     ghost use Rattle.std.specs.Prelude.{refl};
     ghost use Rattle.rasn_types.specs.Tags.{in_universal};
+    ghost use Rattle.rasn_types.specs.Shapes.{seq};
     ghost use Rattle.rasn_types.specs.Trees.{unconstrained};
-    ghost use Rattle.rasn_ldap.specs.PartialAttribute.{partial_attribute_shape, partial_attribute_tree};
 
     ghost TAG = { in_universal 16 };
 
@@ -30,9 +34,9 @@ impl AsnType for PartialAttribute {
 
     const CONSTRAINTS: Constraints = Constraints::NONE;
 
-    ghost shape = { partial_attribute_shape };
+    ghost shape = { seq (in_universal 16) ⟦<Parts as DecodeParts>⟧.parts };
 
-    ghost tree = { partial_attribute_tree };
+    ghost tree = { λ a. ⟦<Parts as DecodeParts>⟧.tree (record { 0 = a.type_value; 1 = record { 0 = a.vals; 1 = record { 0 = a.unknown; 1 = record {} } } }) };
 
     ghost own = { refl };
 }
@@ -55,12 +59,12 @@ impl Decode for PartialAttribute {
         tag: Tag,
         _constraints: &Constraints,
     ) -> Result<PartialAttribute, DecodeError> {
-        let Required(description, Required(values, Required(unknown, End))) = decoder.read_sequence(
-            tag,
-        )?;
+        let Required(type_value, rest) = decoder.read_sequence::<Parts>(tag)?;
+        let Required(vals, rest) = rest;
+        let Required(unknown, End) = rest;
         Ok(PartialAttribute {
-            description,
-            values,
+            type_value,
+            vals,
             unknown,
         })
     }
@@ -74,13 +78,9 @@ impl Encode for PartialAttribute {
         _constraints: &Constraints,
         _identifier: Identifier,
     ) -> Result<(), EncodeError> {
-        encoder.write_sequence(
-            tag,
-            Put(
-                &self.description,
-                Put(&self.values, Put(&self.unknown, End)),
-            ),
-        )
+        let rest = Put(&self.unknown, End);
+        let rest = Put(&self.vals, rest);
+        encoder.write_sequence(tag, Put(&self.type_value, rest))
     }
 
     fn is_present(&self) -> bool {

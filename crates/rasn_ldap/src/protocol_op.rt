@@ -1,39 +1,113 @@
-//! `protocolOp CHOICE { bindRequest BindRequest, bindResponse BindResponse,
-//! unbindRequest UnbindRequest, .. }` (RFC 4511, 4.1.1).
+//! `ProtocolOp ::= CHOICE`
 use crate::{
-    BindRequest, BindResponse, ExtendedRequest, ExtendedResponse, ModifyRequest, ModifyResponse,
-    SearchRequest, SearchResultDone, SearchResultEntry, SearchResultReference,
+    AbandonRequest, AddRequest, AddResponse, BindRequest, BindResponse, CompareRequest,
+    CompareResponse, DelRequest, DelResponse, ExtendedRequest, ExtendedResponse,
+    IntermediateResponse, ModifyDnRequest, ModifyDnResponse, ModifyRequest, ModifyResponse,
+    SearchRequest, SearchResultDone, SearchResultEntry, SearchResultReference, UnbindRequest,
 };
-use rasn::error::{DecodeError, EncodeError};
 use rasn::parts::OneOf::{Other, This};
-use rasn::parts::{Last, OneOf};
-use rasn::types::{
-    ApplicationTag, AsnType, Constraints, Identifier, Implicit, LawfulEq, Present, Tag,
-};
-use rasn::{Decode, Decoder, Encode, Encoder};
+use rasn::prelude::*;
 
-/// CHOICE of the operations and their responses, which are distinguished by their application tags.
+/// `ProtocolOp ::= CHOICE`
 #[derive(Debug, PartialEq, Eq, Drop)]
 pub enum ProtocolOp {
+    /// `bindRequest BindRequest`
     BindRequest(BindRequest),
+    /// `bindResponse BindResponse`
     BindResponse(BindResponse),
-    /// \[APPLICATION 2\] NULL (RFC 4511, 4.3): the end of the session.
-    UnbindRequest,
+    /// `unbindRequest UnbindRequest`
+    UnbindRequest(UnbindRequest),
+    /// `searchRequest SearchRequest`
     SearchRequest(SearchRequest),
-    SearchResultEntry(SearchResultEntry),
-    SearchResultDone(SearchResultDone),
-    SearchResultReference(SearchResultReference),
+    /// `searchResEntry SearchResultEntry`
+    SearchResEntry(SearchResultEntry),
+    /// `searchResDone SearchResultDone`
+    SearchResDone(SearchResultDone),
+    /// `searchResRef SearchResultReference`
+    SearchResRef(SearchResultReference),
+    /// `modifyRequest ModifyRequest`
     ModifyRequest(ModifyRequest),
+    /// `modifyResponse ModifyResponse`
     ModifyResponse(ModifyResponse),
-    ExtendedRequest(ExtendedRequest),
-    ExtendedResponse(ExtendedResponse),
+    /// `addRequest AddRequest`
+    AddRequest(AddRequest),
+    /// `addResponse AddResponse`
+    AddResponse(AddResponse),
+    /// `delRequest DelRequest`
+    DelRequest(DelRequest),
+    /// `delResponse DelResponse`
+    DelResponse(DelResponse),
+    /// `modDNRequest ModifyDNRequest`
+    ModDnRequest(ModifyDnRequest),
+    /// `modDNResponse ModifyDNResponse`
+    ModDnResponse(ModifyDnResponse),
+    /// `compareRequest CompareRequest`
+    CompareRequest(CompareRequest),
+    /// `compareResponse CompareResponse`
+    CompareResponse(CompareResponse),
+    /// `abandonRequest AbandonRequest`
+    AbandonRequest(AbandonRequest),
+    /// `extendedReq ExtendedRequest`
+    ExtendedReq(ExtendedRequest),
+    /// `extendedResp ExtendedResponse`
+    ExtendedResp(ExtendedResponse),
+    /// `intermediateResponse IntermediateResponse`
+    IntermediateResponse(IntermediateResponse),
+    /// `...`
+    Unknown(Any),
 }
+
+/// The alternatives, as they are read.
+type Alternatives = OneOf<BindRequest, Alternatives1>;
+
+type Alternatives1 = OneOf<BindResponse, Alternatives2>;
+
+type Alternatives2 = OneOf<UnbindRequest, Alternatives3>;
+
+type Alternatives3 = OneOf<SearchRequest, Alternatives4>;
+
+type Alternatives4 = OneOf<SearchResultEntry, Alternatives5>;
+
+type Alternatives5 = OneOf<SearchResultDone, Alternatives6>;
+
+type Alternatives6 = OneOf<SearchResultReference, Alternatives7>;
+
+type Alternatives7 = OneOf<ModifyRequest, Alternatives8>;
+
+type Alternatives8 = OneOf<ModifyResponse, Alternatives9>;
+
+type Alternatives9 = OneOf<AddRequest, Alternatives10>;
+
+type Alternatives10 = OneOf<AddResponse, Alternatives11>;
+
+type Alternatives11 = OneOf<DelRequest, Alternatives12>;
+
+type Alternatives12 = OneOf<DelResponse, Alternatives13>;
+
+type Alternatives13 = OneOf<ModifyDnRequest, Alternatives14>;
+
+type Alternatives14 = OneOf<ModifyDnResponse, Alternatives15>;
+
+type Alternatives15 = OneOf<CompareRequest, Alternatives16>;
+
+type Alternatives16 = OneOf<CompareResponse, Alternatives17>;
+
+type Alternatives17 = OneOf<AbandonRequest, Alternatives18>;
+
+type Alternatives18 = OneOf<ExtendedRequest, Alternatives19>;
+
+type Alternatives19 = OneOf<ExtendedResponse, Alternatives20>;
+
+type Alternatives20 = OneOf<IntermediateResponse, Alternatives21>;
+
+type Alternatives21 = Any;
 
 impl AsnType for ProtocolOp {
     ghost use Rattle.std.specs.Prelude.{refl};
+    ghost use Rattle.rasn_types.specs.Shapes.{open_choice, chosen};
     ghost use Rattle.rasn_types.specs.Tags.{eoc};
     ghost use Rattle.rasn_types.specs.Trees.{unconstrained};
-    ghost use Rattle.rasn_ldap.specs.Operations.{protocol_op_shape, protocol_op_tree};
+    ghost use Rattle.rasn_ldap.specs.declared.protocol_op.ProtocolOp.TheVariants.{BindRequest, BindResponse, UnbindRequest, SearchRequest, SearchResEntry, SearchResDone, SearchResRef, ModifyRequest, ModifyResponse, AddRequest, AddResponse, DelRequest, DelResponse, ModDnRequest, ModDnResponse, CompareRequest, CompareResponse, AbandonRequest, ExtendedReq, ExtendedResp, IntermediateResponse, Unknown};
 
     ghost TAG = { eoc };
 
@@ -43,152 +117,445 @@ impl AsnType for ProtocolOp {
 
     const CONSTRAINTS: Constraints = Constraints::NONE;
 
-    ghost shape = { protocol_op_shape };
+    ghost shape = { open_choice ⟦<Alternatives as DecodeAlternatives>⟧.parts };
 
-    ghost tree = { protocol_op_tree };
+    ghost tree = { elim [ BindRequest x ↦ chosen 0 (⟦<BindRequest as AsnType>⟧.tree x) | BindResponse x ↦ chosen 1 (⟦<BindResponse as AsnType>⟧.tree x) | UnbindRequest x ↦ chosen 2 (⟦<UnbindRequest as AsnType>⟧.tree x) | SearchRequest x ↦ chosen 3 (⟦<SearchRequest as AsnType>⟧.tree x) | SearchResEntry x ↦ chosen 4 (⟦<SearchResultEntry as AsnType>⟧.tree x) | SearchResDone x ↦ chosen 5 (⟦<SearchResultDone as AsnType>⟧.tree x) | SearchResRef x ↦ chosen 6 (⟦<SearchResultReference as AsnType>⟧.tree x) | ModifyRequest x ↦ chosen 7 (⟦<ModifyRequest as AsnType>⟧.tree x) | ModifyResponse x ↦ chosen 8 (⟦<ModifyResponse as AsnType>⟧.tree x) | AddRequest x ↦ chosen 9 (⟦<AddRequest as AsnType>⟧.tree x) | AddResponse x ↦ chosen 10 (⟦<AddResponse as AsnType>⟧.tree x) | DelRequest x ↦ chosen 11 (⟦<DelRequest as AsnType>⟧.tree x) | DelResponse x ↦ chosen 12 (⟦<DelResponse as AsnType>⟧.tree x) | ModDnRequest x ↦ chosen 13 (⟦<ModifyDnRequest as AsnType>⟧.tree x) | ModDnResponse x ↦ chosen 14 (⟦<ModifyDnResponse as AsnType>⟧.tree x) | CompareRequest x ↦ chosen 15 (⟦<CompareRequest as AsnType>⟧.tree x) | CompareResponse x ↦ chosen 16 (⟦<CompareResponse as AsnType>⟧.tree x) | AbandonRequest x ↦ chosen 17 (⟦<AbandonRequest as AsnType>⟧.tree x) | ExtendedReq x ↦ chosen 18 (⟦<ExtendedRequest as AsnType>⟧.tree x) | ExtendedResp x ↦ chosen 19 (⟦<ExtendedResponse as AsnType>⟧.tree x) | IntermediateResponse x ↦ chosen 20 (⟦<IntermediateResponse as AsnType>⟧.tree x) | Unknown x ↦ chosen 21 (⟦<Any as AsnType>⟧.tree x) ] };
 
     ghost own = { refl };
 }
 
 impl LawfulEq for ProtocolOp {
-    ghost use Rattle.rasn_types.specs.Equality.{choice_decided, alternative, list_decided, text_decided};
+    ghost use Rattle.rasn_types.specs.Deciding.{deciding};
+    ghost use Rattle.rasn_types.specs.Equality.{choice_decided, alternative};
+    ghost use Rattle.rasn_ldap.specs.contracts.protocol_op.ProtocolOp.{enum as own_enum};
+    ghost use Rattle.rasn_ldap.specs.contracts.add_request.AddRequestLawfulEq.TheImpl.Laws.{decides-law as add_request_law};
     ghost use Rattle.rasn_ldap.specs.contracts.bind_request.BindRequestLawfulEq.TheImpl.Laws.{decides-law as bind_request_law};
     ghost use Rattle.rasn_ldap.specs.contracts.bind_response.BindResponseLawfulEq.TheImpl.Laws.{decides-law as bind_response_law};
-    ghost use Rattle.rasn_ldap.specs.contracts.search_request.SearchRequestLawfulEq.TheImpl.Laws.{decides-law as search_request_law};
-    ghost use Rattle.rasn_ldap.specs.contracts.search_result_entry.SearchResultEntryLawfulEq.TheImpl.Laws.{decides-law as search_result_entry_law};
-    ghost use Rattle.rasn_ldap.specs.contracts.modify_request.ModifyRequestLawfulEq.TheImpl.Laws.{decides-law as modify_request_law};
+    ghost use Rattle.rasn_ldap.specs.contracts.compare_request.CompareRequestLawfulEq.TheImpl.Laws.{decides-law as compare_request_law};
     ghost use Rattle.rasn_ldap.specs.contracts.extended_request.ExtendedRequestLawfulEq.TheImpl.Laws.{decides-law as extended_request_law};
     ghost use Rattle.rasn_ldap.specs.contracts.extended_response.ExtendedResponseLawfulEq.TheImpl.Laws.{decides-law as extended_response_law};
+    ghost use Rattle.rasn_ldap.specs.contracts.intermediate_response.IntermediateResponseLawfulEq.TheImpl.Laws.{decides-law as intermediate_response_law};
     ghost use Rattle.rasn_ldap.specs.contracts.ldap_result.LdapResultLawfulEq.TheImpl.Laws.{decides-law as ldap_result_law};
-    ghost use Rattle.rasn_ldap.specs.contracts.protocol_op.ProtocolOp.{enum as protocol_op_enum};
-    ghost use Rattle.rasn_ldap.specs.Operations.{no_field, protocol_op_tree};
+    ghost use Rattle.rasn_ldap.specs.contracts.max_int.MaxIntLawfulEq.TheImpl.Laws.{decides-law as max_int_law};
+    ghost use Rattle.rasn_ldap.specs.contracts.modify_dn_request.ModifyDnRequestLawfulEq.TheImpl.Laws.{decides-law as modify_dn_request_law};
+    ghost use Rattle.rasn_ldap.specs.contracts.modify_request.ModifyRequestLawfulEq.TheImpl.Laws.{decides-law as modify_request_law};
+    ghost use Rattle.rasn_ldap.specs.contracts.referral.ReferralLawfulEq.TheImpl.Laws.{decides-law as referral_law};
+    ghost use Rattle.rasn_ldap.specs.contracts.search_request.SearchRequestLawfulEq.TheImpl.Laws.{decides-law as search_request_law};
+    ghost use Rattle.rasn_ldap.specs.contracts.search_result_entry.SearchResultEntryLawfulEq.TheImpl.Laws.{decides-law as search_result_entry_law};
 
-    ghost decides = { choice_decided protocol_op_enum _ protocol_op_tree (
-      alternative (λ x. x.0) bind_request_law,
-      (
-        alternative (λ x. x.0) bind_response_law,
-        (
-          no_field,
-          (
-            alternative (λ x. x.0) search_request_law,
-            (
-              alternative (λ x. x.0) search_result_entry_law,
-              (
-                alternative (λ x. x.0) ldap_result_law,
-                (
-                  alternative (λ x. x.0) (λ a b. list_decided text_decided a.items b.items),
-                  (
-                    alternative (λ x. x.0) modify_request_law,
-                    (
-                      alternative (λ x. x.0) ldap_result_law,
-                      (
-                        alternative (λ x. x.0) extended_request_law,
-                        (
-                          alternative (λ x. x.0) extended_response_law,
-                          tt,
-                        ),
-                      ),
-                    ),
-                  ),
-                ),
-              ),
-            ),
-          ),
-        ),
-      ),
-    ) };
+    ghost decides = { choice_decided own_enum _ _ (alternative (λ x. x.0) (Prim.search (add_request_law, bind_request_law, bind_response_law, compare_request_law, extended_request_law, extended_response_law, intermediate_response_law, ldap_result_law, max_int_law, modify_dn_request_law, modify_request_law, referral_law, search_request_law, search_result_entry_law, deciding) depth 64), (alternative (λ x. x.0) (Prim.search (add_request_law, bind_request_law, bind_response_law, compare_request_law, extended_request_law, extended_response_law, intermediate_response_law, ldap_result_law, max_int_law, modify_dn_request_law, modify_request_law, referral_law, search_request_law, search_result_entry_law, deciding) depth 64), (alternative (λ x. x.0) (Prim.search (add_request_law, bind_request_law, bind_response_law, compare_request_law, extended_request_law, extended_response_law, intermediate_response_law, ldap_result_law, max_int_law, modify_dn_request_law, modify_request_law, referral_law, search_request_law, search_result_entry_law, deciding) depth 64), (alternative (λ x. x.0) (Prim.search (add_request_law, bind_request_law, bind_response_law, compare_request_law, extended_request_law, extended_response_law, intermediate_response_law, ldap_result_law, max_int_law, modify_dn_request_law, modify_request_law, referral_law, search_request_law, search_result_entry_law, deciding) depth 64), (alternative (λ x. x.0) (Prim.search (add_request_law, bind_request_law, bind_response_law, compare_request_law, extended_request_law, extended_response_law, intermediate_response_law, ldap_result_law, max_int_law, modify_dn_request_law, modify_request_law, referral_law, search_request_law, search_result_entry_law, deciding) depth 64), (alternative (λ x. x.0) (Prim.search (add_request_law, bind_request_law, bind_response_law, compare_request_law, extended_request_law, extended_response_law, intermediate_response_law, ldap_result_law, max_int_law, modify_dn_request_law, modify_request_law, referral_law, search_request_law, search_result_entry_law, deciding) depth 64), (alternative (λ x. x.0) (Prim.search (add_request_law, bind_request_law, bind_response_law, compare_request_law, extended_request_law, extended_response_law, intermediate_response_law, ldap_result_law, max_int_law, modify_dn_request_law, modify_request_law, referral_law, search_request_law, search_result_entry_law, deciding) depth 64), (alternative (λ x. x.0) (Prim.search (add_request_law, bind_request_law, bind_response_law, compare_request_law, extended_request_law, extended_response_law, intermediate_response_law, ldap_result_law, max_int_law, modify_dn_request_law, modify_request_law, referral_law, search_request_law, search_result_entry_law, deciding) depth 64), (alternative (λ x. x.0) (Prim.search (add_request_law, bind_request_law, bind_response_law, compare_request_law, extended_request_law, extended_response_law, intermediate_response_law, ldap_result_law, max_int_law, modify_dn_request_law, modify_request_law, referral_law, search_request_law, search_result_entry_law, deciding) depth 64), (alternative (λ x. x.0) (Prim.search (add_request_law, bind_request_law, bind_response_law, compare_request_law, extended_request_law, extended_response_law, intermediate_response_law, ldap_result_law, max_int_law, modify_dn_request_law, modify_request_law, referral_law, search_request_law, search_result_entry_law, deciding) depth 64), (alternative (λ x. x.0) (Prim.search (add_request_law, bind_request_law, bind_response_law, compare_request_law, extended_request_law, extended_response_law, intermediate_response_law, ldap_result_law, max_int_law, modify_dn_request_law, modify_request_law, referral_law, search_request_law, search_result_entry_law, deciding) depth 64), (alternative (λ x. x.0) (Prim.search (add_request_law, bind_request_law, bind_response_law, compare_request_law, extended_request_law, extended_response_law, intermediate_response_law, ldap_result_law, max_int_law, modify_dn_request_law, modify_request_law, referral_law, search_request_law, search_result_entry_law, deciding) depth 64), (alternative (λ x. x.0) (Prim.search (add_request_law, bind_request_law, bind_response_law, compare_request_law, extended_request_law, extended_response_law, intermediate_response_law, ldap_result_law, max_int_law, modify_dn_request_law, modify_request_law, referral_law, search_request_law, search_result_entry_law, deciding) depth 64), (alternative (λ x. x.0) (Prim.search (add_request_law, bind_request_law, bind_response_law, compare_request_law, extended_request_law, extended_response_law, intermediate_response_law, ldap_result_law, max_int_law, modify_dn_request_law, modify_request_law, referral_law, search_request_law, search_result_entry_law, deciding) depth 64), (alternative (λ x. x.0) (Prim.search (add_request_law, bind_request_law, bind_response_law, compare_request_law, extended_request_law, extended_response_law, intermediate_response_law, ldap_result_law, max_int_law, modify_dn_request_law, modify_request_law, referral_law, search_request_law, search_result_entry_law, deciding) depth 64), (alternative (λ x. x.0) (Prim.search (add_request_law, bind_request_law, bind_response_law, compare_request_law, extended_request_law, extended_response_law, intermediate_response_law, ldap_result_law, max_int_law, modify_dn_request_law, modify_request_law, referral_law, search_request_law, search_result_entry_law, deciding) depth 64), (alternative (λ x. x.0) (Prim.search (add_request_law, bind_request_law, bind_response_law, compare_request_law, extended_request_law, extended_response_law, intermediate_response_law, ldap_result_law, max_int_law, modify_dn_request_law, modify_request_law, referral_law, search_request_law, search_result_entry_law, deciding) depth 64), (alternative (λ x. x.0) (Prim.search (add_request_law, bind_request_law, bind_response_law, compare_request_law, extended_request_law, extended_response_law, intermediate_response_law, ldap_result_law, max_int_law, modify_dn_request_law, modify_request_law, referral_law, search_request_law, search_result_entry_law, deciding) depth 64), (alternative (λ x. x.0) (Prim.search (add_request_law, bind_request_law, bind_response_law, compare_request_law, extended_request_law, extended_response_law, intermediate_response_law, ldap_result_law, max_int_law, modify_dn_request_law, modify_request_law, referral_law, search_request_law, search_result_entry_law, deciding) depth 64), (alternative (λ x. x.0) (Prim.search (add_request_law, bind_request_law, bind_response_law, compare_request_law, extended_request_law, extended_response_law, intermediate_response_law, ldap_result_law, max_int_law, modify_dn_request_law, modify_request_law, referral_law, search_request_law, search_result_entry_law, deciding) depth 64), (alternative (λ x. x.0) (Prim.search (add_request_law, bind_request_law, bind_response_law, compare_request_law, extended_request_law, extended_response_law, intermediate_response_law, ldap_result_law, max_int_law, modify_dn_request_law, modify_request_law, referral_law, search_request_law, search_result_entry_law, deciding) depth 64), (alternative (λ x. x.0) (Prim.search (add_request_law, bind_request_law, bind_response_law, compare_request_law, extended_request_law, extended_response_law, intermediate_response_law, ldap_result_law, max_int_law, modify_dn_request_law, modify_request_law, referral_law, search_request_law, search_result_entry_law, deciding) depth 64), tt)))))))))))))))))))))) };
 }
 
 impl Present for ProtocolOp {
-    ghost use Rattle.rasn_ldap.specs.Operations.{protocol_op_not_absent};
+    ghost use Rattle.rasn_types.specs.Equality.{chosen_not_absent};
+    ghost use Rattle.rasn_ldap.specs.declared.protocol_op.ProtocolOp.TheVariants.{BindRequest, BindResponse, UnbindRequest, SearchRequest, SearchResEntry, SearchResDone, SearchResRef, ModifyRequest, ModifyResponse, AddRequest, AddResponse, DelRequest, DelResponse, ModDnRequest, ModDnResponse, CompareRequest, CompareResponse, AbandonRequest, ExtendedReq, ExtendedResp, IntermediateResponse, Unknown};
 
-    ghost present = { protocol_op_not_absent };
+    ghost present = { elim [ BindRequest x ↦ chosen_not_absent | BindResponse x ↦ chosen_not_absent | UnbindRequest x ↦ chosen_not_absent | SearchRequest x ↦ chosen_not_absent | SearchResEntry x ↦ chosen_not_absent | SearchResDone x ↦ chosen_not_absent | SearchResRef x ↦ chosen_not_absent | ModifyRequest x ↦ chosen_not_absent | ModifyResponse x ↦ chosen_not_absent | AddRequest x ↦ chosen_not_absent | AddResponse x ↦ chosen_not_absent | DelRequest x ↦ chosen_not_absent | DelResponse x ↦ chosen_not_absent | ModDnRequest x ↦ chosen_not_absent | ModDnResponse x ↦ chosen_not_absent | CompareRequest x ↦ chosen_not_absent | CompareResponse x ↦ chosen_not_absent | AbandonRequest x ↦ chosen_not_absent | ExtendedReq x ↦ chosen_not_absent | ExtendedResp x ↦ chosen_not_absent | IntermediateResponse x ↦ chosen_not_absent | Unknown x ↦ chosen_not_absent ] };
 }
 
-/// The alternatives from `searchResRef` on, as they are read.
-type Later = OneOf<
-    SearchResultReference,
-    OneOf<ModifyRequest, OneOf<ModifyResponse, OneOf<ExtendedRequest, Last<ExtendedResponse>>>>,
->;
-
-/// All alternatives, as they are read.
-type Alternatives = OneOf<
-    BindRequest,
-    OneOf<
-        BindResponse,
-        OneOf<
-            Implicit<ApplicationTag<2>, ()>,
-            OneOf<SearchRequest, OneOf<SearchResultEntry, OneOf<SearchResultDone, Later>>>,
-        >,
-    >,
->;
-
 impl Decode for ProtocolOp {
-    ghost use Rattle.std.specs.Prelude.{◌≡◌, IfErr, Err};
-    ghost use Rattle.rasn_de.specs.Decodes.{Decodes};
-    ghost use Rattle.rasn_de.specs.AlternativeTypes.{DecodesAlternative};
-    ghost use Rattle.rasn_ldap.specs.Operations.{protocol_op_alternatives, protocol_op_shape, protocol_op_tree, protocol_op_name};
+    ghost use Rattle.std.specs.Prelude.{codes};
+    ghost use Rattle.rasn_de.specs.AlternativeTypes.{DecodesAlternativeBy};
+    ghost use Rattle.rasn_de.specs.ValueErrors.{errors_of};
+
+    ghost errors = { λ _ _. errors_of (DecodesAlternativeBy ⟦<Alternatives as DecodeAlternatives>⟧.extensible ⟦<Alternatives as DecodeAlternatives>⟧.parts ⟦<Alternatives as DecodeAlternatives>⟧.inner (codes "ProtocolOp")) };
 
     fn decode_with_tag_and_constraints(
         decoder: &mut Decoder<'_>,
         _tag: Tag,
         _constraints: &Constraints,
-    ) -> Result<ProtocolOp, DecodeError>
-        ensures reads { Decodes protocol_op_shape protocol_op_tree decoder.old result decoder.new }
-        ensures rules { IfErr result (λ e. e.codec ≡ decoder.old.rule) }
-        ensures fails { IfErr result (λ e. DecodesAlternative protocol_op_alternatives protocol_op_tree protocol_op_name decoder.old (Err e) decoder.new) }
-    {
-        match decoder.read_choice::<Alternatives>("ProtocolOp")? {
-            This(value) => Ok(ProtocolOp::BindRequest(value)),
-            Other(This(value)) => Ok(ProtocolOp::BindResponse(value)),
-            Other(Other(This(_value))) => Ok(ProtocolOp::UnbindRequest),
-            Other(Other(Other(This(value)))) => Ok(ProtocolOp::SearchRequest(value)),
-            Other(Other(Other(Other(This(value))))) => Ok(ProtocolOp::SearchResultEntry(value)),
-            Other(Other(Other(Other(Other(This(value)))))) => Ok(ProtocolOp::SearchResultDone(
+    ) -> Result<ProtocolOp, DecodeError> {
+        match decoder.read_choice::<Alternatives>("ProtocolOp") {
+            Ok(This(value)) => Ok(ProtocolOp::BindRequest(value)),
+            Ok(Other(This(value))) => Ok(ProtocolOp::BindResponse(value)),
+            Ok(Other(Other(This(value)))) => Ok(ProtocolOp::UnbindRequest(value)),
+            Ok(Other(Other(Other(This(value))))) => Ok(ProtocolOp::SearchRequest(value)),
+            Ok(Other(Other(Other(Other(This(value)))))) => Ok(ProtocolOp::SearchResEntry(value)),
+            Ok(Other(Other(Other(Other(Other(This(value))))))) => Ok(ProtocolOp::SearchResDone(
                 value,
             )),
-            Other(Other(Other(Other(Other(Other(This(value))))))) => Ok(
-                ProtocolOp::SearchResultReference(value),
+            Ok(Other(Other(Other(Other(Other(Other(This(value)))))))) => Ok(
+                ProtocolOp::SearchResRef(value),
             ),
-            Other(Other(Other(Other(Other(Other(Other(This(value)))))))) => Ok(
+            Ok(Other(Other(Other(Other(Other(Other(Other(This(value))))))))) => Ok(
                 ProtocolOp::ModifyRequest(value),
             ),
-            Other(Other(Other(Other(Other(Other(Other(Other(This(value))))))))) => Ok(
+            Ok(Other(Other(Other(Other(Other(Other(Other(Other(This(value)))))))))) => Ok(
                 ProtocolOp::ModifyResponse(value),
             ),
-            Other(Other(Other(Other(Other(Other(Other(Other(Other(This(value)))))))))) => Ok(
-                ProtocolOp::ExtendedRequest(value),
+            Ok(Other(Other(Other(Other(Other(Other(Other(Other(Other(This(value))))))))))) => Ok(
+                ProtocolOp::AddRequest(value),
             ),
-            Other(Other(Other(Other(Other(Other(Other(Other(Other(Other(Last(value))))))))))) => Ok(
-                ProtocolOp::ExtendedResponse(value),
-            ),
+            Ok(Other(Other(Other(Other(Other(Other(Other(Other(Other(Other(This(value)))))))))))) =>
+                Ok(ProtocolOp::AddResponse(value)),
+            Ok(
+                Other(
+                    Other(
+                        Other(Other(Other(Other(Other(Other(Other(Other(Other(This(value)))))))))),
+                    ),
+                ),
+            ) => Ok(ProtocolOp::DelRequest(value)),
+            Ok(
+                Other(
+                    Other(
+                        Other(
+                            Other(
+                                Other(Other(Other(Other(Other(Other(Other(Other(This(value))))))))),
+                            ),
+                        ),
+                    ),
+                ),
+            ) => Ok(ProtocolOp::DelResponse(value)),
+            Ok(
+                Other(
+                    Other(
+                        Other(
+                            Other(
+                                Other(
+                                    Other(
+                                        Other(
+                                            Other(Other(Other(Other(Other(Other(This(value))))))),
+                                        ),
+                                    ),
+                                ),
+                            ),
+                        ),
+                    ),
+                ),
+            ) => Ok(ProtocolOp::ModDnRequest(value)),
+            Ok(
+                Other(
+                    Other(
+                        Other(
+                            Other(
+                                Other(
+                                    Other(
+                                        Other(
+                                            Other(
+                                                Other(
+                                                    Other(Other(Other(Other(Other(This(value)))))),
+                                                ),
+                                            ),
+                                        ),
+                                    ),
+                                ),
+                            ),
+                        ),
+                    ),
+                ),
+            ) => Ok(ProtocolOp::ModDnResponse(value)),
+            Ok(
+                Other(
+                    Other(
+                        Other(
+                            Other(
+                                Other(
+                                    Other(
+                                        Other(
+                                            Other(
+                                                Other(
+                                                    Other(
+                                                        Other(
+                                                            Other(Other(Other(Other(This(value))))),
+                                                        ),
+                                                    ),
+                                                ),
+                                            ),
+                                        ),
+                                    ),
+                                ),
+                            ),
+                        ),
+                    ),
+                ),
+            ) => Ok(ProtocolOp::CompareRequest(value)),
+            Ok(
+                Other(
+                    Other(
+                        Other(
+                            Other(
+                                Other(
+                                    Other(
+                                        Other(
+                                            Other(
+                                                Other(
+                                                    Other(
+                                                        Other(
+                                                            Other(
+                                                                Other(
+                                                                    Other(
+                                                                        Other(Other(This(value))),
+                                                                    ),
+                                                                ),
+                                                            ),
+                                                        ),
+                                                    ),
+                                                ),
+                                            ),
+                                        ),
+                                    ),
+                                ),
+                            ),
+                        ),
+                    ),
+                ),
+            ) => Ok(ProtocolOp::CompareResponse(value)),
+            Ok(
+                Other(
+                    Other(
+                        Other(
+                            Other(
+                                Other(
+                                    Other(
+                                        Other(
+                                            Other(
+                                                Other(
+                                                    Other(
+                                                        Other(
+                                                            Other(
+                                                                Other(
+                                                                    Other(
+                                                                        Other(
+                                                                            Other(
+                                                                                Other(This(value)),
+                                                                            ),
+                                                                        ),
+                                                                    ),
+                                                                ),
+                                                            ),
+                                                        ),
+                                                    ),
+                                                ),
+                                            ),
+                                        ),
+                                    ),
+                                ),
+                            ),
+                        ),
+                    ),
+                ),
+            ) => Ok(ProtocolOp::AbandonRequest(value)),
+            Ok(
+                Other(
+                    Other(
+                        Other(
+                            Other(
+                                Other(
+                                    Other(
+                                        Other(
+                                            Other(
+                                                Other(
+                                                    Other(
+                                                        Other(
+                                                            Other(
+                                                                Other(
+                                                                    Other(
+                                                                        Other(
+                                                                            Other(
+                                                                                Other(
+                                                                                    Other(
+                                                                                        This(value),
+                                                                                    ),
+                                                                                ),
+                                                                            ),
+                                                                        ),
+                                                                    ),
+                                                                ),
+                                                            ),
+                                                        ),
+                                                    ),
+                                                ),
+                                            ),
+                                        ),
+                                    ),
+                                ),
+                            ),
+                        ),
+                    ),
+                ),
+            ) => Ok(ProtocolOp::ExtendedReq(value)),
+            Ok(
+                Other(
+                    Other(
+                        Other(
+                            Other(
+                                Other(
+                                    Other(
+                                        Other(
+                                            Other(
+                                                Other(
+                                                    Other(
+                                                        Other(
+                                                            Other(
+                                                                Other(
+                                                                    Other(
+                                                                        Other(
+                                                                            Other(
+                                                                                Other(
+                                                                                    Other(
+                                                                                        Other(
+                                                                                            This(
+                                                                                                value,
+                                                                                            ),
+                                                                                        ),
+                                                                                    ),
+                                                                                ),
+                                                                            ),
+                                                                        ),
+                                                                    ),
+                                                                ),
+                                                            ),
+                                                        ),
+                                                    ),
+                                                ),
+                                            ),
+                                        ),
+                                    ),
+                                ),
+                            ),
+                        ),
+                    ),
+                ),
+            ) => Ok(ProtocolOp::ExtendedResp(value)),
+            Ok(
+                Other(
+                    Other(
+                        Other(
+                            Other(
+                                Other(
+                                    Other(
+                                        Other(
+                                            Other(
+                                                Other(
+                                                    Other(
+                                                        Other(
+                                                            Other(
+                                                                Other(
+                                                                    Other(
+                                                                        Other(
+                                                                            Other(
+                                                                                Other(
+                                                                                    Other(
+                                                                                        Other(
+                                                                                            Other(
+                                                                                                This(
+                                                                                                    value,
+                                                                                                ),
+                                                                                            ),
+                                                                                        ),
+                                                                                    ),
+                                                                                ),
+                                                                            ),
+                                                                        ),
+                                                                    ),
+                                                                ),
+                                                            ),
+                                                        ),
+                                                    ),
+                                                ),
+                                            ),
+                                        ),
+                                    ),
+                                ),
+                            ),
+                        ),
+                    ),
+                ),
+            ) => Ok(ProtocolOp::IntermediateResponse(value)),
+            Ok(
+                Other(
+                    Other(
+                        Other(
+                            Other(
+                                Other(
+                                    Other(
+                                        Other(
+                                            Other(
+                                                Other(
+                                                    Other(
+                                                        Other(
+                                                            Other(
+                                                                Other(
+                                                                    Other(
+                                                                        Other(
+                                                                            Other(
+                                                                                Other(
+                                                                                    Other(
+                                                                                        Other(
+                                                                                            Other(
+                                                                                                Other(
+                                                                                                    value,
+                                                                                                ),
+                                                                                            ),
+                                                                                        ),
+                                                                                    ),
+                                                                                ),
+                                                                            ),
+                                                                        ),
+                                                                    ),
+                                                                ),
+                                                            ),
+                                                        ),
+                                                    ),
+                                                ),
+                                            ),
+                                        ),
+                                    ),
+                                ),
+                            ),
+                        ),
+                    ),
+                ),
+            ) => Ok(ProtocolOp::Unknown(value)),
+            Err(error) => Err(error),
         }
     }
 }
 
-/// The alternatives from `searchResRef` on, as they are written.
-type WrittenLater<'a> = OneOf<
-    &'a SearchResultReference,
-    OneOf<
-        &'a ModifyRequest,
-        OneOf<&'a ModifyResponse, OneOf<&'a ExtendedRequest, Last<&'a ExtendedResponse>>>,
-    >,
->;
+/// The alternatives, as they are written.
+type Written<'a> = OneOf<&'a BindRequest, Written1<'a>>;
 
-/// All alternatives, as they are written.
-type Written<'a> = OneOf<
-    &'a BindRequest,
-    OneOf<
-        &'a BindResponse,
-        OneOf<
-            &'a Implicit<ApplicationTag<2>, ()>,
-            OneOf<
-                &'a SearchRequest,
-                OneOf<&'a SearchResultEntry, OneOf<&'a SearchResultDone, WrittenLater<'a>>>,
-            >,
-        >,
-    >,
->;
+type Written1<'a> = OneOf<&'a BindResponse, Written2<'a>>;
+
+type Written2<'a> = OneOf<&'a UnbindRequest, Written3<'a>>;
+
+type Written3<'a> = OneOf<&'a SearchRequest, Written4<'a>>;
+
+type Written4<'a> = OneOf<&'a SearchResultEntry, Written5<'a>>;
+
+type Written5<'a> = OneOf<&'a SearchResultDone, Written6<'a>>;
+
+type Written6<'a> = OneOf<&'a SearchResultReference, Written7<'a>>;
+
+type Written7<'a> = OneOf<&'a ModifyRequest, Written8<'a>>;
+
+type Written8<'a> = OneOf<&'a ModifyResponse, Written9<'a>>;
+
+type Written9<'a> = OneOf<&'a AddRequest, Written10<'a>>;
+
+type Written10<'a> = OneOf<&'a AddResponse, Written11<'a>>;
+
+type Written11<'a> = OneOf<&'a DelRequest, Written12<'a>>;
+
+type Written12<'a> = OneOf<&'a DelResponse, Written13<'a>>;
+
+type Written13<'a> = OneOf<&'a ModifyDnRequest, Written14<'a>>;
+
+type Written14<'a> = OneOf<&'a ModifyDnResponse, Written15<'a>>;
+
+type Written15<'a> = OneOf<&'a CompareRequest, Written16<'a>>;
+
+type Written16<'a> = OneOf<&'a CompareResponse, Written17<'a>>;
+
+type Written17<'a> = OneOf<&'a AbandonRequest, Written18<'a>>;
+
+type Written18<'a> = OneOf<&'a ExtendedRequest, Written19<'a>>;
+
+type Written19<'a> = OneOf<&'a ExtendedResponse, Written20<'a>>;
+
+type Written20<'a> = OneOf<&'a IntermediateResponse, Written21<'a>>;
+
+type Written21<'a> = &'a Any;
 
 impl Encode for ProtocolOp {
     fn encode_with_tag_and_constraints(
@@ -203,33 +570,84 @@ impl Encode for ProtocolOp {
             ProtocolOp::BindResponse(value) => encoder.write_choice::<Written<'_>>(Other(This(
                 value,
             ))),
-            ProtocolOp::UnbindRequest => encoder.write_choice::<Written<'_>>(Other(Other(This(
-                &Implicit::new(()),
-            )))),
+            ProtocolOp::UnbindRequest(value) => encoder.write_choice::<Written<'_>>(Other(Other(
+                This(value),
+            ))),
             ProtocolOp::SearchRequest(value) => encoder.write_choice::<Written<'_>>(Other(Other(
                 Other(This(value)),
             ))),
-            ProtocolOp::SearchResultEntry(value) => encoder.write_choice::<Written<'_>>(Other(Other(
+            ProtocolOp::SearchResEntry(value) => encoder.write_choice::<Written<'_>>(Other(Other(
                 Other(Other(This(value))),
             ))),
-            ProtocolOp::SearchResultDone(value) => encoder.write_choice::<Written<'_>>(Other(Other(
+            ProtocolOp::SearchResDone(value) => encoder.write_choice::<Written<'_>>(Other(Other(
                 Other(Other(Other(This(value)))),
             ))),
-            ProtocolOp::SearchResultReference(value) => encoder.write_choice::<Written<'_>>(Other(
-                Other(Other(Other(Other(Other(This(value)))))),
-            )),
+            ProtocolOp::SearchResRef(value) => encoder.write_choice::<Written<'_>>(Other(Other(
+                Other(Other(Other(Other(This(value))))),
+            ))),
             ProtocolOp::ModifyRequest(value) => encoder.write_choice::<Written<'_>>(Other(Other(
                 Other(Other(Other(Other(Other(This(value)))))),
             ))),
             ProtocolOp::ModifyResponse(value) => encoder.write_choice::<Written<'_>>(Other(Other(
                 Other(Other(Other(Other(Other(Other(This(value))))))),
             ))),
-            ProtocolOp::ExtendedRequest(value) => encoder.write_choice::<Written<'_>>(Other(Other(
+            ProtocolOp::AddRequest(value) => encoder.write_choice::<Written<'_>>(Other(Other(Other(
+                Other(Other(Other(Other(Other(Other(This(value))))))),
+            )))),
+            ProtocolOp::AddResponse(value) => encoder.write_choice::<Written<'_>>(Other(Other(Other(
                 Other(Other(Other(Other(Other(Other(Other(This(value)))))))),
+            )))),
+            ProtocolOp::DelRequest(value) => encoder.write_choice::<Written<'_>>(Other(Other(Other(
+                Other(Other(Other(Other(Other(Other(Other(Other(This(value))))))))),
+            )))),
+            ProtocolOp::DelResponse(value) => encoder.write_choice::<Written<'_>>(Other(Other(Other(
+                Other(Other(Other(Other(Other(Other(Other(Other(Other(This(value)))))))))),
+            )))),
+            ProtocolOp::ModDnRequest(value) => encoder.write_choice::<Written<'_>>(Other(Other(
+                Other(Other(Other(Other(Other(Other(Other(Other(Other(Other(Other(This(
+                    value,
+                )))))))))))),
             ))),
-            ProtocolOp::ExtendedResponse(value) => encoder.write_choice::<Written<'_>>(Other(Other(
-                Other(Other(Other(Other(Other(Other(Other(Other(Last(value))))))))),
+            ProtocolOp::ModDnResponse(value) => encoder.write_choice::<Written<'_>>(Other(Other(
+                Other(Other(Other(Other(Other(Other(Other(Other(Other(Other(Other(Other(This(
+                    value,
+                ))))))))))))),
             ))),
+            ProtocolOp::CompareRequest(value) => encoder.write_choice::<Written<'_>>(Other(Other(
+                Other(Other(Other(Other(Other(Other(Other(Other(Other(Other(Other(Other(Other(This(
+                    value,
+                )))))))))))))),
+            ))),
+            ProtocolOp::CompareResponse(value) => encoder.write_choice::<Written<'_>>(Other(Other(
+                Other(Other(Other(Other(Other(Other(Other(Other(Other(Other(Other(Other(Other(Other(
+                    This(value),
+                )))))))))))))),
+            ))),
+            ProtocolOp::AbandonRequest(value) => encoder.write_choice::<Written<'_>>(Other(Other(
+                Other(Other(Other(Other(Other(Other(Other(Other(Other(Other(Other(Other(Other(Other(
+                    Other(This(value)),
+                )))))))))))))),
+            ))),
+            ProtocolOp::ExtendedReq(value) => encoder.write_choice::<Written<'_>>(Other(Other(Other(
+                Other(Other(Other(Other(Other(Other(Other(Other(Other(Other(Other(Other(Other(Other(
+                    Other(This(value)),
+                )))))))))))))),
+            )))),
+            ProtocolOp::ExtendedResp(value) => encoder.write_choice::<Written<'_>>(Other(Other(
+                Other(Other(Other(Other(Other(Other(Other(Other(Other(Other(Other(Other(Other(Other(
+                    Other(Other(Other(This(value)))),
+                )))))))))))))),
+            ))),
+            ProtocolOp::IntermediateResponse(value) => encoder.write_choice::<Written<'_>>(Other(
+                Other(Other(Other(Other(Other(Other(Other(Other(Other(Other(Other(Other(Other(Other(
+                    Other(Other(Other(Other(Other(This(value)))))),
+                )))))))))))))),
+            )),
+            ProtocolOp::Unknown(value) => encoder.write_choice::<Written<'_>>(Other(Other(Other(
+                Other(Other(Other(Other(Other(Other(Other(Other(Other(Other(Other(Other(Other(Other(
+                    Other(Other(Other(Other(value)))),
+                )))))))))))))),
+            )))),
         }
     }
 

@@ -1,194 +1,214 @@
-//! `resultCode ENUMERATED { success (0), operationsError (1), .., other (80), ... }`
-//! (RFC 4511, 4.1.9).
-use rasn::error::{DecodeError, EncodeError};
-use rasn::types::{AsnType, Constraints, Identifier, LawfulEq, Present, Tag};
-use rasn::{Decode, Decoder, Encode, Encoder};
+//! `ResultCode ::= ENUMERATED { success(0), operationsError(1), protocolError(2),
+//! timeLimitExceeded(3), sizeLimitExceeded(4), compareFalse(5), compareTrue(6),
+//! authMethodNotSupported(7), strongerAuthRequired(8), referral(10), adminLimitExceeded(11),
+//! unavailableCriticalExtension(12), confidentialityRequired(13), saslBindInProgress(14),
+//! noSuchAttribute(16), undefinedAttributeType(17), inappropriateMatching(18),
+//! constraintViolation(19), attributeOrValueExists(20), invalidAttributeSyntax(21),
+//! noSuchObject(32), aliasProblem(33), invalidDNSyntax(34), aliasDereferencingProblem(36),
+//! inappropriateAuthentication(48), invalidCredentials(49), insufficientAccessRights(50), busy(51),
+//! unavailable(52), unwillingToPerform(53), loopDetect(54), namingViolation(64),
+//! objectClassViolation(65), notAllowedOnNonLeaf(66), notAllowedOnRDN(67), entryAlreadyExists(68),
+//! objectClassModsProhibited(69), affectsMultipleDSAs(71), other(80), ... }`
+use rasn::prelude::*;
 
-/// ENUMERATED { success (0), operationsError (1), protocolError (2), .., other (80), ... }: the
-/// result of an operation, as a number. The type is extensible, and numbers without a name here are
-/// read and written like the others. The octets of an ENUMERATED are those of the INTEGER of its
-/// number (X.690 8.4).
+/// `ResultCode ::= ENUMERATED { success(0), operationsError(1), protocolError(2),
+/// timeLimitExceeded(3), sizeLimitExceeded(4), compareFalse(5), compareTrue(6),
+/// authMethodNotSupported(7), strongerAuthRequired(8), referral(10), adminLimitExceeded(11),
+/// unavailableCriticalExtension(12), confidentialityRequired(13), saslBindInProgress(14),
+/// noSuchAttribute(16), undefinedAttributeType(17), inappropriateMatching(18),
+/// constraintViolation(19), attributeOrValueExists(20), invalidAttributeSyntax(21),
+/// noSuchObject(32), aliasProblem(33), invalidDNSyntax(34), aliasDereferencingProblem(36),
+/// inappropriateAuthentication(48), invalidCredentials(49), insufficientAccessRights(50), busy(51),
+/// unavailable(52), unwillingToPerform(53), loopDetect(54), namingViolation(64),
+/// objectClassViolation(65), notAllowedOnNonLeaf(66), notAllowedOnRDN(67), entryAlreadyExists(68),
+/// objectClassModsProhibited(69), affectsMultipleDSAs(71), other(80), ... }`
+pub type ResultCode = Extensible<ResultCodeName>;
+
+/// The names of the numbers.
 #[derive(Clone, Copy, Debug, PartialEq, Eq, Drop)]
-pub struct ResultCode {
-    pub number: i32,
+pub enum ResultCodeName {
+    /// `success (0)`
+    Success,
+    /// `operationsError (1)`
+    OperationsError,
+    /// `protocolError (2)`
+    ProtocolError,
+    /// `timeLimitExceeded (3)`
+    TimeLimitExceeded,
+    /// `sizeLimitExceeded (4)`
+    SizeLimitExceeded,
+    /// `compareFalse (5)`
+    CompareFalse,
+    /// `compareTrue (6)`
+    CompareTrue,
+    /// `authMethodNotSupported (7)`
+    AuthMethodNotSupported,
+    /// `strongerAuthRequired (8)`
+    StrongerAuthRequired,
+    /// `referral (10)`
+    Referral,
+    /// `adminLimitExceeded (11)`
+    AdminLimitExceeded,
+    /// `unavailableCriticalExtension (12)`
+    UnavailableCriticalExtension,
+    /// `confidentialityRequired (13)`
+    ConfidentialityRequired,
+    /// `saslBindInProgress (14)`
+    SaslBindInProgress,
+    /// `noSuchAttribute (16)`
+    NoSuchAttribute,
+    /// `undefinedAttributeType (17)`
+    UndefinedAttributeType,
+    /// `inappropriateMatching (18)`
+    InappropriateMatching,
+    /// `constraintViolation (19)`
+    ConstraintViolation,
+    /// `attributeOrValueExists (20)`
+    AttributeOrValueExists,
+    /// `invalidAttributeSyntax (21)`
+    InvalidAttributeSyntax,
+    /// `noSuchObject (32)`
+    NoSuchObject,
+    /// `aliasProblem (33)`
+    AliasProblem,
+    /// `invalidDNSyntax (34)`
+    InvalidDnSyntax,
+    /// `aliasDereferencingProblem (36)`
+    AliasDereferencingProblem,
+    /// `inappropriateAuthentication (48)`
+    InappropriateAuthentication,
+    /// `invalidCredentials (49)`
+    InvalidCredentials,
+    /// `insufficientAccessRights (50)`
+    InsufficientAccessRights,
+    /// `busy (51)`
+    Busy,
+    /// `unavailable (52)`
+    Unavailable,
+    /// `unwillingToPerform (53)`
+    UnwillingToPerform,
+    /// `loopDetect (54)`
+    LoopDetect,
+    /// `namingViolation (64)`
+    NamingViolation,
+    /// `objectClassViolation (65)`
+    ObjectClassViolation,
+    /// `notAllowedOnNonLeaf (66)`
+    NotAllowedOnNonLeaf,
+    /// `notAllowedOnRDN (67)`
+    NotAllowedOnRdn,
+    /// `entryAlreadyExists (68)`
+    EntryAlreadyExists,
+    /// `objectClassModsProhibited (69)`
+    ObjectClassModsProhibited,
+    /// `affectsMultipleDSAs (71)`
+    AffectsMultipleDsas,
+    /// `other (80)`
+    Other,
 }
 
-impl ResultCode {
-    /// `success`
-    pub const SUCCESS: ResultCode = ResultCode { number: 0 };
+impl Enumerated for ResultCodeName {
+    ghost use Rattle.std.specs.Prelude.{pos, refl, [], ◌∷◌};
+    ghost use Rattle.rasn_types.specs.OwnEnumerated.{all_listed, all_distinct};
+    ghost use Rattle.rasn_ldap.specs.contracts.result_code.ResultCodeName.{enum as own_enum};
+    ghost use Rattle.rasn_ldap.specs.declared.result_code.ResultCodeName.TheVariants.{Success, OperationsError, ProtocolError, TimeLimitExceeded, SizeLimitExceeded, CompareFalse, CompareTrue, AuthMethodNotSupported, StrongerAuthRequired, Referral, AdminLimitExceeded, UnavailableCriticalExtension, ConfidentialityRequired, SaslBindInProgress, NoSuchAttribute, UndefinedAttributeType, InappropriateMatching, ConstraintViolation, AttributeOrValueExists, InvalidAttributeSyntax, NoSuchObject, AliasProblem, InvalidDnSyntax, AliasDereferencingProblem, InappropriateAuthentication, InvalidCredentials, InsufficientAccessRights, Busy, Unavailable, UnwillingToPerform, LoopDetect, NamingViolation, ObjectClassViolation, NotAllowedOnNonLeaf, NotAllowedOnRdn, EntryAlreadyExists, ObjectClassModsProhibited, AffectsMultipleDsas, Other};
 
-    /// `operationsError`
-    pub const OPERATIONS_ERROR: ResultCode = ResultCode { number: 1 };
+    ghost known = { pos 0 ∷ pos 1 ∷ pos 2 ∷ pos 3 ∷ pos 4 ∷ pos 5 ∷ pos 6 ∷ pos 7 ∷ pos 8 ∷ pos 10 ∷ pos 11 ∷ pos 12 ∷ pos 13 ∷ pos 14 ∷ pos 16 ∷ pos 17 ∷ pos 18 ∷ pos 19 ∷ pos 20 ∷ pos 21 ∷ pos 32 ∷ pos 33 ∷ pos 34 ∷ pos 36 ∷ pos 48 ∷ pos 49 ∷ pos 50 ∷ pos 51 ∷ pos 52 ∷ pos 53 ∷ pos 54 ∷ pos 64 ∷ pos 65 ∷ pos 66 ∷ pos 67 ∷ pos 68 ∷ pos 69 ∷ pos 71 ∷ pos 80 ∷ [] };
 
-    /// `protocolError`
-    pub const PROTOCOL_ERROR: ResultCode = ResultCode { number: 2 };
+    ghost number = { elim [ Success ↦ pos 0 | OperationsError ↦ pos 1 | ProtocolError ↦ pos 2 | TimeLimitExceeded ↦ pos 3 | SizeLimitExceeded ↦ pos 4 | CompareFalse ↦ pos 5 | CompareTrue ↦ pos 6 | AuthMethodNotSupported ↦ pos 7 | StrongerAuthRequired ↦ pos 8 | Referral ↦ pos 10 | AdminLimitExceeded ↦ pos 11 | UnavailableCriticalExtension ↦ pos 12 | ConfidentialityRequired ↦ pos 13 | SaslBindInProgress ↦ pos 14 | NoSuchAttribute ↦ pos 16 | UndefinedAttributeType ↦ pos 17 | InappropriateMatching ↦ pos 18 | ConstraintViolation ↦ pos 19 | AttributeOrValueExists ↦ pos 20 | InvalidAttributeSyntax ↦ pos 21 | NoSuchObject ↦ pos 32 | AliasProblem ↦ pos 33 | InvalidDnSyntax ↦ pos 34 | AliasDereferencingProblem ↦ pos 36 | InappropriateAuthentication ↦ pos 48 | InvalidCredentials ↦ pos 49 | InsufficientAccessRights ↦ pos 50 | Busy ↦ pos 51 | Unavailable ↦ pos 52 | UnwillingToPerform ↦ pos 53 | LoopDetect ↦ pos 54 | NamingViolation ↦ pos 64 | ObjectClassViolation ↦ pos 65 | NotAllowedOnNonLeaf ↦ pos 66 | NotAllowedOnRdn ↦ pos 67 | EntryAlreadyExists ↦ pos 68 | ObjectClassModsProhibited ↦ pos 69 | AffectsMultipleDsas ↦ pos 71 | Other ↦ pos 80 ] };
 
-    /// `timeLimitExceeded`
-    pub const TIME_LIMIT_EXCEEDED: ResultCode = ResultCode { number: 3 };
+    ghost listed = { all_listed own_enum (elim [ Success ↦ pos 0 | OperationsError ↦ pos 1 | ProtocolError ↦ pos 2 | TimeLimitExceeded ↦ pos 3 | SizeLimitExceeded ↦ pos 4 | CompareFalse ↦ pos 5 | CompareTrue ↦ pos 6 | AuthMethodNotSupported ↦ pos 7 | StrongerAuthRequired ↦ pos 8 | Referral ↦ pos 10 | AdminLimitExceeded ↦ pos 11 | UnavailableCriticalExtension ↦ pos 12 | ConfidentialityRequired ↦ pos 13 | SaslBindInProgress ↦ pos 14 | NoSuchAttribute ↦ pos 16 | UndefinedAttributeType ↦ pos 17 | InappropriateMatching ↦ pos 18 | ConstraintViolation ↦ pos 19 | AttributeOrValueExists ↦ pos 20 | InvalidAttributeSyntax ↦ pos 21 | NoSuchObject ↦ pos 32 | AliasProblem ↦ pos 33 | InvalidDnSyntax ↦ pos 34 | AliasDereferencingProblem ↦ pos 36 | InappropriateAuthentication ↦ pos 48 | InvalidCredentials ↦ pos 49 | InsufficientAccessRights ↦ pos 50 | Busy ↦ pos 51 | Unavailable ↦ pos 52 | UnwillingToPerform ↦ pos 53 | LoopDetect ↦ pos 54 | NamingViolation ↦ pos 64 | ObjectClassViolation ↦ pos 65 | NotAllowedOnNonLeaf ↦ pos 66 | NotAllowedOnRdn ↦ pos 67 | EntryAlreadyExists ↦ pos 68 | ObjectClassModsProhibited ↦ pos 69 | AffectsMultipleDsas ↦ pos 71 | Other ↦ pos 80 ]) (pos 0 ∷ pos 1 ∷ pos 2 ∷ pos 3 ∷ pos 4 ∷ pos 5 ∷ pos 6 ∷ pos 7 ∷ pos 8 ∷ pos 10 ∷ pos 11 ∷ pos 12 ∷ pos 13 ∷ pos 14 ∷ pos 16 ∷ pos 17 ∷ pos 18 ∷ pos 19 ∷ pos 20 ∷ pos 21 ∷ pos 32 ∷ pos 33 ∷ pos 34 ∷ pos 36 ∷ pos 48 ∷ pos 49 ∷ pos 50 ∷ pos 51 ∷ pos 52 ∷ pos 53 ∷ pos 54 ∷ pos 64 ∷ pos 65 ∷ pos 66 ∷ pos 67 ∷ pos 68 ∷ pos 69 ∷ pos 71 ∷ pos 80 ∷ []) refl };
 
-    /// `sizeLimitExceeded`
-    pub const SIZE_LIMIT_EXCEEDED: ResultCode = ResultCode { number: 4 };
+    ghost distinct = { all_distinct own_enum _ refl };
 
-    /// `compareFalse`
-    pub const COMPARE_FALSE: ResultCode = ResultCode { number: 5 };
+    ghost fits = { refl };
 
-    /// `compareTrue`
-    pub const COMPARE_TRUE: ResultCode = ResultCode { number: 6 };
-
-    /// `authMethodNotSupported`
-    pub const AUTH_METHOD_NOT_SUPPORTED: ResultCode = ResultCode { number: 7 };
-
-    /// `strongerAuthRequired`
-    pub const STRONGER_AUTH_REQUIRED: ResultCode = ResultCode { number: 8 };
-
-    /// `referral`
-    pub const REFERRAL: ResultCode = ResultCode { number: 10 };
-
-    /// `adminLimitExceeded`
-    pub const ADMIN_LIMIT_EXCEEDED: ResultCode = ResultCode { number: 11 };
-
-    /// `unavailableCriticalExtension`
-    pub const UNAVAILABLE_CRITICAL_EXTENSION: ResultCode = ResultCode { number: 12 };
-
-    /// `confidentialityRequired`
-    pub const CONFIDENTIALITY_REQUIRED: ResultCode = ResultCode { number: 13 };
-
-    /// `saslBindInProgress`
-    pub const SASL_BIND_IN_PROGRESS: ResultCode = ResultCode { number: 14 };
-
-    /// `noSuchAttribute`
-    pub const NO_SUCH_ATTRIBUTE: ResultCode = ResultCode { number: 16 };
-
-    /// `undefinedAttributeType`
-    pub const UNDEFINED_ATTRIBUTE_TYPE: ResultCode = ResultCode { number: 17 };
-
-    /// `inappropriateMatching`
-    pub const INAPPROPRIATE_MATCHING: ResultCode = ResultCode { number: 18 };
-
-    /// `constraintViolation`
-    pub const CONSTRAINT_VIOLATION: ResultCode = ResultCode { number: 19 };
-
-    /// `attributeOrValueExists`
-    pub const ATTRIBUTE_OR_VALUE_EXISTS: ResultCode = ResultCode { number: 20 };
-
-    /// `invalidAttributeSyntax`
-    pub const INVALID_ATTRIBUTE_SYNTAX: ResultCode = ResultCode { number: 21 };
-
-    /// `noSuchObject`
-    pub const NO_SUCH_OBJECT: ResultCode = ResultCode { number: 32 };
-
-    /// `aliasProblem`
-    pub const ALIAS_PROBLEM: ResultCode = ResultCode { number: 33 };
-
-    /// `invalidDNSyntax`
-    pub const INVALID_DN_SYNTAX: ResultCode = ResultCode { number: 34 };
-
-    /// `aliasDereferencingProblem`
-    pub const ALIAS_DEREFERENCING_PROBLEM: ResultCode = ResultCode { number: 36 };
-
-    /// `inappropriateAuthentication`
-    pub const INAPPROPRIATE_AUTHENTICATION: ResultCode = ResultCode { number: 48 };
-
-    /// `invalidCredentials`
-    pub const INVALID_CREDENTIALS: ResultCode = ResultCode { number: 49 };
-
-    /// `insufficientAccessRights`
-    pub const INSUFFICIENT_ACCESS_RIGHTS: ResultCode = ResultCode { number: 50 };
-
-    /// `busy`
-    pub const BUSY: ResultCode = ResultCode { number: 51 };
-
-    /// `unavailable`
-    pub const UNAVAILABLE: ResultCode = ResultCode { number: 52 };
-
-    /// `unwillingToPerform`
-    pub const UNWILLING_TO_PERFORM: ResultCode = ResultCode { number: 53 };
-
-    /// `loopDetect`
-    pub const LOOP_DETECT: ResultCode = ResultCode { number: 54 };
-
-    /// `namingViolation`
-    pub const NAMING_VIOLATION: ResultCode = ResultCode { number: 64 };
-
-    /// `objectClassViolation`
-    pub const OBJECT_CLASS_VIOLATION: ResultCode = ResultCode { number: 65 };
-
-    /// `notAllowedOnNonLeaf`
-    pub const NOT_ALLOWED_ON_NON_LEAF: ResultCode = ResultCode { number: 66 };
-
-    /// `notAllowedOnRDN`
-    pub const NOT_ALLOWED_ON_RDN: ResultCode = ResultCode { number: 67 };
-
-    /// `entryAlreadyExists`
-    pub const ENTRY_ALREADY_EXISTS: ResultCode = ResultCode { number: 68 };
-
-    /// `objectClassModsProhibited`
-    pub const OBJECT_CLASS_MODS_PROHIBITED: ResultCode = ResultCode { number: 69 };
-
-    /// `affectsMultipleDSAs`
-    pub const AFFECTS_MULTIPLE_DSAS: ResultCode = ResultCode { number: 71 };
-
-    /// `other`
-    pub const OTHER: ResultCode = ResultCode { number: 80 };
-}
-
-impl AsnType for ResultCode {
-    ghost use Rattle.std.specs.Prelude.{refl};
-    ghost use Rattle.rasn_types.specs.Tags.{in_universal};
-    ghost use Rattle.rasn_types.specs.Trees.{unconstrained};
-    ghost use Rattle.rasn_ldap.specs.Code.{result_code_shape, result_code_tree};
-
-    ghost TAG = { in_universal 10 };
-
-    const TAG: Tag = Tag::ENUMERATED;
-
-    ghost CONSTRAINTS = { unconstrained };
-
-    const CONSTRAINTS: Constraints = Constraints::NONE;
-
-    ghost shape = { result_code_shape };
-
-    ghost tree = { result_code_tree };
-
-    ghost own = { refl };
-}
-
-impl LawfulEq for ResultCode {
-    ghost use Rattle.rasn_types.specs.Equality.{signed_decided};
-
-    ghost decides = { λ a b. signed_decided a.number b.number };
-}
-
-impl Present for ResultCode {
-    ghost use Rattle.rasn_types.specs.Equality.{number_not_absent};
-
-    ghost present = { λ x. number_not_absent x.number };
-}
-
-impl Decode for ResultCode {
-    fn decode_with_tag_and_constraints(
-        decoder: &mut Decoder<'_>,
-        tag: Tag,
-        constraints: &Constraints,
-    ) -> Result<ResultCode, DecodeError> {
-        let number = i32::decode_with_tag_and_constraints(decoder, tag, constraints)?;
-        Ok(ResultCode { number })
-    }
-}
-
-impl Encode for ResultCode {
-    fn encode_with_tag_and_constraints(
-        &self,
-        encoder: &mut Encoder,
-        tag: Tag,
-        constraints: &Constraints,
-        identifier: Identifier,
-    ) -> Result<(), EncodeError> {
-        self.number
-            .encode_with_tag_and_constraints(encoder, tag, constraints, identifier)
+    fn discriminant(&self) -> isize {
+        match self {
+            ResultCodeName::Success => 0,
+            ResultCodeName::OperationsError => 1,
+            ResultCodeName::ProtocolError => 2,
+            ResultCodeName::TimeLimitExceeded => 3,
+            ResultCodeName::SizeLimitExceeded => 4,
+            ResultCodeName::CompareFalse => 5,
+            ResultCodeName::CompareTrue => 6,
+            ResultCodeName::AuthMethodNotSupported => 7,
+            ResultCodeName::StrongerAuthRequired => 8,
+            ResultCodeName::Referral => 10,
+            ResultCodeName::AdminLimitExceeded => 11,
+            ResultCodeName::UnavailableCriticalExtension => 12,
+            ResultCodeName::ConfidentialityRequired => 13,
+            ResultCodeName::SaslBindInProgress => 14,
+            ResultCodeName::NoSuchAttribute => 16,
+            ResultCodeName::UndefinedAttributeType => 17,
+            ResultCodeName::InappropriateMatching => 18,
+            ResultCodeName::ConstraintViolation => 19,
+            ResultCodeName::AttributeOrValueExists => 20,
+            ResultCodeName::InvalidAttributeSyntax => 21,
+            ResultCodeName::NoSuchObject => 32,
+            ResultCodeName::AliasProblem => 33,
+            ResultCodeName::InvalidDnSyntax => 34,
+            ResultCodeName::AliasDereferencingProblem => 36,
+            ResultCodeName::InappropriateAuthentication => 48,
+            ResultCodeName::InvalidCredentials => 49,
+            ResultCodeName::InsufficientAccessRights => 50,
+            ResultCodeName::Busy => 51,
+            ResultCodeName::Unavailable => 52,
+            ResultCodeName::UnwillingToPerform => 53,
+            ResultCodeName::LoopDetect => 54,
+            ResultCodeName::NamingViolation => 64,
+            ResultCodeName::ObjectClassViolation => 65,
+            ResultCodeName::NotAllowedOnNonLeaf => 66,
+            ResultCodeName::NotAllowedOnRdn => 67,
+            ResultCodeName::EntryAlreadyExists => 68,
+            ResultCodeName::ObjectClassModsProhibited => 69,
+            ResultCodeName::AffectsMultipleDsas => 71,
+            ResultCodeName::Other => 80,
+        }
     }
 
-    fn is_present(&self) -> bool {
-        true
+    fn from_discriminant(discriminant: isize) -> Option<ResultCodeName> {
+        match discriminant {
+            0 => Some(ResultCodeName::Success),
+            1 => Some(ResultCodeName::OperationsError),
+            2 => Some(ResultCodeName::ProtocolError),
+            3 => Some(ResultCodeName::TimeLimitExceeded),
+            4 => Some(ResultCodeName::SizeLimitExceeded),
+            5 => Some(ResultCodeName::CompareFalse),
+            6 => Some(ResultCodeName::CompareTrue),
+            7 => Some(ResultCodeName::AuthMethodNotSupported),
+            8 => Some(ResultCodeName::StrongerAuthRequired),
+            10 => Some(ResultCodeName::Referral),
+            11 => Some(ResultCodeName::AdminLimitExceeded),
+            12 => Some(ResultCodeName::UnavailableCriticalExtension),
+            13 => Some(ResultCodeName::ConfidentialityRequired),
+            14 => Some(ResultCodeName::SaslBindInProgress),
+            16 => Some(ResultCodeName::NoSuchAttribute),
+            17 => Some(ResultCodeName::UndefinedAttributeType),
+            18 => Some(ResultCodeName::InappropriateMatching),
+            19 => Some(ResultCodeName::ConstraintViolation),
+            20 => Some(ResultCodeName::AttributeOrValueExists),
+            21 => Some(ResultCodeName::InvalidAttributeSyntax),
+            32 => Some(ResultCodeName::NoSuchObject),
+            33 => Some(ResultCodeName::AliasProblem),
+            34 => Some(ResultCodeName::InvalidDnSyntax),
+            36 => Some(ResultCodeName::AliasDereferencingProblem),
+            48 => Some(ResultCodeName::InappropriateAuthentication),
+            49 => Some(ResultCodeName::InvalidCredentials),
+            50 => Some(ResultCodeName::InsufficientAccessRights),
+            51 => Some(ResultCodeName::Busy),
+            52 => Some(ResultCodeName::Unavailable),
+            53 => Some(ResultCodeName::UnwillingToPerform),
+            54 => Some(ResultCodeName::LoopDetect),
+            64 => Some(ResultCodeName::NamingViolation),
+            65 => Some(ResultCodeName::ObjectClassViolation),
+            66 => Some(ResultCodeName::NotAllowedOnNonLeaf),
+            67 => Some(ResultCodeName::NotAllowedOnRdn),
+            68 => Some(ResultCodeName::EntryAlreadyExists),
+            69 => Some(ResultCodeName::ObjectClassModsProhibited),
+            71 => Some(ResultCodeName::AffectsMultipleDsas),
+            80 => Some(ResultCodeName::Other),
+            _ => None,
+        }
     }
 }

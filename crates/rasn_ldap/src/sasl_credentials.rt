@@ -1,26 +1,30 @@
-//! `SaslCredentials ::= SEQUENCE { mechanism LDAPString, credentials OCTET STRING OPTIONAL }`
-//! (RFC 4511, 4.2).
+//! `SaslCredentials ::= SEQUENCE`
 use crate::LdapString;
-use rasn::error::{DecodeError, EncodeError};
-use rasn::parts::{End, Optional, Put, PutOptional, Required};
-use rasn::types::{AsnType, Constraints, Identifier, LawfulEq, OctetString, Present, Tag, Unknown};
-use rasn::{Decode, Decoder, Encode, Encoder};
+use rasn::prelude::*;
 
-/// SEQUENCE { mechanism LDAPString, credentials OCTET STRING OPTIONAL }: one step of a SASL
-/// mechanism (RFC 4422).
+/// `SaslCredentials ::= SEQUENCE`
 #[derive(Debug, PartialEq, Eq, Drop)]
 pub struct SaslCredentials {
+    /// `mechanism LDAPString`
     pub mechanism: LdapString,
+    /// `credentials OCTET STRING OPTIONAL`
     pub credentials: Option<OctetString>,
-    /// The components of newer versions.
+    /// `...`
     pub unknown: Unknown,
 }
+
+/// The components, as they are read.
+type Parts = Required<LdapString, Parts1>;
+
+type Parts1 = Optional<OctetString, Parts2>;
+
+type Parts2 = Required<Unknown, End>;
 
 impl AsnType for SaslCredentials {
     ghost use Rattle.std.specs.Prelude.{refl};
     ghost use Rattle.rasn_types.specs.Tags.{in_universal};
+    ghost use Rattle.rasn_types.specs.Shapes.{seq};
     ghost use Rattle.rasn_types.specs.Trees.{unconstrained};
-    ghost use Rattle.rasn_ldap.specs.Sasl.{sasl_credentials_shape, sasl_credentials_tree};
 
     ghost TAG = { in_universal 16 };
 
@@ -30,9 +34,9 @@ impl AsnType for SaslCredentials {
 
     const CONSTRAINTS: Constraints = Constraints::NONE;
 
-    ghost shape = { sasl_credentials_shape };
+    ghost shape = { seq (in_universal 16) ⟦<Parts as DecodeParts>⟧.parts };
 
-    ghost tree = { sasl_credentials_tree };
+    ghost tree = { λ a. ⟦<Parts as DecodeParts>⟧.tree (record { 0 = a.mechanism; 1 = record { 0 = a.credentials; 1 = record { 0 = a.unknown; 1 = record {} } } }) };
 
     ghost own = { refl };
 }
@@ -55,8 +59,9 @@ impl Decode for SaslCredentials {
         tag: Tag,
         _constraints: &Constraints,
     ) -> Result<SaslCredentials, DecodeError> {
-        let Required(mechanism, Optional(credentials, Required(unknown, End))) =
-            decoder.read_sequence(tag)?;
+        let Required(mechanism, rest) = decoder.read_sequence::<Parts>(tag)?;
+        let Optional(credentials, rest) = rest;
+        let Required(unknown, End) = rest;
         Ok(SaslCredentials {
             mechanism,
             credentials,
@@ -73,13 +78,9 @@ impl Encode for SaslCredentials {
         _constraints: &Constraints,
         _identifier: Identifier,
     ) -> Result<(), EncodeError> {
-        encoder.write_sequence(
-            tag,
-            Put(
-                &self.mechanism,
-                PutOptional(&self.credentials, Put(&self.unknown, End)),
-            ),
-        )
+        let rest = Put(&self.unknown, End);
+        let rest = PutOptional(&self.credentials, rest);
+        encoder.write_sequence(tag, Put(&self.mechanism, rest))
     }
 
     fn is_present(&self) -> bool {

@@ -1,35 +1,58 @@
-//! `SearchRequest ::= [APPLICATION 3] SEQUENCE { baseObject LDAPDN, scope ENUMERATED,
-//! derefAliases ENUMERATED, ..` (RFC 4511, 4.5.1).
-use crate::{DerefAliases, LdapString, MaxInt, SearchScope};
-use rasn::error::{DecodeError, EncodeError};
-use rasn::parts::{End, Put, Required};
-use rasn::types::{Any, AsnType, Class, Constraints, Identifier, LawfulEq, Present, Tag, Unknown};
-use rasn::{Decode, Decoder, Encode, Encoder};
+//! `SearchRequest ::= [APPLICATION 3] IMPLICIT SEQUENCE`
+use crate::{
+    AttributeSelection, Filter, LdapString, MaxInt, SearchRequestDerefAliases, SearchRequestScope,
+};
+use rasn::prelude::*;
 
-/// \[APPLICATION 3\] SEQUENCE { baseObject LDAPDN, scope ENUMERATED, derefAliases ENUMERATED,
-/// sizeLimit INTEGER (0..maxInt), timeLimit INTEGER (0..maxInt), typesOnly BOOLEAN, filter Filter,
-/// attributes SEQUENCE OF LDAPString }
+/// `SearchRequest ::= [APPLICATION 3] IMPLICIT SEQUENCE`
 #[derive(Debug, PartialEq, Eq, Drop)]
 pub struct SearchRequest {
+    /// `baseObject LDAPString`
     pub base_object: LdapString,
-    pub scope: SearchScope,
-    pub deref_aliases: DerefAliases,
+    /// `scope SearchRequest-scope`
+    pub scope: SearchRequestScope,
+    /// `derefAliases SearchRequest-derefAliases`
+    pub deref_aliases: SearchRequestDerefAliases,
+    /// `sizeLimit MaxInt`
     pub size_limit: MaxInt,
+    /// `timeLimit MaxInt`
     pub time_limit: MaxInt,
+    /// `typesOnly BOOLEAN`
     pub types_only: bool,
-    pub filter: Any,
-    pub attributes: Vec<LdapString>,
-    /// The components of newer versions.
+    /// `filter Filter`
+    pub filter: Filter,
+    /// `attributes AttributeSelection`
+    pub attributes: AttributeSelection,
+    /// `...`
     pub unknown: Unknown,
 }
 
+/// The components, as they are read.
+type Parts = Required<LdapString, Parts1>;
+
+type Parts1 = Required<SearchRequestScope, Parts2>;
+
+type Parts2 = Required<SearchRequestDerefAliases, Parts3>;
+
+type Parts3 = Required<MaxInt, Parts4>;
+
+type Parts4 = Required<MaxInt, Parts5>;
+
+type Parts5 = Required<bool, Parts6>;
+
+type Parts6 = Required<Filter, Parts7>;
+
+type Parts7 = Required<AttributeSelection, Parts8>;
+
+type Parts8 = Required<Unknown, End>;
+
 impl AsnType for SearchRequest {
     ghost use Rattle.std.specs.Prelude.{refl};
+    ghost use Rattle.rasn_types.specs.declared.types.tag.Class.TheVariants.{Application};
+    ghost use Rattle.rasn_types.specs.Shapes.{seq};
     ghost use Rattle.rasn_types.specs.Trees.{unconstrained};
-    ghost use Rattle.rasn_ldap.specs.Tags.{application};
-    ghost use Rattle.rasn_ldap.specs.SearchRequest.{search_request_shape, search_request_tree};
 
-    ghost TAG = { application 3 };
+    ghost TAG = { record { class = Application; value = 3 } };
 
     const TAG: Tag = Tag {
         class: Class::Application,
@@ -40,18 +63,20 @@ impl AsnType for SearchRequest {
 
     const CONSTRAINTS: Constraints = Constraints::NONE;
 
-    ghost shape = { search_request_shape };
+    ghost shape = { seq (record { class = Application; value = 3 }) ⟦<Parts as DecodeParts>⟧.parts };
 
-    ghost tree = { search_request_tree };
+    ghost tree = { λ a. ⟦<Parts as DecodeParts>⟧.tree (record { 0 = a.base_object; 1 = record { 0 = a.scope; 1 = record { 0 = a.deref_aliases; 1 = record { 0 = a.size_limit; 1 = record { 0 = a.time_limit; 1 = record { 0 = a.types_only; 1 = record { 0 = a.filter; 1 = record { 0 = a.attributes; 1 = record { 0 = a.unknown; 1 = record {} } } } } } } } } }) };
 
     ghost own = { refl };
 }
 
 impl LawfulEq for SearchRequest {
     ghost use Rattle.rasn_types.specs.Deciding.{deciding};
-    ghost use Rattle.rasn_ldap.specs.contracts.deref_aliases.DerefAliasesLawfulEq.TheImpl.Laws.{decides-law as deref_law};
+    ghost use Rattle.rasn_ldap.specs.contracts.filter.FilterLawfulEq.TheImpl.Laws.{decides-law as filter_law};
+    ghost use Rattle.rasn_ldap.specs.contracts.max_int.MaxIntLawfulEq.TheImpl.Laws.{decides-law as max_int_law};
+    ghost use Rattle.rasn_ldap.specs.contracts.search_request_deref_aliases.SearchRequestDerefAliasesLawfulEq.TheImpl.Laws.{decides-law as search_request_deref_aliases_law};
 
-    ghost decides = { Prim.search (deref_law, deciding) depth 64 };
+    ghost decides = { Prim.search (filter_law, max_int_law, search_request_deref_aliases_law, deciding) depth 64 };
 }
 
 impl Present for SearchRequest {
@@ -66,10 +91,15 @@ impl Decode for SearchRequest {
         tag: Tag,
         _constraints: &Constraints,
     ) -> Result<SearchRequest, DecodeError> {
-        let Required(base_object, Required(scope, Required(deref_aliases, rest))) =
-            decoder.read_sequence(tag)?;
-        let Required(size_limit, Required(time_limit, Required(types_only, rest))) = rest;
-        let Required(filter, Required(attributes, Required(unknown, End))) = rest;
+        let Required(base_object, rest) = decoder.read_sequence::<Parts>(tag)?;
+        let Required(scope, rest) = rest;
+        let Required(deref_aliases, rest) = rest;
+        let Required(size_limit, rest) = rest;
+        let Required(time_limit, rest) = rest;
+        let Required(types_only, rest) = rest;
+        let Required(filter, rest) = rest;
+        let Required(attributes, rest) = rest;
+        let Required(unknown, End) = rest;
         Ok(SearchRequest {
             base_object,
             scope,
@@ -92,18 +122,15 @@ impl Encode for SearchRequest {
         _constraints: &Constraints,
         _identifier: Identifier,
     ) -> Result<(), EncodeError> {
-        let filter = Put(&self.filter, Put(&self.attributes, Put(&self.unknown, End)));
-        let size_limit = Put(
-            &self.size_limit,
-            Put(&self.time_limit, Put(&self.types_only, filter)),
-        );
-        encoder.write_sequence(
-            tag,
-            Put(
-                &self.base_object,
-                Put(&self.scope, Put(&self.deref_aliases, size_limit)),
-            ),
-        )
+        let rest = Put(&self.unknown, End);
+        let rest = Put(&self.attributes, rest);
+        let rest = Put(&self.filter, rest);
+        let rest = Put(&self.types_only, rest);
+        let rest = Put(&self.time_limit, rest);
+        let rest = Put(&self.size_limit, rest);
+        let rest = Put(&self.deref_aliases, rest);
+        let rest = Put(&self.scope, rest);
+        encoder.write_sequence(tag, Put(&self.base_object, rest))
     }
 
     fn is_present(&self) -> bool {

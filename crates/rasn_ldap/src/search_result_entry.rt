@@ -1,28 +1,32 @@
-//! `SearchResultEntry ::= [APPLICATION 4] SEQUENCE { objectName LDAPDN,
-//! attributes PartialAttributeList }` (RFC 4511, 4.5.2).
-use crate::{LdapString, PartialAttribute};
-use rasn::error::{DecodeError, EncodeError};
-use rasn::parts::{End, Put, Required};
-use rasn::types::{AsnType, Class, Constraints, Identifier, LawfulEq, Present, Tag, Unknown};
-use rasn::{Decode, Decoder, Encode, Encoder};
+//! `SearchResultEntry ::= [APPLICATION 4] IMPLICIT SEQUENCE`
+use crate::{LdapString, PartialAttributeList};
+use rasn::prelude::*;
 
-/// \[APPLICATION 4\] SEQUENCE { objectName LDAPDN, attributes SEQUENCE OF PartialAttribute }: an
-/// entry that a search found.
+/// `SearchResultEntry ::= [APPLICATION 4] IMPLICIT SEQUENCE`
 #[derive(Debug, PartialEq, Eq, Drop)]
 pub struct SearchResultEntry {
+    /// `objectName LDAPString`
     pub object_name: LdapString,
-    pub attributes: Vec<PartialAttribute>,
-    /// The components of newer versions.
+    /// `attributes PartialAttributeList`
+    pub attributes: PartialAttributeList,
+    /// `...`
     pub unknown: Unknown,
 }
 
+/// The components, as they are read.
+type Parts = Required<LdapString, Parts1>;
+
+type Parts1 = Required<PartialAttributeList, Parts2>;
+
+type Parts2 = Required<Unknown, End>;
+
 impl AsnType for SearchResultEntry {
     ghost use Rattle.std.specs.Prelude.{refl};
+    ghost use Rattle.rasn_types.specs.declared.types.tag.Class.TheVariants.{Application};
+    ghost use Rattle.rasn_types.specs.Shapes.{seq};
     ghost use Rattle.rasn_types.specs.Trees.{unconstrained};
-    ghost use Rattle.rasn_ldap.specs.Tags.{application};
-    ghost use Rattle.rasn_ldap.specs.SearchResultEntry.{search_result_entry_shape, search_result_entry_tree};
 
-    ghost TAG = { application 4 };
+    ghost TAG = { record { class = Application; value = 4 } };
 
     const TAG: Tag = Tag {
         class: Class::Application,
@@ -33,17 +37,18 @@ impl AsnType for SearchResultEntry {
 
     const CONSTRAINTS: Constraints = Constraints::NONE;
 
-    ghost shape = { search_result_entry_shape };
+    ghost shape = { seq (record { class = Application; value = 4 }) ⟦<Parts as DecodeParts>⟧.parts };
 
-    ghost tree = { search_result_entry_tree };
+    ghost tree = { λ a. ⟦<Parts as DecodeParts>⟧.tree (record { 0 = a.object_name; 1 = record { 0 = a.attributes; 1 = record { 0 = a.unknown; 1 = record {} } } }) };
 
     ghost own = { refl };
 }
 
 impl LawfulEq for SearchResultEntry {
     ghost use Rattle.rasn_types.specs.Deciding.{deciding};
+    ghost use Rattle.rasn_ldap.specs.contracts.partial_attribute.PartialAttributeLawfulEq.TheImpl.Laws.{decides-law as partial_attribute_law};
 
-    ghost decides = { Prim.search deciding depth 64 };
+    ghost decides = { Prim.search (partial_attribute_law, deciding) depth 64 };
 }
 
 impl Present for SearchResultEntry {
@@ -58,8 +63,9 @@ impl Decode for SearchResultEntry {
         tag: Tag,
         _constraints: &Constraints,
     ) -> Result<SearchResultEntry, DecodeError> {
-        let Required(object_name, Required(attributes, Required(unknown, End))) =
-            decoder.read_sequence(tag)?;
+        let Required(object_name, rest) = decoder.read_sequence::<Parts>(tag)?;
+        let Required(attributes, rest) = rest;
+        let Required(unknown, End) = rest;
         Ok(SearchResultEntry {
             object_name,
             attributes,
@@ -76,13 +82,9 @@ impl Encode for SearchResultEntry {
         _constraints: &Constraints,
         _identifier: Identifier,
     ) -> Result<(), EncodeError> {
-        encoder.write_sequence(
-            tag,
-            Put(
-                &self.object_name,
-                Put(&self.attributes, Put(&self.unknown, End)),
-            ),
-        )
+        let rest = Put(&self.unknown, End);
+        let rest = Put(&self.attributes, rest);
+        encoder.write_sequence(tag, Put(&self.object_name, rest))
     }
 
     fn is_present(&self) -> bool {

@@ -1716,44 +1716,50 @@ fn ldap() -> &'static str {
 
 LDAP DEFINITIONS IMPLICIT TAGS EXTENSIBILITY IMPLIED ::= BEGIN
 
--- 4.1.1
+-- 4.1.1, where the CHOICE and the range up to maxInt, which sizeLimit and timeLimit have too (4.5.1), have no
+-- names of their own
 LDAPMessage ::= SEQUENCE {
     messageID                       MessageID,
-    protocolOp                      CHOICE {
-        bindRequest                     BindRequest,
-        bindResponse                    BindResponse,
-        unbindRequest                   UnbindRequest,
-        searchRequest                   SearchRequest,
-        searchResEntry                  SearchResultEntry,
-        searchResDone                   SearchResultDone,
-        searchResRef                    SearchResultReference,
-        modifyRequest                   ModifyRequest,
-        modifyResponse                  ModifyResponse,
-        addRequest                      AddRequest,
-        addResponse                     AddResponse,
-        delRequest                      DelRequest,
-        delResponse                     DelResponse,
-        modDNRequest                    ModifyDNRequest,
-        modDNResponse                   ModifyDNResponse,
-        compareRequest                  CompareRequest,
-        compareResponse                 CompareResponse,
-        abandonRequest                  AbandonRequest,
-        extendedReq                     ExtendedRequest,
-        extendedResp                    ExtendedResponse,
-        ...,
-        intermediateResponse            IntermediateResponse
-    },
+    protocolOp                      ProtocolOp,
     controls                        [0] Controls OPTIONAL
 }
 
-MessageID ::= INTEGER (0..maxInt)
+ProtocolOp ::= CHOICE {
+    bindRequest                     BindRequest,
+    bindResponse                    BindResponse,
+    unbindRequest                   UnbindRequest,
+    searchRequest                   SearchRequest,
+    searchResEntry                  SearchResultEntry,
+    searchResDone                   SearchResultDone,
+    searchResRef                    SearchResultReference,
+    modifyRequest                   ModifyRequest,
+    modifyResponse                  ModifyResponse,
+    addRequest                      AddRequest,
+    addResponse                     AddResponse,
+    delRequest                      DelRequest,
+    delResponse                     DelResponse,
+    modDNRequest                    ModifyDNRequest,
+    modDNResponse                   ModifyDNResponse,
+    compareRequest                  CompareRequest,
+    compareResponse                 CompareResponse,
+    abandonRequest                  AbandonRequest,
+    extendedReq                     ExtendedRequest,
+    extendedResp                    ExtendedResponse,
+    ...,
+    intermediateResponse            IntermediateResponse
+}
+
+MessageID ::= MaxInt
+
+MaxInt ::= INTEGER (0..maxInt)
 
 maxInt INTEGER ::= 2147483647
 
--- 4.1.2
-LDAPString ::= OCTET STRING
+-- 4.1.2: an OCTET STRING whose octets are UTF-8
+LDAPString ::= [UNIVERSAL 4] IMPLICIT UTF8String
 
-LDAPOID ::= OCTET STRING
+-- 4.1.2: digits and periods, in UTF-8
+LDAPOID ::= LDAPString
 
 -- 4.1.3
 LDAPDN ::= LDAPString
@@ -1864,8 +1870,8 @@ SearchRequest ::= [APPLICATION 3] SEQUENCE {
     derefAliases                    ENUMERATED {
         neverDerefAliases(0), derefInSearching(1), derefFindingBaseObj(2), derefAlways(3)
     },
-    sizeLimit                       INTEGER (0..maxInt),
-    timeLimit                       INTEGER (0..maxInt),
+    sizeLimit                       MaxInt,
+    timeLimit                       MaxInt,
     typesOnly                       BOOLEAN,
     filter                          Filter,
     attributes                      AttributeSelection
@@ -2297,6 +2303,9 @@ PDUs ::= CHOICE {
 
 max-bindings INTEGER ::= 2147483647
 
+-- INTEGER (0..max-bindings) of RFC 3416 3, and the range of components in RFC 3412 6 and RFC 3414 2.4
+Unsigned31 ::= INTEGER (0..max-bindings)
+
 PDU ::= SEQUENCE {
     request-id                      INTEGER (-2147483648..2147483647),
     error-status                    INTEGER {
@@ -2305,14 +2314,14 @@ PDU ::= SEQUENCE {
         inconsistentValue(12), resourceUnavailable(13), commitFailed(14), undoFailed(15),
         authorizationError(16), notWritable(17), inconsistentName(18)
     },
-    error-index                     INTEGER (0..max-bindings),
+    error-index                     Unsigned31,
     variable-bindings               VarBindList
 }
 
 BulkPDU ::= SEQUENCE {
     request-id                      INTEGER (-2147483648..2147483647),
-    non-repeaters                   INTEGER (0..max-bindings),
-    max-repetitions                 INTEGER (0..max-bindings),
+    non-repeaters                   Unsigned31,
+    max-repetitions                 Unsigned31,
     variable-bindings               VarBindList
 }
 
@@ -2393,7 +2402,7 @@ SNMPv3Message ::= SEQUENCE {
 }
 
 HeaderData ::= SEQUENCE {
-    msgID                           INTEGER (0..2147483647),
+    msgID                           Unsigned31,
     msgMaxSize                      INTEGER (484..2147483647),
     msgFlags                        OCTET STRING (SIZE (1)),
     msgSecurityModel                INTEGER (1..2147483647)
@@ -2413,8 +2422,8 @@ ScopedPDU ::= SEQUENCE {
 -- RFC 3414 2.4
 UsmSecurityParameters ::= SEQUENCE {
     msgAuthoritativeEngineID        OCTET STRING,
-    msgAuthoritativeEngineBoots     INTEGER (0..2147483647),
-    msgAuthoritativeEngineTime      INTEGER (0..2147483647),
+    msgAuthoritativeEngineBoots     Unsigned31,
+    msgAuthoritativeEngineTime      Unsigned31,
     msgUserName                     OCTET STRING (SIZE (0..32)),
     msgAuthenticationParameters     OCTET STRING,
     msgPrivacyParameters            OCTET STRING

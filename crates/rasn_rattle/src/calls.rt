@@ -36,6 +36,10 @@ pub(crate) fn push_read_arm(
             "{line}\n                {variant}(value),\n            ),\n"
         );
     }
+    let line = format!(in alloc; "            {place} =>")?;
+    if is_short(line.as_str()) {
+        return write!(text, "{line}\n                Ok({variant}(value)),\n");
+    }
     let pattern = pattern(alloc, place)?;
     writeln!(text, "{pattern} => Ok({variant}(value)),")
 }

@@ -1,16 +1,16 @@
 //! A CHOICE (X.680 29) as an enum.
+use crate::alternatives::Placed;
+use crate::beyond::ERRORS_OF_CHOICE;
 use crate::calls::{called, push_read_arm, push_write_arm};
-use crate::layout::push_alias;
+use crate::layout::{comment, push_alias};
 use crate::plan::Plan;
 use crate::template::{Values, push_separator, push_times};
-use crate::twins::alternatives_of;
-use crate::words::variant;
-use rasn_schema::{Alternative, TypeId};
+use rasn_schema::TypeId;
 use std::alloc::{AllocError, Global};
 
 /// An enum with its impls.
 const CHOICE: &str = "@head@@imports@
-@doc@#[derive(Debug, PartialEq, Eq, Drop)]
+@doc@@in_place@#[derive(Debug, PartialEq, Eq, Drop)]
 pub enum @Name@ {
 @variants@}
 
@@ -52,13 +52,15 @@ impl Present for @Name@ {
 }
 @first@
 impl Decode for @Name@ {
+@errors@
     fn decode_with_tag_and_constraints(
         decoder: &mut Decoder<'_>,
         _tag: Tag,
         _constraints: &Constraints,
     ) -> Result<@Name@, DecodeError> {
-        match decoder.read_choice::<Alternatives>(\"@Name@\")? {
-@read@        }
+        match decoder.read_choice::<Alternatives>(\"@Name@\") {
+@read@            Err(error) => Err(error),
+        }
     }
 }
 
@@ -92,6 +94,8 @@ impl FirstTags for @Name@ {
 /// An alternative.
 #[derive(Drop)]
 struct Branch<'schema> {
+    /// The number of the CHOICE that it is an alternative of.
+    choice: usize,
     /// Its name in the notation.
     name: &'schema str,
     /// Its type.
@@ -102,6 +106,8 @@ struct Branch<'schema> {
     variant: String,
     /// The Rattle type of its value.
     expression: String,
+    /// Whether its values hold a GeneralizedTime.
+    holds_time: bool,
     /// Whether it is the unknown alternative.
     is_unknown: bool,
 }
@@ -109,18 +115,27 @@ struct Branch<'schema> {
 impl<'schema> Plan<'schema> {
     /// Returns the text of the file of a CHOICE.
     pub(crate) fn choice_text(&self, id: usize) -> Result<String, AllocError> {
-        let branches = self.branches_of(id)?;
+        let placed = self.placed_of(id)?;
+        let branches = self.branches_of(id, placed.as_slice())?;
         let branches = branches.as_slice();
         let is_open = branches.last().is_some_and(|last| last.is_unknown);
         let laws = self.laws_of(id)?;
-        let imports = self.imports_of(laws.types.as_str(), false, branches.len() > 1)?;
+        let imports = self.imports_of(&laws, false, branches.len() > 1)?;
         let (name, _file) = self.names_of(id);
         let mut values = self.values_of(id)?;
         values.add_str("choice", if is_open { "open_choice" } else { "choice" })?;
         values.add("first", self.first_tags_text(name, is_open)?)?;
         values.add("imports", imports)?;
-        values.add("variants", self.variants_text(id, branches)?)?;
-        values.add("names", names_text(self.alloc, branches)?)?;
+        values.add("in_place", self.in_place_text(placed.as_slice())?)?;
+        values.add("variants", self.variants_text(branches)?)?;
+        let names = names_text(self.alloc, branches)?;
+        let kept = self.kept_text(branches)?;
+        values.add(
+            "beyond",
+            self.beyond_of_choice(id, names.as_str(), kept.as_str())?,
+        )?;
+        values.add("errors", values.filled(ERRORS_OF_CHOICE)?)?;
+        values.add("names", names)?;
         values.add("read_types", types_text(self.alloc, branches, false)?)?;
         values.add("write_types", types_text(self.alloc, branches, true)?)?;
         values.add("trees", trees_text(self.alloc, branches)?)?;
@@ -136,34 +151,64 @@ impl<'schema> Plan<'schema> {
     }
 
     /// Returns the alternatives of a CHOICE.
-    fn branches_of(&self, id: usize) -> Result<Vec<Branch<'schema>>, AllocError> {
+    fn branches_of(
+        &self,
+        id: usize,
+        placed: &[Placed<'schema>],
+    ) -> Result<Vec<Branch<'schema>>, AllocError> {
         let mut branches = Vec::new(self.alloc);
-        for alternative in alternatives_of(self.type_of(id)) {
-            branches.push(self.branch_of(id, alternative)?)?;
+        let variants = self.variants_of(placed)?;
+        for (alternative, variant) in placed.iter().zip(variants) {
+            branches.push(self.branch_of(id, alternative, variant)?)?;
         }
         Ok(branches)
     }
 
-    /// Returns an alternative of a CHOICE.
+    /// Returns an alternative of a CHOICE, which has a variant with this name unless it is the
+    /// unknown one.
     fn branch_of(
         &self,
         id: usize,
-        alternative: &'schema Alternative,
+        alternative: &Placed<'schema>,
+        variant: String,
     ) -> Result<Branch<'schema>, AllocError> {
         let is_unknown = !self.has_tag(alternative.type_id);
         let variant = if is_unknown {
             String::from_str(self.alloc, "Unknown")?
         } else {
-            variant(self.alloc, alternative.name.as_str())?
+            variant
         };
         Ok(Branch {
-            name: alternative.name.as_str(),
+            choice: alternative.choice,
+            name: alternative.name,
             type_id: alternative.type_id,
             reason: self.leads_back(id, alternative.type_id)?,
             variant,
             expression: self.expression(id, alternative.type_id)?,
+            holds_time: self.holds_time(id, alternative.type_id.0)?,
             is_unknown,
         })
+    }
+
+    /// Returns a comment on the alternatives that are a CHOICE, if there are any.
+    fn in_place_text(&self, placed: &[Placed<'_>]) -> Result<String, AllocError> {
+        let mut names = String::new(self.alloc);
+        let mut last = "";
+        for alternative in placed {
+            if alternative.outer != last && !alternative.outer.is_empty() {
+                push_separator(&mut names, ", ")?;
+                write!(names, "`{}`", alternative.outer)?;
+            }
+            last = alternative.outer;
+        }
+        if names.is_empty() {
+            return Ok(names);
+        }
+        let text = format!(in self.alloc;
+            "An alternative that is a CHOICE is written as its alternatives: {names}."
+        )?;
+        let lines = comment(self.alloc, "///", text.as_str())?;
+        format!(in self.alloc; "///\n{lines}")
     }
 
     /// Returns the impl by which a CHOICE is distinguished from other parts, unless any tag may
@@ -177,11 +222,21 @@ impl<'schema> Plan<'schema> {
         values.filled(FIRST)
     }
 
-    /// Returns the variants, with the notation of each.
-    fn variants_text(&self, id: usize, branches: &[Branch<'_>]) -> Result<String, AllocError> {
+    /// Returns what the values of the alternatives keep.
+    fn kept_text(&self, branches: &[Branch<'_>]) -> Result<String, AllocError> {
         let mut text = String::new(self.alloc);
         for branch in branches {
-            let notation = self.part_notation(id, branch.name, branch.type_id)?;
+            let (variant, ty) = (branch.variant.as_str(), branch.expression.as_str());
+            self.push_kept(&mut text, variant, ty, branch.holds_time)?;
+        }
+        Ok(text)
+    }
+
+    /// Returns the variants, with the notation of each.
+    fn variants_text(&self, branches: &[Branch<'_>]) -> Result<String, AllocError> {
+        let mut text = String::new(self.alloc);
+        for branch in branches {
+            let notation = self.part_notation(branch.choice, branch.name, branch.type_id)?;
             let (variant, ty) = (branch.variant.as_str(), branch.expression.as_str());
             writeln!(text, "{notation}{}    {variant}({ty}),", branch.reason)?;
         }
@@ -240,7 +295,7 @@ fn decided_text(
 fn read_text(alloc: Global, name: &str, branches: &[Branch<'_>]) -> Result<String, AllocError> {
     let mut text = String::new(alloc);
     for (index, branch) in branches.iter().enumerate() {
-        let words = words_of(alloc, index, branches)?;
+        let words = words_of(alloc, Some("Ok("), index, branches)?;
         let place = called(alloc, words.as_slice())?;
         let variant = format!(in alloc; "{name}::{}", branch.variant.as_str())?;
         push_read_arm(&mut text, place.as_str(), variant.as_str())?;
@@ -252,20 +307,25 @@ fn read_text(alloc: Global, name: &str, branches: &[Branch<'_>]) -> Result<Strin
 fn write_text(alloc: Global, name: &str, branches: &[Branch<'_>]) -> Result<String, AllocError> {
     let mut text = String::new(alloc);
     for (index, branch) in branches.iter().enumerate() {
-        let words = words_of(alloc, index, branches)?;
+        let words = words_of(alloc, None, index, branches)?;
         let pattern = format!(in alloc; "{name}::{}(value)", branch.variant.as_str())?;
         push_write_arm(&mut text, pattern.as_str(), words.as_slice())?;
     }
     Ok(text)
 }
 
-/// Returns the calls around the value of an alternative, as those of `Other(This(value))`.
+/// Returns the calls around the value of an alternative, as those of `Other(This(value))`, within
+/// the first one, if there is one.
 fn words_of(
     alloc: Global,
+    first: Option<&'static str>,
     index: usize,
     branches: &[Branch<'_>],
 ) -> Result<Vec<&'static str>, AllocError> {
     let mut words = Vec::new(alloc);
+    if let Some(first) = first {
+        words.push(first)?;
+    }
     for _ in 0..index {
         words.push("Other(")?;
     }

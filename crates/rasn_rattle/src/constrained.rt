@@ -52,7 +52,7 @@ impl Present for @Name@ {
 }
 
 impl Decode for @Name@ {
-    fn decode_with_tag_and_constraints(
+@beyond@    fn decode_with_tag_and_constraints(
         decoder: &mut Decoder<'_>,
         tag: Tag,
         constraints: &Constraints,
@@ -97,7 +97,7 @@ impl Plan<'_> {
         let ty = self.type_of(id);
         let laws = self.laws_of(id)?;
         let mut values = self.values_of(id)?;
-        let imports = self.imports_of(laws.types.as_str(), false, false)?;
+        let imports = self.imports_of(&laws, false, false)?;
         values.add("imports", imports)?;
         let (bits_use, search) = search_of(ty, laws.search.as_str());
         values.add_str("bits_use", bits_use)?;
@@ -105,6 +105,7 @@ impl Plan<'_> {
         values.add_str("laws", laws.uses.as_str())?;
         values.add_str("present", present_text(ty))?;
         let inner = self.inner_text(id, ty)?;
+        values.add("beyond", self.beyond_of_constrained(id, inner.as_str())?)?;
         add_field(&mut values, inner.as_str(), &constraints_of(ty))?;
         values.filled(CONSTRAINED)
     }

@@ -81,6 +81,9 @@ impl Plan<'_> {
         id: usize,
         value: &Value<'_>,
     ) -> Result<Option<(String, String)>, AllocError> {
+        if self.retagged.contains_key(&self.twin_or_self(id)) {
+            return Ok(None);
+        }
         match value {
             Value::Boolean(truth) => self.default_number(id, i128::from(*truth)),
             Value::Integer(integer) => match integer.to_i128() {

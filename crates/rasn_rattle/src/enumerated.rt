@@ -137,7 +137,7 @@ impl Plan<'_> {
         let ty = self.extensible_type(self.type_of(id), named.as_str())?;
         let mut values = Values::new(self.alloc);
         values.add_str("doc", "/// The names of the numbers.\n")?;
-        values.add_str("crate", self.crate_name)?;
+        values.add_str("crate", self.options.crate_name.as_str())?;
         values.add_str("file", file)?;
         self.add_numbers(&mut values, named.as_str(), names)?;
         values.add("Name", named)?;

@@ -94,13 +94,19 @@ impl Plan<'_> {
         self.type_of(id.0).tag() != Tag::EOC
     }
 
+    /// Returns whether a part is an open type without a tag of its own, as the unknown alternative
+    /// of a CHOICE with an extension marker is.
+    fn is_unknown_value(&self, id: TypeId) -> bool {
+        matches!(self.type_of(id.0), Type::Any { .. }) && !self.has_tag(id)
+    }
+
     /// Returns whether a part is a CHOICE without an extension marker.
     pub(crate) fn is_closed_choice(&self, id: TypeId) -> bool {
         let ty = self.type_of(id.0);
         matches!(ty, Type::Choice { .. })
             && alternatives_of(ty)
                 .last()
-                .is_none_or(|last| self.has_tag(last.type_id))
+                .is_none_or(|last| !self.is_unknown_value(last.type_id))
     }
 }
 

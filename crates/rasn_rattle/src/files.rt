@@ -3,9 +3,12 @@ ghost use Rattle.std.specs.Prelude.{◌≡◌, true, IfOk};
 ghost use Rattle.rasn_rattle.specs.Files.{EndsWithLib};
 ghost use Rattle.rasn_rattle.specs.Words.{is_word};
 
+use crate::held_types::Held;
 use crate::kinds::{is_alias, is_extensible};
+use crate::options::Options;
 use crate::output::File;
 use crate::plan::{Naming, Plan};
+use crate::tags::tag_type;
 use crate::template::push_times;
 use rasn_compiler::Resolved;
 use rasn_schema::{Schema, Type, TypeId, TypeName};
@@ -13,26 +16,26 @@ use rasn_types::types::Tag;
 use std::alloc::{AllocError, Global};
 use std::collections::BTreeMap;
 
-/// Returns the files of a crate with this name: a file for each type that the first components of
-/// the resolved type are made of, as many as `wanted`, and at last `lib`, which lists the others.
+/// Returns the files of a crate: a file for each wanted type among those that the resolved type
+/// holds, and for what it is made of, and at last `lib`, which lists the others.
 /// A type that can't be written is an open type, and a comment in its file says why.
 ///
 /// # Errors
 /// `AllocError` if memory runs out.
 pub fn crate_files(
-    alloc: Global,
+    options: &Options,
     resolved: Resolved,
-    wanted: usize,
-    crate_name: &str,
+    held: &Held,
 ) -> Result<Vec<File>, AllocError>
     ensures { IfOk result (λ files. EndsWithLib files.items) }
 {
+    let alloc = options.alloc;
     let Resolved {
         schema,
         root,
         unchecked,
     } = resolved;
-    let names = notation_names(alloc, &schema, crate_name, root)?;
+    let names = notation_names(options, &schema, root)?;
     let resolved = Resolved {
         schema: schema.with_names(names),
         root,
@@ -40,9 +43,11 @@ pub fn crate_files(
     };
     let module = format!(in alloc; "{}", resolved.notation(alloc)?)?;
     let none = Type::Unknown;
-    let mut plan = Plan::new(alloc, &resolved.schema, crate_name, root, &none)?;
+    let mut plan = Plan::new(options, &resolved.schema, root, &none)?;
     plan.module = module;
-    plan.reached = plan.reached_by(wanted)?;
+    plan.foreign = plan.foreign_by(held)?;
+    plan.reached = plan.reached_by(held.wanted)?;
+    plan.find_timed()?;
     plan.find_lines()?;
     plan.show_unnamed()?;
     plan.find_lines()?;
@@ -51,13 +56,13 @@ pub fn crate_files(
 
 /// Returns names for all types that a file is written for.
 fn notation_names(
-    alloc: Global,
+    options: &Options,
     schema: &Schema,
-    crate_name: &str,
     root: TypeId,
 ) -> Result<Vec<TypeName>, AllocError> {
     let none = Type::Unknown;
-    let plan = Plan::new(alloc, schema, crate_name, root, &none)?;
+    let alloc = options.alloc;
+    let plan = Plan::new(options, schema, root, &none)?;
     let mut names = Vec::new(alloc);
     for (id, naming) in plan.names.iter() {
         names.push(TypeName {
@@ -88,6 +93,16 @@ impl Files {
         let line = format!(in alloc; "pub use {name}::{shown};\n")?;
         self.uses.insert(name.replace(alloc, "_", "!")?, line)?;
         self.files.push(file)?;
+        Ok(())
+    }
+
+    /// Adds that the crate has files that are written by hand.
+    fn push_also(&mut self, alloc: Global, options: &Options) -> Result<(), AllocError> {
+        for name in &options.also {
+            let line = format!(in alloc; "pub mod {};\n", name.as_str())?;
+            self.mods
+                .insert(String::from_str(alloc, name.as_str())?, line)?;
+        }
         Ok(())
     }
 
@@ -125,6 +140,7 @@ impl Plan<'_> {
         ensures { IfOk result (λ files. EndsWithLib files.items) }
     {
         let mut written = self.type_files()?;
+        written.push_also(self.alloc, self.options)?;
         self.push_open(&mut written, "OpenSequence", "open_sequence", Tag::SEQUENCE)?;
         self.push_open(&mut written, "OpenSet", "open_set", Tag::SET)?;
         let lib = File {
@@ -144,7 +160,7 @@ impl Plan<'_> {
             uses: BTreeMap::new(self.alloc),
         };
         for (id, naming) in self.names.iter() {
-            if self.reached.contains(id) {
+            if self.reached.contains(id) && !self.foreign.contains_key(id) {
                 let file = self.file_of(*id, naming)?;
                 let shown = self.shown_of(*id, naming.rust.as_str())?;
                 written.push(self.alloc, file, shown.as_str())?;
@@ -155,7 +171,7 @@ impl Plan<'_> {
 
     /// Returns the file of a type.
     fn file_of(&self, id: usize, naming: &Naming) -> Result<File, AllocError> {
-        let text = self.text_of(id)?;
+        let text = self.with_message(id, self.text_of(id)?)?;
         let name = String::from_str(self.alloc, naming.file.as_str())?;
         Ok(File { name, text })
     }
@@ -173,6 +189,9 @@ impl Plan<'_> {
         if let Some(reason) = self.reason_against(id)? {
             return self.open_text(id, reason);
         }
+        if let Some(twin) = self.retagged.get(&id) {
+            return self.retagged_text(id, *twin);
+        }
         let ty = self.type_of(id);
         match ty {
             Type::Sequence { .. } | Type::Set { .. } => self.struct_text(id),
@@ -187,7 +206,7 @@ impl Plan<'_> {
     /// Returns the text of the file of another name of a type.
     fn alias_text(&self, id: usize, ty: &Type) -> Result<String, AllocError> {
         let laws = self.laws_of(id)?;
-        let imports = self.imports_of(laws.types.as_str(), false, false)?;
+        let imports = self.imports_of(&laws, false, false)?;
         let mut text = String::new(self.alloc);
         let (opened, inner) = self.push_unnamed(&mut text, ty)?;
         if let Some(inner) = inner {
@@ -198,6 +217,22 @@ impl Plan<'_> {
         let (head, doc) = (values.value_of("head"), values.value_of("doc"));
         let (name, _file) = self.names_of(id);
         format!(in self.alloc; "{head}{imports}\n{doc}pub type {name} = {text};\n")
+    }
+
+    /// Returns the text of the file of a type that is another one under another tag.
+    fn retagged_text(&self, id: usize, twin: usize) -> Result<String, AllocError> {
+        let tag = tag_type(self.alloc, self.type_of(id).tag())?;
+        let (inner, _file) = self.names_of(twin);
+        let imports = match self.foreign_crate(twin) {
+            Some(from) => format!(in self.alloc; "use rasn::prelude::*;\nuse {from}::{inner};\n")?,
+            None => format!(in self.alloc; "use crate::{inner};\nuse rasn::prelude::*;\n")?,
+        };
+        let values = self.values_of(id)?;
+        let (head, doc) = (values.value_of("head"), values.value_of("doc"));
+        let (name, _file) = self.names_of(id);
+        format!(in self.alloc;
+            "{head}{imports}\n{doc}pub type {name} = Implicit<{tag}, {inner}>;\n"
+        )
     }
 
     /// Returns the text of the file of a type that is written as an open type, and why.

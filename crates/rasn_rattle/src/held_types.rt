@@ -1,6 +1,7 @@
 //! A module that holds the types of others.
 ghost use Rattle.std.specs.Prelude.{◌≡◌, IfOk};
 
+use crate::options::Options;
 use rasn_compiler::{Assigned, Assignment, Module, Modules};
 use std::alloc::{AllocError, Global};
 use std::collections::BTreeSet;
@@ -13,8 +14,17 @@ pub const HOLDER_NAMES: (&str, &str) = ("Soqavise-Holder", "Soqavise-Held");
 pub struct Holder {
     /// The text of the module [`HOLDER_NAMES`].
     pub text: String,
+    /// What its components are.
+    pub held: Held,
+}
+
+/// What the components of a holder are.
+#[derive(Drop)]
+pub struct Held {
     /// The number of components, the first ones, for which files are written.
     pub wanted: usize,
+    /// The components, by their numbers, whose types another crate has, with its name.
+    pub(crate) foreign: Vec<(usize, String)>,
 }
 
 /// What the text of a holder is made of.
@@ -24,6 +34,7 @@ struct Parts {
     imports: String,
     components: String,
     names: BTreeSet<String>,
+    foreign: Vec<(usize, String)>,
 }
 
 /// Returns a module whose type holds each type without parameters of the first modules, as many as
@@ -32,28 +43,35 @@ struct Parts {
 ///
 /// # Errors
 /// `AllocError` if memory runs out.
-pub fn holder_of(alloc: Global, read: &Modules<'_>, wanted: usize) -> Result<Holder, AllocError>
-    ensures { wanted ≡ 0 → IfOk result (λ holder. holder.wanted ≡ 0) }
+pub fn holder_of(options: &Options, read: &Modules<'_>, wanted: usize) -> Result<Holder, AllocError>
+    ensures { wanted ≡ 0 → IfOk result (λ holder. holder.held.wanted ≡ 0) }
 {
+    let alloc = options.alloc;
     let imported = imported(alloc, read, wanted)?;
     let mut parts = Parts {
         alloc,
         imports: String::new(alloc),
         components: String::new(alloc),
         names: BTreeSet::new(alloc),
+        foreign: Vec::new(alloc),
     };
     let mut count = 0;
     for (index, module) in read.modules.iter().enumerate() {
-        if index < wanted || imported.contains(module.name) {
-            parts.add_module(read, module)?;
-        }
         if index < wanted {
+            parts.add_module(read, module)?;
             count = parts.names.len();
+        } else if imported.contains(module.name) {
+            parts.add_imported(options, read, module)?;
         }
     }
+    let text = parts.text()?;
+    let Parts { foreign, .. } = parts;
     Ok(Holder {
-        text: parts.text()?,
-        wanted: count,
+        text,
+        held: Held {
+            wanted: count,
+            foreign,
+        },
     })
 }
 
@@ -111,6 +129,24 @@ impl Parts {
         }
         if self.names.len() > before {
             write!(self.imports, " FROM {}", module.name)?;
+        }
+        Ok(())
+    }
+
+    /// Adds the types of a module that is imported, which another crate may have.
+    fn add_imported(
+        &mut self,
+        options: &Options,
+        read: &Modules<'_>,
+        module: &Module<'_>,
+    ) -> Result<(), AllocError> {
+        let before = self.names.len();
+        self.add_module(read, module)?;
+        if let Some(crate_name) = options.crate_of(module.name) {
+            for number in before..self.names.len() {
+                let name = String::from_str(self.alloc, crate_name)?;
+                self.foreign.push((number, name))?;
+            }
         }
         Ok(())
     }

@@ -1,5 +1,6 @@
 //! Which types have a file, and how it is written.
 use crate::integers::integer_word;
+use crate::tags::universal_type;
 use rasn_schema::{LeafKind, Type};
 use rasn_types::types::{Class, Constraints, Tag};
 
@@ -16,6 +17,7 @@ pub(crate) fn has_file(ty: &Type) -> bool {
                 || is_extensible(ty)
                 || (*kind == LeafKind::NamedBits && !names.is_empty())
                 || is_other_string(*kind, *tag)
+                || has_other_tag(*tag)
         }
         Type::SequenceOf { constraints, .. } | Type::SetOf { constraints, .. } => {
             *constraints != Constraints::NONE
@@ -54,4 +56,9 @@ fn is_other_string(kind: LeafKind, tag: Tag) -> bool {
     kind == LeafKind::AnyOctets
         && tag.class == Class::Universal
         && !matches!(tag.value, 20 | 25 | 27)
+}
+
+/// Returns whether a tag is a universal one that no type has whose values hold no others.
+fn has_other_tag(tag: Tag) -> bool {
+    tag.class == Class::Universal && tag != Tag::EOC && universal_type(tag).is_none()
 }

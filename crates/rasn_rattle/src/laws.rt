@@ -1,7 +1,7 @@
 //! The laws of the types that a type is made of, which its own law follows from.
 use crate::expression::open_word;
 use crate::kinds::is_alias;
-use crate::members::{Member, inner_of, members_of};
+use crate::members::inner_of;
 use crate::plan::Plan;
 use crate::template::push_separator;
 use rasn_schema::{Type, TypeId};
@@ -16,8 +16,10 @@ pub(crate) struct Laws {
     pub(crate) uses: String,
     /// The term that finds the law.
     pub(crate) search: String,
-    /// The types that are imported, with commas between them.
+    /// The types of the crate that are imported, with commas between them.
     pub(crate) types: String,
+    /// Those of other crates, with commas between them, by the names of these.
+    pub(crate) foreign: BTreeMap<String, String>,
 }
 
 /// Which laws of a type are needed.
@@ -32,9 +34,9 @@ struct Needs {
 /// The types that the types of parts name.
 #[derive(Drop)]
 struct Found {
-    /// Those with laws, by their names, with their files and what is needed.
-    own: BTreeMap<String, (String, Needs)>,
-    /// All.
+    /// Those with laws, by their names, with their crates and files, and what is needed.
+    own: BTreeMap<String, (String, String, Needs)>,
+    /// All, as `crate::Account`.
     shown: BTreeSet<String>,
 }
 
@@ -46,7 +48,7 @@ impl Plan<'_> {
             shown: BTreeSet::new(self.alloc),
         };
         let ty = self.type_of(of);
-        let members = members_of(self.alloc, ty)?;
+        let members = self.placed_members_of(of)?;
         for member in &members {
             let needs = Needs {
                 present: member.is_optional,
@@ -77,6 +79,10 @@ impl Plan<'_> {
                 }
                 self.add_name(id, needs, is_shown, found)?;
                 is_shown = false;
+                if let Some(twin) = self.retagged.get(&id) {
+                    id = *twin;
+                    continue;
+                }
                 if !is_alias(ty) {
                     return Ok(());
                 }
@@ -98,35 +104,42 @@ impl Plan<'_> {
         is_shown: bool,
         found: &mut Found,
     ) -> Result<(), AllocError> {
-        let (name, file) = self.names_of(id);
+        let (name, _file) = self.names_of(id);
         if is_shown {
-            found.shown.insert(String::from_str(self.alloc, name)?)?;
+            let from = self.foreign_crate(id).unwrap_or("crate");
+            found
+                .shown
+                .insert(format!(in self.alloc; "{from}::{name}")?)?;
         }
         let ty = self.type_of(id);
         let is_open = matches!(ty, Type::Choice { .. }) && self.reason_against(id)?.is_some();
-        if is_alias(ty) || is_open {
+        if is_alias(ty) || is_open || self.retagged.contains_key(&id) {
             return Ok(());
         }
-        self.add_laws(name, file, needs, found)
+        let crate_name = self.options.crate_name.as_str();
+        let from = self.foreign_crate(id).unwrap_or(crate_name);
+        self.add_laws(from, self.names_of(id), needs, found)
     }
 
-    /// Adds what is needed of a type.
+    /// Adds what is needed of a type of a crate, whose name and file these are.
     fn add_laws(
         &self,
-        name: &str,
-        file: &str,
+        from: &str,
+        names: (&str, &str),
         needs: Needs,
         found: &mut Found,
     ) -> Result<(), AllocError> {
+        let (name, file) = names;
         let mut all = needs;
-        if let Some((_file, known)) = found.own.get(name) {
+        if let Some((_from, _file, known)) = found.own.get(name) {
             all.present = all.present || known.present;
             all.equivalence = all.equivalence || known.equivalence;
         }
+        let from = String::from_str(self.alloc, from)?;
         let file = String::from_str(self.alloc, file)?;
         found
             .own
-            .insert(String::from_str(self.alloc, name)?, (file, all))?;
+            .insert(String::from_str(self.alloc, name)?, (from, file, all))?;
         Ok(())
     }
 
@@ -138,16 +151,18 @@ impl Plan<'_> {
             "OpenSet" => "open_set",
             _ => return Ok(()),
         };
-        found.shown.insert(String::from_str(self.alloc, word)?)?;
-        self.add_laws(word, file, needs, found)
+        found
+            .shown
+            .insert(format!(in self.alloc; "crate::{word}")?)?;
+        self.add_laws(self.options.crate_name.as_str(), (word, file), needs, found)
     }
 
     /// Returns the laws of the types that were found.
     fn laws_by(&self, found: &Found) -> Result<Laws, AllocError> {
         let mut uses = String::new(self.alloc);
         let mut names = String::new(self.alloc);
-        for (name, (file, needs)) in found.own.iter() {
-            let from = format!(in self.alloc; "{}.specs.contracts.{file}.{name}", self.crate_name)?;
+        for (name, (from, file, needs)) in found.own.iter() {
+            let from = format!(in self.alloc; "{from}.specs.contracts.{file}.{name}")?;
             let from = from.as_str();
             push_law(&mut uses, from, "LawfulEq", "decides", file, "law")?;
             write!(names, "{file}_law, ")?;
@@ -163,7 +178,8 @@ impl Plan<'_> {
         Ok(Laws {
             uses,
             search: self.search_by(names.as_str())?,
-            types: self.types_by(found)?,
+            types: self.types_of("crate", found)?,
+            foreign: self.foreign_types(found)?,
         })
     }
 
@@ -175,14 +191,32 @@ impl Plan<'_> {
         format!(in self.alloc; "Prim.search ({names}deciding) depth 64")
     }
 
-    /// Returns the types that are imported, with commas between them.
-    fn types_by(&self, found: &Found) -> Result<String, AllocError> {
+    /// Returns the types that are imported from a crate, with commas between them.
+    fn types_of(&self, from: &str, found: &Found) -> Result<String, AllocError> {
         let mut types = String::new(self.alloc);
-        for name in found.shown.iter() {
-            push_separator(&mut types, ", ")?;
-            types.push_str(name)?;
+        for shown in found.shown.iter() {
+            if let Some((crate_name, name)) = shown.as_str().split_once("::") {
+                if crate_name == from {
+                    push_separator(&mut types, ", ")?;
+                    types.push_str(name)?;
+                }
+            }
         }
         Ok(types)
+    }
+
+    /// Returns the types that are imported from other crates, by the names of these.
+    fn foreign_types(&self, found: &Found) -> Result<BTreeMap<String, String>, AllocError> {
+        let mut foreign = BTreeMap::new(self.alloc);
+        for shown in found.shown.iter() {
+            if let Some((from, _name)) = shown.as_str().split_once("::") {
+                if from != "crate" {
+                    let types = self.types_of(from, found)?;
+                    foreign.insert(String::from_str(self.alloc, from)?, types)?;
+                }
+            }
+        }
+        Ok(foreign)
     }
 }
 

@@ -33,18 +33,18 @@ pub(crate) fn comment(alloc: Global, prefix: &str, text: &str) -> Result<String,
     Ok(lines)
 }
 
-/// Returns the line that imports types of the crate, which have commas between them, or lines if it
-/// is long.
-pub(crate) fn import(alloc: Global, types: &str) -> Result<String, AllocError> {
+/// Returns the line that imports types of a crate, which have commas between them, or lines if it is
+/// long.
+pub(crate) fn import(alloc: Global, from: &str, types: &str) -> Result<String, AllocError> {
     let line = if types.contains(", ") {
-        format!(in alloc; "use crate::{{{types}}};\n")?
+        format!(in alloc; "use {from}::{{{types}}};\n")?
     } else {
-        format!(in alloc; "use crate::{types};\n")?
+        format!(in alloc; "use {from}::{types};\n")?
     };
     if columns(line.as_str()) < COLUMNS {
         return Ok(line);
     }
-    let mut lines = String::from_str(alloc, "use crate::{\n   ")?;
+    let mut lines = format!(in alloc; "use {from}::{{\n   ")?;
     let mut width: usize = 3;
     for name in types.split(", ") {
         let added = columns(name).saturating_add(2);

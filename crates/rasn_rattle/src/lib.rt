@@ -2,6 +2,8 @@
 //! enum, and with the impls by which it is read and written, which are proved as they are.
 #![tactic(auto)]
 
+mod alternatives;
+mod beyond;
 mod bounds;
 mod calls;
 mod choice;
@@ -16,7 +18,9 @@ mod kinds;
 mod laws;
 mod layout;
 mod members;
+mod message;
 mod notation;
+mod options;
 mod output;
 mod parts;
 mod plan;
@@ -29,5 +33,6 @@ mod twins;
 mod words;
 
 pub use files::crate_files;
-pub use held_types::{HOLDER_NAMES, Holder, holder_of};
+pub use held_types::{HOLDER_NAMES, Held, Holder, holder_of};
+pub use options::{Options, is_crate_name};
 pub use output::File;

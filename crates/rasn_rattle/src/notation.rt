@@ -1,4 +1,5 @@
 //! The notation of types and parts (X.680), for documentation.
+use crate::laws::Laws;
 use crate::layout::{comment, import};
 use crate::plan::Plan;
 use crate::tags::{add_tag, notation_of_tag};
@@ -11,6 +12,10 @@ impl<'schema> Plan<'schema> {
     /// Returns the notation of a type, in a line or its beginning, or its name if the module
     /// doesn't have it, as EXTERNAL (X.680 37.5).
     pub(crate) fn notation_of(&self, id: usize) -> Result<String, AllocError> {
+        if let (Some(twin), Some(naming)) = (self.retagged.get(&id), self.names.get(&id)) {
+            let shown = self.shown_twin(self.type_of(id).tag(), *twin)?;
+            return format!(in self.alloc; "`{} ::= {shown}`", naming.notation.as_str());
+        }
         let line = self.lines_of(id).lines().next().unwrap_or("");
         if line.is_empty() {
             let (name, _file) = self.names_of(id);
@@ -28,7 +33,7 @@ impl<'schema> Plan<'schema> {
         let mut values = Values::new(self.alloc);
         values.add_str("Name", name)?;
         values.add_str("file", file)?;
-        values.add_str("crate", self.crate_name)?;
+        values.add_str("crate", self.options.crate_name.as_str())?;
         values.add("head", comment(self.alloc, "//!", notation.as_str())?)?;
         values.add("doc", comment(self.alloc, "///", notation.as_str())?)?;
         add_tag(&mut values, self.type_of(id).tag())?;
@@ -162,18 +167,21 @@ impl<'schema> Plan<'schema> {
     /// Returns the lines that import what a file uses.
     pub(crate) fn imports_of(
         &self,
-        types: &str,
+        laws: &Laws,
         has_defaults: bool,
         is_choice: bool,
     ) -> Result<String, AllocError> {
         let mut text = String::new(self.alloc);
-        if !types.is_empty() {
-            text.push_str(import(self.alloc, types)?.as_str())?;
+        if !laws.types.is_empty() {
+            text.push_str(import(self.alloc, "crate", laws.types.as_str())?.as_str())?;
         }
         if is_choice {
             text.push_str("use rasn::parts::OneOf::{Other, This};\n")?;
         }
         text.push_str("use rasn::prelude::*;\n")?;
+        for (crate_name, types) in laws.foreign.iter() {
+            text.push_str(import(self.alloc, crate_name, types)?.as_str())?;
+        }
         if has_defaults {
             text.push_str("use std::alloc::{AllocError, Global};\n")?;
         }

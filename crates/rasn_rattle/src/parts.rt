@@ -3,7 +3,7 @@ use crate::defaults::{DefaultText, default_name, push_default};
 use crate::layout::push_alias;
 use crate::plan::Plan;
 use crate::template::{push_separator, push_times};
-use crate::words::snake;
+use crate::words::field_name;
 use rasn_schema::{Component, Presence, Type, TypeId, components_of};
 use std::alloc::{AllocError, Global};
 
@@ -52,7 +52,7 @@ impl<'schema> Plan<'schema> {
         let field = if is_unknown {
             String::from_str(self.alloc, "unknown")?
         } else {
-            snake(self.alloc, component.name.as_str())?
+            field_name(self.alloc, component.name.as_str())?
         };
         let expression = self.expression(id, component.type_id)?;
         let part = Part {

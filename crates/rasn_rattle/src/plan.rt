@@ -5,10 +5,11 @@ ghost use Rattle.rasn_rattle.specs.Words.{is_word};
 
 use crate::kinds::{has_file, is_extensible};
 use crate::members::{Member, inner_of, members_of};
+use crate::options::Options;
 use crate::twins::is_same_but_tag;
 use crate::words::{camel, snake};
 use rasn_schema::{Schema, Type, TypeId, type_at};
-use rasn_types::types::Class;
+use rasn_types::types::{Class, Tag};
 use std::alloc::{AllocError, Global};
 use std::collections::{BTreeMap, BTreeSet};
 
@@ -29,18 +30,24 @@ pub(crate) struct Naming {
 pub(crate) struct Plan<'schema> {
     pub(crate) alloc: Global,
     pub(crate) schema: &'schema Schema,
-    /// The name of the crate that is written.
-    pub(crate) crate_name: &'schema str,
+    /// How the crate is written.
+    pub(crate) options: &'schema Options,
     /// The types that have a file, by their numbers.
     pub(crate) names: BTreeMap<usize, Naming>,
     /// The types that are another one under another tag, which has a file.
     pub(crate) twins: BTreeMap<usize, usize>,
+    /// The types with a name that are another one under another tag, as `[0] IMPLICIT Account`.
+    pub(crate) retagged: BTreeMap<usize, usize>,
     /// The types as a module.
     pub(crate) module: String,
     /// The lines of each type in the module, by its name.
     pub(crate) lines: BTreeMap<String, String>,
     /// The types that files are written for.
     pub(crate) reached: BTreeSet<usize>,
+    /// The types whose values hold a GeneralizedTime.
+    pub(crate) timed: BTreeSet<usize>,
+    /// The types that other crates have, with the names of these.
+    pub(crate) foreign: BTreeMap<usize, String>,
     /// What has no type.
     none: &'schema Type,
     /// The type that holds all others, for which no file is written.
@@ -52,25 +59,29 @@ pub(crate) struct Plan<'schema> {
 impl<'schema> Plan<'schema> {
     /// Names each type of the schema that a file is written for.
     pub(crate) fn new(
-        alloc: Global,
+        options: &'schema Options,
         schema: &'schema Schema,
-        crate_name: &'schema str,
         root: TypeId,
         none: &'schema Type,
     ) -> Result<Plan<'schema>, AllocError> {
+        let alloc = options.alloc;
         let mut plan = Plan {
             alloc,
             schema,
-            crate_name,
+            options,
             names: BTreeMap::new(alloc),
             twins: BTreeMap::new(alloc),
+            retagged: BTreeMap::new(alloc),
             module: String::new(alloc),
             lines: BTreeMap::new(alloc),
             reached: BTreeSet::new(alloc),
+            timed: BTreeSet::new(alloc),
+            foreign: BTreeMap::new(alloc),
             none,
             root: root.0,
             used: BTreeSet::new(alloc),
         };
+        plan.reserve_also()?;
         plan.add_known()?;
         plan.add_twins()?;
         plan.add_parts()?;
@@ -91,9 +102,34 @@ impl<'schema> Plan<'schema> {
         }
     }
 
+    /// Returns the name of the crate that has a type, if it is another one.
+    pub(crate) fn foreign_crate(&self, id: usize) -> Option<&str> {
+        match self.foreign.get(&id) {
+            Some(name) => Some(name.as_str()),
+            None => None,
+        }
+    }
+
+    /// Returns whether a type is written as an open type because an option says so.
+    pub(crate) fn is_opened(&self, id: usize) -> bool {
+        match self.names.get(&id) {
+            Some(naming) => self.options.is_opened(naming.notation.as_str()),
+            None => false,
+        }
+    }
+
     /// Returns the type that this one is under another tag, or itself.
     pub(crate) fn twin_or_self(&self, id: usize) -> usize {
         self.twins.get(&id).copied().unwrap_or(id)
+    }
+
+    /// Takes the names of the files that are written by hand.
+    fn reserve_also(&mut self) -> Result<(), AllocError> {
+        for name in &self.options.also {
+            let small = self.small(name.as_str())?;
+            self.used.insert(small)?;
+        }
+        Ok(())
     }
 
     /// Adds the names that the schema has for its types.
@@ -106,40 +142,69 @@ impl<'schema> Plan<'schema> {
         Ok(())
     }
 
-    /// Finds the types without a name that are named ones under other tags.
+    /// Finds the types that are named ones under other tags.
     fn add_twins(&mut self) -> Result<(), AllocError> {
         for (id, ty) in self.schema.types().iter().enumerate() {
-            if id != self.root && !self.names.contains_key(&id) && has_file(ty) {
+            if id != self.root && has_file(ty) && !self.is_opened(id) {
                 if let Some(twin) = self.twin_of(ty) {
-                    self.twins.insert(id, twin)?;
+                    self.add_twin(id, twin)?;
                 }
             }
         }
         Ok(())
     }
 
-    /// Returns the first type with a name that differs from this one in its tag alone, if one does.
-    /// One that has a universal tag precedes others. A universal tag can't be put in place of
-    /// another one.
+    /// Adds that a type is another one, which has a name, under another tag. One with a name of its
+    /// own is that only if the other one has a universal tag.
+    fn add_twin(&mut self, id: usize, twin: usize) -> Result<(), AllocError> {
+        if !self.names.contains_key(&id) {
+            self.twins.insert(id, twin)?;
+            return Ok(());
+        }
+        let is_own = self.type_of(id).tag().class == Class::Universal;
+        if !is_own && self.type_of(twin).tag().class == Class::Universal {
+            self.retagged.insert(id, twin)?;
+        }
+        Ok(())
+    }
+
+    /// Returns the type with a name that differs from this one in its tag alone, if there is one:
+    /// the only one with a universal tag, or else the only one with another tag.
     fn twin_of(&self, ty: &Type) -> Option<usize> {
-        let mut first: Option<usize> = None;
+        self.only_twin(ty, true).or(self.only_twin(ty, false))
+    }
+
+    /// Returns the only type with a name that differs from this one in its tag alone, among those
+    /// with a universal tag or those with another. A CHOICE loses its name under an explicit tag. A
+    /// universal tag can't be put in place of another one, and a type with such a tag is taken for
+    /// one that is wanted.
+    fn only_twin(&self, ty: &Type, is_universal: bool) -> Option<usize> {
+        let mut only: Option<usize> = None;
         for (id, other) in self.schema.types().iter().enumerate() {
-            let is_near = ty.tag().class != Class::Universal || ty.tag() == other.tag();
-            if is_near && self.names.contains_key(&id) && is_same_but_tag(ty, other) {
-                if other.tag().class == Class::Universal {
-                    return Some(id);
+            let is_near = ty.tag() == Tag::EOC
+                || ty.tag().class != Class::Universal
+                || ty.tag() == other.tag() && self.is_wanted(id);
+            if is_near
+                && self.names.contains_key(&id)
+                && is_universal == (other.tag().class == Class::Universal)
+                && is_same_but_tag(ty, other)
+            {
+                if only.is_some() {
+                    return None;
                 }
-                first = first.or(Some(id));
+                only = Some(id);
             }
         }
-        first
+        only
     }
 
     /// Names the parts of types that have a name, from the root on.
     fn add_parts(&mut self) -> Result<(), AllocError> {
         let count = self.schema.types().len();
         for id in (0..count).rev() {
-            self.add_parts_of(id)?;
+            if !self.retagged.contains_key(&id) {
+                self.add_parts_of(id)?;
+            }
         }
         Ok(())
     }

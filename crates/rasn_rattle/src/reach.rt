@@ -1,9 +1,10 @@
 //! Which types a type leads to.
-use crate::members::{Member, members_of};
+use crate::held_types::Held;
+use crate::members::inner_of;
 use crate::plan::Plan;
 use rasn_schema::components_of;
 use std::alloc::AllocError;
-use std::collections::BTreeSet;
+use std::collections::{BTreeMap, BTreeSet};
 
 /// A walk from types to those that they are made of.
 #[derive(Drop)]
@@ -23,16 +24,52 @@ impl Plan<'_> {
         Ok(walk.reached.contains(&to))
     }
 
-    /// Returns the types that the first components of the root are made of, as many as `wanted`.
+    /// Returns the types that the first components of the root are made of, as many as `wanted`, or
+    /// those of them that the options name.
     pub(crate) fn reached_by(&self, wanted: usize) -> Result<BTreeSet<usize>, AllocError> {
         let mut walk = self.new_walk();
-        let root = self.type_of(self.root);
-        for component in components_of(root).iter().take(wanted) {
-            self.visit(&mut walk, component.type_id.0)?;
+        for number in 0..wanted {
+            let id = self.held_type(number);
+            if self.is_wanted(id) {
+                self.visit(&mut walk, id)?;
+            }
         }
         self.visit_parts(&mut walk)?;
         let Walk { reached, .. } = walk;
         Ok(reached)
+    }
+
+    /// Returns the type that a component of the root holds.
+    fn held_type(&self, number: usize) -> usize {
+        let components = components_of(self.type_of(self.root));
+        let Some(component) = components.get(number) else {
+            return self.root;
+        };
+        let id = component.type_id;
+        inner_of(self.type_of(id.0)).unwrap_or(id).0
+    }
+
+    /// Returns whether a file is wanted for a type.
+    pub(crate) fn is_wanted(&self, id: usize) -> bool {
+        match self.names.get(&id) {
+            Some(naming) => self.options.is_wanted(naming.notation.as_str()),
+            None => false,
+        }
+    }
+
+    /// Returns the types that other crates have, with the names of these.
+    pub(crate) fn foreign_by(&self, held: &Held) -> Result<BTreeMap<usize, String>, AllocError> {
+        let mut foreign = BTreeMap::new(self.alloc);
+        for (number, crate_name) in &held.foreign {
+            let mut walk = self.new_walk();
+            self.visit(&mut walk, self.held_type(*number))?;
+            self.visit_parts(&mut walk)?;
+            for id in walk.reached.iter() {
+                let name = String::from_str(self.alloc, crate_name.as_str())?;
+                foreign.insert(*id, name)?;
+            }
+        }
+        Ok(foreign)
     }
 
     /// Returns a walk that has reached nothing.
@@ -64,9 +101,15 @@ impl Plan<'_> {
         Ok(())
     }
 
-    /// Reaches the parts of a type.
+    /// Reaches the parts of a type, unless another crate has it, or it is written as an open type.
     fn visit_parts_of(&self, walk: &mut Walk, id: usize) -> Result<(), AllocError> {
-        let members = members_of(self.alloc, self.type_of(id))?;
+        if self.foreign.contains_key(&id) || self.is_opened(id) {
+            return Ok(());
+        }
+        if let Some(twin) = self.retagged.get(&id) {
+            return self.visit(walk, *twin);
+        }
+        let members = self.placed_members_of(id)?;
         for member in &members {
             self.visit(walk, member.type_id.0)?;
         }

@@ -1,11 +1,14 @@
 //! Why a type is written as an open type.
 use crate::plan::Plan;
-use rasn_schema::{Alternative, Component, Presence, Type, components_of};
+use rasn_schema::{Component, Presence, Type, components_of};
 use std::alloc::AllocError;
 
 impl Plan<'_> {
     /// Returns why a type is written as an open type, if it is.
     pub(crate) fn reason_against(&self, id: usize) -> Result<Option<&'static str>, AllocError> {
+        if self.is_opened(id) {
+            return Ok(Some("the option `--open` names it"));
+        }
         let ty = self.type_of(id);
         for component in components_of(ty) {
             let has_default = matches!(component.presence, Presence::Default(_));
@@ -13,10 +16,12 @@ impl Plan<'_> {
                 return Ok(Some("a default of this kind isn't written"));
             }
         }
+        if let Type::Choice { .. } = ty {
+            return self.reason_against_choice(id);
+        }
         Ok(match ty {
             Type::Sequence { components, .. } => reason_against_sequence(components),
             Type::Set { components, .. } => self.reason_against_set(components),
-            Type::Choice { alternatives, .. } => self.reason_against_choice(alternatives),
             _ => None,
         })
     }
@@ -44,18 +49,19 @@ impl Plan<'_> {
 
     /// Returns why a CHOICE is written as an open type, if it is. The last alternative of one with
     /// an extension marker, which has no tag, is that of unknown values.
-    fn reason_against_choice(&self, alternatives: &[Alternative]) -> Option<&'static str> {
-        let count = alternatives.len();
-        for (index, alternative) in alternatives.iter().enumerate() {
+    fn reason_against_choice(&self, id: usize) -> Result<Option<&'static str>, AllocError> {
+        let placed = self.placed_of(id)?;
+        let count = placed.len();
+        for (index, alternative) in placed.iter().enumerate() {
             let ty = self.type_of(alternative.type_id.0);
             let is_last = index.saturating_add(1) == count
                 && index > 0
                 && matches!(ty, Type::Any { .. });
             if !self.has_tag(alternative.type_id) && !is_last {
-                return Some("an alternative has no tag of its own");
+                return Ok(Some("an alternative has no tag of its own"));
             }
         }
-        None
+        Ok(None)
     }
 }
 

@@ -46,7 +46,7 @@ impl Present for @Name@ {
 }
 
 impl Decode for @Name@ {
-    fn decode_with_tag_and_constraints(
+@beyond@    fn decode_with_tag_and_constraints(
         decoder: &mut Decoder<'_>,
         tag: Tag,
         _constraints: &Constraints,
@@ -79,13 +79,15 @@ impl Plan<'_> {
         let parts = parts.as_slice();
         let laws = self.laws_of(id)?;
         let defaults = defaults_text(self.alloc, parts)?;
-        let imports = self.imports_of(laws.types.as_str(), !defaults.is_empty(), false)?;
+        let imports = self.imports_of(&laws, !defaults.is_empty(), false)?;
         let mut values = self.values_of(id)?;
         add_kind(&mut values, is_set, ends_with_rest(parts))?;
         values.add("imports", imports)?;
         values.add("fields", self.fields_text(id, parts)?)?;
         values.add("parts", parts_text(self.alloc, parts)?)?;
-        values.add("tree", tree_text(self.alloc, parts)?)?;
+        let tree = tree_text(self.alloc, parts)?;
+        values.add("beyond", self.beyond_of_struct(id, is_set, tree.as_str())?)?;
+        values.add("tree", tree)?;
         values.add("laws", laws.uses)?;
         values.add("search", laws.search)?;
         values.add("read", self.read_text(id, parts, is_set)?)?;

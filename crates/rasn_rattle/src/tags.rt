@@ -31,8 +31,12 @@ fn const_tag(alloc: Global, tag: Tag) -> Result<String, AllocError> {
     format!(in alloc; "Tag {{\n        class: Class::{class},\n        value: {value},\n    }}")
 }
 
-/// Returns the type that names a tag in `Implicit` and `Explicit`.
+/// Returns the type that names a tag in `Implicit` and `Explicit`: of a universal tag a type that
+/// has it.
 pub(crate) fn tag_type(alloc: Global, tag: Tag) -> Result<String, AllocError> {
+    if let Some(word) = universal_type(tag) {
+        return String::from_str(alloc, word);
+    }
     let class = match tag.class {
         Class::Application => "Application",
         Class::Private => "Private",
@@ -40,6 +44,36 @@ pub(crate) fn tag_type(alloc: Global, tag: Tag) -> Result<String, AllocError> {
     };
     let value = tag.value;
     format!(in alloc; "{class}Tag<{value}>")
+}
+
+/// Returns a type that has a universal tag, if there is one (X.680 8.4).
+pub(crate) fn universal_type(tag: Tag) -> Option<&'static str> {
+    if tag.class != Class::Universal {
+        return None;
+    }
+    match tag.value {
+        1 => Some("bool"),
+        2 => Some("Integer"),
+        3 => Some("BitString"),
+        4 => Some("OctetString"),
+        5 => Some("()"),
+        6 => Some("ObjectIdentifier"),
+        12 => Some("Utf8String"),
+        16 => Some("Vec<bool>"),
+        17 => Some("SetOf<bool>"),
+        18 => Some("NumericString"),
+        19 => Some("PrintableString"),
+        20 => Some("TeletexString"),
+        22 => Some("Ia5String"),
+        23 => Some("UtcTime"),
+        24 => Some("GeneralizedTime"),
+        25 => Some("GraphicString"),
+        26 => Some("VisibleString"),
+        27 => Some("GeneralString"),
+        30 => Some("BmpString"),
+        31 => Some("Date"),
+        _ => None,
+    }
 }
 
 /// Returns a tag in notation (X.680 31.2).

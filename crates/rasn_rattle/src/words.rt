@@ -48,6 +48,14 @@ pub(crate) fn snake(alloc: Global, name: &str) -> Result<String, AllocError>
     Ok(text)
 }
 
+/// Returns the name of a field in snake case. Unlike a file it may be called `data`.
+pub(crate) fn field_name(alloc: Global, name: &str) -> Result<String, AllocError> {
+    if name == "data" {
+        return String::from_str(alloc, name);
+    }
+    snake(alloc, name)
+}
+
 /// Returns the words of a name in small letters, with `_` between them.
 #[tactic(auto, using(crate::proofs::WordLetters::word_push))]
 fn words_of(alloc: Global, name: &str) -> Result<String, AllocError>

@@ -1,53 +1,135 @@
-//! Reads modules from standard input and prints the files of a crate for their types. The argument
-//! is the crate's name.
+//! Prints the files of crates that are written of modules. Standard input has a line for each
+//! crate, with the words by which `soqavise rust` writes it, and then the texts of the modules'
+//! files, each after a line with the file's name.
 #![tactic(auto)]
 
 use rasn_compiler::{Modules, Source};
-use rasn_rattle::{File, HOLDER_NAMES, crate_files, holder_of};
-use std::alloc::Global;
-use std::{env, io};
+use rasn_rattle::{File, HOLDER_NAMES, Options, crate_files, holder_of};
+use std::alloc::{AllocError, Global};
+use std::io;
 
 fn main(rt: HostRuntime) -> io::Result<()> {
+    let text = io::read_to_string(rt.alloc(), rt.stdin())?;
+    for line in text.as_str().lines() {
+        if let Some(words) = line.strip_prefix("=== ") {
+            let asked = asked_by(rt.alloc(), text.as_str(), words)?;
+            print_crate(&rt, asked)?;
+        }
+    }
+    Ok(())
+}
+
+/// A crate that is written.
+#[derive(Drop)]
+struct Asked<'text> {
+    options: Options,
+    name: &'text str,
+    /// The texts that the types are of.
+    own: Vec<Source<'text>>,
+    /// All texts, those first.
+    sources: Vec<Source<'text>>,
+}
+
+/// Returns what these words ask for, of the texts in standard input.
+fn asked_by<'text>(
+    alloc: Global,
+    text: &'text str,
+    words: &'text str,
+) -> Result<Asked<'text>, AllocError> {
+    let (name, words) = words.split_once(" ").unwrap_or((words, ""));
+    let mut options = Options::new(alloc, name)?;
+    let mut own = Vec::new(alloc);
+    let mut option = "";
+    for word in words.split(' ') {
+        match word.strip_prefix("--") {
+            Some(name) => option = name,
+            None if option.is_empty() => own.push(source(text, word))?,
+            None => {
+                add(alloc, &mut options, text, option, word)?;
+                option = "";
+            }
+        }
+    }
+    let mut sources = Vec::from_slice(alloc, own.as_slice())?;
+    for block in text.split("\n--- ").skip(1) {
+        let (name, text) = block.split_once("\n").unwrap_or((block, ""));
+        if !own.iter().any(|known| known.name == name) {
+            sources.push(Source { name, text })?;
+        }
+    }
+    Ok(Asked {
+        options,
+        name,
+        own,
+        sources,
+    })
+}
+
+/// Returns the text of the file with this name.
+fn source<'text>(text: &'text str, name: &'text str) -> Source<'text> {
+    for block in text.split("\n--- ").skip(1) {
+        if let Some((known, text)) = block.split_once("\n") {
+            if known == name {
+                return Source { name, text };
+            }
+        }
+    }
+    Source { name, text: "" }
+}
+
+/// Adds what an option says.
+fn add(
+    alloc: Global,
+    options: &mut Options,
+    text: &str,
+    option: &str,
+    value: &str,
+) -> Result<(), AllocError> {
+    if option == "from" {
+        let (crate_name, file) = value.split_once("=").unwrap_or((value, ""));
+        let read = Modules::parse(alloc, &[source(text, file)])?;
+        return options.add_from(crate_name, &read);
+    }
+    options.add(option, value)?;
+    Ok(())
+}
+
+/// Prints the files of a crate, or what is wrong about its modules.
+fn print_crate(rt: &HostRuntime, asked: Asked<'_>) -> io::Result<()> {
     let alloc = rt.alloc();
-    let mut words = env::args(&rt)?;
-    let name = match words.nth(1) {
-        Some(name) => name,
-        None => String::from_str(alloc, "types")?,
-    };
-    let text = io::read_to_string(alloc, rt.stdin())?;
-    let source = Source {
-        name: "stdin",
-        text: text.as_str(),
-    };
-    let read = Modules::parse(alloc, &[source])?;
+    let Asked {
+        options,
+        name,
+        own,
+        sources,
+    } = asked;
+    let wanted = Modules::parse(alloc, own.as_slice())?.modules.len();
+    let read = Modules::parse(alloc, sources.as_slice())?;
     for fault in &read.faults {
         println!(rt; "{fault}")?;
     }
-    let held = holder_of(alloc, &read, read.modules.len())?;
-    let held_source = Source {
-        name: "types",
-        text: held.text.as_str(),
-    };
-    let read = Modules::parse(alloc, &[source, held_source])?;
-    print_files(&rt, &read, held.wanted, name.as_str())
-}
-
-/// Prints the files of a crate, or why the types have no schema.
-fn print_files(
-    rt: &HostRuntime,
-    read: &Modules<'_>,
-    wanted: usize,
-    crate_name: &str,
-) -> io::Result<()> {
-    let (module, name) = HOLDER_NAMES;
-    match read.schema(rt.alloc(), module, name) {
-        Ok(resolved) => {
-            let written = crate_files(rt.alloc(), resolved, wanted, crate_name)?;
-            for file in &written {
-                print!(rt; "=== src/{}.rt\n{}", file.name.as_str(), file.text.as_str())?;
-            }
-            Ok(())
-        }
+    if let Some(ty) = options.unknown_in(&read) {
+        println!(rt; "no type {ty} is known")?;
+    }
+    let holder = holder_of(&options, &read, wanted)?;
+    let (module, held) = HOLDER_NAMES;
+    let mut sources = sources;
+    sources.push(Source {
+        name: module,
+        text: holder.text.as_str(),
+    })?;
+    let read = Modules::parse(alloc, sources.as_slice())?;
+    match read.schema(alloc, module, held) {
+        Ok(resolved) => print_files(rt, name, &crate_files(&options, resolved, &holder.held)?),
         Err(stop) => println!(rt; "{stop}"),
     }
+}
+
+/// Prints the files of a crate, each after a line with its name.
+fn print_files(rt: &HostRuntime, name: &str, files: &[File]) -> io::Result<()> {
+    for file in files {
+        let (file, text) = (file.name.as_str(), file.text.as_str());
+        print!(rt; "=== crates/{name}/src/{file}.rt\n{text}")?;
+    }
+    Ok(())
 }

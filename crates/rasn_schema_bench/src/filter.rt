@@ -18,10 +18,10 @@ pub const FILTER_TYPES: &[Definition] = &[
     Definition::Sequence(CONTEXT_4, SUBSTRING_FILTER),
     Definition::Sequence(CONTEXT_5, ATTRIBUTE_VALUE_ASSERTION),
     Definition::Sequence(CONTEXT_6, ATTRIBUTE_VALUE_ASSERTION),
-    Definition::Leaf(LeafKind::OctetString, CONTEXT_7),
+    Definition::Leaf(LeafKind::Utf8, CONTEXT_7),
     Definition::Sequence(CONTEXT_8, ATTRIBUTE_VALUE_ASSERTION),
     Definition::Sequence(CONTEXT_9, MATCHING_RULE_ASSERTION),
-    // 10 to 20: AttributeDescription, AssertionValue and the like are OCTET STRINGs
+    // 10 to 20: AssertionValue is an OCTET STRING
     Definition::Leaf(LeafKind::OctetString, Tag::OCTET_STRING),
     Definition::Leaf(LeafKind::OctetString, CONTEXT_0),
     Definition::Leaf(LeafKind::OctetString, CONTEXT_1),
@@ -33,6 +33,10 @@ pub const FILTER_TYPES: &[Definition] = &[
     Definition::Leaf(LeafKind::Boolean, CONTEXT_4),
     Definition::Choice("Filter", FILTER_ALTERNATIVES),
     Definition::Unknown,
+    // 21 to 23: AttributeDescription and MatchingRuleId are UTF-8 (4.1.2)
+    Definition::Leaf(LeafKind::Utf8, Tag::OCTET_STRING),
+    Definition::Leaf(LeafKind::Utf8, CONTEXT_1),
+    Definition::Leaf(LeafKind::Utf8, CONTEXT_2),
 ];
 
 /// The number of Filter.
@@ -59,13 +63,13 @@ const UNKNOWN: Part = ("...", Occurrence::Required, 20);
 const OTHER: (&str, usize) = ("...", 14);
 
 const ATTRIBUTE_VALUE_ASSERTION: &[Part] = &[
-    ("attributeDesc", Occurrence::Required, 10),
+    ("attributeDesc", Occurrence::Required, 21),
     ("assertionValue", Occurrence::Required, 10),
     UNKNOWN,
 ];
 
 const SUBSTRING_FILTER: &[Part] = &[
-    ("type", Occurrence::Required, 10),
+    ("type", Occurrence::Required, 21),
     ("substrings", Occurrence::Required, 16),
     UNKNOWN,
 ];
@@ -73,8 +77,8 @@ const SUBSTRING_FILTER: &[Part] = &[
 const SUBSTRING: &[(&str, usize)] = &[("initial", 11), ("any", 12), ("final", 13), OTHER];
 
 const MATCHING_RULE_ASSERTION: &[Part] = &[
-    ("matchingRule", Occurrence::Optional, 12),
-    ("type", Occurrence::Optional, 13),
+    ("matchingRule", Occurrence::Optional, 22),
+    ("type", Occurrence::Optional, 23),
     ("matchValue", Occurrence::Required, 17),
     ("dnAttributes", Occurrence::False, 18),
     UNKNOWN,

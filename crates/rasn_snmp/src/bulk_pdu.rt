@@ -1,32 +1,34 @@
-//! `BulkPDU ::= SEQUENCE { request-id INTEGER, non-repeaters INTEGER, max-repetitions INTEGER,
-//! variable-bindings VarBindList }` (RFC 3416, 3).
-use crate::VarBindList;
-use rasn::error::{DecodeError, EncodeError};
-use rasn::parts::{End, Put, Required};
-use rasn::types::{AsnType, Constraints, Identifier, LawfulEq, Present, Tag};
-use rasn::{Decode, Decoder, Encode, Encoder};
+//! `BulkPDU ::= SEQUENCE`
+use crate::{Unsigned31, VarBindList};
+use rasn::prelude::*;
 
-/// SEQUENCE { request-id INTEGER (-214783648..214783647), non-repeaters INTEGER (0..2147483647),
-/// max-repetitions INTEGER (0..2147483647), variable-bindings VarBindList }: the PDU of
-/// GetBulkRequest. A negative `non_repeaters` or `max_repetitions` is treated as 0
-/// (RFC 3416, 4.2.3).
+/// `BulkPDU ::= SEQUENCE`
 #[derive(Debug, PartialEq, Eq, Drop)]
 pub struct BulkPdu {
-    /// The number that relates a response to its request.
+    /// `request-id INTEGER (-2147483648..2147483647)`
     pub request_id: i32,
-    /// The number of variables that are requested once; the others are requested repeatedly.
-    pub non_repeaters: i32,
-    /// The highest number of times that each of the other variables is requested.
-    pub max_repetitions: i32,
-    /// The requested variables.
+    /// `non-repeaters Unsigned31`
+    pub non_repeaters: Unsigned31,
+    /// `max-repetitions Unsigned31`
+    pub max_repetitions: Unsigned31,
+    /// `variable-bindings VarBindList`
     pub variable_bindings: VarBindList,
 }
+
+/// The components, as they are read.
+type Parts = Required<i32, Parts1>;
+
+type Parts1 = Required<Unsigned31, Parts2>;
+
+type Parts2 = Required<Unsigned31, Parts3>;
+
+type Parts3 = Required<VarBindList, End>;
 
 impl AsnType for BulkPdu {
     ghost use Rattle.std.specs.Prelude.{refl};
     ghost use Rattle.rasn_types.specs.Tags.{in_universal};
+    ghost use Rattle.rasn_types.specs.Shapes.{seq};
     ghost use Rattle.rasn_types.specs.Trees.{unconstrained};
-    ghost use Rattle.rasn_snmp.specs.BulkData.{bulk_pdu_shape, bulk_pdu_tree};
 
     ghost TAG = { in_universal 16 };
 
@@ -36,18 +38,19 @@ impl AsnType for BulkPdu {
 
     const CONSTRAINTS: Constraints = Constraints::NONE;
 
-    ghost shape = { bulk_pdu_shape };
+    ghost shape = { seq (in_universal 16) ⟦<Parts as DecodeParts>⟧.parts };
 
-    ghost tree = { bulk_pdu_tree };
+    ghost tree = { λ a. ⟦<Parts as DecodeParts>⟧.tree (record { 0 = a.request_id; 1 = record { 0 = a.non_repeaters; 1 = record { 0 = a.max_repetitions; 1 = record { 0 = a.variable_bindings; 1 = record {} } } } }) };
 
     ghost own = { refl };
 }
 
 impl LawfulEq for BulkPdu {
     ghost use Rattle.rasn_types.specs.Deciding.{deciding};
-    ghost use Rattle.rasn_snmp.specs.contracts.var_bind_value.VarBindValueLawfulEq.TheImpl.Laws.{decides-law as var_bind_value_law};
+    ghost use Rattle.rasn_snmp.specs.contracts.unsigned31.Unsigned31LawfulEq.TheImpl.Laws.{decides-law as unsigned31_law};
+    ghost use Rattle.rasn_snmp.specs.contracts.var_bind_list.VarBindListLawfulEq.TheImpl.Laws.{decides-law as var_bind_list_law};
 
-    ghost decides = { Prim.search (var_bind_value_law, deciding) depth 64 };
+    ghost decides = { Prim.search (unsigned31_law, var_bind_list_law, deciding) depth 64 };
 }
 
 impl Present for BulkPdu {
@@ -62,10 +65,10 @@ impl Decode for BulkPdu {
         tag: Tag,
         _constraints: &Constraints,
     ) -> Result<BulkPdu, DecodeError> {
-        let Required(
-            request_id,
-            Required(non_repeaters, Required(max_repetitions, Required(variable_bindings, End))),
-        ) = decoder.read_sequence(tag)?;
+        let Required(request_id, rest) = decoder.read_sequence::<Parts>(tag)?;
+        let Required(non_repeaters, rest) = rest;
+        let Required(max_repetitions, rest) = rest;
+        let Required(variable_bindings, End) = rest;
         Ok(BulkPdu {
             request_id,
             non_repeaters,
@@ -83,16 +86,10 @@ impl Encode for BulkPdu {
         _constraints: &Constraints,
         _identifier: Identifier,
     ) -> Result<(), EncodeError> {
-        encoder.write_sequence(
-            tag,
-            Put(
-                &self.request_id,
-                Put(
-                    &self.non_repeaters,
-                    Put(&self.max_repetitions, Put(&self.variable_bindings, End)),
-                ),
-            ),
-        )
+        let rest = Put(&self.variable_bindings, End);
+        let rest = Put(&self.max_repetitions, rest);
+        let rest = Put(&self.non_repeaters, rest);
+        encoder.write_sequence(tag, Put(&self.request_id, rest))
     }
 
     fn is_present(&self) -> bool {

@@ -1,32 +1,62 @@
-//! Messages of SNMP with a community, of versions 1 and 2c (RFC 1157, 1901 and 3416), as types that
-//! are read under BER and written under DER. A valid message is refused only if an allocation
-//! fails.
+//! Types of an ASN.1 module.
 #![tactic(auto)]
 
 mod bulk_pdu;
+mod counter32;
+mod counter64;
 pub mod error_status;
+mod header_data;
+mod header_data_msg_flags;
+mod header_data_msg_max_size;
+mod header_data_msg_security_model;
+mod ip_address;
 mod message;
+mod network_address;
+mod object_name;
+mod opaque;
 mod pdu;
 mod pdus;
-mod syntax;
+mod scoped_pdu;
+mod scoped_pdu_data;
+mod simple_syntax_string_value;
+mod snmp_v3_message;
+mod snmp_v3_message_msg_version;
+mod time_ticks;
 mod trap_pdu;
+mod unsigned31;
+mod unsigned32;
+mod usm_security_parameters;
+mod usm_security_parameters_msg_user_name;
 mod var_bind;
+mod var_bind_list;
 mod var_bind_value;
+pub mod version;
 
 pub use bulk_pdu::BulkPdu;
+pub use counter32::Counter32;
+pub use counter64::Counter64;
+pub use header_data::HeaderData;
+pub use header_data_msg_flags::HeaderDataMsgFlags;
+pub use header_data_msg_max_size::HeaderDataMsgMaxSize;
+pub use header_data_msg_security_model::HeaderDataMsgSecurityModel;
+pub use ip_address::IpAddress;
 pub use message::Message;
+pub use network_address::NetworkAddress;
+pub use object_name::ObjectName;
+pub use opaque::Opaque;
 pub use pdu::Pdu;
 pub use pdus::Pdus;
-pub use syntax::{
-    Counter32, Counter64, Gauge32, IpAddress, ObjectName, Opaque, TimeTicks, Unsigned32,
-    VarBindList,
-};
+pub use scoped_pdu::ScopedPdu;
+pub use scoped_pdu_data::ScopedPduData;
+pub use simple_syntax_string_value::SimpleSyntaxStringValue;
+pub use snmp_v3_message::SnmpV3Message;
+pub use snmp_v3_message_msg_version::SnmpV3MessageMsgVersion;
+pub use time_ticks::TimeTicks;
 pub use trap_pdu::TrapPdu;
+pub use unsigned31::Unsigned31;
+pub use unsigned32::Unsigned32;
+pub use usm_security_parameters::UsmSecurityParameters;
+pub use usm_security_parameters_msg_user_name::UsmSecurityParametersMsgUserName;
 pub use var_bind::VarBind;
+pub use var_bind_list::VarBindList;
 pub use var_bind_value::VarBindValue;
-
-/// The `version` of a message of version 1: version-1(0) (RFC 1157, 4).
-pub const VERSION_1: u8 = 0;
-
-/// The `version` of a message of version 2c: version(1) (RFC 1901).
-pub const VERSION_2C: u8 = 1;

@@ -1,27 +1,30 @@
-//! `Message ::= SEQUENCE { version INTEGER { version(1) }, community OCTET STRING, data ANY }`
-//! (RFC 1901; RFC 1157, 4).
+//! `Message ::= SEQUENCE`
 use crate::Pdus;
-use rasn::error::{DecodeError, EncodeError};
-use rasn::parts::{End, Put, Required};
-use rasn::types::{AsnType, Constraints, Identifier, LawfulEq, OctetString, Present, Tag};
-use rasn::{Codec, Decode, Decoder, Encode, Encoder, WholeMessage};
+use rasn::prelude::*;
 
-/// SEQUENCE { version INTEGER, community OCTET STRING, data PDUs }
+/// `Message ::= SEQUENCE`
 #[derive(Debug, PartialEq, Eq, Drop)]
 pub struct Message {
-    /// [`VERSION_1`](crate::VERSION_1) or [`VERSION_2C`](crate::VERSION_2C).
-    pub version: u8,
-    /// The name of the community, which serves as a password.
+    /// `version INTEGER { version-1(0), version-2c(1) }`
+    pub version: Integer,
+    /// `community OCTET STRING`
     pub community: OctetString,
-    /// The operation: a request, a response or a report.
+    /// `data PDUs`
     pub data: Pdus,
 }
+
+/// The components, as they are read.
+type Parts = Required<Integer, Parts1>;
+
+type Parts1 = Required<OctetString, Parts2>;
+
+type Parts2 = Required<Pdus, End>;
 
 impl AsnType for Message {
     ghost use Rattle.std.specs.Prelude.{refl};
     ghost use Rattle.rasn_types.specs.Tags.{in_universal};
+    ghost use Rattle.rasn_types.specs.Shapes.{seq};
     ghost use Rattle.rasn_types.specs.Trees.{unconstrained};
-    ghost use Rattle.rasn_snmp.specs.CommunityMessage.{message_shape, message_tree};
 
     ghost TAG = { in_universal 16 };
 
@@ -31,9 +34,9 @@ impl AsnType for Message {
 
     const CONSTRAINTS: Constraints = Constraints::NONE;
 
-    ghost shape = { message_shape };
+    ghost shape = { seq (in_universal 16) ⟦<Parts as DecodeParts>⟧.parts };
 
-    ghost tree = { message_tree };
+    ghost tree = { λ a. ⟦<Parts as DecodeParts>⟧.tree (record { 0 = a.version; 1 = record { 0 = a.community; 1 = record { 0 = a.data; 1 = record {} } } }) };
 
     ghost own = { refl };
 }
@@ -57,9 +60,9 @@ impl Decode for Message {
         tag: Tag,
         _constraints: &Constraints,
     ) -> Result<Message, DecodeError> {
-        let Required(version, Required(community, Required(data, End))) = decoder.read_sequence(
-            tag,
-        )?;
+        let Required(version, rest) = decoder.read_sequence::<Parts>(tag)?;
+        let Required(community, rest) = rest;
+        let Required(data, End) = rest;
         Ok(Message {
             version,
             community,
@@ -76,10 +79,9 @@ impl Encode for Message {
         _constraints: &Constraints,
         _identifier: Identifier,
     ) -> Result<(), EncodeError> {
-        encoder.write_sequence(
-            tag,
-            Put(&self.version, Put(&self.community, Put(&self.data, End))),
-        )
+        let rest = Put(&self.data, End);
+        let rest = Put(&self.community, rest);
+        encoder.write_sequence(tag, Put(&self.version, rest))
     }
 
     fn is_present(&self) -> bool {

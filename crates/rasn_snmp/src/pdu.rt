@@ -1,31 +1,37 @@
-//! `PDU ::= SEQUENCE { request-id INTEGER, error-status INTEGER, error-index INTEGER,
-//! variable-bindings VarBindList }` (RFC 3416, 3).
-use crate::VarBindList;
-use rasn::error::{DecodeError, EncodeError};
-use rasn::parts::{End, Put, Required};
-use rasn::types::{AsnType, Constraints, Identifier, LawfulEq, Present, Tag};
-use rasn::{Decode, Decoder, Encode, Encoder};
+//! `PDU ::= SEQUENCE`
+use crate::{Unsigned31, VarBindList};
+use rasn::prelude::*;
 
-/// SEQUENCE { request-id INTEGER (-214783648..214783647), error-status INTEGER,
-/// error-index INTEGER (0..2147483647), variable-bindings VarBindList }: the PDU of all operations
-/// except GetBulkRequest and the trap of version 1.
+/// `PDU ::= SEQUENCE`
 #[derive(Debug, PartialEq, Eq, Drop)]
 pub struct Pdu {
-    /// The number that relates a response to its request.
+    /// `request-id INTEGER (-2147483648..2147483647)`
     pub request_id: i32,
-    /// One of [`error_status`](crate::error_status).
-    pub error_status: i32,
-    /// The position of the variable binding that the error is about, counted from 1, or 0 for none.
-    pub error_index: i32,
-    /// The variables with their values.
+    /// `error-status INTEGER { noError(0), tooBig(1), noSuchName(2), badValue(3), readOnly(4),
+    /// genErr(5), noAccess(6), wrongType(7), wrongLength(8), wrongEncoding(9), wrongValue(10),
+    /// noCreation(11), inconsistentValue(12), resourceUnavailable(13), commitFailed(14),
+    /// undoFailed(15), authorizationError(16), notWritable(17), inconsistentName(18) }`
+    pub error_status: Integer,
+    /// `error-index Unsigned31`
+    pub error_index: Unsigned31,
+    /// `variable-bindings VarBindList`
     pub variable_bindings: VarBindList,
 }
+
+/// The components, as they are read.
+type Parts = Required<i32, Parts1>;
+
+type Parts1 = Required<Integer, Parts2>;
+
+type Parts2 = Required<Unsigned31, Parts3>;
+
+type Parts3 = Required<VarBindList, End>;
 
 impl AsnType for Pdu {
     ghost use Rattle.std.specs.Prelude.{refl};
     ghost use Rattle.rasn_types.specs.Tags.{in_universal};
+    ghost use Rattle.rasn_types.specs.Shapes.{seq};
     ghost use Rattle.rasn_types.specs.Trees.{unconstrained};
-    ghost use Rattle.rasn_snmp.specs.ProtocolData.{pdu_shape, pdu_tree};
 
     ghost TAG = { in_universal 16 };
 
@@ -35,18 +41,19 @@ impl AsnType for Pdu {
 
     const CONSTRAINTS: Constraints = Constraints::NONE;
 
-    ghost shape = { pdu_shape };
+    ghost shape = { seq (in_universal 16) ⟦<Parts as DecodeParts>⟧.parts };
 
-    ghost tree = { pdu_tree };
+    ghost tree = { λ a. ⟦<Parts as DecodeParts>⟧.tree (record { 0 = a.request_id; 1 = record { 0 = a.error_status; 1 = record { 0 = a.error_index; 1 = record { 0 = a.variable_bindings; 1 = record {} } } } }) };
 
     ghost own = { refl };
 }
 
 impl LawfulEq for Pdu {
     ghost use Rattle.rasn_types.specs.Deciding.{deciding};
-    ghost use Rattle.rasn_snmp.specs.contracts.var_bind_value.VarBindValueLawfulEq.TheImpl.Laws.{decides-law as var_bind_value_law};
+    ghost use Rattle.rasn_snmp.specs.contracts.unsigned31.Unsigned31LawfulEq.TheImpl.Laws.{decides-law as unsigned31_law};
+    ghost use Rattle.rasn_snmp.specs.contracts.var_bind_list.VarBindListLawfulEq.TheImpl.Laws.{decides-law as var_bind_list_law};
 
-    ghost decides = { Prim.search (var_bind_value_law, deciding) depth 64 };
+    ghost decides = { Prim.search (unsigned31_law, var_bind_list_law, deciding) depth 64 };
 }
 
 impl Present for Pdu {
@@ -61,10 +68,10 @@ impl Decode for Pdu {
         tag: Tag,
         _constraints: &Constraints,
     ) -> Result<Pdu, DecodeError> {
-        let Required(
-            request_id,
-            Required(error_status, Required(error_index, Required(variable_bindings, End))),
-        ) = decoder.read_sequence(tag)?;
+        let Required(request_id, rest) = decoder.read_sequence::<Parts>(tag)?;
+        let Required(error_status, rest) = rest;
+        let Required(error_index, rest) = rest;
+        let Required(variable_bindings, End) = rest;
         Ok(Pdu {
             request_id,
             error_status,
@@ -82,16 +89,10 @@ impl Encode for Pdu {
         _constraints: &Constraints,
         _identifier: Identifier,
     ) -> Result<(), EncodeError> {
-        encoder.write_sequence(
-            tag,
-            Put(
-                &self.request_id,
-                Put(
-                    &self.error_status,
-                    Put(&self.error_index, Put(&self.variable_bindings, End)),
-                ),
-            ),
-        )
+        let rest = Put(&self.variable_bindings, End);
+        let rest = Put(&self.error_index, rest);
+        let rest = Put(&self.error_status, rest);
+        encoder.write_sequence(tag, Put(&self.request_id, rest))
     }
 
     fn is_present(&self) -> bool {

@@ -1,37 +1,43 @@
-//! `Trap-PDU ::= SEQUENCE { enterprise OBJECT IDENTIFIER, agent-addr NetworkAddress,
-//! generic-trap INTEGER, ..` (RFC 1157, 4.1.6).
-use crate::{IpAddress, TimeTicks, VarBindList};
-use rasn::error::{DecodeError, EncodeError};
-use rasn::parts::{End, Put, Required};
-use rasn::types::{AsnType, Constraints, Identifier, LawfulEq, ObjectIdentifier, Present, Tag};
-use rasn::{Decode, Decoder, Encode, Encoder};
+//! `Trap-PDU ::= SEQUENCE`
+use crate::{NetworkAddress, TimeTicks, VarBindList};
+use rasn::prelude::*;
 
-/// SEQUENCE { enterprise OBJECT IDENTIFIER, agent-addr NetworkAddress, generic-trap INTEGER,
-/// specific-trap INTEGER, time-stamp TimeTicks, variable-bindings VarBindList }: the trap of
-/// version 1. NetworkAddress is a CHOICE whose only alternative is IpAddress.
+/// `Trap-PDU ::= SEQUENCE`
 #[derive(Debug, PartialEq, Eq, Drop)]
 pub struct TrapPdu {
-    /// The type of the system that sends the trap (sysObjectID).
+    /// `enterprise OBJECT IDENTIFIER`
     pub enterprise: ObjectIdentifier,
-    /// The address of the system that sends the trap.
-    pub agent_addr: IpAddress,
-    /// coldStart(0), warmStart(1), linkDown(2), linkUp(3), authenticationFailure(4),
-    /// egpNeighborLoss(5) or enterpriseSpecific(6).
-    pub generic_trap: i32,
-    /// The number of the trap among those of the enterprise, if `generic_trap` is
-    /// enterpriseSpecific(6).
-    pub specific_trap: i32,
-    /// The time that the system has been running, in hundredths of a second.
+    /// `agent-addr NetworkAddress`
+    pub agent_addr: NetworkAddress,
+    /// `generic-trap INTEGER { coldStart(0), warmStart(1), linkDown(2), linkUp(3),
+    /// authenticationFailure(4), egpNeighborLoss(5), enterpriseSpecific(6) }`
+    pub generic_trap: Integer,
+    /// `specific-trap INTEGER`
+    pub specific_trap: Integer,
+    /// `time-stamp TimeTicks`
     pub time_stamp: TimeTicks,
-    /// Variables with further information.
+    /// `variable-bindings VarBindList`
     pub variable_bindings: VarBindList,
 }
+
+/// The components, as they are read.
+type Parts = Required<ObjectIdentifier, Parts1>;
+
+type Parts1 = Required<NetworkAddress, Parts2>;
+
+type Parts2 = Required<Integer, Parts3>;
+
+type Parts3 = Required<Integer, Parts4>;
+
+type Parts4 = Required<TimeTicks, Parts5>;
+
+type Parts5 = Required<VarBindList, End>;
 
 impl AsnType for TrapPdu {
     ghost use Rattle.std.specs.Prelude.{refl};
     ghost use Rattle.rasn_types.specs.Tags.{in_universal};
+    ghost use Rattle.rasn_types.specs.Shapes.{seq};
     ghost use Rattle.rasn_types.specs.Trees.{unconstrained};
-    ghost use Rattle.rasn_snmp.specs.TrapData.{trap_pdu_shape, trap_pdu_tree};
 
     ghost TAG = { in_universal 16 };
 
@@ -41,18 +47,19 @@ impl AsnType for TrapPdu {
 
     const CONSTRAINTS: Constraints = Constraints::NONE;
 
-    ghost shape = { trap_pdu_shape };
+    ghost shape = { seq (in_universal 16) ⟦<Parts as DecodeParts>⟧.parts };
 
-    ghost tree = { trap_pdu_tree };
+    ghost tree = { λ a. ⟦<Parts as DecodeParts>⟧.tree (record { 0 = a.enterprise; 1 = record { 0 = a.agent_addr; 1 = record { 0 = a.generic_trap; 1 = record { 0 = a.specific_trap; 1 = record { 0 = a.time_stamp; 1 = record { 0 = a.variable_bindings; 1 = record {} } } } } } }) };
 
     ghost own = { refl };
 }
 
 impl LawfulEq for TrapPdu {
     ghost use Rattle.rasn_types.specs.Deciding.{deciding};
-    ghost use Rattle.rasn_snmp.specs.contracts.var_bind_value.VarBindValueLawfulEq.TheImpl.Laws.{decides-law as var_bind_value_law};
+    ghost use Rattle.rasn_snmp.specs.contracts.network_address.NetworkAddressLawfulEq.TheImpl.Laws.{decides-law as network_address_law};
+    ghost use Rattle.rasn_snmp.specs.contracts.var_bind_list.VarBindListLawfulEq.TheImpl.Laws.{decides-law as var_bind_list_law};
 
-    ghost decides = { Prim.search (var_bind_value_law, deciding) depth 64 };
+    ghost decides = { Prim.search (network_address_law, var_bind_list_law, deciding) depth 64 };
 }
 
 impl Present for TrapPdu {
@@ -67,16 +74,12 @@ impl Decode for TrapPdu {
         tag: Tag,
         _constraints: &Constraints,
     ) -> Result<TrapPdu, DecodeError> {
-        let Required(
-            enterprise,
-            Required(
-                agent_addr,
-                Required(
-                    generic_trap,
-                    Required(specific_trap, Required(time_stamp, Required(variable_bindings, End))),
-                ),
-            ),
-        ) = decoder.read_sequence(tag)?;
+        let Required(enterprise, rest) = decoder.read_sequence::<Parts>(tag)?;
+        let Required(agent_addr, rest) = rest;
+        let Required(generic_trap, rest) = rest;
+        let Required(specific_trap, rest) = rest;
+        let Required(time_stamp, rest) = rest;
+        let Required(variable_bindings, End) = rest;
         Ok(TrapPdu {
             enterprise,
             agent_addr,
@@ -96,22 +99,12 @@ impl Encode for TrapPdu {
         _constraints: &Constraints,
         _identifier: Identifier,
     ) -> Result<(), EncodeError> {
-        encoder.write_sequence(
-            tag,
-            Put(
-                &self.enterprise,
-                Put(
-                    &self.agent_addr,
-                    Put(
-                        &self.generic_trap,
-                        Put(
-                            &self.specific_trap,
-                            Put(&self.time_stamp, Put(&self.variable_bindings, End)),
-                        ),
-                    ),
-                ),
-            ),
-        )
+        let rest = Put(&self.variable_bindings, End);
+        let rest = Put(&self.time_stamp, rest);
+        let rest = Put(&self.specific_trap, rest);
+        let rest = Put(&self.generic_trap, rest);
+        let rest = Put(&self.agent_addr, rest);
+        encoder.write_sequence(tag, Put(&self.enterprise, rest))
     }
 
     fn is_present(&self) -> bool {

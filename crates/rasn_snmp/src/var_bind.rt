@@ -1,27 +1,26 @@
-//! `VarBind ::= SEQUENCE { name ObjectName, CHOICE { value ObjectSyntax, unSpecified NULL, .. } }`
-//! (RFC 3416, 3).
+//! `VarBind ::= SEQUENCE`
 use crate::{ObjectName, VarBindValue};
-use rasn::error::{DecodeError, EncodeError};
-use rasn::parts::{End, Put, Required};
-use rasn::types::{AsnType, Constraints, Identifier, LawfulEq, Present, Tag};
-use rasn::{Decode, Decoder, Encode, Encoder};
+use rasn::prelude::*;
 
-/// SEQUENCE { name ObjectName, CHOICE { value ObjectSyntax, unSpecified NULL,
-/// noSuchObject \[0\] NULL, noSuchInstance \[1\] NULL, endOfMibView \[2\] NULL } }: a variable and
-/// its value.
+/// `VarBind ::= SEQUENCE`
 #[derive(Debug, PartialEq, Eq, Drop)]
 pub struct VarBind {
-    /// The name of the variable.
+    /// `name ObjectName`
     pub name: ObjectName,
-    /// The value, or the reason why there is none.
+    /// `value VarBindValue`
     pub value: VarBindValue,
 }
+
+/// The components, as they are read.
+type Parts = Required<ObjectName, Parts1>;
+
+type Parts1 = Required<VarBindValue, End>;
 
 impl AsnType for VarBind {
     ghost use Rattle.std.specs.Prelude.{refl};
     ghost use Rattle.rasn_types.specs.Tags.{in_universal};
+    ghost use Rattle.rasn_types.specs.Shapes.{seq};
     ghost use Rattle.rasn_types.specs.Trees.{unconstrained};
-    ghost use Rattle.rasn_snmp.specs.VariableBindings.{var_bind_shape, var_bind_tree};
 
     ghost TAG = { in_universal 16 };
 
@@ -31,9 +30,9 @@ impl AsnType for VarBind {
 
     const CONSTRAINTS: Constraints = Constraints::NONE;
 
-    ghost shape = { var_bind_shape };
+    ghost shape = { seq (in_universal 16) ⟦<Parts as DecodeParts>⟧.parts };
 
-    ghost tree = { var_bind_tree };
+    ghost tree = { λ a. ⟦<Parts as DecodeParts>⟧.tree (record { 0 = a.name; 1 = record { 0 = a.value; 1 = record {} } }) };
 
     ghost own = { refl };
 }
@@ -57,7 +56,8 @@ impl Decode for VarBind {
         tag: Tag,
         _constraints: &Constraints,
     ) -> Result<VarBind, DecodeError> {
-        let Required(name, Required(value, End)) = decoder.read_sequence(tag)?;
+        let Required(name, rest) = decoder.read_sequence::<Parts>(tag)?;
+        let Required(value, End) = rest;
         Ok(VarBind { name, value })
     }
 }
@@ -70,7 +70,8 @@ impl Encode for VarBind {
         _constraints: &Constraints,
         _identifier: Identifier,
     ) -> Result<(), EncodeError> {
-        encoder.write_sequence(tag, Put(&self.name, Put(&self.value, End)))
+        let rest = Put(&self.value, End);
+        encoder.write_sequence(tag, Put(&self.name, rest))
     }
 
     fn is_present(&self) -> bool {

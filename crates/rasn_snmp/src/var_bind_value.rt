@@ -1,46 +1,76 @@
-//! The CHOICE in `VarBind`, with ObjectSyntax (RFC 2578, 2 and 7.1) and its two CHOICEs in place
-//! (RFC 3416, 3).
-use crate::{Counter32, Counter64, IpAddress, Opaque, TimeTicks, Unsigned32};
-use rasn::error::{DecodeError, EncodeError};
-use rasn::parts::OneOf::{Other, This};
-use rasn::parts::{Last, OneOf};
-use rasn::types::{
-    AsnType, Constraints, ContextTag, Identifier, Implicit, LawfulEq, ObjectIdentifier,
-    OctetString, Present, Tag,
+//! `VarBindValue ::= CHOICE`
+use crate::{
+    Counter32, Counter64, IpAddress, Opaque, SimpleSyntaxStringValue, TimeTicks, Unsigned32,
 };
-use rasn::{Decode, Decoder, Encode, Encoder};
+use rasn::parts::OneOf::{Other, This};
+use rasn::prelude::*;
 
-/// CHOICE { integer-value INTEGER (-2147483648..2147483647), string-value OCTET STRING,
-/// objectID-value OBJECT IDENTIFIER, ipAddress-value IpAddress, counter-value Counter32,
-/// unsigned-integer-value Unsigned32, timeticks-value TimeTicks, arbitrary-value Opaque,
-/// big-counter-value Counter64, unSpecified NULL, noSuchObject \[0\] NULL,
-/// noSuchInstance \[1\] NULL, endOfMibView \[2\] NULL }
+/// `VarBindValue ::= CHOICE`
+///
+/// An alternative that is a CHOICE is written as its alternatives: `simple`, `application-wide`.
 #[derive(Debug, PartialEq, Eq, Drop)]
 pub enum VarBindValue {
-    Integer(i32),
-    OctetString(OctetString),
-    ObjectIdentifier(ObjectIdentifier),
-    IpAddress(IpAddress),
-    Counter32(Counter32),
-    Unsigned32(Unsigned32),
-    TimeTicks(TimeTicks),
-    Opaque(Opaque),
-    Counter64(Counter64),
-    /// There is no value, as in a request.
-    Unspecified,
-    /// There is no object with this name.
-    NoSuchObject,
-    /// The object has no such instance.
-    NoSuchInstance,
-    /// No name follows the requested one.
-    EndOfMibView,
+    /// `integer-value INTEGER (-2147483648..2147483647)`
+    IntegerValue(i32),
+    /// `string-value SimpleSyntax-string-value`
+    StringValue(SimpleSyntaxStringValue),
+    /// `objectID-value OBJECT IDENTIFIER`
+    ObjectIdValue(ObjectIdentifier),
+    /// `ipAddress-value IpAddress`
+    IpAddressValue(IpAddress),
+    /// `counter-value Counter32`
+    CounterValue(Counter32),
+    /// `timeticks-value TimeTicks`
+    TimeticksValue(TimeTicks),
+    /// `arbitrary-value Opaque`
+    ArbitraryValue(Opaque),
+    /// `big-counter-value Counter64`
+    BigCounterValue(Counter64),
+    /// `unsigned-integer-value Unsigned32`
+    UnsignedIntegerValue(Unsigned32),
+    /// `unSpecified NULL`
+    UnSpecified(()),
+    /// `noSuchObject [0] IMPLICIT NULL`
+    NoSuchObject(Implicit<ContextTag<0>, ()>),
+    /// `noSuchInstance [1] IMPLICIT NULL`
+    NoSuchInstance(Implicit<ContextTag<1>, ()>),
+    /// `endOfMibView [2] IMPLICIT NULL`
+    EndOfMibView(Implicit<ContextTag<2>, ()>),
 }
+
+/// The alternatives, as they are read.
+type Alternatives = OneOf<i32, Alternatives1>;
+
+type Alternatives1 = OneOf<SimpleSyntaxStringValue, Alternatives2>;
+
+type Alternatives2 = OneOf<ObjectIdentifier, Alternatives3>;
+
+type Alternatives3 = OneOf<IpAddress, Alternatives4>;
+
+type Alternatives4 = OneOf<Counter32, Alternatives5>;
+
+type Alternatives5 = OneOf<TimeTicks, Alternatives6>;
+
+type Alternatives6 = OneOf<Opaque, Alternatives7>;
+
+type Alternatives7 = OneOf<Counter64, Alternatives8>;
+
+type Alternatives8 = OneOf<Unsigned32, Alternatives9>;
+
+type Alternatives9 = OneOf<(), Alternatives10>;
+
+type Alternatives10 = OneOf<Implicit<ContextTag<0>, ()>, Alternatives11>;
+
+type Alternatives11 = OneOf<Implicit<ContextTag<1>, ()>, Alternatives12>;
+
+type Alternatives12 = Last<Implicit<ContextTag<2>, ()>>;
 
 impl AsnType for VarBindValue {
     ghost use Rattle.std.specs.Prelude.{refl};
+    ghost use Rattle.rasn_types.specs.Shapes.{choice, chosen};
     ghost use Rattle.rasn_types.specs.Tags.{eoc};
     ghost use Rattle.rasn_types.specs.Trees.{unconstrained};
-    ghost use Rattle.rasn_snmp.specs.Values.{var_bind_value_shape, var_bind_value_tree};
+    ghost use Rattle.rasn_snmp.specs.declared.var_bind_value.VarBindValue.TheVariants.{IntegerValue, StringValue, ObjectIdValue, IpAddressValue, CounterValue, TimeticksValue, ArbitraryValue, BigCounterValue, UnsignedIntegerValue, UnSpecified, NoSuchObject, NoSuchInstance, EndOfMibView};
 
     ghost TAG = { eoc };
 
@@ -50,176 +80,120 @@ impl AsnType for VarBindValue {
 
     const CONSTRAINTS: Constraints = Constraints::NONE;
 
-    ghost shape = { var_bind_value_shape };
+    ghost shape = { choice ⟦<Alternatives as DecodeAlternatives>⟧.parts };
 
-    ghost tree = { var_bind_value_tree };
+    ghost tree = { elim [ IntegerValue x ↦ chosen 0 (⟦<i32 as AsnType>⟧.tree x) | StringValue x ↦ chosen 1 (⟦<SimpleSyntaxStringValue as AsnType>⟧.tree x) | ObjectIdValue x ↦ chosen 2 (⟦<ObjectIdentifier as AsnType>⟧.tree x) | IpAddressValue x ↦ chosen 3 (⟦<IpAddress as AsnType>⟧.tree x) | CounterValue x ↦ chosen 4 (⟦<Counter32 as AsnType>⟧.tree x) | TimeticksValue x ↦ chosen 5 (⟦<TimeTicks as AsnType>⟧.tree x) | ArbitraryValue x ↦ chosen 6 (⟦<Opaque as AsnType>⟧.tree x) | BigCounterValue x ↦ chosen 7 (⟦<Counter64 as AsnType>⟧.tree x) | UnsignedIntegerValue x ↦ chosen 8 (⟦<Unsigned32 as AsnType>⟧.tree x) | UnSpecified x ↦ chosen 9 (⟦<() as AsnType>⟧.tree x) | NoSuchObject x ↦ chosen 10 (⟦<Implicit<ContextTag<0>, ()> as AsnType>⟧.tree x) | NoSuchInstance x ↦ chosen 11 (⟦<Implicit<ContextTag<1>, ()> as AsnType>⟧.tree x) | EndOfMibView x ↦ chosen 12 (⟦<Implicit<ContextTag<2>, ()> as AsnType>⟧.tree x) ] };
 
     ghost own = { refl };
 }
 
 impl LawfulEq for VarBindValue {
-    ghost use Rattle.rasn_types.specs.Equality.{choice_decided, alternative, signed_decided, unsigned_decided, octets_decided};
-    ghost use Rattle.rasn_snmp.specs.Values.{no_field};
-    ghost use Rattle.rasn_snmp.specs.contracts.var_bind_value.VarBindValue.{enum as var_bind_value_enum};
-    ghost use Rattle.rasn_snmp.specs.Values.{var_bind_value_tree};
+    ghost use Rattle.rasn_types.specs.Deciding.{deciding};
+    ghost use Rattle.rasn_types.specs.Equality.{choice_decided, alternative};
+    ghost use Rattle.rasn_snmp.specs.contracts.var_bind_value.VarBindValue.{enum as own_enum};
+    ghost use Rattle.rasn_snmp.specs.contracts.ip_address.IpAddressLawfulEq.TheImpl.Laws.{decides-law as ip_address_law};
+    ghost use Rattle.rasn_snmp.specs.contracts.simple_syntax_string_value.SimpleSyntaxStringValueLawfulEq.TheImpl.Laws.{decides-law as simple_syntax_string_value_law};
 
-    ghost decides = { choice_decided var_bind_value_enum _ var_bind_value_tree (
-      alternative (λ x. x.0) signed_decided,
-      (
-        alternative (λ x. x.0) octets_decided,
-        (
-          alternative (λ x. x.0) octets_decided,
-          (
-            alternative (λ x. x.0) octets_decided,
-            (
-              alternative (λ x. x.0) unsigned_decided,
-              (
-                alternative (λ x. x.0) unsigned_decided,
-                (
-                  alternative (λ x. x.0) unsigned_decided,
-                  (
-                    alternative (λ x. x.0) octets_decided,
-                    (
-                      alternative (λ x. x.0) unsigned_decided,
-                      (
-                        no_field,
-                        (
-                          no_field,
-                          (
-                            no_field,
-                            (
-                              no_field,
-                              tt,
-                            ),
-                          ),
-                        ),
-                      ),
-                    ),
-                  ),
-                ),
-              ),
-            ),
-          ),
-        ),
-      ),
-    ) };
+    ghost decides = { choice_decided own_enum _ _ (alternative (λ x. x.0) (Prim.search (ip_address_law, simple_syntax_string_value_law, deciding) depth 64), (alternative (λ x. x.0) (Prim.search (ip_address_law, simple_syntax_string_value_law, deciding) depth 64), (alternative (λ x. x.0) (Prim.search (ip_address_law, simple_syntax_string_value_law, deciding) depth 64), (alternative (λ x. x.0) (Prim.search (ip_address_law, simple_syntax_string_value_law, deciding) depth 64), (alternative (λ x. x.0) (Prim.search (ip_address_law, simple_syntax_string_value_law, deciding) depth 64), (alternative (λ x. x.0) (Prim.search (ip_address_law, simple_syntax_string_value_law, deciding) depth 64), (alternative (λ x. x.0) (Prim.search (ip_address_law, simple_syntax_string_value_law, deciding) depth 64), (alternative (λ x. x.0) (Prim.search (ip_address_law, simple_syntax_string_value_law, deciding) depth 64), (alternative (λ x. x.0) (Prim.search (ip_address_law, simple_syntax_string_value_law, deciding) depth 64), (alternative (λ x. x.0) (Prim.search (ip_address_law, simple_syntax_string_value_law, deciding) depth 64), (alternative (λ x. x.0) (Prim.search (ip_address_law, simple_syntax_string_value_law, deciding) depth 64), (alternative (λ x. x.0) (Prim.search (ip_address_law, simple_syntax_string_value_law, deciding) depth 64), (alternative (λ x. x.0) (Prim.search (ip_address_law, simple_syntax_string_value_law, deciding) depth 64), tt))))))))))))) };
 }
 
 impl Present for VarBindValue {
-    ghost use Rattle.rasn_snmp.specs.Values.{var_bind_value_not_absent};
+    ghost use Rattle.rasn_types.specs.Equality.{chosen_not_absent};
+    ghost use Rattle.rasn_snmp.specs.declared.var_bind_value.VarBindValue.TheVariants.{IntegerValue, StringValue, ObjectIdValue, IpAddressValue, CounterValue, TimeticksValue, ArbitraryValue, BigCounterValue, UnsignedIntegerValue, UnSpecified, NoSuchObject, NoSuchInstance, EndOfMibView};
 
-    ghost present = { var_bind_value_not_absent };
+    ghost present = { elim [ IntegerValue x ↦ chosen_not_absent | StringValue x ↦ chosen_not_absent | ObjectIdValue x ↦ chosen_not_absent | IpAddressValue x ↦ chosen_not_absent | CounterValue x ↦ chosen_not_absent | TimeticksValue x ↦ chosen_not_absent | ArbitraryValue x ↦ chosen_not_absent | BigCounterValue x ↦ chosen_not_absent | UnsignedIntegerValue x ↦ chosen_not_absent | UnSpecified x ↦ chosen_not_absent | NoSuchObject x ↦ chosen_not_absent | NoSuchInstance x ↦ chosen_not_absent | EndOfMibView x ↦ chosen_not_absent ] };
 }
 
-/// The later alternatives, as they are read.
-type Later = OneOf<
-    Unsigned32,
-    OneOf<
-        TimeTicks,
-        OneOf<
-            Opaque,
-            OneOf<
-                Counter64,
-                OneOf<
-                    (),
-                    OneOf<
-                        Implicit<ContextTag<0>, ()>,
-                        OneOf<Implicit<ContextTag<1>, ()>, Last<Implicit<ContextTag<2>, ()>>>,
-                    >,
-                >,
-            >,
-        >,
-    >,
->;
-
-/// All alternatives, as they are read.
-type Alternatives = OneOf<
-    i32,
-    OneOf<OctetString, OneOf<ObjectIdentifier, OneOf<IpAddress, OneOf<Counter32, Later>>>>,
->;
+impl FirstTags for VarBindValue {
+    fn is_first_tag(tag: Tag) -> bool {
+        <Alternatives as DecodeAlternatives>::has_tag(tag)
+    }
+}
 
 impl Decode for VarBindValue {
-    ghost use Rattle.std.specs.Prelude.{◌≡◌, IfErr, Err};
-    ghost use Rattle.rasn_de.specs.Decodes.{Decodes};
-    ghost use Rattle.rasn_de.specs.AlternativeTypes.{DecodesAlternative};
-    ghost use Rattle.rasn_snmp.specs.Values.{var_bind_value_alternatives, var_bind_value_shape, var_bind_value_tree, var_bind_value_name};
+    ghost use Rattle.std.specs.Prelude.{codes};
+    ghost use Rattle.rasn_de.specs.AlternativeTypes.{DecodesAlternativeBy};
+    ghost use Rattle.rasn_de.specs.ValueErrors.{errors_of};
+
+    ghost errors = { λ _ _. errors_of (DecodesAlternativeBy ⟦<Alternatives as DecodeAlternatives>⟧.extensible ⟦<Alternatives as DecodeAlternatives>⟧.parts ⟦<Alternatives as DecodeAlternatives>⟧.inner (codes "VarBindValue")) };
 
     fn decode_with_tag_and_constraints(
         decoder: &mut Decoder<'_>,
         _tag: Tag,
         _constraints: &Constraints,
-    ) -> Result<VarBindValue, DecodeError>
-        ensures reads { Decodes var_bind_value_shape var_bind_value_tree decoder.old result decoder.new }
-        ensures rules { IfErr result (λ e. e.codec ≡ decoder.old.rule) }
-        ensures fails { IfErr result (λ e. DecodesAlternative var_bind_value_alternatives var_bind_value_tree var_bind_value_name decoder.old (Err e) decoder.new) }
-    {
-        match decoder.read_choice::<Alternatives>("VarBindValue")? {
-            This(value) => Ok(VarBindValue::Integer(value)),
-            Other(This(value)) => Ok(VarBindValue::OctetString(value)),
-            Other(Other(This(value))) => Ok(VarBindValue::ObjectIdentifier(value)),
-            Other(Other(Other(This(value)))) => Ok(VarBindValue::IpAddress(value)),
-            Other(Other(Other(Other(This(value))))) => Ok(VarBindValue::Counter32(value)),
-            Other(Other(Other(Other(Other(This(value)))))) => Ok(VarBindValue::Unsigned32(value)),
-            Other(Other(Other(Other(Other(Other(This(value))))))) => Ok(VarBindValue::TimeTicks(
+    ) -> Result<VarBindValue, DecodeError> {
+        match decoder.read_choice::<Alternatives>("VarBindValue") {
+            Ok(This(value)) => Ok(VarBindValue::IntegerValue(value)),
+            Ok(Other(This(value))) => Ok(VarBindValue::StringValue(value)),
+            Ok(Other(Other(This(value)))) => Ok(VarBindValue::ObjectIdValue(value)),
+            Ok(Other(Other(Other(This(value))))) => Ok(VarBindValue::IpAddressValue(value)),
+            Ok(Other(Other(Other(Other(This(value)))))) => Ok(VarBindValue::CounterValue(value)),
+            Ok(Other(Other(Other(Other(Other(This(value))))))) => Ok(VarBindValue::TimeticksValue(
                 value,
             )),
-            Other(Other(Other(Other(Other(Other(Other(This(value)))))))) => Ok(VarBindValue::Opaque(
-                value,
-            )),
-            Other(Other(Other(Other(Other(Other(Other(Other(This(value))))))))) => Ok(
-                VarBindValue::Counter64(value),
+            Ok(Other(Other(Other(Other(Other(Other(This(value)))))))) => Ok(
+                VarBindValue::ArbitraryValue(value),
             ),
-            Other(Other(Other(Other(Other(Other(Other(Other(Other(This(_value)))))))))) => Ok(
-                VarBindValue::Unspecified,
+            Ok(Other(Other(Other(Other(Other(Other(Other(This(value))))))))) => Ok(
+                VarBindValue::BigCounterValue(value),
             ),
-            Other(Other(Other(Other(Other(Other(Other(Other(Other(Other(This(_value))))))))))) =>
-                Ok(VarBindValue::NoSuchObject),
-            Other(
-                Other(Other(Other(Other(Other(Other(Other(Other(Other(Other(This(_value))))))))))),
-            ) => Ok(VarBindValue::NoSuchInstance),
-            Other(
+            Ok(Other(Other(Other(Other(Other(Other(Other(Other(This(value)))))))))) => Ok(
+                VarBindValue::UnsignedIntegerValue(value),
+            ),
+            Ok(Other(Other(Other(Other(Other(Other(Other(Other(Other(This(value))))))))))) => Ok(
+                VarBindValue::UnSpecified(value),
+            ),
+            Ok(Other(Other(Other(Other(Other(Other(Other(Other(Other(Other(This(value)))))))))))) =>
+                Ok(VarBindValue::NoSuchObject(value)),
+            Ok(
                 Other(
                     Other(
-                        Other(Other(Other(Other(Other(Other(Other(Other(Other(Last(_value)))))))))),
+                        Other(Other(Other(Other(Other(Other(Other(Other(Other(This(value)))))))))),
                     ),
                 ),
-            ) => Ok(VarBindValue::EndOfMibView),
+            ) => Ok(VarBindValue::NoSuchInstance(value)),
+            Ok(
+                Other(
+                    Other(
+                        Other(
+                            Other(
+                                Other(Other(Other(Other(Other(Other(Other(Other(Last(value))))))))),
+                            ),
+                        ),
+                    ),
+                ),
+            ) => Ok(VarBindValue::EndOfMibView(value)),
+            Err(error) => Err(error),
         }
     }
 }
 
-/// The later alternatives, as they are written.
-type WrittenLater<'a> = OneOf<
-    &'a Unsigned32,
-    OneOf<
-        &'a TimeTicks,
-        OneOf<
-            &'a Opaque,
-            OneOf<
-                &'a Counter64,
-                OneOf<
-                    &'a (),
-                    OneOf<
-                        &'a Implicit<ContextTag<0>, ()>,
-                        OneOf<
-                            &'a Implicit<ContextTag<1>, ()>,
-                            Last<&'a Implicit<ContextTag<2>, ()>>,
-                        >,
-                    >,
-                >,
-            >,
-        >,
-    >,
->;
+/// The alternatives, as they are written.
+type Written<'a> = OneOf<&'a i32, Written1<'a>>;
 
-/// All alternatives, as they are written.
-type Written<'a> = OneOf<
-    &'a i32,
-    OneOf<
-        &'a OctetString,
-        OneOf<&'a ObjectIdentifier, OneOf<&'a IpAddress, OneOf<&'a Counter32, WrittenLater<'a>>>>,
-    >,
->;
+type Written1<'a> = OneOf<&'a SimpleSyntaxStringValue, Written2<'a>>;
+
+type Written2<'a> = OneOf<&'a ObjectIdentifier, Written3<'a>>;
+
+type Written3<'a> = OneOf<&'a IpAddress, Written4<'a>>;
+
+type Written4<'a> = OneOf<&'a Counter32, Written5<'a>>;
+
+type Written5<'a> = OneOf<&'a TimeTicks, Written6<'a>>;
+
+type Written6<'a> = OneOf<&'a Opaque, Written7<'a>>;
+
+type Written7<'a> = OneOf<&'a Counter64, Written8<'a>>;
+
+type Written8<'a> = OneOf<&'a Unsigned32, Written9<'a>>;
+
+type Written9<'a> = OneOf<&'a (), Written10<'a>>;
+
+type Written10<'a> = OneOf<&'a Implicit<ContextTag<0>, ()>, Written11<'a>>;
+
+type Written11<'a> = OneOf<&'a Implicit<ContextTag<1>, ()>, Written12<'a>>;
+
+type Written12<'a> = Last<&'a Implicit<ContextTag<2>, ()>>;
 
 impl Encode for VarBindValue {
     fn encode_with_tag_and_constraints(
@@ -230,45 +204,43 @@ impl Encode for VarBindValue {
         _identifier: Identifier,
     ) -> Result<(), EncodeError> {
         match self {
-            VarBindValue::Integer(value) => encoder.write_choice::<Written<'_>>(This(value)),
-            VarBindValue::OctetString(value) => encoder.write_choice::<Written<'_>>(Other(This(
+            VarBindValue::IntegerValue(value) => encoder.write_choice::<Written<'_>>(This(value)),
+            VarBindValue::StringValue(value) => encoder.write_choice::<Written<'_>>(Other(This(
                 value,
             ))),
-            VarBindValue::ObjectIdentifier(value) => encoder.write_choice::<Written<'_>>(Other(
-                Other(This(value)),
-            )),
-            VarBindValue::IpAddress(value) => encoder.write_choice::<Written<'_>>(Other(Other(Other(
+            VarBindValue::ObjectIdValue(value) => encoder.write_choice::<Written<'_>>(Other(Other(
                 This(value),
-            )))),
-            VarBindValue::Counter32(value) => encoder.write_choice::<Written<'_>>(Other(Other(Other(
+            ))),
+            VarBindValue::IpAddressValue(value) => encoder.write_choice::<Written<'_>>(Other(Other(
                 Other(This(value)),
-            )))),
-            VarBindValue::Unsigned32(value) => encoder.write_choice::<Written<'_>>(Other(Other(
+            ))),
+            VarBindValue::CounterValue(value) => encoder.write_choice::<Written<'_>>(Other(Other(
+                Other(Other(This(value))),
+            ))),
+            VarBindValue::TimeticksValue(value) => encoder.write_choice::<Written<'_>>(Other(Other(
                 Other(Other(Other(This(value)))),
             ))),
-            VarBindValue::TimeTicks(value) => encoder.write_choice::<Written<'_>>(Other(Other(Other(
-                Other(Other(Other(This(value)))),
-            )))),
-            VarBindValue::Opaque(value) => encoder.write_choice::<Written<'_>>(Other(Other(Other(
+            VarBindValue::ArbitraryValue(value) => encoder.write_choice::<Written<'_>>(Other(Other(
                 Other(Other(Other(Other(This(value))))),
-            )))),
-            VarBindValue::Counter64(value) => encoder.write_choice::<Written<'_>>(Other(Other(Other(
+            ))),
+            VarBindValue::BigCounterValue(value) => encoder.write_choice::<Written<'_>>(Other(Other(
                 Other(Other(Other(Other(Other(This(value)))))),
-            )))),
-            VarBindValue::Unspecified => encoder.write_choice::<Written<'_>>(Other(Other(Other(
-                Other(Other(Other(Other(Other(Other(This(&()))))))),
-            )))),
-            VarBindValue::NoSuchObject => encoder.write_choice::<Written<'_>>(Other(Other(Other(
-                Other(Other(Other(Other(Other(Other(Other(This(&Implicit::new(()))))))))),
-            )))),
-            VarBindValue::NoSuchInstance => encoder.write_choice::<Written<'_>>(Other(Other(Other(
-                Other(Other(Other(Other(Other(Other(Other(Other(This(&Implicit::new(())))))))))),
-            )))),
-            VarBindValue::EndOfMibView => encoder.write_choice::<Written<'_>>(Other(Other(Other(
-                Other(Other(Other(Other(Other(Other(Other(Other(Other(Last(&Implicit::new(
-                    (),
-                ))))))))))),
-            )))),
+            ))),
+            VarBindValue::UnsignedIntegerValue(value) => encoder.write_choice::<Written<'_>>(Other(
+                Other(Other(Other(Other(Other(Other(Other(This(value)))))))),
+            )),
+            VarBindValue::UnSpecified(value) => encoder.write_choice::<Written<'_>>(Other(Other(
+                Other(Other(Other(Other(Other(Other(Other(This(value)))))))),
+            ))),
+            VarBindValue::NoSuchObject(value) => encoder.write_choice::<Written<'_>>(Other(Other(
+                Other(Other(Other(Other(Other(Other(Other(Other(This(value))))))))),
+            ))),
+            VarBindValue::NoSuchInstance(value) => encoder.write_choice::<Written<'_>>(Other(Other(
+                Other(Other(Other(Other(Other(Other(Other(Other(Other(This(value)))))))))),
+            ))),
+            VarBindValue::EndOfMibView(value) => encoder.write_choice::<Written<'_>>(Other(Other(
+                Other(Other(Other(Other(Other(Other(Other(Other(Other(Other(Last(value))))))))))),
+            ))),
         }
     }
 

@@ -1,12 +1,43 @@
 //! The subcommand `rust`, which writes a crate of typed Rattle for the types of modules.
 
 use crate::{REFUSED, USAGE, sources_of, unreadable};
-use clap::{Arg, ArgMatches, Command};
-use rasn_compiler::Modules;
+use clap::{Arg, ArgAction, ArgMatches, Command};
+use rasn_compiler::{Modules, Source};
 use rasn_print::{Fault, modules_of};
-use rasn_rattle::{File, HOLDER_NAMES, Holder, crate_files, holder_of};
+use rasn_rattle::{
+    File, HOLDER_NAMES, Held, Holder, Options, crate_files, holder_of, is_crate_name,
+};
 use std::alloc::{AllocError, Global};
 use std::{fs, io};
+
+/// The options that may be repeated: the name, that of the value, and the help.
+const OPTIONS: [(&str, &str, &str); 5] = [
+    (
+        "message",
+        "TYPE=RULES",
+        "Says that TYPE is a whole message, which is read by RULES: ber, cer or der",
+    ),
+    (
+        "also",
+        "NAME",
+        "Names a file NAME.rt of the crate that is written by hand, as a public module",
+    ),
+    (
+        "type",
+        "TYPE",
+        "Writes TYPE and what it is made of, instead of all types of the modules",
+    ),
+    (
+        "open",
+        "TYPE",
+        "Writes TYPE as an open type, whose values are octets",
+    ),
+    (
+        "from",
+        "CRATE=FILE",
+        "Takes the types of the modules in FILE from CRATE, which has been written of them",
+    ),
+];
 
 /// Returns the subcommand: its arguments and help.
 pub(crate) fn rust_command<'a>(alloc: Global) -> Result<Command<'a>, AllocError> {
@@ -20,13 +51,27 @@ pub(crate) fn rust_command<'a>(alloc: Global) -> Result<Command<'a>, AllocError>
         .value_name("FOLDER")
         .required(true)
         .help("The folder of the crate, which has its name; files of these types are overwritten");
-    Command::new(alloc, "rust")
+    let mut command = Command::new(alloc, "rust")
         .about(
             "Writes the types of modules as a crate of Rattle, and prints its line of crates.txt",
         )
-        .after_help("Example: soqavise rust My.asn1 --out crates/mine")
+        .after_help("Example: soqavise rust My.asn1 --out crates/mine --message Certificate=der")
         .arg(files)?
-        .arg(out)
+        .arg(out)?;
+    for option in OPTIONS {
+        command = command.arg(repeated(alloc, option))?;
+    }
+    Ok(command)
+}
+
+/// Returns an option that may be repeated, of its name, that of its value, and its help.
+fn repeated<'a>(alloc: Global, option: (&'a str, &'a str, &'a str)) -> Arg<'a> {
+    let (name, value, help) = option;
+    Arg::new(alloc, name)
+        .long(name)
+        .value_name(value)
+        .action(ArgAction::Append)
+        .help(help)
 }
 
 /// Runs the subcommand. Returns its exit status.
@@ -34,11 +79,37 @@ pub(crate) fn run_rust(rt: &HostRuntime, matches: &ArgMatches<'_>) -> Result<u8,
     let folder = matches.get_str("out").unwrap_or("");
     let name = crate_name(folder);
     if !is_crate_name(name) {
-        eprintln!(rt; "{folder}: the crate's name is not of small letters, digits and _").map_err(
-            Fault::of_write,
-        )?;
-        return Ok(USAGE);
+        return wrong(
+            rt,
+            folder,
+            "the crate's name is not of small letters, digits and _",
+        );
     }
+    let mut options = Options::new(rt.alloc(), name)?;
+    for option in ["message", "also", "type", "open"] {
+        for value in matches.get_strs(option).unwrap_or(&[]) {
+            if !options.add(option, value)? {
+                return wrong(rt, value, "not a value of this option");
+            }
+        }
+    }
+    run_files(rt, matches, options, folder)
+}
+
+/// Prints what is wrong about a word of the command line. Returns the exit status.
+fn wrong(rt: &HostRuntime, word: &str, reason: &str) -> Result<u8, Fault> {
+    eprintln!(rt; "{word}: {reason}").map_err(Fault::of_write)?;
+    Ok(USAGE)
+}
+
+/// Writes the crate of the modules in the files that the command line names.
+fn run_files(
+    rt: &HostRuntime,
+    matches: &ArgMatches<'_>,
+    options: Options,
+    folder: &str,
+) -> Result<u8, Fault> {
+    let mut options = options;
     let mut texts = Vec::new(rt.alloc());
     for file in matches.get_strs("file").unwrap_or(&[]) {
         match fs::read_to_string(rt, *file) {
@@ -46,7 +117,31 @@ pub(crate) fn run_rust(rt: &HostRuntime, matches: &ArgMatches<'_>) -> Result<u8,
             Err(error) => return unreadable(rt, file, &error),
         }
     }
-    run_texts(rt, texts, folder, name)
+    let wanted = texts.len();
+    for value in matches.get_strs("from").unwrap_or(&[]) {
+        let Some((crate_name, file)) = value.split_once("=") else {
+            return wrong(rt, value, "not a value of this option");
+        };
+        match fs::read_to_string(rt, file) {
+            Ok(text) => {
+                add_from(&mut options, crate_name, file, text.as_str())?;
+                texts.push((file, text))?;
+            }
+            Err(error) => return unreadable(rt, file, &error),
+        }
+    }
+    run_texts(rt, texts, wanted, &options, folder)
+}
+
+/// Adds that a crate has the types of the modules of a text.
+fn add_from(
+    options: &mut Options,
+    crate_name: &str,
+    name: &str,
+    text: &str,
+) -> Result<(), AllocError> {
+    let read = Modules::parse(options.alloc(), &[Source { name, text }])?;
+    options.add_from(crate_name, &read)
 }
 
 /// Returns the last part of the path of a folder.
@@ -58,59 +153,61 @@ fn crate_name(folder: &str) -> &str {
     }
 }
 
-/// Returns whether a crate may have the name.
-fn is_crate_name(name: &str) -> bool {
-    name.starts_with(|letter: char| letter.is_ascii_lowercase())
-        && name.chars().all(|letter| letter.is_ascii_lowercase()
-            || letter.is_ascii_digit()
-            || letter == '_')
-}
-
-/// Writes the crate of the modules of these texts, unless they have a fault, which is printed.
+/// Writes the crate of the modules of these texts, the first ones, as many as `wanted`, unless they
+/// have a fault, which is printed.
 fn run_texts<'a>(
     rt: &HostRuntime,
     texts: Vec<(&'a str, String)>,
+    wanted: usize,
+    options: &Options,
     folder: &str,
-    name: &str,
 ) -> Result<u8, Fault> {
     let mut texts = texts;
-    match held_types(rt.alloc(), texts.as_slice()) {
-        Ok(Holder { text, wanted }) => {
+    match held_types(options, texts.as_slice(), wanted) {
+        Ok(Holder { text, held }) => {
             let (module, _held) = HOLDER_NAMES;
             texts.push((module, text))?;
-            run_held(rt, texts.as_slice(), wanted, folder, name)
+            run_held(rt, texts.as_slice(), &held, options, folder)
         }
         Err(Fault::Call(faults)) => refused(rt, faults.as_str()),
         Err(fault) => Err(fault),
     }
 }
 
-/// Returns the module that holds the types of the modules of these texts, for which files are
-/// wanted, and of what they import.
-fn held_types<'a>(alloc: Global, texts: &'a [(&'a str, String)]) -> Result<Holder, Fault> {
+/// Returns the module that holds the types of the modules of these texts, the first ones, as many
+/// as `wanted`, and of what they import.
+fn held_types<'a>(
+    options: &Options,
+    texts: &'a [(&'a str, String)],
+    wanted: usize,
+) -> Result<Holder, Fault> {
+    let alloc = options.alloc();
     let sources = sources_of(alloc, texts)?;
-    let own = Modules::parse(alloc, sources.as_slice())?;
+    let own = sources.as_slice().get(..wanted).unwrap_or(&[]);
+    let own = Modules::parse(alloc, own)?;
     let read = modules_of(alloc, sources.as_slice())?;
-    Ok(holder_of(alloc, &read, own.modules.len())?)
+    if let Some(name) = options.unknown_in(&read) {
+        return Err(Fault::Call(format!(in alloc; "soqavise: no type {name} is known\n")?));
+    }
+    Ok(holder_of(options, &read, own.modules.len())?)
 }
 
-/// Writes the crate of the types that the last of these texts holds, for the first ones, as many as
-/// `wanted`.
+/// Writes the crate of the types that the last of these texts holds.
 fn run_held<'a>(
     rt: &HostRuntime,
     texts: &'a [(&'a str, String)],
-    wanted: usize,
+    held: &Held,
+    options: &Options,
     folder: &str,
-    name: &str,
 ) -> Result<u8, Fault> {
     let alloc = rt.alloc();
     let sources = sources_of(alloc, texts)?;
     let read = modules_of(alloc, sources.as_slice())?;
-    let (module, held) = HOLDER_NAMES;
-    match read.schema(alloc, module, held) {
+    let (module, name) = HOLDER_NAMES;
+    match read.schema(alloc, module, name) {
         Ok(resolved) => {
-            let files = crate_files(alloc, resolved, wanted, name)?;
-            write_files(rt, folder, name, files.as_slice())
+            let files = crate_files(options, resolved, held)?;
+            write_files(rt, folder, options, files.as_slice())
         }
         Err(stop) => refused(rt, format!(in alloc; "{stop}\n")?.as_str()),
     }
@@ -123,7 +220,12 @@ fn refused(rt: &HostRuntime, faults: &str) -> Result<u8, Fault> {
 }
 
 /// Writes the files of a crate into its folder, and prints its line of crates.txt.
-fn write_files(rt: &HostRuntime, folder: &str, name: &str, files: &[File]) -> Result<u8, Fault> {
+fn write_files(
+    rt: &HostRuntime,
+    folder: &str,
+    options: &Options,
+    files: &[File],
+) -> Result<u8, Fault> {
     let alloc = rt.alloc();
     let sources = format!(in alloc; "{folder}/src")?;
     if let Err(error) = fs::create_dir_all(rt, sources.as_str()) {
@@ -135,7 +237,7 @@ fn write_files(rt: &HostRuntime, folder: &str, name: &str, files: &[File]) -> Re
             return unwritable(rt, path.as_str(), &error);
         }
     }
-    println!(rt; "{name}: rasn rasn_types rasn_de rasn_enc").map_err(Fault::of_write)?;
+    println!(rt; "{}", options.crates_line()?.as_str()).map_err(Fault::of_write)?;
     Ok(0)
 }
 

@@ -2,14 +2,14 @@
 
 use crate::asserts::{
     Answer, Rewritten, ahead_of, assert_decodes, assert_has, assert_output, assert_rewrites,
-    assert_written_as,
+    assert_written_as, decoded,
 };
 use rasn::WholeMessage;
 use rasn::error::EncodeError;
-use rasn::types::{Codec, Unknown};
+use rasn::types::{Codec, Implicit, Unknown};
 use rasn_ldap::{
-    ChangeOperation, DerefAliases, LdapMessage, MaxInt, ProtocolOp, ResultCode, SearchRequest,
-    SearchScope,
+    ChangeOperationName, Filter, FilterAnd, LdapMessage, MaxInt, ProtocolOp, ResultCodeName,
+    SearchRequest, SearchRequestDerefAliases, SearchRequestScopeName,
 };
 use rasn_samples::ldap::{
     BIND, BIND_CONTINUES, BIND_STEP, BOUND, CHILDREN, DONE, ENTRY, EXTENDED, MODIFIED, MODIFY,
@@ -29,25 +29,182 @@ fn assert_written_back(rt: &impl Abort, alloc: Global, messages: &[&[u8]]) {
 
 #[test]
 fn requests_are_read_and_written_back(rt: HostRuntime) {
-    const ROWS: &[&[u8]] = &[BIND, BIND_STEP, UNBIND, SEARCH, CHILDREN, MODIFY, EXTENDED];
+    const ROWS: &[&[u8]] = &[BIND, BIND_STEP, UNBIND, SEARCH, CHILDREN, EXTENDED];
     assert_written_back(&rt, rt.alloc(), ROWS);
 }
 
 #[test]
 fn answers_are_read_and_written_back(rt: HostRuntime) {
-    const ROWS: &[&[u8]] = &[BOUND, BIND_CONTINUES, ENTRY, REFERENCE, DONE, MODIFIED, WHO];
+    const ROWS: &[&[u8]] = &[BOUND, BIND_CONTINUES, REFERENCE, DONE, MODIFIED, WHO];
     assert_written_back(&rt, rt.alloc(), ROWS);
+}
+
+// By hand: the operations that the programs above weren't asked for, each with its response.
+#[test]
+fn further_operations_are_read_and_written_back(rt: HostRuntime) {
+    const ROWS: &[&[u8]] = &[
+        // an entry with its class and two values of `sn` (4.7)
+        &[
+            0x30, 0x3F, 0x02, 0x01, 0x02, 0x68, 0x3A, 0x04, 0x0F, 0x63, 0x6E, 0x3D, 0x62, 0x2C,
+            0x64, 0x63, 0x3D, 0x65, 0x78, 0x61, 0x6D, 0x70, 0x6C, 0x65, 0x30, 0x27, 0x30, 0x17,
+            0x04, 0x0B, 0x6F, 0x62, 0x6A, 0x65, 0x63, 0x74, 0x43, 0x6C, 0x61, 0x73, 0x73, 0x31,
+            0x08, 0x04, 0x06, 0x70, 0x65, 0x72, 0x73, 0x6F, 0x6E, 0x30, 0x0C, 0x04, 0x02, 0x73,
+            0x6E, 0x31, 0x06, 0x04, 0x01, 0x78, 0x04, 0x01, 0x79,
+        ],
+        // entryAlreadyExists (4.1.9)
+        &[
+            0x30, 0x12, 0x02, 0x01, 0x02, 0x69, 0x0D, 0x0A, 0x01, 0x44, 0x04, 0x00, 0x04, 0x06,
+            0x65, 0x78, 0x69, 0x73, 0x74, 0x73,
+        ],
+        // a name (4.8)
+        &[
+            0x30, 0x14, 0x02, 0x01, 0x03, 0x4A, 0x0F, 0x63, 0x6E, 0x3D, 0x62, 0x2C, 0x64, 0x63,
+            0x3D, 0x65, 0x78, 0x61, 0x6D, 0x70, 0x6C, 0x65,
+        ],
+        // noSuchObject, with the name of the entry above
+        &[
+            0x30, 0x16, 0x02, 0x01, 0x03, 0x6B, 0x11, 0x0A, 0x01, 0x20, 0x04, 0x0A, 0x64, 0x63,
+            0x3D, 0x65, 0x78, 0x61, 0x6D, 0x70, 0x6C, 0x65, 0x04, 0x00,
+        ],
+        // with the name of the new parent (4.9)
+        &[
+            0x30, 0x2B, 0x02, 0x01, 0x04, 0x6C, 0x26, 0x04, 0x0F, 0x63, 0x6E, 0x3D, 0x61, 0x2C,
+            0x64, 0x63, 0x3D, 0x65, 0x78, 0x61, 0x6D, 0x70, 0x6C, 0x65, 0x04, 0x04, 0x63, 0x6E,
+            0x3D, 0x63, 0x01, 0x01, 0xFF, 0x80, 0x0A, 0x64, 0x63, 0x3D, 0x65, 0x78, 0x61, 0x6D,
+            0x70, 0x6C, 0x65,
+        ],
+        // a referral (4.1.10)
+        &[
+            0x30, 0x1D, 0x02, 0x01, 0x04, 0x6D, 0x18, 0x0A, 0x01, 0x0A, 0x04, 0x00, 0x04, 0x00,
+            0xA3, 0x0F, 0x04, 0x0D, 0x6C, 0x64, 0x61, 0x70, 0x3A, 0x2F, 0x2F, 0x62, 0x2F, 0x64,
+            0x63, 0x3D, 0x62,
+        ],
+        // a value of `sn` (4.10)
+        &[
+            0x30, 0x1F, 0x02, 0x01, 0x05, 0x6E, 0x1A, 0x04, 0x0F, 0x63, 0x6E, 0x3D, 0x61, 0x2C,
+            0x64, 0x63, 0x3D, 0x65, 0x78, 0x61, 0x6D, 0x70, 0x6C, 0x65, 0x30, 0x07, 0x04, 0x02,
+            0x73, 0x6E, 0x04, 0x01, 0x78,
+        ],
+        // compareTrue
+        &[
+            0x30, 0x0C, 0x02, 0x01, 0x05, 0x6F, 0x07, 0x0A, 0x01, 0x06, 0x04, 0x00, 0x04, 0x00,
+        ],
+        // the request 5 (4.11)
+        &[0x30, 0x06, 0x02, 0x01, 0x06, 0x50, 0x01, 0x05],
+        // with a name and a value (4.13)
+        &[
+            0x30, 0x24, 0x02, 0x01, 0x07, 0x79, 0x1F, 0x80, 0x18, 0x31, 0x2E, 0x33, 0x2E, 0x36,
+            0x2E, 0x31, 0x2E, 0x34, 0x2E, 0x31, 0x2E, 0x34, 0x32, 0x30, 0x33, 0x2E, 0x31, 0x2E,
+            0x39, 0x2E, 0x31, 0x2E, 0x34, 0x81, 0x03, 0x80, 0x01, 0x07,
+        ],
+    ];
+    assert_written_back(&rt, rt.alloc(), ROWS);
+}
+
+/// Returns the name of an operation that no message of the programs has.
+fn further_operation(message: &LdapMessage) -> &'static str {
+    match &message.protocol_op {
+        ProtocolOp::DelRequest(name) if name.as_str() == "cn=b,dc=example" => "delRequest",
+        ProtocolOp::ModDnRequest(request)
+            if request.deleteoldrdn && request.new_superior.is_some() => { "modDNRequest" }
+        ProtocolOp::CompareResponse(result)
+            if result.result_code.named() == Some(ResultCodeName::CompareTrue) => {
+            "compareResponse"
+        }
+        ProtocolOp::AbandonRequest(request) if request.value == 5 => "abandonRequest",
+        ProtocolOp::IntermediateResponse(response) if response.response_name.is_some() => {
+            "intermediateResponse"
+        }
+        _ => "another",
+    }
+}
+
+/// Asserts that the message has this operation, with its parts.
+fn assert_operation(rt: &impl Abort, alloc: Global, octets: &[u8], name: &str) {
+    let answer = ahead_of(rt, LdapMessage::read_with_remainder(alloc, octets), &[]);
+    assert_has(
+        rt,
+        answer,
+        |message: &LdapMessage| further_operation(message) == name,
+    );
+}
+
+#[test]
+fn further_operations_have_their_parts(rt: HostRuntime) {
+    const ROWS: &[(&[u8], &str)] = &[
+        (
+            &[
+                0x30, 0x14, 0x02, 0x01, 0x03, 0x4A, 0x0F, 0x63, 0x6E, 0x3D, 0x62, 0x2C, 0x64, 0x63,
+                0x3D, 0x65, 0x78, 0x61, 0x6D, 0x70, 0x6C, 0x65,
+            ],
+            "delRequest",
+        ),
+        (
+            &[
+                0x30, 0x2B, 0x02, 0x01, 0x04, 0x6C, 0x26, 0x04, 0x0F, 0x63, 0x6E, 0x3D, 0x61, 0x2C,
+                0x64, 0x63, 0x3D, 0x65, 0x78, 0x61, 0x6D, 0x70, 0x6C, 0x65, 0x04, 0x04, 0x63, 0x6E,
+                0x3D, 0x63, 0x01, 0x01, 0xFF, 0x80, 0x0A, 0x64, 0x63, 0x3D, 0x65, 0x78, 0x61, 0x6D,
+                0x70, 0x6C, 0x65,
+            ],
+            "modDNRequest",
+        ),
+        (
+            &[
+                0x30, 0x0C, 0x02, 0x01, 0x05, 0x6F, 0x07, 0x0A, 0x01, 0x06, 0x04, 0x00, 0x04, 0x00,
+            ],
+            "compareResponse",
+        ),
+        (
+            &[0x30, 0x06, 0x02, 0x01, 0x06, 0x50, 0x01, 0x05],
+            "abandonRequest",
+        ),
+        (
+            &[
+                0x30, 0x24, 0x02, 0x01, 0x07, 0x79, 0x1F, 0x80, 0x18, 0x31, 0x2E, 0x33, 0x2E, 0x36,
+                0x2E, 0x31, 0x2E, 0x34, 0x2E, 0x31, 0x2E, 0x34, 0x32, 0x30, 0x33, 0x2E, 0x31, 0x2E,
+                0x39, 0x2E, 0x31, 0x2E, 0x34, 0x81, 0x03, 0x80, 0x01, 0x07,
+            ],
+            "intermediateResponse",
+        ),
+    ];
+    for (octets, name) in ROWS {
+        assert_operation(&rt, rt.alloc(), octets, name);
+    }
+}
+
+// Values of an attribute are a SET OF (4.1.7), whose order doesn't count. They are written in the
+// order of DER (X.690 11.6): the `y` and `x` of the programs' messages as `x` and `y`.
+#[test]
+fn values_of_attributes_are_written_in_order(rt: HostRuntime) {
+    const IN_ORDER: &[u8] = &[
+        0x30, 0x32, 0x02, 0x01, 0x02, 0x64, 0x2D, 0x04, 0x0F, 0x63, 0x6E, 0x3D, 0x61, 0x2C, 0x64,
+        0x63, 0x3D, 0x65, 0x78, 0x61, 0x6D, 0x70, 0x6C, 0x65, 0x30, 0x1A, 0x30, 0x0C, 0x04, 0x02,
+        0x73, 0x6E, 0x31, 0x06, 0x04, 0x01, 0x78, 0x04, 0x01, 0x79, 0x30, 0x0A, 0x04, 0x03, 0x75,
+        0x69, 0x64, 0x31, 0x03, 0x04, 0x01, 0x76,
+    ];
+    const CHANGED: &[u8] = &[
+        0x30, 0x4A, 0x02, 0x01, 0x02, 0x66, 0x45, 0x04, 0x0F, 0x63, 0x6E, 0x3D, 0x61, 0x2C, 0x64,
+        0x63, 0x3D, 0x65, 0x78, 0x61, 0x6D, 0x70, 0x6C, 0x65, 0x30, 0x32, 0x30, 0x11, 0x0A, 0x01,
+        0x02, 0x30, 0x0C, 0x04, 0x02, 0x73, 0x6E, 0x31, 0x06, 0x04, 0x01, 0x78, 0x04, 0x01, 0x79,
+        0x30, 0x0C, 0x0A, 0x01, 0x01, 0x30, 0x07, 0x04, 0x03, 0x75, 0x69, 0x64, 0x31, 0x00, 0x30,
+        0x0F, 0x0A, 0x01, 0x00, 0x30, 0x0A, 0x04, 0x03, 0x75, 0x69, 0x64, 0x31, 0x03, 0x04, 0x01,
+        0x76,
+    ];
+    const ROWS: &[Rewritten<'static>] = &[
+        (ENTRY, Codec::Ber, Codec::Der, IN_ORDER),
+        (MODIFY, Codec::Ber, Codec::Der, CHANGED),
+    ];
+    assert_rewrites::<LdapMessage>(&rt, rt.alloc(), ROWS);
 }
 
 /// Returns whether these are the parts of the search that `ldapsearch` was given.
 fn has_parts(search: &SearchRequest) -> bool {
     search.base_object.as_str() == "dc=example"
-        && search.scope == SearchScope::WHOLE_SUBTREE
-        && search.deref_aliases == DerefAliases::InSearching
-        && search.size_limit.number == 10
-        && search.time_limit.number == 5
+        && search.scope.named() == Some(SearchRequestScopeName::WholeSubtree)
+        && search.deref_aliases == SearchRequestDerefAliases::DerefInSearching
+        && search.size_limit.value == 10
+        && search.time_limit.value == 5
         && !search.types_only
-        && search.filter.as_bytes().len() == 25
         && search.attributes.iter().any(|name| name.as_str() == "uid")
 }
 
@@ -55,7 +212,7 @@ fn has_parts(search: &SearchRequest) -> bool {
 fn is_search(message: &LdapMessage) -> bool {
     match &message.protocol_op {
         ProtocolOp::SearchRequest(search) => {
-            message.message_id.number == 2 && message.controls.is_some() && has_parts(search)
+            message.message_id.value == 2 && message.controls.is_some() && has_parts(search)
         }
         _ => false,
     }
@@ -71,11 +228,53 @@ fn a_search_has_its_parts(rt: HostRuntime) {
     assert_has(&rt, answer, is_search);
 }
 
+/// Returns the filters that the search's filter is the conjunction of, as its encoding.
+fn conjunction(message: &LdapMessage) -> Option<&[u8]> {
+    match &message.protocol_op {
+        ProtocolOp::SearchRequest(search) => match &search.filter {
+            Filter::And(filters) => Some(filters.as_bytes()),
+            _ => None,
+        },
+        _ => None,
+    }
+}
+
+/// Returns whether octets are a conjunction of two filters, the second of which is a negation.
+fn is_of_two_filters(alloc: Global, octets: &[u8]) -> bool {
+    match decoded::<FilterAnd>(alloc, Codec::Ber, octets) {
+        Ok(filters) => match filters.value.as_slice() {
+            [first, second] => {
+                let first = decoded::<Filter>(alloc, Codec::Ber, first.as_bytes());
+                let second = decoded::<Filter>(alloc, Codec::Ber, second.as_bytes());
+                matches!(first, Ok(Filter::EqualityMatch(_)))
+                    && matches!(second, Ok(Filter::Not(_)))
+            }
+            _ => false,
+        },
+        Err(_) => false,
+    }
+}
+
+// `(&(sn=x)(!(uid=q*)))`: filters within a filter are its octets.
+#[test]
+fn a_filter_is_read_level_by_level(rt: HostRuntime) {
+    let alloc = rt.alloc();
+    match LdapMessage::read(alloc, SEARCH) {
+        Ok(message) => {
+            let is_read = conjunction(&message).is_some_and(|octets| is_of_two_filters(
+                alloc, octets,
+            ));
+            assert!(rt; is_read);
+        }
+        Err(error) => assert!(rt; false, "{:?}", error.kind),
+    }
+}
+
 /// Returns whether the bind is in progress.
 fn is_bind_in_progress(message: &LdapMessage) -> bool {
     match &message.protocol_op {
         ProtocolOp::BindResponse(response) => {
-            response.result_code == ResultCode::SASL_BIND_IN_PROGRESS
+            response.result_code.named() == Some(ResultCodeName::SaslBindInProgress)
         }
         _ => false,
     }
@@ -84,17 +283,16 @@ fn is_bind_in_progress(message: &LdapMessage) -> bool {
 /// Returns whether the first change of a modification replaces values.
 fn is_replaced_first(message: &LdapMessage) -> bool {
     match &message.protocol_op {
-        ProtocolOp::ModifyRequest(modify) => modify
-            .changes
-            .first()
-            .is_some_and(|change| change.operation == ChangeOperation::REPLACE),
+        ProtocolOp::ModifyRequest(modify) => modify.changes.first().is_some_and(|change| {
+            change.operation.named() == Some(ChangeOperationName::Replace)
+        }),
         _ => false,
     }
 }
 
 /// Returns whether the message is the third one, without controls.
 fn is_third(message: &LdapMessage) -> bool {
-    message.message_id.number == 3 && message.controls.is_none()
+    message.message_id.value == 3 && message.controls.is_none()
 }
 
 #[test]
@@ -119,8 +317,8 @@ fn has_unknown_null(message: &LdapMessage) -> bool {
 }
 
 // All SEQUENCEs of LDAP are extensible (RFC 4511, 4): UNBIND, the success of a bind and a control,
-// each with one more component, which is written as it was read; and a bind with `[1]`, which is
-// neither `simple [0]` nor `sasl [3]` (4.2).
+// each with one more component, which is written as it was read; a bind with `[1]`, which is neither
+// `simple [0]` nor `sasl [3]` (4.2); and an operation 17, which the standard doesn't have (4.1.1).
 #[test]
 fn what_is_unknown_is_kept(rt: HostRuntime) {
     const NEWER: &[u8] = &[0x30, 0x07, 0x02, 0x01, 0x03, 0x42, 0x00, 0x05, 0x00];
@@ -137,6 +335,7 @@ fn what_is_unknown_is_kept(rt: HostRuntime) {
         &[
             0x30, 0x0C, 0x02, 0x01, 0x01, 0x60, 0x07, 0x02, 0x01, 0x03, 0x04, 0x00, 0x81, 0x00,
         ],
+        &[0x30, 0x05, 0x02, 0x01, 0x03, 0x51, 0x00],
     ];
     let alloc = rt.alloc();
     assert_written_back(&rt, alloc, ROWS);
@@ -209,9 +408,8 @@ fn other_forms_are_written_as_ldap_asks(rt: HostRuntime) {
     assert_rewrites::<LdapMessage>(&rt, rt.alloc(), ROWS);
 }
 
-// UNBIND, truncated, as a SET, with an operation 17 that the standard doesn't have (4.1.1), with
-// the message numbers 2^31 and -1 (4.1.1); then a name that isn't UTF-8 (4.1.2), and a version 0
-// (4.2).
+// UNBIND, truncated, as a SET, with the message numbers 2^31 and -1 (4.1.1); then a name that isn't
+// UTF-8 (4.1.2), and a version 0 (4.2).
 #[test]
 fn spoilt_messages_are_refused(rt: HostRuntime) {
     const ROWS: &[Answer<'static>] = &[
@@ -224,11 +422,6 @@ fn spoilt_messages_are_refused(rt: HostRuntime) {
             &[0x31, 0x05, 0x02, 0x01, 0x03, 0x42, 0x00],
             Codec::Ber,
             "CodecSpecific { inner: Ber(MismatchedTag { expected: Tag { class: Universal, value: 16 }, actual: Tag { class: Universal, value: 17 } }) }",
-        ),
-        (
-            &[0x30, 0x05, 0x02, 0x01, 0x03, 0x51, 0x00],
-            Codec::Ber,
-            "NoValidChoice { name: \"ProtocolOp\" }",
         ),
         (
             &[
@@ -264,8 +457,8 @@ fn spoilt_messages_are_refused(rt: HostRuntime) {
 /// Encodes an UNBIND with this message number.
 fn written_unbind(alloc: Global, number: u32) -> Result<Vec<u8>, EncodeError> {
     let message = LdapMessage {
-        message_id: MaxInt { number },
-        protocol_op: ProtocolOp::UnbindRequest,
+        message_id: MaxInt { value: number },
+        protocol_op: ProtocolOp::UnbindRequest(Implicit::new(())),
         controls: None,
         unknown: Unknown::new(alloc),
     };

@@ -1,63 +1,69 @@
 //! The numbers that have names in the types of messages, each beside the one that its standard gives.
 
-use rasn_ldap::{ChangeOperation, ResultCode, SearchScope};
-use rasn_snmp::{VERSION_1, VERSION_2C, error_status};
+use rasn::types::Enumerated;
+use rasn_ldap::{ChangeOperationName, ResultCodeName, SearchRequestScopeName};
+use rasn_snmp::error_status;
+use rasn_snmp::version::{VERSION_1, VERSION_2C, VERSION_3};
 use std::process::Abort;
 
 /// A number that has a name, and the one of the standard.
-type Row = (i32, i32);
+type Row = (i128, i128);
 
 // resultCode of LDAPResult (RFC 4511, 4.1.9).
-const RESULT_CODES: &[Row] = &[
-    (ResultCode::SUCCESS.number, 0),
-    (ResultCode::OPERATIONS_ERROR.number, 1),
-    (ResultCode::PROTOCOL_ERROR.number, 2),
-    (ResultCode::TIME_LIMIT_EXCEEDED.number, 3),
-    (ResultCode::SIZE_LIMIT_EXCEEDED.number, 4),
-    (ResultCode::COMPARE_FALSE.number, 5),
-    (ResultCode::COMPARE_TRUE.number, 6),
-    (ResultCode::AUTH_METHOD_NOT_SUPPORTED.number, 7),
-    (ResultCode::STRONGER_AUTH_REQUIRED.number, 8),
-    (ResultCode::REFERRAL.number, 10),
-    (ResultCode::ADMIN_LIMIT_EXCEEDED.number, 11),
-    (ResultCode::UNAVAILABLE_CRITICAL_EXTENSION.number, 12),
-    (ResultCode::CONFIDENTIALITY_REQUIRED.number, 13),
-    (ResultCode::SASL_BIND_IN_PROGRESS.number, 14),
-    (ResultCode::NO_SUCH_ATTRIBUTE.number, 16),
-    (ResultCode::UNDEFINED_ATTRIBUTE_TYPE.number, 17),
-    (ResultCode::INAPPROPRIATE_MATCHING.number, 18),
-    (ResultCode::CONSTRAINT_VIOLATION.number, 19),
-    (ResultCode::ATTRIBUTE_OR_VALUE_EXISTS.number, 20),
-    (ResultCode::INVALID_ATTRIBUTE_SYNTAX.number, 21),
-    (ResultCode::NO_SUCH_OBJECT.number, 32),
-    (ResultCode::ALIAS_PROBLEM.number, 33),
-    (ResultCode::INVALID_DN_SYNTAX.number, 34),
-    (ResultCode::ALIAS_DEREFERENCING_PROBLEM.number, 36),
-    (ResultCode::INAPPROPRIATE_AUTHENTICATION.number, 48),
-    (ResultCode::INVALID_CREDENTIALS.number, 49),
-    (ResultCode::INSUFFICIENT_ACCESS_RIGHTS.number, 50),
-    (ResultCode::BUSY.number, 51),
-    (ResultCode::UNAVAILABLE.number, 52),
-    (ResultCode::UNWILLING_TO_PERFORM.number, 53),
-    (ResultCode::LOOP_DETECT.number, 54),
-    (ResultCode::NAMING_VIOLATION.number, 64),
-    (ResultCode::OBJECT_CLASS_VIOLATION.number, 65),
-    (ResultCode::NOT_ALLOWED_ON_NON_LEAF.number, 66),
-    (ResultCode::NOT_ALLOWED_ON_RDN.number, 67),
-    (ResultCode::ENTRY_ALREADY_EXISTS.number, 68),
-    (ResultCode::OBJECT_CLASS_MODS_PROHIBITED.number, 69),
-    (ResultCode::AFFECTS_MULTIPLE_DSAS.number, 71),
-    (ResultCode::OTHER.number, 80),
+const RESULT_CODES: &[(ResultCodeName, isize)] = &[
+    (ResultCodeName::Success, 0),
+    (ResultCodeName::OperationsError, 1),
+    (ResultCodeName::ProtocolError, 2),
+    (ResultCodeName::TimeLimitExceeded, 3),
+    (ResultCodeName::SizeLimitExceeded, 4),
+    (ResultCodeName::CompareFalse, 5),
+    (ResultCodeName::CompareTrue, 6),
+    (ResultCodeName::AuthMethodNotSupported, 7),
+    (ResultCodeName::StrongerAuthRequired, 8),
+    (ResultCodeName::Referral, 10),
+    (ResultCodeName::AdminLimitExceeded, 11),
+    (ResultCodeName::UnavailableCriticalExtension, 12),
+    (ResultCodeName::ConfidentialityRequired, 13),
+    (ResultCodeName::SaslBindInProgress, 14),
+    (ResultCodeName::NoSuchAttribute, 16),
+    (ResultCodeName::UndefinedAttributeType, 17),
+    (ResultCodeName::InappropriateMatching, 18),
+    (ResultCodeName::ConstraintViolation, 19),
+    (ResultCodeName::AttributeOrValueExists, 20),
+    (ResultCodeName::InvalidAttributeSyntax, 21),
+    (ResultCodeName::NoSuchObject, 32),
+    (ResultCodeName::AliasProblem, 33),
+    (ResultCodeName::InvalidDnSyntax, 34),
+    (ResultCodeName::AliasDereferencingProblem, 36),
+    (ResultCodeName::InappropriateAuthentication, 48),
+    (ResultCodeName::InvalidCredentials, 49),
+    (ResultCodeName::InsufficientAccessRights, 50),
+    (ResultCodeName::Busy, 51),
+    (ResultCodeName::Unavailable, 52),
+    (ResultCodeName::UnwillingToPerform, 53),
+    (ResultCodeName::LoopDetect, 54),
+    (ResultCodeName::NamingViolation, 64),
+    (ResultCodeName::ObjectClassViolation, 65),
+    (ResultCodeName::NotAllowedOnNonLeaf, 66),
+    (ResultCodeName::NotAllowedOnRdn, 67),
+    (ResultCodeName::EntryAlreadyExists, 68),
+    (ResultCodeName::ObjectClassModsProhibited, 69),
+    (ResultCodeName::AffectsMultipleDsas, 71),
+    (ResultCodeName::Other, 80),
 ];
 
-// scope of a search (RFC 4511, 4.5.1.2), operation of a change (4.6).
-const OTHER_NUMBERS: &[Row] = &[
-    (SearchScope::BASE_OBJECT.number, 0),
-    (SearchScope::SINGLE_LEVEL.number, 1),
-    (SearchScope::WHOLE_SUBTREE.number, 2),
-    (ChangeOperation::ADD.number, 0),
-    (ChangeOperation::DELETE.number, 1),
-    (ChangeOperation::REPLACE.number, 2),
+// scope of a search (RFC 4511, 4.5.1.2).
+const SCOPES: &[(SearchRequestScopeName, isize)] = &[
+    (SearchRequestScopeName::BaseObject, 0),
+    (SearchRequestScopeName::SingleLevel, 1),
+    (SearchRequestScopeName::WholeSubtree, 2),
+];
+
+// operation of a change (RFC 4511, 4.6).
+const OPERATIONS: &[(ChangeOperationName, isize)] = &[
+    (ChangeOperationName::Add, 0),
+    (ChangeOperationName::Delete, 1),
+    (ChangeOperationName::Replace, 2),
 ];
 
 // error-status of a PDU (RFC 3416, 3).
@@ -90,15 +96,23 @@ fn assert_numbers(rt: &impl Abort, rows: &[Row]) {
     }
 }
 
+/// Asserts that each name has the number of the standard.
+fn assert_named<E: Enumerated + Drop>(rt: &impl Abort, rows: &[(E, isize)]) {
+    for (name, number) in rows {
+        assert!(rt; name.discriminant() == *number, "{number}");
+    }
+}
+
 #[test]
 fn numbers_are_those_of_the_standards(rt: HostRuntime) {
-    assert_numbers(&rt, RESULT_CODES);
-    assert_numbers(&rt, OTHER_NUMBERS);
+    assert_named(&rt, RESULT_CODES);
+    assert_named(&rt, SCOPES);
+    assert_named(&rt, OPERATIONS);
     assert_numbers(&rt, ERROR_STATUSES);
 }
 
-// version of a message (RFC 1157, 4; RFC 1901, 3).
+// version of a message (RFC 1157, 4; RFC 1901, 3; RFC 3412, 6).
 #[test]
 fn versions_have_their_numbers(rt: HostRuntime) {
-    assert!(rt; VERSION_1 == 0 && VERSION_2C == 1);
+    assert!(rt; VERSION_1 == 0 && VERSION_2C == 1 && VERSION_3 == 3);
 }

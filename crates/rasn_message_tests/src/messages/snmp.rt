@@ -1,6 +1,7 @@
-//! SNMP messages (RFC 1157, 1901 and 3416) made by net-snmp, and invalid ones.
+//! SNMP messages (RFC 1157, 1901, 3412 and 3416), those with a community made by net-snmp, and
+//! invalid ones.
 
-use crate::asserts::{Answer, ahead_of, assert_decodes, assert_has, assert_written_as};
+use crate::asserts::{Answer, ahead_of, assert_decodes, assert_has, assert_written_as, decoded};
 use crate::messages::spoilt::{Spoilt, assert_spoilt, spoilt};
 use rasn::WholeMessage;
 use rasn::types::Codec;
@@ -8,7 +9,8 @@ use rasn_samples::snmp::{
     END_OF_VIEW, GET, GET_BULK, GET_NEXT, INFORM, NOT_WRITABLE, RESPONSE, SET, TRAP,
     TRAP_OF_VERSION_1,
 };
-use rasn_snmp::{Message, Pdus, VarBindValue};
+use rasn_snmp::version::{VERSION_2C, VERSION_3};
+use rasn_snmp::{Message, Pdus, ScopedPduData, SnmpV3Message, UsmSecurityParameters, VarBindValue};
 use std::alloc::Global;
 use std::process::Abort;
 
@@ -84,22 +86,23 @@ fn parts_of_messages_are_read(rt: HostRuntime) {
         (TRAP_OF_VERSION_1, Codec::Ber, TRAP),
     ];
     const RESPONSE: &str =
-        "Message { version: 1, community: OctetString { octets: [112, 114, 105, 118, 97, 116, 101] }, \
-        data: Response(Implicit { value: Pdu { request_id: 360256838, error_status: 17, error_index: 1, \
-        variable_bindings: [VarBind { name: ObjectIdentifier { arcs: [1, 3, 6, 1, 2, 1, 1, 6, 0] }, \
-        value: OctetString(OctetString { octets: [120] }) }] }, tag: PhantomData<_> }) }";
+        "Message { version: Integer { octets: [1] }, community: OctetString { octets: [112, 114, 105, 118, 97, 116, 101] }, \
+        data: Response(Implicit { value: Pdu { request_id: 360256838, error_status: Integer { octets: [17] }, \
+        error_index: Unsigned31 { value: 1 }, variable_bindings: VarBindList { value: [VarBind { name: ObjectIdentifier { arcs: [1, 3, 6, 1, 2, 1, 1, 6, 0] }, \
+        value: StringValue(SimpleSyntaxStringValue { value: OctetString { octets: [120] } }) }] } }, tag: PhantomData<_> }) }";
     const BULK: &str =
-        "Message { version: 1, community: OctetString { octets: [112, 117, 98, 108, 105, 99] }, \
-        data: GetBulkRequest(Implicit { value: BulkPdu { request_id: 594039703, non_repeaters: 1, max_repetitions: 3, \
-        variable_bindings: [VarBind { name: ObjectIdentifier { arcs: [1, 3, 6, 1, 2, 1, 1, 1, 0] }, value: Unspecified }, \
-        VarBind { name: ObjectIdentifier { arcs: [1, 3, 6, 1, 2, 1, 4, 20, 1, 1] }, value: Unspecified }] }, tag: PhantomData<_> }) }";
+        "Message { version: Integer { octets: [1] }, community: OctetString { octets: [112, 117, 98, 108, 105, 99] }, \
+        data: GetBulkRequest(Implicit { value: BulkPdu { request_id: 594039703, non_repeaters: Unsigned31 { value: 1 }, \
+        max_repetitions: Unsigned31 { value: 3 }, variable_bindings: VarBindList { value: [\
+        VarBind { name: ObjectIdentifier { arcs: [1, 3, 6, 1, 2, 1, 1, 1, 0] }, value: UnSpecified(()) }, \
+        VarBind { name: ObjectIdentifier { arcs: [1, 3, 6, 1, 2, 1, 4, 20, 1, 1] }, value: UnSpecified(()) }] } }, tag: PhantomData<_> }) }";
     const TRAP: &str =
-        "Message { version: 0, community: OctetString { octets: [112, 117, 98, 108, 105, 99] }, \
+        "Message { version: Integer { octets: [0] }, community: OctetString { octets: [112, 117, 98, 108, 105, 99] }, \
         data: Trap(Implicit { value: TrapPdu { enterprise: ObjectIdentifier { arcs: [1, 3, 6, 1, 4, 1, 8072, 3, 2, 10] }, \
-        agent_addr: Implicit { value: FixedOctetString { octets: [192, 0, 2, 7] }, tag: PhantomData<_> }, generic_trap: 6, \
-        specific_trap: 17, time_stamp: Implicit { value: 1234, tag: PhantomData<_> }, variable_bindings: \
-        [VarBind { name: ObjectIdentifier { arcs: [1, 3, 6, 1, 2, 1, 1, 5, 0] }, \
-        value: OctetString(OctetString { octets: [110, 97, 109, 101] }) }] }, tag: PhantomData<_> }) }";
+        agent_addr: Internet(IpAddress { value: OctetString { octets: [192, 0, 2, 7] } }), generic_trap: Integer { octets: [6] }, \
+        specific_trap: Integer { octets: [17] }, time_stamp: Implicit { value: 1234, tag: PhantomData<_> }, variable_bindings: \
+        VarBindList { value: [VarBind { name: ObjectIdentifier { arcs: [1, 3, 6, 1, 2, 1, 1, 5, 0] }, \
+        value: StringValue(SimpleSyntaxStringValue { value: OctetString { octets: [110, 97, 109, 101] } }) }] } }, tag: PhantomData<_> }) }";
     assert_decodes::<Message>(&rt, rt.alloc(), ROWS);
 }
 
@@ -110,54 +113,66 @@ fn values_are_read(rt: HostRuntime) {
         (
             &[0x02, 0x04, 0x80, 0x00, 0x00, 0x00],
             Codec::Ber,
-            "Integer(-2147483648)",
+            "IntegerValue(-2147483648)",
         ),
         (
             &[0x04, 0x02, 0x00, 0xFF],
             Codec::Ber,
-            "OctetString(OctetString { octets: [0, 255] })",
+            "StringValue(SimpleSyntaxStringValue { value: OctetString { octets: [0, 255] } })",
         ),
         (
             &[0x06, 0x03, 0x88, 0x37, 0x03],
             Codec::Ber,
-            "ObjectIdentifier(ObjectIdentifier { arcs: [2, 999, 3] })",
+            "ObjectIdValue(ObjectIdentifier { arcs: [2, 999, 3] })",
         ),
         (
             &[0x40, 0x04, 0xC0, 0x00, 0x02, 0x07],
             Codec::Ber,
-            "IpAddress(Implicit { value: FixedOctetString { octets: [192, 0, 2, 7] }, tag: PhantomData<_> })",
+            "IpAddressValue(IpAddress { value: OctetString { octets: [192, 0, 2, 7] } })",
         ),
         (
             &[0x41, 0x05, 0x00, 0x80, 0x00, 0x00, 0x00],
             Codec::Ber,
-            "Counter32(Implicit { value: 2147483648, tag: PhantomData<_> })",
+            "CounterValue(Implicit { value: 2147483648, tag: PhantomData<_> })",
         ),
         (
             &[0x42, 0x05, 0x00, 0xFF, 0xFF, 0xFF, 0xFF],
             Codec::Ber,
-            "Unsigned32(Implicit { value: 4294967295, tag: PhantomData<_> })",
+            "UnsignedIntegerValue(Implicit { value: 4294967295, tag: PhantomData<_> })",
         ),
         (
             &[0x43, 0x05, 0x00, 0xFF, 0xFF, 0xFF, 0xFF],
             Codec::Ber,
-            "TimeTicks(Implicit { value: 4294967295, tag: PhantomData<_> })",
+            "TimeticksValue(Implicit { value: 4294967295, tag: PhantomData<_> })",
         ),
         (
             &[0x44, 0x07, 0x9F, 0x78, 0x04, 0x41, 0x85, 0x2B, 0x00],
             Codec::Ber,
-            "Opaque(Implicit { value: OctetString { octets: [159, 120, 4, 65, 133, 43, 0] }, tag: PhantomData<_> })",
+            "ArbitraryValue(Implicit { value: OctetString { octets: [159, 120, 4, 65, 133, 43, 0] }, tag: PhantomData<_> })",
         ),
         (
             &[
                 0x46, 0x09, 0x00, 0xFF, 0xFF, 0xFF, 0xFF, 0xFF, 0xFF, 0xFF, 0xFF,
             ],
             Codec::Ber,
-            "Counter64(Implicit { value: 18446744073709551615, tag: PhantomData<_> })",
+            "BigCounterValue(Implicit { value: 18446744073709551615, tag: PhantomData<_> })",
         ),
-        (&[0x05, 0x00], Codec::Ber, "Unspecified"),
-        (&[0x80, 0x00], Codec::Ber, "NoSuchObject"),
-        (&[0x81, 0x00], Codec::Ber, "NoSuchInstance"),
-        (&[0x82, 0x00], Codec::Ber, "EndOfMibView"),
+        (&[0x05, 0x00], Codec::Ber, "UnSpecified(())"),
+        (
+            &[0x80, 0x00],
+            Codec::Ber,
+            "NoSuchObject(Implicit { value: (), tag: PhantomData<_> })",
+        ),
+        (
+            &[0x81, 0x00],
+            Codec::Ber,
+            "NoSuchInstance(Implicit { value: (), tag: PhantomData<_> })",
+        ),
+        (
+            &[0x82, 0x00],
+            Codec::Ber,
+            "EndOfMibView(Implicit { value: (), tag: PhantomData<_> })",
+        ),
     ];
     assert_decodes::<VarBindValue>(&rt, rt.alloc(), ROWS);
 }
@@ -172,12 +187,12 @@ fn spoilt_values_are_refused(rt: HostRuntime) {
         (
             &[0x40, 0x03, 0xC0, 0x00, 0x02],
             Codec::Ber,
-            "SizeConstraintNotSatisfied { size: Some(3), expected: Single(4) }",
+            "SizeConstraintNotSatisfied { size: Some(3), expected: Range { start: Some(4), end: Some(4) } }",
         ),
         (
             &[0x40, 0x05, 0xC0, 0x00, 0x02, 0x07, 0x00],
             Codec::Ber,
-            "SizeConstraintNotSatisfied { size: Some(5), expected: Single(4) }",
+            "SizeConstraintNotSatisfied { size: Some(5), expected: Range { start: Some(4), end: Some(4) } }",
         ),
         (
             &[0x41, 0x05, 0x01, 0x00, 0x00, 0x00, 0x00],
@@ -218,13 +233,17 @@ fn spoilt_values_are_refused(rt: HostRuntime) {
 #[test]
 fn values_that_der_does_not_have_are_read(rt: HostRuntime) {
     const ROWS: &[Answer<'static>] = &[
-        (&[0x02, 0x02, 0x00, 0x05], Codec::Ber, "Integer(5)"),
+        (&[0x02, 0x02, 0x00, 0x05], Codec::Ber, "IntegerValue(5)"),
         (
             &[0x02, 0x02, 0x00, 0x05],
             Codec::Der,
             "CodecSpecific { inner: Der(NonMinimalInteger) }",
         ),
-        (&[0x02, 0x82, 0x00, 0x01, 0x05], Codec::Ber, "Integer(5)"),
+        (
+            &[0x02, 0x82, 0x00, 0x01, 0x05],
+            Codec::Ber,
+            "IntegerValue(5)",
+        ),
         (
             &[0x02, 0x82, 0x00, 0x01, 0x05],
             Codec::Der,
@@ -233,21 +252,23 @@ fn values_that_der_does_not_have_are_read(rt: HostRuntime) {
         (
             &[0x24, 0x80, 0x04, 0x01, 0x78, 0x00, 0x00],
             Codec::Ber,
-            "OctetString(OctetString { octets: [120] })",
+            "StringValue(SimpleSyntaxStringValue { value: OctetString { octets: [120] } })",
         ),
     ];
     assert_decodes::<VarBindValue>(&rt, rt.alloc(), ROWS);
 }
 
 // The request of `snmpgetnext` with a length that is one too large, with a PDU that RFC 3416
-// doesn't have, with a version of another type, and with a SEQUENCE in place of the community, as
-// in version 3 (RFC 3412, 6).
+// doesn't have, with a version of another type, with a SEQUENCE in place of the community, as in
+// version 3 (RFC 3412, 6), and with the error-index -1, which is none of 0..max-bindings (RFC 3416,
+// 3).
 #[test]
 fn spoilt_messages_are_refused(rt: HostRuntime) {
     const LENGTH: usize = 1;
     const VERSION: usize = 2;
     const COMMUNITY: usize = 5;
     const PDU: usize = 13;
+    const ERROR_INDEX: usize = 26;
     const ROWS: &[Spoilt] = &[
         (LENGTH, 0x29, Codec::Ber, "Incomplete { needed: Size(1) }"),
         (PDU, 0xA9, Codec::Ber, "NoValidChoice { name: \"Pdus\" }"),
@@ -262,6 +283,12 @@ fn spoilt_messages_are_refused(rt: HostRuntime) {
             0x30,
             Codec::Ber,
             "CodecSpecific { inner: Ber(MismatchedTag { expected: Tag { class: Universal, value: 4 }, actual: Tag { class: Universal, value: 16 } }) }",
+        ),
+        (
+            ERROR_INDEX,
+            0xFF,
+            Codec::Ber,
+            "IntegerOverflow { max_width: 32 }",
         ),
     ];
     assert_spoilt::<Message>(&rt, rt.alloc(), GET_NEXT, ROWS);
@@ -285,4 +312,99 @@ fn a_message_of_indefinite_length_is_written_definite(rt: HostRuntime) {
     );
     let write = |alloc, message: &Message| message.write(alloc);
     assert_written_as(&rt, alloc, answer, write, GET_NEXT);
+}
+
+/// A message of version 3 by hand (RFC 3412, 6; RFC 3414, 2.4): a request without bindings, by
+/// which a manager asks for the engine's name (RFC 3414, 4).
+const DISCOVERY: &[u8] = &[
+    0x30, 0x38, 0x02, 0x01, 0x03, 0x30, 0x0E, 0x02, 0x01, 0x07, 0x02, 0x03, 0x00, 0xFF, 0xE3, 0x04,
+    0x01, 0x04, 0x02, 0x01, 0x03, 0x04, 0x10, 0x30, 0x0E, 0x04, 0x00, 0x02, 0x01, 0x00, 0x02, 0x01,
+    0x00, 0x04, 0x00, 0x04, 0x00, 0x04, 0x00, 0x30, 0x11, 0x04, 0x00, 0x04, 0x00, 0xA0, 0x0B, 0x02,
+    0x01, 0x2A, 0x02, 0x01, 0x00, 0x02, 0x01, 0x00, 0x30, 0x00,
+];
+
+/// Returns whether a message of version 3 is the request, with its security parameters.
+fn is_discovery(alloc: Global, message: &SnmpV3Message) -> bool {
+    let header = &message.msg_global_data;
+    let ScopedPduData::Plaintext(scoped) = &message.msg_data else {
+        return false;
+    };
+    let octets = message.msg_security_parameters.as_octets();
+    message.msg_version.value == VERSION_3
+        && header.msg_id.value == 7
+        && header.msg_max_size.value == 65507
+        && operation(&scoped.data) == "get-request"
+        && decoded::<UsmSecurityParameters>(alloc, Codec::Ber, octets).is_ok_and(|security| {
+            security.msg_user_name.value.as_octets().is_empty()
+        })
+}
+
+#[test]
+fn a_message_of_version_3_is_read_and_written_back(rt: HostRuntime) {
+    let alloc = rt.alloc();
+    let answer = ahead_of(
+        &rt,
+        SnmpV3Message::read_with_remainder(alloc, DISCOVERY),
+        &[],
+    );
+    match &answer {
+        Ok(message) => assert!(rt; is_discovery(alloc, message)),
+        Err(error) => assert!(rt; false, "{:?}", error.kind),
+    }
+    let write = |alloc, message: &SnmpV3Message| message.write(alloc);
+    assert_written_as(&rt, alloc, answer, write, DISCOVERY);
+}
+
+// An OCTET STRING in place of the scoped PDU is an encrypted one. Then a msgMaxSize of 483, an
+// msgSecurityModel of 0, and a BOOLEAN as msgData (RFC 3412, 6).
+#[test]
+fn spoilt_messages_of_version_3_are_refused(rt: HostRuntime) {
+    const ENCRYPTED: &[u8] = &[
+        0x30, 0x19, 0x02, 0x01, 0x03, 0x30, 0x0D, 0x02, 0x01, 0x07, 0x02, 0x02, 0x01, 0xE4, 0x04,
+        0x01, 0x03, 0x02, 0x01, 0x03, 0x04, 0x00, 0x04, 0x03, 0x01, 0x02, 0x03,
+    ];
+    const MAX_SIZE: usize = 13;
+    const MODEL: usize = 19;
+    const DATA: usize = 22;
+    const ROWS: &[Spoilt] = &[
+        (
+            MAX_SIZE,
+            0xE3,
+            Codec::Ber,
+            "ValueConstraintNotSatisfied { value: Integer { octets: [1, 227] }, expected: Range { start: Some(484), end: Some(2147483647) } }",
+        ),
+        (
+            MODEL,
+            0x00,
+            Codec::Ber,
+            "ValueConstraintNotSatisfied { value: Integer { octets: [0] }, expected: Range { start: Some(1), end: Some(2147483647) } }",
+        ),
+        (
+            DATA,
+            0x01,
+            Codec::Ber,
+            "NoValidChoice { name: \"ScopedPduData\" }",
+        ),
+    ];
+    let alloc = rt.alloc();
+    let answer = ahead_of(
+        &rt,
+        SnmpV3Message::read_with_remainder(alloc, ENCRYPTED),
+        &[],
+    );
+    assert_has(
+        &rt,
+        answer,
+        |message: &SnmpV3Message| matches!(message.msg_data, ScopedPduData::EncryptedPdu(_)),
+    );
+    assert_spoilt::<SnmpV3Message>(&rt, alloc, ENCRYPTED, ROWS);
+}
+
+// The version of net-snmp's response is 1, that of version 2c (RFC 1901, 3).
+#[test]
+fn versions_are_compared_with_their_names(rt: HostRuntime) {
+    let answer = ahead_of(&rt, Message::read_with_remainder(rt.alloc(), RESPONSE), &[]);
+    assert_has(&rt, answer, |message: &Message| {
+        message.version.to_i128() == Some(VERSION_2C)
+    });
 }

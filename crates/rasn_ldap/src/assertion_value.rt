@@ -1,0 +1,5 @@
+//! `AssertionValue ::= OCTET STRING`
+use rasn::prelude::*;
+
+/// `AssertionValue ::= OCTET STRING`
+pub type AssertionValue = OctetString;

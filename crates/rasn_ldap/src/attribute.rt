@@ -1,0 +1,90 @@
+//! `Attribute ::= SEQUENCE`
+use crate::{AttributeVals, LdapString};
+use rasn::prelude::*;
+
+/// `Attribute ::= SEQUENCE`
+#[derive(Debug, PartialEq, Eq, Drop)]
+pub struct Attribute {
+    /// `type LDAPString`
+    pub type_value: LdapString,
+    /// `vals Attribute-vals`
+    pub vals: AttributeVals,
+    /// `...`
+    pub unknown: Unknown,
+}
+
+/// The components, as they are read.
+type Parts = Required<LdapString, Parts1>;
+
+type Parts1 = Required<AttributeVals, Parts2>;
+
+type Parts2 = Required<Unknown, End>;
+
+impl AsnType for Attribute {
+    ghost use Rattle.std.specs.Prelude.{refl};
+    ghost use Rattle.rasn_types.specs.Tags.{in_universal};
+    ghost use Rattle.rasn_types.specs.Shapes.{seq};
+    ghost use Rattle.rasn_types.specs.Trees.{unconstrained};
+
+    ghost TAG = { in_universal 16 };
+
+    const TAG: Tag = Tag::SEQUENCE;
+
+    ghost CONSTRAINTS = { unconstrained };
+
+    const CONSTRAINTS: Constraints = Constraints::NONE;
+
+    ghost shape = { seq (in_universal 16) ⟦<Parts as DecodeParts>⟧.parts };
+
+    ghost tree = { λ a. ⟦<Parts as DecodeParts>⟧.tree (record { 0 = a.type_value; 1 = record { 0 = a.vals; 1 = record { 0 = a.unknown; 1 = record {} } } }) };
+
+    ghost own = { refl };
+}
+
+impl LawfulEq for Attribute {
+    ghost use Rattle.rasn_types.specs.Deciding.{deciding};
+    ghost use Rattle.rasn_ldap.specs.contracts.attribute_vals.AttributeValsLawfulEq.TheImpl.Laws.{decides-law as attribute_vals_law};
+
+    ghost decides = { Prim.search (attribute_vals_law, deciding) depth 64 };
+}
+
+impl Present for Attribute {
+    ghost use Rattle.rasn_types.specs.Equality.{parts_not_absent};
+
+    ghost present = { λ _. parts_not_absent };
+}
+
+impl Decode for Attribute {
+    fn decode_with_tag_and_constraints(
+        decoder: &mut Decoder<'_>,
+        tag: Tag,
+        _constraints: &Constraints,
+    ) -> Result<Attribute, DecodeError> {
+        let Required(type_value, rest) = decoder.read_sequence::<Parts>(tag)?;
+        let Required(vals, rest) = rest;
+        let Required(unknown, End) = rest;
+        Ok(Attribute {
+            type_value,
+            vals,
+            unknown,
+        })
+    }
+}
+
+impl Encode for Attribute {
+    fn encode_with_tag_and_constraints(
+        &self,
+        encoder: &mut Encoder,
+        tag: Tag,
+        _constraints: &Constraints,
+        _identifier: Identifier,
+    ) -> Result<(), EncodeError> {
+        let rest = Put(&self.unknown, End);
+        let rest = Put(&self.vals, rest);
+        encoder.write_sequence(tag, Put(&self.type_value, rest))
+    }
+
+    fn is_present(&self) -> bool {
+        true
+    }
+}

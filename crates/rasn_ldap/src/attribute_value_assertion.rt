@@ -1,0 +1,89 @@
+//! `AttributeValueAssertion ::= SEQUENCE`
+use crate::{AssertionValue, LdapString};
+use rasn::prelude::*;
+
+/// `AttributeValueAssertion ::= SEQUENCE`
+#[derive(Debug, PartialEq, Eq, Drop)]
+pub struct AttributeValueAssertion {
+    /// `attributeDesc LDAPString`
+    pub attribute_desc: LdapString,
+    /// `assertionValue AssertionValue`
+    pub assertion_value: AssertionValue,
+    /// `...`
+    pub unknown: Unknown,
+}
+
+/// The components, as they are read.
+type Parts = Required<LdapString, Parts1>;
+
+type Parts1 = Required<AssertionValue, Parts2>;
+
+type Parts2 = Required<Unknown, End>;
+
+impl AsnType for AttributeValueAssertion {
+    ghost use Rattle.std.specs.Prelude.{refl};
+    ghost use Rattle.rasn_types.specs.Tags.{in_universal};
+    ghost use Rattle.rasn_types.specs.Shapes.{seq};
+    ghost use Rattle.rasn_types.specs.Trees.{unconstrained};
+
+    ghost TAG = { in_universal 16 };
+
+    const TAG: Tag = Tag::SEQUENCE;
+
+    ghost CONSTRAINTS = { unconstrained };
+
+    const CONSTRAINTS: Constraints = Constraints::NONE;
+
+    ghost shape = { seq (in_universal 16) ⟦<Parts as DecodeParts>⟧.parts };
+
+    ghost tree = { λ a. ⟦<Parts as DecodeParts>⟧.tree (record { 0 = a.attribute_desc; 1 = record { 0 = a.assertion_value; 1 = record { 0 = a.unknown; 1 = record {} } } }) };
+
+    ghost own = { refl };
+}
+
+impl LawfulEq for AttributeValueAssertion {
+    ghost use Rattle.rasn_types.specs.Deciding.{deciding};
+
+    ghost decides = { Prim.search deciding depth 64 };
+}
+
+impl Present for AttributeValueAssertion {
+    ghost use Rattle.rasn_types.specs.Equality.{parts_not_absent};
+
+    ghost present = { λ _. parts_not_absent };
+}
+
+impl Decode for AttributeValueAssertion {
+    fn decode_with_tag_and_constraints(
+        decoder: &mut Decoder<'_>,
+        tag: Tag,
+        _constraints: &Constraints,
+    ) -> Result<AttributeValueAssertion, DecodeError> {
+        let Required(attribute_desc, rest) = decoder.read_sequence::<Parts>(tag)?;
+        let Required(assertion_value, rest) = rest;
+        let Required(unknown, End) = rest;
+        Ok(AttributeValueAssertion {
+            attribute_desc,
+            assertion_value,
+            unknown,
+        })
+    }
+}
+
+impl Encode for AttributeValueAssertion {
+    fn encode_with_tag_and_constraints(
+        &self,
+        encoder: &mut Encoder,
+        tag: Tag,
+        _constraints: &Constraints,
+        _identifier: Identifier,
+    ) -> Result<(), EncodeError> {
+        let rest = Put(&self.unknown, End);
+        let rest = Put(&self.assertion_value, rest);
+        encoder.write_sequence(tag, Put(&self.attribute_desc, rest))
+    }
+
+    fn is_present(&self) -> bool {
+        true
+    }
+}

@@ -1,0 +1,93 @@
+//! `CompareRequest ::= [APPLICATION 14] IMPLICIT SEQUENCE`
+use crate::{AttributeValueAssertion, LdapString};
+use rasn::prelude::*;
+
+/// `CompareRequest ::= [APPLICATION 14] IMPLICIT SEQUENCE`
+#[derive(Debug, PartialEq, Eq, Drop)]
+pub struct CompareRequest {
+    /// `entry LDAPString`
+    pub entry: LdapString,
+    /// `ava AttributeValueAssertion`
+    pub ava: AttributeValueAssertion,
+    /// `...`
+    pub unknown: Unknown,
+}
+
+/// The components, as they are read.
+type Parts = Required<LdapString, Parts1>;
+
+type Parts1 = Required<AttributeValueAssertion, Parts2>;
+
+type Parts2 = Required<Unknown, End>;
+
+impl AsnType for CompareRequest {
+    ghost use Rattle.std.specs.Prelude.{refl};
+    ghost use Rattle.rasn_types.specs.declared.types.tag.Class.TheVariants.{Application};
+    ghost use Rattle.rasn_types.specs.Shapes.{seq};
+    ghost use Rattle.rasn_types.specs.Trees.{unconstrained};
+
+    ghost TAG = { record { class = Application; value = 14 } };
+
+    const TAG: Tag = Tag {
+        class: Class::Application,
+        value: 14,
+    };
+
+    ghost CONSTRAINTS = { unconstrained };
+
+    const CONSTRAINTS: Constraints = Constraints::NONE;
+
+    ghost shape = { seq (record { class = Application; value = 14 }) ⟦<Parts as DecodeParts>⟧.parts };
+
+    ghost tree = { λ a. ⟦<Parts as DecodeParts>⟧.tree (record { 0 = a.entry; 1 = record { 0 = a.ava; 1 = record { 0 = a.unknown; 1 = record {} } } }) };
+
+    ghost own = { refl };
+}
+
+impl LawfulEq for CompareRequest {
+    ghost use Rattle.rasn_types.specs.Deciding.{deciding};
+    ghost use Rattle.rasn_ldap.specs.contracts.attribute_value_assertion.AttributeValueAssertionLawfulEq.TheImpl.Laws.{decides-law as attribute_value_assertion_law};
+
+    ghost decides = { Prim.search (attribute_value_assertion_law, deciding) depth 64 };
+}
+
+impl Present for CompareRequest {
+    ghost use Rattle.rasn_types.specs.Equality.{parts_not_absent};
+
+    ghost present = { λ _. parts_not_absent };
+}
+
+impl Decode for CompareRequest {
+    fn decode_with_tag_and_constraints(
+        decoder: &mut Decoder<'_>,
+        tag: Tag,
+        _constraints: &Constraints,
+    ) -> Result<CompareRequest, DecodeError> {
+        let Required(entry, rest) = decoder.read_sequence::<Parts>(tag)?;
+        let Required(ava, rest) = rest;
+        let Required(unknown, End) = rest;
+        Ok(CompareRequest {
+            entry,
+            ava,
+            unknown,
+        })
+    }
+}
+
+impl Encode for CompareRequest {
+    fn encode_with_tag_and_constraints(
+        &self,
+        encoder: &mut Encoder,
+        tag: Tag,
+        _constraints: &Constraints,
+        _identifier: Identifier,
+    ) -> Result<(), EncodeError> {
+        let rest = Put(&self.unknown, End);
+        let rest = Put(&self.ava, rest);
+        encoder.write_sequence(tag, Put(&self.entry, rest))
+    }
+
+    fn is_present(&self) -> bool {
+        true
+    }
+}

@@ -1,0 +1,6 @@
+//! `CompareResponse ::= [APPLICATION 15] IMPLICIT LDAPResult`
+use crate::LdapResult;
+use rasn::prelude::*;
+
+/// `CompareResponse ::= [APPLICATION 15] IMPLICIT LDAPResult`
+pub type CompareResponse = Implicit<ApplicationTag<15>, LdapResult>;

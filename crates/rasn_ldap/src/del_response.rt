@@ -1,0 +1,6 @@
+//! `DelResponse ::= [APPLICATION 11] IMPLICIT LDAPResult`
+use crate::LdapResult;
+use rasn::prelude::*;
+
+/// `DelResponse ::= [APPLICATION 11] IMPLICIT LDAPResult`
+pub type DelResponse = Implicit<ApplicationTag<11>, LdapResult>;

@@ -1,0 +1,91 @@
+//! `IntermediateResponse ::= [APPLICATION 25] IMPLICIT SEQUENCE`
+use rasn::prelude::*;
+
+/// `IntermediateResponse ::= [APPLICATION 25] IMPLICIT SEQUENCE`
+#[derive(Debug, PartialEq, Eq, Drop)]
+pub struct IntermediateResponse {
+    /// `responseName [0] IMPLICIT UTF8String OPTIONAL`
+    pub response_name: Option<Implicit<ContextTag<0>, Utf8String>>,
+    /// `responseValue [1] IMPLICIT OCTET STRING OPTIONAL`
+    pub response_value: Option<Implicit<ContextTag<1>, OctetString>>,
+    /// `...`
+    pub unknown: Unknown,
+}
+
+/// The components, as they are read.
+type Parts = Optional<Implicit<ContextTag<0>, Utf8String>, Parts1>;
+
+type Parts1 = Optional<Implicit<ContextTag<1>, OctetString>, Parts2>;
+
+type Parts2 = Required<Unknown, End>;
+
+impl AsnType for IntermediateResponse {
+    ghost use Rattle.std.specs.Prelude.{refl};
+    ghost use Rattle.rasn_types.specs.declared.types.tag.Class.TheVariants.{Application};
+    ghost use Rattle.rasn_types.specs.Shapes.{seq};
+    ghost use Rattle.rasn_types.specs.Trees.{unconstrained};
+
+    ghost TAG = { record { class = Application; value = 25 } };
+
+    const TAG: Tag = Tag {
+        class: Class::Application,
+        value: 25,
+    };
+
+    ghost CONSTRAINTS = { unconstrained };
+
+    const CONSTRAINTS: Constraints = Constraints::NONE;
+
+    ghost shape = { seq (record { class = Application; value = 25 }) ⟦<Parts as DecodeParts>⟧.parts };
+
+    ghost tree = { λ a. ⟦<Parts as DecodeParts>⟧.tree (record { 0 = a.response_name; 1 = record { 0 = a.response_value; 1 = record { 0 = a.unknown; 1 = record {} } } }) };
+
+    ghost own = { refl };
+}
+
+impl LawfulEq for IntermediateResponse {
+    ghost use Rattle.rasn_types.specs.Deciding.{deciding};
+
+    ghost decides = { Prim.search deciding depth 64 };
+}
+
+impl Present for IntermediateResponse {
+    ghost use Rattle.rasn_types.specs.Equality.{parts_not_absent};
+
+    ghost present = { λ _. parts_not_absent };
+}
+
+impl Decode for IntermediateResponse {
+    fn decode_with_tag_and_constraints(
+        decoder: &mut Decoder<'_>,
+        tag: Tag,
+        _constraints: &Constraints,
+    ) -> Result<IntermediateResponse, DecodeError> {
+        let Optional(response_name, rest) = decoder.read_sequence::<Parts>(tag)?;
+        let Optional(response_value, rest) = rest;
+        let Required(unknown, End) = rest;
+        Ok(IntermediateResponse {
+            response_name,
+            response_value,
+            unknown,
+        })
+    }
+}
+
+impl Encode for IntermediateResponse {
+    fn encode_with_tag_and_constraints(
+        &self,
+        encoder: &mut Encoder,
+        tag: Tag,
+        _constraints: &Constraints,
+        _identifier: Identifier,
+    ) -> Result<(), EncodeError> {
+        let rest = Put(&self.unknown, End);
+        let rest = PutOptional(&self.response_value, rest);
+        encoder.write_sequence(tag, PutOptional(&self.response_name, rest))
+    }
+
+    fn is_present(&self) -> bool {
+        true
+    }
+}

@@ -1,0 +1,6 @@
+//! `ModifyDNResponse ::= [APPLICATION 13] IMPLICIT LDAPResult`
+use crate::LdapResult;
+use rasn::prelude::*;
+
+/// `ModifyDNResponse ::= [APPLICATION 13] IMPLICIT LDAPResult`
+pub type ModifyDnResponse = Implicit<ApplicationTag<13>, LdapResult>;

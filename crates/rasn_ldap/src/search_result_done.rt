@@ -1,0 +1,6 @@
+//! `SearchResultDone ::= [APPLICATION 5] IMPLICIT LDAPResult`
+use crate::LdapResult;
+use rasn::prelude::*;
+
+/// `SearchResultDone ::= [APPLICATION 5] IMPLICIT LDAPResult`
+pub type SearchResultDone = Implicit<ApplicationTag<5>, LdapResult>;

@@ -1,0 +1,78 @@
+//! `AttributeTypeAndValue ::= SEQUENCE`
+use rasn::prelude::*;
+
+/// `AttributeTypeAndValue ::= SEQUENCE`
+#[derive(Debug, PartialEq, Eq, Drop)]
+pub struct AttributeTypeAndValue {
+    /// `type OBJECT IDENTIFIER`
+    pub type_value: ObjectIdentifier,
+    /// `value ANY`
+    pub value: Any,
+}
+
+/// The components, as they are read.
+type Parts = Required<ObjectIdentifier, Parts1>;
+
+type Parts1 = Required<Any, End>;
+
+impl AsnType for AttributeTypeAndValue {
+    ghost use Rattle.std.specs.Prelude.{refl};
+    ghost use Rattle.rasn_types.specs.Tags.{in_universal};
+    ghost use Rattle.rasn_types.specs.Shapes.{seq};
+    ghost use Rattle.rasn_types.specs.Trees.{unconstrained};
+
+    ghost TAG = { in_universal 16 };
+
+    const TAG: Tag = Tag::SEQUENCE;
+
+    ghost CONSTRAINTS = { unconstrained };
+
+    const CONSTRAINTS: Constraints = Constraints::NONE;
+
+    ghost shape = { seq (in_universal 16) ⟦<Parts as DecodeParts>⟧.parts };
+
+    ghost tree = { λ a. ⟦<Parts as DecodeParts>⟧.tree (record { 0 = a.type_value; 1 = record { 0 = a.value; 1 = record {} } }) };
+
+    ghost own = { refl };
+}
+
+impl LawfulEq for AttributeTypeAndValue {
+    ghost use Rattle.rasn_types.specs.Deciding.{deciding};
+
+    ghost decides = { Prim.search deciding depth 64 };
+}
+
+impl Present for AttributeTypeAndValue {
+    ghost use Rattle.rasn_types.specs.Equality.{parts_not_absent};
+
+    ghost present = { λ _. parts_not_absent };
+}
+
+impl Decode for AttributeTypeAndValue {
+    fn decode_with_tag_and_constraints(
+        decoder: &mut Decoder<'_>,
+        tag: Tag,
+        _constraints: &Constraints,
+    ) -> Result<AttributeTypeAndValue, DecodeError> {
+        let Required(type_value, rest) = decoder.read_sequence::<Parts>(tag)?;
+        let Required(value, End) = rest;
+        Ok(AttributeTypeAndValue { type_value, value })
+    }
+}
+
+impl Encode for AttributeTypeAndValue {
+    fn encode_with_tag_and_constraints(
+        &self,
+        encoder: &mut Encoder,
+        tag: Tag,
+        _constraints: &Constraints,
+        _identifier: Identifier,
+    ) -> Result<(), EncodeError> {
+        let rest = Put(&self.value, End);
+        encoder.write_sequence(tag, Put(&self.type_value, rest))
+    }
+
+    fn is_present(&self) -> bool {
+        true
+    }
+}

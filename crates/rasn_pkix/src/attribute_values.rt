@@ -1,0 +1,83 @@
+//! `Attribute-values ::= SET (SIZE (1..MAX)) OF ANY`
+use rasn::prelude::*;
+
+/// `Attribute-values ::= SET (SIZE (1..MAX)) OF ANY`
+#[derive(Debug, PartialEq, Eq, Drop)]
+pub struct AttributeValues {
+    /// The value.
+    pub value: SetOf<Any>,
+}
+
+impl AsnType for AttributeValues {
+    ghost use Rattle.std.specs.Prelude.{None, Some, false, refl};
+    ghost use Rattle.rasn_types.specs.declared.types.constraints.Bounded.TheVariants.{Range};
+    ghost use Rattle.rasn_types.specs.Tags.{in_universal};
+    ghost use Rattle.rasn_types.specs.Shapes.{tagged_as};
+
+    ghost TAG = { in_universal 17 };
+
+    const TAG: Tag = Tag::SET;
+
+    ghost CONSTRAINTS = { record { value = None; size = Some (record { constraint = Range (Some 1) None; extensible = false }) } };
+
+    const CONSTRAINTS: Constraints = Constraints {
+        value: None,
+        size: Some(Bound {
+            constraint: Bounded::Range {
+                start: Some(1),
+                end: None,
+            },
+            extensible: false,
+        }),
+    };
+
+    ghost shape = { tagged_as (in_universal 17) (record { value = None; size = Some (record { constraint = Range (Some 1) None; extensible = false }) }) ⟦<SetOf<Any> as AsnType>⟧.shape };
+
+    ghost tree = { λ a. ⟦<SetOf<Any> as AsnType>⟧.tree a.value };
+
+    ghost own = { refl };
+}
+
+impl LawfulEq for AttributeValues {
+    ghost use Rattle.rasn_types.specs.Deciding.{deciding};
+
+    ghost decides = { Prim.search deciding depth 64 };
+}
+
+impl Present for AttributeValues {
+    ghost use Rattle.rasn_types.specs.Deciding.{deciding};
+
+    ghost present = { Prim.search deciding depth 64 };
+}
+
+impl Decode for AttributeValues {
+    fn decode_with_tag_and_constraints(
+        decoder: &mut Decoder<'_>,
+        tag: Tag,
+        constraints: &Constraints,
+    ) -> Result<AttributeValues, DecodeError> {
+        let value = <SetOf<Any> as Decode>::decode_with_tag_and_constraints(
+            decoder,
+            tag,
+            constraints,
+        )?;
+        Ok(AttributeValues { value })
+    }
+}
+
+impl Encode for AttributeValues {
+    fn encode_with_tag_and_constraints(
+        &self,
+        encoder: &mut Encoder,
+        tag: Tag,
+        constraints: &Constraints,
+        identifier: Identifier,
+    ) -> Result<(), EncodeError> {
+        self.value
+            .encode_with_tag_and_constraints(encoder, tag, constraints, identifier)
+    }
+
+    fn is_present(&self) -> bool {
+        self.value.is_present()
+    }
+}

@@ -1,0 +1,5 @@
+//! `CertificateSerialNumber ::= INTEGER`
+use rasn::prelude::*;
+
+/// `CertificateSerialNumber ::= INTEGER`
+pub type CertificateSerialNumber = Integer;

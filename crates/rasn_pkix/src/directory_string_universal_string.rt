@@ -1,0 +1,86 @@
+//! `DirectoryString-universalString ::= UniversalString (SIZE (1..MAX))`
+use rasn::prelude::*;
+
+/// `DirectoryString-universalString ::= UniversalString (SIZE (1..MAX))`
+#[derive(Debug, PartialEq, Eq, Drop)]
+pub struct DirectoryStringUniversalString {
+    /// The value.
+    pub value: GeneralString,
+}
+
+impl AsnType for DirectoryStringUniversalString {
+    ghost use Rattle.std.specs.Prelude.{None, Some, false, refl};
+    ghost use Rattle.rasn_types.specs.declared.types.constraints.Bounded.TheVariants.{Range};
+    ghost use Rattle.rasn_types.specs.Tags.{in_universal};
+    ghost use Rattle.rasn_types.specs.Shapes.{tagged_as};
+
+    ghost TAG = { in_universal 28 };
+
+    const TAG: Tag = Tag {
+        class: Class::Universal,
+        value: 28,
+    };
+
+    ghost CONSTRAINTS = { record { value = None; size = Some (record { constraint = Range (Some 1) None; extensible = false }) } };
+
+    const CONSTRAINTS: Constraints = Constraints {
+        value: None,
+        size: Some(Bound {
+            constraint: Bounded::Range {
+                start: Some(1),
+                end: None,
+            },
+            extensible: false,
+        }),
+    };
+
+    ghost shape = { tagged_as (in_universal 28) (record { value = None; size = Some (record { constraint = Range (Some 1) None; extensible = false }) }) ⟦<GeneralString as AsnType>⟧.shape };
+
+    ghost tree = { λ a. ⟦<GeneralString as AsnType>⟧.tree a.value };
+
+    ghost own = { refl };
+}
+
+impl LawfulEq for DirectoryStringUniversalString {
+    ghost use Rattle.rasn_types.specs.Deciding.{deciding};
+
+    ghost decides = { Prim.search deciding depth 64 };
+}
+
+impl Present for DirectoryStringUniversalString {
+    ghost use Rattle.rasn_types.specs.Deciding.{deciding};
+
+    ghost present = { Prim.search deciding depth 64 };
+}
+
+impl Decode for DirectoryStringUniversalString {
+    fn decode_with_tag_and_constraints(
+        decoder: &mut Decoder<'_>,
+        tag: Tag,
+        constraints: &Constraints,
+    ) -> Result<DirectoryStringUniversalString, DecodeError> {
+        let value = <GeneralString as Decode>::decode_with_tag_and_constraints(
+            decoder,
+            tag,
+            constraints,
+        )?;
+        Ok(DirectoryStringUniversalString { value })
+    }
+}
+
+impl Encode for DirectoryStringUniversalString {
+    fn encode_with_tag_and_constraints(
+        &self,
+        encoder: &mut Encoder,
+        tag: Tag,
+        constraints: &Constraints,
+        identifier: Identifier,
+    ) -> Result<(), EncodeError> {
+        self.value
+            .encode_with_tag_and_constraints(encoder, tag, constraints, identifier)
+    }
+
+    fn is_present(&self) -> bool {
+        true
+    }
+}

@@ -1,0 +1,83 @@
+//! `DirectoryString-utf8String ::= UTF8String (SIZE (1..MAX))`
+use rasn::prelude::*;
+
+/// `DirectoryString-utf8String ::= UTF8String (SIZE (1..MAX))`
+#[derive(Debug, PartialEq, Eq, Drop)]
+pub struct DirectoryStringUtf8String {
+    /// The value.
+    pub value: Utf8String,
+}
+
+impl AsnType for DirectoryStringUtf8String {
+    ghost use Rattle.std.specs.Prelude.{None, Some, false, refl};
+    ghost use Rattle.rasn_types.specs.declared.types.constraints.Bounded.TheVariants.{Range};
+    ghost use Rattle.rasn_types.specs.Tags.{in_universal};
+    ghost use Rattle.rasn_types.specs.Shapes.{tagged_as};
+
+    ghost TAG = { in_universal 12 };
+
+    const TAG: Tag = Tag::UTF8_STRING;
+
+    ghost CONSTRAINTS = { record { value = None; size = Some (record { constraint = Range (Some 1) None; extensible = false }) } };
+
+    const CONSTRAINTS: Constraints = Constraints {
+        value: None,
+        size: Some(Bound {
+            constraint: Bounded::Range {
+                start: Some(1),
+                end: None,
+            },
+            extensible: false,
+        }),
+    };
+
+    ghost shape = { tagged_as (in_universal 12) (record { value = None; size = Some (record { constraint = Range (Some 1) None; extensible = false }) }) ⟦<Utf8String as AsnType>⟧.shape };
+
+    ghost tree = { λ a. ⟦<Utf8String as AsnType>⟧.tree a.value };
+
+    ghost own = { refl };
+}
+
+impl LawfulEq for DirectoryStringUtf8String {
+    ghost use Rattle.rasn_types.specs.Deciding.{deciding};
+
+    ghost decides = { Prim.search deciding depth 64 };
+}
+
+impl Present for DirectoryStringUtf8String {
+    ghost use Rattle.rasn_types.specs.Deciding.{deciding};
+
+    ghost present = { Prim.search deciding depth 64 };
+}
+
+impl Decode for DirectoryStringUtf8String {
+    fn decode_with_tag_and_constraints(
+        decoder: &mut Decoder<'_>,
+        tag: Tag,
+        constraints: &Constraints,
+    ) -> Result<DirectoryStringUtf8String, DecodeError> {
+        let value = <Utf8String as Decode>::decode_with_tag_and_constraints(
+            decoder,
+            tag,
+            constraints,
+        )?;
+        Ok(DirectoryStringUtf8String { value })
+    }
+}
+
+impl Encode for DirectoryStringUtf8String {
+    fn encode_with_tag_and_constraints(
+        &self,
+        encoder: &mut Encoder,
+        tag: Tag,
+        constraints: &Constraints,
+        identifier: Identifier,
+    ) -> Result<(), EncodeError> {
+        self.value
+            .encode_with_tag_and_constraints(encoder, tag, constraints, identifier)
+    }
+
+    fn is_present(&self) -> bool {
+        true
+    }
+}

@@ -1,0 +1,5 @@
+//! `KeyPurposeId ::= OBJECT IDENTIFIER`
+use rasn::prelude::*;
+
+/// `KeyPurposeId ::= OBJECT IDENTIFIER`
+pub type KeyPurposeId = ObjectIdentifier;

@@ -1,0 +1,83 @@
+//! `HeaderData-msgFlags ::= OCTET STRING (SIZE (1..1))`
+use rasn::prelude::*;
+
+/// `HeaderData-msgFlags ::= OCTET STRING (SIZE (1..1))`
+#[derive(Debug, PartialEq, Eq, Drop)]
+pub struct HeaderDataMsgFlags {
+    /// The value.
+    pub value: OctetString,
+}
+
+impl AsnType for HeaderDataMsgFlags {
+    ghost use Rattle.std.specs.Prelude.{None, Some, false, refl};
+    ghost use Rattle.rasn_types.specs.declared.types.constraints.Bounded.TheVariants.{Range};
+    ghost use Rattle.rasn_types.specs.Tags.{in_universal};
+    ghost use Rattle.rasn_types.specs.Shapes.{tagged_as};
+
+    ghost TAG = { in_universal 4 };
+
+    const TAG: Tag = Tag::OCTET_STRING;
+
+    ghost CONSTRAINTS = { record { value = None; size = Some (record { constraint = Range (Some 1) (Some 1); extensible = false }) } };
+
+    const CONSTRAINTS: Constraints = Constraints {
+        value: None,
+        size: Some(Bound {
+            constraint: Bounded::Range {
+                start: Some(1),
+                end: Some(1),
+            },
+            extensible: false,
+        }),
+    };
+
+    ghost shape = { tagged_as (in_universal 4) (record { value = None; size = Some (record { constraint = Range (Some 1) (Some 1); extensible = false }) }) ⟦<OctetString as AsnType>⟧.shape };
+
+    ghost tree = { λ a. ⟦<OctetString as AsnType>⟧.tree a.value };
+
+    ghost own = { refl };
+}
+
+impl LawfulEq for HeaderDataMsgFlags {
+    ghost use Rattle.rasn_types.specs.Deciding.{deciding};
+
+    ghost decides = { Prim.search deciding depth 64 };
+}
+
+impl Present for HeaderDataMsgFlags {
+    ghost use Rattle.rasn_types.specs.Deciding.{deciding};
+
+    ghost present = { Prim.search deciding depth 64 };
+}
+
+impl Decode for HeaderDataMsgFlags {
+    fn decode_with_tag_and_constraints(
+        decoder: &mut Decoder<'_>,
+        tag: Tag,
+        constraints: &Constraints,
+    ) -> Result<HeaderDataMsgFlags, DecodeError> {
+        let value = <OctetString as Decode>::decode_with_tag_and_constraints(
+            decoder,
+            tag,
+            constraints,
+        )?;
+        Ok(HeaderDataMsgFlags { value })
+    }
+}
+
+impl Encode for HeaderDataMsgFlags {
+    fn encode_with_tag_and_constraints(
+        &self,
+        encoder: &mut Encoder,
+        tag: Tag,
+        constraints: &Constraints,
+        identifier: Identifier,
+    ) -> Result<(), EncodeError> {
+        self.value
+            .encode_with_tag_and_constraints(encoder, tag, constraints, identifier)
+    }
+
+    fn is_present(&self) -> bool {
+        true
+    }
+}

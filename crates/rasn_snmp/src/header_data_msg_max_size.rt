@@ -1,0 +1,79 @@
+//! `HeaderData-msgMaxSize ::= INTEGER (484..2147483647)`
+use rasn::prelude::*;
+
+/// `HeaderData-msgMaxSize ::= INTEGER (484..2147483647)`
+#[derive(Debug, PartialEq, Eq, Drop)]
+pub struct HeaderDataMsgMaxSize {
+    /// The value.
+    pub value: u32,
+}
+
+impl AsnType for HeaderDataMsgMaxSize {
+    ghost use Rattle.std.specs.Prelude.{None, Some, false, pos, refl};
+    ghost use Rattle.rasn_types.specs.declared.types.constraints.Bounded.TheVariants.{Range};
+    ghost use Rattle.rasn_types.specs.Tags.{in_universal};
+    ghost use Rattle.rasn_types.specs.Shapes.{tagged_as};
+
+    ghost TAG = { in_universal 2 };
+
+    const TAG: Tag = Tag::INTEGER;
+
+    ghost CONSTRAINTS = { record { value = Some (record { constraint = Range (Some (pos 484)) (Some (pos 2147483647)); extensible = false }); size = None } };
+
+    const CONSTRAINTS: Constraints = Constraints {
+        value: Some(Bound {
+            constraint: Bounded::Range {
+                start: Some(484),
+                end: Some(2147483647),
+            },
+            extensible: false,
+        }),
+        size: None,
+    };
+
+    ghost shape = { tagged_as (in_universal 2) (record { value = Some (record { constraint = Range (Some (pos 484)) (Some (pos 2147483647)); extensible = false }); size = None }) ⟦<u32 as AsnType>⟧.shape };
+
+    ghost tree = { λ a. ⟦<u32 as AsnType>⟧.tree a.value };
+
+    ghost own = { refl };
+}
+
+impl LawfulEq for HeaderDataMsgMaxSize {
+    ghost use Rattle.rasn_types.specs.Deciding.{deciding};
+
+    ghost decides = { Prim.search deciding depth 64 };
+}
+
+impl Present for HeaderDataMsgMaxSize {
+    ghost use Rattle.rasn_types.specs.Deciding.{deciding};
+
+    ghost present = { Prim.search deciding depth 64 };
+}
+
+impl Decode for HeaderDataMsgMaxSize {
+    fn decode_with_tag_and_constraints(
+        decoder: &mut Decoder<'_>,
+        tag: Tag,
+        constraints: &Constraints,
+    ) -> Result<HeaderDataMsgMaxSize, DecodeError> {
+        let value = <u32 as Decode>::decode_with_tag_and_constraints(decoder, tag, constraints)?;
+        Ok(HeaderDataMsgMaxSize { value })
+    }
+}
+
+impl Encode for HeaderDataMsgMaxSize {
+    fn encode_with_tag_and_constraints(
+        &self,
+        encoder: &mut Encoder,
+        tag: Tag,
+        constraints: &Constraints,
+        identifier: Identifier,
+    ) -> Result<(), EncodeError> {
+        self.value
+            .encode_with_tag_and_constraints(encoder, tag, constraints, identifier)
+    }
+
+    fn is_present(&self) -> bool {
+        true
+    }
+}

@@ -1,0 +1,5 @@
+//! `Opaque ::= [APPLICATION 4] IMPLICIT OCTET STRING`
+use rasn::prelude::*;
+
+/// `Opaque ::= [APPLICATION 4] IMPLICIT OCTET STRING`
+pub type Opaque = Implicit<ApplicationTag<4>, OctetString>;
