@@ -648,6 +648,56 @@ pub const TYPES: &[StaticType] = &[
             },
         ],
     },
+    StaticType::Choice {
+        name: "Change",
+        alternatives: &[
+            StaticAlternative {
+                name: "renumber",
+                type_id: TypeId(19),
+            },
+            StaticAlternative {
+                name: "list",
+                type_id: TypeId(18),
+            },
+            StaticAlternative {
+                name: "remove",
+                type_id: TypeId(17),
+            },
+            StaticAlternative {
+                name: "rename",
+                type_id: TypeId(16),
+            },
+            StaticAlternative {
+                name: "reach",
+                type_id: TypeId(15),
+            },
+            StaticAlternative {
+                name: "relate",
+                type_id: TypeId(14),
+            },
+            StaticAlternative {
+                name: "promote",
+                type_id: TypeId(13),
+            },
+            StaticAlternative {
+                name: "attend",
+                type_id: TypeId(12),
+            },
+            StaticAlternative {
+                name: "mark",
+                type_id: TypeId(11),
+            },
+            StaticAlternative {
+                name: "annotate",
+                type_id: TypeId(10),
+            },
+            StaticAlternative {
+                name: "roles",
+                type_id: TypeId(44),
+            },
+        ],
+    },
+    StaticType::Unknown,
 ];
 
 impl HasSchema for crate::PersonHome {

@@ -1083,6 +1083,7 @@ pub const TYPES: &[StaticType] = &[
         },
         names: &[],
     },
+    StaticType::Unknown,
 ];
 
 impl HasSchema for crate::SubstringFilterSubstrings {

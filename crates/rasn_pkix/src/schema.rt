@@ -1514,6 +1514,76 @@ pub const TYPES: &[StaticType] = &[
             },
         ],
     },
+    StaticType::Choice {
+        name: "PrivateDomainName",
+        alternatives: &[
+            StaticAlternative {
+                name: "numeric",
+                type_id: TypeId(16),
+            },
+            StaticAlternative {
+                name: "printable",
+                type_id: TypeId(15),
+            },
+        ],
+    },
+    StaticType::Choice {
+        name: "DirectoryString",
+        alternatives: &[
+            StaticAlternative {
+                name: "teletexString",
+                type_id: TypeId(32),
+            },
+            StaticAlternative {
+                name: "printableString",
+                type_id: TypeId(31),
+            },
+            StaticAlternative {
+                name: "universalString",
+                type_id: TypeId(30),
+            },
+            StaticAlternative {
+                name: "utf8String",
+                type_id: TypeId(29),
+            },
+            StaticAlternative {
+                name: "bmpString",
+                type_id: TypeId(28),
+            },
+        ],
+    },
+    StaticType::Choice {
+        name: "DirectoryString",
+        alternatives: &[
+            StaticAlternative {
+                name: "teletexString",
+                type_id: TypeId(32),
+            },
+            StaticAlternative {
+                name: "printableString",
+                type_id: TypeId(31),
+            },
+            StaticAlternative {
+                name: "universalString",
+                type_id: TypeId(30),
+            },
+            StaticAlternative {
+                name: "utf8String",
+                type_id: TypeId(29),
+            },
+            StaticAlternative {
+                name: "bmpString",
+                type_id: TypeId(28),
+            },
+        ],
+    },
+    StaticType::Choice {
+        name: "Name",
+        alternatives: &[StaticAlternative {
+            name: "rdnSequence",
+            type_id: TypeId(103),
+        }],
+    },
 ];
 
 impl HasSchema for crate::BasicConstraintsPathLenConstraint {

@@ -37,7 +37,7 @@ impl Plan<'_> {
             numbers: self.static_numbers()?,
             text: String::from_str(self.alloc, HEAD)?,
         };
-        for id in 0..self.root {
+        for id in 0..self.schema.types().len() {
             if constant.numbers.contains_key(&id) {
                 constant.push_type(id)?;
             }
