@@ -41,7 +41,7 @@ pub const TYPES: &[StaticType] = &[
             class: Class::Context,
             value: 0,
         },
-        inner: TypeId(50),
+        inner: TypeId(47),
     },
     StaticType::Leaf {
         kind: LeafKind::Integer,
@@ -127,7 +127,7 @@ pub const TYPES: &[StaticType] = &[
             class: Class::Context,
             value: 4,
         },
-        inner: TypeId(50),
+        inner: TypeId(47),
     },
     StaticType::Leaf {
         kind: LeafKind::Utf8,
@@ -205,7 +205,7 @@ pub const TYPES: &[StaticType] = &[
             StaticComponent {
                 name: "availability",
                 presence: StaticPresence::Optional,
-                type_id: TypeId(47),
+                type_id: TypeId(46),
             },
             StaticComponent {
                 name: "title",
@@ -248,7 +248,7 @@ pub const TYPES: &[StaticType] = &[
             StaticComponent {
                 name: "availability",
                 presence: StaticPresence::Optional,
-                type_id: TypeId(47),
+                type_id: TypeId(46),
             },
             StaticComponent {
                 name: "title",
@@ -380,7 +380,7 @@ pub const TYPES: &[StaticType] = &[
             StaticComponent {
                 name: "...",
                 presence: StaticPresence::Required,
-                type_id: TypeId(53),
+                type_id: TypeId(50),
             },
         ],
     },
@@ -468,7 +468,7 @@ pub const TYPES: &[StaticType] = &[
     },
     StaticType::SetOf {
         tag: Tag::SET,
-        element: TypeId(50),
+        element: TypeId(47),
         constraints: Constraints {
             value: None,
             size: Some(Bound {
@@ -479,21 +479,6 @@ pub const TYPES: &[StaticType] = &[
                 extensible: false,
             }),
         },
-    },
-    StaticType::Leaf {
-        kind: LeafKind::Utf8,
-        tag: Tag::UTF8_STRING,
-        constraints: Constraints {
-            value: None,
-            size: Some(Bound {
-                constraint: Bounded::Range {
-                    start: Some(1),
-                    end: Some(64),
-                },
-                extensible: false,
-            }),
-        },
-        names: &[],
     },
     StaticType::Leaf {
         kind: LeafKind::Signed64,
@@ -507,47 +492,6 @@ pub const TYPES: &[StaticType] = &[
             StaticNumber {
                 name: "busy",
                 number: 1,
-            },
-        ],
-    },
-    StaticType::Set {
-        name: "Team",
-        tag: Tag {
-            class: Class::Application,
-            value: 7,
-        },
-        components: &[
-            StaticComponent {
-                name: "availability",
-                presence: StaticPresence::Optional,
-                type_id: TypeId(47),
-            },
-            StaticComponent {
-                name: "title",
-                presence: StaticPresence::Required,
-                type_id: TypeId(22),
-            },
-            StaticComponent {
-                name: "open",
-                presence: StaticPresence::Default(StaticValue::Boolean(false)),
-                type_id: TypeId(21),
-            },
-        ],
-    },
-    StaticType::Enumerated {
-        tag: Tag::ENUMERATED,
-        numbers: &[
-            StaticNumber {
-                name: "friend",
-                number: 0,
-            },
-            StaticNumber {
-                name: "colleague",
-                number: 5,
-            },
-            StaticNumber {
-                name: "family",
-                number: -1,
             },
         ],
     },
@@ -609,7 +553,7 @@ pub const TYPES: &[StaticType] = &[
             StaticComponent {
                 name: "contact",
                 presence: StaticPresence::Required,
-                type_id: TypeId(50),
+                type_id: TypeId(47),
             },
             StaticComponent {
                 name: "relation",
@@ -644,7 +588,7 @@ pub const TYPES: &[StaticType] = &[
             StaticComponent {
                 name: "...",
                 presence: StaticPresence::Required,
-                type_id: TypeId(53),
+                type_id: TypeId(50),
             },
         ],
     },
@@ -700,16 +644,6 @@ pub const TYPES: &[StaticType] = &[
     StaticType::Unknown,
 ];
 
-impl HasSchema for crate::PersonHome {
-    ghost ID = { 28 };
-
-    const ID: usize = 28;
-
-    fn types() -> &'static [StaticType] {
-        TYPES
-    }
-}
-
 impl HasSchema for crate::Review {
     ghost ID = { 38 };
 
@@ -750,26 +684,6 @@ impl HasSchema for crate::Elevation {
     }
 }
 
-impl HasSchema for crate::Percent {
-    ghost ID = { 43 };
-
-    const ID: usize = 43;
-
-    fn types() -> &'static [StaticType] {
-        TYPES
-    }
-}
-
-impl HasSchema for crate::Roles {
-    ghost ID = { 44 };
-
-    const ID: usize = 44;
-
-    fn types() -> &'static [StaticType] {
-        TYPES
-    }
-}
-
 impl HasSchema for crate::Members {
     ghost ID = { 45 };
 
@@ -780,17 +694,7 @@ impl HasSchema for crate::Members {
     }
 }
 
-impl HasSchema for crate::Title {
-    ghost ID = { 46 };
-
-    const ID: usize = 46;
-
-    fn types() -> &'static [StaticType] {
-        TYPES
-    }
-}
-
-impl HasSchema for crate::Team {
+impl HasSchema for crate::Person {
     ghost ID = { 48 };
 
     const ID: usize = 48;
@@ -800,40 +704,10 @@ impl HasSchema for crate::Team {
     }
 }
 
-impl HasSchema for crate::Relation {
+impl HasSchema for crate::Change {
     ghost ID = { 49 };
 
     const ID: usize = 49;
-
-    fn types() -> &'static [StaticType] {
-        TYPES
-    }
-}
-
-impl HasSchema for crate::Contact {
-    ghost ID = { 50 };
-
-    const ID: usize = 50;
-
-    fn types() -> &'static [StaticType] {
-        TYPES
-    }
-}
-
-impl HasSchema for crate::Person {
-    ghost ID = { 51 };
-
-    const ID: usize = 51;
-
-    fn types() -> &'static [StaticType] {
-        TYPES
-    }
-}
-
-impl HasSchema for crate::Change {
-    ghost ID = { 52 };
-
-    const ID: usize = 52;
 
     fn types() -> &'static [StaticType] {
         TYPES

@@ -46,7 +46,7 @@ pub const TYPES: &[StaticType] = &[
             class: Class::Context,
             value: 3,
         },
-        element: TypeId(59),
+        element: TypeId(57),
         constraints: Constraints {
             value: None,
             size: Some(Bound {
@@ -227,7 +227,7 @@ pub const TYPES: &[StaticType] = &[
             class: Class::Context,
             value: 3,
         },
-        element: TypeId(59),
+        element: TypeId(57),
         constraints: Constraints {
             value: None,
             size: Some(Bound {
@@ -254,7 +254,7 @@ pub const TYPES: &[StaticType] = &[
             StaticComponent {
                 name: "mechanism",
                 presence: StaticPresence::Required,
-                type_id: TypeId(59),
+                type_id: TypeId(57),
             },
             StaticComponent {
                 name: "credentials",
@@ -264,7 +264,7 @@ pub const TYPES: &[StaticType] = &[
             StaticComponent {
                 name: "...",
                 presence: StaticPresence::Required,
-                type_id: TypeId(61),
+                type_id: TypeId(59),
             },
         ],
     },
@@ -309,7 +309,7 @@ pub const TYPES: &[StaticType] = &[
             class: Class::Context,
             value: 3,
         },
-        element: TypeId(59),
+        element: TypeId(57),
         constraints: Constraints {
             value: None,
             size: Some(Bound {
@@ -323,7 +323,7 @@ pub const TYPES: &[StaticType] = &[
     },
     StaticType::SetOf {
         tag: Tag::SET,
-        element: TypeId(58),
+        element: TypeId(56),
         constraints: Constraints {
             value: None,
             size: Some(Bound {
@@ -337,7 +337,7 @@ pub const TYPES: &[StaticType] = &[
     },
     StaticType::SetOf {
         tag: Tag::SET,
-        element: TypeId(58),
+        element: TypeId(56),
         constraints: Constraints::NONE,
     },
     StaticType::Sequence {
@@ -359,7 +359,7 @@ pub const TYPES: &[StaticType] = &[
             StaticComponent {
                 name: "...",
                 presence: StaticPresence::Required,
-                type_id: TypeId(61),
+                type_id: TypeId(59),
             },
         ],
     },
@@ -372,17 +372,17 @@ pub const TYPES: &[StaticType] = &[
             StaticComponent {
                 name: "resultCode",
                 presence: StaticPresence::Required,
-                type_id: TypeId(52),
+                type_id: TypeId(50),
             },
             StaticComponent {
                 name: "matchedDN",
                 presence: StaticPresence::Required,
-                type_id: TypeId(59),
+                type_id: TypeId(57),
             },
             StaticComponent {
                 name: "diagnosticMessage",
                 presence: StaticPresence::Required,
-                type_id: TypeId(59),
+                type_id: TypeId(57),
             },
             StaticComponent {
                 name: "referral",
@@ -402,7 +402,7 @@ pub const TYPES: &[StaticType] = &[
             StaticComponent {
                 name: "...",
                 presence: StaticPresence::Required,
-                type_id: TypeId(61),
+                type_id: TypeId(59),
             },
         ],
     },
@@ -425,7 +425,7 @@ pub const TYPES: &[StaticType] = &[
             StaticComponent {
                 name: "...",
                 presence: StaticPresence::Required,
-                type_id: TypeId(61),
+                type_id: TypeId(59),
             },
         ],
     },
@@ -438,17 +438,17 @@ pub const TYPES: &[StaticType] = &[
             StaticComponent {
                 name: "entry",
                 presence: StaticPresence::Required,
-                type_id: TypeId(59),
+                type_id: TypeId(57),
             },
             StaticComponent {
                 name: "ava",
                 presence: StaticPresence::Required,
-                type_id: TypeId(57),
+                type_id: TypeId(55),
             },
             StaticComponent {
                 name: "...",
                 presence: StaticPresence::Required,
-                type_id: TypeId(61),
+                type_id: TypeId(59),
             },
         ],
     },
@@ -461,12 +461,12 @@ pub const TYPES: &[StaticType] = &[
             StaticComponent {
                 name: "entry",
                 presence: StaticPresence::Required,
-                type_id: TypeId(59),
+                type_id: TypeId(57),
             },
             StaticComponent {
                 name: "newrdn",
                 presence: StaticPresence::Required,
-                type_id: TypeId(59),
+                type_id: TypeId(57),
             },
             StaticComponent {
                 name: "deleteoldrdn",
@@ -481,13 +481,13 @@ pub const TYPES: &[StaticType] = &[
             StaticComponent {
                 name: "...",
                 presence: StaticPresence::Required,
-                type_id: TypeId(61),
+                type_id: TypeId(59),
             },
         ],
     },
     StaticType::SequenceOf {
         tag: Tag::SEQUENCE,
-        element: TypeId(54),
+        element: TypeId(52),
         constraints: Constraints::NONE,
     },
     StaticType::Sequence {
@@ -499,7 +499,7 @@ pub const TYPES: &[StaticType] = &[
             StaticComponent {
                 name: "entry",
                 presence: StaticPresence::Required,
-                type_id: TypeId(59),
+                type_id: TypeId(57),
             },
             StaticComponent {
                 name: "attributes",
@@ -509,7 +509,7 @@ pub const TYPES: &[StaticType] = &[
             StaticComponent {
                 name: "...",
                 presence: StaticPresence::Required,
-                type_id: TypeId(61),
+                type_id: TypeId(59),
             },
         ],
     },
@@ -524,12 +524,12 @@ pub const TYPES: &[StaticType] = &[
             StaticComponent {
                 name: "modification",
                 presence: StaticPresence::Required,
-                type_id: TypeId(55),
+                type_id: TypeId(53),
             },
             StaticComponent {
                 name: "...",
                 presence: StaticPresence::Required,
-                type_id: TypeId(61),
+                type_id: TypeId(59),
             },
         ],
     },
@@ -542,7 +542,7 @@ pub const TYPES: &[StaticType] = &[
             StaticComponent {
                 name: "object",
                 presence: StaticPresence::Required,
-                type_id: TypeId(59),
+                type_id: TypeId(57),
             },
             StaticComponent {
                 name: "changes",
@@ -552,13 +552,13 @@ pub const TYPES: &[StaticType] = &[
             StaticComponent {
                 name: "...",
                 presence: StaticPresence::Required,
-                type_id: TypeId(61),
+                type_id: TypeId(59),
             },
         ],
     },
     StaticType::SequenceOf {
         tag: Tag::SEQUENCE,
-        element: TypeId(55),
+        element: TypeId(53),
         constraints: Constraints::NONE,
     },
     StaticType::Sequence {
@@ -570,7 +570,7 @@ pub const TYPES: &[StaticType] = &[
             StaticComponent {
                 name: "objectName",
                 presence: StaticPresence::Required,
-                type_id: TypeId(59),
+                type_id: TypeId(57),
             },
             StaticComponent {
                 name: "attributes",
@@ -580,7 +580,7 @@ pub const TYPES: &[StaticType] = &[
             StaticComponent {
                 name: "...",
                 presence: StaticPresence::Required,
-                type_id: TypeId(61),
+                type_id: TypeId(59),
             },
         ],
     },
@@ -610,7 +610,7 @@ pub const TYPES: &[StaticType] = &[
             StaticComponent {
                 name: "...",
                 presence: StaticPresence::Required,
-                type_id: TypeId(61),
+                type_id: TypeId(59),
             },
         ],
     },
@@ -641,7 +641,7 @@ pub const TYPES: &[StaticType] = &[
             StaticComponent {
                 name: "type",
                 presence: StaticPresence::Required,
-                type_id: TypeId(59),
+                type_id: TypeId(57),
             },
             StaticComponent {
                 name: "substrings",
@@ -651,7 +651,7 @@ pub const TYPES: &[StaticType] = &[
             StaticComponent {
                 name: "...",
                 presence: StaticPresence::Required,
-                type_id: TypeId(61),
+                type_id: TypeId(59),
             },
         ],
     },
@@ -664,17 +664,17 @@ pub const TYPES: &[StaticType] = &[
             StaticComponent {
                 name: "resultCode",
                 presence: StaticPresence::Required,
-                type_id: TypeId(52),
+                type_id: TypeId(50),
             },
             StaticComponent {
                 name: "matchedDN",
                 presence: StaticPresence::Required,
-                type_id: TypeId(59),
+                type_id: TypeId(57),
             },
             StaticComponent {
                 name: "diagnosticMessage",
                 presence: StaticPresence::Required,
-                type_id: TypeId(59),
+                type_id: TypeId(57),
             },
             StaticComponent {
                 name: "referral",
@@ -689,27 +689,7 @@ pub const TYPES: &[StaticType] = &[
             StaticComponent {
                 name: "...",
                 presence: StaticPresence::Required,
-                type_id: TypeId(61),
-            },
-        ],
-    },
-    StaticType::Sequence {
-        tag: Tag::SEQUENCE,
-        components: &[
-            StaticComponent {
-                name: "mechanism",
-                presence: StaticPresence::Required,
                 type_id: TypeId(59),
-            },
-            StaticComponent {
-                name: "credentials",
-                presence: StaticPresence::Optional,
-                type_id: TypeId(23),
-            },
-            StaticComponent {
-                name: "...",
-                presence: StaticPresence::Required,
-                type_id: TypeId(61),
             },
         ],
     },
@@ -744,17 +724,17 @@ pub const TYPES: &[StaticType] = &[
             StaticComponent {
                 name: "name",
                 presence: StaticPresence::Required,
-                type_id: TypeId(59),
+                type_id: TypeId(57),
             },
             StaticComponent {
                 name: "authentication",
                 presence: StaticPresence::Required,
-                type_id: TypeId(48),
+                type_id: TypeId(47),
             },
             StaticComponent {
                 name: "...",
                 presence: StaticPresence::Required,
-                type_id: TypeId(61),
+                type_id: TypeId(59),
             },
         ],
     },
@@ -764,7 +744,7 @@ pub const TYPES: &[StaticType] = &[
             StaticComponent {
                 name: "controlType",
                 presence: StaticPresence::Required,
-                type_id: TypeId(59),
+                type_id: TypeId(57),
             },
             StaticComponent {
                 name: "criticality",
@@ -779,23 +759,9 @@ pub const TYPES: &[StaticType] = &[
             StaticComponent {
                 name: "...",
                 presence: StaticPresence::Required,
-                type_id: TypeId(61),
+                type_id: TypeId(59),
             },
         ],
-    },
-    StaticType::SequenceOf {
-        tag: Tag::SEQUENCE,
-        element: TypeId(59),
-        constraints: Constraints {
-            value: None,
-            size: Some(Bound {
-                constraint: Bounded::Range {
-                    start: Some(1),
-                    end: None,
-                },
-                extensible: false,
-            }),
-        },
     },
     StaticType::Leaf {
         kind: LeafKind::Signed64,
@@ -966,17 +932,17 @@ pub const TYPES: &[StaticType] = &[
             StaticComponent {
                 name: "resultCode",
                 presence: StaticPresence::Required,
-                type_id: TypeId(52),
+                type_id: TypeId(50),
             },
             StaticComponent {
                 name: "matchedDN",
                 presence: StaticPresence::Required,
-                type_id: TypeId(59),
+                type_id: TypeId(57),
             },
             StaticComponent {
                 name: "diagnosticMessage",
                 presence: StaticPresence::Required,
-                type_id: TypeId(59),
+                type_id: TypeId(57),
             },
             StaticComponent {
                 name: "referral",
@@ -986,7 +952,7 @@ pub const TYPES: &[StaticType] = &[
             StaticComponent {
                 name: "...",
                 presence: StaticPresence::Required,
-                type_id: TypeId(61),
+                type_id: TypeId(59),
             },
         ],
     },
@@ -996,7 +962,7 @@ pub const TYPES: &[StaticType] = &[
             StaticComponent {
                 name: "type",
                 presence: StaticPresence::Required,
-                type_id: TypeId(59),
+                type_id: TypeId(57),
             },
             StaticComponent {
                 name: "vals",
@@ -1006,7 +972,7 @@ pub const TYPES: &[StaticType] = &[
             StaticComponent {
                 name: "...",
                 presence: StaticPresence::Required,
-                type_id: TypeId(61),
+                type_id: TypeId(59),
             },
         ],
     },
@@ -1016,7 +982,7 @@ pub const TYPES: &[StaticType] = &[
             StaticComponent {
                 name: "type",
                 presence: StaticPresence::Required,
-                type_id: TypeId(59),
+                type_id: TypeId(57),
             },
             StaticComponent {
                 name: "vals",
@@ -1026,7 +992,7 @@ pub const TYPES: &[StaticType] = &[
             StaticComponent {
                 name: "...",
                 presence: StaticPresence::Required,
-                type_id: TypeId(61),
+                type_id: TypeId(59),
             },
         ],
     },
@@ -1042,17 +1008,17 @@ pub const TYPES: &[StaticType] = &[
             StaticComponent {
                 name: "attributeDesc",
                 presence: StaticPresence::Required,
-                type_id: TypeId(59),
+                type_id: TypeId(57),
             },
             StaticComponent {
                 name: "assertionValue",
                 presence: StaticPresence::Required,
-                type_id: TypeId(56),
+                type_id: TypeId(54),
             },
             StaticComponent {
                 name: "...",
                 presence: StaticPresence::Required,
-                type_id: TypeId(61),
+                type_id: TypeId(59),
             },
         ],
     },
@@ -1086,40 +1052,10 @@ pub const TYPES: &[StaticType] = &[
     StaticType::Unknown,
 ];
 
-impl HasSchema for crate::SubstringFilterSubstrings {
-    ghost ID = { 19 };
-
-    const ID: usize = 19;
-
-    fn types() -> &'static [StaticType] {
-        TYPES
-    }
-}
-
 impl HasSchema for crate::SearchRequestDerefAliases {
     ghost ID = { 20 };
 
     const ID: usize = 20;
-
-    fn types() -> &'static [StaticType] {
-        TYPES
-    }
-}
-
-impl HasSchema for crate::BindRequestVersion {
-    ghost ID = { 26 };
-
-    const ID: usize = 26;
-
-    fn types() -> &'static [StaticType] {
-        TYPES
-    }
-}
-
-impl HasSchema for crate::AttributeVals {
-    ghost ID = { 30 };
-
-    const ID: usize = 30;
 
     fn types() -> &'static [StaticType] {
         TYPES
@@ -1186,16 +1122,6 @@ impl HasSchema for crate::AddRequest {
     }
 }
 
-impl HasSchema for crate::Change {
-    ghost ID = { 39 };
-
-    const ID: usize = 39;
-
-    fn types() -> &'static [StaticType] {
-        TYPES
-    }
-}
-
 impl HasSchema for crate::ModifyRequest {
     ghost ID = { 40 };
 
@@ -1226,16 +1152,6 @@ impl HasSchema for crate::MatchingRuleAssertion {
     }
 }
 
-impl HasSchema for crate::Substring {
-    ghost ID = { 44 };
-
-    const ID: usize = 44;
-
-    fn types() -> &'static [StaticType] {
-        TYPES
-    }
-}
-
 impl HasSchema for crate::SubstringFilter {
     ghost ID = { 45 };
 
@@ -1256,17 +1172,7 @@ impl HasSchema for crate::BindResponse {
     }
 }
 
-impl HasSchema for crate::SaslCredentials {
-    ghost ID = { 47 };
-
-    const ID: usize = 47;
-
-    fn types() -> &'static [StaticType] {
-        TYPES
-    }
-}
-
-impl HasSchema for crate::AuthenticationChoice {
+impl HasSchema for crate::BindRequest {
     ghost ID = { 48 };
 
     const ID: usize = 48;
@@ -1276,7 +1182,7 @@ impl HasSchema for crate::AuthenticationChoice {
     }
 }
 
-impl HasSchema for crate::BindRequest {
+impl HasSchema for crate::Control {
     ghost ID = { 49 };
 
     const ID: usize = 49;
@@ -1286,17 +1192,7 @@ impl HasSchema for crate::BindRequest {
     }
 }
 
-impl HasSchema for crate::Control {
-    ghost ID = { 50 };
-
-    const ID: usize = 50;
-
-    fn types() -> &'static [StaticType] {
-        TYPES
-    }
-}
-
-impl HasSchema for crate::Referral {
+impl HasSchema for crate::LdapResult {
     ghost ID = { 51 };
 
     const ID: usize = 51;
@@ -1306,50 +1202,10 @@ impl HasSchema for crate::Referral {
     }
 }
 
-impl HasSchema for crate::LdapResult {
-    ghost ID = { 53 };
-
-    const ID: usize = 53;
-
-    fn types() -> &'static [StaticType] {
-        TYPES
-    }
-}
-
-impl HasSchema for crate::Attribute {
-    ghost ID = { 54 };
-
-    const ID: usize = 54;
-
-    fn types() -> &'static [StaticType] {
-        TYPES
-    }
-}
-
-impl HasSchema for crate::PartialAttribute {
-    ghost ID = { 55 };
-
-    const ID: usize = 55;
-
-    fn types() -> &'static [StaticType] {
-        TYPES
-    }
-}
-
-impl HasSchema for crate::AttributeValueAssertion {
-    ghost ID = { 57 };
-
-    const ID: usize = 57;
-
-    fn types() -> &'static [StaticType] {
-        TYPES
-    }
-}
-
 impl HasSchema for crate::MaxInt {
-    ghost ID = { 60 };
+    ghost ID = { 58 };
 
-    const ID: usize = 60;
+    const ID: usize = 58;
 
     fn types() -> &'static [StaticType] {
         TYPES

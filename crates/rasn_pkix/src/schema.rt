@@ -337,7 +337,7 @@ pub const TYPES: &[StaticType] = &[
             class: Class::Context,
             value: 2,
         },
-        inner: TypeId(110),
+        inner: TypeId(106),
     },
     StaticType::Leaf {
         kind: LeafKind::Printable,
@@ -479,14 +479,14 @@ pub const TYPES: &[StaticType] = &[
             class: Class::Context,
             value: 1,
         },
-        inner: TypeId(111),
+        inner: TypeId(107),
     },
     StaticType::Tagged {
         tag: Tag {
             class: Class::Context,
             value: 0,
         },
-        inner: TypeId(112),
+        inner: TypeId(108),
     },
     StaticType::Tagged {
         tag: Tag {
@@ -551,7 +551,7 @@ pub const TYPES: &[StaticType] = &[
             class: Class::Context,
             value: 4,
         },
-        inner: TypeId(113),
+        inner: TypeId(109),
     },
     StaticType::Sequence {
         tag: Tag {
@@ -626,7 +626,7 @@ pub const TYPES: &[StaticType] = &[
             class: Class::Context,
             value: 1,
         },
-        element: TypeId(86),
+        element: TypeId(83),
         constraints: Constraints {
             value: None,
             size: Some(Bound {
@@ -672,7 +672,7 @@ pub const TYPES: &[StaticType] = &[
             class: Class::Context,
             value: 0,
         },
-        element: TypeId(90),
+        element: TypeId(86),
         constraints: Constraints::NONE,
     },
     StaticType::Leaf {
@@ -695,11 +695,11 @@ pub const TYPES: &[StaticType] = &[
             class: Class::Context,
             value: 0,
         },
-        inner: TypeId(97),
+        inner: TypeId(93),
     },
     StaticType::SequenceOf {
         tag: Tag::SEQUENCE,
-        element: TypeId(93),
+        element: TypeId(89),
         constraints: Constraints::NONE,
     },
     StaticType::Leaf {
@@ -763,7 +763,7 @@ pub const TYPES: &[StaticType] = &[
             class: Class::Context,
             value: 3,
         },
-        inner: TypeId(97),
+        inner: TypeId(93),
     },
     StaticType::Leaf {
         kind: LeafKind::BitString,
@@ -788,7 +788,7 @@ pub const TYPES: &[StaticType] = &[
             class: Class::Context,
             value: 0,
         },
-        inner: TypeId(107),
+        inner: TypeId(103),
     },
     StaticType::Leaf {
         kind: LeafKind::BitString,
@@ -969,61 +969,6 @@ pub const TYPES: &[StaticType] = &[
         ],
     },
     StaticType::Choice {
-        name: "DirectoryString",
-        alternatives: &[
-            StaticAlternative {
-                name: "teletexString",
-                type_id: TypeId(32),
-            },
-            StaticAlternative {
-                name: "printableString",
-                type_id: TypeId(31),
-            },
-            StaticAlternative {
-                name: "universalString",
-                type_id: TypeId(30),
-            },
-            StaticAlternative {
-                name: "utf8String",
-                type_id: TypeId(29),
-            },
-            StaticAlternative {
-                name: "bmpString",
-                type_id: TypeId(28),
-            },
-        ],
-    },
-    StaticType::Sequence {
-        tag: Tag::SEQUENCE,
-        components: &[
-            StaticComponent {
-                name: "nameAssigner",
-                presence: StaticPresence::Optional,
-                type_id: TypeId(34),
-            },
-            StaticComponent {
-                name: "partyName",
-                presence: StaticPresence::Required,
-                type_id: TypeId(33),
-            },
-        ],
-    },
-    StaticType::Sequence {
-        tag: Tag::SEQUENCE,
-        components: &[
-            StaticComponent {
-                name: "type-id",
-                presence: StaticPresence::Required,
-                type_id: TypeId(36),
-            },
-            StaticComponent {
-                name: "value",
-                presence: StaticPresence::Required,
-                type_id: TypeId(35),
-            },
-        ],
-    },
-    StaticType::Choice {
         name: "GeneralName",
         alternatives: &[
             StaticAlternative {
@@ -1063,20 +1008,6 @@ pub const TYPES: &[StaticType] = &[
                 type_id: TypeId(37),
             },
         ],
-    },
-    StaticType::SequenceOf {
-        tag: Tag::SEQUENCE,
-        element: TypeId(86),
-        constraints: Constraints {
-            value: None,
-            size: Some(Bound {
-                constraint: Bounded::Range {
-                    start: Some(1),
-                    end: None,
-                },
-                extensible: false,
-            }),
-        },
     },
     StaticType::Leaf {
         kind: LeafKind::NamedBits,
@@ -1167,12 +1098,12 @@ pub const TYPES: &[StaticType] = &[
             StaticComponent {
                 name: "subject",
                 presence: StaticPresence::Required,
-                type_id: TypeId(104),
+                type_id: TypeId(100),
             },
             StaticComponent {
                 name: "subjectPKInfo",
                 presence: StaticPresence::Required,
-                type_id: TypeId(98),
+                type_id: TypeId(94),
             },
             StaticComponent {
                 name: "attributes",
@@ -1187,12 +1118,12 @@ pub const TYPES: &[StaticType] = &[
             StaticComponent {
                 name: "certificationRequestInfo",
                 presence: StaticPresence::Required,
-                type_id: TypeId(91),
+                type_id: TypeId(87),
             },
             StaticComponent {
                 name: "signatureAlgorithm",
                 presence: StaticPresence::Required,
-                type_id: TypeId(105),
+                type_id: TypeId(101),
             },
             StaticComponent {
                 name: "signature",
@@ -1207,17 +1138,17 @@ pub const TYPES: &[StaticType] = &[
             StaticComponent {
                 name: "userCertificate",
                 presence: StaticPresence::Required,
-                type_id: TypeId(106),
+                type_id: TypeId(102),
             },
             StaticComponent {
                 name: "revocationDate",
                 presence: StaticPresence::Required,
-                type_id: TypeId(99),
+                type_id: TypeId(95),
             },
             StaticComponent {
                 name: "crlEntryExtensions",
                 presence: StaticPresence::Optional,
-                type_id: TypeId(97),
+                type_id: TypeId(93),
             },
         ],
     },
@@ -1227,27 +1158,27 @@ pub const TYPES: &[StaticType] = &[
             StaticComponent {
                 name: "version",
                 presence: StaticPresence::Optional,
-                type_id: TypeId(107),
+                type_id: TypeId(103),
             },
             StaticComponent {
                 name: "signature",
                 presence: StaticPresence::Required,
-                type_id: TypeId(105),
+                type_id: TypeId(101),
             },
             StaticComponent {
                 name: "issuer",
                 presence: StaticPresence::Required,
-                type_id: TypeId(104),
+                type_id: TypeId(100),
             },
             StaticComponent {
                 name: "thisUpdate",
                 presence: StaticPresence::Required,
-                type_id: TypeId(99),
+                type_id: TypeId(95),
             },
             StaticComponent {
                 name: "nextUpdate",
                 presence: StaticPresence::Optional,
-                type_id: TypeId(99),
+                type_id: TypeId(95),
             },
             StaticComponent {
                 name: "revokedCertificates",
@@ -1267,12 +1198,12 @@ pub const TYPES: &[StaticType] = &[
             StaticComponent {
                 name: "tbsCertList",
                 presence: StaticPresence::Required,
-                type_id: TypeId(94),
+                type_id: TypeId(90),
             },
             StaticComponent {
                 name: "signatureAlgorithm",
                 presence: StaticPresence::Required,
-                type_id: TypeId(105),
+                type_id: TypeId(101),
             },
             StaticComponent {
                 name: "signatureValue",
@@ -1303,7 +1234,7 @@ pub const TYPES: &[StaticType] = &[
     },
     StaticType::SequenceOf {
         tag: Tag::SEQUENCE,
-        element: TypeId(96),
+        element: TypeId(92),
         constraints: Constraints {
             value: None,
             size: Some(Bound {
@@ -1321,7 +1252,7 @@ pub const TYPES: &[StaticType] = &[
             StaticComponent {
                 name: "algorithm",
                 presence: StaticPresence::Required,
-                type_id: TypeId(105),
+                type_id: TypeId(101),
             },
             StaticComponent {
                 name: "subjectPublicKey",
@@ -1349,12 +1280,12 @@ pub const TYPES: &[StaticType] = &[
             StaticComponent {
                 name: "notBefore",
                 presence: StaticPresence::Required,
-                type_id: TypeId(99),
+                type_id: TypeId(95),
             },
             StaticComponent {
                 name: "notAfter",
                 presence: StaticPresence::Required,
-                type_id: TypeId(99),
+                type_id: TypeId(95),
             },
         ],
     },
@@ -1375,7 +1306,7 @@ pub const TYPES: &[StaticType] = &[
     },
     StaticType::SetOf {
         tag: Tag::SET,
-        element: TypeId(101),
+        element: TypeId(97),
         constraints: Constraints {
             value: None,
             size: Some(Bound {
@@ -1389,14 +1320,14 @@ pub const TYPES: &[StaticType] = &[
     },
     StaticType::SequenceOf {
         tag: Tag::SEQUENCE,
-        element: TypeId(102),
+        element: TypeId(98),
         constraints: Constraints::NONE,
     },
     StaticType::Choice {
         name: "Name",
         alternatives: &[StaticAlternative {
             name: "rdnSequence",
-            type_id: TypeId(103),
+            type_id: TypeId(99),
         }],
     },
     StaticType::Sequence {
@@ -1450,32 +1381,32 @@ pub const TYPES: &[StaticType] = &[
             StaticComponent {
                 name: "serialNumber",
                 presence: StaticPresence::Required,
-                type_id: TypeId(106),
+                type_id: TypeId(102),
             },
             StaticComponent {
                 name: "signature",
                 presence: StaticPresence::Required,
-                type_id: TypeId(105),
+                type_id: TypeId(101),
             },
             StaticComponent {
                 name: "issuer",
                 presence: StaticPresence::Required,
-                type_id: TypeId(104),
+                type_id: TypeId(100),
             },
             StaticComponent {
                 name: "validity",
                 presence: StaticPresence::Required,
-                type_id: TypeId(100),
+                type_id: TypeId(96),
             },
             StaticComponent {
                 name: "subject",
                 presence: StaticPresence::Required,
-                type_id: TypeId(104),
+                type_id: TypeId(100),
             },
             StaticComponent {
                 name: "subjectPublicKeyInfo",
                 presence: StaticPresence::Required,
-                type_id: TypeId(98),
+                type_id: TypeId(94),
             },
             StaticComponent {
                 name: "issuerUniqueID",
@@ -1500,12 +1431,12 @@ pub const TYPES: &[StaticType] = &[
             StaticComponent {
                 name: "tbsCertificate",
                 presence: StaticPresence::Required,
-                type_id: TypeId(108),
+                type_id: TypeId(104),
             },
             StaticComponent {
                 name: "signatureAlgorithm",
                 presence: StaticPresence::Required,
-                type_id: TypeId(105),
+                type_id: TypeId(101),
             },
             StaticComponent {
                 name: "signatureValue",
@@ -1581,80 +1512,10 @@ pub const TYPES: &[StaticType] = &[
         name: "Name",
         alternatives: &[StaticAlternative {
             name: "rdnSequence",
-            type_id: TypeId(103),
+            type_id: TypeId(99),
         }],
     },
 ];
-
-impl HasSchema for crate::BasicConstraintsPathLenConstraint {
-    ghost ID = { 26 };
-
-    const ID: usize = 26;
-
-    fn types() -> &'static [StaticType] {
-        TYPES
-    }
-}
-
-impl HasSchema for crate::DirectoryStringBmpString {
-    ghost ID = { 28 };
-
-    const ID: usize = 28;
-
-    fn types() -> &'static [StaticType] {
-        TYPES
-    }
-}
-
-impl HasSchema for crate::DirectoryStringUtf8String {
-    ghost ID = { 29 };
-
-    const ID: usize = 29;
-
-    fn types() -> &'static [StaticType] {
-        TYPES
-    }
-}
-
-impl HasSchema for crate::DirectoryStringUniversalString {
-    ghost ID = { 30 };
-
-    const ID: usize = 30;
-
-    fn types() -> &'static [StaticType] {
-        TYPES
-    }
-}
-
-impl HasSchema for crate::DirectoryStringPrintableString {
-    ghost ID = { 31 };
-
-    const ID: usize = 31;
-
-    fn types() -> &'static [StaticType] {
-        TYPES
-    }
-}
-
-impl HasSchema for crate::DirectoryStringTeletexString {
-    ghost ID = { 32 };
-
-    const ID: usize = 32;
-
-    fn types() -> &'static [StaticType] {
-        TYPES
-    }
-}
-
-impl HasSchema for crate::AttributeValues {
-    ghost ID = { 49 };
-
-    const ID: usize = 49;
-
-    fn types() -> &'static [StaticType] {
-        TYPES
-    }
-}
 
 impl HasSchema for crate::ExtKeyUsageSyntax {
     ghost ID = { 81 };
@@ -1676,17 +1537,7 @@ impl HasSchema for crate::BasicConstraints {
     }
 }
 
-impl HasSchema for crate::DirectoryString {
-    ghost ID = { 83 };
-
-    const ID: usize = 83;
-
-    fn types() -> &'static [StaticType] {
-        TYPES
-    }
-}
-
-impl HasSchema for crate::EdiPartyName {
+impl HasSchema for crate::KeyUsage {
     ghost ID = { 84 };
 
     const ID: usize = 84;
@@ -1696,7 +1547,7 @@ impl HasSchema for crate::EdiPartyName {
     }
 }
 
-impl HasSchema for crate::AnotherName {
+impl HasSchema for crate::AuthorityKeyIdentifier {
     ghost ID = { 85 };
 
     const ID: usize = 85;
@@ -1706,27 +1557,7 @@ impl HasSchema for crate::AnotherName {
     }
 }
 
-impl HasSchema for crate::GeneralName {
-    ghost ID = { 86 };
-
-    const ID: usize = 86;
-
-    fn types() -> &'static [StaticType] {
-        TYPES
-    }
-}
-
-impl HasSchema for crate::GeneralNames {
-    ghost ID = { 87 };
-
-    const ID: usize = 87;
-
-    fn types() -> &'static [StaticType] {
-        TYPES
-    }
-}
-
-impl HasSchema for crate::KeyUsage {
+impl HasSchema for crate::CertificationRequest {
     ghost ID = { 88 };
 
     const ID: usize = 88;
@@ -1736,27 +1567,7 @@ impl HasSchema for crate::KeyUsage {
     }
 }
 
-impl HasSchema for crate::AuthorityKeyIdentifier {
-    ghost ID = { 89 };
-
-    const ID: usize = 89;
-
-    fn types() -> &'static [StaticType] {
-        TYPES
-    }
-}
-
-impl HasSchema for crate::Attribute {
-    ghost ID = { 90 };
-
-    const ID: usize = 90;
-
-    fn types() -> &'static [StaticType] {
-        TYPES
-    }
-}
-
-impl HasSchema for crate::CertificationRequestInfo {
+impl HasSchema for crate::CertificateList {
     ghost ID = { 91 };
 
     const ID: usize = 91;
@@ -1766,150 +1577,10 @@ impl HasSchema for crate::CertificationRequestInfo {
     }
 }
 
-impl HasSchema for crate::CertificationRequest {
-    ghost ID = { 92 };
-
-    const ID: usize = 92;
-
-    fn types() -> &'static [StaticType] {
-        TYPES
-    }
-}
-
-impl HasSchema for crate::RevokedCertificate {
-    ghost ID = { 93 };
-
-    const ID: usize = 93;
-
-    fn types() -> &'static [StaticType] {
-        TYPES
-    }
-}
-
-impl HasSchema for crate::TbsCertList {
-    ghost ID = { 94 };
-
-    const ID: usize = 94;
-
-    fn types() -> &'static [StaticType] {
-        TYPES
-    }
-}
-
-impl HasSchema for crate::CertificateList {
-    ghost ID = { 95 };
-
-    const ID: usize = 95;
-
-    fn types() -> &'static [StaticType] {
-        TYPES
-    }
-}
-
-impl HasSchema for crate::Extension {
-    ghost ID = { 96 };
-
-    const ID: usize = 96;
-
-    fn types() -> &'static [StaticType] {
-        TYPES
-    }
-}
-
-impl HasSchema for crate::Extensions {
-    ghost ID = { 97 };
-
-    const ID: usize = 97;
-
-    fn types() -> &'static [StaticType] {
-        TYPES
-    }
-}
-
-impl HasSchema for crate::SubjectPublicKeyInfo {
-    ghost ID = { 98 };
-
-    const ID: usize = 98;
-
-    fn types() -> &'static [StaticType] {
-        TYPES
-    }
-}
-
-impl HasSchema for crate::Time {
-    ghost ID = { 99 };
-
-    const ID: usize = 99;
-
-    fn types() -> &'static [StaticType] {
-        TYPES
-    }
-}
-
-impl HasSchema for crate::Validity {
-    ghost ID = { 100 };
-
-    const ID: usize = 100;
-
-    fn types() -> &'static [StaticType] {
-        TYPES
-    }
-}
-
-impl HasSchema for crate::AttributeTypeAndValue {
-    ghost ID = { 101 };
-
-    const ID: usize = 101;
-
-    fn types() -> &'static [StaticType] {
-        TYPES
-    }
-}
-
-impl HasSchema for crate::RelativeDistinguishedName {
-    ghost ID = { 102 };
-
-    const ID: usize = 102;
-
-    fn types() -> &'static [StaticType] {
-        TYPES
-    }
-}
-
-impl HasSchema for crate::Name {
-    ghost ID = { 104 };
-
-    const ID: usize = 104;
-
-    fn types() -> &'static [StaticType] {
-        TYPES
-    }
-}
-
-impl HasSchema for crate::AlgorithmIdentifier {
+impl HasSchema for crate::Certificate {
     ghost ID = { 105 };
 
     const ID: usize = 105;
-
-    fn types() -> &'static [StaticType] {
-        TYPES
-    }
-}
-
-impl HasSchema for crate::TbsCertificate {
-    ghost ID = { 108 };
-
-    const ID: usize = 108;
-
-    fn types() -> &'static [StaticType] {
-        TYPES
-    }
-}
-
-impl HasSchema for crate::Certificate {
-    ghost ID = { 109 };
-
-    const ID: usize = 109;
 
     fn types() -> &'static [StaticType] {
         TYPES

@@ -122,26 +122,51 @@ impl Plan<'_> {
         Ok(())
     }
 
-    /// Returns the numbers that types have in the constant: those with an impl, and what they are
-    /// made of there, in the order of the schema.
-    pub(crate) fn static_numbers(&self) -> Result<BTreeMap<usize, usize>, AllocError> {
+    /// Returns the types that an impl names a type of the constant for: those that aren't part of
+    /// another one.
+    pub(crate) fn static_roots(&self) -> Result<BTreeSet<usize>, AllocError> {
+        let mut roots = BTreeSet::new(self.alloc);
         let mut walk = self.new_walk();
         for (id, _naming) in self.names.iter() {
             if self.has_static(*id)? {
-                walk.reach(*id)?;
+                roots.insert(*id)?;
+                self.reach_static_parts(&mut walk, *id)?;
             }
         }
-        for _ in 0..self.schema.types().len() {
-            let Some(id) = walk.left.pop() else {
-                break;
-            };
-            self.reach_static_parts(&mut walk, id)?;
+        self.reach_static(&mut walk)?;
+        for id in walk.reached.iter() {
+            roots.remove(&self.twin_or_self(*id));
         }
+        Ok(roots)
+    }
+
+    /// Returns the numbers that types have in the constant: these, and what they are made of there,
+    /// in the order of the schema.
+    pub(crate) fn static_numbers(
+        &self,
+        roots: &BTreeSet<usize>,
+    ) -> Result<BTreeMap<usize, usize>, AllocError> {
+        let mut walk = self.new_walk();
+        for id in roots.iter() {
+            walk.reach(*id)?;
+        }
+        self.reach_static(&mut walk)?;
         let mut numbers = BTreeMap::new(self.alloc);
         for (number, id) in walk.reached.iter().enumerate() {
             numbers.insert(*id, number)?;
         }
         Ok(numbers)
+    }
+
+    /// Reaches what the types are made of in the constant.
+    fn reach_static(&self, walk: &mut Walk) -> Result<(), AllocError> {
+        for _ in 0..self.schema.types().len() {
+            let Some(id) = walk.left.pop() else {
+                break;
+            };
+            self.reach_static_parts(walk, id)?;
+        }
+        Ok(())
     }
 
     /// Reaches what a type is made of in the constant.

@@ -31,10 +31,11 @@ struct Constant<'plan, 'schema> {
 impl Plan<'_> {
     /// Returns the text of the file that has the types as a constant.
     pub(crate) fn static_text(&self) -> Result<String, AllocError> {
+        let roots = self.static_roots()?;
         let mut constant = Constant {
             plan: self,
             alloc: self.alloc,
-            numbers: self.static_numbers()?,
+            numbers: self.static_numbers(&roots)?,
             text: String::from_str(self.alloc, HEAD)?,
         };
         for id in 0..self.schema.types().len() {
@@ -44,7 +45,7 @@ impl Plan<'_> {
         }
         constant.text.push_str("];\n")?;
         for (id, naming) in self.names.iter() {
-            if self.has_static(*id)? {
+            if roots.contains(id) {
                 constant.push_impl(*id, naming.rust.as_str())?;
             }
         }
@@ -52,7 +53,8 @@ impl Plan<'_> {
         Ok(text)
     }
 
-    /// Returns whether an impl says which type of the constant a type is.
+    /// Returns whether a type is in the constant as it is written: a type of this crate that is
+    /// neither an open type nor made of one that is made of itself.
     pub(crate) fn has_static(&self, id: usize) -> Result<bool, AllocError> {
         let is_own = self.reached.contains(&id) && self.foreign_crate(id).is_none();
         if !is_own || is_alias(self.type_of(id)) || self.retagged.contains_key(&id) {

@@ -372,7 +372,7 @@ pub const TYPES: &[StaticType] = &[
             StaticComponent {
                 name: "error-index",
                 presence: StaticPresence::Required,
-                type_id: TypeId(55),
+                type_id: TypeId(52),
             },
             StaticComponent {
                 name: "variable-bindings",
@@ -400,7 +400,7 @@ pub const TYPES: &[StaticType] = &[
             StaticComponent {
                 name: "error-index",
                 presence: StaticPresence::Required,
-                type_id: TypeId(55),
+                type_id: TypeId(52),
             },
             StaticComponent {
                 name: "variable-bindings",
@@ -428,7 +428,7 @@ pub const TYPES: &[StaticType] = &[
             StaticComponent {
                 name: "error-index",
                 presence: StaticPresence::Required,
-                type_id: TypeId(55),
+                type_id: TypeId(52),
             },
             StaticComponent {
                 name: "variable-bindings",
@@ -451,12 +451,12 @@ pub const TYPES: &[StaticType] = &[
             StaticComponent {
                 name: "non-repeaters",
                 presence: StaticPresence::Required,
-                type_id: TypeId(55),
+                type_id: TypeId(52),
             },
             StaticComponent {
                 name: "max-repetitions",
                 presence: StaticPresence::Required,
-                type_id: TypeId(55),
+                type_id: TypeId(52),
             },
             StaticComponent {
                 name: "variable-bindings",
@@ -522,7 +522,7 @@ pub const TYPES: &[StaticType] = &[
             StaticComponent {
                 name: "error-index",
                 presence: StaticPresence::Required,
-                type_id: TypeId(55),
+                type_id: TypeId(52),
             },
             StaticComponent {
                 name: "variable-bindings",
@@ -550,7 +550,7 @@ pub const TYPES: &[StaticType] = &[
             StaticComponent {
                 name: "error-index",
                 presence: StaticPresence::Required,
-                type_id: TypeId(55),
+                type_id: TypeId(52),
             },
             StaticComponent {
                 name: "variable-bindings",
@@ -578,7 +578,7 @@ pub const TYPES: &[StaticType] = &[
             StaticComponent {
                 name: "error-index",
                 presence: StaticPresence::Required,
-                type_id: TypeId(55),
+                type_id: TypeId(52),
             },
             StaticComponent {
                 name: "variable-bindings",
@@ -606,7 +606,7 @@ pub const TYPES: &[StaticType] = &[
             StaticComponent {
                 name: "error-index",
                 presence: StaticPresence::Required,
-                type_id: TypeId(55),
+                type_id: TypeId(52),
             },
             StaticComponent {
                 name: "variable-bindings",
@@ -647,12 +647,12 @@ pub const TYPES: &[StaticType] = &[
             StaticComponent {
                 name: "msgAuthoritativeEngineBoots",
                 presence: StaticPresence::Required,
-                type_id: TypeId(55),
+                type_id: TypeId(52),
             },
             StaticComponent {
                 name: "msgAuthoritativeEngineTime",
                 presence: StaticPresence::Required,
-                type_id: TypeId(55),
+                type_id: TypeId(52),
             },
             StaticComponent {
                 name: "msgUserName",
@@ -687,7 +687,7 @@ pub const TYPES: &[StaticType] = &[
             StaticComponent {
                 name: "data",
                 presence: StaticPresence::Required,
-                type_id: TypeId(56),
+                type_id: TypeId(53),
             },
         ],
     },
@@ -710,7 +710,7 @@ pub const TYPES: &[StaticType] = &[
             StaticComponent {
                 name: "msgID",
                 presence: StaticPresence::Required,
-                type_id: TypeId(55),
+                type_id: TypeId(52),
             },
             StaticComponent {
                 name: "msgMaxSize",
@@ -952,91 +952,6 @@ pub const TYPES: &[StaticType] = &[
             type_id: TypeId(46),
         }],
     },
-    StaticType::Sequence {
-        tag: Tag::SEQUENCE,
-        components: &[
-            StaticComponent {
-                name: "enterprise",
-                presence: StaticPresence::Required,
-                type_id: TypeId(21),
-            },
-            StaticComponent {
-                name: "agent-addr",
-                presence: StaticPresence::Required,
-                type_id: TypeId(51),
-            },
-            StaticComponent {
-                name: "generic-trap",
-                presence: StaticPresence::Required,
-                type_id: TypeId(20),
-            },
-            StaticComponent {
-                name: "specific-trap",
-                presence: StaticPresence::Required,
-                type_id: TypeId(19),
-            },
-            StaticComponent {
-                name: "time-stamp",
-                presence: StaticPresence::Required,
-                type_id: TypeId(43),
-            },
-            StaticComponent {
-                name: "variable-bindings",
-                presence: StaticPresence::Required,
-                type_id: TypeId(50),
-            },
-        ],
-    },
-    StaticType::Sequence {
-        tag: Tag::SEQUENCE,
-        components: &[
-            StaticComponent {
-                name: "request-id",
-                presence: StaticPresence::Required,
-                type_id: TypeId(22),
-            },
-            StaticComponent {
-                name: "non-repeaters",
-                presence: StaticPresence::Required,
-                type_id: TypeId(55),
-            },
-            StaticComponent {
-                name: "max-repetitions",
-                presence: StaticPresence::Required,
-                type_id: TypeId(55),
-            },
-            StaticComponent {
-                name: "variable-bindings",
-                presence: StaticPresence::Required,
-                type_id: TypeId(50),
-            },
-        ],
-    },
-    StaticType::Sequence {
-        tag: Tag::SEQUENCE,
-        components: &[
-            StaticComponent {
-                name: "request-id",
-                presence: StaticPresence::Required,
-                type_id: TypeId(24),
-            },
-            StaticComponent {
-                name: "error-status",
-                presence: StaticPresence::Required,
-                type_id: TypeId(23),
-            },
-            StaticComponent {
-                name: "error-index",
-                presence: StaticPresence::Required,
-                type_id: TypeId(55),
-            },
-            StaticComponent {
-                name: "variable-bindings",
-                presence: StaticPresence::Required,
-                type_id: TypeId(50),
-            },
-        ],
-    },
     StaticType::Leaf {
         kind: LeafKind::Integer,
         tag: Tag::INTEGER,
@@ -1109,106 +1024,16 @@ pub const TYPES: &[StaticType] = &[
             StaticComponent {
                 name: "data",
                 presence: StaticPresence::Required,
-                type_id: TypeId(56),
+                type_id: TypeId(53),
             },
         ],
     },
 ];
 
-impl HasSchema for crate::UsmSecurityParametersMsgUserName {
-    ghost ID = { 2 };
-
-    const ID: usize = 2;
-
-    fn types() -> &'static [StaticType] {
-        TYPES
-    }
-}
-
-impl HasSchema for crate::HeaderDataMsgSecurityModel {
-    ghost ID = { 7 };
-
-    const ID: usize = 7;
-
-    fn types() -> &'static [StaticType] {
-        TYPES
-    }
-}
-
-impl HasSchema for crate::HeaderDataMsgFlags {
-    ghost ID = { 8 };
-
-    const ID: usize = 8;
-
-    fn types() -> &'static [StaticType] {
-        TYPES
-    }
-}
-
-impl HasSchema for crate::HeaderDataMsgMaxSize {
-    ghost ID = { 9 };
-
-    const ID: usize = 9;
-
-    fn types() -> &'static [StaticType] {
-        TYPES
-    }
-}
-
-impl HasSchema for crate::SnmpV3MessageMsgVersion {
-    ghost ID = { 11 };
-
-    const ID: usize = 11;
-
-    fn types() -> &'static [StaticType] {
-        TYPES
-    }
-}
-
-impl HasSchema for crate::SimpleSyntaxStringValue {
-    ghost ID = { 13 };
-
-    const ID: usize = 13;
-
-    fn types() -> &'static [StaticType] {
-        TYPES
-    }
-}
-
 impl HasSchema for crate::UsmSecurityParameters {
     ghost ID = { 36 };
 
     const ID: usize = 36;
-
-    fn types() -> &'static [StaticType] {
-        TYPES
-    }
-}
-
-impl HasSchema for crate::ScopedPdu {
-    ghost ID = { 37 };
-
-    const ID: usize = 37;
-
-    fn types() -> &'static [StaticType] {
-        TYPES
-    }
-}
-
-impl HasSchema for crate::ScopedPduData {
-    ghost ID = { 38 };
-
-    const ID: usize = 38;
-
-    fn types() -> &'static [StaticType] {
-        TYPES
-    }
-}
-
-impl HasSchema for crate::HeaderData {
-    ghost ID = { 39 };
-
-    const ID: usize = 39;
 
     fn types() -> &'static [StaticType] {
         TYPES
@@ -1225,110 +1050,10 @@ impl HasSchema for crate::SnmpV3Message {
     }
 }
 
-impl HasSchema for crate::IpAddress {
-    ghost ID = { 46 };
-
-    const ID: usize = 46;
-
-    fn types() -> &'static [StaticType] {
-        TYPES
-    }
-}
-
-impl HasSchema for crate::VarBindValue {
-    ghost ID = { 48 };
-
-    const ID: usize = 48;
-
-    fn types() -> &'static [StaticType] {
-        TYPES
-    }
-}
-
-impl HasSchema for crate::VarBind {
-    ghost ID = { 49 };
-
-    const ID: usize = 49;
-
-    fn types() -> &'static [StaticType] {
-        TYPES
-    }
-}
-
-impl HasSchema for crate::VarBindList {
-    ghost ID = { 50 };
-
-    const ID: usize = 50;
-
-    fn types() -> &'static [StaticType] {
-        TYPES
-    }
-}
-
-impl HasSchema for crate::NetworkAddress {
-    ghost ID = { 51 };
-
-    const ID: usize = 51;
-
-    fn types() -> &'static [StaticType] {
-        TYPES
-    }
-}
-
-impl HasSchema for crate::TrapPdu {
-    ghost ID = { 52 };
-
-    const ID: usize = 52;
-
-    fn types() -> &'static [StaticType] {
-        TYPES
-    }
-}
-
-impl HasSchema for crate::BulkPdu {
-    ghost ID = { 53 };
-
-    const ID: usize = 53;
-
-    fn types() -> &'static [StaticType] {
-        TYPES
-    }
-}
-
-impl HasSchema for crate::Pdu {
+impl HasSchema for crate::Message {
     ghost ID = { 54 };
 
     const ID: usize = 54;
-
-    fn types() -> &'static [StaticType] {
-        TYPES
-    }
-}
-
-impl HasSchema for crate::Unsigned31 {
-    ghost ID = { 55 };
-
-    const ID: usize = 55;
-
-    fn types() -> &'static [StaticType] {
-        TYPES
-    }
-}
-
-impl HasSchema for crate::Pdus {
-    ghost ID = { 56 };
-
-    const ID: usize = 56;
-
-    fn types() -> &'static [StaticType] {
-        TYPES
-    }
-}
-
-impl HasSchema for crate::Message {
-    ghost ID = { 57 };
-
-    const ID: usize = 57;
 
     fn types() -> &'static [StaticType] {
         TYPES
