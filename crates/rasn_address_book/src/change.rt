@@ -128,7 +128,8 @@ impl Decode for Change {
             Ok(Other(Other(Other(Other(Other(Other(Other(Other(Other(This(value))))))))))) => Ok(
                 Change::Annotate(value),
             ),
-            Ok(Other(Other(Other(Other(Other(Other(Other(Other(Other(Other(Last(value)))))))))))) => Ok(Change::Roles(value)),
+            Ok(Other(Other(Other(Other(Other(Other(Other(Other(Other(Other(Last(value)))))))))))) =>
+                Ok(Change::Roles(value)),
             Err(error) => Err(error),
         }
     }

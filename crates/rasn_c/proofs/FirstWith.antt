@@ -5,7 +5,7 @@ use Rattle.std.proofs.lemmas.List.{drop_more, take_all, take-append-drop}
 use Rattle.std.proofs.lemmas.List.Elements.{All-more}
 use Rattle.rasn_types.specs.Truth.{IsWhether}
 use Rattle.rasn_types.specs.Text.{dotted}
-use Rattle.rasn_x509.specs.declared.extension.Extension.{Extension}
+use Rattle.rasn_pkix.specs.declared.extension.Extension.{Extension}
 use Rattle.rasn_c.specs.Extensions.{HasOther, IsFirstWith}
 
 pub holds : (b : Bool) (P : Type 0) → IsWhether b P → b ≡ true → P

@@ -7,8 +7,8 @@ use Rattle.rasn_types.specs.Shapes.{Shape, Tree, list}
 use Rattle.rasn_types.specs.Trees.{list_tree}
 use Rattle.rasn_types.specs.Text.{dotted}
 use Rattle.rasn_types.specs.Grammar.{Reads, top}
-use Rattle.rasn_x509.specs.declared.extension.Extension.{Extension}
-use Rattle.rasn_x509.specs.Extensions.{extension_shape, extension_tree}
+use Rattle.rasn_pkix.specs.declared.extension.Extension.{Extension}
+use Rattle.rasn_pkix.specs.contracts.extension.ExtensionAsnType.TheImpl.{shape-value as extension_shape, tree-value as extension_tree}
 use Rattle.rasn_c.specs.Rules.{rule_number, IsUnknownRule}
 use Rattle.rasn_c.specs.Buffers.{written_over}
 use Rattle.rasn_c.specs.Leaves.{IsUnwritten}

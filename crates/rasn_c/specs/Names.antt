@@ -2,10 +2,9 @@
 use Rattle.std.specs.Prelude.{◌≡◌, ◌≤◌, ◌<◌, ℕ, List, [], ◌∷◌, ◌++◌, length}
 use Rattle.rasn_types.specs.declared.types.codec.Codec.{Codec}
 use Rattle.rasn_types.specs.Shapes.{Tree}
-use Rattle.rasn_types.specs.Trees.{list_tree}
 use Rattle.rasn_types.specs.Grammar.{Reads, top}
-use Rattle.rasn_x509.specs.declared.attribute.AttributeTypeAndValue.{AttributeTypeAndValue}
-use Rattle.rasn_x509.specs.Names.{name_shape, relative_tree}
+use Rattle.rasn_pkix.specs.declared.name.Name.{Name}
+use Rattle.rasn_pkix.specs.contracts.name.NameAsnType.TheImpl.{shape-value as name_shape, tree-value as name_tree}
 use Rattle.rasn_text.specs.Names.{IsNameText}
 use Rattle.rasn_c.specs.Rules.{rule_number, IsUnknownRule}
 use Rattle.rasn_c.specs.Buffers.{written_over}
@@ -13,9 +12,9 @@ use Rattle.rasn_c.specs.Leaves.{IsUnwritten}
 use Rattle.rasn_c.specs.declared.status.Status.{Status}
 use Rattle.rasn_c.specs.declared.status.Status.TheVariants.{Ok, Refused, OutOfMemory, BufferTooSmall, UnknownRule}
 
--- All of the octets are the Name (RFC 5280, 4.1.2.4) with these relative distinguished names.
-abbrev pub IsName : Codec → List ℕ → List (List AttributeTypeAndValue) → Type 0
-IsName rule octets name = Reads rule name_shape 128 (top rule) octets (list_tree relative_tree name) []
+-- All of the octets are this Name (RFC 5280, 4.1.2.4).
+abbrev pub IsName : Codec → List ℕ → Name → Type 0
+IsName rule octets name = Reads rule name_shape 128 (top rule) octets (name_tree name) []
 
 -- They are none; or there is no memory for it.
 abbrev pub IsNoName : Codec → List ℕ → Status → Type 0
@@ -24,12 +23,12 @@ IsNoName rule octets OutOfMemory = Unit {0}
 IsNoName rule octets _ = ⊥
 
 -- The text of the name, and a zero.
-abbrev pub IsEndedText : List (List AttributeTypeAndValue) → List ℕ → Type 0
+abbrev pub IsEndedText : Name → List ℕ → Type 0
 IsEndedText name ended = (text : List ℕ) × IsNameText name text × (ended ≡ text ++ 0 ∷ [])
 
 -- The octets are a Name with this text, by the rules of this number.
 abbrev pub IsNamed : ℕ → List ℕ → List ℕ → Type 0
-IsNamed code octets ended = (rule : Codec) × (code ≡ rule_number rule) × (name : List (List AttributeTypeAndValue)) × IsName rule octets name × IsEndedText name ended
+IsNamed code octets ended = (rule : Codec) × (code ≡ rule_number rule) × (name : Name) × IsName rule octets name × IsEndedText name ended
 
 -- The text of a Name with its zero, in a buffer.
 abbrev pub AnswersName : ℕ → List ℕ → List ℕ → List ℕ → ℕ → Status → Type 0

@@ -4,10 +4,10 @@ use Rattle.rasn_types.specs.declared.types.codec.Codec.{Codec}
 use Rattle.rasn_types.specs.Tags.{in_universal}
 use Rattle.rasn_types.specs.Shapes.{Shape, leaf, boolean, integer, octet_string, every, utc_time, generalized_time, null, object_identifier, bit_string, utf8, ia5, printable, any}
 use Rattle.rasn_types.specs.Trees.{unconstrained}
-use Rattle.rasn_x509.specs.Signed.{certificate_shape}
-use Rattle.rasn_pki.specs.X509.Revocation.Signed.{certificate_list_shape}
-use Rattle.rasn_pki.specs.Pkcs10.Request.{request_shape}
-use Rattle.rasn_pki.specs.Cms.Message.{signed_message_shape}
+use Rattle.rasn_pkix.specs.contracts.certificate.CertificateAsnType.TheImpl.{shape-value as certificate_shape}
+use Rattle.rasn_pkix.specs.contracts.certificate_list.CertificateListAsnType.TheImpl.{shape-value as certificate_list_shape}
+use Rattle.rasn_pkix.specs.contracts.certification_request.CertificationRequestAsnType.TheImpl.{shape-value as request_shape}
+use Rattle.rasn_cms.specs.contracts.signed_message.SignedMessageAsnType.TheImpl.{shape-value as signed_message_shape}
 use Rattle.rasn_snmp.specs.contracts.message.MessageAsnType.TheImpl.{shape-value as message_shape}
 use Rattle.rasn_ldap.specs.contracts.ldap_message.LdapMessageAsnType.TheImpl.{shape-value as ldap_message_shape}
 

@@ -10,7 +10,7 @@ use crate::buffers::fill;
 use crate::rules::rule_numbered;
 use crate::status::Status;
 use rasn::types::Codec;
-use rasn_x509::Extension;
+use rasn_pkix::Extension;
 use std::alloc::{AllocError, Global};
 
 /// Writes the octets of `extnValue` of the first extension with this identifier, `2.5.29.17`, of the

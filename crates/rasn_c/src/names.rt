@@ -8,7 +8,7 @@ use crate::rules::rule_numbered;
 use crate::status::Status;
 use rasn::types::Codec;
 use rasn_text::name_text;
-use rasn_x509::Name;
+use rasn_pkix::Name;
 use std::alloc::{AllocError, Global};
 
 /// Writes the text of the Name (RFC 5280, 4.1.2.4) that all of the octets are to the buffer, with a
@@ -52,7 +52,7 @@ fn put_name(
 
 /// Returns the Name that all of the octets are, or the status of a refusal.
 fn name_of(alloc: Global, rule: Codec, octets: &[u8]) -> Result<Name, Status>
-    ensures { MatchResult result (λ name. IsName rule octets.now name.items) (IsNoName rule octets.now) }
+    ensures { MatchResult result (λ name. IsName rule octets.now name) (IsNoName rule octets.now) }
 {
     match rasn::decode::<Name>(alloc, rule, octets) {
         Ok(name) => Ok(name),
@@ -68,7 +68,7 @@ fn name_of(alloc: Global, rule: Codec, octets: &[u8]) -> Result<Name, Status>
 
 /// Returns the text of a name, and a zero.
 fn ended_text(alloc: Global, name: &Name) -> Result<Vec<u8>, AllocError>
-    ensures { IfOk result (λ text. IsEndedText name.now.items text.items) }
+    ensures { IfOk result (λ text. IsEndedText name.now text.items) }
 {
     let mut text = name_text(alloc, name)?.into_bytes();
     text.push(0)?;

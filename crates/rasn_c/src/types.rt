@@ -10,11 +10,9 @@ use rasn::types::{
     Any, BitString, Codec, GeneralizedTime, Ia5String, Integer, LawfulEq, ObjectIdentifier,
     OctetString, PrintableString, UtcTime, Utf8String,
 };
+use rasn_cms::SignedMessage;
 use rasn_ldap::LdapMessage;
-use rasn_pki::cms::SignedMessage;
-use rasn_pki::pkcs10::CertificationRequest;
-use rasn_pki::x509::Certificate;
-use rasn_pki::x509::revocation::CertificateList;
+use rasn_pkix::{Certificate, CertificateList, CertificationRequest};
 use rasn_snmp::Message;
 use std::alloc::Global;
 

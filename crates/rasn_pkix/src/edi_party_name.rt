@@ -1,20 +1,20 @@
 //! `EDIPartyName ::= SEQUENCE`
-use crate::{EdiPartyNameNameAssigner, EdiPartyNamePartyName};
+use crate::DirectoryString;
 use rasn::prelude::*;
 
 /// `EDIPartyName ::= SEQUENCE`
 #[derive(Debug, PartialEq, Eq, Drop)]
 pub struct EdiPartyName {
-    /// `nameAssigner [0] EXPLICIT EDIPartyName-nameAssigner OPTIONAL`
-    pub name_assigner: Option<Explicit<ContextTag<0>, EdiPartyNameNameAssigner>>,
-    /// `partyName [1] EXPLICIT EDIPartyName-partyName`
-    pub party_name: Explicit<ContextTag<1>, EdiPartyNamePartyName>,
+    /// `nameAssigner [0] EXPLICIT DirectoryString OPTIONAL`
+    pub name_assigner: Option<Explicit<ContextTag<0>, DirectoryString>>,
+    /// `partyName [1] EXPLICIT DirectoryString`
+    pub party_name: Explicit<ContextTag<1>, DirectoryString>,
 }
 
 /// The components, as they are read.
-type Parts = Optional<Explicit<ContextTag<0>, EdiPartyNameNameAssigner>, Parts1>;
+type Parts = Optional<Explicit<ContextTag<0>, DirectoryString>, Parts1>;
 
-type Parts1 = Required<Explicit<ContextTag<1>, EdiPartyNamePartyName>, End>;
+type Parts1 = Required<Explicit<ContextTag<1>, DirectoryString>, End>;
 
 impl AsnType for EdiPartyName {
     ghost use Rattle.std.specs.Prelude.{refl};
@@ -39,11 +39,10 @@ impl AsnType for EdiPartyName {
 
 impl LawfulEq for EdiPartyName {
     ghost use Rattle.rasn_types.specs.Deciding.{deciding};
-    ghost use Rattle.rasn_pkix.specs.contracts.edi_party_name_name_assigner.EdiPartyNameNameAssignerLawfulEq.TheImpl.Laws.{decides-law as edi_party_name_name_assigner_law};
-    ghost use Rattle.rasn_pkix.specs.contracts.edi_party_name_name_assigner.EdiPartyNameNameAssignerPresent.TheImpl.Laws.{present-law as edi_party_name_name_assigner_present};
-    ghost use Rattle.rasn_pkix.specs.contracts.edi_party_name_party_name.EdiPartyNamePartyNameLawfulEq.TheImpl.Laws.{decides-law as edi_party_name_party_name_law};
+    ghost use Rattle.rasn_pkix.specs.contracts.directory_string.DirectoryStringLawfulEq.TheImpl.Laws.{decides-law as directory_string_law};
+    ghost use Rattle.rasn_pkix.specs.contracts.directory_string.DirectoryStringPresent.TheImpl.Laws.{present-law as directory_string_present};
 
-    ghost decides = { Prim.search (edi_party_name_name_assigner_law, edi_party_name_name_assigner_present, edi_party_name_party_name_law, deciding) depth 64 };
+    ghost decides = { Prim.search (directory_string_law, directory_string_present, deciding) depth 64 };
 }
 
 impl Present for EdiPartyName {

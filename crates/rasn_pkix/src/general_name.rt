@@ -1,5 +1,5 @@
 //! `GeneralName ::= CHOICE`
-use crate::{AnotherName, EdiPartyName, GeneralNameDirectoryName, OrAddress};
+use crate::{AnotherName, EdiPartyName, Name, OrAddress};
 use rasn::parts::OneOf::{Other, This};
 use rasn::prelude::*;
 
@@ -14,8 +14,8 @@ pub enum GeneralName {
     DnsName(Implicit<ContextTag<2>, Ia5String>),
     /// `x400Address [3] IMPLICIT ORAddress`
     X400Address(Implicit<ContextTag<3>, OrAddress>),
-    /// `directoryName [4] EXPLICIT GeneralName-directoryName`
-    DirectoryName(Explicit<ContextTag<4>, GeneralNameDirectoryName>),
+    /// `directoryName [4] EXPLICIT Name`
+    DirectoryName(Explicit<ContextTag<4>, Name>),
     /// `ediPartyName [5] IMPLICIT EDIPartyName`
     EdiPartyName(Implicit<ContextTag<5>, EdiPartyName>),
     /// `uniformResourceIdentifier [6] IMPLICIT IA5String`
@@ -35,7 +35,7 @@ type Alternatives2 = OneOf<Implicit<ContextTag<2>, Ia5String>, Alternatives3>;
 
 type Alternatives3 = OneOf<Implicit<ContextTag<3>, OrAddress>, Alternatives4>;
 
-type Alternatives4 = OneOf<Explicit<ContextTag<4>, GeneralNameDirectoryName>, Alternatives5>;
+type Alternatives4 = OneOf<Explicit<ContextTag<4>, Name>, Alternatives5>;
 
 type Alternatives5 = OneOf<Implicit<ContextTag<5>, EdiPartyName>, Alternatives6>;
 
@@ -62,7 +62,7 @@ impl AsnType for GeneralName {
 
     ghost shape = { choice ⟦<Alternatives as DecodeAlternatives>⟧.parts };
 
-    ghost tree = { elim [ OtherName x ↦ chosen 0 (⟦<Implicit<ContextTag<0>, AnotherName> as AsnType>⟧.tree x) | Rfc822Name x ↦ chosen 1 (⟦<Implicit<ContextTag<1>, Ia5String> as AsnType>⟧.tree x) | DnsName x ↦ chosen 2 (⟦<Implicit<ContextTag<2>, Ia5String> as AsnType>⟧.tree x) | X400Address x ↦ chosen 3 (⟦<Implicit<ContextTag<3>, OrAddress> as AsnType>⟧.tree x) | DirectoryName x ↦ chosen 4 (⟦<Explicit<ContextTag<4>, GeneralNameDirectoryName> as AsnType>⟧.tree x) | EdiPartyName x ↦ chosen 5 (⟦<Implicit<ContextTag<5>, EdiPartyName> as AsnType>⟧.tree x) | UniformResourceIdentifier x ↦ chosen 6 (⟦<Implicit<ContextTag<6>, Ia5String> as AsnType>⟧.tree x) | IpAddress x ↦ chosen 7 (⟦<Implicit<ContextTag<7>, OctetString> as AsnType>⟧.tree x) | RegisteredId x ↦ chosen 8 (⟦<Implicit<ContextTag<8>, ObjectIdentifier> as AsnType>⟧.tree x) ] };
+    ghost tree = { elim [ OtherName x ↦ chosen 0 (⟦<Implicit<ContextTag<0>, AnotherName> as AsnType>⟧.tree x) | Rfc822Name x ↦ chosen 1 (⟦<Implicit<ContextTag<1>, Ia5String> as AsnType>⟧.tree x) | DnsName x ↦ chosen 2 (⟦<Implicit<ContextTag<2>, Ia5String> as AsnType>⟧.tree x) | X400Address x ↦ chosen 3 (⟦<Implicit<ContextTag<3>, OrAddress> as AsnType>⟧.tree x) | DirectoryName x ↦ chosen 4 (⟦<Explicit<ContextTag<4>, Name> as AsnType>⟧.tree x) | EdiPartyName x ↦ chosen 5 (⟦<Implicit<ContextTag<5>, EdiPartyName> as AsnType>⟧.tree x) | UniformResourceIdentifier x ↦ chosen 6 (⟦<Implicit<ContextTag<6>, Ia5String> as AsnType>⟧.tree x) | IpAddress x ↦ chosen 7 (⟦<Implicit<ContextTag<7>, OctetString> as AsnType>⟧.tree x) | RegisteredId x ↦ chosen 8 (⟦<Implicit<ContextTag<8>, ObjectIdentifier> as AsnType>⟧.tree x) ] };
 
     ghost own = { refl };
 }
@@ -73,10 +73,10 @@ impl LawfulEq for GeneralName {
     ghost use Rattle.rasn_pkix.specs.contracts.general_name.GeneralName.{enum as own_enum};
     ghost use Rattle.rasn_pkix.specs.contracts.another_name.AnotherNameLawfulEq.TheImpl.Laws.{decides-law as another_name_law};
     ghost use Rattle.rasn_pkix.specs.contracts.edi_party_name.EdiPartyNameLawfulEq.TheImpl.Laws.{decides-law as edi_party_name_law};
-    ghost use Rattle.rasn_pkix.specs.contracts.general_name_directory_name.GeneralNameDirectoryNameLawfulEq.TheImpl.Laws.{decides-law as general_name_directory_name_law};
+    ghost use Rattle.rasn_pkix.specs.contracts.name.NameLawfulEq.TheImpl.Laws.{decides-law as name_law};
     ghost use Rattle.rasn_pkix.specs.contracts.or_address.OrAddressLawfulEq.TheImpl.Laws.{decides-law as or_address_law};
 
-    ghost decides = { choice_decided own_enum _ _ (alternative (λ x. x.0) (Prim.search (another_name_law, edi_party_name_law, general_name_directory_name_law, or_address_law, deciding) depth 64), (alternative (λ x. x.0) (Prim.search (another_name_law, edi_party_name_law, general_name_directory_name_law, or_address_law, deciding) depth 64), (alternative (λ x. x.0) (Prim.search (another_name_law, edi_party_name_law, general_name_directory_name_law, or_address_law, deciding) depth 64), (alternative (λ x. x.0) (Prim.search (another_name_law, edi_party_name_law, general_name_directory_name_law, or_address_law, deciding) depth 64), (alternative (λ x. x.0) (Prim.search (another_name_law, edi_party_name_law, general_name_directory_name_law, or_address_law, deciding) depth 64), (alternative (λ x. x.0) (Prim.search (another_name_law, edi_party_name_law, general_name_directory_name_law, or_address_law, deciding) depth 64), (alternative (λ x. x.0) (Prim.search (another_name_law, edi_party_name_law, general_name_directory_name_law, or_address_law, deciding) depth 64), (alternative (λ x. x.0) (Prim.search (another_name_law, edi_party_name_law, general_name_directory_name_law, or_address_law, deciding) depth 64), (alternative (λ x. x.0) (Prim.search (another_name_law, edi_party_name_law, general_name_directory_name_law, or_address_law, deciding) depth 64), tt))))))))) };
+    ghost decides = { choice_decided own_enum _ _ (alternative (λ x. x.0) (Prim.search (another_name_law, edi_party_name_law, name_law, or_address_law, deciding) depth 64), (alternative (λ x. x.0) (Prim.search (another_name_law, edi_party_name_law, name_law, or_address_law, deciding) depth 64), (alternative (λ x. x.0) (Prim.search (another_name_law, edi_party_name_law, name_law, or_address_law, deciding) depth 64), (alternative (λ x. x.0) (Prim.search (another_name_law, edi_party_name_law, name_law, or_address_law, deciding) depth 64), (alternative (λ x. x.0) (Prim.search (another_name_law, edi_party_name_law, name_law, or_address_law, deciding) depth 64), (alternative (λ x. x.0) (Prim.search (another_name_law, edi_party_name_law, name_law, or_address_law, deciding) depth 64), (alternative (λ x. x.0) (Prim.search (another_name_law, edi_party_name_law, name_law, or_address_law, deciding) depth 64), (alternative (λ x. x.0) (Prim.search (another_name_law, edi_party_name_law, name_law, or_address_law, deciding) depth 64), (alternative (λ x. x.0) (Prim.search (another_name_law, edi_party_name_law, name_law, or_address_law, deciding) depth 64), tt))))))))) };
 }
 
 impl Present for GeneralName {
@@ -136,7 +136,7 @@ type Written2<'a> = OneOf<&'a Implicit<ContextTag<2>, Ia5String>, Written3<'a>>;
 
 type Written3<'a> = OneOf<&'a Implicit<ContextTag<3>, OrAddress>, Written4<'a>>;
 
-type Written4<'a> = OneOf<&'a Explicit<ContextTag<4>, GeneralNameDirectoryName>, Written5<'a>>;
+type Written4<'a> = OneOf<&'a Explicit<ContextTag<4>, Name>, Written5<'a>>;
 
 type Written5<'a> = OneOf<&'a Implicit<ContextTag<5>, EdiPartyName>, Written6<'a>>;
 

@@ -7,7 +7,7 @@ use rasn::prelude::*;
 #[derive(Debug, PartialEq, Eq, Drop)]
 pub struct OrAddress {
     /// The value.
-    pub value: Any,
+    pub value: Vec<Any>,
 }
 
 impl AsnType for OrAddress {
@@ -23,9 +23,9 @@ impl AsnType for OrAddress {
 
     const CONSTRAINTS: Constraints = Constraints::NONE;
 
-    ghost shape = { tagged_as (in_universal 16) (record { value = None; size = None }) ⟦<Any as AsnType>⟧.shape };
+    ghost shape = { tagged_as (in_universal 16) (record { value = None; size = None }) ⟦<Vec<Any> as AsnType>⟧.shape };
 
-    ghost tree = { λ a. ⟦<Any as AsnType>⟧.tree a.value };
+    ghost tree = { λ a. ⟦<Vec<Any> as AsnType>⟧.tree a.value };
 
     ghost own = { refl };
 }
@@ -48,7 +48,11 @@ impl Decode for OrAddress {
         tag: Tag,
         constraints: &Constraints,
     ) -> Result<OrAddress, DecodeError> {
-        let value = <Any as Decode>::decode_with_tag_and_constraints(decoder, tag, constraints)?;
+        let value = <Vec<Any> as Decode>::decode_with_tag_and_constraints(
+            decoder,
+            tag,
+            constraints,
+        )?;
         Ok(OrAddress { value })
     }
 }
@@ -66,6 +70,6 @@ impl Encode for OrAddress {
     }
 
     fn is_present(&self) -> bool {
-        true
+        self.value.is_present()
     }
 }

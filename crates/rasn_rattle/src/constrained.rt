@@ -79,6 +79,9 @@ impl Encode for @Name@ {
 }
 ";
 
+/// How it is found whether a list is present.
+const LIST_PRESENT: &str = "self.value.is_present()";
+
 /// From where ranges in contracts are imported.
 const RANGE_USE: &str =
     "    ghost use Rattle.rasn_types.specs.declared.types.constraints.Bounded.TheVariants.{Range};\n";
@@ -110,11 +113,12 @@ impl Plan<'_> {
         values.filled(CONSTRAINED)
     }
 
-    /// Returns the text of the file of a type with this name and tag whose values are octets, and
-    /// why they are.
+    /// Returns the text of the file of a type with this name and tag whose values are octets or a
+    /// list of them, as the word says, and why they are.
     pub(crate) fn octets_text(
         &self,
         name: &str,
+        word: &str,
         tag: Tag,
         notation: &str,
         reason: &str,
@@ -131,9 +135,9 @@ impl Plan<'_> {
         )?;
         values.add_str("imports", "use rasn::prelude::*;\n")?;
         values.add_str("search", "Prim.search deciding depth 64")?;
-        values.add_str("present", "true")?;
+        values.add_str("present", if word == "Any" { "true" } else { LIST_PRESENT })?;
         add_tag(&mut values, tag)?;
-        add_field(&mut values, "Any", &Constraints::NONE)?;
+        add_field(&mut values, word, &Constraints::NONE)?;
         values.filled(CONSTRAINED)
     }
 
@@ -190,7 +194,7 @@ fn read_text(alloc: Global, inner: &str) -> Result<String, AllocError> {
 /// Returns how it is found whether a value of the type is present.
 fn present_text(ty: &Type) -> &'static str {
     match ty {
-        Type::SequenceOf { .. } | Type::SetOf { .. } => "self.value.is_present()",
+        Type::SequenceOf { .. } | Type::SetOf { .. } => LIST_PRESENT,
         _ => "true",
     }
 }

@@ -241,7 +241,8 @@ impl Plan<'_> {
         let (name, _file) = self.names_of(id);
         if tag != Tag::EOC {
             let notation = self.notation_of(id)?;
-            return self.octets_text(name, tag, notation.as_str(), reason);
+            let inner = self.open_word_of(id);
+            return self.octets_text(name, inner, tag, notation.as_str(), reason);
         }
         let values = self.values_of(id)?;
         let (head, doc) = (values.value_of("head"), values.value_of("doc"));
@@ -251,6 +252,15 @@ impl Plan<'_> {
             "/// It is an open type, since {reason}.\npub type {name} = Any;\n"
         )?;
         Ok(text)
+    }
+
+    /// Returns the type of the values of a type that is written as an open type: of a SEQUENCE that an
+    /// option names any components, and else any octets.
+    fn open_word_of(&self, id: usize) -> &'static str {
+        match self.type_of(id) {
+            Type::Sequence { .. } if self.is_opened(id) => "Vec<Any>",
+            _ => "Any",
+        }
     }
 
     /// Adds a file of an open type if a text names it.
@@ -270,7 +280,7 @@ impl Plan<'_> {
         let reason = "a type holds its own values";
         let file = File {
             name: String::from_str(self.alloc, name)?,
-            text: self.octets_text(word, tag, notation, reason)?,
+            text: self.octets_text(word, "Any", tag, notation, reason)?,
         };
         written.push(self.alloc, file, word)
     }

@@ -9,7 +9,7 @@ use crate::options::Options;
 use crate::twins::is_same_but_tag;
 use crate::words::{camel, snake};
 use rasn_schema::{Schema, Type, TypeId, type_at};
-use rasn_types::types::Class;
+use rasn_types::types::{Class, Tag};
 use std::alloc::{AllocError, Global};
 use std::collections::{BTreeMap, BTreeSet};
 
@@ -168,22 +168,34 @@ impl<'schema> Plan<'schema> {
         Ok(())
     }
 
-    /// Returns the first type with a name that differs from this one in its tag alone, if one does.
-    /// One that has a universal tag precedes others. A universal tag can't be put in place of
-    /// another one, and such a type is taken for one that is wanted alone.
+    /// Returns the type with a name that differs from this one in its tag alone, if there is one:
+    /// the only one with a universal tag, or else the only one with another tag.
     fn twin_of(&self, ty: &Type) -> Option<usize> {
-        let mut first: Option<usize> = None;
+        self.only_twin(ty, true).or(self.only_twin(ty, false))
+    }
+
+    /// Returns the only type with a name that differs from this one in its tag alone, among those
+    /// with a universal tag or those with another. A CHOICE loses its name under an explicit tag. A
+    /// universal tag can't be put in place of another one, and a type with such a tag is taken for
+    /// one that is wanted.
+    fn only_twin(&self, ty: &Type, is_universal: bool) -> Option<usize> {
+        let mut only: Option<usize> = None;
         for (id, other) in self.schema.types().iter().enumerate() {
-            let is_near = ty.tag().class != Class::Universal
+            let is_near = ty.tag() == Tag::EOC
+                || ty.tag().class != Class::Universal
                 || ty.tag() == other.tag() && self.is_wanted(id);
-            if is_near && self.names.contains_key(&id) && is_same_but_tag(ty, other) {
-                if other.tag().class == Class::Universal {
-                    return Some(id);
+            if is_near
+                && self.names.contains_key(&id)
+                && is_universal == (other.tag().class == Class::Universal)
+                && is_same_but_tag(ty, other)
+            {
+                if only.is_some() {
+                    return None;
                 }
-                first = first.or(Some(id));
+                only = Some(id);
             }
         }
-        first
+        only
     }
 
     /// Names the parts of types that have a name, from the root on.

@@ -4,7 +4,8 @@ use Rattle.std.specs.Prelude.{if◌then◌else◌, ◌==◌}
 use Rattle.std.specs.List.{AllZip, join_with_byte}
 use Rattle.std.proofs.lemmas.List.{length-take, length-reverse, reverse-append, take_more}
 use Rattle.std.proofs.lemmas.Bool.Decides.{nat_tests}
-use Rattle.rasn_x509.specs.declared.attribute.AttributeTypeAndValue.{AttributeTypeAndValue}
+use Rattle.rasn_pkix.specs.declared.attribute_type_and_value.AttributeTypeAndValue.{AttributeTypeAndValue}
+use Rattle.rasn_pkix.specs.declared.relative_distinguished_name.RelativeDistinguishedName.{RelativeDistinguishedName}
 use Rattle.rasn_text.specs.Joined.{AreJoined, IsAppended}
 use Rattle.rasn_text.specs.Names.{IsAttributeText, IsRelativeText}
 
@@ -55,12 +56,12 @@ relative_more attributes place x start old marked new within is before m after =
 same_test : (a b d : ℕ) → b ≡ d + a → (a == b) ≡ (d == 0)
 same_test a b d e = grind (arith, nat_tests)
 
-pub name_more : (name rest earlier : List (List AttributeTypeAndValue)) (relative : List AttributeTypeAndValue) (done : List (List AttributeTypeAndValue)) (text marked new : List ℕ)
-    → reverse name ≡ done ++ reverse rest → rest ≡ earlier ++ relative ∷ [] → IsAppended (AreJoined IsRelativeText 44 done) [] text → marked ≡ text ++ separator 44 (length rest == length name)
-    → IsAppended (IsRelativeText relative) marked new → (more : List (List AttributeTypeAndValue)) × (reverse name ≡ more ++ reverse earlier) × IsAppended (AreJoined IsRelativeText 44 more) [] new
+pub name_more : (name rest earlier : List RelativeDistinguishedName) (relative : RelativeDistinguishedName) (done : List RelativeDistinguishedName) (text marked new : List ℕ)
+    → reverse name ≡ done ++ reverse rest → rest ≡ earlier ++ relative ∷ [] → IsAppended (AreJoined (λ r. IsRelativeText r.value) 44 done) [] text → marked ≡ text ++ separator 44 (length rest == length name)
+    → IsAppended (IsRelativeText relative.value) marked new → (more : List RelativeDistinguishedName) × (reverse name ≡ more ++ reverse earlier) × IsAppended (AreJoined (λ r. IsRelativeText r.value) 44 more) [] new
 name_more name rest earlier relative done text marked new e split before m after =
     let n : length name ≡ length done + length rest = omega (arith, ap length e, length-reverse name, length-reverse rest, length-append done (reverse rest)) in (
       done ++ relative ∷ [],
       e ∙ (ap (λ l. done ++ reverse l) split ∙ (ap (λ l. done ++ l) (reverse-append earlier (relative ∷ [])) ∙ sym (append_assoc done (relative ∷ []) (reverse earlier)))),
-      part_added IsRelativeText 44 done relative [] text marked new (length rest == length name) before m (same_test (length rest) (length name) (length done) n) after,
+      part_added (λ (r : RelativeDistinguishedName). IsRelativeText r.value) 44 done relative [] text marked new (length rest == length name) before m (same_test (length rest) (length name) (length done) n) after,
     )

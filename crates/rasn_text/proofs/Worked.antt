@@ -14,10 +14,10 @@ use Rattle.rasn_types.specs.Grammar.{Reads, parts_of}
 use Rattle.rasn_types.specs.declared.types.codec.Codec.TheVariants.{Ber}
 use Rattle.rasn_types.specs.Text.{dotted}
 use Rattle.rasn.proofs.ReadBack.Headers.{octets_read}
-use Rattle.rasn_x509.specs.declared.attribute.AttributeTypeAndValue.{AttributeTypeAndValue}
+use Rattle.rasn_pkix.specs.declared.attribute_type_and_value.AttributeTypeAndValue.{AttributeTypeAndValue}
 use Rattle.rasn_text.specs.Escapes.{escaped}
 use Rattle.rasn_text.specs.ShortNames.{IsShortName, HasNoShortName}
-use Rattle.rasn_text.specs.Names.{IsValue, IsValueText, IsAttributeText, IsRelativeText, IsNameText}
+use Rattle.rasn_text.specs.Names.{IsValue, IsValueText, IsAttributeText, IsRelativeText, AreRelativesText}
 use Rattle.rasn_text.specs.WorkedNames.{common_name, unit, user, domain, unknown, attribute, text_attribute, below_example, jim, WorkedNames}
 
 -- The UTF8String with these octets.
@@ -50,7 +50,7 @@ example : IsRelativeText (text_attribute domain (codes "example") ∷ []) (codes
 unfolding encode
 example = alone _ _ (named_text domain (codes "DC") (codes "example") domain_named (All-from_recursion (λ c. c < 128) (codes "example") (search rules)) (omega arith))
 
-below : (last : List AttributeTypeAndValue) (text : List ℕ) → IsRelativeText last text → IsNameText (below_example last) (text ++ codes ",DC=example,DC=net")
+below : (last : List AttributeTypeAndValue) (text : List ℕ) → IsRelativeText last text → AreRelativesText (below_example last) (text ++ codes ",DC=example,DC=net")
 below last text is = (text ∷ codes "DC=example" ∷ codes "DC=net" ∷ [], (is, (example, (net, tt))), refl)
 
 common_text : (l : List ℕ) → All (λ c. c < 128) l → length l < 128 → IsRelativeText (text_attribute common_name l ∷ []) (codes "CN=" ++ escaped l)
@@ -78,7 +78,7 @@ unknown_alone : (text : List ℕ) → IsAttributeText (attribute unknown (4 ∷ 
 unknown_alone text (inl (name, value, s, v, e)) = absurd (unknown_unnamed name s)
 unknown_alone text (inr (none, e)) = e
 
-nothing_alone : (text : List ℕ) → IsNameText [] text → text ≡ []
+nothing_alone : (text : List ℕ) → AreRelativesText [] text → text ≡ []
 nothing_alone text ([], z, e) = e
 nothing_alone text (t ∷ ts, z, e) = absurd z
 

@@ -6,7 +6,10 @@ use Rattle.rasn_types.specs.Trees.{unconstrained}
 use Rattle.rasn_types.specs.Grammar.{Reads, top}
 use Rattle.rasn_types.specs.Text.{dotted}
 use Rattle.rasn_types.specs.declared.types.codec.Codec.TheVariants.{Ber}
-use Rattle.rasn_x509.specs.declared.attribute.AttributeTypeAndValue.{AttributeTypeAndValue}
+use Rattle.rasn_pkix.specs.declared.attribute_type_and_value.AttributeTypeAndValue.{AttributeTypeAndValue}
+use Rattle.rasn_pkix.specs.declared.relative_distinguished_name.RelativeDistinguishedName.{RelativeDistinguishedName}
+use Rattle.rasn_pkix.specs.declared.name.Name.{Name}
+use Rattle.rasn_pkix.specs.declared.name.Name.TheVariants.{RdnSequence}
 use Rattle.rasn_text.specs.Joined.{AreJoined}
 use Rattle.rasn_text.specs.Escapes.{escaped, octets_text}
 use Rattle.rasn_text.specs.ShortNames.{IsShortName, HasNoShortName}
@@ -31,13 +34,16 @@ IsValueText octets text = ((characters : List ℕ) × IsString octets characters
 
 -- An attribute: its type, an equals sign and its value (2.3).
 abbrev pub IsAttributeText : AttributeTypeAndValue → List ℕ → Type 0
-IsAttributeText a text = ((name : List ℕ) × (value : List ℕ) × IsShortName a.kind name × IsValueText a.value value × (text ≡ name ++ 61 ∷ value))
-    ⊎ (HasNoShortName a.kind × (text ≡ dotted a.kind ++ 61 ∷ octets_text a.value))
+IsAttributeText a text = ((name : List ℕ) × (value : List ℕ) × IsShortName a.type_value name × IsValueText a.value value × (text ≡ name ++ 61 ∷ value))
+    ⊎ (HasNoShortName a.type_value × (text ≡ dotted a.type_value ++ 61 ∷ octets_text a.value))
 
 -- The attributes of a relative distinguished name, with plus signs between them (2.2).
 abbrev pub IsRelativeText : List AttributeTypeAndValue → List ℕ → Type 0
 IsRelativeText attributes text = AreJoined IsAttributeText 43 attributes text
 
 -- The relative distinguished names, the last one first, with commas between them (2.1).
-abbrev pub IsNameText : List (List AttributeTypeAndValue) → List ℕ → Type 0
-IsNameText relatives text = AreJoined IsRelativeText 44 (reverse relatives) text
+abbrev pub AreRelativesText : List RelativeDistinguishedName → List ℕ → Type 0
+AreRelativesText relatives text = AreJoined (λ r. IsRelativeText r.value) 44 (reverse relatives) text
+
+abbrev pub IsNameText : Name → List ℕ → Type 0
+IsNameText (RdnSequence relatives) text = AreRelativesText relatives.items text

@@ -1,14 +1,14 @@
 //! Distinguished names as text (RFC 4514).
 ghost use Rattle.std.specs.Prelude.{◌≡◌, ◌++◌, List, ℕ, OnOk, IfOk, MatchOption, [], string_bytes, encode_utf8, if◌then◌else◌};
 ghost use Rattle.rasn_types.specs.Shapes.{Tree};
-ghost use Rattle.rasn_text.specs.Names.{IsNameText, IsRelativeText, IsAttributeText, IsValueText, IsValue, IsNoValue};
+ghost use Rattle.rasn_text.specs.Names.{IsNameText, AreRelativesText, IsRelativeText, IsAttributeText, IsValueText, IsValue, IsNoValue};
 ghost use Rattle.rasn_text.specs.Joined.{IsAppended};
 
 use crate::escapes::{push_escaped, push_octets};
 use crate::short_names::short_name;
 use rasn::Decode;
 use rasn::types::{Codec, Ia5String, PrintableString, Utf8String};
-use rasn_x509::{AttributeTypeAndValue, Name, RelativeDistinguishedName};
+use rasn_pkix::{AttributeTypeAndValue, Name, RdnSequence, RelativeDistinguishedName};
 use std::alloc::{AllocError, Global};
 
 /// Returns the text of a distinguished name (RFC 4514, 2): `CN=example.org,O=Example,C=DE`, with the
@@ -22,10 +22,19 @@ use std::alloc::{AllocError, Global};
 /// # Errors
 /// If an allocation fails.
 pub fn name_text(alloc: Global, name: &Name) -> Result<String, AllocError>
-    ensures { IfOk result (λ text. IsNameText name.now.items (string_bytes text)) }
+    ensures { IfOk result (λ text. IsNameText name.now (string_bytes text)) }
+{
+    match name {
+        Name::RdnSequence(sequence) => relatives_text(alloc, sequence),
+    }
+}
+
+/// Returns the text of relative distinguished names, of which the last one is written first.
+fn relatives_text(alloc: Global, sequence: &RdnSequence) -> Result<String, AllocError>
+    ensures { IfOk result (λ text. AreRelativesText sequence.now.items (string_bytes text)) }
 {
     let mut text = String::new(alloc);
-    let relatives = name.as_slice();
+    let relatives = sequence.as_slice();
     let mut rest = relatives;
     while let Some((relative, earlier)) = rest.split_last() {
         push_mark(&mut text, ',', rest.len() == relatives.len())?;
@@ -41,9 +50,9 @@ fn push_relative(
     alloc: Global,
     relative: &RelativeDistinguishedName,
 ) -> Result<(), AllocError>
-    ensures { OnOk result (IsAppended (IsRelativeText relative.now) (string_bytes text.old) (string_bytes text.new)) }
+    ensures { OnOk result (IsAppended (IsRelativeText relative.now.value) (string_bytes text.old) (string_bytes text.new)) }
 {
-    let attributes = relative.as_slice();
+    let attributes = relative.value.as_slice();
     for (place, attribute) in attributes.iter().enumerate() {
         push_mark(text, '+', place == 0)?;
         push_attribute(text, alloc, attribute)?;
@@ -66,7 +75,7 @@ fn push_attribute(
 ) -> Result<(), AllocError>
     ensures { OnOk result (IsAppended (IsAttributeText attribute.now) (string_bytes text.old) (string_bytes text.new)) }
 {
-    let kind = &attribute.kind;
+    let kind = &attribute.type_value;
     let value = attribute.value.as_bytes();
     match short_name(kind.arcs()) {
         Some(name) => {

@@ -4,28 +4,36 @@ use crate::asserts::{assert_has, assert_written_as};
 use crate::messages::spoilt::{READ, Spoilt, assert_spoilt};
 use rasn::WholeMessage;
 use rasn::types::Codec;
+use rasn_pkix::{Certificate, Extensions, Name, Time};
 use rasn_samples::certificate::CERTIFICATE;
-use rasn_x509::{Certificate, Extension, Time};
 
 /// Returns whether the time is 13:07 on a day in 2026, as a UTCTime.
 fn is_start(time: &Time) -> bool {
     match time {
-        Time::Utc(utc) => utc.date().year() == 2026 && utc.hour() == 13 && utc.minute() == 7,
-        Time::General(_) => false,
+        Time::UtcTime(utc) => utc.date().year() == 2026 && utc.hour() == 13 && utc.minute() == 7,
+        Time::GeneralTime(_) => false,
     }
 }
 
 /// Returns whether there are three extensions, and at least one of them is critical.
-fn are_three(extensions: &[Extension]) -> bool {
+fn are_three(extensions: &Extensions) -> bool {
+    let extensions = extensions.value.as_slice();
     extensions.len() == 3 && extensions.iter().any(|one| one.critical)
+}
+
+/// Returns whether the name is made of three others.
+fn is_of_three(name: &Name) -> bool {
+    match name {
+        Name::RdnSequence(relatives) => relatives.len() == 3,
+    }
 }
 
 /// Returns whether these are the parts that OpenSSL was given.
 fn has_parts(certificate: &Certificate) -> bool {
     let signed = &certificate.tbs_certificate;
-    signed.version == 2
+    signed.version.to_i128() == Some(2)
         && signed.issuer == signed.subject
-        && signed.issuer.len() == 3
+        && is_of_three(&signed.issuer)
         && signed.serial_number.as_octets() == [0x01, 0x02, 0x03, 0x04, 0x05].as_slice()
         && is_start(&signed.validity.not_before)
         && signed.extensions.as_ref().is_some_and(|all| are_three(all))

@@ -4,8 +4,8 @@
 use crate::asserts::{Answer, assert_decodes, decoded};
 use rasn::error::DecodeError;
 use rasn::types::Codec;
-use rasn_messages::cms::SignerIdentifier;
-use rasn_x509::Time;
+use rasn_cms::SignerIdentifier;
+use rasn_pkix::Time;
 
 // A BOOLEAN is neither a SEQUENCE nor `[0]` (RFC 5652, 5.3), and not a time (RFC 5280, 4.1).
 #[test]
@@ -41,7 +41,7 @@ fn a_time_of_a_certificate_keeps_its_offset(rt: HostRuntime) {
 /// Returns whether a `GeneralizedTime` was read whose offset from UTC is this number of minutes.
 fn is_at_offset(answer: &Result<Time, DecodeError>, minutes: i16) -> bool {
     match answer {
-        Ok(Time::General(time)) => time.offset_minutes() == minutes,
+        Ok(Time::GeneralTime(time)) => time.offset_minutes() == minutes,
         _ => false,
     }
 }

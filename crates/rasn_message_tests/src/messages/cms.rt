@@ -6,13 +6,13 @@ use crate::asserts::{
 use crate::messages::spoilt::{READ, Spoilt, assert_spoilt};
 use rasn::WholeMessage;
 use rasn::types::Codec;
-use rasn_messages::cms::{SignedMessage, SignerIdentifier};
+use rasn_cms::{SignedMessage, SignerIdentifier};
 use rasn_samples::cms::{MESSAGE, STREAMED};
 
 /// Returns whether these are the parts that OpenSSL was given.
 fn has_parts(message: &SignedMessage) -> bool {
     let signed = &message.content;
-    signed.version == 1
+    signed.version.to_i128() == Some(1)
         && signed.digest_algorithms.len() == 1
         && signed.encap_content_info.e_content.is_some()
         && signed.certificates.is_some()

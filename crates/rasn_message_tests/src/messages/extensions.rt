@@ -3,7 +3,7 @@
 use crate::asserts::{Answer, Rewritten, assert_decodes, assert_facts, assert_rewrites, value};
 use rasn::der;
 use rasn::types::Codec;
-use rasn_messages::x509::extensions::{
+use rasn_pkix::{
     AuthorityKeyIdentifier, BasicConstraints, GeneralName, GeneralNames, KeyUsage,
 };
 

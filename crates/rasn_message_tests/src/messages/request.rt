@@ -4,16 +4,23 @@ use crate::asserts::{assert_has, assert_written_as};
 use crate::messages::spoilt::{READ, Spoilt, assert_spoilt};
 use rasn::WholeMessage;
 use rasn::types::Codec;
-use rasn_messages::pkcs10::CertificationRequest;
+use rasn_pkix::{CertificationRequest, Name};
 use rasn_samples::request::REQUEST;
+
+/// Returns whether the name is made of two others.
+fn is_of_two(name: &Name) -> bool {
+    match name {
+        Name::RdnSequence(relatives) => relatives.len() == 2,
+    }
+}
 
 /// Returns whether these are the parts that OpenSSL was given.
 fn has_parts(request: &CertificationRequest) -> bool {
     let signed = &request.certification_request_info;
-    signed.version == 0
-        && signed.subject.len() == 2
+    signed.version.to_i128() == Some(0)
+        && is_of_two(&signed.subject)
         && signed.attributes.len() == 2
-        && signed.attributes.iter().all(|one| one.values.len() == 1)
+        && signed.attributes.iter().all(|one| one.values.value.len() == 1)
         && request.signature.len() == 512
 }
 

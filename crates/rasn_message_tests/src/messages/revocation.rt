@@ -5,8 +5,7 @@ use crate::messages::spoilt::{READ, Spoilt, assert_spoilt};
 use rasn::WholeMessage;
 use rasn::error::DecodeErrorKind;
 use rasn::types::Codec;
-use rasn_messages::x509::Time;
-use rasn_messages::x509::revocation::CertificateList;
+use rasn_pkix::{CertificateList, Time, Version};
 use rasn_samples::revocation::REVOCATION_LIST;
 
 // The same list without revoked certificates and extensions, which is of version 1.
@@ -61,11 +60,16 @@ const TWICE_DATED_LIST: &[u8] = &[
     0xE0, 0xF5, 0x4B, 0x0D,
 ];
 
+/// Returns whether a version is the second one.
+fn is_second(version: &Version) -> bool {
+    version.to_i128() == Some(1)
+}
+
 /// Returns whether these are the parts that OpenSSL was given: a list of version 2.
 fn has_parts(list: &CertificateList) -> bool {
     let signed = &list.tbs_cert_list;
-    signed.version == Some(1)
-        && matches!(signed.next_update, Some(Time::Utc(_)))
+    signed.version.as_ref().is_some_and(is_second)
+        && matches!(signed.next_update, Some(Time::UtcTime(_)))
         && signed.revoked_certificates.is_some()
         && signed.crl_extensions.is_some()
 }
@@ -91,7 +95,7 @@ fn revocation_lists_have_their_parts(rt: HostRuntime) {
 
 /// Returns whether the next list is issued at a GeneralizedTime.
 fn is_general(list: &CertificateList) -> bool {
-    is_empty(list) && matches!(list.tbs_cert_list.next_update, Some(Time::General(_)))
+    is_empty(list) && matches!(list.tbs_cert_list.next_update, Some(Time::GeneralTime(_)))
 }
 
 /// Returns whether the list doesn't say when the next one is issued.

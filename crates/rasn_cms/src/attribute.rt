@@ -1,0 +1,81 @@
+//! `Attribute ::= SEQUENCE`
+use rasn::prelude::*;
+
+/// `Attribute ::= SEQUENCE`
+#[derive(Debug, PartialEq, Eq, Drop)]
+pub struct Attribute {
+    /// `attrType OBJECT IDENTIFIER`
+    pub attr_type: ObjectIdentifier,
+    /// `attrValues SET OF ANY`
+    pub attr_values: SetOf<Any>,
+}
+
+/// The components, as they are read.
+type Parts = Required<ObjectIdentifier, Parts1>;
+
+type Parts1 = Required<SetOf<Any>, End>;
+
+impl AsnType for Attribute {
+    ghost use Rattle.std.specs.Prelude.{refl};
+    ghost use Rattle.rasn_types.specs.Tags.{in_universal};
+    ghost use Rattle.rasn_types.specs.Shapes.{seq};
+    ghost use Rattle.rasn_types.specs.Trees.{unconstrained};
+
+    ghost TAG = { in_universal 16 };
+
+    const TAG: Tag = Tag::SEQUENCE;
+
+    ghost CONSTRAINTS = { unconstrained };
+
+    const CONSTRAINTS: Constraints = Constraints::NONE;
+
+    ghost shape = { seq (in_universal 16) ⟦<Parts as DecodeParts>⟧.parts };
+
+    ghost tree = { λ a. ⟦<Parts as DecodeParts>⟧.tree (record { 0 = a.attr_type; 1 = record { 0 = a.attr_values; 1 = record {} } }) };
+
+    ghost own = { refl };
+}
+
+impl LawfulEq for Attribute {
+    ghost use Rattle.rasn_types.specs.Deciding.{deciding};
+
+    ghost decides = { Prim.search deciding depth 64 };
+}
+
+impl Present for Attribute {
+    ghost use Rattle.rasn_types.specs.Equality.{parts_not_absent};
+
+    ghost present = { λ _. parts_not_absent };
+}
+
+impl Decode for Attribute {
+    fn decode_with_tag_and_constraints(
+        decoder: &mut Decoder<'_>,
+        tag: Tag,
+        _constraints: &Constraints,
+    ) -> Result<Attribute, DecodeError> {
+        let Required(attr_type, rest) = decoder.read_sequence::<Parts>(tag)?;
+        let Required(attr_values, End) = rest;
+        Ok(Attribute {
+            attr_type,
+            attr_values,
+        })
+    }
+}
+
+impl Encode for Attribute {
+    fn encode_with_tag_and_constraints(
+        &self,
+        encoder: &mut Encoder,
+        tag: Tag,
+        _constraints: &Constraints,
+        _identifier: Identifier,
+    ) -> Result<(), EncodeError> {
+        let rest = Put(&self.attr_values, End);
+        encoder.write_sequence(tag, Put(&self.attr_type, rest))
+    }
+
+    fn is_present(&self) -> bool {
+        true
+    }
+}

@@ -1,0 +1,5 @@
+//! `ContentType ::= OBJECT IDENTIFIER`
+use rasn::prelude::*;
+
+/// `ContentType ::= OBJECT IDENTIFIER`
+pub type ContentType = ObjectIdentifier;

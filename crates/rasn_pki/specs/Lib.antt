@@ -1,3 +1,0 @@
-pub mod X509
-pub mod Pkcs10
-pub mod Cms

@@ -1,2 +1,0 @@
-pub mod RequestInfo
-pub mod Request

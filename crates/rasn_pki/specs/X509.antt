@@ -1,3 +1,0 @@
-pub mod Attribute
-pub mod Revocation
-pub mod Extensions

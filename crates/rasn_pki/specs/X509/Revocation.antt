@@ -1,3 +1,0 @@
-pub mod Revoked
-pub mod CertList
-pub mod Signed

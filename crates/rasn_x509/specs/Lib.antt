@@ -1,9 +1,0 @@
-pub mod Algorithm
-pub mod Attribute
-pub mod Names
-pub mod Times
-pub mod Period
-pub mod KeyInfo
-pub mod Extensions
-pub mod ToBeSigned
-pub mod Signed
