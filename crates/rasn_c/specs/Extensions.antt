@@ -8,7 +8,7 @@ use Rattle.rasn_types.specs.Trees.{list_tree}
 use Rattle.rasn_types.specs.Text.{dotted}
 use Rattle.rasn_types.specs.Grammar.{Reads, top}
 use Rattle.rasn_pkix.specs.declared.extension.Extension.{Extension}
-use Rattle.rasn_pkix.specs.contracts.extension.ExtensionAsnType.TheImpl.{shape-value as extension_shape, tree-value as extension_tree}
+use Rattle.rasn_pkix.specs.contracts.extension.ExtensionAsnType.TheImpl.{ghosts as extension_ghosts}
 use Rattle.rasn_c.specs.Rules.{rule_number, IsUnknownRule}
 use Rattle.rasn_c.specs.Buffers.{written_over}
 use Rattle.rasn_c.specs.Leaves.{IsUnwritten}
@@ -17,11 +17,11 @@ use Rattle.rasn_c.specs.declared.status.Status.TheVariants.{Ok, Refused, OutOfMe
 
 -- Extensions ::= SEQUENCE OF Extension (RFC 5280, 4.1, which requires at least one).
 abbrev pub extensions_shape : Shape
-extensions_shape = list (in_universal 16) extension_shape None
+extensions_shape = list (in_universal 16) extension_ghosts.shape None
 
 -- All of the octets are these Extensions.
 abbrev pub AreExtensions : Codec → List ℕ → List Extension → Type 0
-AreExtensions rule octets es = Reads rule extensions_shape 128 (top rule) octets (list_tree extension_tree es) []
+AreExtensions rule octets es = Reads rule extensions_shape 128 (top rule) octets (list_tree extension_ghosts.tree es) []
 
 -- They are none; or there is no memory for them.
 abbrev pub AreNoExtensions : Codec → List ℕ → Status → Type 0

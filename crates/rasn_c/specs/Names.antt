@@ -4,7 +4,7 @@ use Rattle.rasn_types.specs.declared.types.codec.Codec.{Codec}
 use Rattle.rasn_types.specs.Shapes.{Tree}
 use Rattle.rasn_types.specs.Grammar.{Reads, top}
 use Rattle.rasn_pkix.specs.declared.name.Name.{Name}
-use Rattle.rasn_pkix.specs.contracts.name.NameAsnType.TheImpl.{shape-value as name_shape, tree-value as name_tree}
+use Rattle.rasn_pkix.specs.contracts.name.NameAsnType.TheImpl.{ghosts as name_ghosts}
 use Rattle.rasn_text.specs.Names.{IsNameText}
 use Rattle.rasn_c.specs.Rules.{rule_number, IsUnknownRule}
 use Rattle.rasn_c.specs.Buffers.{written_over}
@@ -14,11 +14,11 @@ use Rattle.rasn_c.specs.declared.status.Status.TheVariants.{Ok, Refused, OutOfMe
 
 -- All of the octets are this Name (RFC 5280, 4.1.2.4).
 abbrev pub IsName : Codec → List ℕ → Name → Type 0
-IsName rule octets name = Reads rule name_shape 128 (top rule) octets (name_tree name) []
+IsName rule octets name = Reads rule name_ghosts.shape 128 (top rule) octets (name_ghosts.tree name) []
 
 -- They are none; or there is no memory for it.
 abbrev pub IsNoName : Codec → List ℕ → Status → Type 0
-IsNoName rule octets Refused = (t : Tree) → Reads rule name_shape 128 (top rule) octets t [] → ⊥
+IsNoName rule octets Refused = (t : Tree) → Reads rule name_ghosts.shape 128 (top rule) octets t [] → ⊥
 IsNoName rule octets OutOfMemory = Unit {0}
 IsNoName rule octets _ = ⊥
 

@@ -4,12 +4,12 @@ use Rattle.rasn_types.specs.declared.types.codec.Codec.{Codec}
 use Rattle.rasn_types.specs.Tags.{in_universal}
 use Rattle.rasn_types.specs.Shapes.{Shape, leaf, boolean, integer, octet_string, every, utc_time, generalized_time, null, object_identifier, bit_string, utf8, ia5, printable, any}
 use Rattle.rasn_types.specs.Trees.{unconstrained}
-use Rattle.rasn_pkix.specs.contracts.certificate.CertificateAsnType.TheImpl.{shape-value as certificate_shape}
-use Rattle.rasn_pkix.specs.contracts.certificate_list.CertificateListAsnType.TheImpl.{shape-value as certificate_list_shape}
-use Rattle.rasn_pkix.specs.contracts.certification_request.CertificationRequestAsnType.TheImpl.{shape-value as request_shape}
-use Rattle.rasn_cms.specs.contracts.signed_message.SignedMessageAsnType.TheImpl.{shape-value as signed_message_shape}
-use Rattle.rasn_snmp.specs.contracts.message.MessageAsnType.TheImpl.{shape-value as message_shape}
-use Rattle.rasn_ldap.specs.contracts.ldap_message.LdapMessageAsnType.TheImpl.{shape-value as ldap_message_shape}
+use Rattle.rasn_pkix.specs.contracts.certificate.CertificateAsnType.TheImpl.{ghosts as certificate_ghosts}
+use Rattle.rasn_pkix.specs.contracts.certificate_list.CertificateListAsnType.TheImpl.{ghosts as certificate_list_ghosts}
+use Rattle.rasn_pkix.specs.contracts.certification_request.CertificationRequestAsnType.TheImpl.{ghosts as request_ghosts}
+use Rattle.rasn_cms.specs.contracts.signed_message.SignedMessageAsnType.TheImpl.{ghosts as signed_message_ghosts}
+use Rattle.rasn_snmp.specs.contracts.message.MessageAsnType.TheImpl.{ghosts as message_ghosts}
+use Rattle.rasn_ldap.specs.contracts.ldap_message.LdapMessageAsnType.TheImpl.{ghosts as ldap_message_ghosts}
 
 -- the shapes of the types, in the order of their numbers, beginning with 0
 abbrev pub numbered_shapes : List Shape
@@ -26,12 +26,12 @@ numbered_shapes =
     ∷ leaf utc_time (in_universal 23) unconstrained
     ∷ leaf generalized_time (in_universal 24) unconstrained
     ∷ any None
-    ∷ certificate_shape
-    ∷ certificate_list_shape
-    ∷ request_shape
-    ∷ signed_message_shape
-    ∷ message_shape
-    ∷ ldap_message_shape
+    ∷ certificate_ghosts.shape
+    ∷ certificate_list_ghosts.shape
+    ∷ request_ghosts.shape
+    ∷ signed_message_ghosts.shape
+    ∷ message_ghosts.shape
+    ∷ ldap_message_ghosts.shape
     ∷ []
 
 abbrev pub IsShapeOf : ℕ → Shape → Type 0
