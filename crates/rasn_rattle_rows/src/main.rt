@@ -50,19 +50,29 @@ fn asked_by<'text>(
             }
         }
     }
-    let mut sources = Vec::from_slice(alloc, own.as_slice())?;
-    for block in text.split("\n--- ").skip(1) {
-        let (name, text) = block.split_once("\n").unwrap_or((block, ""));
-        if !own.iter().any(|known| known.name == name) {
-            sources.push(Source { name, text })?;
-        }
-    }
+    let sources = with_others(alloc, text, own.as_slice())?;
     Ok(Asked {
         options,
         name,
         own,
         sources,
     })
+}
+
+/// Returns these texts of standard input, and then the others in it.
+fn with_others<'text>(
+    alloc: Global,
+    text: &'text str,
+    own: &[Source<'text>],
+) -> Result<Vec<Source<'text>>, AllocError> {
+    let mut sources = Vec::from_slice(alloc, own)?;
+    for block in text.split("\n--- ").skip(1) {
+        let (name, text) = block.split_once("\n").unwrap_or((block, ""));
+        if !own.iter().any(|known| known.name == name) {
+            sources.push(Source { name, text })?;
+        }
+    }
+    Ok(sources)
 }
 
 /// Returns the text of the file with this name.

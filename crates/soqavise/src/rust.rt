@@ -10,34 +10,17 @@ use rasn_rattle::{
 use std::alloc::{AllocError, Global};
 use std::{fs, io};
 
-/// The options that may be repeated: the name, that of the value, and the help.
-const OPTIONS: [(&str, &str, &str); 5] = [
-    (
-        "message",
-        "TYPE=RULES",
-        "Says that TYPE is a whole message, which is read by RULES: ber, cer or der",
-    ),
-    (
-        "also",
-        "NAME",
-        "Names a file NAME.rt of the crate that is written by hand, as a public module",
-    ),
-    (
-        "type",
-        "TYPE",
-        "Writes TYPE and what it is made of, instead of all types of the modules",
-    ),
-    (
-        "open",
-        "TYPE",
-        "Writes TYPE as an open type, whose values are octets",
-    ),
-    (
-        "from",
-        "CRATE=FILE",
-        "Takes the types of the modules in FILE from CRATE, which has been written of them",
-    ),
-];
+/// The help of the options that may be repeated.
+const MESSAGE: &str = "Says that TYPE is a whole message, which is read by RULES: ber, cer or der";
+
+const ALSO: &str = "Names a file NAME.rt of the crate that is written by hand, as a public module";
+
+const TYPE: &str = "Writes TYPE and what it is made of, instead of all types of the modules";
+
+const OPEN: &str = "Writes TYPE as an open type, whose values are octets";
+
+const FROM: &str =
+    "Takes the types of the modules in FILE from CRATE, which has been written of them";
 
 /// Returns the subcommand: its arguments and help.
 pub(crate) fn rust_command<'a>(alloc: Global) -> Result<Command<'a>, AllocError> {
@@ -51,22 +34,22 @@ pub(crate) fn rust_command<'a>(alloc: Global) -> Result<Command<'a>, AllocError>
         .value_name("FOLDER")
         .required(true)
         .help("The folder of the crate, which has its name; files of these types are overwritten");
-    let mut command = Command::new(alloc, "rust")
+    Command::new(alloc, "rust")
         .about(
             "Writes the types of modules as a crate of Rattle, and prints its line of crates.txt",
         )
         .after_help("Example: soqavise rust My.asn1 --out crates/mine --message Certificate=der")
         .arg(files)?
-        .arg(out)?;
-    for option in OPTIONS {
-        command = command.arg(repeated(alloc, option))?;
-    }
-    Ok(command)
+        .arg(out)?
+        .arg(repeated(alloc, "message", "TYPE=RULES", MESSAGE))?
+        .arg(repeated(alloc, "also", "NAME", ALSO))?
+        .arg(repeated(alloc, "type", "TYPE", TYPE))?
+        .arg(repeated(alloc, "open", "TYPE", OPEN))?
+        .arg(repeated(alloc, "from", "CRATE=FILE", FROM))
 }
 
-/// Returns an option that may be repeated, of its name, that of its value, and its help.
-fn repeated<'a>(alloc: Global, option: (&'a str, &'a str, &'a str)) -> Arg<'a> {
-    let (name, value, help) = option;
+/// Returns an option that may be repeated.
+fn repeated<'a>(alloc: Global, name: &'a str, value: &'a str, help: &'a str) -> Arg<'a> {
     Arg::new(alloc, name)
         .long(name)
         .value_name(value)
@@ -87,13 +70,26 @@ pub(crate) fn run_rust(rt: &HostRuntime, matches: &ArgMatches<'_>) -> Result<u8,
     }
     let mut options = Options::new(rt.alloc(), name)?;
     for option in ["message", "also", "type", "open"] {
-        for value in matches.get_strs(option).unwrap_or(&[]) {
-            if !options.add(option, value)? {
-                return wrong(rt, value, "not a value of this option");
-            }
+        let values = matches.get_strs(option).unwrap_or(&[]);
+        if let Some(value) = add_values(&mut options, option, values)? {
+            return wrong(rt, value, "not a value of this option");
         }
     }
-    run_files(rt, matches, options, folder)
+    run_options(rt, matches, options, folder)
+}
+
+/// Adds the values of an option. Returns the first one that it can't have.
+fn add_values<'a>(
+    options: &mut Options,
+    option: &str,
+    values: &'a [&'a str],
+) -> Result<Option<&'a str>, AllocError> {
+    for value in values {
+        if !options.add(option, value)? {
+            return Ok(Some(value));
+        }
+    }
+    Ok(None)
 }
 
 /// Prints what is wrong about a word of the command line. Returns the exit status.
@@ -102,14 +98,13 @@ fn wrong(rt: &HostRuntime, word: &str, reason: &str) -> Result<u8, Fault> {
     Ok(USAGE)
 }
 
-/// Writes the crate of the modules in the files that the command line names.
-fn run_files(
+/// Reads the files that the command line names, and writes the crate of the modules in them.
+fn run_options(
     rt: &HostRuntime,
     matches: &ArgMatches<'_>,
     options: Options,
     folder: &str,
 ) -> Result<u8, Fault> {
-    let mut options = options;
     let mut texts = Vec::new(rt.alloc());
     for file in matches.get_strs("file").unwrap_or(&[]) {
         match fs::read_to_string(rt, *file) {
@@ -117,8 +112,23 @@ fn run_files(
             Err(error) => return unreadable(rt, file, &error),
         }
     }
+    let values = matches.get_strs("from").unwrap_or(&[]);
+    run_files(rt, texts, values, options, folder)
+}
+
+/// Reads the files of modules whose types other crates have, as the values of `--from` say, and
+/// writes the crate of the modules of these texts.
+fn run_files<'a>(
+    rt: &HostRuntime,
+    texts: Vec<(&'a str, String)>,
+    values: &'a [&'a str],
+    options: Options,
+    folder: &str,
+) -> Result<u8, Fault> {
+    let mut texts = texts;
+    let mut options = options;
     let wanted = texts.len();
-    for value in matches.get_strs("from").unwrap_or(&[]) {
+    for value in values {
         let Some((crate_name, file)) = value.split_once("=") else {
             return wrong(rt, value, "not a value of this option");
         };
