@@ -3,11 +3,14 @@ use rasn::de::Decode;
 use rasn::der;
 use rasn::enc::Encode;
 use rasn::error::DecodeError;
-use rasn::prelude::Implicit;
+use rasn::prelude::{Codec, Implicit};
 use rasn_address_book::{
     Availability, AvailabilityName, Change, Department, Elevation, Greeting, Members, Percent,
     Person, Relation, Reply, Review, Rights, Roles, Team, Title, Titles,
 };
+use rasn_dynamic::{decode, encode};
+use rasn_schema::{Schema, TypeId};
+use rasn_schema_static::{HasSchema, types_of};
 use std::alloc::{AllocError, Global};
 use std::process::Abort;
 
@@ -280,4 +283,23 @@ fn an_unnamed_availability_is_kept(rt: HostRuntime) {
     assert!(rt; number(rt.alloc(), &[0x0A, 0x01, 0x01]) == Some(busy.number()));
     assert!(rt; number(rt.alloc(), &[0x0A, 0x01, 0x07]) == Some(7));
     assert_refused::<Relation>(&rt, rt.alloc(), &[(&[0x0A, 0x01, 0x07], UNNAMED)]);
+}
+
+/// Returns what the value that the octets encode by the type's constant is written as.
+fn rewritten_by_constant<T: HasSchema>(alloc: Global, octets: &[u8]) -> Option<Vec<u8>> {
+    let schema = Schema::new(types_of(alloc, T::types()).ok()?).ok()?;
+    let id = TypeId(T::ID);
+    let value = decode(alloc, Codec::Der, &schema, id, octets).ok()?;
+    encode(alloc, Codec::Der, &schema, id, &value).ok()
+}
+
+// The types as data read and write the same octets as the Rattle types.
+#[test]
+fn reads_by_the_constant(rt: HostRuntime) {
+    for octets in [ANN, ANN_WHOLE] {
+        match rewritten_by_constant::<Person>(rt.alloc(), octets) {
+            Some(found) => assert_eq!(rt; found.as_slice(), octets),
+            None => assert!(rt; false, "{octets:?}"),
+        }
+    }
 }

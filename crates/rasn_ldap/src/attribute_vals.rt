@@ -1,12 +1,12 @@
-//! `Attribute-vals ::= SET (SIZE (1..MAX)) OF AttributeValue`
+//! `Attribute-vals ::= [UNIVERSAL 17] IMPLICIT SEQUENCE (SIZE (1..MAX)) OF AttributeValue`
 use crate::AttributeValue;
 use rasn::prelude::*;
 
-/// `Attribute-vals ::= SET (SIZE (1..MAX)) OF AttributeValue`
+/// `Attribute-vals ::= [UNIVERSAL 17] IMPLICIT SEQUENCE (SIZE (1..MAX)) OF AttributeValue`
 #[derive(Debug, PartialEq, Eq, Drop)]
 pub struct AttributeVals {
     /// The value.
-    pub value: SetOf<AttributeValue>,
+    pub value: Vec<AttributeValue>,
 }
 
 impl AsnType for AttributeVals {
@@ -32,9 +32,9 @@ impl AsnType for AttributeVals {
         }),
     };
 
-    ghost shape = { tagged_as (in_universal 17) (record { value = None; size = Some (record { constraint = Range (Some 1) None; extensible = false }) }) ⟦<SetOf<AttributeValue> as AsnType>⟧.shape };
+    ghost shape = { tagged_as (in_universal 17) (record { value = None; size = Some (record { constraint = Range (Some 1) None; extensible = false }) }) ⟦<Vec<AttributeValue> as AsnType>⟧.shape };
 
-    ghost tree = { λ a. ⟦<SetOf<AttributeValue> as AsnType>⟧.tree a.value };
+    ghost tree = { λ a. ⟦<Vec<AttributeValue> as AsnType>⟧.tree a.value };
 
     ghost own = { refl };
 }
@@ -57,7 +57,7 @@ impl Decode for AttributeVals {
         tag: Tag,
         constraints: &Constraints,
     ) -> Result<AttributeVals, DecodeError> {
-        let value = <SetOf<AttributeValue> as Decode>::decode_with_tag_and_constraints(
+        let value = <Vec<AttributeValue> as Decode>::decode_with_tag_and_constraints(
             decoder,
             tag,
             constraints,

@@ -1,5 +1,5 @@
 //! `PartialAttribute ::= SEQUENCE`
-use crate::{AttributeValue, LdapString};
+use crate::{AttributeValues, LdapString};
 use rasn::prelude::*;
 
 /// `PartialAttribute ::= SEQUENCE`
@@ -7,8 +7,8 @@ use rasn::prelude::*;
 pub struct PartialAttribute {
     /// `type LDAPString`
     pub type_value: LdapString,
-    /// `vals SET OF AttributeValue`
-    pub vals: SetOf<AttributeValue>,
+    /// `vals AttributeValues`
+    pub vals: AttributeValues,
     /// `...`
     pub unknown: Unknown,
 }
@@ -16,7 +16,7 @@ pub struct PartialAttribute {
 /// The components, as they are read.
 type Parts = Required<LdapString, Parts1>;
 
-type Parts1 = Required<SetOf<AttributeValue>, Parts2>;
+type Parts1 = Required<AttributeValues, Parts2>;
 
 type Parts2 = Required<Unknown, End>;
 

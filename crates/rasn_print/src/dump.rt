@@ -46,7 +46,7 @@ pub fn entries<'input>(alloc: Global, octets: &'input [u8]) -> Result<Entries<'i
     for _ in 0..=octets.len() {
         let (end, is_indefinite) = around.last().copied().unwrap_or((octets.len(), false));
         let rest = octets.get(at..end).unwrap_or(&[]);
-        if is_indefinite && rest.starts_with(&[0, 0]) || !is_indefinite && rest.is_empty() {
+        if is_ended(rest, is_indefinite) {
             at = at.saturating_add(if is_indefinite { 2 } else { 0 });
             if around.pop().is_none() {
                 break;
@@ -55,8 +55,7 @@ pub fn entries<'input>(alloc: Global, octets: &'input [u8]) -> Result<Entries<'i
         }
         let entry = match entry_of(alloc, rest, around.len(), at) {
             Ok(entry) => entry,
-            Err(error) if error.is_out_of_memory() => return Err(AllocError),
-            Err(error) => return Ok((list, Some(format!(in alloc; "byte {at}: {error}")?))),
+            Err(error) => return Ok((list, Some(fault_text(alloc, at, &error)?))),
         };
         let after = at.saturating_add(entry.octets.len());
         at = at.saturating_add(entry.header_len);
@@ -69,6 +68,24 @@ pub fn entries<'input>(alloc: Global, octets: &'input [u8]) -> Result<Entries<'i
         list.push(entry)?;
     }
     Ok((list, None))
+}
+
+/// Returns whether an encoding ends where these octets begin: with end-of-contents octets if its
+/// length is indefinite (X.690 8.1.5), otherwise where no octets remain.
+fn is_ended(rest: &[u8], is_indefinite: bool) -> bool {
+    if is_indefinite {
+        rest.starts_with(&[0, 0])
+    } else {
+        rest.is_empty()
+    }
+}
+
+/// Returns why the encoding at this byte can't be read.
+fn fault_text(alloc: Global, at: usize, error: &DecodeError) -> Result<String, AllocError> {
+    if error.is_out_of_memory() {
+        return Err(AllocError);
+    }
+    format!(in alloc; "byte {at}: {error}")
 }
 
 /// Returns the encoding with which the octets begin, which is in so many others.

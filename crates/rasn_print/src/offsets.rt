@@ -20,10 +20,7 @@ pub fn offsets_text(
     octets: &[u8],
 ) -> Result<String, Refusal> {
     let mut parts = parts_of(alloc, wanted.rule, &wanted.schema, wanted.root, octets)?;
-    match text_of(alloc, wanted, &mut parts) {
-        Ok(text) => Ok(text),
-        Err(_) => Err(out_of_memory(alloc, wanted)),
-    }
+    text_of(alloc, wanted, &mut parts).map_err(|_| out_of_memory(alloc, wanted))
 }
 
 /// Returns the lines of all parts.

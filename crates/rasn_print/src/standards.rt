@@ -1780,15 +1780,18 @@ AttributeValueAssertion ::= SEQUENCE {
 
 AssertionValue ::= OCTET STRING
 
--- 4.1.7
+-- 4.1.7, which has a SET OF: clients and servers write the values in an order of their own, since 5.1 doesn't ask
+-- for that of DER
+AttributeValues ::= [UNIVERSAL 17] IMPLICIT SEQUENCE OF AttributeValue
+
 PartialAttribute ::= SEQUENCE {
     type                            AttributeDescription,
-    vals                            SET OF AttributeValue
+    vals                            AttributeValues
 }
 
 Attribute ::= SEQUENCE {
     type                            AttributeDescription,
-    vals                            SET SIZE (1..MAX) OF AttributeValue
+    vals                            AttributeValues (SIZE (1..MAX))
 }
 
 -- 4.1.8

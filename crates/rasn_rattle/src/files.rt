@@ -143,6 +143,11 @@ impl Plan<'_> {
         written.push_also(self.alloc, self.options)?;
         self.push_open(&mut written, "OpenSequence", "open_sequence", Tag::SEQUENCE)?;
         self.push_open(&mut written, "OpenSet", "open_set", Tag::SET)?;
+        let schema = File {
+            name: String::from_str(self.alloc, "schema")?,
+            text: self.static_text()?,
+        };
+        written.push(self.alloc, schema, "TYPES")?;
         let lib = File {
             name: String::from_str(self.alloc, "lib")?,
             text: written.lib_text(self.alloc)?,

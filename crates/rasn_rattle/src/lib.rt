@@ -27,6 +27,7 @@ mod plan;
 mod reach;
 mod reasons;
 mod sequence;
+mod static_types;
 mod tags;
 mod template;
 mod twins;

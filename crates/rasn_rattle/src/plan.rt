@@ -123,8 +123,9 @@ impl<'schema> Plan<'schema> {
         self.twins.get(&id).copied().unwrap_or(id)
     }
 
-    /// Takes the names of the files that are written by hand.
+    /// Takes the names of the files that aren't those of types.
     fn reserve_also(&mut self) -> Result<(), AllocError> {
+        self.used.insert(String::from_str(self.alloc, "schema")?)?;
         for name in &self.options.also {
             let small = self.small(name.as_str())?;
             self.used.insert(small)?;

@@ -15,6 +15,17 @@ struct Walk {
     left: Vec<usize>,
 }
 
+impl Walk {
+    /// Reaches a type.
+    fn reach(&mut self, id: usize) -> Result<(), AllocError> {
+        if !self.reached.contains(&id) {
+            self.reached.insert(id)?;
+            self.left.push(id)?;
+        }
+        Ok(())
+    }
+}
+
 impl Plan<'_> {
     /// Returns whether the parts of a type lead to another one, or it is the other one.
     pub(crate) fn leads_to(&self, from: usize, to: usize) -> Result<bool, AllocError> {
@@ -82,12 +93,7 @@ impl Plan<'_> {
 
     /// Reaches a type. Of a type under another tag it is the type itself.
     fn visit(&self, walk: &mut Walk, id: usize) -> Result<(), AllocError> {
-        let id = self.twin_or_self(id);
-        if !walk.reached.contains(&id) {
-            walk.reached.insert(id)?;
-            walk.left.push(id)?;
-        }
-        Ok(())
+        walk.reach(self.twin_or_self(id))
     }
 
     /// Reaches what the types lead to. Each is visited once.
@@ -114,5 +120,88 @@ impl Plan<'_> {
             self.visit(walk, member.type_id.0)?;
         }
         Ok(())
+    }
+
+    /// Returns the types that an impl names a type of the constant for: those that aren't part of
+    /// another one.
+    pub(crate) fn static_roots(&self) -> Result<BTreeSet<usize>, AllocError> {
+        let mut roots = BTreeSet::new(self.alloc);
+        let mut walk = self.new_walk();
+        for (id, _naming) in self.names.iter() {
+            if self.has_static(*id)? {
+                roots.insert(*id)?;
+                self.reach_static_parts(&mut walk, *id)?;
+            }
+        }
+        self.reach_static(&mut walk)?;
+        for id in walk.reached.iter() {
+            roots.remove(&self.twin_or_self(*id));
+        }
+        Ok(roots)
+    }
+
+    /// Returns the numbers that types have in the constant: these, and what they are made of there,
+    /// in the order of the schema.
+    pub(crate) fn static_numbers(
+        &self,
+        roots: &BTreeSet<usize>,
+    ) -> Result<BTreeMap<usize, usize>, AllocError> {
+        let mut walk = self.new_walk();
+        for id in roots.iter() {
+            walk.reach(*id)?;
+        }
+        self.reach_static(&mut walk)?;
+        let mut numbers = BTreeMap::new(self.alloc);
+        for (number, id) in walk.reached.iter().enumerate() {
+            numbers.insert(*id, number)?;
+        }
+        Ok(numbers)
+    }
+
+    /// Reaches what the types are made of in the constant.
+    fn reach_static(&self, walk: &mut Walk) -> Result<(), AllocError> {
+        for _ in 0..self.schema.types().len() {
+            let Some(id) = walk.left.pop() else {
+                break;
+            };
+            self.reach_static_parts(walk, id)?;
+        }
+        Ok(())
+    }
+
+    /// Reaches what a type is made of in the constant.
+    fn reach_static_parts(&self, walk: &mut Walk, id: usize) -> Result<(), AllocError> {
+        if self.reason_against(id)?.is_some() {
+            return Ok(());
+        }
+        let members = self.placed_members_of(id)?;
+        for member in &members {
+            walk.reach(member.type_id.0)?;
+        }
+        Ok(())
+    }
+
+    /// Returns whether a type is made of one that is made of itself.
+    pub(crate) fn meets_itself(&self, id: usize) -> Result<bool, AllocError> {
+        let mut walk = self.new_walk();
+        self.visit(&mut walk, id)?;
+        self.visit_parts(&mut walk)?;
+        for reached in walk.reached.iter() {
+            if self.is_recursive(*reached)? {
+                return Ok(true);
+            }
+        }
+        Ok(false)
+    }
+
+    /// Returns whether a type is made of itself.
+    fn is_recursive(&self, id: usize) -> Result<bool, AllocError> {
+        let members = self.placed_members_of(id)?;
+        for member in &members {
+            if self.leads_to(member.type_id.0, id)? {
+                return Ok(true);
+            }
+        }
+        Ok(false)
     }
 }

@@ -22,7 +22,7 @@ fn ghost_tag(alloc: Global, tag: Tag) -> Result<String, AllocError> {
 }
 
 /// Returns a tag as a constant.
-fn const_tag(alloc: Global, tag: Tag) -> Result<String, AllocError> {
+pub(crate) fn const_tag(alloc: Global, tag: Tag) -> Result<String, AllocError> {
     if let Some(word) = universal_word(tag) {
         return format!(in alloc; "Tag::{word}");
     }
@@ -116,6 +116,7 @@ fn universal_word(tag: Tag) -> Option<&'static str> {
         return None;
     }
     match tag.value {
+        0 => Some("EOC"),
         1 => Some("BOOL"),
         2 => Some("INTEGER"),
         3 => Some("BIT_STRING"),

@@ -1,0 +1,6 @@
+//! `AttributeValues ::= [UNIVERSAL 17] IMPLICIT SEQUENCE OF AttributeValue`
+use crate::AttributeValue;
+use rasn::prelude::*;
+
+/// `AttributeValues ::= [UNIVERSAL 17] IMPLICIT SEQUENCE OF AttributeValue`
+pub type AttributeValues = Implicit<SetOf<bool>, Vec<AttributeValue>>;

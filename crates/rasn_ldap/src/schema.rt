@@ -1,0 +1,1213 @@
+//! The types as data, for what reads and writes by a schema.
+use rasn_schema_static::prelude::*;
+
+/// The types, which refer to one another by their numbers. A CHOICE has the alternatives of those
+/// that are alternatives of it, and what this crate has as open types is open.
+pub const TYPES: &[StaticType] = &[
+    StaticType::Any { tag: Tag::EOC },
+    StaticType::Leaf {
+        kind: LeafKind::OctetString,
+        tag: Tag {
+            class: Class::Context,
+            value: 1,
+        },
+        constraints: Constraints::NONE,
+        names: &[],
+    },
+    StaticType::Leaf {
+        kind: LeafKind::Utf8,
+        tag: Tag {
+            class: Class::Context,
+            value: 0,
+        },
+        constraints: Constraints::NONE,
+        names: &[],
+    },
+    StaticType::Leaf {
+        kind: LeafKind::OctetString,
+        tag: Tag {
+            class: Class::Context,
+            value: 11,
+        },
+        constraints: Constraints::NONE,
+        names: &[],
+    },
+    StaticType::Leaf {
+        kind: LeafKind::Utf8,
+        tag: Tag {
+            class: Class::Context,
+            value: 10,
+        },
+        constraints: Constraints::NONE,
+        names: &[],
+    },
+    StaticType::SequenceOf {
+        tag: Tag {
+            class: Class::Context,
+            value: 3,
+        },
+        element: TypeId(57),
+        constraints: Constraints {
+            value: None,
+            size: Some(Bound {
+                constraint: Bounded::Range {
+                    start: Some(1),
+                    end: None,
+                },
+                extensible: false,
+            }),
+        },
+    },
+    StaticType::Leaf {
+        kind: LeafKind::OctetString,
+        tag: Tag {
+            class: Class::Context,
+            value: 1,
+        },
+        constraints: Constraints::NONE,
+        names: &[],
+    },
+    StaticType::Leaf {
+        kind: LeafKind::Utf8,
+        tag: Tag {
+            class: Class::Context,
+            value: 0,
+        },
+        constraints: Constraints::NONE,
+        names: &[],
+    },
+    StaticType::Leaf {
+        kind: LeafKind::Utf8,
+        tag: Tag {
+            class: Class::Context,
+            value: 0,
+        },
+        constraints: Constraints::NONE,
+        names: &[],
+    },
+    StaticType::Leaf {
+        kind: LeafKind::Boolean,
+        tag: Tag::BOOL,
+        constraints: Constraints::NONE,
+        names: &[],
+    },
+    StaticType::Leaf {
+        kind: LeafKind::Signed64,
+        tag: Tag::ENUMERATED,
+        constraints: Constraints::NONE,
+        names: &[
+            StaticNumber {
+                name: "add",
+                number: 0,
+            },
+            StaticNumber {
+                name: "delete",
+                number: 1,
+            },
+            StaticNumber {
+                name: "replace",
+                number: 2,
+            },
+        ],
+    },
+    StaticType::SequenceOf {
+        tag: Tag::SEQUENCE,
+        element: TypeId(39),
+        constraints: Constraints::NONE,
+    },
+    StaticType::Leaf {
+        kind: LeafKind::Boolean,
+        tag: Tag {
+            class: Class::Context,
+            value: 4,
+        },
+        constraints: Constraints::NONE,
+        names: &[],
+    },
+    StaticType::Leaf {
+        kind: LeafKind::OctetString,
+        tag: Tag {
+            class: Class::Context,
+            value: 3,
+        },
+        constraints: Constraints::NONE,
+        names: &[],
+    },
+    StaticType::Leaf {
+        kind: LeafKind::Utf8,
+        tag: Tag {
+            class: Class::Context,
+            value: 2,
+        },
+        constraints: Constraints::NONE,
+        names: &[],
+    },
+    StaticType::Leaf {
+        kind: LeafKind::Utf8,
+        tag: Tag {
+            class: Class::Context,
+            value: 1,
+        },
+        constraints: Constraints::NONE,
+        names: &[],
+    },
+    StaticType::Leaf {
+        kind: LeafKind::OctetString,
+        tag: Tag {
+            class: Class::Context,
+            value: 2,
+        },
+        constraints: Constraints::NONE,
+        names: &[],
+    },
+    StaticType::Leaf {
+        kind: LeafKind::OctetString,
+        tag: Tag {
+            class: Class::Context,
+            value: 1,
+        },
+        constraints: Constraints::NONE,
+        names: &[],
+    },
+    StaticType::Leaf {
+        kind: LeafKind::OctetString,
+        tag: Tag {
+            class: Class::Context,
+            value: 0,
+        },
+        constraints: Constraints::NONE,
+        names: &[],
+    },
+    StaticType::SequenceOf {
+        tag: Tag::SEQUENCE,
+        element: TypeId(44),
+        constraints: Constraints {
+            value: None,
+            size: Some(Bound {
+                constraint: Bounded::Range {
+                    start: Some(1),
+                    end: None,
+                },
+                extensible: false,
+            }),
+        },
+    },
+    StaticType::Enumerated {
+        tag: Tag::ENUMERATED,
+        numbers: &[
+            StaticNumber {
+                name: "neverDerefAliases",
+                number: 0,
+            },
+            StaticNumber {
+                name: "derefInSearching",
+                number: 1,
+            },
+            StaticNumber {
+                name: "derefFindingBaseObj",
+                number: 2,
+            },
+            StaticNumber {
+                name: "derefAlways",
+                number: 3,
+            },
+        ],
+    },
+    StaticType::Leaf {
+        kind: LeafKind::OctetString,
+        tag: Tag {
+            class: Class::Context,
+            value: 7,
+        },
+        constraints: Constraints::NONE,
+        names: &[],
+    },
+    StaticType::SequenceOf {
+        tag: Tag {
+            class: Class::Context,
+            value: 3,
+        },
+        element: TypeId(57),
+        constraints: Constraints {
+            value: None,
+            size: Some(Bound {
+                constraint: Bounded::Range {
+                    start: Some(1),
+                    end: None,
+                },
+                extensible: false,
+            }),
+        },
+    },
+    StaticType::Leaf {
+        kind: LeafKind::OctetString,
+        tag: Tag::OCTET_STRING,
+        constraints: Constraints::NONE,
+        names: &[],
+    },
+    StaticType::Sequence {
+        tag: Tag {
+            class: Class::Context,
+            value: 3,
+        },
+        components: &[
+            StaticComponent {
+                name: "mechanism",
+                presence: StaticPresence::Required,
+                type_id: TypeId(57),
+            },
+            StaticComponent {
+                name: "credentials",
+                presence: StaticPresence::Optional,
+                type_id: TypeId(23),
+            },
+            StaticComponent {
+                name: "...",
+                presence: StaticPresence::Required,
+                type_id: TypeId(59),
+            },
+        ],
+    },
+    StaticType::Leaf {
+        kind: LeafKind::OctetString,
+        tag: Tag {
+            class: Class::Context,
+            value: 0,
+        },
+        constraints: Constraints::NONE,
+        names: &[],
+    },
+    StaticType::Leaf {
+        kind: LeafKind::Integer,
+        tag: Tag::INTEGER,
+        constraints: Constraints {
+            value: Some(Bound {
+                constraint: Bounded::Range {
+                    start: Some(1),
+                    end: Some(127),
+                },
+                extensible: false,
+            }),
+            size: None,
+        },
+        names: &[],
+    },
+    StaticType::Leaf {
+        kind: LeafKind::OctetString,
+        tag: Tag::OCTET_STRING,
+        constraints: Constraints::NONE,
+        names: &[],
+    },
+    StaticType::Leaf {
+        kind: LeafKind::Boolean,
+        tag: Tag::BOOL,
+        constraints: Constraints::NONE,
+        names: &[],
+    },
+    StaticType::SequenceOf {
+        tag: Tag {
+            class: Class::Context,
+            value: 3,
+        },
+        element: TypeId(57),
+        constraints: Constraints {
+            value: None,
+            size: Some(Bound {
+                constraint: Bounded::Range {
+                    start: Some(1),
+                    end: None,
+                },
+                extensible: false,
+            }),
+        },
+    },
+    StaticType::SetOf {
+        tag: Tag::SET,
+        element: TypeId(56),
+        constraints: Constraints {
+            value: None,
+            size: Some(Bound {
+                constraint: Bounded::Range {
+                    start: Some(1),
+                    end: None,
+                },
+                extensible: false,
+            }),
+        },
+    },
+    StaticType::SetOf {
+        tag: Tag::SET,
+        element: TypeId(56),
+        constraints: Constraints::NONE,
+    },
+    StaticType::Sequence {
+        tag: Tag {
+            class: Class::Application,
+            value: 25,
+        },
+        components: &[
+            StaticComponent {
+                name: "responseName",
+                presence: StaticPresence::Optional,
+                type_id: TypeId(2),
+            },
+            StaticComponent {
+                name: "responseValue",
+                presence: StaticPresence::Optional,
+                type_id: TypeId(1),
+            },
+            StaticComponent {
+                name: "...",
+                presence: StaticPresence::Required,
+                type_id: TypeId(59),
+            },
+        ],
+    },
+    StaticType::Sequence {
+        tag: Tag {
+            class: Class::Application,
+            value: 24,
+        },
+        components: &[
+            StaticComponent {
+                name: "resultCode",
+                presence: StaticPresence::Required,
+                type_id: TypeId(50),
+            },
+            StaticComponent {
+                name: "matchedDN",
+                presence: StaticPresence::Required,
+                type_id: TypeId(57),
+            },
+            StaticComponent {
+                name: "diagnosticMessage",
+                presence: StaticPresence::Required,
+                type_id: TypeId(57),
+            },
+            StaticComponent {
+                name: "referral",
+                presence: StaticPresence::Optional,
+                type_id: TypeId(5),
+            },
+            StaticComponent {
+                name: "responseName",
+                presence: StaticPresence::Optional,
+                type_id: TypeId(4),
+            },
+            StaticComponent {
+                name: "responseValue",
+                presence: StaticPresence::Optional,
+                type_id: TypeId(3),
+            },
+            StaticComponent {
+                name: "...",
+                presence: StaticPresence::Required,
+                type_id: TypeId(59),
+            },
+        ],
+    },
+    StaticType::Sequence {
+        tag: Tag {
+            class: Class::Application,
+            value: 23,
+        },
+        components: &[
+            StaticComponent {
+                name: "requestName",
+                presence: StaticPresence::Required,
+                type_id: TypeId(7),
+            },
+            StaticComponent {
+                name: "requestValue",
+                presence: StaticPresence::Optional,
+                type_id: TypeId(6),
+            },
+            StaticComponent {
+                name: "...",
+                presence: StaticPresence::Required,
+                type_id: TypeId(59),
+            },
+        ],
+    },
+    StaticType::Sequence {
+        tag: Tag {
+            class: Class::Application,
+            value: 14,
+        },
+        components: &[
+            StaticComponent {
+                name: "entry",
+                presence: StaticPresence::Required,
+                type_id: TypeId(57),
+            },
+            StaticComponent {
+                name: "ava",
+                presence: StaticPresence::Required,
+                type_id: TypeId(55),
+            },
+            StaticComponent {
+                name: "...",
+                presence: StaticPresence::Required,
+                type_id: TypeId(59),
+            },
+        ],
+    },
+    StaticType::Sequence {
+        tag: Tag {
+            class: Class::Application,
+            value: 12,
+        },
+        components: &[
+            StaticComponent {
+                name: "entry",
+                presence: StaticPresence::Required,
+                type_id: TypeId(57),
+            },
+            StaticComponent {
+                name: "newrdn",
+                presence: StaticPresence::Required,
+                type_id: TypeId(57),
+            },
+            StaticComponent {
+                name: "deleteoldrdn",
+                presence: StaticPresence::Required,
+                type_id: TypeId(9),
+            },
+            StaticComponent {
+                name: "newSuperior",
+                presence: StaticPresence::Optional,
+                type_id: TypeId(8),
+            },
+            StaticComponent {
+                name: "...",
+                presence: StaticPresence::Required,
+                type_id: TypeId(59),
+            },
+        ],
+    },
+    StaticType::SequenceOf {
+        tag: Tag::SEQUENCE,
+        element: TypeId(52),
+        constraints: Constraints::NONE,
+    },
+    StaticType::Sequence {
+        tag: Tag {
+            class: Class::Application,
+            value: 8,
+        },
+        components: &[
+            StaticComponent {
+                name: "entry",
+                presence: StaticPresence::Required,
+                type_id: TypeId(57),
+            },
+            StaticComponent {
+                name: "attributes",
+                presence: StaticPresence::Required,
+                type_id: TypeId(37),
+            },
+            StaticComponent {
+                name: "...",
+                presence: StaticPresence::Required,
+                type_id: TypeId(59),
+            },
+        ],
+    },
+    StaticType::Sequence {
+        tag: Tag::SEQUENCE,
+        components: &[
+            StaticComponent {
+                name: "operation",
+                presence: StaticPresence::Required,
+                type_id: TypeId(10),
+            },
+            StaticComponent {
+                name: "modification",
+                presence: StaticPresence::Required,
+                type_id: TypeId(53),
+            },
+            StaticComponent {
+                name: "...",
+                presence: StaticPresence::Required,
+                type_id: TypeId(59),
+            },
+        ],
+    },
+    StaticType::Sequence {
+        tag: Tag {
+            class: Class::Application,
+            value: 6,
+        },
+        components: &[
+            StaticComponent {
+                name: "object",
+                presence: StaticPresence::Required,
+                type_id: TypeId(57),
+            },
+            StaticComponent {
+                name: "changes",
+                presence: StaticPresence::Required,
+                type_id: TypeId(11),
+            },
+            StaticComponent {
+                name: "...",
+                presence: StaticPresence::Required,
+                type_id: TypeId(59),
+            },
+        ],
+    },
+    StaticType::SequenceOf {
+        tag: Tag::SEQUENCE,
+        element: TypeId(53),
+        constraints: Constraints::NONE,
+    },
+    StaticType::Sequence {
+        tag: Tag {
+            class: Class::Application,
+            value: 4,
+        },
+        components: &[
+            StaticComponent {
+                name: "objectName",
+                presence: StaticPresence::Required,
+                type_id: TypeId(57),
+            },
+            StaticComponent {
+                name: "attributes",
+                presence: StaticPresence::Required,
+                type_id: TypeId(41),
+            },
+            StaticComponent {
+                name: "...",
+                presence: StaticPresence::Required,
+                type_id: TypeId(59),
+            },
+        ],
+    },
+    StaticType::Sequence {
+        tag: Tag::SEQUENCE,
+        components: &[
+            StaticComponent {
+                name: "matchingRule",
+                presence: StaticPresence::Optional,
+                type_id: TypeId(15),
+            },
+            StaticComponent {
+                name: "type",
+                presence: StaticPresence::Optional,
+                type_id: TypeId(14),
+            },
+            StaticComponent {
+                name: "matchValue",
+                presence: StaticPresence::Required,
+                type_id: TypeId(13),
+            },
+            StaticComponent {
+                name: "dnAttributes",
+                presence: StaticPresence::Default(StaticValue::Boolean(false)),
+                type_id: TypeId(12),
+            },
+            StaticComponent {
+                name: "...",
+                presence: StaticPresence::Required,
+                type_id: TypeId(59),
+            },
+        ],
+    },
+    StaticType::Choice {
+        name: "Substring",
+        alternatives: &[
+            StaticAlternative {
+                name: "initial",
+                type_id: TypeId(18),
+            },
+            StaticAlternative {
+                name: "any",
+                type_id: TypeId(17),
+            },
+            StaticAlternative {
+                name: "final",
+                type_id: TypeId(16),
+            },
+            StaticAlternative {
+                name: "...",
+                type_id: TypeId(0),
+            },
+        ],
+    },
+    StaticType::Sequence {
+        tag: Tag::SEQUENCE,
+        components: &[
+            StaticComponent {
+                name: "type",
+                presence: StaticPresence::Required,
+                type_id: TypeId(57),
+            },
+            StaticComponent {
+                name: "substrings",
+                presence: StaticPresence::Required,
+                type_id: TypeId(19),
+            },
+            StaticComponent {
+                name: "...",
+                presence: StaticPresence::Required,
+                type_id: TypeId(59),
+            },
+        ],
+    },
+    StaticType::Sequence {
+        tag: Tag {
+            class: Class::Application,
+            value: 1,
+        },
+        components: &[
+            StaticComponent {
+                name: "resultCode",
+                presence: StaticPresence::Required,
+                type_id: TypeId(50),
+            },
+            StaticComponent {
+                name: "matchedDN",
+                presence: StaticPresence::Required,
+                type_id: TypeId(57),
+            },
+            StaticComponent {
+                name: "diagnosticMessage",
+                presence: StaticPresence::Required,
+                type_id: TypeId(57),
+            },
+            StaticComponent {
+                name: "referral",
+                presence: StaticPresence::Optional,
+                type_id: TypeId(22),
+            },
+            StaticComponent {
+                name: "serverSaslCreds",
+                presence: StaticPresence::Optional,
+                type_id: TypeId(21),
+            },
+            StaticComponent {
+                name: "...",
+                presence: StaticPresence::Required,
+                type_id: TypeId(59),
+            },
+        ],
+    },
+    StaticType::Choice {
+        name: "AuthenticationChoice",
+        alternatives: &[
+            StaticAlternative {
+                name: "simple",
+                type_id: TypeId(25),
+            },
+            StaticAlternative {
+                name: "sasl",
+                type_id: TypeId(24),
+            },
+            StaticAlternative {
+                name: "...",
+                type_id: TypeId(0),
+            },
+        ],
+    },
+    StaticType::Sequence {
+        tag: Tag {
+            class: Class::Application,
+            value: 0,
+        },
+        components: &[
+            StaticComponent {
+                name: "version",
+                presence: StaticPresence::Required,
+                type_id: TypeId(26),
+            },
+            StaticComponent {
+                name: "name",
+                presence: StaticPresence::Required,
+                type_id: TypeId(57),
+            },
+            StaticComponent {
+                name: "authentication",
+                presence: StaticPresence::Required,
+                type_id: TypeId(47),
+            },
+            StaticComponent {
+                name: "...",
+                presence: StaticPresence::Required,
+                type_id: TypeId(59),
+            },
+        ],
+    },
+    StaticType::Sequence {
+        tag: Tag::SEQUENCE,
+        components: &[
+            StaticComponent {
+                name: "controlType",
+                presence: StaticPresence::Required,
+                type_id: TypeId(57),
+            },
+            StaticComponent {
+                name: "criticality",
+                presence: StaticPresence::Default(StaticValue::Boolean(false)),
+                type_id: TypeId(28),
+            },
+            StaticComponent {
+                name: "controlValue",
+                presence: StaticPresence::Optional,
+                type_id: TypeId(27),
+            },
+            StaticComponent {
+                name: "...",
+                presence: StaticPresence::Required,
+                type_id: TypeId(59),
+            },
+        ],
+    },
+    StaticType::Leaf {
+        kind: LeafKind::Signed64,
+        tag: Tag::ENUMERATED,
+        constraints: Constraints::NONE,
+        names: &[
+            StaticNumber {
+                name: "success",
+                number: 0,
+            },
+            StaticNumber {
+                name: "operationsError",
+                number: 1,
+            },
+            StaticNumber {
+                name: "protocolError",
+                number: 2,
+            },
+            StaticNumber {
+                name: "timeLimitExceeded",
+                number: 3,
+            },
+            StaticNumber {
+                name: "sizeLimitExceeded",
+                number: 4,
+            },
+            StaticNumber {
+                name: "compareFalse",
+                number: 5,
+            },
+            StaticNumber {
+                name: "compareTrue",
+                number: 6,
+            },
+            StaticNumber {
+                name: "authMethodNotSupported",
+                number: 7,
+            },
+            StaticNumber {
+                name: "strongerAuthRequired",
+                number: 8,
+            },
+            StaticNumber {
+                name: "referral",
+                number: 10,
+            },
+            StaticNumber {
+                name: "adminLimitExceeded",
+                number: 11,
+            },
+            StaticNumber {
+                name: "unavailableCriticalExtension",
+                number: 12,
+            },
+            StaticNumber {
+                name: "confidentialityRequired",
+                number: 13,
+            },
+            StaticNumber {
+                name: "saslBindInProgress",
+                number: 14,
+            },
+            StaticNumber {
+                name: "noSuchAttribute",
+                number: 16,
+            },
+            StaticNumber {
+                name: "undefinedAttributeType",
+                number: 17,
+            },
+            StaticNumber {
+                name: "inappropriateMatching",
+                number: 18,
+            },
+            StaticNumber {
+                name: "constraintViolation",
+                number: 19,
+            },
+            StaticNumber {
+                name: "attributeOrValueExists",
+                number: 20,
+            },
+            StaticNumber {
+                name: "invalidAttributeSyntax",
+                number: 21,
+            },
+            StaticNumber {
+                name: "noSuchObject",
+                number: 32,
+            },
+            StaticNumber {
+                name: "aliasProblem",
+                number: 33,
+            },
+            StaticNumber {
+                name: "invalidDNSyntax",
+                number: 34,
+            },
+            StaticNumber {
+                name: "aliasDereferencingProblem",
+                number: 36,
+            },
+            StaticNumber {
+                name: "inappropriateAuthentication",
+                number: 48,
+            },
+            StaticNumber {
+                name: "invalidCredentials",
+                number: 49,
+            },
+            StaticNumber {
+                name: "insufficientAccessRights",
+                number: 50,
+            },
+            StaticNumber {
+                name: "busy",
+                number: 51,
+            },
+            StaticNumber {
+                name: "unavailable",
+                number: 52,
+            },
+            StaticNumber {
+                name: "unwillingToPerform",
+                number: 53,
+            },
+            StaticNumber {
+                name: "loopDetect",
+                number: 54,
+            },
+            StaticNumber {
+                name: "namingViolation",
+                number: 64,
+            },
+            StaticNumber {
+                name: "objectClassViolation",
+                number: 65,
+            },
+            StaticNumber {
+                name: "notAllowedOnNonLeaf",
+                number: 66,
+            },
+            StaticNumber {
+                name: "notAllowedOnRDN",
+                number: 67,
+            },
+            StaticNumber {
+                name: "entryAlreadyExists",
+                number: 68,
+            },
+            StaticNumber {
+                name: "objectClassModsProhibited",
+                number: 69,
+            },
+            StaticNumber {
+                name: "affectsMultipleDSAs",
+                number: 71,
+            },
+            StaticNumber {
+                name: "other",
+                number: 80,
+            },
+        ],
+    },
+    StaticType::Sequence {
+        tag: Tag::SEQUENCE,
+        components: &[
+            StaticComponent {
+                name: "resultCode",
+                presence: StaticPresence::Required,
+                type_id: TypeId(50),
+            },
+            StaticComponent {
+                name: "matchedDN",
+                presence: StaticPresence::Required,
+                type_id: TypeId(57),
+            },
+            StaticComponent {
+                name: "diagnosticMessage",
+                presence: StaticPresence::Required,
+                type_id: TypeId(57),
+            },
+            StaticComponent {
+                name: "referral",
+                presence: StaticPresence::Optional,
+                type_id: TypeId(29),
+            },
+            StaticComponent {
+                name: "...",
+                presence: StaticPresence::Required,
+                type_id: TypeId(59),
+            },
+        ],
+    },
+    StaticType::Sequence {
+        tag: Tag::SEQUENCE,
+        components: &[
+            StaticComponent {
+                name: "type",
+                presence: StaticPresence::Required,
+                type_id: TypeId(57),
+            },
+            StaticComponent {
+                name: "vals",
+                presence: StaticPresence::Required,
+                type_id: TypeId(30),
+            },
+            StaticComponent {
+                name: "...",
+                presence: StaticPresence::Required,
+                type_id: TypeId(59),
+            },
+        ],
+    },
+    StaticType::Sequence {
+        tag: Tag::SEQUENCE,
+        components: &[
+            StaticComponent {
+                name: "type",
+                presence: StaticPresence::Required,
+                type_id: TypeId(57),
+            },
+            StaticComponent {
+                name: "vals",
+                presence: StaticPresence::Required,
+                type_id: TypeId(31),
+            },
+            StaticComponent {
+                name: "...",
+                presence: StaticPresence::Required,
+                type_id: TypeId(59),
+            },
+        ],
+    },
+    StaticType::Leaf {
+        kind: LeafKind::OctetString,
+        tag: Tag::OCTET_STRING,
+        constraints: Constraints::NONE,
+        names: &[],
+    },
+    StaticType::Sequence {
+        tag: Tag::SEQUENCE,
+        components: &[
+            StaticComponent {
+                name: "attributeDesc",
+                presence: StaticPresence::Required,
+                type_id: TypeId(57),
+            },
+            StaticComponent {
+                name: "assertionValue",
+                presence: StaticPresence::Required,
+                type_id: TypeId(54),
+            },
+            StaticComponent {
+                name: "...",
+                presence: StaticPresence::Required,
+                type_id: TypeId(59),
+            },
+        ],
+    },
+    StaticType::Leaf {
+        kind: LeafKind::OctetString,
+        tag: Tag::OCTET_STRING,
+        constraints: Constraints::NONE,
+        names: &[],
+    },
+    StaticType::Leaf {
+        kind: LeafKind::Utf8,
+        tag: Tag::OCTET_STRING,
+        constraints: Constraints::NONE,
+        names: &[],
+    },
+    StaticType::Leaf {
+        kind: LeafKind::Integer,
+        tag: Tag::INTEGER,
+        constraints: Constraints {
+            value: Some(Bound {
+                constraint: Bounded::Range {
+                    start: Some(0),
+                    end: Some(2147483647),
+                },
+                extensible: false,
+            }),
+            size: None,
+        },
+        names: &[],
+    },
+    StaticType::Unknown,
+];
+
+impl HasSchema for crate::SearchRequestDerefAliases {
+    ghost ID = { 20 };
+
+    const ID: usize = 20;
+
+    fn types() -> &'static [StaticType] {
+        TYPES
+    }
+}
+
+impl HasSchema for crate::IntermediateResponse {
+    ghost ID = { 32 };
+
+    const ID: usize = 32;
+
+    fn types() -> &'static [StaticType] {
+        TYPES
+    }
+}
+
+impl HasSchema for crate::ExtendedResponse {
+    ghost ID = { 33 };
+
+    const ID: usize = 33;
+
+    fn types() -> &'static [StaticType] {
+        TYPES
+    }
+}
+
+impl HasSchema for crate::ExtendedRequest {
+    ghost ID = { 34 };
+
+    const ID: usize = 34;
+
+    fn types() -> &'static [StaticType] {
+        TYPES
+    }
+}
+
+impl HasSchema for crate::CompareRequest {
+    ghost ID = { 35 };
+
+    const ID: usize = 35;
+
+    fn types() -> &'static [StaticType] {
+        TYPES
+    }
+}
+
+impl HasSchema for crate::ModifyDnRequest {
+    ghost ID = { 36 };
+
+    const ID: usize = 36;
+
+    fn types() -> &'static [StaticType] {
+        TYPES
+    }
+}
+
+impl HasSchema for crate::AddRequest {
+    ghost ID = { 38 };
+
+    const ID: usize = 38;
+
+    fn types() -> &'static [StaticType] {
+        TYPES
+    }
+}
+
+impl HasSchema for crate::ModifyRequest {
+    ghost ID = { 40 };
+
+    const ID: usize = 40;
+
+    fn types() -> &'static [StaticType] {
+        TYPES
+    }
+}
+
+impl HasSchema for crate::SearchResultEntry {
+    ghost ID = { 42 };
+
+    const ID: usize = 42;
+
+    fn types() -> &'static [StaticType] {
+        TYPES
+    }
+}
+
+impl HasSchema for crate::MatchingRuleAssertion {
+    ghost ID = { 43 };
+
+    const ID: usize = 43;
+
+    fn types() -> &'static [StaticType] {
+        TYPES
+    }
+}
+
+impl HasSchema for crate::SubstringFilter {
+    ghost ID = { 45 };
+
+    const ID: usize = 45;
+
+    fn types() -> &'static [StaticType] {
+        TYPES
+    }
+}
+
+impl HasSchema for crate::BindResponse {
+    ghost ID = { 46 };
+
+    const ID: usize = 46;
+
+    fn types() -> &'static [StaticType] {
+        TYPES
+    }
+}
+
+impl HasSchema for crate::BindRequest {
+    ghost ID = { 48 };
+
+    const ID: usize = 48;
+
+    fn types() -> &'static [StaticType] {
+        TYPES
+    }
+}
+
+impl HasSchema for crate::Control {
+    ghost ID = { 49 };
+
+    const ID: usize = 49;
+
+    fn types() -> &'static [StaticType] {
+        TYPES
+    }
+}
+
+impl HasSchema for crate::LdapResult {
+    ghost ID = { 51 };
+
+    const ID: usize = 51;
+
+    fn types() -> &'static [StaticType] {
+        TYPES
+    }
+}
+
+impl HasSchema for crate::MaxInt {
+    ghost ID = { 58 };
+
+    const ID: usize = 58;
+
+    fn types() -> &'static [StaticType] {
+        TYPES
+    }
+}
