@@ -7,8 +7,8 @@ use crate::buffers::fill;
 use crate::rules::rule_numbered;
 use crate::status::Status;
 use rasn::types::Codec;
-use rasn_text::name_text;
 use rasn_pkix::Name;
+use rasn_text::name_text;
 use std::alloc::{AllocError, Global};
 
 /// Writes the text of the Name (RFC 5280, 4.1.2.4) that all of the octets are to the buffer, with a

@@ -3,9 +3,7 @@
 use crate::asserts::{Answer, Rewritten, assert_decodes, assert_facts, assert_rewrites, value};
 use rasn::der;
 use rasn::types::Codec;
-use rasn_pkix::{
-    AuthorityKeyIdentifier, BasicConstraints, GeneralName, GeneralNames, KeyUsage,
-};
+use rasn_pkix::{AuthorityKeyIdentifier, BasicConstraints, GeneralName, GeneralNames, KeyUsage};
 
 // The contents of the extensions of a certificate made by OpenSSL 3.0: `openssl req -x509 -new -key
 // k.pem -config c.cnf -set_serial 0x1234`, with basicConstraints=CA:TRUE,pathlen:3,

@@ -20,7 +20,10 @@ fn has_parts(request: &CertificationRequest) -> bool {
     signed.version.to_i128() == Some(0)
         && is_of_two(&signed.subject)
         && signed.attributes.len() == 2
-        && signed.attributes.iter().all(|one| one.values.value.len() == 1)
+        && signed
+            .attributes
+            .iter()
+            .all(|one| one.values.value.len() == 1)
         && request.signature.len() == 512
 }
 
