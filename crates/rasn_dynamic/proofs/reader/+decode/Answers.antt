@@ -5,11 +5,9 @@ use Rattle.rasn_types.specs.Shapes.{Tree, Same, items, choice_by, IsFirstOf, own
 use Rattle.rasn_types.proofs.Headers.Frames.{next_one, not_ended}
 use Rattle.rasn_de.specs.NamedErrors.{IsNamedError, IsDuplicateField}
 use Rattle.rasn_de.specs.SetPartTypes.{text}
-use Rattle.rasn_de.specs.Constructed.{DecodesInside, list_header}
 use Rattle.rasn_de.proofs.Leaves.Outcomes.{alloc_failed}
 use Rattle.rasn_schema.proofs.Alternatives.{first_of_all}
-use Rattle.rasn_types.specs.Tags.{IsStrict, eoc}
-use Rattle.rasn_types.specs.Trees.{unconstrained}
+use Rattle.rasn_types.specs.Tags.{IsStrict}
 use Rattle.rasn_types.specs.Order.{IsLess}
 use Rattle.rasn_types.specs.declared.error.decode.DerDecodeErrorKind.TheVariants.{SetOfOutOfOrder}
 use Rattle.rasn_types.proofs.SetOf.Ascending.{ends_more, in_order, out_of_order}
@@ -21,11 +19,10 @@ use Rattle.rasn_de.proofs.Leaves.Returns.{residual}
 use Rattle.rasn_de.proofs.Constructed.NextElement.{passes_more, turn_rules}
 use Rattle.rasn_de.proofs.Leaves.Rules.{codec_is, same_rules, peek_rules, look_rules, order_rules}
 use Rattle.rasn_de.proofs.Constructed.SetOfElements.{passes_from, came_stays}
-use Rattle.rasn_de.proofs.Constructed.Steps.{step_none, step_refused, step_end, step_unclosed, step_closed, rules_same}
+use Rattle.rasn_de.proofs.Constructed.Steps.{rules_same}
 use Rattle.rasn_de.proofs.Constructed.Optional.{strict_before, strict_after}
 use Rattle.rasn_de.proofs.OwnTypes.Parts.{call_keeps}
 use Rattle.rasn_schema.specs.declared.types.Alternative.{Alternative}
-use Rattle.rasn_schema.specs.declared.value.Value.{Value}
 use Rattle.rasn_schema.specs.Trees.{tree_of}
 use Rattle.rasn_schema.specs.Shapes.{numbers_of, shape_of_type, type_by, alternatives_by, choice_among, components_by, key_of, presence_in, AreReadable, IsReadable}
 use Rattle.rasn_schema.proofs.Presences.{always_by}
@@ -34,43 +31,38 @@ use Rattle.rasn_schema.proofs.Lists.{split, nothing_left, read_at}
 use Rattle.rasn_schema.specs.declared.types.«Type».TheVariants.{Tagged, Sequence, Set, SequenceOf, SetOf}
 use Rattle.rasn_dynamic.specs.Inside.{DecodesTree, DecodesComponent}
 use Rattle.rasn_dynamic.specs.Making.{Making, outcome}
-use Rattle.rasn_dynamic.specs.Typed.{Makes, MayRunOut, DecodesComponents, DecodesContents, DecodesType, elements}
+use Rattle.rasn_dynamic.specs.Typed.{DecodesContents, elements}
 use Rattle.rasn_dynamic.specs.Calls.{held, names_of, nones, DecodesPresent}
-use Rattle.rasn_dynamic.proofs.Making.{made_as, made_fails_as, choice_exact, if_kept, items_made, elements_made, one_made, choice_made, choice_fits}
-use Rattle.rasn_schema.specs.Fitting.{Fits, IsNumber, AreOctets, AreItems, ComponentsFit, EachFits}
-use Rattle.rasn_dynamic.proofs.FitsRead.{if_ok, fits_below, are_items, are_elements, each_more, fit_more, fit_end, made_fits, gathered_fit, members_fit, all_fit, all_left_fit, nones_fit, found_length, found_kept, put_fits}
+use Rattle.rasn_dynamic.proofs.Making.{made_as, made_fails_as, choice_exact, if_kept, one_made, choice_made, choice_fits}
+use Rattle.rasn_schema.specs.Fitting.{Fits, IsNumber, AreOctets, EachFits}
+use Rattle.rasn_dynamic.proofs.FitsRead.{if_ok, fits_below, each_more, fit_more, fit_end, made_fits, gathered_fit, all_fit, all_left_fit, nones_fit, found_length, found_kept, put_fits}
 use Rattle.rasn_dynamic.proofs.Nothing.{refused_at_zero, refused_not_there, found_here}
 use Rattle.rasn_dynamic.proofs.OpenChoice.{lawful_at}
 use Rattle.rasn_dynamic.proofs.Chosen.{no_tag, none_for, for_both, chosen_got, chosen_refused}
 use Rattle.rasn_dynamic.proofs.InOrder.{lawful_parts, all_left_read, in_turn}
 use Rattle.rasn_dynamic.proofs.OnePart.{always, always_fails, looked, looked_fails, made, made_fails, unread, unread_fails, plain, loose, differs, default_is_written, not_required, next_of, made_of}
 use Rattle.rasn_dynamic.proofs.Contents.{prefix_lawful, list_lawful, set_of_lawful, seq_lawful, sequence_runs_out, parts_start, parts_more, part_fails, part_fails_at, parts_run_out, parts_end}
-use Rattle.rasn_dynamic.proofs.Typed.{contents_end, contents_stay, not_sized, is_sized, missized, is_counted, count_items, type_decodes, named_so}
 use Rattle.rasn_dynamic.proofs.Pieces.{got_below, first_of_part, part_lawful, nones_come, nones_held, made_parts, lacks_part}
 use Rattle.rasn_dynamic.proofs.Component.{member_unpeeked, member_none, unknown_unread, unknown_kept, unknown_left, member_unread, member_idle, member_put, member_shorter}
 use Rattle.rasn_dynamic.proofs.AllMembers.{set_trees, all_trees, none_unknown, members_lack, members_made, members_keep}
 use Rattle.rasn_de.proofs.OwnTypes.SetPartTypes.{ReadTo, read_rules, none_read, untold, next_fails, next_passes, one_twice}
 use Rattle.rasn_dynamic.proofs.Members.{passed_unknown}
 use Rattle.rasn_dynamic.proofs.Named.{named_lawful, last_unknown}
-use Rattle.rasn_dynamic.specs.Sets.{is_extensible, named_components, last_type, AreLawfulMembers}
+use Rattle.rasn_dynamic.specs.Sets.{AreLawfulMembers}
 use Rattle.rasn_de.proofs.Constructed.Opening.{kept}
-use Rattle.rasn_dynamic.specs.Found.{MembersFit}
 use Rattle.rasn_dynamic.proofs.Parts.{shorter}
 use Rattle.rasn_dynamic.proofs.reader.+decode.Goals.{decode_elements_in_order-else-is_strict-via-then-is_strict+else-is_less, decode_elements_in_order-else-is_strict-via-else-is_strict}
-use Rattle.rasn_dynamic.specs.Listed.{Lists, Inside, PartListed, ComponentAt, MemberListed, MembersListed, InsideListed}
-use Rattle.rasn_de.specs.Constructed.{sequence_header, prefix_header}
+use Rattle.rasn_dynamic.specs.Listed.{Lists, Inside, PartListed, ComponentAt, MemberListed}
 use Rattle.rasn_dynamic.specs.declared.span.Spans.{Spans}
 use Rattle.std.specs.Prelude.{IfOk}
-use Rattle.rasn_dynamic.proofs.Listed.{if_any, lists_start, lists_more, part_listed, value_listed, none_listed, choice_listed, alternative_listed, holder_listed, inside_listed, tagged_listed, elements_listed, component_present, component_absent, component_more, components_left_out, components_listed, member_listed, unknown_passed, members_listed, header_listed, components_same}
+use Rattle.rasn_dynamic.proofs.Listed.{if_any, lists_start, lists_more, part_listed, value_listed, choice_listed, alternative_listed, elements_listed, component_present, component_absent, component_more, components_left_out, components_listed, member_listed, unknown_passed, members_listed}
 use Rattle.rasn_dynamic.proofs.reader.+decode.Goals as goal
-use Rattle.rasn_de.specs.SetPartTypes.{DecodesSetPartContents}
 use Rattle.rasn_de.specs.Set.{not_read}
 use Rattle.rasn_de.proofs.Headers.Tags.{look_refused, look_follows}
-use Rattle.rasn_dynamic.specs.Faults.{IsFaultOf, IsFaultIn, IsFaultInside, IsOnly, IsAlternativeAt, IsComponentAt, IsMemberAfter, Told, ReadsEachPart, StopsAtMember, StopsInSequence, StopsInSet, TellsOf}
-use Rattle.rasn_dynamic.proofs.Faults.{any_err, if_err_map, unnamed, one_taken, turns_long, marked, stepped, further, weaker, entered, opened, opened_short, told_map, tells, tells_err, alternative_there, element_there, forgotten, one_part_more, part_there, member_there, member_behind, unknown_there, turns_keep, named, not_named, unmoved, got_inside, found_itself, itself_leaf, present_stops, itself_prefix, itself_sequence, itself_set, itself_list, itself_set_of, itself_choice, element_stops, set_element_stops, default_stops, unmade_stops, only_memory}
+use Rattle.rasn_dynamic.specs.Faults.{IsFaultOf, IsFaultIn, IsOnly, IsAlternativeAt, StopsAtMember, TellsOf}
+use Rattle.rasn_dynamic.proofs.Faults.{any_err, if_err_map, unnamed, one_taken, turns_long, marked, stepped, further, weaker, entered, opened, told_map, tells, tells_err, alternative_there, element_there, forgotten, one_part_more, part_there, member_there, member_behind, unknown_there, turns_keep, named, not_named, found_itself, present_stops, itself_choice, element_stops, set_element_stops, default_stops, unmade_stops, only_memory}
 -- ---- the type with a number
 
-use Rattle.rasn_de.specs.Constructed.{ConsumesOpening}
 use Rattle.rasn_dynamic.specs.Readers.{DecodesCounted}
 use Rattle.rasn_types.specs.Errors.{IsOutOfMemory}
 use Rattle.rasn_schema.specs.Fitting.{FitsBy, IsChosen, AlternativeFits}
@@ -1172,7 +1164,7 @@ decode_type-returns-in-Choice g t c = record {
   reads = subst (λ z. Making g.M.Made.KEEP tree_of (DecodesTree (type_by (shape_of_type c.args.types.now c.args.below) z)) c.args.decoder.now (outcome c.decode_choice.result c.decode_choice.new.out c.decode_choice.new.walk.error) c.decode_choice.new.decoder) (sym c.in-Choice.is) (subst (λ l. Making g.M.Made.KEEP tree_of (DecodesTree (choice_among (alternatives_by (shape_of_type c.args.types.now c.args.below) l))) c.args.decoder.now (outcome c.decode_choice.result c.decode_choice.new.out c.decode_choice.new.walk.error) c.decode_choice.new.decoder) c.deref-in-Choice.ensures.value c.decode_choice.ensures.reads);
   told = told_map _ _ (λ k f i. subst (λ n. IsFaultOf c.args.types.now c.args.below n c.args.decoder.now k f) (sym c.in-Choice.is)
       (c.args.decoder.now, refl, subst (λ l. IsFaultIn c.args.types.now c.args.below (IsAlternativeAt (shape_of_type c.args.types.now c.args.below) l c.args.decoder.now) c.args.decoder.now c.args.decoder.now k f) c.deref-in-Choice.ensures.value i)) _ _ c.decode_choice.ensures.told;
-  itself = itself_choice (shape_of_type c.args.types.now c.args.below) c.args.ty.now c.args.decoder.now c.args.decoder.now _ c.in-Choice.name c.in-Choice.alternatives _ c.in-Choice.is c.deref-in-Choice.ensures.value _ c.decode_choice.ensures.itself;
+  itself = itself_choice (shape_of_type c.args.types.now c.args.below) c.args.ty.now c.args.decoder.now _ c.in-Choice.name c.in-Choice.alternatives _ c.in-Choice.is c.deref-in-Choice.ensures.value _ c.decode_choice.ensures.itself;
   listed = if_ok _ _ _ (λ v. choice_listed (shape_of_type c.args.types.now c.args.below) c.args.below (Inside c.args.types.now c.args.below) c.args.ty.now c.deref-in-Choice.result.now c.args.decoder.now _ _ (rw c.in-Choice.is c.deref-in-Choice.ensures.value)) c.decode_choice.ensures.listed;
   rules = c.decode_choice.ensures.rules;
 }
