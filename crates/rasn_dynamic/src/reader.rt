@@ -52,31 +52,6 @@ use rasn_schema::{
 use rasn_types::error::DecodeError;
 use rasn_types::types::{Constraints, Tag};
 
-/// Appends a value, where values are kept.
-#[inline(always)]
-fn append<'input, M: Made>(
-    decoder: &Decoder<'input>,
-    error: &mut DecodeError,
-    values: &mut Vec<Value<'input>>,
-    value: Value<'input>,
-) -> Result<(), Refused>
-    ensures ok { M.KEEP ≡ true → OnOk result (values.new.items ≡ values.old.items ++ value.entry ∷ []) }
-    ensures memory { IfErr (reported result error.new) (IsErrorOf OutOfMemory decoder.now) }
-    ensures kind { IfErr (reported result error.new) (λ e. IsOutOfMemory e.kind) }
-    ensures rules { IfErr (reported result error.new) (λ e. e.codec ≡ decoder.now.rule) }
-{
-    if !M::KEEP {
-        return Ok(());
-    }
-    match values.push(value) {
-        Ok(()) => Ok(()),
-        Err(_) => {
-            refuse_memory(error, decoder);
-            Err(Refused)
-        }
-    }
-}
-
 /// Moves a value to the end of a list, where values are kept.
 #[inline(always)]
 fn take<'input, M: Made>(
@@ -93,12 +68,13 @@ fn take<'input, M: Made>(
     if !M::KEEP {
         return Ok(());
     }
-    append::<M>(
-        decoder,
-        error,
-        values,
-        std::mem::replace(value, Value::Absent),
-    )
+    match values.push(std::mem::replace(value, Value::Absent)) {
+        Ok(()) => Ok(()),
+        Err(_) => {
+            refuse_memory(error, decoder);
+            Err(Refused)
+        }
+    }
 }
 
 /// Moves a value to the end of a list, where values are kept. It must have taken some of the input.
@@ -260,23 +236,6 @@ fn put_missing<'input, M: Made>(
             Err(Refused)
         }
     }
-}
-
-/// Returns all components, those that are absent with the values that they have then, where values are kept.
-///
-/// # Errors
-/// Those of [`gather`].
-fn gather_found<'input, M: Made>(
-    decoder: &Decoder<'input>,
-    error: &mut DecodeError,
-    components: &[Component],
-    found: Vec<Option<Value<'input>>>,
-) -> Result<Vec<Value<'input>>, Refused>
-    requires { length found.items ≡ length components.now }
-    ensures gathers { Gathers M.KEEP components.now decoder.now.rule found.entry.items (reported result error.new) }
-    ensures rules { IfErr (reported result error.new) (λ e. e.codec ≡ decoder.now.rule) }
-{
-    kept(gather::<M>(decoder, components, found), error)
 }
 
 /// Reads an unknown component of a SET as one complete encoding (X.680 27), and notes it as a part
@@ -1172,11 +1131,12 @@ fn decode_set_components<'input, M: Made>(
         walk.error = DecodeError::duplicate_field(decoder.alloc(), repeated, decoder.codec());
         return Err(Refused);
     }
-    let mut values = gather_found::<M>(decoder, &mut walk.error, components, found)?;
+    let mut values = kept(gather::<M>(decoder, components, found), &mut walk.error)?;
     if !extensible {
         return Ok(values);
     }
-    append::<M>(decoder, &mut walk.error, &mut values, Value::Items(unknown))?;
+    let mut others = Value::Items(unknown);
+    take::<M>(decoder, &mut walk.error, &mut others, &mut values)?;
     Ok(values)
 }
 
@@ -1221,8 +1181,8 @@ fn decode_set_component<'input, 'names, M: Made>(
             return Err(Refused);
         }
         let index = components.len();
-        let other = decode_unknown_component(decoder, walk, below, other_id, index)?;
-        append::<M>(decoder, &mut walk.error, unknown, other)?;
+        let mut other = decode_unknown_component(decoder, walk, below, other_id, index)?;
+        take::<M>(decoder, &mut walk.error, &mut other, unknown)?;
         return Ok(None);
     };
     let mut value = Value::Absent;

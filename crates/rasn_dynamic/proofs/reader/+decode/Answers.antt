@@ -32,7 +32,7 @@ use Rattle.rasn_schema.specs.declared.types.«Type».TheVariants.{Tagged, Sequen
 use Rattle.rasn_dynamic.specs.Inside.{DecodesTree, DecodesComponent}
 use Rattle.rasn_dynamic.specs.Making.{Making, outcome}
 use Rattle.rasn_dynamic.specs.Typed.{DecodesContents, elements}
-use Rattle.rasn_dynamic.specs.Calls.{held, names_of, nones, DecodesPresent}
+use Rattle.rasn_dynamic.specs.Calls.{held, Gathers, names_of, nones, DecodesPresent}
 use Rattle.rasn_dynamic.proofs.Making.{made_as, made_fails_as, choice_exact, if_kept, one_made, choice_made, choice_fits}
 use Rattle.rasn_schema.specs.Fitting.{Fits, IsNumber, AreOctets, EachFits}
 use Rattle.rasn_dynamic.proofs.FitsRead.{if_ok, fits_below, each_more, fit_more, fit_end, made_fits, gathered_fit, all_fit, all_left_fit, nones_fit, found_length, found_kept, put_fits}
@@ -609,8 +609,8 @@ decode_set_components-returns-in-Some-clause-exact g t c =
     (subst (λ z. ReadTo c.args.extensible ps names c.args.decoder.now at.decoder at.last z i.0 i.1) h i.4) _
     (subst (λ z. IsNamedError (IsDuplicateField (text c.in-Some.repeated)) z c.duplicate_field.result) c.codec.ensures c.duplicate_field.ensures))
 
-pub decode_set_components-gather_found-requires : goal.decode_set_components-gather_found-requires
-decode_set_components-gather_found-requires g t c = found_length _ c.args.components.now _ c.loop-other_id.invariant.1
+pub decode_set_components-gather-requires : goal.decode_set_components-gather-requires
+decode_set_components-gather-requires g t c = found_length _ c.args.components.now _ c.loop-other_id.invariant.1
 
 pub decode_set_components-returns-in_err-values-clause-exact : goal.decode_set_components-returns-in_err-values-clause-exact
 decode_set_components-returns-in_err-values-clause-exact g t c =
@@ -619,19 +619,18 @@ decode_set_components-returns-in_err-values-clause-exact g t c =
     let ps = (components_by (shape_of_type c.args.types.now c.args.below) c.args.components.now) in
     let names = names_of c.args.components.now in
     let h : at.twice ≡ None = search rules in
-    let e = c.gather_found.new.error in
     rw (residual _ c.from_residual-in_err-values.ensures.1)
-    (members_lack c.args.extensible ps names c.args.decoder.now at.decoder at.last i.0 i.1 c.loop-other_id-test.ensures (subst (λ z. ReadTo c.args.extensible ps names c.args.decoder.now at.decoder at.last z i.0 i.1) h i.4) e
-    (lacks_part _ (shape_of_type c.args.types.now c.args.below) c.args.components.now at.decoder.rule at.found.items i.0 e i.2 c.in_err-values.ensures.gathers))
+    (members_lack c.args.extensible ps names c.args.decoder.now at.decoder at.last i.0 i.1 c.loop-other_id-test.ensures (subst (λ z. ReadTo c.args.extensible ps names c.args.decoder.now at.decoder at.last z i.0 i.1) h i.4) _
+    (lacks_part _ (shape_of_type c.args.types.now c.args.below) c.args.components.now at.decoder.rule at.found.items i.0 _ i.2 (subst (λ z. Gathers g.M.Made.KEEP c.args.components.now c.loop-other_id.decoder.rule c.loop-other_id.found.items z) (sym c.in_err-values.ensures) c.gather.ensures.gathers)))
 
-pub decode_set_components-returns-in_err-append-clause-exact : goal.decode_set_components-returns-in_err-append-clause-exact
-decode_set_components-returns-in_err-append-clause-exact g t c =
+pub decode_set_components-returns-in_err-take-clause-exact : goal.decode_set_components-returns-in_err-take-clause-exact
+decode_set_components-returns-in_err-take-clause-exact g t c =
     let at = c.loop-other_id in
     let i = at.invariant.0 in
     let ps = (components_by (shape_of_type c.args.types.now c.args.below) c.args.components.now) in
     let names = names_of c.args.components.now in
-    rw (residual _ c.from_residual-in_err-append.ensures.1)
-    (inr (c.in_err-append.ensures.kind, members_keep c.args.extensible ps names c.args.decoder.now at.decoder at.last i.0 i.1 at.twice i.4))
+    rw (residual _ c.from_residual-in_err-take.ensures.1)
+    (inr (c.in_err-take.ensures.kind, members_keep c.args.extensible ps names c.args.decoder.now at.decoder at.last i.0 i.1 at.twice i.4))
 
 pub decode_set_components-returns-clause-exact : goal.decode_set_components-returns-clause-exact
 decode_set_components-returns-clause-exact g t c =
@@ -641,9 +640,9 @@ decode_set_components-returns-clause-exact g t c =
     let ps = components_by (shape_of_type c.args.types.now c.args.below) c.args.components.now in
     let names = names_of c.args.components.now in
     let h : at.twice ≡ None = search rules in
-    let m = made_parts _ (shape_of_type c.args.types.now c.args.below) c.args.components.now at.decoder.rule at.found.items i.0 c.in_ok-values.values (found_length _ c.args.components.now _ at.invariant.1) i.2 c.in_ok-values.ensures.gathers in (
+    let m = made_parts _ (shape_of_type c.args.types.now c.args.below) c.args.components.now at.decoder.rule at.found.items i.0 c.in_ok-values.values (found_length _ c.args.components.now _ at.invariant.1) i.2 (subst (λ z. Gathers g.M.Made.KEEP c.args.components.now c.loop-other_id.decoder.rule c.loop-other_id.found.items z) (sym c.in_ok-values.ensures) c.gather.ensures.gathers) in (
       set_trees c.args.extensible m.0 i.1,
-      all_trees c.args.extensible _ c.in_ok-values.values.items c.append.new.values.items m.0 i.1 at.unknown m.1 i.3 (λ e k. c.in_ok-append.ensures.ok k) (λ e. absurd (true≢false (sym on ∙ e))),
+      all_trees c.args.extensible _ c.in_ok-values.values.items c.take.new.values.items m.0 i.1 at.unknown m.1 i.3 (λ e k. c.in_ok-take.ensures.ok k) (λ e. absurd (true≢false (sym on ∙ e))),
       members_made c.args.extensible ps names c.args.decoder.now at.decoder at.last i.0 i.1 c.loop-other_id-test.ensures (subst (λ z. ReadTo c.args.extensible ps names c.args.decoder.now at.decoder at.last z i.0 i.1) h i.4) m.0 m.2 i.5,
     )
 
@@ -655,7 +654,7 @@ decode_set_components-returns-then-not-extensible-clause-exact g t c =
     let ps = components_by (shape_of_type c.args.types.now c.args.below) c.args.components.now in
     let names = names_of c.args.components.now in
     let h : at.twice ≡ None = search rules in
-    let m = made_parts _ (shape_of_type c.args.types.now c.args.below) c.args.components.now at.decoder.rule at.found.items i.0 c.in_ok-values.values (found_length _ c.args.components.now _ at.invariant.1) i.2 c.in_ok-values.ensures.gathers in (
+    let m = made_parts _ (shape_of_type c.args.types.now c.args.below) c.args.components.now at.decoder.rule at.found.items i.0 c.in_ok-values.values (found_length _ c.args.components.now _ at.invariant.1) i.2 (subst (λ z. Gathers g.M.Made.KEEP c.args.components.now c.loop-other_id.decoder.rule c.loop-other_id.found.items z) (sym c.in_ok-values.ensures) c.gather.ensures.gathers) in (
       set_trees c.args.extensible m.0 i.1,
       all_trees c.args.extensible _ c.in_ok-values.values.items c.in_ok-values.values.items m.0 i.1 at.unknown m.1 i.3 (λ e k. absurd (true≢false (sym e ∙ off))) (λ e. refl),
       members_made c.args.extensible ps names c.args.decoder.now at.decoder at.last i.0 i.1 c.loop-other_id-test.ensures (subst (λ z. ReadTo c.args.extensible ps names c.args.decoder.now at.decoder at.last z i.0 i.1) h i.4) m.0 m.2 i.5,
@@ -665,23 +664,23 @@ pub decode_set_components-returns-clause-fits : goal.decode_set_components-retur
 decode_set_components-returns-clause-fits g t c = λ k.
     let at = c.loop-other_id in
     let on : c.args.extensible ≡ true = search rules in
-    all_fit (Fits c.args.types.now c.args.below) c.args.extensible c.args.components.now c.in_ok-values.values.items c.append.new.values.items at.unknown
-    (gathered_fit (Fits c.args.types.now c.args.below) g.M.Made.KEEP k c.args.components.now at.decoder.rule at.found.items (Ok c.in_ok-values.values) (found_kept g.M.Made.KEEP (Fits c.args.types.now c.args.below) k c.args.components.now at.found.items at.invariant.1) c.in_ok-values.ensures.gathers)
-    (at.invariant.2 k) (λ e. c.in_ok-append.ensures.ok k) (λ e. absurd (true≢false (sym on ∙ e)))
+    all_fit (Fits c.args.types.now c.args.below) c.args.extensible c.args.components.now c.in_ok-values.values.items c.take.new.values.items at.unknown
+    (gathered_fit (Fits c.args.types.now c.args.below) g.M.Made.KEEP k c.args.components.now at.decoder.rule at.found.items (Ok c.in_ok-values.values) (found_kept g.M.Made.KEEP (Fits c.args.types.now c.args.below) k c.args.components.now at.found.items at.invariant.1) (subst (λ z. Gathers g.M.Made.KEEP c.args.components.now c.loop-other_id.decoder.rule c.loop-other_id.found.items z) (sym c.in_ok-values.ensures) c.gather.ensures.gathers))
+    (at.invariant.2 k) (λ e. c.in_ok-take.ensures.ok k) (λ e. absurd (true≢false (sym on ∙ e)))
 
 pub decode_set_components-returns-then-not-extensible-clause-fits : goal.decode_set_components-returns-then-not-extensible-clause-fits
 decode_set_components-returns-then-not-extensible-clause-fits g t c = λ k.
     let at = c.loop-other_id in
     let off : c.args.extensible ≡ false = search rules in
     all_fit (Fits c.args.types.now c.args.below) c.args.extensible c.args.components.now c.in_ok-values.values.items c.in_ok-values.values.items at.unknown
-    (gathered_fit (Fits c.args.types.now c.args.below) g.M.Made.KEEP k c.args.components.now at.decoder.rule at.found.items (Ok c.in_ok-values.values) (found_kept g.M.Made.KEEP (Fits c.args.types.now c.args.below) k c.args.components.now at.found.items at.invariant.1) c.in_ok-values.ensures.gathers)
+    (gathered_fit (Fits c.args.types.now c.args.below) g.M.Made.KEEP k c.args.components.now at.decoder.rule at.found.items (Ok c.in_ok-values.values) (found_kept g.M.Made.KEEP (Fits c.args.types.now c.args.below) k c.args.components.now at.found.items at.invariant.1) (subst (λ z. Gathers g.M.Made.KEEP c.args.components.now c.loop-other_id.decoder.rule c.loop-other_id.found.items z) (sym c.in_ok-values.ensures) c.gather.ensures.gathers))
     (at.invariant.2 k) (λ e. absurd (true≢false (sym e ∙ off))) (λ e. refl)
 
 pub decode_set_components-returns-in_err-values-clause-rules : goal.decode_set_components-returns-in_err-values-clause-rules
-decode_set_components-returns-in_err-values-clause-rules g t c = rw (residual _ c.from_residual-in_err-values.ensures.1) (c.in_err-values.ensures.rules ∙ read_rules c.args.extensible (components_by (shape_of_type c.args.types.now c.args.below) c.args.components.now) (names_of c.args.components.now) _ _ _ _ _ _ c.loop-other_id.invariant.0.4)
+decode_set_components-returns-in_err-values-clause-rules g t c = rw (residual _ c.from_residual-in_err-values.ensures.1) ((subst (λ z. IfErr z (λ e. e.codec ≡ c.loop-other_id.decoder.rule)) (sym c.in_err-values.ensures) c.gather.ensures.rules) ∙ read_rules c.args.extensible (components_by (shape_of_type c.args.types.now c.args.below) c.args.components.now) (names_of c.args.components.now) _ _ _ _ _ _ c.loop-other_id.invariant.0.4)
 
-pub decode_set_components-returns-in_err-append-clause-rules : goal.decode_set_components-returns-in_err-append-clause-rules
-decode_set_components-returns-in_err-append-clause-rules g t c = rw (residual _ c.from_residual-in_err-append.ensures.1) (c.in_err-append.ensures.rules ∙ read_rules c.args.extensible (components_by (shape_of_type c.args.types.now c.args.below) c.args.components.now) (names_of c.args.components.now) _ _ _ _ _ _ c.loop-other_id.invariant.0.4)
+pub decode_set_components-returns-in_err-take-clause-rules : goal.decode_set_components-returns-in_err-take-clause-rules
+decode_set_components-returns-in_err-take-clause-rules g t c = rw (residual _ c.from_residual-in_err-take.ensures.1) (c.in_err-take.ensures.rules ∙ read_rules c.args.extensible (components_by (shape_of_type c.args.types.now c.args.below) c.args.components.now) (names_of c.args.components.now) _ _ _ _ _ _ c.loop-other_id.invariant.0.4)
 
 pub decode_set_components-returns-in_err-last-clause-rules : goal.decode_set_components-returns-in_err-last-clause-rules
 decode_set_components-returns-in_err-last-clause-rules g t c = rw (residual _ c.from_residual.ensures.1) (order_rules _ c.loop-other_id.decoder _ c.in_err-last.ensures ∙ read_rules c.args.extensible (components_by (shape_of_type c.args.types.now c.args.below) c.args.components.now) (names_of c.args.components.now) _ _ _ _ _ _ c.loop-other_id.invariant.0.4)
@@ -707,17 +706,17 @@ decode_set_component-returns-in_err-other-clause-next g t c =
     rw (residual _ c.from_residual-in_err-other.ensures.1)
     (unknown_unread _ c.args.extensible (components_by (shape_of_type c.args.types.now c.args.below) c.args.components.now) (names_of c.args.components.now) c.args.found.now.items c.args.unknown.now.items _ _ c.in_ok-tag.tag c.in_ok-tag.ensures.next c.in_default.ensures (search rules) c.decode_unknown_component.new.walk.error c.in_err-other.ensures.reads)
 
-pub decode_set_component-returns-in_err-append-clause-next : goal.decode_set_component-returns-in_err-append-clause-next
-decode_set_component-returns-in_err-append-clause-next g t c =
-    rw (residual _ c.from_residual-in_err-append.ensures.1)
-    (unknown_left _ c.args.extensible (components_by (shape_of_type c.args.types.now c.args.below) c.args.components.now) (names_of c.args.components.now) c.args.found.now.items c.args.unknown.now.items _ _ c.append.new.error c.in_err-append.ensures.kind (call_keeps c.in_ok-other.ensures.reads) _)
+pub decode_set_component-returns-in_err-take-clause-next : goal.decode_set_component-returns-in_err-take-clause-next
+decode_set_component-returns-in_err-take-clause-next g t c =
+    rw (residual _ c.from_residual-in_err-take.ensures.1)
+    (unknown_left _ c.args.extensible (components_by (shape_of_type c.args.types.now c.args.below) c.args.components.now) (names_of c.args.components.now) c.args.found.now.items c.args.unknown.now.items _ _ c.take.new.error c.in_err-take.ensures.kind (call_keeps c.in_ok-other.ensures.reads) _)
 
 pub decode_set_component-returns-in_default-clause-next : goal.decode_set_component-returns-in_default-clause-next
 decode_set_component-returns-in_default-clause-next g t c =
-    unknown_kept _ c.args.extensible (components_by (shape_of_type c.args.types.now c.args.below) c.args.components.now) (names_of c.args.components.now) c.args.found.now.items c.args.unknown.now.items _ _ c.in_ok-tag.tag c.in_ok-tag.ensures.next c.in_default.ensures (search rules) c.in_ok-other.other c.in_ok-other.ensures.reads _ c.in_ok-append.ensures.ok
+    unknown_kept _ c.args.extensible (components_by (shape_of_type c.args.types.now c.args.below) c.args.components.now) (names_of c.args.components.now) c.args.found.now.items c.args.unknown.now.items _ _ c.in_ok-tag.tag c.in_ok-tag.ensures.next c.in_default.ensures (search rules) c.in_ok-other.other c.in_ok-other.ensures.reads _ c.in_ok-take.ensures.ok
 
 pub decode_set_component-returns-in_default-clause-octets : goal.decode_set_component-returns-in_default-clause-octets
-decode_set_component-returns-in_default-clause-octets g t c = λ k h. each_more AreOctets c.args.unknown.now.items _ c.in_ok-other.other (c.in_ok-append.ensures.ok k) h c.in_ok-other.ensures.fits
+decode_set_component-returns-in_default-clause-octets g t c = λ k h. each_more AreOctets c.args.unknown.now.items _ c.in_ok-other.other (c.in_ok-take.ensures.ok k) h c.in_ok-other.ensures.fits
 
 pub decode_set_component-decode_present-requires : goal.decode_set_component-decode_present-requires
 decode_set_component-decode_present-requires g t c = λ κs o. (search rules, (search rules, (part_lawful (shape_of_type c.args.types.now c.args.below) c.args.components.now c.in-Some.number c.in-Some.component.now c.requires.1.1.1.0 c.in-Some.ensures.0, c.requires.1.1.1.1.1.0)))
@@ -852,10 +851,10 @@ decode_set_component-returns-in_err-other-clause-told g t c =
     (unknown_there f c.args.extensible c.args.components.now c.args.other_id.0 c.args.decoder.now extends (c.in_ok-tag.tag, c.in_ok-tag.ensures.next, c.in_default.ensures)) kind x)
     c.decode_unknown_component.new.walk.error _ (c.in_err-other.ensures.told c.args.types.now (c.requires.1.1.1.1.1.1 extends)))
 
-pub decode_set_component-returns-in_err-append-clause-told : goal.decode_set_component-returns-in_err-append-clause-told
-decode_set_component-returns-in_err-append-clause-told g t c =
+pub decode_set_component-returns-in_err-take-clause-told : goal.decode_set_component-returns-in_err-take-clause-told
+decode_set_component-returns-in_err-take-clause-told g t c =
     let extends : c.args.extensible ≡ true = search rules in
-    rw (residual _ c.from_residual-in_err-append.ensures.1) (λ x q. absurd (not_named _ x q (c.in_ok-other.ensures.told c.args.types.now (c.requires.1.1.1.1.1.1 extends))))
+    rw (residual _ c.from_residual-in_err-take.ensures.1) (λ x q. absurd (not_named _ x q (c.in_ok-other.ensures.told c.args.types.now (c.requires.1.1.1.1.1.1 extends))))
 
 pub decode_set_component-returns-in_default-clause-told : goal.decode_set_component-returns-in_default-clause-told
 decode_set_component-returns-in_default-clause-told g t c =
@@ -1008,9 +1007,9 @@ decode_set_components-returns-in_err-values-clause-itself g t c =
     let k = c.loop-other_id.invariant.0.4 in
     rw (residual _ c.from_residual-in_err-values.ensures.1) (λ n. inr (k.0, k.1, c.loop-other_id.decoder, k.2, inl c.loop-other_id-test.ensures))
 
-pub decode_set_components-returns-in_err-append-clause-itself : goal.decode_set_components-returns-in_err-append-clause-itself
-decode_set_components-returns-in_err-append-clause-itself g t c =
-    rw (residual _ c.from_residual-in_err-append.ensures.1) (λ n. inl c.in_err-append.ensures.kind)
+pub decode_set_components-returns-in_err-take-clause-itself : goal.decode_set_components-returns-in_err-take-clause-itself
+decode_set_components-returns-in_err-take-clause-itself g t c =
+    rw (residual _ c.from_residual-in_err-take.ensures.1) (λ n. inl c.in_err-take.ensures.kind)
 
 pub decode_set_component-returns-in_err-tag-clause-itself : goal.decode_set_component-returns-in_err-tag-clause-itself
 decode_set_component-returns-in_err-tag-clause-itself g t c =
@@ -1026,9 +1025,9 @@ decode_set_component-returns-in_err-other-clause-itself g t c =
     let w = c.in_err-other.ensures.told c.args.types.now (c.requires.1.1.1.1.1.1 extends) in
     rw (residual _ c.from_residual-in_err-other.ensures.1) (λ n. absurd (not_named _ w.0 w.1 n))
 
-pub decode_set_component-returns-in_err-append-clause-itself : goal.decode_set_component-returns-in_err-append-clause-itself
-decode_set_component-returns-in_err-append-clause-itself g t c =
-    rw (residual _ c.from_residual-in_err-append.ensures.1) (λ n. inr (inr (inl c.in_err-append.ensures.kind)))
+pub decode_set_component-returns-in_err-take-clause-itself : goal.decode_set_component-returns-in_err-take-clause-itself
+decode_set_component-returns-in_err-take-clause-itself g t c =
+    rw (residual _ c.from_residual-in_err-take.ensures.1) (λ n. inr (inr (inl c.in_err-take.ensures.kind)))
 
 pub decode_set_component-returns-in_err-decode_present-clause-itself : goal.decode_set_component-returns-in_err-decode_present-clause-itself
 decode_set_component-returns-in_err-decode_present-clause-itself g t c =
