@@ -14,10 +14,10 @@ use Rattle.rasn_de.specs.Segments.{octets_inside}
 use Rattle.rasn_de.specs.State.{State, at, IsEnd, Call}
 use Rattle.rasn_de.specs.Outcomes.{Exact, refusal}
 use Rattle.rasn_de.specs.Decodes.{Decodes}
-use Rattle.rasn_de.specs.SequenceOf.{DecodesInTurn, DecodesInTurnFrom, DecodesSized}
+use Rattle.rasn_de.specs.SequenceOf.{DecodesInTurn, DecodesInTurnFrom}
 use Rattle.rasn_de.specs.declared.ber.de.parser.Contents.{Contents}
 use Rattle.rasn_de.specs.declared.ber.de.constructed.ConstructedHeader.{ConstructedHeader}
-use Rattle.rasn_de.specs.Constructed.{expected_header, constructed_header_at, is_indefinite_extent, ConsumesOpening, DecodesInside, sequence_header, prefix_header}
+use Rattle.rasn_de.specs.Constructed.{expected_header, constructed_header_at, is_indefinite_extent, ConsumesOpening, DecodesInside}
 use Rattle.rasn_types.specs.declared.error.decode.DecodeErrorKind.{DecodeErrorKind}
 use Rattle.rasn_de.proofs.Leaves.Outcomes.{Exact-refusal}
 use Rattle.rasn_de.proofs.Headers.Ends.{IsEnd-refl, IsEnd-trans}
@@ -33,8 +33,6 @@ use Rattle.rasn_schema.specs.Shapes.{shape_of_type, type_by, alternatives_by, co
 use Rattle.rasn_schema.proofs.OpenEnds.{among_known}
 use Rattle.rasn_schema.proofs.TypeShapes.{shape_below}
 use Rattle.rasn_dynamic.specs.Inside.{DecodesTree, DecodesComponent}
-use Rattle.rasn_types.specs.declared.types.tag.Tag.{Tag}
-use Rattle.rasn_types.specs.declared.types.constraints.Constraints.{Constraints}
 use Rattle.rasn_types.specs.declared.error.decode.DerDecodeErrorKind.TheVariants.{DefaultValuePresent}
 use Rattle.rasn_types.specs.Errors.{IsOutOfMemory}
 use Rattle.rasn_de.specs.declared.ber.de.parser.ParseError.TheVariants.{UnexpectedExtraData, OutOfMemory, Der}
@@ -44,10 +42,9 @@ use Rattle.rasn_de.proofs.OwnTypes.Parts.{call_keeps}
 use Rattle.rasn_schema.specs.declared.types.«Type».TheVariants.{Leaf, Enumerated, Any, Unknown, Tagged, Choice, Sequence, Set, SequenceOf, SetOf}
 use Rattle.rasn_schema.specs.declared.types.Presence.TheVariants.{Default}
 use Rattle.rasn_dynamic.specs.Calls.{IsDefaultOf, IsMade}
-use Rattle.rasn_dynamic.specs.Typed.{element_count}
 use Rattle.rasn_dynamic.specs.declared.trace.Fault.{Fault}
 use Rattle.rasn_dynamic.specs.declared.refusal.Refusal.{Refusal}
-use Rattle.rasn_dynamic.specs.Faults.{IsMarked, IsStepped, IsMoved, octets_after, IsWithin, IsComponentAt, ComponentsInTurn, IsUnknown, IsUnknownMember, IsElementAt, IsNextAlternative, IsAlternativeAt, IsOnly, IsMemberHere, IsMemberAfter, IsAnyPart, LeadsBy, LeadsToAny, HasPath, IsFault, IsFaultIn, IsFaultOf, IsFaultInside, Told, TellsOf, IsRefusalOf, IsLocated, FailsAt, FailsItself, ReadsEachPart, StopsAtChoice, StopsInElements, StopsInOrder, StopsInSequence, StopsAtComponent, IsDefaultWritten, TakesNothing, start}
+use Rattle.rasn_dynamic.specs.Faults.{IsMarked, IsStepped, IsMoved, octets_after, IsWithin, IsComponentAt, ComponentsInTurn, IsUnknown, IsUnknownMember, IsElementAt, IsNextAlternative, IsAlternativeAt, IsOnly, IsMemberHere, IsMemberAfter, IsAnyPart, LeadsBy, LeadsToAny, HasPath, IsFault, IsFaultIn, IsFaultOf, IsFaultInside, Told, TellsOf, IsRefusalOf, IsLocated, FailsAt, FailsItself, StopsAtChoice, StopsInElements, StopsInOrder, StopsInSequence, StopsAtComponent, IsDefaultWritten, TakesNothing, start}
 
 -- ---- lists
 
@@ -435,38 +432,11 @@ pub found_itself : {T : Type 0} (types : List «Type») (levels id n : ℕ) (ty 
     → IfErr r (λ e. X → FailsItself (shape_of_type types n) ty s e) → IfErr r (λ e. X → FailsAt types levels id s e)
 found_itself types levels id n ty s X l g r h = if_err_map (λ e. X → FailsItself (shape_of_type types n) ty s e) (λ e. X → FailsAt types levels id s e) (λ e a x. fails_found types levels id n ty s e l g (a x)) r h
 
--- A type is this one, and its header that one.
-module _ (f : ℕ → Shape) (ty : «Type») (old new : State) (X : Type 0) where
-  abbrev Inside : «Type» → ConstructedHeader → DecodeError → Type 0
-  Inside t d e = DecodesInside (ReadsEachPart f t) d old (Err e) new
-
-  inside_of : (t : «Type») (d h : ConstructedHeader) (e : DecodeError) → ty ≡ t → d ≡ h → Inside ty d e → Inside t h e
-  inside_of t d h e i j k = subst (λ z. Inside t z e) j (subst (λ z. Inside z d e) i k)
-
-  pub itself_prefix : (tag : Tag) (k : TypeId) (d : ConstructedHeader) → ty ≡ Tagged tag k → d ≡ prefix_header tag → (r : Result Value DecodeError) → IfErr r (λ e. X → Inside ty d e) → IfErr r (λ e. X → FailsItself f ty old e)
-  itself_prefix tag k d i j r h = if_err_map (λ e. X → Inside ty d e) (λ e. X → FailsItself f ty old e) (λ e a x. subst (λ z. FailsItself f z old e) (sym i) (new, inside_of (Tagged tag k) d (prefix_header tag) e i j (a x))) r h
-
-  pub itself_sequence : (tag : Tag) (ps : Vec Component Global) (d : ConstructedHeader) → ty ≡ Sequence tag ps → d ≡ sequence_header tag → (r : Result Value DecodeError) → IfErr r (λ e. X → Inside ty d e) → IfErr r (λ e. X → FailsItself f ty old e)
-  itself_sequence tag ps d i j r h = if_err_map (λ e. X → Inside ty d e) (λ e. X → FailsItself f ty old e) (λ e a x. subst (λ z. FailsItself f z old e) (sym i) (new, inside_of (Sequence tag ps) d (sequence_header tag) e i j (a x))) r h
-
-  pub itself_set : (name : String Global) (tag : Tag) (ps : Vec Component Global) (d : ConstructedHeader) → ty ≡ Set name tag ps → d ≡ sequence_header tag → (r : Result Value DecodeError) → IfErr r (λ e. X → Inside ty d e) → IfErr r (λ e. X → FailsItself f ty old e)
-  itself_set name tag ps d i j r h = if_err_map (λ e. X → Inside ty d e) (λ e. X → FailsItself f ty old e) (λ e a x. subst (λ z. FailsItself f z old e) (sym i) (new, inside_of (Set name tag ps) d (sequence_header tag) e i j (a x))) r h
-
-  abbrev Bounded : «Type» → Tag → Constraints → DecodeError → Type 0
-  Bounded t tag c e = DecodesSized (ReadsEachPart f t) element_count tag c old (Err e) new
-
-  pub itself_list : (tag : Tag) (k : TypeId) (c : Constraints) → ty ≡ SequenceOf tag k c → (r : Result Value DecodeError) → IfErr r (λ e. X → Bounded ty tag c e) → IfErr r (λ e. X → FailsItself f ty old e)
-  itself_list tag k c i r h = if_err_map (λ e. X → Bounded ty tag c e) (λ e. X → FailsItself f ty old e) (λ e a x. subst (λ z. FailsItself f z old e) (sym i) (new, subst (λ z. Bounded z tag c e) i (a x))) r h
-
-  pub itself_set_of : (tag : Tag) (k : TypeId) (c : Constraints) → ty ≡ SetOf tag k c → (r : Result Value DecodeError) → IfErr r (λ e. X → Bounded ty tag c e) → IfErr r (λ e. X → FailsItself f ty old e)
-  itself_set_of tag k c i r h = if_err_map (λ e. X → Bounded ty tag c e) (λ e. X → FailsItself f ty old e) (λ e a x. subst (λ z. FailsItself f z old e) (sym i) (new, subst (λ z. Bounded z tag c e) i (a x))) r h
-
-  pub itself_choice : (name : String Global) (ks : Vec Alternative Global) (l : List Alternative) → ty ≡ Choice name ks → l ≡ ks.items → (r : Result Value DecodeError) → IfErr r (λ e. X → StopsAtChoice f l old e) → IfErr r (λ e. X → FailsItself f ty old e)
-  itself_choice name ks l i j r h = if_err_map (λ e. X → StopsAtChoice f l old e) (λ e. X → FailsItself f ty old e) (λ e a x. subst (λ z. FailsItself f z old e) (sym i) (subst (λ z. StopsAtChoice f z old e) j (a x))) r h
-
--- A value that holds no others.
-pub itself_leaf : (f : ℕ → Shape) (ty : «Type») (s : State) (X : Type 0) → ((e : DecodeError) → FailsItself f ty s e) → (r : Result Value DecodeError) → IfErr r (λ e. X → FailsItself f ty s e)
-itself_leaf f ty s X h r = any_err (λ e. X → FailsItself f ty s e) (λ e x. h e) r
+-- A value of a CHOICE.
+pub itself_choice : (f : ℕ → Shape) (ty : «Type») (old : State) (X : Type 0) (name : String Global) (ks : Vec Alternative Global) (l : List Alternative) → ty ≡ Choice name ks → l ≡ ks.items
+    → (r : Result Value DecodeError) → IfErr r (λ e. X → StopsAtChoice f l old e) → IfErr r (λ e. X → FailsItself f ty old e)
+itself_choice f ty old X name ks l i j r h = if_err_map (λ e. X → StopsAtChoice f l old e) (λ e. X → FailsItself f ty old e)
+    (λ e a x. subst (λ z. FailsItself f z old e) (sym i) (subst (λ z. StopsAtChoice f z old e) j (a x))) r h
 
 pub present_stops : (f : ℕ → Shape) (p : Component) (s : State) (X : Type 0) (r : Result Value DecodeError) → IfErr r (λ e. X → IsDefaultWritten f p s e) → IfErr r (λ e. X → StopsAtComponent f p s e)
 present_stops f p s X r h = if_err_map (λ e. X → IsDefaultWritten f p s e) (λ e. X → StopsAtComponent f p s e) (λ e a x. inr (inl (a x))) r h

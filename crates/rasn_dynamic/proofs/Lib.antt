@@ -40,3 +40,4 @@ pub mod SetWritten
 pub mod AllMembers
 pub mod Members
 pub mod ShortHeader
+pub mod AtDepth

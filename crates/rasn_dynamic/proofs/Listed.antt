@@ -273,9 +273,6 @@ module _ (f : ℕ → Shape) (levels : ℕ) (P : ℕ → ℕ → State → List 
       → Lists (λ b es. PartListed f levels P id 0 b s last es) o n → Lists (λ b es. ContentsListed f levels P ty b s es) o n
   tagged_listed ty id s last o n h l = lists_map (λ b es. PartListed f levels P id 0 b s last es) (λ b es. ContentsListed f levels P ty b s es) o n (λ b es q. one_of ty id b s last es h q) l
 
-  pub header_listed : (d e : ConstructedHeader) (ty : «Type») (s : State) (o n : Spans) → d ≡ e → Lists (λ b es. InsideListed f levels P d ty b s es) o n → Lists (λ b es. InsideListed f levels P e ty b s es) o n
-  header_listed d e ty s o n q l = subst (λ x. Lists (λ b es. InsideListed f levels P x ty b s es) o n) q l
-
   pub components_same : (l k : List Component) (s : State) (o n : Spans) → l ≡ k → Lists (λ b es. ComponentsListed f levels P l b s es) o n → Lists (λ b es. ComponentsListed f levels P k b s es) o n
   components_same l k s o n q x = subst (λ z. Lists (λ b es. ComponentsListed f levels P z b s es) o n) q x
 

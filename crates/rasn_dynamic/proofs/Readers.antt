@@ -37,8 +37,8 @@ use Rattle.rasn_dynamic.specs.Calls.{names_of}
 use Rattle.rasn_dynamic.specs.Found.{MembersFit}
 use Rattle.rasn_dynamic.specs.Sets.{is_extensible, named_components, last_type}
 use Rattle.rasn_dynamic.specs.Typed.{elements, element_count, IsSized, MayRunOut, DecodesComponents, DecodesContents, DecodesType}
-use Rattle.rasn_dynamic.specs.Faults.{octets_after, IsFaultIn, IsFaultOf, IsFaultInside, IsAnyPart, IsOnly, IsComponentAt, IsMemberAfter, Told, TellsOf, ReadsEachPart, StopsInside, StopsInSequence, StopsInSet, FailsItself}
-use Rattle.rasn_dynamic.specs.Listed.{Lists, Inside, IsInside, IsOutside, PartListed, ContentsListed, InsideListed, ValueListed, ComponentsListed, MembersListed, ElementsListed}
+use Rattle.rasn_dynamic.specs.Faults.{octets_after, IsFaultIn, IsFaultOf, IsFaultInside, IsAnyPart, IsOnly, IsComponentAt, IsMemberAfter, Told, TellsOf, ReadsEachPart, StopsInSequence, StopsInSet, FailsItself}
+use Rattle.rasn_dynamic.specs.Listed.{Lists, Inside, IsInside, IsOutside, PartListed, InsideListed, ComponentsListed, MembersListed, ElementsListed}
 use Rattle.rasn_dynamic.specs.Readers.{IsCounted, DecodesCounted, ReadsContents, ReadsType}
 use Rattle.rasn_dynamic.proofs.Making.{made_as, items_made, elements_made}
 use Rattle.rasn_dynamic.proofs.Typed.{contents_end, contents_stay, is_sized, missized, not_sized, type_decodes, count_items, named_so}

@@ -27,7 +27,7 @@ use Rattle.rasn_schema.specs.Shapes.{type_by, components_by, known_parts, set_am
 use Rattle.rasn_dynamic.specs.Inside.{ReadsInside, DecodesTree}
 use Rattle.rasn_dynamic.specs.Making.{these}
 use Rattle.rasn_dynamic.specs.Sets.{is_extensible, named_components}
-use Rattle.rasn_dynamic.specs.Typed.{Makes, elements, element_count, IsSized, HoldsElements, CountsElements, DecodesContents, DecodesType}
+use Rattle.rasn_dynamic.specs.Typed.{Makes, elements, element_count, IsSized, DecodesContents, DecodesType}
 use Rattle.rasn_dynamic.specs.Calls.{names_of}
 use Rattle.rasn_dynamic.proofs.Contents.{inside_prefix, inside_seq, inside_seq_got, inside_set}
 use Rattle.rasn_dynamic.proofs.Inside.{inside_decodes}
@@ -54,18 +54,6 @@ module _ (read : Call Tree) (tag : Tag) (c : Constraints) (d : ConstructedHeader
           (λ b. a (subst (Admits ◌≤◌ c.size) (sym g) b)),
           rules_same old new (SizeConstraintNotSatisfied (element_count t) (constraint_of c.size)) x k.0 (subst (λ z. IsErrorOf (SizeConstraintNotSatisfied z (constraint_of c.size)) new x) g w),
         )
-
-pub is_counted : (ty : «Type») (n : ℕ) (t : Tree) → HoldsElements ty → CountsElements ty n t → n ≡ element_count t
-is_counted (Leaf kind tag c names) n t h k = absurd h
-is_counted (Enumerated tag ns) n t h k = absurd h
-is_counted (Any tag) n t h k = absurd h
-is_counted Unknown n t h k = absurd h
-is_counted (Tagged tag i) n t h k = absurd h
-is_counted (Choice name ks) n t h k = absurd h
-is_counted (Sequence tag ps) n t h k = absurd h
-is_counted (Set name tag ps) n t h k = absurd h
-is_counted (SequenceOf tag i c) n t h k = k
-is_counted (SetOf tag i c) n t h k = k
 
 -- ---- lists
 

@@ -1,5 +1,5 @@
 -- Refusals and faults that were worked out by hand.
-use Rattle.std.proofs.Common.{◌≡◌, ℕ, zero, suc, true, false, ◌<◌, List, [], ◌∷◌, ◌++◌, length, length-append, Some, None, Err, inl, inr, refl, sym, ap, subst, arith}
+use Rattle.std.proofs.Common.{◌≡◌, ℕ, zero, suc, true, false, ◌<◌, List, [], ◌∷◌, ◌++◌, length, length-append, Some, None, Result, Ok, Err, inl, inr, refl, sym, ap, subst, arith}
 use Rattle.std.specs.Prelude.{slice_get}
 use Rattle.rasn_types.specs.declared.types.codec.Codec.{Codec}
 use Rattle.rasn_types.specs.declared.types.codec.Codec.TheVariants.{Der}
@@ -18,6 +18,7 @@ use Rattle.rasn_schema.proofs.Lists.{some_is}
 use Rattle.rasn_schema.proofs.Parts.{not_none}
 use Rattle.rasn_schema.specs.Shapes.{shape_of_type, alternatives_by}
 use Rattle.rasn_dynamic.specs.declared.refusal.Refusal.{Refusal}
+use Rattle.rasn_schema.specs.declared.value.Value.{Value}
 use Rattle.rasn_dynamic.specs.Faults.{LeadsBy, LeadsToAny, IsMemberHere, StopsAtMember, FailsAt, StopsInSequence, IsLocated, start}
 use Rattle.rasn_dynamic.specs.WorkedFaults.{WorkedFaults}
 use Rattle.rasn_dynamic.proofs.OpenChoice.{open_begins}
@@ -82,6 +83,9 @@ open_set f s e n m (inr (inl (u, x))) = cc
 open_set f s e n m (inr (inr (inl o))) = m o
 open_set f s e n m (inr (inr (inr (k, p, at, h)))) = no_component k p at
 
+not_both : {T : Type 0} (v : T) (e : DecodeError) → Ok v ≡ Err e → ⊥
+not_both v e h = cc
+
 pub worked_faults : WorkedFaults
 worked_faults = record {
   no_memory_at_the_start = at_the_start;
@@ -100,4 +104,12 @@ worked_faults = record {
   not_as_a_named_component = named_component;
   unknown_tag_stops_at_a_closed_set = λ f s e tag n. inr (inl ((tag, n, λ h. h), refl));
   no_tag_stops_at_an_open_set = open_set;
+  value_in_its_place_is_returned = λ u v e. refl;
+  error_in_its_place_is_returned = λ r v e. refl;
+  no_value_of_what_is_refused = λ r v w e h. not_both w e (sym h);
+  no_error_of_what_is_read = λ u v e d h. not_both v d h;
+  value_is_reported = λ v e. refl;
+  error_is_reported = λ r e. refl;
+  no_value_is_reported_of_what_is_refused = λ r w e h. not_both w e (sym h);
+  no_error_is_reported_of_what_is_read = λ v e d h. not_both v d h;
 }

@@ -49,18 +49,6 @@ abbrev pub IsSized : Constraints → State → ℕ → Result (Unit {0}) DecodeE
 IsSized c s n (Ok done) = Admits ◌≤◌ c.size n
 IsSized c s n (Err e) = (Admits ◌≤◌ c.size n → ⊥) × IsErrorOf (SizeConstraintNotSatisfied n (constraint_of c.size)) s e
 
--- The values of the type hold elements.
-abbrev pub HoldsElements : «Type» → Type 0
-HoldsElements (SequenceOf tag k c) = Unit {0}
-HoldsElements (SetOf tag k c) = Unit {0}
-HoldsElements _ = ⊥
-
--- Of a list or a set, so many elements were read.
-abbrev pub CountsElements : «Type» → ℕ → Tree → Type 0
-CountsElements (SequenceOf tag k c) n t = n ≡ element_count t
-CountsElements (SetOf tag k c) n t = n ≡ element_count t
-CountsElements _ n t = Unit {0}
-
 -- The values of the type hold other values, after a header of their own.
 abbrev pub HoldsOthers : «Type» → Type 0
 HoldsOthers (Leaf kind tag c names) = ⊥

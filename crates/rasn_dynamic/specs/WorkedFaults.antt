@@ -1,5 +1,5 @@
 -- Refusals and faults that were worked out by hand, and what is none.
-use Rattle.std.specs.Prelude.{◌≡◌, ◌<◌, ℕ, true, false, List, [], ◌∷◌, Err}
+use Rattle.std.specs.Prelude.{◌≡◌, ◌<◌, ℕ, true, false, List, [], ◌∷◌, Ok, Err}
 use Rattle.rasn_types.specs.declared.types.codec.Codec.{Codec}
 use Rattle.rasn_types.specs.declared.types.codec.Codec.TheVariants.{Der}
 use Rattle.rasn_types.specs.declared.error.decode.DecodeError.{DecodeError}
@@ -15,7 +15,10 @@ use Rattle.rasn_schema.specs.declared.types.Component.{Component}
 use Rattle.rasn_schema.specs.declared.types.«Type».{«Type»}
 use Rattle.rasn_schema.specs.declared.types.«Type».TheVariants.{Any}
 use Rattle.rasn_schema.specs.Shapes.{alternatives_by, ends_open}
+use Rattle.rasn_schema.specs.declared.value.Value.{Value}
 use Rattle.rasn_dynamic.specs.declared.refusal.Refusal.{Refusal}
+use Rattle.rasn_dynamic.specs.declared.walk.Refused.{Refused}
+use Rattle.rasn_dynamic.specs.Making.{outcome, reported}
 use Rattle.rasn_dynamic.specs.Faults.{IsUnknown, IsMemberHere, StopsAtMember, StopsAtChoice, StopsInSequence, StopsInElements, StopsInside, FailsItself, FailsAt, IsLocated}
 
 pub record WorkedFaults : Type 0 where
@@ -39,3 +42,11 @@ pub record WorkedFaults : Type 0 where
       → NextTag (form s.rule) s.rest tag → StopsAtMember f false [] s e
   pub no_tag_stops_at_an_open_set : (f : ℕ → Shape) (s : State) (e : DecodeError) → (PeeksTag s (Err e) → ⊥)
       → (IsOutOfMemory e.kind → ⊥) → StopsAtMember f true [] s e → ⊥
+  pub value_in_its_place_is_returned : (u : Unit {0}) (v : Value) (e : DecodeError) → outcome (Ok u) v e ≡ Ok v
+  pub error_in_its_place_is_returned : (r : Refused) (v : Value) (e : DecodeError) → outcome (Err r) v e ≡ Err e
+  pub no_value_of_what_is_refused : (r : Refused) (v w : Value) (e : DecodeError) → outcome (Err r) v e ≡ Ok w → ⊥
+  pub no_error_of_what_is_read : (u : Unit {0}) (v : Value) (e d : DecodeError) → outcome (Ok u) v e ≡ Err d → ⊥
+  pub value_is_reported : (v : Value) (e : DecodeError) → reported (Ok v) e ≡ Ok v
+  pub error_is_reported : (r : Refused) (e : DecodeError) → reported {T = Value} (Err r) e ≡ Err e
+  pub no_value_is_reported_of_what_is_refused : (r : Refused) (w : Value) (e : DecodeError) → reported (Err r) e ≡ Ok w → ⊥
+  pub no_error_is_reported_of_what_is_read : (v : Value) (e d : DecodeError) → reported (Ok v) e ≡ Err d → ⊥

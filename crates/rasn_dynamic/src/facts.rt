@@ -16,8 +16,9 @@ pub fn worked_parts()
     ensures { WorkedParts }
 {}
 
-/// Proves where a few values can't be read, and where they aren't refused. The function does
-/// nothing when it runs.
+/// Proves where a few values can't be read, and where they aren't refused; and which outcome is
+/// reported of a call that keeps its value or its error elsewhere. The function does nothing when
+/// it runs.
 pub fn worked_faults()
     ensures { WorkedFaults }
 {}

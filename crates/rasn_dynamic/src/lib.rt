@@ -19,6 +19,7 @@ mod place;
 mod read_leaf;
 mod reader;
 mod refusal;
+mod refuse;
 mod set;
 mod span;
 mod steps;

@@ -3,7 +3,7 @@ ghost use Rattle.std.specs.Prelude.{◌≡◌, true, ◌++◌, ◌∷◌, [], On
 ghost use Rattle.rasn_types.specs.Errors.{IsOutOfMemory};
 ghost use Rattle.rasn_types.specs.Numbered.{fit_isize};
 ghost use Rattle.rasn_types.specs.CharacterString.{string_kind};
-ghost use Rattle.rasn_types.specs.Shapes.{leaf, any, unknown, looked_for, fixed, integer, every, enumerated, object_identifier, bit_string, named_bits, octet_string, bmp, utf8, utc_time};
+ghost use Rattle.rasn_types.specs.Shapes.{leaf, any, unknown, looked_for, fixed, integer, every, enumerated, object_identifier, bit_string, named_bits, octet_string, bmp, utf8, utc_time, generalized_time, date};
 ghost use Rattle.rasn_types.specs.Trees.{unconstrained};
 ghost use Rattle.rasn_types.specs.Truth.{IsWhether};
 ghost use Rattle.rasn_de.specs.Decodes.{Decodes};
@@ -389,7 +389,7 @@ fn check_text(
     }
 }
 
-/// Checks a UTCTime.
+/// Checks a UTCTime, which no constraint bounds.
 #[inline(never)]
 fn check_utc_time(
     decoder: &mut Decoder<'_>,
@@ -400,11 +400,48 @@ fn check_utc_time(
     ensures reads { Checks (leaf utc_time tag bounds.now) decoder.old (reported result error.new) decoder.new }
     ensures rules { IfErr (reported result error.new) (λ e. e.codec ≡ decoder.old.rule) }
 {
-    match UtcTime::decode_with_tag_and_constraints(decoder, tag, bounds) {
-        Ok(value) => {
-            drop(value);
-            Ok(())
+    match decoder.check_utc_time(tag) {
+        Ok(()) => Ok(()),
+        Err(fault) => {
+            *error = fault;
+            Err(Refused)
         }
+    }
+}
+
+/// Checks a GeneralizedTime, which no constraint bounds.
+#[inline(never)]
+fn check_generalized_time(
+    decoder: &mut Decoder<'_>,
+    error: &mut DecodeError,
+    tag: Tag,
+    bounds: &Constraints,
+) -> Result<(), Refused>
+    ensures reads { Checks (leaf generalized_time tag bounds.now) decoder.old (reported result error.new) decoder.new }
+    ensures rules { IfErr (reported result error.new) (λ e. e.codec ≡ decoder.old.rule) }
+{
+    match decoder.check_generalized_time(tag) {
+        Ok(()) => Ok(()),
+        Err(fault) => {
+            *error = fault;
+            Err(Refused)
+        }
+    }
+}
+
+/// Checks a DATE, which no constraint bounds.
+#[inline(never)]
+fn check_date(
+    decoder: &mut Decoder<'_>,
+    error: &mut DecodeError,
+    tag: Tag,
+    bounds: &Constraints,
+) -> Result<(), Refused>
+    ensures reads { Checks (leaf date tag bounds.now) decoder.old (reported result error.new) decoder.new }
+    ensures rules { IfErr (reported result error.new) (λ e. e.codec ≡ decoder.old.rule) }
+{
+    match decoder.check_date(tag) {
+        Ok(()) => Ok(()),
         Err(fault) => {
             *error = fault;
             Err(Refused)
@@ -437,7 +474,7 @@ fn check_by_value(
 }
 
 /// Checks a value that holds no other values. Nothing is allocated, except for a time in segments
-/// and for the copy of a text that is no time, in its error.
+/// that is longer than 32 octets and for the copy of a text that is no time, in its error.
 ///
 /// # Errors
 /// As [`decode_leaf`], except `OutOfMemory` for the value.
@@ -467,6 +504,8 @@ fn check_leaf(
         LeafKind::Bmp => check_bmp(decoder, error, tag, bounds),
         LeafKind::Utf8 => check_text(decoder, error, tag, bounds),
         LeafKind::UtcTime => check_utc_time(decoder, error, tag, bounds),
+        LeafKind::GeneralizedTime => check_generalized_time(decoder, error, tag, bounds),
+        LeafKind::Date => check_date(decoder, error, tag, bounds),
         _ => check_by_value(decoder, error, kind, tag, bounds),
     }
 }

@@ -1,17 +1,16 @@
 //! Reads a value of a type.
 ghost use Rattle.std.specs.Prelude.{◌≡◌, ◌≢◌, ◌⊎◌, ◌++◌, ◌∷◌, List, [], length, true, false, slice_get, None, Err, OnOk, IfOk, IfErr};
-ghost use Rattle.rasn_types.specs.Framing.{AreOctets, Ended};
+ghost use Rattle.rasn_types.specs.Framing.{Ended};
 ghost use Rattle.rasn_types.specs.Errors.{IsOutOfMemory};
-ghost use Rattle.rasn_types.specs.Shapes.{any, unknown as unknown_values, items, sought_by, constraint_of};
+ghost use Rattle.rasn_types.specs.Shapes.{any, unknown as unknown_values, items, sought_by};
 ghost use Rattle.rasn_de.specs.Decodes.{Decodes, DecodesBy};
-ghost use Rattle.rasn_de.specs.Constructed.{DecodesInside};
-ghost use Rattle.rasn_de.specs.SequenceOf.{DecodesElements, DecodesElementsInOrder, DecodesSized};
+ghost use Rattle.rasn_de.specs.SequenceOf.{DecodesElements, DecodesElementsInOrder};
 ghost use Rattle.rasn_de.specs.Optional.{NextIs};
 ghost use Rattle.rasn_de.specs.PartTypes.{FailsAtPart, FailsAtOnePart};
 ghost use Rattle.rasn_de.specs.SetPartTypes.{DecodesSetPartContents};
-ghost use Rattle.rasn_dynamic.specs.Sets.{AreLawfulMembers, is_extensible, named_components as named_in, last_type as last_in};
+ghost use Rattle.rasn_dynamic.specs.Sets.{AreLawfulMembers, named_components as named_in};
 ghost use Rattle.rasn_de.specs.Steps.{IsErrorOf};
-ghost use Rattle.rasn_de.specs.declared.ber.de.parser.ParseError.TheVariants.{UnexpectedExtraData, UnexpectedEmptyInput, OutOfMemory, SizeConstraintNotSatisfied, Der};
+ghost use Rattle.rasn_de.specs.declared.ber.de.parser.ParseError.TheVariants.{UnexpectedEmptyInput, OutOfMemory};
 ghost use Rattle.rasn_schema.specs.declared.types.«Type».{«Type»};
 ghost use Rattle.rasn_schema.specs.declared.types.Presence.TheVariants.{Default};
 ghost use Rattle.rasn_schema.specs.declared.value.Value.{Items, Elements};
@@ -23,21 +22,20 @@ ghost use Rattle.rasn_schema.specs.Shapes.{shape_of_type, type_by, alternatives_
 ghost use Rattle.rasn_dynamic.specs.Inside.{ReadsSequence, DecodesTree, DecodesComponent};
 ghost use Rattle.rasn_dynamic.specs.Readers.{DecodesCounted, ReadsContents, ReadsType};
 ghost use Rattle.rasn_dynamic.specs.Making.{Making, Counting, IsLength, outcome, reported, trees_of, these};
-ghost use Rattle.rasn_dynamic.specs.Typed.{Makes, DecodesComponents, elements, element_count, IsSized, CountsElements, MayRunOut, DecodesContents, DecodesType};
+ghost use Rattle.rasn_dynamic.specs.Typed.{Makes, elements, IsSized, MayRunOut, DecodesContents};
 ghost use Rattle.rasn_dynamic.specs.Calls.{Gathers, any_required, is_required, IsMade, AreSettled, nones, names_of, IsKept, DecodesPresent, DecodesMember, IsNoAlternative, IsNoMember};
-ghost use Rattle.rasn_schema.specs.Fitting.{Fits, FitsBy, IsChosen, AlternativeFits, ComponentFits, ComponentsFit, EachFits, AreItems, AreOctets as AreOctetsValue};
+ghost use Rattle.rasn_schema.specs.Fitting.{Fits, IsChosen, AlternativeFits, ComponentFits, ComponentsFit, EachFits, AreOctets as AreOctetsValue};
 ghost use Rattle.rasn_dynamic.specs.Found.{FoundFit, MembersFit};
-ghost use Rattle.rasn_dynamic.specs.Faults.{IsFault, IsFaultIn, IsFaultOf, IsFaultInside, IsOnly, IsAlternativeAt, IsElementAt, IsComponentAt, IsMemberHere, IsMemberAfter, IsAnyPart, Told, TellsOf, FailsAt, FailsItself, ReadsEachPart, StopsAtChoice, StopsInside, StopsInElements, StopsInOrder, StopsInSequence, StopsAtComponent, IsDefaultWritten, StopsInSet, StopsAtMember};
-ghost use Rattle.rasn_dynamic.specs.Listed.{Lists, Inside, PartsInside, PartListed, UnknownListed, ValueListed, AlternativeListed, InsideListed, ContentsListed, ElementsListed, ComponentsListed, ComponentListed, MembersListed, MemberListed};
-ghost use Rattle.rasn_de.specs.Constructed.{sequence_header, list_header, prefix_header};
-ghost use Rattle.rasn_types.specs.declared.error.decode.DerDecodeErrorKind.TheVariants.{DefaultValuePresent, SetOfOutOfOrder};
-ghost use Rattle.rasn_de.specs.NamedErrors.{IsNamedError, IsNoValidChoice};
+ghost use Rattle.rasn_dynamic.specs.Faults.{IsFault, IsFaultIn, IsOnly, IsAlternativeAt, IsElementAt, IsComponentAt, IsMemberHere, IsMemberAfter, Told, TellsOf, FailsAt, StopsAtChoice, StopsInElements, StopsInOrder, StopsInSequence, StopsAtComponent, IsDefaultWritten, StopsInSet, StopsAtMember};
+ghost use Rattle.rasn_dynamic.specs.Listed.{Lists, Inside, PartsInside, PartListed, UnknownListed, AlternativeListed, ElementsListed, ComponentsListed, ComponentListed, MembersListed, MemberListed};
 
-use crate::components::{default_present, is_always_there, leaves_all_out, missing};
+use crate::components::{is_always_there, leaves_all_out, missing};
 use crate::made::Made;
-use crate::order::{is_less, octets_before, out_of_order};
-use crate::read_leaf::{
-    decode_any_value, out_of_memory, put_any, put_leaf, put_number, put_unknown,
+use crate::order::{is_less, octets_before};
+use crate::read_leaf::{decode_any_value, put_any, put_leaf, put_number, put_unknown};
+use crate::refuse::{
+    refuse_choice, refuse_default, refuse_extra, refuse_memory, refuse_no_value, refuse_order,
+    refuse_size,
 };
 use crate::set::{
     all_absent, component_for, gather, last_type, named_components, no_components, put,
@@ -51,128 +49,8 @@ use rasn_schema::{
     Alternative, Component, Presence, Type, TypeId, Value, alternative_for, begins, is_choice_at,
     tag_at, type_at,
 };
-use rasn_types::error::{DecodeError, DecodeErrorKind};
+use rasn_types::error::DecodeError;
 use rasn_types::types::{Constraints, Tag};
-
-/// Returns the error that there is no such type, so no value of it.
-pub fn no_value(decoder: &Decoder<'_>) -> DecodeError
-    ensures { IsErrorOf UnexpectedEmptyInput decoder.now result }
-{
-    DecodeError {
-        kind: DecodeErrorKind::UnexpectedEmptyInput,
-        codec: decoder.codec(),
-    }
-}
-
-/// Returns the error that a value took nothing.
-pub fn extra(decoder: &Decoder<'_>, left: usize) -> DecodeError
-    ensures { IsErrorOf (UnexpectedExtraData left) decoder.now result }
-{
-    DecodeError {
-        kind: DecodeErrorKind::UnexpectedExtraData { length: left },
-        codec: decoder.codec(),
-    }
-}
-
-/// Keeps the error that there is no such type.
-#[cold]
-#[inline(never)]
-fn refuse_no_value(error: &mut DecodeError, decoder: &Decoder<'_>)
-    ensures { IsErrorOf UnexpectedEmptyInput decoder.now error.new }
-{
-    *error = no_value(decoder);
-}
-
-/// Keeps the error that a value took nothing.
-#[cold]
-#[inline(never)]
-fn refuse_extra(error: &mut DecodeError, decoder: &Decoder<'_>, left: usize)
-    ensures { IsErrorOf (UnexpectedExtraData left) decoder.now error.new }
-{
-    *error = extra(decoder, left);
-}
-
-/// Keeps the error that memory ran out.
-#[cold]
-#[inline(never)]
-fn refuse_memory(error: &mut DecodeError, decoder: &Decoder<'_>)
-    ensures kind { IsOutOfMemory error.new.kind }
-    ensures told { IsErrorOf OutOfMemory decoder.now error.new }
-{
-    *error = out_of_memory(decoder);
-}
-
-/// Keeps the error that the elements of a SET OF aren't in order.
-#[cold]
-#[inline(never)]
-fn refuse_order(error: &mut DecodeError, decoder: &Decoder<'_>)
-    ensures { IsErrorOf (Der SetOfOutOfOrder) decoder.now error.new }
-{
-    *error = out_of_order(decoder);
-}
-
-/// Keeps the error that a component is its default.
-#[cold]
-#[inline(never)]
-fn refuse_default(error: &mut DecodeError, decoder: &Decoder<'_>)
-    ensures { IsErrorOf (Der DefaultValuePresent) decoder.now error.new }
-{
-    *error = default_present(decoder);
-}
-
-/// Keeps the error that the next tag is none of those in the value with this name.
-#[cold]
-#[inline(never)]
-fn refuse_choice(error: &mut DecodeError, decoder: &Decoder<'_>, name: &str)
-    ensures { IsNamedError (IsNoValidChoice name.now) decoder.now.rule error.new }
-{
-    *error = DecodeError::no_valid_choice(decoder.alloc(), name, decoder.codec());
-}
-
-/// Keeps the error that the number of elements isn't within the bound.
-#[cold]
-#[inline(never)]
-fn refuse_size(
-    error: &mut DecodeError,
-    decoder: &Decoder<'_>,
-    constraints: &Constraints,
-    count: usize,
-)
-    ensures { IsErrorOf (SizeConstraintNotSatisfied count (constraint_of constraints.now.size)) decoder.now error.new }
-{
-    *error = DecodeError {
-        kind: DecodeErrorKind::SizeConstraintNotSatisfied {
-            size: Some(count),
-            expected: constraints.size_bounds(),
-        },
-        codec: decoder.codec(),
-    };
-}
-
-/// Appends a value, where values are kept.
-#[inline(always)]
-fn append<'input, M: Made>(
-    decoder: &Decoder<'input>,
-    error: &mut DecodeError,
-    values: &mut Vec<Value<'input>>,
-    value: Value<'input>,
-) -> Result<(), Refused>
-    ensures ok { M.KEEP ≡ true → OnOk result (values.new.items ≡ values.old.items ++ value.entry ∷ []) }
-    ensures memory { IfErr (reported result error.new) (IsErrorOf OutOfMemory decoder.now) }
-    ensures kind { IfErr (reported result error.new) (λ e. IsOutOfMemory e.kind) }
-    ensures rules { IfErr (reported result error.new) (λ e. e.codec ≡ decoder.now.rule) }
-{
-    if !M::KEEP {
-        return Ok(());
-    }
-    match values.push(value) {
-        Ok(()) => Ok(()),
-        Err(_) => {
-            refuse_memory(error, decoder);
-            Err(Refused)
-        }
-    }
-}
 
 /// Moves a value to the end of a list, where values are kept.
 #[inline(always)]
@@ -190,12 +68,13 @@ fn take<'input, M: Made>(
     if !M::KEEP {
         return Ok(());
     }
-    append::<M>(
-        decoder,
-        error,
-        values,
-        std::mem::replace(value, Value::Absent),
-    )
+    match values.push(std::mem::replace(value, Value::Absent)) {
+        Ok(()) => Ok(()),
+        Err(_) => {
+            refuse_memory(error, decoder);
+            Err(Refused)
+        }
+    }
 }
 
 /// Moves a value to the end of a list, where values are kept. It must have taken some of the input.
@@ -357,23 +236,6 @@ fn put_missing<'input, M: Made>(
             Err(Refused)
         }
     }
-}
-
-/// Returns all components, those that are absent with the values that they have then, where values are kept.
-///
-/// # Errors
-/// Those of [`gather`].
-fn gather_found<'input, M: Made>(
-    decoder: &Decoder<'input>,
-    error: &mut DecodeError,
-    components: &[Component],
-    found: Vec<Option<Value<'input>>>,
-) -> Result<Vec<Value<'input>>, Refused>
-    requires { length found.items ≡ length components.now }
-    ensures gathers { Gathers M.KEEP components.now decoder.now.rule found.entry.items (reported result error.new) }
-    ensures rules { IfErr (reported result error.new) (λ e. e.codec ≡ decoder.now.rule) }
-{
-    kept(gather::<M>(decoder, components, found), error)
 }
 
 /// Reads an unknown component of a SET as one complete encoding (X.680 27), and notes it as a part
@@ -1269,11 +1131,12 @@ fn decode_set_components<'input, M: Made>(
         walk.error = DecodeError::duplicate_field(decoder.alloc(), repeated, decoder.codec());
         return Err(Refused);
     }
-    let mut values = gather_found::<M>(decoder, &mut walk.error, components, found)?;
+    let mut values = kept(gather::<M>(decoder, components, found), &mut walk.error)?;
     if !extensible {
         return Ok(values);
     }
-    append::<M>(decoder, &mut walk.error, &mut values, Value::Items(unknown))?;
+    let mut others = Value::Items(unknown);
+    take::<M>(decoder, &mut walk.error, &mut others, &mut values)?;
     Ok(values)
 }
 
@@ -1318,8 +1181,8 @@ fn decode_set_component<'input, 'names, M: Made>(
             return Err(Refused);
         }
         let index = components.len();
-        let other = decode_unknown_component(decoder, walk, below, other_id, index)?;
-        append::<M>(decoder, &mut walk.error, unknown, other)?;
+        let mut other = decode_unknown_component(decoder, walk, below, other_id, index)?;
+        take::<M>(decoder, &mut walk.error, &mut other, unknown)?;
         return Ok(None);
     };
     let mut value = Value::Absent;

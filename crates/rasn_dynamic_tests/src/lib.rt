@@ -12,6 +12,8 @@ mod parts;
 #[cfg(test)]
 mod sizes;
 #[cfg(test)]
+mod times;
+#[cfg(test)]
 mod types;
 #[cfg(test)]
 mod values;

@@ -20,6 +20,12 @@ returns-in-Bmp-clause-reads c = rw c.in-Bmp.is c.check_bmp.ensures.reads
 pub returns-in-UtcTime-clause-reads : goal.returns-in-UtcTime-clause-reads
 returns-in-UtcTime-clause-reads c = rw c.in-UtcTime.is c.check_utc_time.ensures.reads
 
+pub returns-in-GeneralizedTime-clause-reads : goal.returns-in-GeneralizedTime-clause-reads
+returns-in-GeneralizedTime-clause-reads c = rw c.in-GeneralizedTime.is c.check_generalized_time.ensures.reads
+
+pub returns-in-Date-clause-reads : goal.returns-in-Date-clause-reads
+returns-in-Date-clause-reads c = rw c.in-Date.is c.check_date.ensures.reads
+
 pub returns-in-NamedBits-clause-reads : goal.returns-in-NamedBits-clause-reads
 returns-in-NamedBits-clause-reads c = rw c.in-NamedBits.is c.check_named_bits.ensures.reads
 

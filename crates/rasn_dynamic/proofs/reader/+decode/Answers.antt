@@ -5,11 +5,9 @@ use Rattle.rasn_types.specs.Shapes.{Tree, Same, items, choice_by, IsFirstOf, own
 use Rattle.rasn_types.proofs.Headers.Frames.{next_one, not_ended}
 use Rattle.rasn_de.specs.NamedErrors.{IsNamedError, IsDuplicateField}
 use Rattle.rasn_de.specs.SetPartTypes.{text}
-use Rattle.rasn_de.specs.Constructed.{DecodesInside, list_header}
 use Rattle.rasn_de.proofs.Leaves.Outcomes.{alloc_failed}
 use Rattle.rasn_schema.proofs.Alternatives.{first_of_all}
-use Rattle.rasn_types.specs.Tags.{IsStrict, eoc}
-use Rattle.rasn_types.specs.Trees.{unconstrained}
+use Rattle.rasn_types.specs.Tags.{IsStrict}
 use Rattle.rasn_types.specs.Order.{IsLess}
 use Rattle.rasn_types.specs.declared.error.decode.DerDecodeErrorKind.TheVariants.{SetOfOutOfOrder}
 use Rattle.rasn_types.proofs.SetOf.Ascending.{ends_more, in_order, out_of_order}
@@ -21,11 +19,10 @@ use Rattle.rasn_de.proofs.Leaves.Returns.{residual}
 use Rattle.rasn_de.proofs.Constructed.NextElement.{passes_more, turn_rules}
 use Rattle.rasn_de.proofs.Leaves.Rules.{codec_is, same_rules, peek_rules, look_rules, order_rules}
 use Rattle.rasn_de.proofs.Constructed.SetOfElements.{passes_from, came_stays}
-use Rattle.rasn_de.proofs.Constructed.Steps.{step_none, step_refused, step_end, step_unclosed, step_closed, rules_same}
+use Rattle.rasn_de.proofs.Constructed.Steps.{rules_same}
 use Rattle.rasn_de.proofs.Constructed.Optional.{strict_before, strict_after}
 use Rattle.rasn_de.proofs.OwnTypes.Parts.{call_keeps}
 use Rattle.rasn_schema.specs.declared.types.Alternative.{Alternative}
-use Rattle.rasn_schema.specs.declared.value.Value.{Value}
 use Rattle.rasn_schema.specs.Trees.{tree_of}
 use Rattle.rasn_schema.specs.Shapes.{numbers_of, shape_of_type, type_by, alternatives_by, choice_among, components_by, key_of, presence_in, AreReadable, IsReadable}
 use Rattle.rasn_schema.proofs.Presences.{always_by}
@@ -34,43 +31,38 @@ use Rattle.rasn_schema.proofs.Lists.{split, nothing_left, read_at}
 use Rattle.rasn_schema.specs.declared.types.«Type».TheVariants.{Tagged, Sequence, Set, SequenceOf, SetOf}
 use Rattle.rasn_dynamic.specs.Inside.{DecodesTree, DecodesComponent}
 use Rattle.rasn_dynamic.specs.Making.{Making, outcome}
-use Rattle.rasn_dynamic.specs.Typed.{Makes, MayRunOut, DecodesComponents, DecodesContents, DecodesType, elements}
-use Rattle.rasn_dynamic.specs.Calls.{held, names_of, nones, DecodesPresent}
-use Rattle.rasn_dynamic.proofs.Making.{made_as, made_fails_as, choice_exact, if_kept, items_made, elements_made, one_made, choice_made, choice_fits}
-use Rattle.rasn_schema.specs.Fitting.{Fits, IsNumber, AreOctets, AreItems, ComponentsFit, EachFits}
-use Rattle.rasn_dynamic.proofs.FitsRead.{if_ok, fits_below, are_items, are_elements, each_more, fit_more, fit_end, made_fits, gathered_fit, members_fit, all_fit, all_left_fit, nones_fit, found_length, found_kept, put_fits}
+use Rattle.rasn_dynamic.specs.Typed.{DecodesContents, elements}
+use Rattle.rasn_dynamic.specs.Calls.{held, Gathers, names_of, nones, DecodesPresent}
+use Rattle.rasn_dynamic.proofs.Making.{made_as, made_fails_as, choice_exact, if_kept, one_made, choice_made, choice_fits}
+use Rattle.rasn_schema.specs.Fitting.{Fits, IsNumber, AreOctets, EachFits}
+use Rattle.rasn_dynamic.proofs.FitsRead.{if_ok, fits_below, each_more, fit_more, fit_end, made_fits, gathered_fit, all_fit, all_left_fit, nones_fit, found_length, found_kept, put_fits}
 use Rattle.rasn_dynamic.proofs.Nothing.{refused_at_zero, refused_not_there, found_here}
 use Rattle.rasn_dynamic.proofs.OpenChoice.{lawful_at}
 use Rattle.rasn_dynamic.proofs.Chosen.{no_tag, none_for, for_both, chosen_got, chosen_refused}
 use Rattle.rasn_dynamic.proofs.InOrder.{lawful_parts, all_left_read, in_turn}
 use Rattle.rasn_dynamic.proofs.OnePart.{always, always_fails, looked, looked_fails, made, made_fails, unread, unread_fails, plain, loose, differs, default_is_written, not_required, next_of, made_of}
 use Rattle.rasn_dynamic.proofs.Contents.{prefix_lawful, list_lawful, set_of_lawful, seq_lawful, sequence_runs_out, parts_start, parts_more, part_fails, part_fails_at, parts_run_out, parts_end}
-use Rattle.rasn_dynamic.proofs.Typed.{contents_end, contents_stay, not_sized, is_sized, missized, is_counted, count_items, type_decodes, named_so}
 use Rattle.rasn_dynamic.proofs.Pieces.{got_below, first_of_part, part_lawful, nones_come, nones_held, made_parts, lacks_part}
 use Rattle.rasn_dynamic.proofs.Component.{member_unpeeked, member_none, unknown_unread, unknown_kept, unknown_left, member_unread, member_idle, member_put, member_shorter}
 use Rattle.rasn_dynamic.proofs.AllMembers.{set_trees, all_trees, none_unknown, members_lack, members_made, members_keep}
 use Rattle.rasn_de.proofs.OwnTypes.SetPartTypes.{ReadTo, read_rules, none_read, untold, next_fails, next_passes, one_twice}
 use Rattle.rasn_dynamic.proofs.Members.{passed_unknown}
 use Rattle.rasn_dynamic.proofs.Named.{named_lawful, last_unknown}
-use Rattle.rasn_dynamic.specs.Sets.{is_extensible, named_components, last_type, AreLawfulMembers}
+use Rattle.rasn_dynamic.specs.Sets.{AreLawfulMembers}
 use Rattle.rasn_de.proofs.Constructed.Opening.{kept}
-use Rattle.rasn_dynamic.specs.Found.{MembersFit}
 use Rattle.rasn_dynamic.proofs.Parts.{shorter}
 use Rattle.rasn_dynamic.proofs.reader.+decode.Goals.{decode_elements_in_order-else-is_strict-via-then-is_strict+else-is_less, decode_elements_in_order-else-is_strict-via-else-is_strict}
-use Rattle.rasn_dynamic.specs.Listed.{Lists, Inside, PartListed, ComponentAt, MemberListed, MembersListed, InsideListed}
-use Rattle.rasn_de.specs.Constructed.{sequence_header, prefix_header}
+use Rattle.rasn_dynamic.specs.Listed.{Lists, Inside, PartListed, ComponentAt, MemberListed}
 use Rattle.rasn_dynamic.specs.declared.span.Spans.{Spans}
 use Rattle.std.specs.Prelude.{IfOk}
-use Rattle.rasn_dynamic.proofs.Listed.{if_any, lists_start, lists_more, part_listed, value_listed, none_listed, choice_listed, alternative_listed, holder_listed, inside_listed, tagged_listed, elements_listed, component_present, component_absent, component_more, components_left_out, components_listed, member_listed, unknown_passed, members_listed, header_listed, components_same}
+use Rattle.rasn_dynamic.proofs.Listed.{if_any, lists_start, lists_more, part_listed, value_listed, choice_listed, alternative_listed, elements_listed, component_present, component_absent, component_more, components_left_out, components_listed, member_listed, unknown_passed, members_listed}
 use Rattle.rasn_dynamic.proofs.reader.+decode.Goals as goal
-use Rattle.rasn_de.specs.SetPartTypes.{DecodesSetPartContents}
 use Rattle.rasn_de.specs.Set.{not_read}
 use Rattle.rasn_de.proofs.Headers.Tags.{look_refused, look_follows}
-use Rattle.rasn_dynamic.specs.Faults.{IsFaultOf, IsFaultIn, IsFaultInside, IsOnly, IsAlternativeAt, IsComponentAt, IsMemberAfter, Told, ReadsEachPart, StopsAtMember, StopsInSequence, StopsInSet, TellsOf}
-use Rattle.rasn_dynamic.proofs.Faults.{any_err, if_err_map, unnamed, one_taken, turns_long, marked, stepped, further, weaker, entered, opened, opened_short, told_map, tells, tells_err, alternative_there, element_there, forgotten, one_part_more, part_there, member_there, member_behind, unknown_there, turns_keep, named, not_named, unmoved, got_inside, found_itself, itself_leaf, present_stops, itself_prefix, itself_sequence, itself_set, itself_list, itself_set_of, itself_choice, element_stops, set_element_stops, default_stops, unmade_stops, only_memory}
+use Rattle.rasn_dynamic.specs.Faults.{IsFaultOf, IsFaultIn, IsOnly, IsAlternativeAt, StopsAtMember, TellsOf}
+use Rattle.rasn_dynamic.proofs.Faults.{any_err, if_err_map, unnamed, one_taken, turns_long, marked, stepped, further, weaker, entered, opened, told_map, tells, tells_err, alternative_there, element_there, forgotten, one_part_more, part_there, member_there, member_behind, unknown_there, turns_keep, named, not_named, found_itself, present_stops, itself_choice, element_stops, set_element_stops, default_stops, unmade_stops, only_memory}
 -- ---- the type with a number
 
-use Rattle.rasn_de.specs.Constructed.{ConsumesOpening}
 use Rattle.rasn_dynamic.specs.Readers.{DecodesCounted}
 use Rattle.rasn_types.specs.Errors.{IsOutOfMemory}
 use Rattle.rasn_schema.specs.Fitting.{FitsBy, IsChosen, AlternativeFits}
@@ -617,8 +609,8 @@ decode_set_components-returns-in-Some-clause-exact g t c =
     (subst (λ z. ReadTo c.args.extensible ps names c.args.decoder.now at.decoder at.last z i.0 i.1) h i.4) _
     (subst (λ z. IsNamedError (IsDuplicateField (text c.in-Some.repeated)) z c.duplicate_field.result) c.codec.ensures c.duplicate_field.ensures))
 
-pub decode_set_components-gather_found-requires : goal.decode_set_components-gather_found-requires
-decode_set_components-gather_found-requires g t c = found_length _ c.args.components.now _ c.loop-other_id.invariant.1
+pub decode_set_components-gather-requires : goal.decode_set_components-gather-requires
+decode_set_components-gather-requires g t c = found_length _ c.args.components.now _ c.loop-other_id.invariant.1
 
 pub decode_set_components-returns-in_err-values-clause-exact : goal.decode_set_components-returns-in_err-values-clause-exact
 decode_set_components-returns-in_err-values-clause-exact g t c =
@@ -627,19 +619,18 @@ decode_set_components-returns-in_err-values-clause-exact g t c =
     let ps = (components_by (shape_of_type c.args.types.now c.args.below) c.args.components.now) in
     let names = names_of c.args.components.now in
     let h : at.twice ≡ None = search rules in
-    let e = c.gather_found.new.error in
     rw (residual _ c.from_residual-in_err-values.ensures.1)
-    (members_lack c.args.extensible ps names c.args.decoder.now at.decoder at.last i.0 i.1 c.loop-other_id-test.ensures (subst (λ z. ReadTo c.args.extensible ps names c.args.decoder.now at.decoder at.last z i.0 i.1) h i.4) e
-    (lacks_part _ (shape_of_type c.args.types.now c.args.below) c.args.components.now at.decoder.rule at.found.items i.0 e i.2 c.in_err-values.ensures.gathers))
+    (members_lack c.args.extensible ps names c.args.decoder.now at.decoder at.last i.0 i.1 c.loop-other_id-test.ensures (subst (λ z. ReadTo c.args.extensible ps names c.args.decoder.now at.decoder at.last z i.0 i.1) h i.4) _
+    (lacks_part _ (shape_of_type c.args.types.now c.args.below) c.args.components.now at.decoder.rule at.found.items i.0 _ i.2 (subst (λ z. Gathers g.M.Made.KEEP c.args.components.now c.loop-other_id.decoder.rule c.loop-other_id.found.items z) (sym c.in_err-values.ensures) c.gather.ensures.gathers)))
 
-pub decode_set_components-returns-in_err-append-clause-exact : goal.decode_set_components-returns-in_err-append-clause-exact
-decode_set_components-returns-in_err-append-clause-exact g t c =
+pub decode_set_components-returns-in_err-take-clause-exact : goal.decode_set_components-returns-in_err-take-clause-exact
+decode_set_components-returns-in_err-take-clause-exact g t c =
     let at = c.loop-other_id in
     let i = at.invariant.0 in
     let ps = (components_by (shape_of_type c.args.types.now c.args.below) c.args.components.now) in
     let names = names_of c.args.components.now in
-    rw (residual _ c.from_residual-in_err-append.ensures.1)
-    (inr (c.in_err-append.ensures.kind, members_keep c.args.extensible ps names c.args.decoder.now at.decoder at.last i.0 i.1 at.twice i.4))
+    rw (residual _ c.from_residual-in_err-take.ensures.1)
+    (inr (c.in_err-take.ensures.kind, members_keep c.args.extensible ps names c.args.decoder.now at.decoder at.last i.0 i.1 at.twice i.4))
 
 pub decode_set_components-returns-clause-exact : goal.decode_set_components-returns-clause-exact
 decode_set_components-returns-clause-exact g t c =
@@ -649,9 +640,9 @@ decode_set_components-returns-clause-exact g t c =
     let ps = components_by (shape_of_type c.args.types.now c.args.below) c.args.components.now in
     let names = names_of c.args.components.now in
     let h : at.twice ≡ None = search rules in
-    let m = made_parts _ (shape_of_type c.args.types.now c.args.below) c.args.components.now at.decoder.rule at.found.items i.0 c.in_ok-values.values (found_length _ c.args.components.now _ at.invariant.1) i.2 c.in_ok-values.ensures.gathers in (
+    let m = made_parts _ (shape_of_type c.args.types.now c.args.below) c.args.components.now at.decoder.rule at.found.items i.0 c.in_ok-values.values (found_length _ c.args.components.now _ at.invariant.1) i.2 (subst (λ z. Gathers g.M.Made.KEEP c.args.components.now c.loop-other_id.decoder.rule c.loop-other_id.found.items z) (sym c.in_ok-values.ensures) c.gather.ensures.gathers) in (
       set_trees c.args.extensible m.0 i.1,
-      all_trees c.args.extensible _ c.in_ok-values.values.items c.append.new.values.items m.0 i.1 at.unknown m.1 i.3 (λ e k. c.in_ok-append.ensures.ok k) (λ e. absurd (true≢false (sym on ∙ e))),
+      all_trees c.args.extensible _ c.in_ok-values.values.items c.take.new.values.items m.0 i.1 at.unknown m.1 i.3 (λ e k. c.in_ok-take.ensures.ok k) (λ e. absurd (true≢false (sym on ∙ e))),
       members_made c.args.extensible ps names c.args.decoder.now at.decoder at.last i.0 i.1 c.loop-other_id-test.ensures (subst (λ z. ReadTo c.args.extensible ps names c.args.decoder.now at.decoder at.last z i.0 i.1) h i.4) m.0 m.2 i.5,
     )
 
@@ -663,7 +654,7 @@ decode_set_components-returns-then-not-extensible-clause-exact g t c =
     let ps = components_by (shape_of_type c.args.types.now c.args.below) c.args.components.now in
     let names = names_of c.args.components.now in
     let h : at.twice ≡ None = search rules in
-    let m = made_parts _ (shape_of_type c.args.types.now c.args.below) c.args.components.now at.decoder.rule at.found.items i.0 c.in_ok-values.values (found_length _ c.args.components.now _ at.invariant.1) i.2 c.in_ok-values.ensures.gathers in (
+    let m = made_parts _ (shape_of_type c.args.types.now c.args.below) c.args.components.now at.decoder.rule at.found.items i.0 c.in_ok-values.values (found_length _ c.args.components.now _ at.invariant.1) i.2 (subst (λ z. Gathers g.M.Made.KEEP c.args.components.now c.loop-other_id.decoder.rule c.loop-other_id.found.items z) (sym c.in_ok-values.ensures) c.gather.ensures.gathers) in (
       set_trees c.args.extensible m.0 i.1,
       all_trees c.args.extensible _ c.in_ok-values.values.items c.in_ok-values.values.items m.0 i.1 at.unknown m.1 i.3 (λ e k. absurd (true≢false (sym e ∙ off))) (λ e. refl),
       members_made c.args.extensible ps names c.args.decoder.now at.decoder at.last i.0 i.1 c.loop-other_id-test.ensures (subst (λ z. ReadTo c.args.extensible ps names c.args.decoder.now at.decoder at.last z i.0 i.1) h i.4) m.0 m.2 i.5,
@@ -673,23 +664,23 @@ pub decode_set_components-returns-clause-fits : goal.decode_set_components-retur
 decode_set_components-returns-clause-fits g t c = λ k.
     let at = c.loop-other_id in
     let on : c.args.extensible ≡ true = search rules in
-    all_fit (Fits c.args.types.now c.args.below) c.args.extensible c.args.components.now c.in_ok-values.values.items c.append.new.values.items at.unknown
-    (gathered_fit (Fits c.args.types.now c.args.below) g.M.Made.KEEP k c.args.components.now at.decoder.rule at.found.items (Ok c.in_ok-values.values) (found_kept g.M.Made.KEEP (Fits c.args.types.now c.args.below) k c.args.components.now at.found.items at.invariant.1) c.in_ok-values.ensures.gathers)
-    (at.invariant.2 k) (λ e. c.in_ok-append.ensures.ok k) (λ e. absurd (true≢false (sym on ∙ e)))
+    all_fit (Fits c.args.types.now c.args.below) c.args.extensible c.args.components.now c.in_ok-values.values.items c.take.new.values.items at.unknown
+    (gathered_fit (Fits c.args.types.now c.args.below) g.M.Made.KEEP k c.args.components.now at.decoder.rule at.found.items (Ok c.in_ok-values.values) (found_kept g.M.Made.KEEP (Fits c.args.types.now c.args.below) k c.args.components.now at.found.items at.invariant.1) (subst (λ z. Gathers g.M.Made.KEEP c.args.components.now c.loop-other_id.decoder.rule c.loop-other_id.found.items z) (sym c.in_ok-values.ensures) c.gather.ensures.gathers))
+    (at.invariant.2 k) (λ e. c.in_ok-take.ensures.ok k) (λ e. absurd (true≢false (sym on ∙ e)))
 
 pub decode_set_components-returns-then-not-extensible-clause-fits : goal.decode_set_components-returns-then-not-extensible-clause-fits
 decode_set_components-returns-then-not-extensible-clause-fits g t c = λ k.
     let at = c.loop-other_id in
     let off : c.args.extensible ≡ false = search rules in
     all_fit (Fits c.args.types.now c.args.below) c.args.extensible c.args.components.now c.in_ok-values.values.items c.in_ok-values.values.items at.unknown
-    (gathered_fit (Fits c.args.types.now c.args.below) g.M.Made.KEEP k c.args.components.now at.decoder.rule at.found.items (Ok c.in_ok-values.values) (found_kept g.M.Made.KEEP (Fits c.args.types.now c.args.below) k c.args.components.now at.found.items at.invariant.1) c.in_ok-values.ensures.gathers)
+    (gathered_fit (Fits c.args.types.now c.args.below) g.M.Made.KEEP k c.args.components.now at.decoder.rule at.found.items (Ok c.in_ok-values.values) (found_kept g.M.Made.KEEP (Fits c.args.types.now c.args.below) k c.args.components.now at.found.items at.invariant.1) (subst (λ z. Gathers g.M.Made.KEEP c.args.components.now c.loop-other_id.decoder.rule c.loop-other_id.found.items z) (sym c.in_ok-values.ensures) c.gather.ensures.gathers))
     (at.invariant.2 k) (λ e. absurd (true≢false (sym e ∙ off))) (λ e. refl)
 
 pub decode_set_components-returns-in_err-values-clause-rules : goal.decode_set_components-returns-in_err-values-clause-rules
-decode_set_components-returns-in_err-values-clause-rules g t c = rw (residual _ c.from_residual-in_err-values.ensures.1) (c.in_err-values.ensures.rules ∙ read_rules c.args.extensible (components_by (shape_of_type c.args.types.now c.args.below) c.args.components.now) (names_of c.args.components.now) _ _ _ _ _ _ c.loop-other_id.invariant.0.4)
+decode_set_components-returns-in_err-values-clause-rules g t c = rw (residual _ c.from_residual-in_err-values.ensures.1) ((subst (λ z. IfErr z (λ e. e.codec ≡ c.loop-other_id.decoder.rule)) (sym c.in_err-values.ensures) c.gather.ensures.rules) ∙ read_rules c.args.extensible (components_by (shape_of_type c.args.types.now c.args.below) c.args.components.now) (names_of c.args.components.now) _ _ _ _ _ _ c.loop-other_id.invariant.0.4)
 
-pub decode_set_components-returns-in_err-append-clause-rules : goal.decode_set_components-returns-in_err-append-clause-rules
-decode_set_components-returns-in_err-append-clause-rules g t c = rw (residual _ c.from_residual-in_err-append.ensures.1) (c.in_err-append.ensures.rules ∙ read_rules c.args.extensible (components_by (shape_of_type c.args.types.now c.args.below) c.args.components.now) (names_of c.args.components.now) _ _ _ _ _ _ c.loop-other_id.invariant.0.4)
+pub decode_set_components-returns-in_err-take-clause-rules : goal.decode_set_components-returns-in_err-take-clause-rules
+decode_set_components-returns-in_err-take-clause-rules g t c = rw (residual _ c.from_residual-in_err-take.ensures.1) (c.in_err-take.ensures.rules ∙ read_rules c.args.extensible (components_by (shape_of_type c.args.types.now c.args.below) c.args.components.now) (names_of c.args.components.now) _ _ _ _ _ _ c.loop-other_id.invariant.0.4)
 
 pub decode_set_components-returns-in_err-last-clause-rules : goal.decode_set_components-returns-in_err-last-clause-rules
 decode_set_components-returns-in_err-last-clause-rules g t c = rw (residual _ c.from_residual.ensures.1) (order_rules _ c.loop-other_id.decoder _ c.in_err-last.ensures ∙ read_rules c.args.extensible (components_by (shape_of_type c.args.types.now c.args.below) c.args.components.now) (names_of c.args.components.now) _ _ _ _ _ _ c.loop-other_id.invariant.0.4)
@@ -715,17 +706,17 @@ decode_set_component-returns-in_err-other-clause-next g t c =
     rw (residual _ c.from_residual-in_err-other.ensures.1)
     (unknown_unread _ c.args.extensible (components_by (shape_of_type c.args.types.now c.args.below) c.args.components.now) (names_of c.args.components.now) c.args.found.now.items c.args.unknown.now.items _ _ c.in_ok-tag.tag c.in_ok-tag.ensures.next c.in_default.ensures (search rules) c.decode_unknown_component.new.walk.error c.in_err-other.ensures.reads)
 
-pub decode_set_component-returns-in_err-append-clause-next : goal.decode_set_component-returns-in_err-append-clause-next
-decode_set_component-returns-in_err-append-clause-next g t c =
-    rw (residual _ c.from_residual-in_err-append.ensures.1)
-    (unknown_left _ c.args.extensible (components_by (shape_of_type c.args.types.now c.args.below) c.args.components.now) (names_of c.args.components.now) c.args.found.now.items c.args.unknown.now.items _ _ c.append.new.error c.in_err-append.ensures.kind (call_keeps c.in_ok-other.ensures.reads) _)
+pub decode_set_component-returns-in_err-take-clause-next : goal.decode_set_component-returns-in_err-take-clause-next
+decode_set_component-returns-in_err-take-clause-next g t c =
+    rw (residual _ c.from_residual-in_err-take.ensures.1)
+    (unknown_left _ c.args.extensible (components_by (shape_of_type c.args.types.now c.args.below) c.args.components.now) (names_of c.args.components.now) c.args.found.now.items c.args.unknown.now.items _ _ c.take.new.error c.in_err-take.ensures.kind (call_keeps c.in_ok-other.ensures.reads) _)
 
 pub decode_set_component-returns-in_default-clause-next : goal.decode_set_component-returns-in_default-clause-next
 decode_set_component-returns-in_default-clause-next g t c =
-    unknown_kept _ c.args.extensible (components_by (shape_of_type c.args.types.now c.args.below) c.args.components.now) (names_of c.args.components.now) c.args.found.now.items c.args.unknown.now.items _ _ c.in_ok-tag.tag c.in_ok-tag.ensures.next c.in_default.ensures (search rules) c.in_ok-other.other c.in_ok-other.ensures.reads _ c.in_ok-append.ensures.ok
+    unknown_kept _ c.args.extensible (components_by (shape_of_type c.args.types.now c.args.below) c.args.components.now) (names_of c.args.components.now) c.args.found.now.items c.args.unknown.now.items _ _ c.in_ok-tag.tag c.in_ok-tag.ensures.next c.in_default.ensures (search rules) c.in_ok-other.other c.in_ok-other.ensures.reads _ c.in_ok-take.ensures.ok
 
 pub decode_set_component-returns-in_default-clause-octets : goal.decode_set_component-returns-in_default-clause-octets
-decode_set_component-returns-in_default-clause-octets g t c = λ k h. each_more AreOctets c.args.unknown.now.items _ c.in_ok-other.other (c.in_ok-append.ensures.ok k) h c.in_ok-other.ensures.fits
+decode_set_component-returns-in_default-clause-octets g t c = λ k h. each_more AreOctets c.args.unknown.now.items _ c.in_ok-other.other (c.in_ok-take.ensures.ok k) h c.in_ok-other.ensures.fits
 
 pub decode_set_component-decode_present-requires : goal.decode_set_component-decode_present-requires
 decode_set_component-decode_present-requires g t c = λ κs o. (search rules, (search rules, (part_lawful (shape_of_type c.args.types.now c.args.below) c.args.components.now c.in-Some.number c.in-Some.component.now c.requires.1.1.1.0 c.in-Some.ensures.0, c.requires.1.1.1.1.1.0)))
@@ -860,10 +851,10 @@ decode_set_component-returns-in_err-other-clause-told g t c =
     (unknown_there f c.args.extensible c.args.components.now c.args.other_id.0 c.args.decoder.now extends (c.in_ok-tag.tag, c.in_ok-tag.ensures.next, c.in_default.ensures)) kind x)
     c.decode_unknown_component.new.walk.error _ (c.in_err-other.ensures.told c.args.types.now (c.requires.1.1.1.1.1.1 extends)))
 
-pub decode_set_component-returns-in_err-append-clause-told : goal.decode_set_component-returns-in_err-append-clause-told
-decode_set_component-returns-in_err-append-clause-told g t c =
+pub decode_set_component-returns-in_err-take-clause-told : goal.decode_set_component-returns-in_err-take-clause-told
+decode_set_component-returns-in_err-take-clause-told g t c =
     let extends : c.args.extensible ≡ true = search rules in
-    rw (residual _ c.from_residual-in_err-append.ensures.1) (λ x q. absurd (not_named _ x q (c.in_ok-other.ensures.told c.args.types.now (c.requires.1.1.1.1.1.1 extends))))
+    rw (residual _ c.from_residual-in_err-take.ensures.1) (λ x q. absurd (not_named _ x q (c.in_ok-other.ensures.told c.args.types.now (c.requires.1.1.1.1.1.1 extends))))
 
 pub decode_set_component-returns-in_default-clause-told : goal.decode_set_component-returns-in_default-clause-told
 decode_set_component-returns-in_default-clause-told g t c =
@@ -1016,9 +1007,9 @@ decode_set_components-returns-in_err-values-clause-itself g t c =
     let k = c.loop-other_id.invariant.0.4 in
     rw (residual _ c.from_residual-in_err-values.ensures.1) (λ n. inr (k.0, k.1, c.loop-other_id.decoder, k.2, inl c.loop-other_id-test.ensures))
 
-pub decode_set_components-returns-in_err-append-clause-itself : goal.decode_set_components-returns-in_err-append-clause-itself
-decode_set_components-returns-in_err-append-clause-itself g t c =
-    rw (residual _ c.from_residual-in_err-append.ensures.1) (λ n. inl c.in_err-append.ensures.kind)
+pub decode_set_components-returns-in_err-take-clause-itself : goal.decode_set_components-returns-in_err-take-clause-itself
+decode_set_components-returns-in_err-take-clause-itself g t c =
+    rw (residual _ c.from_residual-in_err-take.ensures.1) (λ n. inl c.in_err-take.ensures.kind)
 
 pub decode_set_component-returns-in_err-tag-clause-itself : goal.decode_set_component-returns-in_err-tag-clause-itself
 decode_set_component-returns-in_err-tag-clause-itself g t c =
@@ -1034,9 +1025,9 @@ decode_set_component-returns-in_err-other-clause-itself g t c =
     let w = c.in_err-other.ensures.told c.args.types.now (c.requires.1.1.1.1.1.1 extends) in
     rw (residual _ c.from_residual-in_err-other.ensures.1) (λ n. absurd (not_named _ w.0 w.1 n))
 
-pub decode_set_component-returns-in_err-append-clause-itself : goal.decode_set_component-returns-in_err-append-clause-itself
-decode_set_component-returns-in_err-append-clause-itself g t c =
-    rw (residual _ c.from_residual-in_err-append.ensures.1) (λ n. inr (inr (inl c.in_err-append.ensures.kind)))
+pub decode_set_component-returns-in_err-take-clause-itself : goal.decode_set_component-returns-in_err-take-clause-itself
+decode_set_component-returns-in_err-take-clause-itself g t c =
+    rw (residual _ c.from_residual-in_err-take.ensures.1) (λ n. inr (inr (inl c.in_err-take.ensures.kind)))
 
 pub decode_set_component-returns-in_err-decode_present-clause-itself : goal.decode_set_component-returns-in_err-decode_present-clause-itself
 decode_set_component-returns-in_err-decode_present-clause-itself g t c =
@@ -1172,7 +1163,7 @@ decode_type-returns-in-Choice g t c = record {
   reads = subst (λ z. Making g.M.Made.KEEP tree_of (DecodesTree (type_by (shape_of_type c.args.types.now c.args.below) z)) c.args.decoder.now (outcome c.decode_choice.result c.decode_choice.new.out c.decode_choice.new.walk.error) c.decode_choice.new.decoder) (sym c.in-Choice.is) (subst (λ l. Making g.M.Made.KEEP tree_of (DecodesTree (choice_among (alternatives_by (shape_of_type c.args.types.now c.args.below) l))) c.args.decoder.now (outcome c.decode_choice.result c.decode_choice.new.out c.decode_choice.new.walk.error) c.decode_choice.new.decoder) c.deref-in-Choice.ensures.value c.decode_choice.ensures.reads);
   told = told_map _ _ (λ k f i. subst (λ n. IsFaultOf c.args.types.now c.args.below n c.args.decoder.now k f) (sym c.in-Choice.is)
       (c.args.decoder.now, refl, subst (λ l. IsFaultIn c.args.types.now c.args.below (IsAlternativeAt (shape_of_type c.args.types.now c.args.below) l c.args.decoder.now) c.args.decoder.now c.args.decoder.now k f) c.deref-in-Choice.ensures.value i)) _ _ c.decode_choice.ensures.told;
-  itself = itself_choice (shape_of_type c.args.types.now c.args.below) c.args.ty.now c.args.decoder.now c.args.decoder.now _ c.in-Choice.name c.in-Choice.alternatives _ c.in-Choice.is c.deref-in-Choice.ensures.value _ c.decode_choice.ensures.itself;
+  itself = itself_choice (shape_of_type c.args.types.now c.args.below) c.args.ty.now c.args.decoder.now _ c.in-Choice.name c.in-Choice.alternatives _ c.in-Choice.is c.deref-in-Choice.ensures.value _ c.decode_choice.ensures.itself;
   listed = if_ok _ _ _ (λ v. choice_listed (shape_of_type c.args.types.now c.args.below) c.args.below (Inside c.args.types.now c.args.below) c.args.ty.now c.deref-in-Choice.result.now c.args.decoder.now _ _ (rw c.in-Choice.is c.deref-in-Choice.ensures.value)) c.decode_choice.ensures.listed;
   rules = c.decode_choice.ensures.rules;
 }
