@@ -40,4 +40,3 @@ pub mod SetWritten
 pub mod AllMembers
 pub mod Members
 pub mod ShortHeader
-pub mod AtDepth

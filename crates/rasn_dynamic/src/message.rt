@@ -8,7 +8,7 @@ use crate::locate::{out_of_memory, read_first};
 use crate::made::Nothing;
 use crate::part::{Part, part_header};
 use crate::refusal::Refusal;
-use crate::span::{Span, finish, new_list, note};
+use crate::span::{Span, finish, list_of, new_list, note};
 use rasn_schema::{Schema, TypeId};
 use rasn_types::error::{DecodeError, DecodeErrorKind};
 use rasn_types::types::Codec;
@@ -61,7 +61,7 @@ pub fn parts_of<'input>(
         Ok((value, rest)) => {
             drop(value);
             finish(&mut spans, place, rest);
-            match spans.list {
+            match list_of(spans) {
                 Some(list) => Ok(MessageParts {
                     list,
                     input,
@@ -76,16 +76,11 @@ pub fn parts_of<'input>(
 }
 
 /// Makes the path of a part of that of the part before it: the part is in so many others.
-#[tactic(auto, using(crate::proofs::AtDepth::same_depth))]
 fn go_along(path: &mut Vec<usize>, depth: usize, index: usize) -> Result<(), AllocError>
     ensures { OnOk result (path.new.items ≡ path_at_depth depth path.old.items index) }
 {
     if depth == 0 {
         path.truncate(0);
-        return Ok(());
-    }
-    if path.len() == depth {
-        path[depth - 1] = index;
         return Ok(());
     }
     path.truncate(depth - 1);

@@ -165,3 +165,10 @@ pub fn go_outside(spans: &mut Spans<'_>, after: usize)
 {
     spans.after = after;
 }
+
+/// Returns the list.
+pub fn list_of<'input>(spans: Spans<'input>) -> Option<Vec<Span<'input>>>
+    ensures { result ≡ spans.entry.list }
+{
+    spans.list
+}
