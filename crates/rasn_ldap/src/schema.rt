@@ -112,7 +112,7 @@ pub const TYPES: &[StaticType] = &[
     },
     StaticType::SequenceOf {
         tag: Tag::SEQUENCE,
-        element: TypeId(39),
+        element: TypeId(38),
         constraints: Constraints::NONE,
     },
     StaticType::Leaf {
@@ -180,7 +180,7 @@ pub const TYPES: &[StaticType] = &[
     },
     StaticType::SequenceOf {
         tag: Tag::SEQUENCE,
-        element: TypeId(44),
+        element: TypeId(43),
         constraints: Constraints {
             value: None,
             size: Some(Bound {
@@ -321,7 +321,7 @@ pub const TYPES: &[StaticType] = &[
             }),
         },
     },
-    StaticType::SetOf {
+    StaticType::SequenceOf {
         tag: Tag::SET,
         element: TypeId(56),
         constraints: Constraints {
@@ -334,11 +334,6 @@ pub const TYPES: &[StaticType] = &[
                 extensible: false,
             }),
         },
-    },
-    StaticType::SetOf {
-        tag: Tag::SET,
-        element: TypeId(56),
-        constraints: Constraints::NONE,
     },
     StaticType::Sequence {
         tag: Tag {
@@ -372,7 +367,7 @@ pub const TYPES: &[StaticType] = &[
             StaticComponent {
                 name: "resultCode",
                 presence: StaticPresence::Required,
-                type_id: TypeId(50),
+                type_id: TypeId(49),
             },
             StaticComponent {
                 name: "matchedDN",
@@ -487,7 +482,7 @@ pub const TYPES: &[StaticType] = &[
     },
     StaticType::SequenceOf {
         tag: Tag::SEQUENCE,
-        element: TypeId(52),
+        element: TypeId(51),
         constraints: Constraints::NONE,
     },
     StaticType::Sequence {
@@ -504,7 +499,7 @@ pub const TYPES: &[StaticType] = &[
             StaticComponent {
                 name: "attributes",
                 presence: StaticPresence::Required,
-                type_id: TypeId(37),
+                type_id: TypeId(36),
             },
             StaticComponent {
                 name: "...",
@@ -524,7 +519,7 @@ pub const TYPES: &[StaticType] = &[
             StaticComponent {
                 name: "modification",
                 presence: StaticPresence::Required,
-                type_id: TypeId(53),
+                type_id: TypeId(52),
             },
             StaticComponent {
                 name: "...",
@@ -558,7 +553,7 @@ pub const TYPES: &[StaticType] = &[
     },
     StaticType::SequenceOf {
         tag: Tag::SEQUENCE,
-        element: TypeId(53),
+        element: TypeId(52),
         constraints: Constraints::NONE,
     },
     StaticType::Sequence {
@@ -575,7 +570,7 @@ pub const TYPES: &[StaticType] = &[
             StaticComponent {
                 name: "attributes",
                 presence: StaticPresence::Required,
-                type_id: TypeId(41),
+                type_id: TypeId(40),
             },
             StaticComponent {
                 name: "...",
@@ -664,7 +659,7 @@ pub const TYPES: &[StaticType] = &[
             StaticComponent {
                 name: "resultCode",
                 presence: StaticPresence::Required,
-                type_id: TypeId(50),
+                type_id: TypeId(49),
             },
             StaticComponent {
                 name: "matchedDN",
@@ -729,7 +724,7 @@ pub const TYPES: &[StaticType] = &[
             StaticComponent {
                 name: "authentication",
                 presence: StaticPresence::Required,
-                type_id: TypeId(47),
+                type_id: TypeId(46),
             },
             StaticComponent {
                 name: "...",
@@ -932,7 +927,7 @@ pub const TYPES: &[StaticType] = &[
             StaticComponent {
                 name: "resultCode",
                 presence: StaticPresence::Required,
-                type_id: TypeId(50),
+                type_id: TypeId(49),
             },
             StaticComponent {
                 name: "matchedDN",
@@ -987,7 +982,7 @@ pub const TYPES: &[StaticType] = &[
             StaticComponent {
                 name: "vals",
                 presence: StaticPresence::Required,
-                type_id: TypeId(31),
+                type_id: TypeId(53),
             },
             StaticComponent {
                 name: "...",
@@ -995,6 +990,11 @@ pub const TYPES: &[StaticType] = &[
                 type_id: TypeId(59),
             },
         ],
+    },
+    StaticType::SequenceOf {
+        tag: Tag::SET,
+        element: TypeId(56),
+        constraints: Constraints::NONE,
     },
     StaticType::Leaf {
         kind: LeafKind::OctetString,
@@ -1063,6 +1063,16 @@ impl HasSchema for crate::SearchRequestDerefAliases {
 }
 
 impl HasSchema for crate::IntermediateResponse {
+    ghost ID = { 31 };
+
+    const ID: usize = 31;
+
+    fn types() -> &'static [StaticType] {
+        TYPES
+    }
+}
+
+impl HasSchema for crate::ExtendedResponse {
     ghost ID = { 32 };
 
     const ID: usize = 32;
@@ -1072,7 +1082,7 @@ impl HasSchema for crate::IntermediateResponse {
     }
 }
 
-impl HasSchema for crate::ExtendedResponse {
+impl HasSchema for crate::ExtendedRequest {
     ghost ID = { 33 };
 
     const ID: usize = 33;
@@ -1082,7 +1092,7 @@ impl HasSchema for crate::ExtendedResponse {
     }
 }
 
-impl HasSchema for crate::ExtendedRequest {
+impl HasSchema for crate::CompareRequest {
     ghost ID = { 34 };
 
     const ID: usize = 34;
@@ -1092,7 +1102,7 @@ impl HasSchema for crate::ExtendedRequest {
     }
 }
 
-impl HasSchema for crate::CompareRequest {
+impl HasSchema for crate::ModifyDnRequest {
     ghost ID = { 35 };
 
     const ID: usize = 35;
@@ -1102,20 +1112,10 @@ impl HasSchema for crate::CompareRequest {
     }
 }
 
-impl HasSchema for crate::ModifyDnRequest {
-    ghost ID = { 36 };
-
-    const ID: usize = 36;
-
-    fn types() -> &'static [StaticType] {
-        TYPES
-    }
-}
-
 impl HasSchema for crate::AddRequest {
-    ghost ID = { 38 };
+    ghost ID = { 37 };
 
-    const ID: usize = 38;
+    const ID: usize = 37;
 
     fn types() -> &'static [StaticType] {
         TYPES
@@ -1123,9 +1123,9 @@ impl HasSchema for crate::AddRequest {
 }
 
 impl HasSchema for crate::ModifyRequest {
-    ghost ID = { 40 };
+    ghost ID = { 39 };
 
-    const ID: usize = 40;
+    const ID: usize = 39;
 
     fn types() -> &'static [StaticType] {
         TYPES
@@ -1133,6 +1133,16 @@ impl HasSchema for crate::ModifyRequest {
 }
 
 impl HasSchema for crate::SearchResultEntry {
+    ghost ID = { 41 };
+
+    const ID: usize = 41;
+
+    fn types() -> &'static [StaticType] {
+        TYPES
+    }
+}
+
+impl HasSchema for crate::MatchingRuleAssertion {
     ghost ID = { 42 };
 
     const ID: usize = 42;
@@ -1142,17 +1152,17 @@ impl HasSchema for crate::SearchResultEntry {
     }
 }
 
-impl HasSchema for crate::MatchingRuleAssertion {
-    ghost ID = { 43 };
+impl HasSchema for crate::SubstringFilter {
+    ghost ID = { 44 };
 
-    const ID: usize = 43;
+    const ID: usize = 44;
 
     fn types() -> &'static [StaticType] {
         TYPES
     }
 }
 
-impl HasSchema for crate::SubstringFilter {
+impl HasSchema for crate::BindResponse {
     ghost ID = { 45 };
 
     const ID: usize = 45;
@@ -1162,17 +1172,17 @@ impl HasSchema for crate::SubstringFilter {
     }
 }
 
-impl HasSchema for crate::BindResponse {
-    ghost ID = { 46 };
+impl HasSchema for crate::BindRequest {
+    ghost ID = { 47 };
 
-    const ID: usize = 46;
+    const ID: usize = 47;
 
     fn types() -> &'static [StaticType] {
         TYPES
     }
 }
 
-impl HasSchema for crate::BindRequest {
+impl HasSchema for crate::Control {
     ghost ID = { 48 };
 
     const ID: usize = 48;
@@ -1182,20 +1192,10 @@ impl HasSchema for crate::BindRequest {
     }
 }
 
-impl HasSchema for crate::Control {
-    ghost ID = { 49 };
-
-    const ID: usize = 49;
-
-    fn types() -> &'static [StaticType] {
-        TYPES
-    }
-}
-
 impl HasSchema for crate::LdapResult {
-    ghost ID = { 51 };
+    ghost ID = { 50 };
 
-    const ID: usize = 51;
+    const ID: usize = 50;
 
     fn types() -> &'static [StaticType] {
         TYPES

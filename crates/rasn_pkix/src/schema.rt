@@ -5,376 +5,7 @@ use rasn_schema_static::prelude::*;
 /// that are alternatives of it, and what this crate has as open types is open.
 pub const TYPES: &[StaticType] = &[
     StaticType::Any { tag: Tag::EOC },
-    StaticType::Leaf {
-        kind: LeafKind::Printable,
-        tag: Tag::PRINTABLE_STRING,
-        constraints: Constraints {
-            value: None,
-            size: Some(Bound {
-                constraint: Bounded::Range {
-                    start: Some(0),
-                    end: Some(16),
-                },
-                extensible: false,
-            }),
-        },
-        names: &[],
-    },
-    StaticType::Leaf {
-        kind: LeafKind::Numeric,
-        tag: Tag::NUMERIC_STRING,
-        constraints: Constraints {
-            value: None,
-            size: Some(Bound {
-                constraint: Bounded::Range {
-                    start: Some(0),
-                    end: Some(16),
-                },
-                extensible: false,
-            }),
-        },
-        names: &[],
-    },
-    StaticType::Leaf {
-        kind: LeafKind::Printable,
-        tag: Tag::PRINTABLE_STRING,
-        constraints: Constraints {
-            value: None,
-            size: Some(Bound {
-                constraint: Bounded::Range {
-                    start: Some(2),
-                    end: Some(2),
-                },
-                extensible: false,
-            }),
-        },
-        names: &[],
-    },
-    StaticType::Leaf {
-        kind: LeafKind::Numeric,
-        tag: Tag::NUMERIC_STRING,
-        constraints: Constraints {
-            value: None,
-            size: Some(Bound {
-                constraint: Bounded::Range {
-                    start: Some(3),
-                    end: Some(3),
-                },
-                extensible: false,
-            }),
-        },
-        names: &[],
-    },
     StaticType::Any { tag: Tag::EOC },
-    StaticType::Any { tag: Tag::EOC },
-    StaticType::Tagged {
-        tag: Tag {
-            class: Class::Context,
-            value: 1,
-        },
-        inner: TypeId(0),
-    },
-    StaticType::Leaf {
-        kind: LeafKind::Integer,
-        tag: Tag {
-            class: Class::Context,
-            value: 0,
-        },
-        constraints: Constraints {
-            value: Some(Bound {
-                constraint: Bounded::Range {
-                    start: Some(0),
-                    end: Some(256),
-                },
-                extensible: false,
-            }),
-            size: None,
-        },
-        names: &[],
-    },
-    StaticType::Leaf {
-        kind: LeafKind::Printable,
-        tag: Tag::PRINTABLE_STRING,
-        constraints: Constraints {
-            value: None,
-            size: Some(Bound {
-                constraint: Bounded::Range {
-                    start: Some(1),
-                    end: Some(128),
-                },
-                extensible: false,
-            }),
-        },
-        names: &[],
-    },
-    StaticType::Leaf {
-        kind: LeafKind::Printable,
-        tag: Tag::PRINTABLE_STRING,
-        constraints: Constraints {
-            value: None,
-            size: Some(Bound {
-                constraint: Bounded::Range {
-                    start: Some(1),
-                    end: Some(8),
-                },
-                extensible: false,
-            }),
-        },
-        names: &[],
-    },
-    StaticType::Leaf {
-        kind: LeafKind::Printable,
-        tag: Tag {
-            class: Class::Context,
-            value: 3,
-        },
-        constraints: Constraints {
-            value: None,
-            size: Some(Bound {
-                constraint: Bounded::Range {
-                    start: Some(1),
-                    end: Some(3),
-                },
-                extensible: false,
-            }),
-        },
-        names: &[],
-    },
-    StaticType::Leaf {
-        kind: LeafKind::Printable,
-        tag: Tag {
-            class: Class::Context,
-            value: 2,
-        },
-        constraints: Constraints {
-            value: None,
-            size: Some(Bound {
-                constraint: Bounded::Range {
-                    start: Some(1),
-                    end: Some(5),
-                },
-                extensible: false,
-            }),
-        },
-        names: &[],
-    },
-    StaticType::Leaf {
-        kind: LeafKind::Printable,
-        tag: Tag {
-            class: Class::Context,
-            value: 1,
-        },
-        constraints: Constraints {
-            value: None,
-            size: Some(Bound {
-                constraint: Bounded::Range {
-                    start: Some(1),
-                    end: Some(16),
-                },
-                extensible: false,
-            }),
-        },
-        names: &[],
-    },
-    StaticType::Leaf {
-        kind: LeafKind::Printable,
-        tag: Tag {
-            class: Class::Context,
-            value: 0,
-        },
-        constraints: Constraints {
-            value: None,
-            size: Some(Bound {
-                constraint: Bounded::Range {
-                    start: Some(1),
-                    end: Some(40),
-                },
-                extensible: false,
-            }),
-        },
-        names: &[],
-    },
-    StaticType::Leaf {
-        kind: LeafKind::Printable,
-        tag: Tag::PRINTABLE_STRING,
-        constraints: Constraints {
-            value: None,
-            size: Some(Bound {
-                constraint: Bounded::Range {
-                    start: Some(1),
-                    end: Some(16),
-                },
-                extensible: false,
-            }),
-        },
-        names: &[],
-    },
-    StaticType::Leaf {
-        kind: LeafKind::Numeric,
-        tag: Tag::NUMERIC_STRING,
-        constraints: Constraints {
-            value: None,
-            size: Some(Bound {
-                constraint: Bounded::Range {
-                    start: Some(1),
-                    end: Some(16),
-                },
-                extensible: false,
-            }),
-        },
-        names: &[],
-    },
-    StaticType::Choice {
-        name: "AdministrationDomainName",
-        alternatives: &[
-            StaticAlternative {
-                name: "numeric",
-                type_id: TypeId(2),
-            },
-            StaticAlternative {
-                name: "printable",
-                type_id: TypeId(1),
-            },
-        ],
-    },
-    StaticType::Choice {
-        name: "CountryName",
-        alternatives: &[
-            StaticAlternative {
-                name: "x121-dcc-code",
-                type_id: TypeId(4),
-            },
-            StaticAlternative {
-                name: "iso-3166-alpha2-code",
-                type_id: TypeId(3),
-            },
-        ],
-    },
-    StaticType::SequenceOf {
-        tag: Tag {
-            class: Class::Context,
-            value: 6,
-        },
-        element: TypeId(76),
-        constraints: Constraints {
-            value: None,
-            size: Some(Bound {
-                constraint: Bounded::Range {
-                    start: Some(1),
-                    end: Some(4),
-                },
-                extensible: false,
-            }),
-        },
-    },
-    StaticType::Set {
-        name: "PersonalName",
-        tag: Tag {
-            class: Class::Context,
-            value: 5,
-        },
-        components: &[
-            StaticComponent {
-                name: "surname",
-                presence: StaticPresence::Required,
-                type_id: TypeId(14),
-            },
-            StaticComponent {
-                name: "given-name",
-                presence: StaticPresence::Optional,
-                type_id: TypeId(13),
-            },
-            StaticComponent {
-                name: "initials",
-                presence: StaticPresence::Optional,
-                type_id: TypeId(12),
-            },
-            StaticComponent {
-                name: "generation-qualifier",
-                presence: StaticPresence::Optional,
-                type_id: TypeId(11),
-            },
-        ],
-    },
-    StaticType::Leaf {
-        kind: LeafKind::Numeric,
-        tag: Tag {
-            class: Class::Context,
-            value: 4,
-        },
-        constraints: Constraints {
-            value: None,
-            size: Some(Bound {
-                constraint: Bounded::Range {
-                    start: Some(1),
-                    end: Some(32),
-                },
-                extensible: false,
-            }),
-        },
-        names: &[],
-    },
-    StaticType::Leaf {
-        kind: LeafKind::Printable,
-        tag: Tag {
-            class: Class::Context,
-            value: 3,
-        },
-        constraints: Constraints {
-            value: None,
-            size: Some(Bound {
-                constraint: Bounded::Range {
-                    start: Some(1),
-                    end: Some(64),
-                },
-                extensible: false,
-            }),
-        },
-        names: &[],
-    },
-    StaticType::Tagged {
-        tag: Tag {
-            class: Class::Context,
-            value: 2,
-        },
-        inner: TypeId(106),
-    },
-    StaticType::Leaf {
-        kind: LeafKind::Printable,
-        tag: Tag {
-            class: Class::Context,
-            value: 1,
-        },
-        constraints: Constraints {
-            value: None,
-            size: Some(Bound {
-                constraint: Bounded::Range {
-                    start: Some(1),
-                    end: Some(24),
-                },
-                extensible: false,
-            }),
-        },
-        names: &[],
-    },
-    StaticType::Leaf {
-        kind: LeafKind::Numeric,
-        tag: Tag {
-            class: Class::Context,
-            value: 0,
-        },
-        constraints: Constraints {
-            value: None,
-            size: Some(Bound {
-                constraint: Bounded::Range {
-                    start: Some(1),
-                    end: Some(16),
-                },
-                extensible: false,
-            }),
-        },
-        names: &[],
-    },
     StaticType::Leaf {
         kind: LeafKind::Integer,
         tag: Tag::INTEGER,
@@ -479,177 +110,31 @@ pub const TYPES: &[StaticType] = &[
             class: Class::Context,
             value: 1,
         },
-        inner: TypeId(107),
+        inner: TypeId(62),
     },
     StaticType::Tagged {
         tag: Tag {
             class: Class::Context,
             value: 0,
         },
-        inner: TypeId(108),
+        inner: TypeId(63),
     },
     StaticType::Tagged {
         tag: Tag {
             class: Class::Context,
             value: 0,
         },
-        inner: TypeId(5),
+        inner: TypeId(0),
     },
     StaticType::Leaf {
         kind: LeafKind::ObjectIdentifier,
         tag: Tag::OBJECT_IDENTIFIER,
-        constraints: Constraints::NONE,
-        names: &[],
-    },
-    StaticType::Leaf {
-        kind: LeafKind::ObjectIdentifier,
-        tag: Tag {
-            class: Class::Context,
-            value: 8,
-        },
-        constraints: Constraints::NONE,
-        names: &[],
-    },
-    StaticType::Leaf {
-        kind: LeafKind::OctetString,
-        tag: Tag {
-            class: Class::Context,
-            value: 7,
-        },
-        constraints: Constraints::NONE,
-        names: &[],
-    },
-    StaticType::Leaf {
-        kind: LeafKind::Ia5,
-        tag: Tag {
-            class: Class::Context,
-            value: 6,
-        },
-        constraints: Constraints::NONE,
-        names: &[],
-    },
-    StaticType::Sequence {
-        tag: Tag {
-            class: Class::Context,
-            value: 5,
-        },
-        components: &[
-            StaticComponent {
-                name: "nameAssigner",
-                presence: StaticPresence::Optional,
-                type_id: TypeId(34),
-            },
-            StaticComponent {
-                name: "partyName",
-                presence: StaticPresence::Required,
-                type_id: TypeId(33),
-            },
-        ],
-    },
-    StaticType::Tagged {
-        tag: Tag {
-            class: Class::Context,
-            value: 4,
-        },
-        inner: TypeId(109),
-    },
-    StaticType::Sequence {
-        tag: Tag {
-            class: Class::Context,
-            value: 3,
-        },
-        components: &[
-            StaticComponent {
-                name: "built-in-standard-attributes",
-                presence: StaticPresence::Required,
-                type_id: TypeId(79),
-            },
-            StaticComponent {
-                name: "built-in-domain-defined-attributes",
-                presence: StaticPresence::Optional,
-                type_id: TypeId(75),
-            },
-            StaticComponent {
-                name: "extension-attributes",
-                presence: StaticPresence::Optional,
-                type_id: TypeId(73),
-            },
-        ],
-    },
-    StaticType::Leaf {
-        kind: LeafKind::Ia5,
-        tag: Tag {
-            class: Class::Context,
-            value: 2,
-        },
-        constraints: Constraints::NONE,
-        names: &[],
-    },
-    StaticType::Leaf {
-        kind: LeafKind::Ia5,
-        tag: Tag {
-            class: Class::Context,
-            value: 1,
-        },
-        constraints: Constraints::NONE,
-        names: &[],
-    },
-    StaticType::Sequence {
-        tag: Tag {
-            class: Class::Context,
-            value: 0,
-        },
-        components: &[
-            StaticComponent {
-                name: "type-id",
-                presence: StaticPresence::Required,
-                type_id: TypeId(36),
-            },
-            StaticComponent {
-                name: "value",
-                presence: StaticPresence::Required,
-                type_id: TypeId(35),
-            },
-        ],
-    },
-    StaticType::Leaf {
-        kind: LeafKind::Integer,
-        tag: Tag {
-            class: Class::Context,
-            value: 2,
-        },
-        constraints: Constraints::NONE,
-        names: &[],
-    },
-    StaticType::SequenceOf {
-        tag: Tag {
-            class: Class::Context,
-            value: 1,
-        },
-        element: TypeId(83),
-        constraints: Constraints {
-            value: None,
-            size: Some(Bound {
-                constraint: Bounded::Range {
-                    start: Some(1),
-                    end: None,
-                },
-                extensible: false,
-            }),
-        },
-    },
-    StaticType::Leaf {
-        kind: LeafKind::OctetString,
-        tag: Tag {
-            class: Class::Context,
-            value: 0,
-        },
         constraints: Constraints::NONE,
         names: &[],
     },
     StaticType::SetOf {
         tag: Tag::SET,
-        element: TypeId(6),
+        element: TypeId(1),
         constraints: Constraints {
             value: None,
             size: Some(Bound {
@@ -672,7 +157,7 @@ pub const TYPES: &[StaticType] = &[
             class: Class::Context,
             value: 0,
         },
-        element: TypeId(86),
+        element: TypeId(42),
         constraints: Constraints::NONE,
     },
     StaticType::Leaf {
@@ -695,11 +180,11 @@ pub const TYPES: &[StaticType] = &[
             class: Class::Context,
             value: 0,
         },
-        inner: TypeId(93),
+        inner: TypeId(49),
     },
     StaticType::SequenceOf {
         tag: Tag::SEQUENCE,
-        element: TypeId(89),
+        element: TypeId(45),
         constraints: Constraints::NONE,
     },
     StaticType::Leaf {
@@ -763,7 +248,7 @@ pub const TYPES: &[StaticType] = &[
             class: Class::Context,
             value: 3,
         },
-        inner: TypeId(93),
+        inner: TypeId(49),
     },
     StaticType::Leaf {
         kind: LeafKind::BitString,
@@ -788,150 +273,13 @@ pub const TYPES: &[StaticType] = &[
             class: Class::Context,
             value: 0,
         },
-        inner: TypeId(103),
+        inner: TypeId(59),
     },
     StaticType::Leaf {
         kind: LeafKind::BitString,
         tag: Tag::BIT_STRING,
         constraints: Constraints::NONE,
         names: &[],
-    },
-    StaticType::Sequence {
-        tag: Tag::SEQUENCE,
-        components: &[
-            StaticComponent {
-                name: "extension-attribute-type",
-                presence: StaticPresence::Required,
-                type_id: TypeId(8),
-            },
-            StaticComponent {
-                name: "extension-attribute-value",
-                presence: StaticPresence::Required,
-                type_id: TypeId(7),
-            },
-        ],
-    },
-    StaticType::SetOf {
-        tag: Tag::SET,
-        element: TypeId(72),
-        constraints: Constraints {
-            value: None,
-            size: Some(Bound {
-                constraint: Bounded::Range {
-                    start: Some(1),
-                    end: Some(256),
-                },
-                extensible: false,
-            }),
-        },
-    },
-    StaticType::Sequence {
-        tag: Tag::SEQUENCE,
-        components: &[
-            StaticComponent {
-                name: "type",
-                presence: StaticPresence::Required,
-                type_id: TypeId(10),
-            },
-            StaticComponent {
-                name: "value",
-                presence: StaticPresence::Required,
-                type_id: TypeId(9),
-            },
-        ],
-    },
-    StaticType::SequenceOf {
-        tag: Tag::SEQUENCE,
-        element: TypeId(74),
-        constraints: Constraints {
-            value: None,
-            size: Some(Bound {
-                constraint: Bounded::Range {
-                    start: Some(1),
-                    end: Some(4),
-                },
-                extensible: false,
-            }),
-        },
-    },
-    StaticType::Leaf {
-        kind: LeafKind::Printable,
-        tag: Tag::PRINTABLE_STRING,
-        constraints: Constraints {
-            value: None,
-            size: Some(Bound {
-                constraint: Bounded::Range {
-                    start: Some(1),
-                    end: Some(32),
-                },
-                extensible: false,
-            }),
-        },
-        names: &[],
-    },
-    StaticType::Tagged {
-        tag: Tag {
-            class: Class::Application,
-            value: 2,
-        },
-        inner: TypeId(17),
-    },
-    StaticType::Tagged {
-        tag: Tag {
-            class: Class::Application,
-            value: 1,
-        },
-        inner: TypeId(18),
-    },
-    StaticType::Sequence {
-        tag: Tag::SEQUENCE,
-        components: &[
-            StaticComponent {
-                name: "country-name",
-                presence: StaticPresence::Optional,
-                type_id: TypeId(78),
-            },
-            StaticComponent {
-                name: "administration-domain-name",
-                presence: StaticPresence::Optional,
-                type_id: TypeId(77),
-            },
-            StaticComponent {
-                name: "network-address",
-                presence: StaticPresence::Optional,
-                type_id: TypeId(25),
-            },
-            StaticComponent {
-                name: "terminal-identifier",
-                presence: StaticPresence::Optional,
-                type_id: TypeId(24),
-            },
-            StaticComponent {
-                name: "private-domain-name",
-                presence: StaticPresence::Optional,
-                type_id: TypeId(23),
-            },
-            StaticComponent {
-                name: "organization-name",
-                presence: StaticPresence::Optional,
-                type_id: TypeId(22),
-            },
-            StaticComponent {
-                name: "numeric-user-identifier",
-                presence: StaticPresence::Optional,
-                type_id: TypeId(21),
-            },
-            StaticComponent {
-                name: "personal-name",
-                presence: StaticPresence::Optional,
-                type_id: TypeId(20),
-            },
-            StaticComponent {
-                name: "organizational-unit-names",
-                presence: StaticPresence::Optional,
-                type_id: TypeId(19),
-            },
-        ],
     },
     StaticType::Leaf {
         kind: LeafKind::ObjectIdentifier,
@@ -941,7 +289,7 @@ pub const TYPES: &[StaticType] = &[
     },
     StaticType::SequenceOf {
         tag: Tag::SEQUENCE,
-        element: TypeId(80),
+        element: TypeId(36),
         constraints: Constraints {
             value: None,
             size: Some(Bound {
@@ -959,53 +307,42 @@ pub const TYPES: &[StaticType] = &[
             StaticComponent {
                 name: "cA",
                 presence: StaticPresence::Default(StaticValue::Boolean(false)),
-                type_id: TypeId(27),
+                type_id: TypeId(3),
             },
             StaticComponent {
                 name: "pathLenConstraint",
                 presence: StaticPresence::Optional,
-                type_id: TypeId(26),
+                type_id: TypeId(2),
             },
         ],
     },
-    StaticType::Choice {
-        name: "GeneralName",
-        alternatives: &[
-            StaticAlternative {
-                name: "otherName",
-                type_id: TypeId(45),
+    StaticType::Sequence {
+        tag: Tag::SEQUENCE,
+        components: &[
+            StaticComponent {
+                name: "nameAssigner",
+                presence: StaticPresence::Optional,
+                type_id: TypeId(10),
             },
-            StaticAlternative {
-                name: "rfc822Name",
-                type_id: TypeId(44),
+            StaticComponent {
+                name: "partyName",
+                presence: StaticPresence::Required,
+                type_id: TypeId(9),
             },
-            StaticAlternative {
-                name: "dNSName",
-                type_id: TypeId(43),
+        ],
+    },
+    StaticType::Sequence {
+        tag: Tag::SEQUENCE,
+        components: &[
+            StaticComponent {
+                name: "type-id",
+                presence: StaticPresence::Required,
+                type_id: TypeId(12),
             },
-            StaticAlternative {
-                name: "x400Address",
-                type_id: TypeId(42),
-            },
-            StaticAlternative {
-                name: "directoryName",
-                type_id: TypeId(41),
-            },
-            StaticAlternative {
-                name: "ediPartyName",
-                type_id: TypeId(40),
-            },
-            StaticAlternative {
-                name: "uniformResourceIdentifier",
-                type_id: TypeId(39),
-            },
-            StaticAlternative {
-                name: "iPAddress",
-                type_id: TypeId(38),
-            },
-            StaticAlternative {
-                name: "registeredID",
-                type_id: TypeId(37),
+            StaticComponent {
+                name: "value",
+                presence: StaticPresence::Required,
+                type_id: TypeId(11),
             },
         ],
     },
@@ -1056,34 +393,14 @@ pub const TYPES: &[StaticType] = &[
         tag: Tag::SEQUENCE,
         components: &[
             StaticComponent {
-                name: "keyIdentifier",
-                presence: StaticPresence::Optional,
-                type_id: TypeId(48),
-            },
-            StaticComponent {
-                name: "authorityCertIssuer",
-                presence: StaticPresence::Optional,
-                type_id: TypeId(47),
-            },
-            StaticComponent {
-                name: "authorityCertSerialNumber",
-                presence: StaticPresence::Optional,
-                type_id: TypeId(46),
-            },
-        ],
-    },
-    StaticType::Sequence {
-        tag: Tag::SEQUENCE,
-        components: &[
-            StaticComponent {
                 name: "type",
                 presence: StaticPresence::Required,
-                type_id: TypeId(50),
+                type_id: TypeId(14),
             },
             StaticComponent {
                 name: "values",
                 presence: StaticPresence::Required,
-                type_id: TypeId(49),
+                type_id: TypeId(13),
             },
         ],
     },
@@ -1093,22 +410,22 @@ pub const TYPES: &[StaticType] = &[
             StaticComponent {
                 name: "version",
                 presence: StaticPresence::Required,
-                type_id: TypeId(52),
+                type_id: TypeId(16),
             },
             StaticComponent {
                 name: "subject",
                 presence: StaticPresence::Required,
-                type_id: TypeId(100),
+                type_id: TypeId(56),
             },
             StaticComponent {
                 name: "subjectPKInfo",
                 presence: StaticPresence::Required,
-                type_id: TypeId(94),
+                type_id: TypeId(50),
             },
             StaticComponent {
                 name: "attributes",
                 presence: StaticPresence::Required,
-                type_id: TypeId(51),
+                type_id: TypeId(15),
             },
         ],
     },
@@ -1118,17 +435,17 @@ pub const TYPES: &[StaticType] = &[
             StaticComponent {
                 name: "certificationRequestInfo",
                 presence: StaticPresence::Required,
-                type_id: TypeId(87),
+                type_id: TypeId(43),
             },
             StaticComponent {
                 name: "signatureAlgorithm",
                 presence: StaticPresence::Required,
-                type_id: TypeId(101),
+                type_id: TypeId(57),
             },
             StaticComponent {
                 name: "signature",
                 presence: StaticPresence::Required,
-                type_id: TypeId(53),
+                type_id: TypeId(17),
             },
         ],
     },
@@ -1138,17 +455,17 @@ pub const TYPES: &[StaticType] = &[
             StaticComponent {
                 name: "userCertificate",
                 presence: StaticPresence::Required,
-                type_id: TypeId(102),
+                type_id: TypeId(58),
             },
             StaticComponent {
                 name: "revocationDate",
                 presence: StaticPresence::Required,
-                type_id: TypeId(95),
+                type_id: TypeId(51),
             },
             StaticComponent {
                 name: "crlEntryExtensions",
                 presence: StaticPresence::Optional,
-                type_id: TypeId(93),
+                type_id: TypeId(49),
             },
         ],
     },
@@ -1158,37 +475,37 @@ pub const TYPES: &[StaticType] = &[
             StaticComponent {
                 name: "version",
                 presence: StaticPresence::Optional,
-                type_id: TypeId(103),
+                type_id: TypeId(59),
             },
             StaticComponent {
                 name: "signature",
                 presence: StaticPresence::Required,
-                type_id: TypeId(101),
+                type_id: TypeId(57),
             },
             StaticComponent {
                 name: "issuer",
                 presence: StaticPresence::Required,
-                type_id: TypeId(100),
+                type_id: TypeId(56),
             },
             StaticComponent {
                 name: "thisUpdate",
                 presence: StaticPresence::Required,
-                type_id: TypeId(95),
+                type_id: TypeId(51),
             },
             StaticComponent {
                 name: "nextUpdate",
                 presence: StaticPresence::Optional,
-                type_id: TypeId(95),
+                type_id: TypeId(51),
             },
             StaticComponent {
                 name: "revokedCertificates",
                 presence: StaticPresence::Optional,
-                type_id: TypeId(55),
+                type_id: TypeId(19),
             },
             StaticComponent {
                 name: "crlExtensions",
                 presence: StaticPresence::Optional,
-                type_id: TypeId(54),
+                type_id: TypeId(18),
             },
         ],
     },
@@ -1198,17 +515,17 @@ pub const TYPES: &[StaticType] = &[
             StaticComponent {
                 name: "tbsCertList",
                 presence: StaticPresence::Required,
-                type_id: TypeId(90),
+                type_id: TypeId(46),
             },
             StaticComponent {
                 name: "signatureAlgorithm",
                 presence: StaticPresence::Required,
-                type_id: TypeId(101),
+                type_id: TypeId(57),
             },
             StaticComponent {
                 name: "signatureValue",
                 presence: StaticPresence::Required,
-                type_id: TypeId(56),
+                type_id: TypeId(20),
             },
         ],
     },
@@ -1218,23 +535,23 @@ pub const TYPES: &[StaticType] = &[
             StaticComponent {
                 name: "extnID",
                 presence: StaticPresence::Required,
-                type_id: TypeId(59),
+                type_id: TypeId(23),
             },
             StaticComponent {
                 name: "critical",
                 presence: StaticPresence::Default(StaticValue::Boolean(false)),
-                type_id: TypeId(58),
+                type_id: TypeId(22),
             },
             StaticComponent {
                 name: "extnValue",
                 presence: StaticPresence::Required,
-                type_id: TypeId(57),
+                type_id: TypeId(21),
             },
         ],
     },
     StaticType::SequenceOf {
         tag: Tag::SEQUENCE,
-        element: TypeId(92),
+        element: TypeId(48),
         constraints: Constraints {
             value: None,
             size: Some(Bound {
@@ -1252,12 +569,12 @@ pub const TYPES: &[StaticType] = &[
             StaticComponent {
                 name: "algorithm",
                 presence: StaticPresence::Required,
-                type_id: TypeId(101),
+                type_id: TypeId(57),
             },
             StaticComponent {
                 name: "subjectPublicKey",
                 presence: StaticPresence::Required,
-                type_id: TypeId(60),
+                type_id: TypeId(24),
             },
         ],
     },
@@ -1266,11 +583,11 @@ pub const TYPES: &[StaticType] = &[
         alternatives: &[
             StaticAlternative {
                 name: "utcTime",
-                type_id: TypeId(62),
+                type_id: TypeId(26),
             },
             StaticAlternative {
                 name: "generalTime",
-                type_id: TypeId(61),
+                type_id: TypeId(25),
             },
         ],
     },
@@ -1280,12 +597,12 @@ pub const TYPES: &[StaticType] = &[
             StaticComponent {
                 name: "notBefore",
                 presence: StaticPresence::Required,
-                type_id: TypeId(95),
+                type_id: TypeId(51),
             },
             StaticComponent {
                 name: "notAfter",
                 presence: StaticPresence::Required,
-                type_id: TypeId(95),
+                type_id: TypeId(51),
             },
         ],
     },
@@ -1295,18 +612,18 @@ pub const TYPES: &[StaticType] = &[
             StaticComponent {
                 name: "type",
                 presence: StaticPresence::Required,
-                type_id: TypeId(64),
+                type_id: TypeId(28),
             },
             StaticComponent {
                 name: "value",
                 presence: StaticPresence::Required,
-                type_id: TypeId(63),
+                type_id: TypeId(27),
             },
         ],
     },
     StaticType::SetOf {
         tag: Tag::SET,
-        element: TypeId(97),
+        element: TypeId(53),
         constraints: Constraints {
             value: None,
             size: Some(Bound {
@@ -1320,14 +637,14 @@ pub const TYPES: &[StaticType] = &[
     },
     StaticType::SequenceOf {
         tag: Tag::SEQUENCE,
-        element: TypeId(98),
+        element: TypeId(54),
         constraints: Constraints::NONE,
     },
     StaticType::Choice {
         name: "Name",
         alternatives: &[StaticAlternative {
             name: "rdnSequence",
-            type_id: TypeId(99),
+            type_id: TypeId(55),
         }],
     },
     StaticType::Sequence {
@@ -1336,12 +653,12 @@ pub const TYPES: &[StaticType] = &[
             StaticComponent {
                 name: "algorithm",
                 presence: StaticPresence::Required,
-                type_id: TypeId(66),
+                type_id: TypeId(30),
             },
             StaticComponent {
                 name: "parameters",
                 presence: StaticPresence::Optional,
-                type_id: TypeId(65),
+                type_id: TypeId(29),
             },
         ],
     },
@@ -1376,52 +693,52 @@ pub const TYPES: &[StaticType] = &[
             StaticComponent {
                 name: "version",
                 presence: StaticPresence::Default(StaticValue::Integer(0)),
-                type_id: TypeId(70),
+                type_id: TypeId(34),
             },
             StaticComponent {
                 name: "serialNumber",
                 presence: StaticPresence::Required,
-                type_id: TypeId(102),
+                type_id: TypeId(58),
             },
             StaticComponent {
                 name: "signature",
                 presence: StaticPresence::Required,
-                type_id: TypeId(101),
+                type_id: TypeId(57),
             },
             StaticComponent {
                 name: "issuer",
                 presence: StaticPresence::Required,
-                type_id: TypeId(100),
+                type_id: TypeId(56),
             },
             StaticComponent {
                 name: "validity",
                 presence: StaticPresence::Required,
-                type_id: TypeId(96),
+                type_id: TypeId(52),
             },
             StaticComponent {
                 name: "subject",
                 presence: StaticPresence::Required,
-                type_id: TypeId(100),
+                type_id: TypeId(56),
             },
             StaticComponent {
                 name: "subjectPublicKeyInfo",
                 presence: StaticPresence::Required,
-                type_id: TypeId(94),
+                type_id: TypeId(50),
             },
             StaticComponent {
                 name: "issuerUniqueID",
                 presence: StaticPresence::Optional,
-                type_id: TypeId(69),
+                type_id: TypeId(33),
             },
             StaticComponent {
                 name: "subjectUniqueID",
                 presence: StaticPresence::Optional,
-                type_id: TypeId(68),
+                type_id: TypeId(32),
             },
             StaticComponent {
                 name: "extensions",
                 presence: StaticPresence::Optional,
-                type_id: TypeId(67),
+                type_id: TypeId(31),
             },
         ],
     },
@@ -1431,30 +748,17 @@ pub const TYPES: &[StaticType] = &[
             StaticComponent {
                 name: "tbsCertificate",
                 presence: StaticPresence::Required,
-                type_id: TypeId(104),
+                type_id: TypeId(60),
             },
             StaticComponent {
                 name: "signatureAlgorithm",
                 presence: StaticPresence::Required,
-                type_id: TypeId(101),
+                type_id: TypeId(57),
             },
             StaticComponent {
                 name: "signatureValue",
                 presence: StaticPresence::Required,
-                type_id: TypeId(71),
-            },
-        ],
-    },
-    StaticType::Choice {
-        name: "PrivateDomainName",
-        alternatives: &[
-            StaticAlternative {
-                name: "numeric",
-                type_id: TypeId(16),
-            },
-            StaticAlternative {
-                name: "printable",
-                type_id: TypeId(15),
+                type_id: TypeId(35),
             },
         ],
     },
@@ -1463,23 +767,23 @@ pub const TYPES: &[StaticType] = &[
         alternatives: &[
             StaticAlternative {
                 name: "teletexString",
-                type_id: TypeId(32),
+                type_id: TypeId(8),
             },
             StaticAlternative {
                 name: "printableString",
-                type_id: TypeId(31),
+                type_id: TypeId(7),
             },
             StaticAlternative {
                 name: "universalString",
-                type_id: TypeId(30),
+                type_id: TypeId(6),
             },
             StaticAlternative {
                 name: "utf8String",
-                type_id: TypeId(29),
+                type_id: TypeId(5),
             },
             StaticAlternative {
                 name: "bmpString",
-                type_id: TypeId(28),
+                type_id: TypeId(4),
             },
         ],
     },
@@ -1488,39 +792,32 @@ pub const TYPES: &[StaticType] = &[
         alternatives: &[
             StaticAlternative {
                 name: "teletexString",
-                type_id: TypeId(32),
+                type_id: TypeId(8),
             },
             StaticAlternative {
                 name: "printableString",
-                type_id: TypeId(31),
+                type_id: TypeId(7),
             },
             StaticAlternative {
                 name: "universalString",
-                type_id: TypeId(30),
+                type_id: TypeId(6),
             },
             StaticAlternative {
                 name: "utf8String",
-                type_id: TypeId(29),
+                type_id: TypeId(5),
             },
             StaticAlternative {
                 name: "bmpString",
-                type_id: TypeId(28),
+                type_id: TypeId(4),
             },
         ],
-    },
-    StaticType::Choice {
-        name: "Name",
-        alternatives: &[StaticAlternative {
-            name: "rdnSequence",
-            type_id: TypeId(99),
-        }],
     },
 ];
 
 impl HasSchema for crate::ExtKeyUsageSyntax {
-    ghost ID = { 81 };
+    ghost ID = { 37 };
 
-    const ID: usize = 81;
+    const ID: usize = 37;
 
     fn types() -> &'static [StaticType] {
         TYPES
@@ -1528,9 +825,29 @@ impl HasSchema for crate::ExtKeyUsageSyntax {
 }
 
 impl HasSchema for crate::BasicConstraints {
-    ghost ID = { 82 };
+    ghost ID = { 38 };
 
-    const ID: usize = 82;
+    const ID: usize = 38;
+
+    fn types() -> &'static [StaticType] {
+        TYPES
+    }
+}
+
+impl HasSchema for crate::EdiPartyName {
+    ghost ID = { 39 };
+
+    const ID: usize = 39;
+
+    fn types() -> &'static [StaticType] {
+        TYPES
+    }
+}
+
+impl HasSchema for crate::AnotherName {
+    ghost ID = { 40 };
+
+    const ID: usize = 40;
 
     fn types() -> &'static [StaticType] {
         TYPES
@@ -1538,19 +855,9 @@ impl HasSchema for crate::BasicConstraints {
 }
 
 impl HasSchema for crate::KeyUsage {
-    ghost ID = { 84 };
+    ghost ID = { 41 };
 
-    const ID: usize = 84;
-
-    fn types() -> &'static [StaticType] {
-        TYPES
-    }
-}
-
-impl HasSchema for crate::AuthorityKeyIdentifier {
-    ghost ID = { 85 };
-
-    const ID: usize = 85;
+    const ID: usize = 41;
 
     fn types() -> &'static [StaticType] {
         TYPES
@@ -1558,9 +865,9 @@ impl HasSchema for crate::AuthorityKeyIdentifier {
 }
 
 impl HasSchema for crate::CertificationRequest {
-    ghost ID = { 88 };
+    ghost ID = { 44 };
 
-    const ID: usize = 88;
+    const ID: usize = 44;
 
     fn types() -> &'static [StaticType] {
         TYPES
@@ -1568,9 +875,9 @@ impl HasSchema for crate::CertificationRequest {
 }
 
 impl HasSchema for crate::CertificateList {
-    ghost ID = { 91 };
+    ghost ID = { 47 };
 
-    const ID: usize = 91;
+    const ID: usize = 47;
 
     fn types() -> &'static [StaticType] {
         TYPES
@@ -1578,9 +885,9 @@ impl HasSchema for crate::CertificateList {
 }
 
 impl HasSchema for crate::Certificate {
-    ghost ID = { 105 };
+    ghost ID = { 61 };
 
-    const ID: usize = 105;
+    const ID: usize = 61;
 
     fn types() -> &'static [StaticType] {
         TYPES

@@ -16,6 +16,9 @@ use rasn_types::types::Tag;
 use std::alloc::{AllocError, Global};
 use std::collections::BTreeMap;
 
+/// The type of a list of any components.
+pub(crate) const OPEN_LIST: &str = "Vec<Any>";
+
 /// Returns the files of a crate: a file for each wanted type among those that the resolved type
 /// holds, and for what it is made of, and at last `lib`, which lists the others.
 /// A type that can't be written is an open type, and a comment in its file says why.
@@ -261,9 +264,9 @@ impl Plan<'_> {
 
     /// Returns the type of the values of a type that is written as an open type: of a SEQUENCE that an
     /// option names any components, and else any octets.
-    fn open_word_of(&self, id: usize) -> &'static str {
+    pub(crate) fn open_word_of(&self, id: usize) -> &'static str {
         match self.type_of(id) {
-            Type::Sequence { .. } if self.is_opened(id) => "Vec<Any>",
+            Type::Sequence { .. } if self.is_opened(id) => OPEN_LIST,
             _ => "Any",
         }
     }

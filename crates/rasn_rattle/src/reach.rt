@@ -1,4 +1,5 @@
 //! Which types a type leads to.
+use crate::files::OPEN_LIST;
 use crate::held_types::Held;
 use crate::members::inner_of;
 use crate::plan::Plan;
@@ -181,13 +182,14 @@ impl Plan<'_> {
         Ok(())
     }
 
-    /// Returns whether a type is made of one that is made of itself.
-    pub(crate) fn meets_itself(&self, id: usize) -> Result<bool, AllocError> {
+    /// Returns whether a type is made of one that is made of itself, or that an option has as a list
+    /// of any components.
+    pub(crate) fn has_no_constant(&self, id: usize) -> Result<bool, AllocError> {
         let mut walk = self.new_walk();
         self.visit(&mut walk, id)?;
         self.visit_parts(&mut walk)?;
         for reached in walk.reached.iter() {
-            if self.is_recursive(*reached)? {
+            if self.open_word_of(*reached) == OPEN_LIST || self.is_recursive(*reached)? {
                 return Ok(true);
             }
         }

@@ -53,14 +53,13 @@ impl Plan<'_> {
         Ok(text)
     }
 
-    /// Returns whether a type is in the constant as it is written: a type of this crate that is
-    /// neither an open type nor made of one that is made of itself.
+    /// Returns whether a type of this crate is in the constant as it is written.
     pub(crate) fn has_static(&self, id: usize) -> Result<bool, AllocError> {
         let is_own = self.reached.contains(&id) && self.foreign_crate(id).is_none();
         if !is_own || is_alias(self.type_of(id)) || self.retagged.contains_key(&id) {
             return Ok(false);
         }
-        Ok(self.reason_against(id)?.is_none() && !self.meets_itself(id)?)
+        Ok(self.reason_against(id)?.is_none() && !self.has_no_constant(id)?)
     }
 }
 
