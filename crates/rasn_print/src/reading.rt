@@ -78,9 +78,13 @@ fn read_alone<'input>(
     ensures ok { IfOk result (λ v. IsRead wanted.now octets.now (tree_of v) []) }
     ensures err { IfErr result (IsRefused wanted.now octets.now) }
 {
-    let (value, rest) = decode_or_locate(alloc, wanted.rule, &wanted.schema, wanted.root, octets)?;
-    refuse_rest(alloc, wanted, octets, rest)?;
-    Ok(value)
+    match decode_or_locate(alloc, wanted.rule, &wanted.schema, wanted.root, octets) {
+        Ok((value, rest)) => match refuse_rest(alloc, wanted, octets, rest) {
+            Ok(()) => Ok(value),
+            Err(refusal) => Err(refusal),
+        },
+        Err(refusal) => Err(refusal),
+    }
 }
 
 /// Returns the value that all of the octets encode under the rules of the type, as lines, the first
