@@ -2,13 +2,13 @@
 
 use crate::asserts::{
     Answer, Rewritten, ahead_of, assert_decodes, assert_has, assert_output, assert_rewrites,
-    assert_written_as, decoded,
+    assert_written_as,
 };
+use rasn::WholeMessage;
 use rasn::error::EncodeError;
 use rasn::types::{Codec, Implicit, Unknown};
-use rasn::{WholeMessage, ber};
 use rasn_ldap::{
-    ChangeOperationName, Filter, LdapMessage, MaxInt, ProtocolOp, ResultCodeName, SearchRequest,
+    ChangeOperationName, LdapMessage, MaxInt, ProtocolOp, ResultCodeName, SearchRequest,
     SearchRequestDerefAliases, SearchRequestScopeName,
 };
 use rasn_samples::ldap::{
@@ -203,42 +203,22 @@ fn a_search_has_its_parts(rt: HostRuntime) {
     assert_has(&rt, answer, is_search);
 }
 
-/// Returns the filters that the search's filter is the conjunction of, as octets.
-fn conjunction(message: &LdapMessage) -> Option<&[u8]> {
+/// Returns the octets of a search's filter.
+fn filter_of(message: &LdapMessage) -> Option<&[u8]> {
     match &message.protocol_op {
-        ProtocolOp::SearchRequest(search) => match &search.filter {
-            Filter::And(filters) => Some(filters.as_bytes()),
-            _ => None,
-        },
+        ProtocolOp::SearchRequest(search) => Some(search.filter.as_bytes()),
         _ => None,
     }
 }
 
-/// Returns whether octets are an equality and, after it, a negation of a test of substrings.
-fn are_two_filters(alloc: Global, octets: &[u8]) -> bool {
-    match ber::decode_with_remainder::<Filter>(alloc, octets) {
-        Ok((Filter::EqualityMatch(_), rest)) => match decoded::<Filter>(alloc, Codec::Ber, rest) {
-            Ok(Filter::Not(inner)) => matches!(
-                decoded::<Filter>(alloc, Codec::Ber, inner.as_bytes()),
-                Ok(Filter::Substrings(_))
-            ),
-            _ => false,
-        },
-        _ => false,
-    }
-}
-
-// `(&(sn=x)(!(uid=q*)))`: filters within a filter are octets, those of a conjunction one after
-// another.
+// `(&(sn=x)(!(uid=q*)))`: a conjunction is \[0\] (RFC 4511 4.5.1), whose contents here are 23 octets.
 #[test]
-fn a_filter_is_read_level_by_level(rt: HostRuntime) {
-    let alloc = rt.alloc();
-    match LdapMessage::read(alloc, SEARCH) {
+fn a_filter_is_its_octets(rt: HostRuntime) {
+    match LdapMessage::read(rt.alloc(), SEARCH) {
         Ok(message) => {
-            let is_read = conjunction(&message).is_some_and(|octets| are_two_filters(
-                alloc, octets,
-            ));
-            assert!(rt; is_read);
+            let filter = filter_of(&message).unwrap_or(&[]);
+            assert_eq!(rt; filter.get(..2), Some([0xA0, 0x17].as_slice()));
+            assert_eq!(rt; filter.len(), 25);
         }
         Err(error) => assert!(rt; false, "{:?}", error.kind),
     }
