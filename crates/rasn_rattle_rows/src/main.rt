@@ -4,7 +4,7 @@
 #![tactic(auto)]
 
 use rasn_compiler::{Modules, Source};
-use rasn_rattle::{File, HOLDER_NAMES, Options, crate_files, holder_of};
+use rasn_rattle::{File, HOLDER_NAMES, Holder, Options, crate_files, holder_of};
 use std::alloc::{AllocError, Global};
 use std::io;
 
@@ -13,7 +13,7 @@ fn main(rt: HostRuntime) -> io::Result<()> {
     for line in text.as_str().lines() {
         if let Some(words) = line.strip_prefix("=== ") {
             let asked = asked_by(rt.alloc(), text.as_str(), words)?;
-            print_crate(&rt, asked)?;
+            print_crate(&rt, &asked)?;
         }
     }
     Ok(())
@@ -39,14 +39,14 @@ fn asked_by<'text>(
     let (name, words) = words.split_once(" ").unwrap_or((words, ""));
     let mut options = Options::new(alloc, name)?;
     let mut own = Vec::new(alloc);
-    let mut option = "";
+    let mut option: Option<&'text str> = None;
     for word in words.split(' ') {
-        match word.strip_prefix("--") {
-            Some(name) => option = name,
-            None if option.is_empty() => own.push(source(text, word))?,
-            None => {
-                add(alloc, &mut options, text, option, word)?;
-                option = "";
+        match (word.strip_prefix("--"), option) {
+            (Some(name), _) => option = Some(name),
+            (None, None) => own.push(source(text, word))?,
+            (None, Some(name)) => {
+                add(alloc, &mut options, text, name, word)?;
+                option = None;
             }
         }
     }
@@ -105,32 +105,41 @@ fn add(
 }
 
 /// Prints the files of a crate, or what is wrong about its modules.
-fn print_crate(rt: &HostRuntime, asked: Asked<'_>) -> io::Result<()> {
+fn print_crate(rt: &HostRuntime, asked: &Asked<'_>) -> io::Result<()> {
     let alloc = rt.alloc();
-    let Asked {
-        options,
-        name,
-        own,
-        sources,
-    } = asked;
-    let wanted = Modules::parse(alloc, own.as_slice())?.modules.len();
-    let read = Modules::parse(alloc, sources.as_slice())?;
+    let wanted = Modules::parse(alloc, asked.own.as_slice())?.modules.len();
+    let read = Modules::parse(alloc, asked.sources.as_slice())?;
     for fault in &read.faults {
         println!(rt; "{fault}")?;
     }
-    if let Some(ty) = options.unknown_in(&read) {
+    if let Some(ty) = asked.options.unknown_in(&read) {
         println!(rt; "no type {ty} is known")?;
     }
-    let holder = holder_of(&options, &read, wanted)?;
+    let holder = holder_of(&asked.options, &read, wanted)?;
+    print_held(rt, asked, &holder)
+}
+
+/// Prints the files of a crate of the types that a module holds.
+fn print_held(rt: &HostRuntime, asked: &Asked<'_>, holder: &Holder) -> io::Result<()> {
+    let alloc = rt.alloc();
     let (module, held) = HOLDER_NAMES;
-    let mut sources = sources;
+    let mut sources = Vec::new(alloc);
+    for source in &asked.sources {
+        sources.push(Source {
+            name: source.name,
+            text: source.text,
+        })?;
+    }
     sources.push(Source {
         name: module,
         text: holder.text.as_str(),
     })?;
     let read = Modules::parse(alloc, sources.as_slice())?;
     match read.schema(alloc, module, held) {
-        Ok(resolved) => print_files(rt, name, &crate_files(&options, resolved, &holder.held)?),
+        Ok(resolved) => {
+            let files = crate_files(&asked.options, resolved, &holder.held)?;
+            print_files(rt, asked.name, &files)
+        }
         Err(stop) => println!(rt; "{stop}"),
     }
 }
