@@ -12,8 +12,6 @@ mod parts;
 #[cfg(test)]
 mod sizes;
 #[cfg(test)]
-mod times;
-#[cfg(test)]
 mod types;
 #[cfg(test)]
 mod values;
