@@ -93,7 +93,7 @@ impl FirstTags for @Name@ {
 
 /// An alternative.
 #[derive(Drop)]
-struct Branch<'schema> {
+pub(crate) struct Branch<'schema> {
     /// The number of the CHOICE that it is an alternative of.
     choice: usize,
     /// Its name in the notation.
@@ -103,7 +103,7 @@ struct Branch<'schema> {
     /// The comment on an open type in it, if there is one.
     reason: &'static str,
     /// The name of its variant.
-    variant: String,
+    pub(crate) variant: String,
     /// The Rattle type of its value.
     expression: String,
     /// Whether its values hold a GeneralizedTime.
@@ -151,7 +151,7 @@ impl<'schema> Plan<'schema> {
     }
 
     /// Returns the alternatives of a CHOICE.
-    fn branches_of(
+    pub(crate) fn branches_of(
         &self,
         id: usize,
         placed: &[Placed<'schema>],

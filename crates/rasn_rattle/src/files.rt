@@ -149,11 +149,13 @@ impl Plan<'_> {
         let schema = File {
             name: String::from_str(self.alloc, "schema")?,
             text: self.static_text()?,
+            answers: Vec::new(self.alloc),
         };
         written.push(self.alloc, schema, "TYPES")?;
         let lib = File {
             name: String::from_str(self.alloc, "lib")?,
             text: written.lib_text(self.alloc)?,
+            answers: Vec::new(self.alloc),
         };
         let Files { mut files, .. } = written;
         files.push(lib)?;
@@ -181,7 +183,12 @@ impl Plan<'_> {
     fn file_of(&self, id: usize, naming: &Naming) -> Result<File, AllocError> {
         let text = self.with_message(id, self.text_of(id)?)?;
         let name = String::from_str(self.alloc, naming.file.as_str())?;
-        Ok(File { name, text })
+        let answers = self.answers_of(id, naming)?;
+        Ok(File {
+            name,
+            text,
+            answers,
+        })
     }
 
     /// Returns what other crates may use of the file of a type with this name.
@@ -289,6 +296,7 @@ impl Plan<'_> {
         let file = File {
             name: String::from_str(self.alloc, name)?,
             text: self.octets_text(word, "Any", tag, notation, reason)?,
+            answers: Vec::new(self.alloc),
         };
         written.push(self.alloc, file, word)
     }

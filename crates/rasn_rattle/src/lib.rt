@@ -3,6 +3,7 @@
 #![tactic(auto)]
 
 mod alternatives;
+mod answers;
 mod beyond;
 mod bounds;
 mod calls;
@@ -36,4 +37,4 @@ mod words;
 pub use files::crate_files;
 pub use held_types::{HOLDER_NAMES, Held, Holder, holder_of};
 pub use options::{Options, is_crate_name};
-pub use output::File;
+pub use output::{Answers, File};

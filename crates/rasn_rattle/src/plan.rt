@@ -1,7 +1,7 @@
 //! The names of types, and of their files.
 ghost use Rattle.std.specs.Prelude.{◌≡◌, true};
 ghost use Rattle.std.specs.String.{string_bytes};
-ghost use Rattle.rasn_rattle.specs.Words.{is_word};
+ghost use Rattle.rasn_rattle.specs.Words.{is_name, is_word};
 
 use crate::kinds::{has_file, is_extensible};
 use crate::members::{Member, inner_of, members_of};
@@ -22,6 +22,7 @@ pub(crate) struct Naming {
     pub(crate) rust: String,
     /// The name of its file.
     pub(crate) file: String,
+    ghost name: { is_name (string_bytes rust) ≡ true },
     ghost word: { is_word (string_bytes file) ≡ true },
 }
 

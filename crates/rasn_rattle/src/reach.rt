@@ -196,8 +196,11 @@ impl Plan<'_> {
         Ok(false)
     }
 
-    /// Returns whether a type is made of itself.
+    /// Returns whether a type is made of itself, and isn't written as an open type for an option.
     fn is_recursive(&self, id: usize) -> Result<bool, AllocError> {
+        if self.is_opened(id) {
+            return Ok(false);
+        }
         let members = self.placed_members_of(id)?;
         for member in &members {
             if self.leads_to(member.type_id.0, id)? {

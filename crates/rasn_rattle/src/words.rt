@@ -1,7 +1,7 @@
 //! Names of ASN.1 (X.680 12.2, 12.3) as names of Rattle.
 ghost use Rattle.std.specs.Prelude.{◌≡◌, true, IfOk};
 ghost use Rattle.std.specs.String.{string_bytes};
-ghost use Rattle.rasn_rattle.specs.Words.{is_word, is_word_letter};
+ghost use Rattle.rasn_rattle.specs.Words.{is_name, is_name_letter, is_word, is_word_letter};
 
 use std::alloc::{AllocError, Global};
 
@@ -128,20 +128,35 @@ fn letter_at(letters: &[u8], index: usize) -> u8 {
 
 /// Returns the words of a name in snake case as one in camel case, as `TbsCertificate` of
 /// `tbs_certificate`.
-fn joined(alloc: Global, snake: &str) -> Result<String, AllocError> {
+#[tactic(auto, using(crate::proofs::WordLetters::name_push))]
+fn joined(alloc: Global, snake: &str) -> Result<String, AllocError>
+    ensures { IfOk result (λ name. is_name (string_bytes name) ≡ true) }
+{
     let mut text = String::new(alloc);
     let mut begins = true;
-    for letter in snake.chars() {
-        if letter != '_' {
-            text.push(if begins {
-                letter.to_ascii_uppercase()
-            } else {
-                letter
-            })?;
+    for letter in snake.as_bytes() {
+        let is_letter = *letter != b'_';
+        if is_letter {
+            text.push(name_letter(*letter, begins))?;
         }
-        begins = letter == '_';
+        begins = !is_letter;
     }
     Ok(text)
+}
+
+/// Returns a letter or digit of a name, as a capital if a word begins with it, or `_` in place of
+/// anything else.
+fn name_letter(letter: u8, begins: bool) -> char
+    ensures { is_name_letter result ≡ true }
+{
+    if !letter.is_ascii_alphanumeric() {
+        return '_';
+    }
+    char::from(if begins {
+        letter.to_ascii_uppercase()
+    } else {
+        letter
+    })
 }
 
 /// Returns the name of a variant in camel case, as `NoSuchName` of `noSuchName`.
@@ -151,12 +166,17 @@ pub(crate) fn variant(alloc: Global, name: &str) -> Result<String, AllocError> {
 
 /// Returns a name in camel case, as `LdapMessage` of `LDAPMessage`. One that generated files use
 /// for something else ends with `Value`.
-pub(crate) fn camel(alloc: Global, name: &str) -> Result<String, AllocError> {
+pub(crate) fn camel(alloc: Global, name: &str) -> Result<String, AllocError>
+    ensures { IfOk result (λ name. is_name (string_bytes name) ≡ true) }
+{
     camel_except(alloc, name, TAKEN)
 }
 
 /// Returns a name in camel case, which ends with `Value` if it would be one of the words.
-fn camel_except(alloc: Global, name: &str, words: &str) -> Result<String, AllocError> {
+#[tactic(auto, using(crate::proofs::WordLetters::name_append))]
+fn camel_except(alloc: Global, name: &str, words: &str) -> Result<String, AllocError>
+    ensures { IfOk result (λ name. is_name (string_bytes name) ≡ true) }
+{
     let snake = snake(alloc, name)?;
     let mut text = joined(alloc, snake.as_str())?;
     if is_among(words, text.as_str()) {

@@ -147,8 +147,19 @@ fn print_held(rt: &HostRuntime, asked: &Asked<'_>, holder: &Holder) -> io::Resul
 /// Prints the files of a crate, each after a line with its name.
 fn print_files(rt: &HostRuntime, name: &str, files: &[File]) -> io::Result<()> {
     for file in files {
-        let (file, text) = (file.name.as_str(), file.text.as_str());
-        print!(rt; "=== crates/{name}/src/{file}.rt\n{text}")?;
+        print_file(rt, name, file)?;
+    }
+    Ok(())
+}
+
+/// Prints a file of a crate and its answers.
+fn print_file(rt: &HostRuntime, name: &str, file: &File) -> io::Result<()> {
+    let (module, text) = (file.name.as_str(), file.text.as_str());
+    print!(rt; "=== crates/{name}/src/{module}.rt\n{text}")?;
+    for answers in &file.answers {
+        let (owner, function) = (answers.owner.as_str(), answers.function);
+        print!(rt; "=== crates/{name}/proofs/{module}/{owner}/{function}/Answers.antt\n")?;
+        print!(rt; "{}", answers.text.as_str())?;
     }
     Ok(())
 }

@@ -236,19 +236,43 @@ fn write_files(
     options: &Options,
     files: &[File],
 ) -> Result<u8, Fault> {
-    let alloc = rt.alloc();
-    let sources = format!(in alloc; "{folder}/src")?;
-    if let Err(error) = fs::create_dir_all(rt, sources.as_str()) {
-        return unwritable(rt, sources.as_str(), &error);
-    }
     for file in files {
-        let path = format!(in alloc; "{sources}/{}.rt", file.name.as_str())?;
-        if let Err(error) = fs::write(rt, path.as_str(), file.text.as_str()) {
-            return unwritable(rt, path.as_str(), &error);
+        let status = write_file(rt, folder, file)?;
+        if status != 0 {
+            return Ok(status);
         }
     }
     println!(rt; "{}", options.crates_line()?.as_str()).map_err(Fault::of_write)?;
     Ok(0)
+}
+
+/// Writes a file of a crate and its answers. Returns the exit status.
+fn write_file(rt: &HostRuntime, folder: &str, file: &File) -> Result<u8, Fault> {
+    let alloc = rt.alloc();
+    let name = file.name.as_str();
+    for answers in &file.answers {
+        let (owner, function) = (answers.owner.as_str(), answers.function);
+        let folder = format!(in alloc; "{folder}/proofs/{name}/{owner}/{function}")?;
+        let status = write_text(rt, folder.as_str(), "Answers.antt", answers.text.as_str())?;
+        if status != 0 {
+            return Ok(status);
+        }
+    }
+    let folder = format!(in alloc; "{folder}/src")?;
+    let name = format!(in alloc; "{name}.rt")?;
+    write_text(rt, folder.as_str(), name.as_str(), file.text.as_str())
+}
+
+/// Writes a text into a folder, which is made if it isn't there. Returns the exit status.
+fn write_text(rt: &HostRuntime, folder: &str, name: &str, text: &str) -> Result<u8, Fault> {
+    if let Err(error) = fs::create_dir_all(rt, folder) {
+        return unwritable(rt, folder, &error);
+    }
+    let path = format!(in rt.alloc(); "{folder}/{name}")?;
+    match fs::write(rt, path.as_str(), text) {
+        Ok(()) => Ok(0),
+        Err(error) => unwritable(rt, path.as_str(), &error),
+    }
 }
 
 /// Prints that a file can't be written.
