@@ -46,7 +46,7 @@ pub const TYPES: &[StaticType] = &[
             class: Class::Context,
             value: 3,
         },
-        element: TypeId(57),
+        element: TypeId(73),
         constraints: Constraints {
             value: None,
             size: Some(Bound {
@@ -112,7 +112,7 @@ pub const TYPES: &[StaticType] = &[
     },
     StaticType::SequenceOf {
         tag: Tag::SEQUENCE,
-        element: TypeId(38),
+        element: TypeId(48),
         constraints: Constraints::NONE,
     },
     StaticType::Leaf {
@@ -180,7 +180,7 @@ pub const TYPES: &[StaticType] = &[
     },
     StaticType::SequenceOf {
         tag: Tag::SEQUENCE,
-        element: TypeId(43),
+        element: TypeId(55),
         constraints: Constraints {
             value: None,
             size: Some(Bound {
@@ -191,6 +191,12 @@ pub const TYPES: &[StaticType] = &[
                 extensible: false,
             }),
         },
+    },
+    StaticType::Leaf {
+        kind: LeafKind::Boolean,
+        tag: Tag::BOOL,
+        constraints: Constraints::NONE,
+        names: &[],
     },
     StaticType::Enumerated {
         tag: Tag::ENUMERATED,
@@ -214,6 +220,25 @@ pub const TYPES: &[StaticType] = &[
         ],
     },
     StaticType::Leaf {
+        kind: LeafKind::Signed64,
+        tag: Tag::ENUMERATED,
+        constraints: Constraints::NONE,
+        names: &[
+            StaticNumber {
+                name: "baseObject",
+                number: 0,
+            },
+            StaticNumber {
+                name: "singleLevel",
+                number: 1,
+            },
+            StaticNumber {
+                name: "wholeSubtree",
+                number: 2,
+            },
+        ],
+    },
+    StaticType::Leaf {
         kind: LeafKind::OctetString,
         tag: Tag {
             class: Class::Context,
@@ -227,7 +252,7 @@ pub const TYPES: &[StaticType] = &[
             class: Class::Context,
             value: 3,
         },
-        element: TypeId(57),
+        element: TypeId(73),
         constraints: Constraints {
             value: None,
             size: Some(Bound {
@@ -254,17 +279,17 @@ pub const TYPES: &[StaticType] = &[
             StaticComponent {
                 name: "mechanism",
                 presence: StaticPresence::Required,
-                type_id: TypeId(57),
+                type_id: TypeId(73),
             },
             StaticComponent {
                 name: "credentials",
                 presence: StaticPresence::Optional,
-                type_id: TypeId(23),
+                type_id: TypeId(25),
             },
             StaticComponent {
                 name: "...",
                 presence: StaticPresence::Required,
-                type_id: TypeId(59),
+                type_id: TypeId(77),
             },
         ],
     },
@@ -309,7 +334,7 @@ pub const TYPES: &[StaticType] = &[
             class: Class::Context,
             value: 3,
         },
-        element: TypeId(57),
+        element: TypeId(73),
         constraints: Constraints {
             value: None,
             size: Some(Bound {
@@ -323,7 +348,7 @@ pub const TYPES: &[StaticType] = &[
     },
     StaticType::SequenceOf {
         tag: Tag::SET,
-        element: TypeId(56),
+        element: TypeId(72),
         constraints: Constraints {
             value: None,
             size: Some(Bound {
@@ -334,6 +359,14 @@ pub const TYPES: &[StaticType] = &[
                 extensible: false,
             }),
         },
+    },
+    StaticType::SequenceOf {
+        tag: Tag {
+            class: Class::Context,
+            value: 0,
+        },
+        element: TypeId(64),
+        constraints: Constraints::NONE,
     },
     StaticType::Sequence {
         tag: Tag {
@@ -354,7 +387,7 @@ pub const TYPES: &[StaticType] = &[
             StaticComponent {
                 name: "...",
                 presence: StaticPresence::Required,
-                type_id: TypeId(59),
+                type_id: TypeId(77),
             },
         ],
     },
@@ -367,17 +400,17 @@ pub const TYPES: &[StaticType] = &[
             StaticComponent {
                 name: "resultCode",
                 presence: StaticPresence::Required,
-                type_id: TypeId(49),
+                type_id: TypeId(65),
             },
             StaticComponent {
                 name: "matchedDN",
                 presence: StaticPresence::Required,
-                type_id: TypeId(57),
+                type_id: TypeId(73),
             },
             StaticComponent {
                 name: "diagnosticMessage",
                 presence: StaticPresence::Required,
-                type_id: TypeId(57),
+                type_id: TypeId(73),
             },
             StaticComponent {
                 name: "referral",
@@ -397,7 +430,7 @@ pub const TYPES: &[StaticType] = &[
             StaticComponent {
                 name: "...",
                 presence: StaticPresence::Required,
-                type_id: TypeId(59),
+                type_id: TypeId(77),
             },
         ],
     },
@@ -420,7 +453,58 @@ pub const TYPES: &[StaticType] = &[
             StaticComponent {
                 name: "...",
                 presence: StaticPresence::Required,
-                type_id: TypeId(59),
+                type_id: TypeId(77),
+            },
+        ],
+    },
+    StaticType::Leaf {
+        kind: LeafKind::Integer,
+        tag: Tag {
+            class: Class::Application,
+            value: 16,
+        },
+        constraints: Constraints {
+            value: Some(Bound {
+                constraint: Bounded::Range {
+                    start: Some(0),
+                    end: Some(2147483647),
+                },
+                extensible: false,
+            }),
+            size: None,
+        },
+        names: &[],
+    },
+    StaticType::Sequence {
+        tag: Tag {
+            class: Class::Application,
+            value: 15,
+        },
+        components: &[
+            StaticComponent {
+                name: "resultCode",
+                presence: StaticPresence::Required,
+                type_id: TypeId(65),
+            },
+            StaticComponent {
+                name: "matchedDN",
+                presence: StaticPresence::Required,
+                type_id: TypeId(73),
+            },
+            StaticComponent {
+                name: "diagnosticMessage",
+                presence: StaticPresence::Required,
+                type_id: TypeId(73),
+            },
+            StaticComponent {
+                name: "referral",
+                presence: StaticPresence::Optional,
+                type_id: TypeId(31),
+            },
+            StaticComponent {
+                name: "...",
+                presence: StaticPresence::Required,
+                type_id: TypeId(77),
             },
         ],
     },
@@ -433,17 +517,50 @@ pub const TYPES: &[StaticType] = &[
             StaticComponent {
                 name: "entry",
                 presence: StaticPresence::Required,
-                type_id: TypeId(57),
+                type_id: TypeId(73),
             },
             StaticComponent {
                 name: "ava",
                 presence: StaticPresence::Required,
-                type_id: TypeId(55),
+                type_id: TypeId(71),
             },
             StaticComponent {
                 name: "...",
                 presence: StaticPresence::Required,
-                type_id: TypeId(59),
+                type_id: TypeId(77),
+            },
+        ],
+    },
+    StaticType::Sequence {
+        tag: Tag {
+            class: Class::Application,
+            value: 13,
+        },
+        components: &[
+            StaticComponent {
+                name: "resultCode",
+                presence: StaticPresence::Required,
+                type_id: TypeId(65),
+            },
+            StaticComponent {
+                name: "matchedDN",
+                presence: StaticPresence::Required,
+                type_id: TypeId(73),
+            },
+            StaticComponent {
+                name: "diagnosticMessage",
+                presence: StaticPresence::Required,
+                type_id: TypeId(73),
+            },
+            StaticComponent {
+                name: "referral",
+                presence: StaticPresence::Optional,
+                type_id: TypeId(31),
+            },
+            StaticComponent {
+                name: "...",
+                presence: StaticPresence::Required,
+                type_id: TypeId(77),
             },
         ],
     },
@@ -456,12 +573,12 @@ pub const TYPES: &[StaticType] = &[
             StaticComponent {
                 name: "entry",
                 presence: StaticPresence::Required,
-                type_id: TypeId(57),
+                type_id: TypeId(73),
             },
             StaticComponent {
                 name: "newrdn",
                 presence: StaticPresence::Required,
-                type_id: TypeId(57),
+                type_id: TypeId(73),
             },
             StaticComponent {
                 name: "deleteoldrdn",
@@ -476,13 +593,88 @@ pub const TYPES: &[StaticType] = &[
             StaticComponent {
                 name: "...",
                 presence: StaticPresence::Required,
-                type_id: TypeId(59),
+                type_id: TypeId(77),
+            },
+        ],
+    },
+    StaticType::Sequence {
+        tag: Tag {
+            class: Class::Application,
+            value: 11,
+        },
+        components: &[
+            StaticComponent {
+                name: "resultCode",
+                presence: StaticPresence::Required,
+                type_id: TypeId(65),
+            },
+            StaticComponent {
+                name: "matchedDN",
+                presence: StaticPresence::Required,
+                type_id: TypeId(73),
+            },
+            StaticComponent {
+                name: "diagnosticMessage",
+                presence: StaticPresence::Required,
+                type_id: TypeId(73),
+            },
+            StaticComponent {
+                name: "referral",
+                presence: StaticPresence::Optional,
+                type_id: TypeId(31),
+            },
+            StaticComponent {
+                name: "...",
+                presence: StaticPresence::Required,
+                type_id: TypeId(77),
+            },
+        ],
+    },
+    StaticType::Leaf {
+        kind: LeafKind::Utf8,
+        tag: Tag {
+            class: Class::Application,
+            value: 10,
+        },
+        constraints: Constraints::NONE,
+        names: &[],
+    },
+    StaticType::Sequence {
+        tag: Tag {
+            class: Class::Application,
+            value: 9,
+        },
+        components: &[
+            StaticComponent {
+                name: "resultCode",
+                presence: StaticPresence::Required,
+                type_id: TypeId(65),
+            },
+            StaticComponent {
+                name: "matchedDN",
+                presence: StaticPresence::Required,
+                type_id: TypeId(73),
+            },
+            StaticComponent {
+                name: "diagnosticMessage",
+                presence: StaticPresence::Required,
+                type_id: TypeId(73),
+            },
+            StaticComponent {
+                name: "referral",
+                presence: StaticPresence::Optional,
+                type_id: TypeId(31),
+            },
+            StaticComponent {
+                name: "...",
+                presence: StaticPresence::Required,
+                type_id: TypeId(77),
             },
         ],
     },
     StaticType::SequenceOf {
         tag: Tag::SEQUENCE,
-        element: TypeId(51),
+        element: TypeId(67),
         constraints: Constraints::NONE,
     },
     StaticType::Sequence {
@@ -494,17 +686,50 @@ pub const TYPES: &[StaticType] = &[
             StaticComponent {
                 name: "entry",
                 presence: StaticPresence::Required,
-                type_id: TypeId(57),
+                type_id: TypeId(73),
             },
             StaticComponent {
                 name: "attributes",
                 presence: StaticPresence::Required,
-                type_id: TypeId(36),
+                type_id: TypeId(45),
             },
             StaticComponent {
                 name: "...",
                 presence: StaticPresence::Required,
-                type_id: TypeId(59),
+                type_id: TypeId(77),
+            },
+        ],
+    },
+    StaticType::Sequence {
+        tag: Tag {
+            class: Class::Application,
+            value: 7,
+        },
+        components: &[
+            StaticComponent {
+                name: "resultCode",
+                presence: StaticPresence::Required,
+                type_id: TypeId(65),
+            },
+            StaticComponent {
+                name: "matchedDN",
+                presence: StaticPresence::Required,
+                type_id: TypeId(73),
+            },
+            StaticComponent {
+                name: "diagnosticMessage",
+                presence: StaticPresence::Required,
+                type_id: TypeId(73),
+            },
+            StaticComponent {
+                name: "referral",
+                presence: StaticPresence::Optional,
+                type_id: TypeId(31),
+            },
+            StaticComponent {
+                name: "...",
+                presence: StaticPresence::Required,
+                type_id: TypeId(77),
             },
         ],
     },
@@ -519,12 +744,12 @@ pub const TYPES: &[StaticType] = &[
             StaticComponent {
                 name: "modification",
                 presence: StaticPresence::Required,
-                type_id: TypeId(52),
+                type_id: TypeId(68),
             },
             StaticComponent {
                 name: "...",
                 presence: StaticPresence::Required,
-                type_id: TypeId(59),
+                type_id: TypeId(77),
             },
         ],
     },
@@ -537,7 +762,7 @@ pub const TYPES: &[StaticType] = &[
             StaticComponent {
                 name: "object",
                 presence: StaticPresence::Required,
-                type_id: TypeId(57),
+                type_id: TypeId(73),
             },
             StaticComponent {
                 name: "changes",
@@ -547,13 +772,63 @@ pub const TYPES: &[StaticType] = &[
             StaticComponent {
                 name: "...",
                 presence: StaticPresence::Required,
-                type_id: TypeId(59),
+                type_id: TypeId(77),
+            },
+        ],
+    },
+    StaticType::Sequence {
+        tag: Tag {
+            class: Class::Application,
+            value: 5,
+        },
+        components: &[
+            StaticComponent {
+                name: "resultCode",
+                presence: StaticPresence::Required,
+                type_id: TypeId(65),
+            },
+            StaticComponent {
+                name: "matchedDN",
+                presence: StaticPresence::Required,
+                type_id: TypeId(73),
+            },
+            StaticComponent {
+                name: "diagnosticMessage",
+                presence: StaticPresence::Required,
+                type_id: TypeId(73),
+            },
+            StaticComponent {
+                name: "referral",
+                presence: StaticPresence::Optional,
+                type_id: TypeId(31),
+            },
+            StaticComponent {
+                name: "...",
+                presence: StaticPresence::Required,
+                type_id: TypeId(77),
             },
         ],
     },
     StaticType::SequenceOf {
+        tag: Tag {
+            class: Class::Application,
+            value: 19,
+        },
+        element: TypeId(73),
+        constraints: Constraints {
+            value: None,
+            size: Some(Bound {
+                constraint: Bounded::Range {
+                    start: Some(1),
+                    end: None,
+                },
+                extensible: false,
+            }),
+        },
+    },
+    StaticType::SequenceOf {
         tag: Tag::SEQUENCE,
-        element: TypeId(52),
+        element: TypeId(68),
         constraints: Constraints::NONE,
     },
     StaticType::Sequence {
@@ -565,17 +840,17 @@ pub const TYPES: &[StaticType] = &[
             StaticComponent {
                 name: "objectName",
                 presence: StaticPresence::Required,
-                type_id: TypeId(57),
+                type_id: TypeId(73),
             },
             StaticComponent {
                 name: "attributes",
                 presence: StaticPresence::Required,
-                type_id: TypeId(40),
+                type_id: TypeId(52),
             },
             StaticComponent {
                 name: "...",
                 presence: StaticPresence::Required,
-                type_id: TypeId(59),
+                type_id: TypeId(77),
             },
         ],
     },
@@ -605,7 +880,7 @@ pub const TYPES: &[StaticType] = &[
             StaticComponent {
                 name: "...",
                 presence: StaticPresence::Required,
-                type_id: TypeId(59),
+                type_id: TypeId(77),
             },
         ],
     },
@@ -636,7 +911,7 @@ pub const TYPES: &[StaticType] = &[
             StaticComponent {
                 name: "type",
                 presence: StaticPresence::Required,
-                type_id: TypeId(57),
+                type_id: TypeId(73),
             },
             StaticComponent {
                 name: "substrings",
@@ -646,9 +921,77 @@ pub const TYPES: &[StaticType] = &[
             StaticComponent {
                 name: "...",
                 presence: StaticPresence::Required,
-                type_id: TypeId(59),
+                type_id: TypeId(77),
             },
         ],
+    },
+    StaticType::Any { tag: Tag::EOC },
+    StaticType::SequenceOf {
+        tag: Tag::SEQUENCE,
+        element: TypeId(73),
+        constraints: Constraints::NONE,
+    },
+    StaticType::Sequence {
+        tag: Tag {
+            class: Class::Application,
+            value: 3,
+        },
+        components: &[
+            StaticComponent {
+                name: "baseObject",
+                presence: StaticPresence::Required,
+                type_id: TypeId(73),
+            },
+            StaticComponent {
+                name: "scope",
+                presence: StaticPresence::Required,
+                type_id: TypeId(22),
+            },
+            StaticComponent {
+                name: "derefAliases",
+                presence: StaticPresence::Required,
+                type_id: TypeId(21),
+            },
+            StaticComponent {
+                name: "sizeLimit",
+                presence: StaticPresence::Required,
+                type_id: TypeId(74),
+            },
+            StaticComponent {
+                name: "timeLimit",
+                presence: StaticPresence::Required,
+                type_id: TypeId(74),
+            },
+            StaticComponent {
+                name: "typesOnly",
+                presence: StaticPresence::Required,
+                type_id: TypeId(20),
+            },
+            StaticComponent {
+                name: "filter",
+                presence: StaticPresence::Required,
+                type_id: TypeId(57),
+            },
+            StaticComponent {
+                name: "attributes",
+                presence: StaticPresence::Required,
+                type_id: TypeId(58),
+            },
+            StaticComponent {
+                name: "...",
+                presence: StaticPresence::Required,
+                type_id: TypeId(77),
+            },
+        ],
+    },
+    StaticType::Leaf {
+        kind: LeafKind::Null,
+        tag: Tag {
+            class: Class::Application,
+            value: 2,
+        },
+        constraints: Constraints::NONE,
+        names: &[],
     },
     StaticType::Sequence {
         tag: Tag {
@@ -659,32 +1002,32 @@ pub const TYPES: &[StaticType] = &[
             StaticComponent {
                 name: "resultCode",
                 presence: StaticPresence::Required,
-                type_id: TypeId(49),
+                type_id: TypeId(65),
             },
             StaticComponent {
                 name: "matchedDN",
                 presence: StaticPresence::Required,
-                type_id: TypeId(57),
+                type_id: TypeId(73),
             },
             StaticComponent {
                 name: "diagnosticMessage",
                 presence: StaticPresence::Required,
-                type_id: TypeId(57),
+                type_id: TypeId(73),
             },
             StaticComponent {
                 name: "referral",
                 presence: StaticPresence::Optional,
-                type_id: TypeId(22),
+                type_id: TypeId(24),
             },
             StaticComponent {
                 name: "serverSaslCreds",
                 presence: StaticPresence::Optional,
-                type_id: TypeId(21),
+                type_id: TypeId(23),
             },
             StaticComponent {
                 name: "...",
                 presence: StaticPresence::Required,
-                type_id: TypeId(59),
+                type_id: TypeId(77),
             },
         ],
     },
@@ -693,11 +1036,11 @@ pub const TYPES: &[StaticType] = &[
         alternatives: &[
             StaticAlternative {
                 name: "simple",
-                type_id: TypeId(25),
+                type_id: TypeId(27),
             },
             StaticAlternative {
                 name: "sasl",
-                type_id: TypeId(24),
+                type_id: TypeId(26),
             },
             StaticAlternative {
                 name: "...",
@@ -714,22 +1057,22 @@ pub const TYPES: &[StaticType] = &[
             StaticComponent {
                 name: "version",
                 presence: StaticPresence::Required,
-                type_id: TypeId(26),
+                type_id: TypeId(28),
             },
             StaticComponent {
                 name: "name",
                 presence: StaticPresence::Required,
-                type_id: TypeId(57),
+                type_id: TypeId(73),
             },
             StaticComponent {
                 name: "authentication",
                 presence: StaticPresence::Required,
-                type_id: TypeId(46),
+                type_id: TypeId(62),
             },
             StaticComponent {
                 name: "...",
                 presence: StaticPresence::Required,
-                type_id: TypeId(59),
+                type_id: TypeId(77),
             },
         ],
     },
@@ -739,22 +1082,22 @@ pub const TYPES: &[StaticType] = &[
             StaticComponent {
                 name: "controlType",
                 presence: StaticPresence::Required,
-                type_id: TypeId(57),
+                type_id: TypeId(73),
             },
             StaticComponent {
                 name: "criticality",
                 presence: StaticPresence::Default(StaticValue::Boolean(false)),
-                type_id: TypeId(28),
+                type_id: TypeId(30),
             },
             StaticComponent {
                 name: "controlValue",
                 presence: StaticPresence::Optional,
-                type_id: TypeId(27),
+                type_id: TypeId(29),
             },
             StaticComponent {
                 name: "...",
                 presence: StaticPresence::Required,
-                type_id: TypeId(59),
+                type_id: TypeId(77),
             },
         ],
     },
@@ -927,27 +1270,27 @@ pub const TYPES: &[StaticType] = &[
             StaticComponent {
                 name: "resultCode",
                 presence: StaticPresence::Required,
-                type_id: TypeId(49),
+                type_id: TypeId(65),
             },
             StaticComponent {
                 name: "matchedDN",
                 presence: StaticPresence::Required,
-                type_id: TypeId(57),
+                type_id: TypeId(73),
             },
             StaticComponent {
                 name: "diagnosticMessage",
                 presence: StaticPresence::Required,
-                type_id: TypeId(57),
+                type_id: TypeId(73),
             },
             StaticComponent {
                 name: "referral",
                 presence: StaticPresence::Optional,
-                type_id: TypeId(29),
+                type_id: TypeId(31),
             },
             StaticComponent {
                 name: "...",
                 presence: StaticPresence::Required,
-                type_id: TypeId(59),
+                type_id: TypeId(77),
             },
         ],
     },
@@ -957,17 +1300,17 @@ pub const TYPES: &[StaticType] = &[
             StaticComponent {
                 name: "type",
                 presence: StaticPresence::Required,
-                type_id: TypeId(57),
+                type_id: TypeId(73),
             },
             StaticComponent {
                 name: "vals",
                 presence: StaticPresence::Required,
-                type_id: TypeId(30),
+                type_id: TypeId(32),
             },
             StaticComponent {
                 name: "...",
                 presence: StaticPresence::Required,
-                type_id: TypeId(59),
+                type_id: TypeId(77),
             },
         ],
     },
@@ -977,23 +1320,23 @@ pub const TYPES: &[StaticType] = &[
             StaticComponent {
                 name: "type",
                 presence: StaticPresence::Required,
-                type_id: TypeId(57),
+                type_id: TypeId(73),
             },
             StaticComponent {
                 name: "vals",
                 presence: StaticPresence::Required,
-                type_id: TypeId(53),
+                type_id: TypeId(69),
             },
             StaticComponent {
                 name: "...",
                 presence: StaticPresence::Required,
-                type_id: TypeId(59),
+                type_id: TypeId(77),
             },
         ],
     },
     StaticType::SequenceOf {
         tag: Tag::SET,
-        element: TypeId(56),
+        element: TypeId(72),
         constraints: Constraints::NONE,
     },
     StaticType::Leaf {
@@ -1008,17 +1351,17 @@ pub const TYPES: &[StaticType] = &[
             StaticComponent {
                 name: "attributeDesc",
                 presence: StaticPresence::Required,
-                type_id: TypeId(57),
+                type_id: TypeId(73),
             },
             StaticComponent {
                 name: "assertionValue",
                 presence: StaticPresence::Required,
-                type_id: TypeId(54),
+                type_id: TypeId(70),
             },
             StaticComponent {
                 name: "...",
                 presence: StaticPresence::Required,
-                type_id: TypeId(59),
+                type_id: TypeId(77),
             },
         ],
     },
@@ -1049,103 +1392,131 @@ pub const TYPES: &[StaticType] = &[
         },
         names: &[],
     },
+    StaticType::Choice {
+        name: "ProtocolOp",
+        alternatives: &[
+            StaticAlternative {
+                name: "bindRequest",
+                type_id: TypeId(63),
+            },
+            StaticAlternative {
+                name: "bindResponse",
+                type_id: TypeId(61),
+            },
+            StaticAlternative {
+                name: "unbindRequest",
+                type_id: TypeId(60),
+            },
+            StaticAlternative {
+                name: "searchRequest",
+                type_id: TypeId(59),
+            },
+            StaticAlternative {
+                name: "searchResEntry",
+                type_id: TypeId(53),
+            },
+            StaticAlternative {
+                name: "searchResDone",
+                type_id: TypeId(50),
+            },
+            StaticAlternative {
+                name: "searchResRef",
+                type_id: TypeId(51),
+            },
+            StaticAlternative {
+                name: "modifyRequest",
+                type_id: TypeId(49),
+            },
+            StaticAlternative {
+                name: "modifyResponse",
+                type_id: TypeId(47),
+            },
+            StaticAlternative {
+                name: "addRequest",
+                type_id: TypeId(46),
+            },
+            StaticAlternative {
+                name: "addResponse",
+                type_id: TypeId(44),
+            },
+            StaticAlternative {
+                name: "delRequest",
+                type_id: TypeId(43),
+            },
+            StaticAlternative {
+                name: "delResponse",
+                type_id: TypeId(42),
+            },
+            StaticAlternative {
+                name: "modDNRequest",
+                type_id: TypeId(41),
+            },
+            StaticAlternative {
+                name: "modDNResponse",
+                type_id: TypeId(40),
+            },
+            StaticAlternative {
+                name: "compareRequest",
+                type_id: TypeId(39),
+            },
+            StaticAlternative {
+                name: "compareResponse",
+                type_id: TypeId(38),
+            },
+            StaticAlternative {
+                name: "abandonRequest",
+                type_id: TypeId(37),
+            },
+            StaticAlternative {
+                name: "extendedReq",
+                type_id: TypeId(36),
+            },
+            StaticAlternative {
+                name: "extendedResp",
+                type_id: TypeId(35),
+            },
+            StaticAlternative {
+                name: "intermediateResponse",
+                type_id: TypeId(34),
+            },
+            StaticAlternative {
+                name: "...",
+                type_id: TypeId(0),
+            },
+        ],
+    },
+    StaticType::Sequence {
+        tag: Tag::SEQUENCE,
+        components: &[
+            StaticComponent {
+                name: "messageID",
+                presence: StaticPresence::Required,
+                type_id: TypeId(74),
+            },
+            StaticComponent {
+                name: "protocolOp",
+                presence: StaticPresence::Required,
+                type_id: TypeId(75),
+            },
+            StaticComponent {
+                name: "controls",
+                presence: StaticPresence::Optional,
+                type_id: TypeId(33),
+            },
+            StaticComponent {
+                name: "...",
+                presence: StaticPresence::Required,
+                type_id: TypeId(77),
+            },
+        ],
+    },
     StaticType::Unknown,
 ];
 
-impl HasSchema for crate::SearchRequestDerefAliases {
-    ghost ID = { 20 };
-
-    const ID: usize = 20;
-
-    fn types() -> &'static [StaticType] {
-        TYPES
-    }
-}
-
-impl HasSchema for crate::IntermediateResponse {
-    ghost ID = { 31 };
-
-    const ID: usize = 31;
-
-    fn types() -> &'static [StaticType] {
-        TYPES
-    }
-}
-
-impl HasSchema for crate::ExtendedResponse {
-    ghost ID = { 32 };
-
-    const ID: usize = 32;
-
-    fn types() -> &'static [StaticType] {
-        TYPES
-    }
-}
-
-impl HasSchema for crate::ExtendedRequest {
-    ghost ID = { 33 };
-
-    const ID: usize = 33;
-
-    fn types() -> &'static [StaticType] {
-        TYPES
-    }
-}
-
-impl HasSchema for crate::CompareRequest {
-    ghost ID = { 34 };
-
-    const ID: usize = 34;
-
-    fn types() -> &'static [StaticType] {
-        TYPES
-    }
-}
-
-impl HasSchema for crate::ModifyDnRequest {
-    ghost ID = { 35 };
-
-    const ID: usize = 35;
-
-    fn types() -> &'static [StaticType] {
-        TYPES
-    }
-}
-
-impl HasSchema for crate::AddRequest {
-    ghost ID = { 37 };
-
-    const ID: usize = 37;
-
-    fn types() -> &'static [StaticType] {
-        TYPES
-    }
-}
-
-impl HasSchema for crate::ModifyRequest {
-    ghost ID = { 39 };
-
-    const ID: usize = 39;
-
-    fn types() -> &'static [StaticType] {
-        TYPES
-    }
-}
-
-impl HasSchema for crate::SearchResultEntry {
-    ghost ID = { 41 };
-
-    const ID: usize = 41;
-
-    fn types() -> &'static [StaticType] {
-        TYPES
-    }
-}
-
 impl HasSchema for crate::MatchingRuleAssertion {
-    ghost ID = { 42 };
+    ghost ID = { 54 };
 
-    const ID: usize = 42;
+    const ID: usize = 54;
 
     fn types() -> &'static [StaticType] {
         TYPES
@@ -1153,39 +1524,9 @@ impl HasSchema for crate::MatchingRuleAssertion {
 }
 
 impl HasSchema for crate::SubstringFilter {
-    ghost ID = { 44 };
+    ghost ID = { 56 };
 
-    const ID: usize = 44;
-
-    fn types() -> &'static [StaticType] {
-        TYPES
-    }
-}
-
-impl HasSchema for crate::BindResponse {
-    ghost ID = { 45 };
-
-    const ID: usize = 45;
-
-    fn types() -> &'static [StaticType] {
-        TYPES
-    }
-}
-
-impl HasSchema for crate::BindRequest {
-    ghost ID = { 47 };
-
-    const ID: usize = 47;
-
-    fn types() -> &'static [StaticType] {
-        TYPES
-    }
-}
-
-impl HasSchema for crate::Control {
-    ghost ID = { 48 };
-
-    const ID: usize = 48;
+    const ID: usize = 56;
 
     fn types() -> &'static [StaticType] {
         TYPES
@@ -1193,19 +1534,19 @@ impl HasSchema for crate::Control {
 }
 
 impl HasSchema for crate::LdapResult {
-    ghost ID = { 50 };
+    ghost ID = { 66 };
 
-    const ID: usize = 50;
+    const ID: usize = 66;
 
     fn types() -> &'static [StaticType] {
         TYPES
     }
 }
 
-impl HasSchema for crate::MaxInt {
-    ghost ID = { 58 };
+impl HasSchema for crate::LdapMessage {
+    ghost ID = { 76 };
 
-    const ID: usize = 58;
+    const ID: usize = 76;
 
     fn types() -> &'static [StaticType] {
         TYPES

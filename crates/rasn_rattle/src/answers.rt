@@ -58,9 +58,14 @@ impl Plan<'_> {
         let branches = self.branches_of(id, placed.as_slice())?;
         if branches.len() > MOST {
             let read = read_answers(self.alloc, branches.as_slice())?;
-            let read = self.answers(naming, "Decode", "decode_with_tag_and_constraints", &read)?;
+            let read = self.answers_for(
+                naming,
+                "Decode",
+                "decode_with_tag_and_constraints",
+                &read,
+            )?;
             let written = written_answers(self.alloc, branches.as_slice())?;
-            let written = self.answers(
+            let written = self.answers_for(
                 naming,
                 "Encode",
                 "encode_with_tag_and_constraints",
@@ -85,14 +90,14 @@ impl Plan<'_> {
         let mut answers = Vec::new(self.alloc);
         if numbers.len() > MOST {
             let text = none_of(self.alloc, numbers)?;
-            answers.push(self.answers(naming, word, "from_discriminant", &text)?)?;
+            answers.push(self.answers_for(naming, word, "from_discriminant", &text)?)?;
         }
         Ok(answers)
     }
 
     /// Returns the answers with this text, which are those of a function of a type for a trait.
     #[tactic(auto, using(crate::proofs::WordLetters::name_append))]
-    fn answers(
+    fn answers_for(
         &self,
         naming: &Naming,
         of: &str,

@@ -1,9 +1,11 @@
-use Rattle.std.proofs.Common.{arith, pos, ℤ, ◌≡◌, List, [], ◌∷◌, refl}
+use Rattle.rasn_ldap.proofs.result_code.ResultCodeNameEnumerated.from_discriminant.Goals as goal
+use Rattle.std.proofs.Common.{
+    arith, pos, neg_ℤ, ℤ, ◌≡◌, List, [], ◌∷◌, refl
+}
 use Rattle.std.proofs.lemmas.Int.{ints}
 use Rattle.std.proofs.lemmas.List.Elements.{All-contains, All-cons, All-nil}
-use Rattle.rasn_ldap.proofs.result_code.ResultCodeNameEnumerated.from_discriminant.Goals as goal
 
--- The number is none of those that have a name: each of them, from the last one on, is another number.
+-- The number is none of those that have a name: each of them, from the last one on, is another.
 pub returns-in_default : goal.returns-in_default
 returns-in_default c = λ h.
     let P : ℤ → Type 0 = λ k. c.args.discriminant ≡ k → ⊥ in
