@@ -15,6 +15,11 @@ use std::alloc::{AllocError, Global};
 /// So many alternatives of a CHOICE, and so many numbers, need no answers.
 const MOST: usize = 11;
 
+/// What precedes the proofs of what is read, where numbers may be negative.
+const READ: &str = "use Rattle.std.proofs.Common.{w8, w16, w32, w64}
+use Rattle.std.proofs.lemmas.Int.{to_z-of_z}
+";
+
 /// What precedes the proof that a number is none of those with a name.
 const NUMBERS: &str = "use Rattle.std.proofs.Common.{
     arith, pos, neg_ℤ, ℤ, ◌≡◌, List, [], ◌∷◌, refl
@@ -123,8 +128,11 @@ impl Plan<'_> {
 /// Returns the proofs that what is read is an alternative's value: each pattern holds what was read.
 fn read_answers(alloc: Global, branches: &[Branch<'_>]) -> Result<String, AllocError> {
     let mut text = String::new(alloc);
+    if branches.iter().any(has_sign) {
+        text.push_str(READ)?;
+    }
     let last = branches.len().saturating_sub(1);
-    for (index, _branch) in branches.iter().enumerate() {
+    for (index, branch) in branches.iter().enumerate() {
         let mut path = String::from_str(alloc, "Ok")?;
         push_times(&mut path, "-Other", index)?;
         let mut depth = index;
@@ -138,9 +146,46 @@ fn read_answers(alloc: Global, branches: &[Branch<'_>]) -> Result<String, AllocE
             text,
             "\npub {goal} : goal.{goal}\n{goal} c =\n    let a = c.in-{path} in\n"
         )?;
-        writeln!(text, "    rw ({facts}) at c.read_choice.ensures.reads")?;
+        match signed_width(branch.expression.as_str()) {
+            Some(width) => push_number_read(&mut text, facts.as_str(), width)?,
+            None => writeln!(text, "    rw ({facts}) at c.read_choice.ensures.reads")?,
+        }
     }
     Ok(text)
+}
+
+/// Returns whether the value of an alternative is a number that may be negative.
+fn has_sign(branch: &Branch<'_>) -> bool {
+    signed_width(branch.expression.as_str()).is_some()
+}
+
+/// Returns the width of a type of numbers that may be negative.
+fn signed_width(ty: &str) -> Option<&'static str> {
+    match ty {
+        "i8" => Some("w8"),
+        "i16" => Some("w16"),
+        "i32" => Some("w32"),
+        "i64" => Some("w64"),
+        _ => None,
+    }
+}
+
+/// Adds the proof that a number of a type of this width, of which these facts are known, is what
+/// was read: it has so many bits.
+fn push_number_read(text: &mut String, facts: &str, width: &str) -> Result<(), AllocError> {
+    writeln!(
+        text,
+        "    let read = rw ({facts}) at c.read_choice.ensures.reads in"
+    )?;
+    writeln!(
+        text,
+        "    let held = rw ({facts}) at c.read_choice.type_inv in"
+    )?;
+    write!(
+        text,
+        "    rw (to_z-of_z {width} a.value (record {{ sfits = "
+    )?;
+    text.push_str("assumption held })) read\n")
 }
 
 /// Returns what is known of a value at this depth within variants: what each of them holds.

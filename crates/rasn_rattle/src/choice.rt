@@ -105,7 +105,7 @@ pub(crate) struct Branch<'schema> {
     /// The name of its variant.
     pub(crate) variant: String,
     /// The Rattle type of its value.
-    expression: String,
+    pub(crate) expression: String,
     /// Whether its values hold a GeneralizedTime.
     holds_time: bool,
     /// Whether it is the unknown alternative.
