@@ -1,5 +1,5 @@
 use Rattle.rasn_snmp.proofs.var_bind_value.VarBindValueDecode.decode_with_tag_and_constraints.Goals as goal
-use Rattle.std.proofs.Common.{w32}
+use Rattle.std.proofs.Common.{w8, w16, w32, w64}
 use Rattle.std.proofs.lemmas.Int.{to_z-of_z}
 
 pub returns-in-Ok-This-clause-reads : goal.returns-in-Ok-This-clause-reads
