@@ -80,3 +80,14 @@ impl Encode for ContentInfo {
         true
     }
 }
+
+impl WholeMessage for ContentInfo {
+    ghost use Rattle.std.specs.Prelude.{refl};
+    ghost use Rattle.rasn_types.specs.declared.types.codec.Codec.TheVariants.{Ber};
+
+    ghost RULES = { Ber };
+
+    const RULES: Codec = Codec::Ber;
+
+    ghost whole = { refl };
+}
