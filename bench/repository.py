@@ -14,6 +14,7 @@ def copied(scratch):
     for name in subprocess.check_output(["git", "ls-files", "-z"], cwd=TOP, text=True).split("\0"):
         if name:
             (top / name).parent.mkdir(parents=True, exist_ok=True)
+            (top / name).unlink(missing_ok=True)
             shutil.copy2(TOP / name, top / name, follow_symlinks=False)
     subprocess.run(["git", "init", "-q", "."], cwd=top, check=True)
     return top
