@@ -21,9 +21,7 @@ use Rattle.std.proofs.lemmas.Int.{to_z-of_z}
 ";
 
 /// What precedes the proof that a number is none of those with a name.
-const NUMBERS: &str = "use Rattle.std.proofs.Common.{
-    arith, pos, neg_ℤ, ℤ, ◌≡◌, List, [], ◌∷◌, refl
-}
+const NUMBERS: &str = "use Rattle.std.proofs.Common.{arith, pos, neg_ℤ, ℤ, ◌≡◌, List, [], ◌∷◌, refl}
 use Rattle.std.proofs.lemmas.Int.{ints}
 use Rattle.std.proofs.lemmas.List.Elements.{All-contains, All-cons, All-nil}
 

@@ -1,7 +1,5 @@
 use Rattle.rasn_ldap.proofs.result_code.ResultCodeNameEnumerated.from_discriminant.Goals as goal
-use Rattle.std.proofs.Common.{
-    arith, pos, neg_ℤ, ℤ, ◌≡◌, List, [], ◌∷◌, refl
-}
+use Rattle.std.proofs.Common.{arith, pos, neg_ℤ, ℤ, ◌≡◌, List, [], ◌∷◌, refl}
 use Rattle.std.proofs.lemmas.Int.{ints}
 use Rattle.std.proofs.lemmas.List.Elements.{All-contains, All-cons, All-nil}
 
