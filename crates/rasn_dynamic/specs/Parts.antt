@@ -27,14 +27,14 @@ use Rattle.rasn_dynamic.specs.Calls.{LeavesAllOut, DecodesPresent}
 use Rattle.rasn_dynamic.specs.Faults.{IsNextAlternative, ComponentsInTurn, Enters, Leads, start}
 use Rattle.rasn_dynamic.specs.declared.part.Part.{Part}
 
+-- The octets begin with length octets (8.1.3), and with one identifier octet before them there are n. As many octets as they spell follow.
+abbrev pub BeginsWithLength : List ℕ → ℕ → Type 0
+BeginsWithLength octets n = (len : List ℕ) × (count : ℕ) × (l : List ℕ) × (octets ≡ len ++ l) × SpellsLength len count × (count ≤ length l) × (n ≡ 1 + length len)
+
 -- The octets begin with a header of so many octets, of the definite or the indefinite form (X.690 8.1.3).
 abbrev pub IsHeader : List ℕ → ℕ → Bool → Type 0
 IsHeader octets n false = (tag : Tag) × (bit : Bool) × (contents : List ℕ) × (rest : List ℕ) × Frame (form Ber) octets tag bit rest (definite contents) × (n + (length contents + length rest) ≡ length octets)
 IsHeader octets n true = (tag : Tag) × (bit : Bool) × (rest : List ℕ) × Frame (form Ber) octets tag bit rest indefinite × (n + length rest ≡ length octets)
-
--- The octets begin with length octets (8.1.3), and with one identifier octet before them there are n. As many octets as they spell follow.
-abbrev pub BeginsWithLength : List ℕ → ℕ → Type 0
-BeginsWithLength octets n = (len : List ℕ) × (count : ℕ) × (l : List ℕ) × (octets ≡ len ++ l) × SpellsLength len count × (count ≤ length l) × (n ≡ 1 + length len)
 
 -- So does a part, unless it has no octets, as unknown values of which there are none.
 abbrev pub IsPartHeader : List ℕ → ℕ → Bool → Type 0
