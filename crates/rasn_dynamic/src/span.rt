@@ -48,7 +48,7 @@ pub fn no_list<'input>() -> Spans<'input> {
 fn empty_list<'input>(alloc: Global, len: usize) -> Vec<Span<'input>>
     ensures { result.items ≡ [] }
 {
-    let count = (len / 12).min(MOST_EXPECTED);
+    let count = (len / 8).min(MOST_EXPECTED);
     match Vec::with_capacity(alloc, count) {
         Ok(list) => list,
         Err(_) => Vec::new(alloc),
