@@ -1,5 +1,5 @@
 -- The parts of a message, in the order of their octets, each before those inside it.
-use Rattle.std.specs.Prelude.{Bool, ◌≡◌, ◌⊎◌, ◌+◌, ◌-◌, ◌^◌, ℕ, zero, suc, List, [], ◌∷◌, ◌++◌, length, slice_get, min, Some, Vec, Ok}
+use Rattle.std.specs.Prelude.{Bool, ◌≡◌, ◌⊎◌, ◌+◌, ◌-◌, ◌^◌, ◌<◌, ℕ, zero, suc, List, [], ◌∷◌, ◌++◌, length, slice_get, min, vec_len, vec_capacity, Some, Vec, Ok}
 use Rattle.std.specs.Global.{Global}
 use Rattle.rasn_types.specs.Framing.{Ended}
 use Rattle.rasn_types.specs.Shapes.{Shape, Tree}
@@ -143,6 +143,11 @@ pub record Lists (R : ℕ → List Span → Type 0) (old new : Spans) : Type 0 w
 -- Nothing is noted yet, and nothing follows.
 abbrev pub IsEmpty : Spans → Type 0
 IsEmpty o = (o.after ≡ 0) × (l : Vec Span Global) × (o.list ≡ Some l) × (l.items ≡ [])
+
+-- If there is a list afterwards, it is that of before, and has room for one part more.
+abbrev pub HasRoom : Spans → Spans → Type 0
+HasRoom old new = (new.after ≡ old.after)
+    × ((m : Vec Span Global) → new.list ≡ Some m → (l : Vec Span Global) × (old.list ≡ Some l) × (m.items ≡ l.items) × (vec_len m < vec_capacity m))
 
 -- A part that begins with these octets is the last of the list, at this place.
 abbrev pub IsNoted : TypeId → ℕ → ℕ → List ℕ → Spans → ℕ → Spans → Type 0

@@ -3,7 +3,7 @@ use Rattle.std.specs.Prelude.{[], ◌≡◌, ◌≢◌, ◌⊎◌, ◌+◌, ◌�
 use Rattle.rasn_types.specs.declared.types.codec.Codec.{Codec}
 use Rattle.rasn_types.specs.declared.types.codec.Codec.TheVariants.{Ber}
 use Rattle.rasn_types.specs.declared.types.tag.Tag.{Tag}
-use Rattle.rasn_types.specs.Framing.{Frame, definite, indefinite, Ended}
+use Rattle.rasn_types.specs.Framing.{Frame, SpellsLength, definite, indefinite, Ended}
 use Rattle.rasn_types.specs.Tags.{form}
 use Rattle.rasn_types.specs.Shapes.{Shape, Tree, choice_by, Presence, sought_by}
 use Rattle.rasn_types.specs.Grammar.{Reads}
@@ -26,6 +26,10 @@ use Rattle.rasn_dynamic.specs.Sets.{is_extensible, named_components}
 use Rattle.rasn_dynamic.specs.Calls.{LeavesAllOut, DecodesPresent}
 use Rattle.rasn_dynamic.specs.Faults.{IsNextAlternative, ComponentsInTurn, Enters, Leads, start}
 use Rattle.rasn_dynamic.specs.declared.part.Part.{Part}
+
+-- The octets begin with length octets (8.1.3), and with one identifier octet before them there are n. As many octets as they spell follow.
+abbrev pub BeginsWithLength : List ℕ → ℕ → Type 0
+BeginsWithLength octets n = (len : List ℕ) × (count : ℕ) × (l : List ℕ) × (octets ≡ len ++ l) × SpellsLength len count × (count ≤ length l) × (n ≡ 1 + length len)
 
 -- The octets begin with a header of so many octets, of the definite or the indefinite form (X.690 8.1.3).
 abbrev pub IsHeader : List ℕ → ℕ → Bool → Type 0

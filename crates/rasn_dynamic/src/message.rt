@@ -1,5 +1,5 @@
 //! The parts of a message, one after the other.
-ghost use Rattle.std.specs.Prelude.{◌≡◌, ◌⊎◌, OnOk, OnErr, IfOk, IfErr};
+ghost use Rattle.std.specs.Prelude.{◌≡◌, ◌⊎◌, [], OnOk, OnErr, IfOk, IfErr};
 ghost use Rattle.rasn_types.specs.Errors.{IsOutOfMemory};
 ghost use Rattle.rasn_dynamic.specs.Faults.{IsLocated};
 ghost use Rattle.rasn_dynamic.specs.Walk.{ArePartsOf, IsNextOf, path_at_depth};
@@ -13,6 +13,9 @@ use rasn_schema::{Schema, TypeId};
 use rasn_types::error::{DecodeError, DecodeErrorKind};
 use rasn_types::types::Codec;
 use std::alloc::{AllocError, Global};
+
+/// For how many indices of a path there is room from the start.
+const DEPTH_EXPECTED: usize = 16;
 
 /// The parts of a message, and how many of them `next` has returned.
 #[derive(Drop)]
@@ -66,12 +69,22 @@ pub fn parts_of<'input>(
                     list,
                     input,
                     next: 0,
-                    path: Vec::new(alloc),
+                    path: empty_path(alloc),
                 }),
                 None => Err(out_of_memory(alloc, rule, id)),
             }
         }
         Err(refusal) => Err(refusal),
+    }
+}
+
+/// Returns an empty path, with room for some indices.
+fn empty_path(alloc: Global) -> Vec<usize>
+    ensures { result.items ≡ [] }
+{
+    match Vec::with_capacity(alloc, DEPTH_EXPECTED) {
+        Ok(path) => path,
+        Err(_) => Vec::new(alloc),
     }
 }
 
@@ -81,6 +94,10 @@ fn go_along(path: &mut Vec<usize>, depth: usize, index: usize) -> Result<(), All
 {
     if depth == 0 {
         path.truncate(0);
+        return Ok(());
+    }
+    if path.len() == depth {
+        path[depth - 1] = index;
         return Ok(());
     }
     path.truncate(depth - 1);

@@ -1,6 +1,6 @@
 //! A part of a message.
-ghost use Rattle.std.specs.Prelude.{◌≡◌, ◌+◌, ◌≤◌, true, false, length, IfOk};
-ghost use Rattle.rasn_dynamic.specs.Parts.{IsHeader, IsPartHeader, end_len, AreContents};
+ghost use Rattle.std.specs.Prelude.{◌≡◌, ◌≢◌, ◌+◌, ◌%◌, ◌≤◌, ◌<◌, true, false, length, IfSome, IfOk};
+ghost use Rattle.rasn_dynamic.specs.Parts.{BeginsWithLength, IsHeader, IsPartHeader, end_len, AreContents};
 
 use crate::trace::octets_after;
 use rasn_de::ber::de::{ConstructedHeader, Decoder, DecoderOptions};
@@ -49,24 +49,64 @@ impl<'input> Part<'input> {
     }
 }
 
-/// Returns whether octets begin with an encoding that has one identifier octet and one length
-/// octet.
-fn has_short_header(octets: &[u8]) -> bool
-    ensures { result ≡ true → IsHeader octets.now 2 false }
+/// Returns whether an octet is the whole identifier of a value (X.690 8.1.2.3).
+fn is_identifier(octet: u8) -> bool
+    ensures { result ≡ true → (octet % 32 < 31) × (octet < 64 → octet % 32 ≢ 0) }
+{
+    if octet % 32 == 31 {
+        return false;
+    }
+    octet >= 64 || octet % 32 != 0
+}
+
+/// Returns the number of identifier and length octets, if there are so many octets of contents.
+fn if_long_enough(header_len: usize, len: usize, after: &[u8]) -> Option<usize>
+    ensures { IfSome result (λ n. (n ≡ header_len) × (len ≤ length after.now)) }
+{
+    if len <= after.len() {
+        return Some(header_len);
+    }
+    None
+}
+
+/// Returns the number of identifier and length octets of a value whose identifier is the octet
+/// before these, if it has up to three length octets (X.690 8.1.3).
+fn header_before(octets: &[u8]) -> Option<usize>
+    ensures { IfSome result (BeginsWithLength octets.now) }
 {
     let [first, after @ ..] = octets else {
-        return false;
+        return None;
     };
-    let [len, contents @ ..] = after else {
-        return false;
+    if *first < 128 {
+        return if_long_enough(2, *first as usize, after);
+    }
+    if *first == 129 {
+        let [len, contents @ ..] = after else {
+            return None;
+        };
+        return if_long_enough(3, *len as usize, contents);
+    }
+    if *first == 130 {
+        let [high, low, contents @ ..] = after else {
+            return None;
+        };
+        return if_long_enough(4, *high as usize * 256 + *low as usize, contents);
+    }
+    None
+}
+
+/// Returns the number of identifier and length octets of a part with these octets, if it has one
+/// identifier octet and up to three length octets.
+fn short_header(octets: &[u8]) -> Option<usize>
+    ensures { IfSome result (λ n. IsHeader octets.now n false) }
+{
+    let [first, after @ ..] = octets else {
+        return None;
     };
-    if *first % 32 == 31 {
-        return false;
+    if is_identifier(*first) {
+        return header_before(after);
     }
-    if *first < 64 && *first % 32 == 0 {
-        return false;
-    }
-    *len < 128 && *len as usize <= contents.len()
+    None
 }
 
 /// Returns the number of identifier and length octets of a part with these octets, and whether its
@@ -80,8 +120,8 @@ pub fn part_header(alloc: Global, octets: &[u8]) -> Result<(usize, bool), Decode
     if octets.is_empty() {
         return Ok((0, false));
     }
-    if has_short_header(octets) {
-        return Ok((2, false));
+    if let Some(len) = short_header(octets) {
+        return Ok((len, false));
     }
     header_of(alloc, octets)
 }

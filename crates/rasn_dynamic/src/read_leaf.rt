@@ -3,7 +3,7 @@ ghost use Rattle.std.specs.Prelude.{◌≡◌, true, ◌++◌, ◌∷◌, [], On
 ghost use Rattle.rasn_types.specs.Errors.{IsOutOfMemory};
 ghost use Rattle.rasn_types.specs.Numbered.{fit_isize};
 ghost use Rattle.rasn_types.specs.CharacterString.{string_kind};
-ghost use Rattle.rasn_types.specs.Shapes.{leaf, any, unknown, looked_for, fixed, integer, every, enumerated, object_identifier, bit_string, named_bits, octet_string, bmp, utf8, utc_time, generalized_time, date};
+ghost use Rattle.rasn_types.specs.Shapes.{leaf, any, unknown, looked_for, boolean, fixed, integer, every, enumerated, object_identifier, bit_string, named_bits, octet_string, bmp, utf8, utc_time, generalized_time, date};
 ghost use Rattle.rasn_types.specs.Trees.{unconstrained};
 ghost use Rattle.rasn_types.specs.Truth.{IsWhether};
 ghost use Rattle.rasn_de.specs.Decodes.{Decodes};
@@ -14,7 +14,7 @@ ghost use Rattle.rasn_dynamic.specs.Making.{Making, outcome, reported};
 ghost use Rattle.rasn_de.specs.declared.ber.de.parser.ParseError.TheVariants.{OutOfMemory, SizeConstraintNotSatisfied};
 ghost use Rattle.rasn_schema.specs.Trees.{tree_of};
 ghost use Rattle.rasn_schema.specs.Shapes.{kind_of, numbers_of};
-ghost use Rattle.rasn_schema.specs.declared.types.LeafKind.TheVariants.{FixedOctetString as FixedKind, UtcTime as UtcTimeKind};
+ghost use Rattle.rasn_schema.specs.declared.types.LeafKind.TheVariants.{Boolean as BooleanKind, FixedOctetString as FixedKind, UtcTime as UtcTimeKind};
 ghost use Rattle.rasn_dynamic.specs.Calls.{IsNumberIn, IsStringOf, FailsAtNumber, FailsAtFixed};
 ghost use Rattle.rasn_schema.specs.Fitting.{FitsLeaf, IsNumber, AreOctets, AreItems, EachFits};
 
@@ -510,6 +510,31 @@ fn check_leaf(
     }
 }
 
+/// Reads a BOOLEAN, and makes its value.
+#[inline(never)]
+fn make_boolean<'input>(
+    decoder: &mut Decoder<'input>,
+    error: &mut DecodeError,
+    tag: Tag,
+    bounds: &Constraints,
+    out: &mut Value<'input>,
+) -> Result<(), Refused>
+    ensures reads { Decodes (leaf boolean tag bounds.now) tree_of decoder.old (outcome result out.new error.new) decoder.new }
+    ensures fits { IfOk (outcome result out.new error.new) (λ v. FitsLeaf BooleanKind v) }
+    ensures rules { IfErr (outcome result out.new error.new) (λ e. e.codec ≡ decoder.old.rule) }
+{
+    match bool::decode_with_tag_and_constraints(decoder, tag, bounds) {
+        Ok(value) => {
+            *out = Value::Boolean(value);
+            Ok(())
+        }
+        Err(fault) => {
+            *error = fault;
+            Err(Refused)
+        }
+    }
+}
+
 /// Reads a value that holds no other values, and makes it.
 #[inline(never)]
 fn make_leaf<'input>(
@@ -524,6 +549,9 @@ fn make_leaf<'input>(
     ensures fits { IfOk (outcome result out.new error.new) (λ v. FitsLeaf kind v) }
     ensures rules { IfErr (outcome result out.new error.new) (λ e. e.codec ≡ decoder.old.rule) }
 {
+    if let LeafKind::Boolean = kind {
+        return make_boolean(decoder, error, tag, bounds, out);
+    }
     match decode_leaf(decoder, kind, tag, bounds) {
         Ok(value) => {
             *out = value;

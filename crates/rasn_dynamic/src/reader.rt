@@ -969,7 +969,13 @@ fn follows(
     requires { IsReadable (shape_of_type types.now levels id.0) }
     ensures { NextIs (sought_by (key_of (shape_of_type types.now levels id.0)) (shape_of_type types.now levels id.0)) decoder.now (reported result error.new) }
 {
-    kept(is_next(decoder, types, levels, id), error)
+    match is_next(decoder, types, levels, id) {
+        Ok(found) => Ok(found),
+        Err(fault) => {
+            *error = fault;
+            Err(Refused)
+        }
+    }
 }
 
 /// Reads a component of a SEQUENCE, unless it is absent.

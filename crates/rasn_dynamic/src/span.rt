@@ -1,7 +1,7 @@
 //! The parts of a message, as they are read.
 ghost use Rattle.std.specs.Prelude.{◌≡◌, [], length};
 ghost use Rattle.rasn_dynamic.specs.Faults.{octets_after};
-ghost use Rattle.rasn_dynamic.specs.Listed.{IsEmpty, IsNoted, IsFinished, IsInside, IsOutside, IsCut};
+ghost use Rattle.rasn_dynamic.specs.Listed.{IsEmpty, HasRoom, IsNoted, IsFinished, IsInside, IsOutside, IsCut};
 
 use crate::trace::octets_after;
 use rasn_de::ber::de::Decoder;
@@ -12,7 +12,7 @@ use std::alloc::Global;
 const MOST_EXPECTED: usize = 1024;
 
 /// A part of a message as it was read: a value that is in it, or the message itself.
-#[derive(Debug, Drop)]
+#[derive(Debug, Clone, Copy)]
 pub struct Span<'input> {
     /// The number of its type.
     pub id: TypeId,
@@ -48,7 +48,7 @@ pub fn no_list<'input>() -> Spans<'input> {
 fn empty_list<'input>(alloc: Global, len: usize) -> Vec<Span<'input>>
     ensures { result.items ≡ [] }
 {
-    let count = (len / 12).min(MOST_EXPECTED);
+    let count = (len / 8).min(MOST_EXPECTED);
     match Vec::with_capacity(alloc, count) {
         Ok(list) => list,
         Err(_) => Vec::new(alloc),
@@ -65,6 +65,36 @@ pub fn new_list<'input>(alloc: Global, len: usize) -> Spans<'input>
     }
 }
 
+/// Makes room in a full list for one more part. If memory runs out, there is no list from then on.
+#[cold]
+#[inline(never)]
+fn grow(spans: &mut Spans<'_>)
+    ensures { HasRoom spans.old spans.new }
+{
+    let Some(list) = &mut spans.list else {
+        return;
+    };
+    match list.reserve(1) {
+        Ok(()) => {}
+        Err(_) => {
+            spans.list = None;
+        }
+    }
+}
+
+/// Makes room in the list for one more part. If memory runs out, there is no list from then on.
+#[inline(always)]
+fn make_room(spans: &mut Spans<'_>)
+    ensures { HasRoom spans.old spans.new }
+{
+    let Some(list) = &spans.list else {
+        return;
+    };
+    if list.len() >= list.capacity() {
+        grow(spans);
+    }
+}
+
 /// Notes a part that is read next. Returns its place in the list. If memory runs out, there is no
 /// list from then on.
 #[inline(always)]
@@ -77,42 +107,20 @@ pub fn note<'input>(
 ) -> usize
     ensures { IsNoted id index levels octets.now spans.old result spans.new }
 {
-    if spans.list.is_none() {
-        return 0;
-    }
-    note_in_list(spans, id, index, levels, octets)
-}
-
-/// Notes such a part in the list, if there is one.
-#[inline(never)]
-fn note_in_list<'input>(
-    spans: &mut Spans<'input>,
-    id: TypeId,
-    index: usize,
-    levels: usize,
-    octets: &'input [u8],
-) -> usize
-    ensures { IsNoted id index levels octets.now spans.old result spans.new }
-{
+    make_room(spans);
     let left = spans.after.saturating_add(octets.len());
     let Some(list) = &mut spans.list else {
         return 0;
     };
     let place = list.len();
-    let part = Span {
+    list.push_reserved(Span {
         id,
         index,
         levels,
         left,
         octets,
-    };
-    match list.push(part) {
-        Ok(()) => place,
-        Err(_) => {
-            spans.list = None;
-            0
-        }
-    }
+    });
+    place
 }
 
 /// Returns the octets before the rest, if they end with it.
@@ -125,16 +133,6 @@ fn cut<'input>(octets: &'input [u8], rest: &[u8]) -> &'input [u8]
 /// Ends the part at this place of the list: its octets are those before the rest.
 #[inline(always)]
 pub fn finish(spans: &mut Spans<'_>, place: usize, rest: &[u8])
-    ensures { IsFinished place rest.now spans.old spans.new }
-{
-    if spans.list.is_some() {
-        finish_in_list(spans, place, rest);
-    }
-}
-
-/// Ends such a part of the list, if there is one.
-#[inline(never)]
-fn finish_in_list(spans: &mut Spans<'_>, place: usize, rest: &[u8])
     ensures { IsFinished place rest.now spans.old spans.new }
 {
     let Some(list) = &mut spans.list else {

@@ -2,7 +2,7 @@ use Rattle.std.proofs.Common.{◌∷◌, ◌∙◌, length, Vec, refl, sym, ap, 
 use Rattle.std.specs.Global.{Global}
 use Rattle.rasn_dynamic.specs.declared.span.Span.{Span}
 use Rattle.rasn_dynamic.proofs.Listed.{same_list, is_finished}
-use Rattle.rasn_dynamic.proofs.span.finish_in_list.Goals as goal
+use Rattle.rasn_dynamic.proofs.span.finish.Goals as goal
 
 pub returns-then-place-len : goal.returns-then-place-len
 returns-then-place-len c =
