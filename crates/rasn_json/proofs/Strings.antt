@@ -52,7 +52,8 @@ same_digit (suc n) k h lt =
           rw e (eqb-true (digit_glyph true n) (slice_index upper_digits n) parts.0)
     ]
 
-in_capitals : (o : List ℕ) → AreOctets o → hexadecimal o ≡ encode_upper o
+-- The two ways to say which digits octets have are the same.
+pub in_capitals : (o : List ℕ) → AreOctets o → hexadecimal o ≡ encode_upper o
 unfolding encode_with
 in_capitals [] h = refl
 in_capitals (b ∷ o) h =

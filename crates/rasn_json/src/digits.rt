@@ -8,15 +8,13 @@ use crate::error::{JsonError, JsonErrorKind};
 use crate::found::string_of;
 use hex::FromHexError;
 use json::Value as Json;
-use rasn_types::types::Hexadecimal;
 use std::alloc::{AllocError, Global};
 
 /// Returns octets as hexadecimal digits, in capitals.
 pub fn digits_of(alloc: Global, octets: &[u8]) -> Result<String, AllocError>
     ensures { IfOk result (λ s. string_bytes s ≡ hexadecimal octets.now) }
 {
-    let shown = Hexadecimal::new(octets);
-    format!(in alloc; "{shown}")
+    hex::encode_upper(alloc, octets)
 }
 
 /// Returns the octets of a string of hexadecimal digits, two for each octet, in capitals or not.

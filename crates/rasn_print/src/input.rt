@@ -19,15 +19,23 @@ pub fn form_of(alloc: Global, call: &Call, octets: &[u8]) -> Result<InputForm, A
     if !blocks(alloc, octets)?.is_empty() {
         return Ok(InputForm::Pem);
     }
-    if octets.iter().all(|octet| octet.is_ascii_hexdigit() || octet.is_ascii_whitespace()) {
+    if is_hexadecimal(octets) {
         return Ok(InputForm::Hex);
     }
     Ok(InputForm::Der)
 }
 
+/// Returns whether a text is hexadecimal digits and white space.
+fn is_hexadecimal(text: &[u8]) -> bool {
+    text.iter().all(|octet| octet.is_ascii_hexdigit() || octet.is_ascii_whitespace())
+}
+
 /// Returns the octets that hexadecimal digits denote, between which white space may be; `None` if
 /// there is something else.
 pub fn from_hexadecimal(alloc: Global, text: &[u8]) -> Result<Option<Vec<u8>>, AllocError> {
+    if !is_hexadecimal(text) {
+        return Ok(None);
+    }
     let mut digits = Vec::new(alloc);
     for octet in text {
         if !octet.is_ascii_whitespace() {
