@@ -48,7 +48,7 @@ pub(crate) fn import(alloc: Global, from: &str, types: &str) -> Result<String, A
     let mut width: usize = 3;
     for name in types.split(", ") {
         let added = columns(name).saturating_add(2);
-        if width.saturating_add(added) >= COLUMNS {
+        if width.saturating_add(added) > COLUMNS {
             lines.push_str("\n   ")?;
             width = 3;
         }

@@ -1,0 +1,134 @@
+//! `AuthEnvelopedData ::= SEQUENCE`
+use crate::{
+    AuthEnvelopedDataAuthAttrs, AuthEnvelopedDataUnauthAttrs, CmsVersion, EncryptedContentInfo,
+    MessageAuthenticationCode, OriginatorInfo, RecipientInfos,
+};
+use rasn::prelude::*;
+
+/// `AuthEnvelopedData ::= SEQUENCE`
+#[derive(Debug, PartialEq, Eq, Drop)]
+pub struct AuthEnvelopedData {
+    /// `version CMSVersion`
+    pub version: CmsVersion,
+    /// `originatorInfo [0] IMPLICIT OriginatorInfo OPTIONAL`
+    pub originator_info: Option<Implicit<ContextTag<0>, OriginatorInfo>>,
+    /// `recipientInfos RecipientInfos`
+    pub recipient_infos: RecipientInfos,
+    /// `authEncryptedContentInfo EncryptedContentInfo`
+    pub auth_encrypted_content_info: EncryptedContentInfo,
+    /// `authAttrs AuthEnvelopedData-authAttrs OPTIONAL`
+    pub auth_attrs: Option<AuthEnvelopedDataAuthAttrs>,
+    /// `mac MessageAuthenticationCode`
+    pub mac: MessageAuthenticationCode,
+    /// `unauthAttrs AuthEnvelopedData-unauthAttrs OPTIONAL`
+    pub unauth_attrs: Option<AuthEnvelopedDataUnauthAttrs>,
+}
+
+/// The components, as they are read.
+type Parts = Required<CmsVersion, Parts1>;
+
+type Parts1 = Optional<Implicit<ContextTag<0>, OriginatorInfo>, Parts2>;
+
+type Parts2 = Required<RecipientInfos, Parts3>;
+
+type Parts3 = Required<EncryptedContentInfo, Parts4>;
+
+type Parts4 = Optional<AuthEnvelopedDataAuthAttrs, Parts5>;
+
+type Parts5 = Required<MessageAuthenticationCode, Parts6>;
+
+type Parts6 = Optional<AuthEnvelopedDataUnauthAttrs, End>;
+
+impl AsnType for AuthEnvelopedData {
+    ghost use Rattle.std.specs.Prelude.{refl};
+    ghost use Rattle.rasn_types.specs.Tags.{in_universal};
+    ghost use Rattle.rasn_types.specs.Shapes.{seq};
+    ghost use Rattle.rasn_types.specs.Trees.{unconstrained};
+
+    ghost TAG = { in_universal 16 };
+
+    const TAG: Tag = Tag::SEQUENCE;
+
+    ghost CONSTRAINTS = { unconstrained };
+
+    const CONSTRAINTS: Constraints = Constraints::NONE;
+
+    ghost shape = { seq (in_universal 16) ⟦<Parts as DecodeParts>⟧.parts };
+
+    ghost tree = { λ a. ⟦<Parts as DecodeParts>⟧.tree (record { 0 = a.version; 1 = record { 0 = a.originator_info; 1 = record { 0 = a.recipient_infos; 1 = record { 0 = a.auth_encrypted_content_info; 1 = record { 0 = a.auth_attrs; 1 = record { 0 = a.mac; 1 = record { 0 = a.unauth_attrs; 1 = record {} } } } } } } }) };
+
+    ghost own = { refl };
+}
+
+impl LawfulEq for AuthEnvelopedData {
+    ghost use Rattle.rasn_types.specs.Deciding.{deciding};
+    ghost use Rattle.rasn_cms.specs.contracts.auth_enveloped_data_auth_attrs.AuthEnvelopedDataAuthAttrsLawfulEq.TheImpl.Laws.{decides-law as auth_enveloped_data_auth_attrs_law};
+    ghost use Rattle.rasn_cms.specs.contracts.auth_enveloped_data_auth_attrs.AuthEnvelopedDataAuthAttrsPresent.TheImpl.Laws.{present-law as auth_enveloped_data_auth_attrs_present};
+    ghost use Rattle.rasn_cms.specs.contracts.auth_enveloped_data_unauth_attrs.AuthEnvelopedDataUnauthAttrsLawfulEq.TheImpl.Laws.{decides-law as auth_enveloped_data_unauth_attrs_law};
+    ghost use Rattle.rasn_cms.specs.contracts.auth_enveloped_data_unauth_attrs.AuthEnvelopedDataUnauthAttrsPresent.TheImpl.Laws.{present-law as auth_enveloped_data_unauth_attrs_present};
+    ghost use Rattle.rasn_cms.specs.contracts.encrypted_content_info.EncryptedContentInfoLawfulEq.TheImpl.Laws.{decides-law as encrypted_content_info_law};
+    ghost use Rattle.rasn_cms.specs.contracts.originator_info.OriginatorInfoLawfulEq.TheImpl.Laws.{decides-law as originator_info_law};
+    ghost use Rattle.rasn_cms.specs.contracts.originator_info.OriginatorInfoPresent.TheImpl.Laws.{present-law as originator_info_present};
+    ghost use Rattle.rasn_cms.specs.contracts.recipient_infos.RecipientInfosLawfulEq.TheImpl.Laws.{decides-law as recipient_infos_law};
+
+    ghost decides = { Prim.search (auth_enveloped_data_auth_attrs_law, auth_enveloped_data_auth_attrs_present, auth_enveloped_data_unauth_attrs_law, auth_enveloped_data_unauth_attrs_present, encrypted_content_info_law, originator_info_law, originator_info_present, recipient_infos_law, deciding) depth 64 };
+}
+
+impl Present for AuthEnvelopedData {
+    ghost use Rattle.rasn_types.specs.Equality.{parts_not_absent};
+
+    ghost present = { λ _. parts_not_absent };
+}
+
+impl Decode for AuthEnvelopedData {
+    ghost use Rattle.std.specs.Prelude.{IfOk};
+    ghost use Rattle.rasn_de.specs.Beyond.{BeyondInside};
+    ghost use Rattle.rasn_de.specs.Constructed.{sequence_header};
+
+    ghost beyond = { λ tag old result _. IfOk result (λ a. BeyondInside ⟦<Parts as DecodeParts>⟧.beyond (sequence_header tag) old (record { 0 = a.version; 1 = record { 0 = a.originator_info; 1 = record { 0 = a.recipient_infos; 1 = record { 0 = a.auth_encrypted_content_info; 1 = record { 0 = a.auth_attrs; 1 = record { 0 = a.mac; 1 = record { 0 = a.unauth_attrs; 1 = record {} } } } } } } })) };
+
+    fn decode_with_tag_and_constraints(
+        decoder: &mut Decoder<'_>,
+        tag: Tag,
+        _constraints: &Constraints,
+    ) -> Result<AuthEnvelopedData, DecodeError> {
+        let Required(version, rest) = decoder.read_sequence::<Parts>(tag)?;
+        let Optional(originator_info, rest) = rest;
+        let Required(recipient_infos, rest) = rest;
+        let Required(auth_encrypted_content_info, rest) = rest;
+        let Optional(auth_attrs, rest) = rest;
+        let Required(mac, rest) = rest;
+        let Optional(unauth_attrs, End) = rest;
+        Ok(AuthEnvelopedData {
+            version,
+            originator_info,
+            recipient_infos,
+            auth_encrypted_content_info,
+            auth_attrs,
+            mac,
+            unauth_attrs,
+        })
+    }
+}
+
+impl Encode for AuthEnvelopedData {
+    fn encode_with_tag_and_constraints(
+        &self,
+        encoder: &mut Encoder,
+        tag: Tag,
+        _constraints: &Constraints,
+        _identifier: Identifier,
+    ) -> Result<(), EncodeError> {
+        let rest = PutOptional(&self.unauth_attrs, End);
+        let rest = Put(&self.mac, rest);
+        let rest = PutOptional(&self.auth_attrs, rest);
+        let rest = Put(&self.auth_encrypted_content_info, rest);
+        let rest = Put(&self.recipient_infos, rest);
+        let rest = PutOptional(&self.originator_info, rest);
+        encoder.write_sequence(tag, Put(&self.version, rest))
+    }
+
+    fn is_present(&self) -> bool {
+        true
+    }
+}

@@ -1,0 +1,100 @@
+//! `EnvelopedMessage ::= SEQUENCE`
+use crate::{ContentType, EnvelopedData};
+use rasn::prelude::*;
+
+/// `EnvelopedMessage ::= SEQUENCE`
+#[derive(Debug, PartialEq, Eq, Drop)]
+pub struct EnvelopedMessage {
+    /// `contentType ContentType`
+    pub content_type: ContentType,
+    /// `content [0] EXPLICIT EnvelopedData`
+    pub content: Explicit<ContextTag<0>, EnvelopedData>,
+}
+
+/// The components, as they are read.
+type Parts = Required<ContentType, Parts1>;
+
+type Parts1 = Required<Explicit<ContextTag<0>, EnvelopedData>, End>;
+
+impl AsnType for EnvelopedMessage {
+    ghost use Rattle.std.specs.Prelude.{refl};
+    ghost use Rattle.rasn_types.specs.Tags.{in_universal};
+    ghost use Rattle.rasn_types.specs.Shapes.{seq};
+    ghost use Rattle.rasn_types.specs.Trees.{unconstrained};
+
+    ghost TAG = { in_universal 16 };
+
+    const TAG: Tag = Tag::SEQUENCE;
+
+    ghost CONSTRAINTS = { unconstrained };
+
+    const CONSTRAINTS: Constraints = Constraints::NONE;
+
+    ghost shape = { seq (in_universal 16) ⟦<Parts as DecodeParts>⟧.parts };
+
+    ghost tree = { λ a. ⟦<Parts as DecodeParts>⟧.tree (record { 0 = a.content_type; 1 = record { 0 = a.content; 1 = record {} } }) };
+
+    ghost own = { refl };
+}
+
+impl LawfulEq for EnvelopedMessage {
+    ghost use Rattle.rasn_types.specs.Deciding.{deciding};
+    ghost use Rattle.rasn_cms.specs.contracts.enveloped_data.EnvelopedDataLawfulEq.TheImpl.Laws.{decides-law as enveloped_data_law};
+
+    ghost decides = { Prim.search (enveloped_data_law, deciding) depth 64 };
+}
+
+impl Present for EnvelopedMessage {
+    ghost use Rattle.rasn_types.specs.Equality.{parts_not_absent};
+
+    ghost present = { λ _. parts_not_absent };
+}
+
+impl Decode for EnvelopedMessage {
+    ghost use Rattle.std.specs.Prelude.{IfOk};
+    ghost use Rattle.rasn_de.specs.Beyond.{BeyondInside};
+    ghost use Rattle.rasn_de.specs.Constructed.{sequence_header};
+
+    ghost beyond = { λ tag old result _. IfOk result (λ a. BeyondInside ⟦<Parts as DecodeParts>⟧.beyond (sequence_header tag) old (record { 0 = a.content_type; 1 = record { 0 = a.content; 1 = record {} } })) };
+
+    fn decode_with_tag_and_constraints(
+        decoder: &mut Decoder<'_>,
+        tag: Tag,
+        _constraints: &Constraints,
+    ) -> Result<EnvelopedMessage, DecodeError> {
+        let Required(content_type, rest) = decoder.read_sequence::<Parts>(tag)?;
+        let Required(content, End) = rest;
+        Ok(EnvelopedMessage {
+            content_type,
+            content,
+        })
+    }
+}
+
+impl Encode for EnvelopedMessage {
+    fn encode_with_tag_and_constraints(
+        &self,
+        encoder: &mut Encoder,
+        tag: Tag,
+        _constraints: &Constraints,
+        _identifier: Identifier,
+    ) -> Result<(), EncodeError> {
+        let rest = Put(&self.content, End);
+        encoder.write_sequence(tag, Put(&self.content_type, rest))
+    }
+
+    fn is_present(&self) -> bool {
+        true
+    }
+}
+
+impl WholeMessage for EnvelopedMessage {
+    ghost use Rattle.std.specs.Prelude.{refl};
+    ghost use Rattle.rasn_types.specs.declared.types.codec.Codec.TheVariants.{Ber};
+
+    ghost RULES = { Ber };
+
+    const RULES: Codec = Codec::Ber;
+
+    ghost whole = { refl };
+}

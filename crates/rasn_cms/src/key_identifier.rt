@@ -1,0 +1,5 @@
+//! `KeyIdentifier ::= OCTET STRING`
+use rasn::prelude::*;
+
+/// `KeyIdentifier ::= OCTET STRING`
+pub type KeyIdentifier = OctetString;

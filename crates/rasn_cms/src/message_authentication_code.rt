@@ -1,0 +1,5 @@
+//! `MessageAuthenticationCode ::= OCTET STRING`
+use rasn::prelude::*;
+
+/// `MessageAuthenticationCode ::= OCTET STRING`
+pub type MessageAuthenticationCode = OctetString;

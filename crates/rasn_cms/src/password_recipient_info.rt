@@ -1,0 +1,99 @@
+//! `PasswordRecipientInfo ::= SEQUENCE`
+use crate::{CmsVersion, EncryptedKey};
+use rasn::prelude::*;
+use rasn_pkix::AlgorithmIdentifier;
+
+/// `PasswordRecipientInfo ::= SEQUENCE`
+#[derive(Debug, PartialEq, Eq, Drop)]
+pub struct PasswordRecipientInfo {
+    /// `version CMSVersion`
+    pub version: CmsVersion,
+    /// `keyDerivationAlgorithm [0] IMPLICIT AlgorithmIdentifier OPTIONAL`
+    pub key_derivation_algorithm: Option<Implicit<ContextTag<0>, AlgorithmIdentifier>>,
+    /// `keyEncryptionAlgorithm AlgorithmIdentifier`
+    pub key_encryption_algorithm: AlgorithmIdentifier,
+    /// `encryptedKey EncryptedKey`
+    pub encrypted_key: EncryptedKey,
+}
+
+/// The components, as they are read.
+type Parts = Required<CmsVersion, Parts1>;
+
+type Parts1 = Optional<Implicit<ContextTag<0>, AlgorithmIdentifier>, Parts2>;
+
+type Parts2 = Required<AlgorithmIdentifier, Parts3>;
+
+type Parts3 = Required<EncryptedKey, End>;
+
+impl AsnType for PasswordRecipientInfo {
+    ghost use Rattle.std.specs.Prelude.{refl};
+    ghost use Rattle.rasn_types.specs.Tags.{in_universal};
+    ghost use Rattle.rasn_types.specs.Shapes.{seq};
+    ghost use Rattle.rasn_types.specs.Trees.{unconstrained};
+
+    ghost TAG = { in_universal 16 };
+
+    const TAG: Tag = Tag::SEQUENCE;
+
+    ghost CONSTRAINTS = { unconstrained };
+
+    const CONSTRAINTS: Constraints = Constraints::NONE;
+
+    ghost shape = { seq (in_universal 16) ⟦<Parts as DecodeParts>⟧.parts };
+
+    ghost tree = { λ a. ⟦<Parts as DecodeParts>⟧.tree (record { 0 = a.version; 1 = record { 0 = a.key_derivation_algorithm; 1 = record { 0 = a.key_encryption_algorithm; 1 = record { 0 = a.encrypted_key; 1 = record {} } } } }) };
+
+    ghost own = { refl };
+}
+
+impl LawfulEq for PasswordRecipientInfo {
+    ghost use Rattle.rasn_types.specs.Deciding.{deciding};
+    ghost use Rattle.rasn_pkix.specs.contracts.algorithm_identifier.AlgorithmIdentifierLawfulEq.TheImpl.Laws.{decides-law as algorithm_identifier_law};
+    ghost use Rattle.rasn_pkix.specs.contracts.algorithm_identifier.AlgorithmIdentifierPresent.TheImpl.Laws.{present-law as algorithm_identifier_present};
+
+    ghost decides = { Prim.search (algorithm_identifier_law, algorithm_identifier_present, deciding) depth 64 };
+}
+
+impl Present for PasswordRecipientInfo {
+    ghost use Rattle.rasn_types.specs.Equality.{parts_not_absent};
+
+    ghost present = { λ _. parts_not_absent };
+}
+
+impl Decode for PasswordRecipientInfo {
+    fn decode_with_tag_and_constraints(
+        decoder: &mut Decoder<'_>,
+        tag: Tag,
+        _constraints: &Constraints,
+    ) -> Result<PasswordRecipientInfo, DecodeError> {
+        let Required(version, rest) = decoder.read_sequence::<Parts>(tag)?;
+        let Optional(key_derivation_algorithm, rest) = rest;
+        let Required(key_encryption_algorithm, rest) = rest;
+        let Required(encrypted_key, End) = rest;
+        Ok(PasswordRecipientInfo {
+            version,
+            key_derivation_algorithm,
+            key_encryption_algorithm,
+            encrypted_key,
+        })
+    }
+}
+
+impl Encode for PasswordRecipientInfo {
+    fn encode_with_tag_and_constraints(
+        &self,
+        encoder: &mut Encoder,
+        tag: Tag,
+        _constraints: &Constraints,
+        _identifier: Identifier,
+    ) -> Result<(), EncodeError> {
+        let rest = Put(&self.encrypted_key, End);
+        let rest = Put(&self.key_encryption_algorithm, rest);
+        let rest = PutOptional(&self.key_derivation_algorithm, rest);
+        encoder.write_sequence(tag, Put(&self.version, rest))
+    }
+
+    fn is_present(&self) -> bool {
+        true
+    }
+}

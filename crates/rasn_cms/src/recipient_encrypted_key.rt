@@ -1,0 +1,86 @@
+//! `RecipientEncryptedKey ::= SEQUENCE`
+use crate::{EncryptedKey, KeyAgreeRecipientIdentifier};
+use rasn::prelude::*;
+
+/// `RecipientEncryptedKey ::= SEQUENCE`
+#[derive(Debug, PartialEq, Eq, Drop)]
+pub struct RecipientEncryptedKey {
+    /// `rid KeyAgreeRecipientIdentifier`
+    pub rid: KeyAgreeRecipientIdentifier,
+    /// `encryptedKey EncryptedKey`
+    pub encrypted_key: EncryptedKey,
+}
+
+/// The components, as they are read.
+type Parts = Required<KeyAgreeRecipientIdentifier, Parts1>;
+
+type Parts1 = Required<EncryptedKey, End>;
+
+impl AsnType for RecipientEncryptedKey {
+    ghost use Rattle.std.specs.Prelude.{refl};
+    ghost use Rattle.rasn_types.specs.Tags.{in_universal};
+    ghost use Rattle.rasn_types.specs.Shapes.{seq};
+    ghost use Rattle.rasn_types.specs.Trees.{unconstrained};
+
+    ghost TAG = { in_universal 16 };
+
+    const TAG: Tag = Tag::SEQUENCE;
+
+    ghost CONSTRAINTS = { unconstrained };
+
+    const CONSTRAINTS: Constraints = Constraints::NONE;
+
+    ghost shape = { seq (in_universal 16) ⟦<Parts as DecodeParts>⟧.parts };
+
+    ghost tree = { λ a. ⟦<Parts as DecodeParts>⟧.tree (record { 0 = a.rid; 1 = record { 0 = a.encrypted_key; 1 = record {} } }) };
+
+    ghost own = { refl };
+}
+
+impl LawfulEq for RecipientEncryptedKey {
+    ghost use Rattle.rasn_types.specs.Deciding.{deciding};
+    ghost use Rattle.rasn_cms.specs.contracts.key_agree_recipient_identifier.KeyAgreeRecipientIdentifierLawfulEq.TheImpl.Laws.{decides-law as key_agree_recipient_identifier_law};
+
+    ghost decides = { Prim.search (key_agree_recipient_identifier_law, deciding) depth 64 };
+}
+
+impl Present for RecipientEncryptedKey {
+    ghost use Rattle.rasn_types.specs.Equality.{parts_not_absent};
+
+    ghost present = { λ _. parts_not_absent };
+}
+
+impl Decode for RecipientEncryptedKey {
+    ghost use Rattle.std.specs.Prelude.{IfOk};
+    ghost use Rattle.rasn_de.specs.Beyond.{BeyondInside};
+    ghost use Rattle.rasn_de.specs.Constructed.{sequence_header};
+
+    ghost beyond = { λ tag old result _. IfOk result (λ a. BeyondInside ⟦<Parts as DecodeParts>⟧.beyond (sequence_header tag) old (record { 0 = a.rid; 1 = record { 0 = a.encrypted_key; 1 = record {} } })) };
+
+    fn decode_with_tag_and_constraints(
+        decoder: &mut Decoder<'_>,
+        tag: Tag,
+        _constraints: &Constraints,
+    ) -> Result<RecipientEncryptedKey, DecodeError> {
+        let Required(rid, rest) = decoder.read_sequence::<Parts>(tag)?;
+        let Required(encrypted_key, End) = rest;
+        Ok(RecipientEncryptedKey { rid, encrypted_key })
+    }
+}
+
+impl Encode for RecipientEncryptedKey {
+    fn encode_with_tag_and_constraints(
+        &self,
+        encoder: &mut Encoder,
+        tag: Tag,
+        _constraints: &Constraints,
+        _identifier: Identifier,
+    ) -> Result<(), EncodeError> {
+        let rest = Put(&self.encrypted_key, End);
+        encoder.write_sequence(tag, Put(&self.rid, rest))
+    }
+
+    fn is_present(&self) -> bool {
+        true
+    }
+}

@@ -1,0 +1,5 @@
+//! `UserKeyingMaterial ::= OCTET STRING`
+use rasn::prelude::*;
+
+/// `UserKeyingMaterial ::= OCTET STRING`
+pub type UserKeyingMaterial = OctetString;
