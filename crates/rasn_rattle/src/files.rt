@@ -1,5 +1,6 @@
 //! The files of a crate.
-ghost use Rattle.std.specs.Prelude.{◌≡◌, true, IfOk};
+ghost use Rattle.std.specs.Prelude.{◌≡◌, true, codes, IfOk};
+ghost use Rattle.std.specs.String.{string_bytes};
 ghost use Rattle.rasn_rattle.specs.Files.{EndsWithLib};
 ghost use Rattle.rasn_rattle.specs.Words.{is_word};
 
@@ -152,14 +153,21 @@ impl Plan<'_> {
             answers: Vec::new(self.alloc),
         };
         written.push(self.alloc, schema, "TYPES")?;
-        let lib = File {
-            name: String::from_str(self.alloc, "lib")?,
-            text: written.lib_text(self.alloc)?,
-            answers: Vec::new(self.alloc),
-        };
+        let lib = self.lib_file(&written)?;
         let Files { mut files, .. } = written;
         files.push(lib)?;
         Ok(files)
+    }
+
+    /// Returns the file that lists the others.
+    fn lib_file(&self, written: &Files) -> Result<File, AllocError>
+        ensures { IfOk result (λ file. string_bytes file.name ≡ codes "lib") }
+    {
+        Ok(File {
+            name: String::from_str(self.alloc, "lib")?,
+            text: written.lib_text(self.alloc)?,
+            answers: Vec::new(self.alloc),
+        })
     }
 
     /// Returns the files of types.
