@@ -18,3 +18,18 @@ def copied(scratch):
             shutil.copy2(TOP / name, top / name, follow_symlinks=False)
     subprocess.run(["git", "init", "-q", "."], cwd=top, check=True)
     return top
+
+
+def list_crate(top, line):
+    """Adds a crate's line to crates.txt of the copy."""
+    with (top / "crates.txt").open("a") as listed:
+        listed.write(f"{line}\n")
+
+
+def add_program(top, name, source, libraries):
+    """Adds a program with this text and these libraries to the copy, and returns its crate's folder."""
+    crate = top / "crates" / name
+    (crate / "src").mkdir(parents=True, exist_ok=True)
+    shutil.copy(source, crate / "src/main.rt")
+    list_crate(top, f"{name}: {libraries}")
+    return crate
