@@ -65,14 +65,14 @@ impl Plan<'_> {
                 naming,
                 "Decode",
                 "decode_with_tag_and_constraints",
-                &read,
+                read.as_str(),
             )?;
             let written = written_answers(self.alloc, branches.as_slice())?;
             let written = self.answers_for(
                 naming,
                 "Encode",
                 "encode_with_tag_and_constraints",
-                &written,
+                written.as_str(),
             )?;
             answers.push(read)?;
             answers.push(written)?;
@@ -93,19 +93,19 @@ impl Plan<'_> {
         let mut answers = Vec::new(self.alloc);
         if numbers.len() > MOST {
             let text = none_of(self.alloc, numbers)?;
-            answers.push(self.answers_for(naming, word, "from_discriminant", &text)?)?;
+            answers.push(self.answers_for(naming, word, "from_discriminant", text.as_str())?)?;
         }
         Ok(answers)
     }
 
-    /// Returns the answers with this text, which are those of a function of a type for a trait.
+    /// Makes the answers for a function of a trait that a type implements.
     #[tactic(auto, using(crate::proofs::WordLetters::name_append))]
     fn answers_for(
         &self,
         naming: &Naming,
         of: &str,
         function: &'static str,
-        text: &String,
+        text: &str,
     ) -> Result<Answers, AllocError>
         requires owner { is_name of.now ≡ true }
         requires function { is_word function.now ≡ true }
