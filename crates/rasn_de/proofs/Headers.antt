@@ -12,3 +12,4 @@ pub mod Memory
 pub mod Extents
 pub mod Forms
 pub mod Steps
+pub mod Short

@@ -1,10 +1,10 @@
 -- Headers, read octet by octet from the left, up to the contents or to the first fault.
-use Rattle.std.specs.Prelude.{ℕ, ◌+◌, ◌-◌, ◌*◌, ◌/◌, ◌%◌, Bool, true, false, ◌&&◌, ◌||◌, nat_eq, nat_lt, nat_le, if◌then◌else◌, List, [], ◌∷◌, length, take, drop, Option, Some, None, Result, Ok, Err}
+use Rattle.std.specs.Prelude.{◌≡◌, ◌<◌, ℕ, ◌+◌, ◌-◌, ◌*◌, ◌/◌, ◌%◌, Bool, true, false, ◌&&◌, ◌||◌, nat_eq, nat_lt, nat_le, if◌then◌else◌, List, [], ◌∷◌, length, take, drop, Option, Some, None, Result, Ok, Err}
 use Rattle.std.specs.Bool.{beq}
 use Rattle.rasn_types.specs.declared.types.tag.Tag.{Tag}
 use Rattle.rasn_types.specs.declared.types.tag.Class.{Class}
 use Rattle.rasn_types.specs.declared.types.tag.Class.TheVariants.{Universal, Application, Context, Private}
-use Rattle.rasn_types.specs.Tags.{is_eoc, Form, basic_form, der_form, loose_form}
+use Rattle.rasn_types.specs.Tags.{is_eoc, tag_bit, Form, basic_form, der_form, loose_form}
 pub use Rattle.rasn_types.specs.Tags.{is_der}
 use Rattle.rasn_types.specs.declared.types.codec.Codec.{Codec}
 use Rattle.rasn_types.specs.declared.types.codec.Codec.TheVariants.{Ber, Cer, Der}
@@ -74,6 +74,10 @@ identifier_by shortest (b ∷ l) = tag_number_at b l >>= checked_identifier shor
 
 abbrev pub identifier_at : Form → List ℕ → Result Identified ParseError
 identifier_at spelling l = identifier_by (spelled spelling).shortest l
+
+-- An octet is the whole identifier of a primitive value with the tag, which isn't always constructed (8.1.2.2).
+abbrev pub IsPrimitiveIdentifier : Tag → ℕ → Type 0
+IsPrimitiveIdentifier tag first = (tag_of first (first % 64) ≡ tag) × (tag.value < 31) × (is_eoc tag ≡ false) × (tag_bit tag ≡ false)
 
 -- The number that octets encode, most significant first, after octets with the value n.
 unfoldable pub number256_at : ℕ → List ℕ → Result ℕ ParseError

@@ -219,7 +219,7 @@ expected_parsed (Exactly wanted) tag bit u e =
     let t = bind_ok (tagged_at wanted.tag tag) _ u e in
     (tagged_parsed wanted.tag tag t.0 t.1, bit_parsed bit wanted.bit u t.2)
 
-expected_spelled : (expected : Expected) (tag : Tag) (bit : Bool) → IsExpected expected tag bit → expected_at expected tag bit ≡ Ok tt
+pub expected_spelled : (expected : Expected) (tag : Tag) (bit : Bool) → IsExpected expected tag bit → expected_at expected tag bit ≡ Ok tt
 expected_spelled AnyTag tag bit h = refl
 expected_spelled (Tagged wanted) tag bit h = rw (same_tag_self tag wanted h) refl
 expected_spelled (Exactly wanted) tag bit (h, k) = rw (same_tag_self tag wanted.tag h, k, bit_self wanted.bit) refl

@@ -1,12 +1,13 @@
 //! Framing: identifier, length and contents octets (X.690 8.1).
-ghost use Rattle.std.specs.Prelude.{◌≡◌};
+ghost use Rattle.std.specs.Prelude.{◌≡◌, true, Ok, IfSome};
+ghost use Rattle.rasn_types.specs.declared.types.codec.Codec.{Codec};
 ghost use Rattle.rasn_types.specs.Framing.{AreOctets};
-ghost use Rattle.rasn_types.specs.Tags.{is_eoc};
-ghost use Rattle.rasn_de.specs.Headers.{number128_at, number256_at, first_octets, is_padded, is_longer, tag_number_at, identifier_by, begins_with_zero, has_spare, length_at, header_by, long_at, contents_at, class_of};
+ghost use Rattle.rasn_types.specs.Tags.{form, is_eoc, tag_bit};
+ghost use Rattle.rasn_de.specs.Headers.{header_at, as_written, IsPrimitiveIdentifier, number128_at, number256_at, first_octets, is_padded, is_longer, tag_number_at, identifier_by, begins_with_zero, has_spare, length_at, header_by, long_at, contents_at, class_of};
 ghost use Rattle.rasn_de.specs.ParserViews.{ParsesAs, pair, both, identified, header};
 
 use crate::ber::de::parser::headers::{Expected, Spelling};
-use rasn_types::ber::Identifier;
+use rasn_types::ber::{Identifier, is_always_constructed};
 use rasn_types::error::DerDecodeErrorKind;
 use rasn_types::types::{Bounded, Class, Tag};
 
@@ -310,6 +311,43 @@ fn read_contents(
             ))
         }
     }
+}
+
+/// Returns whether an octet is the whole identifier of a primitive value with this tag, which may be
+/// written as such (X.690 8.1.2.2, 8.1.2.3).
+#[inline(always)]
+fn is_primitive_identifier(tag: Tag, octet: u8) -> bool
+    ensures { result ≡ true → IsPrimitiveIdentifier tag octet }
+{
+    let found = Tag {
+        class: class_at(octet / 64),
+        value: u32::from(octet % 64),
+    };
+    found == tag && tag.value < 31 && !is_end_of_contents(tag) && !is_always_constructed(tag)
+}
+
+/// Returns the value at the start of the input and what follows it, if the value is primitive and
+/// has this tag, and its identifier and its length have one octet each (X.690 8.1.2.2, 8.1.3.4).
+/// Under all rules, such a value is read.
+#[tactic(auto, using(crate::proofs::Headers::Results::octets_all, crate::proofs::Headers::Short::short_value))]
+#[inline(always)]
+pub fn short_value(tag: Tag, input: &[u8]) -> Option<(Value<'_>, &[u8])>
+    ensures exact { IfSome result (λ found. (rule : Codec) → header_at (form rule) (as_written rule tag (tag_bit tag)) input.now ≡ Ok (header found)) }
+    ensures octets { AreOctets input.now }
+{
+    let [first, length, after @ ..] = input else {
+        return None;
+    };
+    if *length > 127 || !is_primitive_identifier(tag, *first) {
+        return None;
+    }
+    let (contents, rest) = after.split_at_checked(usize::from(*length))?;
+    let value = Value {
+        tag,
+        is_constructed: false,
+        contents: Contents::Definite(contents),
+    };
+    Some((value, rest))
 }
 
 /// Reads the header of the value at the start of the input, and its contents if the length is
