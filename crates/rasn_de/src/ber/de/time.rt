@@ -8,7 +8,7 @@ ghost use Rattle.rasn_types.specs.Time.{GeneralUtc, CanonicalUtc, GeneralGeneral
 ghost use Rattle.rasn_types.specs.Grammar.{UtcText, GeneralizedText};
 ghost use Rattle.rasn_de.specs.Decodes.{Decodes};
 ghost use Rattle.rasn_de.specs.Checks.{Checks, ChecksBy};
-ghost use Rattle.rasn_de.specs.ShortText.{TakesTime, IsTimeIfTrue, is_constructed_next};
+ghost use Rattle.rasn_de.specs.ShortText.{BeginsShortTime, TakesTime, IsTimeExactlyIf, is_constructed_next};
 ghost use Rattle.rasn_de.specs.Time.{AtAnyOffset, IsInvalidDate, IsInvalidText, IsInvalidString, ParsesTime, ParsesCopiedTime, DecodesTime};
 
 use crate::ber::de::Decoder;
@@ -51,7 +51,7 @@ fn read_generalized_time(rules: Codec, text: &[u8]) -> Option<GeneralizedTime>
 
 /// Returns whether a text of at most 32 octets is a time or a date.
 fn is_time<T: TimeText>(rules: Codec, text: &ShortText) -> bool
-    ensures { IsTimeIfTrue result (T.means rules) text.now.octets text.now.len }
+    ensures { IsTimeExactlyIf result (T.means rules) text.now.octets text.now.len }
 {
     let Some(octets) = text.as_slice() else {
         return false;
@@ -238,6 +238,7 @@ impl<'input> Decoder<'input> {
     pub fn check_utc_time(&mut self, tag: Tag) -> Result<(), DecodeError>
         ensures reads { (c : Constraints) → Checks (leaf utc_time tag c) self.old result self.new }
         ensures exact { ChecksBy (DecodesTime (AtAnyOffset (UtcText self.old.rule)) tag) self.old result self.new }
+        ensures memory { IfErr result (λ e. BeginsShortTime (AtAnyOffset (UtcText self.old.rule)) tag self.old → ⊥) }
         ensures rules { IfErr result (λ e. e.codec ≡ self.old.rule) }
     {
         if self.take_time::<UtcTime>(tag) {
@@ -257,6 +258,7 @@ impl<'input> Decoder<'input> {
     pub fn check_generalized_time(&mut self, tag: Tag) -> Result<(), DecodeError>
         ensures reads { (c : Constraints) → Checks (leaf generalized_time tag c) self.old result self.new }
         ensures exact { ChecksBy (DecodesTime (GeneralizedText self.old.rule) tag) self.old result self.new }
+        ensures memory { IfErr result (λ e. BeginsShortTime (GeneralizedText self.old.rule) tag self.old → ⊥) }
         ensures rules { IfErr result (λ e. e.codec ≡ self.old.rule) }
     {
         if self.take_time::<GeneralizedTime>(tag) {
@@ -276,6 +278,7 @@ impl<'input> Decoder<'input> {
     pub fn check_date(&mut self, tag: Tag) -> Result<(), DecodeError>
         ensures reads { (c : Constraints) → Checks (leaf date tag c) self.old result self.new }
         ensures exact { ChecksBy (DecodesTime DateText tag) self.old result self.new }
+        ensures memory { IfErr result (λ e. BeginsShortTime DateText tag self.old → ⊥) }
         ensures rules { IfErr result (λ e. e.codec ≡ self.old.rule) }
     {
         if self.take_time::<Date>(tag) {
