@@ -1,6 +1,5 @@
 -- Strings in segments, whose octets are kept if they are few.
 use Rattle.std.specs.Prelude.{◌≡◌, ◌<◌, ◌%◌, ◌⊎◌, ℕ, Bool, true, false, nat_le, List, [], ◌∷◌, length, take, Ok}
-use Rattle.rasn_types.specs.Framing.{AreOctets}
 use Rattle.rasn_types.specs.declared.types.codec.Codec.{Codec}
 use Rattle.rasn_types.specs.declared.types.tag.Tag.{Tag}
 use Rattle.rasn_de.specs.Checks.{Counts}
@@ -22,7 +21,7 @@ BeginsShortTime {X} Means tag old =
 -- A string that means a time is consumed. If none is, no constructed string with a text of at most 32 octets means a
 -- time.
 abbrev pub TakesTime : {X : Type 0} → (Codec → List ℕ → X → Type 0) → Tag → State → Bool → State → Type 0
-TakesTime {X} Means tag old true new = (x : X) × AreOctets old.rest × DecodesTime (Means old.rule) tag old (Ok x) new
+TakesTime {X} Means tag old true new = (x : X) × DecodesTime (Means old.rule) tag old (Ok x) new
 TakesTime Means tag old false new = (new ≡ old) × (IsConstructed old.rule tag old.rest → BeginsShortTime (Means old.rule) tag old → ⊥)
 
 -- Whether octets of which at most 32 are kept mean a time.

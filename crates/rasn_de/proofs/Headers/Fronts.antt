@@ -1,12 +1,10 @@
 -- What a frame begins with.
-use Rattle.std.proofs.Common.{◌≡◌, ℕ, ◌+◌, ◌*◌, ◌%◌, ◌<◌, ◌≤◌, ◌⊎◌, inl, inr, Bool, true, List, [], ◌∷◌, ◌++◌, length, sym, ap, ◌∙◌, arith, length-append}
-use Rattle.std.proofs.lemmas.Bool.Decides.{nat_tests}
+use Rattle.std.proofs.Common.{◌≡◌, ℕ, ◌+◌, ◌*◌, ◌<◌, ◌≤◌, ◌⊎◌, inl, inr, Bool, true, List, [], ◌∷◌, ◌++◌, length, sym, ◌∙◌, arith, length-append}
 use Rattle.rasn_types.specs.declared.types.tag.Tag.{Tag}
 use Rattle.rasn_types.specs.declared.types.tag.Class.TheVariants.{Universal}
 use Rattle.rasn_types.specs.Tags.{Form, rank, eoc}
 use Rattle.rasn_types.specs.Framing.{bit_of, Spells128, SpellsIdentifier, SpellsLength, Extent, indefinite, Frame, with_length, without_length}
 use Rattle.rasn_types.proofs.Headers.Frames.{rank_one}
-use Rattle.rasn_de.specs.ShortText.{is_constructed_next}
 use Rattle.rasn_de.proofs.Headers.Identifiers.{tag_is}
 
 id_not_zero : (a x y : List ℕ) (s : Tag) (b : Bool) → SpellsIdentifier a s b → a ++ x ≡ 0 ∷ y → ⊥
@@ -30,19 +28,6 @@ frame_not_zero {s = s} {b = b} y (without_length id p q r e) f = id_not_zero id 
 
 pub frame_bit : {spelling : Form} {input : List ℕ} {tag : Tag} {bit : Bool} {rest : List ℕ} → Frame spelling input tag bit rest indefinite → bit ≡ true
 frame_bit (without_length id s b h e) = b
-
--- The first octet of a constructed value tells that it is one.
-id_constructed : (id more : List ℕ) (tag : Tag) → SpellsIdentifier id tag true → is_constructed_next (id ++ more) ≡ true
-id_constructed [] more tag s = absurd s.spells
-id_constructed (b ∷ l) more tag s = go s.spells.number
-  where
-    go : ((s.spells.low < 31) × (l ≡ []) × (tag.value ≡ s.spells.low)) ⊎ ((s.spells.low ≡ 31) × Spells128 l tag.value) → is_constructed_next (b ∷ l) ≡ true
-    go (inl (p, q, r)) = let f = s.spells.leading in let k : 32 ≤ b % 64 = omega arith in grind (arith, nat_tests)
-    go (inr (p, q)) = let f = s.spells.leading in let k : 32 ≤ b % 64 = omega arith in grind (arith, nat_tests)
-
-pub frame_constructed : {spelling : Form} {input : List ℕ} {tag : Tag} {rest : List ℕ} {extent : Extent} → Frame spelling input tag true rest extent → is_constructed_next input ≡ true
-frame_constructed {tag = tag} (with_length id len contents s a strict e) = ap is_constructed_next e ∙ id_constructed id _ tag s
-frame_constructed {tag = tag} (without_length id s b h e) = ap is_constructed_next e ∙ id_constructed id _ tag s
 
 id_length : (id : List ℕ) (tag : Tag) (bit : Bool) → SpellsIdentifier id tag bit → 1 ≤ length id
 id_length [] tag bit h = absurd h.spells
