@@ -15,14 +15,16 @@ HoldsShort octets len seen = Counts 33 len seen × (len < 33 → seen ≡ take l
 -- A string that means a time begins the input, and is primitive or has a text of at most 32 octets.
 abbrev pub BeginsShortTime : {X : Type 0} → (List ℕ → X → Type 0) → Tag → State → Type 0
 BeginsShortTime {X} Means tag old =
-    (x : X) × (text : List ℕ) × (rest : List ℕ) × (octet_string_at old.rule old.depth tag old.rest ≡ Ok (text, rest)) × Means text x
+    (x : X) × (text : List ℕ) × (rest : List ℕ)
+    × (octet_string_at old.rule old.depth tag old.rest ≡ Ok (text, rest)) × Means text x
     × ((length text < 33) ⊎ IsPrimitive old.rule tag old.rest)
 
 -- A string that means a time is consumed. If none is, no constructed string with a text of at most 32 octets means a
 -- time.
 abbrev pub TakesTime : {X : Type 0} → (Codec → List ℕ → X → Type 0) → Tag → State → Bool → State → Type 0
 TakesTime {X} Means tag old true new = (x : X) × DecodesTime (Means old.rule) tag old (Ok x) new
-TakesTime Means tag old false new = (new ≡ old) × (IsConstructed old.rule tag old.rest → BeginsShortTime (Means old.rule) tag old → ⊥)
+TakesTime Means tag old false new =
+    (new ≡ old) × (IsConstructed old.rule tag old.rest → BeginsShortTime (Means old.rule) tag old → ⊥)
 
 -- Whether octets of which at most 32 are kept mean a time.
 abbrev pub IsTimeExactlyIf : {X : Type 0} → Bool → (List ℕ → X → Type 0) → List ℕ → ℕ → Type 0
