@@ -1,11 +1,12 @@
 -- Small clauses that several contracts share: what satisfies them, and what doesn't.
-use Rattle.std.specs.Prelude.{◌≡◌, ℕ, ◌+◌, ◌-◌, ◌^◌, ◌<◌, List, [], ◌∷◌, Some, None, Result, Ok, Err, pos, negsuc}
+use Rattle.std.specs.Prelude.{◌≡◌, ℕ, ◌+◌, ◌-◌, ◌^◌, ◌<◌, List, [], ◌∷◌, false, Some, None, Result, Ok, Err, pos, negsuc}
 use Rattle.rasn_types.specs.Tags.{in_universal}
 use Rattle.rasn_types.specs.declared.types.codec.Codec.TheVariants.{Ber}
 use Rattle.rasn_de.specs.declared.ber.de.parser.ParseError.{ParseError}
 use Rattle.rasn_de.specs.declared.ber.de.parser.ParseError.TheVariants.{OutOfMemory}
 use Rattle.rasn_de.specs.Segments.{string_at, octets, without_memory}
 use Rattle.rasn_de.specs.OctetString.{CollectsOctets}
+use Rattle.rasn_de.specs.ShortText.{BeginsShortTime}
 use Rattle.rasn_de.specs.SetPartTypes.{IsRequiredOrDefault, HasGap, LeavesGap}
 use Rattle.rasn_types.specs.Shapes.{chosen, absent, required, optional, default}
 use Rattle.rasn_types.specs.Options.{IsSomeMeaningExactlyIf}
@@ -19,6 +20,18 @@ use Rattle.rasn_types.specs.Inline.{IsLong}
 -- The outcome of reading an OCTET STRING if every allocation fails.
 abbrev pub bare_octets : List ℕ → Result (List ℕ × List ℕ) ParseError
 bare_octets l = string_at Ber (without_memory octets) (in_universal 4) 2 (in_universal 4) l
+
+-- The input begins with a UTCTime that is primitive or has a text of at most 32 octets, if each text means itself.
+abbrev pub BeginsShortText : List ℕ → Type 0
+BeginsShortText l =
+    BeginsShortTime (λ (text x : List ℕ). x ≡ text) (in_universal 23)
+    (record { rule = Ber; depth = 2; closing = false; whole = l; rest = l })
+
+abbrev pub eight_zeros : List ℕ → List ℕ
+eight_zeros l = 0 ∷ 0 ∷ 0 ∷ 0 ∷ 0 ∷ 0 ∷ 0 ∷ 0 ∷ l
+
+abbrev pub zeros_32 : List ℕ
+zeros_32 = eight_zeros (eight_zeros (eight_zeros (eight_zeros [])))
 
 pub record WorkedClauses : Type 0 where
   -- Offsets of 23:59 west and east of UTC are valid, and offsets of a whole day aren't.
@@ -45,6 +58,10 @@ pub record WorkedClauses : Type 0 where
   pub nothing_collected : CollectsOctets Ber 2 (in_universal 4) (36 ∷ 0 ∷ []) → ⊥
   pub empty_collected : CollectsOctets Ber 2 (in_universal 4) (36 ∷ 2 ∷ 4 ∷ 0 ∷ []) → ⊥
   pub cut_collected : CollectsOctets Ber 2 (in_universal 4) (36 ∷ 3 ∷ 4 ∷ 2 ∷ 5 ∷ []) → ⊥
+  -- In segments, a text of 32 octets is short and one of 33 isn't. In a primitive string, 33 octets are short.
+  pub short_segments : BeginsShortText (55 ∷ 34 ∷ 4 ∷ 32 ∷ zeros_32)
+  pub long_segments : BeginsShortText (55 ∷ 35 ∷ 4 ∷ 33 ∷ 0 ∷ zeros_32) → ⊥
+  pub long_primitive : BeginsShortText (23 ∷ 33 ∷ 0 ∷ zeros_32)
   -- A required part and one with a default need memory if they aren't read, an optional part doesn't.
   pub required_needs : IsRequiredOrDefault required
   pub default_needs : IsRequiredOrDefault (default absent)

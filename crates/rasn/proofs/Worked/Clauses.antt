@@ -1,8 +1,13 @@
 -- Small clauses that contracts share: what they hold of, and what they don't.
-use Rattle.std.proofs.Common.{◌≡◌, ℕ, ℤ, zero, suc, Some, ◌-◌, ◌^◌, ◌<◌, get_or, inl, inr, List, [], ◌∷◌, length, Result, Ok, Err, pos, negsuc, refl, sym, ap, ◌∙◌, arith, rules}
+use Rattle.std.proofs.Common.{◌≡◌, ◌≢◌, false, true, ℕ, ℤ, zero, suc, Some, ◌-◌, ◌^◌, ◌<◌, get_or, inl, inr, List, [], ◌∷◌, length, Result, Ok, Err, pos, negsuc, refl, sym, ap, ◌∙◌, arith, rules}
+use Rattle.rasn_types.specs.declared.types.codec.Codec.TheVariants.{Ber}
+use Rattle.rasn_types.specs.declared.types.tag.Tag.{Tag}
 use Rattle.rasn_types.specs.Contents.{RepeatsSign}
+use Rattle.rasn_types.specs.Framing.{definite, Frame, with_length}
 use Rattle.rasn_types.specs.Inline.{IsLong}
+use Rattle.rasn_types.specs.Tags.{form, in_universal, eoc}
 use Rattle.rasn_types.specs.Trees.{IsShortestOf}
+use Rattle.rasn_types.proofs.Headers.Frames.{frame_one}
 use Rattle.rasn_types.proofs.Integer.Shortest.{same_shortest}
 use Rattle.rasn_de.specs.declared.ber.de.parser.ParseError.{ParseError}
 use Rattle.rasn_de.specs.declared.ber.de.parser.ParseError.TheVariants.{OutOfMemory, Incomplete}
@@ -11,7 +16,8 @@ use Rattle.rasn_de.specs.Segments.{segments_at, string_of}
 use Rattle.rasn_types.specs.CharacterString.{IsPrintable}
 use Rattle.rasn_types.specs.Shapes.{Tree, chosen, absent, required, optional, default}
 use Rattle.rasn_de.specs.SetPartTypes.{HasGap, LeavesGap}
-use Rattle.rasn.specs.WorkedClauses.{bare_octets, WorkedClauses}
+use Rattle.rasn_de.specs.OctetString.{octet_string_at}
+use Rattle.rasn.specs.WorkedClauses.{bare_octets, BeginsShortText, zeros_32, WorkedClauses}
 
 star : IsPrintable 42 → ⊥
 star (inl h) = omega (arith, h.0)
@@ -42,6 +48,41 @@ cut = refl
 
 not_wanted : (p : List ℕ × List ℕ) (r : Result (List ℕ × List ℕ) ParseError) → r ≡ Ok p → r ≡ Err OutOfMemory → ⊥
 not_wanted p r e h = cc
+
+short : BeginsShortText (55 ∷ 34 ∷ 4 ∷ 32 ∷ zeros_32)
+unfolding header_by tag_number_at identifier_by length_at segments_at string_of
+short = (zeros_32, zeros_32, [], refl, refl, inl (omega arith))
+
+not_eoc : in_universal 23 ≢ eoc
+not_eoc e = let k : 23 ≡ 0 = ap (λ (t : Tag). t.value) e in omega (arith, k)
+
+whole : Frame (form Ber) (23 ∷ 33 ∷ 0 ∷ zeros_32) (in_universal 23) false [] (definite (0 ∷ zeros_32))
+whole =
+    with_length (23 ∷ []) (33 ∷ []) (0 ∷ zeros_32)
+    (record { spells = record { low = 23; leading = refl; number = inl (omega arith, refl, refl) }; is_one = not_eoc })
+    (inl (omega arith, refl, refl)) (λ h. absurd h) refl
+
+long_whole : BeginsShortText (23 ∷ 33 ∷ 0 ∷ zeros_32)
+unfolding header_by tag_number_at identifier_by length_at segments_at string_of
+long_whole = (0 ∷ zeros_32, 0 ∷ zeros_32, [], refl, refl, inr ([], 0 ∷ zeros_32, whole))
+
+parts : Frame (form Ber) (55 ∷ 35 ∷ 4 ∷ 33 ∷ 0 ∷ zeros_32) (in_universal 23) true [] (definite (4 ∷ 33 ∷ 0 ∷ zeros_32))
+parts =
+    with_length (55 ∷ []) (35 ∷ []) (4 ∷ 33 ∷ 0 ∷ zeros_32)
+    (record { spells = record { low = 23; leading = refl; number = inl (omega arith, refl, refl) }; is_one = not_eoc })
+    (inl (omega arith, refl, refl)) (λ h. absurd h) refl
+
+long_read : octet_string_at Ber 2 (in_universal 23) (55 ∷ 35 ∷ 4 ∷ 33 ∷ 0 ∷ zeros_32) ≡ Ok (0 ∷ zeros_32, [])
+unfolding header_by tag_number_at identifier_by length_at segments_at string_of
+long_read = refl
+
+long_parts : BeginsShortText (55 ∷ 35 ∷ 4 ∷ 33 ∷ 0 ∷ zeros_32) → ⊥
+long_parts (x, text, rest, e, m, inl s) =
+    let r = long_read in
+    let p : ◌≡◌ {A = List ℕ × List ℕ} (text, rest) (0 ∷ zeros_32, []) = cc in
+    let k : length text ≡ 33 = ap (λ (z : List ℕ × List ℕ). length z.0) p in
+    omega (arith, k, s)
+long_parts (x, text, rest, e, m, inr (r, c, f)) = let b : false ≡ true = (frame_one _ f parts).bit in cc
 
 -- 2^183 and -2^183 - 1 in their fewest octets, and the numbers next to them, which take one octet less
 falls : RepeatsSign 0 128 → ⊥
@@ -111,6 +152,9 @@ worked = record {
   nothing_collected = λ h. not_wanted _ _ nothing h.1;
   empty_collected = λ h. not_wanted _ _ empty h.1;
   cut_collected = λ h. let e : ◌≡◌ {A = Result (List ℕ × List ℕ) ParseError} (Err (Incomplete 1)) (Err OutOfMemory) = sym cut ∙ h.1 in cc;
+  short_segments = short;
+  long_segments = long_parts;
+  long_primitive = long_whole;
   required_needs = tt;
   default_needs = tt;
   optional_needs_none = λ h. h;

@@ -2,13 +2,14 @@
 ghost use Rattle.std.specs.Prelude.{◌≡◌, IfErr};
 ghost use Rattle.std.specs.String.{string_bytes};
 ghost use Rattle.rasn_types.specs.declared.types.constraints.Constraints.{Constraints};
+ghost use Rattle.rasn_types.specs.Framing.{AreOctets};
 ghost use Rattle.rasn_types.specs.Options.{IsSomeRelated};
 ghost use Rattle.rasn_types.specs.Shapes.{leaf, utc_time, generalized_time, date, instant, on_day};
 ghost use Rattle.rasn_types.specs.Time.{GeneralUtc, CanonicalUtc, GeneralGeneralized, StrictGeneralized, DateText};
 ghost use Rattle.rasn_types.specs.Grammar.{UtcText, GeneralizedText};
 ghost use Rattle.rasn_de.specs.Decodes.{Decodes};
 ghost use Rattle.rasn_de.specs.Checks.{Checks, ChecksBy};
-ghost use Rattle.rasn_de.specs.ShortText.{TakesTime, IsTimeIfTrue, is_constructed_next};
+ghost use Rattle.rasn_de.specs.ShortText.{BeginsShortTime, TakesTime, IsTimeExactlyIf, is_constructed_next};
 ghost use Rattle.rasn_de.specs.Time.{AtAnyOffset, IsInvalidDate, IsInvalidText, IsInvalidString, ParsesTime, ParsesCopiedTime, DecodesTime};
 
 use crate::ber::de::Decoder;
@@ -49,9 +50,22 @@ fn read_generalized_time(rules: Codec, text: &[u8]) -> Option<GeneralizedTime>
     }
 }
 
+/// Returns whether the input begins with an identifier that has the constructed bit (X.690
+/// 8.1.2.5).
+#[tactic(auto, using(crate::proofs::Headers::Results::octets_all))]
+fn begins_constructed(input: &[u8]) -> bool
+    ensures bit { result ≡ is_constructed_next input.now }
+    ensures octets { AreOctets input.now }
+{
+    match input {
+        [first, ..] => *first % 64 >= 32,
+        [] => false,
+    }
+}
+
 /// Returns whether a text of at most 32 octets is a time or a date.
 fn is_time<T: TimeText>(rules: Codec, text: &ShortText) -> bool
-    ensures { IsTimeIfTrue result (T.means rules) text.now.octets text.now.len }
+    ensures { IsTimeExactlyIf result (T.means rules) text.now.octets text.now.len }
 {
     let Some(octets) = text.as_slice() else {
         return false;
@@ -92,12 +106,18 @@ trait TimeText: Drop {
     ghost use Rattle.std.specs.Prelude.{List, ℕ};
     ghost use Rattle.rasn_types.specs.declared.types.codec.Codec.{Codec};
     ghost use Rattle.rasn_types.specs.Options.{IsSomeRelated};
+    ghost use Rattle.rasn_de.specs.Time.{DecodesTime};
 
     ghost means: { Codec → List ℕ → Self → Type 0 };
 
     /// Parses a text that the rules allow.
     fn parse(rules: Codec, text: &[u8]) -> Option<Self>
         ensures { IsSomeRelated result (means rules text.now) };
+
+    /// Reads a string whose text the rules allow.
+    fn read(input: &mut Decoder<'_>, tag: Tag) -> Result<Self, DecodeError>
+        ensures exact { DecodesTime (means input.old.rule) tag input.old result input.new }
+        ensures rules { IfErr result (λ e. e.codec ≡ input.old.rule) };
 }
 
 impl TimeText for UtcTime {
@@ -105,6 +125,11 @@ impl TimeText for UtcTime {
 
     fn parse(rules: Codec, text: &[u8]) -> Option<UtcTime> {
         read_utc_time(rules, text)
+    }
+
+    #[inline(always)]
+    fn read(input: &mut Decoder<'_>, tag: Tag) -> Result<UtcTime, DecodeError> {
+        input.decode_utc_time(tag)
     }
 }
 
@@ -114,6 +139,11 @@ impl TimeText for GeneralizedTime {
     fn parse(rules: Codec, text: &[u8]) -> Option<GeneralizedTime> {
         read_generalized_time(rules, text)
     }
+
+    #[inline(always)]
+    fn read(input: &mut Decoder<'_>, tag: Tag) -> Result<GeneralizedTime, DecodeError> {
+        input.decode_generalized_time(tag)
+    }
 }
 
 impl TimeText for Date {
@@ -122,15 +152,21 @@ impl TimeText for Date {
     fn parse(_rules: Codec, text: &[u8]) -> Option<Date> {
         parse_date(text)
     }
+
+    #[inline(always)]
+    fn read(input: &mut Decoder<'_>, tag: Tag) -> Result<Date, DecodeError> {
+        input.decode_date(tag)
+    }
 }
 
 impl<'input> Decoder<'input> {
     /// Consumes a string in segments if its text has at most 32 octets and is a time or a date.
     /// Returns whether it does; otherwise nothing is consumed.
     fn take_time<T: TimeText>(&mut self, tag: Tag) -> bool
-        ensures { TakesTime T.means tag self.old result self.new }
+        ensures exact { TakesTime T.means tag self.old result self.new }
+        ensures octets { AreOctets self.old.rest }
     {
-        if !self.is_constructed() {
+        if !begins_constructed(self.rest) {
             return false;
         }
         let Ok((value, rest)) = read_value(
@@ -153,13 +189,20 @@ impl<'input> Decoder<'input> {
         }
     }
 
-    /// Returns whether the identifier that follows has the constructed bit (X.690 8.1.2.5).
-    fn is_constructed(&self) -> bool
-        ensures { result ≡ is_constructed_next self.now.rest }
+    /// Reads a time or a date, and returns no value.
+    #[inline(always)]
+    fn check_time<T: TimeText>(&mut self, tag: Tag) -> Result<(), DecodeError>
+        ensures exact { ChecksBy (DecodesTime (T.means self.old.rule) tag) self.old result self.new }
+        ensures memory { IfErr result (λ e. BeginsShortTime (T.means self.old.rule) tag self.old → ⊥) }
+        ensures rules { IfErr result (λ e. e.codec ≡ self.old.rule) }
+        ensures octets { AreOctets self.old.rest }
     {
-        match self.rest {
-            [first, ..] => *first % 64 >= 32,
-            [] => false,
+        if self.take_time::<T>(tag) {
+            return Ok(());
+        }
+        match T::read(self, tag) {
+            Ok(_) => Ok(()),
+            Err(error) => Err(error),
         }
     }
 
@@ -238,15 +281,10 @@ impl<'input> Decoder<'input> {
     pub fn check_utc_time(&mut self, tag: Tag) -> Result<(), DecodeError>
         ensures reads { (c : Constraints) → Checks (leaf utc_time tag c) self.old result self.new }
         ensures exact { ChecksBy (DecodesTime (AtAnyOffset (UtcText self.old.rule)) tag) self.old result self.new }
+        ensures memory { IfErr result (λ e. BeginsShortTime (AtAnyOffset (UtcText self.old.rule)) tag self.old → ⊥) }
         ensures rules { IfErr result (λ e. e.codec ≡ self.old.rule) }
     {
-        if self.take_time::<UtcTime>(tag) {
-            return Ok(());
-        }
-        match self.decode_utc_time(tag) {
-            Ok(_) => Ok(()),
-            Err(error) => Err(error),
-        }
+        self.check_time::<UtcTime>(tag)
     }
 
     /// Reads a GeneralizedTime as `decode_generalized_time` does, and returns no value. Memory is
@@ -257,15 +295,10 @@ impl<'input> Decoder<'input> {
     pub fn check_generalized_time(&mut self, tag: Tag) -> Result<(), DecodeError>
         ensures reads { (c : Constraints) → Checks (leaf generalized_time tag c) self.old result self.new }
         ensures exact { ChecksBy (DecodesTime (GeneralizedText self.old.rule) tag) self.old result self.new }
+        ensures memory { IfErr result (λ e. BeginsShortTime (GeneralizedText self.old.rule) tag self.old → ⊥) }
         ensures rules { IfErr result (λ e. e.codec ≡ self.old.rule) }
     {
-        if self.take_time::<GeneralizedTime>(tag) {
-            return Ok(());
-        }
-        match self.decode_generalized_time(tag) {
-            Ok(_) => Ok(()),
-            Err(error) => Err(error),
-        }
+        self.check_time::<GeneralizedTime>(tag)
     }
 
     /// Reads a DATE as `decode_date` does, and returns no value. Memory is taken
@@ -276,15 +309,10 @@ impl<'input> Decoder<'input> {
     pub fn check_date(&mut self, tag: Tag) -> Result<(), DecodeError>
         ensures reads { (c : Constraints) → Checks (leaf date tag c) self.old result self.new }
         ensures exact { ChecksBy (DecodesTime DateText tag) self.old result self.new }
+        ensures memory { IfErr result (λ e. BeginsShortTime DateText tag self.old → ⊥) }
         ensures rules { IfErr result (λ e. e.codec ≡ self.old.rule) }
     {
-        if self.take_time::<Date>(tag) {
-            return Ok(());
-        }
-        match self.decode_date(tag) {
-            Ok(_) => Ok(()),
-            Err(error) => Err(error),
-        }
+        self.check_time::<Date>(tag)
     }
 
     /// Parses a GeneralizedTime in any form (X.680 46).

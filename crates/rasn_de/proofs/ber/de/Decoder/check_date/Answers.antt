@@ -1,26 +1,13 @@
-use Rattle.std.proofs.Common.{Ok, Err, subst}
 use Rattle.rasn_types.specs.Calendar.{Day}
 use Rattle.rasn_types.specs.Time.{DateText}
 use Rattle.rasn_types.specs.Shapes.{leaf, date, on_day}
-use Rattle.rasn_de.specs.Decodes.{Decodes}
-use Rattle.rasn_de.specs.State.{State}
 use Rattle.rasn_de.specs.Time.{DecodesTime}
+use Rattle.rasn_de.proofs.Strings.SeenTimes.{shape_checked}
 use Rattle.rasn_de.proofs.Strings.Time.{date_decodes}
 use Rattle.rasn_de.proofs.ber.de.Decoder.check_date.Goals as goal
 
-pub returns-then-take_time-clause-reads : goal.returns-then-take_time-clause-reads
-returns-then-take_time-clause-reads c b =
-    let t = c.if-take_time.ensures in
-    (on_day t.0, date_decodes c.args.tag c.args.self.now _ (Ok t.0) t.1 t.2 b)
-
-pub returns-in-Ok-clause-reads : goal.returns-in-Ok-clause-reads
-returns-in-Ok-clause-reads c b =
-    let x = c.in-Ok.field-0 in
-    (on_day x, subst (λ (s : State). Decodes (leaf date c.args.tag b) (λ (v : Day). on_day v) s (Ok x) c.decode_date.new.self) c.if-take_time.ensures (c.in-Ok.ensures.reads b))
-
-pub returns-in-Err-clause-reads : goal.returns-in-Err-clause-reads
-returns-in-Err-clause-reads c b =
-    subst (λ (s : State). Decodes (leaf date c.args.tag b) (λ (v : Day). on_day v) s (Err c.in-Err.error) c.decode_date.new.self) c.if-take_time.ensures (c.in-Err.ensures.reads b)
-
-pub returns-in-Err-clause-exact : goal.returns-in-Err-clause-exact
-returns-in-Err-clause-exact c = subst (λ (s : State). DecodesTime (DateText) c.args.tag s (Err c.in-Err.error) c.decode_date.new.self) c.if-take_time.ensures c.in-Err.ensures.exact
+pub returns-clause-reads : goal.returns-clause-reads
+returns-clause-reads c b =
+    let e = c.check_time.ensures in
+    shape_checked (DecodesTime DateText c.args.tag) (leaf date c.args.tag b) (λ (d : Day). on_day d) c.args.self.now _
+    (λ r g. date_decodes c.args.tag c.args.self.now _ r e.octets g b) _ e.exact
