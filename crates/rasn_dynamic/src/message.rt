@@ -96,10 +96,6 @@ fn go_along(path: &mut Vec<usize>, depth: usize, index: usize) -> Result<(), All
         path.truncate(0);
         return Ok(());
     }
-    if path.len() == depth {
-        path[depth - 1] = index;
-        return Ok(());
-    }
     path.truncate(depth - 1);
     match path.push(index) {
         Ok(()) => Ok(()),
