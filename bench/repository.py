@@ -1,8 +1,10 @@
-"""What the scripts of this folder share that build programs of this repository."""
+"""What the scripts of this folder share that build and measure programs of this repository."""
 import pathlib
+import re
 import shutil
 import subprocess
 import sys
+import time
 
 sys.dont_write_bytecode = True
 TOP = pathlib.Path(__file__).resolve().parent.parent
@@ -33,3 +35,16 @@ def add_program(top, name, source, libraries):
     shutil.copy(source, crate / "src/main.rt")
     list_crate(top, f"{name}: {libraries}")
     return crate
+
+
+def taken(words):
+    """Runs a command, and returns its wall time in seconds and its most memory in octets. (That of `wait4` is at least what this process had.)"""
+    begun, most = time.monotonic(), 0
+    child = subprocess.Popen(words, stdout=subprocess.DEVNULL)
+    while child.poll() is None:
+        found = re.search(r"VmHWM:\s+(\d+) kB", pathlib.Path(f"/proc/{child.pid}/status").read_text())
+        most = max(most, int(found[1]) * 1024 if found else 0)
+        time.sleep(0.02)
+    if child.returncode:
+        sys.exit(f"{words[0]} ended with status {child.returncode}")
+    return time.monotonic() - begun, most

@@ -16,7 +16,7 @@ exports! {
     soq_list_i64_write(times: usize); soq_list_integer_write(times: usize);
     soq_nest_write_3(times: usize); soq_nest_write_10(times: usize); soq_nest_write_20(times: usize);
     soq_bool_write(times: usize); soq_i64_write(times: usize); soq_both_read(); soq_both_write(times: usize);
-    soq_certificate_read(); soq_certificate_write(times: usize); soq_certificate_read_written(); soq_certificate_normalise();
+    soq_certificate_read(); soq_certificate_write(times: usize); soq_certificate_read_written(); soq_certificate_normalise(); soq_certificate_check(times: usize);
     soq_snmp_read(); soq_snmp_write(times: usize); soq_ldap_read(); soq_ldap_write(times: usize);
     soq_skip();
 }
@@ -370,6 +370,8 @@ fn main() {
         row("9 certificate read", &certs, vec![("soq", soq(soq_certificate_read)),
             ("asn1-borrowed", peer(|i| black_box(p::<Certificate>(&i.octets)).is_ok() as usize)),
             ("der-parser-tree", peer(|i| black_box(der_parser::parse_der(&i.octets)).is_ok() as usize))]);
+        row_of("9 certificate checked by schema", &certs, vec![("soq", soq_times(soq_certificate_check, W), W),
+            ("asn1-borrowed", peer(|i| (0..W).map(|_| black_box(p::<Certificate>(black_box(&i.octets))).is_ok() as usize).sum()), W)]);
         row("9 certificate passed", &certs, vec![("soq", soq(soq_skip)),
             ("asn1", peer(|i| black_box(p::<asn1::Tlv>(&i.octets)).is_ok() as usize)),
             ("bcder", peer(|i| black_box(Mode::Der.decode(i.bytes.clone(), |c| c.skip_one())).is_ok() as usize))]);
