@@ -24,8 +24,7 @@ pub struct Entry<'input> {
     pub is_constructed: bool,
     /// Whether its length is indefinite (X.690 8.1.3.6).
     pub is_indefinite: bool,
-    /// All of its octets; if its length is indefinite, those up to where the encoding around it
-    /// ends.
+    /// All of its octets; if its length is indefinite, those up to the end of what holds it.
     pub octets: &'input [u8],
 }
 
@@ -138,8 +137,7 @@ pub fn dump_text(
     Ok((text, fault))
 }
 
-/// Appends where an encoding of so many octets begins, how many its header and its contents have,
-/// and its indentation.
+/// Appends where an encoding begins, how many octets its header and contents have, and spaces.
 pub(crate) fn push_place(
     text: &mut String,
     offset: usize,

@@ -6,8 +6,7 @@ use rasn_types::types::{BitStr, BmpString, Hexadecimal, Integer};
 use std::alloc::{AllocError, Global};
 use std::str;
 
-/// Returns a value of this type that holds no others as text. Without a type nothing in it has a
-/// name.
+/// Returns a value that holds no others as text, with the names that its type has, if it is known.
 pub(crate) fn leaf_text(
     alloc: Global,
     ty: Option<&Type>,
@@ -105,8 +104,7 @@ fn named_bits_text(
     Ok(text)
 }
 
-/// Returns the bits in hexadecimal, with the number of unused bits of the last octet unless it is
-/// 0.
+/// Returns the bits in hexadecimal, with the number of unused bits in the last octet if it has any.
 fn bits_text(alloc: Global, bits: &BitStr<'_>) -> Result<String, AllocError> {
     let mut octets = Vec::new(alloc);
     bits.append_to(&mut octets)?;
@@ -117,8 +115,7 @@ fn bits_text(alloc: Global, bits: &BitStr<'_>) -> Result<String, AllocError> {
     }
 }
 
-/// Returns the octets as text in quotation marks if they are UTF-8 without control characters,
-/// otherwise in hexadecimal.
+/// Returns octets that are UTF-8 without control characters as quoted text, others in hexadecimal.
 pub(crate) fn octets_text(alloc: Global, octets: &[u8]) -> Result<String, AllocError> {
     match str::from_utf8(octets) {
         Ok(text) if !text.chars().any(|it| it.is_control()) => format!(in alloc; "\"{text}\""),

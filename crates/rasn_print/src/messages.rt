@@ -3,8 +3,7 @@
 use crate::types::NamedType;
 use rasn_types::types::Codec;
 
-/// The modules and the types of the messages, in the order in which they are tried: that of LDAP, whose
-/// operations are extensible, is the last.
+/// The modules and types of messages as they are tried: LDAP's, which is extensible, is the last.
 pub const MESSAGES: &[NamedType<'static>] = &[
     ("Certificates", "Certificate"),
     ("Revocation", "CertificateList"),
@@ -35,8 +34,7 @@ pub const MESSAGES: &[NamedType<'static>] = &[
     ("LDAP", "LDAPMessage"),
 ];
 
-/// Returns the type of the message that a label of PEM names: a label of RFC 7468, or another one
-/// that programs write.
+/// Returns the type of the message that a label of PEM names, of RFC 7468 or as programs write it.
 pub fn type_of_label(label: &str) -> Option<NamedType<'static>> {
     let (module, name) = match label {
         "CERTIFICATE" | "X509 CERTIFICATE" | "X.509 CERTIFICATE" => ("Certificates", "Certificate"),

@@ -30,8 +30,7 @@ pub(crate) fn name_text(
     Ok(Some(text))
 }
 
-/// Appends the attributes of a relative distinguished name. Returns false if the value has another
-/// form.
+/// Appends the attributes of a relative distinguished name, and returns whether the value is one.
 fn push_relative(
     text: &mut String,
     alloc: Global,

@@ -5,9 +5,8 @@ ghost use Rattle.rasn_text.specs.Escapes.{written, escaped, octet_digits, octets
 
 use std::alloc::AllocError;
 
-/// Appends the characters of a value, with escapes (RFC 4514, 2.4): a backslash precedes each
-/// character that has a meaning of its own in names, and the hexadecimal digits of a control
-/// character of ASCII.
+/// Appends the characters of a value, with escapes (RFC 4514, 2.4): a backslash precedes characters
+/// that have a meaning in names, and the hexadecimal digits of control characters of ASCII.
 ///
 /// # Errors
 /// If an allocation fails.

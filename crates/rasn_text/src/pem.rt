@@ -157,8 +157,7 @@ fn first_line(octets: &[u8]) -> Option<(&[u8], &[u8])>
     None
 }
 
-/// Returns the label between these words and the dashes, if the line has nothing else but white
-/// space at its end.
+/// Returns the label between these words and the dashes, if only white space follows these.
 fn label_after<'text>(line: &'text [u8], words: &[u8]) -> Option<&'text [u8]>
     ensures { MatchOption result (IsNoBoundary words.now line.now) (λ label. IsBoundary words.now label.now line.now) }
 {
@@ -216,8 +215,7 @@ fn push_symbols(symbols: &mut Vec<u8>, line: &[u8]) -> Result<(), AllocError>
     Ok(())
 }
 
-/// Returns whether the octet is white space: space, tab, line feed, vertical tab, form feed or
-/// carriage return (RFC 7468, 3).
+/// Returns whether the octet is white space (RFC 7468, 3).
 fn is_space(octet: u8) -> bool
     ensures { result ≡ is_space octet }
 {
