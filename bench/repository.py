@@ -37,6 +37,12 @@ def add_program(top, name, source, libraries):
     return crate
 
 
+def certificates(pem):
+    """The certificates of a PEM file in base64, each on one line."""
+    blocks = pathlib.Path(pem).read_text().split("-----BEGIN CERTIFICATE-----")[1:]
+    return ["".join(block.split("-----END")[0].split()) for block in blocks]
+
+
 def taken(words):
     """Runs a command, and returns its wall time in seconds and its most memory in octets. (That of `wait4` is at least what this process had.)"""
     begun, most = time.monotonic(), 0
