@@ -6,6 +6,7 @@ use Rattle.rasn_de.specs.declared.ber.de.parser.ParseError.{ParseError}
 use Rattle.rasn_de.specs.declared.ber.de.parser.ParseError.TheVariants.{OutOfMemory}
 use Rattle.rasn_de.specs.Segments.{string_at, octets, without_memory}
 use Rattle.rasn_de.specs.OctetString.{CollectsOctets}
+use Rattle.rasn_de.specs.Headers.{IsPrimitiveIdentifier}
 use Rattle.rasn_de.specs.ShortText.{BeginsShortTime}
 use Rattle.rasn_de.specs.SetPartTypes.{IsRequiredOrDefault, HasGap, LeavesGap}
 use Rattle.rasn_types.specs.Shapes.{chosen, absent, required, optional, default}
@@ -62,6 +63,11 @@ pub record WorkedClauses : Type 0 where
   pub short_segments : BeginsShortText (55 ∷ 34 ∷ 4 ∷ 32 ∷ zeros_32)
   pub long_segments : BeginsShortText (55 ∷ 35 ∷ 4 ∷ 33 ∷ 0 ∷ zeros_32) → ⊥
   pub long_primitive : BeginsShortText (23 ∷ 33 ∷ 0 ∷ zeros_32)
+  -- Octet 1 is the whole identifier of a primitive BOOLEAN. Octet 33 has the constructed bit, and a SEQUENCE is never
+  -- primitive.
+  pub boolean_identifier : IsPrimitiveIdentifier (in_universal 1) 1
+  pub constructed_boolean : IsPrimitiveIdentifier (in_universal 1) 33 → ⊥
+  pub primitive_sequence : IsPrimitiveIdentifier (in_universal 16) 16 → ⊥
   -- A required part and one with a default need memory if they aren't read, an optional part doesn't.
   pub required_needs : IsRequiredOrDefault required
   pub default_needs : IsRequiredOrDefault (default absent)

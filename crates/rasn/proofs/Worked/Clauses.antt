@@ -155,6 +155,9 @@ worked = record {
   short_segments = short;
   long_segments = long_parts;
   long_primitive = long_whole;
+  boolean_identifier = (refl, omega arith, refl, refl);
+  constructed_boolean = λ h. let k : 33 ≡ 1 = ap (λ (t : Tag). t.value) h.0 in omega (arith, k);
+  primitive_sequence = λ h. let k : true ≡ false = h.3 in cc;
   required_needs = tt;
   default_needs = tt;
   optional_needs_none = λ h. h;

@@ -1,6 +1,6 @@
 -- Values whose identifier and length have one octet each.
 use Rattle.std.proofs.Common.{◌≡◌, ℕ, ◌-◌, ◌<◌, ◌≤◌, ◌&&◌, Bool, true, false, List, [], ◌∷◌, length, take, drop, Some, Ok, refl, sym, ap, subst, ◌∙◌, get_or, arith}
-use Rattle.std.specs.Prelude.{◌%◌, ◌/◌, nat_lt, nat_eq}
+use Rattle.std.specs.Prelude.{◌%◌, nat_lt, nat_eq}
 use Rattle.std.proofs.lemmas.List.{take_all}
 use Rattle.std.proofs.lemmas.Bool.Decides.{nat_tests}
 use Rattle.rasn_de.specs.declared.ber.de.parser.headers.Spelling.{Spelling}

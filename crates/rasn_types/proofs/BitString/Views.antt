@@ -1,7 +1,8 @@
 -- Parts of the bits that octets hold.
-use Rattle.std.proofs.Common.{◌≡◌, ℕ, zero, suc, ◌+◌, ◌-◌, ◌*◌, ◌/◌, ◌%◌, ◌^◌, ◌<◌, ◌≤◌, ◌≢◌, inl, inr, Bool, true, false, not, List, [], ◌∷◌, ◌++◌, length, take, drop, get_or, refl, sym, ap, ap₂, ◌∙◌, subst, arith, nat_eq}
+use Rattle.std.proofs.Common.{◌≡◌, ℕ, zero, suc, ◌+◌, ◌-◌, ◌*◌, ◌/◌, ◌%◌, ◌^◌, ◌<◌, ◌≤◌, ◌≢◌, inl, inr, Bool, true, false, not, Result, Ok, Err, List, [], ◌∷◌, ◌++◌, length, take, drop, get_or, refl, sym, ap, ap₂, ◌∙◌, subst, arith, nat_eq}
 use Rattle.std.proofs.lemmas.List.{append_assoc, append-nil, length-append, length-take-le, length-drop, length-replicate, take-take, take-append-le, drop-append-le, drop-drop, take_all, drop-take, take_rest, get_or-take, get_or-drop, get_or_append_left, drop_more}
 use Rattle.std.specs.Bool.{Decides, beq}
+use Rattle.std.specs.Result.{OnOk}
 use Rattle.std.specs.Cmp.{booleans_Decides}
 use Rattle.std.specs.Cmp.Lexicographic.{pointwise, pointwise_decides, bytes_decides}
 use Rattle.std.proofs.lemmas.Bool.Decides.{Decides-eqb, same_from_decides}
@@ -325,3 +326,14 @@ pub bits_alike : (k l : List Bool) (i : ℕ) → take i k ≡ take i l → lengt
 bits_alike k l i e h n =
     same_from_decides true (pointwise beq k l) (λ f. sym (take_all i k h) ∙ (e ∙ take_all i l n), λ f. refl)
     (pointwise_decides booleans_Decides k l)
+
+-- Bits that begin with the first bit of an octet are packed once their octets are appended, and the last one is cleared.
+pub aligned : (len n u : ℕ) (octets old new : List ℕ) → 0 < len → n ≤ length octets → len + u ≡ 8 * n → u < 8 → Clears u (old ++ take n octets) new → Pushes (bits_from 0 len octets) old new
+aligned len n u octets old new some there e few c =
+    let k : length (old ++ take n octets) ≤ length old + n = omega (arith, length-append old (take n octets), length-take-le n octets there) in
+    packed 0 len n n u octets old _ _ new (omega arith) some (omega arith) there e few
+    (record { added = take n octets; is = refl; all = sym (append-nil (bits_in (take n octets))) }) (sym (take_all (length old + n) (old ++ take n octets) k)) c
+
+pub on_ok : {X E : Type 0} {P Q : Type 0} (r : Result X E) → (P → Q) → OnOk r P → OnOk r Q
+on_ok (Ok x) f p = f p
+on_ok (Err e) f p = tt

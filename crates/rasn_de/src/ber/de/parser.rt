@@ -329,7 +329,7 @@ fn is_primitive_identifier(tag: Tag, octet: u8) -> bool
 /// Returns the value at the start of the input and what follows it, if the value is primitive and
 /// has this tag, and its identifier and its length have one octet each (X.690 8.1.2.2, 8.1.3.4).
 /// Under all rules, such a value is read.
-#[tactic(auto, using(crate::proofs::Headers::Results::octets_all, crate::proofs::Headers::Short::short_value))]
+#[tactic(auto, using(crate::proofs::Headers::Results::octets_all))]
 #[inline(always)]
 pub fn short_value(tag: Tag, input: &[u8]) -> Option<(Value<'_>, &[u8])>
     ensures exact { IfSome result (λ found. (rule : Codec) → header_at (form rule) (as_written rule tag (tag_bit tag)) input.now ≡ Ok (header found)) }

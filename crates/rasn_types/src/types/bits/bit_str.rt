@@ -7,7 +7,7 @@ ghost use Rattle.rasn_types.specs.Options.{IsSomeExactlyIf};
 ghost use Rattle.rasn_types.specs.BitString.{bits_from, significant, Pushes};
 
 use crate::types::bits::BitIter;
-use crate::types::bits::packing::{clear_last, octets_for, push_shifted, unused_by};
+use crate::types::bits::packing::{clear_last, octets_for, push_cleared, push_shifted, unused_by};
 use std::alloc::AllocError;
 use std::fmt;
 use std::marker::Model;
@@ -183,6 +183,10 @@ impl<'a> BitStr<'a> {
     {
         if self.len == 0 {
             return Ok(());
+        }
+        if self.shift == 0 {
+            let octets = &self.octets[..octets_for(self.len)];
+            return push_cleared(out, octets, unused_by(self.len));
         }
         let held = octets_across(self.shift, self.len);
         out.reserve(held)?;

@@ -1,9 +1,11 @@
 //! Bits packed in octets, the first bit of each octet highest (X.690 8.6.2).
-ghost use Rattle.std.specs.Prelude.{◌≡◌, ◌+◌, ◌-◌, ◌*◌, ◌/◌, ◌%◌, ◌<◌, ◌≤◌, ◌++◌, ◌∷◌, length, take, drop, vec_len, vec_capacity};
+ghost use Rattle.std.specs.Prelude.{◌≡◌, ◌+◌, ◌-◌, ◌*◌, ◌/◌, ◌%◌, ◌<◌, ◌≤◌, ◌++◌, ◌∷◌, length, take, drop, vec_len, vec_capacity, OnOk, OnErr};
 ghost use Rattle.rasn_types.specs.Framing.{AreOctets};
 ghost use Rattle.rasn_types.specs.Contents.{bits_of};
 ghost use Rattle.rasn_types.specs.BitString.{zeros, but_last};
 ghost use Rattle.rasn_types.specs.BitPacking.{Shifts, Clears, Joins};
+
+use std::alloc::AllocError;
 
 /// Returns the number of octets that this number of bits takes.
 pub(crate) fn octets_for(bits: usize) -> usize
@@ -71,6 +73,22 @@ pub(crate) fn clear_last(octets: &mut Vec<u8>, bits: usize)
 {
     if let Some(last) = octets.pop() {
         octets.push_reserved(cleared(last, bits));
+    }
+}
+
+/// Appends octets, of whose last one the last `bits` bits are cleared.
+pub(crate) fn push_cleared(out: &mut Vec<u8>, octets: &[u8], bits: usize) -> Result<(), AllocError>
+    requires { bits < 8 }
+    ensures ok { OnOk result (Clears bits (out.old.items ++ octets.now) out.new.items) }
+    ensures octets { OnOk result (AreOctets out.new.items) }
+    ensures err { OnErr result (out.new.items ≡ out.old.items) }
+{
+    match out.extend_from_slice(octets) {
+        Ok(()) => {
+            clear_last(out, bits);
+            Ok(())
+        }
+        Err(_) => Err(AllocError),
     }
 }
 
