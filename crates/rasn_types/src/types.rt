@@ -27,7 +27,6 @@ mod set_of;
 mod strings;
 mod tag;
 mod tag_types;
-mod time_text;
 mod try_clone;
 mod twos_complement;
 mod unknown;

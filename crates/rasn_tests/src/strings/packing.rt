@@ -2,7 +2,7 @@
 
 use crate::reading::assert_facts;
 use crate::writing::made;
-use rasn_types::ber::collected_bits::CollectedBits;
+use rasn_types::ber::CollectedBits;
 use rasn_types::types::{BitStr, BitString};
 use std::alloc::{AllocError, Global};
 

@@ -14,7 +14,7 @@ use crate::ber::de::parser::segments::{segment_of, string_contents};
 use crate::ber::de::parser::{ParseError, read_value};
 use crate::ber::de::{Decoder, check_size};
 use crate::de::Decode;
-use rasn_types::ber::collected_bits::CollectedBits;
+use rasn_types::ber::CollectedBits;
 use rasn_types::error::DecodeError;
 use rasn_types::types::{BitString, Constraints, Tag};
 

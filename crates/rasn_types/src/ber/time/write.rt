@@ -100,7 +100,7 @@ fn push_fraction(out: &mut Vec<u8>, billionths: u32) -> Result<(), AllocError>
     push_digits(out, billionths)
 }
 
-pub(crate) fn shown_second(value: &UtcTime) -> u8
+pub(super) fn shown_second(value: &UtcTime) -> u8
     requires { IsMoment value.now }
     ensures { result ≡ written_second value.now }
 {
@@ -111,7 +111,7 @@ pub(crate) fn shown_second(value: &UtcTime) -> u8
     }
 }
 
-pub(crate) fn shown_fraction(value: &UtcTime) -> u32
+pub(super) fn shown_fraction(value: &UtcTime) -> u32
     requires { IsMoment value.now }
     ensures is { result ≡ within_second value.now }
     ensures below { result < 1000000000 }

@@ -11,19 +11,19 @@ const INLINE_CAPACITY: usize = 23;
 
 /// Up to 23 octets, kept inline.
 #[derive(Clone, Copy, Drop)]
-pub struct FewOctets {
+pub struct InlineOctets {
     octets: [u8; INLINE_CAPACITY],
     count: u8,
     ghost fits: { count ≤ inline_capacity },
 }
 
-impl FewOctets {
-    ghost use Rattle.rasn_types.specs.SmallOctets.{few_octets};
+impl InlineOctets {
+    ghost use Rattle.rasn_types.specs.SmallOctets.{inline_octets};
 
     /// Returns a copy of these octets, or `None` if there are more than 23.
     #[inline]
-    fn from_slice(octets: &[u8]) -> Option<FewOctets>
-        ensures { MatchOption result (inline_capacity < length octets.now) (λ few. few_octets few ≡ octets.now) }
+    fn from_slice(octets: &[u8]) -> Option<InlineOctets>
+        ensures { MatchOption result (inline_capacity < length octets.now) (λ few. inline_octets few ≡ octets.now) }
     {
         let count = octets.len();
         if count > INLINE_CAPACITY {
@@ -31,7 +31,7 @@ impl FewOctets {
         }
         let mut copy = [0; INLINE_CAPACITY];
         copy[..count].copy_from_slice(octets);
-        Some(FewOctets {
+        Some(InlineOctets {
             octets: copy,
             count: count as u8,
         })
@@ -40,7 +40,7 @@ impl FewOctets {
     /// Returns the octets.
     #[inline(always)]
     fn as_slice(&self) -> &[u8]
-        ensures { result.now ≡ few_octets self.now }
+        ensures { result.now ≡ inline_octets self.now }
     {
         &self.octets[..usize::from(self.count)]
     }
@@ -50,7 +50,7 @@ impl FewOctets {
 #[derive(Drop)]
 pub enum Storage {
     /// Octets in the value itself.
-    Inline(FewOctets),
+    Inline(InlineOctets),
     /// Octets on the heap.
     Allocated(Vec<u8>),
 }
@@ -81,7 +81,7 @@ impl SmallOctets {
         ensures ok { IfOk result (λ v. v ≡ octets.now) }
         ensures memory { IfErr result (λ _. inline_capacity < length octets.now) }
     {
-        let storage = match FewOctets::from_slice(octets) {
+        let storage = match InlineOctets::from_slice(octets) {
             Some(few) => Storage::Inline(few),
             None => Storage::Allocated(Vec::from_slice(alloc, octets)?),
         };

@@ -7,7 +7,7 @@ ghost use Rattle.rasn_de.specs.ParserViews.{ParsesAs};
 use crate::ber::de::parser::ParseError;
 use crate::ber::de::parser::segments::Segmented;
 use crate::ber::rules::is_der;
-use rasn_types::ber::collected_bits::CollectedBits;
+use rasn_types::ber::CollectedBits;
 use rasn_types::error::DerDecodeErrorKind;
 use rasn_types::types::Codec;
 

@@ -3,7 +3,7 @@ use Rattle.std.proofs.Output.{has_written_append, has_written_of_eq}
 use Rattle.std.proofs.Math.Nat.{mod-lt}
 use Rattle.rasn_types.proofs.Time.Fractions.{pushed, digits_of_zero, digits_of_none}
 use Rattle.rasn_types.proofs.Time.Powers.{ten_pos}
-use Rattle.rasn_types.proofs.types.time_text.write_digits.Goals as goal
+use Rattle.rasn_types.proofs.ber.time.rfc3339.write_digits.Goals as goal
 
 pub loop-place-preserved : goal.loop-place-preserved
 loop-place-preserved g c =

@@ -1,6 +1,6 @@
 use Rattle.std.proofs.Common.{◌∙◌, ◌+◌, ◌<◌, ◌≤◌, vec_len, vec_capacity, length, rules, arith, Result, Ok, Err, OnErr}
 use Rattle.rasn_types.proofs.BitString.Views.{collects_whole, joined_bits, some_bits}
-use Rattle.rasn_types.proofs.ber.collected_bits.CollectedBits.append.Goals as goal
+use Rattle.rasn_types.proofs.types.bits.collected.CollectedBits.append.Goals as goal
 
 on_err : {T E P : Type 0} (r : Result T E) → P → OnErr r P
 on_err (Ok v) p = tt

@@ -6,7 +6,7 @@ ghost use Rattle.rasn_types.specs.TimeSpelling.{two, four};
 ghost use Rattle.rasn_types.specs.Time.{long_year, written_year, written_fraction, digits_of};
 ghost use Rattle.rasn_types.specs.Text.{shown_day, shown_clock, shown_moment};
 
-use crate::ber::time::{shown_fraction, shown_second};
+use crate::ber::time::write::{shown_fraction, shown_second};
 use crate::types::{Date, GeneralizedTime, UtcTime};
 use std::fmt;
 

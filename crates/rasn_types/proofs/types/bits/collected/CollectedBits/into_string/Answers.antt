@@ -1,6 +1,6 @@
 use Rattle.std.proofs.Common.{arith}
 use Rattle.rasn_types.proofs.BitString.Views.{length-but_last}
-use Rattle.rasn_types.proofs.ber.collected_bits.CollectedBits.into_string.Goals as goal
+use Rattle.rasn_types.proofs.types.bits.collected.CollectedBits.into_string.Goals as goal
 
 pub returns-in-Err : goal.returns-in-Err
 returns-in-Err c =

@@ -1,7 +1,7 @@
 use Rattle.std.proofs.Common.{ℕ, List, ◌≡◌, ◌+◌, ◌^◌, ◌<◌, ◌≤◌, ◌++◌, map}
 use Rattle.std.specs.Fmt.{HasWritten, IsPlainFormatter}
 use Rattle.rasn_types.specs.Time.{digits_of}
-use Rattle.rasn_types.proofs.types.time_text.write_digits.Given as goal
+use Rattle.rasn_types.proofs.ber.time.rfc3339.write_digits.Given as goal
 
 abbrev pub invariant-loop-place : goal.invariant-loop-place
 invariant-loop-place g l =
