@@ -1,14 +1,15 @@
 -- Values whose identifier and length have one octet each.
-use Rattle.std.proofs.Common.{◌≡◌, ℕ, ◌-◌, ◌<◌, ◌≤◌, ◌&&◌, Bool, true, false, List, [], ◌∷◌, length, take, drop, Some, Ok, refl, sym, ap, subst, ◌∙◌, get_or, arith}
+use Rattle.std.proofs.Common.{◌≡◌, ◌≢◌, ℕ, ◌-◌, ◌<◌, ◌≤◌, ◌&&◌, Bool, true, false, List, [], ◌∷◌, length, take, drop, Some, Ok, refl, sym, ap, subst, ◌∙◌, get_or, arith}
 use Rattle.std.specs.Prelude.{◌%◌, nat_lt, nat_eq}
 use Rattle.std.proofs.lemmas.List.{take_all}
 use Rattle.std.proofs.lemmas.Bool.Decides.{nat_tests}
 use Rattle.rasn_de.specs.declared.ber.de.parser.headers.Spelling.{Spelling}
 use Rattle.rasn_types.specs.declared.types.codec.Codec.{Codec}
 use Rattle.rasn_types.specs.declared.types.tag.Tag.{Tag}
-use Rattle.rasn_types.specs.Framing.{definite}
+use Rattle.rasn_types.specs.Framing.{AreOctets, NextTag, definite}
 use Rattle.rasn_types.specs.Tags.{form, is_eoc, tag_bit}
 use Rattle.rasn_de.specs.Headers.{◌>>=◌, IsPrimitiveIdentifier, tag_of, bit_at, is_longer, identifier_by, tag_number_at, length_at, header_by, header_at, spelled, as_written}
+use Rattle.rasn_de.proofs.Headers.NextTag.{next_parsed}
 use Rattle.rasn_de.proofs.Headers.Frames.{expected_spelled, as_it_is}
 
 and_false : (a b : Bool) → b ≡ false → a && b ≡ false
@@ -27,6 +28,13 @@ short_identifier shortest tag b l (e, v, z, t) =
     let k : shortest && is_longer b l (b % 32) ≡ false = and_false shortest _ (rw a refl) in
     let y : is_eoc (tag_of b (b % 32)) ≡ false = ap is_eoc c ∙ z in
     rw a (rw (k, y, c, d) refl)
+
+one_identifier : (shortest : Bool) (b : ℕ) (l : List ℕ) → b % 32 ≢ 31 → is_eoc (tag_of b (b % 32)) ≡ false → identifier_by shortest (b ∷ l) ≡ Ok (record { tag = tag_of b (b % 32); bit = bit_at b; rest = l })
+unfolding identifier_by tag_number_at
+one_identifier shortest b l v z =
+    let a : nat_eq (b % 32) 31 ≡ false = grind (arith, nat_tests) in
+    let k : shortest && is_longer b l (b % 32) ≡ false = and_false shortest _ (rw a refl) in
+    rw a (rw (k, z) refl)
 
 short_length : (spelling : Spelling) (n : ℕ) (l : List ℕ) → n < 128 → length_at spelling false (n ∷ l) ≡ Ok (Some n, l)
 unfolding length_at
@@ -51,3 +59,8 @@ short_value rule tag (b ∷ []) contents rest g p h k c r = absurd (omega (arith
 short_value rule tag (b ∷ n ∷ l) contents rest g p h k c r =
     let e : take (length (b ∷ n ∷ l) - 2) l ≡ l = take_all _ l (omega arith) in
     rw (c, r, e) (short_front rule tag b n l p h (subst (λ (z : List ℕ). n ≤ length z) e k))
+
+-- An identifier of one octet is the next tag.
+pub short_tag : (rule : Codec) (l : List ℕ) → AreOctets l → 1 ≤ length l → get_or l 0 0 % 32 ≢ 31 → is_eoc (tag_of (get_or l 0 0) (get_or l 0 0 % 32)) ≡ false → NextTag (form rule) l (tag_of (get_or l 0 0) (get_or l 0 0 % 32))
+short_tag rule [] o g v z = absurd (omega (arith, g))
+short_tag rule (b ∷ l) o g v z = next_parsed (form rule) (b ∷ l) _ o (one_identifier (spelled (form rule)).shortest b l v z)

@@ -17,8 +17,8 @@ ghost use Rattle.rasn_types.specs.declared.types.tag.Tag.{Tag};
 ghost use Rattle.rasn_types.specs.Errors.{IsOutOfMemory};
 ghost use Rattle.rasn_types.specs.Truth.{IsWhether};
 
-use crate::ber::de::parser::headers::{Expected, Spelling};
-use crate::ber::de::parser::{ParseError, Value, read_identifier, read_value};
+use crate::ber::de::parser::headers::{Expected, Spelling, read_identifier, read_value};
+use crate::ber::de::parser::{ParseError, Value};
 use crate::ber::rules::{allows_indefinite, is_der};
 use rasn_types::error::{
     BerDecodeErrorKind, CodecDecodeError, DecodeError, DecodeErrorKind, Needed,

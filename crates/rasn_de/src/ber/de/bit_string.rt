@@ -7,11 +7,11 @@ ghost use Rattle.rasn_types.specs.Errors.{IsOutOfMemory};
 ghost use Rattle.rasn_de.specs.Checks.{Checks, ChecksBy};
 ghost use Rattle.rasn_de.specs.Decodes.{Decodes};
 
+use crate::ber::de::parser::ParseError;
 use crate::ber::de::parser::bit_count::BitCount;
 use crate::ber::de::parser::bit_string::counted;
-use crate::ber::de::parser::headers::{Expected, Spelling};
+use crate::ber::de::parser::headers::{Expected, Spelling, read_value};
 use crate::ber::de::parser::segments::{segment_of, string_contents};
-use crate::ber::de::parser::{ParseError, read_value};
 use crate::ber::de::{Decoder, check_size};
 use crate::de::Decode;
 use rasn_types::ber::CollectedBits;

@@ -5,8 +5,7 @@ ghost use Rattle.rasn_types.specs.Framing.{AreOctets};
 ghost use Rattle.rasn_de.specs.Checks.{SeesString, DecodesPrimitiveOctets};
 
 use crate::ber::de::Decoder;
-use crate::ber::de::parser::headers::{Expected, Spelling};
-use crate::ber::de::parser::read_value;
+use crate::ber::de::parser::headers::{Expected, Spelling, read_value};
 use crate::ber::de::parser::segments::{Segmented, segment_of, string_contents};
 use rasn_types::error::DecodeError;
 use rasn_types::types::Tag;

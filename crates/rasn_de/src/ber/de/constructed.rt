@@ -8,7 +8,7 @@ ghost use Rattle.rasn_de.specs.ParserViews.{extent};
 ghost use Rattle.rasn_types.specs.Truth.{IsWhether};
 
 use crate::ber::de::Decoder;
-use crate::ber::de::parser::constructed::{finish, has_ended, held};
+use crate::ber::de::parser::closing::{contents_or_rest, finish, has_ended};
 use crate::ber::de::parser::headers::Expected;
 use crate::ber::de::parser::{Contents, ParseError};
 use rasn_types::error::DecodeError;
@@ -105,7 +105,7 @@ impl<'input> Decoder<'input> {
         if header.must_be_constructed && !value.is_constructed {
             return Err(self.error(ParseError::InvalidConstructedIdentifier));
         }
-        let input = held(value.contents, self.rest);
+        let input = contents_or_rest(value.contents, self.rest);
         let inner = Decoder {
             whole: input,
             rest: input,

@@ -8,8 +8,8 @@ ghost use Rattle.rasn_types.specs.Framing.{AreOctets};
 ghost use Rattle.rasn_types.specs.Tags.{tag_bit};
 
 use crate::ber::de::Decoder;
-use crate::ber::de::parser::headers::Expected;
-use crate::ber::de::parser::{Contents, ParseError, Value, short_value};
+use crate::ber::de::parser::headers::{Expected, short_value};
+use crate::ber::de::parser::{Contents, ParseError, Value};
 use rasn_types::error::DecodeError;
 use rasn_types::types::Tag;
 

@@ -7,10 +7,10 @@ ghost use Rattle.rasn_types.specs.Shapes.{leaf, bit_string};
 ghost use Rattle.rasn_de.specs.BitString.{DecodesPrimitiveBits, DecodesCowBits};
 ghost use Rattle.rasn_de.specs.Decodes.{Decodes};
 
+use crate::ber::de::parser::ParseError;
 use crate::ber::de::parser::bit_string::counted;
-use crate::ber::de::parser::headers::{Expected, Spelling};
+use crate::ber::de::parser::headers::{Expected, Spelling, read_value};
 use crate::ber::de::parser::segments::segment_of;
-use crate::ber::de::parser::{ParseError, read_value};
 use crate::ber::de::{Decoder, check_size};
 use rasn_types::error::DecodeError;
 use rasn_types::types::{BitStr, Constraints, CowBits, Tag};

@@ -9,9 +9,8 @@ ghost use Rattle.rasn_de.specs.OctetString.{DecodesOctets, IsPrimitive, cow_tree
 ghost use Rattle.rasn_de.specs.CharacterString.{BySize, DecodesOctetString};
 ghost use Rattle.rasn_de.specs.Checks.{Checks, ChecksText};
 
-use crate::ber::de::parser::headers::{Expected, Spelling};
+use crate::ber::de::parser::headers::{Expected, Spelling, read_value};
 use crate::ber::de::parser::octet_count::OctetCount;
-use crate::ber::de::parser::read_value;
 use crate::ber::de::parser::segments::{segment_of, string_contents};
 use crate::ber::de::{Decoder, check_size};
 use crate::de::Decode;

@@ -8,6 +8,7 @@ ghost use Rattle.rasn_de.specs.ValueErrors.{DecodesOr};
 ghost use Rattle.rasn_de.specs.Beyond.{got, BeyondOptional, BeyondPrefix};
 
 use crate::ber::de::Decoder;
+use crate::ber::de::parser::headers::short_tag;
 use crate::de::Decode;
 use rasn_types::error::DecodeError;
 use rasn_types::types::{Constraints, FirstTags, Tag};
@@ -18,6 +19,7 @@ impl<'input> Decoder<'input> {
     ///
     /// # Errors
     /// The errors of `peek_tag`, unless the contents end or the tag is `Tag::EOC`.
+    #[inline(always)]
     pub fn next_tag_is(&self, tag: Tag) -> Result<bool, DecodeError>
         ensures { NextTagIs tag self.now result }
     {
@@ -27,7 +29,10 @@ impl<'input> Decoder<'input> {
         if tag == Tag::EOC {
             return Ok(true);
         }
-        Ok(self.peek_tag()? == tag)
+        match short_tag(self.rest) {
+            Some(found) => Ok(found == tag),
+            None => Ok(self.peek_tag()? == tag),
+        }
     }
 
     /// Returns whether a value follows that begins with one of the first tags of the type.

@@ -14,8 +14,7 @@ ghost use Rattle.rasn_de.specs.Time.{AtAnyOffset, IsInvalidDate, IsInvalidText, 
 
 use crate::ber::de::Decoder;
 use crate::ber::de::octet_string::owned;
-use crate::ber::de::parser::headers::{Expected, Spelling};
-use crate::ber::de::parser::read_value;
+use crate::ber::de::parser::headers::{Expected, Spelling, read_value};
 use crate::ber::de::parser::segments::string_contents;
 use crate::ber::de::parser::short_text::ShortText;
 use crate::de::Decode;

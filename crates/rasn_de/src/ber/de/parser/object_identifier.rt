@@ -5,7 +5,8 @@ ghost use Rattle.rasn_de.specs.ObjectIdentifier.{ParsesArcs, arc_at, first_two};
 ghost use Rattle.rasn_de.specs.Checks.{ChecksArcs};
 ghost use Rattle.rasn_de.specs.ParserViews.{ParsesAs, pair};
 
-use crate::ber::de::parser::{ParseError, is_padded, read_number128};
+use crate::ber::de::parser::ParseError;
+use crate::ber::de::parser::headers::{is_padded, read_number128};
 use crate::ber::rules::is_der;
 use rasn_types::error::DerDecodeErrorKind;
 use rasn_types::types::{Codec, ObjectIdentifier};

@@ -6,9 +6,9 @@ ghost use Rattle.rasn_types.specs.declared.types.codec.Codec.{Codec};
 ghost use Rattle.rasn_de.specs.Segments.{string_from, bare_from, without_memory, octets};
 ghost use Rattle.rasn_de.specs.ParserViews.{IsNestedValue, IsPlainValue, ParsesSegments, ParsesSegment};
 
-use crate::ber::de::parser::constructed::{finish, has_ended, held};
-use crate::ber::de::parser::headers::{Expected, Spelling};
-use crate::ber::de::parser::{Contents, ParseError, Value, read_value};
+use crate::ber::de::parser::closing::{contents_or_rest, finish, has_ended};
+use crate::ber::de::parser::headers::{Expected, Spelling, read_value};
+use crate::ber::de::parser::{Contents, ParseError, Value};
 use crate::ber::rules::is_der;
 use rasn_types::error::DerDecodeErrorKind;
 use rasn_types::types::{Codec, Tag};
@@ -85,7 +85,7 @@ pub fn string_contents<'a, T: Segmented>(
     if depth == 0 {
         return Err(ParseError::ExceedsMaxParseDepth);
     }
-    let mut left = held(value.contents, rest);
+    let mut left = contents_or_rest(value.contents, rest);
     'segments: while !has_ended(true, left) {
         let (segment, after) = read_value(Spelling::of_rule(rule), Expected::Tagged(tag), left)?;
         left = string_contents(rule, tag, depth - 1, segment, after, out)?;

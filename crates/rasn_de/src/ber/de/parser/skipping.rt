@@ -10,8 +10,8 @@ ghost use Rattle.rasn_de.specs.Skipping.{Skipped, EncodingsToEnd, IsUnparsable, 
 ghost use Rattle.rasn_de.specs.Any.{OpenAt, as_lists};
 ghost use Rattle.rasn_de.specs.ParserViews.{ParsesAs, header};
 
-use crate::ber::de::parser::headers::{Expected, Spelling};
-use crate::ber::de::parser::{Contents, ParseError, Value, read_value};
+use crate::ber::de::parser::headers::{Expected, Spelling, read_value};
+use crate::ber::de::parser::{Contents, ParseError, Value};
 use rasn_types::types::{Codec, Tag};
 
 /// The number of octets that close contents of indefinite length (X.690 8.1.5).

@@ -116,4 +116,4 @@ returns g t c =
 
 pub segments-init : goal.segments-init
 segments-init g t c =
-    rw c.held-left.ensures (gathering_start (segment_at c.args.rule (g.T.Segmented.segment c.args.rule) c.args.tag (c.args.depth - 1)) _ _, inr refl)
+    rw c.contents_or_rest-left.ensures (gathering_start (segment_at c.args.rule (g.T.Segmented.segment c.args.rule) c.args.tag (c.args.depth - 1)) _ _, inr refl)

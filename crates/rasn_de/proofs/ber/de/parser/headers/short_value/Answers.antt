@@ -1,6 +1,6 @@
 use Rattle.std.proofs.Common.{ℕ, List, ◌≡◌, ◌-◌, ◌<◌, ◌≤◌, length, take, drop, subst, slice_index_or, arith}
 use Rattle.rasn_de.proofs.Headers.Short.{short_value}
-use Rattle.rasn_de.proofs.ber.de.parser.short_value.Goals as goal
+use Rattle.rasn_de.proofs.ber.de.parser.headers.short_value.Goals as goal
 
 pub returns-clause-exact : goal.returns-clause-exact
 returns-clause-exact c rule =

@@ -61,7 +61,7 @@ pub(crate) fn finish<'a>(
 }
 
 /// Returns the contents of a value, or all that follows its header if the length is indefinite.
-pub(crate) fn held<'a>(contents: Contents<'a>, rest: &'a [u8]) -> &'a [u8]
+pub(crate) fn contents_or_rest<'a>(contents: Contents<'a>, rest: &'a [u8]) -> &'a [u8]
     ensures { result.now ≡ octets_inside (extent contents.entry) rest.now }
 {
     match contents {
