@@ -67,6 +67,11 @@ abbrev pub MakesValue : {D : Type 0} → (Result D AllocError → Type 0) → St
 MakesValue made s (Ok v) = made (Ok v)
 MakesValue made s (Err e) = (x : AllocError) × made (Err x) × IsErrorOf OutOfMemory s e
 
+-- A value that was read is returned, unless it equals its default under the strict rule, under which the default is made.
+abbrev pub ReturnsUnlessDefault : {D : Type 0} → (D → Tree) → (Result D AllocError → Type 0) → State → D → Result D DecodeError → Type 0
+ReturnsUnlessDefault {D} tree made s v (Ok w) = (w ≡ v) × (IsStrict s.rule → (d : D) × made (Ok d) × (Same (tree v) (tree d) → ⊥))
+ReturnsUnlessDefault {D} tree made s v (Err e) = IsStrict s.rule × (MakesValue made s (Err e) ⊎ ((d : D) × made (Ok d) × Same (tree v) (tree d) × IsErrorOf (Der DefaultValuePresent) s e))
+
 -- A value that has a default. The default is made at most once: if the value is left out, or, under the strict rule, if
 -- a value is present, since it must not equal the default.
 module _ {D : Type 0} (read : Call D) (tree : D → Tree) (made : Result D AllocError → Type 0) (tags : Sought) (old : State) where

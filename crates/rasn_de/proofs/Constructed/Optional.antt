@@ -1,9 +1,11 @@
 -- A value that may be left out is read where it is present.
 use Rattle.std.proofs.Common.{◌≡◌, ◌⊎◌, inl, inr, Bool, true, false, List, ℕ, Option, Some, None, Result, Ok, Err, refl, sym, ap, subst}
+use Rattle.std.specs.Prelude.{IfOk, IfErr}
 use Rattle.std.specs.declared.alloc.AllocError.{AllocError}
 use Rattle.rasn_types.specs.declared.types.tag.Tag.{Tag}
 use Rattle.rasn_types.specs.declared.error.decode.DecodeError.{DecodeError}
 use Rattle.rasn_types.specs.declared.error.decode.DecodeErrorKind.{DecodeErrorKind}
+use Rattle.rasn_types.specs.declared.error.decode.DerDecodeErrorKind.TheVariants.{DefaultValuePresent}
 use Rattle.rasn_types.specs.declared.types.codec.Codec.{Codec}
 use Rattle.rasn_types.specs.Tags.{Form, form, IsStrict}
 use Rattle.rasn_types.specs.Framing.{NextTag, Ended}
@@ -13,15 +15,16 @@ use Rattle.rasn_types.specs.Trees.{option_tree}
 use Rattle.rasn_types.specs.Grammar.{Reads}
 use Rattle.rasn_types.proofs.Headers.Frames.{next_one}
 use Rattle.rasn_de.specs.declared.ber.de.parser.ParseError.{ParseError}
-use Rattle.rasn_de.specs.declared.ber.de.parser.ParseError.TheVariants.{OutOfMemory}
+use Rattle.rasn_de.specs.declared.ber.de.parser.ParseError.TheVariants.{OutOfMemory, Der}
 use Rattle.rasn_de.specs.Headers.{Identified, identifier_at}
 use Rattle.rasn_de.specs.ParserViews.{identified_tag}
 use Rattle.rasn_de.specs.State.{State}
 use Rattle.rasn_de.specs.Steps.{PeeksTag}
 use Rattle.rasn_de.specs.Outcomes.{Exact, Outcome, Got, Refused, AllocFailed, refusal}
 use Rattle.rasn_de.specs.Decodes.{Decodes, DecodesBy}
+use Rattle.rasn_de.specs.Beyond.{Beyond, BeyondDefault}
 use Rattle.rasn_de.specs.Constructed.{Keeps}
-use Rattle.rasn_de.specs.Optional.{NeedsTag, NextIs, DecodesIfSought, DecodesIfPresent, MakesValue, DecodesSoughtOrDefault, DecodesOrDefault, no_look, no_default, no_read, not_compared, present, DecodesDefault}
+use Rattle.rasn_de.specs.Optional.{NeedsTag, NextIs, DecodesIfSought, DecodesIfPresent, MakesValue, ReturnsUnlessDefault, DecodesSoughtOrDefault, DecodesOrDefault, no_look, no_default, no_read, not_compared, present, DecodesDefault}
 use Rattle.rasn_de.proofs.Leaves.Outcomes.{Exact-none, Exact-refusal}
 use Rattle.rasn_de.proofs.Headers.Ends.{IsEnd-refl}
 use Rattle.rasn_de.proofs.Headers.NextTag.{next_none}
@@ -201,3 +204,20 @@ pub or_made : {D : Type 0} (read : State → Result D DecodeError → State → 
     → NextIs tags old (Ok false) → MakesValue made old r → DecodesSoughtOrDefault read tree made tags old r old
 or_made read tree made tags old (Ok v) a m = inl (a, m, refl)
 or_made read tree made tags old (Err e) a m = no_default a m refl
+
+-- A value that was read is what the call returns, unless it equals the default.
+pub unless_default : {D : Type 0} (read : State → Result D DecodeError → State → Type 0) (tree : D → Tree) (made : Result D AllocError → Type 0) (tags : Sought) (old mid : State) (v : D) (r : Result D DecodeError)
+    → NextIs tags old (Ok true) → read old (Ok v) mid → Keeps old mid → ReturnsUnlessDefault tree made mid v r → DecodesSoughtOrDefault read tree made tags old r mid
+unless_default read tree made tags old mid v (Ok w) t k s (e, n) = subst (λ z. DecodesSoughtOrDefault read tree made tags old (Ok z) mid) (sym e) (inr (t, k, λ h. n (strict_after old mid s h)))
+unless_default read tree made tags old mid v (Err e) t k s (h, inl m) = not_compared t v k (strict_before old mid s h) (made_before made old mid e s m)
+unless_default read tree made tags old mid v (Err e) t k s (h, inr (d, m, same, w)) = present t v k (strict_before old mid s h) d m same (rules_same old mid (Der DefaultValuePresent) e s w)
+
+module _ {D : Type 0} (tree : D → Tree) (made : Result D AllocError → Type 0) (mid : State) (v : D) where
+  pub unless_beyond : (part : Beyond D) (old : State) (r : Result D DecodeError) → ReturnsUnlessDefault tree made mid v r → part old v mid → IfOk r (λ w. BeyondDefault part old w mid)
+  unless_beyond part old (Ok w) (e, n) k = subst (λ z. BeyondDefault part old z mid) (sym e) (inl k)
+  unless_beyond part old (Err e) h k = tt
+
+  pub unless_rules : (old : State) (r : Result D DecodeError) → Keeps old mid → ReturnsUnlessDefault tree made mid v r → IfErr r (λ e. e.codec ≡ old.rule)
+  unless_rules old (Ok w) s h = tt
+  unless_rules old (Err e) s (h, inl (x, m, w)) = ap (λ (y : DecodeError). y.codec) (rules_same old mid OutOfMemory e s w)
+  unless_rules old (Err e) s (h, inr (d, m, same, w)) = ap (λ (y : DecodeError). y.codec) (rules_same old mid (Der DefaultValuePresent) e s w)

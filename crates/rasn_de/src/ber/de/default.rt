@@ -2,7 +2,7 @@
 ghost use Rattle.std.specs.Prelude.{◌≡◌, IfOk, IfErr};
 ghost use Rattle.rasn_types.specs.Shapes.{prefix, IsFirst, any_of};
 ghost use Rattle.rasn_de.specs.Decodes.{Decodes};
-ghost use Rattle.rasn_de.specs.Optional.{MakesValue, DecodesSoughtOrDefault, DecodesOrDefault, DecodesOrDefaultAs, DecodesDefault, DecodesDefaultAs, DecodesDefaultChoice};
+ghost use Rattle.rasn_de.specs.Optional.{MakesValue, ReturnsUnlessDefault, DecodesSoughtOrDefault, DecodesOrDefault, DecodesOrDefaultAs, DecodesDefault, DecodesDefaultAs, DecodesDefaultChoice};
 ghost use Rattle.rasn_de.specs.Beyond.{got, BeyondDefault, BeyondPrefix};
 ghost use Rattle.rasn_de.specs.Prefix.{DecodesPrefixBy};
 ghost use Rattle.rasn_de.specs.ValueErrors.{DecodesOr};
@@ -94,15 +94,7 @@ impl<'input> Decoder<'input> {
             return self.default_value(default);
         }
         let value = D::decode_with_tag_and_constraints(self, tag, constraints)?;
-        if !self.is_strict() {
-            drop(default);
-            return Ok(value);
-        }
-        let without = self.default_value(default)?;
-        if value.means_same(&without) {
-            return Err(self.error(ParseError::Der(DerDecodeErrorKind::DefaultValuePresent)));
-        }
-        Ok(value)
+        self.unless_default(value, default)
     }
 
     /// Reads a value under an explicit tag (X.690 8.14.2), or returns its default if the contents
@@ -125,16 +117,7 @@ impl<'input> Decoder<'input> {
             return self.default_value(default);
         }
         let value = self.decode_explicit_prefix::<D>(tag)?;
-        if !self.is_strict() {
-            drop(default);
-            return Ok(value);
-        }
-        let left_out = self.default_value(default)?;
-        if value.means_same(&left_out) {
-            let fault = ParseError::Der(DerDecodeErrorKind::DefaultValuePresent);
-            return Err(self.error(fault));
-        }
-        Ok(value)
+        self.unless_default(value, default)
     }
 
     /// Reads a value of a CHOICE, or returns its default if the contents end or a tag follows that
@@ -156,14 +139,27 @@ impl<'input> Decoder<'input> {
             return self.default_value(default);
         }
         let value = D::decode(self)?;
+        self.unless_default(value, default)
+    }
+
+    /// Returns a value that was read, except under DER if it equals its default (X.690 11.5). The
+    /// default is made only under DER.
+    #[inline(always)]
+    fn unless_default<D: Decode + LawfulEq, F: FnOnce() -> Result<D, AllocError>>(
+        &self,
+        value: D,
+        default: F,
+    ) -> Result<D, DecodeError>
+        requires { F.IsAlwaysCallable default }
+        ensures { ReturnsUnlessDefault D.tree (F.post default) self.now value result }
+    {
         if !self.is_strict() {
             drop(default);
             return Ok(value);
         }
-        let usual = self.default_value(default)?;
-        if value.means_same(&usual) {
-            let kind = DerDecodeErrorKind::DefaultValuePresent;
-            return Err(self.error(ParseError::Der(kind)));
+        let without = self.default_value(default)?;
+        if value.means_same(&without) {
+            return Err(self.error(ParseError::Der(DerDecodeErrorKind::DefaultValuePresent)));
         }
         Ok(value)
     }
