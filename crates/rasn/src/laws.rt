@@ -55,8 +55,8 @@ pub fn one_set()
     ensures { OneSet }
 {}
 
-/// Proves that a SET in the order of its tags, with an extension marker or without one, is read in at
-/// most one way if its parts are, and no two parts begin with the same tag.
+/// Proves that a SET in the order of its tags, with an extension marker or without one, is read in
+/// at most one way if its parts are, and no two parts begin with the same tag.
 pub fn one_sorted_set()
     ensures { OneSortedSet }
 {}

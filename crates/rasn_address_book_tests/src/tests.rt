@@ -225,7 +225,8 @@ fn sizes_and_ranges_are_checked(rt: HostRuntime) {
     assert_kept::<Elevation>(&rt, alloc, &[&[0x02, 0x02, 0xFE, 0x3E]]);
 }
 
-// Named bits have no zeros at their end (X.690, 11.2.2), the elements of a SET OF are sorted (11.6).
+// Named bits have no zeros at their end (X.690, 11.2.2), the elements of a SET OF are sorted
+// (11.6).
 #[test]
 fn lists_and_bits_are_read_and_written_back(rt: HostRuntime) {
     const MEMBERS: &[u8] = &[0x31, 0x06, 0x12, 0x01, 0x31, 0x16, 0x01, 0x61];

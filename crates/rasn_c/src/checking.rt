@@ -15,8 +15,8 @@ use rasn_lint::{OpenTypes, check};
 use rasn_schema::{Schema, TypeId};
 use std::alloc::Global;
 
-/// Checks that all of the octets are one value of the type under the rules of this number. Under DER
-/// the octets of open types are also looked into, if `open_types` isn't 0.
+/// Checks that all of the octets are one value of the type under the rules of this number. Under
+/// DER the octets of open types are also looked into, if `open_types` isn't 0.
 #[unsafe(no_mangle)]
 pub extern "C" fn soq_proved_check_by(
     alloc: Global,

@@ -13,9 +13,9 @@ use rasn::types::Codec;
 use rasn_pkix::Extension;
 use std::alloc::{AllocError, Global};
 
-/// Writes the octets of `extnValue` of the first extension with this identifier, `2.5.29.17`, of the
-/// Extensions that all of the octets are to the buffer. `needed` is their number, also if the buffer
-/// is smaller; the buffer is then unchanged.
+/// Writes the octets of `extnValue` of the first extension with this identifier, `2.5.29.17`, of
+/// the Extensions that all of the octets are to the buffer. `needed` is their number, also if the
+/// buffer is smaller; the buffer is then unchanged.
 #[unsafe(no_mangle)]
 pub extern "C" fn soq_proved_extension(
     alloc: Global,

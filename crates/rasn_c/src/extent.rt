@@ -105,8 +105,8 @@ fn kind_at(schema: &Schema, id: TypeId) -> u32
     }
 }
 
-/// Returns the number of the kind of a type: that of its universal tag (X.680 8.4), with another for
-/// a list, and for a type that has none.
+/// Returns the number of the kind of a type: that of its universal tag (X.680 8.4), with another
+/// for a list, and for a type that has none.
 fn type_kind(ty: &Type) -> u32
     ensures { result ≡ type_kind_number ty.now }
 {

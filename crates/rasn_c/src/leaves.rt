@@ -228,8 +228,8 @@ pub(crate) fn leaf_of<L: Leaf>(alloc: Global, rule: Codec, octets: &[u8]) -> Res
     }
 }
 
-/// Returns the number of the INTEGER that all of the octets are, under the rules of this number. Its
-/// tag may be any. A number that 64 bits don't hold is refused.
+/// Returns the number of the INTEGER that all of the octets are, under the rules of this number.
+/// Its tag may be any. A number that 64 bits don't hold is refused.
 #[unsafe(no_mangle)]
 pub extern "C" fn soq_proved_integer_i64(
     alloc: Global,
@@ -258,9 +258,9 @@ fn put_integer(alloc: Global, rule: u32, octets: &[u8], number: &mut i64) -> Sta
     }
 }
 
-/// Writes the number of the INTEGER that all of the octets are to the buffer, in two's complement in
-/// the fewest octets (X.690 8.3.3). Its tag may be any. `needed` is the number of these octets, also
-/// if the buffer is smaller; the buffer is then unchanged.
+/// Writes the number of the INTEGER that all of the octets are to the buffer, in two's complement
+/// in the fewest octets (X.690 8.3.3). Its tag may be any. `needed` is the number of these octets,
+/// also if the buffer is smaller; the buffer is then unchanged.
 #[unsafe(no_mangle)]
 pub extern "C" fn soq_proved_integer_octets(
     alloc: Global,
@@ -294,9 +294,9 @@ fn put_number(
     fill(number.as_octets(), buffer, needed)
 }
 
-/// Writes the OBJECT IDENTIFIER that all of the octets are to the buffer, as its numbers with points
-/// between them and a zero after them. Its tag may be any. `needed` is the number of octets of this
-/// text, also if the buffer is smaller; the buffer is then unchanged.
+/// Writes the OBJECT IDENTIFIER that all of the octets are to the buffer, as its numbers with
+/// points between them and a zero after them. Its tag may be any. `needed` is the number of octets
+/// of this text, also if the buffer is smaller; the buffer is then unchanged.
 #[unsafe(no_mangle)]
 pub extern "C" fn soq_proved_oid_text(
     alloc: Global,

@@ -26,7 +26,8 @@ pub struct ListedPart {
     pub index: usize,
     /// Where its name is among the names.
     pub name: usize,
-    /// How many octets its name has; 0 if it has none, as an element and what an explicit tag holds.
+    /// How many octets its name has; 0 if it has none, as an element and what an explicit tag
+    /// holds.
     pub name_length: usize,
 }
 

@@ -128,8 +128,8 @@ fn reason_of(refusal: &Refusal, path_length: usize) -> Reason
     }
 }
 
-/// Returns how many octets of a text are the path before the text's own part. Two octets, a comma or
-/// a colon and a space, are between the two.
+/// Returns how many octets of a text are the path before the text's own part. Two octets, a comma
+/// or a colon and a space, are between the two.
 pub(crate) fn path_length(text: usize, own: usize) -> usize
     ensures { result ≡ (text - own) - 2 }
 {

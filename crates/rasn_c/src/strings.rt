@@ -88,8 +88,8 @@ fn string_of(alloc: Global, kind: u32, rule: Codec, octets: &[u8]) -> Result<Vec
     }
 }
 
-/// Writes the bits of the BIT STRING that all of the octets are to the buffer, the first bit of each
-/// octet first, and their number. Its tag may be any.
+/// Writes the bits of the BIT STRING that all of the octets are to the buffer, the first bit of
+/// each octet first, and their number. Its tag may be any.
 #[unsafe(no_mangle)]
 pub extern "C" fn soq_proved_bits(
     alloc: Global,

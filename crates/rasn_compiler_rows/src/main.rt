@@ -30,7 +30,8 @@ fn is_plain_type(assignment: &Assignment<'_>) -> bool {
     }
 }
 
-/// Prints the types of a module, a line for each. Those of the module `Shown` are printed as modules.
+/// Prints the types of a module, a line for each. Those of the module `Shown` are printed as
+/// modules.
 fn print_module<'text>(
     rt: &HostRuntime,
     read: &Modules<'text>,

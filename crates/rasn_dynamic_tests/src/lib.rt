@@ -1,4 +1,5 @@
-//! The tests of schemas, and of values by schema, whose calls are what is tested. What octets mean is in the rows of `rasn_schema_vectors`.
+//! The tests of schemas, and of values by schema, whose calls are what is tested. What octets mean
+//! is in the rows of `rasn_schema_vectors`.
 #![tactic(auto)]
 
 #[cfg(test)]

@@ -49,7 +49,8 @@ const OPEN_LIST: &[u8] = &[
 /// Two values that the type doesn't name, after the one that it does.
 const EXTENDED: &[u8] = &[0x30, 8, 1, 1, 0xFF, 5, 0, 2, 1, 5];
 
-/// A SET whose components are in another order than in the type, around values that it doesn't name (X.690 8.11, X.680 27).
+/// A SET whose components are in another order than in the type, around values that it doesn't name
+/// (X.690 8.11, X.680 27).
 const MIXED: &[u8] = &[0x31, 11, 5, 0, 2, 1, 7, 0x80, 1, 0x55, 1, 1, 0xFF];
 
 // X.690 8.1.2, 8.1.3, 8.9 to 8.11, 8.13: offsets are counted in the octets by hand.

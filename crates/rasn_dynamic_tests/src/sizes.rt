@@ -44,7 +44,8 @@ fn is_cut_off(alloc: Global, id: usize, octets: &[u8]) -> bool {
     }
 }
 
-// X.690 8.1.5, 8.10.1 and 8.12.1: the value ends with its end-of-contents octets, and is whole only then.
+// X.690 8.1.5, 8.10.1 and 8.12.1: the value ends with its end-of-contents octets, and is whole only
+// then.
 #[test]
 fn size_is_checked_after_the_end(rt: HostRuntime) {
     const ROWS: &[(usize, &[u8], &[u8])] = &[

@@ -6,8 +6,8 @@ use rasn_schema_bench::{Definition, Occurrence, Part, types};
 use rasn_types::types::{Codec, Constraints, Tag};
 use std::alloc::Global;
 
-/// `Pair ::= SEQUENCE { kind INTEGER { other(7) }, either CHOICE { flag BOOLEAN, none NULL } }`, a SET OF and a SEQUENCE OF integers, and
-/// what they are made of.
+/// `Pair ::= SEQUENCE { kind INTEGER { other(7) }, either CHOICE { flag BOOLEAN, none NULL } }`, a
+/// SET OF and a SEQUENCE OF integers, and what they are made of.
 pub const TYPES: &[Definition] = &[
     Definition::Named(LeafKind::Integer, Tag::INTEGER, &[("other", 7)]),
     Definition::Leaf(LeafKind::Boolean, Tag::BOOL),

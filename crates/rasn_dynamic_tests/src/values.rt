@@ -9,7 +9,8 @@ use std::alloc::Global;
 /// Two values, each with its type.
 type Row = (TypeId, &'static [u8], TypeId, &'static [u8]);
 
-/// Returns whether the two values are equal, or none if one can't be read or they only mean the same.
+/// Returns whether the two values are equal, or none if one can't be read or they only mean the
+/// same.
 fn are_equal(alloc: Global, row: &Row) -> Option<bool> {
     let (id, octets, other_id, other_octets) = row;
     let schema = schema(alloc)?;
@@ -65,7 +66,8 @@ fn copies_are_equal(rt: HostRuntime) {
     assert!(rt; is_copied(rt.alloc(), PAIR, A_PAIR) == Some(true));
 }
 
-/// Returns whether a buffer, whatever it held, holds the octets of the value alone, or nothing if it has none.
+/// Returns whether a buffer, whatever it held, holds the octets of the value alone, or nothing if
+/// it has none.
 fn is_written(
     alloc: Global,
     schema: &Schema,

@@ -29,8 +29,8 @@ use thiserror::Error;
 /// If the value has no JSON that is nested at most [`MAX_NESTING`] deep. The error is that of the
 /// first part without, in the order of components and elements:
 /// - `Unfit` if it isn't a value of its type, as `fits` tells, or a number of an ENUMERATED.
-/// - `NoJson` for a BMPString with an unpaired surrogate, arcs without a subidentifier, and a time of
-///   a year that its text can't have, or with more than the text says.
+/// - `NoJson` for a BMPString with an unpaired surrogate, arcs without a subidentifier, and a time
+///   of a year that its text can't have, or with more than the text says.
 /// - `WrongSize` for a BIT STRING that hasn't the one size of its type.
 /// - `TooDeep` if it is an array or an object and would be nested deeper.
 /// - `NoType` if the schema has no such type.

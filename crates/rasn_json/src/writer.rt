@@ -212,8 +212,8 @@ fn is_nothing(types: &[Type], component: &Component, value: &Value<'_>) -> bool
     }
 }
 
-/// Returns whether a component isn't written: if it is absent, has its default's value, or is unknown
-/// values of which there are none.
+/// Returns whether a component isn't written: if it is absent, has its default's value, or is
+/// unknown values of which there are none.
 fn is_unwritten(types: &[Type], component: &Component, value: &Value<'_>) -> bool
     ensures { IsWhether result (IsLeftOut (unknown_in types.now) component.now value.now) }
 {

@@ -1,5 +1,5 @@
-//! Reads files of modules, and rows of standard input: `rasn-json-rows FILE..`. Prints each fault of
-//! a text, and then each row with its result.
+//! Reads files of modules, and rows of standard input: `rasn-json-rows FILE..`. Prints each fault
+//! of a text, and then each row with its result.
 #![tactic(auto)]
 
 mod octets;

@@ -130,8 +130,8 @@ fn printed(
     }
 }
 
-/// Returns whether the JSON of octets is the JSON of their value: it is read as a value with the same
-/// DER octets, in both layouts.
+/// Returns whether the JSON of octets is the JSON of their value: it is read as a value with the
+/// same DER octets, in both layouts.
 fn again(alloc: Global, resolved: &Resolved, row: &Row<'_>) -> Result<String, AllocError> {
     let Some(octets) = octets_of(alloc, row.text)? else {
         return String::from_str(alloc, "has no octets");

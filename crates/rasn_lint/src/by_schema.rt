@@ -23,8 +23,8 @@ use thiserror::Error;
 pub enum OpenTypes {
     /// They are what the reader of DER reads: of a value of any tag, a definite length.
     Unexamined,
-    /// They are also well formed, as [`is_well_formed`](crate::der::is_well_formed) tells. So is each
-    /// unknown value of an extensible SEQUENCE or SET.
+    /// They are also well formed, as [`is_well_formed`](crate::der::is_well_formed) tells. So is
+    /// each unknown value of an extensible SEQUENCE or SET.
     Examined,
 }
 
@@ -245,8 +245,8 @@ pub fn rest_after<'input>(parts: &[Span<'_>], octets: &'input [u8]) -> &'input [
 /// Each part of the value is judged on its own, in its place, its header and its contents.
 ///
 /// - In its place: an element of a SET OF whose octets are less than those of the one before it
-///   (X.690 11.6), a component of a SET, also one that its type doesn't name, whose tag is below that
-///   of the one before it (10.3), and a component that is its default (11.5).
+///   (X.690 11.6), a component of a SET, also one that its type doesn't name, whose tag is below
+///   that of the one before it (10.3), and a component that is its default (11.5).
 /// - In its header: a tag number in more octets than it needs (8.1.2.4), a constructed bit that
 ///   isn't the one that the type is written with, as of a string in segments (8.1.2.5, 10.2), and a
 ///   length that is indefinite or in more octets than it needs (10.1).

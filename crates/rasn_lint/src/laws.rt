@@ -10,8 +10,9 @@ ghost use Rattle.rasn_lint.specs.WorkedSets.{AreOfSet, WorkedSets};
 ghost use Rattle.rasn_schema.specs.declared.types.«Type».{«Type»};
 
 /// Proves what the list of a message says of the value written anew, as `rasn_dynamic::normalise`
-/// does it: what is written has no departures if the open types of the message, or its own, are well
-/// formed, so none where no type is open; and a message without departures is written as it is.
+/// does it: what is written has no departures if the open types of the message, or its own, are
+/// well formed, so none where no type is open; and a message without departures is written as it
+/// is.
 pub fn written_anew()
     ensures clean { NormalIsClean }
     ensures formed { FormedIsClean }

@@ -237,8 +237,8 @@ fn is_enough(wanted: Wanted, found: usize) -> bool
 /// Appends what departs of these encodings of a part and inside them, or the first of it: `wanted`
 /// tells.
 ///
-/// Each encoding is looked at once. That takes a number of steps in proportion to its octets, except
-/// that one of indefinite length is skipped to find its end.
+/// Each encoding is looked at once. That takes a number of steps in proportion to its octets,
+/// except that one of indefinite length is skipped to find its end.
 fn look_along(
     alloc: Global,
     list: &mut Vec<Departure>,
@@ -320,8 +320,8 @@ fn note_inside(
     Ok(())
 }
 
-/// Appends what departs inside a part, or the first of it, if it is a value of an open type with this
-/// tag.
+/// Appends what departs inside a part, or the first of it, if it is a value of an open type with
+/// this tag.
 fn note_any(
     alloc: Global,
     list: &mut Vec<Departure>,
@@ -401,8 +401,8 @@ fn note_unknown(
     Ok(())
 }
 
-/// Appends what departs inside a part, or the first of it, if it is a value of an open type, or unknown
-/// values.
+/// Appends what departs inside a part, or the first of it, if it is a value of an open type, or
+/// unknown values.
 pub fn note_open(
     alloc: Global,
     list: &mut Vec<Departure>,

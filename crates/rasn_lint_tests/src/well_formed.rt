@@ -85,7 +85,8 @@ const ILL_FORMED: &[&[u8]] = &[
     &[0x0C, 0x01, 0xC3],
     &[0x13, 0x01, 0x40],
     &[0x1E, 0x01, 0x00],
-    // Times without seconds, with an offset, with a fraction that ends in 0, of no day (11.7, 11.8).
+    // Times without seconds, with an offset, with a fraction that ends in 0, of no day (11.7,
+    // 11.8).
     b"\x17\x0B9205210000Z",
     b"\x18\x1319920521000000+0000",
     b"\x18\x1219920622123421.10Z",

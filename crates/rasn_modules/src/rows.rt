@@ -104,7 +104,8 @@ fn read_message(
     }
 }
 
-/// Returns the DER octets of a message as text, and the number of octets that follow it, if some do.
+/// Returns the DER octets of a message as text, and the number of octets that follow it, if some
+/// do.
 fn written(
     alloc: Global,
     resolved: &Resolved,

@@ -38,7 +38,8 @@ type Entries<'input> = (Vec<Entry<'input>>, Option<String>);
 /// If an allocation fails.
 pub fn entries<'input>(alloc: Global, octets: &'input [u8]) -> Result<Entries<'input>, AllocError> {
     let mut list = Vec::new(alloc);
-    // Where each encoding that hasn't ended does at the latest, and whether its length is indefinite.
+    // Where each encoding that hasn't ended does at the latest, and whether its length is
+    // indefinite.
     let mut around = Vec::new(alloc);
     let mut at = 0usize;
     // A step takes two octets at least, or leaves an encoding for which another one did.

@@ -123,7 +123,8 @@ impl Plan<'_> {
     }
 }
 
-/// Returns the proofs that what is read is an alternative's value: each pattern holds what was read.
+/// Returns the proofs that what is read is an alternative's value: each pattern holds what was
+/// read.
 fn read_answers(alloc: Global, branches: &[Branch<'_>]) -> Result<String, AllocError> {
     let mut text = String::new(alloc);
     if branches.iter().any(has_sign) {

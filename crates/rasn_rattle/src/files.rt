@@ -277,8 +277,8 @@ impl Plan<'_> {
         Ok(text)
     }
 
-    /// Returns the type of the values of a type that is written as an open type: of a SEQUENCE that an
-    /// option names any components, and else any octets.
+    /// Returns the type of the values of a type that is written as an open type: of a SEQUENCE that
+    /// an option names any components, and else any octets.
     pub(crate) fn open_word_of(&self, id: usize) -> &'static str {
         match self.type_of(id) {
             Type::Sequence { .. } if self.is_opened(id) => OPEN_LIST,

@@ -33,8 +33,8 @@ pub(crate) fn comment(alloc: Global, prefix: &str, text: &str) -> Result<String,
     Ok(lines)
 }
 
-/// Returns the line that imports types of a crate, which have commas between them, or lines if it is
-/// long.
+/// Returns the line that imports types of a crate, which have commas between them, or lines if it
+/// is long.
 pub(crate) fn import(alloc: Global, from: &str, types: &str) -> Result<String, AllocError> {
     let line = if types.contains(", ") {
         format!(in alloc; "use {from}::{{{types}}};\n")?

@@ -121,8 +121,8 @@ impl<'schema> Plan<'schema> {
         })
     }
 
-    /// Puts notations in place of the names that types without one have in the module, from the last
-    /// type on.
+    /// Puts notations in place of the names that types without one have in the module, from the
+    /// last type on.
     pub(crate) fn show_unnamed(&mut self) -> Result<(), AllocError> {
         let count = self.schema.types().len();
         for id in (0..count).rev() {

@@ -182,8 +182,8 @@ impl Plan<'_> {
         Ok(())
     }
 
-    /// Returns whether a type is made of one that is made of itself, or that an option has as a list
-    /// of any components.
+    /// Returns whether a type is made of one that is made of itself, or that an option has as a
+    /// list of any components.
     pub(crate) fn has_no_constant(&self, id: usize) -> Result<bool, AllocError> {
         let mut walk = self.new_walk();
         self.visit(&mut walk, id)?;

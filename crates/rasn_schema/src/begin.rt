@@ -102,8 +102,9 @@ fn type_is_choice(types: &[Type], below: usize, ty: &Type) -> bool
     }
 }
 
-/// Returns whether a component that may be absent, and whose type has this number, is recognized by the tags with which its values may
-/// begin, as a CHOICE is that has no unknown values, and not by its own tag.
+/// Returns whether a component that may be absent, and whose type has this number, is recognized by
+/// the tags with which its values may begin, as a CHOICE is that has no unknown values, and not by
+/// its own tag.
 pub fn is_choice_at(types: &[Type], levels: usize, id: TypeId) -> bool
     ensures { IsWhether result (IsByFirstTags (shape_of_type types.now levels id.0)) }
 {

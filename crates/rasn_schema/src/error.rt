@@ -17,7 +17,8 @@ pub enum SchemaError {
     ConstructedTag {
         id: TypeId,
     },
-    /// A type with an explicit tag refers to another one whose number isn't lower, so that tags could follow one another without end.
+    /// A type with an explicit tag refers to another one whose number isn't lower, so that tags
+    /// could follow one another without end.
     LateInner {
         id: TypeId,
     },
@@ -40,8 +41,8 @@ pub enum SchemaError {
         id: TypeId,
         index: usize,
     },
-    /// An alternative may begin with any tag, and isn't an open type at the end of the CHOICE, after
-    /// others (X.680 29.3).
+    /// An alternative may begin with any tag, and isn't an open type at the end of the CHOICE,
+    /// after others (X.680 29.3).
     UntaggedAlternative {
         id: TypeId,
         index: usize,
@@ -52,13 +53,15 @@ pub enum SchemaError {
         index: usize,
         other: usize,
     },
-    /// A component of a SEQUENCE may be absent, and one that may follow it then may begin with the same tag (X.680 25.6).
+    /// A component of a SEQUENCE may be absent, and one that may follow it then may begin with the
+    /// same tag (X.680 25.6).
     ComponentsClash {
         id: TypeId,
         index: usize,
         other: usize,
     },
-    /// A component of a SEQUENCE has no tag of its own, may be absent, and another one follows it (X.680 25.6).
+    /// A component of a SEQUENCE has no tag of its own, may be absent, and another one follows it
+    /// (X.680 25.6).
     UntaggedComponent {
         id: TypeId,
         index: usize,

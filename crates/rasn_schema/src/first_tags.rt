@@ -24,7 +24,8 @@ pub enum FirstTags<'types> {
     Of(&'types [Alternative]),
 }
 
-/// Returns the tags with which the values of the type with this number may begin, if types are followed `levels` deep.
+/// Returns the tags with which the values of the type with this number may begin, if types are
+/// followed `levels` deep.
 #[inline(always)]
 pub fn first_tags_at<'types>(types: &'types [Type], levels: usize, id: TypeId) -> FirstTags<'types>
     ensures tags { AreFirstTags (shape_of_type types.now (levels - 1)) (shape_of_type types.now levels id.0) result }
@@ -110,7 +111,8 @@ fn some_have_firsts(types: &[Type], levels: usize, alternatives: &[Alternative])
     false
 }
 
-/// Returns whether the values of two types never begin with the same tag. The other one is followed `outer` levels deep.
+/// Returns whether the values of two types never begin with the same tag. The other one is followed
+/// `outer` levels deep.
 #[cycle(distinct)]
 pub fn is_distinct(types: &[Type], levels: usize, id: TypeId, outer: usize, other: TypeId) -> bool
     ensures { IsWhether result (EachFirst (shape_of_type types.now levels id.0) (λ n. IsFirst (shape_of_type types.now outer other.0) n → ⊥)) }

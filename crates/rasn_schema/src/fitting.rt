@@ -270,7 +270,8 @@ fn components_fit(
     left.is_empty()
 }
 
-/// Returns whether the component is absent or has its default's value, or the value is one of its type.
+/// Returns whether the component is absent or has its default's value, or the value is one of its
+/// type.
 #[cycle(fits)]
 pub fn component_fits(
     types: &[Type],

@@ -1,6 +1,8 @@
-//! ASN.1 types as data: types that are known only when the program runs, the rules that they have to keep (X.680), and values of them.
+//! ASN.1 types as data: types that are known only when the program runs, the rules that they have
+//! to keep (X.680), and values of them.
 //!
-//! A [`Schema`] is a list of types that refer to one another by number, so that types may be recursive. [`Schema::new`] checks each type once.
+//! A [`Schema`] is a list of types that refer to one another by number, so that types may be
+//! recursive. [`Schema::new`] checks each type once.
 #![tactic(auto)]
 
 mod begin;

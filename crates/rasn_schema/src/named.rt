@@ -69,7 +69,8 @@ pub fn has_name<N: Named>(named: &N, name: &str) -> bool
     named.name() == name
 }
 
-/// Returns the index of the first component, alternative, number or type with this name, if there is one.
+/// Returns the index of the first component, alternative, number or type with this name, if there
+/// is one.
 pub fn index_named<N: Named>(list: &[N], name: &str) -> Option<usize>
     ensures { MatchOption result
         ((j : ℕ) (n : N) → Some n ≡ slice_get list.now j → N.name n ≢ name.now)

@@ -1,4 +1,5 @@
-//! The rules that each type of a schema keeps: it is looked at once, however deep values are nested (X.680 25.6, 27.3, 29.3).
+//! The rules that each type of a schema keeps: it is looked at once, however deep values are nested
+//! (X.680 25.6, 27.3, 29.3).
 ghost use Rattle.std.specs.Prelude.{◌≡◌, ◌≢◌, [], ◌<◌, ℕ, suc, true, length, slice_get, Some, None, MatchOption};
 ghost use Rattle.rasn_types.specs.Tags.{eoc};
 ghost use Rattle.rasn_types.specs.Grammar.{family};
@@ -24,7 +25,8 @@ use crate::types::{
 use rasn_types::ber::is_always_constructed;
 use rasn_types::types::Tag;
 
-/// Returns whether a value of this kind may have the tag: a string or a time can't have that of a type that is always constructed.
+/// Returns whether a value of this kind may have the tag: a string or a time can't have that of a
+/// type that is always constructed.
 fn is_bit_free(kind: LeafKind, tag: Tag) -> bool
     ensures { IsWhether result (IsBitFree (family (kind_of kind)) tag) }
 {
@@ -215,7 +217,8 @@ fn numbers_fault(id: TypeId, tag: Tag, numbers: &[NamedNumber]) -> Option<Schema
     None
 }
 
-/// Returns whether an alternative is the last of several, and an open type without a tag (X.680 29).
+/// Returns whether an alternative is the last of several, and an open type without a tag (X.680
+/// 29).
 fn is_open_end(
     types: &[Type],
     levels: usize,
@@ -271,7 +274,8 @@ fn late_or_untagged(
     None
 }
 
-/// Returns the index of the first alternative after `index` that has a tag and may begin with this one.
+/// Returns the index of the first alternative after `index` that has a tag and may begin with this
+/// one.
 fn alternative_with(
     types: &[Type],
     levels: usize,
@@ -294,8 +298,8 @@ fn alternative_with(
     None
 }
 
-/// Returns the index of the first alternative after `index` that has a tag and may begin with one of the tags with which `alternative`
-/// begins.
+/// Returns the index of the first alternative after `index` that has a tag and may begin with one
+/// of the tags with which `alternative` begins.
 fn overlapping_alternative(
     types: &[Type],
     levels: usize,
@@ -320,7 +324,8 @@ fn overlapping_alternative(
     None
 }
 
-/// Returns the index of the first alternative after `index` that has a tag and may begin with a tag with which `alternative` begins.
+/// Returns the index of the first alternative after `index` that has a tag and may begin with a tag
+/// with which `alternative` begins.
 fn same_alternative(
     types: &[Type],
     levels: usize,
@@ -385,7 +390,8 @@ fn choice_fault(
     alternatives_clash(types, levels, id, alternatives)
 }
 
-/// Returns the index of the first component after `index` that may follow if that one is absent, and may begin with the tag (X.680 25.6).
+/// Returns the index of the first component after `index` that may follow if that one is absent,
+/// and may begin with the tag (X.680 25.6).
 fn same_component(
     types: &[Type],
     levels: usize,
@@ -411,8 +417,8 @@ fn same_component(
     None
 }
 
-/// Returns the index of the first component after `index` that may follow if that one is absent, and may begin with a tag of the type
-/// (X.680 25.6).
+/// Returns the index of the first component after `index` that may follow if that one is absent,
+/// and may begin with a tag of the type (X.680 25.6).
 fn overlapping_component(
     types: &[Type],
     levels: usize,
@@ -448,7 +454,8 @@ fn is_recognizable(types: &[Type], levels: usize, id: TypeId) -> bool
     has_firsts(types, levels, id)
 }
 
-/// Returns what is wrong with a component of a SEQUENCE that may be absent and has no tag of its own, as a CHOICE.
+/// Returns what is wrong with a component of a SEQUENCE that may be absent and has no tag of its
+/// own, as a CHOICE.
 fn untagged_fault(
     types: &[Type],
     levels: usize,
@@ -506,8 +513,8 @@ fn component_fault(
     }
 }
 
-/// Returns the first component of a SEQUENCE that may be absent and isn't distinguished from what may
-/// follow then (X.680 25.6).
+/// Returns the first component of a SEQUENCE that may be absent and isn't distinguished from what
+/// may follow then (X.680 25.6).
 fn components_clash(
     types: &[Type],
     levels: usize,
@@ -732,8 +739,8 @@ fn is_choice(ty: &Type) -> bool
     }
 }
 
-/// Returns what is wrong with the first CHOICE that breaks a rule. One that keeps them refers to lower numbers alone, so that no CHOICE
-/// leads back to itself.
+/// Returns what is wrong with the first CHOICE that breaks a rule. One that keeps them refers to
+/// lower numbers alone, so that no CHOICE leads back to itself.
 pub fn first_choice_fault(types: &[Type], levels: usize) -> Option<SchemaError>
     requires { levels ≢ 0 }
     ensures { let f = shape_of_type types.now levels in

@@ -68,9 +68,9 @@ impl Schema {
         Ok(Schema { types, names: None })
     }
 
-    /// Returns the types. Each is lawful, or unknown values, however deep it is read. How deep types
-    /// are followed makes no difference to what is read, from the depth on to which values are read.
-    /// Each default is a value of its component's type.
+    /// Returns the types. Each is lawful, or unknown values, however deep it is read. How deep
+    /// types are followed makes no difference to what is read, from the depth on to which values
+    /// are read. Each default is a value of its component's type.
     pub fn types(&self) -> &[Type]
         ensures types { result.now ≡ self.now.types.items }
         ensures readable { (levels id : ℕ) → IsReadable (shape_of_type result.now levels id) }

@@ -62,8 +62,8 @@ pub enum LeafKind {
 #[derive(Drop)]
 pub enum Type {
     /// A type whose values hold no other values. The names are those of an INTEGER's numbers, of
-    /// those of an ENUMERATED with an extension marker, which is a number of 64 bits with the tag of
-    /// ENUMERATED, or of the bits of a BIT STRING (X.680 19.3, 20.1, 22.3).
+    /// those of an ENUMERATED with an extension marker, which is a number of 64 bits with the tag
+    /// of ENUMERATED, or of the bits of a BIT STRING (X.680 19.3, 20.1, 22.3).
     Leaf {
         kind: LeafKind,
         tag: Tag,
@@ -85,8 +85,8 @@ pub enum Type {
         inner: TypeId,
     },
     /// A CHOICE (X.680 29), with the name that errors have for it. Each alternative has a lower
-    /// number than the CHOICE. After others, the last alternative may be an open type without a tag,
-    /// which is that of values with other tags, since the CHOICE is extensible.
+    /// number than the CHOICE. After others, the last alternative may be an open type without a
+    /// tag, which is that of values with other tags, since the CHOICE is extensible.
     Choice {
         name: String,
         alternatives: Vec<Alternative>,
@@ -115,8 +115,8 @@ pub enum Type {
         element: TypeId,
         constraints: Constraints,
     },
-    /// Values that the type of an extensible SEQUENCE or SET doesn't name (X.680 25, 27): those of a
-    /// SEQUENCE come after all others, those of a SET may be anywhere among them. Only the last
+    /// Values that the type of an extensible SEQUENCE or SET doesn't name (X.680 25, 27): those of
+    /// a SEQUENCE come after all others, those of a SET may be anywhere among them. Only the last
     /// component may be such, which is required. The value is a list of the octets of each.
     Unknown,
 }

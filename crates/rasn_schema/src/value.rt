@@ -12,8 +12,8 @@ use rasn_types::types::{BmpString, CowBits, Date, GeneralizedTime, Integer, Obje
 use std::alloc::{AllocError, Global};
 use std::borrow::{CowSlice, CowStr};
 
-/// A value of any type. Strings, a BIT STRING among them, and open types borrow from the input where
-/// their encoding is primitive.
+/// A value of any type. Strings, a BIT STRING among them, and open types borrow from the input
+/// where their encoding is primitive.
 #[derive(Drop)]
 pub enum Value<'input> {
     /// A BOOLEAN.
@@ -48,8 +48,8 @@ pub enum Value<'input> {
 }
 
 impl Value<'_> {
-    /// Returns a copy of the value, which borrows nothing: it means the same, and is a value of each
-    /// type of which this is one.
+    /// Returns a copy of the value, which borrows nothing: it means the same, and is a value of
+    /// each type of which this is one.
     ///
     /// # Errors
     /// `AllocError` if an allocation fails.

@@ -7,7 +7,8 @@ use rasn_types::types::{Constraints, Tag};
 
 /// Certificate and the types that it is made of.
 pub const CERTIFICATE_TYPES: &[Definition] = &[
-    // 0 to 9: the tags of a type that has no name are implicit, those of Version and Extensions explicit
+    // 0 to 9: the tags of a type that has no name are implicit, those of Version and Extensions
+    // explicit
     Definition::Leaf(LeafKind::ObjectIdentifier, Tag::OBJECT_IDENTIFIER),
     Definition::Any(Tag::EOC),
     Definition::Sequence(Tag::SEQUENCE, ALGORITHM_IDENTIFIER),

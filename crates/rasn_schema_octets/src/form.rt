@@ -6,8 +6,8 @@ use rasn::parts::{End, Optional, Put, PutOptional, Required};
 use rasn::types::{AsnType, Constraints, ContextTag, Identifier, Implicit, Tag};
 use rasn::{Decode, Decoder, Encode, Encoder};
 
-/// A schema with the number of one of its types: SEQUENCE { version INTEGER, root INTEGER, unchecked
-/// INTEGER, names \[0\] SEQUENCE OF NameForm OPTIONAL, types SEQUENCE OF TypeForm }.
+/// A schema with the number of one of its types: SEQUENCE { version INTEGER, root INTEGER,
+/// unchecked INTEGER, names \[0\] SEQUENCE OF NameForm OPTIONAL, types SEQUENCE OF TypeForm }.
 #[derive(Drop)]
 pub struct SchemaForm {
     /// The version of the form.

@@ -158,8 +158,8 @@ impl Encode for PlainKind {
     }
 }
 
-/// A kind: CHOICE { plain ENUMERATED, octets INTEGER }, where the number is that of the octets of an
-/// OCTET STRING of fixed length.
+/// A kind: CHOICE { plain ENUMERATED, octets INTEGER }, where the number is that of the octets of
+/// an OCTET STRING of fixed length.
 #[derive(Clone, Copy, Drop)]
 pub struct KindForm {
     /// The kind.

@@ -1,7 +1,7 @@
 //! Schemas as octets: a form of our own, in DER, that is checked whenever it is read.
 //!
-//! [`write`] returns the octets of a schema with its names, and [`read`] the schema of octets, which
-//! may be damaged. What is read is a lawful schema with these octets.
+//! [`write`] returns the octets of a schema with its names, and [`read`] the schema of octets,
+//! which may be damaged. What is read is a lawful schema with these octets.
 #![tactic(auto)]
 
 mod component;

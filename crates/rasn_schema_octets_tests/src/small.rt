@@ -12,8 +12,8 @@ use std::alloc::Global;
 type Row = (&'static [Definition], usize, &'static [u8]);
 
 const ROWS: &[Row] = &[
-    // A BOOLEAN: version 1, type 0, no constraint unchecked, no names; a leaf of kind 0 with the tag
-    // universal 1, no constraints and no names of numbers.
+    // A BOOLEAN: version 1, type 0, no constraint unchecked, no names; a leaf of kind 0 with the
+    // tag universal 1, no constraints and no names of numbers.
     (
         &[Definition::Leaf(LeafKind::Boolean, Tag::BOOL)],
         0,

@@ -2,8 +2,8 @@
 use rasn_schema::{LeafKind, TypeId};
 use rasn_types::types::{Constraints, Tag};
 
-/// A type of a schema that is a constant, with the same variants as `rasn_schema::Type`. Other types
-/// that it is made of are named by their numbers.
+/// A type of a schema that is a constant, with the same variants as `rasn_schema::Type`. Other
+/// types that it is made of are named by their numbers.
 #[derive(Clone, Copy, Debug)]
 pub enum StaticType {
     /// A type whose values hold no other values. The names are those of its numbers or bits.

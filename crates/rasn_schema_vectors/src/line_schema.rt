@@ -112,7 +112,8 @@ impl LineSchema {
         NormalAnswer::of_normalised(self.normalised(alloc, rule, value_type, input))
     }
 
-    /// Reads the value with which the input begins. It is absent if the type may be absent and its tag doesn't come next.
+    /// Reads the value with which the input begins. It is absent if the type may be absent and its
+    /// tag doesn't come next.
     fn read<'input>(
         &self,
         alloc: Global,
@@ -240,7 +241,8 @@ impl LineSchema {
     }
 }
 
-/// Returns whether octets begin with a value of the type. One that may be absent has to begin with its tag.
+/// Returns whether octets begin with a value of the type. One that may be absent has to begin with
+/// its tag.
 fn is_present(
     alloc: Global,
     rule: Codec,

@@ -89,7 +89,8 @@ const OCTET: Constraints = Constraints {
     size: None,
 };
 
-/// Returns the number of the type that a line names. That of `optbool` is the type which may be absent.
+/// Returns the number of the type that a line names. That of `optbool` is the type which may be
+/// absent.
 pub fn type_id(value_type: ValueType) -> TypeId
     ensures { result.0 ≡ type_number value_type }
 {

@@ -1,4 +1,5 @@
-//! Answers lines as `rasn-vectors` does, each type given as a schema, and rows of values that are read and written by a schema.
+//! Answers lines as `rasn-vectors` does, each type given as a schema, and rows of values that are
+//! read and written by a schema.
 #![tactic(auto)]
 
 mod answers;

@@ -13,7 +13,8 @@ pub enum Verb {
     Bare,
     /// The same for debugging.
     Debug,
-    /// Reads a value, and writes it by the same rules, as a value of the other type if there is one.
+    /// Reads a value, and writes it by the same rules, as a value of the other type if there is
+    /// one.
     Write,
     /// Returns the DER octets of a value.
     Normal,

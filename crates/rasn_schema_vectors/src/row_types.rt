@@ -4,7 +4,8 @@ use rasn_schema::LeafKind;
 use rasn_schema_bench::{CONTEXT_0, CONTEXT_1, Definition, Occurrence, Part};
 use rasn_types::types::{Constraints, Tag};
 
-/// The types that rows name beside those of lines, and those that they are made of. The number before each is its number.
+/// The types that rows name beside those of lines, and those that they are made of. The number
+/// before each is its number.
 pub const ROW_TYPES: &[Definition] = &[
     // 0 to 9
     Definition::Leaf(LeafKind::Boolean, Tag::BOOL),

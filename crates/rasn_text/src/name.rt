@@ -11,8 +11,8 @@ use rasn::types::{Codec, Ia5String, PrintableString, Utf8String};
 use rasn_pkix::{AttributeTypeAndValue, Name, RdnSequence, RelativeDistinguishedName};
 use std::alloc::{AllocError, Global};
 
-/// Returns the text of a distinguished name (RFC 4514, 2): `CN=example.org,O=Example,C=DE`, with the
-/// last relative distinguished name first.
+/// Returns the text of a distinguished name (RFC 4514, 2): `CN=example.org,O=Example,C=DE`, with
+/// the last relative distinguished name first.
 ///
 /// An attribute type that the table of RFC 4514, 3 has is written by its short name, and its value,
 /// if it is a UTF8String, a PrintableString or an IA5String, as its characters, of which those that

@@ -5,24 +5,26 @@
 //!
 //! # A CHOICE
 //! `DecodeChoice::from_tag` reads the alternative of the next tag. It needs an answer for each `?`,
-//! each value and the end: `alternative_refused`, `alternative_got` and `no_alternative`, with `only`
-//! if the tag belongs to this alternative alone, and `nowhere` if it belongs to none. `encode_choice`
-//! takes a closure that writes the alternative and returns its tag (`EncodesAlternative`).
+//! each value and the end: `alternative_refused`, `alternative_got` and `no_alternative`, with
+//! `only` if the tag belongs to this alternative alone, and `nowhere` if it belongs to none.
+//! `encode_choice` takes a closure that writes the alternative and returns its tag
+//! (`EncodesAlternative`).
 //!
 //! # A SET
-//! Components are read as values of an enum with a variant for each part, whose shape is `choice` of
-//! the parts; a closure makes the value of all of them (`MakesSet`). It keeps an `Option` for each
-//! part, and refuses one that is present twice and, at the end, a required one that is missing; the
-//! invariant of its loop is `Slot` of `Components.antt`. In `from_tag` a default part is read by a
-//! default form, an optional part as its value, and a CHOICE by each of its tags, with a lemma that
-//! it alone has them (`time_alone` of `EventComponents.antt`).
+//! Components are read as values of an enum with a variant for each part, whose shape is `choice`
+//! of the parts; a closure makes the value of all of them (`MakesSet`). It keeps an `Option` for
+//! each part, and refuses one that is present twice and, at the end, a required one that is
+//! missing; the invariant of its loop is `Slot` of `Components.antt`. In `from_tag` a default part
+//! is read by a default form, an optional part as its value, and a CHOICE by each of its tags, with
+//! a lemma that it alone has them (`time_alone` of `EventComponents.antt`).
 //!
 //! # Offsets of times
-//! A type that closures read also says by `beyond` that a GeneralizedTime has the offset of its text.
-//! The closure of `decode_set` says which components the parts are, and the method's answer starts
-//! from `beyond`. That of `decode_sequence` says what is kept of the octets between `decoder.old` and
-//! `decoder.new`, and the answer starts from `exact`, by `read_inside` of `Beyond.antt` (`both.rt`).
-//! For `decode_choice`, `from_tag` has the ghost member `beyond`, and no answer is needed.
+//! A type that closures read also says by `beyond` that a GeneralizedTime has the offset of its
+//! text. The closure of `decode_set` says which components the parts are, and the method's answer
+//! starts from `beyond`. That of `decode_sequence` says what is kept of the octets between
+//! `decoder.old` and `decoder.new`, and the answer starts from `exact`, by `read_inside` of
+//! `Beyond.antt` (`both.rt`). For `decode_choice`, `from_tag` has the ghost member `beyond`, and no
+//! answer is needed.
 ghost use Rattle.std.specs.Prelude.{◌≡◌, IfOk, IfErr, map};
 ghost use Rattle.rasn_types.specs.Shapes.{IsFirst};
 ghost use Rattle.rasn_de.specs.Set.{MakesSet};

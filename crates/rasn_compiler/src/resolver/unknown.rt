@@ -8,10 +8,10 @@ use rasn_types::types::Tag;
 use std::alloc::{AllocError, Global};
 
 /// Gives each CHOICE with an extension marker a last alternative of an open type, which is named
-/// `...`. A CHOICE that is used where the tag of an unknown alternative could be that of another part
-/// gets none: an alternative of another CHOICE, a component of a SET, and a component of a SEQUENCE
-/// that follows an optional one, or that is optional and not the last. Unknown values are the last
-/// component of an extensible SEQUENCE.
+/// `...`. A CHOICE that is used where the tag of an unknown alternative could be that of another
+/// part gets none: an alternative of another CHOICE, a component of a SET, and a component of a
+/// SEQUENCE that follows an optional one, or that is optional and not the last. Unknown values are
+/// the last component of an extensible SEQUENCE.
 pub(crate) fn add_unknown_alternatives(
     alloc: Global,
     nodes: &mut Vec<Node<'_>>,

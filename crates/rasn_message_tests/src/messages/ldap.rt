@@ -211,7 +211,8 @@ fn filter_of(message: &LdapMessage) -> Option<&[u8]> {
     }
 }
 
-// `(&(sn=x)(!(uid=q*)))`: a conjunction is \[0\] (RFC 4511 4.5.1), whose contents here are 23 octets.
+// `(&(sn=x)(!(uid=q*)))`: a conjunction is \[0\] (RFC 4511 4.5.1), whose contents here are 23
+// octets.
 #[test]
 fn a_filter_is_its_octets(rt: HostRuntime) {
     match LdapMessage::read(rt.alloc(), SEARCH) {
@@ -271,8 +272,9 @@ fn has_unknown_null(message: &LdapMessage) -> bool {
 }
 
 // All SEQUENCEs of LDAP are extensible (RFC 4511, 4): UNBIND, the success of a bind and a control,
-// each with one more component, which is written as it was read; a bind with `[1]`, which is neither
-// `simple [0]` nor `sasl [3]` (4.2); and an operation 17, which the standard doesn't have (4.1.1).
+// each with one more component, which is written as it was read; a bind with `[1]`, which is
+// neither `simple [0]` nor `sasl [3]` (4.2); and an operation 17, which the standard doesn't have
+// (4.1.1).
 #[test]
 fn what_is_unknown_is_kept(rt: HostRuntime) {
     const NEWER: &[u8] = &[0x30, 0x07, 0x02, 0x01, 0x03, 0x42, 0x00, 0x05, 0x00];

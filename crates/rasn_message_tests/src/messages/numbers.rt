@@ -1,4 +1,5 @@
-//! The numbers that have names in the types of messages, each beside the one that its standard gives.
+//! The numbers that have names in the types of messages, each beside the one that its standard
+//! gives.
 
 use rasn::types::Enumerated;
 use rasn_ldap::{ChangeOperationName, ResultCodeName, SearchRequestScopeName};

@@ -153,7 +153,8 @@ fn writes_defaults_under_prefixes(rt: HostRuntime) {
     assert_output(&rt, encoder.output(), EIGHT);
 }
 
-// A reader shows what it has passed and what is left, a writer the octets of the value that was opened last.
+// A reader shows what it has passed and what is left, a writer the octets of the value that was
+// opened last.
 #[test]
 fn readers_and_writers_are_shown(rt: HostRuntime) {
     const TRUE_AND_NULL: &[u8] = &[0x01, 0x01, 0xFF, 0x05, 0x00];

@@ -33,8 +33,8 @@ fn assert_named(rt: &impl Abort, mut encoder: Encoder, name: &OctetString, octet
     assert_output(rt, encoder.output(), octets);
 }
 
-// NULL comes after OCTET STRING. Under CER the CHOICE is put where INTEGER belongs, the least of its
-// tags.
+// NULL comes after OCTET STRING. Under CER the CHOICE is put where INTEGER belongs, the least of
+// its tags.
 #[test]
 fn choice_is_put_by_its_tag_or_by_its_least(rt: HostRuntime) {
     let alloc = rt.alloc();

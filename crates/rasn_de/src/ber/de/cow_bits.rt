@@ -56,8 +56,8 @@ impl<'input> Decoder<'input> {
         }
     }
 
-    /// Reads a BIT STRING as [`decode_bit_string`](Decoder::decode_bit_string) does, but borrows the
-    /// bits of a primitive encoding from the input.
+    /// Reads a BIT STRING as [`decode_bit_string`](Decoder::decode_bit_string) does, but borrows
+    /// the bits of a primitive encoding from the input.
     ///
     /// # Errors
     /// Those of `decode_bit_string`; `OutOfMemory` only while segments are collected.

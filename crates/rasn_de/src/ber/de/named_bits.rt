@@ -45,9 +45,9 @@ fn check_named_size(
 }
 
 impl<'input> Decoder<'input> {
-    /// Reads a BIT STRING whose bits have names. Trailing 0 bits don't count: the size has to be met
-    /// by the bits up to the last that is 1, with any number of 0 bits after them. CER and DER have
-    /// no trailing 0 bits (X.690 11.2.2).
+    /// Reads a BIT STRING whose bits have names. Trailing 0 bits don't count: the size has to be
+    /// met by the bits up to the last that is 1, with any number of 0 bits after them. CER and DER
+    /// have no trailing 0 bits (X.690 11.2.2).
     ///
     /// # Errors
     /// Those of [`decode_bit_string`](Decoder::decode_bit_string) without a constraint. With the

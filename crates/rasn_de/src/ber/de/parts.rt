@@ -15,8 +15,8 @@ use rasn_types::types::{AsnType, DefaultValue, End, ExplicitDefault, FirstTags, 
 use std::alloc::AllocError;
 
 /// Parts that are read in their order: [`Required`], [`Optional`], [`OptionalChoice`],
-/// [`Defaulted`], [`DefaultedChoice`], [`DefaultedExplicit`] and [`Addition`], each with those after
-/// it, and [`End`] after the last.
+/// [`Defaulted`], [`DefaultedChoice`], [`DefaultedExplicit`] and [`Addition`], each with those
+/// after it, and [`End`] after the last.
 pub trait DecodeParts: Drop {
     ghost use Rattle.std.specs.Prelude.{Bool};
     ghost use Rattle.rasn_types.specs.Shapes.{Parts, Tree};

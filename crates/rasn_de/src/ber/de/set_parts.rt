@@ -197,8 +197,8 @@ impl DecodeSetParts for End {
     }
 }
 
-/// The components of a SET with an extension marker that its type doesn't name (X.680 27), each kept
-/// as its octets.
+/// The components of a SET with an extension marker that its type doesn't name (X.680 27), each
+/// kept as its octets.
 impl DecodeSetParts for Unknown {
     ghost use Rattle.std.specs.Prelude.{true, [], map};
     ghost use Rattle.rasn_types.specs.Shapes.{numbers, joined, done};

@@ -19,8 +19,8 @@ impl<'input> Decoder<'input> {
     /// are kept (X.680 25). They are read as `decode_any` reads values without a tag of their own.
     ///
     /// # Errors
-    /// The error of the first value that can't be read, as `decode_any` has it: the values before it
-    /// are consumed. Otherwise only `OutOfMemory`.
+    /// The error of the first value that can't be read, as `decode_any` has it: the values before
+    /// it are consumed. Otherwise only `OutOfMemory`.
     pub fn decode_unknown(&mut self) -> Result<Unknown, DecodeError>
         ensures exact { DecodesUnknown self.old result self.new }
         ensures reads { Decodes unknown (λ u. list_tree numbers u.values.items) self.old result self.new }

@@ -19,8 +19,8 @@ impl Encoder {
     ///
     /// # Errors
     /// `AnyInSet` if octets would be written directly in a SET, or in the output of an encoder that
-    /// `new_set` made: their order isn't known (X.690 9.3, 10.3). Otherwise only `OutOfMemory`; none
-    /// if there are no octets. On error, nothing is written.
+    /// `new_set` made: their order isn't known (X.690 9.3, 10.3). Otherwise only `OutOfMemory`;
+    /// none if there are no octets. On error, nothing is written.
     pub fn encode_unknown(&mut self, values: &Unknown) -> Result<(), EncodeError>
         ensures ok { OnOk result (AppendsEncoding unknown (list_tree numbers values.now.values.items) self.old self.new) }
         ensures err { OnErr result (self.new ≡ self.old) }

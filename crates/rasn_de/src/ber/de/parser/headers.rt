@@ -349,8 +349,8 @@ pub fn short_tag(input: &[u8]) -> Option<Tag>
     Some(tag)
 }
 
-/// Returns whether an octet is the whole identifier of a primitive value with this tag, which may be
-/// written as such (X.690 8.1.2.2, 8.1.2.3).
+/// Returns whether an octet is the whole identifier of a primitive value with this tag, which may
+/// be written as such (X.690 8.1.2.2, 8.1.2.3).
 #[inline(always)]
 fn is_primitive_identifier(tag: Tag, octet: u8) -> bool
     ensures { result ≡ true → IsPrimitiveIdentifier tag octet }

@@ -89,7 +89,8 @@ impl TextScan {
         }
     }
 
-    /// Checks that the octets are UTF-8, and then that the number of characters is within its bound.
+    /// Checks that the octets are UTF-8, and then that the number of characters is within its
+    /// bound.
     pub fn check(&self, constraints: &Constraints) -> Result<(), ParseError>
         ensures { ChecksScannedText constraints.now self.now.count self.now.held result }
     {
