@@ -31,11 +31,11 @@ invariant_of-self c =
       c.pop_innermost-open.ensures.innermost,
     )
 
-pub invariant_of-self-in-Err : goal.invariant_of-self-in-Err
-invariant_of-self-in-Err c =
+pub invariant_of-self-in-Err-closed : goal.invariant_of-self-in-Err-closed
+invariant_of-self-in-Err-closed c =
     let e : (opens c.self.inside.around.items c.self.inside.innermost) ≡ (opens c.pop_innermost-open.new.around.items c.pop_innermost-open.new.innermost) ++ c.pop_innermost-open.result ∷ [] = c.pop_innermost-open.ensures.all in
     let t = top c.self.inside.gathered.items c.self.inside.headers.items (opens c.self.inside.around.items c.self.inside.innermost) (opens c.pop_innermost-open.new.around.items c.pop_innermost-open.new.innermost) c.pop_innermost-open.result c.self.inside.list.start c.self.inside.list.first e c.self.invariant.1 in
-    rw (c.truncate.ensures.items, c.truncate-in-Err.ensures.items, c.in-Err.ensures.place.0, c.in-Err.ensures.place.1, c.in-Err.ensures.err.0, c.in-Err.ensures.err.1, c.in-Err.ensures.start.0, c.in-Err.ensures.start.1, c.in-Err.ensures.kept.0) (t.sound, cut-chain c.self.inside.rule c.self.inside.gathered.items c.self.inside.headers.items (opens c.pop_innermost-open.new.around.items c.pop_innermost-open.new.innermost) c.pop_innermost-open.result c.self.inside.list.start c.self.inside.list.first t, c.pop_innermost-open.ensures.innermost)
+    rw (c.truncate.ensures.items, c.truncate-in-Err-closed.ensures.items, c.in-Err-closed.ensures.place.0, c.in-Err-closed.ensures.place.1, c.in-Err-closed.ensures.err.0, c.in-Err-closed.ensures.err.1, c.in-Err-closed.ensures.start.0, c.in-Err-closed.ensures.start.1, c.in-Err-closed.ensures.kept.0) (t.sound, cut-chain c.self.inside.rule c.self.inside.gathered.items c.self.inside.headers.items (opens c.pop_innermost-open.new.around.items c.pop_innermost-open.new.innermost) c.pop_innermost-open.result c.self.inside.list.start c.self.inside.list.first t, c.pop_innermost-open.ensures.innermost)
 
 pub returns-in-Ok-clause-ok : goal.returns-in-Ok-clause-ok
 returns-in-Ok-clause-ok c = λ v b.
@@ -43,11 +43,11 @@ returns-in-Ok-clause-ok c = λ v b.
     let t = top c.self.inside.gathered.items c.self.inside.headers.items (opens c.self.inside.around.items c.self.inside.innermost) (opens c.pop_innermost-open.new.around.items c.pop_innermost-open.new.innermost) c.pop_innermost-open.result c.self.inside.list.start c.self.inside.list.first e c.self.invariant.1 in
     rw (← ap (λ x. x.last.octets) c.self.view_is, c.in-Ok.ensures.start.0, c.in-Ok.ensures.start.1) (close-appends c.self.inside.rule c.self.inside.gathered.items c.self.inside.headers.items (opens c.pop_innermost-open.new.around.items c.pop_innermost-open.new.innermost) c.pop_innermost-open.result c.self.inside.list.start c.self.inside.list.first t c.args.tag c.self.inside.list.measured c.self.invariant.0 c.close_value-closed.new.gathered.items c.close_value-closed.new.headers.items c.in-Ok.ensures.octets (opens c.self.inside.around.items c.self.inside.innermost) e v (ap (λ x. x.rule) c.self.view_is ∙ b.0) (ap (λ x. x.below) c.self.view_is ∙ b.1) (tags_of c.close_value-closed.new.value.list.tags) c.in-Ok.ensures.noted (search rules) (search rules))
 
-pub returns-in-Err-clause-err : goal.returns-in-Err-clause-err
-returns-in-Err-clause-err c = λ v b.
+pub returns-in-Err-closed-clause-err : goal.returns-in-Err-closed-clause-err
+returns-in-Err-closed-clause-err c = λ v b.
     let e : (opens c.self.inside.around.items c.self.inside.innermost) ≡ (opens c.pop_innermost-open.new.around.items c.pop_innermost-open.new.innermost) ++ c.pop_innermost-open.result ∷ [] = c.pop_innermost-open.ensures.all in
     let t = top c.self.inside.gathered.items c.self.inside.headers.items (opens c.self.inside.around.items c.self.inside.innermost) (opens c.pop_innermost-open.new.around.items c.pop_innermost-open.new.innermost) c.pop_innermost-open.result c.self.inside.list.start c.self.inside.list.first e c.self.invariant.1 in
-    rw (c.truncate.ensures.items, c.truncate-in-Err.ensures.items, c.in-Err.ensures.place.0, c.in-Err.ensures.place.1, c.in-Err.ensures.err.0, c.in-Err.ensures.err.1, c.in-Err.ensures.start.0, c.in-Err.ensures.start.1, c.in-Err.ensures.kept.1) (cut-view c.self.inside.rule c.self.inside.gathered.items c.self.inside.headers.items (opens c.pop_innermost-open.new.around.items c.pop_innermost-open.new.innermost) c.pop_innermost-open.result c.self.inside.list.start c.self.inside.list.first t (opens c.self.inside.around.items c.self.inside.innermost) e v (ap (λ x. x.rule) c.self.view_is ∙ b.0) (ap (λ x. x.below) c.self.view_is ∙ b.1))
+    rw (c.truncate.ensures.items, c.truncate-in-Err-closed.ensures.items, c.in-Err-closed.ensures.place.0, c.in-Err-closed.ensures.place.1, c.in-Err-closed.ensures.err.0, c.in-Err-closed.ensures.err.1, c.in-Err-closed.ensures.start.0, c.in-Err-closed.ensures.start.1, c.in-Err-closed.ensures.kept.1) (cut-view c.self.inside.rule c.self.inside.gathered.items c.self.inside.headers.items (opens c.pop_innermost-open.new.around.items c.pop_innermost-open.new.innermost) c.pop_innermost-open.result c.self.inside.list.start c.self.inside.list.first t (opens c.self.inside.around.items c.self.inside.innermost) e v (ap (λ x. x.rule) c.self.view_is ∙ b.0) (ap (λ x. x.below) c.self.view_is ∙ b.1))
 
 pub pop_innermost-open-requires : goal.pop_innermost-open-requires
 pop_innermost-open-requires c = is_open c.self.inside.gathered.items c.self.inside.headers.items c.self.inside.around.items c.self.inside.innermost c.self.invariant.2 (rw (← c.self.view_is) at c.requires)
