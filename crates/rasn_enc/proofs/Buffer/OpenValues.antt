@@ -156,51 +156,51 @@ module _ (r : Codec) (xs : List ℕ) (ms : List DeferredHeader) (os : List Open)
   both all is v below = same_from_push _ _ _ _ (sym (map-append (frame_in xs ms) os (o ∷ [])) ∙ ap (map (frame_in xs ms)) (sym is) ∙ below)
 
   module _ (tag : Tag) (n : ℕ) (sound : Sound xs ms s f n) (ys : List ℕ) (ns : List DeferredHeader) (q : Encloses o.end o.last (header_octets (head_of r tag n)) (back r) xs ms ys ns) where
-    finish-two : length (take 2 (header_octets (head_of r tag n))) ≡ 2
-    finish-two = length-take-le 2 (header_octets (head_of r tag n)) (header_two (head_of r tag n))
+    close-two : length (take 2 (header_octets (head_of r tag n))) ≡ 2
+    close-two = length-take-le 2 (header_octets (head_of r tag n)) (header_two (head_of r tag n))
 
-    finish-lower : length (take o.end xs) ≡ o.end
-    finish-lower = length-take-le o.end xs h.end_within
+    close-lower : length (take o.end xs) ≡ o.end
+    close-lower = length-take-le o.end xs h.end_within
 
-    finish-start : s ≤ length xs
-    finish-start = sound.start_within
+    close-start : s ≤ length xs
+    close-start = sound.start_within
 
     -- after the room
-    finish-split : ys ≡ (take o.end xs ++ take 2 (header_octets (head_of r tag n))) ++ (drop s xs ++ back r)
-    finish-split = q.octets ∙ (ap (λ i. take o.end xs ++ (take 2 (header_octets (head_of r tag n)) ++ (drop i xs ++ back r))) h.ends ∙ sym (append_assoc (take o.end xs) (take 2 (header_octets (head_of r tag n))) (drop s xs ++ back r)))
+    close-split : ys ≡ (take o.end xs ++ take 2 (header_octets (head_of r tag n))) ++ (drop s xs ++ back r)
+    close-split = q.octets ∙ (ap (λ i. take o.end xs ++ (take 2 (header_octets (head_of r tag n)) ++ (drop i xs ++ back r))) h.ends ∙ sym (append_assoc (take o.end xs) (take 2 (header_octets (head_of r tag n))) (drop s xs ++ back r)))
 
-    finish-front-len : length (take o.end xs ++ take 2 (header_octets (head_of r tag n))) ≡ s
-    finish-front-len = omega (arith, finish-two, finish-lower, h.ends, length-append (take o.end xs) (take 2 (header_octets (head_of r tag n))))
+    close-front-len : length (take o.end xs ++ take 2 (header_octets (head_of r tag n))) ≡ s
+    close-front-len = omega (arith, close-two, close-lower, h.ends, length-append (take o.end xs) (take 2 (header_octets (head_of r tag n))))
 
-    finish-len : length ys ≡ length xs + length (back r)
-    finish-len =
-        let l = ap length finish-split in
-        let w = finish-start in
-        omega (arith, l, w, finish-front-len, length-append (take o.end xs ++ take 2 (header_octets (head_of r tag n))) (drop s xs ++ back r), length-append (drop s xs) (back r), length-drop s xs)
+    close-len : length ys ≡ length xs + length (back r)
+    close-len =
+        let l = ap length close-split in
+        let w = close-start in
+        omega (arith, l, w, close-front-len, length-append (take o.end xs ++ take 2 (header_octets (head_of r tag n))) (drop s xs ++ back r), length-append (drop s xs) (back r), length-drop s xs)
 
-    finish-behind : drop s ys ≡ drop s (xs ++ back r)
-    finish-behind = ap (drop s) finish-split ∙ (drop_at (take o.end xs ++ take 2 (header_octets (head_of r tag n))) (drop s xs ++ back r) s finish-front-len ∙ sym (drop-append-le s xs (back r) finish-start))
+    close-behind : drop s ys ≡ drop s (xs ++ back r)
+    close-behind = ap (drop s) close-split ∙ (drop_at (take o.end xs ++ take 2 (header_octets (head_of r tag n))) (drop s xs ++ back r) s close-front-len ∙ sym (drop-append-le s xs (back r) close-start))
 
-    finish-room : drop o.end (take s ys) ≡ take 2 (header_octets (head_of r tag n))
-    finish-room =
-        ap (λ z. drop o.end (take s z)) finish-split
-        ∙ (ap (drop o.end) (take_at (take o.end xs ++ take 2 (header_octets (head_of r tag n))) (drop s xs ++ back r) s finish-front-len)
-        ∙ drop_at (take o.end xs) (take 2 (header_octets (head_of r tag n))) o.end finish-lower)
+    close-room : drop o.end (take s ys) ≡ take 2 (header_octets (head_of r tag n))
+    close-room =
+        ap (λ z. drop o.end (take s z)) close-split
+        ∙ (ap (drop o.end) (take_at (take o.end xs ++ take 2 (header_octets (head_of r tag n))) (drop s xs ++ back r) s close-front-len)
+        ∙ drop_at (take o.end xs) (take 2 (header_octets (head_of r tag n))) o.end close-lower)
 
-    finish-below : take o.end ys ≡ take o.end xs
-    finish-below = ap (take o.end) q.octets ∙ take_at (take o.end xs) _ o.end finish-lower
+    close-below : take o.end ys ≡ take o.end xs
+    close-below = ap (take o.end) q.octets ∙ take_at (take o.end xs) _ o.end close-lower
 
     inner-rising : Rising s (drop f ms) (length ys)
-    inner-rising = let l = finish-len in rising-more s (drop f ms) (length xs) (length ys) (omega (arith, l)) sound.rising
+    inner-rising = let l = close-len in rising-more s (drop f ms) (length xs) (length ys) (omega (arith, l)) sound.rising
 
-    finish-inner : rendered ys s (drop f ms) ≡ list_from xs ms s f ++ back r
-    finish-inner = rendered-same ys (xs ++ back r) s (drop f ms) (length xs) finish-behind sound.rising ∙ rendered-more xs (back r) s (drop f ms) sound.rising
+    close-inner : rendered ys s (drop f ms) ≡ list_from xs ms s f ++ back r
+    close-inner = rendered-same ys (xs ++ back r) s (drop f ms) (length xs) close-behind sound.rising ∙ rendered-more xs (back r) s (drop f ms) sound.rising
 
-    finish-headers : drop o.list.first ns ≡ drop o.list.first (take o.last ms) ++ (q.deferred ++ drop f ms)
-    finish-headers = rw (q.headers, drop-append-le o.list.first (take o.last ms) _ h.sound.first_within, h.lasts) refl
+    close-headers : drop o.list.first ns ≡ drop o.list.first (take o.last ms) ++ (q.deferred ++ drop f ms)
+    close-headers = rw (q.headers, drop-append-le o.list.first (take o.last ms) _ h.sound.first_within, h.lasts) refl
 
     below-rising : Rising o.list.start (drop o.list.first (take o.last ms)) o.end
-    below-rising = rw finish-lower at h.sound.rising
+    below-rising = rw close-lower at h.sound.rising
 
     outer-rising : Rising s (q.deferred ++ drop f ms) (length ys)
     outer-rising = defers-rising s _ q.deferred (drop f ms) (length ys) (rw h.ends at q.defers) inner-rising
@@ -208,66 +208,66 @@ module _ (r : Codec) (xs : List ℕ) (ms : List DeferredHeader) (os : List Open)
     outer-rising-room : Rising o.end (q.deferred ++ drop f ms) (length ys)
     outer-rising-room = let e = h.ends in rising-lower o.end s (q.deferred ++ drop f ms) (length ys) (omega (arith, e)) outer-rising
 
-    finish-value : rendered ys o.end (q.deferred ++ drop f ms) ≡ header_octets (head_of r tag n) ++ (list_from xs ms s f ++ back r)
-    finish-value =
+    close-value : rendered ys o.end (q.deferred ++ drop f ms) ≡ header_octets (head_of r tag n) ++ (list_from xs ms s f ++ back r)
+    close-value =
         let e = h.ends in
         rendered-front ys o.end s (q.deferred ++ drop f ms) (omega (arith, e)) outer-rising
-        ∙ (ap₂ (λ x y. x ++ y) finish-room (defers-list s _ q.deferred ys (drop f ms) (rw h.ends at q.defers) inner-rising ∙ ap (λ z. drop 2 (header_octets (head_of r tag n)) ++ z) finish-inner)
+        ∙ (ap₂ (λ x y. x ++ y) close-room (defers-list s _ q.deferred ys (drop f ms) (rw h.ends at q.defers) inner-rising ∙ ap (λ z. drop 2 (header_octets (head_of r tag n)) ++ z) close-inner)
         ∙ (sym (append_assoc (take 2 (header_octets (head_of r tag n))) (drop 2 (header_octets (head_of r tag n))) (list_from xs ms s f ++ back r))
         ∙ ap (λ z. z ++ (list_from xs ms s f ++ back r)) (take-append-drop 2 (header_octets (head_of r tag n)))))
 
-    finish-contents : constructed r tag (list_from xs ms s f) ≡ header_octets (head_of r tag n) ++ (list_from xs ms s f ++ back r)
-    finish-contents = constructed-is r tag (list_from xs ms s f) ∙ ap (λ k. header_octets (head_of r tag k) ++ (list_from xs ms s f ++ back r)) (sym sound.measure)
+    close-contents : constructed r tag (list_from xs ms s f) ≡ header_octets (head_of r tag n) ++ (list_from xs ms s f ++ back r)
+    close-contents = constructed-is r tag (list_from xs ms s f) ∙ ap (λ k. header_octets (head_of r tag k) ++ (list_from xs ms s f ++ back r)) (sym sound.measure)
 
-    finish-list : list_from ys ns o.list.start o.list.first ≡ list_from (take o.end xs) (take o.last ms) o.list.start o.list.first ++ constructed r tag (list_from xs ms s f)
-    finish-list =
-        ap (rendered ys o.list.start) finish-headers
+    close-list : list_from ys ns o.list.start o.list.first ≡ list_from (take o.end xs) (take o.last ms) o.list.start o.list.first ++ constructed r tag (list_from xs ms s f)
+    close-list =
+        ap (rendered ys o.list.start) close-headers
         ∙ (rendered-join ys o.list.start (drop o.list.first (take o.last ms)) o.end (q.deferred ++ drop f ms) below-rising outer-rising-room
-        ∙ ap₂ (λ x y. rendered x o.list.start (drop o.list.first (take o.last ms)) ++ y) finish-below (finish-value ∙ sym finish-contents))
+        ∙ ap₂ (λ x y. rendered x o.list.start (drop o.list.first (take o.last ms)) ++ y) close-below (close-value ∙ sym close-contents))
 
-    finish-front : take o.list.first ms ≡ take o.list.first ns
-    finish-front = rw (q.headers, take-append-le o.list.first (take o.last ms) _ h.sound.first_within) (sym (take-take o.list.first o.last ms first-last))
+    close-front : take o.list.first ms ≡ take o.list.first ns
+    close-front = rw (q.headers, take-append-le o.list.first (take o.last ms) _ h.sound.first_within) (sym (take-take o.list.first o.last ms first-last))
 
-    finish-octets-front : take o.list.start xs ≡ take o.list.start ys
-    finish-octets-front = sym (take-same o.list.start o.end ys xs start-end finish-below)
+    close-octets-front : take o.list.start xs ≡ take o.list.start ys
+    close-octets-front = sym (take-same o.list.start o.end ys xs start-end close-below)
 
-    finish-within : o.list.first ≤ length ns
-    finish-within =
+    close-within : o.list.first ≤ length ns
+    close-within =
         let b = first-last in
         rw q.headers (omega (arith, b, length-take-le o.last ms h.last_within, length-append (take o.last ms) (q.deferred ++ drop o.last ms)))
 
-    finish-start-within : o.list.start ≤ length ys
-    finish-start-within = let a = start-end in let w = h.end_within in let l = finish-len in omega (arith, a, w, l)
+    close-start-within : o.list.start ≤ length ys
+    close-start-within = let a = start-end in let w = h.end_within in let l = close-len in omega (arith, a, w, l)
 
-    pub finish-sound : (total : ℕ) → total ≡ o.list.measured + (length (header_octets (head_of r tag n)) + length (back r) + n) → Sound ys ns o.list.start o.list.first total
-    finish-sound total g =
+    pub close-sound : (total : ℕ) → total ≡ o.list.measured + (length (header_octets (head_of r tag n)) + length (back r) + n) → Sound ys ns o.list.start o.list.first total
+    close-sound total g =
         let me = h.sound.measure in
         let m = sound.measure in
-        let p = ap length finish-contents in
+        let p = ap length close-contents in
         record {
-          start_within = finish-start-within;
-          first_within = finish-within;
-          rising = rw finish-headers (rising-join o.list.start (drop o.list.first (take o.last ms)) o.end (q.deferred ++ drop f ms) (length ys) below-rising outer-rising-room);
-          measure = rw finish-list (omega (arith, g, me, p, m, length-append (list_from (take o.end xs) (take o.last ms) o.list.start o.list.first) (constructed r tag (list_from xs ms s f)), length-append (header_octets (head_of r tag n)) (list_from xs ms s f ++ back r), length-append (list_from xs ms s f) (back r)));
+          start_within = close-start-within;
+          first_within = close-within;
+          rising = rw close-headers (rising-join o.list.start (drop o.list.first (take o.last ms)) o.end (q.deferred ++ drop f ms) (length ys) below-rising outer-rising-room);
+          measure = rw close-list (omega (arith, g, me, p, m, length-append (list_from (take o.end xs) (take o.last ms) o.list.start o.list.first) (constructed r tag (list_from xs ms s f)), length-append (header_octets (head_of r tag n)) (list_from xs ms s f ++ back r), length-append (list_from xs ms s f) (back r)));
         }
 
-    pub finish-chain : Chain ys ns 0 0 os o.list.start o.list.first
-    finish-chain = chain-same xs ys ms ns 0 0 os o.list.start o.list.first h.front finish-octets-front finish-front finish-start-within finish-within
+    pub close-chain : Chain ys ns 0 0 os o.list.start o.list.first
+    close-chain = chain-same xs ys ms ns 0 0 os o.list.start o.list.first h.front close-octets-front close-front close-start-within close-within
 
     module _ (all : List Open) (is : all ≡ os ++ o ∷ []) (v : View) (rule : r ≡ v.rule) (below : map (frame_in xs ms) all ≡ v.below ++ v.last ∷ []) where
-      pub finish-view : (t2 : Option (List Tag)) → t2 ≡ noted (tags_of o.list.tags) (tag ∷ []) → shown r ys ns o.list.start o.list.first t2 os ≡ appended v (constructed v.rule tag (list_from xs ms s f)) (tag ∷ [])
-      finish-view t2 g =
-          let lower : map (frame_in ys ns) os ≡ v.below = sym (frames-same xs ys ms ns 0 0 os o.list.start o.list.first h.front finish-octets-front finish-front) ∙ (both all is v below).0 in
-          let octets : list_from ys ns o.list.start o.list.first ≡ v.last.octets ++ constructed r tag (list_from xs ms s f) = finish-list ∙ ap (λ z. z.octets ++ constructed r tag (list_from xs ms s f)) (both all is v below).1 in
+      pub close-view : (t2 : Option (List Tag)) → t2 ≡ noted (tags_of o.list.tags) (tag ∷ []) → shown r ys ns o.list.start o.list.first t2 os ≡ appended v (constructed v.rule tag (list_from xs ms s f)) (tag ∷ [])
+      close-view t2 g =
+          let lower : map (frame_in ys ns) os ≡ v.below = sym (frames-same xs ys ms ns 0 0 os o.list.start o.list.first h.front close-octets-front close-front) ∙ (both all is v below).0 in
+          let octets : list_from ys ns o.list.start o.list.first ≡ v.last.octets ++ constructed r tag (list_from xs ms s f) = close-list ∙ ap (λ z. z.octets ++ constructed r tag (list_from xs ms s f)) (both all is v below).1 in
           let tags : tags_of o.list.tags ≡ v.last.tags = ap (λ z. z.tags) (both all is v below).1 in
           rw (lower, octets, g, tags, rule) refl
 
-      pub finish-appends : (t2 : Option (List Tag)) → t2 ≡ noted (tags_of o.list.tags) (tag ∷ []) → tag.value < 0x1_0000_0000 → n < 0x1_0000_0000_0000_0000
+      pub close-appends : (t2 : Option (List Tag)) → t2 ≡ noted (tags_of o.list.tags) (tag ∷ []) → tag.value < 0x1_0000_0000 → n < 0x1_0000_0000_0000_0000
           → Appends (ConstructedEncoding v.rule tag (list_from xs ms s f)) tag v (shown r ys ns o.list.start o.list.first t2 os)
-      finish-appends t2 g low few = record {
+      close-appends t2 g low few = record {
         octets = constructed v.rule tag (list_from xs ms s f);
         written = constructed-written v.rule tag (list_from xs ms s f) low (let m = sound.measure in omega (arith, few, m));
-        appended = finish-view t2 g;
+        appended = close-view t2 g;
       }
 
   module _ (all : List Open) (is : all ≡ os ++ o ∷ []) (v : View) (rule : r ≡ v.rule) (below : map (frame_in xs ms) all ≡ v.below ++ v.last ∷ []) where

@@ -1,10 +1,7 @@
-//! Constructed values: how they are opened and closed (X.690 8.1), and what closures write inside
-//! them.
-ghost use Rattle.std.specs.Prelude.{◌≡◌, ◌<◌, ◌⊎◌, length, true, Ok, Err, IfErr, OnOk, OnErr};
+//! Constructed values, whose contents are what closures write (X.690 8.1).
+ghost use Rattle.std.specs.Prelude.{◌≡◌, ◌⊎◌, true, Ok, Err, IfErr, OnOk, OnErr};
 ghost use Rattle.std.specs.Fn.{FnOnceTakesAtMut, FnOnceReturnsAtMut};
-ghost use Rattle.rasn_types.specs.Bytes.{ConstructedEncoding};
-ghost use Rattle.rasn_enc.specs.View.{View, IsBelow, opened, AreTagsInOrder};
-ghost use Rattle.rasn_enc.specs.Primitive.{Appends, IsAllocError};
+ghost use Rattle.rasn_enc.specs.View.{opened, AreTagsInOrder};
 ghost use Rattle.rasn_enc.specs.Closures.{KeepsOtherLists, OnlyAppends, MayFail, AppendsEnclosed, AppendsEnclosedInOrder, FailsInside, FailsAtEnclosed, FailsAtTags, MaySucceed};
 
 use crate::ber::enc::{Encoder, out_of_order};
@@ -60,28 +57,6 @@ impl Encoder {
         match outcome {
             Ok(()) if self.kept_tags_out_of_order() => Err(out_of_order(self.codec())),
             outcome => outcome,
-        }
-    }
-
-    /// Closes the value that was opened last, or drops it if `outcome` is an error.
-    ///
-    /// # Errors
-    /// The error of `outcome`; `OutOfMemory` if an allocation fails. On error, nothing is written:
-    /// the value is dropped with its contents.
-    #[inline(always)]
-    pub fn close(&mut self, tag: Tag, outcome: Result<(), EncodeError>) -> Result<(), EncodeError>
-        requires { 0 < length self.old.below }
-        ensures ok { OnOk result ((v : View) → IsBelow v self.old → Appends (ConstructedEncoding v.rule tag self.old.last.octets) tag v self.new) }
-        ensures accepted { OnOk result (outcome ≡ Ok tt) }
-        ensures err { OnErr result ((v : View) → IsBelow v self.old → self.new ≡ v) }
-        ensures refused { IfErr result (λ e. IsAllocError self.old.rule e ⊎ (outcome ≡ Err e)) }
-    {
-        match outcome {
-            Ok(()) => self.finish(tag),
-            Err(error) => {
-                self.abandon();
-                Err(error)
-            }
         }
     }
 

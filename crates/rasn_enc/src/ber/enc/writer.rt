@@ -5,7 +5,7 @@
 //! deferred header holds the others; the octets of all deferred headers are inserted at once, from
 //! the back, when the output is asked for. The contracts of these calls are about views alone, so
 //! only the bodies of the calls depend on how the octets are stored.
-ghost use Rattle.std.specs.Prelude.{ℕ, List, ◌≡◌, ◌<◌, ◌≤◌, ◌-◌, [], length, take, drop, IfOk, IfErr, OnOk, OnErr, false};
+ghost use Rattle.std.specs.Prelude.{ℕ, List, ◌≡◌, ◌<◌, ◌≤◌, ◌-◌, ◌⊎◌, [], length, take, drop, Ok, Err, IfOk, IfErr, OnOk, OnErr, false};
 ghost use Rattle.rasn_types.specs.Truth.{IsWhether, IsUnless};
 ghost use Rattle.rasn_types.specs.Bytes.{ConstructedEncoding, AreAscending};
 ghost use Rattle.rasn_types.specs.declared.types.tag.Tag.{Tag};
@@ -20,7 +20,7 @@ use crate::ber::enc::writer::contents::Contents;
 use crate::ber::enc::writer::cursors::{place, rendered_before};
 use crate::ber::enc::writer::cutting::cut;
 use crate::ber::enc::writer::deferred_headers::{DeferredHeader, ROOM};
-use crate::ber::enc::writer::gathering::{gather, surround};
+use crate::ber::enc::writer::gathering::{close_value, gather};
 use crate::ber::enc::writer::kept_tags::{cut_tags, tags_out_of_order};
 use crate::ber::enc::writer::open_values::{pop_innermost, push_innermost};
 use crate::ber::enc::writer::rendering::rendered_from;
@@ -169,29 +169,27 @@ impl Encoder {
         }
     }
 
-    /// Drops the value that was opened last, with its contents.
-    pub(super) fn abandon(&mut self)
-        requires { 0 < length self.old.below }
-        ensures { (v : View) → IsBelow v self.old → self.new ≡ v }
-    {
-        let Open { list, end, last } = pop_innermost(&mut self.around, &mut self.innermost);
-        self.gathered.truncate(end);
-        self.headers.truncate(last);
-        self.list = list;
-    }
-
-    /// Closes the value that was opened last, and appends it to the list below.
+    /// Closes the value that was opened last, or drops it if `outcome` is an error.
+    ///
+    /// # Errors
+    /// The error of `outcome`; `OutOfMemory` if an allocation fails. On error, nothing is written:
+    /// the value is dropped with its contents.
     #[inline(always)]
-    pub(super) fn finish(&mut self, tag: Tag) -> Result<(), EncodeError>
+    pub fn close(&mut self, tag: Tag, outcome: Result<(), EncodeError>) -> Result<(), EncodeError>
         requires { 0 < length self.old.below }
         ensures ok { OnOk result ((v : View) → IsBelow v self.old → Appends (ConstructedEncoding v.rule tag self.old.last.octets) tag v self.new) }
+        ensures accepted { OnOk result (outcome ≡ Ok tt) }
         ensures err { OnErr result ((v : View) → IsBelow v self.old → self.new ≡ v) }
-        ensures memory { IfErr result (IsAllocError self.old.rule) }
+        ensures refused { IfErr result (λ e. IsAllocError self.old.rule e ⊎ (outcome ≡ Err e)) }
     {
+        if let Err(error) = outcome {
+            self.abandon();
+            return Err(error);
+        }
         let rule = self.rule;
         let count = self.list.measured;
         let mut open = pop_innermost(&mut self.around, &mut self.innermost);
-        let closed = surround(
+        let closed = close_value(
             &mut self.gathered,
             &mut self.headers,
             &mut open,
@@ -209,6 +207,17 @@ impl Encoder {
                 Err(out_of_memory(rule))
             }
         }
+    }
+
+    /// Drops the value that was opened last, with its contents.
+    fn abandon(&mut self)
+        requires { 0 < length self.old.below }
+        ensures { (v : View) → IsBelow v self.old → self.new ≡ v }
+    {
+        let Open { list, end, last } = pop_innermost(&mut self.around, &mut self.innermost);
+        self.gathered.truncate(end);
+        self.headers.truncate(last);
+        self.list = list;
     }
 
     /// Appends a primitive value to the last list.

@@ -2,7 +2,7 @@
 //! contents are written.
 ghost use Rattle.std.specs.Prelude.{ℕ, List, ◌≡◌, ◌<◌, ◌≤◌, ◌+◌, ◌++◌, ◌∷◌, [], true, length, take, drop, vec_len, vec_capacity, IfOk, OnOk, OnErr};
 ghost use Rattle.rasn_enc.specs.Headers.{id_octets, length_octets};
-ghost use Rattle.rasn_enc.specs.Buffer.DeferredHeaders.{header_octets, head_of, rest_octets, Defers, Encloses, back};
+ghost use Rattle.rasn_enc.specs.Buffer.DeferredHeaders.{header_octets, head_of, rest_octets, Defers, back};
 
 use crate::ber::enc::writer::header_rest::HeaderRest;
 use crate::ber::enc::writer::headers::{
@@ -81,7 +81,11 @@ fn write_header(octets: &mut Vec<u8>, head: HeaderForm)
 /// Writes the first two octets of a header into the room at `at`, and returns its other octets. The
 /// header is first written at the end of the vector, and then removed from there.
 #[inline(always)]
-fn fill_room(octets: &mut Vec<u8>, at: usize, head: HeaderForm) -> Result<HeaderRest, AllocError>
+pub fn fill_room(
+    octets: &mut Vec<u8>,
+    at: usize,
+    head: HeaderForm,
+) -> Result<HeaderRest, AllocError>
     requires { at + 2 ≤ vec_len octets.old }
     ensures rest { IfOk result (λ rest. rest_octets rest ≡ drop 2 (header_octets head)) }
     ensures ok { OnOk result (octets.new.items ≡ take at octets.old.items ++ (take 2 (header_octets head) ++ drop (at + 2) octets.old.items)) }
@@ -100,7 +104,7 @@ fn fill_room(octets: &mut Vec<u8>, at: usize, head: HeaderForm) -> Result<Header
 
 /// Inserts a deferred header at `index` if the header has octets for which there was no room.
 #[inline(always)]
-fn defer_rest(
+pub fn defer_rest(
     headers: &mut Vec<DeferredHeader>,
     index: usize,
     at: usize,
@@ -121,7 +125,7 @@ fn defer_rest(
 
 /// Appends end-of-contents octets if the rule has them.
 #[inline(always)]
-fn append_end_of_contents(octets: &mut Vec<u8>, rule: Codec) -> Result<(), AllocError>
+pub fn append_end_of_contents(octets: &mut Vec<u8>, rule: Codec) -> Result<(), AllocError>
     ensures ok { OnOk result (octets.new.items ≡ octets.old.items ++ back rule) }
     ensures err { OnErr result (octets.new.items ≡ octets.old.items) }
 {
@@ -129,27 +133,4 @@ fn append_end_of_contents(octets: &mut Vec<u8>, rule: Codec) -> Result<(), Alloc
         return Ok(());
     }
     octets.extend_from_slice(&[0, 0])
-}
-
-/// Writes the header of a value before its contents, and the end-of-contents octets, if any, after
-/// them. The contents follow the room at `at`, with the deferred headers from number `index` on. If
-/// an allocation fails, what is before the value stays as it is.
-#[inline(always)]
-pub fn enclose_contents(
-    octets: &mut Vec<u8>,
-    headers: &mut Vec<DeferredHeader>,
-    rule: Codec,
-    head: HeaderForm,
-    at: usize,
-    index: usize,
-) -> Result<(), AllocError>
-    requires room { at + 2 ≤ vec_len octets.old }
-    requires index { index ≤ vec_len headers.old }
-    ensures ok { OnOk result (Encloses at index (header_octets head) (back rule) octets.old.items headers.old.items octets.new.items headers.new.items) }
-    ensures octets { OnErr result (take at octets.new.items ≡ take at octets.old.items) }
-    ensures headers { OnErr result (take index headers.new.items ≡ take index headers.old.items) }
-{
-    let rest = fill_room(octets, at, head)?;
-    defer_rest(headers, index, at + ROOM, rest)?;
-    append_end_of_contents(octets, rule)
 }

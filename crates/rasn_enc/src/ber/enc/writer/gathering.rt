@@ -8,7 +8,7 @@ ghost use Rattle.rasn_enc.specs.Buffer.OpenValues.{noted, AppendsCounted};
 use crate::ber::enc::writer::Open;
 use crate::ber::enc::writer::contents::{Contents, append_primitive};
 use crate::ber::enc::writer::deferred_headers::{
-    DeferredHeader, enclose_contents, header_for, header_len,
+    DeferredHeader, ROOM, append_end_of_contents, defer_rest, fill_room, header_for, header_len,
 };
 use crate::ber::enc::writer::kept_tags::{record_tag, reserve_tag};
 use rasn_types::ber::rules::EncodingRules;
@@ -95,10 +95,11 @@ fn sum(a: usize, b: usize, c: usize) -> Result<usize, AllocError>
     }
 }
 
-/// Closes a value of `count` contents octets, and appends it to the list that it interrupted. If an
+/// Closes a value of `count` contents octets, and appends it to the list that it interrupted: writes
+/// its header before the contents, and the end-of-contents octets, if any, after them. If an
 /// allocation fails, what was written before the value stays as it is.
 #[inline(always)]
-pub fn surround(
+pub fn close_value(
     gathered: &mut Vec<u8>,
     headers: &mut Vec<DeferredHeader>,
     value: &mut Open,
@@ -123,7 +124,9 @@ pub fn surround(
         count,
     )?;
     reserve_tag(&mut value.list.tags)?;
-    enclose_contents(gathered, headers, rule, head, value.end, value.last)?;
+    let rest = fill_room(gathered, value.end, head)?;
+    defer_rest(headers, value.last, value.end + ROOM, rest)?;
+    append_end_of_contents(gathered, rule)?;
     record_tag(&mut value.list.tags, tag);
     value.list.measured = total;
     Ok(())
