@@ -107,15 +107,16 @@ fn mark(character: char) -> Kind {
 fn word(text: &str, first: char) -> (Kind, usize) {
     let octets = word_length(text);
     let word = text.get(..octets).unwrap_or("");
-    if has_low_line(word) {
-        (Kind::Unknown, octets)
+    let kind = if has_low_line(word) {
+        Kind::Unknown
+    } else if !first.is_ascii_uppercase() {
+        Kind::Lower
     } else if is_reserved(word) {
-        (Kind::Fixed, octets)
-    } else if first.is_ascii_uppercase() {
-        (Kind::Upper, octets)
+        Kind::Fixed
     } else {
-        (Kind::Lower, octets)
-    }
+        Kind::Upper
+    };
+    (kind, octets)
 }
 
 fn has_low_line(word: &str) -> bool {

@@ -4,7 +4,7 @@
 pub(crate) const MARKER: &str = "...";
 
 /// The words that a module can't use for types or values of its own (X.680 12.38), and ANY, DEFINED
-/// and MACRO of X.208.
+/// and MACRO of X.208, in the order of their characters.
 const RESERVED: [&str; 90] = [
     "ABSENT",
     "ALL",
@@ -100,5 +100,5 @@ const RESERVED: [&str; 90] = [
 
 /// Returns whether a word is reserved.
 pub(crate) fn is_reserved(word: &str) -> bool {
-    RESERVED.iter().any(|reserved| *reserved == word)
+    RESERVED.binary_search(&word).is_ok()
 }
