@@ -6,19 +6,18 @@
 //! CER.
 ghost use Rattle.std.specs.Prelude.{◌≡◌, ◌+◌, length, IfErr, Result};
 ghost use Rattle.rasn_types.specs.declared.types.codec.Codec.{Codec};
-ghost use Rattle.rasn_types.specs.Framing.{AreOctets};
 ghost use Rattle.rasn_types.specs.Tags.{IsStrict};
 ghost use Rattle.rasn_types.specs.Grammar.{top};
 ghost use Rattle.rasn_de.specs.Causes.{in_ber, error_kind};
 ghost use Rattle.rasn_de.specs.State.{State, at, IsEnd};
-ghost use Rattle.rasn_de.specs.Steps.{Consumes, PeeksTag, IsNextTag};
+ghost use Rattle.rasn_de.specs.Steps.{PeeksTag, IsNextTag};
 ghost use Rattle.rasn_de.specs.CharacterString.{IsWithinSize};
 ghost use Rattle.rasn_types.specs.declared.types.tag.Tag.{Tag};
 ghost use Rattle.rasn_types.specs.Errors.{IsOutOfMemory};
 ghost use Rattle.rasn_types.specs.Truth.{IsWhether};
 
-use crate::ber::de::parser::headers::{Expected, Spelling, read_identifier, read_value};
-use crate::ber::de::parser::{ParseError, Value};
+use crate::ber::de::parser::ParseError;
+use crate::ber::de::parser::headers::{Spelling, read_identifier};
 use crate::ber::rules::{allows_indefinite, is_der};
 use rasn_types::error::{
     BerDecodeErrorKind, CodecDecodeError, DecodeError, DecodeErrorKind, Needed,
@@ -266,21 +265,5 @@ impl<'input> Decoder<'input> {
         ensures { self.new ≡ at self.old rest.now }
     {
         self.rest = rest;
-    }
-
-    /// Consumes the header of the next value, and its contents if the length is definite. An error
-    /// consumes nothing.
-    #[inline(always)]
-    fn header(&mut self, expected: Expected) -> Result<Value<'input>, DecodeError>
-        ensures exact { Consumes expected self.old result self.new }
-        ensures octets { AreOctets self.old.rest }
-    {
-        match read_value(Spelling::of_rule(self.rules), expected, self.rest) {
-            Ok((value, rest)) => {
-                self.advance(rest);
-                Ok(value)
-            }
-            Err(fault) => Err(self.error(fault)),
-        }
     }
 }

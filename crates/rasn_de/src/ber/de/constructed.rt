@@ -9,7 +9,7 @@ ghost use Rattle.rasn_types.specs.Truth.{IsWhether};
 
 use crate::ber::de::Decoder;
 use crate::ber::de::parser::closing::{contents_or_rest, finish, has_ended};
-use crate::ber::de::parser::headers::Expected;
+use crate::ber::de::parser::headers::{Expected, Spelling, read_value};
 use crate::ber::de::parser::{Contents, ParseError};
 use rasn_types::error::DecodeError;
 use rasn_types::types::{Codec, Tag};
@@ -101,7 +101,12 @@ impl<'input> Decoder<'input> {
         if self.depth == 0 {
             return Err(self.error(ParseError::ExceedsMaxParseDepth));
         }
-        let value = self.header(header.expected(self.codec()))?;
+        let expected = header.expected(self.rules);
+        let (value, rest) = match read_value(Spelling::of_rule(self.rules), expected, self.rest) {
+            Ok(found) => found,
+            Err(fault) => return Err(self.error(fault)),
+        };
+        self.advance(rest);
         if header.must_be_constructed && !value.is_constructed {
             return Err(self.error(ParseError::InvalidConstructedIdentifier));
         }

@@ -8,7 +8,7 @@ ghost use Rattle.rasn_types.specs.Framing.{AreOctets};
 ghost use Rattle.rasn_types.specs.Tags.{tag_bit};
 
 use crate::ber::de::Decoder;
-use crate::ber::de::parser::headers::{Expected, short_value};
+use crate::ber::de::parser::headers::{Expected, Spelling, read_value, short_value};
 use crate::ber::de::parser::{Contents, ParseError, Value};
 use rasn_types::error::DecodeError;
 use rasn_types::types::Tag;
@@ -37,7 +37,14 @@ impl<'input> Decoder<'input> {
         ensures exact { Consumes (as_written self.old.rule tag (tag_bit tag)) self.old result self.new }
         ensures octets { AreOctets self.old.rest }
     {
-        self.header(Expected::leaf(self.codec(), tag))
+        let expected = Expected::leaf(self.rules, tag);
+        match read_value(Spelling::of_rule(self.rules), expected, self.rest) {
+            Ok((value, rest)) => {
+                self.advance(rest);
+                Ok(value)
+            }
+            Err(fault) => Err(self.error(fault)),
+        }
     }
 
     /// Reads the contents of the next value, which must have a definite length and, under DER, the
