@@ -16,12 +16,12 @@ use Rattle.rasn_bench.specs.declared.answer.Answer.{Answer}
 use Rattle.rasn_bench.specs.declared.answer.Answer.TheVariants.{Read, NotWritten, Refused, Malformed}
 use Rattle.rasn_bench.specs.Lines.{Asks, type_word}
 use Rattle.rasn.specs.WorkedShapes.{named, perhaps_bool, octets_in_set_of}
-use Rattle.rasn_bench.specs.Pair.{pair_shape}
-use Rattle.rasn_bench.specs.Period.{validity_shape}
-use Rattle.rasn_bench.specs.Colour.{colours}
-use Rattle.rasn_bench.specs.Algorithm.{algorithm_shape}
-use Rattle.rasn_bench.specs.Names.{relative_shape}
-use Rattle.rasn_bench.specs.Set3.{set3_shape}
+use Rattle.rasn_examples.specs.Pair.{pair_shape}
+use Rattle.rasn_examples.specs.Period.{validity_shape}
+use Rattle.rasn_examples.specs.Colour.{colours}
+use Rattle.rasn_examples.specs.Algorithm.{algorithm_shape}
+use Rattle.rasn_examples.specs.Names.{relative_shape}
+use Rattle.rasn_examples.specs.Set3.{set3_shape}
 
 abbrev pub shape_of : ValueType → Shape
 shape_of Bool = leaf boolean (in_universal 1) unconstrained

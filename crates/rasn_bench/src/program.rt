@@ -77,7 +77,7 @@ pub trait Answers {
         ensures { IfOk result (IsNormalAnswer self.now line.now) };
 }
 
-/// The results for the types of this crate.
+/// The results for the types of `ValueType`.
 #[derive(Clone, Copy, Debug, PartialEq, Eq, Drop)]
 pub struct WorkedTypes;
 

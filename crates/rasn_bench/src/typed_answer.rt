@@ -5,14 +5,14 @@ ghost use Rattle.rasn_types.specs.Shapes.{Shape};
 ghost use Rattle.rasn_bench.specs.Answers.{OfNamedType};
 
 use crate::line::{Request, ValueType};
-use crate::worked::{
-    AlgorithmIdentifier, Colour, Foo, Pair, RelativeDistinguishedName, Set3, Validity,
-};
 use rasn::de::Decode;
 use rasn::enc::Encode;
 use rasn::types::{
     Any, BitString, Codec, Date, GeneralizedTime, Ia5String, Integer, LawfulEq, ObjectIdentifier,
     OctetString, PrintableString, SetOf, UtcTime, Utf8String,
+};
+use rasn_examples::{
+    AlgorithmIdentifier, Colour, Foo, Pair, RelativeDistinguishedName, Set3, Validity,
 };
 use std::alloc::Global;
 

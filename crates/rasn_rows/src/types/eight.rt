@@ -32,7 +32,7 @@ impl AsnType for Eight {
     ghost use Rattle.rasn_types.specs.Shapes.Parts.{none};
     ghost use Rattle.rasn_types.specs.Tags.{in_universal};
     ghost use Rattle.rasn_types.specs.Trees.{unconstrained, unsigned_range, option_tree, bool_tree};
-    ghost use Rattle.rasn_bench.specs.Algorithm.{algorithm_shape, algorithm_tree};
+    ghost use Rattle.rasn_examples.specs.Algorithm.{algorithm_shape, algorithm_tree};
 
     ghost TAG = { in_universal 16 };
 

@@ -1,0 +1,3 @@
+pub mod LawfulTypes
+pub mod EventComponents
+pub mod WorkedNormals

@@ -1,0 +1,5 @@
+use Rattle.rasn_de.proofs.Leaves.Returns.{residual}
+use Rattle.rasn_examples.proofs.time.TimeDecode.decode_with_tag_and_constraints.Goals as goal
+
+pub returns-in_err-time-clause-fails : goal.returns-in_err-time-clause-fails
+returns-in_err-time-clause-fails c = rw (residual _ c.from_residual.ensures.1) c.in_err-time.ensures.exact

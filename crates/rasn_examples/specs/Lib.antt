@@ -1,0 +1,15 @@
+pub mod Algorithm
+pub mod Attribute
+pub mod Names
+pub mod Times
+pub mod Period
+pub mod LawfulTypes
+pub mod WorkedNormals
+pub mod Grouped
+pub mod Pair
+pub mod Both
+pub mod Colour
+pub mod Reason
+pub mod Set3
+pub mod Event
+pub mod Setting
