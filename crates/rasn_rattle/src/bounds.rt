@@ -20,6 +20,56 @@ pub(crate) fn bounds_of(alloc: Global, constraints: &Constraints) -> Result<Text
     Ok((term, constant))
 }
 
+/// Returns constraints as a constant with types has them. A type has one on its numbers or one on
+/// its sizes (X.680 51.4, 51.5).
+pub(crate) fn static_bounds(
+    alloc: Global,
+    constraints: &Constraints,
+) -> Result<String, AllocError> {
+    if let Some(bound) = constraints.value {
+        let range = range_text(alloc, bound.constraint, bound.extensible)?;
+        return format!(in alloc; "value!({range})");
+    }
+    let Some(bound) = constraints.size else {
+        return String::from_str(alloc, "NONE");
+    };
+    let sizes = match bound.constraint {
+        Bounded::None => Bounded::None,
+        Bounded::Single(only) => Bounded::Single(only as i128),
+        Bounded::Range { start, end } => Bounded::Range {
+            start: start.map(|size| size as i128),
+            end: end.map(|size| size as i128),
+        },
+    };
+    let range = range_text(alloc, sizes, bound.extensible)?;
+    format!(in alloc; "size!({range})")
+}
+
+/// Returns a range, as `1..=5` or `1..`.
+fn range_text(
+    alloc: Global,
+    range: Bounded<i128>,
+    is_extensible: bool,
+) -> Result<String, AllocError> {
+    let (start, end) = match range {
+        Bounded::None => (None, None),
+        Bounded::Single(only) => (Some(only), Some(only)),
+        Bounded::Range { start, end } => (start, end),
+    };
+    let mut text = String::new(alloc);
+    if let Some(start) = start {
+        write!(text, "{start}")?;
+    }
+    text.push_str("..")?;
+    if let Some(end) = end {
+        write!(text, "={end}")?;
+    }
+    if is_extensible {
+        text.push_str(", extensible")?;
+    }
+    Ok(text)
+}
+
 /// Returns a bound of numbers.
 fn value_bound(alloc: Global, bound: Option<Bound<i128>>) -> Result<Texts, AllocError> {
     let Some(bound) = bound else {

@@ -5,6 +5,7 @@
 //! the types of a `rasn_schema::Schema`.
 #![tactic(auto)]
 
+mod constants;
 mod has_schema;
 mod made;
 pub mod prelude;
