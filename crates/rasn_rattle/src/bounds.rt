@@ -2,6 +2,7 @@
 use crate::defaults::number_term;
 use rasn_types::types::{Bound, Bounded, Constraints};
 use std::alloc::{AllocError, Global};
+use std::fmt;
 
 /// A bound as contracts have it, and as a constant.
 type Texts = (String, String);
@@ -27,34 +28,22 @@ pub(crate) fn static_bounds(
     constraints: &Constraints,
 ) -> Result<String, AllocError> {
     if let Some(bound) = constraints.value {
-        let range = range_text(alloc, bound.constraint, bound.extensible)?;
+        let range = range_text(alloc, &bound)?;
         return format!(in alloc; "value!({range})");
     }
-    let Some(bound) = constraints.size else {
-        return String::from_str(alloc, "NONE");
-    };
-    let sizes = match bound.constraint {
-        Bounded::None => Bounded::None,
-        Bounded::Single(only) => Bounded::Single(only as i128),
-        Bounded::Range { start, end } => Bounded::Range {
-            start: start.map(|size| size as i128),
-            end: end.map(|size| size as i128),
-        },
-    };
-    let range = range_text(alloc, sizes, bound.extensible)?;
-    format!(in alloc; "size!({range})")
+    if let Some(bound) = constraints.size {
+        let range = range_text(alloc, &bound)?;
+        return format!(in alloc; "size!({range})");
+    }
+    String::from_str(alloc, "NONE")
 }
 
 /// Returns a range, as `1..=5` or `1..`.
-fn range_text(
-    alloc: Global,
-    range: Bounded<i128>,
-    is_extensible: bool,
-) -> Result<String, AllocError> {
-    let (start, end) = match range {
+fn range_text<T: fmt::Display>(alloc: Global, bound: &Bound<T>) -> Result<String, AllocError> {
+    let (start, end) = match &bound.constraint {
         Bounded::None => (None, None),
         Bounded::Single(only) => (Some(only), Some(only)),
-        Bounded::Range { start, end } => (start, end),
+        Bounded::Range { start, end } => (start.as_ref(), end.as_ref()),
     };
     let mut text = String::new(alloc);
     if let Some(start) = start {
@@ -64,7 +53,7 @@ fn range_text(
     if let Some(end) = end {
         write!(text, "={end}")?;
     }
-    if is_extensible {
+    if bound.extensible {
         text.push_str(", extensible")?;
     }
     Ok(text)
