@@ -5,7 +5,7 @@ use std::alloc::{AllocError, Global};
 /// The columns of a line.
 pub(crate) const COLUMNS: usize = 100;
 
-/// The columns that a line has between the brackets of a list at most.
+/// The most columns that a list in one line has between its brackets.
 const LIST_COLUMNS: usize = 60;
 
 /// Returns the number of letters of a text.

@@ -206,8 +206,8 @@ impl Constant<'_, '_> {
     }
 }
 
-/// Returns whether a component may be absent. Other defaults than these aren't written: the type
-/// that has them is an open type.
+/// Returns the text that says whether a component may be absent. Other defaults than these aren't
+/// written: the type that has them is an open type.
 fn presence_text(alloc: Global, presence: &Presence) -> Result<String, AllocError> {
     match presence {
         Presence::Required => String::from_str(alloc, "Required"),

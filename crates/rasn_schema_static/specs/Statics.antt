@@ -18,6 +18,7 @@ use Rattle.rasn_schema_static.specs.declared.types.StaticPresence.TheVariants.{R
 use Rattle.rasn_schema_static.specs.declared.types.StaticValue.{StaticValue}
 use Rattle.rasn_schema_static.specs.declared.types.StaticValue.TheVariants.{Truth, Number, Empty}
 
+-- A name: its octets.
 abbrev pub Name : Type 0
 Name = Bor (List ℕ)
 

@@ -1,4 +1,4 @@
-//! Tags and constraints as a constant has them: macros, since a constant's value calls no function.
+//! Tags and constraints in a constant: macros, since the value of a constant can't call functions.
 
 /// A tag by its class and its number: `tag!(Context, 3)`.
 #[macro_export]
@@ -11,8 +11,8 @@ macro_rules! tag {
     };
 }
 
-/// A constraint on numbers: `value!(0..=127)`, `value!(0..)`, or `value!(0.., extensible)`, which
-/// isn't checked.
+/// A constraint on numbers: `value!(0..=127)`, `value!(0..)` or, if it is extensible and so isn't
+/// checked, `value!(0.., extensible)`.
 #[macro_export]
 macro_rules! value {
     ($($range:tt)+) => {
@@ -23,7 +23,7 @@ macro_rules! value {
     };
 }
 
-/// A constraint on sizes, as [`value`] is one on numbers: `size!(1..)`.
+/// A constraint on sizes, with a range as in [`value`]: `size!(1..)`.
 #[macro_export]
 macro_rules! size {
     ($($range:tt)+) => {

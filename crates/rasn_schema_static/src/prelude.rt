@@ -1,4 +1,4 @@
-//! What a constant with types is written of.
+//! The names that a constant with types uses.
 pub use crate::StaticPresence::{Addition, Default, Optional, Required};
 pub use crate::StaticType::{
     Any, Choice, Enumerated, Leaf, Sequence, SequenceOf, Set, SetOf, Tagged, Unknown,

@@ -11,9 +11,9 @@ pub enum StaticType {
     Leaf(LeafKind, Tag, Constraints, &'static [StaticNumber]),
     /// An ENUMERATED (X.680 20): its tag and its numbers.
     Enumerated(Tag, &'static [StaticNumber]),
-    /// An open type: its tag, or `Tag::EOC`.
+    /// An open type: the tag of its values, or `Tag::EOC` if they may have any.
     Any(Tag),
-    /// A type with an explicit tag (X.680 31.2): the tag, and the type in it.
+    /// A type with an explicit tag (X.680 31.2): the tag and the inner type.
     Tagged(Tag, usize),
     /// A CHOICE (X.680 29): its name and its alternatives.
     Choice(&'static str, &'static [StaticAlternative]),
