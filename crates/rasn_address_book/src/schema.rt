@@ -4,644 +4,129 @@ use rasn_schema_static::prelude::*;
 /// The types, which refer to one another by their numbers. A CHOICE has the alternatives of those
 /// that are alternatives of it, and what this crate has as open types is open.
 pub const TYPES: &[StaticType] = &[
-    StaticType::Any { tag: Tag::EOC },
-    StaticType::Leaf {
-        kind: LeafKind::Boolean,
-        tag: Tag::BOOL,
-        constraints: Constraints::NONE,
-        names: &[],
-    },
-    StaticType::Any { tag: Tag::EOC },
-    StaticType::Leaf {
-        kind: LeafKind::Null,
-        tag: Tag::NULL,
-        constraints: Constraints::NONE,
-        names: &[],
-    },
-    StaticType::Leaf {
-        kind: LeafKind::Utf8,
-        tag: Tag::UTF8_STRING,
-        constraints: Constraints::NONE,
-        names: &[],
-    },
-    StaticType::Leaf {
-        kind: LeafKind::Integer,
-        tag: Tag::INTEGER,
-        constraints: Constraints::NONE,
-        names: &[],
-    },
-    StaticType::Leaf {
-        kind: LeafKind::Boolean,
-        tag: Tag::BOOL,
-        constraints: Constraints::NONE,
-        names: &[],
-    },
-    StaticType::Tagged {
-        tag: Tag {
-            class: Class::Context,
-            value: 0,
-        },
-        inner: TypeId(47),
-    },
-    StaticType::Leaf {
-        kind: LeafKind::Integer,
-        tag: Tag {
-            class: Class::Context,
-            value: 0,
-        },
-        constraints: Constraints {
-            value: Some(Bound {
-                constraint: Bounded::Range {
-                    start: Some(1),
-                    end: Some(100),
-                },
-                extensible: false,
-            }),
-            size: None,
-        },
-        names: &[],
-    },
-    StaticType::Leaf {
-        kind: LeafKind::Boolean,
-        tag: Tag::BOOL,
-        constraints: Constraints::NONE,
-        names: &[],
-    },
-    StaticType::Leaf {
-        kind: LeafKind::OctetString,
-        tag: Tag {
-            class: Class::Context,
-            value: 9,
-        },
-        constraints: Constraints::NONE,
-        names: &[],
-    },
-    StaticType::Leaf {
-        kind: LeafKind::BitString,
-        tag: Tag {
-            class: Class::Context,
-            value: 8,
-        },
-        constraints: Constraints::NONE,
-        names: &[],
-    },
-    StaticType::SequenceOf {
-        tag: Tag {
-            class: Class::Context,
-            value: 7,
-        },
-        element: TypeId(1),
-        constraints: Constraints::NONE,
-    },
-    StaticType::Leaf {
-        kind: LeafKind::ObjectIdentifier,
-        tag: Tag {
-            class: Class::Context,
-            value: 6,
-        },
-        constraints: Constraints::NONE,
-        names: &[],
-    },
-    StaticType::Enumerated {
-        tag: Tag {
-            class: Class::Context,
-            value: 5,
-        },
-        numbers: &[
-            StaticNumber {
-                name: "friend",
-                number: 0,
-            },
-            StaticNumber {
-                name: "colleague",
-                number: 5,
-            },
-            StaticNumber {
-                name: "family",
-                number: -1,
-            },
+    Any(Tag::EOC),
+    Leaf(Boolean, Tag::BOOL, NONE, &[]),
+    Any(Tag::EOC),
+    Leaf(Null, Tag::NULL, NONE, &[]),
+    Leaf(Utf8, Tag::UTF8_STRING, NONE, &[]),
+    Leaf(Integer, Tag::INTEGER, NONE, &[]),
+    Leaf(Boolean, Tag::BOOL, NONE, &[]),
+    Tagged(tag!(Context, 0), 47),
+    Leaf(Integer, tag!(Context, 0), value!(1..=100), &[]),
+    Leaf(Boolean, Tag::BOOL, NONE, &[]),
+    Leaf(OctetString, tag!(Context, 9), NONE, &[]),
+    Leaf(BitString, tag!(Context, 8), NONE, &[]),
+    SequenceOf(tag!(Context, 7), 1, NONE),
+    Leaf(ObjectIdentifier, tag!(Context, 6), NONE, &[]),
+    Enumerated(
+        tag!(Context, 5),
+        &[("friend", 0), ("colleague", 5), ("family", -1)],
+    ),
+    Tagged(tag!(Context, 4), 47),
+    Leaf(Utf8, tag!(Context, 3), NONE, &[]),
+    Leaf(Null, tag!(Context, 2), NONE, &[]),
+    Leaf(Boolean, tag!(Context, 1), NONE, &[]),
+    Leaf(Integer, tag!(Context, 0), NONE, &[]),
+    Leaf(ObjectIdentifier, Tag::OBJECT_IDENTIFIER, NONE, &[]),
+    Leaf(Boolean, Tag::BOOL, NONE, &[]),
+    Leaf(Utf8, tag!(Context, 0), size!(1..=64), &[]),
+    Set(
+        "Team",
+        tag!(Context, 1),
+        &[
+            ("availability", Optional, 46),
+            ("title", Required, 22),
+            ("open", Default(Truth(false)), 21),
         ],
-    },
-    StaticType::Tagged {
-        tag: Tag {
-            class: Class::Context,
-            value: 4,
-        },
-        inner: TypeId(47),
-    },
-    StaticType::Leaf {
-        kind: LeafKind::Utf8,
-        tag: Tag {
-            class: Class::Context,
-            value: 3,
-        },
-        constraints: Constraints::NONE,
-        names: &[],
-    },
-    StaticType::Leaf {
-        kind: LeafKind::Null,
-        tag: Tag {
-            class: Class::Context,
-            value: 2,
-        },
-        constraints: Constraints::NONE,
-        names: &[],
-    },
-    StaticType::Leaf {
-        kind: LeafKind::Boolean,
-        tag: Tag {
-            class: Class::Context,
-            value: 1,
-        },
-        constraints: Constraints::NONE,
-        names: &[],
-    },
-    StaticType::Leaf {
-        kind: LeafKind::Integer,
-        tag: Tag {
-            class: Class::Context,
-            value: 0,
-        },
-        constraints: Constraints::NONE,
-        names: &[],
-    },
-    StaticType::Leaf {
-        kind: LeafKind::ObjectIdentifier,
-        tag: Tag::OBJECT_IDENTIFIER,
-        constraints: Constraints::NONE,
-        names: &[],
-    },
-    StaticType::Leaf {
-        kind: LeafKind::Boolean,
-        tag: Tag::BOOL,
-        constraints: Constraints::NONE,
-        names: &[],
-    },
-    StaticType::Leaf {
-        kind: LeafKind::Utf8,
-        tag: Tag {
-            class: Class::Context,
-            value: 0,
-        },
-        constraints: Constraints {
-            value: None,
-            size: Some(Bound {
-                constraint: Bounded::Range {
-                    start: Some(1),
-                    end: Some(64),
-                },
-                extensible: false,
-            }),
-        },
-        names: &[],
-    },
-    StaticType::Set {
-        name: "Team",
-        tag: Tag {
-            class: Class::Context,
-            value: 1,
-        },
-        components: &[
-            StaticComponent {
-                name: "availability",
-                presence: StaticPresence::Optional,
-                type_id: TypeId(46),
-            },
-            StaticComponent {
-                name: "title",
-                presence: StaticPresence::Required,
-                type_id: TypeId(22),
-            },
-            StaticComponent {
-                name: "open",
-                presence: StaticPresence::Default(StaticValue::Boolean(false)),
-                type_id: TypeId(21),
-            },
+    ),
+    Leaf(Numeric, Tag::NUMERIC_STRING, NONE, &[]),
+    Leaf(Ia5, Tag::IA5_STRING, NONE, &[]),
+    Tagged(tag!(Context, 6), 2),
+    Set(
+        "Team",
+        tag!(Context, 5),
+        &[
+            ("availability", Optional, 46),
+            ("title", Required, 22),
+            ("open", Default(Truth(false)), 21),
         ],
-    },
-    StaticType::Leaf {
-        kind: LeafKind::Numeric,
-        tag: Tag::NUMERIC_STRING,
-        constraints: Constraints::NONE,
-        names: &[],
-    },
-    StaticType::Leaf {
-        kind: LeafKind::Ia5,
-        tag: Tag::IA5_STRING,
-        constraints: Constraints::NONE,
-        names: &[],
-    },
-    StaticType::Tagged {
-        tag: Tag {
-            class: Class::Context,
-            value: 6,
-        },
-        inner: TypeId(2),
-    },
-    StaticType::Set {
-        name: "Team",
-        tag: Tag {
-            class: Class::Context,
-            value: 5,
-        },
-        components: &[
-            StaticComponent {
-                name: "availability",
-                presence: StaticPresence::Optional,
-                type_id: TypeId(46),
-            },
-            StaticComponent {
-                name: "title",
-                presence: StaticPresence::Required,
-                type_id: TypeId(22),
-            },
-            StaticComponent {
-                name: "open",
-                presence: StaticPresence::Default(StaticValue::Boolean(false)),
-                type_id: TypeId(21),
-            },
+    ),
+    Sequence(
+        tag!(Context, 4),
+        &[("street", Required, 4), ("former", Optional, 3)],
+    ),
+    SequenceOf(tag!(Context, 3), 43, NONE),
+    Tagged(tag!(Context, 1), 5),
+    Enumerated(
+        tag!(Context, 0),
+        &[("friend", 0), ("colleague", 5), ("family", -1)],
+    ),
+    Leaf(ObjectIdentifier, Tag::OBJECT_IDENTIFIER, NONE, &[]),
+    Leaf(Ia5, Tag::IA5_STRING, NONE, &[]),
+    Leaf(Integer, Tag::INTEGER, value!(0..=65535), &[]),
+    Leaf(Integer, tag!(Context, 2), NONE, &[]),
+    Leaf(Boolean, Tag::BOOL, NONE, &[]),
+    Leaf(Utf8, Tag::UTF8_STRING, NONE, &[]),
+    Set(
+        "Review",
+        Tag::SET,
+        &[
+            ("reviewer", Required, 7),
+            ("passed", Required, 6),
+            ("...", Required, 50),
         ],
-    },
-    StaticType::Sequence {
-        tag: Tag {
-            class: Class::Context,
-            value: 4,
-        },
-        components: &[
-            StaticComponent {
-                name: "street",
-                presence: StaticPresence::Required,
-                type_id: TypeId(4),
-            },
-            StaticComponent {
-                name: "former",
-                presence: StaticPresence::Optional,
-                type_id: TypeId(3),
-            },
+    ),
+    Choice("Reply", &[("accepted", 9), ("guests", 8), ("...", 0)]),
+    Leaf(
+        NamedBits,
+        Tag::BIT_STRING,
+        NONE,
+        &[("read", 0), ("write", 3)],
+    ),
+    Leaf(Integer, Tag::INTEGER, NONE, &[]),
+    Leaf(Integer, Tag::INTEGER, value!(-450..), &[]),
+    Leaf(Integer, Tag::INTEGER, value!(1..=100), &[]),
+    SequenceOf(Tag::SEQUENCE, 20, size!(1..)),
+    SetOf(Tag::SET, 47, size!(1..)),
+    Leaf(Signed64, Tag::ENUMERATED, NONE, &[("free", 0), ("busy", 1)]),
+    Choice("Contact", &[("email", 25), ("phone", 24), ("team", 23)]),
+    Sequence(
+        Tag::SEQUENCE,
+        &[
+            ("id", Required, 41),
+            ("name", Required, 37),
+            ("listed", Default(Truth(true)), 36),
+            ("floor", Default(Number(-1)), 35),
+            ("room", Required, 34),
+            ("email", Optional, 33),
+            ("role", Required, 32),
+            ("contact", Required, 47),
+            ("relation", Default(Number(5)), 31),
+            ("visits", Default(Number(1)), 30),
+            ("attendance", Required, 29),
+            ("home", Required, 28),
+            ("team", Optional, 27),
+            ("photo", Required, 26),
+            ("...", Required, 50),
         ],
-    },
-    StaticType::SequenceOf {
-        tag: Tag {
-            class: Class::Context,
-            value: 3,
-        },
-        element: TypeId(43),
-        constraints: Constraints::NONE,
-    },
-    StaticType::Tagged {
-        tag: Tag {
-            class: Class::Context,
-            value: 1,
-        },
-        inner: TypeId(5),
-    },
-    StaticType::Enumerated {
-        tag: Tag {
-            class: Class::Context,
-            value: 0,
-        },
-        numbers: &[
-            StaticNumber {
-                name: "friend",
-                number: 0,
-            },
-            StaticNumber {
-                name: "colleague",
-                number: 5,
-            },
-            StaticNumber {
-                name: "family",
-                number: -1,
-            },
+    ),
+    Choice(
+        "Change",
+        &[
+            ("renumber", 19),
+            ("list", 18),
+            ("remove", 17),
+            ("rename", 16),
+            ("reach", 15),
+            ("relate", 14),
+            ("promote", 13),
+            ("attend", 12),
+            ("mark", 11),
+            ("annotate", 10),
+            ("roles", 44),
         ],
-    },
-    StaticType::Leaf {
-        kind: LeafKind::ObjectIdentifier,
-        tag: Tag::OBJECT_IDENTIFIER,
-        constraints: Constraints::NONE,
-        names: &[],
-    },
-    StaticType::Leaf {
-        kind: LeafKind::Ia5,
-        tag: Tag::IA5_STRING,
-        constraints: Constraints::NONE,
-        names: &[],
-    },
-    StaticType::Leaf {
-        kind: LeafKind::Integer,
-        tag: Tag::INTEGER,
-        constraints: Constraints {
-            value: Some(Bound {
-                constraint: Bounded::Range {
-                    start: Some(0),
-                    end: Some(65535),
-                },
-                extensible: false,
-            }),
-            size: None,
-        },
-        names: &[],
-    },
-    StaticType::Leaf {
-        kind: LeafKind::Integer,
-        tag: Tag {
-            class: Class::Context,
-            value: 2,
-        },
-        constraints: Constraints::NONE,
-        names: &[],
-    },
-    StaticType::Leaf {
-        kind: LeafKind::Boolean,
-        tag: Tag::BOOL,
-        constraints: Constraints::NONE,
-        names: &[],
-    },
-    StaticType::Leaf {
-        kind: LeafKind::Utf8,
-        tag: Tag::UTF8_STRING,
-        constraints: Constraints::NONE,
-        names: &[],
-    },
-    StaticType::Set {
-        name: "Review",
-        tag: Tag::SET,
-        components: &[
-            StaticComponent {
-                name: "reviewer",
-                presence: StaticPresence::Required,
-                type_id: TypeId(7),
-            },
-            StaticComponent {
-                name: "passed",
-                presence: StaticPresence::Required,
-                type_id: TypeId(6),
-            },
-            StaticComponent {
-                name: "...",
-                presence: StaticPresence::Required,
-                type_id: TypeId(50),
-            },
-        ],
-    },
-    StaticType::Choice {
-        name: "Reply",
-        alternatives: &[
-            StaticAlternative {
-                name: "accepted",
-                type_id: TypeId(9),
-            },
-            StaticAlternative {
-                name: "guests",
-                type_id: TypeId(8),
-            },
-            StaticAlternative {
-                name: "...",
-                type_id: TypeId(0),
-            },
-        ],
-    },
-    StaticType::Leaf {
-        kind: LeafKind::NamedBits,
-        tag: Tag::BIT_STRING,
-        constraints: Constraints::NONE,
-        names: &[
-            StaticNumber {
-                name: "read",
-                number: 0,
-            },
-            StaticNumber {
-                name: "write",
-                number: 3,
-            },
-        ],
-    },
-    StaticType::Leaf {
-        kind: LeafKind::Integer,
-        tag: Tag::INTEGER,
-        constraints: Constraints::NONE,
-        names: &[],
-    },
-    StaticType::Leaf {
-        kind: LeafKind::Integer,
-        tag: Tag::INTEGER,
-        constraints: Constraints {
-            value: Some(Bound {
-                constraint: Bounded::Range {
-                    start: Some(-450),
-                    end: None,
-                },
-                extensible: false,
-            }),
-            size: None,
-        },
-        names: &[],
-    },
-    StaticType::Leaf {
-        kind: LeafKind::Integer,
-        tag: Tag::INTEGER,
-        constraints: Constraints {
-            value: Some(Bound {
-                constraint: Bounded::Range {
-                    start: Some(1),
-                    end: Some(100),
-                },
-                extensible: false,
-            }),
-            size: None,
-        },
-        names: &[],
-    },
-    StaticType::SequenceOf {
-        tag: Tag::SEQUENCE,
-        element: TypeId(20),
-        constraints: Constraints {
-            value: None,
-            size: Some(Bound {
-                constraint: Bounded::Range {
-                    start: Some(1),
-                    end: None,
-                },
-                extensible: false,
-            }),
-        },
-    },
-    StaticType::SetOf {
-        tag: Tag::SET,
-        element: TypeId(47),
-        constraints: Constraints {
-            value: None,
-            size: Some(Bound {
-                constraint: Bounded::Range {
-                    start: Some(1),
-                    end: None,
-                },
-                extensible: false,
-            }),
-        },
-    },
-    StaticType::Leaf {
-        kind: LeafKind::Signed64,
-        tag: Tag::ENUMERATED,
-        constraints: Constraints::NONE,
-        names: &[
-            StaticNumber {
-                name: "free",
-                number: 0,
-            },
-            StaticNumber {
-                name: "busy",
-                number: 1,
-            },
-        ],
-    },
-    StaticType::Choice {
-        name: "Contact",
-        alternatives: &[
-            StaticAlternative {
-                name: "email",
-                type_id: TypeId(25),
-            },
-            StaticAlternative {
-                name: "phone",
-                type_id: TypeId(24),
-            },
-            StaticAlternative {
-                name: "team",
-                type_id: TypeId(23),
-            },
-        ],
-    },
-    StaticType::Sequence {
-        tag: Tag::SEQUENCE,
-        components: &[
-            StaticComponent {
-                name: "id",
-                presence: StaticPresence::Required,
-                type_id: TypeId(41),
-            },
-            StaticComponent {
-                name: "name",
-                presence: StaticPresence::Required,
-                type_id: TypeId(37),
-            },
-            StaticComponent {
-                name: "listed",
-                presence: StaticPresence::Default(StaticValue::Boolean(true)),
-                type_id: TypeId(36),
-            },
-            StaticComponent {
-                name: "floor",
-                presence: StaticPresence::Default(StaticValue::Integer(-1)),
-                type_id: TypeId(35),
-            },
-            StaticComponent {
-                name: "room",
-                presence: StaticPresence::Required,
-                type_id: TypeId(34),
-            },
-            StaticComponent {
-                name: "email",
-                presence: StaticPresence::Optional,
-                type_id: TypeId(33),
-            },
-            StaticComponent {
-                name: "role",
-                presence: StaticPresence::Required,
-                type_id: TypeId(32),
-            },
-            StaticComponent {
-                name: "contact",
-                presence: StaticPresence::Required,
-                type_id: TypeId(47),
-            },
-            StaticComponent {
-                name: "relation",
-                presence: StaticPresence::Default(StaticValue::Integer(5)),
-                type_id: TypeId(31),
-            },
-            StaticComponent {
-                name: "visits",
-                presence: StaticPresence::Default(StaticValue::Integer(1)),
-                type_id: TypeId(30),
-            },
-            StaticComponent {
-                name: "attendance",
-                presence: StaticPresence::Required,
-                type_id: TypeId(29),
-            },
-            StaticComponent {
-                name: "home",
-                presence: StaticPresence::Required,
-                type_id: TypeId(28),
-            },
-            StaticComponent {
-                name: "team",
-                presence: StaticPresence::Optional,
-                type_id: TypeId(27),
-            },
-            StaticComponent {
-                name: "photo",
-                presence: StaticPresence::Required,
-                type_id: TypeId(26),
-            },
-            StaticComponent {
-                name: "...",
-                presence: StaticPresence::Required,
-                type_id: TypeId(50),
-            },
-        ],
-    },
-    StaticType::Choice {
-        name: "Change",
-        alternatives: &[
-            StaticAlternative {
-                name: "renumber",
-                type_id: TypeId(19),
-            },
-            StaticAlternative {
-                name: "list",
-                type_id: TypeId(18),
-            },
-            StaticAlternative {
-                name: "remove",
-                type_id: TypeId(17),
-            },
-            StaticAlternative {
-                name: "rename",
-                type_id: TypeId(16),
-            },
-            StaticAlternative {
-                name: "reach",
-                type_id: TypeId(15),
-            },
-            StaticAlternative {
-                name: "relate",
-                type_id: TypeId(14),
-            },
-            StaticAlternative {
-                name: "promote",
-                type_id: TypeId(13),
-            },
-            StaticAlternative {
-                name: "attend",
-                type_id: TypeId(12),
-            },
-            StaticAlternative {
-                name: "mark",
-                type_id: TypeId(11),
-            },
-            StaticAlternative {
-                name: "annotate",
-                type_id: TypeId(10),
-            },
-            StaticAlternative {
-                name: "roles",
-                type_id: TypeId(44),
-            },
-        ],
-    },
-    StaticType::Unknown,
+    ),
+    Unknown,
 ];
 
 impl HasSchema for crate::Review {

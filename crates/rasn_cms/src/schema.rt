@@ -4,1321 +4,330 @@ use rasn_schema_static::prelude::*;
 /// The types, which refer to one another by their numbers. A CHOICE has the alternatives of those
 /// that are alternatives of it, and what this crate has as open types is open.
 pub const TYPES: &[StaticType] = &[
-    StaticType::Any { tag: Tag::EOC },
-    StaticType::Leaf {
-        kind: LeafKind::OctetString,
-        tag: Tag::OCTET_STRING,
-        constraints: Constraints::NONE,
-        names: &[],
-    },
-    StaticType::Any { tag: Tag::EOC },
-    StaticType::Any { tag: Tag::EOC },
-    StaticType::Leaf {
-        kind: LeafKind::ObjectIdentifier,
-        tag: Tag::OBJECT_IDENTIFIER,
-        constraints: Constraints::NONE,
-        names: &[],
-    },
-    StaticType::Any { tag: Tag::EOC },
-    StaticType::Leaf {
-        kind: LeafKind::ObjectIdentifier,
-        tag: Tag::OBJECT_IDENTIFIER,
-        constraints: Constraints::NONE,
-        names: &[],
-    },
-    StaticType::Any { tag: Tag::EOC },
-    StaticType::Leaf {
-        kind: LeafKind::ObjectIdentifier,
-        tag: Tag::OBJECT_IDENTIFIER,
-        constraints: Constraints::NONE,
-        names: &[],
-    },
-    StaticType::SetOf {
-        tag: Tag {
-            class: Class::Context,
-            value: 2,
-        },
-        element: TypeId(86),
-        constraints: Constraints {
-            value: None,
-            size: Some(Bound {
-                constraint: Bounded::Range {
-                    start: Some(1),
-                    end: None,
-                },
-                extensible: false,
-            }),
-        },
-    },
-    StaticType::SetOf {
-        tag: Tag {
-            class: Class::Context,
-            value: 1,
-        },
-        element: TypeId(86),
-        constraints: Constraints {
-            value: None,
-            size: Some(Bound {
-                constraint: Bounded::Range {
-                    start: Some(1),
-                    end: None,
-                },
-                extensible: false,
-            }),
-        },
-    },
-    StaticType::Sequence {
-        tag: Tag {
-            class: Class::Context,
-            value: 0,
-        },
-        components: &[
-            StaticComponent {
-                name: "certs",
-                presence: StaticPresence::Optional,
-                type_id: TypeId(37),
-            },
-            StaticComponent {
-                name: "crls",
-                presence: StaticPresence::Optional,
-                type_id: TypeId(36),
-            },
+    Any(Tag::EOC),
+    Leaf(OctetString, Tag::OCTET_STRING, NONE, &[]),
+    Any(Tag::EOC),
+    Any(Tag::EOC),
+    Leaf(ObjectIdentifier, Tag::OBJECT_IDENTIFIER, NONE, &[]),
+    Any(Tag::EOC),
+    Leaf(ObjectIdentifier, Tag::OBJECT_IDENTIFIER, NONE, &[]),
+    Any(Tag::EOC),
+    Leaf(ObjectIdentifier, Tag::OBJECT_IDENTIFIER, NONE, &[]),
+    SetOf(tag!(Context, 2), 86, size!(1..)),
+    SetOf(tag!(Context, 1), 86, size!(1..)),
+    Sequence(
+        tag!(Context, 0),
+        &[("certs", Optional, 37), ("crls", Optional, 36)],
+    ),
+    SetOf(tag!(Context, 3), 86, size!(1..)),
+    SetOf(tag!(Context, 2), 86, size!(1..)),
+    Sequence(
+        tag!(Context, 1),
+        &[("algorithm", Required, 8), ("parameters", Optional, 7)],
+    ),
+    Sequence(
+        tag!(Context, 0),
+        &[("certs", Optional, 37), ("crls", Optional, 36)],
+    ),
+    SetOf(tag!(Context, 1), 86, size!(1..)),
+    Leaf(OctetString, Tag::OCTET_STRING, NONE, &[]),
+    Any(Tag::EOC),
+    Leaf(ObjectIdentifier, Tag::OBJECT_IDENTIFIER, NONE, &[]),
+    Sequence(
+        tag!(Context, 0),
+        &[("algorithm", Required, 8), ("parameters", Optional, 7)],
+    ),
+    Leaf(GeneralizedTime, Tag::GENERALIZED_TIME, NONE, &[]),
+    Leaf(OctetString, Tag::OCTET_STRING, NONE, &[]),
+    Leaf(GeneralizedTime, Tag::GENERALIZED_TIME, NONE, &[]),
+    Sequence(
+        tag!(Context, 0),
+        &[
+            ("subjectKeyIdentifier", Required, 55),
+            ("date", Optional, 23),
+            ("other", Optional, 61),
         ],
-    },
-    StaticType::SetOf {
-        tag: Tag {
-            class: Class::Context,
-            value: 3,
-        },
-        element: TypeId(86),
-        constraints: Constraints {
-            value: None,
-            size: Some(Bound {
-                constraint: Bounded::Range {
-                    start: Some(1),
-                    end: None,
-                },
-                extensible: false,
-            }),
-        },
-    },
-    StaticType::SetOf {
-        tag: Tag {
-            class: Class::Context,
-            value: 2,
-        },
-        element: TypeId(86),
-        constraints: Constraints {
-            value: None,
-            size: Some(Bound {
-                constraint: Bounded::Range {
-                    start: Some(1),
-                    end: None,
-                },
-                extensible: false,
-            }),
-        },
-    },
-    StaticType::Sequence {
-        tag: Tag {
-            class: Class::Context,
-            value: 1,
-        },
-        components: &[
-            StaticComponent {
-                name: "algorithm",
-                presence: StaticPresence::Required,
-                type_id: TypeId(8),
-            },
-            StaticComponent {
-                name: "parameters",
-                presence: StaticPresence::Optional,
-                type_id: TypeId(7),
-            },
+    ),
+    Leaf(BitString, Tag::BIT_STRING, NONE, &[]),
+    Sequence(
+        tag!(Context, 1),
+        &[("algorithm", Required, 67), ("publicKey", Required, 25)],
+    ),
+    Leaf(OctetString, tag!(Context, 0), NONE, &[]),
+    Tagged(tag!(Context, 1), 62),
+    Tagged(tag!(Context, 0), 77),
+    Leaf(OctetString, tag!(Context, 0), NONE, &[]),
+    Sequence(
+        tag!(Context, 4),
+        &[("oriType", Required, 19), ("oriValue", Required, 18)],
+    ),
+    Sequence(
+        tag!(Context, 3),
+        &[
+            ("version", Required, 63),
+            ("keyDerivationAlgorithm", Optional, 20),
+            ("keyEncryptionAlgorithm", Required, 67),
+            ("encryptedKey", Required, 80),
         ],
-    },
-    StaticType::Sequence {
-        tag: Tag {
-            class: Class::Context,
-            value: 0,
-        },
-        components: &[
-            StaticComponent {
-                name: "certs",
-                presence: StaticPresence::Optional,
-                type_id: TypeId(37),
-            },
-            StaticComponent {
-                name: "crls",
-                presence: StaticPresence::Optional,
-                type_id: TypeId(36),
-            },
+    ),
+    Sequence(
+        tag!(Context, 2),
+        &[
+            ("version", Required, 63),
+            ("kekid", Required, 73),
+            ("keyEncryptionAlgorithm", Required, 67),
+            ("encryptedKey", Required, 80),
         ],
-    },
-    StaticType::SetOf {
-        tag: Tag {
-            class: Class::Context,
-            value: 1,
-        },
-        element: TypeId(86),
-        constraints: Constraints {
-            value: None,
-            size: Some(Bound {
-                constraint: Bounded::Range {
-                    start: Some(1),
-                    end: None,
-                },
-                extensible: false,
-            }),
-        },
-    },
-    StaticType::Leaf {
-        kind: LeafKind::OctetString,
-        tag: Tag::OCTET_STRING,
-        constraints: Constraints::NONE,
-        names: &[],
-    },
-    StaticType::Any { tag: Tag::EOC },
-    StaticType::Leaf {
-        kind: LeafKind::ObjectIdentifier,
-        tag: Tag::OBJECT_IDENTIFIER,
-        constraints: Constraints::NONE,
-        names: &[],
-    },
-    StaticType::Sequence {
-        tag: Tag {
-            class: Class::Context,
-            value: 0,
-        },
-        components: &[
-            StaticComponent {
-                name: "algorithm",
-                presence: StaticPresence::Required,
-                type_id: TypeId(8),
-            },
-            StaticComponent {
-                name: "parameters",
-                presence: StaticPresence::Optional,
-                type_id: TypeId(7),
-            },
+    ),
+    Sequence(
+        tag!(Context, 1),
+        &[
+            ("version", Required, 63),
+            ("originator", Required, 29),
+            ("ukm", Optional, 28),
+            ("keyEncryptionAlgorithm", Required, 67),
+            ("recipientEncryptedKeys", Required, 76),
         ],
-    },
-    StaticType::Leaf {
-        kind: LeafKind::GeneralizedTime,
-        tag: Tag::GENERALIZED_TIME,
-        constraints: Constraints::NONE,
-        names: &[],
-    },
-    StaticType::Leaf {
-        kind: LeafKind::OctetString,
-        tag: Tag::OCTET_STRING,
-        constraints: Constraints::NONE,
-        names: &[],
-    },
-    StaticType::Leaf {
-        kind: LeafKind::GeneralizedTime,
-        tag: Tag::GENERALIZED_TIME,
-        constraints: Constraints::NONE,
-        names: &[],
-    },
-    StaticType::Sequence {
-        tag: Tag {
-            class: Class::Context,
-            value: 0,
-        },
-        components: &[
-            StaticComponent {
-                name: "subjectKeyIdentifier",
-                presence: StaticPresence::Required,
-                type_id: TypeId(55),
-            },
-            StaticComponent {
-                name: "date",
-                presence: StaticPresence::Optional,
-                type_id: TypeId(23),
-            },
-            StaticComponent {
-                name: "other",
-                presence: StaticPresence::Optional,
-                type_id: TypeId(61),
-            },
+    ),
+    Leaf(OctetString, tag!(Context, 0), NONE, &[]),
+    SetOf(tag!(Context, 1), 66, NONE),
+    SetOf(tag!(Context, 0), 65, NONE),
+    SetOf(tag!(Context, 1), 86, size!(1..)),
+    Sequence(
+        tag!(Context, 0),
+        &[("certs", Optional, 37), ("crls", Optional, 36)],
+    ),
+    SetOf(Tag::SET, 0, NONE),
+    Leaf(ObjectIdentifier, Tag::OBJECT_IDENTIFIER, NONE, &[]),
+    Leaf(OctetString, tag!(Context, 0), NONE, &[]),
+    SetOf(tag!(Context, 1), 86, size!(1..)),
+    SetOf(tag!(Context, 0), 86, size!(1..)),
+    Tagged(tag!(Context, 0), 1),
+    SetOf(tag!(Context, 1), 66, NONE),
+    SetOf(tag!(Context, 0), 65, NONE),
+    Tagged(tag!(Context, 0), 2),
+    Tagged(tag!(Context, 0), 68),
+    Tagged(tag!(Context, 0), 70),
+    Tagged(tag!(Context, 0), 71),
+    Tagged(tag!(Context, 0), 72),
+    Tagged(tag!(Context, 0), 84),
+    Tagged(tag!(Context, 0), 92),
+    Leaf(OctetString, Tag::OCTET_STRING, NONE, &[]),
+    Sequence(
+        Tag::SEQUENCE,
+        &[("type", Required, 4), ("value", Required, 3)],
+    ),
+    SetOf(Tag::SET, 56, size!(1..)),
+    SequenceOf(Tag::SEQUENCE, 57, NONE),
+    Choice("Name", &[("rdnSequence", 58)]),
+    Leaf(Integer, Tag::INTEGER, NONE, &[]),
+    Sequence(
+        Tag::SEQUENCE,
+        &[("keyAttrId", Required, 6), ("keyAttr", Optional, 5)],
+    ),
+    Leaf(OctetString, Tag::OCTET_STRING, NONE, &[]),
+    Leaf(
+        Integer,
+        Tag::INTEGER,
+        NONE,
+        &[
+            ("v0", 0),
+            ("v1", 1),
+            ("v2", 2),
+            ("v3", 3),
+            ("v4", 4),
+            ("v5", 5),
         ],
-    },
-    StaticType::Leaf {
-        kind: LeafKind::BitString,
-        tag: Tag::BIT_STRING,
-        constraints: Constraints::NONE,
-        names: &[],
-    },
-    StaticType::Sequence {
-        tag: Tag {
-            class: Class::Context,
-            value: 1,
-        },
-        components: &[
-            StaticComponent {
-                name: "algorithm",
-                presence: StaticPresence::Required,
-                type_id: TypeId(67),
-            },
-            StaticComponent {
-                name: "publicKey",
-                presence: StaticPresence::Required,
-                type_id: TypeId(25),
-            },
+    ),
+    Sequence(
+        Tag::SEQUENCE,
+        &[("issuer", Required, 59), ("serialNumber", Required, 60)],
+    ),
+    Any(Tag::EOC),
+    Any(Tag::EOC),
+    Sequence(
+        Tag::SEQUENCE,
+        &[("algorithm", Required, 8), ("parameters", Optional, 7)],
+    ),
+    Sequence(
+        Tag::SEQUENCE,
+        &[
+            ("version", Required, 63),
+            ("originatorInfo", Optional, 11),
+            ("recipientInfos", Required, 83),
+            ("authEncryptedContentInfo", Required, 82),
+            ("authAttrs", Optional, 10),
+            ("mac", Required, 69),
+            ("unauthAttrs", Optional, 9),
         ],
-    },
-    StaticType::Leaf {
-        kind: LeafKind::OctetString,
-        tag: Tag {
-            class: Class::Context,
-            value: 0,
-        },
-        constraints: Constraints::NONE,
-        names: &[],
-    },
-    StaticType::Tagged {
-        tag: Tag {
-            class: Class::Context,
-            value: 1,
-        },
-        inner: TypeId(62),
-    },
-    StaticType::Tagged {
-        tag: Tag {
-            class: Class::Context,
-            value: 0,
-        },
-        inner: TypeId(77),
-    },
-    StaticType::Leaf {
-        kind: LeafKind::OctetString,
-        tag: Tag {
-            class: Class::Context,
-            value: 0,
-        },
-        constraints: Constraints::NONE,
-        names: &[],
-    },
-    StaticType::Sequence {
-        tag: Tag {
-            class: Class::Context,
-            value: 4,
-        },
-        components: &[
-            StaticComponent {
-                name: "oriType",
-                presence: StaticPresence::Required,
-                type_id: TypeId(19),
-            },
-            StaticComponent {
-                name: "oriValue",
-                presence: StaticPresence::Required,
-                type_id: TypeId(18),
-            },
+    ),
+    Leaf(OctetString, Tag::OCTET_STRING, NONE, &[]),
+    Sequence(
+        Tag::SEQUENCE,
+        &[
+            ("version", Required, 63),
+            ("originatorInfo", Optional, 15),
+            ("recipientInfos", Required, 83),
+            ("macAlgorithm", Required, 67),
+            ("digestAlgorithm", Optional, 14),
+            ("encapContentInfo", Required, 89),
+            ("authAttrs", Optional, 13),
+            ("mac", Required, 69),
+            ("unauthAttrs", Optional, 12),
         ],
-    },
-    StaticType::Sequence {
-        tag: Tag {
-            class: Class::Context,
-            value: 3,
-        },
-        components: &[
-            StaticComponent {
-                name: "version",
-                presence: StaticPresence::Required,
-                type_id: TypeId(63),
-            },
-            StaticComponent {
-                name: "keyDerivationAlgorithm",
-                presence: StaticPresence::Optional,
-                type_id: TypeId(20),
-            },
-            StaticComponent {
-                name: "keyEncryptionAlgorithm",
-                presence: StaticPresence::Required,
-                type_id: TypeId(67),
-            },
-            StaticComponent {
-                name: "encryptedKey",
-                presence: StaticPresence::Required,
-                type_id: TypeId(80),
-            },
+    ),
+    Sequence(
+        Tag::SEQUENCE,
+        &[
+            ("version", Required, 63),
+            ("encryptedContentInfo", Required, 82),
+            ("unprotectedAttrs", Optional, 16),
         ],
-    },
-    StaticType::Sequence {
-        tag: Tag {
-            class: Class::Context,
-            value: 2,
-        },
-        components: &[
-            StaticComponent {
-                name: "version",
-                presence: StaticPresence::Required,
-                type_id: TypeId(63),
-            },
-            StaticComponent {
-                name: "kekid",
-                presence: StaticPresence::Required,
-                type_id: TypeId(73),
-            },
-            StaticComponent {
-                name: "keyEncryptionAlgorithm",
-                presence: StaticPresence::Required,
-                type_id: TypeId(67),
-            },
-            StaticComponent {
-                name: "encryptedKey",
-                presence: StaticPresence::Required,
-                type_id: TypeId(80),
-            },
+    ),
+    Sequence(
+        Tag::SEQUENCE,
+        &[
+            ("version", Required, 63),
+            ("digestAlgorithm", Required, 67),
+            ("encapContentInfo", Required, 89),
+            ("digest", Required, 17),
         ],
-    },
-    StaticType::Sequence {
-        tag: Tag {
-            class: Class::Context,
-            value: 1,
-        },
-        components: &[
-            StaticComponent {
-                name: "version",
-                presence: StaticPresence::Required,
-                type_id: TypeId(63),
-            },
-            StaticComponent {
-                name: "originator",
-                presence: StaticPresence::Required,
-                type_id: TypeId(29),
-            },
-            StaticComponent {
-                name: "ukm",
-                presence: StaticPresence::Optional,
-                type_id: TypeId(28),
-            },
-            StaticComponent {
-                name: "keyEncryptionAlgorithm",
-                presence: StaticPresence::Required,
-                type_id: TypeId(67),
-            },
-            StaticComponent {
-                name: "recipientEncryptedKeys",
-                presence: StaticPresence::Required,
-                type_id: TypeId(76),
-            },
+    ),
+    Sequence(
+        Tag::SEQUENCE,
+        &[
+            ("keyIdentifier", Required, 22),
+            ("date", Optional, 21),
+            ("other", Optional, 61),
         ],
-    },
-    StaticType::Leaf {
-        kind: LeafKind::OctetString,
-        tag: Tag {
-            class: Class::Context,
-            value: 0,
-        },
-        constraints: Constraints::NONE,
-        names: &[],
-    },
-    StaticType::SetOf {
-        tag: Tag {
-            class: Class::Context,
-            value: 1,
-        },
-        element: TypeId(66),
-        constraints: Constraints::NONE,
-    },
-    StaticType::SetOf {
-        tag: Tag {
-            class: Class::Context,
-            value: 0,
-        },
-        element: TypeId(65),
-        constraints: Constraints::NONE,
-    },
-    StaticType::SetOf {
-        tag: Tag {
-            class: Class::Context,
-            value: 1,
-        },
-        element: TypeId(86),
-        constraints: Constraints {
-            value: None,
-            size: Some(Bound {
-                constraint: Bounded::Range {
-                    start: Some(1),
-                    end: None,
-                },
-                extensible: false,
-            }),
-        },
-    },
-    StaticType::Sequence {
-        tag: Tag {
-            class: Class::Context,
-            value: 0,
-        },
-        components: &[
-            StaticComponent {
-                name: "certs",
-                presence: StaticPresence::Optional,
-                type_id: TypeId(37),
-            },
-            StaticComponent {
-                name: "crls",
-                presence: StaticPresence::Optional,
-                type_id: TypeId(36),
-            },
+    ),
+    Choice(
+        "KeyAgreeRecipientIdentifier",
+        &[("issuerAndSerialNumber", 64), ("rKeyId", 24)],
+    ),
+    Sequence(
+        Tag::SEQUENCE,
+        &[("rid", Required, 74), ("encryptedKey", Required, 80)],
+    ),
+    SequenceOf(Tag::SEQUENCE, 75, NONE),
+    Choice(
+        "OriginatorIdentifierOrKey",
+        &[
+            ("issuerAndSerialNumber", 64),
+            ("subjectKeyIdentifier", 27),
+            ("originatorKey", 26),
         ],
-    },
-    StaticType::SetOf {
-        tag: Tag::SET,
-        element: TypeId(0),
-        constraints: Constraints::NONE,
-    },
-    StaticType::Leaf {
-        kind: LeafKind::ObjectIdentifier,
-        tag: Tag::OBJECT_IDENTIFIER,
-        constraints: Constraints::NONE,
-        names: &[],
-    },
-    StaticType::Leaf {
-        kind: LeafKind::OctetString,
-        tag: Tag {
-            class: Class::Context,
-            value: 0,
-        },
-        constraints: Constraints::NONE,
-        names: &[],
-    },
-    StaticType::SetOf {
-        tag: Tag {
-            class: Class::Context,
-            value: 1,
-        },
-        element: TypeId(86),
-        constraints: Constraints {
-            value: None,
-            size: Some(Bound {
-                constraint: Bounded::Range {
-                    start: Some(1),
-                    end: None,
-                },
-                extensible: false,
-            }),
-        },
-    },
-    StaticType::SetOf {
-        tag: Tag {
-            class: Class::Context,
-            value: 0,
-        },
-        element: TypeId(86),
-        constraints: Constraints {
-            value: None,
-            size: Some(Bound {
-                constraint: Bounded::Range {
-                    start: Some(1),
-                    end: None,
-                },
-                extensible: false,
-            }),
-        },
-    },
-    StaticType::Tagged {
-        tag: Tag {
-            class: Class::Context,
-            value: 0,
-        },
-        inner: TypeId(1),
-    },
-    StaticType::SetOf {
-        tag: Tag {
-            class: Class::Context,
-            value: 1,
-        },
-        element: TypeId(66),
-        constraints: Constraints::NONE,
-    },
-    StaticType::SetOf {
-        tag: Tag {
-            class: Class::Context,
-            value: 0,
-        },
-        element: TypeId(65),
-        constraints: Constraints::NONE,
-    },
-    StaticType::Tagged {
-        tag: Tag {
-            class: Class::Context,
-            value: 0,
-        },
-        inner: TypeId(2),
-    },
-    StaticType::Tagged {
-        tag: Tag {
-            class: Class::Context,
-            value: 0,
-        },
-        inner: TypeId(68),
-    },
-    StaticType::Tagged {
-        tag: Tag {
-            class: Class::Context,
-            value: 0,
-        },
-        inner: TypeId(70),
-    },
-    StaticType::Tagged {
-        tag: Tag {
-            class: Class::Context,
-            value: 0,
-        },
-        inner: TypeId(71),
-    },
-    StaticType::Tagged {
-        tag: Tag {
-            class: Class::Context,
-            value: 0,
-        },
-        inner: TypeId(72),
-    },
-    StaticType::Tagged {
-        tag: Tag {
-            class: Class::Context,
-            value: 0,
-        },
-        inner: TypeId(84),
-    },
-    StaticType::Tagged {
-        tag: Tag {
-            class: Class::Context,
-            value: 0,
-        },
-        inner: TypeId(92),
-    },
-    StaticType::Leaf {
-        kind: LeafKind::OctetString,
-        tag: Tag::OCTET_STRING,
-        constraints: Constraints::NONE,
-        names: &[],
-    },
-    StaticType::Sequence {
-        tag: Tag::SEQUENCE,
-        components: &[
-            StaticComponent {
-                name: "type",
-                presence: StaticPresence::Required,
-                type_id: TypeId(4),
-            },
-            StaticComponent {
-                name: "value",
-                presence: StaticPresence::Required,
-                type_id: TypeId(3),
-            },
+    ),
+    Choice(
+        "RecipientIdentifier",
+        &[("issuerAndSerialNumber", 64), ("subjectKeyIdentifier", 30)],
+    ),
+    Sequence(
+        Tag::SEQUENCE,
+        &[
+            ("version", Required, 63),
+            ("rid", Required, 78),
+            ("keyEncryptionAlgorithm", Required, 67),
+            ("encryptedKey", Required, 80),
         ],
-    },
-    StaticType::SetOf {
-        tag: Tag::SET,
-        element: TypeId(56),
-        constraints: Constraints {
-            value: None,
-            size: Some(Bound {
-                constraint: Bounded::Range {
-                    start: Some(1),
-                    end: None,
-                },
-                extensible: false,
-            }),
-        },
-    },
-    StaticType::SequenceOf {
-        tag: Tag::SEQUENCE,
-        element: TypeId(57),
-        constraints: Constraints::NONE,
-    },
-    StaticType::Choice {
-        name: "Name",
-        alternatives: &[StaticAlternative {
-            name: "rdnSequence",
-            type_id: TypeId(58),
-        }],
-    },
-    StaticType::Leaf {
-        kind: LeafKind::Integer,
-        tag: Tag::INTEGER,
-        constraints: Constraints::NONE,
-        names: &[],
-    },
-    StaticType::Sequence {
-        tag: Tag::SEQUENCE,
-        components: &[
-            StaticComponent {
-                name: "keyAttrId",
-                presence: StaticPresence::Required,
-                type_id: TypeId(6),
-            },
-            StaticComponent {
-                name: "keyAttr",
-                presence: StaticPresence::Optional,
-                type_id: TypeId(5),
-            },
+    ),
+    Leaf(OctetString, Tag::OCTET_STRING, NONE, &[]),
+    Choice(
+        "RecipientInfo",
+        &[
+            ("ktri", 79),
+            ("kari", 34),
+            ("kekri", 33),
+            ("pwri", 32),
+            ("ori", 31),
         ],
-    },
-    StaticType::Leaf {
-        kind: LeafKind::OctetString,
-        tag: Tag::OCTET_STRING,
-        constraints: Constraints::NONE,
-        names: &[],
-    },
-    StaticType::Leaf {
-        kind: LeafKind::Integer,
-        tag: Tag::INTEGER,
-        constraints: Constraints::NONE,
-        names: &[
-            StaticNumber {
-                name: "v0",
-                number: 0,
-            },
-            StaticNumber {
-                name: "v1",
-                number: 1,
-            },
-            StaticNumber {
-                name: "v2",
-                number: 2,
-            },
-            StaticNumber {
-                name: "v3",
-                number: 3,
-            },
-            StaticNumber {
-                name: "v4",
-                number: 4,
-            },
-            StaticNumber {
-                name: "v5",
-                number: 5,
-            },
+    ),
+    Sequence(
+        Tag::SEQUENCE,
+        &[
+            ("contentType", Required, 93),
+            ("contentEncryptionAlgorithm", Required, 67),
+            ("encryptedContent", Optional, 35),
         ],
-    },
-    StaticType::Sequence {
-        tag: Tag::SEQUENCE,
-        components: &[
-            StaticComponent {
-                name: "issuer",
-                presence: StaticPresence::Required,
-                type_id: TypeId(59),
-            },
-            StaticComponent {
-                name: "serialNumber",
-                presence: StaticPresence::Required,
-                type_id: TypeId(60),
-            },
+    ),
+    SetOf(Tag::SET, 81, size!(1..)),
+    Sequence(
+        Tag::SEQUENCE,
+        &[
+            ("version", Required, 63),
+            ("originatorInfo", Optional, 39),
+            ("recipientInfos", Required, 83),
+            ("encryptedContentInfo", Required, 82),
+            ("unprotectedAttrs", Optional, 38),
         ],
-    },
-    StaticType::Any { tag: Tag::EOC },
-    StaticType::Any { tag: Tag::EOC },
-    StaticType::Sequence {
-        tag: Tag::SEQUENCE,
-        components: &[
-            StaticComponent {
-                name: "algorithm",
-                presence: StaticPresence::Required,
-                type_id: TypeId(8),
-            },
-            StaticComponent {
-                name: "parameters",
-                presence: StaticPresence::Optional,
-                type_id: TypeId(7),
-            },
+    ),
+    Leaf(OctetString, Tag::OCTET_STRING, NONE, &[]),
+    Sequence(
+        Tag::SEQUENCE,
+        &[("attrType", Required, 41), ("attrValues", Required, 40)],
+    ),
+    Choice(
+        "SignerIdentifier",
+        &[("issuerAndSerialNumber", 64), ("subjectKeyIdentifier", 42)],
+    ),
+    Sequence(
+        Tag::SEQUENCE,
+        &[
+            ("version", Required, 63),
+            ("sid", Required, 87),
+            ("digestAlgorithm", Required, 67),
+            ("signedAttrs", Optional, 44),
+            ("signatureAlgorithm", Required, 67),
+            ("signature", Required, 85),
+            ("unsignedAttrs", Optional, 43),
         ],
-    },
-    StaticType::Sequence {
-        tag: Tag::SEQUENCE,
-        components: &[
-            StaticComponent {
-                name: "version",
-                presence: StaticPresence::Required,
-                type_id: TypeId(63),
-            },
-            StaticComponent {
-                name: "originatorInfo",
-                presence: StaticPresence::Optional,
-                type_id: TypeId(11),
-            },
-            StaticComponent {
-                name: "recipientInfos",
-                presence: StaticPresence::Required,
-                type_id: TypeId(83),
-            },
-            StaticComponent {
-                name: "authEncryptedContentInfo",
-                presence: StaticPresence::Required,
-                type_id: TypeId(82),
-            },
-            StaticComponent {
-                name: "authAttrs",
-                presence: StaticPresence::Optional,
-                type_id: TypeId(10),
-            },
-            StaticComponent {
-                name: "mac",
-                presence: StaticPresence::Required,
-                type_id: TypeId(69),
-            },
-            StaticComponent {
-                name: "unauthAttrs",
-                presence: StaticPresence::Optional,
-                type_id: TypeId(9),
-            },
+    ),
+    Sequence(
+        Tag::SEQUENCE,
+        &[("eContentType", Required, 93), ("eContent", Optional, 45)],
+    ),
+    SetOf(Tag::SET, 88, NONE),
+    SetOf(Tag::SET, 67, NONE),
+    Sequence(
+        Tag::SEQUENCE,
+        &[
+            ("version", Required, 63),
+            ("digestAlgorithms", Required, 91),
+            ("encapContentInfo", Required, 89),
+            ("certificates", Optional, 47),
+            ("crls", Optional, 46),
+            ("signerInfos", Required, 90),
         ],
-    },
-    StaticType::Leaf {
-        kind: LeafKind::OctetString,
-        tag: Tag::OCTET_STRING,
-        constraints: Constraints::NONE,
-        names: &[],
-    },
-    StaticType::Sequence {
-        tag: Tag::SEQUENCE,
-        components: &[
-            StaticComponent {
-                name: "version",
-                presence: StaticPresence::Required,
-                type_id: TypeId(63),
-            },
-            StaticComponent {
-                name: "originatorInfo",
-                presence: StaticPresence::Optional,
-                type_id: TypeId(15),
-            },
-            StaticComponent {
-                name: "recipientInfos",
-                presence: StaticPresence::Required,
-                type_id: TypeId(83),
-            },
-            StaticComponent {
-                name: "macAlgorithm",
-                presence: StaticPresence::Required,
-                type_id: TypeId(67),
-            },
-            StaticComponent {
-                name: "digestAlgorithm",
-                presence: StaticPresence::Optional,
-                type_id: TypeId(14),
-            },
-            StaticComponent {
-                name: "encapContentInfo",
-                presence: StaticPresence::Required,
-                type_id: TypeId(89),
-            },
-            StaticComponent {
-                name: "authAttrs",
-                presence: StaticPresence::Optional,
-                type_id: TypeId(13),
-            },
-            StaticComponent {
-                name: "mac",
-                presence: StaticPresence::Required,
-                type_id: TypeId(69),
-            },
-            StaticComponent {
-                name: "unauthAttrs",
-                presence: StaticPresence::Optional,
-                type_id: TypeId(12),
-            },
-        ],
-    },
-    StaticType::Sequence {
-        tag: Tag::SEQUENCE,
-        components: &[
-            StaticComponent {
-                name: "version",
-                presence: StaticPresence::Required,
-                type_id: TypeId(63),
-            },
-            StaticComponent {
-                name: "encryptedContentInfo",
-                presence: StaticPresence::Required,
-                type_id: TypeId(82),
-            },
-            StaticComponent {
-                name: "unprotectedAttrs",
-                presence: StaticPresence::Optional,
-                type_id: TypeId(16),
-            },
-        ],
-    },
-    StaticType::Sequence {
-        tag: Tag::SEQUENCE,
-        components: &[
-            StaticComponent {
-                name: "version",
-                presence: StaticPresence::Required,
-                type_id: TypeId(63),
-            },
-            StaticComponent {
-                name: "digestAlgorithm",
-                presence: StaticPresence::Required,
-                type_id: TypeId(67),
-            },
-            StaticComponent {
-                name: "encapContentInfo",
-                presence: StaticPresence::Required,
-                type_id: TypeId(89),
-            },
-            StaticComponent {
-                name: "digest",
-                presence: StaticPresence::Required,
-                type_id: TypeId(17),
-            },
-        ],
-    },
-    StaticType::Sequence {
-        tag: Tag::SEQUENCE,
-        components: &[
-            StaticComponent {
-                name: "keyIdentifier",
-                presence: StaticPresence::Required,
-                type_id: TypeId(22),
-            },
-            StaticComponent {
-                name: "date",
-                presence: StaticPresence::Optional,
-                type_id: TypeId(21),
-            },
-            StaticComponent {
-                name: "other",
-                presence: StaticPresence::Optional,
-                type_id: TypeId(61),
-            },
-        ],
-    },
-    StaticType::Choice {
-        name: "KeyAgreeRecipientIdentifier",
-        alternatives: &[
-            StaticAlternative {
-                name: "issuerAndSerialNumber",
-                type_id: TypeId(64),
-            },
-            StaticAlternative {
-                name: "rKeyId",
-                type_id: TypeId(24),
-            },
-        ],
-    },
-    StaticType::Sequence {
-        tag: Tag::SEQUENCE,
-        components: &[
-            StaticComponent {
-                name: "rid",
-                presence: StaticPresence::Required,
-                type_id: TypeId(74),
-            },
-            StaticComponent {
-                name: "encryptedKey",
-                presence: StaticPresence::Required,
-                type_id: TypeId(80),
-            },
-        ],
-    },
-    StaticType::SequenceOf {
-        tag: Tag::SEQUENCE,
-        element: TypeId(75),
-        constraints: Constraints::NONE,
-    },
-    StaticType::Choice {
-        name: "OriginatorIdentifierOrKey",
-        alternatives: &[
-            StaticAlternative {
-                name: "issuerAndSerialNumber",
-                type_id: TypeId(64),
-            },
-            StaticAlternative {
-                name: "subjectKeyIdentifier",
-                type_id: TypeId(27),
-            },
-            StaticAlternative {
-                name: "originatorKey",
-                type_id: TypeId(26),
-            },
-        ],
-    },
-    StaticType::Choice {
-        name: "RecipientIdentifier",
-        alternatives: &[
-            StaticAlternative {
-                name: "issuerAndSerialNumber",
-                type_id: TypeId(64),
-            },
-            StaticAlternative {
-                name: "subjectKeyIdentifier",
-                type_id: TypeId(30),
-            },
-        ],
-    },
-    StaticType::Sequence {
-        tag: Tag::SEQUENCE,
-        components: &[
-            StaticComponent {
-                name: "version",
-                presence: StaticPresence::Required,
-                type_id: TypeId(63),
-            },
-            StaticComponent {
-                name: "rid",
-                presence: StaticPresence::Required,
-                type_id: TypeId(78),
-            },
-            StaticComponent {
-                name: "keyEncryptionAlgorithm",
-                presence: StaticPresence::Required,
-                type_id: TypeId(67),
-            },
-            StaticComponent {
-                name: "encryptedKey",
-                presence: StaticPresence::Required,
-                type_id: TypeId(80),
-            },
-        ],
-    },
-    StaticType::Leaf {
-        kind: LeafKind::OctetString,
-        tag: Tag::OCTET_STRING,
-        constraints: Constraints::NONE,
-        names: &[],
-    },
-    StaticType::Choice {
-        name: "RecipientInfo",
-        alternatives: &[
-            StaticAlternative {
-                name: "ktri",
-                type_id: TypeId(79),
-            },
-            StaticAlternative {
-                name: "kari",
-                type_id: TypeId(34),
-            },
-            StaticAlternative {
-                name: "kekri",
-                type_id: TypeId(33),
-            },
-            StaticAlternative {
-                name: "pwri",
-                type_id: TypeId(32),
-            },
-            StaticAlternative {
-                name: "ori",
-                type_id: TypeId(31),
-            },
-        ],
-    },
-    StaticType::Sequence {
-        tag: Tag::SEQUENCE,
-        components: &[
-            StaticComponent {
-                name: "contentType",
-                presence: StaticPresence::Required,
-                type_id: TypeId(93),
-            },
-            StaticComponent {
-                name: "contentEncryptionAlgorithm",
-                presence: StaticPresence::Required,
-                type_id: TypeId(67),
-            },
-            StaticComponent {
-                name: "encryptedContent",
-                presence: StaticPresence::Optional,
-                type_id: TypeId(35),
-            },
-        ],
-    },
-    StaticType::SetOf {
-        tag: Tag::SET,
-        element: TypeId(81),
-        constraints: Constraints {
-            value: None,
-            size: Some(Bound {
-                constraint: Bounded::Range {
-                    start: Some(1),
-                    end: None,
-                },
-                extensible: false,
-            }),
-        },
-    },
-    StaticType::Sequence {
-        tag: Tag::SEQUENCE,
-        components: &[
-            StaticComponent {
-                name: "version",
-                presence: StaticPresence::Required,
-                type_id: TypeId(63),
-            },
-            StaticComponent {
-                name: "originatorInfo",
-                presence: StaticPresence::Optional,
-                type_id: TypeId(39),
-            },
-            StaticComponent {
-                name: "recipientInfos",
-                presence: StaticPresence::Required,
-                type_id: TypeId(83),
-            },
-            StaticComponent {
-                name: "encryptedContentInfo",
-                presence: StaticPresence::Required,
-                type_id: TypeId(82),
-            },
-            StaticComponent {
-                name: "unprotectedAttrs",
-                presence: StaticPresence::Optional,
-                type_id: TypeId(38),
-            },
-        ],
-    },
-    StaticType::Leaf {
-        kind: LeafKind::OctetString,
-        tag: Tag::OCTET_STRING,
-        constraints: Constraints::NONE,
-        names: &[],
-    },
-    StaticType::Sequence {
-        tag: Tag::SEQUENCE,
-        components: &[
-            StaticComponent {
-                name: "attrType",
-                presence: StaticPresence::Required,
-                type_id: TypeId(41),
-            },
-            StaticComponent {
-                name: "attrValues",
-                presence: StaticPresence::Required,
-                type_id: TypeId(40),
-            },
-        ],
-    },
-    StaticType::Choice {
-        name: "SignerIdentifier",
-        alternatives: &[
-            StaticAlternative {
-                name: "issuerAndSerialNumber",
-                type_id: TypeId(64),
-            },
-            StaticAlternative {
-                name: "subjectKeyIdentifier",
-                type_id: TypeId(42),
-            },
-        ],
-    },
-    StaticType::Sequence {
-        tag: Tag::SEQUENCE,
-        components: &[
-            StaticComponent {
-                name: "version",
-                presence: StaticPresence::Required,
-                type_id: TypeId(63),
-            },
-            StaticComponent {
-                name: "sid",
-                presence: StaticPresence::Required,
-                type_id: TypeId(87),
-            },
-            StaticComponent {
-                name: "digestAlgorithm",
-                presence: StaticPresence::Required,
-                type_id: TypeId(67),
-            },
-            StaticComponent {
-                name: "signedAttrs",
-                presence: StaticPresence::Optional,
-                type_id: TypeId(44),
-            },
-            StaticComponent {
-                name: "signatureAlgorithm",
-                presence: StaticPresence::Required,
-                type_id: TypeId(67),
-            },
-            StaticComponent {
-                name: "signature",
-                presence: StaticPresence::Required,
-                type_id: TypeId(85),
-            },
-            StaticComponent {
-                name: "unsignedAttrs",
-                presence: StaticPresence::Optional,
-                type_id: TypeId(43),
-            },
-        ],
-    },
-    StaticType::Sequence {
-        tag: Tag::SEQUENCE,
-        components: &[
-            StaticComponent {
-                name: "eContentType",
-                presence: StaticPresence::Required,
-                type_id: TypeId(93),
-            },
-            StaticComponent {
-                name: "eContent",
-                presence: StaticPresence::Optional,
-                type_id: TypeId(45),
-            },
-        ],
-    },
-    StaticType::SetOf {
-        tag: Tag::SET,
-        element: TypeId(88),
-        constraints: Constraints::NONE,
-    },
-    StaticType::SetOf {
-        tag: Tag::SET,
-        element: TypeId(67),
-        constraints: Constraints::NONE,
-    },
-    StaticType::Sequence {
-        tag: Tag::SEQUENCE,
-        components: &[
-            StaticComponent {
-                name: "version",
-                presence: StaticPresence::Required,
-                type_id: TypeId(63),
-            },
-            StaticComponent {
-                name: "digestAlgorithms",
-                presence: StaticPresence::Required,
-                type_id: TypeId(91),
-            },
-            StaticComponent {
-                name: "encapContentInfo",
-                presence: StaticPresence::Required,
-                type_id: TypeId(89),
-            },
-            StaticComponent {
-                name: "certificates",
-                presence: StaticPresence::Optional,
-                type_id: TypeId(47),
-            },
-            StaticComponent {
-                name: "crls",
-                presence: StaticPresence::Optional,
-                type_id: TypeId(46),
-            },
-            StaticComponent {
-                name: "signerInfos",
-                presence: StaticPresence::Required,
-                type_id: TypeId(90),
-            },
-        ],
-    },
-    StaticType::Leaf {
-        kind: LeafKind::ObjectIdentifier,
-        tag: Tag::OBJECT_IDENTIFIER,
-        constraints: Constraints::NONE,
-        names: &[],
-    },
-    StaticType::Sequence {
-        tag: Tag::SEQUENCE,
-        components: &[
-            StaticComponent {
-                name: "contentType",
-                presence: StaticPresence::Required,
-                type_id: TypeId(93),
-            },
-            StaticComponent {
-                name: "content",
-                presence: StaticPresence::Required,
-                type_id: TypeId(48),
-            },
-        ],
-    },
-    StaticType::Sequence {
-        tag: Tag::SEQUENCE,
-        components: &[
-            StaticComponent {
-                name: "contentType",
-                presence: StaticPresence::Required,
-                type_id: TypeId(93),
-            },
-            StaticComponent {
-                name: "content",
-                presence: StaticPresence::Required,
-                type_id: TypeId(49),
-            },
-        ],
-    },
-    StaticType::Sequence {
-        tag: Tag::SEQUENCE,
-        components: &[
-            StaticComponent {
-                name: "contentType",
-                presence: StaticPresence::Required,
-                type_id: TypeId(93),
-            },
-            StaticComponent {
-                name: "content",
-                presence: StaticPresence::Required,
-                type_id: TypeId(50),
-            },
-        ],
-    },
-    StaticType::Sequence {
-        tag: Tag::SEQUENCE,
-        components: &[
-            StaticComponent {
-                name: "contentType",
-                presence: StaticPresence::Required,
-                type_id: TypeId(93),
-            },
-            StaticComponent {
-                name: "content",
-                presence: StaticPresence::Required,
-                type_id: TypeId(51),
-            },
-        ],
-    },
-    StaticType::Sequence {
-        tag: Tag::SEQUENCE,
-        components: &[
-            StaticComponent {
-                name: "contentType",
-                presence: StaticPresence::Required,
-                type_id: TypeId(93),
-            },
-            StaticComponent {
-                name: "content",
-                presence: StaticPresence::Required,
-                type_id: TypeId(52),
-            },
-        ],
-    },
-    StaticType::Sequence {
-        tag: Tag::SEQUENCE,
-        components: &[
-            StaticComponent {
-                name: "contentType",
-                presence: StaticPresence::Required,
-                type_id: TypeId(93),
-            },
-            StaticComponent {
-                name: "content",
-                presence: StaticPresence::Required,
-                type_id: TypeId(53),
-            },
-        ],
-    },
-    StaticType::Sequence {
-        tag: Tag::SEQUENCE,
-        components: &[
-            StaticComponent {
-                name: "contentType",
-                presence: StaticPresence::Required,
-                type_id: TypeId(93),
-            },
-            StaticComponent {
-                name: "content",
-                presence: StaticPresence::Required,
-                type_id: TypeId(54),
-            },
-        ],
-    },
+    ),
+    Leaf(ObjectIdentifier, Tag::OBJECT_IDENTIFIER, NONE, &[]),
+    Sequence(
+        Tag::SEQUENCE,
+        &[("contentType", Required, 93), ("content", Required, 48)],
+    ),
+    Sequence(
+        Tag::SEQUENCE,
+        &[("contentType", Required, 93), ("content", Required, 49)],
+    ),
+    Sequence(
+        Tag::SEQUENCE,
+        &[("contentType", Required, 93), ("content", Required, 50)],
+    ),
+    Sequence(
+        Tag::SEQUENCE,
+        &[("contentType", Required, 93), ("content", Required, 51)],
+    ),
+    Sequence(
+        Tag::SEQUENCE,
+        &[("contentType", Required, 93), ("content", Required, 52)],
+    ),
+    Sequence(
+        Tag::SEQUENCE,
+        &[("contentType", Required, 93), ("content", Required, 53)],
+    ),
+    Sequence(
+        Tag::SEQUENCE,
+        &[("contentType", Required, 93), ("content", Required, 54)],
+    ),
 ];
 
 impl HasSchema for crate::ContentInfo {

@@ -1,36 +1,29 @@
 //! A CHOICE that may be absent, before another component (X.680 25.6, 29.3).
 
 use rasn_dynamic::{decode, decode_or_locate, encode};
-use rasn_schema::{LeafKind, Schema, SchemaError, TypeId};
-use rasn_schema_bench::{Definition, Occurrence, Part, types};
-use rasn_types::types::{Class, Codec, Tag};
+use rasn_schema::{Schema, SchemaError, TypeId};
+use rasn_schema_static::prelude::*;
+use rasn_schema_static::types_of;
+use rasn_types::types::Codec;
 use std::alloc::Global;
 
-const CONTEXT_0: Tag = Tag {
-    class: Class::Context,
-    value: 0,
-};
-
 /// `SEQUENCE { either Either OPTIONAL, number INTEGER }`
-const BEFORE_A_NUMBER: &[Part] = &[
-    ("either", Occurrence::Optional, 2),
-    ("number", Occurrence::Required, 3),
-];
+const BEFORE_A_NUMBER: &[StaticComponent] = &[("either", Optional, 2), ("number", Required, 3)];
 
 /// `Either ::= CHOICE { flag BOOLEAN, count [0] INTEGER }`, an INTEGER, and the SEQUENCE.
-const TYPES: &[Definition] = &[
-    Definition::Leaf(LeafKind::Boolean, Tag::BOOL),
-    Definition::Leaf(LeafKind::Signed64, CONTEXT_0),
-    Definition::Choice("Either", &[("flag", 0), ("count", 1)]),
-    Definition::Leaf(LeafKind::Signed64, Tag::INTEGER),
-    Definition::Sequence(Tag::SEQUENCE, BEFORE_A_NUMBER),
+const TYPES: &[StaticType] = &[
+    Leaf(Boolean, Tag::BOOL, NONE, &[]),
+    Leaf(Signed64, tag!(Context, 0), NONE, &[]),
+    Choice("Either", &[("flag", 0), ("count", 1)]),
+    Leaf(Signed64, Tag::INTEGER, NONE, &[]),
+    Sequence(Tag::SEQUENCE, BEFORE_A_NUMBER),
 ];
 
 const SEQUENCE: TypeId = TypeId(4);
 
 /// Returns the octets that the value of these octets is written as under DER.
 fn written_back(alloc: Global, octets: &[u8]) -> Option<Vec<u8>> {
-    let schema = Schema::new(types(alloc, TYPES).ok()?).ok()?;
+    let schema = Schema::new(types_of(alloc, TYPES).ok()?).ok()?;
     let value = decode(alloc, Codec::Der, &schema, SEQUENCE, octets).ok()?;
     encode(alloc, Codec::Der, &schema, SEQUENCE, &value).ok()
 }
@@ -51,7 +44,7 @@ fn choices_are_present_or_absent(rt: HostRuntime) {
 
 /// Returns the offset and the steps of the refusal of these octets.
 fn refused_at(alloc: Global, octets: &[u8]) -> Option<(usize, Vec<usize>)> {
-    let schema = Schema::new(types(alloc, TYPES).ok()?).ok()?;
+    let schema = Schema::new(types_of(alloc, TYPES).ok()?).ok()?;
     let refusal = decode_or_locate(alloc, Codec::Der, &schema, SEQUENCE, octets).err()?;
     Some((refusal.offset, refusal.steps))
 }
@@ -65,9 +58,9 @@ fn two_choices_are_refused(rt: HostRuntime) {
 }
 
 /// Returns what is wrong with the SEQUENCE of these components.
-fn fault(alloc: Global, components: &'static [Part]) -> Option<SchemaError> {
-    let mut defined = types(alloc, TYPES).ok()?;
-    let sequence = types(alloc, &[Definition::Sequence(Tag::SEQUENCE, components)]).ok()?;
+fn fault(alloc: Global, components: &'static [StaticComponent]) -> Option<SchemaError> {
+    let mut defined = types_of(alloc, TYPES).ok()?;
+    let sequence = types_of(alloc, &[Sequence(Tag::SEQUENCE, components)]).ok()?;
     defined.extend(sequence).ok()?;
     Schema::new(defined).err()
 }
@@ -75,14 +68,11 @@ fn fault(alloc: Global, components: &'static [Part]) -> Option<SchemaError> {
 // X.680 25.6: the first tags of the CHOICE aren't those of what may follow.
 #[test]
 fn choices_are_told_from_what_follows(rt: HostRuntime) {
-    const BEFORE_ITS_FLAG: &[Part] = &[
-        ("either", Occurrence::Optional, 2),
-        ("flag", Occurrence::Required, 0),
-    ];
-    const BEFORE_ITS_COUNT: &[Part] = &[
-        ("either", Occurrence::Optional, 2),
-        ("number", Occurrence::Optional, 3),
-        ("count", Occurrence::Optional, 1),
+    const BEFORE_ITS_FLAG: &[StaticComponent] = &[("either", Optional, 2), ("flag", Required, 0)];
+    const BEFORE_ITS_COUNT: &[StaticComponent] = &[
+        ("either", Optional, 2),
+        ("number", Optional, 3),
+        ("count", Optional, 1),
     ];
     let clash = fault(rt.alloc(), BEFORE_ITS_FLAG);
     assert!(rt;

@@ -1,42 +1,32 @@
 //! Where an input is refused.
 
 use rasn_dynamic::{Refusal, check_or_locate, decode_or_locate};
-use rasn_schema::{LeafKind, Schema, TypeId};
-use rasn_schema_bench::{Definition, Occurrence, Part, types};
-use rasn_types::types::{Class, Codec, Constraints, Tag};
+use rasn_schema::{Schema, TypeId};
+use rasn_schema_static::prelude::*;
+use rasn_schema_static::types_of;
+use rasn_types::types::Codec;
 use std::alloc::Global;
 
-const CONTEXT_0: Tag = Tag {
-    class: Class::Context,
-    value: 0,
-};
+const PAIR: &[StaticComponent] = &[("flag", Required, 0), ("number", Required, 1)];
 
-const PAIR: &[Part] = &[
-    ("flag", Occurrence::Required, 0),
-    ("number", Occurrence::Required, 1),
+pub const TYPES: &[StaticType] = &[
+    Leaf(Boolean, Tag::BOOL, NONE, &[]),
+    Leaf(Signed64, Tag::INTEGER, NONE, &[]),
+    Sequence(Tag::SEQUENCE, PAIR),
+    SequenceOf(Tag::SEQUENCE, 2, NONE),
+    Tagged(tag!(Context, 0), 3),
+    Choice("Any", &[("flag", 0), ("list", 3), ("tagged", 4)]),
+    Unknown,
+    Sequence(Tag::SEQUENCE, EXTENSIBLE),
+    Set("Open", Tag::SET, OPEN),
 ];
 
-pub const TYPES: &[Definition] = &[
-    Definition::Leaf(LeafKind::Boolean, Tag::BOOL),
-    Definition::Leaf(LeafKind::Signed64, Tag::INTEGER),
-    Definition::Sequence(Tag::SEQUENCE, PAIR),
-    Definition::SequenceOf(Tag::SEQUENCE, 2, Constraints::NONE),
-    Definition::Tagged(CONTEXT_0, 3),
-    Definition::Choice("Any", &[("flag", 0), ("list", 3), ("tagged", 4)]),
-    Definition::Unknown,
-    Definition::Sequence(Tag::SEQUENCE, EXTENSIBLE),
-    Definition::Set("Open", Tag::SET, OPEN),
-];
+const EXTENSIBLE: &[StaticComponent] = &[("flag", Required, 0), ("...", Required, 6)];
 
-const EXTENSIBLE: &[Part] = &[
-    ("flag", Occurrence::Required, 0),
-    ("...", Occurrence::Required, 6),
-];
-
-const OPEN: &[Part] = &[
-    ("flag", Occurrence::Required, 0),
-    ("number", Occurrence::Required, 1),
-    ("...", Occurrence::Required, 6),
+const OPEN: &[StaticComponent] = &[
+    ("flag", Required, 0),
+    ("number", Required, 1),
+    ("...", Required, 6),
 ];
 
 /// Where octets are refused: the offset, the type of what is there, the steps to it, and how the
@@ -56,7 +46,7 @@ fn is_at(alloc: Global, refusal: &Refusal, schema: &Schema, id: TypeId, place: &
 
 /// Returns whether octets are refused at this place, whether a value is made or not.
 fn is_refused_at(alloc: Global, id: TypeId, octets: &[u8], place: &Place) -> Option<bool> {
-    let schema = Schema::new(types(alloc, TYPES).ok()?).ok()?;
+    let schema = Schema::new(types_of(alloc, TYPES).ok()?).ok()?;
     let refusal = decode_or_locate(alloc, Codec::Ber, &schema, id, octets).err()?;
     let checked = check_or_locate(alloc, Codec::Ber, &schema, id, octets).err()?;
     let is_there = is_at(alloc, &refusal, &schema, id, place);

@@ -2,7 +2,7 @@
 
 use crate::types::{A_PAIR, PAIR, TYPES, schema, value};
 use rasn_schema::{Schema, Type, TypeId, TypeName, View, index_named, name_of_number};
-use rasn_schema_bench::types;
+use rasn_schema_static::types_of;
 use std::alloc::Global;
 
 /// Returns whether there is a part that is shown so.
@@ -97,7 +97,7 @@ fn has_number(ty: &Type) -> bool {
 
 #[test]
 fn names_are_looked_up(rt: HostRuntime) {
-    if let Ok(types) = types(rt.alloc(), TYPES) {
+    if let Ok(types) = types_of(rt.alloc(), TYPES) {
         for ty in &types {
             assert!(rt; has_names(ty) && has_number(ty));
         }

@@ -3,7 +3,7 @@
 use crate::faults::TYPES;
 use rasn_dynamic::{Part, Step, component_at, find_part, parts_of, path_named};
 use rasn_schema::{Schema, TypeId};
-use rasn_schema_bench::types;
+use rasn_schema_static::types_of;
 use rasn_types::types::Codec;
 use std::alloc::Global;
 
@@ -35,7 +35,7 @@ fn is_found(found: &Option<Part<'_>>, expected: &Option<(Found, bool)>) -> bool 
 /// Returns whether the part is found.
 fn finds(alloc: Global, row: &Row) -> Option<bool> {
     let (id, octets, path, expected) = row;
-    let schema = Schema::new(types(alloc, TYPES).ok()?).ok()?;
+    let schema = Schema::new(types_of(alloc, TYPES).ok()?).ok()?;
     let found = find_part(alloc, Codec::Ber, &schema, TypeId(*id), *octets, *path).ok()?;
     Some(is_found(&found, expected))
 }
@@ -87,7 +87,7 @@ fn parts_are_found(rt: HostRuntime) {
 
 /// Returns whether the contents of the part at a path are these.
 fn has_contents(alloc: Global, octets: &[u8], path: &[usize], expected: &[u8]) -> Option<bool> {
-    let schema = Schema::new(types(alloc, TYPES).ok()?).ok()?;
+    let schema = Schema::new(types_of(alloc, TYPES).ok()?).ok()?;
     let part = find_part(alloc, Codec::Ber, &schema, TypeId(3), octets, path).ok()??;
     Some(part.contents() == expected)
 }
@@ -103,7 +103,7 @@ fn contents_are_between_header_and_end(rt: HostRuntime) {
 
 /// Returns how many parts a message has, if each is the one that is found at its path.
 fn parts_found(alloc: Global, id: usize, octets: &[u8]) -> Option<usize> {
-    let schema = Schema::new(types(alloc, TYPES).ok()?).ok()?;
+    let schema = Schema::new(types_of(alloc, TYPES).ok()?).ok()?;
     let mut parts = parts_of(alloc, Codec::Ber, &schema, TypeId(id), octets).ok()?;
     for count in 0..octets.len() {
         let Some(part) = parts.next(alloc).ok()? else {
@@ -139,7 +139,7 @@ fn are_listed(
     octets: &[u8],
     expected: &[(&'static [usize], usize, usize, usize)],
 ) -> Option<bool> {
-    let schema = Schema::new(types(alloc, TYPES).ok()?).ok()?;
+    let schema = Schema::new(types_of(alloc, TYPES).ok()?).ok()?;
     let mut parts = parts_of(alloc, Codec::Ber, &schema, TypeId(id), octets).ok()?;
     for (path, offset, id, len) in expected {
         let part = parts.next(alloc).ok()??;
@@ -191,7 +191,7 @@ fn nothing_is_in_unknown_components(rt: HostRuntime) {
 
 /// Returns whether the names lead along this path, or nowhere.
 fn leads(alloc: Global, id: usize, steps: &[Step<'_>], expected: Option<&[usize]>) -> Option<bool> {
-    let schema = Schema::new(types(alloc, TYPES).ok()?).ok()?;
+    let schema = Schema::new(types_of(alloc, TYPES).ok()?).ok()?;
     let path = path_named(alloc, &schema, TypeId(id), steps).ok()?;
     match (&path, expected) {
         (Some(path), Some(expected)) => Some(path.as_slice() == expected),
@@ -213,7 +213,7 @@ fn names_lead_along_paths(rt: HostRuntime) {
 
 /// Returns whether a path leads to the component with this name, or to none.
 fn leads_to(alloc: Global, id: usize, path: &[usize], name: Option<&str>) -> Option<bool> {
-    let schema = Schema::new(types(alloc, TYPES).ok()?).ok()?;
+    let schema = Schema::new(types_of(alloc, TYPES).ok()?).ok()?;
     match (component_at(&schema, TypeId(id), path), name) {
         (Some(component), Some(name)) => Some(component.name.as_str() == name),
         (None, None) => Some(true),

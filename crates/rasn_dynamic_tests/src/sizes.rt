@@ -1,21 +1,22 @@
 //! When the number of elements is checked.
 
 use rasn_dynamic::decode;
-use rasn_schema::{LeafKind, Schema, TypeId};
-use rasn_schema_bench::{Definition, ONE_OR_MORE, types};
+use rasn_schema::{Schema, TypeId};
+use rasn_schema_static::prelude::*;
+use rasn_schema_static::types_of;
 use rasn_types::error::{DecodeError, DecodeErrorKind};
-use rasn_types::types::{Bounded, Codec, Tag};
+use rasn_types::types::Codec;
 use std::alloc::Global;
 
-const TYPES: &[Definition] = &[
-    Definition::Leaf(LeafKind::Boolean, Tag::BOOL),
-    Definition::SequenceOf(Tag::SEQUENCE, 0, ONE_OR_MORE),
-    Definition::SetOf(Tag::SET, 0, ONE_OR_MORE),
+const TYPES: &[StaticType] = &[
+    Leaf(Boolean, Tag::BOOL, NONE, &[]),
+    SequenceOf(Tag::SEQUENCE, 0, size!(1..)),
+    SetOf(Tag::SET, 0, size!(1..)),
 ];
 
 /// Returns what the reader refuses; none if it reads a value, or memory runs out.
 fn refused(alloc: Global, id: usize, octets: &[u8]) -> Option<DecodeError> {
-    let Ok(schema) = Schema::new(types(alloc, TYPES).ok()?) else {
+    let Ok(schema) = Schema::new(types_of(alloc, TYPES).ok()?) else {
         return None;
     };
     decode(alloc, Codec::Ber, &schema, TypeId(id), octets).err()

@@ -4,1513 +4,402 @@ use rasn_schema_static::prelude::*;
 /// The types, which refer to one another by their numbers. A CHOICE has the alternatives of those
 /// that are alternatives of it, and what this crate has as open types is open.
 pub const TYPES: &[StaticType] = &[
-    StaticType::Any { tag: Tag::EOC },
-    StaticType::Leaf {
-        kind: LeafKind::OctetString,
-        tag: Tag {
-            class: Class::Context,
-            value: 1,
-        },
-        constraints: Constraints::NONE,
-        names: &[],
-    },
-    StaticType::Leaf {
-        kind: LeafKind::Utf8,
-        tag: Tag {
-            class: Class::Context,
-            value: 0,
-        },
-        constraints: Constraints::NONE,
-        names: &[],
-    },
-    StaticType::Leaf {
-        kind: LeafKind::OctetString,
-        tag: Tag {
-            class: Class::Context,
-            value: 11,
-        },
-        constraints: Constraints::NONE,
-        names: &[],
-    },
-    StaticType::Leaf {
-        kind: LeafKind::Utf8,
-        tag: Tag {
-            class: Class::Context,
-            value: 10,
-        },
-        constraints: Constraints::NONE,
-        names: &[],
-    },
-    StaticType::SequenceOf {
-        tag: Tag {
-            class: Class::Context,
-            value: 3,
-        },
-        element: TypeId(73),
-        constraints: Constraints {
-            value: None,
-            size: Some(Bound {
-                constraint: Bounded::Range {
-                    start: Some(1),
-                    end: None,
-                },
-                extensible: false,
-            }),
-        },
-    },
-    StaticType::Leaf {
-        kind: LeafKind::OctetString,
-        tag: Tag {
-            class: Class::Context,
-            value: 1,
-        },
-        constraints: Constraints::NONE,
-        names: &[],
-    },
-    StaticType::Leaf {
-        kind: LeafKind::Utf8,
-        tag: Tag {
-            class: Class::Context,
-            value: 0,
-        },
-        constraints: Constraints::NONE,
-        names: &[],
-    },
-    StaticType::Leaf {
-        kind: LeafKind::Utf8,
-        tag: Tag {
-            class: Class::Context,
-            value: 0,
-        },
-        constraints: Constraints::NONE,
-        names: &[],
-    },
-    StaticType::Leaf {
-        kind: LeafKind::Boolean,
-        tag: Tag::BOOL,
-        constraints: Constraints::NONE,
-        names: &[],
-    },
-    StaticType::Leaf {
-        kind: LeafKind::Signed64,
-        tag: Tag::ENUMERATED,
-        constraints: Constraints::NONE,
-        names: &[
-            StaticNumber {
-                name: "add",
-                number: 0,
-            },
-            StaticNumber {
-                name: "delete",
-                number: 1,
-            },
-            StaticNumber {
-                name: "replace",
-                number: 2,
-            },
+    Any(Tag::EOC),
+    Leaf(OctetString, tag!(Context, 1), NONE, &[]),
+    Leaf(Utf8, tag!(Context, 0), NONE, &[]),
+    Leaf(OctetString, tag!(Context, 11), NONE, &[]),
+    Leaf(Utf8, tag!(Context, 10), NONE, &[]),
+    SequenceOf(tag!(Context, 3), 73, size!(1..)),
+    Leaf(OctetString, tag!(Context, 1), NONE, &[]),
+    Leaf(Utf8, tag!(Context, 0), NONE, &[]),
+    Leaf(Utf8, tag!(Context, 0), NONE, &[]),
+    Leaf(Boolean, Tag::BOOL, NONE, &[]),
+    Leaf(
+        Signed64,
+        Tag::ENUMERATED,
+        NONE,
+        &[("add", 0), ("delete", 1), ("replace", 2)],
+    ),
+    SequenceOf(Tag::SEQUENCE, 48, NONE),
+    Leaf(Boolean, tag!(Context, 4), NONE, &[]),
+    Leaf(OctetString, tag!(Context, 3), NONE, &[]),
+    Leaf(Utf8, tag!(Context, 2), NONE, &[]),
+    Leaf(Utf8, tag!(Context, 1), NONE, &[]),
+    Leaf(OctetString, tag!(Context, 2), NONE, &[]),
+    Leaf(OctetString, tag!(Context, 1), NONE, &[]),
+    Leaf(OctetString, tag!(Context, 0), NONE, &[]),
+    SequenceOf(Tag::SEQUENCE, 55, size!(1..)),
+    Leaf(Boolean, Tag::BOOL, NONE, &[]),
+    Enumerated(
+        Tag::ENUMERATED,
+        &[
+            ("neverDerefAliases", 0),
+            ("derefInSearching", 1),
+            ("derefFindingBaseObj", 2),
+            ("derefAlways", 3),
         ],
-    },
-    StaticType::SequenceOf {
-        tag: Tag::SEQUENCE,
-        element: TypeId(48),
-        constraints: Constraints::NONE,
-    },
-    StaticType::Leaf {
-        kind: LeafKind::Boolean,
-        tag: Tag {
-            class: Class::Context,
-            value: 4,
-        },
-        constraints: Constraints::NONE,
-        names: &[],
-    },
-    StaticType::Leaf {
-        kind: LeafKind::OctetString,
-        tag: Tag {
-            class: Class::Context,
-            value: 3,
-        },
-        constraints: Constraints::NONE,
-        names: &[],
-    },
-    StaticType::Leaf {
-        kind: LeafKind::Utf8,
-        tag: Tag {
-            class: Class::Context,
-            value: 2,
-        },
-        constraints: Constraints::NONE,
-        names: &[],
-    },
-    StaticType::Leaf {
-        kind: LeafKind::Utf8,
-        tag: Tag {
-            class: Class::Context,
-            value: 1,
-        },
-        constraints: Constraints::NONE,
-        names: &[],
-    },
-    StaticType::Leaf {
-        kind: LeafKind::OctetString,
-        tag: Tag {
-            class: Class::Context,
-            value: 2,
-        },
-        constraints: Constraints::NONE,
-        names: &[],
-    },
-    StaticType::Leaf {
-        kind: LeafKind::OctetString,
-        tag: Tag {
-            class: Class::Context,
-            value: 1,
-        },
-        constraints: Constraints::NONE,
-        names: &[],
-    },
-    StaticType::Leaf {
-        kind: LeafKind::OctetString,
-        tag: Tag {
-            class: Class::Context,
-            value: 0,
-        },
-        constraints: Constraints::NONE,
-        names: &[],
-    },
-    StaticType::SequenceOf {
-        tag: Tag::SEQUENCE,
-        element: TypeId(55),
-        constraints: Constraints {
-            value: None,
-            size: Some(Bound {
-                constraint: Bounded::Range {
-                    start: Some(1),
-                    end: None,
-                },
-                extensible: false,
-            }),
-        },
-    },
-    StaticType::Leaf {
-        kind: LeafKind::Boolean,
-        tag: Tag::BOOL,
-        constraints: Constraints::NONE,
-        names: &[],
-    },
-    StaticType::Enumerated {
-        tag: Tag::ENUMERATED,
-        numbers: &[
-            StaticNumber {
-                name: "neverDerefAliases",
-                number: 0,
-            },
-            StaticNumber {
-                name: "derefInSearching",
-                number: 1,
-            },
-            StaticNumber {
-                name: "derefFindingBaseObj",
-                number: 2,
-            },
-            StaticNumber {
-                name: "derefAlways",
-                number: 3,
-            },
+    ),
+    Leaf(
+        Signed64,
+        Tag::ENUMERATED,
+        NONE,
+        &[("baseObject", 0), ("singleLevel", 1), ("wholeSubtree", 2)],
+    ),
+    Leaf(OctetString, tag!(Context, 7), NONE, &[]),
+    SequenceOf(tag!(Context, 3), 73, size!(1..)),
+    Leaf(OctetString, Tag::OCTET_STRING, NONE, &[]),
+    Sequence(
+        tag!(Context, 3),
+        &[
+            ("mechanism", Required, 73),
+            ("credentials", Optional, 25),
+            ("...", Required, 77),
         ],
-    },
-    StaticType::Leaf {
-        kind: LeafKind::Signed64,
-        tag: Tag::ENUMERATED,
-        constraints: Constraints::NONE,
-        names: &[
-            StaticNumber {
-                name: "baseObject",
-                number: 0,
-            },
-            StaticNumber {
-                name: "singleLevel",
-                number: 1,
-            },
-            StaticNumber {
-                name: "wholeSubtree",
-                number: 2,
-            },
+    ),
+    Leaf(OctetString, tag!(Context, 0), NONE, &[]),
+    Leaf(Integer, Tag::INTEGER, value!(1..=127), &[]),
+    Leaf(OctetString, Tag::OCTET_STRING, NONE, &[]),
+    Leaf(Boolean, Tag::BOOL, NONE, &[]),
+    SequenceOf(tag!(Context, 3), 73, size!(1..)),
+    SequenceOf(Tag::SET, 72, size!(1..)),
+    SequenceOf(tag!(Context, 0), 64, NONE),
+    Sequence(
+        tag!(Application, 25),
+        &[
+            ("responseName", Optional, 2),
+            ("responseValue", Optional, 1),
+            ("...", Required, 77),
         ],
-    },
-    StaticType::Leaf {
-        kind: LeafKind::OctetString,
-        tag: Tag {
-            class: Class::Context,
-            value: 7,
-        },
-        constraints: Constraints::NONE,
-        names: &[],
-    },
-    StaticType::SequenceOf {
-        tag: Tag {
-            class: Class::Context,
-            value: 3,
-        },
-        element: TypeId(73),
-        constraints: Constraints {
-            value: None,
-            size: Some(Bound {
-                constraint: Bounded::Range {
-                    start: Some(1),
-                    end: None,
-                },
-                extensible: false,
-            }),
-        },
-    },
-    StaticType::Leaf {
-        kind: LeafKind::OctetString,
-        tag: Tag::OCTET_STRING,
-        constraints: Constraints::NONE,
-        names: &[],
-    },
-    StaticType::Sequence {
-        tag: Tag {
-            class: Class::Context,
-            value: 3,
-        },
-        components: &[
-            StaticComponent {
-                name: "mechanism",
-                presence: StaticPresence::Required,
-                type_id: TypeId(73),
-            },
-            StaticComponent {
-                name: "credentials",
-                presence: StaticPresence::Optional,
-                type_id: TypeId(25),
-            },
-            StaticComponent {
-                name: "...",
-                presence: StaticPresence::Required,
-                type_id: TypeId(77),
-            },
+    ),
+    Sequence(
+        tag!(Application, 24),
+        &[
+            ("resultCode", Required, 65),
+            ("matchedDN", Required, 73),
+            ("diagnosticMessage", Required, 73),
+            ("referral", Optional, 5),
+            ("responseName", Optional, 4),
+            ("responseValue", Optional, 3),
+            ("...", Required, 77),
         ],
-    },
-    StaticType::Leaf {
-        kind: LeafKind::OctetString,
-        tag: Tag {
-            class: Class::Context,
-            value: 0,
-        },
-        constraints: Constraints::NONE,
-        names: &[],
-    },
-    StaticType::Leaf {
-        kind: LeafKind::Integer,
-        tag: Tag::INTEGER,
-        constraints: Constraints {
-            value: Some(Bound {
-                constraint: Bounded::Range {
-                    start: Some(1),
-                    end: Some(127),
-                },
-                extensible: false,
-            }),
-            size: None,
-        },
-        names: &[],
-    },
-    StaticType::Leaf {
-        kind: LeafKind::OctetString,
-        tag: Tag::OCTET_STRING,
-        constraints: Constraints::NONE,
-        names: &[],
-    },
-    StaticType::Leaf {
-        kind: LeafKind::Boolean,
-        tag: Tag::BOOL,
-        constraints: Constraints::NONE,
-        names: &[],
-    },
-    StaticType::SequenceOf {
-        tag: Tag {
-            class: Class::Context,
-            value: 3,
-        },
-        element: TypeId(73),
-        constraints: Constraints {
-            value: None,
-            size: Some(Bound {
-                constraint: Bounded::Range {
-                    start: Some(1),
-                    end: None,
-                },
-                extensible: false,
-            }),
-        },
-    },
-    StaticType::SequenceOf {
-        tag: Tag::SET,
-        element: TypeId(72),
-        constraints: Constraints {
-            value: None,
-            size: Some(Bound {
-                constraint: Bounded::Range {
-                    start: Some(1),
-                    end: None,
-                },
-                extensible: false,
-            }),
-        },
-    },
-    StaticType::SequenceOf {
-        tag: Tag {
-            class: Class::Context,
-            value: 0,
-        },
-        element: TypeId(64),
-        constraints: Constraints::NONE,
-    },
-    StaticType::Sequence {
-        tag: Tag {
-            class: Class::Application,
-            value: 25,
-        },
-        components: &[
-            StaticComponent {
-                name: "responseName",
-                presence: StaticPresence::Optional,
-                type_id: TypeId(2),
-            },
-            StaticComponent {
-                name: "responseValue",
-                presence: StaticPresence::Optional,
-                type_id: TypeId(1),
-            },
-            StaticComponent {
-                name: "...",
-                presence: StaticPresence::Required,
-                type_id: TypeId(77),
-            },
+    ),
+    Sequence(
+        tag!(Application, 23),
+        &[
+            ("requestName", Required, 7),
+            ("requestValue", Optional, 6),
+            ("...", Required, 77),
         ],
-    },
-    StaticType::Sequence {
-        tag: Tag {
-            class: Class::Application,
-            value: 24,
-        },
-        components: &[
-            StaticComponent {
-                name: "resultCode",
-                presence: StaticPresence::Required,
-                type_id: TypeId(65),
-            },
-            StaticComponent {
-                name: "matchedDN",
-                presence: StaticPresence::Required,
-                type_id: TypeId(73),
-            },
-            StaticComponent {
-                name: "diagnosticMessage",
-                presence: StaticPresence::Required,
-                type_id: TypeId(73),
-            },
-            StaticComponent {
-                name: "referral",
-                presence: StaticPresence::Optional,
-                type_id: TypeId(5),
-            },
-            StaticComponent {
-                name: "responseName",
-                presence: StaticPresence::Optional,
-                type_id: TypeId(4),
-            },
-            StaticComponent {
-                name: "responseValue",
-                presence: StaticPresence::Optional,
-                type_id: TypeId(3),
-            },
-            StaticComponent {
-                name: "...",
-                presence: StaticPresence::Required,
-                type_id: TypeId(77),
-            },
+    ),
+    Leaf(Integer, tag!(Application, 16), value!(0..=2147483647), &[]),
+    Sequence(
+        tag!(Application, 15),
+        &[
+            ("resultCode", Required, 65),
+            ("matchedDN", Required, 73),
+            ("diagnosticMessage", Required, 73),
+            ("referral", Optional, 31),
+            ("...", Required, 77),
         ],
-    },
-    StaticType::Sequence {
-        tag: Tag {
-            class: Class::Application,
-            value: 23,
-        },
-        components: &[
-            StaticComponent {
-                name: "requestName",
-                presence: StaticPresence::Required,
-                type_id: TypeId(7),
-            },
-            StaticComponent {
-                name: "requestValue",
-                presence: StaticPresence::Optional,
-                type_id: TypeId(6),
-            },
-            StaticComponent {
-                name: "...",
-                presence: StaticPresence::Required,
-                type_id: TypeId(77),
-            },
+    ),
+    Sequence(
+        tag!(Application, 14),
+        &[
+            ("entry", Required, 73),
+            ("ava", Required, 71),
+            ("...", Required, 77),
         ],
-    },
-    StaticType::Leaf {
-        kind: LeafKind::Integer,
-        tag: Tag {
-            class: Class::Application,
-            value: 16,
-        },
-        constraints: Constraints {
-            value: Some(Bound {
-                constraint: Bounded::Range {
-                    start: Some(0),
-                    end: Some(2147483647),
-                },
-                extensible: false,
-            }),
-            size: None,
-        },
-        names: &[],
-    },
-    StaticType::Sequence {
-        tag: Tag {
-            class: Class::Application,
-            value: 15,
-        },
-        components: &[
-            StaticComponent {
-                name: "resultCode",
-                presence: StaticPresence::Required,
-                type_id: TypeId(65),
-            },
-            StaticComponent {
-                name: "matchedDN",
-                presence: StaticPresence::Required,
-                type_id: TypeId(73),
-            },
-            StaticComponent {
-                name: "diagnosticMessage",
-                presence: StaticPresence::Required,
-                type_id: TypeId(73),
-            },
-            StaticComponent {
-                name: "referral",
-                presence: StaticPresence::Optional,
-                type_id: TypeId(31),
-            },
-            StaticComponent {
-                name: "...",
-                presence: StaticPresence::Required,
-                type_id: TypeId(77),
-            },
+    ),
+    Sequence(
+        tag!(Application, 13),
+        &[
+            ("resultCode", Required, 65),
+            ("matchedDN", Required, 73),
+            ("diagnosticMessage", Required, 73),
+            ("referral", Optional, 31),
+            ("...", Required, 77),
         ],
-    },
-    StaticType::Sequence {
-        tag: Tag {
-            class: Class::Application,
-            value: 14,
-        },
-        components: &[
-            StaticComponent {
-                name: "entry",
-                presence: StaticPresence::Required,
-                type_id: TypeId(73),
-            },
-            StaticComponent {
-                name: "ava",
-                presence: StaticPresence::Required,
-                type_id: TypeId(71),
-            },
-            StaticComponent {
-                name: "...",
-                presence: StaticPresence::Required,
-                type_id: TypeId(77),
-            },
+    ),
+    Sequence(
+        tag!(Application, 12),
+        &[
+            ("entry", Required, 73),
+            ("newrdn", Required, 73),
+            ("deleteoldrdn", Required, 9),
+            ("newSuperior", Optional, 8),
+            ("...", Required, 77),
         ],
-    },
-    StaticType::Sequence {
-        tag: Tag {
-            class: Class::Application,
-            value: 13,
-        },
-        components: &[
-            StaticComponent {
-                name: "resultCode",
-                presence: StaticPresence::Required,
-                type_id: TypeId(65),
-            },
-            StaticComponent {
-                name: "matchedDN",
-                presence: StaticPresence::Required,
-                type_id: TypeId(73),
-            },
-            StaticComponent {
-                name: "diagnosticMessage",
-                presence: StaticPresence::Required,
-                type_id: TypeId(73),
-            },
-            StaticComponent {
-                name: "referral",
-                presence: StaticPresence::Optional,
-                type_id: TypeId(31),
-            },
-            StaticComponent {
-                name: "...",
-                presence: StaticPresence::Required,
-                type_id: TypeId(77),
-            },
+    ),
+    Sequence(
+        tag!(Application, 11),
+        &[
+            ("resultCode", Required, 65),
+            ("matchedDN", Required, 73),
+            ("diagnosticMessage", Required, 73),
+            ("referral", Optional, 31),
+            ("...", Required, 77),
         ],
-    },
-    StaticType::Sequence {
-        tag: Tag {
-            class: Class::Application,
-            value: 12,
-        },
-        components: &[
-            StaticComponent {
-                name: "entry",
-                presence: StaticPresence::Required,
-                type_id: TypeId(73),
-            },
-            StaticComponent {
-                name: "newrdn",
-                presence: StaticPresence::Required,
-                type_id: TypeId(73),
-            },
-            StaticComponent {
-                name: "deleteoldrdn",
-                presence: StaticPresence::Required,
-                type_id: TypeId(9),
-            },
-            StaticComponent {
-                name: "newSuperior",
-                presence: StaticPresence::Optional,
-                type_id: TypeId(8),
-            },
-            StaticComponent {
-                name: "...",
-                presence: StaticPresence::Required,
-                type_id: TypeId(77),
-            },
+    ),
+    Leaf(Utf8, tag!(Application, 10), NONE, &[]),
+    Sequence(
+        tag!(Application, 9),
+        &[
+            ("resultCode", Required, 65),
+            ("matchedDN", Required, 73),
+            ("diagnosticMessage", Required, 73),
+            ("referral", Optional, 31),
+            ("...", Required, 77),
         ],
-    },
-    StaticType::Sequence {
-        tag: Tag {
-            class: Class::Application,
-            value: 11,
-        },
-        components: &[
-            StaticComponent {
-                name: "resultCode",
-                presence: StaticPresence::Required,
-                type_id: TypeId(65),
-            },
-            StaticComponent {
-                name: "matchedDN",
-                presence: StaticPresence::Required,
-                type_id: TypeId(73),
-            },
-            StaticComponent {
-                name: "diagnosticMessage",
-                presence: StaticPresence::Required,
-                type_id: TypeId(73),
-            },
-            StaticComponent {
-                name: "referral",
-                presence: StaticPresence::Optional,
-                type_id: TypeId(31),
-            },
-            StaticComponent {
-                name: "...",
-                presence: StaticPresence::Required,
-                type_id: TypeId(77),
-            },
+    ),
+    SequenceOf(Tag::SEQUENCE, 67, NONE),
+    Sequence(
+        tag!(Application, 8),
+        &[
+            ("entry", Required, 73),
+            ("attributes", Required, 45),
+            ("...", Required, 77),
         ],
-    },
-    StaticType::Leaf {
-        kind: LeafKind::Utf8,
-        tag: Tag {
-            class: Class::Application,
-            value: 10,
-        },
-        constraints: Constraints::NONE,
-        names: &[],
-    },
-    StaticType::Sequence {
-        tag: Tag {
-            class: Class::Application,
-            value: 9,
-        },
-        components: &[
-            StaticComponent {
-                name: "resultCode",
-                presence: StaticPresence::Required,
-                type_id: TypeId(65),
-            },
-            StaticComponent {
-                name: "matchedDN",
-                presence: StaticPresence::Required,
-                type_id: TypeId(73),
-            },
-            StaticComponent {
-                name: "diagnosticMessage",
-                presence: StaticPresence::Required,
-                type_id: TypeId(73),
-            },
-            StaticComponent {
-                name: "referral",
-                presence: StaticPresence::Optional,
-                type_id: TypeId(31),
-            },
-            StaticComponent {
-                name: "...",
-                presence: StaticPresence::Required,
-                type_id: TypeId(77),
-            },
+    ),
+    Sequence(
+        tag!(Application, 7),
+        &[
+            ("resultCode", Required, 65),
+            ("matchedDN", Required, 73),
+            ("diagnosticMessage", Required, 73),
+            ("referral", Optional, 31),
+            ("...", Required, 77),
         ],
-    },
-    StaticType::SequenceOf {
-        tag: Tag::SEQUENCE,
-        element: TypeId(67),
-        constraints: Constraints::NONE,
-    },
-    StaticType::Sequence {
-        tag: Tag {
-            class: Class::Application,
-            value: 8,
-        },
-        components: &[
-            StaticComponent {
-                name: "entry",
-                presence: StaticPresence::Required,
-                type_id: TypeId(73),
-            },
-            StaticComponent {
-                name: "attributes",
-                presence: StaticPresence::Required,
-                type_id: TypeId(45),
-            },
-            StaticComponent {
-                name: "...",
-                presence: StaticPresence::Required,
-                type_id: TypeId(77),
-            },
+    ),
+    Sequence(
+        Tag::SEQUENCE,
+        &[
+            ("operation", Required, 10),
+            ("modification", Required, 68),
+            ("...", Required, 77),
         ],
-    },
-    StaticType::Sequence {
-        tag: Tag {
-            class: Class::Application,
-            value: 7,
-        },
-        components: &[
-            StaticComponent {
-                name: "resultCode",
-                presence: StaticPresence::Required,
-                type_id: TypeId(65),
-            },
-            StaticComponent {
-                name: "matchedDN",
-                presence: StaticPresence::Required,
-                type_id: TypeId(73),
-            },
-            StaticComponent {
-                name: "diagnosticMessage",
-                presence: StaticPresence::Required,
-                type_id: TypeId(73),
-            },
-            StaticComponent {
-                name: "referral",
-                presence: StaticPresence::Optional,
-                type_id: TypeId(31),
-            },
-            StaticComponent {
-                name: "...",
-                presence: StaticPresence::Required,
-                type_id: TypeId(77),
-            },
+    ),
+    Sequence(
+        tag!(Application, 6),
+        &[
+            ("object", Required, 73),
+            ("changes", Required, 11),
+            ("...", Required, 77),
         ],
-    },
-    StaticType::Sequence {
-        tag: Tag::SEQUENCE,
-        components: &[
-            StaticComponent {
-                name: "operation",
-                presence: StaticPresence::Required,
-                type_id: TypeId(10),
-            },
-            StaticComponent {
-                name: "modification",
-                presence: StaticPresence::Required,
-                type_id: TypeId(68),
-            },
-            StaticComponent {
-                name: "...",
-                presence: StaticPresence::Required,
-                type_id: TypeId(77),
-            },
+    ),
+    Sequence(
+        tag!(Application, 5),
+        &[
+            ("resultCode", Required, 65),
+            ("matchedDN", Required, 73),
+            ("diagnosticMessage", Required, 73),
+            ("referral", Optional, 31),
+            ("...", Required, 77),
         ],
-    },
-    StaticType::Sequence {
-        tag: Tag {
-            class: Class::Application,
-            value: 6,
-        },
-        components: &[
-            StaticComponent {
-                name: "object",
-                presence: StaticPresence::Required,
-                type_id: TypeId(73),
-            },
-            StaticComponent {
-                name: "changes",
-                presence: StaticPresence::Required,
-                type_id: TypeId(11),
-            },
-            StaticComponent {
-                name: "...",
-                presence: StaticPresence::Required,
-                type_id: TypeId(77),
-            },
+    ),
+    SequenceOf(tag!(Application, 19), 73, size!(1..)),
+    SequenceOf(Tag::SEQUENCE, 68, NONE),
+    Sequence(
+        tag!(Application, 4),
+        &[
+            ("objectName", Required, 73),
+            ("attributes", Required, 52),
+            ("...", Required, 77),
         ],
-    },
-    StaticType::Sequence {
-        tag: Tag {
-            class: Class::Application,
-            value: 5,
-        },
-        components: &[
-            StaticComponent {
-                name: "resultCode",
-                presence: StaticPresence::Required,
-                type_id: TypeId(65),
-            },
-            StaticComponent {
-                name: "matchedDN",
-                presence: StaticPresence::Required,
-                type_id: TypeId(73),
-            },
-            StaticComponent {
-                name: "diagnosticMessage",
-                presence: StaticPresence::Required,
-                type_id: TypeId(73),
-            },
-            StaticComponent {
-                name: "referral",
-                presence: StaticPresence::Optional,
-                type_id: TypeId(31),
-            },
-            StaticComponent {
-                name: "...",
-                presence: StaticPresence::Required,
-                type_id: TypeId(77),
-            },
+    ),
+    Sequence(
+        Tag::SEQUENCE,
+        &[
+            ("matchingRule", Optional, 15),
+            ("type", Optional, 14),
+            ("matchValue", Required, 13),
+            ("dnAttributes", Default(Truth(false)), 12),
+            ("...", Required, 77),
         ],
-    },
-    StaticType::SequenceOf {
-        tag: Tag {
-            class: Class::Application,
-            value: 19,
-        },
-        element: TypeId(73),
-        constraints: Constraints {
-            value: None,
-            size: Some(Bound {
-                constraint: Bounded::Range {
-                    start: Some(1),
-                    end: None,
-                },
-                extensible: false,
-            }),
-        },
-    },
-    StaticType::SequenceOf {
-        tag: Tag::SEQUENCE,
-        element: TypeId(68),
-        constraints: Constraints::NONE,
-    },
-    StaticType::Sequence {
-        tag: Tag {
-            class: Class::Application,
-            value: 4,
-        },
-        components: &[
-            StaticComponent {
-                name: "objectName",
-                presence: StaticPresence::Required,
-                type_id: TypeId(73),
-            },
-            StaticComponent {
-                name: "attributes",
-                presence: StaticPresence::Required,
-                type_id: TypeId(52),
-            },
-            StaticComponent {
-                name: "...",
-                presence: StaticPresence::Required,
-                type_id: TypeId(77),
-            },
+    ),
+    Choice(
+        "Substring",
+        &[("initial", 18), ("any", 17), ("final", 16), ("...", 0)],
+    ),
+    Sequence(
+        Tag::SEQUENCE,
+        &[
+            ("type", Required, 73),
+            ("substrings", Required, 19),
+            ("...", Required, 77),
         ],
-    },
-    StaticType::Sequence {
-        tag: Tag::SEQUENCE,
-        components: &[
-            StaticComponent {
-                name: "matchingRule",
-                presence: StaticPresence::Optional,
-                type_id: TypeId(15),
-            },
-            StaticComponent {
-                name: "type",
-                presence: StaticPresence::Optional,
-                type_id: TypeId(14),
-            },
-            StaticComponent {
-                name: "matchValue",
-                presence: StaticPresence::Required,
-                type_id: TypeId(13),
-            },
-            StaticComponent {
-                name: "dnAttributes",
-                presence: StaticPresence::Default(StaticValue::Boolean(false)),
-                type_id: TypeId(12),
-            },
-            StaticComponent {
-                name: "...",
-                presence: StaticPresence::Required,
-                type_id: TypeId(77),
-            },
+    ),
+    Any(Tag::EOC),
+    SequenceOf(Tag::SEQUENCE, 73, NONE),
+    Sequence(
+        tag!(Application, 3),
+        &[
+            ("baseObject", Required, 73),
+            ("scope", Required, 22),
+            ("derefAliases", Required, 21),
+            ("sizeLimit", Required, 74),
+            ("timeLimit", Required, 74),
+            ("typesOnly", Required, 20),
+            ("filter", Required, 57),
+            ("attributes", Required, 58),
+            ("...", Required, 77),
         ],
-    },
-    StaticType::Choice {
-        name: "Substring",
-        alternatives: &[
-            StaticAlternative {
-                name: "initial",
-                type_id: TypeId(18),
-            },
-            StaticAlternative {
-                name: "any",
-                type_id: TypeId(17),
-            },
-            StaticAlternative {
-                name: "final",
-                type_id: TypeId(16),
-            },
-            StaticAlternative {
-                name: "...",
-                type_id: TypeId(0),
-            },
+    ),
+    Leaf(Null, tag!(Application, 2), NONE, &[]),
+    Sequence(
+        tag!(Application, 1),
+        &[
+            ("resultCode", Required, 65),
+            ("matchedDN", Required, 73),
+            ("diagnosticMessage", Required, 73),
+            ("referral", Optional, 24),
+            ("serverSaslCreds", Optional, 23),
+            ("...", Required, 77),
         ],
-    },
-    StaticType::Sequence {
-        tag: Tag::SEQUENCE,
-        components: &[
-            StaticComponent {
-                name: "type",
-                presence: StaticPresence::Required,
-                type_id: TypeId(73),
-            },
-            StaticComponent {
-                name: "substrings",
-                presence: StaticPresence::Required,
-                type_id: TypeId(19),
-            },
-            StaticComponent {
-                name: "...",
-                presence: StaticPresence::Required,
-                type_id: TypeId(77),
-            },
+    ),
+    Choice(
+        "AuthenticationChoice",
+        &[("simple", 27), ("sasl", 26), ("...", 0)],
+    ),
+    Sequence(
+        tag!(Application, 0),
+        &[
+            ("version", Required, 28),
+            ("name", Required, 73),
+            ("authentication", Required, 62),
+            ("...", Required, 77),
         ],
-    },
-    StaticType::Any { tag: Tag::EOC },
-    StaticType::SequenceOf {
-        tag: Tag::SEQUENCE,
-        element: TypeId(73),
-        constraints: Constraints::NONE,
-    },
-    StaticType::Sequence {
-        tag: Tag {
-            class: Class::Application,
-            value: 3,
-        },
-        components: &[
-            StaticComponent {
-                name: "baseObject",
-                presence: StaticPresence::Required,
-                type_id: TypeId(73),
-            },
-            StaticComponent {
-                name: "scope",
-                presence: StaticPresence::Required,
-                type_id: TypeId(22),
-            },
-            StaticComponent {
-                name: "derefAliases",
-                presence: StaticPresence::Required,
-                type_id: TypeId(21),
-            },
-            StaticComponent {
-                name: "sizeLimit",
-                presence: StaticPresence::Required,
-                type_id: TypeId(74),
-            },
-            StaticComponent {
-                name: "timeLimit",
-                presence: StaticPresence::Required,
-                type_id: TypeId(74),
-            },
-            StaticComponent {
-                name: "typesOnly",
-                presence: StaticPresence::Required,
-                type_id: TypeId(20),
-            },
-            StaticComponent {
-                name: "filter",
-                presence: StaticPresence::Required,
-                type_id: TypeId(57),
-            },
-            StaticComponent {
-                name: "attributes",
-                presence: StaticPresence::Required,
-                type_id: TypeId(58),
-            },
-            StaticComponent {
-                name: "...",
-                presence: StaticPresence::Required,
-                type_id: TypeId(77),
-            },
+    ),
+    Sequence(
+        Tag::SEQUENCE,
+        &[
+            ("controlType", Required, 73),
+            ("criticality", Default(Truth(false)), 30),
+            ("controlValue", Optional, 29),
+            ("...", Required, 77),
         ],
-    },
-    StaticType::Leaf {
-        kind: LeafKind::Null,
-        tag: Tag {
-            class: Class::Application,
-            value: 2,
-        },
-        constraints: Constraints::NONE,
-        names: &[],
-    },
-    StaticType::Sequence {
-        tag: Tag {
-            class: Class::Application,
-            value: 1,
-        },
-        components: &[
-            StaticComponent {
-                name: "resultCode",
-                presence: StaticPresence::Required,
-                type_id: TypeId(65),
-            },
-            StaticComponent {
-                name: "matchedDN",
-                presence: StaticPresence::Required,
-                type_id: TypeId(73),
-            },
-            StaticComponent {
-                name: "diagnosticMessage",
-                presence: StaticPresence::Required,
-                type_id: TypeId(73),
-            },
-            StaticComponent {
-                name: "referral",
-                presence: StaticPresence::Optional,
-                type_id: TypeId(24),
-            },
-            StaticComponent {
-                name: "serverSaslCreds",
-                presence: StaticPresence::Optional,
-                type_id: TypeId(23),
-            },
-            StaticComponent {
-                name: "...",
-                presence: StaticPresence::Required,
-                type_id: TypeId(77),
-            },
+    ),
+    Leaf(
+        Signed64,
+        Tag::ENUMERATED,
+        NONE,
+        &[
+            ("success", 0),
+            ("operationsError", 1),
+            ("protocolError", 2),
+            ("timeLimitExceeded", 3),
+            ("sizeLimitExceeded", 4),
+            ("compareFalse", 5),
+            ("compareTrue", 6),
+            ("authMethodNotSupported", 7),
+            ("strongerAuthRequired", 8),
+            ("referral", 10),
+            ("adminLimitExceeded", 11),
+            ("unavailableCriticalExtension", 12),
+            ("confidentialityRequired", 13),
+            ("saslBindInProgress", 14),
+            ("noSuchAttribute", 16),
+            ("undefinedAttributeType", 17),
+            ("inappropriateMatching", 18),
+            ("constraintViolation", 19),
+            ("attributeOrValueExists", 20),
+            ("invalidAttributeSyntax", 21),
+            ("noSuchObject", 32),
+            ("aliasProblem", 33),
+            ("invalidDNSyntax", 34),
+            ("aliasDereferencingProblem", 36),
+            ("inappropriateAuthentication", 48),
+            ("invalidCredentials", 49),
+            ("insufficientAccessRights", 50),
+            ("busy", 51),
+            ("unavailable", 52),
+            ("unwillingToPerform", 53),
+            ("loopDetect", 54),
+            ("namingViolation", 64),
+            ("objectClassViolation", 65),
+            ("notAllowedOnNonLeaf", 66),
+            ("notAllowedOnRDN", 67),
+            ("entryAlreadyExists", 68),
+            ("objectClassModsProhibited", 69),
+            ("affectsMultipleDSAs", 71),
+            ("other", 80),
         ],
-    },
-    StaticType::Choice {
-        name: "AuthenticationChoice",
-        alternatives: &[
-            StaticAlternative {
-                name: "simple",
-                type_id: TypeId(27),
-            },
-            StaticAlternative {
-                name: "sasl",
-                type_id: TypeId(26),
-            },
-            StaticAlternative {
-                name: "...",
-                type_id: TypeId(0),
-            },
+    ),
+    Sequence(
+        Tag::SEQUENCE,
+        &[
+            ("resultCode", Required, 65),
+            ("matchedDN", Required, 73),
+            ("diagnosticMessage", Required, 73),
+            ("referral", Optional, 31),
+            ("...", Required, 77),
         ],
-    },
-    StaticType::Sequence {
-        tag: Tag {
-            class: Class::Application,
-            value: 0,
-        },
-        components: &[
-            StaticComponent {
-                name: "version",
-                presence: StaticPresence::Required,
-                type_id: TypeId(28),
-            },
-            StaticComponent {
-                name: "name",
-                presence: StaticPresence::Required,
-                type_id: TypeId(73),
-            },
-            StaticComponent {
-                name: "authentication",
-                presence: StaticPresence::Required,
-                type_id: TypeId(62),
-            },
-            StaticComponent {
-                name: "...",
-                presence: StaticPresence::Required,
-                type_id: TypeId(77),
-            },
+    ),
+    Sequence(
+        Tag::SEQUENCE,
+        &[
+            ("type", Required, 73),
+            ("vals", Required, 32),
+            ("...", Required, 77),
         ],
-    },
-    StaticType::Sequence {
-        tag: Tag::SEQUENCE,
-        components: &[
-            StaticComponent {
-                name: "controlType",
-                presence: StaticPresence::Required,
-                type_id: TypeId(73),
-            },
-            StaticComponent {
-                name: "criticality",
-                presence: StaticPresence::Default(StaticValue::Boolean(false)),
-                type_id: TypeId(30),
-            },
-            StaticComponent {
-                name: "controlValue",
-                presence: StaticPresence::Optional,
-                type_id: TypeId(29),
-            },
-            StaticComponent {
-                name: "...",
-                presence: StaticPresence::Required,
-                type_id: TypeId(77),
-            },
+    ),
+    Sequence(
+        Tag::SEQUENCE,
+        &[
+            ("type", Required, 73),
+            ("vals", Required, 69),
+            ("...", Required, 77),
         ],
-    },
-    StaticType::Leaf {
-        kind: LeafKind::Signed64,
-        tag: Tag::ENUMERATED,
-        constraints: Constraints::NONE,
-        names: &[
-            StaticNumber {
-                name: "success",
-                number: 0,
-            },
-            StaticNumber {
-                name: "operationsError",
-                number: 1,
-            },
-            StaticNumber {
-                name: "protocolError",
-                number: 2,
-            },
-            StaticNumber {
-                name: "timeLimitExceeded",
-                number: 3,
-            },
-            StaticNumber {
-                name: "sizeLimitExceeded",
-                number: 4,
-            },
-            StaticNumber {
-                name: "compareFalse",
-                number: 5,
-            },
-            StaticNumber {
-                name: "compareTrue",
-                number: 6,
-            },
-            StaticNumber {
-                name: "authMethodNotSupported",
-                number: 7,
-            },
-            StaticNumber {
-                name: "strongerAuthRequired",
-                number: 8,
-            },
-            StaticNumber {
-                name: "referral",
-                number: 10,
-            },
-            StaticNumber {
-                name: "adminLimitExceeded",
-                number: 11,
-            },
-            StaticNumber {
-                name: "unavailableCriticalExtension",
-                number: 12,
-            },
-            StaticNumber {
-                name: "confidentialityRequired",
-                number: 13,
-            },
-            StaticNumber {
-                name: "saslBindInProgress",
-                number: 14,
-            },
-            StaticNumber {
-                name: "noSuchAttribute",
-                number: 16,
-            },
-            StaticNumber {
-                name: "undefinedAttributeType",
-                number: 17,
-            },
-            StaticNumber {
-                name: "inappropriateMatching",
-                number: 18,
-            },
-            StaticNumber {
-                name: "constraintViolation",
-                number: 19,
-            },
-            StaticNumber {
-                name: "attributeOrValueExists",
-                number: 20,
-            },
-            StaticNumber {
-                name: "invalidAttributeSyntax",
-                number: 21,
-            },
-            StaticNumber {
-                name: "noSuchObject",
-                number: 32,
-            },
-            StaticNumber {
-                name: "aliasProblem",
-                number: 33,
-            },
-            StaticNumber {
-                name: "invalidDNSyntax",
-                number: 34,
-            },
-            StaticNumber {
-                name: "aliasDereferencingProblem",
-                number: 36,
-            },
-            StaticNumber {
-                name: "inappropriateAuthentication",
-                number: 48,
-            },
-            StaticNumber {
-                name: "invalidCredentials",
-                number: 49,
-            },
-            StaticNumber {
-                name: "insufficientAccessRights",
-                number: 50,
-            },
-            StaticNumber {
-                name: "busy",
-                number: 51,
-            },
-            StaticNumber {
-                name: "unavailable",
-                number: 52,
-            },
-            StaticNumber {
-                name: "unwillingToPerform",
-                number: 53,
-            },
-            StaticNumber {
-                name: "loopDetect",
-                number: 54,
-            },
-            StaticNumber {
-                name: "namingViolation",
-                number: 64,
-            },
-            StaticNumber {
-                name: "objectClassViolation",
-                number: 65,
-            },
-            StaticNumber {
-                name: "notAllowedOnNonLeaf",
-                number: 66,
-            },
-            StaticNumber {
-                name: "notAllowedOnRDN",
-                number: 67,
-            },
-            StaticNumber {
-                name: "entryAlreadyExists",
-                number: 68,
-            },
-            StaticNumber {
-                name: "objectClassModsProhibited",
-                number: 69,
-            },
-            StaticNumber {
-                name: "affectsMultipleDSAs",
-                number: 71,
-            },
-            StaticNumber {
-                name: "other",
-                number: 80,
-            },
+    ),
+    SequenceOf(Tag::SET, 72, NONE),
+    Leaf(OctetString, Tag::OCTET_STRING, NONE, &[]),
+    Sequence(
+        Tag::SEQUENCE,
+        &[
+            ("attributeDesc", Required, 73),
+            ("assertionValue", Required, 70),
+            ("...", Required, 77),
         ],
-    },
-    StaticType::Sequence {
-        tag: Tag::SEQUENCE,
-        components: &[
-            StaticComponent {
-                name: "resultCode",
-                presence: StaticPresence::Required,
-                type_id: TypeId(65),
-            },
-            StaticComponent {
-                name: "matchedDN",
-                presence: StaticPresence::Required,
-                type_id: TypeId(73),
-            },
-            StaticComponent {
-                name: "diagnosticMessage",
-                presence: StaticPresence::Required,
-                type_id: TypeId(73),
-            },
-            StaticComponent {
-                name: "referral",
-                presence: StaticPresence::Optional,
-                type_id: TypeId(31),
-            },
-            StaticComponent {
-                name: "...",
-                presence: StaticPresence::Required,
-                type_id: TypeId(77),
-            },
+    ),
+    Leaf(OctetString, Tag::OCTET_STRING, NONE, &[]),
+    Leaf(Utf8, Tag::OCTET_STRING, NONE, &[]),
+    Leaf(Integer, Tag::INTEGER, value!(0..=2147483647), &[]),
+    Choice(
+        "ProtocolOp",
+        &[
+            ("bindRequest", 63),
+            ("bindResponse", 61),
+            ("unbindRequest", 60),
+            ("searchRequest", 59),
+            ("searchResEntry", 53),
+            ("searchResDone", 50),
+            ("searchResRef", 51),
+            ("modifyRequest", 49),
+            ("modifyResponse", 47),
+            ("addRequest", 46),
+            ("addResponse", 44),
+            ("delRequest", 43),
+            ("delResponse", 42),
+            ("modDNRequest", 41),
+            ("modDNResponse", 40),
+            ("compareRequest", 39),
+            ("compareResponse", 38),
+            ("abandonRequest", 37),
+            ("extendedReq", 36),
+            ("extendedResp", 35),
+            ("intermediateResponse", 34),
+            ("...", 0),
         ],
-    },
-    StaticType::Sequence {
-        tag: Tag::SEQUENCE,
-        components: &[
-            StaticComponent {
-                name: "type",
-                presence: StaticPresence::Required,
-                type_id: TypeId(73),
-            },
-            StaticComponent {
-                name: "vals",
-                presence: StaticPresence::Required,
-                type_id: TypeId(32),
-            },
-            StaticComponent {
-                name: "...",
-                presence: StaticPresence::Required,
-                type_id: TypeId(77),
-            },
+    ),
+    Sequence(
+        Tag::SEQUENCE,
+        &[
+            ("messageID", Required, 74),
+            ("protocolOp", Required, 75),
+            ("controls", Optional, 33),
+            ("...", Required, 77),
         ],
-    },
-    StaticType::Sequence {
-        tag: Tag::SEQUENCE,
-        components: &[
-            StaticComponent {
-                name: "type",
-                presence: StaticPresence::Required,
-                type_id: TypeId(73),
-            },
-            StaticComponent {
-                name: "vals",
-                presence: StaticPresence::Required,
-                type_id: TypeId(69),
-            },
-            StaticComponent {
-                name: "...",
-                presence: StaticPresence::Required,
-                type_id: TypeId(77),
-            },
-        ],
-    },
-    StaticType::SequenceOf {
-        tag: Tag::SET,
-        element: TypeId(72),
-        constraints: Constraints::NONE,
-    },
-    StaticType::Leaf {
-        kind: LeafKind::OctetString,
-        tag: Tag::OCTET_STRING,
-        constraints: Constraints::NONE,
-        names: &[],
-    },
-    StaticType::Sequence {
-        tag: Tag::SEQUENCE,
-        components: &[
-            StaticComponent {
-                name: "attributeDesc",
-                presence: StaticPresence::Required,
-                type_id: TypeId(73),
-            },
-            StaticComponent {
-                name: "assertionValue",
-                presence: StaticPresence::Required,
-                type_id: TypeId(70),
-            },
-            StaticComponent {
-                name: "...",
-                presence: StaticPresence::Required,
-                type_id: TypeId(77),
-            },
-        ],
-    },
-    StaticType::Leaf {
-        kind: LeafKind::OctetString,
-        tag: Tag::OCTET_STRING,
-        constraints: Constraints::NONE,
-        names: &[],
-    },
-    StaticType::Leaf {
-        kind: LeafKind::Utf8,
-        tag: Tag::OCTET_STRING,
-        constraints: Constraints::NONE,
-        names: &[],
-    },
-    StaticType::Leaf {
-        kind: LeafKind::Integer,
-        tag: Tag::INTEGER,
-        constraints: Constraints {
-            value: Some(Bound {
-                constraint: Bounded::Range {
-                    start: Some(0),
-                    end: Some(2147483647),
-                },
-                extensible: false,
-            }),
-            size: None,
-        },
-        names: &[],
-    },
-    StaticType::Choice {
-        name: "ProtocolOp",
-        alternatives: &[
-            StaticAlternative {
-                name: "bindRequest",
-                type_id: TypeId(63),
-            },
-            StaticAlternative {
-                name: "bindResponse",
-                type_id: TypeId(61),
-            },
-            StaticAlternative {
-                name: "unbindRequest",
-                type_id: TypeId(60),
-            },
-            StaticAlternative {
-                name: "searchRequest",
-                type_id: TypeId(59),
-            },
-            StaticAlternative {
-                name: "searchResEntry",
-                type_id: TypeId(53),
-            },
-            StaticAlternative {
-                name: "searchResDone",
-                type_id: TypeId(50),
-            },
-            StaticAlternative {
-                name: "searchResRef",
-                type_id: TypeId(51),
-            },
-            StaticAlternative {
-                name: "modifyRequest",
-                type_id: TypeId(49),
-            },
-            StaticAlternative {
-                name: "modifyResponse",
-                type_id: TypeId(47),
-            },
-            StaticAlternative {
-                name: "addRequest",
-                type_id: TypeId(46),
-            },
-            StaticAlternative {
-                name: "addResponse",
-                type_id: TypeId(44),
-            },
-            StaticAlternative {
-                name: "delRequest",
-                type_id: TypeId(43),
-            },
-            StaticAlternative {
-                name: "delResponse",
-                type_id: TypeId(42),
-            },
-            StaticAlternative {
-                name: "modDNRequest",
-                type_id: TypeId(41),
-            },
-            StaticAlternative {
-                name: "modDNResponse",
-                type_id: TypeId(40),
-            },
-            StaticAlternative {
-                name: "compareRequest",
-                type_id: TypeId(39),
-            },
-            StaticAlternative {
-                name: "compareResponse",
-                type_id: TypeId(38),
-            },
-            StaticAlternative {
-                name: "abandonRequest",
-                type_id: TypeId(37),
-            },
-            StaticAlternative {
-                name: "extendedReq",
-                type_id: TypeId(36),
-            },
-            StaticAlternative {
-                name: "extendedResp",
-                type_id: TypeId(35),
-            },
-            StaticAlternative {
-                name: "intermediateResponse",
-                type_id: TypeId(34),
-            },
-            StaticAlternative {
-                name: "...",
-                type_id: TypeId(0),
-            },
-        ],
-    },
-    StaticType::Sequence {
-        tag: Tag::SEQUENCE,
-        components: &[
-            StaticComponent {
-                name: "messageID",
-                presence: StaticPresence::Required,
-                type_id: TypeId(74),
-            },
-            StaticComponent {
-                name: "protocolOp",
-                presence: StaticPresence::Required,
-                type_id: TypeId(75),
-            },
-            StaticComponent {
-                name: "controls",
-                presence: StaticPresence::Optional,
-                type_id: TypeId(33),
-            },
-            StaticComponent {
-                name: "...",
-                presence: StaticPresence::Required,
-                type_id: TypeId(77),
-            },
-        ],
-    },
-    StaticType::Unknown,
+    ),
+    Unknown,
 ];
 
 impl HasSchema for crate::MatchingRuleAssertion {

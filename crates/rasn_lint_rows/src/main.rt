@@ -7,7 +7,8 @@ mod table;
 use crate::table::{NAMES, TYPES};
 use rasn_lint::{Departure, OpenTypes, check, lint};
 use rasn_schema::{Schema, TypeId};
-use rasn_schema_bench::{CERTIFICATE, CERTIFICATE_TYPES, Definition, types};
+use rasn_schema_bench::{CERTIFICATE, CERTIFICATE_TYPES};
+use rasn_schema_static::{StaticType, types_of};
 use std::alloc::{AllocError, Global};
 use std::io::{self, BufRead, BufReader, BufWriter, Write};
 
@@ -23,7 +24,7 @@ fn main(rt: HostRuntime) -> io::Result<()> {
 }
 
 /// A type: a table, and its number there.
-type Named = (&'static [Definition], TypeId);
+type Named = (&'static [StaticType], TypeId);
 
 /// Prints a line, and after a row its result. An empty line and a comment, which begins with `#`,
 /// have none.
@@ -97,7 +98,7 @@ fn print_answer<W: Write>(
     output: &mut W,
 ) -> io::Result<()> {
     let (table, id) = named;
-    let schema = match Schema::new(types(alloc, table)?) {
+    let schema = match Schema::new(types_of(alloc, table)?) {
         Ok(schema) => schema,
         Err(error) => return writeln!(output, "  has no schema: {error}"),
     };

@@ -1,78 +1,62 @@
 //! The types of the rows.
 
-use rasn_schema::LeafKind;
-use rasn_schema_bench::{CONTEXT_0, CONTEXT_1, CONTEXT_2, CONTEXT_3, Definition, Occurrence, Part};
-use rasn_types::types::{Class, Constraints, Tag};
+use rasn_schema_static::prelude::*;
 
-const CONTEXT_31: Tag = Tag {
-    class: Class::Context,
-    value: 31,
-};
+const ATTRIBUTE: &[StaticComponent] = &[("type", Required, 2), ("value", Required, 9)];
 
-const ATTRIBUTE: &[Part] = &[
-    ("type", Occurrence::Required, 2),
-    ("value", Occurrence::Required, 9),
+const EXTENSIBLE: &[StaticComponent] = &[("flag", Required, 0), ("...", Required, 22)];
+
+const EXTENSIBLE_SET: &[StaticComponent] = &[
+    ("flag", Required, 0),
+    ("second", Required, 14),
+    ("...", Required, 22),
 ];
 
-const EXTENSIBLE: &[Part] = &[
-    ("flag", Occurrence::Required, 0),
-    ("...", Occurrence::Required, 22),
+const WITH_DEFAULT: &[StaticComponent] = &[
+    ("number", Required, 1),
+    ("flag", Default(Truth(false)), 0),
 ];
 
-const EXTENSIBLE_SET: &[Part] = &[
-    ("flag", Occurrence::Required, 0),
-    ("second", Occurrence::Required, 14),
-    ("...", Occurrence::Required, 22),
-];
+const TAGGED: &[StaticComponent] = &[("first", Required, 13), ("second", Required, 14)];
 
-const WITH_DEFAULT: &[Part] = &[
-    ("number", Occurrence::Required, 1),
-    ("flag", Occurrence::False, 0),
-];
-
-const TAGGED: &[Part] = &[
-    ("first", Occurrence::Required, 13),
-    ("second", Occurrence::Required, 14),
-];
-
-const SEVEN: &[Part] = &[
-    ("flag", Occurrence::Required, 0),
-    ("number", Occurrence::Required, 1),
-    ("id", Occurrence::Required, 2),
-    ("bits", Occurrence::Required, 3),
-    ("text", Occurrence::Required, 6),
-    ("time", Occurrence::Required, 8),
-    ("set", Occurrence::Required, 11),
+const SEVEN: &[StaticComponent] = &[
+    ("flag", Required, 0),
+    ("number", Required, 1),
+    ("id", Required, 2),
+    ("bits", Required, 3),
+    ("text", Required, 6),
+    ("time", Required, 8),
+    ("set", Required, 11),
 ];
 
 /// The types, each of which names others by their numbers.
-pub const TYPES: &[Definition] = &[
-    Definition::Leaf(LeafKind::Boolean, Tag::BOOL),
-    Definition::Leaf(LeafKind::Integer, Tag::INTEGER),
-    Definition::Leaf(LeafKind::ObjectIdentifier, Tag::OBJECT_IDENTIFIER),
-    Definition::Leaf(LeafKind::BitString, Tag::BIT_STRING),
-    Definition::Leaf(LeafKind::NamedBits, Tag::BIT_STRING),
-    Definition::Leaf(LeafKind::OctetString, Tag::OCTET_STRING),
-    Definition::Leaf(LeafKind::Utf8, Tag::UTF8_STRING),
-    Definition::Leaf(LeafKind::UtcTime, Tag::UTC_TIME),
-    Definition::Leaf(LeafKind::GeneralizedTime, Tag::GENERALIZED_TIME),
-    Definition::Any(Tag::EOC),
-    Definition::Sequence(Tag::SEQUENCE, ATTRIBUTE),
-    Definition::SetOf(Tag::SET, 1, Constraints::NONE),
-    Definition::Sequence(Tag::SEQUENCE, WITH_DEFAULT),
-    Definition::Leaf(LeafKind::Boolean, CONTEXT_0),
-    Definition::Leaf(LeafKind::Integer, CONTEXT_1),
-    Definition::Set("Pair", Tag::SET, TAGGED),
-    Definition::Sequence(Tag::SEQUENCE, SEVEN),
-    Definition::Leaf(LeafKind::Boolean, CONTEXT_31),
-    Definition::Tagged(CONTEXT_2, 1),
-    Definition::Choice("Choice", &[("number", 1), ("tagged", 18)]),
-    Definition::SequenceOf(Tag::SEQUENCE, 10, Constraints::NONE),
-    Definition::Any(CONTEXT_3),
-    Definition::Unknown,
-    Definition::Sequence(Tag::SEQUENCE, EXTENSIBLE),
-    Definition::Choice("Reply", &[("flag", 0), ("...", 9)]),
-    Definition::Set("ExtensibleSet", Tag::SET, EXTENSIBLE_SET),
+pub const TYPES: &[StaticType] = &[
+    Leaf(Boolean, Tag::BOOL, NONE, &[]),
+    Leaf(Integer, Tag::INTEGER, NONE, &[]),
+    Leaf(ObjectIdentifier, Tag::OBJECT_IDENTIFIER, NONE, &[]),
+    Leaf(BitString, Tag::BIT_STRING, NONE, &[]),
+    Leaf(NamedBits, Tag::BIT_STRING, NONE, &[]),
+    Leaf(OctetString, Tag::OCTET_STRING, NONE, &[]),
+    Leaf(Utf8, Tag::UTF8_STRING, NONE, &[]),
+    Leaf(UtcTime, Tag::UTC_TIME, NONE, &[]),
+    Leaf(GeneralizedTime, Tag::GENERALIZED_TIME, NONE, &[]),
+    Any(Tag::EOC),
+    Sequence(Tag::SEQUENCE, ATTRIBUTE),
+    SetOf(Tag::SET, 1, NONE),
+    Sequence(Tag::SEQUENCE, WITH_DEFAULT),
+    Leaf(Boolean, tag!(Context, 0), NONE, &[]),
+    Leaf(Integer, tag!(Context, 1), NONE, &[]),
+    Set("Pair", Tag::SET, TAGGED),
+    Sequence(Tag::SEQUENCE, SEVEN),
+    Leaf(Boolean, tag!(Context, 31), NONE, &[]),
+    Tagged(tag!(Context, 2), 1),
+    Choice("Choice", &[("number", 1), ("tagged", 18)]),
+    SequenceOf(Tag::SEQUENCE, 10, NONE),
+    Any(tag!(Context, 3)),
+    Unknown,
+    Sequence(Tag::SEQUENCE, EXTENSIBLE),
+    Choice("Reply", &[("flag", 0), ("...", 9)]),
+    Set("ExtensibleSet", Tag::SET, EXTENSIBLE_SET),
 ];
 
 /// The names of the types that rows have.

@@ -16,7 +16,8 @@ use crate::same::are_same;
 use crate::schema_octets::octets_difference;
 use rasn_compiler::{Assigned, Assignment, Module, Modules, Resolved, Source};
 use rasn_schema::{Schema, TypeId};
-use rasn_schema_bench::{CERTIFICATE, CERTIFICATE_TYPES, Definition, FILTER, FILTER_TYPES, types};
+use rasn_schema_bench::{CERTIFICATE, CERTIFICATE_TYPES, FILTER, FILTER_TYPES};
+use rasn_schema_static::{StaticType, types_of};
 use std::alloc::{AllocError, Global};
 use std::{env, fs, io};
 
@@ -159,14 +160,14 @@ fn print_table(
     read: &Modules<'_>,
     module: &str,
     name: &str,
-    table: &[Definition],
+    table: &[StaticType],
     root: TypeId,
 ) -> io::Result<()> {
     let alloc = rt.alloc();
     let Ok(resolved) = read.schema(alloc, module, name) else {
         return Ok(());
     };
-    let Ok(schema) = Schema::new(types(alloc, table)?) else {
+    let Ok(schema) = Schema::new(types_of(alloc, table)?) else {
         return println!(rt; "table\t{module}.{name}\tno schema");
     };
     if are_same(alloc, &resolved.schema, resolved.root, &schema, root)? {

@@ -4,814 +4,206 @@ use rasn_schema_static::prelude::*;
 /// The types, which refer to one another by their numbers. A CHOICE has the alternatives of those
 /// that are alternatives of it, and what this crate has as open types is open.
 pub const TYPES: &[StaticType] = &[
-    StaticType::Any { tag: Tag::EOC },
-    StaticType::Any { tag: Tag::EOC },
-    StaticType::Leaf {
-        kind: LeafKind::Integer,
-        tag: Tag::INTEGER,
-        constraints: Constraints {
-            value: Some(Bound {
-                constraint: Bounded::Range {
-                    start: Some(0),
-                    end: None,
-                },
-                extensible: false,
-            }),
-            size: None,
-        },
-        names: &[],
-    },
-    StaticType::Leaf {
-        kind: LeafKind::Boolean,
-        tag: Tag::BOOL,
-        constraints: Constraints::NONE,
-        names: &[],
-    },
-    StaticType::Leaf {
-        kind: LeafKind::Bmp,
-        tag: Tag::BMP_STRING,
-        constraints: Constraints {
-            value: None,
-            size: Some(Bound {
-                constraint: Bounded::Range {
-                    start: Some(1),
-                    end: None,
-                },
-                extensible: false,
-            }),
-        },
-        names: &[],
-    },
-    StaticType::Leaf {
-        kind: LeafKind::Utf8,
-        tag: Tag::UTF8_STRING,
-        constraints: Constraints {
-            value: None,
-            size: Some(Bound {
-                constraint: Bounded::Range {
-                    start: Some(1),
-                    end: None,
-                },
-                extensible: false,
-            }),
-        },
-        names: &[],
-    },
-    StaticType::Leaf {
-        kind: LeafKind::AnyOctets,
-        tag: Tag {
-            class: Class::Universal,
-            value: 28,
-        },
-        constraints: Constraints {
-            value: None,
-            size: Some(Bound {
-                constraint: Bounded::Range {
-                    start: Some(1),
-                    end: None,
-                },
-                extensible: false,
-            }),
-        },
-        names: &[],
-    },
-    StaticType::Leaf {
-        kind: LeafKind::Printable,
-        tag: Tag::PRINTABLE_STRING,
-        constraints: Constraints {
-            value: None,
-            size: Some(Bound {
-                constraint: Bounded::Range {
-                    start: Some(1),
-                    end: None,
-                },
-                extensible: false,
-            }),
-        },
-        names: &[],
-    },
-    StaticType::Leaf {
-        kind: LeafKind::AnyOctets,
-        tag: Tag::TELETEX_STRING,
-        constraints: Constraints {
-            value: None,
-            size: Some(Bound {
-                constraint: Bounded::Range {
-                    start: Some(1),
-                    end: None,
-                },
-                extensible: false,
-            }),
-        },
-        names: &[],
-    },
-    StaticType::Tagged {
-        tag: Tag {
-            class: Class::Context,
-            value: 1,
-        },
-        inner: TypeId(62),
-    },
-    StaticType::Tagged {
-        tag: Tag {
-            class: Class::Context,
-            value: 0,
-        },
-        inner: TypeId(63),
-    },
-    StaticType::Tagged {
-        tag: Tag {
-            class: Class::Context,
-            value: 0,
-        },
-        inner: TypeId(0),
-    },
-    StaticType::Leaf {
-        kind: LeafKind::ObjectIdentifier,
-        tag: Tag::OBJECT_IDENTIFIER,
-        constraints: Constraints::NONE,
-        names: &[],
-    },
-    StaticType::SetOf {
-        tag: Tag::SET,
-        element: TypeId(1),
-        constraints: Constraints {
-            value: None,
-            size: Some(Bound {
-                constraint: Bounded::Range {
-                    start: Some(1),
-                    end: None,
-                },
-                extensible: false,
-            }),
-        },
-    },
-    StaticType::Leaf {
-        kind: LeafKind::ObjectIdentifier,
-        tag: Tag::OBJECT_IDENTIFIER,
-        constraints: Constraints::NONE,
-        names: &[],
-    },
-    StaticType::SetOf {
-        tag: Tag {
-            class: Class::Context,
-            value: 0,
-        },
-        element: TypeId(42),
-        constraints: Constraints::NONE,
-    },
-    StaticType::Leaf {
-        kind: LeafKind::Integer,
-        tag: Tag::INTEGER,
-        constraints: Constraints::NONE,
-        names: &[StaticNumber {
-            name: "v1",
-            number: 0,
-        }],
-    },
-    StaticType::Leaf {
-        kind: LeafKind::BitString,
-        tag: Tag::BIT_STRING,
-        constraints: Constraints::NONE,
-        names: &[],
-    },
-    StaticType::Tagged {
-        tag: Tag {
-            class: Class::Context,
-            value: 0,
-        },
-        inner: TypeId(49),
-    },
-    StaticType::SequenceOf {
-        tag: Tag::SEQUENCE,
-        element: TypeId(45),
-        constraints: Constraints::NONE,
-    },
-    StaticType::Leaf {
-        kind: LeafKind::BitString,
-        tag: Tag::BIT_STRING,
-        constraints: Constraints::NONE,
-        names: &[],
-    },
-    StaticType::Leaf {
-        kind: LeafKind::OctetString,
-        tag: Tag::OCTET_STRING,
-        constraints: Constraints::NONE,
-        names: &[],
-    },
-    StaticType::Leaf {
-        kind: LeafKind::Boolean,
-        tag: Tag::BOOL,
-        constraints: Constraints::NONE,
-        names: &[],
-    },
-    StaticType::Leaf {
-        kind: LeafKind::ObjectIdentifier,
-        tag: Tag::OBJECT_IDENTIFIER,
-        constraints: Constraints::NONE,
-        names: &[],
-    },
-    StaticType::Leaf {
-        kind: LeafKind::BitString,
-        tag: Tag::BIT_STRING,
-        constraints: Constraints::NONE,
-        names: &[],
-    },
-    StaticType::Leaf {
-        kind: LeafKind::GeneralizedTime,
-        tag: Tag::GENERALIZED_TIME,
-        constraints: Constraints::NONE,
-        names: &[],
-    },
-    StaticType::Leaf {
-        kind: LeafKind::UtcTime,
-        tag: Tag::UTC_TIME,
-        constraints: Constraints::NONE,
-        names: &[],
-    },
-    StaticType::Any { tag: Tag::EOC },
-    StaticType::Leaf {
-        kind: LeafKind::ObjectIdentifier,
-        tag: Tag::OBJECT_IDENTIFIER,
-        constraints: Constraints::NONE,
-        names: &[],
-    },
-    StaticType::Any { tag: Tag::EOC },
-    StaticType::Leaf {
-        kind: LeafKind::ObjectIdentifier,
-        tag: Tag::OBJECT_IDENTIFIER,
-        constraints: Constraints::NONE,
-        names: &[],
-    },
-    StaticType::Tagged {
-        tag: Tag {
-            class: Class::Context,
-            value: 3,
-        },
-        inner: TypeId(49),
-    },
-    StaticType::Leaf {
-        kind: LeafKind::BitString,
-        tag: Tag {
-            class: Class::Context,
-            value: 2,
-        },
-        constraints: Constraints::NONE,
-        names: &[],
-    },
-    StaticType::Leaf {
-        kind: LeafKind::BitString,
-        tag: Tag {
-            class: Class::Context,
-            value: 1,
-        },
-        constraints: Constraints::NONE,
-        names: &[],
-    },
-    StaticType::Tagged {
-        tag: Tag {
-            class: Class::Context,
-            value: 0,
-        },
-        inner: TypeId(59),
-    },
-    StaticType::Leaf {
-        kind: LeafKind::BitString,
-        tag: Tag::BIT_STRING,
-        constraints: Constraints::NONE,
-        names: &[],
-    },
-    StaticType::Leaf {
-        kind: LeafKind::ObjectIdentifier,
-        tag: Tag::OBJECT_IDENTIFIER,
-        constraints: Constraints::NONE,
-        names: &[],
-    },
-    StaticType::SequenceOf {
-        tag: Tag::SEQUENCE,
-        element: TypeId(36),
-        constraints: Constraints {
-            value: None,
-            size: Some(Bound {
-                constraint: Bounded::Range {
-                    start: Some(1),
-                    end: None,
-                },
-                extensible: false,
-            }),
-        },
-    },
-    StaticType::Sequence {
-        tag: Tag::SEQUENCE,
-        components: &[
-            StaticComponent {
-                name: "cA",
-                presence: StaticPresence::Default(StaticValue::Boolean(false)),
-                type_id: TypeId(3),
-            },
-            StaticComponent {
-                name: "pathLenConstraint",
-                presence: StaticPresence::Optional,
-                type_id: TypeId(2),
-            },
+    Any(Tag::EOC),
+    Any(Tag::EOC),
+    Leaf(Integer, Tag::INTEGER, value!(0..), &[]),
+    Leaf(Boolean, Tag::BOOL, NONE, &[]),
+    Leaf(Bmp, Tag::BMP_STRING, size!(1..), &[]),
+    Leaf(Utf8, Tag::UTF8_STRING, size!(1..), &[]),
+    Leaf(AnyOctets, tag!(Universal, 28), size!(1..), &[]),
+    Leaf(Printable, Tag::PRINTABLE_STRING, size!(1..), &[]),
+    Leaf(AnyOctets, Tag::TELETEX_STRING, size!(1..), &[]),
+    Tagged(tag!(Context, 1), 62),
+    Tagged(tag!(Context, 0), 63),
+    Tagged(tag!(Context, 0), 0),
+    Leaf(ObjectIdentifier, Tag::OBJECT_IDENTIFIER, NONE, &[]),
+    SetOf(Tag::SET, 1, size!(1..)),
+    Leaf(ObjectIdentifier, Tag::OBJECT_IDENTIFIER, NONE, &[]),
+    SetOf(tag!(Context, 0), 42, NONE),
+    Leaf(Integer, Tag::INTEGER, NONE, &[("v1", 0)]),
+    Leaf(BitString, Tag::BIT_STRING, NONE, &[]),
+    Tagged(tag!(Context, 0), 49),
+    SequenceOf(Tag::SEQUENCE, 45, NONE),
+    Leaf(BitString, Tag::BIT_STRING, NONE, &[]),
+    Leaf(OctetString, Tag::OCTET_STRING, NONE, &[]),
+    Leaf(Boolean, Tag::BOOL, NONE, &[]),
+    Leaf(ObjectIdentifier, Tag::OBJECT_IDENTIFIER, NONE, &[]),
+    Leaf(BitString, Tag::BIT_STRING, NONE, &[]),
+    Leaf(GeneralizedTime, Tag::GENERALIZED_TIME, NONE, &[]),
+    Leaf(UtcTime, Tag::UTC_TIME, NONE, &[]),
+    Any(Tag::EOC),
+    Leaf(ObjectIdentifier, Tag::OBJECT_IDENTIFIER, NONE, &[]),
+    Any(Tag::EOC),
+    Leaf(ObjectIdentifier, Tag::OBJECT_IDENTIFIER, NONE, &[]),
+    Tagged(tag!(Context, 3), 49),
+    Leaf(BitString, tag!(Context, 2), NONE, &[]),
+    Leaf(BitString, tag!(Context, 1), NONE, &[]),
+    Tagged(tag!(Context, 0), 59),
+    Leaf(BitString, Tag::BIT_STRING, NONE, &[]),
+    Leaf(ObjectIdentifier, Tag::OBJECT_IDENTIFIER, NONE, &[]),
+    SequenceOf(Tag::SEQUENCE, 36, size!(1..)),
+    Sequence(
+        Tag::SEQUENCE,
+        &[
+            ("cA", Default(Truth(false)), 3),
+            ("pathLenConstraint", Optional, 2),
         ],
-    },
-    StaticType::Sequence {
-        tag: Tag::SEQUENCE,
-        components: &[
-            StaticComponent {
-                name: "nameAssigner",
-                presence: StaticPresence::Optional,
-                type_id: TypeId(10),
-            },
-            StaticComponent {
-                name: "partyName",
-                presence: StaticPresence::Required,
-                type_id: TypeId(9),
-            },
+    ),
+    Sequence(
+        Tag::SEQUENCE,
+        &[("nameAssigner", Optional, 10), ("partyName", Required, 9)],
+    ),
+    Sequence(
+        Tag::SEQUENCE,
+        &[("type-id", Required, 12), ("value", Required, 11)],
+    ),
+    Leaf(
+        NamedBits,
+        Tag::BIT_STRING,
+        NONE,
+        &[
+            ("digitalSignature", 0),
+            ("nonRepudiation", 1),
+            ("keyEncipherment", 2),
+            ("dataEncipherment", 3),
+            ("keyAgreement", 4),
+            ("keyCertSign", 5),
+            ("cRLSign", 6),
+            ("encipherOnly", 7),
+            ("decipherOnly", 8),
         ],
-    },
-    StaticType::Sequence {
-        tag: Tag::SEQUENCE,
-        components: &[
-            StaticComponent {
-                name: "type-id",
-                presence: StaticPresence::Required,
-                type_id: TypeId(12),
-            },
-            StaticComponent {
-                name: "value",
-                presence: StaticPresence::Required,
-                type_id: TypeId(11),
-            },
+    ),
+    Sequence(
+        Tag::SEQUENCE,
+        &[("type", Required, 14), ("values", Required, 13)],
+    ),
+    Sequence(
+        Tag::SEQUENCE,
+        &[
+            ("version", Required, 16),
+            ("subject", Required, 56),
+            ("subjectPKInfo", Required, 50),
+            ("attributes", Required, 15),
         ],
-    },
-    StaticType::Leaf {
-        kind: LeafKind::NamedBits,
-        tag: Tag::BIT_STRING,
-        constraints: Constraints::NONE,
-        names: &[
-            StaticNumber {
-                name: "digitalSignature",
-                number: 0,
-            },
-            StaticNumber {
-                name: "nonRepudiation",
-                number: 1,
-            },
-            StaticNumber {
-                name: "keyEncipherment",
-                number: 2,
-            },
-            StaticNumber {
-                name: "dataEncipherment",
-                number: 3,
-            },
-            StaticNumber {
-                name: "keyAgreement",
-                number: 4,
-            },
-            StaticNumber {
-                name: "keyCertSign",
-                number: 5,
-            },
-            StaticNumber {
-                name: "cRLSign",
-                number: 6,
-            },
-            StaticNumber {
-                name: "encipherOnly",
-                number: 7,
-            },
-            StaticNumber {
-                name: "decipherOnly",
-                number: 8,
-            },
+    ),
+    Sequence(
+        Tag::SEQUENCE,
+        &[
+            ("certificationRequestInfo", Required, 43),
+            ("signatureAlgorithm", Required, 57),
+            ("signature", Required, 17),
         ],
-    },
-    StaticType::Sequence {
-        tag: Tag::SEQUENCE,
-        components: &[
-            StaticComponent {
-                name: "type",
-                presence: StaticPresence::Required,
-                type_id: TypeId(14),
-            },
-            StaticComponent {
-                name: "values",
-                presence: StaticPresence::Required,
-                type_id: TypeId(13),
-            },
+    ),
+    Sequence(
+        Tag::SEQUENCE,
+        &[
+            ("userCertificate", Required, 58),
+            ("revocationDate", Required, 51),
+            ("crlEntryExtensions", Optional, 49),
         ],
-    },
-    StaticType::Sequence {
-        tag: Tag::SEQUENCE,
-        components: &[
-            StaticComponent {
-                name: "version",
-                presence: StaticPresence::Required,
-                type_id: TypeId(16),
-            },
-            StaticComponent {
-                name: "subject",
-                presence: StaticPresence::Required,
-                type_id: TypeId(56),
-            },
-            StaticComponent {
-                name: "subjectPKInfo",
-                presence: StaticPresence::Required,
-                type_id: TypeId(50),
-            },
-            StaticComponent {
-                name: "attributes",
-                presence: StaticPresence::Required,
-                type_id: TypeId(15),
-            },
+    ),
+    Sequence(
+        Tag::SEQUENCE,
+        &[
+            ("version", Optional, 59),
+            ("signature", Required, 57),
+            ("issuer", Required, 56),
+            ("thisUpdate", Required, 51),
+            ("nextUpdate", Optional, 51),
+            ("revokedCertificates", Optional, 19),
+            ("crlExtensions", Optional, 18),
         ],
-    },
-    StaticType::Sequence {
-        tag: Tag::SEQUENCE,
-        components: &[
-            StaticComponent {
-                name: "certificationRequestInfo",
-                presence: StaticPresence::Required,
-                type_id: TypeId(43),
-            },
-            StaticComponent {
-                name: "signatureAlgorithm",
-                presence: StaticPresence::Required,
-                type_id: TypeId(57),
-            },
-            StaticComponent {
-                name: "signature",
-                presence: StaticPresence::Required,
-                type_id: TypeId(17),
-            },
+    ),
+    Sequence(
+        Tag::SEQUENCE,
+        &[
+            ("tbsCertList", Required, 46),
+            ("signatureAlgorithm", Required, 57),
+            ("signatureValue", Required, 20),
         ],
-    },
-    StaticType::Sequence {
-        tag: Tag::SEQUENCE,
-        components: &[
-            StaticComponent {
-                name: "userCertificate",
-                presence: StaticPresence::Required,
-                type_id: TypeId(58),
-            },
-            StaticComponent {
-                name: "revocationDate",
-                presence: StaticPresence::Required,
-                type_id: TypeId(51),
-            },
-            StaticComponent {
-                name: "crlEntryExtensions",
-                presence: StaticPresence::Optional,
-                type_id: TypeId(49),
-            },
+    ),
+    Sequence(
+        Tag::SEQUENCE,
+        &[
+            ("extnID", Required, 23),
+            ("critical", Default(Truth(false)), 22),
+            ("extnValue", Required, 21),
         ],
-    },
-    StaticType::Sequence {
-        tag: Tag::SEQUENCE,
-        components: &[
-            StaticComponent {
-                name: "version",
-                presence: StaticPresence::Optional,
-                type_id: TypeId(59),
-            },
-            StaticComponent {
-                name: "signature",
-                presence: StaticPresence::Required,
-                type_id: TypeId(57),
-            },
-            StaticComponent {
-                name: "issuer",
-                presence: StaticPresence::Required,
-                type_id: TypeId(56),
-            },
-            StaticComponent {
-                name: "thisUpdate",
-                presence: StaticPresence::Required,
-                type_id: TypeId(51),
-            },
-            StaticComponent {
-                name: "nextUpdate",
-                presence: StaticPresence::Optional,
-                type_id: TypeId(51),
-            },
-            StaticComponent {
-                name: "revokedCertificates",
-                presence: StaticPresence::Optional,
-                type_id: TypeId(19),
-            },
-            StaticComponent {
-                name: "crlExtensions",
-                presence: StaticPresence::Optional,
-                type_id: TypeId(18),
-            },
+    ),
+    SequenceOf(Tag::SEQUENCE, 48, size!(1..)),
+    Sequence(
+        Tag::SEQUENCE,
+        &[
+            ("algorithm", Required, 57),
+            ("subjectPublicKey", Required, 24),
         ],
-    },
-    StaticType::Sequence {
-        tag: Tag::SEQUENCE,
-        components: &[
-            StaticComponent {
-                name: "tbsCertList",
-                presence: StaticPresence::Required,
-                type_id: TypeId(46),
-            },
-            StaticComponent {
-                name: "signatureAlgorithm",
-                presence: StaticPresence::Required,
-                type_id: TypeId(57),
-            },
-            StaticComponent {
-                name: "signatureValue",
-                presence: StaticPresence::Required,
-                type_id: TypeId(20),
-            },
+    ),
+    Choice("Time", &[("utcTime", 26), ("generalTime", 25)]),
+    Sequence(
+        Tag::SEQUENCE,
+        &[("notBefore", Required, 51), ("notAfter", Required, 51)],
+    ),
+    Sequence(
+        Tag::SEQUENCE,
+        &[("type", Required, 28), ("value", Required, 27)],
+    ),
+    SetOf(Tag::SET, 53, size!(1..)),
+    SequenceOf(Tag::SEQUENCE, 54, NONE),
+    Choice("Name", &[("rdnSequence", 55)]),
+    Sequence(
+        Tag::SEQUENCE,
+        &[("algorithm", Required, 30), ("parameters", Optional, 29)],
+    ),
+    Leaf(Integer, Tag::INTEGER, NONE, &[]),
+    Leaf(
+        Integer,
+        Tag::INTEGER,
+        NONE,
+        &[("v1", 0), ("v2", 1), ("v3", 2)],
+    ),
+    Sequence(
+        Tag::SEQUENCE,
+        &[
+            ("version", Default(Number(0)), 34),
+            ("serialNumber", Required, 58),
+            ("signature", Required, 57),
+            ("issuer", Required, 56),
+            ("validity", Required, 52),
+            ("subject", Required, 56),
+            ("subjectPublicKeyInfo", Required, 50),
+            ("issuerUniqueID", Optional, 33),
+            ("subjectUniqueID", Optional, 32),
+            ("extensions", Optional, 31),
         ],
-    },
-    StaticType::Sequence {
-        tag: Tag::SEQUENCE,
-        components: &[
-            StaticComponent {
-                name: "extnID",
-                presence: StaticPresence::Required,
-                type_id: TypeId(23),
-            },
-            StaticComponent {
-                name: "critical",
-                presence: StaticPresence::Default(StaticValue::Boolean(false)),
-                type_id: TypeId(22),
-            },
-            StaticComponent {
-                name: "extnValue",
-                presence: StaticPresence::Required,
-                type_id: TypeId(21),
-            },
+    ),
+    Sequence(
+        Tag::SEQUENCE,
+        &[
+            ("tbsCertificate", Required, 60),
+            ("signatureAlgorithm", Required, 57),
+            ("signatureValue", Required, 35),
         ],
-    },
-    StaticType::SequenceOf {
-        tag: Tag::SEQUENCE,
-        element: TypeId(48),
-        constraints: Constraints {
-            value: None,
-            size: Some(Bound {
-                constraint: Bounded::Range {
-                    start: Some(1),
-                    end: None,
-                },
-                extensible: false,
-            }),
-        },
-    },
-    StaticType::Sequence {
-        tag: Tag::SEQUENCE,
-        components: &[
-            StaticComponent {
-                name: "algorithm",
-                presence: StaticPresence::Required,
-                type_id: TypeId(57),
-            },
-            StaticComponent {
-                name: "subjectPublicKey",
-                presence: StaticPresence::Required,
-                type_id: TypeId(24),
-            },
+    ),
+    Choice(
+        "DirectoryString",
+        &[
+            ("teletexString", 8),
+            ("printableString", 7),
+            ("universalString", 6),
+            ("utf8String", 5),
+            ("bmpString", 4),
         ],
-    },
-    StaticType::Choice {
-        name: "Time",
-        alternatives: &[
-            StaticAlternative {
-                name: "utcTime",
-                type_id: TypeId(26),
-            },
-            StaticAlternative {
-                name: "generalTime",
-                type_id: TypeId(25),
-            },
+    ),
+    Choice(
+        "DirectoryString",
+        &[
+            ("teletexString", 8),
+            ("printableString", 7),
+            ("universalString", 6),
+            ("utf8String", 5),
+            ("bmpString", 4),
         ],
-    },
-    StaticType::Sequence {
-        tag: Tag::SEQUENCE,
-        components: &[
-            StaticComponent {
-                name: "notBefore",
-                presence: StaticPresence::Required,
-                type_id: TypeId(51),
-            },
-            StaticComponent {
-                name: "notAfter",
-                presence: StaticPresence::Required,
-                type_id: TypeId(51),
-            },
-        ],
-    },
-    StaticType::Sequence {
-        tag: Tag::SEQUENCE,
-        components: &[
-            StaticComponent {
-                name: "type",
-                presence: StaticPresence::Required,
-                type_id: TypeId(28),
-            },
-            StaticComponent {
-                name: "value",
-                presence: StaticPresence::Required,
-                type_id: TypeId(27),
-            },
-        ],
-    },
-    StaticType::SetOf {
-        tag: Tag::SET,
-        element: TypeId(53),
-        constraints: Constraints {
-            value: None,
-            size: Some(Bound {
-                constraint: Bounded::Range {
-                    start: Some(1),
-                    end: None,
-                },
-                extensible: false,
-            }),
-        },
-    },
-    StaticType::SequenceOf {
-        tag: Tag::SEQUENCE,
-        element: TypeId(54),
-        constraints: Constraints::NONE,
-    },
-    StaticType::Choice {
-        name: "Name",
-        alternatives: &[StaticAlternative {
-            name: "rdnSequence",
-            type_id: TypeId(55),
-        }],
-    },
-    StaticType::Sequence {
-        tag: Tag::SEQUENCE,
-        components: &[
-            StaticComponent {
-                name: "algorithm",
-                presence: StaticPresence::Required,
-                type_id: TypeId(30),
-            },
-            StaticComponent {
-                name: "parameters",
-                presence: StaticPresence::Optional,
-                type_id: TypeId(29),
-            },
-        ],
-    },
-    StaticType::Leaf {
-        kind: LeafKind::Integer,
-        tag: Tag::INTEGER,
-        constraints: Constraints::NONE,
-        names: &[],
-    },
-    StaticType::Leaf {
-        kind: LeafKind::Integer,
-        tag: Tag::INTEGER,
-        constraints: Constraints::NONE,
-        names: &[
-            StaticNumber {
-                name: "v1",
-                number: 0,
-            },
-            StaticNumber {
-                name: "v2",
-                number: 1,
-            },
-            StaticNumber {
-                name: "v3",
-                number: 2,
-            },
-        ],
-    },
-    StaticType::Sequence {
-        tag: Tag::SEQUENCE,
-        components: &[
-            StaticComponent {
-                name: "version",
-                presence: StaticPresence::Default(StaticValue::Integer(0)),
-                type_id: TypeId(34),
-            },
-            StaticComponent {
-                name: "serialNumber",
-                presence: StaticPresence::Required,
-                type_id: TypeId(58),
-            },
-            StaticComponent {
-                name: "signature",
-                presence: StaticPresence::Required,
-                type_id: TypeId(57),
-            },
-            StaticComponent {
-                name: "issuer",
-                presence: StaticPresence::Required,
-                type_id: TypeId(56),
-            },
-            StaticComponent {
-                name: "validity",
-                presence: StaticPresence::Required,
-                type_id: TypeId(52),
-            },
-            StaticComponent {
-                name: "subject",
-                presence: StaticPresence::Required,
-                type_id: TypeId(56),
-            },
-            StaticComponent {
-                name: "subjectPublicKeyInfo",
-                presence: StaticPresence::Required,
-                type_id: TypeId(50),
-            },
-            StaticComponent {
-                name: "issuerUniqueID",
-                presence: StaticPresence::Optional,
-                type_id: TypeId(33),
-            },
-            StaticComponent {
-                name: "subjectUniqueID",
-                presence: StaticPresence::Optional,
-                type_id: TypeId(32),
-            },
-            StaticComponent {
-                name: "extensions",
-                presence: StaticPresence::Optional,
-                type_id: TypeId(31),
-            },
-        ],
-    },
-    StaticType::Sequence {
-        tag: Tag::SEQUENCE,
-        components: &[
-            StaticComponent {
-                name: "tbsCertificate",
-                presence: StaticPresence::Required,
-                type_id: TypeId(60),
-            },
-            StaticComponent {
-                name: "signatureAlgorithm",
-                presence: StaticPresence::Required,
-                type_id: TypeId(57),
-            },
-            StaticComponent {
-                name: "signatureValue",
-                presence: StaticPresence::Required,
-                type_id: TypeId(35),
-            },
-        ],
-    },
-    StaticType::Choice {
-        name: "DirectoryString",
-        alternatives: &[
-            StaticAlternative {
-                name: "teletexString",
-                type_id: TypeId(8),
-            },
-            StaticAlternative {
-                name: "printableString",
-                type_id: TypeId(7),
-            },
-            StaticAlternative {
-                name: "universalString",
-                type_id: TypeId(6),
-            },
-            StaticAlternative {
-                name: "utf8String",
-                type_id: TypeId(5),
-            },
-            StaticAlternative {
-                name: "bmpString",
-                type_id: TypeId(4),
-            },
-        ],
-    },
-    StaticType::Choice {
-        name: "DirectoryString",
-        alternatives: &[
-            StaticAlternative {
-                name: "teletexString",
-                type_id: TypeId(8),
-            },
-            StaticAlternative {
-                name: "printableString",
-                type_id: TypeId(7),
-            },
-            StaticAlternative {
-                name: "universalString",
-                type_id: TypeId(6),
-            },
-            StaticAlternative {
-                name: "utf8String",
-                type_id: TypeId(5),
-            },
-            StaticAlternative {
-                name: "bmpString",
-                type_id: TypeId(4),
-            },
-        ],
-    },
+    ),
 ];
 
 impl HasSchema for crate::ExtKeyUsageSyntax {

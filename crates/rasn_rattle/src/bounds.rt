@@ -2,6 +2,7 @@
 use crate::defaults::number_term;
 use rasn_types::types::{Bound, Bounded, Constraints};
 use std::alloc::{AllocError, Global};
+use std::fmt;
 
 /// A bound as contracts have it, and as a constant.
 type Texts = (String, String);
@@ -18,6 +19,44 @@ pub(crate) fn bounds_of(alloc: Global, constraints: &Constraints) -> Result<Text
         "Constraints {{\n        value: {value_constant},\n        size: {size_constant},\n    }}"
     )?;
     Ok((term, constant))
+}
+
+/// Returns constraints as a constant with types has them. A type has one on its numbers or one on
+/// its sizes (X.680 51.4, 51.5).
+pub(crate) fn static_bounds(
+    alloc: Global,
+    constraints: &Constraints,
+) -> Result<String, AllocError> {
+    if let Some(bound) = constraints.value {
+        let range = range_text(alloc, &bound)?;
+        return format!(in alloc; "value!({range})");
+    }
+    if let Some(bound) = constraints.size {
+        let range = range_text(alloc, &bound)?;
+        return format!(in alloc; "size!({range})");
+    }
+    String::from_str(alloc, "NONE")
+}
+
+/// Returns a range, as `1..=5` or `1..`.
+fn range_text<T: fmt::Display>(alloc: Global, bound: &Bound<T>) -> Result<String, AllocError> {
+    let (start, end) = match &bound.constraint {
+        Bounded::None => (None, None),
+        Bounded::Single(only) => (Some(only), Some(only)),
+        Bounded::Range { start, end } => (start.as_ref(), end.as_ref()),
+    };
+    let mut text = String::new(alloc);
+    if let Some(start) = start {
+        write!(text, "{start}")?;
+    }
+    text.push_str("..")?;
+    if let Some(end) = end {
+        write!(text, "={end}")?;
+    }
+    if bound.extensible {
+        text.push_str(", extensible")?;
+    }
+    Ok(text)
 }
 
 /// Returns a bound of numbers.

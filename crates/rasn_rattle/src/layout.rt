@@ -5,6 +5,9 @@ use std::alloc::{AllocError, Global};
 /// The columns of a line.
 pub(crate) const COLUMNS: usize = 100;
 
+/// The most columns that a list in one line has between its brackets.
+const LIST_COLUMNS: usize = 60;
+
 /// Returns the number of letters of a text.
 pub(crate) fn columns(text: &str) -> usize {
     text.chars().count()
@@ -79,4 +82,65 @@ pub(crate) fn push_alias(
         return writeln!(text, "{line}");
     }
     writeln!(text, "type {name} = {of}<\n{long}>;")
+}
+
+/// Values with commas between them, in a line and in lines of their own.
+#[derive(Drop)]
+pub(crate) struct List {
+    alloc: Global,
+    line: String,
+    lines: String,
+    count: usize,
+}
+
+impl List {
+    /// Returns a list without values.
+    pub(crate) fn new(alloc: Global) -> List {
+        List {
+            alloc,
+            line: String::new(alloc),
+            lines: String::new(alloc),
+            count: 0,
+        }
+    }
+
+    /// Adds a value.
+    pub(crate) fn push(&mut self, value: &str) -> Result<(), AllocError> {
+        push_separator(&mut self.line, ", ")?;
+        self.line.push_str(value)?;
+        let value = value.replace(self.alloc, "\n", "\n    ")?;
+        writeln!(self.lines, "    {value},")?;
+        self.count = self.count.saturating_add(1);
+        Ok(())
+    }
+
+    /// Adds a tuple of values.
+    pub(crate) fn push_tuple(&mut self, values: &[&str]) -> Result<(), AllocError> {
+        let tuple = listed(self.alloc, "(", values, ")")?;
+        self.push(tuple.as_str())
+    }
+
+    /// Returns the list between brackets: in one line if it is short or has one value.
+    pub(crate) fn between(&self, open: &str, close: &str) -> Result<String, AllocError> {
+        let line = self.line.as_str();
+        if self.count == 1 || (columns(line) <= LIST_COLUMNS && !line.contains('\n')) {
+            return format!(in self.alloc; "{open}{line}{close}");
+        }
+        let lines = self.lines.as_str();
+        format!(in self.alloc; "{open}\n{lines}{close}")
+    }
+}
+
+/// Returns a list of these values between brackets.
+pub(crate) fn listed(
+    alloc: Global,
+    open: &str,
+    values: &[&str],
+    close: &str,
+) -> Result<String, AllocError> {
+    let mut list = List::new(alloc);
+    for value in values {
+        list.push(*value)?;
+    }
+    list.between(open, close)
 }

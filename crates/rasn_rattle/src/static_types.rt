@@ -1,11 +1,11 @@
 //! The types as a constant, with the impls that say which type of the constant each Rattle type is.
-use crate::bounds::bounds_of;
+use crate::bounds::static_bounds;
 use crate::kinds::is_alias;
+use crate::layout::{List, listed};
 use crate::plan::Plan;
-use crate::tags::const_tag;
+use crate::tags::static_tag;
 use crate::twins::constraints_of;
 use rasn_schema::{Component, NamedNumber, Presence, Type, TypeId, Value};
-use rasn_types::types::Tag;
 use std::alloc::{AllocError, Global};
 use std::collections::BTreeMap;
 
@@ -66,102 +66,94 @@ impl Plan<'_> {
 impl Constant<'_, '_> {
     /// Adds a type.
     fn push_type(&mut self, id: usize) -> Result<(), AllocError> {
+        let text = self.type_text(id)?;
+        let text = text.as_str().replace(self.alloc, "\n", "\n    ")?;
+        writeln!(self.text, "    {text},")
+    }
+
+    /// Returns the text of a type.
+    fn type_text(&self, id: usize) -> Result<String, AllocError> {
         let ty = self.plan.type_of(id);
+        let tag = static_tag(self.alloc, ty.tag())?;
+        let tag = tag.as_str();
         if self.plan.reason_against(id)?.is_some() {
-            return self.push_any(ty.tag());
+            return listed(self.alloc, "Any(", &[tag], ")");
         }
         match ty {
             Type::Leaf { kind, names, .. } => {
-                write!(
-                    self.text,
-                    "    StaticType::Leaf {{\n        kind: LeafKind::{kind:?},\n"
-                )?;
-                self.push_tag(ty.tag())?;
-                self.push_constraints(ty)?;
-                self.push_numbers("names", names)?;
+                let kind = format!(in self.alloc; "{kind:?}")?;
+                let bounds = static_bounds(self.alloc, &constraints_of(ty))?;
+                let names = self.numbers_text(names)?;
+                let values = [kind.as_str(), tag, bounds.as_str(), names.as_str()];
+                listed(self.alloc, "Leaf(", &values, ")")
             }
             Type::Enumerated { numbers, .. } => {
-                self.text.push_str("    StaticType::Enumerated {\n")?;
-                self.push_tag(ty.tag())?;
-                self.push_numbers("numbers", numbers)?;
+                let numbers = self.numbers_text(numbers)?;
+                listed(self.alloc, "Enumerated(", &[tag, numbers.as_str()], ")")
             }
-            Type::Any { tag } => return self.push_any(*tag),
-            Type::Choice { name, .. } => self.push_choice(id, name.as_str())?,
-            Type::Unknown => return self.text.push_str("    StaticType::Unknown,\n"),
-            held => self.push_holder(held)?,
+            Type::Any { .. } => listed(self.alloc, "Any(", &[tag], ")"),
+            Type::Choice { name, .. } => {
+                let name = format!(in self.alloc; "\"{name}\"")?;
+                let alternatives = self.alternatives_text(id)?;
+                listed(
+                    self.alloc,
+                    "Choice(",
+                    &[name.as_str(), alternatives.as_str()],
+                    ")",
+                )
+            }
+            Type::Unknown => String::from_str(self.alloc, "Unknown"),
+            holder => self.holder_text(holder, tag),
         }
-        self.text.push_str("    },\n")
     }
 
-    /// Adds a type that holds others, except for its last bracket.
-    fn push_holder(&mut self, ty: &Type) -> Result<(), AllocError> {
+    /// Returns the text of a type that holds others.
+    fn holder_text(&self, ty: &Type, tag: &str) -> Result<String, AllocError> {
         match ty {
             Type::Tagged { inner, .. } => {
-                self.text.push_str("    StaticType::Tagged {\n")?;
-                self.push_tag(ty.tag())?;
-                self.push_id("inner", *inner)
+                let number = self.number_of(*inner);
+                format!(in self.alloc; "Tagged({tag}, {number})")
             }
             Type::Sequence { components, .. } => {
-                self.text.push_str("    StaticType::Sequence {\n")?;
-                self.push_tag(ty.tag())?;
-                self.push_components(components)
+                let components = self.components_text(components)?;
+                listed(self.alloc, "Sequence(", &[tag, components.as_str()], ")")
             }
             Type::Set {
                 name,
                 components,
                 ..
             } => {
-                let name = name.as_str();
-                write!(
-                    self.text,
-                    "    StaticType::Set {{\n        name: \"{name}\",\n"
-                )?;
-                self.push_tag(ty.tag())?;
-                self.push_components(components)
+                let name = format!(in self.alloc; "\"{name}\"")?;
+                let components = self.components_text(components)?;
+                listed(
+                    self.alloc,
+                    "Set(",
+                    &[name.as_str(), tag, components.as_str()],
+                    ")",
+                )
             }
-            Type::SequenceOf { element, .. } => self.push_list_of("SequenceOf", ty, *element),
-            Type::SetOf { element, .. } => self.push_list_of("SetOf", ty, *element),
-            _ => Ok(()),
+            Type::SequenceOf { element, .. } => self.list_text("SequenceOf(", ty, tag, *element),
+            Type::SetOf { element, .. } => self.list_text("SetOf(", ty, tag, *element),
+            _ => String::from_str(self.alloc, "Unknown"),
         }
     }
 
-    /// Adds a SEQUENCE OF or a SET OF, except for its last bracket.
-    fn push_list_of(&mut self, word: &str, ty: &Type, element: TypeId) -> Result<(), AllocError> {
-        write!(self.text, "    StaticType::{word} {{\n")?;
-        self.push_tag(ty.tag())?;
-        self.push_id("element", element)?;
-        self.push_constraints(ty)
-    }
-
-    /// Adds an open type, in one line if the formatter has it so.
-    fn push_any(&mut self, tag: Tag) -> Result<(), AllocError> {
-        let word = const_tag(self.alloc, tag)?;
-        if word.as_str().len() <= 13 {
-            return writeln!(self.text, "    StaticType::Any {{ tag: {word} }},");
-        }
-        self.text.push_str("    StaticType::Any {\n")?;
-        self.push_tag(tag)?;
-        self.text.push_str("    },\n")
-    }
-
-    /// Adds the tag of a type.
-    fn push_tag(&mut self, tag: Tag) -> Result<(), AllocError> {
-        let word = const_tag(self.alloc, tag)?;
-        let word = word.as_str().replace(self.alloc, "\n", "\n    ")?;
-        writeln!(self.text, "        tag: {word},")
-    }
-
-    /// Adds the constraints of a type.
-    fn push_constraints(&mut self, ty: &Type) -> Result<(), AllocError> {
-        let (_term, constant) = bounds_of(self.alloc, &constraints_of(ty))?;
-        let constant = constant.as_str().replace(self.alloc, "\n", "\n    ")?;
-        writeln!(self.text, "        constraints: {constant},")
-    }
-
-    /// Adds the number of a type.
-    fn push_id(&mut self, field: &str, id: TypeId) -> Result<(), AllocError> {
-        let number = self.number_of(id);
-        writeln!(self.text, "        {field}: TypeId({number}),")
+    /// Returns the text of a SEQUENCE OF or a SET OF.
+    fn list_text(
+        &self,
+        word: &str,
+        ty: &Type,
+        tag: &str,
+        element: TypeId,
+    ) -> Result<String, AllocError> {
+        let number = format!(in self.alloc; "{}", self.number_of(element))?;
+        let bounds = static_bounds(self.alloc, &constraints_of(ty))?;
+        listed(
+            self.alloc,
+            word,
+            &[tag, number.as_str(), bounds.as_str()],
+            ")",
+        )
     }
 
     /// Returns the number of a type in the constant.
@@ -169,68 +161,39 @@ impl Constant<'_, '_> {
         self.numbers.get(&id.0).copied().unwrap_or(id.0)
     }
 
-    /// Adds a CHOICE, except for its last bracket.
-    fn push_choice(&mut self, id: usize, name: &str) -> Result<(), AllocError> {
-        write!(
-            self.text,
-            "    StaticType::Choice {{\n        name: \"{name}\",\n"
-        )?;
-        let mut items = Vec::new(self.alloc);
+    /// Returns the text of a CHOICE's alternatives.
+    fn alternatives_text(&self, id: usize) -> Result<String, AllocError> {
+        let mut list = List::new(self.alloc);
         let placed = self.plan.placed_of(id)?;
         for alternative in &placed {
-            let (name, number) = (alternative.name, self.number_of(alternative.type_id));
-            items.push(format!(in self.alloc; "name: \"{name}\",\ntype_id: TypeId({number}),")?)?;
+            let name = format!(in self.alloc; "\"{}\"", alternative.name)?;
+            let number = format!(in self.alloc; "{}", self.number_of(alternative.type_id))?;
+            list.push_tuple(&[name.as_str(), number.as_str()])?;
         }
-        self.push_items("alternatives", "StaticAlternative", &items)
+        list.between("&[", "]")
     }
 
-    /// Adds numbers with names.
-    fn push_numbers(&mut self, field: &str, numbers: &[NamedNumber]) -> Result<(), AllocError> {
-        let mut items = Vec::new(self.alloc);
+    /// Returns the text of numbers with names.
+    fn numbers_text(&self, numbers: &[NamedNumber]) -> Result<String, AllocError> {
+        let mut list = List::new(self.alloc);
         for named in numbers {
-            let (name, number) = (named.name.as_str(), named.number);
-            items.push(format!(in self.alloc; "name: \"{name}\",\nnumber: {number},")?)?;
+            let name = format!(in self.alloc; "\"{}\"", named.name)?;
+            let number = format!(in self.alloc; "{}", named.number)?;
+            list.push_tuple(&[name.as_str(), number.as_str()])?;
         }
-        self.push_items(field, "StaticNumber", &items)
+        list.between("&[", "]")
     }
 
-    /// Adds components.
-    fn push_components(&mut self, components: &[Component]) -> Result<(), AllocError> {
-        let mut items = Vec::new(self.alloc);
+    /// Returns the text of components.
+    fn components_text(&self, components: &[Component]) -> Result<String, AllocError> {
+        let mut list = List::new(self.alloc);
         for component in components {
-            let name = component.name.as_str();
+            let name = format!(in self.alloc; "\"{}\"", component.name)?;
             let presence = presence_text(self.alloc, &component.presence)?;
-            let number = self.number_of(component.type_id);
-            items.push(format!(in self.alloc;
-                "name: \"{name}\",\npresence: StaticPresence::{presence},\ntype_id: TypeId({number}),"
-            )?)?;
+            let number = format!(in self.alloc; "{}", self.number_of(component.type_id))?;
+            list.push_tuple(&[name.as_str(), presence.as_str(), number.as_str()])?;
         }
-        self.push_items("components", "StaticComponent", &items)
-    }
-
-    /// Adds a list of structs, each of which is given as the lines of its fields.
-    fn push_items(&mut self, field: &str, word: &str, items: &[String]) -> Result<(), AllocError> {
-        match items {
-            [] => writeln!(self.text, "        {field}: &[],"),
-            [item] => {
-                let item = item.as_str().replace(self.alloc, "\n", "\n            ")?;
-                writeln!(
-                    self.text,
-                    "        {field}: &[{word} {{\n            {item}\n        }}],"
-                )
-            }
-            items => {
-                writeln!(self.text, "        {field}: &[")?;
-                for item in items {
-                    let item = item
-                        .as_str()
-                        .replace(self.alloc, "\n", "\n                ")?;
-                    write!(self.text, "            {word} {{\n                {item}\n")?;
-                    self.text.push_str("            },\n")?;
-                }
-                self.text.push_str("        ],\n")
-            }
-        }
+        list.between("&[", "]")
     }
 
     /// Adds the impl that says which type of the constant a type is.
@@ -243,19 +206,17 @@ impl Constant<'_, '_> {
     }
 }
 
-/// Returns whether a component may be absent. Other defaults than these aren't written: the type
-/// that has them is an open type.
+/// Returns the text that says whether a component may be absent. Other defaults than these aren't
+/// written: the type that has them is an open type.
 fn presence_text(alloc: Global, presence: &Presence) -> Result<String, AllocError> {
     match presence {
         Presence::Required => String::from_str(alloc, "Required"),
         Presence::Optional => String::from_str(alloc, "Optional"),
         Presence::Addition => String::from_str(alloc, "Addition"),
-        Presence::Default(Value::Boolean(truth)) => {
-            format!(in alloc; "Default(StaticValue::Boolean({truth}))")
-        }
+        Presence::Default(Value::Boolean(truth)) => format!(in alloc; "Default(Truth({truth}))"),
         Presence::Default(Value::Integer(number)) => {
-            format!(in alloc; "Default(StaticValue::Integer({number}))")
+            format!(in alloc; "Default(Number({number}))")
         }
-        Presence::Default(_) => String::from_str(alloc, "Default(StaticValue::Empty)"),
+        Presence::Default(_) => String::from_str(alloc, "Default(Empty)"),
     }
 }

@@ -31,6 +31,16 @@ pub(crate) fn const_tag(alloc: Global, tag: Tag) -> Result<String, AllocError> {
     format!(in alloc; "Tag {{\n        class: Class::{class},\n        value: {value},\n    }}")
 }
 
+/// Returns a tag as a constant with types has it.
+pub(crate) fn static_tag(alloc: Global, tag: Tag) -> Result<String, AllocError> {
+    if let Some(word) = universal_word(tag) {
+        return format!(in alloc; "Tag::{word}");
+    }
+    let class = class_word(tag.class);
+    let value = tag.value;
+    format!(in alloc; "tag!({class}, {value})")
+}
+
 /// Returns the type that names a tag in `Implicit` and `Explicit`: of a universal tag a type that
 /// has it.
 pub(crate) fn tag_type(alloc: Global, tag: Tag) -> Result<String, AllocError> {

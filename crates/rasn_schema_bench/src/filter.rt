@@ -1,48 +1,43 @@
 //! Filter (RFC 4511 4.5.1) as types of a schema.
 
-use crate::definition::{Definition, ONE_OR_MORE, Occurrence, Part};
-use crate::tags::{
-    CONTEXT_0, CONTEXT_1, CONTEXT_2, CONTEXT_3, CONTEXT_4, CONTEXT_5, CONTEXT_6, CONTEXT_7,
-    CONTEXT_8, CONTEXT_9,
-};
-use rasn_schema::{LeafKind, TypeId};
-use rasn_types::types::Tag;
+use rasn_schema::TypeId;
+use rasn_schema_static::prelude::*;
 
 /// Filter and the types that it is made of, itself among them.
-pub const FILTER_TYPES: &[Definition] = &[
+pub const FILTER_TYPES: &[StaticType] = &[
     // 0 to 9
-    Definition::SetOf(CONTEXT_0, 19, ONE_OR_MORE),
-    Definition::SetOf(CONTEXT_1, 19, ONE_OR_MORE),
-    Definition::Tagged(CONTEXT_2, 19),
-    Definition::Sequence(CONTEXT_3, ATTRIBUTE_VALUE_ASSERTION),
-    Definition::Sequence(CONTEXT_4, SUBSTRING_FILTER),
-    Definition::Sequence(CONTEXT_5, ATTRIBUTE_VALUE_ASSERTION),
-    Definition::Sequence(CONTEXT_6, ATTRIBUTE_VALUE_ASSERTION),
-    Definition::Leaf(LeafKind::Utf8, CONTEXT_7),
-    Definition::Sequence(CONTEXT_8, ATTRIBUTE_VALUE_ASSERTION),
-    Definition::Sequence(CONTEXT_9, MATCHING_RULE_ASSERTION),
+    SetOf(tag!(Context, 0), 19, size!(1..)),
+    SetOf(tag!(Context, 1), 19, size!(1..)),
+    Tagged(tag!(Context, 2), 19),
+    Sequence(tag!(Context, 3), ATTRIBUTE_VALUE_ASSERTION),
+    Sequence(tag!(Context, 4), SUBSTRING_FILTER),
+    Sequence(tag!(Context, 5), ATTRIBUTE_VALUE_ASSERTION),
+    Sequence(tag!(Context, 6), ATTRIBUTE_VALUE_ASSERTION),
+    Leaf(Utf8, tag!(Context, 7), NONE, &[]),
+    Sequence(tag!(Context, 8), ATTRIBUTE_VALUE_ASSERTION),
+    Sequence(tag!(Context, 9), MATCHING_RULE_ASSERTION),
     // 10 to 20: AssertionValue is an OCTET STRING
-    Definition::Leaf(LeafKind::OctetString, Tag::OCTET_STRING),
-    Definition::Leaf(LeafKind::OctetString, CONTEXT_0),
-    Definition::Leaf(LeafKind::OctetString, CONTEXT_1),
-    Definition::Leaf(LeafKind::OctetString, CONTEXT_2),
-    Definition::Any(Tag::EOC),
-    Definition::Choice("substring", SUBSTRING),
-    Definition::SequenceOf(Tag::SEQUENCE, 15, ONE_OR_MORE),
-    Definition::Leaf(LeafKind::OctetString, CONTEXT_3),
-    Definition::Leaf(LeafKind::Boolean, CONTEXT_4),
-    Definition::Choice("Filter", FILTER_ALTERNATIVES),
-    Definition::Unknown,
+    Leaf(OctetString, Tag::OCTET_STRING, NONE, &[]),
+    Leaf(OctetString, tag!(Context, 0), NONE, &[]),
+    Leaf(OctetString, tag!(Context, 1), NONE, &[]),
+    Leaf(OctetString, tag!(Context, 2), NONE, &[]),
+    Any(Tag::EOC),
+    Choice("substring", SUBSTRING),
+    SequenceOf(Tag::SEQUENCE, 15, size!(1..)),
+    Leaf(OctetString, tag!(Context, 3), NONE, &[]),
+    Leaf(Boolean, tag!(Context, 4), NONE, &[]),
+    Choice("Filter", FILTER_ALTERNATIVES),
+    Unknown,
     // 21 to 23: AttributeDescription and MatchingRuleId are UTF-8 (4.1.2)
-    Definition::Leaf(LeafKind::Utf8, Tag::OCTET_STRING),
-    Definition::Leaf(LeafKind::Utf8, CONTEXT_1),
-    Definition::Leaf(LeafKind::Utf8, CONTEXT_2),
+    Leaf(Utf8, Tag::OCTET_STRING, NONE, &[]),
+    Leaf(Utf8, tag!(Context, 1), NONE, &[]),
+    Leaf(Utf8, tag!(Context, 2), NONE, &[]),
 ];
 
 /// The number of Filter.
 pub const FILTER: TypeId = TypeId(19);
 
-const FILTER_ALTERNATIVES: &[(&str, usize)] = &[
+const FILTER_ALTERNATIVES: &[StaticAlternative] = &[
     ("and", 0),
     ("or", 1),
     ("not", 2),
@@ -57,29 +52,29 @@ const FILTER_ALTERNATIVES: &[(&str, usize)] = &[
 ];
 
 /// What a newer version of a SEQUENCE has at its end (RFC 4511 4).
-const UNKNOWN: Part = ("...", Occurrence::Required, 20);
+const UNKNOWN: StaticComponent = ("...", Required, 20);
 
 /// What a newer version of a CHOICE has (RFC 4511 4).
-const OTHER: (&str, usize) = ("...", 14);
+const OTHER: StaticAlternative = ("...", 14);
 
-const ATTRIBUTE_VALUE_ASSERTION: &[Part] = &[
-    ("attributeDesc", Occurrence::Required, 21),
-    ("assertionValue", Occurrence::Required, 10),
+const ATTRIBUTE_VALUE_ASSERTION: &[StaticComponent] = &[
+    ("attributeDesc", Required, 21),
+    ("assertionValue", Required, 10),
     UNKNOWN,
 ];
 
-const SUBSTRING_FILTER: &[Part] = &[
-    ("type", Occurrence::Required, 21),
-    ("substrings", Occurrence::Required, 16),
+const SUBSTRING_FILTER: &[StaticComponent] = &[
+    ("type", Required, 21),
+    ("substrings", Required, 16),
     UNKNOWN,
 ];
 
-const SUBSTRING: &[(&str, usize)] = &[("initial", 11), ("any", 12), ("final", 13), OTHER];
+const SUBSTRING: &[StaticAlternative] = &[("initial", 11), ("any", 12), ("final", 13), OTHER];
 
-const MATCHING_RULE_ASSERTION: &[Part] = &[
-    ("matchingRule", Occurrence::Optional, 22),
-    ("type", Occurrence::Optional, 23),
-    ("matchValue", Occurrence::Required, 17),
-    ("dnAttributes", Occurrence::False, 18),
+const MATCHING_RULE_ASSERTION: &[StaticComponent] = &[
+    ("matchingRule", Optional, 22),
+    ("type", Optional, 23),
+    ("matchValue", Required, 17),
+    ("dnAttributes", Default(Truth(false)), 18),
     UNKNOWN,
 ];

@@ -1,21 +1,20 @@
 //! Small schemas, whose octets are put together by hand (X.690 8).
 
-use rasn_schema::{LeafKind, Schema, TypeId};
-use rasn_schema_bench::{
-    CERTIFICATE, CERTIFICATE_TYPES, CONTEXT_0, Definition, FILTER, FILTER_TYPES, ONE_OR_MORE, types,
-};
+use rasn_schema::{Schema, TypeId};
+use rasn_schema_bench::{CERTIFICATE, CERTIFICATE_TYPES, FILTER, FILTER_TYPES};
 use rasn_schema_octets::{Compiled, read, write};
-use rasn_types::types::Tag;
+use rasn_schema_static::prelude::*;
+use rasn_schema_static::types_of;
 use std::alloc::Global;
 
 /// Types, the number of one of them, and the octets.
-type Row = (&'static [Definition], usize, &'static [u8]);
+type Row = (&'static [StaticType], usize, &'static [u8]);
 
 const ROWS: &[Row] = &[
     // A BOOLEAN: version 1, type 0, no constraint unchecked, no names; a leaf of kind 0 with the
     // tag universal 1, no constraints and no names of numbers.
     (
-        &[Definition::Leaf(LeafKind::Boolean, Tag::BOOL)],
+        &[Leaf(Boolean, Tag::BOOL, NONE, &[])],
         0,
         &[
             0x30, 0x17, 0x02, 0x01, 0x01, 0x02, 0x01, 0x00, 0x02, 0x01, 0x00, 0x30, 0x0C, 0xA0,
@@ -24,10 +23,7 @@ const ROWS: &[Row] = &[
     ),
     // An open type, and type 1, SEQUENCE SIZE (1..MAX) OF it with the tag [0]: its size has an end.
     (
-        &[
-            Definition::Any(Tag::EOC),
-            Definition::SequenceOf(CONTEXT_0, 0, ONE_OR_MORE),
-        ],
+        &[Any(Tag::EOC), SequenceOf(tag!(Context, 0), 0, size!(1..))],
         1,
         &[
             0x30, 0x26, 0x02, 0x01, 0x01, 0x02, 0x01, 0x01, 0x02, 0x01, 0x00, 0x30, 0x1B, 0xA2,
@@ -38,8 +34,8 @@ const ROWS: &[Row] = &[
 ];
 
 /// Returns the octets of a schema of these types.
-fn octets_of(alloc: Global, table: &[Definition], root: TypeId) -> Option<Vec<u8>> {
-    let schema = Schema::new(types(alloc, table).ok()?).ok()?;
+fn octets_of(alloc: Global, table: &[StaticType], root: TypeId) -> Option<Vec<u8>> {
+    let schema = Schema::new(types_of(alloc, table).ok()?).ok()?;
     write(alloc, &schema, root, 0).ok()
 }
 
@@ -64,7 +60,7 @@ fn schemas_have_these_octets(rt: HostRuntime) {
 }
 
 /// Returns whether the schema that is read from the octets of these types has the same octets.
-fn is_read_back(alloc: Global, table: &[Definition], root: TypeId) -> Option<bool> {
+fn is_read_back(alloc: Global, table: &[StaticType], root: TypeId) -> Option<bool> {
     let octets = octets_of(alloc, table, root)?;
     let again = written_again(alloc, &octets)?;
     Some(again.as_slice() == octets.as_slice())

@@ -23,10 +23,7 @@ use Rattle.rasn_schema_static.specs.declared.types.StaticType.{StaticType}
 use Rattle.rasn_schema_static.specs.declared.types.StaticType.TheVariants.{Leaf, Enumerated, Any, Tagged, Choice, Sequence, Set, SequenceOf, SetOf, Unknown}
 use Rattle.rasn_schema_static.specs.declared.types.StaticPresence.{StaticPresence}
 use Rattle.rasn_schema_static.specs.declared.types.StaticPresence.TheVariants.{Required as StaticRequired, Optional as StaticOptional, Addition as StaticAddition, Default as StaticDefault}
-use Rattle.rasn_schema_static.specs.declared.types.StaticNumber.{StaticNumber}
-use Rattle.rasn_schema_static.specs.declared.types.StaticAlternative.{StaticAlternative}
-use Rattle.rasn_schema_static.specs.declared.types.StaticComponent.{StaticComponent}
-use Rattle.rasn_schema_static.specs.Statics.{static_numbers, static_presence, static_components, static_alternatives, static_by, static_tag_found, static_found, static_shape, number_in, static_number, type_in, static_type, component_in, static_component, IsMade}
+use Rattle.rasn_schema_static.specs.Statics.{Named, Held, Placed, static_numbers, static_presence, static_components, static_alternatives, static_by, static_tag_found, static_found, static_shape, number_in, static_number, type_in, static_type, component_in, static_component, IsMade}
 
 -- ---- numbers, alternatives and components
 
@@ -34,11 +31,11 @@ numbers_listed : (ms : List NamedNumber) → numbers_of ms ≡ map number_in ms
 numbers_listed [] = refl
 numbers_listed (m ∷ ms) = ap (λ l. m.number ∷ l) (numbers_listed ms)
 
-static_listed : (ns : List StaticNumber) → static_numbers ns ≡ map static_number ns
+static_listed : (ns : List Named) → static_numbers ns ≡ map static_number ns
 static_listed [] = refl
-static_listed (n ∷ ns) = ap (λ l. n.number ∷ l) (static_listed ns)
+static_listed (n ∷ ns) = ap (λ l. n.1 ∷ l) (static_listed ns)
 
-pub numbers_made : (ms : List NamedNumber) (ns : List StaticNumber) → map number_in ms ≡ map static_number ns → numbers_of ms ≡ static_numbers ns
+pub numbers_made : (ms : List NamedNumber) (ns : List Named) → map number_in ms ≡ map static_number ns → numbers_of ms ≡ static_numbers ns
 numbers_made ms ns e = numbers_listed ms ∙ e ∙ sym (static_listed ns)
 
 module _ (f : ℕ → Shape) where
@@ -50,11 +47,11 @@ module _ (f : ℕ → Shape) where
   alternatives_listed [] = refl
   alternatives_listed (a ∷ ks) = ap (part required (f a.type_id.0)) (alternatives_listed ks)
 
-  static_alternatives_listed : (ks : List StaticAlternative) → static_alternatives f ks ≡ alternatives_from (map static_type ks)
+  static_alternatives_listed : (ks : List Held) → static_alternatives f ks ≡ alternatives_from (map static_type ks)
   static_alternatives_listed [] = refl
-  static_alternatives_listed (a ∷ ks) = ap (part required (f a.type_id.0)) (static_alternatives_listed ks)
+  static_alternatives_listed (a ∷ ks) = ap (part required (f a.1)) (static_alternatives_listed ks)
 
-  pub alternatives_made : (ms : List Alternative) (ks : List StaticAlternative) → map type_in ms ≡ map static_type ks → alternatives_by f ms ≡ static_alternatives f ks
+  pub alternatives_made : (ms : List Alternative) (ks : List Held) → map type_in ms ≡ map static_type ks → alternatives_by f ms ≡ static_alternatives f ks
   alternatives_made ms ks e = alternatives_listed ms ∙ ap alternatives_from e ∙ sym (static_alternatives_listed ks)
 
 -- A presence ks it is recognized by another key.
@@ -85,11 +82,11 @@ module _ (f : ℕ → Shape) where
   components_listed [] = refl
   components_listed (p ∷ ps) = ap₂ (λ presence rest. part presence (f p.type_id.0) rest) (presence_rekeyed (key_of (f p.type_id.0)) p.presence) (components_listed ps)
 
-  static_components_listed : (ps : List StaticComponent) → static_components f ps ≡ components_from (map static_component ps)
+  static_components_listed : (ps : List Placed) → static_components f ps ≡ components_from (map static_component ps)
   static_components_listed [] = refl
-  static_components_listed (p ∷ ps) = ap₂ (λ presence rest. part presence (f p.type_id.0) rest) (static_rekeyed (key_of (f p.type_id.0)) p.presence) (static_components_listed ps)
+  static_components_listed (p ∷ ps) = ap₂ (λ presence rest. part presence (f p.2) rest) (static_rekeyed (key_of (f p.2)) p.1) (static_components_listed ps)
 
-  pub components_made : (ms : List Component) (ps : List StaticComponent) → map component_in ms ≡ map static_component ps → components_by f ms ≡ static_components f ps
+  pub components_made : (ms : List Component) (ps : List Placed) → map component_in ms ≡ map static_component ps → components_by f ms ≡ static_components f ps
   components_made ms ps e = components_listed ms ∙ ap components_from e ∙ sym (static_components_listed ps)
 
 -- ---- lists of types
@@ -101,24 +98,24 @@ one_more ss ts us i s t h e k m = subst (Each IsMade (take (i + 1) ss)) (sym e) 
 -- ---- shapes, where f and g give the same ones
 
 module _ (f g : ℕ → Shape) (h : (k : ℕ) → f k ≡ g k) where
-  alternatives_alike : (ks : List StaticAlternative) → static_alternatives f ks ≡ static_alternatives g ks
+  alternatives_alike : (ks : List Held) → static_alternatives f ks ≡ static_alternatives g ks
   alternatives_alike [] = refl
-  alternatives_alike (a ∷ ks) = ap₂ (part required) (h a.type_id.0) (alternatives_alike ks)
+  alternatives_alike (a ∷ ks) = ap₂ (part required) (h a.1) (alternatives_alike ks)
 
-  components_alike : (ps : List StaticComponent) → static_components f ps ≡ static_components g ps
+  components_alike : (ps : List Placed) → static_components f ps ≡ static_components g ps
   components_alike [] = refl
-  components_alike (p ∷ ps) = ap₂ (λ s rest. part (static_presence (key_of s) p.presence) s rest) (h p.type_id.0) (components_alike ps)
+  components_alike (p ∷ ps) = ap₂ (λ s rest. part (static_presence (key_of s) p.1) s rest) (h p.2) (components_alike ps)
 
   alike : (s : StaticType) → static_by f s ≡ static_by g s
   alike (Leaf kind tag c names) = refl
   alike (Enumerated tag ns) = refl
   alike (Any tag) = refl
-  alike (Tagged tag k) = ap (prefix tag) (h k.0)
+  alike (Tagged tag k) = ap (prefix tag) (h k)
   alike (Choice name ks) = ap choice_among (alternatives_alike ks.now)
   alike (Sequence tag ps) = ap (seq tag) (components_alike ps.now)
   alike (Set name tag ps) = ap (set_among tag) (components_alike ps.now)
-  alike (SequenceOf tag k c) = ap (λ s. list tag s c.size) (h k.0)
-  alike (SetOf tag k c) = ap (λ s. set_of tag s c.size) (h k.0)
+  alike (SequenceOf tag k c) = ap (λ s. list tag s c.size) (h k)
+  alike (SetOf tag k c) = ap (λ s. set_of tag s c.size) (h k)
   alike Unknown = refl
 
   found_made : (ss : List StaticType) (ts : List «Type») (k : ℕ) → Each IsMade ss ts → found_by f (slice_get ts k) ≡ static_found g (slice_get ss k)
@@ -142,14 +139,14 @@ pub empty_made : (vs : Vec Value Global) → vs.items ≡ [] → tree_of (Items 
 empty_made vs e = tree_items vs ∙ ap (list_tree tree_of) e
 
 module _ (tag : Tag) where
-  pub enumerated_made : (ms : Vec NamedNumber Global) (ns : Bor (List StaticNumber)) → map number_in ms.items ≡ map static_number ns.now → IsMade (Enumerated tag ns) (TypeEnumerated tag ms)
+  pub enumerated_made : (ms : Vec NamedNumber Global) (ns : Bor (List Named)) → map number_in ms.items ≡ map static_number ns.now → IsMade (Enumerated tag ns) (TypeEnumerated tag ms)
   enumerated_made ms ns e = record { tag = refl; shape = λ f. ap (λ l. leaf (enumerated l) tag unconstrained) (numbers_made ms.items ns.now e) }
 
-  pub sequence_made : (ms : Vec Component Global) (ps : Bor (List StaticComponent)) → map component_in ms.items ≡ map static_component ps.now → IsMade (Sequence tag ps) (TypeSequence tag ms)
+  pub sequence_made : (ms : Vec Component Global) (ps : Bor (List Placed)) → map component_in ms.items ≡ map static_component ps.now → IsMade (Sequence tag ps) (TypeSequence tag ms)
   sequence_made ms ps e = record { tag = refl; shape = λ f. ap (seq tag) (components_made f ms.items ps.now e) }
 
-  pub set_made : (name : String Global) (other : Bor (List ℕ)) (ms : Vec Component Global) (ps : Bor (List StaticComponent)) → map component_in ms.items ≡ map static_component ps.now → IsMade (Set other tag ps) (TypeSet name tag ms)
+  pub set_made : (name : String Global) (other : Bor (List ℕ)) (ms : Vec Component Global) (ps : Bor (List Placed)) → map component_in ms.items ≡ map static_component ps.now → IsMade (Set other tag ps) (TypeSet name tag ms)
   set_made name other ms ps e = record { tag = refl; shape = λ f. ap (set_among tag) (components_made f ms.items ps.now e) }
 
-pub choice_made : (name : String Global) (other : Bor (List ℕ)) (ms : Vec Alternative Global) (ks : Bor (List StaticAlternative)) → map type_in ms.items ≡ map static_type ks.now → IsMade (Choice other ks) (TypeChoice name ms)
+pub choice_made : (name : String Global) (other : Bor (List ℕ)) (ms : Vec Alternative Global) (ks : Bor (List Held)) → map type_in ms.items ≡ map static_type ks.now → IsMade (Choice other ks) (TypeChoice name ms)
 choice_made name other ms ks e = record { tag = refl; shape = λ f. ap choice_among (alternatives_made f ms.items ks.now e) }

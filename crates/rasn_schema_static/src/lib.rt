@@ -3,8 +3,20 @@
 //!
 //! `soqavise rust` writes such a constant beside the types that it writes. [`types_of`] makes of it
 //! the types of a `rasn_schema::Schema`.
+//!
+//! ```
+//! use rasn_schema_static::prelude::*;
+//!
+//! /// Type 2 is `SEQUENCE { x [0] INTEGER (0..127), label UTF8String OPTIONAL }`.
+//! const TYPES: &[StaticType] = &[
+//!     Leaf(Integer, tag!(Context, 0), value!(0..=127), &[]),
+//!     Leaf(Utf8, Tag::UTF8_STRING, NONE, &[]),
+//!     Sequence(Tag::SEQUENCE, &[("x", Required, 0), ("label", Optional, 1)]),
+//! ];
+//! ```
 #![tactic(auto)]
 
+mod constants;
 mod has_schema;
 mod made;
 pub mod prelude;

@@ -8,7 +8,7 @@ ghost use Rattle.rasn_schema_static.specs.Statics.{static_tree, static_presence,
 use crate::types::{
     StaticAlternative, StaticComponent, StaticNumber, StaticPresence, StaticType, StaticValue,
 };
-use rasn_schema::{Alternative, Component, NamedNumber, Presence, Type, Value};
+use rasn_schema::{Alternative, Component, NamedNumber, Presence, Type, TypeId, Value};
 use rasn_types::types::Integer;
 use std::alloc::{AllocError, Global};
 
@@ -31,27 +31,22 @@ fn type_of(alloc: Global, ty: &StaticType) -> Result<Type, AllocError>
     ensures { IfOk result (λ made. IsMade ty.now made) }
 {
     match ty {
-        StaticType::Leaf {
-            kind,
-            tag,
-            constraints,
-            names,
-        } => Ok(Type::Leaf {
+        StaticType::Leaf(kind, tag, constraints, names) => Ok(Type::Leaf {
             kind: *kind,
             tag: *tag,
             constraints: *constraints,
             names: numbers_of(alloc, names)?,
         }),
-        StaticType::Enumerated { tag, numbers } => Ok(Type::Enumerated {
+        StaticType::Enumerated(tag, numbers) => Ok(Type::Enumerated {
             tag: *tag,
             numbers: numbers_of(alloc, numbers)?,
         }),
-        StaticType::Any { tag } => Ok(Type::Any { tag: *tag }),
-        StaticType::Tagged { tag, inner } => Ok(Type::Tagged {
+        StaticType::Any(tag) => Ok(Type::Any { tag: *tag }),
+        StaticType::Tagged(tag, inner) => Ok(Type::Tagged {
             tag: *tag,
-            inner: *inner,
+            inner: TypeId(*inner),
         }),
-        StaticType::Choice { name, alternatives } => Ok(Type::Choice {
+        StaticType::Choice(name, alternatives) => Ok(Type::Choice {
             name: String::from_str(alloc, name)?,
             alternatives: alternatives_of(alloc, alternatives)?,
         }),
@@ -65,35 +60,23 @@ fn listed_type_of(alloc: Global, ty: &StaticType) -> Result<Type, AllocError>
     ensures { IfOk result (λ made. IsMade ty.now made) }
 {
     match ty {
-        StaticType::Sequence { tag, components } => Ok(Type::Sequence {
+        StaticType::Sequence(tag, components) => Ok(Type::Sequence {
             tag: *tag,
             components: components_of(alloc, components)?,
         }),
-        StaticType::Set {
-            name,
-            tag,
-            components,
-        } => Ok(Type::Set {
+        StaticType::Set(name, tag, components) => Ok(Type::Set {
             name: String::from_str(alloc, name)?,
             tag: *tag,
             components: components_of(alloc, components)?,
         }),
-        StaticType::SequenceOf {
-            tag,
-            element,
-            constraints,
-        } => Ok(Type::SequenceOf {
+        StaticType::SequenceOf(tag, element, constraints) => Ok(Type::SequenceOf {
             tag: *tag,
-            element: *element,
+            element: TypeId(*element),
             constraints: *constraints,
         }),
-        StaticType::SetOf {
-            tag,
-            element,
-            constraints,
-        } => Ok(Type::SetOf {
+        StaticType::SetOf(tag, element, constraints) => Ok(Type::SetOf {
             tag: *tag,
-            element: *element,
+            element: TypeId(*element),
             constraints: *constraints,
         }),
         _ => Ok(Type::Unknown),
@@ -104,10 +87,10 @@ fn numbers_of(alloc: Global, numbers: &[StaticNumber]) -> Result<Vec<NamedNumber
     ensures { IfOk result (λ made. map number_in made.items ≡ map static_number numbers.now) }
 {
     let mut made = Vec::with_capacity(alloc, numbers.len())?;
-    for named in numbers {
+    for (name, number) in numbers {
         made.push(NamedNumber {
-            name: String::from_str(alloc, named.name)?,
-            number: named.number,
+            name: String::from_str(alloc, name)?,
+            number: *number,
         })?;
     }
     Ok(made)
@@ -120,10 +103,10 @@ fn alternatives_of(
     ensures { IfOk result (λ made. map type_in made.items ≡ map static_type alternatives.now) }
 {
     let mut made = Vec::with_capacity(alloc, alternatives.len())?;
-    for alternative in alternatives {
+    for (name, id) in alternatives {
         made.push(Alternative {
-            name: String::from_str(alloc, alternative.name)?,
-            type_id: alternative.type_id,
+            name: String::from_str(alloc, name)?,
+            type_id: TypeId(*id),
         })?;
     }
     Ok(made)
@@ -136,11 +119,11 @@ fn components_of(
     ensures { IfOk result (λ made. map component_in made.items ≡ map static_component components.now) }
 {
     let mut made = Vec::with_capacity(alloc, components.len())?;
-    for component in components {
+    for (name, presence, id) in components {
         made.push(Component {
-            name: String::from_str(alloc, component.name)?,
-            presence: presence_of(alloc, &component.presence)?,
-            type_id: component.type_id,
+            name: String::from_str(alloc, name)?,
+            presence: presence_of(alloc, presence)?,
+            type_id: TypeId(*id),
         })?;
     }
     Ok(made)
@@ -161,8 +144,8 @@ fn value_of(alloc: Global, value: &StaticValue) -> Result<Value<'static>, AllocE
     ensures { IfOk result (λ made. tree_of made ≡ static_tree value.now) }
 {
     match value {
-        StaticValue::Boolean(truth) => Ok(Value::Boolean(*truth)),
-        StaticValue::Integer(number) => {
+        StaticValue::Truth(truth) => Ok(Value::Boolean(*truth)),
+        StaticValue::Number(number) => {
             let integer = Integer::from_i128(alloc, i128::from(*number))?;
             Ok(Value::Integer(integer))
         }

@@ -1,7 +1,18 @@
-//! What a constant with types is written of.
-pub use crate::{
-    HasSchema, StaticAlternative, StaticComponent, StaticNumber, StaticPresence, StaticType,
-    StaticValue,
+//! The names that a constant with types uses.
+pub use crate::StaticPresence::{Addition, Default, Optional, Required};
+pub use crate::StaticType::{
+    Any, Choice, Enumerated, Leaf, Sequence, SequenceOf, Set, SetOf, Tagged, Unknown,
 };
-pub use rasn_schema::{LeafKind, TypeId};
+pub use crate::StaticValue::{Empty, Number, Truth};
+pub use crate::{
+    HasSchema, StaticAlternative, StaticComponent, StaticNumber, StaticType, size, tag, value,
+};
+pub use rasn_schema::LeafKind::{
+    AnyOctets, BitString, Bmp, Boolean, Date, FixedOctetString, GeneralizedTime, Ia5, Integer,
+    NamedBits, Null, Numeric, ObjectIdentifier, OctetString, Printable, Signed32, Signed64,
+    Unsigned32, Unsigned64, UtcTime, Utf8, Visible,
+};
 pub use rasn_types::types::{Bound, Bounded, Class, Constraints, Tag};
+
+/// No constraint.
+pub const NONE: Constraints = Constraints::NONE;

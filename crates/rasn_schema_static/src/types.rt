@@ -1,92 +1,43 @@
 //! Types that a constant can hold.
-use rasn_schema::{LeafKind, TypeId};
+use rasn_schema::LeafKind;
 use rasn_types::types::{Constraints, Tag};
 
 /// A type of a schema that is a constant, with the same variants as `rasn_schema::Type`. Other
 /// types that it is made of are named by their numbers.
 #[derive(Clone, Copy, Debug)]
 pub enum StaticType {
-    /// A type whose values hold no other values. The names are those of its numbers or bits.
-    Leaf {
-        kind: LeafKind,
-        tag: Tag,
-        constraints: Constraints,
-        names: &'static [StaticNumber],
-    },
-    /// An ENUMERATED (X.680 20).
-    Enumerated {
-        tag: Tag,
-        numbers: &'static [StaticNumber],
-    },
-    /// An open type.
-    Any {
-        tag: Tag,
-    },
-    /// A type with an explicit tag (X.680 31.2).
-    Tagged {
-        tag: Tag,
-        inner: TypeId,
-    },
-    /// A CHOICE (X.680 29).
-    Choice {
-        name: &'static str,
-        alternatives: &'static [StaticAlternative],
-    },
-    /// A SEQUENCE (X.680 25).
-    Sequence {
-        tag: Tag,
-        components: &'static [StaticComponent],
-    },
-    /// A SET (X.680 27).
-    Set {
-        name: &'static str,
-        tag: Tag,
-        components: &'static [StaticComponent],
-    },
-    /// A SEQUENCE OF (X.680 26).
-    SequenceOf {
-        tag: Tag,
-        element: TypeId,
-        constraints: Constraints,
-    },
-    /// A SET OF (X.680 28).
-    SetOf {
-        tag: Tag,
-        element: TypeId,
-        constraints: Constraints,
-    },
+    /// A type whose values hold no other values: its kind, its tag, its constraints, and the names
+    /// of its numbers or bits.
+    Leaf(LeafKind, Tag, Constraints, &'static [StaticNumber]),
+    /// An ENUMERATED (X.680 20): its tag and its numbers.
+    Enumerated(Tag, &'static [StaticNumber]),
+    /// An open type: the tag of its values, or `Tag::EOC` if they may have any.
+    Any(Tag),
+    /// A type with an explicit tag (X.680 31.2): the tag and the inner type.
+    Tagged(Tag, usize),
+    /// A CHOICE (X.680 29): its name and its alternatives.
+    Choice(&'static str, &'static [StaticAlternative]),
+    /// A SEQUENCE (X.680 25): its tag and its components.
+    Sequence(Tag, &'static [StaticComponent]),
+    /// A SET (X.680 27): its name, its tag and its components.
+    Set(&'static str, Tag, &'static [StaticComponent]),
+    /// A SEQUENCE OF (X.680 26): its tag, the type of its elements, and its constraints.
+    SequenceOf(Tag, usize, Constraints),
+    /// A SET OF (X.680 28): its tag, the type of its elements, and its constraints.
+    SetOf(Tag, usize, Constraints),
     /// Values that an extensible SEQUENCE or SET doesn't name (X.680 25, 27).
     Unknown,
 }
 
-/// A number with a name.
-#[derive(Clone, Copy, Debug)]
-pub struct StaticNumber {
-    /// Its name, as it is written in a module.
-    pub name: &'static str,
-    /// The number.
-    pub number: isize,
-}
+/// A number with its name, as that is written in a module.
+pub type StaticNumber = (&'static str, isize);
 
-/// An alternative of a CHOICE.
-#[derive(Clone, Copy, Debug)]
-pub struct StaticAlternative {
-    /// Its name, as it is written in a module.
-    pub name: &'static str,
-    /// The number of its type.
-    pub type_id: TypeId,
-}
+/// An alternative of a CHOICE: its name, as it is written in a module, and its type.
+pub type StaticAlternative = (&'static str, usize);
 
-/// A component of a SEQUENCE or a SET.
-#[derive(Clone, Copy, Debug)]
-pub struct StaticComponent {
-    /// Its name, as it is written in a module.
-    pub name: &'static str,
-    /// Whether it may be absent.
-    pub presence: StaticPresence,
-    /// The number of its type.
-    pub type_id: TypeId,
-}
+/// A component of a SEQUENCE or a SET: its name, as it is written in a module, whether it may be
+/// absent, and its type.
+pub type StaticComponent = (&'static str, StaticPresence, usize);
 
 /// Whether a component may be absent (X.680 25).
 #[derive(Clone, Copy, Debug)]
@@ -105,9 +56,9 @@ pub enum StaticPresence {
 #[derive(Clone, Copy, Debug)]
 pub enum StaticValue {
     /// A BOOLEAN.
-    Boolean(bool),
+    Truth(bool),
     /// The number of an INTEGER or an ENUMERATED.
-    Integer(i64),
+    Number(i64),
     /// A list without elements.
     Empty,
 }

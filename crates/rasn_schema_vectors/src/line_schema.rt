@@ -18,7 +18,7 @@ use rasn_bench::{Answer, NormalAnswer, Request, ValueType};
 use rasn_de::ber::de::{Decoder, DecoderOptions};
 use rasn_dynamic::{WriteError, decode_with_remainder, encode};
 use rasn_schema::{Schema, SchemaError, Value};
-use rasn_schema_bench::types;
+use rasn_schema_static::types_of;
 use rasn_types::error::{DecodeError, EncodeError};
 use rasn_types::types::{Codec, Tag};
 use std::alloc::{AllocError, Global};
@@ -47,7 +47,7 @@ impl LineSchema {
     /// # Errors
     /// Returns an error if memory runs out.
     pub fn new(alloc: Global) -> Result<LineSchema, LineSchemaError> {
-        let Ok(types) = types(alloc, LINE_TYPES) else {
+        let Ok(types) = types_of(alloc, LINE_TYPES) else {
             return Err(LineSchemaError::Memory);
         };
         match Schema::new(types) {

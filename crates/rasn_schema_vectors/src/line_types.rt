@@ -3,91 +3,63 @@ ghost use Rattle.std.specs.Prelude.{◌≡◌};
 ghost use Rattle.rasn_schema_vectors.specs.LineShapes.{type_number};
 
 use rasn_bench::ValueType;
-use rasn_schema::{LeafKind, TypeId};
-use rasn_schema_bench::{CONTEXT_0, CONTEXT_1, CONTEXT_2, Definition, Occurrence, Part};
-use rasn_types::types::{Bound, Bounded, Constraints, Tag};
+use rasn_schema::TypeId;
+use rasn_schema_static::prelude::*;
 
-/// The types of lines, and those that they are made of. The number before each is its number.
-pub const LINE_TYPES: &[Definition] = &[
+/// The types of lines, and those that they are made of. Comments say their numbers.
+pub const LINE_TYPES: &[StaticType] = &[
     // 0 to 9
-    Definition::Leaf(LeafKind::Boolean, Tag::BOOL),
-    Definition::Leaf(LeafKind::Signed32, Tag::INTEGER),
-    Definition::Leaf(LeafKind::Unsigned32, Tag::INTEGER),
-    Definition::Leaf(LeafKind::OctetString, Tag::OCTET_STRING),
-    Definition::Leaf(LeafKind::Integer, Tag::INTEGER),
-    Definition::Leaf(LeafKind::UtcTime, Tag::UTC_TIME),
-    Definition::Leaf(LeafKind::GeneralizedTime, Tag::GENERALIZED_TIME),
-    Definition::Leaf(LeafKind::Date, Tag::DATE),
-    Definition::Leaf(LeafKind::Null, Tag::NULL),
-    Definition::Leaf(LeafKind::ObjectIdentifier, Tag::OBJECT_IDENTIFIER),
+    Leaf(Boolean, Tag::BOOL, NONE, &[]),
+    Leaf(Signed32, Tag::INTEGER, NONE, &[]),
+    Leaf(Unsigned32, Tag::INTEGER, NONE, &[]),
+    Leaf(OctetString, Tag::OCTET_STRING, NONE, &[]),
+    Leaf(Integer, Tag::INTEGER, NONE, &[]),
+    Leaf(UtcTime, Tag::UTC_TIME, NONE, &[]),
+    Leaf(GeneralizedTime, Tag::GENERALIZED_TIME, NONE, &[]),
+    Leaf(Date, Tag::DATE, NONE, &[]),
+    Leaf(Null, Tag::NULL, NONE, &[]),
+    Leaf(ObjectIdentifier, Tag::OBJECT_IDENTIFIER, NONE, &[]),
     // 10 to 19
-    Definition::Leaf(LeafKind::BitString, Tag::BIT_STRING),
-    Definition::Enumerated(Tag::ENUMERATED, COLOURS),
-    Definition::Leaf(LeafKind::Utf8, Tag::UTF8_STRING),
-    Definition::Leaf(LeafKind::Ia5, Tag::IA5_STRING),
-    Definition::Leaf(LeafKind::Printable, Tag::PRINTABLE_STRING),
-    Definition::Any(Tag::EOC),
-    Definition::Sequence(Tag::SEQUENCE, PAIR),
-    Definition::Sequence(Tag::SEQUENCE, FOO),
-    Definition::Choice("Time", TIME),
-    Definition::Sequence(Tag::SEQUENCE, VALIDITY),
+    Leaf(BitString, Tag::BIT_STRING, NONE, &[]),
+    Enumerated(Tag::ENUMERATED, COLOURS),
+    Leaf(Utf8, Tag::UTF8_STRING, NONE, &[]),
+    Leaf(Ia5, Tag::IA5_STRING, NONE, &[]),
+    Leaf(Printable, Tag::PRINTABLE_STRING, NONE, &[]),
+    Any(Tag::EOC),
+    Sequence(Tag::SEQUENCE, PAIR),
+    Sequence(Tag::SEQUENCE, FOO),
+    Choice("Time", TIME),
+    Sequence(Tag::SEQUENCE, VALIDITY),
     // 20 to 27
-    Definition::Sequence(Tag::SEQUENCE, ALGORITHM),
-    Definition::Sequence(Tag::SEQUENCE, ATTRIBUTE),
-    Definition::SetOf(Tag::SET, 21, Constraints::NONE),
-    Definition::Bounded(LeafKind::Integer, CONTEXT_0, OCTET),
-    Definition::Bounded(LeafKind::Integer, CONTEXT_1, OCTET),
-    Definition::Bounded(LeafKind::Integer, CONTEXT_2, OCTET),
-    Definition::Set("Set3", Tag::SET, SET_3),
-    Definition::SetOf(Tag::SET, 3, Constraints::NONE),
+    Sequence(Tag::SEQUENCE, ALGORITHM),
+    Sequence(Tag::SEQUENCE, ATTRIBUTE),
+    SetOf(Tag::SET, 21, NONE),
+    Leaf(Integer, tag!(Context, 0), value!(0..=255), &[]),
+    Leaf(Integer, tag!(Context, 1), value!(0..=255), &[]),
+    Leaf(Integer, tag!(Context, 2), value!(0..=255), &[]),
+    Set("Set3", Tag::SET, SET_3),
+    SetOf(Tag::SET, 3, NONE),
 ];
 
-const COLOURS: &[(&str, isize)] = &[("red", 0), ("green", 1), ("blue", 2)];
+const COLOURS: &[StaticNumber] = &[("red", 0), ("green", 1), ("blue", 2)];
 
-const PAIR: &[Part] = &[
-    ("number", Occurrence::Required, 1),
-    ("truth", Occurrence::Required, 0),
+const PAIR: &[StaticComponent] = &[("number", Required, 1), ("truth", Required, 0)];
+
+const FOO: &[StaticComponent] = &[("name", Required, 13), ("truth", Required, 0)];
+
+const TIME: &[StaticAlternative] = &[("utcTime", 5), ("generalTime", 6)];
+
+const VALIDITY: &[StaticComponent] = &[("notBefore", Required, 18), ("notAfter", Required, 18)];
+
+const ALGORITHM: &[StaticComponent] = &[("algorithm", Required, 9), ("parameters", Optional, 15)];
+
+const ATTRIBUTE: &[StaticComponent] = &[("type", Required, 9), ("value", Required, 15)];
+
+const SET_3: &[StaticComponent] = &[
+    ("zero", Required, 23),
+    ("one", Required, 24),
+    ("two", Required, 25),
 ];
-
-const FOO: &[Part] = &[
-    ("name", Occurrence::Required, 13),
-    ("truth", Occurrence::Required, 0),
-];
-
-const TIME: &[(&str, usize)] = &[("utcTime", 5), ("generalTime", 6)];
-
-const VALIDITY: &[Part] = &[
-    ("notBefore", Occurrence::Required, 18),
-    ("notAfter", Occurrence::Required, 18),
-];
-
-const ALGORITHM: &[Part] = &[
-    ("algorithm", Occurrence::Required, 9),
-    ("parameters", Occurrence::Optional, 15),
-];
-
-const ATTRIBUTE: &[Part] = &[
-    ("type", Occurrence::Required, 9),
-    ("value", Occurrence::Required, 15),
-];
-
-const SET_3: &[Part] = &[
-    ("zero", Occurrence::Required, 23),
-    ("one", Occurrence::Required, 24),
-    ("two", Occurrence::Required, 25),
-];
-
-/// (0..255)
-const OCTET: Constraints = Constraints {
-    value: Some(Bound {
-        constraint: Bounded::Range {
-            start: Some(0),
-            end: Some(255),
-        },
-        extensible: false,
-    }),
-    size: None,
-};
 
 /// Returns the number of the type that a line names. That of `optbool` is the type which may be
 /// absent.

@@ -6,7 +6,8 @@ use crate::row_types::{ROW_TYPES, TRIED_TYPES};
 use rasn_bench::ValueType;
 use rasn_dynamic::{check, decode, encode, is_canonical, normalise};
 use rasn_schema::{Schema, TypeId, Value};
-use rasn_schema_bench::{CERTIFICATE, CERTIFICATE_TYPES, Definition, FILTER, FILTER_TYPES, types};
+use rasn_schema_bench::{CERTIFICATE, CERTIFICATE_TYPES, FILTER, FILTER_TYPES};
+use rasn_schema_static::{StaticType, types_of};
 use rasn_types::types::Hexadecimal;
 use std::alloc::{AllocError, Global};
 
@@ -29,7 +30,7 @@ pub fn text_of_row(alloc: Global, line: &str) -> Result<Option<String>, AllocErr
 fn fault_of(alloc: Global, name: &str) -> Result<String, AllocError> {
     for (own, definitions) in TRIED_TYPES {
         if *own == name {
-            return match Schema::new(types(alloc, definitions)?) {
+            return match Schema::new(types_of(alloc, definitions)?) {
                 Ok(_) => String::from_str(alloc, "= a schema"),
                 Err(error) => format!(in alloc; "! {error}"),
             };
@@ -39,7 +40,7 @@ fn fault_of(alloc: Global, name: &str) -> Result<String, AllocError> {
 }
 
 /// Returns the types that a row may name, and the number of the one with this name.
-fn types_named(name: &str) -> Option<(&'static [Definition], TypeId)> {
+fn types_named(name: &str) -> Option<(&'static [StaticType], TypeId)> {
     match name {
         "certificate" => Some((CERTIFICATE_TYPES, CERTIFICATE)),
         "filter" => Some((FILTER_TYPES, FILTER)),
@@ -68,7 +69,7 @@ fn answer_of(alloc: Global, row: &Row<'_>) -> Result<String, AllocError> {
     let Some((definitions, id)) = types_named(row.name) else {
         return String::from_str(alloc, "is of no type that is known");
     };
-    match Schema::new(types(alloc, definitions)?) {
+    match Schema::new(types_of(alloc, definitions)?) {
         Ok(schema) => answer_by(alloc, &schema, id, row),
         Err(error) => format!(in alloc; "! {error}"),
     }

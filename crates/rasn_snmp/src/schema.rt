@@ -4,1030 +4,261 @@ use rasn_schema_static::prelude::*;
 /// The types, which refer to one another by their numbers. A CHOICE has the alternatives of those
 /// that are alternatives of it, and what this crate has as open types is open.
 pub const TYPES: &[StaticType] = &[
-    StaticType::Leaf {
-        kind: LeafKind::OctetString,
-        tag: Tag::OCTET_STRING,
-        constraints: Constraints::NONE,
-        names: &[],
-    },
-    StaticType::Leaf {
-        kind: LeafKind::OctetString,
-        tag: Tag::OCTET_STRING,
-        constraints: Constraints::NONE,
-        names: &[],
-    },
-    StaticType::Leaf {
-        kind: LeafKind::OctetString,
-        tag: Tag::OCTET_STRING,
-        constraints: Constraints {
-            value: None,
-            size: Some(Bound {
-                constraint: Bounded::Range {
-                    start: Some(0),
-                    end: Some(32),
-                },
-                extensible: false,
-            }),
-        },
-        names: &[],
-    },
-    StaticType::Leaf {
-        kind: LeafKind::OctetString,
-        tag: Tag::OCTET_STRING,
-        constraints: Constraints::NONE,
-        names: &[],
-    },
-    StaticType::Leaf {
-        kind: LeafKind::OctetString,
-        tag: Tag::OCTET_STRING,
-        constraints: Constraints::NONE,
-        names: &[],
-    },
-    StaticType::Leaf {
-        kind: LeafKind::OctetString,
-        tag: Tag::OCTET_STRING,
-        constraints: Constraints::NONE,
-        names: &[],
-    },
-    StaticType::Leaf {
-        kind: LeafKind::OctetString,
-        tag: Tag::OCTET_STRING,
-        constraints: Constraints::NONE,
-        names: &[],
-    },
-    StaticType::Leaf {
-        kind: LeafKind::Integer,
-        tag: Tag::INTEGER,
-        constraints: Constraints {
-            value: Some(Bound {
-                constraint: Bounded::Range {
-                    start: Some(1),
-                    end: Some(2147483647),
-                },
-                extensible: false,
-            }),
-            size: None,
-        },
-        names: &[],
-    },
-    StaticType::Leaf {
-        kind: LeafKind::OctetString,
-        tag: Tag::OCTET_STRING,
-        constraints: Constraints {
-            value: None,
-            size: Some(Bound {
-                constraint: Bounded::Range {
-                    start: Some(1),
-                    end: Some(1),
-                },
-                extensible: false,
-            }),
-        },
-        names: &[],
-    },
-    StaticType::Leaf {
-        kind: LeafKind::Integer,
-        tag: Tag::INTEGER,
-        constraints: Constraints {
-            value: Some(Bound {
-                constraint: Bounded::Range {
-                    start: Some(484),
-                    end: Some(2147483647),
-                },
-                extensible: false,
-            }),
-            size: None,
-        },
-        names: &[],
-    },
-    StaticType::Leaf {
-        kind: LeafKind::OctetString,
-        tag: Tag::OCTET_STRING,
-        constraints: Constraints::NONE,
-        names: &[],
-    },
-    StaticType::Leaf {
-        kind: LeafKind::Integer,
-        tag: Tag::INTEGER,
-        constraints: Constraints {
-            value: Some(Bound {
-                constraint: Bounded::Range {
-                    start: Some(0),
-                    end: Some(2147483647),
-                },
-                extensible: false,
-            }),
-            size: None,
-        },
-        names: &[StaticNumber {
-            name: "snmpv3",
-            number: 3,
-        }],
-    },
-    StaticType::Leaf {
-        kind: LeafKind::ObjectIdentifier,
-        tag: Tag::OBJECT_IDENTIFIER,
-        constraints: Constraints::NONE,
-        names: &[],
-    },
-    StaticType::Leaf {
-        kind: LeafKind::OctetString,
-        tag: Tag::OCTET_STRING,
-        constraints: Constraints {
-            value: None,
-            size: Some(Bound {
-                constraint: Bounded::Range {
-                    start: Some(0),
-                    end: Some(65535),
-                },
-                extensible: false,
-            }),
-        },
-        names: &[],
-    },
-    StaticType::Leaf {
-        kind: LeafKind::Integer,
-        tag: Tag::INTEGER,
-        constraints: Constraints {
-            value: Some(Bound {
-                constraint: Bounded::Range {
-                    start: Some(-2147483648),
-                    end: Some(2147483647),
-                },
-                extensible: false,
-            }),
-            size: None,
-        },
-        names: &[],
-    },
-    StaticType::Leaf {
-        kind: LeafKind::Null,
-        tag: Tag {
-            class: Class::Context,
-            value: 2,
-        },
-        constraints: Constraints::NONE,
-        names: &[],
-    },
-    StaticType::Leaf {
-        kind: LeafKind::Null,
-        tag: Tag {
-            class: Class::Context,
-            value: 1,
-        },
-        constraints: Constraints::NONE,
-        names: &[],
-    },
-    StaticType::Leaf {
-        kind: LeafKind::Null,
-        tag: Tag {
-            class: Class::Context,
-            value: 0,
-        },
-        constraints: Constraints::NONE,
-        names: &[],
-    },
-    StaticType::Leaf {
-        kind: LeafKind::Null,
-        tag: Tag::NULL,
-        constraints: Constraints::NONE,
-        names: &[],
-    },
-    StaticType::Leaf {
-        kind: LeafKind::Integer,
-        tag: Tag::INTEGER,
-        constraints: Constraints::NONE,
-        names: &[],
-    },
-    StaticType::Leaf {
-        kind: LeafKind::Integer,
-        tag: Tag::INTEGER,
-        constraints: Constraints::NONE,
-        names: &[
-            StaticNumber {
-                name: "coldStart",
-                number: 0,
-            },
-            StaticNumber {
-                name: "warmStart",
-                number: 1,
-            },
-            StaticNumber {
-                name: "linkDown",
-                number: 2,
-            },
-            StaticNumber {
-                name: "linkUp",
-                number: 3,
-            },
-            StaticNumber {
-                name: "authenticationFailure",
-                number: 4,
-            },
-            StaticNumber {
-                name: "egpNeighborLoss",
-                number: 5,
-            },
-            StaticNumber {
-                name: "enterpriseSpecific",
-                number: 6,
-            },
+    Leaf(OctetString, Tag::OCTET_STRING, NONE, &[]),
+    Leaf(OctetString, Tag::OCTET_STRING, NONE, &[]),
+    Leaf(OctetString, Tag::OCTET_STRING, size!(0..=32), &[]),
+    Leaf(OctetString, Tag::OCTET_STRING, NONE, &[]),
+    Leaf(OctetString, Tag::OCTET_STRING, NONE, &[]),
+    Leaf(OctetString, Tag::OCTET_STRING, NONE, &[]),
+    Leaf(OctetString, Tag::OCTET_STRING, NONE, &[]),
+    Leaf(Integer, Tag::INTEGER, value!(1..=2147483647), &[]),
+    Leaf(OctetString, Tag::OCTET_STRING, size!(1..=1), &[]),
+    Leaf(Integer, Tag::INTEGER, value!(484..=2147483647), &[]),
+    Leaf(OctetString, Tag::OCTET_STRING, NONE, &[]),
+    Leaf(
+        Integer,
+        Tag::INTEGER,
+        value!(0..=2147483647),
+        &[("snmpv3", 3)],
+    ),
+    Leaf(ObjectIdentifier, Tag::OBJECT_IDENTIFIER, NONE, &[]),
+    Leaf(OctetString, Tag::OCTET_STRING, size!(0..=65535), &[]),
+    Leaf(Integer, Tag::INTEGER, value!(-2147483648..=2147483647), &[]),
+    Leaf(Null, tag!(Context, 2), NONE, &[]),
+    Leaf(Null, tag!(Context, 1), NONE, &[]),
+    Leaf(Null, tag!(Context, 0), NONE, &[]),
+    Leaf(Null, Tag::NULL, NONE, &[]),
+    Leaf(Integer, Tag::INTEGER, NONE, &[]),
+    Leaf(
+        Integer,
+        Tag::INTEGER,
+        NONE,
+        &[
+            ("coldStart", 0),
+            ("warmStart", 1),
+            ("linkDown", 2),
+            ("linkUp", 3),
+            ("authenticationFailure", 4),
+            ("egpNeighborLoss", 5),
+            ("enterpriseSpecific", 6),
         ],
-    },
-    StaticType::Leaf {
-        kind: LeafKind::ObjectIdentifier,
-        tag: Tag::OBJECT_IDENTIFIER,
-        constraints: Constraints::NONE,
-        names: &[],
-    },
-    StaticType::Leaf {
-        kind: LeafKind::Integer,
-        tag: Tag::INTEGER,
-        constraints: Constraints {
-            value: Some(Bound {
-                constraint: Bounded::Range {
-                    start: Some(-2147483648),
-                    end: Some(2147483647),
-                },
-                extensible: false,
-            }),
-            size: None,
-        },
-        names: &[],
-    },
-    StaticType::Leaf {
-        kind: LeafKind::Integer,
-        tag: Tag::INTEGER,
-        constraints: Constraints::NONE,
-        names: &[
-            StaticNumber {
-                name: "noError",
-                number: 0,
-            },
-            StaticNumber {
-                name: "tooBig",
-                number: 1,
-            },
-            StaticNumber {
-                name: "noSuchName",
-                number: 2,
-            },
-            StaticNumber {
-                name: "badValue",
-                number: 3,
-            },
-            StaticNumber {
-                name: "readOnly",
-                number: 4,
-            },
-            StaticNumber {
-                name: "genErr",
-                number: 5,
-            },
-            StaticNumber {
-                name: "noAccess",
-                number: 6,
-            },
-            StaticNumber {
-                name: "wrongType",
-                number: 7,
-            },
-            StaticNumber {
-                name: "wrongLength",
-                number: 8,
-            },
-            StaticNumber {
-                name: "wrongEncoding",
-                number: 9,
-            },
-            StaticNumber {
-                name: "wrongValue",
-                number: 10,
-            },
-            StaticNumber {
-                name: "noCreation",
-                number: 11,
-            },
-            StaticNumber {
-                name: "inconsistentValue",
-                number: 12,
-            },
-            StaticNumber {
-                name: "resourceUnavailable",
-                number: 13,
-            },
-            StaticNumber {
-                name: "commitFailed",
-                number: 14,
-            },
-            StaticNumber {
-                name: "undoFailed",
-                number: 15,
-            },
-            StaticNumber {
-                name: "authorizationError",
-                number: 16,
-            },
-            StaticNumber {
-                name: "notWritable",
-                number: 17,
-            },
-            StaticNumber {
-                name: "inconsistentName",
-                number: 18,
-            },
+    ),
+    Leaf(ObjectIdentifier, Tag::OBJECT_IDENTIFIER, NONE, &[]),
+    Leaf(Integer, Tag::INTEGER, value!(-2147483648..=2147483647), &[]),
+    Leaf(
+        Integer,
+        Tag::INTEGER,
+        NONE,
+        &[
+            ("noError", 0),
+            ("tooBig", 1),
+            ("noSuchName", 2),
+            ("badValue", 3),
+            ("readOnly", 4),
+            ("genErr", 5),
+            ("noAccess", 6),
+            ("wrongType", 7),
+            ("wrongLength", 8),
+            ("wrongEncoding", 9),
+            ("wrongValue", 10),
+            ("noCreation", 11),
+            ("inconsistentValue", 12),
+            ("resourceUnavailable", 13),
+            ("commitFailed", 14),
+            ("undoFailed", 15),
+            ("authorizationError", 16),
+            ("notWritable", 17),
+            ("inconsistentName", 18),
         ],
-    },
-    StaticType::Leaf {
-        kind: LeafKind::Integer,
-        tag: Tag::INTEGER,
-        constraints: Constraints {
-            value: Some(Bound {
-                constraint: Bounded::Range {
-                    start: Some(-2147483648),
-                    end: Some(2147483647),
-                },
-                extensible: false,
-            }),
-            size: None,
-        },
-        names: &[],
-    },
-    StaticType::Sequence {
-        tag: Tag {
-            class: Class::Context,
-            value: 8,
-        },
-        components: &[
-            StaticComponent {
-                name: "request-id",
-                presence: StaticPresence::Required,
-                type_id: TypeId(24),
-            },
-            StaticComponent {
-                name: "error-status",
-                presence: StaticPresence::Required,
-                type_id: TypeId(23),
-            },
-            StaticComponent {
-                name: "error-index",
-                presence: StaticPresence::Required,
-                type_id: TypeId(52),
-            },
-            StaticComponent {
-                name: "variable-bindings",
-                presence: StaticPresence::Required,
-                type_id: TypeId(50),
-            },
+    ),
+    Leaf(Integer, Tag::INTEGER, value!(-2147483648..=2147483647), &[]),
+    Sequence(
+        tag!(Context, 8),
+        &[
+            ("request-id", Required, 24),
+            ("error-status", Required, 23),
+            ("error-index", Required, 52),
+            ("variable-bindings", Required, 50),
         ],
-    },
-    StaticType::Sequence {
-        tag: Tag {
-            class: Class::Context,
-            value: 7,
-        },
-        components: &[
-            StaticComponent {
-                name: "request-id",
-                presence: StaticPresence::Required,
-                type_id: TypeId(24),
-            },
-            StaticComponent {
-                name: "error-status",
-                presence: StaticPresence::Required,
-                type_id: TypeId(23),
-            },
-            StaticComponent {
-                name: "error-index",
-                presence: StaticPresence::Required,
-                type_id: TypeId(52),
-            },
-            StaticComponent {
-                name: "variable-bindings",
-                presence: StaticPresence::Required,
-                type_id: TypeId(50),
-            },
+    ),
+    Sequence(
+        tag!(Context, 7),
+        &[
+            ("request-id", Required, 24),
+            ("error-status", Required, 23),
+            ("error-index", Required, 52),
+            ("variable-bindings", Required, 50),
         ],
-    },
-    StaticType::Sequence {
-        tag: Tag {
-            class: Class::Context,
-            value: 6,
-        },
-        components: &[
-            StaticComponent {
-                name: "request-id",
-                presence: StaticPresence::Required,
-                type_id: TypeId(24),
-            },
-            StaticComponent {
-                name: "error-status",
-                presence: StaticPresence::Required,
-                type_id: TypeId(23),
-            },
-            StaticComponent {
-                name: "error-index",
-                presence: StaticPresence::Required,
-                type_id: TypeId(52),
-            },
-            StaticComponent {
-                name: "variable-bindings",
-                presence: StaticPresence::Required,
-                type_id: TypeId(50),
-            },
+    ),
+    Sequence(
+        tag!(Context, 6),
+        &[
+            ("request-id", Required, 24),
+            ("error-status", Required, 23),
+            ("error-index", Required, 52),
+            ("variable-bindings", Required, 50),
         ],
-    },
-    StaticType::Sequence {
-        tag: Tag {
-            class: Class::Context,
-            value: 5,
-        },
-        components: &[
-            StaticComponent {
-                name: "request-id",
-                presence: StaticPresence::Required,
-                type_id: TypeId(22),
-            },
-            StaticComponent {
-                name: "non-repeaters",
-                presence: StaticPresence::Required,
-                type_id: TypeId(52),
-            },
-            StaticComponent {
-                name: "max-repetitions",
-                presence: StaticPresence::Required,
-                type_id: TypeId(52),
-            },
-            StaticComponent {
-                name: "variable-bindings",
-                presence: StaticPresence::Required,
-                type_id: TypeId(50),
-            },
+    ),
+    Sequence(
+        tag!(Context, 5),
+        &[
+            ("request-id", Required, 22),
+            ("non-repeaters", Required, 52),
+            ("max-repetitions", Required, 52),
+            ("variable-bindings", Required, 50),
         ],
-    },
-    StaticType::Sequence {
-        tag: Tag {
-            class: Class::Context,
-            value: 4,
-        },
-        components: &[
-            StaticComponent {
-                name: "enterprise",
-                presence: StaticPresence::Required,
-                type_id: TypeId(21),
-            },
-            StaticComponent {
-                name: "agent-addr",
-                presence: StaticPresence::Required,
-                type_id: TypeId(51),
-            },
-            StaticComponent {
-                name: "generic-trap",
-                presence: StaticPresence::Required,
-                type_id: TypeId(20),
-            },
-            StaticComponent {
-                name: "specific-trap",
-                presence: StaticPresence::Required,
-                type_id: TypeId(19),
-            },
-            StaticComponent {
-                name: "time-stamp",
-                presence: StaticPresence::Required,
-                type_id: TypeId(43),
-            },
-            StaticComponent {
-                name: "variable-bindings",
-                presence: StaticPresence::Required,
-                type_id: TypeId(50),
-            },
+    ),
+    Sequence(
+        tag!(Context, 4),
+        &[
+            ("enterprise", Required, 21),
+            ("agent-addr", Required, 51),
+            ("generic-trap", Required, 20),
+            ("specific-trap", Required, 19),
+            ("time-stamp", Required, 43),
+            ("variable-bindings", Required, 50),
         ],
-    },
-    StaticType::Sequence {
-        tag: Tag {
-            class: Class::Context,
-            value: 3,
-        },
-        components: &[
-            StaticComponent {
-                name: "request-id",
-                presence: StaticPresence::Required,
-                type_id: TypeId(24),
-            },
-            StaticComponent {
-                name: "error-status",
-                presence: StaticPresence::Required,
-                type_id: TypeId(23),
-            },
-            StaticComponent {
-                name: "error-index",
-                presence: StaticPresence::Required,
-                type_id: TypeId(52),
-            },
-            StaticComponent {
-                name: "variable-bindings",
-                presence: StaticPresence::Required,
-                type_id: TypeId(50),
-            },
+    ),
+    Sequence(
+        tag!(Context, 3),
+        &[
+            ("request-id", Required, 24),
+            ("error-status", Required, 23),
+            ("error-index", Required, 52),
+            ("variable-bindings", Required, 50),
         ],
-    },
-    StaticType::Sequence {
-        tag: Tag {
-            class: Class::Context,
-            value: 2,
-        },
-        components: &[
-            StaticComponent {
-                name: "request-id",
-                presence: StaticPresence::Required,
-                type_id: TypeId(24),
-            },
-            StaticComponent {
-                name: "error-status",
-                presence: StaticPresence::Required,
-                type_id: TypeId(23),
-            },
-            StaticComponent {
-                name: "error-index",
-                presence: StaticPresence::Required,
-                type_id: TypeId(52),
-            },
-            StaticComponent {
-                name: "variable-bindings",
-                presence: StaticPresence::Required,
-                type_id: TypeId(50),
-            },
+    ),
+    Sequence(
+        tag!(Context, 2),
+        &[
+            ("request-id", Required, 24),
+            ("error-status", Required, 23),
+            ("error-index", Required, 52),
+            ("variable-bindings", Required, 50),
         ],
-    },
-    StaticType::Sequence {
-        tag: Tag {
-            class: Class::Context,
-            value: 1,
-        },
-        components: &[
-            StaticComponent {
-                name: "request-id",
-                presence: StaticPresence::Required,
-                type_id: TypeId(24),
-            },
-            StaticComponent {
-                name: "error-status",
-                presence: StaticPresence::Required,
-                type_id: TypeId(23),
-            },
-            StaticComponent {
-                name: "error-index",
-                presence: StaticPresence::Required,
-                type_id: TypeId(52),
-            },
-            StaticComponent {
-                name: "variable-bindings",
-                presence: StaticPresence::Required,
-                type_id: TypeId(50),
-            },
+    ),
+    Sequence(
+        tag!(Context, 1),
+        &[
+            ("request-id", Required, 24),
+            ("error-status", Required, 23),
+            ("error-index", Required, 52),
+            ("variable-bindings", Required, 50),
         ],
-    },
-    StaticType::Sequence {
-        tag: Tag {
-            class: Class::Context,
-            value: 0,
-        },
-        components: &[
-            StaticComponent {
-                name: "request-id",
-                presence: StaticPresence::Required,
-                type_id: TypeId(24),
-            },
-            StaticComponent {
-                name: "error-status",
-                presence: StaticPresence::Required,
-                type_id: TypeId(23),
-            },
-            StaticComponent {
-                name: "error-index",
-                presence: StaticPresence::Required,
-                type_id: TypeId(52),
-            },
-            StaticComponent {
-                name: "variable-bindings",
-                presence: StaticPresence::Required,
-                type_id: TypeId(50),
-            },
+    ),
+    Sequence(
+        tag!(Context, 0),
+        &[
+            ("request-id", Required, 24),
+            ("error-status", Required, 23),
+            ("error-index", Required, 52),
+            ("variable-bindings", Required, 50),
         ],
-    },
-    StaticType::Leaf {
-        kind: LeafKind::OctetString,
-        tag: Tag::OCTET_STRING,
-        constraints: Constraints::NONE,
-        names: &[],
-    },
-    StaticType::Leaf {
-        kind: LeafKind::Integer,
-        tag: Tag::INTEGER,
-        constraints: Constraints::NONE,
-        names: &[
-            StaticNumber {
-                name: "version-1",
-                number: 0,
-            },
-            StaticNumber {
-                name: "version-2c",
-                number: 1,
-            },
+    ),
+    Leaf(OctetString, Tag::OCTET_STRING, NONE, &[]),
+    Leaf(
+        Integer,
+        Tag::INTEGER,
+        NONE,
+        &[("version-1", 0), ("version-2c", 1)],
+    ),
+    Sequence(
+        Tag::SEQUENCE,
+        &[
+            ("msgAuthoritativeEngineID", Required, 3),
+            ("msgAuthoritativeEngineBoots", Required, 52),
+            ("msgAuthoritativeEngineTime", Required, 52),
+            ("msgUserName", Required, 2),
+            ("msgAuthenticationParameters", Required, 1),
+            ("msgPrivacyParameters", Required, 0),
         ],
-    },
-    StaticType::Sequence {
-        tag: Tag::SEQUENCE,
-        components: &[
-            StaticComponent {
-                name: "msgAuthoritativeEngineID",
-                presence: StaticPresence::Required,
-                type_id: TypeId(3),
-            },
-            StaticComponent {
-                name: "msgAuthoritativeEngineBoots",
-                presence: StaticPresence::Required,
-                type_id: TypeId(52),
-            },
-            StaticComponent {
-                name: "msgAuthoritativeEngineTime",
-                presence: StaticPresence::Required,
-                type_id: TypeId(52),
-            },
-            StaticComponent {
-                name: "msgUserName",
-                presence: StaticPresence::Required,
-                type_id: TypeId(2),
-            },
-            StaticComponent {
-                name: "msgAuthenticationParameters",
-                presence: StaticPresence::Required,
-                type_id: TypeId(1),
-            },
-            StaticComponent {
-                name: "msgPrivacyParameters",
-                presence: StaticPresence::Required,
-                type_id: TypeId(0),
-            },
+    ),
+    Sequence(
+        Tag::SEQUENCE,
+        &[
+            ("contextEngineID", Required, 5),
+            ("contextName", Required, 4),
+            ("data", Required, 53),
         ],
-    },
-    StaticType::Sequence {
-        tag: Tag::SEQUENCE,
-        components: &[
-            StaticComponent {
-                name: "contextEngineID",
-                presence: StaticPresence::Required,
-                type_id: TypeId(5),
-            },
-            StaticComponent {
-                name: "contextName",
-                presence: StaticPresence::Required,
-                type_id: TypeId(4),
-            },
-            StaticComponent {
-                name: "data",
-                presence: StaticPresence::Required,
-                type_id: TypeId(53),
-            },
+    ),
+    Choice("ScopedPduData", &[("plaintext", 37), ("encryptedPDU", 6)]),
+    Sequence(
+        Tag::SEQUENCE,
+        &[
+            ("msgID", Required, 52),
+            ("msgMaxSize", Required, 9),
+            ("msgFlags", Required, 8),
+            ("msgSecurityModel", Required, 7),
         ],
-    },
-    StaticType::Choice {
-        name: "ScopedPduData",
-        alternatives: &[
-            StaticAlternative {
-                name: "plaintext",
-                type_id: TypeId(37),
-            },
-            StaticAlternative {
-                name: "encryptedPDU",
-                type_id: TypeId(6),
-            },
+    ),
+    Sequence(
+        Tag::SEQUENCE,
+        &[
+            ("msgVersion", Required, 11),
+            ("msgGlobalData", Required, 39),
+            ("msgSecurityParameters", Required, 10),
+            ("msgData", Required, 38),
         ],
-    },
-    StaticType::Sequence {
-        tag: Tag::SEQUENCE,
-        components: &[
-            StaticComponent {
-                name: "msgID",
-                presence: StaticPresence::Required,
-                type_id: TypeId(52),
-            },
-            StaticComponent {
-                name: "msgMaxSize",
-                presence: StaticPresence::Required,
-                type_id: TypeId(9),
-            },
-            StaticComponent {
-                name: "msgFlags",
-                presence: StaticPresence::Required,
-                type_id: TypeId(8),
-            },
-            StaticComponent {
-                name: "msgSecurityModel",
-                presence: StaticPresence::Required,
-                type_id: TypeId(7),
-            },
+    ),
+    Leaf(
+        Integer,
+        tag!(Application, 6),
+        value!(0..=18446744073709551615),
+        &[],
+    ),
+    Leaf(OctetString, tag!(Application, 4), NONE, &[]),
+    Leaf(Integer, tag!(Application, 3), value!(0..=4294967295), &[]),
+    Leaf(Integer, tag!(Application, 2), value!(0..=4294967295), &[]),
+    Leaf(Integer, tag!(Application, 1), value!(0..=4294967295), &[]),
+    Leaf(OctetString, tag!(Application, 0), size!(4..=4), &[]),
+    Leaf(ObjectIdentifier, Tag::OBJECT_IDENTIFIER, NONE, &[]),
+    Choice(
+        "VarBindValue",
+        &[
+            ("integer-value", 14),
+            ("string-value", 13),
+            ("objectID-value", 12),
+            ("ipAddress-value", 46),
+            ("counter-value", 45),
+            ("timeticks-value", 43),
+            ("arbitrary-value", 42),
+            ("big-counter-value", 41),
+            ("unsigned-integer-value", 44),
+            ("unSpecified", 18),
+            ("noSuchObject", 17),
+            ("noSuchInstance", 16),
+            ("endOfMibView", 15),
         ],
-    },
-    StaticType::Sequence {
-        tag: Tag::SEQUENCE,
-        components: &[
-            StaticComponent {
-                name: "msgVersion",
-                presence: StaticPresence::Required,
-                type_id: TypeId(11),
-            },
-            StaticComponent {
-                name: "msgGlobalData",
-                presence: StaticPresence::Required,
-                type_id: TypeId(39),
-            },
-            StaticComponent {
-                name: "msgSecurityParameters",
-                presence: StaticPresence::Required,
-                type_id: TypeId(10),
-            },
-            StaticComponent {
-                name: "msgData",
-                presence: StaticPresence::Required,
-                type_id: TypeId(38),
-            },
+    ),
+    Sequence(
+        Tag::SEQUENCE,
+        &[("name", Required, 47), ("value", Required, 48)],
+    ),
+    SequenceOf(Tag::SEQUENCE, 49, size!(0..=2147483647)),
+    Choice("NetworkAddress", &[("internet", 46)]),
+    Leaf(Integer, Tag::INTEGER, value!(0..=2147483647), &[]),
+    Choice(
+        "PDUs",
+        &[
+            ("get-request", 33),
+            ("get-next-request", 32),
+            ("response", 31),
+            ("set-request", 30),
+            ("trap", 29),
+            ("get-bulk-request", 28),
+            ("inform-request", 27),
+            ("snmpV2-trap", 26),
+            ("report", 25),
         ],
-    },
-    StaticType::Leaf {
-        kind: LeafKind::Integer,
-        tag: Tag {
-            class: Class::Application,
-            value: 6,
-        },
-        constraints: Constraints {
-            value: Some(Bound {
-                constraint: Bounded::Range {
-                    start: Some(0),
-                    end: Some(18446744073709551615),
-                },
-                extensible: false,
-            }),
-            size: None,
-        },
-        names: &[],
-    },
-    StaticType::Leaf {
-        kind: LeafKind::OctetString,
-        tag: Tag {
-            class: Class::Application,
-            value: 4,
-        },
-        constraints: Constraints::NONE,
-        names: &[],
-    },
-    StaticType::Leaf {
-        kind: LeafKind::Integer,
-        tag: Tag {
-            class: Class::Application,
-            value: 3,
-        },
-        constraints: Constraints {
-            value: Some(Bound {
-                constraint: Bounded::Range {
-                    start: Some(0),
-                    end: Some(4294967295),
-                },
-                extensible: false,
-            }),
-            size: None,
-        },
-        names: &[],
-    },
-    StaticType::Leaf {
-        kind: LeafKind::Integer,
-        tag: Tag {
-            class: Class::Application,
-            value: 2,
-        },
-        constraints: Constraints {
-            value: Some(Bound {
-                constraint: Bounded::Range {
-                    start: Some(0),
-                    end: Some(4294967295),
-                },
-                extensible: false,
-            }),
-            size: None,
-        },
-        names: &[],
-    },
-    StaticType::Leaf {
-        kind: LeafKind::Integer,
-        tag: Tag {
-            class: Class::Application,
-            value: 1,
-        },
-        constraints: Constraints {
-            value: Some(Bound {
-                constraint: Bounded::Range {
-                    start: Some(0),
-                    end: Some(4294967295),
-                },
-                extensible: false,
-            }),
-            size: None,
-        },
-        names: &[],
-    },
-    StaticType::Leaf {
-        kind: LeafKind::OctetString,
-        tag: Tag {
-            class: Class::Application,
-            value: 0,
-        },
-        constraints: Constraints {
-            value: None,
-            size: Some(Bound {
-                constraint: Bounded::Range {
-                    start: Some(4),
-                    end: Some(4),
-                },
-                extensible: false,
-            }),
-        },
-        names: &[],
-    },
-    StaticType::Leaf {
-        kind: LeafKind::ObjectIdentifier,
-        tag: Tag::OBJECT_IDENTIFIER,
-        constraints: Constraints::NONE,
-        names: &[],
-    },
-    StaticType::Choice {
-        name: "VarBindValue",
-        alternatives: &[
-            StaticAlternative {
-                name: "integer-value",
-                type_id: TypeId(14),
-            },
-            StaticAlternative {
-                name: "string-value",
-                type_id: TypeId(13),
-            },
-            StaticAlternative {
-                name: "objectID-value",
-                type_id: TypeId(12),
-            },
-            StaticAlternative {
-                name: "ipAddress-value",
-                type_id: TypeId(46),
-            },
-            StaticAlternative {
-                name: "counter-value",
-                type_id: TypeId(45),
-            },
-            StaticAlternative {
-                name: "timeticks-value",
-                type_id: TypeId(43),
-            },
-            StaticAlternative {
-                name: "arbitrary-value",
-                type_id: TypeId(42),
-            },
-            StaticAlternative {
-                name: "big-counter-value",
-                type_id: TypeId(41),
-            },
-            StaticAlternative {
-                name: "unsigned-integer-value",
-                type_id: TypeId(44),
-            },
-            StaticAlternative {
-                name: "unSpecified",
-                type_id: TypeId(18),
-            },
-            StaticAlternative {
-                name: "noSuchObject",
-                type_id: TypeId(17),
-            },
-            StaticAlternative {
-                name: "noSuchInstance",
-                type_id: TypeId(16),
-            },
-            StaticAlternative {
-                name: "endOfMibView",
-                type_id: TypeId(15),
-            },
+    ),
+    Sequence(
+        Tag::SEQUENCE,
+        &[
+            ("version", Required, 35),
+            ("community", Required, 34),
+            ("data", Required, 53),
         ],
-    },
-    StaticType::Sequence {
-        tag: Tag::SEQUENCE,
-        components: &[
-            StaticComponent {
-                name: "name",
-                presence: StaticPresence::Required,
-                type_id: TypeId(47),
-            },
-            StaticComponent {
-                name: "value",
-                presence: StaticPresence::Required,
-                type_id: TypeId(48),
-            },
-        ],
-    },
-    StaticType::SequenceOf {
-        tag: Tag::SEQUENCE,
-        element: TypeId(49),
-        constraints: Constraints {
-            value: None,
-            size: Some(Bound {
-                constraint: Bounded::Range {
-                    start: Some(0),
-                    end: Some(2147483647),
-                },
-                extensible: false,
-            }),
-        },
-    },
-    StaticType::Choice {
-        name: "NetworkAddress",
-        alternatives: &[StaticAlternative {
-            name: "internet",
-            type_id: TypeId(46),
-        }],
-    },
-    StaticType::Leaf {
-        kind: LeafKind::Integer,
-        tag: Tag::INTEGER,
-        constraints: Constraints {
-            value: Some(Bound {
-                constraint: Bounded::Range {
-                    start: Some(0),
-                    end: Some(2147483647),
-                },
-                extensible: false,
-            }),
-            size: None,
-        },
-        names: &[],
-    },
-    StaticType::Choice {
-        name: "PDUs",
-        alternatives: &[
-            StaticAlternative {
-                name: "get-request",
-                type_id: TypeId(33),
-            },
-            StaticAlternative {
-                name: "get-next-request",
-                type_id: TypeId(32),
-            },
-            StaticAlternative {
-                name: "response",
-                type_id: TypeId(31),
-            },
-            StaticAlternative {
-                name: "set-request",
-                type_id: TypeId(30),
-            },
-            StaticAlternative {
-                name: "trap",
-                type_id: TypeId(29),
-            },
-            StaticAlternative {
-                name: "get-bulk-request",
-                type_id: TypeId(28),
-            },
-            StaticAlternative {
-                name: "inform-request",
-                type_id: TypeId(27),
-            },
-            StaticAlternative {
-                name: "snmpV2-trap",
-                type_id: TypeId(26),
-            },
-            StaticAlternative {
-                name: "report",
-                type_id: TypeId(25),
-            },
-        ],
-    },
-    StaticType::Sequence {
-        tag: Tag::SEQUENCE,
-        components: &[
-            StaticComponent {
-                name: "version",
-                presence: StaticPresence::Required,
-                type_id: TypeId(35),
-            },
-            StaticComponent {
-                name: "community",
-                presence: StaticPresence::Required,
-                type_id: TypeId(34),
-            },
-            StaticComponent {
-                name: "data",
-                presence: StaticPresence::Required,
-                type_id: TypeId(53),
-            },
-        ],
-    },
+    ),
 ];
 
 impl HasSchema for crate::UsmSecurityParameters {
