@@ -120,17 +120,16 @@ fn choose<'input, M: Made>(
     decoder: &Decoder<'input>,
     error: &mut DecodeError,
     number: usize,
-    value: Value<'input>,
     out: &mut Value<'input>,
 ) -> Result<(), Refused>
-    ensures ok { M.KEEP ≡ true → IfOk (outcome result out.new error.new) (IsChosen (λ k v. (k ≡ number) × (v ≡ value.entry))) }
+    ensures ok { M.KEEP ≡ true → IfOk (outcome result out.new error.new) (IsChosen (λ k v. (k ≡ number) × (v ≡ out.old))) }
     ensures kind { IfErr (outcome result out.new error.new) (λ e. IsOutOfMemory e.kind) }
     ensures rules { IfErr (outcome result out.new error.new) (λ e. e.codec ≡ decoder.now.rule) }
 {
     if !M::KEEP {
         return Ok(());
     }
-    match Box::new(decoder.alloc(), value) {
+    match Box::new(decoder.alloc(), std::mem::replace(out, Value::Absent)) {
         Ok(value) => {
             *out = Value::Chosen(number, value);
             Ok(())
@@ -186,9 +185,28 @@ fn put_in_any_order<'input, M: Made>(values: Vec<Value<'input>>, out: &mut Value
 }
 
 /// Returns the values of components that are all absent, where values are kept.
+#[inline(always)]
+fn leave_all_out<'input, M: Made>(
+    decoder: &Decoder<'input>,
+    error: &mut DecodeError,
+    components: &[Component],
+    values: &mut Vec<Value<'input>>,
+) -> Result<(), Refused>
+    requires { any_required components.now ≡ false }
+    ensures settled { M.KEEP ≡ true → IfOk (outcome result values.new error.new) (λ v. AreSettled components.now (nones components.now) v.items) }
+    ensures memory { IfErr (outcome result values.new error.new) (λ e. IsOutOfMemory e.kind) }
+    ensures rules { IfErr (outcome result values.new error.new) (λ e. e.codec ≡ decoder.now.rule) }
+{
+    if !M::KEEP {
+        return Ok(());
+    }
+    put_all_absent::<M>(decoder, error, components, values)
+}
+
+/// Returns the values of components that are all absent, where values are kept.
 #[cold]
 #[inline(never)]
-fn leave_all_out<'input, M: Made>(
+fn put_all_absent<'input, M: Made>(
     decoder: &Decoder<'input>,
     error: &mut DecodeError,
     components: &[Component],
@@ -508,9 +526,8 @@ fn decode_choice<'input, M: Made>(
         return Err(Refused);
     };
     let id = alternatives[number].type_id;
-    let mut value = Value::Absent;
-    decode_part::<M>(decoder, walk, types, below, id, number, &mut value)?;
-    choose::<M>(decoder, &mut walk.error, number, value, out)
+    decode_part::<M>(decoder, walk, types, below, id, number, out)?;
+    choose::<M>(decoder, &mut walk.error, number, out)
 }
 
 /// Reads an explicit tag and the value that it holds (X.690 8.14).
@@ -611,7 +628,7 @@ fn put_components<'input, M: Made>(
     ensures { ReadsContents types.now below M.KEEP (Sequence eoc components.now) (DecodesContents (shape_of_type types.now below) (Sequence eoc components.now)) decoder.old walk.old.spans (outcome result out.new walk.new.error) decoder.new walk.new.fault walk.new.spans }
 {
     let mut values = list_for::<M>(decoder, &mut walk.error, components.len())?;
-    decode_components::<M>(decoder, walk, types, below, components, &mut values)?;
+    decode_components::<M>(decoder, walk, types, below, components, out, &mut values)?;
     put_items::<M>(values, out);
     Ok(())
 }
@@ -749,7 +766,16 @@ fn put_elements<'input, M: Made>(
     ensures { ReadsContents types.now below M.KEEP (SequenceOf eoc element unconstrained) (DecodesCounted (DecodesContents (shape_of_type types.now below) (SequenceOf eoc element unconstrained)) count.new) decoder.old walk.old.spans (outcome result out.new walk.new.error) decoder.new walk.new.fault walk.new.spans }
 {
     let mut values = Vec::new(decoder.alloc());
-    decode_elements::<M>(decoder, walk, types, below, element, count, &mut values)?;
+    decode_elements::<M>(
+        decoder,
+        walk,
+        types,
+        below,
+        element,
+        count,
+        out,
+        &mut values,
+    )?;
     put_items::<M>(values, out);
     Ok(())
 }
@@ -817,7 +843,16 @@ fn put_elements_in_order<'input, M: Made>(
     ensures { ReadsContents types.now below M.KEEP (SetOf eoc element unconstrained) (DecodesCounted (DecodesContents (shape_of_type types.now below) (SetOf eoc element unconstrained)) count.new) decoder.old walk.old.spans (outcome result out.new walk.new.error) decoder.new walk.new.fault walk.new.spans }
 {
     let mut values = Vec::new(decoder.alloc());
-    decode_elements_in_order::<M>(decoder, walk, types, below, element, count, &mut values)?;
+    decode_elements_in_order::<M>(
+        decoder,
+        walk,
+        types,
+        below,
+        element,
+        count,
+        out,
+        &mut values,
+    )?;
     put_in_any_order::<M>(values, out);
     Ok(())
 }
@@ -832,6 +867,7 @@ fn decode_elements<'input, M: Made>(
     below: usize,
     element: TypeId,
     count: &mut usize,
+    value: &mut Value<'input>,
     values: &mut Vec<Value<'input>>,
 ) -> Result<(), Refused>
     requires lawful { IsReadable (shape_of_type types.now below element.0) }
@@ -847,11 +883,10 @@ fn decode_elements<'input, M: Made>(
 {
     // Each element takes some of these octets, so their number has this type.
     let _ = octets_left(decoder);
-    let mut value = Value::Absent;
     while !decoder.has_ended() {
         let left = decoder.remaining().len();
-        decode_part::<M>(decoder, walk, types, below, element, *count, &mut value)?;
-        keep::<M>(decoder, &mut walk.error, left, &mut value, values)?;
+        decode_part::<M>(decoder, walk, types, below, element, *count, value)?;
+        keep::<M>(decoder, &mut walk.error, left, value, values)?;
         *count += 1;
     }
     Ok(())
@@ -867,6 +902,7 @@ fn decode_elements_in_order<'input, M: Made>(
     below: usize,
     element: TypeId,
     count: &mut usize,
+    value: &mut Value<'input>,
     values: &mut Vec<Value<'input>>,
 ) -> Result<(), Refused>
     requires lawful { IsReadable (shape_of_type types.now below element.0) }
@@ -883,11 +919,10 @@ fn decode_elements_in_order<'input, M: Made>(
     let mut last: &[u8] = &[];
     // Each element takes some of these octets, so their number has this type.
     let _ = octets_left(decoder);
-    let mut value = Value::Absent;
     while !decoder.has_ended() {
         let start = decoder.remaining();
-        decode_part::<M>(decoder, walk, types, below, element, *count, &mut value)?;
-        keep::<M>(decoder, &mut walk.error, start.len(), &mut value, values)?;
+        decode_part::<M>(decoder, walk, types, below, element, *count, value)?;
+        keep::<M>(decoder, &mut walk.error, start.len(), value, values)?;
         *count += 1;
         let octets = octets_before(start, decoder.remaining());
         if decoder.is_strict() && is_less(octets, last) {
@@ -908,6 +943,7 @@ fn decode_components<'input, M: Made>(
     types: &[Type],
     below: usize,
     components: &[Component],
+    value: &mut Value<'input>,
     values: &mut Vec<Value<'input>>,
 ) -> Result<(), Refused>
     requires lawful { AreReadable (components_by (shape_of_type types.now below) components.now) }
@@ -924,12 +960,11 @@ fn decode_components<'input, M: Made>(
     if leaves_all_out(decoder, components) {
         return leave_all_out::<M>(decoder, &mut walk.error, components, values);
     }
-    let mut value = Value::Absent;
     let mut rest = components;
     while let [component, after @ ..] = rest {
         let index = components.len() - rest.len();
-        decode_component::<M>(decoder, walk, types, below, component, index, &mut value)?;
-        take::<M>(decoder, &mut walk.error, &mut value, values)?;
+        decode_component::<M>(decoder, walk, types, below, component, index, value)?;
+        take::<M>(decoder, &mut walk.error, value, values)?;
         rest = after;
     }
     Ok(())
@@ -1065,21 +1100,11 @@ fn decode_stated<'input, M: Made>(
     ensures itself { IfErr (outcome result out.new walk.new.error) (λ e. walk.new.fault ≡ None → IsDefaultWritten (shape_of_type types.now below) component.now decoder.old e) }
     ensures listed { IfOk (outcome result out.new walk.new.error) (λ v. Lists (λ b es. PartListed (shape_of_type types.now below) below (Inside types.now below) component.now.type_id.0 index b decoder.old decoder.new es) walk.old.spans walk.new.spans) }
 {
-    let mut value = Value::Absent;
-    decode_compared::<M>(
-        decoder,
-        walk,
-        types,
-        below,
-        component.type_id,
-        index,
-        &mut value,
-    )?;
-    if value.means_same(default) {
+    decode_compared::<M>(decoder, walk, types, below, component.type_id, index, out)?;
+    if out.means_same(default) {
         refuse_default(&mut walk.error, decoder);
         return Err(Refused);
     }
-    *out = value;
     Ok(())
 }
 
