@@ -58,8 +58,8 @@ pub fn decode_with_remainder<'input>(
 /// Reads an input that is exactly one value.
 ///
 /// # Errors
-/// Those of `decode_with_remainder`; `UnexpectedExtraData` with the number of octets that follow the
-/// value, if some do (X.690 8.1.1.1).
+/// Those of `decode_with_remainder`; `UnexpectedExtraData` with the number of octets that follow
+/// the value, if some do (X.690 8.1.1.1).
 ///
 /// # Examples
 /// ```
@@ -150,8 +150,10 @@ impl Error for WriteError {}
 /// Returns the octets of a value.
 ///
 /// # Errors
-/// - `Unfit` exactly if [`fits`] is false, whatever else is wrong with the value, unless memory for the path runs out.
-/// - `Encode` with the error of the writer of a type written in Rattle that has the same shape, with these rules.
+/// - `Unfit` exactly if [`fits`] is false, whatever else is wrong with the value, unless memory for
+///   the path runs out.
+/// - `Encode` with the error of the writer of a type written in Rattle that has the same shape,
+///   with these rules.
 ///
 /// # Examples
 /// ```
@@ -241,7 +243,8 @@ fn write(
     }
 }
 
-/// Returns the error of a value that isn't written: `Unfit` if it doesn't fit its type, else that of the writer.
+/// Returns the error of a value that isn't written: `Unfit` if it doesn't fit its type, else that
+/// of the writer.
 fn write_error(
     alloc: Global,
     rule: Codec,
@@ -279,9 +282,10 @@ fn out_of_memory(rule: Codec) -> EncodeError
 
 /// Returns the DER octets of the value that is all of the input by these rules (X.690 10, 11).
 ///
-/// As `rasn::normalise` for a type written in Rattle: two inputs of carried values (docs/GLOSSARY.md) have the same octets exactly if their
-/// values mean the same; normalising the result returns the same octets again; an input that DER reads is returned unchanged; and the only
-/// error of such an input is that memory runs out.
+/// As `rasn::normalise` for a type written in Rattle: two inputs of carried values
+/// (docs/GLOSSARY.md) have the same octets exactly if their values mean the same; normalising the
+/// result returns the same octets again; an input that DER reads is returned unchanged; and the
+/// only error of such an input is that memory runs out.
 ///
 /// # Errors
 /// - `Decode` with the error of [`decode`] by these rules.
@@ -382,7 +386,8 @@ fn is_read_back(
     }
 }
 
-/// Returns whether the octets are the one encoding that DER has of a value of the type (X.690 10, 11).
+/// Returns whether the octets are the one encoding that DER has of a value of the type (X.690 10,
+/// 11).
 ///
 /// # Errors
 /// `AllocError` if memory runs out.

@@ -200,7 +200,8 @@ fn pass_unknown(decoder: &mut Decoder<'_>, extensible: bool) -> Result<(), Decod
     }
 }
 
-/// Goes to the component of a SET with this index, past those before it and unknown ones. Returns its type, if it is present.
+/// Goes to the component of a SET with this index, past those before it and unknown ones. Returns
+/// its type, if it is present.
 fn go_to_member(
     decoder: &mut Decoder<'_>,
     types: &[Type],
@@ -426,11 +427,11 @@ fn refuse(alloc: Global, rule: Codec, schema: &Schema, id: TypeId, input: &[u8])
 
 /// Finds the part of the message to which a path leads. Each step of the path is the index of a
 /// component, an alternative or an element, counted from 0; an explicit tag is a step of its own,
-/// with the index 0. Returns `None` if there is no such part, because a component is absent, another
-/// alternative is chosen, or there are fewer elements. The components that the type of a SET
-/// doesn't name share the index of its extension marker: no path leads to one of them alone, and
-/// there is no part at that index. The parts before the one at the path are read and not kept, and
-/// those after it aren't read.
+/// with the index 0. Returns `None` if there is no such part, because a component is absent,
+/// another alternative is chosen, or there are fewer elements. The components that the type of a
+/// SET doesn't name share the index of its extension marker: no path leads to one of them alone,
+/// and there is no part at that index. The parts before the one at the path are read and not kept,
+/// and those after it aren't read.
 ///
 /// # Errors
 /// The refusal of [`check_or_locate`] if a part before it, or the part itself, can't be read.

@@ -15,8 +15,9 @@ fn component_of(ty: &Type, index: usize) -> Option<&Component>
 
 /// Returns the component to which a path, such as that of a part of a message
 /// ([`MessageParts`](crate::MessageParts)), leads from the type with this number: its name, its
-/// type, and whether it is required, optional, or has a default. Returns `None` if the path is empty,
-/// or its last step leads to an element, an alternative, what an explicit tag holds, or nothing.
+/// type, and whether it is required, optional, or has a default. Returns `None` if the path is
+/// empty, or its last step leads to an element, an alternative, what an explicit tag holds, or
+/// nothing.
 pub fn component_at<'schema>(
     schema: &'schema Schema,
     id: TypeId,

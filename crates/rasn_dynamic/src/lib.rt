@@ -1,6 +1,8 @@
-//! Reads and writes values of a type that is known only when the program runs: a type of a [`Schema`](rasn_schema::Schema).
+//! Reads and writes values of a type that is known only when the program runs: a type of a
+//! [`Schema`](rasn_schema::Schema).
 //!
-//! One reader and one writer serve every ASN.1 type. What they promise is what the reader and the writer of a type written in Rattle do.
+//! One reader and one writer serve every ASN.1 type. What they promise is what the reader and the
+//! writer of a type written in Rattle do.
 #![tactic(auto)]
 
 mod components;

@@ -139,8 +139,8 @@ pub fn decode_or_locate<'input>(
     read_first::<Values>(alloc, rule, schema, id, input, &mut no_list())
 }
 
-/// Checks that a value of the type is at the front of the input, and returns the remaining octets. No
-/// value is made, as by `check`.
+/// Checks that a value of the type is at the front of the input, and returns the remaining octets.
+/// No value is made, as by `check`.
 ///
 /// # Errors
 /// As [`decode_or_locate`].

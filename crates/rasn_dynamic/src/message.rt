@@ -30,9 +30,9 @@ pub struct MessageParts<'input> {
     pub path: Vec<usize>,
 }
 
-/// Reads the value at the front of the input, and returns its parts, the value itself among them. No
-/// value is made, as by `check`. Each component that the type of an extensible SET doesn't name is
-/// a part without parts inside it (X.680 27). Its type and its index are those of the extension
+/// Reads the value at the front of the input, and returns its parts, the value itself among them.
+/// No value is made, as by `check`. Each component that the type of an extensible SET doesn't name
+/// is a part without parts inside it (X.680 27). Its type and its index are those of the extension
 /// marker, so several of them have the same path, and [`find_part`](crate::find_part) finds none.
 ///
 /// # Errors

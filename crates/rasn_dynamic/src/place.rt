@@ -30,7 +30,8 @@ fn least_of_nothing(own: Tag) -> Option<Tag>
     Some(own)
 }
 
-/// Returns the least tag with which a value of the type with this number may begin, if it may begin with any. Types are followed `levels` deep.
+/// Returns the least tag with which a value of the type with this number may begin, if it may begin
+/// with any. Types are followed `levels` deep.
 #[cycle(least)]
 fn least_tag(types: &[Type], levels: usize, id: TypeId) -> Option<Tag>
     ensures { IsLeast (IsFirst (shape_of_type types.now levels id.0)) result }
@@ -56,7 +57,8 @@ fn least_of_type(types: &[Type], below: usize, ty: &Type) -> Option<Tag>
     }
 }
 
-/// Returns the least tag with which a value of one of these types may begin, if it may begin with any.
+/// Returns the least tag with which a value of one of these types may begin, if it may begin with
+/// any.
 #[cycle(least)]
 fn least_of_all(types: &[Type], below: usize, alternatives: &[Alternative]) -> Option<Tag>
     ensures { IsLeast (IsFirstOf (alternatives_by (shape_of_type types.now below) alternatives.now)) result }
@@ -86,8 +88,9 @@ fn lesser(one: Option<Tag>, other: Option<Tag>) -> Option<Tag>
     Some(tag)
 }
 
-/// Returns the tag that decides where a component of a SET with these octets is written, if it has a place: under CER the least with which a value
-/// of its type may begin (X.690 9.3), otherwise the one that it begins with (10.3).
+/// Returns the tag that decides where a component of a SET with these octets is written, if it has
+/// a place: under CER the least with which a value of its type may begin (X.690 9.3), otherwise the
+/// one that it begins with (10.3).
 pub fn place_tag(
     types: &[Type],
     levels: usize,

@@ -667,8 +667,8 @@ pub fn decode_any_value<'input>(
     Ok(Value::Octets(CowSlice::Borrowed(octets)))
 }
 
-/// Reads all values up to the end of the contents, each as one complete encoding (X.680 25). They are
-/// kept where values are.
+/// Reads all values up to the end of the contents, each as one complete encoding (X.680 25). They
+/// are kept where values are.
 ///
 /// # Errors
 /// The error of the first value that can't be read: the values before it are consumed. Otherwise

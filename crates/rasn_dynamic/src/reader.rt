@@ -288,8 +288,8 @@ fn decode_unknown_component<'input>(
     }
 }
 
-/// Reads a value of the type with this number. Types are followed `levels` deep. If it can't be read, names the innermost value that
-/// can't.
+/// Reads a value of the type with this number. Types are followed `levels` deep. If it can't be
+/// read, names the innermost value that can't.
 #[cycle(decode)]
 #[inline(always)]
 pub fn decode_at<'input, M: Made>(
@@ -495,10 +495,12 @@ fn decode_type<'input, M: Made>(
     }
 }
 
-/// Reads the alternative to which the next tag belongs (X.690 8.13). An unknown one, which is the last, has any tag that is no other's.
+/// Reads the alternative to which the next tag belongs (X.690 8.13). An unknown one, which is the
+/// last, has any tag that is no other's.
 ///
 /// # Errors
-/// `NoValidChoice` with the name of the CHOICE if the tag is no alternative's, which consumes nothing.
+/// `NoValidChoice` with the name of the CHOICE if the tag is no alternative's, which consumes
+/// nothing.
 #[cycle(decode)]
 #[inline(never)]
 fn decode_choice<'input, M: Made>(
@@ -892,7 +894,8 @@ fn decode_elements<'input, M: Made>(
     Ok(())
 }
 
-/// Reads elements up to the end of the contents. Under DER their octets have to be in ascending order (X.690 11.6).
+/// Reads elements up to the end of the contents. Under DER their octets have to be in ascending
+/// order (X.690 11.6).
 #[cycle(decode)]
 #[inline(always)]
 fn decode_elements_in_order<'input, M: Made>(
@@ -970,8 +973,8 @@ fn decode_components<'input, M: Made>(
     Ok(())
 }
 
-/// Returns whether the next value is one of the type with this number: a CHOICE is recognized by its first tags, and any other type by its
-/// own tag.
+/// Returns whether the next value is one of the type with this number: a CHOICE is recognized by
+/// its first tags, and any other type by its own tag.
 #[inline(always)]
 pub(crate) fn is_next(
     decoder: &Decoder<'_>,
@@ -1108,14 +1111,15 @@ fn decode_stated<'input, M: Made>(
     Ok(())
 }
 
-/// Reads the components of a SET, in any order, up to the end of the contents (X.690 8.11). None was found yet. If the SET is
-/// extensible, the last value that is returned is the list of the unknown components, and each of
-/// them is a part with the type `other_id`.
+/// Reads the components of a SET, in any order, up to the end of the contents (X.690 8.11). None
+/// was found yet. If the SET is extensible, the last value that is returned is the list of the
+/// unknown components, and each of them is a part with the type `other_id`.
 ///
 /// # Errors
-/// Those of the first component that isn't read: `NoValidChoice` with the name of the SET for a tag that is no component's, unless
-/// the SET is extensible. Once all are read, `DuplicateField` with the name of the first component that was read before, else
-/// `MissingField` with that of the first required one that is missing.
+/// Those of the first component that isn't read: `NoValidChoice` with the name of the SET for a tag
+/// that is no component's, unless the SET is extensible. Once all are read, `DuplicateField` with
+/// the name of the first component that was read before, else `MissingField` with that of the first
+/// required one that is missing.
 #[cycle(decode)]
 fn decode_set_components<'input, M: Made>(
     decoder: &mut Decoder<'input>,
@@ -1171,13 +1175,14 @@ fn decode_set_components<'input, M: Made>(
     Ok(values)
 }
 
-/// Reads one component of a SET, which must take some of the input, and puts it in its place. If that isn't empty, returns the
-/// component's name. If the next tag is no component's and the SET is extensible, reads an unknown
-/// value and appends it to those: a part with the type `other_id` and the index after those of the
-/// components.
+/// Reads one component of a SET, which must take some of the input, and puts it in its place. If
+/// that isn't empty, returns the component's name. If the next tag is no component's and the SET is
+/// extensible, reads an unknown value and appends it to those: a part with the type `other_id` and
+/// the index after those of the components.
 ///
 /// # Errors
-/// `NoValidChoice` with the name of the SET if the next tag is no component's and the SET isn't extensible, which consumes nothing.
+/// `NoValidChoice` with the name of the SET if the next tag is no component's and the SET isn't
+/// extensible, which consumes nothing.
 #[cycle(decode)]
 fn decode_set_component<'input, 'names, M: Made>(
     decoder: &mut Decoder<'input>,

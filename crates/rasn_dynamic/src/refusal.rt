@@ -29,8 +29,8 @@ pub struct Refusal {
 }
 
 impl Refusal {
-    /// Returns the refusal to be shown with the names of the components and alternatives on the way.
-    /// `id` is the number of the type that was asked for.
+    /// Returns the refusal to be shown with the names of the components and alternatives on the
+    /// way. `id` is the number of the type that was asked for.
     pub fn with_names<'a>(&'a self, schema: &'a Schema, id: TypeId) -> NamedRefusal<'a>
         ensures { (result.refusal.now ≡ self.now) × (result.schema.now ≡ schema.now) × (result.id ≡ id) × (result.inner.now ≡ []) }
     {
@@ -69,7 +69,8 @@ pub struct NamedRefusal<'a> {
     pub inner: &'a [usize],
 }
 
-/// The names, the indices on the way inside an open type in brackets, the offset, and what is wrong.
+/// The names, the indices on the way inside an open type in brackets, the offset, and what is
+/// wrong.
 impl fmt::Display for NamedRefusal<'_> {
     ghost use Rattle.rasn_dynamic.specs.Shown.{shown_named};
 

@@ -1,4 +1,5 @@
-//! Errors of a reader: those that are returned, and those that are kept where a reader keeps its error.
+//! Errors of a reader: those that are returned, and those that are kept where a reader keeps its
+//! error.
 ghost use Rattle.rasn_types.specs.Errors.{IsOutOfMemory};
 ghost use Rattle.rasn_types.specs.Shapes.{constraint_of};
 ghost use Rattle.rasn_de.specs.Steps.{IsErrorOf};

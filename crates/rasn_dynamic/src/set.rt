@@ -16,8 +16,8 @@ use rasn_schema::{Component, Presence, Type, TypeId, Value, begins, is_unknown_a
 use rasn_types::error::DecodeError;
 use rasn_types::types::Tag;
 
-/// Returns the components that a SET names, and whether there may be unknown ones among them: then its
-/// last component is unknown values (X.680 27).
+/// Returns the components that a SET names, and whether there may be unknown ones among them: then
+/// its last component is unknown values (X.680 27).
 pub fn named_components<'components>(
     types: &[Type],
     levels: usize,
@@ -84,7 +84,8 @@ pub fn no_components<'input>(
     Ok(found)
 }
 
-/// Puts a value in its place if that is empty; else returns the component's name and drops the value.
+/// Puts a value in its place if that is empty; else returns the component's name and drops the
+/// value.
 pub fn put<'input, 'names>(
     found: &mut Vec<Option<Value<'input>>>,
     number: usize,
@@ -101,7 +102,8 @@ pub fn put<'input, 'names>(
     None
 }
 
-/// Returns the component that was read or, where values are kept, the value that it has if it is absent.
+/// Returns the component that was read or, where values are kept, the value that it has if it is
+/// absent.
 fn settle<'input, M: Made>(
     decoder: &Decoder<'input>,
     component: &Component,
@@ -120,7 +122,8 @@ fn settle<'input, M: Made>(
     missing::<M>(decoder, component)
 }
 
-/// Returns all components, those that are absent with the values that they have then, where values are kept.
+/// Returns all components, those that are absent with the values that they have then, where values
+/// are kept.
 ///
 /// # Errors
 /// `MissingField` with the name of the first required component that is missing.

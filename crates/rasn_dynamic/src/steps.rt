@@ -119,8 +119,8 @@ fn append_part(
 }
 
 /// Returns the path to the part to which steps lead from the type with this number, for
-/// [`find_part`](crate::find_part). An explicit tag on the way is a step of the path, with the index
-/// 0, and has no name. Returns `None` if a step leads to no part.
+/// [`find_part`](crate::find_part). An explicit tag on the way is a step of the path, with the
+/// index 0, and has no name. Returns `None` if a step leads to no part.
 ///
 /// # Errors
 /// `AllocError` if memory runs out.

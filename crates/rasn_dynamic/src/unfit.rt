@@ -38,7 +38,8 @@ fn chosen_part<'value, 'input>(
     })
 }
 
-/// Returns the first component whose value isn't one of its type. If there is none, there are more values or fewer than components.
+/// Returns the first component whose value isn't one of its type. If there is none, there are more
+/// values or fewer than components.
 fn first_unfit_component<'value, 'input>(
     types: &[Type],
     below: usize,
@@ -87,7 +88,8 @@ fn first_unfit_element<'value, 'input>(
     None
 }
 
-/// Returns the first part that isn't a value of its type. If there is none, the value isn't of the type's form.
+/// Returns the first part that isn't a value of its type. If there is none, the value isn't of the
+/// type's form.
 fn first_unfit_part<'value, 'input>(
     types: &[Type],
     below: usize,

@@ -20,8 +20,8 @@ use rasn_types::error::{EncodeError, EncodeErrorKind};
 use rasn_types::types::{Any, BitStr, Constraints, Identifier, Integer, Tag, Unknown};
 use std::alloc::{AllocError, Global};
 
-/// Returns an error for a value of another form than its type's. No public call returns it: `encode` asks `fits` after an error, and
-/// returns `Unfit` then.
+/// Returns an error for a value of another form than its type's. No public call returns it:
+/// `encode` asks `fits` after an error, and returns `Unfit` then.
 pub fn other_form(encoder: &Encoder) -> EncodeError
     ensures { result.codec ≡ encoder.now.rule }
 {
@@ -221,7 +221,8 @@ pub fn encode_unknown_values(
     }
 }
 
-/// Returns the unknown components of a SET, a list of octets, in the order of their tags (X.680 27).
+/// Returns the unknown components of a SET, a list of octets, in the order of their tags (X.680
+/// 27).
 pub fn unknown_as_components(
     encoder: &Encoder,
     value: &Value<'_>,

@@ -39,7 +39,8 @@ fn out_of_order(encoder: &Encoder) -> EncodeError
     }
 }
 
-/// Returns the error that a component doesn't begin with an identifier, so that its place isn't known.
+/// Returns the error that a component doesn't begin with an identifier, so that its place isn't
+/// known.
 fn no_place(encoder: &Encoder) -> EncodeError
     ensures { IsUntaggedInSetError encoder.now.rule result }
 {
@@ -254,8 +255,9 @@ fn encode_component(
     encode_at(encoder, types, below, component.type_id, value, fault)
 }
 
-/// Writes the components of a SET in the order of their tags (X.690 9.3, 10.3), whatever their order in the type. If there may be unknown components,
-/// the last value is the list of them, and each is written where its tag belongs.
+/// Writes the components of a SET in the order of their tags (X.690 9.3, 10.3), whatever their
+/// order in the type. If there may be unknown components, the last value is the list of them, and
+/// each is written where its tag belongs.
 #[cycle(encode)]
 fn encode_set(
     encoder: &mut Encoder,
