@@ -5,7 +5,7 @@ ghost use Rattle.rasn_lint.specs.Shown.{indices_of};
 ghost use Rattle.rasn_c.specs.Status.{IsNumberOf};
 ghost use Rattle.rasn_c.specs.Checking.{AnswersCheckBy, IsCheckedBy, IsStopped, IsChecked, IsUncheckedBy, IsWhole, IsRefusedAt, IsUnreadBy, opens_of, status_of};
 
-use crate::reasons::{Reason, Stop, tell};
+use crate::reasons::{Reason, Stop, report};
 use crate::schemas::{Query, asked};
 use crate::status::Status;
 use rasn::refuse_remainder;
@@ -30,7 +30,7 @@ pub extern "C" fn soq_proved_check_by(
     ensures { IsNumberOf (AnswersCheckBy schema.now rule open_types octets.now reason.new text.old text.new) result }
 {
     let checked = check_by(alloc, schema, rule, open_types, octets);
-    status_of(tell(checked, reason, text)).number()
+    status_of(report(checked, reason, text)).number()
 }
 
 fn status_of(checked: Result<(), Status>) -> Status

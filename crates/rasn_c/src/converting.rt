@@ -7,7 +7,7 @@ ghost use Rattle.rasn_c.specs.Converting.{AnswersJson, AnswersEncode, AnswersNor
 
 use crate::buffers::deliver;
 use crate::checking::unread;
-use crate::reasons::{NO_REASON, Reason, Stop, path_length, stop_of, tell, without_memory};
+use crate::reasons::{NO_REASON, Reason, Stop, path_length, report, stop_of, without_memory};
 use crate::schemas::{Query, asked};
 use crate::status::Status;
 use rasn::NormaliseError;
@@ -33,7 +33,7 @@ pub extern "C" fn soq_proved_json(
     ensures { IsNumberOf (AnswersJson schema.now rule lines octets.now reason.new text.old text.new buffer.old buffer.new needed.new) result }
 {
     let made = json_by(alloc, schema, rule, lines, octets);
-    deliver(tell(made, reason, text), buffer, needed).number()
+    deliver(report(made, reason, text), buffer, needed).number()
 }
 
 /// Returns the JSON text of a message, and a zero.
@@ -92,7 +92,7 @@ pub extern "C" fn soq_proved_encode(
     ensures { IsNumberOf (AnswersEncode schema.now rule json.now reason.new text.old text.new buffer.old buffer.new needed.new) result }
 {
     let made = encode_by(alloc, schema, rule, json);
-    deliver(tell(made, reason, text), buffer, needed).number()
+    deliver(report(made, reason, text), buffer, needed).number()
 }
 
 /// Returns the octets of the value of a JSON text.
@@ -160,7 +160,7 @@ pub extern "C" fn soq_proved_normalise_by(
     ensures { IsNumberOf (AnswersNormaliseBy schema.now rule octets.now reason.new text.old text.new buffer.old buffer.new needed.new) result }
 {
     let made = normalise_by(alloc, schema, rule, octets);
-    deliver(tell(made, reason, text), buffer, needed).number()
+    deliver(report(made, reason, text), buffer, needed).number()
 }
 
 /// Returns the DER octets of a message.

@@ -5,7 +5,7 @@ ghost use Rattle.rasn_c.specs.Finding.{AnswersFind, IsFound, IsNotFound, IsPathO
 
 use crate::extent::{Extent, NO_EXTENT, extent_of};
 use crate::paths::steps_of;
-use crate::reasons::{Reason, Stop, stop_of, tell, without_memory};
+use crate::reasons::{Reason, Stop, report, stop_of, without_memory};
 use crate::schemas::{Query, asked};
 use crate::status::Status;
 use rasn_dynamic::{find_part, path_named};
@@ -27,7 +27,7 @@ pub extern "C" fn soq_proved_find(
 ) -> u32
     ensures { IsNumberOf (AnswersFind schema.now rule octets.now path.now part.new reason.new text.old text.new) result }
 {
-    let made = tell(find(alloc, schema, rule, octets, path), reason, text);
+    let made = report(find(alloc, schema, rule, octets, path), reason, text);
     put_extent(made, part).number()
 }
 

@@ -6,7 +6,7 @@ ghost use Rattle.rasn_c.specs.declared.listing.ListedPart.{ListedPart};
 ghost use Rattle.rasn_c.specs.Listing.{AnswersParts, IsListing, IsNoListingBy, IsListedInto, IsPutListing, AreRows};
 
 use crate::extent::{Extent, extent_of};
-use crate::reasons::{Reason, Stop, tell, without_memory};
+use crate::reasons::{Reason, Stop, report, without_memory};
 use crate::schemas::{Query, asked};
 use crate::status::Status;
 use rasn_dynamic::{MessageParts, Part, parts_of};
@@ -61,7 +61,7 @@ pub extern "C" fn soq_proved_parts(
 ) -> u32
     ensures { IsNumberOf (AnswersParts schema.now rule octets.now parts.old parts.new names.old names.new counts.new reason.new text.old text.new) result }
 {
-    let made = tell(list(alloc, schema, rule, octets), reason, text);
+    let made = report(list(alloc, schema, rule, octets), reason, text);
     put_parts(made, parts, names, counts).number()
 }
 
