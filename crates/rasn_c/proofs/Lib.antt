@@ -1,5 +1,5 @@
 pub mod Unwritten
-pub mod Told
+pub mod Reports
 pub mod Encodings
 pub mod LeafTags
 pub mod LeafMemory

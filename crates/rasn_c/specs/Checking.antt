@@ -18,7 +18,7 @@ use Rattle.rasn_lint.specs.declared.departure.Departure.{Departure}
 use Rattle.rasn_lint.specs.Lint.{IsFirstDeparture}
 use Rattle.rasn_lint.specs.Shown.{indices_of}
 use Rattle.rasn_c.specs.Schemas.{IsAsked, IsNotAsked}
-use Rattle.rasn_c.specs.Reasons.{IsStopOf, IsTold}
+use Rattle.rasn_c.specs.Reasons.{IsStopOf, IsReported}
 use Rattle.rasn_c.specs.declared.reasons.Reason.{Reason}
 use Rattle.rasn_c.specs.declared.reasons.Stop.{Stop}
 use Rattle.rasn_c.specs.declared.status.Status.{Status}
@@ -101,5 +101,5 @@ pub record AnswersCheckBy (octets : List ℕ) (number open_types : ℕ) (message
   pub made : Result (Unit {0}) Stop
   pub is : MatchResult made (λ u. IsCheckedBy octets number open_types message) (IsStopped octets number open_types message)
   pub answer : Result (Unit {0}) Status
-  pub told : IsTold made reason old new answer
+  pub reported : IsReported made reason old new answer
   pub given : status ≡ status_of answer

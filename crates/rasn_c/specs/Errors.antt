@@ -57,22 +57,22 @@ pub record IsFaultOf (offset : ℕ) (error : DecodeError) (fault : Fault) (text 
   pub shown : shown_decode_error error ≡ Some text
 
 -- The result for an error at this offset: its fault; or a failed allocation, which may also be that of the text.
-abbrev pub IsToldOf : ℕ → DecodeError → Fault → List ℕ → Status → Type 0
-IsToldOf offset error fault text Refused = IsFaultOf offset error fault text
-IsToldOf offset error fault text OutOfMemory = IsNoFault fault
-IsToldOf offset error fault text _ = ⊥
+abbrev pub IsReportOf : ℕ → DecodeError → Fault → List ℕ → Status → Type 0
+IsReportOf offset error fault text Refused = IsFaultOf offset error fault text
+IsReportOf offset error fault text OutOfMemory = IsNoFault fault
+IsReportOf offset error fault text _ = ⊥
 
 -- The octets are refused for an error, and the fault and the text are its own.
-pub record IsTold (rule : Codec) (shape : Shape) (octets : List ℕ) (fault : Fault) (text : List ℕ) : Type 0 where
+pub record ReportsRefusal (rule : Codec) (shape : Shape) (octets : List ℕ) (fault : Fault) (text : List ℕ) : Type 0 where
   pub offset : ℕ
   pub error : DecodeError
   pub refused : IsRefusedAt rule shape octets offset error
-  pub told : IsFaultOf offset error fault text
+  pub report : IsFaultOf offset error fault text
 
 -- The status, fault and text of a call that reads octets as exactly one value, with the numbers of a type and of rules.
 abbrev pub AnswersError : ℕ → ℕ → List ℕ → Fault → List ℕ → Status → Type 0
 AnswersError type number octets fault text Ok = ((rule : Codec) × (shape : Shape) × Asks type number shape rule × IsAlone rule shape octets) × IsNoFault fault
-AnswersError type number octets fault text Refused = (rule : Codec) × (shape : Shape) × Asks type number shape rule × IsTold rule shape octets fault text
+AnswersError type number octets fault text Refused = (rule : Codec) × (shape : Shape) × Asks type number shape rule × ReportsRefusal rule shape octets fault text
 AnswersError type number octets fault text OutOfMemory = ((rule : Codec) × (shape : Shape) × Asks type number shape rule) × IsNoFault fault
 AnswersError type number octets fault text UnknownType = IsUnknownType type × IsNoFault fault
 AnswersError type number octets fault text UnknownRule = IsUnknownRule number × IsNoFault fault

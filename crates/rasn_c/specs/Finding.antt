@@ -12,7 +12,7 @@ use Rattle.rasn_dynamic.specs.Steps.{IsWay, IsNoWay}
 use Rattle.rasn_c.specs.Schemas.{IsAsked, IsNotAsked}
 use Rattle.rasn_c.specs.Paths.{AreStepsOf}
 use Rattle.rasn_c.specs.Extents.{IsExtentOf, no_extent}
-use Rattle.rasn_c.specs.Reasons.{IsStopOf, IsTold}
+use Rattle.rasn_c.specs.Reasons.{IsStopOf, IsReported}
 use Rattle.rasn_c.specs.declared.extent.Extent.{Extent}
 use Rattle.rasn_c.specs.declared.reasons.Reason.{Reason}
 use Rattle.rasn_c.specs.declared.reasons.Stop.{Stop}
@@ -96,5 +96,5 @@ pub record AnswersFind (octets : List ℕ) (number : ℕ) (message path : List �
   pub made : Result Extent Stop
   pub is : MatchResult made (IsFound octets number message path) (IsNotFound octets number message path)
   pub answer : Result Extent Status
-  pub told : IsTold made reason old new answer
+  pub reported : IsReported made reason old new answer
   pub given : IsGiven answer part status

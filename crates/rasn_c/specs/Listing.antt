@@ -13,7 +13,7 @@ use Rattle.rasn_dynamic.specs.Parts.{IsPartHeader}
 use Rattle.rasn_dynamic.specs.Walk.{ArePartsOf, depth_of}
 use Rattle.rasn_c.specs.Schemas.{IsAsked, IsNotAsked}
 use Rattle.rasn_c.specs.Extents.{IsExtentOf}
-use Rattle.rasn_c.specs.Reasons.{IsStopOf, IsTold}
+use Rattle.rasn_c.specs.Reasons.{IsStopOf, IsReported}
 use Rattle.rasn_c.specs.declared.listing.Counts.{Counts}
 use Rattle.rasn_c.specs.declared.listing.ListedPart.{ListedPart}
 use Rattle.rasn_c.specs.declared.listing.Listing.{Listing}
@@ -81,5 +81,5 @@ pub record AnswersParts (octets : List ℕ) (number : ℕ) (message : List ℕ) 
   pub made : Result Listing Stop
   pub is : MatchResult made (λ l. IsListing octets number message l.parts.items) (λ stop. IsNoListingBy octets number message stop stop.status)
   pub answer : Result Listing Status
-  pub told : IsTold made reason old_text new_text answer
+  pub reported : IsReported made reason old_text new_text answer
   pub given : IsListedInto answer old new old_names new_names counts status

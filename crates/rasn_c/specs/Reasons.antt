@@ -52,14 +52,14 @@ abbrev pub IsStopOf : Schema → TypeId → List ℕ → Refusal → Stop → Ty
 IsStopOf schema root inner refusal stop = IsStopBy schema root inner refusal stop stop.status
 
 -- What is reported of a call: nothing if it has a result, and else the reason, with as much of its text as fits.
-abbrev pub IsTold : {T : Type 0} → Result T Stop → Reason → List ℕ → List ℕ → Result T Status → Type 0
-IsTold (Made v) reason old new told = (told ≡ Made v) × (reason ≡ no_reason) × IsCutInto [] old new
-IsTold (Err stop) reason old new told = (told ≡ Err stop.status) × (reason ≡ stop.reason) × IsCutInto (string_bytes stop.text) old new
+abbrev pub IsReported : {T : Type 0} → Result T Stop → Reason → List ℕ → List ℕ → Result T Status → Type 0
+IsReported (Made v) reason old new answer = (answer ≡ Made v) × (reason ≡ no_reason) × IsCutInto [] old new
+IsReported (Err stop) reason old new answer = (answer ≡ Err stop.status) × (reason ≡ stop.reason) × IsCutInto (string_bytes stop.text) old new
 
 -- A call makes octets for which `Is` holds, and leaves them in the buffer if they fit; or it ends as `IsNot` says.
 pub record Delivers (Is : List ℕ → Type 0) (IsNot : Stop → Type 0) (reason : Reason) (old_text new_text old new : List ℕ) (needed : ℕ) (status : Status) : Type 0 where
   pub made : Result (Vec ℕ Global) Stop
   pub is : MatchResult made (λ v. Is v.items) IsNot
   pub answer : Result (Vec ℕ Global) Status
-  pub told : IsTold made reason old_text new_text answer
+  pub reported : IsReported made reason old_text new_text answer
   pub delivered : IsDelivered answer old new needed status

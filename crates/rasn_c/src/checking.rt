@@ -5,8 +5,8 @@ ghost use Rattle.rasn_lint.specs.Shown.{indices_of};
 ghost use Rattle.rasn_c.specs.Status.{IsNumberOf};
 ghost use Rattle.rasn_c.specs.Checking.{AnswersCheckBy, IsCheckedBy, IsStopped, IsChecked, IsUncheckedBy, IsWhole, IsRefusedAt, IsUnreadBy, opens_of, status_of};
 
-use crate::reasons::{Reason, Stop, tell};
-use crate::schemas::{Query, asked};
+use crate::reasons::{Reason, Stop, report};
+use crate::schemas::{Query, query_of};
 use crate::status::Status;
 use rasn::refuse_remainder;
 use rasn::types::Codec;
@@ -30,7 +30,7 @@ pub extern "C" fn soq_proved_check_by(
     ensures { IsNumberOf (AnswersCheckBy schema.now rule open_types octets.now reason.new text.old text.new) result }
 {
     let checked = check_by(alloc, schema, rule, open_types, octets);
-    status_of(tell(checked, reason, text)).number()
+    status_of(report(checked, reason, text)).number()
 }
 
 fn status_of(checked: Result<(), Status>) -> Status
@@ -51,7 +51,7 @@ fn check_by(
 ) -> Result<(), Stop>
     ensures { MatchResult result (λ u. IsCheckedBy schema.now rule open_types octets.now) (IsStopped schema.now rule open_types octets.now) }
 {
-    let asked = asked(alloc, schema, rule)?;
+    let asked = query_of(alloc, schema, rule)?;
     let Query { schema, root, rule } = asked;
     match rule {
         Codec::Der => check_der(alloc, &schema, root, open_types, octets),
@@ -70,7 +70,7 @@ fn check_der(
 ) -> Result<(), Stop>
     ensures { MatchResult result (λ u. IsChecked Der (opens_of open_types) schema.now.types.items root.0 octets.now) (λ stop. IsUncheckedBy Der (opens_of open_types) schema.now root octets.now stop stop.status) }
 {
-    match check(alloc, schema, root, octets, opens(open_types)) {
+    match check(alloc, schema, root, octets, open_types_of(open_types)) {
         Ok(()) => Ok(()),
         Err(departure) => {
             let inner = indices_of(&departure.inner);
@@ -107,7 +107,7 @@ fn check_whole(
 }
 
 /// Returns whether a call looks into open types.
-fn opens(open_types: u32) -> OpenTypes
+fn open_types_of(open_types: u32) -> OpenTypes
     ensures { result ≡ opens_of open_types }
 {
     if open_types == 0 {
@@ -143,7 +143,7 @@ pub(crate) fn refusal_of(
 }
 
 /// Returns the end for octets that the reader refuses: why, and where.
-pub(crate) fn unread(
+pub(crate) fn unread_stop(
     alloc: Global,
     rule: Codec,
     schema: &Schema,

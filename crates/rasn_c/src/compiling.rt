@@ -7,7 +7,7 @@ ghost use Rattle.rasn_c.specs.Reasons.{IsStatusOr};
 ghost use Rattle.rasn_c.specs.Compiling.{AnswersCompile, AreTexts, AreNoTexts, IsText, IsCompiled, IsNotCompiled, IsSchemaOf, IsNoSchema, IsNameOf};
 
 use crate::buffers::deliver;
-use crate::reasons::{NO_REASON, Reason, Stop, stop_of, tell, without_memory};
+use crate::reasons::{NO_REASON, Reason, Stop, report, stop_of, without_memory};
 use crate::status::Status;
 use rasn_compiler::{Assigned, Fault, Module, Modules, Resolved, Source, Stop as CompilerStop};
 use rasn_schema_octets::{WriteFault, write};
@@ -38,7 +38,7 @@ pub extern "C" fn soq_proved_compile(
     ensures { IsNumberOf (AnswersCompile texts.now name.now reason.new text.old text.new buffer.old buffer.new needed.new) result }
 {
     let made = schema_octets(alloc, texts, name);
-    deliver(tell(made, reason, text), buffer, needed).number()
+    deliver(report(made, reason, text), buffer, needed).number()
 }
 
 /// Returns the octets of the schema of a type of these modules.

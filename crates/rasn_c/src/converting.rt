@@ -6,9 +6,9 @@ ghost use Rattle.rasn_c.specs.Reasons.{IsPlain, IsStatusOr};
 ghost use Rattle.rasn_c.specs.Converting.{AnswersJson, AnswersEncode, AnswersNormaliseBy, IsJson, IsNoJsonBy, IsEncodedFrom, IsNotEncodedBy, IsNormalBy, IsNotNormalised, layout_of};
 
 use crate::buffers::deliver;
-use crate::checking::unread;
-use crate::reasons::{NO_REASON, Reason, Stop, path_length, stop_of, tell, without_memory};
-use crate::schemas::{Query, asked};
+use crate::checking::unread_stop;
+use crate::reasons::{NO_REASON, Reason, Stop, path_length, report, stop_of, without_memory};
+use crate::schemas::{Query, query_of};
 use crate::status::Status;
 use rasn::NormaliseError;
 use rasn_dynamic::{WriteError, normalise};
@@ -33,7 +33,7 @@ pub extern "C" fn soq_proved_json(
     ensures { IsNumberOf (AnswersJson schema.now rule lines octets.now reason.new text.old text.new buffer.old buffer.new needed.new) result }
 {
     let made = json_by(alloc, schema, rule, lines, octets);
-    deliver(tell(made, reason, text), buffer, needed).number()
+    deliver(report(made, reason, text), buffer, needed).number()
 }
 
 /// Returns the JSON text of a message, and a zero.
@@ -46,10 +46,10 @@ fn json_by(
 ) -> Result<Vec<u8>, Stop>
     ensures { MatchResult result (λ v. IsJson schema.now rule lines octets.now v.items) (λ stop. IsNoJsonBy schema.now rule octets.now stop stop.status) }
 {
-    let Query { schema, root, rule } = asked(alloc, schema, rule)?;
+    let Query { schema, root, rule } = query_of(alloc, schema, rule)?;
     match json(alloc, rule, &schema, root, octets, layout_of(lines)) {
         Ok(text) => with_zero(alloc, text.into_bytes()),
-        Err(ToJsonError::Decode(_)) => Err(unread(alloc, rule, &schema, root, octets)),
+        Err(ToJsonError::Decode(_)) => Err(unread_stop(alloc, rule, &schema, root, octets)),
         Err(ToJsonError::Json(error)) => Err(json_stop(alloc, &error)),
     }
 }
@@ -92,14 +92,14 @@ pub extern "C" fn soq_proved_encode(
     ensures { IsNumberOf (AnswersEncode schema.now rule json.now reason.new text.old text.new buffer.old buffer.new needed.new) result }
 {
     let made = encode_by(alloc, schema, rule, json);
-    deliver(tell(made, reason, text), buffer, needed).number()
+    deliver(report(made, reason, text), buffer, needed).number()
 }
 
 /// Returns the octets of the value of a JSON text.
 fn encode_by(alloc: Global, schema: &[u8], rule: u32, json: &[u8]) -> Result<Vec<u8>, Stop>
     ensures { MatchResult result (λ v. IsEncodedFrom schema.now rule json.now v.items) (λ stop. IsNotEncodedBy schema.now rule stop.status) }
 {
-    let Query { schema, root, rule } = asked(alloc, schema, rule)?;
+    let Query { schema, root, rule } = query_of(alloc, schema, rule)?;
     let Ok(json) = str::from_utf8(json) else {
         return Err(stop_of(alloc, Status::Refused, "the JSON text isn't UTF-8"));
     };
@@ -160,18 +160,18 @@ pub extern "C" fn soq_proved_normalise_by(
     ensures { IsNumberOf (AnswersNormaliseBy schema.now rule octets.now reason.new text.old text.new buffer.old buffer.new needed.new) result }
 {
     let made = normalise_by(alloc, schema, rule, octets);
-    deliver(tell(made, reason, text), buffer, needed).number()
+    deliver(report(made, reason, text), buffer, needed).number()
 }
 
 /// Returns the DER octets of a message.
 fn normalise_by(alloc: Global, schema: &[u8], rule: u32, octets: &[u8]) -> Result<Vec<u8>, Stop>
     ensures { MatchResult result (λ v. IsNormalBy schema.now rule octets.now v.items) (λ stop. IsNotNormalised schema.now rule octets.now stop.status) }
 {
-    let Query { schema, root, rule } = asked(alloc, schema, rule)?;
+    let Query { schema, root, rule } = query_of(alloc, schema, rule)?;
     match normalise(alloc, rule, &schema, root, octets) {
         Ok(normal) => Ok(normal),
         Err(error) if error.is_out_of_memory() => Err(Stop::plain(alloc, Status::OutOfMemory)),
-        Err(NormaliseError::Decode(_)) => Err(unread(alloc, rule, &schema, root, octets)),
+        Err(NormaliseError::Decode(_)) => Err(unread_stop(alloc, rule, &schema, root, octets)),
         Err(error) => match format!(in alloc; "{error}") {
             Ok(text) => Err(Stop::of_text(Status::Refused, NO_REASON, text)),
             Err(error) => Err(without_memory(alloc, error)),

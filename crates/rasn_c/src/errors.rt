@@ -3,7 +3,7 @@ ghost use Rattle.std.specs.Prelude.{◌≡◌, List, ℕ, Some, IfOk, length, st
 ghost use Rattle.rasn_types.specs.ErrorText.{shown_decode_error};
 ghost use Rattle.rasn_c.specs.Status.{IsNumberOf};
 ghost use Rattle.rasn_c.specs.declared.status.Status.TheVariants.{Refused};
-ghost use Rattle.rasn_c.specs.Errors.{AnswersError, HoldsText, IsNoFault, IsToldOf};
+ghost use Rattle.rasn_c.specs.Errors.{AnswersError, HoldsText, IsNoFault, IsReportOf};
 
 use crate::buffers::put_text;
 use crate::error_kinds::kind_number;
@@ -39,28 +39,28 @@ pub extern "C" fn soq_proved_decode_error(
 ) -> u32
     ensures { IsNumberOf (λ status. HoldsText (λ text. AnswersError type_number rule octets.now fault.new text status) fault.new buffer.old buffer.new) result }
 {
-    let told = tell(alloc, type_number, rule, octets);
-    *fault = told.fault;
-    put_text(told.text.as_str(), buffer);
-    told.status.number()
+    let report = report_of(alloc, type_number, rule, octets);
+    *fault = report.fault;
+    put_text(report.text.as_str(), buffer);
+    report.status.number()
 }
 
 /// The result for octets: a status, the fault, and its text.
 #[derive(Debug, Drop)]
-struct Told {
+struct Report {
     status: Status,
     fault: Fault,
     text: String,
 }
 
-impl Told {
+impl Report {
     /// Returns a result that has a status alone.
-    fn without_fault(alloc: Global, status: Status) -> Told
+    fn without_fault(alloc: Global, status: Status) -> Report
         ensures status { result.status ≡ status }
         ensures none { IsNoFault result.fault }
         ensures text { result.fault.text_length ≡ length (string_bytes result.text) }
     {
-        Told {
+        Report {
             status,
             fault: Fault {
                 kind: 0,
@@ -72,29 +72,29 @@ impl Told {
     }
 
     /// Returns the result for an error at this offset, or for a failed allocation.
-    fn of_error(alloc: Global, offset: usize, error: &DecodeError) -> Told
-        ensures told { IsToldOf offset error.now result.fault (string_bytes result.text) result.status }
+    fn of_error(alloc: Global, offset: usize, error: &DecodeError) -> Report
+        ensures report { IsReportOf offset error.now result.fault (string_bytes result.text) result.status }
         ensures text { result.fault.text_length ≡ length (string_bytes result.text) }
     {
         if error.is_out_of_memory() {
-            return Told::without_fault(alloc, Status::OutOfMemory);
+            return Report::without_fault(alloc, Status::OutOfMemory);
         }
         let Ok(text) = shown(alloc, error) else {
-            return Told::without_fault(alloc, Status::OutOfMemory);
+            return Report::without_fault(alloc, Status::OutOfMemory);
         };
-        Told::refused(kind_number(&error.kind), offset, text)
+        Report::refused(kind_number(&error.kind), offset, text)
     }
 
     /// Returns the result for octets that are refused from the offset on, for the cause of this
     /// number.
-    fn refused(kind: u32, offset: usize, text: String) -> Told
+    fn refused(kind: u32, offset: usize, text: String) -> Report
         ensures status { result.status ≡ Refused }
         ensures kind { result.fault.kind ≡ kind }
         ensures offset { result.fault.offset ≡ offset }
-        ensures told { string_bytes result.text ≡ string_bytes text }
+        ensures octets { string_bytes result.text ≡ string_bytes text }
         ensures text { result.fault.text_length ≡ length (string_bytes result.text) }
     {
-        Told {
+        Report {
             status: Status::Refused,
             fault: Fault {
                 kind,
@@ -108,17 +108,17 @@ impl Told {
 
 /// Returns the reason why the octets aren't exactly one value. The type and the rules are given by
 /// their numbers.
-fn tell(alloc: Global, type_number: u32, rule: u32, octets: &[u8]) -> Told
+fn report_of(alloc: Global, type_number: u32, rule: u32, octets: &[u8]) -> Report
     ensures answer { AnswersError type_number rule octets.now result.fault (string_bytes result.text) result.status }
     ensures text { result.fault.text_length ≡ length (string_bytes result.text) }
 {
     let Some(rule) = rule_numbered(rule) else {
-        return Told::without_fault(alloc, Status::UnknownRule);
+        return Report::without_fault(alloc, Status::UnknownRule);
     };
     match answer_of::<Reading>(alloc, type_number, rule, octets) {
-        None => Told::without_fault(alloc, Status::UnknownType),
-        Some(Reading::Alone) => Told::without_fault(alloc, Status::Ok),
-        Some(Reading::Refused { offset, error }) => Told::of_error(alloc, offset, &error),
+        None => Report::without_fault(alloc, Status::UnknownType),
+        Some(Reading::Alone) => Report::without_fault(alloc, Status::Ok),
+        Some(Reading::Refused { offset, error }) => Report::of_error(alloc, offset, &error),
     }
 }
 

@@ -5,8 +5,8 @@ ghost use Rattle.rasn_c.specs.Finding.{AnswersFind, IsFound, IsNotFound, IsPathO
 
 use crate::extent::{Extent, NO_EXTENT, extent_of};
 use crate::paths::steps_of;
-use crate::reasons::{Reason, Stop, stop_of, tell, without_memory};
-use crate::schemas::{Query, asked};
+use crate::reasons::{Reason, Stop, report, stop_of, without_memory};
+use crate::schemas::{Query, query_of};
 use crate::status::Status;
 use rasn_dynamic::{find_part, path_named};
 use std::alloc::Global;
@@ -27,7 +27,7 @@ pub extern "C" fn soq_proved_find(
 ) -> u32
     ensures { IsNumberOf (AnswersFind schema.now rule octets.now path.now part.new reason.new text.old text.new) result }
 {
-    let made = tell(find(alloc, schema, rule, octets, path), reason, text);
+    let made = report(find(alloc, schema, rule, octets, path), reason, text);
     put_extent(made, part).number()
 }
 
@@ -50,7 +50,7 @@ fn put_extent(made: Result<Extent, Status>, part: &mut Extent) -> Status
 fn find(alloc: Global, schema: &[u8], rule: u32, octets: &[u8], path: &[u8]) -> Result<Extent, Stop>
     ensures { MatchResult result (IsFound schema.now rule octets.now path.now) (IsNotFound schema.now rule octets.now path.now) }
 {
-    let asked = asked(alloc, schema, rule)?;
+    let asked = query_of(alloc, schema, rule)?;
     let indices = indices_of(alloc, &asked, path)?;
     let Query { schema, root, rule } = asked;
     match find_part(alloc, rule, &schema, root, octets, indices.as_slice()) {

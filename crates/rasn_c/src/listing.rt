@@ -6,8 +6,8 @@ ghost use Rattle.rasn_c.specs.declared.listing.ListedPart.{ListedPart};
 ghost use Rattle.rasn_c.specs.Listing.{AnswersParts, IsListing, IsNoListingBy, IsListedInto, IsPutListing, AreRows};
 
 use crate::extent::{Extent, extent_of};
-use crate::reasons::{Reason, Stop, tell, without_memory};
-use crate::schemas::{Query, asked};
+use crate::reasons::{Reason, Stop, report, without_memory};
+use crate::schemas::{Query, query_of};
 use crate::status::Status;
 use rasn_dynamic::{MessageParts, Part, parts_of};
 use rasn_schema::{Schema, TypeId, part_name, part_type, type_at};
@@ -61,7 +61,7 @@ pub extern "C" fn soq_proved_parts(
 ) -> u32
     ensures { IsNumberOf (AnswersParts schema.now rule octets.now parts.old parts.new names.old names.new counts.new reason.new text.old text.new) result }
 {
-    let made = tell(list(alloc, schema, rule, octets), reason, text);
+    let made = report(list(alloc, schema, rule, octets), reason, text);
     put_parts(made, parts, names, counts).number()
 }
 
@@ -111,7 +111,7 @@ fn put_listing(
 fn list(alloc: Global, schema: &[u8], rule: u32, octets: &[u8]) -> Result<Listing, Stop>
     ensures { MatchResult result (λ l. IsListing schema.now rule octets.now l.parts.items) (λ stop. IsNoListingBy schema.now rule octets.now stop stop.status) }
 {
-    let asked = asked(alloc, schema, rule)?;
+    let asked = query_of(alloc, schema, rule)?;
     let Query { schema, root, rule } = asked;
     let mut parts = match parts_of(alloc, rule, &schema, root, octets) {
         Ok(parts) => parts,

@@ -2,7 +2,7 @@
 ghost use Rattle.std.specs.Prelude.{◌≡◌, ◌-◌, length, string_bytes, IfOk};
 ghost use Rattle.rasn_c.specs.ErrorKinds.{kind_number};
 ghost use Rattle.rasn_c.specs.declared.status.Status.TheVariants.{OutOfMemory};
-ghost use Rattle.rasn_c.specs.Reasons.{IsPlain, IsNamedText, IsStopOf, IsStatusOr, IsTold, no_reason};
+ghost use Rattle.rasn_c.specs.Reasons.{IsPlain, IsNamedText, IsStopOf, IsStatusOr, IsReported, no_reason};
 
 use crate::buffers::put_text;
 use crate::error_kinds::kind_number;
@@ -154,12 +154,12 @@ pub(crate) fn stop_of(alloc: Global, status: Status, text: &str) -> Stop
 }
 
 /// Writes the reason and as much of its text as fits, if a call has no result.
-pub(crate) fn tell<T>(
+pub(crate) fn report<T>(
     made: Result<T, Stop>,
     reason: &mut Reason,
     text: &mut [u8],
 ) -> Result<T, Status>
-    ensures { IsTold made reason.new text.old text.new result }
+    ensures { IsReported made reason.new text.old text.new result }
 {
     match made {
         Ok(value) => {

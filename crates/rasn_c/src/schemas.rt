@@ -19,7 +19,7 @@ pub(crate) struct Query {
 }
 
 /// Returns the type whose schema has these octets, and the rules of this number.
-pub(crate) fn asked(alloc: Global, schema: &[u8], rule: u32) -> Result<Query, Stop>
+pub(crate) fn query_of(alloc: Global, schema: &[u8], rule: u32) -> Result<Query, Stop>
     ensures { MatchResult result (λ a. IsAsked schema.now rule a.schema a.root a.rule) (λ stop. IsNotAsked schema.now rule stop.status) }
 {
     let Some(rule) = rule_numbered(rule) else {
@@ -30,12 +30,12 @@ pub(crate) fn asked(alloc: Global, schema: &[u8], rule: u32) -> Result<Query, St
             let Compiled { schema, root, .. } = compiled;
             Ok(Query { schema, root, rule })
         }
-        Err(fault) => Err(bad_schema(alloc, &fault)),
+        Err(fault) => Err(schema_stop(alloc, &fault)),
     }
 }
 
 /// Returns the end of a call whose schema's octets have this fault.
-fn bad_schema(alloc: Global, fault: &ReadFault) -> Stop
+fn schema_stop(alloc: Global, fault: &ReadFault) -> Stop
     ensures { IsStatusOf fault.now result.status }
 {
     if matches!(fault, ReadFault::OutOfMemory) {

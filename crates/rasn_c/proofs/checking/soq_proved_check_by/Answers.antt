@@ -7,8 +7,8 @@ returns c = record {
   is = record {
     made = c.check_by-checked.result;
     is = c.check_by-checked.ensures;
-    answer = c.tell.result;
-    told = c.tell.ensures;
+    answer = c.report.result;
+    reported = c.report.ensures;
     given = c.status_of.ensures;
   };
 }

@@ -21,7 +21,7 @@ returns-in-Ok c = text_of_json c.args.schema.now c.args.rule c.args.lines c.args
 }) c.with_zero.result c.with_zero.ensures
 
 pub returns-in-Err-Decode : goal.returns-in-Err-Decode
-returns-in-Err-Decode c = json_unread _ _ _ c.unread.result _ _ _ c.in_ok-schema.ensures _ c.unread.ensures
+returns-in-Err-Decode c = json_unread _ _ _ c.unread_stop.result _ _ _ c.in_ok-schema.ensures _ c.unread_stop.ensures
 
 pub returns : goal.returns
 returns c =

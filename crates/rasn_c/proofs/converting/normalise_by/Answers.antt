@@ -16,7 +16,7 @@ returns-in-Ok c = record {
 pub returns-in-Err-Decode : goal.returns-in-Err-Decode
 returns-in-Err-Decode c =
     let none = not_normal _ _ _ _ _ _ c.in-Err.error c.in_ok-schema.ensures (never _ (IsOutOfMemoryAlone c.in-Err.error) c.is_out_of_memory.ensures c.if-is_out_of_memory.false) c.in-Err.ensures.fails in
-    normal_unread c.args.schema.now c.args.rule c.args.octets.now c.unread.result _ _ _ none _ c.unread.ensures
+    normal_unread c.args.schema.now c.args.rule c.args.octets.now c.unread_stop.result _ _ _ none _ c.unread_stop.ensures
 
 pub returns-in-Ok-format : goal.returns-in-Ok-format
 returns-in-Ok-format c =

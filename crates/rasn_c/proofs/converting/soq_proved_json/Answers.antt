@@ -7,8 +7,8 @@ returns c = record {
   is = record {
     made = c.json_by-made.result;
     is = c.json_by-made.ensures;
-    answer = c.tell.result;
-    told = c.tell.ensures;
+    answer = c.report.result;
+    reported = c.report.ensures;
     delivered = c.deliver.ensures;
   };
 }

@@ -7,8 +7,8 @@ returns c = record {
   is = record {
     made = c.normalise_by-made.result;
     is = c.normalise_by-made.ensures;
-    answer = c.tell.result;
-    told = c.tell.ensures;
+    answer = c.report.result;
+    reported = c.report.ensures;
     delivered = c.deliver.ensures;
   };
 }

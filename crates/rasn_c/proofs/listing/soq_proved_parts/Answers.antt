@@ -7,8 +7,8 @@ returns c = record {
   is = record {
     made = c.list.result;
     is = c.list.ensures;
-    answer = c.tell-made.result;
-    told = c.tell-made.ensures;
+    answer = c.report-made.result;
+    reported = c.report-made.ensures;
     given = c.put_parts.ensures;
   };
 }
