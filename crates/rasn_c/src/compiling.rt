@@ -14,7 +14,7 @@ use rasn_schema_octets::{WriteFault, write};
 use std::alloc::{AllocError, Global};
 use std::str;
 
-/// A text of modules, with the name that faults have for it: `soq_modules` of the header. Both are
+/// A text of modules, with the name that faults have for it: `soq_texts` of the header. Both are
 /// UTF-8.
 #[repr(C)]
 #[derive(Clone, Copy, Debug)]
