@@ -11,7 +11,7 @@ _soqavise() {
         lint) options+=' --module --type --lines --input --color' ;;
         types) options+=' --module' ;;
         dump) options+=' --input' ;;
-        rust) options+=' --out' ;;
+        rust) options+=' --out --message --type --open --also --from' ;;
     esac
     case $before in
         --rules) mapfile -t COMPREPLY < <(compgen -W 'ber cer der' -- "$word") ;;
