@@ -1,6 +1,6 @@
 //! The laws of the grammar, for every rule. The contract of each function is a theorem about the
 //! definitions; the functions do nothing when they run. *Carried*, *lawful* and the other terms are
-//! those of docs/GLOSSARY.md.
+//! those of docs/PROVED.md and docs/GLOSSARY.md.
 #![tactic(auto, using(crate::proofs::AllLaws::laws))]
 
 ghost use Rattle.rasn.specs.Laws.{OneLeaf, OneOpen, OnePrefix, OneChoice, OneOpenChoice, OneOption, OneSequence, OneSet, OneSortedSet, OneSequenceOf, OneSetOf, OneUnknown};

@@ -111,7 +111,7 @@ impl<'input> MessageParts<'input> {
     /// Otherwise the framing error of the part's octets, which the parts of a message don't have.
     pub fn next(&mut self, alloc: Global) -> Result<Option<Part<'input>>, DecodeError>
         ensures next { IfOk result (λ found. IsNextOf self.old found self.new) }
-        ensures kept { (self.new.list ≡ self.old.list) × (self.new.input.now ≡ self.old.input.now) }
+        ensures same { (self.new.list ≡ self.old.list) × (self.new.input.now ≡ self.old.input.now) }
         ensures err { OnErr result (self.new.next ≡ self.old.next) }
     {
         let Some(span) = self.list.get(self.next) else {

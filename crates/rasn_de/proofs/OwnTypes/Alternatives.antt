@@ -5,7 +5,7 @@
 --     returns c = alternative_got _ 0 _ _ c.args.tag c.requires ONLY c.in_ok-time.ensures
 --     returns-in_default c = no_alternative _ c.args.tag c.requires NONE _
 --
--- ONLY is `(only _ 0 TAG refl refl (search rules))` of `Telling`, with the alternative's number and tag, and NONE `(nowhere _ _ (search rules, (.., tt)))`.
+-- ONLY is `(only _ 0 TAG refl refl (search rules))` of `Tags`, with the alternative's number and tag, and NONE `(nowhere _ _ (search rules, (.., tt)))`.
 -- A part of a SET that has a default is read by a default form, whose clause `reads` is asked of the default's tree:
 --
 --     returns c = alternative_got _ 0 _ _ c.args.tag c.requires ONLY (c.in_ok-level.ensures.reads DEFAULT (λ v h. ..))

@@ -83,13 +83,9 @@ pub(crate) fn push_cleared(out: &mut Vec<u8>, octets: &[u8], bits: usize) -> Res
     ensures octets { OnOk result (AreOctets out.new.items) }
     ensures err { OnErr result (out.new.items ≡ out.old.items) }
 {
-    match out.extend_from_slice(octets) {
-        Ok(()) => {
-            clear_last(out, bits);
-            Ok(())
-        }
-        Err(_) => Err(AllocError),
-    }
+    out.extend_from_slice(octets)?;
+    clear_last(out, bits);
+    Ok(())
 }
 
 /// Appends the bits of octets to the bits of others, whose last octet has `unused` unused bits. The

@@ -44,7 +44,7 @@ pub fn gather<T: Contents>(
     ensures ok { IfOk result (AppendsCounted (T.IsWritten contents.now) tag measured gathered.old.items gathered.new.items) }
     ensures noted { OnOk result (tags_of tags.new ≡ noted (tags_of tags.old) (tag ∷ [])) }
     ensures err { OnErr result (gathered.new.items ≡ gathered.old.items) }
-    ensures kept { OnErr result (tags_of tags.new ≡ tags_of tags.old) }
+    ensures same { OnErr result (tags_of tags.new ≡ tags_of tags.old) }
 {
     let at = gathered.len();
     reserve_tag(tags)?;
@@ -115,7 +115,7 @@ pub fn close_value(
     ensures total { OnOk result (value.new.list.measured ≡ value.old.list.measured + (length (header_octets (head_of rule tag count)) + length (back rule) + count)) }
     ensures noted { OnOk result (tags_of value.new.list.tags ≡ noted (tags_of value.old.list.tags) (tag ∷ [])) }
     ensures err { OnErr result ((take value.old.end gathered.new.items ≡ take value.old.end gathered.old.items) × (take value.old.last headers.new.items ≡ take value.old.last headers.old.items)) }
-    ensures kept { OnErr result ((value.new.list.measured ≡ value.old.list.measured) × (tags_of value.new.list.tags ≡ tags_of value.old.list.tags)) }
+    ensures same { OnErr result ((value.new.list.measured ≡ value.old.list.measured) × (tags_of value.new.list.tags ≡ tags_of value.old.list.tags)) }
 {
     let head = header_for(rule, tag, count);
     let total = sum(

@@ -35,7 +35,7 @@ pub invariant_of-self-in-Err-closed : goal.invariant_of-self-in-Err-closed
 invariant_of-self-in-Err-closed c =
     let e : (opens c.self.inside.around.items c.self.inside.innermost) ≡ (opens c.pop_innermost-open.new.around.items c.pop_innermost-open.new.innermost) ++ c.pop_innermost-open.result ∷ [] = c.pop_innermost-open.ensures.all in
     let t = top c.self.inside.gathered.items c.self.inside.headers.items (opens c.self.inside.around.items c.self.inside.innermost) (opens c.pop_innermost-open.new.around.items c.pop_innermost-open.new.innermost) c.pop_innermost-open.result c.self.inside.list.start c.self.inside.list.first e c.self.invariant.1 in
-    rw (c.truncate.ensures.items, c.truncate-in-Err-closed.ensures.items, c.in-Err-closed.ensures.place.0, c.in-Err-closed.ensures.place.1, c.in-Err-closed.ensures.err.0, c.in-Err-closed.ensures.err.1, c.in-Err-closed.ensures.start.0, c.in-Err-closed.ensures.start.1, c.in-Err-closed.ensures.kept.0) (t.sound, cut-chain c.self.inside.rule c.self.inside.gathered.items c.self.inside.headers.items (opens c.pop_innermost-open.new.around.items c.pop_innermost-open.new.innermost) c.pop_innermost-open.result c.self.inside.list.start c.self.inside.list.first t, c.pop_innermost-open.ensures.innermost)
+    rw (c.truncate.ensures.items, c.truncate-in-Err-closed.ensures.items, c.in-Err-closed.ensures.place.0, c.in-Err-closed.ensures.place.1, c.in-Err-closed.ensures.err.0, c.in-Err-closed.ensures.err.1, c.in-Err-closed.ensures.start.0, c.in-Err-closed.ensures.start.1, c.in-Err-closed.ensures.same.0) (t.sound, cut-chain c.self.inside.rule c.self.inside.gathered.items c.self.inside.headers.items (opens c.pop_innermost-open.new.around.items c.pop_innermost-open.new.innermost) c.pop_innermost-open.result c.self.inside.list.start c.self.inside.list.first t, c.pop_innermost-open.ensures.innermost)
 
 pub returns-in-Ok-clause-ok : goal.returns-in-Ok-clause-ok
 returns-in-Ok-clause-ok c = λ v b.
@@ -47,7 +47,7 @@ pub returns-in-Err-closed-clause-err : goal.returns-in-Err-closed-clause-err
 returns-in-Err-closed-clause-err c = λ v b.
     let e : (opens c.self.inside.around.items c.self.inside.innermost) ≡ (opens c.pop_innermost-open.new.around.items c.pop_innermost-open.new.innermost) ++ c.pop_innermost-open.result ∷ [] = c.pop_innermost-open.ensures.all in
     let t = top c.self.inside.gathered.items c.self.inside.headers.items (opens c.self.inside.around.items c.self.inside.innermost) (opens c.pop_innermost-open.new.around.items c.pop_innermost-open.new.innermost) c.pop_innermost-open.result c.self.inside.list.start c.self.inside.list.first e c.self.invariant.1 in
-    rw (c.truncate.ensures.items, c.truncate-in-Err-closed.ensures.items, c.in-Err-closed.ensures.place.0, c.in-Err-closed.ensures.place.1, c.in-Err-closed.ensures.err.0, c.in-Err-closed.ensures.err.1, c.in-Err-closed.ensures.start.0, c.in-Err-closed.ensures.start.1, c.in-Err-closed.ensures.kept.1) (cut-view c.self.inside.rule c.self.inside.gathered.items c.self.inside.headers.items (opens c.pop_innermost-open.new.around.items c.pop_innermost-open.new.innermost) c.pop_innermost-open.result c.self.inside.list.start c.self.inside.list.first t (opens c.self.inside.around.items c.self.inside.innermost) e v (ap (λ x. x.rule) c.self.view_is ∙ b.0) (ap (λ x. x.below) c.self.view_is ∙ b.1))
+    rw (c.truncate.ensures.items, c.truncate-in-Err-closed.ensures.items, c.in-Err-closed.ensures.place.0, c.in-Err-closed.ensures.place.1, c.in-Err-closed.ensures.err.0, c.in-Err-closed.ensures.err.1, c.in-Err-closed.ensures.start.0, c.in-Err-closed.ensures.start.1, c.in-Err-closed.ensures.same.1) (cut-view c.self.inside.rule c.self.inside.gathered.items c.self.inside.headers.items (opens c.pop_innermost-open.new.around.items c.pop_innermost-open.new.innermost) c.pop_innermost-open.result c.self.inside.list.start c.self.inside.list.first t (opens c.self.inside.around.items c.self.inside.innermost) e v (ap (λ x. x.rule) c.self.view_is ∙ b.0) (ap (λ x. x.below) c.self.view_is ∙ b.1))
 
 pub pop_innermost-open-requires : goal.pop_innermost-open-requires
 pop_innermost-open-requires c = is_open c.self.inside.gathered.items c.self.inside.headers.items c.self.inside.around.items c.self.inside.innermost c.self.invariant.2 (rw (← c.self.view_is) at c.requires)
