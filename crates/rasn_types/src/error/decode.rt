@@ -30,10 +30,10 @@ impl Needed {
 /// The reason why a value isn't read, and the rules by which it was read.
 #[derive(Debug, PartialEq, Eq, Drop)]
 pub struct DecodeError {
-    /// What is wrong.
-    pub kind: DecodeErrorKind,
     /// The rules by which the value was read.
     pub codec: Codec,
+    /// What is wrong.
+    pub kind: DecodeErrorKind,
 }
 
 // Every layer returns this type, so its size is kept small.

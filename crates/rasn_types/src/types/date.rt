@@ -11,7 +11,8 @@ use std::marker::Model;
 /// (X.680 38.4.1).
 #[derive(Clone, Copy, Debug, PartialEq, Eq, PartialOrd, Ord)]
 pub struct Date {
-    year: i32,
+    // Of 64 bits, so that a value that holds a day is moved by whole words.
+    year: i64,
     month: u8,
     day: u8,
 }
@@ -59,7 +60,11 @@ impl Date {
             && 1 <= day
             && day <= month_length(year, month)
         {
-            Some(Date { year, month, day })
+            Some(Date {
+                year: i64::from(year),
+                month,
+                day,
+            })
         } else {
             None
         }
@@ -70,7 +75,7 @@ impl Date {
         ensures is { result ≡ self.now.year }
         ensures exists { IsDay self.now }
     {
-        self.year
+        self.year as i32
     }
 
     /// Returns the month, from 1.
@@ -94,7 +99,7 @@ impl Date {
         ensures { result ≡ next_day self }
     {
         let Date { year, month, day } = self;
-        if day < month_length(year, month) {
+        if day < month_length(self.year(), month) {
             Date {
                 year,
                 month,
@@ -132,7 +137,7 @@ impl Date {
             Date {
                 year,
                 month: month - 1,
-                day: month_length(year, month - 1),
+                day: month_length(self.year(), month - 1),
             }
         } else {
             Date {
