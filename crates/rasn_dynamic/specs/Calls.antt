@@ -61,9 +61,9 @@ FailsAtFixed n tag c old e new = DecodesOctetString tag unconstrained old (Err e
     ⊎ ((octets : CowSlice ℕ Global) × DecodesOctetString tag unconstrained old (Ok octets) new × IsOfWrongSize n c (cow_slice_items octets) new e)
 
 -- The value is appended, if values are kept, and some of the input was read; or nothing was read, or memory ran out.
-abbrev pub IsKept : Bool → ℕ → State → Value → List Value → Result (Unit {0}) DecodeError → List Value → Type 0
-IsKept keep left s v vs (Ok done) us = (keep ≡ true → us ≡ vs ++ v ∷ []) × (length s.rest ≢ left)
-IsKept keep left s v vs (Err e) us = ((length s.rest ≡ left) × IsErrorOf (UnexpectedExtraData left) s e) ⊎ IsErrorOf OutOfMemory s e
+abbrev pub IsAppended : Bool → ℕ → State → Value → List Value → Result (Unit {0}) DecodeError → List Value → Type 0
+IsAppended keep left s v vs (Ok done) us = (keep ≡ true → us ≡ vs ++ v ∷ []) × (length s.rest ≢ left)
+IsAppended keep left s v vs (Err e) us = ((length s.rest ≡ left) × IsErrorOf (UnexpectedExtraData left) s e) ⊎ IsErrorOf OutOfMemory s e
 
 abbrev pub IsDefaultOf : Presence → Tree → Type 0
 IsDefaultOf required t = ⊥

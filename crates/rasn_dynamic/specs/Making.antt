@@ -24,7 +24,7 @@ outcome (Ok done) v e = Ok v
 outcome (Err r) v e = Err e
 
 -- The same of a call that leaves only its error elsewhere.
-abbrev pub reported : {T : Type 0} → Result T Refused → DecodeError → Result T DecodeError
+abbrev pub reported : {T E : Type 0} → Result T Refused → E → Result T E
 reported (Ok v) e = Ok v
 reported (Err r) e = Err e
 

@@ -15,12 +15,6 @@ use Rattle.rasn_enc.specs.SortedSet.{HoldsParts, FailsAtComponents}
 use Rattle.rasn_enc.specs.declared.ber.enc.set_parts.SetComponent.{SetComponent}
 use Rattle.rasn_schema.specs.Shapes.{ends_unknown, known_parts}
 use Rattle.rasn_enc.specs.SequenceOf.{AppendsElements, AppendsSetOf, FailsAtElement, FailsAtElements}
-use Rattle.rasn_dynamic.specs.declared.kept.Unwritten.{Unwritten}
-
--- What a call returns whose error is kept elsewhere.
-abbrev pub told : Result (Unit {0}) Unwritten → EncodeError → Result (Unit {0}) EncodeError
-told (Ok x) e = Ok x
-told (Err n) e = Err e
 
 -- The outcome is an error that names these rules.
 abbrev pub IsFormError : Codec → Result (Unit {0}) EncodeError → Type 0

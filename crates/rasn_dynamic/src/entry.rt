@@ -229,17 +229,17 @@ fn write(
         return Err(out_of_memory(rule));
     }
     let mut encoder = Encoder::over(alloc, EncoderOptions::of(rule), buffer);
-    let mut fault = out_of_memory(rule);
+    let mut error = out_of_memory(rule);
     match encode_at(
         &mut encoder,
         schema.types(),
         usize::MAX,
         id,
         value,
-        &mut fault,
+        &mut error,
     ) {
         Ok(()) => encoder.output(),
-        Err(_) => Err(fault),
+        Err(_) => Err(error),
     }
 }
 

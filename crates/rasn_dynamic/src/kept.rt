@@ -6,45 +6,43 @@ ghost use Rattle.std.specs.Prelude.{◌≡◌, ◌<◌, ◌≤◌, length, Err, 
 ghost use Rattle.rasn_types.specs.Shapes.{Admits};
 ghost use Rattle.rasn_enc.specs.Errors.{FailsAtSize};
 ghost use Rattle.rasn_enc.specs.View.{View, IsBelow};
-ghost use Rattle.rasn_dynamic.specs.Written.{told, IsFormError};
+ghost use Rattle.rasn_dynamic.specs.Making.{reported};
+ghost use Rattle.rasn_dynamic.specs.Written.{IsFormError};
 
+use crate::walk::Refused;
 use crate::write_leaf::other_form;
 use rasn_enc::ber::enc::Encoder;
 use rasn_types::error::EncodeError;
 use rasn_types::types::{Constraints, Tag};
 
-/// Says that a value isn't written. The error is where the caller keeps it.
-#[derive(Clone, Copy)]
-pub struct Unwritten;
-
 /// Keeps this error.
 #[cold]
 #[inline(never)]
-pub fn keep(error: EncodeError, fault: &mut EncodeError) -> Result<(), Unwritten>
-    ensures { told result fault.new ≡ Err error }
+pub fn keep(fault: EncodeError, error: &mut EncodeError) -> Result<(), Refused>
+    ensures { reported result error.new ≡ Err fault }
 {
-    *fault = error;
-    Err(Unwritten)
+    *error = fault;
+    Err(Refused)
 }
 
 /// Keeps the error of an outcome, if it is one.
 #[inline(always)]
-pub fn kept(outcome: Result<(), EncodeError>, fault: &mut EncodeError) -> Result<(), Unwritten>
-    ensures { told result fault.new ≡ outcome }
+pub fn kept(outcome: Result<(), EncodeError>, error: &mut EncodeError) -> Result<(), Refused>
+    ensures { reported result error.new ≡ outcome }
 {
     match outcome {
         Ok(()) => Ok(()),
-        Err(error) => keep(error, fault),
+        Err(fault) => keep(fault, error),
     }
 }
 
 /// Keeps the error that a value is of another form than its type's.
 #[cold]
 #[inline(never)]
-pub fn refuse_form(encoder: &Encoder, fault: &mut EncodeError) -> Result<(), Unwritten>
-    ensures { IsFormError encoder.now.rule (told result fault.new) }
+pub fn refuse_form(encoder: &Encoder, error: &mut EncodeError) -> Result<(), Refused>
+    ensures { IsFormError encoder.now.rule (reported result error.new) }
 {
-    keep(other_form(encoder), fault)
+    keep(other_form(encoder), error)
 }
 
 /// Checks that a size is within the bounds of the constraints, and keeps the error if it isn't.
@@ -53,15 +51,15 @@ pub fn check_size(
     encoder: &Encoder,
     constraints: &Constraints,
     size: usize,
-    fault: &mut EncodeError,
-) -> Result<(), Unwritten>
+    error: &mut EncodeError,
+) -> Result<(), Refused>
     ensures ok { OnOk result (Admits ◌≤◌ constraints.now.size size) }
-    ensures fails { IfErr (told result fault.new) (FailsAtSize constraints.now size encoder.now.rule) }
+    ensures fails { IfErr (reported result error.new) (FailsAtSize constraints.now size encoder.now.rule) }
 {
     if constraints.admits_size(size) {
         return Ok(());
     }
-    refuse_size(encoder, constraints, size, fault)
+    refuse_size(encoder, constraints, size, error)
 }
 
 /// Keeps the error that a size is outside the bounds of the constraints.
@@ -71,12 +69,12 @@ fn refuse_size(
     encoder: &Encoder,
     constraints: &Constraints,
     size: usize,
-    fault: &mut EncodeError,
-) -> Result<(), Unwritten>
+    error: &mut EncodeError,
+) -> Result<(), Refused>
     ensures ok { OnOk result (Admits ◌≤◌ constraints.now.size size) }
-    ensures fails { IfErr (told result fault.new) (FailsAtSize constraints.now size encoder.now.rule) }
+    ensures fails { IfErr (reported result error.new) (FailsAtSize constraints.now size encoder.now.rule) }
 {
-    kept(encoder.check_size(constraints, size), fault)
+    kept(encoder.check_size(constraints, size), error)
 }
 
 /// Drops the value that was opened last, with its contents.

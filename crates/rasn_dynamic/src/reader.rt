@@ -23,7 +23,7 @@ ghost use Rattle.rasn_dynamic.specs.Inside.{ReadsSequence, DecodesTree, DecodesC
 ghost use Rattle.rasn_dynamic.specs.Readers.{DecodesCounted, ReadsContents, ReadsType};
 ghost use Rattle.rasn_dynamic.specs.Making.{Making, Counting, IsLength, outcome, reported, trees_of, these};
 ghost use Rattle.rasn_dynamic.specs.Typed.{Makes, elements, IsSized, MayRunOut, DecodesContents};
-ghost use Rattle.rasn_dynamic.specs.Calls.{Gathers, any_required, is_required, IsMade, AreSettled, nones, names_of, IsKept, DecodesPresent, DecodesMember, IsNoAlternative, IsNoMember};
+ghost use Rattle.rasn_dynamic.specs.Calls.{Gathers, any_required, is_required, IsMade, AreSettled, nones, names_of, IsAppended, DecodesPresent, DecodesMember, IsNoAlternative, IsNoMember};
 ghost use Rattle.rasn_schema.specs.Fitting.{Fits, IsChosen, AlternativeFits, ComponentFits, ComponentsFit, EachFits, AreOctets as AreOctetsValue};
 ghost use Rattle.rasn_dynamic.specs.Found.{FoundFit, MembersFit};
 ghost use Rattle.rasn_dynamic.specs.Faults.{IsFault, IsFaultIn, IsOnly, IsAlternativeAt, IsElementAt, IsComponentAt, IsMemberHere, IsMemberAfter, Told, TellsOf, FailsAt, StopsAtChoice, StopsInElements, StopsInOrder, StopsInSequence, StopsAtComponent, IsDefaultWritten, StopsInSet, StopsAtMember};
@@ -86,7 +86,7 @@ fn keep<'input, M: Made>(
     value: &mut Value<'input>,
     values: &mut Vec<Value<'input>>,
 ) -> Result<(), Refused>
-    ensures kept { IsKept M.KEEP left decoder.now value.old values.old.items (reported result error.new) values.new.items }
+    ensures appended { IsAppended M.KEEP left decoder.now value.old values.old.items (reported result error.new) values.new.items }
     ensures rules { IfErr (reported result error.new) (λ e. e.codec ≡ decoder.now.rule) }
 {
     if decoder.remaining().len() == left {
@@ -185,25 +185,6 @@ fn put_in_any_order<'input, M: Made>(values: Vec<Value<'input>>, out: &mut Value
 }
 
 /// Returns the values of components that are all absent, where values are kept.
-#[inline(always)]
-fn leave_all_out<'input, M: Made>(
-    decoder: &Decoder<'input>,
-    error: &mut DecodeError,
-    components: &[Component],
-    values: &mut Vec<Value<'input>>,
-) -> Result<(), Refused>
-    requires { any_required components.now ≡ false }
-    ensures settled { M.KEEP ≡ true → IfOk (outcome result values.new error.new) (λ v. AreSettled components.now (nones components.now) v.items) }
-    ensures memory { IfErr (outcome result values.new error.new) (λ e. IsOutOfMemory e.kind) }
-    ensures rules { IfErr (outcome result values.new error.new) (λ e. e.codec ≡ decoder.now.rule) }
-{
-    if !M::KEEP {
-        return Ok(());
-    }
-    put_all_absent::<M>(decoder, error, components, values)
-}
-
-/// Returns the values of components that are all absent, where values are kept.
 #[cold]
 #[inline(never)]
 fn put_all_absent<'input, M: Made>(
@@ -217,16 +198,8 @@ fn put_all_absent<'input, M: Made>(
     ensures memory { IfErr (outcome result values.new error.new) (λ e. IsOutOfMemory e.kind) }
     ensures rules { IfErr (outcome result values.new error.new) (λ e. e.codec ≡ decoder.now.rule) }
 {
-    match all_absent::<M>(decoder, components) {
-        Ok(all) => {
-            *values = all;
-            Ok(())
-        }
-        Err(fault) => {
-            *error = fault;
-            Err(Refused)
-        }
-    }
+    *values = kept(all_absent::<M>(decoder, components), error)?;
+    Ok(())
 }
 
 /// Makes the value of a component that is absent, where values are kept.
@@ -961,7 +934,7 @@ fn decode_components<'input, M: Made>(
     ensures listed { IfOk (outcome result values.new walk.new.error) (λ v. Lists (λ b es. ComponentsListed (shape_of_type types.now below) below (Inside types.now below) components.now b decoder.old es) walk.old.spans walk.new.spans) }
 {
     if leaves_all_out(decoder, components) {
-        return leave_all_out::<M>(decoder, &mut walk.error, components, values);
+        return put_all_absent::<M>(decoder, &mut walk.error, components, values);
     }
     let mut rest = components;
     while let [component, after @ ..] = rest {

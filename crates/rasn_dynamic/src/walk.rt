@@ -13,7 +13,7 @@ use rasn_de::ber::de::Decoder;
 use rasn_types::error::{DecodeError, DecodeErrorKind};
 use rasn_types::types::{Codec, Tag};
 
-/// A value isn't read, for the reason that is kept beside it.
+/// A value isn't read or written, for the reason that is kept beside it.
 #[derive(Clone, Copy)]
 pub struct Refused;
 

@@ -9,9 +9,11 @@ ghost use Rattle.rasn_schema.specs.Fitting.{BitsFit, FitsLeaf, IsNumber, AreOcte
 ghost use Rattle.rasn_enc.specs.Encoding.{AppendsEncoding, EncodeFails};
 ghost use Rattle.rasn_enc.specs.Primitive.{IsAllocError};
 ghost use Rattle.rasn_enc.specs.SortedSet.{HoldsParts, FailsAtComponents};
-ghost use Rattle.rasn_dynamic.specs.Written.{Encodes, EncodesIf, told};
+ghost use Rattle.rasn_dynamic.specs.Making.{reported};
+ghost use Rattle.rasn_dynamic.specs.Written.{Encodes, EncodesIf};
 
-use crate::kept::{Unwritten, keep, kept, refuse_form};
+use crate::kept::{keep, kept, refuse_form};
+use crate::walk::Refused;
 use rasn_enc::ber::enc::Encoder;
 use rasn_enc::ber::enc::set_parts::{SetComponent, unknown_components};
 use rasn_enc::enc::Encode;
@@ -73,16 +75,16 @@ fn encode_held<T: Encode>(
     encoder: &mut Encoder,
     tag: Tag,
     constraints: &Constraints,
-    fault: &mut EncodeError,
-) -> Result<(), Unwritten>
-    ensures ok { OnOk (told result fault.new) (AppendsEncoding (tagged_as tag constraints.now T.shape) (T.tree held.now) encoder.old encoder.new) }
-    ensures err { OnErr (told result fault.new) (encoder.new ≡ encoder.old) }
-    ensures refused { IfErr (told result fault.new) (EncodeFails (tagged_as tag constraints.now T.shape) (T.tree held.now) encoder.old) }
-    ensures rules { IfErr (told result fault.new) (λ e. e.codec ≡ encoder.old.rule) }
+    error: &mut EncodeError,
+) -> Result<(), Refused>
+    ensures ok { OnOk (reported result error.new) (AppendsEncoding (tagged_as tag constraints.now T.shape) (T.tree held.now) encoder.old encoder.new) }
+    ensures err { OnErr (reported result error.new) (encoder.new ≡ encoder.old) }
+    ensures refused { IfErr (reported result error.new) (EncodeFails (tagged_as tag constraints.now T.shape) (T.tree held.now) encoder.old) }
+    ensures rules { IfErr (reported result error.new) (λ e. e.codec ≡ encoder.old.rule) }
 {
     kept(
         held.encode_with_tag_and_constraints(encoder, tag, constraints, Identifier::EMPTY),
-        fault,
+        error,
     )
 }
 
@@ -94,43 +96,43 @@ pub fn encode_leaf(
     tag: Tag,
     constraints: &Constraints,
     value: &Value<'_>,
-    fault: &mut EncodeError,
-) -> Result<(), Unwritten>
-    ensures { EncodesIf (FitsLeaf kind value.now) (leaf (kind_of kind) tag constraints.now) (tree_of value.now) encoder.old (told result fault.new) encoder.new }
+    error: &mut EncodeError,
+) -> Result<(), Refused>
+    ensures { EncodesIf (FitsLeaf kind value.now) (leaf (kind_of kind) tag constraints.now) (tree_of value.now) encoder.old (reported result error.new) encoder.new }
 {
     if !leaf_fits(kind, value) {
-        return refuse_form(encoder, fault);
+        return refuse_form(encoder, error);
     }
     let name = Identifier::EMPTY;
     match value {
-        Value::Boolean(held) => encode_held(held, encoder, tag, constraints, fault),
-        Value::Null => encode_held(&(), encoder, tag, constraints, fault),
+        Value::Boolean(held) => encode_held(held, encoder, tag, constraints, error),
+        Value::Null => encode_held(&(), encoder, tag, constraints, error),
         Value::Integer(held) => kept(
             encoder.encode_integer::<Integer>(tag, constraints, held, name),
-            fault,
+            error,
         ),
         Value::Bits(held) => kept(
             encode_bits(encoder, kind, tag, constraints, &held.as_bitstr()),
-            fault,
+            error,
         ),
         Value::Octets(held) => kept(
             encoder.encode_octet_string(tag, constraints, held.as_slice(), name),
-            fault,
+            error,
         ),
         Value::Text(held) => kept(
             encoder.encode_utf8_string(tag, constraints, held.as_str(), name),
-            fault,
+            error,
         ),
-        Value::Units(held) => encode_held(held, encoder, tag, constraints, fault),
-        Value::Arcs(held) => encode_held(held, encoder, tag, constraints, fault),
+        Value::Units(held) => encode_held(held, encoder, tag, constraints, error),
+        Value::Arcs(held) => encode_held(held, encoder, tag, constraints, error),
         Value::Instant(held) => {
             if matches!(kind, LeafKind::UtcTime) {
-                encode_held(&held.utc(), encoder, tag, constraints, fault)
+                encode_held(&held.utc(), encoder, tag, constraints, error)
             } else {
-                encode_held(held, encoder, tag, constraints, fault)
+                encode_held(held, encoder, tag, constraints, error)
             }
         }
-        Value::Day(held) => encode_held(held, encoder, tag, constraints, fault),
+        Value::Day(held) => encode_held(held, encoder, tag, constraints, error),
         Value::Items(_) | Value::Elements(_) | Value::Chosen(_, _) | Value::Absent => {
             unreachable!()
         }
@@ -144,19 +146,19 @@ pub fn encode_number(
     tag: Tag,
     numbers: &[NamedNumber],
     value: &Value<'_>,
-    fault: &mut EncodeError,
-) -> Result<(), Unwritten>
-    ensures { EncodesIf (IsNumber (numbers_of numbers.now) value.now) (leaf (enumerated (numbers_of numbers.now)) tag unconstrained) (tree_of value.now) encoder.old (told result fault.new) encoder.new }
+    error: &mut EncodeError,
+) -> Result<(), Refused>
+    ensures { EncodesIf (IsNumber (numbers_of numbers.now) value.now) (leaf (enumerated (numbers_of numbers.now)) tag unconstrained) (tree_of value.now) encoder.old (reported result error.new) encoder.new }
 {
     let Value::Integer(held) = value else {
-        return refuse_form(encoder, fault);
+        return refuse_form(encoder, error);
     };
     if !is_listed(numbers, held) {
-        return refuse_form(encoder, fault);
+        return refuse_form(encoder, error);
     }
     kept(
         encoder.encode_integer::<Integer>(tag, &Constraints::NONE, held, Identifier::EMPTY),
-        fault,
+        error,
     )
 }
 
@@ -166,14 +168,14 @@ pub fn encode_open_value(
     encoder: &mut Encoder,
     tag: Tag,
     value: &Value<'_>,
-    fault: &mut EncodeError,
-) -> Result<(), Unwritten>
-    ensures { EncodesIf (AreOctets value.now) (any (looked_for tag)) (tree_of value.now) encoder.old (told result fault.new) encoder.new }
+    error: &mut EncodeError,
+) -> Result<(), Refused>
+    ensures { EncodesIf (AreOctets value.now) (any (looked_for tag)) (tree_of value.now) encoder.old (reported result error.new) encoder.new }
 {
     let Value::Octets(held) = value else {
-        return refuse_form(encoder, fault);
+        return refuse_form(encoder, error);
     };
-    kept(encoder.encode_open(tag, held.as_slice()), fault)
+    kept(encoder.encode_open(tag, held.as_slice()), error)
 }
 
 /// Copies the octets of a value of an open type.
@@ -207,17 +209,17 @@ fn copy_unknown(alloc: Global, values: &[Value<'_>]) -> Result<Option<Unknown>, 
 pub fn encode_unknown_values(
     encoder: &mut Encoder,
     value: &Value<'_>,
-    fault: &mut EncodeError,
-) -> Result<(), Unwritten>
-    ensures { EncodesIf (AreItems (EachFits AreOctets) value.now) unknown (tree_of value.now) encoder.old (told result fault.new) encoder.new }
+    error: &mut EncodeError,
+) -> Result<(), Refused>
+    ensures { EncodesIf (AreItems (EachFits AreOctets) value.now) unknown (tree_of value.now) encoder.old (reported result error.new) encoder.new }
 {
     let Some(values) = items_of(value) else {
-        return refuse_form(encoder, fault);
+        return refuse_form(encoder, error);
     };
     match copy_unknown(encoder.alloc(), values) {
-        Ok(Some(values)) => kept(encoder.encode_unknown(&values), fault),
-        Ok(None) => refuse_form(encoder, fault),
-        Err(_) => keep(out_of_room(encoder), fault),
+        Ok(Some(values)) => kept(encoder.encode_unknown(&values), error),
+        Ok(None) => refuse_form(encoder, error),
+        Err(_) => keep(out_of_room(encoder), error),
     }
 }
 

@@ -11,9 +11,10 @@ ghost use Rattle.rasn_enc.specs.Primitive.{IsOrderError};
 ghost use Rattle.rasn_schema.specs.Trees.{tree_of};
 ghost use Rattle.rasn_schema.specs.Shapes.{shape_of_type, type_by, alternatives_by, choice_among, set_among, components_by, presence_in};
 ghost use Rattle.rasn_schema.specs.Fitting.{AlternativeFits, IsChosen, ComponentFits, ComponentsFit, EachFits, FitsBy, Fits};
-ghost use Rattle.rasn_dynamic.specs.Written.{EncodesIf, EncodesPartIf, EncodesInsideIf, EncodesPartsIf, EncodesElementsIf, EncodesSetOfIf, told, HoldsOthers, HoldsSet, FailsAtSet, AddsPart, FailsAtPart};
+ghost use Rattle.rasn_dynamic.specs.Making.{reported};
+ghost use Rattle.rasn_dynamic.specs.Written.{EncodesIf, EncodesPartIf, EncodesInsideIf, EncodesPartsIf, EncodesElementsIf, EncodesSetOfIf, HoldsOthers, HoldsSet, FailsAtSet, AddsPart, FailsAtPart};
 
-use crate::kept::{Unwritten, check_size, drop_open, keep, kept, refuse_form};
+use crate::kept::{check_size, drop_open, keep, kept, refuse_form};
 use crate::place::place_tag;
 use crate::set::named_components;
 use crate::write_leaf::{
@@ -52,7 +53,7 @@ fn no_place(encoder: &Encoder) -> EncodeError
     }
 }
 
-/// Writes a value of the type with this number, if it is one, or puts the error into `fault`. Types
+/// Writes a value of the type with this number, if it is one, or puts the error into `error`. Types
 /// are followed `levels` deep.
 #[cycle(encode)]
 pub fn encode_at(
@@ -61,16 +62,16 @@ pub fn encode_at(
     levels: usize,
     id: TypeId,
     value: &Value<'_>,
-    fault: &mut EncodeError,
-) -> Result<(), Unwritten>
-    ensures { EncodesIf (Fits types.now levels id.0 value.now) (shape_of_type types.now levels id.0) (tree_of value.now) encoder.old (told result fault.new) encoder.new }
+    error: &mut EncodeError,
+) -> Result<(), Refused>
+    ensures { EncodesIf (Fits types.now levels id.0 value.now) (shape_of_type types.now levels id.0) (tree_of value.now) encoder.old (reported result error.new) encoder.new }
 {
     if levels == 0 {
-        return refuse_form(encoder, fault);
+        return refuse_form(encoder, error);
     }
     match type_at(types, id) {
-        Some(ty) => encode_type(encoder, types, levels - 1, ty, value, fault),
-        None => refuse_form(encoder, fault),
+        Some(ty) => encode_type(encoder, types, levels - 1, ty, value, error),
+        None => refuse_form(encoder, error),
     }
 }
 
@@ -82,9 +83,9 @@ fn encode_type(
     below: usize,
     ty: &Type,
     value: &Value<'_>,
-    fault: &mut EncodeError,
-) -> Result<(), Unwritten>
-    ensures { EncodesIf (FitsBy (Fits types.now below) ty.now value.now) (type_by (shape_of_type types.now below) ty.now) (tree_of value.now) encoder.old (told result fault.new) encoder.new }
+    error: &mut EncodeError,
+) -> Result<(), Refused>
+    ensures { EncodesIf (FitsBy (Fits types.now below) ty.now value.now) (type_by (shape_of_type types.now below) ty.now) (tree_of value.now) encoder.old (reported result error.new) encoder.new }
 {
     match ty {
         Type::Leaf {
@@ -92,23 +93,23 @@ fn encode_type(
             tag,
             constraints,
             ..
-        } => encode_leaf(encoder, *kind, *tag, constraints, value, fault),
-        Type::Enumerated { tag, numbers } => encode_number(encoder, *tag, numbers, value, fault),
-        Type::Any { tag } => encode_open_value(encoder, *tag, value, fault),
-        Type::Unknown => encode_unknown_values(encoder, value, fault),
+        } => encode_leaf(encoder, *kind, *tag, constraints, value, error),
+        Type::Enumerated { tag, numbers } => encode_number(encoder, *tag, numbers, value, error),
+        Type::Any { tag } => encode_open_value(encoder, *tag, value, error),
+        Type::Unknown => encode_unknown_values(encoder, value, error),
         Type::Choice { alternatives, .. } => encode_choice(
             encoder,
             types,
             below,
             alternatives,
             value,
-            fault,
+            error,
         ),
-        Type::Tagged { .. } => encode_inside(encoder, types, below, ty, value, fault),
-        Type::Sequence { .. } => encode_inside(encoder, types, below, ty, value, fault),
-        Type::Set { .. } => encode_inside(encoder, types, below, ty, value, fault),
-        Type::SequenceOf { .. } => encode_inside(encoder, types, below, ty, value, fault),
-        Type::SetOf { .. } => encode_inside(encoder, types, below, ty, value, fault),
+        Type::Tagged { .. } => encode_inside(encoder, types, below, ty, value, error),
+        Type::Sequence { .. } => encode_inside(encoder, types, below, ty, value, error),
+        Type::Set { .. } => encode_inside(encoder, types, below, ty, value, error),
+        Type::SequenceOf { .. } => encode_inside(encoder, types, below, ty, value, error),
+        Type::SetOf { .. } => encode_inside(encoder, types, below, ty, value, error),
     }
 }
 
@@ -120,16 +121,16 @@ fn encode_choice(
     below: usize,
     alternatives: &[Alternative],
     value: &Value<'_>,
-    fault: &mut EncodeError,
-) -> Result<(), Unwritten>
-    ensures { EncodesIf (IsChosen (AlternativeFits (Fits types.now below) alternatives.now) value.now) (choice_among (alternatives_by (shape_of_type types.now below) alternatives.now)) (tree_of value.now) encoder.old (told result fault.new) encoder.new }
+    error: &mut EncodeError,
+) -> Result<(), Refused>
+    ensures { EncodesIf (IsChosen (AlternativeFits (Fits types.now below) alternatives.now) value.now) (choice_among (alternatives_by (shape_of_type types.now below) alternatives.now)) (tree_of value.now) encoder.old (reported result error.new) encoder.new }
 {
     let Value::Chosen(index, inner) = value else {
-        return refuse_form(encoder, fault);
+        return refuse_form(encoder, error);
     };
     match alternatives.get(*index) {
-        Some(alternative) => encode_at(encoder, types, below, alternative.type_id, inner, fault),
-        None => refuse_form(encoder, fault),
+        Some(alternative) => encode_at(encoder, types, below, alternative.type_id, inner, error),
+        None => refuse_form(encoder, error),
     }
 }
 
@@ -142,20 +143,20 @@ fn encode_inside(
     below: usize,
     ty: &Type,
     value: &Value<'_>,
-    fault: &mut EncodeError,
-) -> Result<(), Unwritten>
+    error: &mut EncodeError,
+) -> Result<(), Refused>
     requires { HoldsOthers (type_by (shape_of_type types.now below) ty.now) }
-    ensures { EncodesIf (FitsBy (Fits types.now below) ty.now value.now) (type_by (shape_of_type types.now below) ty.now) (tree_of value.now) encoder.old (told result fault.new) encoder.new }
+    ensures { EncodesIf (FitsBy (Fits types.now below) ty.now value.now) (type_by (shape_of_type types.now below) ty.now) (tree_of value.now) encoder.old (reported result error.new) encoder.new }
 {
     match encoder.open(false) {
-        Ok(()) => match encode_contents(encoder, types, below, ty, value, fault) {
-            Ok(()) => kept(encoder.close(ty.tag(), Ok(())), fault),
+        Ok(()) => match encode_contents(encoder, types, below, ty, value, error) {
+            Ok(()) => kept(encoder.close(ty.tag(), Ok(())), error),
             Err(unwritten) => {
                 drop_open(encoder);
                 Err(unwritten)
             }
         },
-        Err(error) => keep(error, fault),
+        Err(fault) => keep(fault, error),
     }
 }
 
@@ -167,21 +168,21 @@ fn encode_contents(
     below: usize,
     ty: &Type,
     value: &Value<'_>,
-    fault: &mut EncodeError,
-) -> Result<(), Unwritten>
+    error: &mut EncodeError,
+) -> Result<(), Refused>
     requires holds { HoldsOthers (type_by (shape_of_type types.now below) ty.now) }
     requires fresh { encoder.old.last ≡ fresh false }
-    ensures { EncodesInsideIf (FitsBy (Fits types.now below) ty.now value.now) (type_by (shape_of_type types.now below) ty.now) (tree_of value.now) encoder.old (told result fault.new) encoder.new }
+    ensures { EncodesInsideIf (FitsBy (Fits types.now below) ty.now value.now) (type_by (shape_of_type types.now below) ty.now) (tree_of value.now) encoder.old (reported result error.new) encoder.new }
 {
     match ty {
-        Type::Tagged { inner, .. } => encode_at(encoder, types, below, *inner, value, fault),
+        Type::Tagged { inner, .. } => encode_at(encoder, types, below, *inner, value, error),
         Type::Sequence { components, .. } => match items_of(value) {
-            Some(values) => encode_components(encoder, types, below, components, values, fault),
-            None => refuse_form(encoder, fault),
+            Some(values) => encode_components(encoder, types, below, components, values, error),
+            None => refuse_form(encoder, error),
         },
         Type::Set { components, .. } => match items_of(value) {
-            Some(values) => encode_set(encoder, types, below, components, values, fault),
-            None => refuse_form(encoder, fault),
+            Some(values) => encode_set(encoder, types, below, components, values, error),
+            None => refuse_form(encoder, error),
         },
         Type::SequenceOf {
             element,
@@ -189,10 +190,10 @@ fn encode_contents(
             ..
         } => match items_of(value) {
             Some(values) => {
-                check_size(encoder, constraints, values.len(), fault)?;
-                encode_elements(encoder, types, below, *element, values, fault)
+                check_size(encoder, constraints, values.len(), error)?;
+                encode_elements(encoder, types, below, *element, values, error)
             }
-            None => refuse_form(encoder, fault),
+            None => refuse_form(encoder, error),
         },
         Type::SetOf {
             element,
@@ -200,10 +201,10 @@ fn encode_contents(
             ..
         } => match elements_of(value) {
             Some(values) => {
-                check_size(encoder, constraints, values.len(), fault)?;
-                encode_elements_in_order(encoder, types, below, *element, values, fault)
+                check_size(encoder, constraints, values.len(), error)?;
+                encode_elements_in_order(encoder, types, below, *element, values, error)
             }
-            None => refuse_form(encoder, fault),
+            None => refuse_form(encoder, error),
         },
         _ => unreachable!(),
     }
@@ -217,24 +218,24 @@ fn encode_components(
     below: usize,
     components: &[Component],
     values: &[Value<'_>],
-    fault: &mut EncodeError,
-) -> Result<(), Unwritten>
-    ensures { EncodesPartsIf (ComponentsFit (Fits types.now below) components.now values.now) (components_by (shape_of_type types.now below) components.now) (list_tree tree_of values.now) encoder.old (told result fault.new) encoder.new }
+    error: &mut EncodeError,
+) -> Result<(), Refused>
+    ensures { EncodesPartsIf (ComponentsFit (Fits types.now below) components.now values.now) (components_by (shape_of_type types.now below) components.now) (list_tree tree_of values.now) encoder.old (reported result error.new) encoder.new }
 {
     let mut rest = components;
     let mut left = values;
     while let [component, after @ ..] = rest {
         let [value, others @ ..] = left else {
-            return refuse_form(encoder, fault);
+            return refuse_form(encoder, error);
         };
-        encode_component(encoder, types, below, component, value, fault)?;
+        encode_component(encoder, types, below, component, value, error)?;
         rest = after;
         left = others;
     }
     if left.is_empty() {
         return Ok(());
     }
-    refuse_form(encoder, fault)
+    refuse_form(encoder, error)
 }
 
 /// Writes a component, or nothing if it is absent.
@@ -245,14 +246,14 @@ fn encode_component(
     below: usize,
     component: &Component,
     value: &Value<'_>,
-    fault: &mut EncodeError,
-) -> Result<(), Unwritten>
-    ensures { EncodesPartIf (ComponentFits (Fits types.now below) component.now value.now) (presence_in (shape_of_type types.now below) component.now) (shape_of_type types.now below component.now.type_id.0) (tree_of value.now) encoder.old (told result fault.new) encoder.new }
+    error: &mut EncodeError,
+) -> Result<(), Refused>
+    ensures { EncodesPartIf (ComponentFits (Fits types.now below) component.now value.now) (presence_in (shape_of_type types.now below) component.now) (shape_of_type types.now below component.now.type_id.0) (tree_of value.now) encoder.old (reported result error.new) encoder.new }
 {
     if is_left_out(component, value) {
         return Ok(());
     }
-    encode_at(encoder, types, below, component.type_id, value, fault)
+    encode_at(encoder, types, below, component.type_id, value, error)
 }
 
 /// Writes the components of a SET in the order of their tags (X.690 9.3, 10.3), whatever their
@@ -265,14 +266,14 @@ fn encode_set(
     below: usize,
     components: &[Component],
     values: &[Value<'_>],
-    fault: &mut EncodeError,
-) -> Result<(), Unwritten>
+    error: &mut EncodeError,
+) -> Result<(), Refused>
     requires { encoder.old.last ≡ fresh false }
-    ensures { EncodesInsideIf (ComponentsFit (Fits types.now below) components.now values.now) (set_among eoc (components_by (shape_of_type types.now below) components.now)) (list_tree tree_of values.now) encoder.old (told result fault.new) encoder.new }
+    ensures { EncodesInsideIf (ComponentsFit (Fits types.now below) components.now values.now) (set_among eoc (components_by (shape_of_type types.now below) components.now)) (list_tree tree_of values.now) encoder.old (reported result error.new) encoder.new }
 {
     match set_components(encoder, types, below, components, values) {
-        Ok(found) => kept(encoder.append_components(&found), fault),
-        Err(error) => keep(error, fault),
+        Ok(found) => kept(encoder.append_components(&found), error),
+        Err(fault) => keep(fault, error),
     }
 }
 
@@ -359,10 +360,10 @@ fn component_octets(
     let alloc = encoder.alloc();
     let options = EncoderOptions::of(encoder.codec());
     let mut alone = Encoder::over(alloc, options, Vec::new(alloc));
-    let mut fault = out_of_room(encoder);
-    match encode_component(&mut alone, types, below, component, value, &mut fault) {
+    let mut error = out_of_room(encoder);
+    match encode_component(&mut alone, types, below, component, value, &mut error) {
         Ok(()) => alone.output(),
-        Err(_) => Err(fault),
+        Err(_) => Err(error),
     }
 }
 
@@ -374,14 +375,14 @@ fn encode_elements(
     below: usize,
     element: TypeId,
     values: &[Value<'_>],
-    fault: &mut EncodeError,
-) -> Result<(), Unwritten>
+    error: &mut EncodeError,
+) -> Result<(), Refused>
     requires { encoder.old.last.tags ≡ None }
-    ensures { EncodesElementsIf (EachFits (Fits types.now below element.0) values.now) (shape_of_type types.now below element.0) (map tree_of values.now) encoder.old (told result fault.new) encoder.new }
+    ensures { EncodesElementsIf (EachFits (Fits types.now below element.0) values.now) (shape_of_type types.now below element.0) (map tree_of values.now) encoder.old (reported result error.new) encoder.new }
 {
     let mut rest = values;
     while let [value, after @ ..] = rest {
-        encode_at(encoder, types, below, element, value, fault)?;
+        encode_at(encoder, types, below, element, value, error)?;
         rest = after;
     }
     Ok(())
@@ -395,18 +396,18 @@ fn encode_elements_in_order(
     below: usize,
     element: TypeId,
     values: &[Value<'_>],
-    fault: &mut EncodeError,
-) -> Result<(), Unwritten>
+    error: &mut EncodeError,
+) -> Result<(), Refused>
     requires { encoder.old.last.tags ≡ None }
-    ensures { EncodesSetOfIf (EachFits (Fits types.now below element.0) values.now) (shape_of_type types.now below element.0) (map tree_of values.now) encoder.old (told result fault.new) encoder.new }
+    ensures { EncodesSetOfIf (EachFits (Fits types.now below element.0) values.now) (shape_of_type types.now below element.0) (map tree_of values.now) encoder.old (reported result error.new) encoder.new }
 {
     let mut previous = encoder.last_len();
     let mut rest = values;
     while let [value, after @ ..] = rest {
         let start = encoder.last_len();
-        encode_at(encoder, types, below, element, value, fault)?;
+        encode_at(encoder, types, below, element, value, error)?;
         if encoder.neighbours_out_of_order(previous, start) {
-            return keep(out_of_order(encoder), fault);
+            return keep(out_of_order(encoder), error);
         }
         previous = start;
         rest = after;

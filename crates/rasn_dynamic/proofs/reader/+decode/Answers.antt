@@ -173,12 +173,12 @@ decode_elements-loop-element-preserved g t c =
     let w = c.in_ok-decode_part.ensures.reads in (
       (
         i.0 ++ w.0 ∷ [],
-        one_made _ c.loop-element.values.items _ i.0 c.decode_part.new.out w.0 i.1 w.1 c.in_ok-keep.ensures.kept.0,
+        one_made _ c.loop-element.values.items _ i.0 c.decode_part.new.out w.0 i.1 w.1 c.in_ok-keep.ensures.appended.0,
         ap (λ n. n + 1) i.2 ∙ sym (length-append i.0 (w.0 ∷ [])),
         passes_more (DecodesTree (shape_of_type c.args.types.now c.args.below c.args.element.0)) c.loop-element.decoder _ w.0 c.loop-element-test.ensures w.2
-            (λ e. c.in_ok-keep.ensures.kept.1 (e ∙ sym (ap length c.remaining-left.ensures.value))) c.args.decoder.now i.0 _ refl i.3,
+            (λ e. c.in_ok-keep.ensures.appended.1 (e ∙ sym (ap length c.remaining-left.ensures.value))) c.args.decoder.now i.0 _ refl i.3,
       ),
-      (λ k. each_more (Fits c.args.types.now c.args.below c.args.element.0) c.loop-element.values.items _ c.decode_part.new.out (c.in_ok-keep.ensures.kept.0 k) (c.loop-element.invariant.1 k) (c.in_ok-decode_part.ensures.fits k)),
+      (λ k. each_more (Fits c.args.types.now c.args.below c.args.element.0) c.loop-element.values.items _ c.decode_part.new.out (c.in_ok-keep.ensures.appended.0 k) (c.loop-element.invariant.1 k) (c.in_ok-decode_part.ensures.fits k)),
       c.in_ok-decode_part.ensures.told,
       lists_more (λ b k. PartListed (shape_of_type c.args.types.now c.args.below) c.args.below (Inside c.args.types.now c.args.below) c.args.element.0 k b) c.loop-element.count c.args.decoder.now c.loop-element.decoder _ _ _ _ c.loop-element.invariant.3 c.in_ok-decode_part.ensures.listed,
     )
@@ -198,7 +198,7 @@ decode_elements-returns-in_err-keep-clause-reads g t c =
       inr (
         w.0,
         w.2,
-        elim c.in_err-keep.ensures.kept [
+        elim c.in_err-keep.ensures.appended [
           | inl p ↦ inl (p.0 ∙ at, subst (λ n. IsErrorOf (UnexpectedExtraData n) c.loop-element.decoder e) at (rules_same c.loop-element.decoder _ (UnexpectedExtraData _) e k p.1))
           | inr q ↦ inr (rules_same c.loop-element.decoder _ OutOfMemory e k q)
         ],
@@ -219,7 +219,7 @@ decode_elements-overflow_add-count g t c =
     let i = c.loop-element.invariant.0 in
     let w = c.in_ok-decode_part.ensures.reads in
     let n = turns_long (shape_of_type c.args.types.now c.args.below c.args.element.0) (λ (z : Tree). z) c.args.decoder.now i.0 c.loop-element.decoder i.3 in
-    let m = one_taken c.loop-element.decoder.rest w.2.end.0 _ w.2.end.1 (λ e. c.in_ok-keep.ensures.kept.1 (e ∙ sym (ap length c.remaining-left.ensures.value))) in
+    let m = one_taken c.loop-element.decoder.rest w.2.end.0 _ w.2.end.1 (λ e. c.in_ok-keep.ensures.appended.1 (e ∙ sym (ap length c.remaining-left.ensures.value))) in
     let l = i.2 in
     omega (arith, l, n, m, c.octets_left.ensures, c.octets_left.type_inv)
 
@@ -233,7 +233,7 @@ pub decode_elements-returns-clause-fits : goal.decode_elements-returns-clause-fi
 decode_elements-returns-clause-fits g t c = c.loop-element.invariant.1
 
 pub decode_elements-loop-element-smaller : goal.decode_elements-loop-element-smaller
-decode_elements-loop-element-smaller g t c = shorter _ _ c.in_ok-decode_part.ensures.reads.2.end (λ e. c.in_ok-keep.ensures.kept.1 (e ∙ sym (ap length c.remaining-left.ensures.value)))
+decode_elements-loop-element-smaller g t c = shorter _ _ c.in_ok-decode_part.ensures.reads.2.end (λ e. c.in_ok-keep.ensures.appended.1 (e ∙ sym (ap length c.remaining-left.ensures.value)))
 
 pub decode_elements-returns-in_err-decode_part-clause-rules : goal.decode_elements-returns-in_err-decode_part-clause-rules
 decode_elements-returns-in_err-decode_part-clause-rules g t c = rw (residual _ c.from_residual.ensures.1) (c.in_err-decode_part.ensures.rules ∙ turn_rules (shape_of_type c.args.types.now c.args.below c.args.element.0) (λ (z : Tree). z) _ _ _ c.loop-element.invariant.0.3)
@@ -251,7 +251,7 @@ pub decode_elements_in_order-returns-clause-fits : goal.decode_elements_in_order
 decode_elements_in_order-returns-clause-fits g t c = c.loop-last.invariant.1
 
 pub decode_elements_in_order-loop-last-smaller : goal.decode_elements_in_order-loop-last-smaller
-decode_elements_in_order-loop-last-smaller g t c = shorter _ _ c.in_ok-decode_part.ensures.reads.2.end (λ e. c.in_ok-keep.ensures.kept.1 (e ∙ sym (ap length c.remaining-start.ensures.value)))
+decode_elements_in_order-loop-last-smaller g t c = shorter _ _ c.in_ok-decode_part.ensures.reads.2.end (λ e. c.in_ok-keep.ensures.appended.1 (e ∙ sym (ap length c.remaining-start.ensures.value)))
 
 pub decode_elements_in_order-returns-in_err-decode_part-clause-reads : goal.decode_elements_in_order-returns-in_err-decode_part-clause-reads
 decode_elements_in_order-returns-in_err-decode_part-clause-reads g t c =
@@ -268,7 +268,7 @@ decode_elements_in_order-overflow_add-count g t c =
     let w = c.in_ok-decode_part.ensures.reads in
     let p = forgotten (DecodesTree (shape_of_type c.args.types.now c.args.below c.args.element.0)) c.args.decoder.now i.0 i.1 c.loop-last.decoder i.4 in
     let n = turns_long (shape_of_type c.args.types.now c.args.below c.args.element.0) (λ (z : Tree). z) c.args.decoder.now i.0 c.loop-last.decoder p in
-    let m = one_taken c.loop-last.decoder.rest w.2.end.0 _ w.2.end.1 (λ e. c.in_ok-keep.ensures.kept.1 (e ∙ sym (ap length c.remaining-start.ensures.value))) in
+    let m = one_taken c.loop-last.decoder.rest w.2.end.0 _ w.2.end.1 (λ e. c.in_ok-keep.ensures.appended.1 (e ∙ sym (ap length c.remaining-start.ensures.value))) in
     let l = i.3 in
     omega (arith, l, n, m, c.octets_left.ensures, c.octets_left.type_inv)
 
@@ -291,7 +291,7 @@ decode_elements_in_order-returns-in_err-keep-clause-reads g t c =
       inl (inr (
         w.0,
         w.2,
-        elim c.in_err-keep.ensures.kept [
+        elim c.in_err-keep.ensures.appended [
           | inl p ↦ inl (p.0 ∙ at, subst (λ n. IsErrorOf (UnexpectedExtraData n) c.loop-last.decoder e) at (rules_same c.loop-last.decoder _ (UnexpectedExtraData (length c.remaining-start.result.now)) e k p.1))
           | inr q ↦ inr (rules_same c.loop-last.decoder _ OutOfMemory e k q)
         ],
@@ -314,7 +314,7 @@ decode_elements_in_order-returns-then-is_less-clause-reads g t c =
         c.octets_before-octets.result.now,
         w.2,
         rw (← c.remaining-start.ensures.value, ← c.remaining.ensures.value) c.octets_before-octets.ensures,
-        (λ e. c.in_ok-keep.ensures.kept.1 (e ∙ sym (ap length c.remaining-start.ensures.value))),
+        (λ e. c.in_ok-keep.ensures.appended.1 (e ∙ sym (ap length c.remaining-start.ensures.value))),
         strict_before c.loop-last.decoder _ k c.if-is_strict.ensures,
         out_of_order i.1 c.loop-last.last.now c.octets_before-octets.result.now i.6 c.if-is_less.ensures,
         rules_same c.loop-last.decoder _ (Der SetOfOutOfOrder) c.refuse_order.new.error k c.refuse_order.ensures,
@@ -335,15 +335,15 @@ decode_elements_in_order-loop-last-preserved g t c =
       (
         i.0 ++ w.0 ∷ [],
         i.1 ++ (c.octets_before-octets.result.now ∷ []),
-        one_made _ c.loop-last.values.items _ i.0 c.decode_part.new.out w.0 i.2 w.1 c.in_ok-keep.ensures.kept.0,
+        one_made _ c.loop-last.values.items _ i.0 c.decode_part.new.out w.0 i.2 w.1 c.in_ok-keep.ensures.appended.0,
         ap (λ n. n + 1) i.3 ∙ sym (length-append i.0 (w.0 ∷ [])),
         passes_from (DecodesTree (shape_of_type c.args.types.now c.args.below c.args.element.0)) c.loop-last.decoder _ w.0 c.octets_before-octets.result.now
             (rw (← c.remaining-start.ensures.value, ← c.remaining.ensures.value) c.octets_before-octets.ensures) c.loop-last-test.ensures w.2
-            (λ e. c.in_ok-keep.ensures.kept.1 (e ∙ sym (ap length c.remaining-start.ensures.value))) c.args.decoder.now i.0 _ i.1 refl i.4,
+            (λ e. c.in_ok-keep.ensures.appended.1 (e ∙ sym (ap length c.remaining-start.ensures.value))) c.args.decoder.now i.0 _ i.1 refl i.4,
         (λ s. in_order i.1 c.loop-last.last.now c.octets_before-octets.result.now (i.5 s) i.6 (not_less s)),
         ends_more i.1 c.octets_before-octets.result.now,
       ),
-      (λ q. each_more (Fits c.args.types.now c.args.below c.args.element.0) c.loop-last.values.items _ c.decode_part.new.out (c.in_ok-keep.ensures.kept.0 q) (c.loop-last.invariant.1 q) (c.in_ok-decode_part.ensures.fits q)),
+      (λ q. each_more (Fits c.args.types.now c.args.below c.args.element.0) c.loop-last.values.items _ c.decode_part.new.out (c.in_ok-keep.ensures.appended.0 q) (c.loop-last.invariant.1 q) (c.in_ok-decode_part.ensures.fits q)),
       c.in_ok-decode_part.ensures.told,
       lists_more (λ b k. PartListed (shape_of_type c.args.types.now c.args.below) c.args.below (Inside c.args.types.now c.args.below) c.args.element.0 k b) c.loop-last.count c.args.decoder.now c.loop-last.decoder _ _ _ _ c.loop-last.invariant.3 c.in_ok-decode_part.ensures.listed,
     )
@@ -463,13 +463,13 @@ decode_compared-returns-in-None-clause-told g t c = subst (λ (z : State). Tells
 
 pub decode_components-returns-then-leaves_all_out-clause-reads : goal.decode_components-returns-then-leaves_all_out-clause-reads
 decode_components-returns-then-leaves_all_out-clause-reads g t c =
-    all_left_read (shape_of_type c.args.types.now c.args.below) c.args.components.now c.args.decoder.now _ c.if-leaves_all_out.ensures _ c.leave_all_out.ensures.settled c.leave_all_out.ensures.memory
+    all_left_read (shape_of_type c.args.types.now c.args.below) c.args.components.now c.args.decoder.now _ c.if-leaves_all_out.ensures _ c.put_all_absent.ensures.settled c.put_all_absent.ensures.memory
 
-pub decode_components-leave_all_out-requires : goal.decode_components-leave_all_out-requires
-decode_components-leave_all_out-requires g t c = c.if-leaves_all_out.ensures.0
+pub decode_components-put_all_absent-requires : goal.decode_components-put_all_absent-requires
+decode_components-put_all_absent-requires g t c = c.if-leaves_all_out.ensures.0
 
 pub decode_components-returns-then-leaves_all_out-clause-fits : goal.decode_components-returns-then-leaves_all_out-clause-fits
-decode_components-returns-then-leaves_all_out-clause-fits g t c = λ k. all_left_fit (Fits c.args.types.now c.args.below) c.args.components.now _ (c.leave_all_out.ensures.settled k)
+decode_components-returns-then-leaves_all_out-clause-fits g t c = λ k. all_left_fit (Fits c.args.types.now c.args.below) c.args.components.now _ (c.put_all_absent.ensures.settled k)
 
 pub decode_components-loop-rest-init : goal.decode_components-loop-rest-init
 decode_components-loop-rest-init g t c = rw c.requires.empty (([], (λ k. refl), parts_start _ _), c.requires.lawful, (λ k us h. h), c.requires.clear, [], refl, refl, lists_start (λ b. ComponentAt (shape_of_type c.args.types.now c.args.below) c.args.below (Inside c.args.types.now c.args.below) c.args.components.now b) _ c.args.decoder.now _ refl)
@@ -527,7 +527,7 @@ pub decode_components-returns-clause-fits : goal.decode_components-returns-claus
 decode_components-returns-clause-fits g t c = λ k. fit_end (Fits c.args.types.now c.args.below) _ _ _ (c.loop-rest.invariant.2 k) (nothing_left _ c.in_default.len_below)
 
 pub decode_components-returns-then-leaves_all_out-clause-fails : goal.decode_components-returns-then-leaves_all_out-clause-fails
-decode_components-returns-then-leaves_all_out-clause-fails g t c = if_err_map _ _ (λ e m. inr m) (outcome c.leave_all_out.result c.leave_all_out.new.values c.leave_all_out.new.error) c.leave_all_out.ensures.memory
+decode_components-returns-then-leaves_all_out-clause-fails g t c = if_err_map _ _ (λ e m. inr m) (outcome c.put_all_absent.result c.put_all_absent.new.values c.put_all_absent.new.error) c.put_all_absent.ensures.memory
 
 pub decode_components-returns-in_err-decode_component-clause-fails : goal.decode_components-returns-in_err-decode_component-clause-fails
 decode_components-returns-in_err-decode_component-clause-fails g t c = rw (residual _ c.from_residual.ensures.1) (inl (part_fails_at _ _ _ (presence_in (shape_of_type c.args.types.now c.args.below) c.component-item.result) ((shape_of_type c.args.types.now c.args.below) c.component-item.result.type_id.0) _ _ _ c.loop-rest.invariant.0.2 (ap (components_by (shape_of_type c.args.types.now c.args.below)) (split c.loop-rest.rest.now _ c.in-len1-up.len_at_least c.component-item.is)) _ _ c.in_err-decode_component.ensures.fails))
@@ -899,7 +899,7 @@ pub decode_elements-returns-in_err-keep-clause-itself : goal.decode_elements-ret
 decode_elements-returns-in_err-keep-clause-itself g t c =
     let w = c.in_ok-decode_part.ensures.reads in
     rw (residual _ c.from_residual-in_err-keep.ensures.1)
-    (λ n. element_stops (shape_of_type c.args.types.now c.args.below) c.args.element.0 c.args.decoder.now c.loop-element.decoder _ w.0 w.2 _ (ap length c.remaining-left.ensures.value) _ c.in_err-keep.ensures.kept
+    (λ n. element_stops (shape_of_type c.args.types.now c.args.below) c.args.element.0 c.args.decoder.now c.loop-element.decoder _ w.0 w.2 _ (ap length c.remaining-left.ensures.value) _ c.in_err-keep.ensures.appended
     c.loop-element.invariant.0.0 c.loop-element.invariant.0.3)
 
 pub decode_elements_in_order-returns-in_err-decode_part-clause-itself : goal.decode_elements_in_order-returns-in_err-decode_part-clause-itself
@@ -910,7 +910,7 @@ pub decode_elements_in_order-returns-in_err-keep-clause-itself : goal.decode_ele
 decode_elements_in_order-returns-in_err-keep-clause-itself g t c =
     let w = c.in_ok-decode_part.ensures.reads in
     rw (residual _ c.from_residual-in_err-keep.ensures.1)
-    (λ n. set_element_stops (shape_of_type c.args.types.now c.args.below) c.args.element.0 c.args.decoder.now c.loop-last.decoder _ w.0 w.2 _ (ap length c.remaining-start.ensures.value) _ c.in_err-keep.ensures.kept
+    (λ n. set_element_stops (shape_of_type c.args.types.now c.args.below) c.args.element.0 c.args.decoder.now c.loop-last.decoder _ w.0 w.2 _ (ap length c.remaining-start.ensures.value) _ c.in_err-keep.ensures.appended
     c.loop-last.invariant.0.0 c.loop-last.invariant.0.1 c.loop-last.invariant.0.4)
 
 pub decode_elements_in_order-returns-then-is_less-clause-itself : goal.decode_elements_in_order-returns-then-is_less-clause-itself
@@ -930,7 +930,7 @@ decode_elements_in_order-returns-then-is_less-clause-itself g t c =
           c.octets_before-octets.result.now,
           w.2,
           rw (← c.remaining-start.ensures.value, ← c.remaining.ensures.value) c.octets_before-octets.ensures,
-          (λ e. c.in_ok-keep.ensures.kept.1 (e ∙ sym (ap length c.remaining-start.ensures.value))),
+          (λ e. c.in_ok-keep.ensures.appended.1 (e ∙ sym (ap length c.remaining-start.ensures.value))),
           strict_before c.loop-last.decoder _ k c.if-is_strict.ensures,
           out_of_order i.1 c.loop-last.last.now c.octets_before-octets.result.now i.6 c.if-is_less.ensures,
           rules_same c.loop-last.decoder _ (Der SetOfOutOfOrder) c.refuse_order.new.error k c.refuse_order.ensures,
@@ -939,7 +939,7 @@ decode_elements_in_order-returns-then-is_less-clause-itself g t c =
     )
 
 pub decode_components-returns-then-leaves_all_out-clause-itself : goal.decode_components-returns-then-leaves_all_out-clause-itself
-decode_components-returns-then-leaves_all_out-clause-itself g t c = only_memory (shape_of_type c.args.types.now c.args.below) c.args.components.now c.args.decoder.now _ _ c.leave_all_out.ensures.memory
+decode_components-returns-then-leaves_all_out-clause-itself g t c = only_memory (shape_of_type c.args.types.now c.args.below) c.args.components.now c.args.decoder.now _ _ c.put_all_absent.ensures.memory
 
 pub decode_components-returns-in_err-decode_component-clause-itself : goal.decode_components-returns-in_err-decode_component-clause-itself
 decode_components-returns-in_err-decode_component-clause-itself g t c =

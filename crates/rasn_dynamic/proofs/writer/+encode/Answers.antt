@@ -63,7 +63,7 @@ pub encode_contents-returns-in-None-items_of : goal.encode_contents-returns-in-N
 encode_contents-returns-in-None-items_of t c = rw (c.in-Set.is, c.refuse_form-in-None-items_of.ensures.1) (form_refused _ (no_list (ComponentsFit (Fits c.args.types.now c.args.below) c.in-Set.components.items) _ c.in-None-items_of.ensures) (left_as_it_was _ _ refl) c.refuse_form-in-None-items_of.ensures.2)
 
 pub encode_contents-returns-in_err-check_size-in-Some-items_of-2 : goal.encode_contents-returns-in_err-check_size-in-Some-items_of-2
-encode_contents-returns-in_err-check_size-in-Some-items_of-2 t c = rw (residual _ c.from_residual.ensures.1, c.in-SequenceOf.is) (size_refused _ _ _ _ c.in_err-check_size-in-Some-items_of-2.ensures.fails (λ g. list_unsized c.in-SequenceOf.tag ((shape_of_type c.args.types.now c.args.below) c.in-SequenceOf.element.0) c.in-SequenceOf.constraints _ c.in-Some-items_of-2.values.now c.args.encoder.now c.args.encoder.now c.requires.fresh (list_means _ _ c.in-Some-items_of-2.ensures) (subst (λ m. Admits ◌≤◌ c.in-SequenceOf.constraints.size m → ⊥) (sym (length-map c.in-Some-items_of-2.values.now tree_of)) c.in_err-check_size-in-Some-items_of-2.ensures.fails.unmet) c.check_size.new.fault))
+encode_contents-returns-in_err-check_size-in-Some-items_of-2 t c = rw (residual _ c.from_residual.ensures.1, c.in-SequenceOf.is) (size_refused _ _ _ _ c.in_err-check_size-in-Some-items_of-2.ensures.fails (λ g. list_unsized c.in-SequenceOf.tag ((shape_of_type c.args.types.now c.args.below) c.in-SequenceOf.element.0) c.in-SequenceOf.constraints _ c.in-Some-items_of-2.values.now c.args.encoder.now c.args.encoder.now c.requires.fresh (list_means _ _ c.in-Some-items_of-2.ensures) (subst (λ m. Admits ◌≤◌ c.in-SequenceOf.constraints.size m → ⊥) (sym (length-map c.in-Some-items_of-2.values.now tree_of)) c.in_err-check_size-in-Some-items_of-2.ensures.fails.unmet) c.check_size.new.error))
 
 pub encode_contents-returns-in_ok-check_size-in-Some-items_of-2 : goal.encode_contents-returns-in_ok-check_size-in-Some-items_of-2
 encode_contents-returns-in_ok-check_size-in-Some-items_of-2 t c = rw c.in-SequenceOf.is (fits_as _ (list_to (EachFits ((Fits c.args.types.now c.args.below) c.in-SequenceOf.element.0)) _ _ c.in-Some-items_of-2.ensures) (list_from (EachFits ((Fits c.args.types.now c.args.below) c.in-SequenceOf.element.0)) _ _ c.in-Some-items_of-2.ensures)
@@ -73,7 +73,7 @@ pub encode_contents-returns-in-None-items_of-2 : goal.encode_contents-returns-in
 encode_contents-returns-in-None-items_of-2 t c = rw (c.in-SequenceOf.is, c.refuse_form-in-None-items_of-2.ensures.1) (form_refused _ (no_list (EachFits ((Fits c.args.types.now c.args.below) c.in-SequenceOf.element.0)) _ c.in-None-items_of-2.ensures) (left_as_it_was _ _ refl) c.refuse_form-in-None-items_of-2.ensures.2)
 
 pub encode_contents-returns-in_err-check_size-in-Some-elements_of : goal.encode_contents-returns-in_err-check_size-in-Some-elements_of
-encode_contents-returns-in_err-check_size-in-Some-elements_of t c = rw (residual _ c.from_residual-in_err-check_size-in-Some-elements_of.ensures.1, c.in-SetOf.is) (size_refused _ _ _ _ c.in_err-check_size-in-Some-elements_of.ensures.fails (λ g. set_of_unsized c.in-SetOf.tag ((shape_of_type c.args.types.now c.args.below) c.in-SetOf.element.0) c.in-SetOf.constraints _ c.in-Some-elements_of.values.now c.args.encoder.now c.args.encoder.now c.requires.fresh (set_means _ _ c.in-Some-elements_of.ensures) (subst (λ m. Admits ◌≤◌ c.in-SetOf.constraints.size m → ⊥) (sym (length-map c.in-Some-elements_of.values.now tree_of)) c.in_err-check_size-in-Some-elements_of.ensures.fails.unmet) c.check_size-in-Some-elements_of.new.fault))
+encode_contents-returns-in_err-check_size-in-Some-elements_of t c = rw (residual _ c.from_residual-in_err-check_size-in-Some-elements_of.ensures.1, c.in-SetOf.is) (size_refused _ _ _ _ c.in_err-check_size-in-Some-elements_of.ensures.fails (λ g. set_of_unsized c.in-SetOf.tag ((shape_of_type c.args.types.now c.args.below) c.in-SetOf.element.0) c.in-SetOf.constraints _ c.in-Some-elements_of.values.now c.args.encoder.now c.args.encoder.now c.requires.fresh (set_means _ _ c.in-Some-elements_of.ensures) (subst (λ m. Admits ◌≤◌ c.in-SetOf.constraints.size m → ⊥) (sym (length-map c.in-Some-elements_of.values.now tree_of)) c.in_err-check_size-in-Some-elements_of.ensures.fails.unmet) c.check_size-in-Some-elements_of.new.error))
 
 pub encode_contents-returns-in_ok-check_size-in-Some-elements_of : goal.encode_contents-returns-in_ok-check_size-in-Some-elements_of
 encode_contents-returns-in_ok-check_size-in-Some-elements_of t c = rw c.in-SetOf.is (fits_as _ (set_to (EachFits ((Fits c.args.types.now c.args.below) c.in-SetOf.element.0)) _ _ c.in-Some-elements_of.ensures) (set_from (EachFits ((Fits c.args.types.now c.args.below) c.in-SetOf.element.0)) _ _ c.in-Some-elements_of.ensures)
@@ -108,7 +108,7 @@ pub encode_components-returns-in_default-left : goal.encode_components-returns-i
 encode_components-returns-in_default-left t c = rw c.refuse_form.ensures.1 (form_refused _ (fit_short (Fits c.args.types.now c.args.below) _ _ _ _ _ c.component-item.result c.loop-rest.invariant.fits (split c.loop-rest.rest.now _ c.in-len1-up.len_at_least c.component-item.is) (nothing_left _ c.in_default-left.len_below)) c.loop-rest.invariant.keeps (c.refuse_form.ensures.2 ∙ c.loop-rest.invariant.keeps.rule))
 
 pub encode_components-returns-in_err-encode_component : goal.encode_components-returns-in_err-encode_component
-encode_components-returns-in_err-encode_component t c = rw (residual _ c.from_residual.ensures.1) (component_refused (shape_of_type c.args.types.now c.args.below) (Fits c.args.types.now c.args.below) _ _ _ c.component-item.result _ _ _ c.value-item.result _ _ c.loop-rest.invariant.written (split c.loop-rest.rest.now _ c.in-len1-up.len_at_least c.component-item.is) (split c.loop-rest.left.now _ c.in-len1-up-left.len_at_least c.value-item.is) c.loop-rest.invariant.fits c.loop-rest.invariant.keeps c.encode_component.new.fault _ c.in_err-encode_component.ensures)
+encode_components-returns-in_err-encode_component t c = rw (residual _ c.from_residual.ensures.1) (component_refused (shape_of_type c.args.types.now c.args.below) (Fits c.args.types.now c.args.below) _ _ _ c.component-item.result _ _ _ c.value-item.result _ _ c.loop-rest.invariant.written (split c.loop-rest.rest.now _ c.in-len1-up.len_at_least c.component-item.is) (split c.loop-rest.left.now _ c.in-len1-up-left.len_at_least c.value-item.is) c.loop-rest.invariant.fits c.loop-rest.invariant.keeps c.encode_component.new.error _ c.in_err-encode_component.ensures)
 
 pub encode_components-loop-rest-preserved : goal.encode_components-loop-rest-preserved
 encode_components-loop-rest-preserved t c =
@@ -129,7 +129,7 @@ pub encode_elements-loop-rest-init : goal.encode_elements-loop-rest-init
 encode_elements-loop-rest-init t c = record { written = elements_start ((shape_of_type c.args.types.now c.args.below) c.args.element.0) _ _ c.requires; fits = each_start ((Fits c.args.types.now c.args.below) c.args.element.0) _ }
 
 pub encode_elements-returns-in_err-encode_at : goal.encode_elements-returns-in_err-encode_at
-encode_elements-returns-in_err-encode_at t c = rw (residual _ c.from_residual.ensures.1) (element_not_written ((Fits c.args.types.now c.args.below) c.args.element.0) ((shape_of_type c.args.types.now c.args.below) c.args.element.0) _ _ _ c.value-item.result _ _ c.loop-rest.invariant.written (split c.loop-rest.rest.now _ c.in-len1-up.len_at_least c.value-item.is) c.loop-rest.invariant.fits c.encode_at.new.fault _ c.in_err-encode_at.ensures)
+encode_elements-returns-in_err-encode_at t c = rw (residual _ c.from_residual.ensures.1) (element_not_written ((Fits c.args.types.now c.args.below) c.args.element.0) ((shape_of_type c.args.types.now c.args.below) c.args.element.0) _ _ _ c.value-item.result _ _ c.loop-rest.invariant.written (split c.loop-rest.rest.now _ c.in-len1-up.len_at_least c.value-item.is) c.loop-rest.invariant.fits c.encode_at.new.error _ c.in_err-encode_at.ensures)
 
 pub encode_elements-loop-rest-preserved : goal.encode_elements-loop-rest-preserved
 encode_elements-loop-rest-preserved t c =
@@ -151,7 +151,7 @@ pub encode_elements_in_order-loop-rest-init : goal.encode_elements_in_order-loop
 encode_elements_in_order-loop-rest-init t c = record { written = set_of_start ((shape_of_type c.args.types.now c.args.below) c.args.element.0) _ _ _ c.requires c.last_len-previous.ensures; fits = each_start ((Fits c.args.types.now c.args.below) c.args.element.0) _ }
 
 pub encode_elements_in_order-returns-in_err-encode_at : goal.encode_elements_in_order-returns-in_err-encode_at
-encode_elements_in_order-returns-in_err-encode_at t c = rw (residual _ c.from_residual.ensures.1) (set_element_not_written ((Fits c.args.types.now c.args.below) c.args.element.0) ((shape_of_type c.args.types.now c.args.below) c.args.element.0) _ _ _ c.value-item.result _ _ _ c.loop-rest.invariant.written (split c.loop-rest.rest.now _ c.in-len1-up.len_at_least c.value-item.is) c.loop-rest.invariant.fits c.encode_at.new.fault _ c.in_err-encode_at.ensures)
+encode_elements_in_order-returns-in_err-encode_at t c = rw (residual _ c.from_residual.ensures.1) (set_element_not_written ((Fits c.args.types.now c.args.below) c.args.element.0) ((shape_of_type c.args.types.now c.args.below) c.args.element.0) _ _ _ c.value-item.result _ _ _ c.loop-rest.invariant.written (split c.loop-rest.rest.now _ c.in-len1-up.len_at_least c.value-item.is) c.loop-rest.invariant.fits c.encode_at.new.error _ c.in_err-encode_at.ensures)
 
 pub encode_elements_in_order-returns-then-neighbours_out_of_order : goal.encode_elements_in_order-returns-then-neighbours_out_of_order
 encode_elements_in_order-returns-then-neighbours_out_of_order t c =
