@@ -17,6 +17,7 @@ ghost use Rattle.rasn_dynamic.specs.Written.{EncodesIf, EncodesPartIf, EncodesIn
 use crate::kept::{check_size, drop_open, keep, kept, refuse_form};
 use crate::place::place_tag;
 use crate::set::named_components;
+use crate::walk::Refused;
 use crate::write_leaf::{
     encode_leaf, encode_number, encode_open_value, encode_unknown_values, other_form, out_of_room,
     unknown_as_components,
