@@ -1,15 +1,21 @@
 -- Small clauses that several contracts share: what satisfies them, and what doesn't.
-use Rattle.std.specs.Prelude.{◌≡◌, ℕ, ◌+◌, ◌-◌, ◌^◌, ◌<◌, List, [], ◌∷◌, false, Some, None, Result, Ok, Err, pos, negsuc}
+use Rattle.std.specs.Prelude.{◌≡◌, ℕ, ℤ, ◌+◌, ◌-◌, ◌^◌, ◌<◌, List, [], ◌∷◌, Bool, true, false, Some, None, Result, Ok, Err, pos, negsuc}
 use Rattle.rasn_types.specs.Tags.{in_universal}
-use Rattle.rasn_types.specs.declared.types.codec.Codec.TheVariants.{Ber}
+use Rattle.rasn_types.specs.declared.types.codec.Codec.{Codec}
+use Rattle.rasn_types.specs.declared.types.codec.Codec.TheVariants.{Ber, Der}
+use Rattle.rasn_types.specs.declared.error.decode.DecodeError.{DecodeError}
+use Rattle.rasn_types.specs.declared.error.decode.DerDecodeErrorKind.TheVariants.{DefaultValuePresent}
 use Rattle.rasn_de.specs.declared.ber.de.parser.ParseError.{ParseError}
-use Rattle.rasn_de.specs.declared.ber.de.parser.ParseError.TheVariants.{OutOfMemory}
+use Rattle.rasn_de.specs.declared.ber.de.parser.ParseError.TheVariants.{OutOfMemory, Der as in_der}
+use Rattle.rasn_de.specs.Causes.{error_kind}
+use Rattle.rasn_de.specs.Optional.{ReturnsUnlessDefault}
+use Rattle.rasn_de.specs.State.{State}
 use Rattle.rasn_de.specs.Segments.{string_at, octets, without_memory}
 use Rattle.rasn_de.specs.OctetString.{CollectsOctets}
 use Rattle.rasn_de.specs.Headers.{IsPrimitiveIdentifier}
-use Rattle.rasn_de.specs.ShortText.{BeginsShortTime}
+use Rattle.rasn_de.specs.ShortText.{BeginsShortTime, HoldsShort, IsTimeExactlyIf, TakesTime}
 use Rattle.rasn_de.specs.SetPartTypes.{IsRequiredOrDefault, HasGap, LeavesGap}
-use Rattle.rasn_types.specs.Shapes.{chosen, absent, required, optional, default}
+use Rattle.rasn_types.specs.Shapes.{number, chosen, absent, required, optional, default}
 use Rattle.rasn_types.specs.Options.{IsSomeMeaningExactlyIf}
 use Rattle.rasn_types.specs.Calendar.{IsOffset}
 use Rattle.rasn_types.specs.CharacterString.{IsFirstForeign}
@@ -22,11 +28,28 @@ use Rattle.rasn_types.specs.Inline.{IsLong}
 abbrev pub bare_octets : List ℕ → Result (List ℕ × List ℕ) ParseError
 bare_octets l = string_at Ber (without_memory octets) (in_universal 4) 2 (in_universal 4) l
 
+-- A decoder with these rules that sees these octets.
+abbrev pub seeing : Codec → List ℕ → State
+seeing rule l = record { rule = rule; depth = 2; closing = false; whole = l; rest = l }
+
 -- The input begins with a UTCTime that is primitive or has a text of at most 32 octets, if each text means itself.
 abbrev pub BeginsShortText : List ℕ → Type 0
-BeginsShortText l =
-    BeginsShortTime (λ (text x : List ℕ). x ≡ text) (in_universal 23)
-    (record { rule = Ber; depth = 2; closing = false; whole = l; rest = l })
+BeginsShortText l = BeginsShortTime (λ (text x : List ℕ). x ≡ text) (in_universal 23) (seeing Ber l)
+
+-- Whether a UTCTime is consumed that begins the input, if each text means itself.
+abbrev pub TakesText : List ℕ → Bool → State → Type 0
+TakesText l = TakesTime (λ (rule : Codec) (text x : List ℕ). x ≡ text) (in_universal 23) (seeing Ber l)
+
+-- Whether the first octets are a text, if each text means itself.
+abbrev pub IsTextExactlyIf : Bool → List ℕ → ℕ → Type 0
+IsTextExactlyIf flag octets len = IsTimeExactlyIf flag (λ (text x : List ℕ). x ≡ text) octets len
+
+-- What is returned once a number was read whose default is 7.
+abbrev pub ReturnsUnlessSeven : Codec → ℤ → Result ℤ DecodeError → Type 0
+ReturnsUnlessSeven rule = ReturnsUnlessDefault number (λ made. made ≡ Ok (pos 7)) (seeing rule [])
+
+abbrev pub default_present : DecodeError
+default_present = record { kind = error_kind (in_der DefaultValuePresent); codec = Der }
 
 abbrev pub eight_zeros : List ℕ → List ℕ
 eight_zeros l = 0 ∷ 0 ∷ 0 ∷ 0 ∷ 0 ∷ 0 ∷ 0 ∷ 0 ∷ l
@@ -63,6 +86,28 @@ pub record WorkedClauses : Type 0 where
   pub short_segments : BeginsShortText (55 ∷ 34 ∷ 4 ∷ 32 ∷ zeros_32)
   pub long_segments : BeginsShortText (55 ∷ 35 ∷ 4 ∷ 33 ∷ 0 ∷ zeros_32) → ⊥
   pub long_primitive : BeginsShortText (23 ∷ 33 ∷ 0 ∷ zeros_32)
+  -- A text that is primitive is consumed, and one of 32 octets in segments can't be left; one of 33 can.
+  pub primitive_taken : TakesText (23 ∷ 33 ∷ 0 ∷ zeros_32) true (record (seeing Ber (23 ∷ 33 ∷ 0 ∷ zeros_32)) { rest = [] })
+  pub short_left : TakesText (55 ∷ 34 ∷ 4 ∷ 32 ∷ zeros_32) false (seeing Ber (55 ∷ 34 ∷ 4 ∷ 32 ∷ zeros_32)) → ⊥
+  pub long_left : TakesText (55 ∷ 35 ∷ 4 ∷ 33 ∷ 0 ∷ zeros_32) false (seeing Ber (55 ∷ 35 ∷ 4 ∷ 33 ∷ 0 ∷ zeros_32))
+  -- Octets are kept in their order, and their number is right. If 33 were seen, nothing is said of those that are kept.
+  pub two_held : HoldsShort (5 ∷ 6 ∷ 0 ∷ []) 2 (5 ∷ 6 ∷ [])
+  pub one_counted : HoldsShort (5 ∷ 6 ∷ 0 ∷ []) 1 (5 ∷ 6 ∷ []) → ⊥
+  pub another_held : HoldsShort (5 ∷ 7 ∷ 0 ∷ []) 2 (5 ∷ 6 ∷ []) → ⊥
+  pub many_seen : HoldsShort [] 33 (0 ∷ zeros_32)
+  -- One octet is a text, and 33 octets aren't known to be one.
+  pub short_text : IsTextExactlyIf true (5 ∷ []) 1
+  pub short_denied : IsTextExactlyIf false (5 ∷ []) 1 → ⊥
+  pub long_text : IsTextExactlyIf true [] 33 → ⊥
+  pub long_denied : IsTextExactlyIf false [] 33
+  -- Under DER 8 is returned and 7 refused, since it is the default. Under BER 7 is returned too.
+  pub eight_returned : ReturnsUnlessSeven Der (pos 8) (Ok (pos 8))
+  pub eight_refused : ReturnsUnlessSeven Der (pos 8) (Err default_present) → ⊥
+  pub seven_returned : ReturnsUnlessSeven Der (pos 7) (Ok (pos 7)) → ⊥
+  pub seven_refused : ReturnsUnlessSeven Der (pos 7) (Err default_present)
+  pub seven_in_ber : ReturnsUnlessSeven Ber (pos 7) (Ok (pos 7))
+  pub seven_refused_in_ber : ReturnsUnlessSeven Ber (pos 7) (Err default_present) → ⊥
+  pub eight_of_seven : ReturnsUnlessSeven Ber (pos 7) (Ok (pos 8)) → ⊥
   -- Octet 1 is the whole identifier of a primitive BOOLEAN. Octet 33 has the constructed bit, and a SEQUENCE is never
   -- primitive.
   pub boolean_identifier : IsPrimitiveIdentifier (in_universal 1) 1

@@ -49,6 +49,14 @@ pub fn decode<T: Decode>(alloc: Global, input: &[u8]) -> Result<T, DecodeError>
 /// # Errors
 /// The error of `T::decode` if the input doesn't begin with a value of the type; `OutOfMemory` if
 /// an allocation fails.
+///
+/// # Examples
+/// ```
+/// // TRUE in a spelling that DER doesn't have (X.690 8.2.2), and an octet after it
+/// let input: &[u8] = &[0x01, 0x01, 0x05, 0x00];
+/// let (value, rest) = rasn::ber::decode_with_remainder::<bool>(alloc, input)?;
+/// // `value` is true, `rest` has the octet 00
+/// ```
 #[inline(always)]
 pub fn decode_with_remainder<T: Decode>(
     alloc: Global,
@@ -86,6 +94,13 @@ pub fn encode<T: Encode>(alloc: Global, value: &T) -> Result<Vec<u8>, EncodeErro
 ///
 /// # Errors
 /// Those of `encode`. The vector is then empty.
+///
+/// # Examples
+/// ```
+/// let mut buffer = Vec::new(alloc);
+/// rasn::ber::encode_buf(alloc, &false, &mut buffer)?;
+/// // `buffer` has the octets 01 01 00 (X.690 8.2)
+/// ```
 pub fn encode_buf<T: Encode>(
     alloc: Global,
     value: &T,
@@ -104,6 +119,15 @@ pub fn encode_buf<T: Encode>(
 ///
 /// # Errors
 /// Any error that `values` returns; `OutOfMemory` if an allocation fails.
+///
+/// # Examples
+/// ```
+/// let octets = rasn::ber::encode_scope(alloc, |encoder| {
+///     true.encode(encoder)?;
+///     false.encode(encoder)
+/// })?;
+/// // `octets` are 01 01 FF 01 01 00 (X.690 8.2)
+/// ```
 pub fn encode_scope<F: FnOnce(&mut Encoder) -> Result<(), EncodeError>>(
     alloc: Global,
     values: F,

@@ -45,6 +45,13 @@ pub fn decode<T: Decode>(alloc: Global, input: &[u8]) -> Result<T, DecodeError>
 /// # Errors
 /// The error of `T::decode` if the input doesn't begin with a value of the type; `OutOfMemory` if
 /// an allocation fails.
+///
+/// # Examples
+/// ```
+/// let input: &[u8] = &[0x01, 0x01, 0xFF, 0x00];
+/// let (value, rest) = rasn::cer::decode_with_remainder::<bool>(alloc, input)?;
+/// // `value` is true, `rest` has the octet 00 (X.690 8.2)
+/// ```
 #[inline(always)]
 pub fn decode_with_remainder<T: Decode>(
     alloc: Global,
@@ -82,6 +89,13 @@ pub fn encode<T: Encode>(alloc: Global, value: &T) -> Result<Vec<u8>, EncodeErro
 ///
 /// # Errors
 /// Those of `encode`. The vector is then empty.
+///
+/// # Examples
+/// ```
+/// let mut buffer = Vec::new(alloc);
+/// rasn::cer::encode_buf(alloc, &false, &mut buffer)?;
+/// // `buffer` has the octets 01 01 00 (X.690 8.2)
+/// ```
 pub fn encode_buf<T: Encode>(
     alloc: Global,
     value: &T,

@@ -59,6 +59,13 @@ pub fn decode<T: Decode>(alloc: Global, input: &[u8]) -> Result<T, DecodeError>
 /// # Errors
 /// The error of `T::decode` if the input doesn't begin with a value of the type; `OutOfMemory` if
 /// an allocation fails.
+///
+/// # Examples
+/// ```
+/// let input: &[u8] = &[0x01, 0x01, 0xFF, 0x00];
+/// let (value, rest) = rasn::der::decode_with_remainder::<bool>(alloc, input)?;
+/// // `value` is true, `rest` has the octet 00 (X.690 8.2, 11.1)
+/// ```
 #[inline(always)]
 pub fn decode_with_remainder<T: Decode>(
     alloc: Global,
@@ -99,6 +106,13 @@ pub fn encode<T: Encode>(alloc: Global, value: &T) -> Result<Vec<u8>, EncodeErro
 ///
 /// # Errors
 /// Those of `encode`. The vector is then empty.
+///
+/// # Examples
+/// ```
+/// let mut buffer = Vec::new(alloc);
+/// rasn::der::encode_buf(alloc, &true, &mut buffer)?;
+/// // `buffer` has the octets 01 01 FF (X.690 8.2, 11.1)
+/// ```
 pub fn encode_buf<T: Encode>(
     alloc: Global,
     value: &T,
@@ -118,6 +132,15 @@ pub fn encode_buf<T: Encode>(
 ///
 /// # Errors
 /// Any error that `values` returns; `OutOfMemory` if an allocation fails.
+///
+/// # Examples
+/// ```
+/// let octets = rasn::der::encode_scope(alloc, |encoder| {
+///     true.encode(encoder)?;
+///     false.encode(encoder)
+/// })?;
+/// // `octets` are 01 01 FF 01 01 00 (X.690 8.2, 11.1)
+/// ```
 pub fn encode_scope<F: FnOnce(&mut Encoder) -> Result<(), EncodeError>>(
     alloc: Global,
     values: F,

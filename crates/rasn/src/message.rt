@@ -16,8 +16,7 @@ use rasn_types::error::{DecodeError, EncodeError};
 use rasn_types::types::{Codec, LawfulEq};
 use std::alloc::{AllocError, Global};
 
-/// A type of whole messages, such as certificates, with the rules by which its standard has them
-/// read. Its shape is lawful, and everything that DER reads of it is carried, so what reading and
+/// A type of whole messages, such as certificates, with the rules by which they are read. Its shape is lawful, and everything that DER reads of it is carried, so what reading and
 /// writing promise needs no premise.
 ///
 /// # Examples
@@ -54,6 +53,12 @@ pub trait WholeMessage: Decode + Encode + LawfulEq {
     /// # Errors
     /// The error of `decode`, or `UnexpectedExtraData` with the number of octets if octets follow
     /// the message (X.690 8.1.1.1); `OutOfMemory` if an allocation fails.
+    ///
+    /// # Examples
+    /// ```
+    /// let certificate = Certificate::read(alloc, octets)?;
+    /// // `certificate.write(alloc)?` has the same octets
+    /// ```
     #[inline(always)]
     final fn read(alloc: Global, input: &[u8]) -> Result<Self, DecodeError>
         ensures exact { AnsweredAlone RULES Self.shape Self.tree input.now result }
@@ -64,13 +69,19 @@ pub trait WholeMessage: Decode + Encode + LawfulEq {
         entry::decode(alloc, Self::RULES, input)
     }
 
-    /// Reads the message that begins the input, by the rules of the standard, and returns it with
+    /// Reads the message at the front of the input, by the rules of the standard, and returns it with
     /// the rest of the input, such as the next message of a connection. Unless an allocation fails,
     /// the call succeeds exactly if the input begins with a message by the grammar.
     ///
     /// # Errors
     /// The error of `decode`, such as `Incomplete` for a message of which octets are still missing;
     /// `OutOfMemory` if an allocation fails.
+    ///
+    /// # Examples
+    /// ```
+    /// // What a connection has received: perhaps several messages, the last one in part
+    /// let (message, rest) = LdapMessage::read_with_remainder(alloc, received)?;
+    /// ```
     #[inline(always)]
     final fn read_with_remainder(alloc: Global, input: &[u8]) -> Result<(Self, &[u8]), DecodeError>
         ensures exact { Answered RULES Self.shape Self.tree input.now result }
@@ -87,6 +98,12 @@ pub trait WholeMessage: Decode + Encode + LawfulEq {
     ///
     /// # Errors
     /// As `read`, under DER.
+    ///
+    /// # Examples
+    /// ```
+    /// // LDAP is read by BER, and a stored message has to be in DER.
+    /// let message = LdapMessage::read_der(alloc, octets)?;
+    /// ```
     #[inline(always)]
     final fn read_der(alloc: Global, input: &[u8]) -> Result<Self, DecodeError>
         ensures exact { AnsweredAlone Der Self.shape Self.tree input.now result }
@@ -104,6 +121,12 @@ pub trait WholeMessage: Decode + Encode + LawfulEq {
     /// # Errors
     /// The error of `encode` if the message has no DER octets, such as one with elements of a
     /// SET OF out of order (X.690 11.6); `OutOfMemory` if an allocation fails.
+    ///
+    /// # Examples
+    /// ```
+    /// let octets = certificate.write(alloc)?;
+    /// // DER reads `octets` as a certificate that is the same
+    /// ```
     #[inline(always)]
     final fn write(&self, alloc: Global) -> Result<Vec<u8>, EncodeError>
         ensures ok { IfOk result (λ octets. Bytes Der Self.shape (Self.tree self.now) octets.items) }
@@ -119,6 +142,12 @@ pub trait WholeMessage: Decode + Encode + LawfulEq {
     ///
     /// # Errors
     /// `AllocError` if an allocation fails.
+    ///
+    /// # Examples
+    /// ```
+    /// let is_der = LdapMessage::is_canonical(alloc, octets)?;
+    /// // false of a message that only BER reads
+    /// ```
     final fn is_canonical(alloc: Global, octets: &[u8]) -> Result<bool, AllocError>
         ensures { IfOk result (λ answer. IsWhether answer (IsNormal Der Self.shape octets.now octets.now)) }
     {

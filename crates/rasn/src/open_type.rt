@@ -22,6 +22,12 @@ use std::alloc::Global;
 ///
 /// # Errors
 /// Those of `ber::encode`, `cer::encode` and `der::encode`.
+///
+/// # Examples
+/// ```
+/// let any = rasn::encode_any(alloc, Codec::Der, &true)?;
+/// // `any` has the octets 01 01 FF (X.690 8.2, 11.1)
+/// ```
 pub fn encode_any<T: Encode>(alloc: Global, rules: Codec, value: &T) -> Result<Any, EncodeError>
     ensures ok { IfOk result (λ any. Bytes rules T.shape (T.tree value.now) any) }
     ensures fails { IfErr result (EncodingFails rules T.shape (T.tree value.now)) }
@@ -36,6 +42,13 @@ pub fn encode_any<T: Encode>(alloc: Global, rules: Codec, value: &T) -> Result<A
 /// # Errors
 /// Those of `rasn::decode`, such as `UnexpectedExtraData` if octets follow the value
 /// (X.690 8.1.1.1).
+///
+/// # Examples
+/// ```
+/// let any = rasn::encode_any(alloc, Codec::Der, &true)?;
+/// let value = rasn::decode_any::<bool>(alloc, Codec::Der, &any)?;
+/// // `value` is true
+/// ```
 pub fn decode_any<T: Decode>(alloc: Global, rules: Codec, any: &Any) -> Result<T, DecodeError>
     ensures exact { AnsweredAlone rules T.shape T.tree any.now result }
     ensures beyond { IfOk result (λ v. BeyondFirst (got (T.beyond T.TAG)) rules any.now v []) }
@@ -48,6 +61,13 @@ pub fn decode_any<T: Decode>(alloc: Global, rules: Codec, any: &Any) -> Result<T
 ///
 /// # Errors
 /// Those of `Decoder::peek_tag` if the octets don't begin with an identifier (X.690 8.1.2).
+///
+/// # Examples
+/// ```
+/// let any = rasn::encode_any(alloc, Codec::Der, &true)?;
+/// let tag = rasn::any_tag(alloc, Codec::Der, &any)?;
+/// // `tag` is universal 1
+/// ```
 pub fn any_tag(alloc: Global, rules: Codec, any: &Any) -> Result<Tag, DecodeError>
     ensures next { MatchResult result (λ t. NextTag (form rules) any.now t) (λ e. (t : Tag) → NextTag (form rules) any.now t → ⊥) }
     ensures exact { PeeksTag (front rules any.now) result }

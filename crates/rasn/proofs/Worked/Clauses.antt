@@ -1,6 +1,7 @@
 -- Small clauses that contracts share: what they hold of, and what they don't.
 use Rattle.std.proofs.Common.{◌≡◌, ◌≢◌, false, true, ℕ, ℤ, zero, suc, Some, ◌-◌, ◌^◌, ◌<◌, get_or, inl, inr, List, [], ◌∷◌, length, Result, Ok, Err, pos, negsuc, refl, sym, ap, ◌∙◌, arith, rules}
-use Rattle.rasn_types.specs.declared.types.codec.Codec.TheVariants.{Ber}
+use Rattle.rasn_types.specs.declared.types.codec.Codec.TheVariants.{Ber, Der}
+use Rattle.std.specs.declared.alloc.AllocError.{AllocError}
 use Rattle.rasn_types.specs.declared.types.tag.Tag.{Tag}
 use Rattle.rasn_types.specs.Contents.{RepeatsSign}
 use Rattle.rasn_types.specs.Framing.{definite, Frame, with_length}
@@ -14,10 +15,10 @@ use Rattle.rasn_de.specs.declared.ber.de.parser.ParseError.TheVariants.{OutOfMem
 use Rattle.rasn_de.specs.Headers.{header_by, tag_number_at, identifier_by, length_at}
 use Rattle.rasn_de.specs.Segments.{segments_at, string_of}
 use Rattle.rasn_types.specs.CharacterString.{IsPrintable}
-use Rattle.rasn_types.specs.Shapes.{Tree, chosen, absent, required, optional, default}
+use Rattle.rasn_types.specs.Shapes.{Tree, number, chosen, absent, required, optional, default}
 use Rattle.rasn_de.specs.SetPartTypes.{HasGap, LeavesGap}
 use Rattle.rasn_de.specs.OctetString.{octet_string_at}
-use Rattle.rasn.specs.WorkedClauses.{bare_octets, BeginsShortText, zeros_32, WorkedClauses}
+use Rattle.rasn.specs.WorkedClauses.{bare_octets, BeginsShortText, TakesText, ReturnsUnlessSeven, seeing, default_present, zeros_32, WorkedClauses}
 
 star : IsPrintable 42 → ⊥
 star (inl h) = omega (arith, h.0)
@@ -83,6 +84,25 @@ long_parts (x, text, rest, e, m, inl s) =
     let k : length text ≡ 33 = ap (λ (z : List ℕ × List ℕ). length z.0) p in
     omega (arith, k, s)
 long_parts (x, text, rest, e, m, inr (r, c, f)) = let b : false ≡ true = (frame_one _ f parts).bit in cc
+
+short_segment : Frame (form Ber) (55 ∷ 34 ∷ 4 ∷ 32 ∷ zeros_32) (in_universal 23) true [] (definite (4 ∷ 32 ∷ zeros_32))
+short_segment =
+    with_length (55 ∷ []) (34 ∷ []) (4 ∷ 32 ∷ zeros_32)
+    (record { spells = record { low = 23; leading = refl; number = inl (omega arith, refl, refl) }; is_one = not_eoc })
+    (inl (omega arith, refl, refl)) (λ h. absurd h) refl
+
+primitive_read : octet_string_at Ber 2 (in_universal 23) (23 ∷ 33 ∷ 0 ∷ zeros_32) ≡ Ok (0 ∷ zeros_32, [])
+unfolding header_by tag_number_at identifier_by length_at segments_at string_of
+primitive_read = refl
+
+taken : TakesText (23 ∷ 33 ∷ 0 ∷ zeros_32) true (record (seeing Ber (23 ∷ 33 ∷ 0 ∷ zeros_32)) { rest = [] })
+taken = (0 ∷ zeros_32, (0 ∷ zeros_32, primitive_read, refl, refl))
+
+refused : ReturnsUnlessSeven Der (pos 8) (Err default_present) → ⊥
+refused h = elim h.1 [
+  | inl m ↦ (let k : ◌≡◌ {A = Result ℤ AllocError} (Err m.0) (Ok (pos 7)) = m.1 in cc)
+  | inr m ↦ (let d : ◌≡◌ {A = Result ℤ AllocError} (Ok m.0) (Ok (pos 7)) = m.1 in let s : number m.0 ≡ number (pos 8) = m.2 in let e : ◌≡◌ {A = ℕ} 7 8 = cc in omega (arith, e))
+]
 
 -- 2^183 and -2^183 - 1 in their fewest octets, and the numbers next to them, which take one octet less
 falls : RepeatsSign 0 128 → ⊥
@@ -155,6 +175,24 @@ worked = record {
   short_segments = short;
   long_segments = long_parts;
   long_primitive = long_whole;
+  primitive_taken = taken;
+  short_left = λ h. h.1 ([], definite (4 ∷ 32 ∷ zeros_32), short_segment) short;
+  long_left = (refl, λ c b. long_parts b);
+  two_held = (λ h. refl, λ h. refl);
+  one_counted = λ h. omega (arith, h.0 (omega arith));
+  another_held = λ h. let k : ◌≡◌ {A = List ℕ} (5 ∷ 6 ∷ []) (5 ∷ 7 ∷ []) = h.1 (omega arith) in let e : ◌≡◌ {A = ℕ} 6 7 = cc in omega (arith, e);
+  many_seen = (λ h. absurd (omega (arith, h)), λ h. absurd (omega (arith, h)));
+  short_text = (omega arith, 5 ∷ [], refl);
+  short_denied = λ h. h (omega arith) (5 ∷ []) refl;
+  long_text = λ h. omega (arith, h.0);
+  long_denied = λ h. absurd (omega (arith, h));
+  eight_returned = (refl, λ s. (pos 7, refl, λ (e : number (pos 7) ≡ number (pos 8)). let k : ◌≡◌ {A = ℕ} 7 8 = cc in omega (arith, k)));
+  eight_refused = refused;
+  seven_returned = λ h. let d = h.1 tt in let k : ◌≡◌ {A = Result ℤ AllocError} (Ok d.0) (Ok (pos 7)) = d.1 in let e : d.0 ≡ pos 7 = cc in d.2 (ap number e);
+  seven_refused = (tt, inr (pos 7, refl, refl, refl));
+  seven_in_ber = (refl, λ s. absurd s);
+  seven_refused_in_ber = λ h. h.0;
+  eight_of_seven = λ h. let p : pos 8 ≡ pos 7 = h.0 in let e : ◌≡◌ {A = ℕ} 8 7 = cc in omega (arith, e);
   boolean_identifier = (refl, omega arith, refl, refl);
   constructed_boolean = λ h. let k : 33 ≡ 1 = ap (λ (t : Tag). t.value) h.0 in omega (arith, k);
   primitive_sequence = λ h. let k : true ≡ false = h.3 in cc;
