@@ -181,10 +181,16 @@ pub fn encode(
     }
 }
 
-/// Puts the value's octets into the vector, in place of what it holds.
+/// Writes the value's octets into the vector, replacing what it holds.
 ///
 /// # Errors
-/// As [`encode`]. The vector is empty then.
+/// Those of [`encode`]. The vector is then empty.
+///
+/// # Examples
+/// ```
+/// let mut buffer = Vec::new(alloc);
+/// rasn_dynamic::encode_buf(alloc, Codec::Der, &schema, id, &value, &mut buffer)?;
+/// ```
 pub fn encode_buf(
     alloc: Global,
     rule: Codec,

@@ -144,6 +144,12 @@ pub fn decode_or_locate<'input>(
 ///
 /// # Errors
 /// As [`decode_or_locate`].
+///
+/// # Examples
+/// ```
+/// let rest = rasn_dynamic::check_or_locate(alloc, Codec::Der, &schema, id, input)?;
+/// // `rest` is empty if the input is one value and nothing else
+/// ```
 pub fn check_or_locate<'input>(
     alloc: Global,
     rule: Codec,

@@ -257,6 +257,14 @@ pub fn rest_after<'input>(parts: &[Span<'_>], octets: &'input [u8]) -> &'input [
 /// - `Refused` if BER doesn't read a value at the start of the octets, with the place.
 /// - `Remainder` with the number of octets that follow it, if some do.
 /// - `OutOfMemory`.
+///
+/// # Examples
+/// ```
+/// // INTEGER 5 with a length in two octets (X.690 10.1)
+/// let octets: &[u8] = &[0x02, 0x81, 0x01, 0x05];
+/// let departures = rasn_lint::lint(alloc, &schema, id, octets, OpenTypes::Examined)?;
+/// // one departure: NonMinimalLength, in the header of the whole value
+/// ```
 #[tactic(auto, using(crate::proofs::Clean::listed, crate::proofs::Clean::followed))]
 pub fn lint(
     alloc: Global,

@@ -115,6 +115,13 @@ pub(crate) fn are_encodings(alloc: Global, contents: &[u8]) -> Result<bool, Allo
 ///
 /// # Errors
 /// `AllocError` if an allocation fails.
+///
+/// # Examples
+/// ```
+/// // BOOLEAN TRUE (X.690 8.2, 11.1)
+/// let is_der = rasn_lint::der::is_well_formed(alloc, &[0x01, 0x01, 0xFF])?;
+/// // `is_der` is true; of 01 01 05 it is false
+/// ```
 #[tactic(auto, using(rasn_de::proofs::Leaves::Integer::empty_is, rasn_de::proofs::Leaves::Integer::not_empty, crate::proofs::Steps::nothing_follows, crate::proofs::Steps::disallowed, crate::proofs::Steps::plain, crate::proofs::Steps::nested_result, crate::proofs::Steps::not_plain))]
 pub fn is_well_formed(alloc: Global, octets: &[u8]) -> Result<bool, AllocError>
     ensures exact { IfOk result (λ b. IsWhether b (IsWellFormed octets.now)) }

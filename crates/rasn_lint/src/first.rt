@@ -144,6 +144,13 @@ fn out_of_memory(alloc: Global, id: TypeId) -> Departure
 /// # Errors
 /// The refusal of the reader of DER, with the place; or else the first departure inside an open
 /// type, where the path goes on. `OutOfMemory` as the kind of the error.
+///
+/// # Examples
+/// ```
+/// if let Err(departure) = rasn_lint::check(alloc, &schema, id, octets, OpenTypes::Examined) {
+///     println!(rt; "byte {}: {}", departure.offset, departure.error)?;
+/// }
+/// ```
 pub fn check(
     alloc: Global,
     schema: &Schema,

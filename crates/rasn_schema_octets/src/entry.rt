@@ -43,6 +43,15 @@ pub struct Compiled {
 /// - `NoRoot` if the number of the type that was asked for isn't that of a type.
 /// - `Default` if a default isn't one value, or is nested too deep.
 /// - `Rule` if the types break a rule of schemas.
+///
+/// # Examples
+/// ```
+/// // What `write` returned for a schema, perhaps in another program
+/// let compiled = rasn_schema_octets::read(alloc, octets)?;
+/// let (value, rest) = rasn_dynamic::decode_with_remainder(
+///     alloc, Codec::Der, &compiled.schema, compiled.root, message,
+/// )?;
+/// ```
 pub fn read(alloc: Global, octets: &[u8]) -> Result<Compiled, ReadFault>
     ensures ok { IfOk result (λ c. IsSchemaOctets c.schema c.root c.unchecked octets.now) }
     ensures root { IfOk result (λ c. c.root.0 < length c.schema.types.items) }
@@ -132,6 +141,14 @@ fn with_names(schema: Schema, names: Option<Vec<TypeName>>) -> Schema
 /// - `DeepDefault` if a default is nested too deep.
 /// - `Encode` if what the schema says has no octets in DER, as a default that is an instant of a
 ///   year that has no four digits.
+///
+/// # Examples
+/// ```
+/// let compiled = modules.schema(alloc, "PKIX1Explicit88", "Certificate")?;
+/// let octets = rasn_schema_octets::write(
+///     alloc, &compiled.schema, compiled.root, compiled.unchecked,
+/// )?;
+/// ```
 pub fn write(
     alloc: Global,
     schema: &Schema,

@@ -34,7 +34,7 @@ macro_rules! size {
     };
 }
 
-/// A range of a constraint.
+/// A range of a constraint: a part of [`value`] and [`size`], not called by itself.
 #[macro_export]
 macro_rules! bound {
     ($($start:literal)? .. $(, $word:ident)?) => {
@@ -51,14 +51,14 @@ macro_rules! bound {
     };
 }
 
-/// An end of a range, which is open if there is none.
+/// An end of a range, which is open if there is none: a part of [`value`] and [`size`].
 #[macro_export]
 macro_rules! end {
     () => { None };
     ($end:literal) => { Some($end) };
 }
 
-/// Whether a constraint is extensible.
+/// Whether a constraint is extensible: a part of [`value`] and [`size`].
 #[macro_export]
 macro_rules! is_extensible {
     () => { false };

@@ -17,6 +17,14 @@ use std::alloc::{AllocError, Global};
 ///
 /// # Errors
 /// `AllocError` if an allocation fails.
+///
+/// # Examples
+/// ```
+/// const TYPES: &[StaticType] = &[Leaf(Integer, tag!(Universal, 2), value!(0..=127), &[])];
+///
+/// let schema = Schema::new(types_of(alloc, TYPES)?)?;
+/// // `schema` has one type, INTEGER (0..127)
+/// ```
 pub fn types_of(alloc: Global, types: &[StaticType]) -> Result<Vec<Type>, AllocError>
     ensures { IfOk result (λ made. (levels id : ℕ) → shape_of_type made.items levels id ≡ static_shape types.now levels id) }
 {

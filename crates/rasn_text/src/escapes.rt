@@ -10,6 +10,13 @@ use std::alloc::AllocError;
 ///
 /// # Errors
 /// If an allocation fails.
+///
+/// # Examples
+/// ```
+/// let mut text = String::new(alloc);
+/// rasn_text::push_escaped(&mut text, "Jones, John")?;
+/// // `text` is "Jones\\, John" (RFC 4514, 2.4)
+/// ```
 pub fn push_escaped(text: &mut String, value: &str) -> Result<(), AllocError>
     ensures { OnOk result (string_bytes text.new ≡ string_bytes text.old ++ escaped (chars value.now)) }
 {

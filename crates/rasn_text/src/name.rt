@@ -21,6 +21,12 @@ use std::alloc::{AllocError, Global};
 ///
 /// # Errors
 /// If an allocation fails.
+///
+/// # Examples
+/// ```
+/// let text = name_text(alloc, &certificate.tbs_certificate.subject)?;
+/// // `text` is such as "CN=example.org,O=Example,C=DE"
+/// ```
 pub fn name_text(alloc: Global, name: &Name) -> Result<String, AllocError>
     ensures { IfOk result (λ text. IsNameText name.now (string_bytes text)) }
 {

@@ -45,6 +45,12 @@ const DASHES: &[u8] = b"-----";
 ///
 /// # Errors
 /// If an allocation fails.
+///
+/// # Examples
+/// ```
+/// let blocks = rasn_text::blocks(alloc, b"-----BEGIN X-----\nAQH/\n-----END X-----\n")?;
+/// // one block with the label `X` and the octets 01 01 FF
+/// ```
 pub fn blocks<'text>(alloc: Global, octets: &'text [u8]) -> Result<Vec<Block<'text>>, AllocError>
     ensures { IfOk result (λ bs. AreBlocksOf octets.now bs.items) }
 {
