@@ -11,7 +11,7 @@ use Rattle.rasn_types.specs.Bytes.{Bytes}
 use Rattle.rasn_types.specs.Errors.{IsEncodeOutOfMemory}
 use Rattle.rasn_types.specs.declared.error.encode.EncodeError.{EncodeError}
 use Rattle.rasn_bench.specs.declared.line.ValueType.{ValueType}
-use Rattle.rasn_bench.specs.declared.line.ValueType.TheVariants.{Bool, I32, U32, Octets, Pair, Integer, UtcTime, GeneralizedTime, Date, Null, ObjectIdentifier, Bits, Colour, Utf8, Ia5, Printable, Foo, OptionalBool, Validity, Any, AlgorithmIdentifier, RelativeDistinguishedName, Set3, Bag}
+use Rattle.rasn_bench.specs.declared.line.ValueType.TheVariants.{Bool, I32, U32, Octets, Pair, Integer, UtcTime, GeneralizedTime, Date, Null, ObjectIdentifier, Bits, Colour, Utf8, Ia5, Printable, NamedFlag, OptionalBool, Validity, Any, AlgorithmIdentifier, RelativeDistinguishedName, Set3, Bag}
 use Rattle.rasn_bench.specs.declared.answer.Answer.{Answer}
 use Rattle.rasn_bench.specs.declared.answer.Answer.TheVariants.{Read, NotWritten, Refused, Malformed}
 use Rattle.rasn_bench.specs.Lines.{Asks, type_word}
@@ -40,7 +40,7 @@ shape_of Colour = leaf (enumerated colours) (in_universal 10) unconstrained
 shape_of Utf8 = leaf utf8 (in_universal 12) unconstrained
 shape_of Ia5 = leaf ia5 (in_universal 22) unconstrained
 shape_of Printable = leaf printable (in_universal 19) unconstrained
-shape_of Foo = named
+shape_of NamedFlag = named
 shape_of OptionalBool = perhaps_bool
 shape_of Validity = validity_shape
 shape_of Any = any None

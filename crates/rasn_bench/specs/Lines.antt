@@ -5,7 +5,7 @@ use Rattle.rasn_types.specs.declared.types.codec.Codec.{Codec}
 use Rattle.rasn_types.specs.declared.types.codec.Codec.TheVariants.{Ber, Cer, Der}
 use Rattle.rasn_bench.specs.declared.line.Request.{Request}
 use Rattle.rasn_bench.specs.declared.line.ValueType.{ValueType}
-use Rattle.rasn_bench.specs.declared.line.ValueType.TheVariants.{Bool as BoolType, I32, U32, Octets, Pair, Integer, UtcTime, GeneralizedTime, Date, Null, ObjectIdentifier, Bits, Colour, Utf8, Ia5, Printable, Foo, OptionalBool, Validity, Any, AlgorithmIdentifier, RelativeDistinguishedName, Set3, Bag}
+use Rattle.rasn_bench.specs.declared.line.ValueType.TheVariants.{Bool as BoolType, I32, U32, Octets, Pair, Integer, UtcTime, GeneralizedTime, Date, Null, ObjectIdentifier, Bits, Colour, Utf8, Ia5, Printable, NamedFlag, OptionalBool, Validity, Any, AlgorithmIdentifier, RelativeDistinguishedName, Set3, Bag}
 
 abbrev pub name_of : ValueType → List ℕ
 name_of BoolType = codes "bool"
@@ -24,7 +24,7 @@ name_of Colour = codes "colour"
 name_of Utf8 = codes "utf8"
 name_of Ia5 = codes "ia5"
 name_of Printable = codes "printable"
-name_of Foo = codes "foo"
+name_of NamedFlag = codes "foo"
 name_of OptionalBool = codes "optbool"
 name_of Validity = codes "validity"
 name_of Any = codes "any"
@@ -51,7 +51,7 @@ type_word Colour = codes "ENUMERATED"
 type_word Utf8 = codes "STRING"
 type_word Ia5 = codes "STRING"
 type_word Printable = codes "STRING"
-type_word Foo = codes "SEQUENCE"
+type_word NamedFlag = codes "SEQUENCE"
 type_word OptionalBool = codes "OPTIONAL"
 type_word Validity = codes "SEQUENCE"
 type_word Any = codes "ANY"

@@ -20,7 +20,7 @@ pub use normal_answer::NormalAnswer;
 pub use program::{Answers, LineAnswer, RunFault, WorkedTypes, run, run_by, run_normalise};
 pub use rasn::{NormaliseError, normalise};
 pub use rasn_examples::{
-    AlgorithmIdentifier, AttributeTypeAndValue, Both, Colour, Event, Foo, Group, Grouped, Pair,
-    Reason, RelativeDistinguishedName, Set3, Setting, Seven, Time, Validity, lawful_both,
+    AlgorithmIdentifier, AttributeTypeAndValue, Both, Colour, Event, Group, Grouped, NamedFlag,
+    Pair, Reason, RelativeDistinguishedName, Set3, Setting, Seven, Time, Validity, lawful_both,
     lawful_types, worked_normals,
 };

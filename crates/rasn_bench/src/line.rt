@@ -43,7 +43,7 @@ pub enum ValueType {
     /// `printable`: PrintableString.
     Printable,
     /// `foo`: SEQUENCE { IA5String, BOOLEAN } (X.690 8.9.3).
-    Foo,
+    NamedFlag,
     /// `optbool`: a BOOLEAN that may be absent.
     OptionalBool,
     /// `validity`: Validity of a certificate (RFC 5280 4.1.2.5).
@@ -82,7 +82,7 @@ impl ValueType {
             "utf8" => Some(ValueType::Utf8),
             "ia5" => Some(ValueType::Ia5),
             "printable" => Some(ValueType::Printable),
-            "foo" => Some(ValueType::Foo),
+            "foo" => Some(ValueType::NamedFlag),
             "optbool" => Some(ValueType::OptionalBool),
             "validity" => Some(ValueType::Validity),
             "any" => Some(ValueType::Any),
@@ -111,7 +111,7 @@ impl ValueType {
             ValueType::OptionalBool => "OPTIONAL",
             ValueType::Any => "ANY",
             ValueType::Pair
-            | ValueType::Foo
+            | ValueType::NamedFlag
             | ValueType::Validity
             | ValueType::AlgorithmIdentifier => "SEQUENCE",
             ValueType::RelativeDistinguishedName | ValueType::Set3 | ValueType::Bag => "SET",

@@ -12,7 +12,7 @@ use rasn::types::{
     OctetString, PrintableString, SetOf, UtcTime, Utf8String,
 };
 use rasn_examples::{
-    AlgorithmIdentifier, Colour, Foo, Pair, RelativeDistinguishedName, Set3, Validity,
+    AlgorithmIdentifier, Colour, NamedFlag, Pair, RelativeDistinguishedName, Set3, Validity,
 };
 use std::alloc::Global;
 
@@ -54,7 +54,7 @@ pub(crate) fn answer_to<A: TypedAnswer>(alloc: Global, request: Request<'_>, oct
         ValueType::Utf8 => A::of_type::<Utf8String>(alloc, rule, word, octets),
         ValueType::Ia5 => A::of_type::<Ia5String>(alloc, rule, word, octets),
         ValueType::Printable => A::of_type::<PrintableString>(alloc, rule, word, octets),
-        ValueType::Foo => A::of_type::<Foo>(alloc, rule, word, octets),
+        ValueType::NamedFlag => A::of_type::<NamedFlag>(alloc, rule, word, octets),
         ValueType::OptionalBool => A::of_type::<Option<bool>>(alloc, rule, word, octets),
         ValueType::Validity => A::of_type::<Validity>(alloc, rule, word, octets),
         ValueType::Any => A::of_type::<Any>(alloc, rule, word, octets),

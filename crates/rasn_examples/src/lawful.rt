@@ -7,8 +7,8 @@ ghost use Rattle.rasn.specs.WorkedShapes.{named, validity, perhaps_bool, three_o
 ghost use Rattle.rasn_examples.specs.LawfulTypes.{AreLawful};
 
 use crate::{
-    AlgorithmIdentifier, AttributeTypeAndValue, Both, Colour, Event, Foo, Grouped, Pair, Reason,
-    RelativeDistinguishedName, Set3, Setting, Time, Validity,
+    AlgorithmIdentifier, AttributeTypeAndValue, Both, Colour, Event, Grouped, NamedFlag, Pair,
+    Reason, RelativeDistinguishedName, Set3, Setting, Time, Validity,
 };
 use rasn::types::{
     Any, AsnType, BitString, Date, GeneralizedTime, Ia5String, Integer, ObjectIdentifier,
@@ -41,7 +41,7 @@ pub fn lawful_types()
         ∷ ⟦<RelativeDistinguishedName as AsnType>⟧.shape
         ∷ ⟦<Colour as AsnType>⟧.shape
         ∷ ⟦<Event as AsnType>⟧.shape
-        ∷ ⟦<Foo as AsnType>⟧.shape
+        ∷ ⟦<NamedFlag as AsnType>⟧.shape
         ∷ ⟦<Grouped as AsnType>⟧.shape
         ∷ ⟦<Pair as AsnType>⟧.shape
         ∷ ⟦<Reason as AsnType>⟧.shape
@@ -51,7 +51,7 @@ pub fn lawful_types()
         ∷ ⟦<Validity as AsnType>⟧.shape
         ∷ []
         ) }
-    ensures named { ⟦<Foo as AsnType>⟧.shape ≡ named }
+    ensures named { ⟦<NamedFlag as AsnType>⟧.shape ≡ named }
     ensures validity { ⟦<Validity as AsnType>⟧.shape ≡ validity }
     ensures perhaps { ⟦<Option<bool> as AsnType>⟧.shape ≡ perhaps_bool }
     ensures set3 { ⟦<Set3 as AsnType>⟧.shape ≡ three_of_set }

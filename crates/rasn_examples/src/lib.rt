@@ -31,7 +31,7 @@ pub use setting::{Setting, Seven};
 pub use time::Time;
 
 /// SEQUENCE { name IA5String, truth BOOLEAN }
-pub type Foo = Both<Ia5String, bool>;
+pub type NamedFlag = Both<Ia5String, bool>;
 
 /// SET OF AttributeTypeAndValue (RFC 5280, 4.1.2.4)
 pub type RelativeDistinguishedName = SetOf<AttributeTypeAndValue>;

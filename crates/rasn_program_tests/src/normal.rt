@@ -6,7 +6,7 @@ use rasn::de::Decode;
 use rasn::enc::Encode;
 use rasn::error::{DecodeError, DecodeErrorKind};
 use rasn::types::{Codec, LawfulEq, OctetString, SetOf, UtcTime};
-use rasn_bench::{Foo, NormaliseError, RunFault, normalise, run_normalise};
+use rasn_bench::{NamedFlag, NormaliseError, RunFault, normalise, run_normalise};
 use std::alloc::Global;
 use std::process::Abort;
 
@@ -119,7 +119,7 @@ fn equal_values_come_out_alike(rt: HostRuntime) {
         (Codec::Der, SMITH),
     ];
     for (rule, input) in inputs {
-        let answer = normalise::<Foo>(rt.alloc(), rule, input);
+        let answer = normalise::<NamedFlag>(rt.alloc(), rule, input);
         assert!(rt; is_normal(answer, SMITH), "{input:?}");
     }
 }

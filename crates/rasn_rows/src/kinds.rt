@@ -15,8 +15,8 @@ use rasn::types::{
     UtcTime, Utf8String, VisibleString,
 };
 use rasn_bench::{
-    AlgorithmIdentifier, AttributeTypeAndValue, Both, Colour, Event, Foo, Grouped, Pair, Reason,
-    RelativeDistinguishedName, Set3, Setting, Time, Validity,
+    AlgorithmIdentifier, AttributeTypeAndValue, Both, Colour, Event, Grouped, NamedFlag, Pair,
+    Reason, RelativeDistinguishedName, Set3, Setting, Time, Validity,
 };
 use std::alloc::{AllocError, Global};
 use std::fmt::Debug;
@@ -172,7 +172,7 @@ fn of_bag(alloc: Global, row: &Row<'_>) -> Result<String, AllocError> {
 fn of_components(alloc: Global, row: &Row<'_>) -> Result<String, AllocError> {
     match row.name {
         "pair" => both::<Pair>(alloc, row),
-        "foo" => both::<Foo>(alloc, row),
+        "foo" => both::<NamedFlag>(alloc, row),
         "both(bool,both(bool,u8))" => both::<Both<bool, Both<bool, u8>>>(alloc, row),
         "both(bool,both(bool,bool))" => both::<Both<bool, Both<bool, bool>>>(alloc, row),
         "grouped" => both::<Grouped>(alloc, row),

@@ -7,7 +7,7 @@ use Rattle.rasn_types.specs.Shapes.{Shape, option}
 use Rattle.rasn_types.specs.Grammar.{top}
 use Rattle.rasn_de.specs.Optional.{NextTagIs}
 use Rattle.rasn_bench.specs.declared.line.ValueType.{ValueType}
-use Rattle.rasn_bench.specs.declared.line.ValueType.TheVariants.{Bool as BoolType, I32, U32, Octets, Pair, Integer, UtcTime, GeneralizedTime, Date, Null, ObjectIdentifier, Bits, Colour, Utf8, Ia5, Printable, Foo, OptionalBool, Validity, Any, AlgorithmIdentifier, RelativeDistinguishedName, Set3, Bag}
+use Rattle.rasn_bench.specs.declared.line.ValueType.TheVariants.{Bool as BoolType, I32, U32, Octets, Pair, Integer, UtcTime, GeneralizedTime, Date, Null, ObjectIdentifier, Bits, Colour, Utf8, Ia5, Printable, NamedFlag, OptionalBool, Validity, Any, AlgorithmIdentifier, RelativeDistinguishedName, Set3, Bag}
 use Rattle.rasn_schema.specs.declared.types.«Type».{«Type»}
 use Rattle.rasn_schema.specs.declared.value.Value.{Value, Absent}
 use Rattle.rasn_dynamic.specs.Entry.{FitsType, shape_of}
@@ -32,7 +32,7 @@ type_number Ia5 = 13
 type_number Printable = 14
 type_number Any = 15
 type_number Pair = 16
-type_number Foo = 17
+type_number NamedFlag = 17
 type_number Validity = 19
 type_number AlgorithmIdentifier = 20
 type_number RelativeDistinguishedName = 22

@@ -84,7 +84,7 @@ pub fn type_id(value_type: ValueType) -> TypeId
         ValueType::Printable => 14,
         ValueType::Any => 15,
         ValueType::Pair => 16,
-        ValueType::Foo => 17,
+        ValueType::NamedFlag => 17,
         ValueType::Validity => 19,
         ValueType::AlgorithmIdentifier => 20,
         ValueType::RelativeDistinguishedName => 22,

@@ -250,7 +250,7 @@ set_components-returns-clause-ok t c = holds_all (shape_of_type c.args.types.now
     c.loop-left.left c.loop-left.found.items (let z = c.loop-left-test.false in omega arith) c.named_components-extensible.ensures.named c.named_components-extensible.ensures.extensible c.loop-left.invariant
 
 pub encode_set-returns-in-Err : goal.encode_set-returns-in-Err
-encode_set-returns-in-Err t c = rw c.keep.ensures (set_refused eoc (components_by (shape_of_type c.args.types.now c.args.below) c.args.components.now) (list_tree tree_of c.args.values.now) c.args.encoder.now c.in-Err.error c.in-Err.ensures.refused c.in-Err.ensures.rules)
+encode_set-returns-in-Err t c = rw c.keep.ensures (set_refused eoc (components_by (shape_of_type c.args.types.now c.args.below) c.args.components.now) (list_tree tree_of c.args.values.now) c.args.encoder.now c.in-Err.fault c.in-Err.ensures.refused c.in-Err.ensures.rules)
 
 pub encode_set-returns-in-Ok : goal.encode_set-returns-in-Ok
 encode_set-returns-in-Ok t c =
