@@ -151,6 +151,7 @@ impl Plan<'_> {
             name: String::from_str(self.alloc, "schema")?,
             text: self.static_text()?,
             answers: Vec::new(self.alloc),
+            reason: None,
         };
         written.push(self.alloc, schema, "TYPES")?;
         let lib = self.lib_file(&written)?;
@@ -167,6 +168,7 @@ impl Plan<'_> {
             name: String::from_str(self.alloc, "lib")?,
             text: written.lib_text(self.alloc)?,
             answers: Vec::new(self.alloc),
+            reason: None,
         })
     }
 
@@ -192,11 +194,21 @@ impl Plan<'_> {
         let text = self.with_message(id, self.text_of(id)?)?;
         let name = String::from_str(self.alloc, naming.file.as_str())?;
         let answers = self.answers_of(id, naming)?;
+        let reason = self.reason_to_tell(id)?;
         Ok(File {
             name,
             text,
             answers,
+            reason,
         })
+    }
+
+    /// Returns why a type is written as an open type, if it is and no option names it.
+    fn reason_to_tell(&self, id: usize) -> Result<Option<&'static str>, AllocError> {
+        if self.is_opened(id) {
+            return Ok(None);
+        }
+        self.reason_against(id)
     }
 
     /// Returns what other crates may use of the file of a type with this name.
@@ -305,6 +317,7 @@ impl Plan<'_> {
             name: String::from_str(self.alloc, name)?,
             text: self.octets_text(word, "Any", tag, notation, reason)?,
             answers: Vec::new(self.alloc),
+            reason: None,
         };
         written.push(self.alloc, file, word)
     }

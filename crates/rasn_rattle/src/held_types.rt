@@ -2,7 +2,7 @@
 ghost use Rattle.std.specs.Prelude.{◌≡◌, IfOk};
 
 use crate::options::Options;
-use rasn_compiler::{Assigned, Assignment, Module, Modules};
+use rasn_compiler::{Assigned, Assignment, Module, Modules, Stop};
 use std::alloc::{AllocError, Global};
 use std::collections::BTreeSet;
 
@@ -39,7 +39,7 @@ struct Parts {
 
 /// Returns a module whose type holds each type without parameters of the first modules, as many as
 /// `wanted`, for which files are written, and then of those that they import. Of types with the
-/// same name the first is held.
+/// same name the first is held, and a type that has no schema isn't unless it is wanted.
 ///
 /// # Errors
 /// `AllocError` if memory runs out.
@@ -58,7 +58,7 @@ pub fn holder_of(options: &Options, read: &Modules<'_>, wanted: usize) -> Result
     let mut count = 0;
     for (index, module) in read.modules.iter().enumerate() {
         if index < wanted {
-            parts.add_module(read, module)?;
+            parts.add_module(options, read, module)?;
             count = parts.names.len();
         } else if imported.contains(module.name) {
             parts.add_imported(options, read, module)?;
@@ -120,10 +120,18 @@ fn add_imports(
 
 impl Parts {
     /// Adds the types of a module.
-    fn add_module(&mut self, read: &Modules<'_>, module: &Module<'_>) -> Result<(), AllocError> {
+    fn add_module(
+        &mut self,
+        options: &Options,
+        read: &Modules<'_>,
+        module: &Module<'_>,
+    ) -> Result<(), AllocError> {
         let before = self.names.len();
         for assignment in &module.assignments {
-            if is_plain_type(assignment) && !read.is_class(module.name, assignment.name) {
+            if is_plain_type(assignment)
+                && !read.is_class(module.name, assignment.name)
+                && is_held(self.alloc, options, read, (module.name, assignment.name))?
+            {
                 self.add_type(assignment.name, before)?;
             }
         }
@@ -141,7 +149,7 @@ impl Parts {
         module: &Module<'_>,
     ) -> Result<(), AllocError> {
         let before = self.names.len();
-        self.add_module(read, module)?;
+        self.add_module(options, read, module)?;
         if let Some(crate_name) = options.crate_of(module.name) {
             for number in before..self.names.len() {
                 let name = String::from_str(self.alloc, crate_name)?;
@@ -179,6 +187,25 @@ impl Parts {
             "IMPORTS{imports};\n{held} ::= SEQUENCE {{{components} }}\nEND\n"
         )?;
         Ok(text)
+    }
+}
+
+/// Returns whether the type with these names, its module's and its own, is held: if it is wanted or
+/// has a schema. So a fault in a type that isn't wanted doesn't keep the others from being written.
+fn is_held(
+    alloc: Global,
+    options: &Options,
+    read: &Modules<'_>,
+    names: (&str, &str),
+) -> Result<bool, AllocError> {
+    let (module, name) = names;
+    if options.is_wanted(name) {
+        return Ok(true);
+    }
+    match read.schema(alloc, module, name) {
+        Ok(_) => Ok(true),
+        Err(Stop::OutOfMemory) => Err(AllocError),
+        Err(Stop::Fault(_)) => Ok(false),
     }
 }
 

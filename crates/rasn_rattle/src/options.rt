@@ -190,7 +190,8 @@ fn is_type_of(read: &Modules<'_>, name: &str) -> bool {
     false
 }
 
-/// Returns whether a crate, or a file of one, may have the name: small letters, digits and `_`.
+/// Returns whether a crate, or a file of one, may have the name: small letters, digits and `_`, of
+/// which a letter comes first.
 pub fn is_crate_name(name: &str) -> bool {
     name.starts_with(|letter: char| letter.is_ascii_lowercase())
         && name.chars().all(|letter| letter.is_ascii_lowercase()

@@ -12,6 +12,8 @@ pub struct File {
     pub text: String,
     /// The proofs of its functions that the prover doesn't find by itself.
     pub answers: Vec<Answers>,
+    /// Why its type is written as an open type, if it is and no option names it.
+    pub reason: Option<&'static str>,
     pub ghost word: { is_word (string_bytes name) ≡ true },
 }
 

@@ -76,7 +76,7 @@ impl Constant<'_, '_> {
         let ty = self.plan.type_of(id);
         let tag = static_tag(self.alloc, ty.tag())?;
         let tag = tag.as_str();
-        if self.plan.reason_against(id)?.is_some() {
+        if matches!(ty, Type::Any { .. }) || self.plan.reason_against(id)?.is_some() {
             return listed(self.alloc, "Any(", &[tag], ")");
         }
         match ty {
@@ -91,7 +91,6 @@ impl Constant<'_, '_> {
                 let numbers = self.numbers_text(numbers)?;
                 listed(self.alloc, "Enumerated(", &[tag, numbers.as_str()], ")")
             }
-            Type::Any { .. } => listed(self.alloc, "Any(", &[tag], ")"),
             Type::Choice { name, .. } => {
                 let name = format!(in self.alloc; "\"{name}\"")?;
                 let alternatives = self.alternatives_text(id)?;
@@ -102,12 +101,11 @@ impl Constant<'_, '_> {
                     ")",
                 )
             }
-            Type::Unknown => String::from_str(self.alloc, "Unknown"),
             holder => self.holder_text(holder, tag),
         }
     }
 
-    /// Returns the text of a type that holds others.
+    /// Returns the text of a type that holds others, or of `Unknown`.
     fn holder_text(&self, ty: &Type, tag: &str) -> Result<String, AllocError> {
         match ty {
             Type::Tagged { inner, .. } => {
