@@ -37,9 +37,10 @@ struct Parts {
     foreign: Vec<(usize, String)>,
 }
 
-/// Returns a module whose type holds each type without parameters of the first modules, as many as
-/// `wanted`, for which files are written, and then of those that they import. Of types with the
-/// same name the first is held, and a type that has no schema isn't unless it is wanted.
+/// Returns a module with one type that has a component for each type without parameters: first of
+/// the first `wanted` modules, for which files are written, then of the modules that they import.
+/// Of types with the same name the first one counts. A type without a schema is left out unless it
+/// is wanted.
 ///
 /// # Errors
 /// `AllocError` if memory runs out.

@@ -23,7 +23,7 @@ pub struct Options {
 }
 
 impl Options {
-    /// Returns that a crate of this name is written of all types, and nothing else.
+    /// Returns the options of a crate of this name that has all types and nothing else.
     ///
     /// # Errors
     /// `AllocError` if memory runs out.
@@ -61,7 +61,7 @@ impl Options {
         self.alloc
     }
 
-    /// Returns the crate's line of crates.txt: its name, and the crates that it is on.
+    /// Returns the crate's line of crates.txt: its name, and the crates that it uses.
     ///
     /// # Errors
     /// `AllocError` if memory runs out.
