@@ -5,7 +5,7 @@
 //!
 //! # fn main() -> Result<(), soqavise::Error> {
 //! # let octets: &[u8] = &[];
-//! check(Type::Certificate, octets)?; // the one DER encoding of a certificate
+//! check(Type::Certificate, octets)?; // DER throughout, except inside open types
 //! let certificate = next(Rules::Der, octets)?;
 //! for part in encodings(Rules::Der, certificate.contents) {
 //!     println!("{} octets", part?.whole.len());
@@ -28,8 +28,8 @@
 //! # }
 //! ```
 //!
-//! References keep what the functions of the archive owe to a caller: that no pointer is null, and
-//! that what is written overlaps nothing else. No proof covers this file.
+//! References keep what the functions of the archive require of a caller: that no pointer is null,
+//! and that what is written overlaps nothing else. No proof covers this file.
 #![warn(missing_docs)]
 
 mod extension;
@@ -43,7 +43,7 @@ pub use schema::{Kind, Schema, Value};
 use std::error;
 use std::fmt;
 
-/// Why there is no answer.
+/// Why a call has no result.
 #[derive(Clone, Debug, PartialEq, Eq)]
 #[non_exhaustive]
 pub enum Error {
@@ -252,12 +252,17 @@ fn answer(status: u32, text: &str) -> Result<(), Error> {
     match status {
         OK => Ok(()),
         OUT_OF_MEMORY => Err(Error::OutOfMemory),
-        _ => Err(Error::Refused {
-            kind: 0,
-            path: String::new(),
-            offset: 0,
-            text: text.to_owned(),
-        }),
+        UNKNOWN_TYPE => Err(refused("not a type that the call takes")),
+        _ => Err(refused(text)),
+    }
+}
+
+fn refused(text: &str) -> Error {
+    Error::Refused {
+        kind: 0,
+        path: String::new(),
+        offset: 0,
+        text: text.to_owned(),
     }
 }
 
