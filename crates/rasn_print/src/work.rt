@@ -70,6 +70,13 @@ pub fn answer_to(tools: &Tools<'_, '_>, input: &Input<'_>) -> Result<Answer, All
 
 /// Returns what is printed for a message of the first type that it is of.
 fn answer_by_trial(tools: &Tools<'_, '_>, input: &Input<'_>) -> Answered {
+    if input.octets.is_empty() {
+        return refused_for(
+            tools.alloc,
+            false,
+            &"no octets; --help says in which forms messages are read",
+        );
+    }
     let mut tried = Vec::new(tools.alloc);
     for named in MESSAGES {
         match answer_as(tools, *named, input)? {
@@ -79,8 +86,9 @@ fn answer_by_trial(tools: &Tools<'_, '_>, input: &Input<'_>) -> Answered {
         tried.push(named.1)?;
     }
     let tried = tried.as_slice().join(tools.alloc, ", ")?;
+    let advice = "--type names another type, and dump shows any BER";
     Ok(Answer::Refused(format!(in tools.alloc;
-        "none of the messages that are known: {tried}; --type names another type, and dump shows any BER"
+        "none of the known messages; {advice}; the known ones are {tried}"
     )?))
 }
 
