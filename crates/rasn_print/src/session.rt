@@ -7,7 +7,7 @@ use crate::input::{form_of, from_hexadecimal, from_line, why_not_hexadecimal};
 use crate::work::{Answer, Input, Tools, answer_to};
 use rasn_text::blocks;
 use std::alloc::AllocError;
-use std::io::{BufRead, Write};
+use std::io::{self, BufRead, ErrorKind, Write};
 use std::{fmt, str};
 
 /// Prints what is to be said of messages.
@@ -131,10 +131,19 @@ impl<W: Write + Drop, E: Write + Drop> Session<'_, '_, W, E> {
                     return self.refuse(name, &"PEM, which is read without --lines");
                 }
                 Ok(line) => self.line(&line)?,
-                Err(_) => return self.refuse(name, &"cannot read"),
+                Err(error) => return self.unreadable(name, &error),
             }
         }
         Ok(())
+    }
+
+    /// Writes why the input with this name can't be read.
+    fn unreadable(&mut self, name: &str, error: &io::Error) -> Result<(), Fault> {
+        if error.kind() == ErrorKind::OutOfMemory {
+            return Err(Fault::Memory);
+        }
+        let reason = format!(in self.tools.alloc; "cannot read: {error}")?;
+        self.refuse(name, &reason)
     }
 
     /// Works on a line: prints its answer, `ok` if that is empty, or why it is refused.

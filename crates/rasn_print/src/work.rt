@@ -5,6 +5,7 @@ use crate::known::Known;
 use crate::messages::{MESSAGES, type_of_label};
 use crate::offsets::offsets_text;
 use crate::reading::{check, show};
+use crate::refusal_text::text_of;
 use crate::types::{MessageType, NamedType, message_type};
 use base64::engine::general_purpose::STANDARD;
 use rasn_compiler::{Modules, Stop};
@@ -151,7 +152,25 @@ impl Message<'_, '_, '_> {
     /// Returns why it is refused.
     fn refused(&self, refusal: &Refusal) -> Answered {
         let shown = refusal.with_names(&self.wanted.schema, self.wanted.root);
-        refused_for(self.alloc, refusal.error.is_out_of_memory(), &shown)
+        self.refused_as(&shown, refusal)
+    }
+
+    /// Returns this refusal as it is shown, with the cause in words for a terminal.
+    fn refused_as<T: fmt::Display>(&self, shown: &T, refusal: &Refusal) -> Answered {
+        if refusal.error.is_out_of_memory() {
+            return Err(AllocError);
+        }
+        Ok(Answer::Refused(self.text_with_cause(shown, refusal)?))
+    }
+
+    /// Returns the text of what shows a refusal, with the cause in words for a terminal.
+    fn text_with_cause<T: fmt::Display>(
+        &self,
+        shown: &T,
+        refusal: &Refusal,
+    ) -> Result<String, AllocError> {
+        let octets = self.octets.get(refusal.offset..).unwrap_or(&[]);
+        text_of(self.alloc, shown, &refusal.error, octets)
     }
 
     /// Returns why it can't be read, with the place, for which it is read again.
@@ -170,8 +189,7 @@ impl Message<'_, '_, '_> {
             Ok(()) => Ok(Answer::Done(Vec::new(self.alloc))),
             Err(departure) => {
                 let shown = departure.place_with_names(schema, root);
-                let error = &departure.refusal.error;
-                refused_for(self.alloc, error.is_out_of_memory(), &shown)
+                self.refused_as(&shown, &departure.refusal)
             }
         }
     }
@@ -193,7 +211,7 @@ impl Message<'_, '_, '_> {
         let mut lines = Vec::new(self.alloc);
         for departure in list {
             let shown = departure.with_names(&self.wanted.schema, self.wanted.root);
-            lines.push(shown.to_string(self.alloc)?)?;
+            lines.push(self.text_with_cause(&shown, &departure.refusal)?)?;
         }
         Ok(Answer::Departures(lines))
     }
