@@ -2,13 +2,13 @@
 _soqavise() {
     local word=${COMP_WORDS[COMP_CWORD]} before=${COMP_WORDS[COMP_CWORD - 1]} options='--help'
     case ${COMP_WORDS[1]} in
-        show) options+=' --offsets' ;;
+        show) options+=' --offsets --color' ;;
         check | lint) options+=' --outer' ;;
     esac
     case ${COMP_WORDS[1]} in
-        show | check | json | normalise) options+=' --module --type --rules --lines --input --color' ;;
+        show | check | json | normalise) options+=' --module --type --rules --lines --input' ;;
         encode) options+=' --module --type --rules --lines' ;;
-        lint) options+=' --module --type --lines --input --color' ;;
+        lint) options+=' --module --type --lines --input' ;;
         types) options+=' --module' ;;
         dump) options+=' --input' ;;
         rust) options+=' --out --message --type --open --also --from' ;;

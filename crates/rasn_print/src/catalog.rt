@@ -60,7 +60,9 @@ pub fn wanted_type<'text>(
         return Ok(None);
     };
     let Some(named) = type_named(read, name.as_str()) else {
-        let text = format!(in alloc; "no type {name} is known")?;
+        let text = format!(in alloc;
+            "no type {name} is known; `soqavise types` prints those that are known"
+        )?;
         return Err(Fault::of_call(alloc, &text));
     };
     match message_type(alloc, read, named, call.rules) {
@@ -70,8 +72,8 @@ pub fn wanted_type<'text>(
     }
 }
 
-/// Prints a line for each type of the modules: its name, how many of its constraints aren't
-/// checked, or why it has no schema.
+/// Prints a line for each type of the modules: its name, how many of its constraints and contents
+/// aren't checked, or why it has no schema.
 ///
 /// # Errors
 /// `Write` if the output can't be written, `Closed` if its reader has gone, `Memory` if memory runs
@@ -124,7 +126,9 @@ fn type_line(
         Ok(resolved) if resolved.unchecked == 0 => format!(in alloc; "{module}.{name}\n"),
         Ok(resolved) => {
             let count = resolved.unchecked;
-            format!(in alloc; "{module}.{name}: constraints that aren't checked: {count}\n")
+            format!(in alloc;
+                "{module}.{name}: constraints and contents that aren't checked: {count}\n"
+            )
         }
         Err(Stop::OutOfMemory) => Err(AllocError),
         Err(stop) => format!(in alloc; "{module}.{name}: {stop}\n"),

@@ -69,6 +69,9 @@ impl Call {
     }
 }
 
+/// The help of `--rules` of all commands that read messages.
+const READ: &str = "The encoding rules by which messages are read";
+
 /// Returns the program's command: its subcommands, options and help.
 ///
 /// # Errors
@@ -92,7 +95,8 @@ pub fn command<'a>(alloc: Global) -> Result<Command<'a>, AllocError> {
 fn show_command<'a>(alloc: Global) -> Result<Command<'a>, AllocError> {
     messages(alloc, "show", "Prints messages as text with names")?
         .after_help("Example: soqavise show cert.pem")
-        .arg(rules(alloc))?
+        .arg(rules(alloc, READ))?
+        .arg(color(alloc))?
         .arg(flag(
             alloc,
             "offsets",
@@ -107,7 +111,7 @@ fn check_command<'a>(alloc: Global) -> Result<Command<'a>, AllocError> {
         "Prints nothing, or where a message is refused and why",
     )?
     .after_help("Example: soqavise check --type Certificate *.der")
-    .arg(rules(alloc))?
+    .arg(rules(alloc, READ))?
     .arg(outer(alloc))
 }
 
@@ -124,7 +128,7 @@ fn lint_command<'a>(alloc: Global) -> Result<Command<'a>, AllocError> {
 fn json_command<'a>(alloc: Global) -> Result<Command<'a>, AllocError> {
     messages(alloc, "json", "Prints messages as JSON (X.697)")?
         .after_help("Example: soqavise json cert.pem")
-        .arg(rules(alloc))
+        .arg(rules(alloc, READ))
 }
 
 fn encode_command<'a>(alloc: Global) -> Result<Command<'a>, AllocError> {
@@ -133,7 +137,7 @@ fn encode_command<'a>(alloc: Global) -> Result<Command<'a>, AllocError> {
         .after_help("Example: soqavise encode --type Certificate cert.json")
         .arg(modules(alloc))?
         .arg(type_name(alloc).required(true))?
-        .arg(rules(alloc))?
+        .arg(rules(alloc, "The encoding rules by which messages are written"))?
         .arg(flag(
             alloc,
             "lines",
@@ -145,7 +149,7 @@ fn encode_command<'a>(alloc: Global) -> Result<Command<'a>, AllocError> {
 fn normalise_command<'a>(alloc: Global) -> Result<Command<'a>, AllocError> {
     messages(alloc, "normalise", "Writes messages of BER or CER as DER")?
         .after_help("Example: soqavise normalise --type LDAPMessage message.ber")
-        .arg(rules(alloc))
+        .arg(rules(alloc, READ))
 }
 
 fn types_command<'a>(alloc: Global) -> Result<Command<'a>, AllocError> {
@@ -157,7 +161,7 @@ fn types_command<'a>(alloc: Global) -> Result<Command<'a>, AllocError> {
 
 fn dump_command<'a>(alloc: Global) -> Result<Command<'a>, AllocError> {
     Command::new(alloc, "dump")
-        .about("Prints headers, lengths and strings of any BER, without a type")
+        .about("Prints headers, lengths and values of any BER, without a type")
         .after_help("Example: soqavise dump message.ber")
         .arg(input(alloc))?
         .arg(files(alloc))
@@ -173,9 +177,9 @@ fn messages<'a>(alloc: Global, name: &'a str, about: &'a str) -> Result<Command<
             alloc,
             "lines",
             "Reads a message from each line, in hexadecimal or base64",
-        ))?
+        )
+        .conflicts_with("input")?)?
         .arg(input(alloc))?
-        .arg(color(alloc))?
         .arg(files(alloc))
 }
 
@@ -191,15 +195,15 @@ fn modules<'a>(alloc: Global) -> Arg<'a> {
         .long("module")
         .value_name("FILE")
         .action(ArgAction::Append)
-        .help("Reads modules of ASN.1 from this file, too")
+        .help("Reads modules of ASN.1 from this file, too; may be repeated")
 }
 
-fn rules<'a>(alloc: Global) -> Arg<'a> {
+fn rules<'a>(alloc: Global, help: &'a str) -> Arg<'a> {
     Arg::new(alloc, "rules")
         .long("rules")
         .value_name("RULES")
         .value_parser(ValueParser::from(["ber", "cer", "der"].as_slice()))
-        .help("The encoding rules by which messages are read")
+        .help(help)
 }
 
 fn input<'a>(alloc: Global) -> Arg<'a> {
@@ -222,7 +226,7 @@ fn files<'a>(alloc: Global) -> Arg<'a> {
     Arg::new(alloc, "file")
         .value_name("FILE")
         .num_args(0..)
-        .help("The files of messages; standard input without one")
+        .help("The files of messages; standard input without one, or for -")
 }
 
 fn outer<'a>(alloc: Global) -> Arg<'a> {

@@ -3,6 +3,7 @@
 use crate::identifiers::universal_name;
 use crate::known::Known;
 use crate::leaf::{leaf_text, octets_text};
+use crate::refusal_text::text_of;
 use rasn_de::ber::de::{ConstructedHeader, Decoder, DecoderOptions};
 use rasn_schema::Value;
 use rasn_types::error::DecodeError;
@@ -55,7 +56,7 @@ pub fn entries<'input>(alloc: Global, octets: &'input [u8]) -> Result<Entries<'i
         }
         let entry = match entry_of(alloc, rest, around.len(), at) {
             Ok(entry) => entry,
-            Err(error) => return Ok((list, Some(fault_text(alloc, at, &error)?))),
+            Err(error) => return Ok((list, Some(fault_text(alloc, at, &error, rest)?))),
         };
         let after = at.saturating_add(entry.octets.len());
         at = at.saturating_add(entry.header_len);
@@ -80,12 +81,18 @@ fn is_ended(rest: &[u8], is_indefinite: bool) -> bool {
     }
 }
 
-/// Returns why the encoding at this byte can't be read.
-fn fault_text(alloc: Global, at: usize, error: &DecodeError) -> Result<String, AllocError> {
+/// Returns why the encoding at this byte, with which these octets begin, can't be read.
+fn fault_text(
+    alloc: Global,
+    at: usize,
+    error: &DecodeError,
+    octets: &[u8],
+) -> Result<String, AllocError> {
     if error.is_out_of_memory() {
         return Err(AllocError);
     }
-    format!(in alloc; "byte {at}: {error}")
+    let text = text_of(alloc, error, error, octets)?;
+    format!(in alloc; "byte {at}: {text}")
 }
 
 /// Returns the encoding with which the octets begin, which is in so many others.
@@ -192,7 +199,7 @@ pub(crate) fn primitive_text(
 }
 
 /// Returns a tag as text: the name of a universal type, or as it is written in a module.
-fn tag_text(alloc: Global, tag: Tag) -> Result<String, AllocError> {
+pub(crate) fn tag_text(alloc: Global, tag: Tag) -> Result<String, AllocError> {
     let number = tag.value;
     let class = match tag.class {
         Class::Universal => match universal_name(number) {

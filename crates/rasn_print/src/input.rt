@@ -49,6 +49,16 @@ pub fn from_hexadecimal(alloc: Global, text: &[u8]) -> Result<Option<Vec<u8>>, A
     }
 }
 
+/// Returns why a text from which [`from_hexadecimal`] returns `None` is refused, or `otherwise` if
+/// it isn't digits.
+pub fn why_not_hexadecimal(text: &[u8], otherwise: &'static str) -> &'static str {
+    if is_hexadecimal(text) {
+        "an odd number of hexadecimal digits"
+    } else {
+        otherwise
+    }
+}
+
 /// Returns the octets of a line of JSON, or those that a line denotes, in hexadecimal or else in
 /// base64.
 pub fn from_line(alloc: Global, work: Work, line: &str) -> Result<Option<Vec<u8>>, AllocError> {

@@ -16,6 +16,7 @@ mod name;
 mod offsets;
 mod printer;
 mod reading;
+mod refusal_text;
 mod session;
 mod standards;
 mod types;

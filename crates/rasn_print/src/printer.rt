@@ -5,6 +5,7 @@ use crate::identifiers::{identifier_name, identifier_text};
 use crate::known::{Form, Known};
 use crate::leaf::leaf_text;
 use crate::name::name_text;
+use crate::refusal_text::text_of;
 use crate::types::MessageType;
 use rasn_dynamic::decode;
 use rasn_schema::{LeafKind, Schema, Type, TypeId, Value, View, part_name, part_type, type_at};
@@ -213,7 +214,8 @@ fn print_octets(text: &mut String, place: Place<'_>, value: &Value<'_>, form: Fo
         Err(error) if error.is_out_of_memory() => Err(AllocError),
         Err(error) => {
             let shown = Hexadecimal::new(&octets);
-            let shown = format!(in alloc; "{shown} (not of {hint}: {error})")?;
+            let cause = text_of(alloc, &error, &error, &octets)?;
+            let shown = format!(in alloc; "{shown} (not of {hint}: {cause})")?;
             push_line(text, place, &shown)
         }
     }

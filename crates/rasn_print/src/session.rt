@@ -3,11 +3,11 @@
 use crate::command_line::{InputForm, Work};
 use crate::dump::dump_text;
 use crate::fault::Fault;
-use crate::input::{form_of, from_hexadecimal, from_line};
+use crate::input::{form_of, from_hexadecimal, from_line, why_not_hexadecimal};
 use crate::work::{Answer, Input, Tools, answer_to};
 use rasn_text::blocks;
 use std::alloc::AllocError;
-use std::io::{BufRead, Write};
+use std::io::{self, BufRead, ErrorKind, Write};
 use std::{fmt, str};
 
 /// Prints what is to be said of messages.
@@ -55,7 +55,7 @@ impl<W: Write + Drop, E: Write + Drop> Session<'_, '_, W, E> {
             InputForm::Pem => self.pem(name, octets),
             InputForm::Hex => match from_hexadecimal(alloc, octets)? {
                 Some(octets) => self.message(name, &octets, None, true),
-                None => self.refuse(name, &"not hexadecimal digits"),
+                None => self.refuse(name, &why_not_hexadecimal(octets, "not hexadecimal digits")),
             },
             InputForm::Der => self.message(name, octets, None, false),
         }
@@ -120,18 +120,30 @@ impl<W: Write + Drop, E: Write + Drop> Session<'_, '_, W, E> {
     }
 
     /// Works on each line of an input, and prints a line for it. A line that is refused, and an
-    /// input that can't be read, set `is_refused` and are no errors.
+    /// input that can't be read, or from a block of PEM on, set `is_refused` and are no errors.
     ///
     /// # Errors
     /// As `flush`.
     pub fn lines<R: BufRead + Drop>(&mut self, name: &str, reader: R) -> Result<(), Fault> {
         for line in reader.lines(self.tools.alloc) {
             match line {
+                Ok(line) if line.as_str().starts_with("-----BEGIN ") => {
+                    return self.refuse(name, &"PEM, which is read without --lines");
+                }
                 Ok(line) => self.line(&line)?,
-                Err(_) => return self.refuse(name, &"cannot read"),
+                Err(error) => return self.unreadable(name, &error),
             }
         }
         Ok(())
+    }
+
+    /// Writes why the input with this name can't be read.
+    fn unreadable(&mut self, name: &str, error: &io::Error) -> Result<(), Fault> {
+        if error.kind() == ErrorKind::OutOfMemory {
+            return Err(Fault::Memory);
+        }
+        let reason = format!(in self.tools.alloc; "cannot read: {error}")?;
+        self.refuse(name, &reason)
     }
 
     /// Works on a line: prints its answer, `ok` if that is empty, or why it is refused.
@@ -150,8 +162,8 @@ impl<W: Write + Drop, E: Write + Drop> Session<'_, '_, W, E> {
     fn line_answer(&self, line: &str) -> Result<Answer, AllocError> {
         let alloc = self.tools.alloc;
         let Some(octets) = from_line(alloc, self.tools.call.work, line)? else {
-            let text = String::from_str(alloc, "neither hexadecimal nor base64")?;
-            return Ok(Answer::Refused(text));
+            let reason = why_not_hexadecimal(line.as_bytes(), "neither hexadecimal nor base64");
+            return Ok(Answer::Refused(String::from_str(alloc, reason)?));
         };
         let input = Input {
             octets: octets.as_slice(),

@@ -5,6 +5,7 @@ use crate::known::Known;
 use crate::messages::{MESSAGES, type_of_label};
 use crate::offsets::offsets_text;
 use crate::reading::{check, show};
+use crate::refusal_text::text_of;
 use crate::types::{MessageType, NamedType, message_type};
 use base64::engine::general_purpose::STANDARD;
 use rasn_compiler::{Modules, Stop};
@@ -70,6 +71,13 @@ pub fn answer_to(tools: &Tools<'_, '_>, input: &Input<'_>) -> Result<Answer, All
 
 /// Returns what is printed for a message of the first type that it is of.
 fn answer_by_trial(tools: &Tools<'_, '_>, input: &Input<'_>) -> Answered {
+    if input.octets.is_empty() {
+        return refused_for(
+            tools.alloc,
+            false,
+            &"no octets; --help says in which forms messages are read",
+        );
+    }
     let mut tried = Vec::new(tools.alloc);
     for named in MESSAGES {
         match answer_as(tools, *named, input)? {
@@ -79,8 +87,9 @@ fn answer_by_trial(tools: &Tools<'_, '_>, input: &Input<'_>) -> Answered {
         tried.push(named.1)?;
     }
     let tried = tried.as_slice().join(tools.alloc, ", ")?;
+    let advice = "--type names another type, and dump shows any BER";
     Ok(Answer::Refused(format!(in tools.alloc;
-        "none of the messages that are known: {tried}; --type names another type, and dump shows any BER"
+        "none of the known messages; {advice}; the known ones are {tried}"
     )?))
 }
 
@@ -143,7 +152,25 @@ impl Message<'_, '_, '_> {
     /// Returns why it is refused.
     fn refused(&self, refusal: &Refusal) -> Answered {
         let shown = refusal.with_names(&self.wanted.schema, self.wanted.root);
-        refused_for(self.alloc, refusal.error.is_out_of_memory(), &shown)
+        self.refused_as(&shown, refusal)
+    }
+
+    /// Returns this refusal as it is shown, with the cause in words for a terminal.
+    fn refused_as<T: fmt::Display>(&self, shown: &T, refusal: &Refusal) -> Answered {
+        if refusal.error.is_out_of_memory() {
+            return Err(AllocError);
+        }
+        Ok(Answer::Refused(self.text_with_cause(shown, refusal)?))
+    }
+
+    /// Returns the text of what shows a refusal, with the cause in words for a terminal.
+    fn text_with_cause<T: fmt::Display>(
+        &self,
+        shown: &T,
+        refusal: &Refusal,
+    ) -> Result<String, AllocError> {
+        let octets = self.octets.get(refusal.offset..).unwrap_or(&[]);
+        text_of(self.alloc, shown, &refusal.error, octets)
     }
 
     /// Returns why it can't be read, with the place, for which it is read again.
@@ -162,8 +189,7 @@ impl Message<'_, '_, '_> {
             Ok(()) => Ok(Answer::Done(Vec::new(self.alloc))),
             Err(departure) => {
                 let shown = departure.place_with_names(schema, root);
-                let error = &departure.refusal.error;
-                refused_for(self.alloc, error.is_out_of_memory(), &shown)
+                self.refused_as(&shown, &departure.refusal)
             }
         }
     }
@@ -185,7 +211,7 @@ impl Message<'_, '_, '_> {
         let mut lines = Vec::new(self.alloc);
         for departure in list {
             let shown = departure.with_names(&self.wanted.schema, self.wanted.root);
-            lines.push(shown.to_string(self.alloc)?)?;
+            lines.push(self.text_with_cause(&shown, &departure.refusal)?)?;
         }
         Ok(Answer::Departures(lines))
     }

@@ -22,6 +22,9 @@ const REFUSED: u8 = 1;
 /// The exit status of a program that is called wrongly, or can't read or write.
 const USAGE: u8 = 2;
 
+/// The name of standard input among files.
+const STDIN: &str = "-";
+
 /// What erases a line of a terminal (ECMA-48 8.3.41).
 const ERASED: &str = "\x1b[2K";
 
@@ -181,14 +184,15 @@ fn run_work(rt: &HostRuntime, tools: Tools<'_, '_>) -> Result<u8, Fault> {
     Ok(status)
 }
 
-/// Works on each file, or on standard input. Returns the exit status of files that can't be read.
+/// Works on each file, or on standard input without one. Returns the exit status of files that
+/// can't be read.
 fn inputs<W: Write + Drop, E: Write + Drop>(
     rt: &HostRuntime,
     files: &[String],
     session: &mut Session<'_, '_, W, E>,
 ) -> Result<u8, Fault> {
     if files.is_empty() {
-        return source(rt, "standard input", rt.stdin(), session);
+        return file_source(rt, STDIN, session);
     }
     let has_progress = has_progress(rt, session.tools.call.work, files.len());
     let mut status = 0;
@@ -196,10 +200,7 @@ fn inputs<W: Write + Drop, E: Write + Drop>(
         if has_progress {
             print_progress(rt, index, files.len())?;
         }
-        let answer = match File::open(rt, name.as_str()) {
-            Ok(file) => source(rt, name, file, session)?,
-            Err(error) => unreadable(rt, name, &error)?,
-        };
+        let answer = file_source(rt, name.as_str(), session)?;
         if answer != 0 {
             status = answer;
         }
@@ -208,6 +209,21 @@ fn inputs<W: Write + Drop, E: Write + Drop>(
         eprint!(rt; "{ERASED}").map_err(Fault::of_write)?;
     }
     Ok(status)
+}
+
+/// Works on the file with this name. Returns the exit status.
+fn file_source<W: Write + Drop, E: Write + Drop>(
+    rt: &HostRuntime,
+    name: &str,
+    session: &mut Session<'_, '_, W, E>,
+) -> Result<u8, Fault> {
+    if name == STDIN {
+        return source(rt, "standard input", rt.stdin(), session);
+    }
+    match File::open(rt, name) {
+        Ok(file) => source(rt, name, file, session),
+        Err(error) => unreadable(rt, name, &error),
+    }
 }
 
 /// Returns whether a line says how many files are done: of several, on a terminal on which nothing

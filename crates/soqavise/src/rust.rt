@@ -2,7 +2,7 @@
 
 use crate::{REFUSED, USAGE, sources_of, unreadable};
 use clap::{Arg, ArgAction, ArgMatches, Command};
-use rasn_compiler::{Modules, Source};
+use rasn_compiler::{Modules, Source, Stop};
 use rasn_print::{Fault, modules_of};
 use rasn_rattle::{
     File, HOLDER_NAMES, Held, Holder, Options, crate_files, holder_of, is_crate_name,
@@ -11,16 +11,23 @@ use std::alloc::{AllocError, Global};
 use std::{fs, io};
 
 /// The help of the options that may be repeated.
-const MESSAGE: &str = "Says that TYPE is a whole message, which is read by RULES: ber, cer or der";
+const MESSAGE: &str = "Says that TYPE is a whole message, which is read by RULES: ber, cer or der; \
+    may be repeated";
 
-const ALSO: &str = "Names a file NAME.rt of the crate that is written by hand, as a public module";
+const ALSO: &str = "Names a file NAME.rt of the crate that is written by hand, as a public module; \
+    may be repeated";
 
-const TYPE: &str = "Writes TYPE and what it is made of, instead of all types of the modules";
+const TYPE: &str = "Writes TYPE and what it is made of, instead of all types of the modules; \
+    may be repeated";
 
-const OPEN: &str = "Writes TYPE as an open type, whose values are octets";
+const OPEN: &str = "Writes TYPE as an open type, whose values are octets; may be repeated";
 
-const FROM: &str =
-    "Takes the types of the modules in FILE from CRATE, which has been written of them";
+const FROM: &str = "Takes the types of the modules in FILE from CRATE, which has been written of \
+    them; may be repeated";
+
+/// How a crate is written if a type has no schema.
+const WITHOUT: &str = "soqavise: `soqavise types --module FILE` prints which types have a fault, \
+    and --type TYPE writes a crate without them\n";
 
 /// Returns the subcommand: its arguments and help.
 pub(crate) fn rust_command<'a>(alloc: Global) -> Result<Command<'a>, AllocError> {
@@ -65,14 +72,14 @@ pub(crate) fn run_rust(rt: &HostRuntime, matches: &ArgMatches<'_>) -> Result<u8,
         return wrong(
             rt,
             folder,
-            "the crate's name is not of small letters, digits and _",
+            "the crate's name is not of small letters, digits and _, of which a letter comes first",
         );
     }
     let mut options = Options::new(rt.alloc(), name)?;
     for option in ["message", "also", "type", "open"] {
         let values = matches.get_strs(option).unwrap_or(&[]);
         if let Some(value) = add_values(&mut options, option, values)? {
-            return wrong(rt, value, "not a value of this option");
+            return wrong(rt, value, form_of(option));
         }
     }
     run_options(rt, matches, options, folder)
@@ -90,6 +97,15 @@ fn add_values<'a>(
         }
     }
     Ok(None)
+}
+
+/// Returns what is wrong about a value that an option can't have.
+fn form_of(option: &str) -> &'static str {
+    match option {
+        "message" => "not TYPE=ber, TYPE=cer or TYPE=der, as --message has it",
+        "also" => "not a name of small letters, digits and _, of which a letter comes first",
+        _ => "not a value of this option",
+    }
 }
 
 /// Prints what is wrong about a word of the command line. Returns the exit status.
@@ -130,7 +146,7 @@ fn run_files<'a>(
     let wanted = texts.len();
     for value in values {
         let Some((crate_name, file)) = value.split_once("=") else {
-            return wrong(rt, value, "not a value of this option");
+            return wrong(rt, value, "not CRATE=FILE, as --from has it");
         };
         match fs::read_to_string(rt, file) {
             Ok(text) => {
@@ -173,33 +189,38 @@ fn run_texts<'a>(
     folder: &str,
 ) -> Result<u8, Fault> {
     let mut texts = texts;
-    match held_types(options, texts.as_slice(), wanted) {
+    match held_types(options, texts.as_slice(), wanted)? {
         Ok(Holder { text, held }) => {
             let (module, _held) = HOLDER_NAMES;
             texts.push((module, text))?;
             run_held(rt, texts.as_slice(), &held, options, folder)
         }
-        Err(Fault::Call(faults)) => refused(rt, faults.as_str()),
-        Err(fault) => Err(fault),
+        Err(faults) => refused(rt, faults.as_str()),
     }
 }
 
 /// Returns the module that holds the types of the modules of these texts, the first ones, as many
-/// as `wanted`, and of what they import.
+/// as `wanted`, and of what they import, or the faults of the texts.
 fn held_types<'a>(
     options: &Options,
     texts: &'a [(&'a str, String)],
     wanted: usize,
-) -> Result<Holder, Fault> {
+) -> Result<Result<Holder, String>, Fault> {
     let alloc = options.alloc();
     let sources = sources_of(alloc, texts)?;
     let own = sources.as_slice().get(..wanted).unwrap_or(&[]);
     let own = Modules::parse(alloc, own)?;
-    let read = modules_of(alloc, sources.as_slice())?;
+    let read = match modules_of(alloc, sources.as_slice()) {
+        Ok(read) => read,
+        Err(Fault::Call(faults)) => return Ok(Err(faults)),
+        Err(fault) => return Err(fault),
+    };
     if let Some(name) = options.unknown_in(&read) {
-        return Err(Fault::Call(format!(in alloc; "soqavise: no type {name} is known\n")?));
+        return Err(Fault::Call(format!(in alloc;
+            "soqavise: no type {name} is known; `soqavise types` prints those that are known\n"
+        )?));
     }
-    Ok(holder_of(options, &read, own.modules.len())?)
+    Ok(Ok(holder_of(options, &read, own.modules.len())?))
 }
 
 /// Writes the crate of the types that the last of these texts holds.
@@ -219,7 +240,8 @@ fn run_held<'a>(
             let files = crate_files(options, resolved, held)?;
             write_files(rt, folder, options, files.as_slice())
         }
-        Err(stop) => refused(rt, format!(in alloc; "{stop}\n")?.as_str()),
+        Err(Stop::OutOfMemory) => Err(Fault::Memory),
+        Err(stop) => refused(rt, format!(in alloc; "{stop}\n{WITHOUT}")?.as_str()),
     }
 }
 
@@ -229,7 +251,8 @@ fn refused(rt: &HostRuntime, faults: &str) -> Result<u8, Fault> {
     Ok(REFUSED)
 }
 
-/// Writes the files of a crate into its folder, and prints its line of crates.txt.
+/// Writes the files of a crate into its folder, and prints its line of crates.txt, and which types
+/// are open types that no option names.
 fn write_files(
     rt: &HostRuntime,
     folder: &str,
@@ -240,6 +263,13 @@ fn write_files(
         let status = write_file(rt, folder, file)?;
         if status != 0 {
             return Ok(status);
+        }
+        if let Some(reason) = file.reason {
+            eprintln!(rt;
+                "{folder}/src/{}.rt: an open type, since {reason}",
+                file.name.as_str()
+            )
+            .map_err(Fault::of_write)?;
         }
     }
     println!(rt; "{}", options.crates_line()?.as_str()).map_err(Fault::of_write)?;
