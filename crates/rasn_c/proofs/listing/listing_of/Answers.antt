@@ -9,7 +9,7 @@ use Rattle.rasn_c.proofs.listing.listing_of.Goals as goal
 pub walk-preserved : goal.walk-preserved
 walk-preserved c =
     let next = rw c.in-Ok-Some.field-0-is at c.in-Ok-Some.ensures.next in
-    let kept = c.in-Ok-Some.ensures.kept in
+    let kept = c.in-Ok-Some.ensures.same in
     let row = c.in_ok-push_part.ensures in
     record {
       same_list = kept.0 ∙ c.walk.invariant.same_list;
