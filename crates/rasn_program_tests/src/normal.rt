@@ -151,17 +151,17 @@ fn what_is_no_value_alone_is_refused(rt: HostRuntime) {
         (
             &[0x01, 0x01, 0xFF, 0x00],
             Codec::Cer,
-            "Decode(DecodeError { kind: UnexpectedExtraData { length: 1 }, codec: Cer })",
+            "Decode(DecodeError { codec: Cer, kind: UnexpectedExtraData { length: 1 } })",
         ),
         (
             &[0x01, 0x01, 0xFF, 0x00, 0x00],
             Codec::Der,
-            "Decode(DecodeError { kind: UnexpectedExtraData { length: 2 }, codec: Der })",
+            "Decode(DecodeError { codec: Der, kind: UnexpectedExtraData { length: 2 } })",
         ),
         (
             &[0x01, 0x01, 0x05],
             Codec::Der,
-            "Decode(DecodeError { kind: InvalidBool { value: 5 }, codec: Der })",
+            "Decode(DecodeError { codec: Der, kind: InvalidBool { value: 5 } })",
         ),
     ];
     assert_refuses::<bool>(&rt, rt.alloc(), ROWS);
