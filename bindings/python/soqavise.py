@@ -377,11 +377,12 @@ class Schema:
     """A type of ASN.1 modules, with the types that it is made of."""
 
     def __init__(self, modules: Mapping[str, str] | Sequence[str], type: str) -> None:
-        """Reads modules, which are texts by their names or texts alone, and takes a type of them:
-        `TYPE`, the first of this name, or `MODULE.TYPE`.
+        """Reads modules, which are texts by their names, texts alone or one text, and takes a type of
+        them: `TYPE`, the first of this name, or `MODULE.TYPE`.
 
         Raises Refused with a line `NAME:LINE:COLUMN: what is wrong` for each fault of the modules.
         """
+        modules = [modules] if isinstance(modules, str) else modules
         named = modules.items() if isinstance(modules, Mapping) else ((f"{i + 1}", it) for i, it in enumerate(modules))
         pairs = [(name.encode(), text.encode()) for name, text in named]
         texts = (_Texts * max(len(pairs), 1))(*(_Texts(name, len(name), text, len(text)) for name, text in pairs))

@@ -110,7 +110,8 @@ class Schemas(unittest.TestCase):
         spelled = octets("3080 020105 2C06 0401C3 0401A9 3080 010105 010100 0000 810107 0000")  # 8.1.3.6, 8.2.2, 8.21
         self.assertEqual(self.schema.loads(spelled, Rules.BER), self.value)
         self.assertEqual(self.schema.normalise(spelled), self.row)
-        self.assertEqual(Schema([MODULE], "Rows.Row").loads(self.row), self.value)
+        for modules in ([MODULE], MODULE):
+            self.assertEqual(Schema(modules, "Rows.Row").loads(self.row), self.value)
 
     def test_checks(self):
         self.schema.check(self.row)

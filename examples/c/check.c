@@ -1,6 +1,7 @@
 /*
  * Checks that a file is one certificate in PEM or DER: whether its octets are the one DER encoding of a certificate (RFC 5280), and if
- * they aren't, why. Of a file of PEM it is the first block. Its signature and dates aren't checked, nor what its open types hold, such as the values in names.
+ * they aren't, why. Of a file of PEM it is the first block. Its signature and dates aren't checked, nor what its open types hold, such as
+ * the values in names. cc -std=c11 check.c -lsoqavise -o check && ./check certificate.pem
  */
 #include <soqavise.h>
 

@@ -1,6 +1,7 @@
 /*
  * Prints the serial number of a certificate in DER, and the time at which its validity ends (RFC 5280 4.1).
- * cc -std=c11 expiry.c libsoqavise.a -o expiry && ./expiry certificate.der
+ * cc -std=c11 expiry.c -lsoqavise -o expiry
+ * sed '/^-----/d' certificate.pem | base64 -d > certificate.der && ./expiry certificate.der
  */
 #include "soqavise.h"
 

@@ -1,6 +1,6 @@
 /*
  * Prints the subject of the first certificate of a PEM file and the time at which its validity ends (RFC 5280 4.1), by a schema of its
- * module. cc -std=c11 subject.c libsoqavise.a -o subject && ./subject certificates.asn1 certificate.pem
+ * module. cc -std=c11 subject.c -lsoqavise -o subject && ./subject certificates.asn1 certificate.pem
  */
 #include "soqavise.h"
 
@@ -19,8 +19,11 @@ int main(int count, char **words) {
     soq_texts texts = {"modules", 7, modules, fread(modules, 1, sizeof modules, first)};
     size_t size, length, end = fread(pem, 1, sizeof pem, second);
     soq_block block; soq_part part; soq_instant until;
+    if (soq_pem(pem, end, 0, &block, octets, sizeof octets, &length) != SOQ_OK) {
+        fprintf(stderr, "%s: no block of PEM\n", words[2]);
+        return 1;
+    }
     if (soq_compile(&texts, 1, "Certificate", schema, sizeof schema, &size, NULL, text, sizeof text) != SOQ_OK
-        || soq_pem(pem, end, 0, &block, octets, sizeof octets, &length) != SOQ_OK
         || soq_check_by(schema, size, SOQ_DER, 1, octets, length, NULL, text, sizeof text) != SOQ_OK
         || soq_find(schema, size, SOQ_DER, octets, length, "tbsCertificate.subject", &part, NULL, NULL, 0) != SOQ_OK
         || soq_name_text(SOQ_DER, octets + part.offset, part.length, text, sizeof text, &end) != SOQ_OK) {
