@@ -87,7 +87,7 @@ fn answer_by_trial(tools: &Tools<'_, '_>, input: &Input<'_>) -> Answered {
         tried.push(named.1)?;
     }
     let tried = tried.as_slice().join(tools.alloc, ", ")?;
-    let advice = "--type names another type, and dump shows any BER";
+    let advice = "--type TYPE says why not, and reads other types; dump shows any BER";
     Ok(Answer::Refused(format!(in tools.alloc;
         "none of the known messages; {advice}; the known ones are {tried}"
     )?))
