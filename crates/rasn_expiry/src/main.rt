@@ -1,4 +1,4 @@
-//! Prints when a certificate in DER, which is standard input, begins and ends to be valid.
+//! Prints from when to when a certificate is valid. It is read from standard input, in DER.
 #![tactic(auto)]
 
 use rasn::WholeMessage;
