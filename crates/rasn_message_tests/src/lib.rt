@@ -6,3 +6,5 @@
 mod asserts;
 #[cfg(test)]
 mod messages;
+#[cfg(test)]
+mod samples;

@@ -13,6 +13,8 @@ mod hostile;
 #[cfg(test)]
 mod parts;
 #[cfg(test)]
+mod program;
+#[cfg(test)]
 mod reading;
 #[cfg(test)]
 mod sequence;

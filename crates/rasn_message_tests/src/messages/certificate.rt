@@ -5,7 +5,7 @@ use crate::messages::spoilt::{READ, Spoilt, assert_spoilt};
 use rasn::WholeMessage;
 use rasn::types::Codec;
 use rasn_pkix::{Certificate, Extensions, Name, Time};
-use rasn_samples::certificate::CERTIFICATE;
+use crate::samples::certificate::CERTIFICATE;
 
 /// Returns whether the time is 13:07 on a day in 2026, as a UTCTime.
 fn is_start(time: &Time) -> bool {

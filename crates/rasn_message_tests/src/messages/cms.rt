@@ -7,7 +7,7 @@ use crate::messages::spoilt::{READ, Spoilt, assert_spoilt};
 use rasn::WholeMessage;
 use rasn::types::Codec;
 use rasn_cms::{SignedMessage, SignerIdentifier};
-use rasn_samples::cms::{MESSAGE, STREAMED};
+use crate::samples::cms::{MESSAGE, STREAMED};
 
 /// Returns whether these are the parts that OpenSSL was given.
 fn has_parts(message: &SignedMessage) -> bool {

@@ -11,7 +11,7 @@ use rasn_ldap::{
     ChangeOperationName, LdapMessage, MaxInt, ProtocolOp, ResultCodeName, SearchRequest,
     SearchRequestDerefAliases, SearchRequestScopeName,
 };
-use rasn_samples::ldap::{
+use crate::samples::ldap::{
     BIND, BIND_CONTINUES, BIND_STEP, BOUND, CHILDREN, DONE, ENTRY, EXTENDED, MODIFIED, MODIFY,
     REFERENCE, SEARCH, UNBIND, WHO,
 };

@@ -5,7 +5,7 @@ use crate::messages::spoilt::{READ, Spoilt, assert_spoilt};
 use rasn::WholeMessage;
 use rasn::types::Codec;
 use rasn_pkix::{CertificationRequest, Name};
-use rasn_samples::request::REQUEST;
+use crate::samples::request::REQUEST;
 
 /// Returns whether the name is made of two others.
 fn is_of_two(name: &Name) -> bool {

@@ -6,7 +6,7 @@ use rasn::WholeMessage;
 use rasn::error::DecodeErrorKind;
 use rasn::types::Codec;
 use rasn_pkix::{CertificateList, Time, Version};
-use rasn_samples::revocation::REVOCATION_LIST;
+use crate::samples::revocation::REVOCATION_LIST;
 
 // The same list without revoked certificates and extensions, which is of version 1.
 const EMPTY_LIST: &[u8] = &[

@@ -5,7 +5,7 @@ use crate::asserts::{Answer, ahead_of, assert_decodes, assert_has, assert_writte
 use crate::messages::spoilt::{Spoilt, assert_spoilt, spoilt};
 use rasn::WholeMessage;
 use rasn::types::Codec;
-use rasn_samples::snmp::{
+use crate::samples::snmp::{
     END_OF_VIEW, GET, GET_BULK, GET_NEXT, INFORM, NOT_WRITABLE, RESPONSE, SET, TRAP,
     TRAP_OF_VERSION_1,
 };

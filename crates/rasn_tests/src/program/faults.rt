@@ -1,6 +1,6 @@
 //! Readers and writers that fail, and the arguments of the program.
 
-use crate::asserts::assert_facts;
+use crate::reading::assert_facts;
 use rasn_bench::{RunFault, file_of, run};
 use std::alloc::{AllocError, Global};
 use std::io::{self, BufRead, BufReader, Error, ErrorKind, Read, Write};

@@ -1,4 +1,6 @@
-//! Tests.
+//! `rasn_address_book`, which is exactly what is written of its module. The octets are worked out by
+//! hand from X.690.
+
 use rasn::de::Decode;
 use rasn::der;
 use rasn::enc::Encode;

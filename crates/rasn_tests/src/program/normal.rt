@@ -1,7 +1,7 @@
 //! Lines that the program normalises: from an encoding under any of the three rules to that of DER
 //! (X.690 10, 11).
 
-use crate::asserts::{assert_text, debug_text};
+use crate::reading::{assert_text, debug_text};
 use rasn::de::Decode;
 use rasn::enc::Encode;
 use rasn::error::{DecodeError, DecodeErrorKind};

@@ -1,7 +1,0 @@
-//! The tests of schemas as octets.
-#![tactic(auto)]
-
-#[cfg(test)]
-mod damaged;
-#[cfg(test)]
-mod small;
