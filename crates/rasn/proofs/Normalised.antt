@@ -19,13 +19,15 @@ use Rattle.rasn_types.specs.Carried.{Carried}
 use Rattle.rasn_types.proofs.SetOf.Same.{same_sym}
 use Rattle.rasn_types.proofs.Encoding.SameAsItself.{one_writing, written_same}
 use Rattle.rasn_de.specs.Outcomes.{Exact, refusal}
+use Rattle.rasn_de.specs.ValueErrors.{Errors}
 use Rattle.rasn.specs.Headline.{IsFollowed}
+use Rattle.rasn.specs.Refusals.{FailsAlone}
 use Rattle.rasn.proofs.LawsHold.Written.{one_reading, included, read_again, canonical}
 use Rattle.rasn.proofs.StrictDer.Carried.{strict_der}
 use Rattle.rasn.proofs.StrictDer.Carried.{stays_carried}
 use Rattle.rasn.specs.declared.normal.NormaliseError.{NormaliseError}
 use Rattle.rasn.specs.declared.normal.NormaliseError.TheVariants.{Decode, Encode, NotCanonical}
-use Rattle.rasn.specs.Normal.{Means, IsNormal, IsNotCanonical, IsNoNormal, IsOutOfMemoryAlone, IsCarriedIn, IsIdentified, IsKept, IsUnchanged, IsAnswered, SameExactlyIfEqual}
+use Rattle.rasn.specs.Normal.{Means, IsNormal, IsNotCanonical, FailsReadBack, IsNoNormal, IsOutOfMemoryAlone, IsCarriedIn, IsIdentified, IsKept, IsUnchanged, IsAnswered, SameExactlyIfEqual}
 
 abbrev answer : (T D : Type 0) → T → Result T D
 answer T D v = Ok v
@@ -74,6 +76,17 @@ not_read {rule} {s} {input} {octets} {text} t e means is f refused other = recor
       | inr n ↦ n v [] h
     ]
     none (inr y) v h = y.extra.some (sym (y.read.1 v [] h).1)
+
+pub not_read_back : {errors : Errors} {rule : Codec} {s : Shape} {input octets text : List ℕ} {memory : Bool} (t : Tree) (e : DecodeError) → Means rule s input t → Bytes Der s t octets → text ≡ octets
+    → FailsAlone errors Der s text e → IsWhether memory (IsOutOfMemory e.kind) → memory ≡ true → FailsReadBack errors rule s input e
+not_read_back {errors} {rule} {s} {input} {octets} t e means is f fails tells m = record {
+  value = t;
+  means = means;
+  octets = octets;
+  written = is;
+  memory = subst (λ b. IsWhether b (IsOutOfMemory e.kind)) m tells;
+  fails = subst (λ l. FailsAlone errors Der s l e) f fails;
+}
 
 -- The normal encoding of a carried value is its octets.
 module _ {rule : Codec} {s : Shape} {input octets : List ℕ} (n : IsNormal rule s input octets) {t : Tree} (c : IsCarriedIn rule s input t) where

@@ -5,6 +5,7 @@ pub mod Cuts
 pub mod Depths
 pub mod Fractions
 pub mod Headers
+pub mod Refusals
 pub mod Lenient
 pub mod Nested
 pub mod Any

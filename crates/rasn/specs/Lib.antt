@@ -1,4 +1,5 @@
 pub mod Headline
+pub mod Refusals
 pub mod Laws
 pub mod Carries
 pub mod Messages
@@ -7,6 +8,7 @@ pub mod Worked
 pub mod WorkedShapes
 pub mod WorkedDepths
 pub mod WorkedHeaders
+pub mod WorkedRefusals
 pub mod WorkedValues
 pub mod WorkedClauses
 pub mod Normal

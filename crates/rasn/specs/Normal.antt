@@ -2,6 +2,7 @@
 use Rattle.std.specs.Prelude.{◌≡◌, ◌⊎◌, ◌↔◌, ℕ, List, [], Option, Some, codes}
 use Rattle.rasn_types.specs.declared.types.codec.Codec.{Codec}
 use Rattle.rasn_types.specs.declared.types.codec.Codec.TheVariants.{Der}
+use Rattle.rasn_types.specs.declared.error.decode.DecodeError.{DecodeError}
 use Rattle.rasn_types.specs.Errors.{IsOutOfMemory, IsEncodeOutOfMemory}
 use Rattle.rasn_types.specs.ErrorText.{shown_decode_error, shown_encode_error}
 use Rattle.rasn_types.specs.Shapes.{Tree, Shape}
@@ -10,8 +11,10 @@ use Rattle.rasn_types.specs.Bytes.{Same, Bytes}
 use Rattle.rasn_types.specs.Carried.{Carried}
 use Rattle.rasn_types.specs.Lawful.{IsLawful}
 use Rattle.rasn_de.specs.Outcomes.{Exact, Got, refusal}
+use Rattle.rasn_de.specs.ValueErrors.{Errors}
 use Rattle.rasn_enc.specs.Encoding.{NoEncoding}
 use Rattle.rasn.specs.Headline.{IsFollowed}
+use Rattle.rasn.specs.Refusals.{FailsAlone}
 use Rattle.rasn.specs.declared.normal.NormaliseError.{NormaliseError}
 use Rattle.rasn.specs.declared.normal.NormaliseError.TheVariants.{Decode, Encode, NotCanonical}
 
@@ -43,6 +46,21 @@ abbrev pub IsNoNormal : Codec → Shape → List ℕ → NormaliseError → Type
 IsNoNormal rule s input (Decode e) = Exact (Reads rule s 128 (top rule)) input (refusal e.kind) ⊎ IsFollowed rule s input e
 IsNoNormal rule s input (Encode e) = IsEncodeOutOfMemory e.kind ⊎ ((value : Tree) × Means rule s input value × NoEncoding Der s value)
 IsNoNormal rule s input NotCanonical = IsNotCanonical rule s input
+
+-- An allocation fails while DER reads back the DER octets of the value that is all of the input.
+pub record FailsReadBack (errors : Errors) (rule : Codec) (s : Shape) (input : List ℕ) (e : DecodeError) : Type 0 where
+  pub value : Tree
+  pub means : Means rule s input value
+  pub octets : List ℕ
+  pub written : Bytes Der s value octets
+  pub memory : IsOutOfMemory e.kind
+  pub fails : FailsAlone errors Der s octets e
+
+-- An error of a read is one of these, of the read of the input; or an allocation fails while the octets are read back.
+abbrev pub IsReadingError : Errors → Codec → Shape → List ℕ → NormaliseError → Type 0
+IsReadingError errors rule s input (Decode e) = FailsAlone errors rule s input e ⊎ FailsReadBack errors rule s input e
+IsReadingError errors rule s input (Encode e) = Unit {0}
+IsReadingError errors rule s input NotCanonical = Unit {0}
 
 -- The error names the rules by which the input was read; or DER, if DER had to write the value or to read it back.
 abbrev pub IsByRules : Codec → NormaliseError → Type 0

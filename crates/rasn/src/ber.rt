@@ -6,6 +6,7 @@ ghost use Rattle.rasn_types.specs.declared.types.codec.Codec.TheVariants.{Ber};
 ghost use Rattle.rasn_de.specs.State.{IsEnd};
 ghost use Rattle.rasn_de.specs.Beyond.{got};
 ghost use Rattle.rasn.specs.Headline.{Answered, AnsweredFirst, BeyondFirst, ScopeRefuses, EncodingFails};
+ghost use Rattle.rasn.specs.Refusals.{FailsFirst};
 ghost use Rattle.rasn_enc.specs.View.{started};
 ghost use Rattle.rasn_enc.specs.Closures.{OnlyAppends, WritesOutput};
 
@@ -36,6 +37,7 @@ use std::alloc::Global;
 pub fn decode<T: Decode>(alloc: Global, input: &[u8]) -> Result<T, DecodeError>
     ensures exact { AnsweredFirst Ber T.shape T.tree input.now result }
     ensures beyond { IfOk result (λ v. (rest : List ℕ) × BeyondFirst (got (T.beyond T.TAG)) Ber input.now v rest) }
+    ensures errors { IfErr result (FailsFirst (T.errors T.TAG T.CONSTRAINTS) Ber input.now) }
     ensures rules { IfErr result (λ e. e.codec ≡ Ber) }
 {
     let (value, _) = decode_with_remainder(alloc, input)?;
@@ -64,6 +66,7 @@ pub fn decode_with_remainder<T: Decode>(
 ) -> Result<(T, &[u8]), DecodeError>
     ensures exact { Answered Ber T.shape T.tree input.now result }
     ensures beyond { IfOk result (λ read. BeyondFirst (got (T.beyond T.TAG)) Ber input.now read.0 read.1.now) }
+    ensures errors { IfErr result (FailsFirst (T.errors T.TAG T.CONSTRAINTS) Ber input.now) }
     ensures end { IfOk result (λ read. IsEnd input.now read.1.now) }
     ensures rules { IfErr result (λ e. e.codec ≡ Ber) }
 {

@@ -5,6 +5,7 @@ ghost use Rattle.rasn_types.specs.declared.types.codec.Codec.TheVariants.{Cer};
 ghost use Rattle.rasn_de.specs.State.{IsEnd};
 ghost use Rattle.rasn_de.specs.Beyond.{got};
 ghost use Rattle.rasn.specs.Headline.{Answered, AnsweredFirst, BeyondFirst, EncodingFails};
+ghost use Rattle.rasn.specs.Refusals.{FailsFirst};
 
 pub use crate::ber::{Identifier, de, enc};
 use crate::entry;
@@ -32,6 +33,7 @@ use std::alloc::Global;
 pub fn decode<T: Decode>(alloc: Global, input: &[u8]) -> Result<T, DecodeError>
     ensures exact { AnsweredFirst Cer T.shape T.tree input.now result }
     ensures beyond { IfOk result (λ v. (rest : List ℕ) × BeyondFirst (got (T.beyond T.TAG)) Cer input.now v rest) }
+    ensures errors { IfErr result (FailsFirst (T.errors T.TAG T.CONSTRAINTS) Cer input.now) }
     ensures rules { IfErr result (λ e. e.codec ≡ Cer) }
 {
     let (value, _) = decode_with_remainder(alloc, input)?;
@@ -59,6 +61,7 @@ pub fn decode_with_remainder<T: Decode>(
 ) -> Result<(T, &[u8]), DecodeError>
     ensures exact { Answered Cer T.shape T.tree input.now result }
     ensures beyond { IfOk result (λ read. BeyondFirst (got (T.beyond T.TAG)) Cer input.now read.0 read.1.now) }
+    ensures errors { IfErr result (FailsFirst (T.errors T.TAG T.CONSTRAINTS) Cer input.now) }
     ensures end { IfOk result (λ read. IsEnd input.now read.1.now) }
     ensures rules { IfErr result (λ e. e.codec ≡ Cer) }
 {

@@ -11,6 +11,7 @@ ghost use Rattle.rasn_types.specs.declared.types.codec.Codec.TheVariants.{Der};
 ghost use Rattle.rasn_de.specs.State.{IsEnd};
 ghost use Rattle.rasn_de.specs.Beyond.{got};
 ghost use Rattle.rasn.specs.Headline.{Answered, AnsweredAlone, BeyondFirst, Identify, ConsumesWritten, IsAsWritten, ScopeRefuses, EncodingFails};
+ghost use Rattle.rasn.specs.Refusals.{FailsFirst, FailsAlone};
 ghost use Rattle.rasn.specs.Normal.{IsNormal};
 ghost use Rattle.rasn_enc.specs.View.{started};
 ghost use Rattle.rasn_enc.specs.Closures.{OnlyAppends, WritesOutput};
@@ -42,6 +43,7 @@ use std::alloc::{AllocError, Global};
 pub fn decode<T: Decode>(alloc: Global, input: &[u8]) -> Result<T, DecodeError>
     ensures exact { AnsweredAlone Der T.shape T.tree input.now result }
     ensures beyond { IfOk result (λ v. BeyondFirst (got (T.beyond T.TAG)) Der input.now v []) }
+    ensures errors { IfErr result (FailsAlone (T.errors T.TAG T.CONSTRAINTS) Der T.shape input.now) }
     ensures written { IsAsWritten T.shape T.tree input.now result }
     ensures rules { IfErr result (λ e. e.codec ≡ Der) }
 {
@@ -73,6 +75,7 @@ pub fn decode_with_remainder<T: Decode>(
 ) -> Result<(T, &[u8]), DecodeError>
     ensures exact { Answered Der T.shape T.tree input.now result }
     ensures beyond { IfOk result (λ read. BeyondFirst (got (T.beyond T.TAG)) Der input.now read.0 read.1.now) }
+    ensures errors { IfErr result (FailsFirst (T.errors T.TAG T.CONSTRAINTS) Der input.now) }
     ensures end { IfOk result (λ read. IsEnd input.now read.1.now) }
     ensures written { ConsumesWritten T.shape T.tree input.now result }
     ensures rules { IfErr result (λ e. e.codec ≡ Der) }

@@ -6,6 +6,7 @@ ghost use Rattle.rasn_types.specs.Bytes.{Bytes};
 ghost use Rattle.rasn_de.specs.State.{IsEnd};
 ghost use Rattle.rasn_de.specs.Beyond.{got};
 ghost use Rattle.rasn.specs.Headline.{Answered, AnsweredAlone, BeyondFirst, IsExtraData, ScopeRefuses, EncodingFails};
+ghost use Rattle.rasn.specs.Refusals.{FailsFirst, FailsAlone};
 ghost use Rattle.rasn_enc.specs.View.{started};
 ghost use Rattle.rasn_enc.specs.Closures.{OnlyAppends, WritesOutput};
 ghost use Rattle.rasn_enc.specs.Primitive.{IsAllocError};
@@ -42,6 +43,7 @@ use std::mem;
 pub fn decode<T: Decode>(alloc: Global, codec: Codec, input: &[u8]) -> Result<T, DecodeError>
     ensures exact { AnsweredAlone codec T.shape T.tree input.now result }
     ensures beyond { IfOk result (λ v. BeyondFirst (got (T.beyond T.TAG)) codec input.now v []) }
+    ensures errors { IfErr result (FailsAlone (T.errors T.TAG T.CONSTRAINTS) codec T.shape input.now) }
     ensures rules { IfErr result (λ e. e.codec ≡ codec) }
 {
     let (value, remainder) = decode_with_remainder(alloc, codec, input)?;
@@ -72,6 +74,7 @@ pub fn decode_with_remainder<T: Decode>(
 ) -> Result<(T, &[u8]), DecodeError>
     ensures exact { Answered codec T.shape T.tree input.now result }
     ensures beyond { IfOk result (λ read. BeyondFirst (got (T.beyond T.TAG)) codec input.now read.0 read.1.now) }
+    ensures errors { IfErr result (FailsFirst (T.errors T.TAG T.CONSTRAINTS) codec input.now) }
     ensures end { IfOk result (λ read. IsEnd input.now read.1.now) }
     ensures rules { IfErr result (λ e. e.codec ≡ codec) }
 {

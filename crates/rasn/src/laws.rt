@@ -8,9 +8,13 @@ ghost use Rattle.rasn.specs.Worked.{Worked, WorkedStrict};
 ghost use Rattle.rasn.specs.WorkedShapes.{DescribedParts, LawfulShapes, CarriedShapes};
 ghost use Rattle.rasn.specs.WorkedDepths.{WorkedDepths};
 ghost use Rattle.rasn.specs.WorkedHeaders.{WorkedHeaders};
+ghost use Rattle.rasn.specs.WorkedRefusals.{WorkedRefusals};
 ghost use Rattle.rasn.specs.WorkedClauses.{WorkedClauses};
 ghost use Rattle.rasn.specs.WorkedValues.{WorkedValues, WorkedSets, WorkedOpens, WorkedUnknown, WorkedOpenChoice, WorkedSortedSets};
 ghost use Rattle.rasn.specs.Laws.{OneReading, Included, ReadAgain, Canonical, WrittenOnce, StrictDer, OnlyCarried, AllCarried, StaysCarried, LawfulTested, ListedAlike, OneEncoding, EncodingSteps};
+
+use rasn_de::de::Decode;
+use rasn_types::types::AsnType;
 
 /// Proves that an input is read as at most one value of a leaf type, with at most one rest.
 pub fn one_leaf()
@@ -185,6 +189,11 @@ pub fn described_parts()
 /// longer, that they aren't: BER reads the longer ones, and DER doesn't.
 pub fn worked_headers()
     ensures { WorkedHeaders }
+{}
+
+/// Proves of octets that aren't a BOOLEAN which error reports it, and that no other does.
+pub fn worked_refusals()
+    ensures { WorkedRefusals (⟦<bool as Decode>⟧.errors ⟦<bool as AsnType>⟧.TAG ⟦<bool as AsnType>⟧.CONSTRAINTS) }
 {}
 
 /// Proves that values nested as deeply as a decoder allows are read, and that those one level

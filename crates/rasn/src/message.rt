@@ -6,6 +6,7 @@ ghost use Rattle.rasn_types.specs.Truth.{IsWhether};
 ghost use Rattle.rasn_de.specs.State.{IsEnd};
 ghost use Rattle.rasn_de.specs.Beyond.{got};
 ghost use Rattle.rasn.specs.Headline.{Answered, AnsweredAlone, BeyondFirst, IsCarriedAsWritten, Identifies, EncodingFails};
+ghost use Rattle.rasn.specs.Refusals.{FailsFirst, FailsAlone};
 ghost use Rattle.rasn.specs.Messages.{IsReadBack};
 ghost use Rattle.rasn.specs.Normal.{IsNormal};
 
@@ -63,6 +64,7 @@ pub trait WholeMessage: Decode + Encode + LawfulEq {
     final fn read(alloc: Global, input: &[u8]) -> Result<Self, DecodeError>
         ensures exact { AnsweredAlone RULES Self.shape Self.tree input.now result }
         ensures beyond { IfOk result (λ v. BeyondFirst (got (Self.beyond Self.TAG)) RULES input.now v []) }
+        ensures errors { IfErr result (FailsAlone (Self.Decode.errors Self.TAG Self.CONSTRAINTS) RULES Self.shape input.now) }
         ensures written { RULES ≡ Der → IsCarriedAsWritten Self.shape Self.tree input.now result }
         ensures rules { IfErr result (λ e. e.codec ≡ RULES) }
     {
@@ -86,6 +88,7 @@ pub trait WholeMessage: Decode + Encode + LawfulEq {
     final fn read_with_remainder(alloc: Global, input: &[u8]) -> Result<(Self, &[u8]), DecodeError>
         ensures exact { Answered RULES Self.shape Self.tree input.now result }
         ensures beyond { IfOk result (λ read. BeyondFirst (got (Self.beyond Self.TAG)) RULES input.now read.0 read.1.now) }
+        ensures errors { IfErr result (FailsFirst (Self.Decode.errors Self.TAG Self.CONSTRAINTS) RULES input.now) }
         ensures end { IfOk result (λ read. IsEnd input.now read.1.now) }
         ensures rules { IfErr result (λ e. e.codec ≡ RULES) }
     {
@@ -108,6 +111,7 @@ pub trait WholeMessage: Decode + Encode + LawfulEq {
     final fn read_der(alloc: Global, input: &[u8]) -> Result<Self, DecodeError>
         ensures exact { AnsweredAlone Der Self.shape Self.tree input.now result }
         ensures beyond { IfOk result (λ v. BeyondFirst (got (Self.beyond Self.TAG)) Der input.now v []) }
+        ensures errors { IfErr result (FailsAlone (Self.Decode.errors Self.TAG Self.CONSTRAINTS) Der Self.shape input.now) }
         ensures written { IsCarriedAsWritten Self.shape Self.tree input.now result }
         ensures rules { IfErr result (λ e. e.codec ≡ Der) }
     {

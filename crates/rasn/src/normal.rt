@@ -4,7 +4,8 @@ ghost use Rattle.std.specs.Prelude.{◌≡◌, IfOk, IfErr, IsTrue, ◌↔◌};
 ghost use Rattle.rasn_types.specs.declared.types.codec.Codec.TheVariants.{Der};
 ghost use Rattle.rasn_types.specs.Framing.{AreOctets};
 ghost use Rattle.rasn.specs.Headline.{AnsweredAlone};
-ghost use Rattle.rasn.specs.Normal.{IsNormal, IsNoNormal, IsIdentified, IsKept, IsUnchanged, IsAnswered, IsByRules, IsOutOfMemoryAlone, SameExactlyIfEqual};
+ghost use Rattle.rasn.specs.Refusals.{FailsAlone};
+ghost use Rattle.rasn.specs.Normal.{IsNormal, IsNoNormal, IsIdentified, IsKept, IsUnchanged, IsAnswered, IsByRules, IsReadingError, IsOutOfMemoryAlone, SameExactlyIfEqual};
 
 use crate::{decode, der};
 use rasn_de::de::Decode;
@@ -92,6 +93,7 @@ pub fn normalise<T: Decode + Encode + LawfulEq>(
     ensures unchanged { IfOk result (λ octets. IsUnchanged rule T.shape input.now octets.items) }
     ensures answered { IfErr result (λ error. IsAnswered rule T.shape input.now error) }
     ensures fails { IfErr result (λ error. IsNoNormal rule T.shape input.now error) }
+    ensures errors { IfErr result (IsReadingError (T.Decode.errors T.TAG T.CONSTRAINTS) rule T.shape input.now) }
     ensures rules { IfErr result (λ error. IsByRules rule error) }
 {
     convert::<T>(alloc, rule, input)
@@ -113,6 +115,7 @@ fn convert<T: Decode + Encode + LawfulEq>(
     ensures normal { IfOk result (λ octets. IsNormal rule T.shape input.now octets.items) }
     ensures octets { IfOk result (λ octets. AreOctets octets.items) }
     ensures fails { IfErr result (λ error. IsNoNormal rule T.shape input.now error) }
+    ensures errors { IfErr result (IsReadingError (T.Decode.errors T.TAG T.CONSTRAINTS) rule T.shape input.now) }
     ensures rules { IfErr result (λ error. IsByRules rule error) }
 {
     let value = decode::<T>(alloc, rule, input).map_err(NormaliseError::Decode)?;
@@ -127,6 +130,7 @@ fn convert<T: Decode + Encode + LawfulEq>(
 /// Reads back what was written, which must be exactly one value.
 fn read_back<T: Decode>(alloc: Global, written: &[u8]) -> Result<T, DecodeError>
     ensures exact { AnsweredAlone Der T.shape T.tree written.now result }
+    ensures errors { IfErr result (FailsAlone (T.Decode.errors T.TAG T.CONSTRAINTS) Der T.shape written.now) }
     ensures rules { IfErr result (λ e. e.codec ≡ Der) }
     ensures octets { AreOctets written.now }
 {

@@ -8,6 +8,7 @@ ghost use Rattle.rasn_de.specs.Beyond.{got};
 ghost use Rattle.rasn_de.specs.Steps.{PeeksTag};
 ghost use Rattle.rasn_types.specs.Errors.{IsOutOfMemory};
 ghost use Rattle.rasn.specs.Headline.{AnsweredAlone, BeyondFirst, front, EncodingFails};
+ghost use Rattle.rasn.specs.Refusals.{FailsAlone};
 
 use crate::entry;
 use rasn_de::ber::de::{Decoder, DecoderOptions};
@@ -52,6 +53,7 @@ pub fn encode_any<T: Encode>(alloc: Global, rules: Codec, value: &T) -> Result<A
 pub fn decode_any<T: Decode>(alloc: Global, rules: Codec, any: &Any) -> Result<T, DecodeError>
     ensures exact { AnsweredAlone rules T.shape T.tree any.now result }
     ensures beyond { IfOk result (λ v. BeyondFirst (got (T.beyond T.TAG)) rules any.now v []) }
+    ensures errors { IfErr result (FailsAlone (T.errors T.TAG T.CONSTRAINTS) rules T.shape any.now) }
     ensures rules { IfErr result (λ e. e.codec ≡ rules) }
 {
     entry::decode(alloc, rules, any.as_bytes())

@@ -1,4 +1,4 @@
-use Rattle.std.proofs.Common.{subst}
+use Rattle.std.proofs.Common.{inr, subst}
 use Rattle.std.specs.Prelude.{IfOk}
 use Rattle.rasn_types.specs.declared.types.codec.Codec.TheVariants.{Der}
 use Rattle.rasn_types.specs.Framing.{AreOctets}
@@ -6,7 +6,7 @@ use Rattle.rasn_types.specs.Truth.{IsWhether}
 use Rattle.rasn_types.specs.Errors.{IsOutOfMemory}
 use Rattle.rasn_types.specs.Bytes.{Bytes}
 use Rattle.rasn.specs.Headline.{AnsweredAlone}
-use Rattle.rasn.proofs.Normalised.{was_ok, normal, read_otherwise, not_read}
+use Rattle.rasn.proofs.Normalised.{was_ok, normal, read_otherwise, not_read, not_read_back}
 use Rattle.rasn.proofs.normal.convert.Goals as goal
 use Rattle.rasn.proofs.normal.convert.Goals.{in_default-via-in-Ok+else-means_same, in_default-via-in-Err+else-is_out_of_memory}
 
@@ -34,3 +34,11 @@ returns-clause-fails g c =
 
 pub returns-in-Ok-clause-octets : goal.returns-in-Ok-clause-octets
 returns-in-Ok-clause-octets g c = subst AreOctets c.deref.ensures.value c.in-Ok.ensures.octets
+
+pub returns-in-Err-clause-errors : goal.returns-in-Err-clause-errors
+returns-in-Err-clause-errors g c =
+    let read = was_ok _ _ c.decode.result c.in_ok-value.value c.in_ok-value.ensures.cases c.in_ok-value.ensures.variant in
+    let wrote = was_ok _ _ c.encode.result c.in_ok-octets.octets c.in_ok-octets.ensures.cases c.in_ok-octets.ensures.variant in
+    let means = subst (AnsweredAlone c.args.rule g.T.AsnType.shape g.T.AsnType.tree c.args.input.now) read c.decode.ensures.exact in
+    let is = subst (λ r. IfOk r (λ octets. Bytes Der g.T.AsnType.shape (g.T.AsnType.tree c.in_ok-value.value) octets.items)) wrote c.encode.ensures.ok in
+    inr (not_read_back (g.T.AsnType.tree c.in_ok-value.value) c.in-Err.error means is c.deref.ensures.value c.in-Err.ensures.errors c.is_out_of_memory.ensures c.if-is_out_of_memory.true)
