@@ -8,8 +8,10 @@ use std::fmt;
 pub enum Problem<'text> {
     /// Something else has to be here.
     Expected(&'static str),
-    /// Types are nested more than 64 deep.
-    TooDeep,
+    /// There is more of something than is allowed. This says of what, and how many there may be.
+    Beyond(&'static str),
+    /// Finding out what the type is takes more [`Steps`](crate::Steps) than are left.
+    OutOfSteps,
     /// No module has this name, or none that is imported.
     Undefined(&'text str),
     /// This module is imported, and isn't among the texts.
@@ -22,15 +24,14 @@ pub enum Problem<'text> {
     Clash(&'text str, &'text str),
     /// A schema can't carry this yet.
     Unsupported(&'static str),
-    /// The type is made of more types than are allowed.
-    TooLarge,
 }
 
 impl fmt::Display for Problem<'_> {
     fn fmt<W: fmt::Write>(&self, f: &mut fmt::Formatter<W>) -> fmt::Result {
         match self {
             Problem::Expected(what) => write_about(f, "expected ", what, ""),
-            Problem::TooDeep => f.write_str("nested too deep"),
+            Problem::Beyond(what) => write_about(f, "more than ", what, ""),
+            Problem::OutOfSteps => f.write_str("the type takes more steps than are left"),
             Problem::Undefined(name) => write_about(f, "", name, " isn't defined"),
             Problem::NotLoaded(name) => write_about(f, "module ", name, " isn't loaded"),
             Problem::Endless(name) => write_about(f, "", name, " refers to itself without end"),
@@ -39,7 +40,6 @@ impl fmt::Display for Problem<'_> {
                 write!(f, "{one} and {other} may begin with the same tag")
             }
             Problem::Unsupported(what) => write_about(f, "", what, " isn't supported yet"),
-            Problem::TooLarge => f.write_str("the type is made of too many types"),
         }
     }
 }

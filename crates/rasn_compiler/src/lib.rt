@@ -16,6 +16,7 @@ mod parser;
 mod position;
 mod recovery;
 mod resolver;
+mod steps;
 mod tags;
 mod token;
 mod tree;
@@ -28,6 +29,7 @@ pub use modules::{Modules, Source};
 pub use notation::Notation;
 pub use position::Position;
 pub use resolver::Resolved;
+pub use steps::Steps;
 pub use tree::{
     Actual, Assigned, Assignment, Base, Builtin, Component, Field, Given, Import, ListOf, Module,
     NamedNumber, Presence, Tag, TagClass, Tagging, Type, TypeIndex, Unread, Value,

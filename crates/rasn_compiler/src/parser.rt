@@ -135,15 +135,22 @@ impl<'tokens, 'text> Parser<'tokens, 'text> {
         ensures { IfOk result (λ d. d + 1 ≡ depth) }
     {
         if depth == 0 {
-            return Err(self.refuse_at(self.position(), Problem::TooDeep));
+            let limit = Problem::Beyond("64 types in one another");
+            return Err(self.refuse_at(self.position(), limit));
         }
         Ok(depth - 1)
     }
 
-    /// Takes what is between a bracket and the one that closes it.
+    /// Takes what is between a bracket and the one that closes it. No `::=` is between them, so that
+    /// a bracket that isn't closed is looked for no farther than the next assignment.
     pub(crate) fn balanced(&mut self) -> Result<Unread<'text>, Halt<'text>> {
         let mut open = Vec::new(self.alloc);
+        let mut end = self.end;
         for (at, token) in self.rest.iter().enumerate() {
+            if token.text == "::=" {
+                end = token.position;
+                break;
+            }
             if let Some(closing) = closing_of(token.text) {
                 open.push(closing)?;
             } else if let Some(closing) = closed_by(token.text) {
@@ -160,7 +167,7 @@ impl<'tokens, 'text> Parser<'tokens, 'text> {
                 return Ok(inner);
             }
         }
-        Err(self.refuse_at(self.end, Problem::Expected("a closing bracket")))
+        Err(self.refuse_at(end, Problem::Expected("a closing bracket")))
     }
 
     /// Returns the text after the next item, up to this octet.

@@ -20,6 +20,7 @@ mod identifier;
 mod included;
 mod leaf;
 mod lookup;
+mod mark;
 mod meant;
 mod node;
 mod number;
@@ -35,10 +36,9 @@ mod value;
 
 use crate::fault::{Halt, Stop};
 use crate::modules::Modules;
+use crate::steps::Steps;
 use emit::emit;
-use node::{Place, Use};
 use rasn_schema::{Schema, TypeId};
-use reference::Next;
 use shape::Resolver;
 use std::alloc::Global;
 
@@ -62,8 +62,8 @@ impl<'text> Modules<'text> {
     /// another part (X.680 29).
     ///
     /// # Errors
-    /// `Fault` with the first fault that is found in what the type is made of; `OutOfMemory` if
-    /// memory runs out.
+    /// `Fault` with the first fault that is found in what the type is made of, `OutOfSteps` among
+    /// them if it takes more than [`Steps::OF_A_TYPE`]; `OutOfMemory` if memory runs out.
     ///
     /// # Examples
     /// ```
@@ -74,11 +74,37 @@ impl<'text> Modules<'text> {
         ensures root { IfOk result (λ r. r.root.0 < length r.schema.types.items) }
         ensures named { IfOk result (λ r. (names : _) × (r.schema.names ≡ Some names) × IsNamed names.items name.now r.root) }
     {
-        Ok(self.resolved(alloc, module, name)?)
+        let mut steps = Steps::new(Steps::OF_A_TYPE);
+        self.schema_within(alloc, module, name, &mut steps)
+    }
+
+    /// Returns a schema of a type of a module, as [`Modules::schema`] does, within the steps that
+    /// are left. Those that are taken are no longer left, whether there is a schema or not.
+    ///
+    /// # Errors
+    /// As [`Modules::schema`], and `Fault` with `OutOfSteps` if the type takes more steps than are
+    /// left.
+    pub fn schema_within(
+        &self,
+        alloc: Global,
+        module: &str,
+        name: &str,
+        steps: &mut Steps,
+    ) -> Result<Resolved, Stop<'text>>
+        ensures root { IfOk result (λ r. r.root.0 < length r.schema.types.items) }
+        ensures named { IfOk result (λ r. (names : _) × (r.schema.names ≡ Some names) × IsNamed names.items name.now r.root) }
+    {
+        Ok(self.resolved(alloc, module, name, steps)?)
     }
 
     /// Resolves a type of a module.
-    fn resolved(&self, alloc: Global, module: &str, name: &str) -> Result<Resolved, Halt<'text>>
+    fn resolved(
+        &self,
+        alloc: Global,
+        module: &str,
+        name: &str,
+        steps: &mut Steps,
+    ) -> Result<Resolved, Halt<'text>>
         ensures root { IfOk result (λ r. r.root.0 < length r.schema.types.items) }
         ensures named { IfOk result (λ r. (names : _) × (r.schema.names ≡ Some names) × IsNamed names.items name.now r.root) }
     {
@@ -88,15 +114,10 @@ impl<'text> Modules<'text> {
             modules: self,
             unchecked: 0,
             scopes: Vec::new(alloc),
+            steps: *steps,
         };
-        let Next { place, index, .. } = resolver.type_meant(
-            Place::of(module),
-            None,
-            known,
-            &[],
-            position,
-        )?;
-        let nodes = resolver.nodes(Use::of(place, index), known)?;
-        emit(alloc, self, nodes, name, resolver.unchecked)
+        let nodes = resolver.nodes_of(module, known, position);
+        *steps = resolver.steps;
+        emit(alloc, self, nodes?, name, resolver.unchecked)
     }
 }

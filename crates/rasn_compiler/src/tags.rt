@@ -1,8 +1,17 @@
 //! Tags (X.680 31.2) and what follows a type in parentheses (X.680 49).
-use crate::fault::Halt;
+use crate::fault::{Halt, Problem};
 use crate::parser::Parser;
 use crate::token::Kind;
 use crate::tree::{Tag, TagClass, Tagging, Unread};
+
+/// How many tags a type may have.
+pub(crate) const MAX_TAGS: usize = 64;
+
+/// What a type that has more tags has.
+pub(crate) const TOO_MANY_TAGS: &str = "64 tags of one type";
+
+/// How many constraints may follow a type.
+const MAX_CONSTRAINTS: usize = 64;
 
 impl<'tokens, 'text> Parser<'tokens, 'text> {
     /// Reads the tags that are next.
@@ -12,9 +21,24 @@ impl<'tokens, 'text> Parser<'tokens, 'text> {
             if !self.is("[") {
                 break;
             }
+            self.refuse_beyond(tags.len(), MAX_TAGS, TOO_MANY_TAGS)?;
             tags.push(self.tag()?)?;
         }
         Ok(tags)
+    }
+
+    /// Refuses the next item if so many of its kind were read as there may be.
+    fn refuse_beyond(
+        &self,
+        count: usize,
+        limit: usize,
+        what: &'static str,
+    ) -> Result<(), Halt<'text>> {
+        if count < limit {
+            Ok(())
+        } else {
+            Err(self.refuse_at(self.position(), Problem::Beyond(what)))
+        }
     }
 
     /// Reads a tag, with the word after it.
@@ -66,6 +90,11 @@ impl<'tokens, 'text> Parser<'tokens, 'text> {
             if !self.is("(") {
                 break;
             }
+            self.refuse_beyond(
+                constraints.len(),
+                MAX_CONSTRAINTS,
+                "64 constraints of one type",
+            )?;
             constraints.push(self.balanced()?)?;
         }
         Ok(constraints)

@@ -5,12 +5,17 @@ use crate::fault::Fault;
 use crate::known::Known;
 use crate::standards::{COUNT, standard};
 use crate::types::{MessageType, message_type, type_named};
-use rasn_compiler::{Assigned, Assignment, Module, Modules, Resolved, Source, Stop};
+use rasn_compiler::{Assigned, Assignment, Module, Modules, Resolved, Source, Steps, Stop};
 use std::alloc::{AllocError, Global};
+use std::collections::BTreeSet;
 use std::io::Write;
 
 /// The name of the module of what is in open types.
 const CONTENTS: &str = "Contents";
+
+/// How many steps all types of the modules may take for each type that is written in them, beside
+/// those that one type may take.
+const STEPS_OF_EACH: usize = 5_000;
 
 /// Returns the modules of these texts and of this repository.
 ///
@@ -73,7 +78,8 @@ pub fn wanted_type<'text>(
 }
 
 /// Prints a line for each type of the modules: its name, how many of its constraints and contents
-/// aren't checked, or why it has no schema.
+/// aren't checked, or why it has no schema. Of two modules of one name the first counts. All types
+/// share steps, of which there are as many more as there are types in the texts.
 ///
 /// # Errors
 /// `Write` if the output can't be written, `Closed` if its reader has gone, `Memory` if memory runs
@@ -83,12 +89,23 @@ pub fn print_types<W: Write>(
     read: &Modules<'_>,
     output: &mut W,
 ) -> Result<(), Fault> {
+    let mut steps = steps_for(read);
+    let mut names = BTreeSet::new(alloc);
     for module in &read.modules {
-        if module.name != CONTENTS {
-            print_types_of(alloc, read, module, output)?;
+        if module.name != CONTENTS && names.insert(module.name)? {
+            print_types_of(alloc, read, module, &mut steps, output)?;
         }
     }
     Ok(())
+}
+
+/// Returns the steps that all types of the modules may take.
+fn steps_for(read: &Modules<'_>) -> Steps {
+    let mut count = Steps::OF_A_TYPE;
+    for module in &read.modules {
+        count = count.saturating_add(module.types.len().saturating_mul(STEPS_OF_EACH));
+    }
+    Steps::new(count)
 }
 
 /// Prints the types of a module.
@@ -96,11 +113,12 @@ fn print_types_of<W: Write>(
     alloc: Global,
     read: &Modules<'_>,
     module: &Module<'_>,
+    steps: &mut Steps,
     output: &mut W,
 ) -> Result<(), Fault> {
     for assignment in &module.assignments {
         if is_plain_type(assignment) && !read.is_class(module.name, assignment.name) {
-            let line = type_line(alloc, read, module.name, assignment.name)?;
+            let line = type_line(alloc, read, module.name, assignment.name, steps)?;
             output.write_all(line.as_bytes()).map_err(Fault::of_write)?;
         }
     }
@@ -121,8 +139,9 @@ fn type_line(
     read: &Modules<'_>,
     module: &str,
     name: &str,
+    steps: &mut Steps,
 ) -> Result<String, AllocError> {
-    match read.schema(alloc, module, name) {
+    match read.schema_within(alloc, module, name, steps) {
         Ok(resolved) if resolved.unchecked == 0 => format!(in alloc; "{module}.{name}\n"),
         Ok(resolved) => {
             let count = resolved.unchecked;

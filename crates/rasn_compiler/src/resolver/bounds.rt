@@ -137,6 +137,7 @@ impl<'modules, 'text> Resolver<'modules, 'text> {
         home: Place,
         is_size: bool,
     ) -> Result<Option<Range>, Halt<'text>> {
+        self.step(constraint.text.len(), place, constraint.position)?;
         let items = tokens(self.alloc, constraint.text, constraint.position)?;
         let mut parser = self.parser(place, constraint, items.as_slice());
         if is_size && !eat_size(&mut parser) {

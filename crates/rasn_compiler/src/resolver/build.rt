@@ -1,7 +1,7 @@
 //! The list of types that are being resolved.
 use crate::fault::Halt;
 use crate::position::Position;
-use crate::resolver::node::{Asked, Node, Part, Shape, Use};
+use crate::resolver::node::{Asked, Node, Part, Place, Shape, Use};
 use crate::resolver::shape::Resolver;
 use std::alloc::{AllocError, Global};
 use std::collections::BTreeMap;
@@ -11,6 +11,12 @@ const MAX_TYPES: usize = 100_000;
 
 /// How many components and alternatives these may have in all.
 const MAX_PARTS: usize = 1_000_000;
+
+/// How many steps it takes to resolve a type, beside those for what it is made of.
+const STEPS: usize = 32;
+
+/// What a type has that is made of more.
+const TOO_MANY_TYPES: &str = "100000 types, or a million components, in one type";
 
 /// Types that were asked for, in the order of their nodes, and the nodes of the first of them.
 #[derive(Drop)]
@@ -46,12 +52,20 @@ impl<'text> Requests<'text> {
 }
 
 impl<'modules, 'text> Resolver<'modules, 'text> {
-    /// Resolves a type and those that it is made of. The first node is that of the type.
-    pub(crate) fn nodes(
+    /// Resolves the type of this name in a module, and those that it is made of. The first node is
+    /// that of the type.
+    pub(crate) fn nodes_of(
         &mut self,
-        of: Use,
+        module: usize,
         name: &'text str,
+        position: Position,
     ) -> Result<Vec<Node<'text>>, Halt<'text>> {
+        let next = self.type_meant(Place::of(module), None, name, &[], position)?;
+        self.nodes(Use::of(next.place, next.index), name)
+    }
+
+    /// Resolves a type and those that it is made of. The first node is that of the type.
+    fn nodes(&mut self, of: Use, name: &'text str) -> Result<Vec<Node<'text>>, Halt<'text>> {
         let mut requests = Requests::new(self.alloc);
         self.request(&mut requests, of, name)?;
         for next in 0..MAX_TYPES {
@@ -64,7 +78,8 @@ impl<'modules, 'text> Resolver<'modules, 'text> {
                 break;
             }
         }
-        Err(self.too_large(of.place, Position::START))
+        let position = self.modules.type_at(of.place.module, of.index)?.position;
+        Err(self.beyond(of.place, position, TOO_MANY_TYPES))
     }
 
     /// Resolves a type that was asked for.
@@ -73,10 +88,9 @@ impl<'modules, 'text> Resolver<'modules, 'text> {
         requests: &mut Requests<'text>,
         asked: Asked<'text>,
     ) -> Result<(), Halt<'text>> {
-        let position = self
-            .modules
-            .type_at(asked.of.place.module, asked.of.index)?
-            .position;
+        let place = asked.of.place;
+        let position = self.modules.type_at(place.module, asked.of.index)?.position;
+        self.step(asked.name.len().saturating_add(STEPS), place, position)?;
         let shape = self.shape(asked)?;
         requests.parts = requests.parts.saturating_add(shape.parts.len());
         let node = self.node(requests, asked, position, shape)?;

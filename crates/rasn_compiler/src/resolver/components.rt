@@ -144,6 +144,7 @@ impl<'modules, 'text> Resolver<'modules, 'text> {
                 of,
                 presence,
             } => {
+                self.step(name.len().saturating_add(1), place, position)?;
                 self.check_component(place, position, name, presence, seen)?;
                 let is_addition = seen.is_addition();
                 let automatic = seen.count();

@@ -3,7 +3,7 @@ use crate::fault::Halt;
 use crate::position::Position;
 use crate::resolver::digits::{Bits, Digits, read_digits};
 use crate::resolver::enumerated::Enumeration;
-use crate::resolver::lookup::MAX_NAMES;
+use crate::resolver::lookup::{MAX_NAMES, TOO_MANY_NAMES};
 use crate::resolver::node::Place;
 use crate::resolver::shape::{Resolver, is_open};
 use crate::resolver::value::Spelled;
@@ -139,6 +139,7 @@ impl<'modules, 'text> Resolver<'modules, 'text> {
         spelled: &Spelled<'text>,
     ) -> Result<Value<'static>, Halt<'text>> {
         let meant = self.meant(spelled)?;
+        self.step(octets_of(meant.value), spelled.place, spelled.position)?;
         match plain_default(self.alloc, base, meant.value)? {
             Some(value) => Ok(value),
             None if is_misfit(base, meant.value) => Err(self.misfit(spelled)),
@@ -158,15 +159,23 @@ impl<'modules, 'text> Resolver<'modules, 'text> {
     }
 
     /// Returns the value that a name means.
-    pub(crate) fn meant(&self, spelled: &Spelled<'text>) -> Result<Spelled<'text>, Halt<'text>> {
+    pub(crate) fn meant(
+        &mut self,
+        spelled: &Spelled<'text>,
+    ) -> Result<Spelled<'text>, Halt<'text>> {
         let mut found = *spelled;
         for _ in 0..MAX_NAMES {
-            let Written::Name { .. } = found.value else {
+            let Written::Name { name, .. } = found.value else {
                 return Ok(found);
             };
+            self.step(
+                name.len().saturating_add(1),
+                spelled.place,
+                spelled.position,
+            )?;
             found = self.named_once(&found)?;
         }
-        Err(self.unsupported(spelled.place, spelled.position, "a value of so many names"))
+        Err(self.beyond(spelled.place, spelled.position, TOO_MANY_NAMES))
     }
 
     /// Returns what a value means if it is the name of another.
@@ -181,6 +190,14 @@ impl<'modules, 'text> Resolver<'modules, 'text> {
             value: named.value,
             position,
         })
+    }
+}
+
+/// Returns how many octets a string is written with.
+fn octets_of(value: Written<'_>) -> usize {
+    match value {
+        Written::Text(text) | Written::Digits(text) => text.len(),
+        _ => 0,
     }
 }
 

@@ -36,7 +36,7 @@ pub(crate) fn emit<'text>(
     let names = names(alloc, nodes.as_slice(), &order, name, root)?;
     let types = filled(alloc, &mut nodes, &order)?;
     if root.0 >= types.len() {
-        return Err(modules.fault(0, Position::START, Problem::TooLarge));
+        return Err(modules.fault(0, Position::START, Problem::Expected("a type")));
     }
     match Schema::new(types) {
         Ok(schema) => Ok(Resolved {

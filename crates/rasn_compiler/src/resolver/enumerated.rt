@@ -38,7 +38,10 @@ impl Numbering {
         written: Option<isize>,
         is_addition: bool,
     ) -> Result<bool, AllocError> {
-        let number = written.unwrap_or(next_free(&self.used, self.free));
+        let number = match written {
+            Some(number) => number,
+            None => next_free(&self.used, self.free),
+        };
         let mut is_new = true;
         if is_addition || written.is_none() {
             is_new = self.used.insert(number)?;
@@ -133,10 +136,15 @@ impl<'modules, 'text> Resolver<'modules, 'text> {
     }
 
     /// Refuses a name that is twice in a list (X.680 19, 20).
-    fn check_names(&self, place: Place, names: &[NamedNumber<'text>]) -> Result<(), Halt<'text>> {
+    fn check_names(
+        &mut self,
+        place: Place,
+        names: &[NamedNumber<'text>],
+    ) -> Result<(), Halt<'text>> {
         let mut seen = BTreeSet::new(self.alloc);
         for named in names {
             if let Some(name) = named.name {
+                self.step(name.len(), place, named.position)?;
                 if !seen.insert(name)? {
                     let rule = "two names are the same (X.680 19, 20)";
                     return Err(self.broken(place, named.position, rule));

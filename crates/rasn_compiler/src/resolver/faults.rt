@@ -73,14 +73,20 @@ impl<'modules, 'text> Resolver<'modules, 'text> {
             .fault(place.module, position, Problem::Endless(name))
     }
 
-    /// Returns the fault of a type that is made of too many types.
-    pub(crate) fn too_large(&self, place: Place, position: Position) -> Halt<'text> {
+    /// Returns the fault of more of something than is allowed.
+    pub(crate) fn beyond(
+        &self,
+        place: Place,
+        position: Position,
+        what: &'static str,
+    ) -> Halt<'text> {
         self.modules
-            .fault(place.module, position, Problem::TooLarge)
+            .fault(place.module, position, Problem::Beyond(what))
     }
 
-    /// Returns the fault of values or types that are nested too deep.
-    pub(crate) fn too_deep(&self, place: Place, position: Position) -> Halt<'text> {
-        self.modules.fault(place.module, position, Problem::TooDeep)
+    /// Returns the fault of a type that takes more steps than are allowed.
+    pub(crate) fn out_of_steps(&self, place: Place, position: Position) -> Halt<'text> {
+        self.modules
+            .fault(place.module, position, Problem::OutOfSteps)
     }
 }

@@ -1,10 +1,11 @@
 //! Fields of classes, and alternatives of a CHOICE that are selected (X.681 14, X.680 30).
 use crate::fault::Halt;
 use crate::position::Position;
-use crate::resolver::lookup::MAX_NAMES;
+use crate::resolver::lookup::{MAX_NAMES, TOO_MANY_NAMES};
+use crate::resolver::mark::Mark;
 use crate::resolver::meant::Meant;
 use crate::resolver::node::Place;
-use crate::resolver::reference::Next;
+use crate::resolver::reference::{Next, steps_of, written_name};
 use crate::resolver::shape::Resolver;
 use crate::resolver::value::alternative_named;
 use crate::tree::{Actual, Assigned, Base, Component, Field, Given, TypeIndex};
@@ -26,6 +27,7 @@ impl<'modules, 'text> Resolver<'modules, 'text> {
                 return Err(self.expected(place, position, "a field of objects"));
             };
             let (found, fields) = self.class_of(at, class.0, position)?;
+            self.step(fields.len(), place, position)?;
             let Some(field) = field_named(fields, name) else {
                 return Err(self.undefined(place, position, name));
             };
@@ -48,8 +50,11 @@ impl<'modules, 'text> Resolver<'modules, 'text> {
         let modules = self.modules;
         let mut at = place;
         let mut index = index;
+        let mut mark = Mark::new(place, index);
         for _ in 0..MAX_NAMES {
-            match &modules.type_at(at.module, index)?.base {
+            let ty = modules.type_at(at.module, index)?;
+            self.step(steps_of(ty), place, position)?;
+            match &ty.base {
                 Base::Class(fields) => return Ok((at, fields.as_slice())),
                 Base::Reference {
                     module,
@@ -64,10 +69,13 @@ impl<'modules, 'text> Resolver<'modules, 'text> {
                         position,
                     )?;
                 }
-                _ => break,
+                _ => return Err(self.expected(place, position, "a class")),
+            }
+            if mark.is_again(at, index) {
+                return Err(self.endless(place, position, written_name(&ty.base)));
             }
         }
-        Err(self.expected(place, position, "a class"))
+        Err(self.beyond(place, position, TOO_MANY_NAMES))
     }
 
     /// Returns what the name of a class means, a class or a reference to one, or what a parameter
@@ -119,6 +127,7 @@ impl<'modules, 'text> Resolver<'modules, 'text> {
         position: Position,
     ) -> Result<Next<'text>, Halt<'text>> {
         let (at, list) = self.choice_of(place, of, position)?;
+        self.step(list.len(), place, position)?;
         let is_automatic = self.is_automatic(at, list)?;
         match alternative_named(list, name) {
             Some((index, of)) => Ok(Next {
@@ -138,8 +147,11 @@ impl<'modules, 'text> Resolver<'modules, 'text> {
     ) -> Result<(Place, &'modules [Component<'text>]), Halt<'text>> {
         let modules = self.modules;
         let mut next = Next::of(place, index);
+        let mut mark = Mark::new(place, index);
         for _ in 0..MAX_NAMES {
-            match &modules.type_at(next.place.module, next.index)?.base {
+            let ty = modules.type_at(next.place.module, next.index)?;
+            self.step(steps_of(ty), place, position)?;
+            match &ty.base {
                 Base::Choice(list) => return Ok((next.place, list.as_slice())),
                 Base::Reference {
                     module,
@@ -154,10 +166,13 @@ impl<'modules, 'text> Resolver<'modules, 'text> {
                         position,
                     )?;
                 }
-                _ => break,
+                _ => return Err(self.expected(place, position, "a CHOICE")),
+            }
+            if mark.is_again(next.place, next.index) {
+                return Err(self.endless(place, position, written_name(&ty.base)));
             }
         }
-        Err(self.expected(place, position, "a CHOICE"))
+        Err(self.beyond(place, position, TOO_MANY_NAMES))
     }
 
     /// Returns a type that is given to every module.

@@ -2,7 +2,7 @@
 use crate::fault::Halt;
 use crate::lexer::tokens;
 use crate::parser::Parser;
-use crate::resolver::lookup::MAX_NAMES;
+use crate::resolver::lookup::{MAX_NAMES, TOO_MANY_NAMES};
 use crate::resolver::node::Place;
 use crate::resolver::shape::Resolver;
 use crate::resolver::value::Spelled;
@@ -32,11 +32,12 @@ impl<'modules, 'text> Resolver<'modules, 'text> {
                 return self.identifier_of(arcs, spelled);
             };
             let (before, mut found) = self.arcs(&next)?;
+            self.step(arcs.len(), spelled.place, spelled.position)?;
             found.extend_from_slice(arcs.as_slice())?;
             arcs = found;
             prefix = before;
         }
-        Err(self.unsupported(spelled.place, spelled.position, "a value of so many names"))
+        Err(self.beyond(spelled.place, spelled.position, TOO_MANY_NAMES))
     }
 
     /// Returns the identifier of these numbers.
@@ -84,7 +85,7 @@ impl<'modules, 'text> Resolver<'modules, 'text> {
     }
 
     /// Reads the components of a value, in braces.
-    fn components_of(&self, spelled: &Spelled<'text>) -> Result<Vec<Arc<'text>>, Halt<'text>> {
+    fn components_of(&mut self, spelled: &Spelled<'text>) -> Result<Vec<Arc<'text>>, Halt<'text>> {
         let meant = self.meant(spelled)?;
         let unread = self.unread(&meant)?;
         let items = tokens(self.alloc, unread.text, unread.position)?;

@@ -1,5 +1,6 @@
 //! COMPONENTS OF (X.680 25.5, 27.2).
 use crate::fault::Halt;
+use crate::resolver::mark::Mark;
 use crate::resolver::node::Place;
 use crate::resolver::shape::Resolver;
 use crate::tree::{Base, Component, TypeIndex};
@@ -11,6 +12,9 @@ const MAX_ROUNDS: usize = 64;
 
 /// How many components a list may have.
 const MAX_LISTED: usize = 100_000;
+
+/// What is included in one another with more types.
+const TOO_MANY_ROUNDS: &str = "64 types that COMPONENTS OF includes in one another";
 
 /// A component, with the place that it comes from.
 #[derive(Clone, Copy)]
@@ -30,21 +34,55 @@ impl<'modules, 'text> Resolver<'modules, 'text> {
     ) -> Result<Vec<Listed<'text>>, Halt<'text>> {
         let mut listed = listed_at(self.alloc, place, list)?;
         for _ in 0..MAX_ROUNDS {
-            match first_included(listed.as_slice()) {
-                None => return Ok(listed),
-                Some(_) => listed = self.included(listed.as_slice(), within, is_automatic)?,
-            }
+            let Some((at, of)) = first_included(listed.as_slice()) else {
+                return Ok(listed);
+            };
+            let position = self.modules.type_at(at.module, of.0)?.position;
+            self.step(listed.len(), at, position)?;
+            listed = self.included(listed.as_slice(), within, is_automatic)?;
         }
-        let (at, of) = first_included(listed.as_slice()).unwrap_or((place, TypeIndex(0)));
-        Err(self.endless_inclusion(at, of))
+        match first_included(listed.as_slice()) {
+            Some((at, of)) => Err(self.many_inclusions(at, of, within)),
+            None => Ok(listed),
+        }
     }
 
-    /// Returns the fault of types that are included in one another without end.
-    fn endless_inclusion(&self, place: Place, of: TypeIndex) -> Halt<'text> {
-        match self.modules.type_at(place.module, of.0) {
-            Ok(ty) => self.endless(place, ty.position, "COMPONENTS OF"),
+    /// Returns the fault of types that are included in one another without end, or of so many.
+    fn many_inclusions(&mut self, place: Place, of: TypeIndex, within: Within) -> Halt<'text> {
+        let position = match self.modules.type_at(place.module, of.0) {
+            Ok(ty) => ty.position,
+            Err(halt) => return halt,
+        };
+        match self.is_endless_inclusion(place, of, within) {
+            Ok(true) => self.endless(place, position, "COMPONENTS OF"),
+            Ok(false) => self.beyond(place, position, TOO_MANY_ROUNDS),
             Err(halt) => halt,
         }
+    }
+
+    /// Returns whether the first COMPONENTS OF of each list leads back to a list before it.
+    fn is_endless_inclusion(
+        &mut self,
+        place: Place,
+        of: TypeIndex,
+        within: Within,
+    ) -> Result<bool, Halt<'text>> {
+        let mut at = place;
+        let mut of = of;
+        let mut mark = Mark::new(place, of.0);
+        for _ in 0..MAX_ROUNDS {
+            let position = self.modules.type_at(at.module, of.0)?.position;
+            let (inner, base) = self.base_of(at, of.0, position)?;
+            let Some(next) = included_list(base, within).and_then(first_of) else {
+                return Ok(false);
+            };
+            at = inner;
+            of = next;
+            if mark.is_again(at, of.0) {
+                return Ok(true);
+            }
+        }
+        Ok(false)
     }
 
     /// Returns a list in which the roots of types are in place of COMPONENTS OF.
@@ -86,8 +124,9 @@ impl<'modules, 'text> Resolver<'modules, 'text> {
             return Err(self.unsupported(place, position, what));
         }
         if found.len() > MAX_LISTED {
-            return Err(self.too_large(place, position));
+            return Err(self.beyond(place, position, "100000 components in one type"));
         }
+        self.step(list.len(), place, position)?;
         push_roots(found, at, list)?;
         Ok(())
     }
@@ -114,6 +153,16 @@ fn first_included(list: &[Listed<'_>]) -> Option<(Place, TypeIndex)> {
     for listed in list {
         if let Component::Of(of) = listed.component {
             return Some((listed.place, of));
+        }
+    }
+    None
+}
+
+/// Returns the type of the first COMPONENTS OF.
+fn first_of(list: &[Component<'_>]) -> Option<TypeIndex> {
+    for component in list {
+        if let Component::Of(of) = component {
+            return Some(*of);
         }
     }
     None

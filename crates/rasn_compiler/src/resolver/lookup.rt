@@ -6,6 +6,8 @@ use crate::fault::{Fault, Halt, Problem};
 use crate::given::is_given;
 use crate::modules::{Modules, Source};
 use crate::position::Position;
+use crate::resolver::mark::Mark;
+use crate::resolver::node::Place;
 use crate::tree::{Assigned, Assignment, Base, Import, Meaning, Module, Type};
 
 /// What a name of a module is.
@@ -16,7 +18,10 @@ enum Found<'modules, 'text> {
 }
 
 /// How many names may lead to one another.
-pub(crate) const MAX_NAMES: usize = 256;
+pub(crate) const MAX_NAMES: usize = 64;
+
+/// What names have that more lead to.
+pub(crate) const TOO_MANY_NAMES: &str = "64 names that lead to one another";
 
 impl<'text> Modules<'text> {
     /// Returns a fault in a module.
@@ -70,6 +75,7 @@ impl<'text> Modules<'text> {
             Some(outside) => self.loaded(module, outside, position)?,
             None => module,
         };
+        let mut mark = Mark::new(Place::of(at), 0);
         for _ in 0..MAX_NAMES {
             match self.found_in(at, name) {
                 Some(Found::Assigned(assignment)) => return Ok((at, *assignment)),
@@ -79,8 +85,11 @@ impl<'text> Modules<'text> {
                 }
                 None => return Err(self.fault(module, position, Problem::Undefined(name))),
             }
+            if mark.is_again(Place::of(at), 0) {
+                return Err(self.fault(module, position, Problem::Endless(name)));
+            }
         }
-        Err(self.fault(module, position, Problem::Endless(name)))
+        Err(self.fault(module, position, Problem::Beyond(TOO_MANY_NAMES)))
     }
 
     /// Returns what a name is in a module.

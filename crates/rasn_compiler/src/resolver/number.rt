@@ -1,7 +1,7 @@
 //! Whole numbers that are written or named (X.680 19).
 use crate::fault::Halt;
 use crate::position::Position;
-use crate::resolver::lookup::MAX_NAMES;
+use crate::resolver::lookup::{MAX_NAMES, TOO_MANY_NAMES};
 use crate::resolver::node::Place;
 use crate::resolver::shape::Resolver;
 use crate::tree::{Base, NamedNumber, Value};
@@ -17,6 +17,7 @@ impl<'modules, 'text> Resolver<'modules, 'text> {
         home: Place,
         position: Position,
     ) -> Result<i128, Halt<'text>> {
+        self.step(names.len().saturating_add(1), place, position)?;
         let (mut at, mut value) = match number_named(names, value) {
             Some(number) => (home, number),
             None => (place, value),
@@ -33,7 +34,7 @@ impl<'modules, 'text> Resolver<'modules, 'text> {
                 _ => return Err(self.expected(place, position, "a number")),
             }
         }
-        Err(self.unsupported(place, position, "a number of so many names"))
+        Err(self.beyond(place, position, TOO_MANY_NAMES))
     }
 
     /// Returns what the name of a number means, with its place.
@@ -76,6 +77,7 @@ impl<'modules, 'text> Resolver<'modules, 'text> {
         position: Position,
     ) -> Result<(Place, Value<'text>), Halt<'text>> {
         let (home, base) = self.base_of(place, index, position)?;
+        self.step(names_of(base).len(), place, position)?;
         match number_named(names_of(base), value) {
             Some(number) => Ok((home, number)),
             None => Ok((place, value)),

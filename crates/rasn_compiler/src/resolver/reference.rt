@@ -1,7 +1,8 @@
 //! References that are followed (X.680 16.3, 30, X.681 14, C, X.683 9).
 use crate::fault::Halt;
 use crate::position::Position;
-use crate::resolver::lookup::MAX_NAMES;
+use crate::resolver::lookup::{MAX_NAMES, TOO_MANY_NAMES};
+use crate::resolver::mark::Mark;
 use crate::resolver::meant::Meant;
 use crate::resolver::node::Place;
 use crate::resolver::shape::Resolver;
@@ -107,14 +108,40 @@ impl<'modules, 'text> Resolver<'modules, 'text> {
         position: Position,
     ) -> Result<(Place, usize), Halt<'text>> {
         let mut next = Next::of(place, index);
+        let mut mark = Mark::new(place, index);
         for _ in 0..MAX_NAMES {
             let ty = self.modules.type_at(next.place.module, next.index)?;
+            self.step(steps_of(ty), place, position)?;
             match self.next(next.place, ty)? {
                 Some(found) => next = found,
                 None => return Ok((next.place, next.index)),
             }
+            if mark.is_again(next.place, next.index) {
+                return Err(self.endless(place, position, written_name(&ty.base)));
+            }
         }
-        Err(self.unsupported(place, position, "a type of so many names"))
+        Err(self.beyond(place, position, TOO_MANY_NAMES))
+    }
+}
+
+/// Returns how many steps it takes to follow a type.
+pub(crate) fn steps_of(ty: &Type<'_>) -> usize {
+    let name = written_name(&ty.base).len();
+    let around = ty.tags.len().saturating_add(ty.constraints.len());
+    name.saturating_add(around).saturating_add(1)
+}
+
+/// Returns the name that a type is written by, if it is a reference.
+pub(crate) fn written_name<'text>(base: &Base<'text>) -> &'text str {
+    match base {
+        Base::Reference { name, .. } | Base::Selection { name, .. } | Base::InstanceOf(name) => {
+            name
+        }
+        Base::ClassField { path, .. } => match path.last() {
+            Some(field) => field,
+            None => "",
+        },
+        _ => "",
     }
 }
 

@@ -11,6 +11,12 @@ use std::alloc::{AllocError, Global};
 /// How many assignments may give parameters to one another.
 const MAX_DEPTH: usize = 64;
 
+/// What parameters have that more are given to one another.
+const TOO_DEEP: &str = "64 parameters that are given to one another";
+
+/// How many parameters an assignment may have.
+const MAX_PARAMETERS: usize = 64;
+
 /// How many uses of parameterized assignments a type may be made of.
 const MAX_SCOPES: usize = 4096;
 
@@ -41,6 +47,8 @@ pub(crate) struct Scope<'text> {
     /// The place of the assignment's name.
     position: Position,
     bounds: Vec<Bound<'text>>,
+    /// The innermost scope that what is given is within: 0 if there is none.
+    around: usize,
     /// How many scopes what is given is within, and this one.
     depth: usize,
 }
@@ -105,17 +113,21 @@ impl<'modules, 'text> Resolver<'modules, 'text> {
             return Err(self.broken(from, position, "what is given has no parameter (X.683 9)"));
         };
         let bounds = self.bounds(from, parameters, actuals, position)?;
-        let depth = self.depth(bounds.as_slice());
-        if depth > MAX_DEPTH {
-            return Err(self.endless(from, position, assignment.name));
-        }
+        let (around, depth) = self.depth(bounds.as_slice());
         let scope = Scope {
             module,
             position: assignment.position,
             bounds,
+            around,
             depth,
         };
-        self.scope(from, scope, position)
+        if depth <= MAX_DEPTH {
+            return self.scope(from, scope, position);
+        }
+        if self.is_within_itself(&scope) {
+            return Err(self.endless(from, position, assignment.name));
+        }
+        Err(self.beyond(from, position, TOO_DEEP))
     }
 
     /// Returns the place of a scope, which is added if it isn't there.
@@ -126,6 +138,7 @@ impl<'modules, 'text> Resolver<'modules, 'text> {
         position: Position,
     ) -> Result<Place, Halt<'text>> {
         let module = scope.module;
+        self.step(self.scopes.len(), from, position)?;
         for (index, known) in self.scopes.iter().enumerate() {
             if known.is_same(&scope) {
                 return Ok(Place {
@@ -135,7 +148,8 @@ impl<'modules, 'text> Resolver<'modules, 'text> {
             }
         }
         if self.scopes.len() >= MAX_SCOPES {
-            return Err(self.too_large(from, position));
+            let what = "4096 uses of parameterized assignments in one type";
+            return Err(self.beyond(from, position, what));
         }
         self.scopes.push(scope)?;
         Ok(Place {
@@ -146,13 +160,17 @@ impl<'modules, 'text> Resolver<'modules, 'text> {
 
     /// Returns what each parameter is given.
     fn bounds(
-        &self,
+        &mut self,
         from: Place,
         parameters: Unread<'text>,
         actuals: &[Actual<'text>],
         position: Position,
     ) -> Result<Vec<Bound<'text>>, Halt<'text>> {
+        self.step(parameters.text.len(), from, position)?;
         let names = parameter_names(self.alloc, parameters)?;
+        if names.len() > MAX_PARAMETERS {
+            return Err(self.beyond(from, position, "64 parameters of one assignment"));
+        }
         if names.len() != actuals.len() {
             return Err(self.broken(from, position, "each parameter has to be given (X.683 9)"));
         }
@@ -203,16 +221,42 @@ impl<'modules, 'text> Resolver<'modules, 'text> {
         }
     }
 
-    /// Returns how many scopes there are within one another if these parameters are given.
-    fn depth(&self, bounds: &[Bound<'text>]) -> usize {
+    /// Returns the scope around one whose parameters are given this, of those that most are around,
+    /// and how many there are then within one another.
+    fn depth(&self, bounds: &[Bound<'text>]) -> (usize, usize) {
+        let mut around = 0usize;
         let mut depth = 0usize;
         for bound in bounds {
-            let index = bound.place.scope.wrapping_sub(1);
-            if let Some(scope) = self.scopes.get(index) {
-                depth = depth.max(scope.depth);
+            let found = self.depth_of(bound.place.scope);
+            if found > depth {
+                around = bound.place.scope;
+                depth = found;
             }
         }
-        depth.saturating_add(1)
+        (around, depth.saturating_add(1))
+    }
+
+    /// Returns how many scopes a scope is within, and this one: none if there are no parameters.
+    fn depth_of(&self, scope: usize) -> usize {
+        match self.scopes.get(scope.wrapping_sub(1)) {
+            Some(found) => found.depth,
+            None => 0,
+        }
+    }
+
+    /// Returns whether a scope is within another one of the same assignment.
+    fn is_within_itself(&self, scope: &Scope<'text>) -> bool {
+        let mut around = scope.around;
+        for _ in 0..MAX_DEPTH {
+            let Some(found) = self.scopes.get(around.wrapping_sub(1)) else {
+                return false;
+            };
+            if found.module == scope.module && found.position == scope.position {
+                return true;
+            }
+            around = found.around;
+        }
+        false
     }
 }
 

@@ -5,8 +5,9 @@ use crate::position::Position;
 use crate::resolver::components::Components;
 use crate::resolver::enumerated::Enumeration;
 use crate::resolver::leaf::{Plain, universal, universal_type};
-use crate::resolver::node::{Asked, Shape, Unfolded, Use};
+use crate::resolver::node::{Asked, Place, Shape, Unfolded, Use};
 use crate::resolver::scope::Scope;
+use crate::steps::Steps;
 use crate::tree::{Base, Builtin, Component, ListOf, NamedNumber, Type as Written};
 use crate::types::Within;
 use rasn_schema::{LeafKind, Type, TypeId};
@@ -22,12 +23,31 @@ pub(crate) struct Resolver<'modules, 'text> {
     pub(crate) unchecked: usize,
     /// What parameters are given.
     pub(crate) scopes: Vec<Scope<'text>>,
+    /// The steps that are left.
+    pub(crate) steps: Steps,
 }
 
 impl<'modules, 'text> Resolver<'modules, 'text> {
     /// Counts constraints that a schema doesn't check.
     pub(crate) fn count_unchecked(&mut self, count: usize) {
         self.unchecked = self.unchecked.saturating_add(count);
+    }
+
+    /// Takes so many steps for what is at a place.
+    ///
+    /// # Errors
+    /// If so many aren't left.
+    pub(crate) fn step(
+        &mut self,
+        count: usize,
+        place: Place,
+        position: Position,
+    ) -> Result<(), Halt<'text>> {
+        if self.steps.take(count) {
+            Ok(())
+        } else {
+            Err(self.out_of_steps(place, position))
+        }
     }
 
     /// Resolves a type.
@@ -90,6 +110,11 @@ impl<'modules, 'text> Resolver<'modules, 'text> {
         within: Within,
     ) -> Result<Shape<'text>, Halt<'text>> {
         self.count_unchecked(unfolded.constraints.len());
+        let position = self
+            .modules
+            .type_at(unfolded.place.module, unfolded.index)?
+            .position;
+        self.step(name.len(), unfolded.place, position)?;
         let Components {
             parts,
             is_extensible,

@@ -1,10 +1,12 @@
 //! References and tags that are followed (X.680 16.3, 31.2).
 use crate::fault::Halt;
 use crate::modules::Modules;
-use crate::resolver::lookup::MAX_NAMES;
+use crate::resolver::lookup::{MAX_NAMES, TOO_MANY_NAMES};
+use crate::resolver::mark::Mark;
 use crate::resolver::node::{Asked, Place, Tags, Unfolded, Use};
-use crate::resolver::reference::Next;
+use crate::resolver::reference::{Next, steps_of, written_name};
 use crate::resolver::shape::Resolver;
+use crate::tags::{MAX_TAGS, TOO_MANY_TAGS};
 use crate::tree::{Tag as WrittenTag, TagClass, Tagging, Type, Unread};
 use rasn_types::types::{Class, Tag};
 use std::alloc::{AllocError, Global};
@@ -119,17 +121,23 @@ impl<'modules, 'text> Resolver<'modules, 'text> {
             .modules
             .type_at(start.place.module, start.index)?
             .position;
+        let mut mark = Mark::new(start.place, start.index);
         for _ in 0..MAX_NAMES {
+            let written = self.modules.type_at(found.place.module, found.index)?;
             if !self.follow(&mut found)? {
                 return Ok(found);
             }
+            if mark.is_again(found.place, found.index) {
+                return Err(self.endless(start.place, position, written_name(&written.base)));
+            }
         }
-        Err(self.endless(start.place, position, found.name.unwrap_or("")))
+        Err(self.beyond(start.place, position, TOO_MANY_NAMES))
     }
 
     /// Follows a reference, and returns whether there was one.
     fn follow(&mut self, found: &mut Unfolded<'text>) -> Result<bool, Halt<'text>> {
         let ty = self.modules.type_at(found.place.module, found.index)?;
+        self.step(steps_of(ty), found.place, ty.position)?;
         self.add_tags(found.place, ty, &mut found.tags)?;
         found.add_constraints(ty.constraints.as_slice())?;
         match self.next(found.place, ty)? {
@@ -156,6 +164,9 @@ impl<'modules, 'text> Resolver<'modules, 'text> {
                 None => self.modules.tagging(place.module) == Tagging::Explicit,
             };
             tags.add(tag, is_explicit)?;
+            if tags.explicit.len() > MAX_TAGS {
+                return Err(self.beyond(place, written.position, TOO_MANY_TAGS));
+            }
         }
         let is_tagged = !ty.tags.is_empty() || tags.is_automatic;
         tags.is_automatic = false;

@@ -67,6 +67,7 @@ impl<'modules, 'text> Resolver<'modules, 'text> {
         left: &mut usize,
     ) -> Result<Value<'static>, Halt<'text>> {
         let depth = self.deeper(spelled, depth, left)?;
+        self.step(1, spelled.place, spelled.position)?;
         let (at, base) = self.base_of(of, index, spelled.position)?;
         match base {
             Base::Sequence(list) => {
@@ -155,6 +156,12 @@ impl<'modules, 'text> Resolver<'modules, 'text> {
     ) -> Result<Vec<Wanted<'text>>, Halt<'text>> {
         let members = self.member_values(spelled)?;
         let listed = self.listed(at, list, within, true)?;
+        let pairs = members.len().saturating_mul(listed.len());
+        self.step(
+            pairs.saturating_add(listed.len()),
+            spelled.place,
+            spelled.position,
+        )?;
         self.check_members(members.as_slice(), listed.as_slice())?;
         *left = left.saturating_sub(listed.len());
         let mut wanted = Vec::new(self.alloc);
@@ -172,11 +179,12 @@ impl<'modules, 'text> Resolver<'modules, 'text> {
     /// Returns the index and the type of the alternative that a value of a CHOICE names, and its
     /// value.
     fn choice(
-        &self,
+        &mut self,
         list: &[Component<'text>],
         spelled: &Spelled<'text>,
     ) -> Result<(usize, TypeIndex, Spelled<'text>), Halt<'text>> {
         let member = self.alternative_value(spelled)?;
+        self.step(list.len(), spelled.place, spelled.position)?;
         match alternative_named(list, member.name) {
             Some((index, of)) => Ok((index, of, member.value)),
             None => Err(self.undefined(member.value.place, member.position, member.name)),
@@ -194,10 +202,12 @@ impl<'modules, 'text> Resolver<'modules, 'text> {
     {
         *left = left.saturating_sub(1);
         if *left == 0 {
-            return Err(self.too_large(spelled.place, spelled.position));
+            let what = "100000 values in one default";
+            return Err(self.beyond(spelled.place, spelled.position, what));
         }
         if depth == 0 {
-            return Err(self.too_deep(spelled.place, spelled.position));
+            let what = "16 values in one another";
+            return Err(self.beyond(spelled.place, spelled.position, what));
         }
         Ok(depth - 1)
     }
@@ -216,10 +226,16 @@ impl<'modules, 'text> Resolver<'modules, 'text> {
         Ok(())
     }
 
-    /// Returns what of a value isn't read yet.
-    pub(crate) fn unread(&self, spelled: &Spelled<'text>) -> Result<Unread<'text>, Halt<'text>> {
+    /// Returns what of a value isn't read yet, and is read now.
+    pub(crate) fn unread(
+        &mut self,
+        spelled: &Spelled<'text>,
+    ) -> Result<Unread<'text>, Halt<'text>> {
         match spelled.value {
-            Written::Unread(unread) => Ok(unread),
+            Written::Unread(unread) => {
+                self.step(unread.text.len(), spelled.place, spelled.position)?;
+                Ok(unread)
+            }
             _ => Err(self.misfit(spelled)),
         }
     }
@@ -241,7 +257,10 @@ impl<'modules, 'text> Resolver<'modules, 'text> {
     }
 
     /// Reads the values of components, in braces (X.680 25).
-    fn member_values(&self, spelled: &Spelled<'text>) -> Result<Vec<Member<'text>>, Halt<'text>> {
+    fn member_values(
+        &mut self,
+        spelled: &Spelled<'text>,
+    ) -> Result<Vec<Member<'text>>, Halt<'text>> {
         let meant = self.meant(spelled)?;
         let unread = self.unread(&meant)?;
         let items = tokens(self.alloc, unread.text, unread.position)?;
@@ -251,7 +270,7 @@ impl<'modules, 'text> Resolver<'modules, 'text> {
 
     /// Reads values in braces (X.680 22, 26, 28).
     pub(crate) fn listed_values(
-        &self,
+        &mut self,
         spelled: &Spelled<'text>,
     ) -> Result<Vec<Spelled<'text>>, Halt<'text>> {
         let meant = self.meant(spelled)?;
@@ -262,7 +281,10 @@ impl<'modules, 'text> Resolver<'modules, 'text> {
     }
 
     /// Reads the name of an alternative, and its value (X.680 29).
-    fn alternative_value(&self, spelled: &Spelled<'text>) -> Result<Member<'text>, Halt<'text>> {
+    fn alternative_value(
+        &mut self,
+        spelled: &Spelled<'text>,
+    ) -> Result<Member<'text>, Halt<'text>> {
         let meant = self.meant(spelled)?;
         let unread = self.unread(&meant)?;
         let items = tokens(self.alloc, unread.text, unread.position)?;
