@@ -27,6 +27,7 @@ pub mod Ways
 pub mod Checked
 pub mod Listed
 pub mod Readers
+pub mod ChoicesInside
 pub mod Placed
 pub mod SameParts
 pub mod WorkedParts

@@ -13,6 +13,7 @@ pub mod Paths
 pub mod Parts
 pub mod Listed
 pub mod Readers
+pub mod Nested
 pub mod Walk
 pub mod SameParts
 pub mod Worked

@@ -90,8 +90,8 @@ pub fn decode<'input>(
 
 /// Checks that the input is exactly one value of the type, as `decode` reads it. No value is made,
 /// except of a component with a default under DER, which is compared with the default. Otherwise a
-/// success takes memory only to note the components of a SET, and for a time of more than 32 octets
-/// in segments.
+/// success takes memory only to note the components of a SET and CHOICEs directly in one another,
+/// and for a time of more than 32 octets in segments.
 ///
 /// # Errors
 /// As [`decode`].

@@ -14,6 +14,7 @@ mod leads_to;
 mod locate;
 mod made;
 mod message;
+mod nested;
 mod order;
 mod part;
 mod path;

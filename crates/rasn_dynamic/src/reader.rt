@@ -1,6 +1,6 @@
 //! Reads a value of a type.
-ghost use Rattle.std.specs.Prelude.{◌≡◌, ◌≢◌, ◌⊎◌, ◌++◌, ◌∷◌, List, [], length, true, false, slice_get, None, Err, OnOk, IfOk, IfErr};
-ghost use Rattle.rasn_types.specs.Framing.{Ended};
+ghost use Rattle.std.specs.Prelude.{◌≡◌, ◌≢◌, ◌⊎◌, ◌++◌, ◌∷◌, List, [], length, reverse, true, false, slice_get, None, Err, OnOk, IfOk, IfErr};
+ghost use Rattle.rasn_types.specs.Framing.{Ended, NextTag};
 ghost use Rattle.rasn_types.specs.Errors.{IsOutOfMemory};
 ghost use Rattle.rasn_types.specs.Shapes.{any, unknown as unknown_values, items, sought_by};
 ghost use Rattle.rasn_de.specs.Decodes.{Decodes, DecodesBy};
@@ -14,13 +14,14 @@ ghost use Rattle.rasn_de.specs.declared.ber.de.parser.ParseError.TheVariants.{Un
 ghost use Rattle.rasn_schema.specs.declared.types.«Type».{«Type»};
 ghost use Rattle.rasn_schema.specs.declared.types.Presence.TheVariants.{Default};
 ghost use Rattle.rasn_schema.specs.declared.value.Value.{Items, Elements};
-ghost use Rattle.rasn_types.specs.Tags.{IsStrict, eoc};
+ghost use Rattle.rasn_types.specs.Tags.{IsStrict, eoc, form};
 ghost use Rattle.rasn_types.specs.Trees.{unconstrained};
 ghost use Rattle.rasn_schema.specs.declared.types.«Type».TheVariants.{Tagged, Sequence, Set, SequenceOf, SetOf};
 ghost use Rattle.rasn_schema.specs.Trees.{tree_of};
 ghost use Rattle.rasn_schema.specs.Shapes.{shape_of_type, type_by, alternatives_by, choice_among, components_by, key_of, presence_in, presence_of, IsReadable, AreReadable};
 ghost use Rattle.rasn_dynamic.specs.Inside.{ReadsSequence, DecodesTree, DecodesComponent};
 ghost use Rattle.rasn_dynamic.specs.Readers.{DecodesCounted, ReadsContents, ReadsType};
+ghost use Rattle.rasn_dynamic.specs.Nested.{ReadsPart, ReadsWithin};
 ghost use Rattle.rasn_dynamic.specs.Making.{Making, Counting, IsLength, outcome, reported, trees_of, these};
 ghost use Rattle.rasn_dynamic.specs.Typed.{Makes, elements, IsSized, MayRunOut, DecodesContents};
 ghost use Rattle.rasn_dynamic.specs.Calls.{Gathers, any_required, is_required, IsMade, AreSettled, nones, names_of, IsAppended, DecodesPresent, DecodesMember, IsNoAlternative, IsNoMember};
@@ -31,6 +32,7 @@ ghost use Rattle.rasn_dynamic.specs.Listed.{Lists, Inside, PartsInside, PartList
 
 use crate::components::{is_always_there, leaves_all_out, missing};
 use crate::made::Made;
+use crate::nested::{NextPart, Nested, ascend, choice_at, choose, descend};
 use crate::order::{is_less, octets_before};
 use crate::read_leaf::{decode_any_value, put_any, put_leaf, put_number, put_unknown};
 use crate::refuse::{
@@ -112,33 +114,6 @@ fn check_size(
     }
     refuse_size(error, decoder, constraints, count);
     Err(Refused)
-}
-
-/// Makes the value of a CHOICE, where values are kept.
-#[inline(always)]
-fn choose<'input, M: Made>(
-    decoder: &Decoder<'input>,
-    error: &mut DecodeError,
-    number: usize,
-    out: &mut Value<'input>,
-) -> Result<(), Refused>
-    ensures ok { M.KEEP ≡ true → IfOk (outcome result out.new error.new) (IsChosen (λ k v. (k ≡ number) × (v ≡ out.old))) }
-    ensures kind { IfErr (outcome result out.new error.new) (λ e. IsOutOfMemory e.kind) }
-    ensures rules { IfErr (outcome result out.new error.new) (λ e. e.codec ≡ decoder.now.rule) }
-{
-    if !M::KEEP {
-        return Ok(());
-    }
-    match Box::new(decoder.alloc(), std::mem::replace(out, Value::Absent)) {
-        Ok(value) => {
-            *out = Value::Chosen(number, value);
-            Ok(())
-        }
-        Err(_) => {
-            refuse_memory(error, decoder);
-            Err(Refused)
-        }
-    }
 }
 
 /// Returns an empty list, with room for so many values where values are kept.
@@ -500,9 +475,93 @@ fn decode_choice<'input, M: Made>(
         refuse_choice(&mut walk.error, decoder, name);
         return Err(Refused);
     };
-    let id = alternatives[number].type_id;
-    decode_part::<M>(decoder, walk, types, below, id, number, out)?;
+    let part = NextPart {
+        levels: below,
+        id: alternatives[number].type_id,
+        index: number,
+    };
+    decode_alternative::<M>(decoder, walk, types, tag, part, out)?;
     choose::<M>(decoder, &mut walk.error, number, out)
+}
+
+/// Reads an alternative, with which the next tag may begin, as a part. If it is a CHOICE itself, no
+/// call reads it and those directly in it.
+#[cycle(decode)]
+#[inline(always)]
+fn decode_alternative<'input, M: Made>(
+    decoder: &mut Decoder<'input>,
+    walk: &mut Walk<'input>,
+    types: &[Type],
+    tag: Tag,
+    part: NextPart,
+    out: &mut Value<'input>,
+) -> Result<(), Refused>
+    requires lawful { IsReadable (shape_of_type types.now part.levels part.id.0) }
+    requires clear { walk.old.fault ≡ None }
+    requires next { NextTag (form decoder.old.rule) decoder.old.rest tag }
+    ensures { ReadsPart types.now M.KEEP part decoder.old walk.old.spans (outcome result out.new walk.new.error) decoder.new walk.new.fault walk.new.spans }
+{
+    match choice_at(types, part) {
+        Some(_) => decode_nested::<M>(decoder, walk, types, tag, part, out),
+        None => {
+            decode_part::<M>(decoder, walk, types, part.levels, part.id, part.index, out)
+        }
+    }
+}
+
+/// Reads CHOICEs directly in one another, of which the outermost is the part.
+#[cycle(decode)]
+#[inline(never)]
+fn decode_nested<'input, M: Made>(
+    decoder: &mut Decoder<'input>,
+    walk: &mut Walk<'input>,
+    types: &[Type],
+    tag: Tag,
+    part: NextPart,
+    out: &mut Value<'input>,
+) -> Result<(), Refused>
+    requires lawful { IsReadable (shape_of_type types.now part.levels part.id.0) }
+    requires clear { walk.old.fault ≡ None }
+    requires next { NextTag (form decoder.old.rule) decoder.old.rest tag }
+    ensures { ReadsPart types.now M.KEEP part decoder.old walk.old.spans (outcome result out.new walk.new.error) decoder.new walk.new.fault walk.new.spans }
+{
+    let mut nested = Nested {
+        choices: Vec::new(decoder.alloc()),
+        part,
+    };
+    let innermost = decode_innermost::<M>(decoder, walk, types, tag, &mut nested, out);
+    ascend::<M>(decoder, walk, nested, innermost, out)
+}
+
+/// Goes into CHOICEs directly in one another, and reads the part in the innermost.
+#[cycle(decode)]
+#[inline(always)]
+fn decode_innermost<'input, M: Made>(
+    decoder: &mut Decoder<'input>,
+    walk: &mut Walk<'input>,
+    types: &[Type],
+    tag: Tag,
+    nested: &mut Nested,
+    out: &mut Value<'input>,
+) -> Result<(), Refused>
+    requires lawful { IsReadable (shape_of_type types.now nested.old.part.levels nested.old.part.id.0) }
+    requires clear { walk.old.fault ≡ None }
+    requires next { NextTag (form decoder.old.rule) decoder.old.rest tag }
+    requires none { nested.old.choices.items ≡ [] }
+    ensures { ReadsWithin types.now M.KEEP nested.old.part decoder.old walk.old.spans (reverse nested.new.choices.items) nested.new.part.index (outcome result out.new walk.new.error) decoder.new walk.new.fault walk.new.spans }
+{
+    let entered = descend(decoder, walk, types, tag, nested);
+    let part = nested.part;
+    match entered {
+        Ok(()) => {
+            decode_part::<M>(decoder, walk, types, part.levels, part.id, part.index, out)
+        }
+        Err(refused) => {
+            let left = decoder.remaining().len();
+            mark_part(decoder.alloc(), &mut walk.fault, part.id, left, part.index);
+            Err(refused)
+        }
+    }
 }
 
 /// Reads an explicit tag and the value that it holds (X.690 8.14).

@@ -1,7 +1,9 @@
-//! A CHOICE that may be absent, before another component (X.680 25.6, 29.3).
+//! A CHOICE that may be absent, before another component (X.680 25.6, 29.3), and CHOICEs in one
+//! another.
 
+use crate::faults;
 use rasn_dynamic::{decode, decode_or_locate, encode};
-use rasn_schema::{Schema, SchemaError, TypeId};
+use rasn_schema::{Schema, SchemaError, TypeId, Value};
 use rasn_schema_static::prelude::*;
 use rasn_schema_static::types_of;
 use rasn_types::types::Codec;
@@ -96,4 +98,34 @@ fn choices_are_told_from_what_follows(rt: HostRuntime) {
             })
         )
     );
+}
+
+/// Returns whether the indices of CHOICEs in one another, from the outermost on, are these, and the
+/// innermost value is this one.
+fn is_chosen(outermost: &Value<'_>, path: &[usize], innermost: &Value<'_>) -> bool {
+    let mut value = outermost;
+    for index in path {
+        match value {
+            Value::Chosen(number, inner) if number == index => value = inner,
+            _ => return false,
+        }
+    }
+    value == innermost
+}
+
+/// Returns whether octets are read as such a value.
+fn is_read_as(alloc: Global, octets: &[u8], path: &[usize], innermost: &Value<'_>) -> Option<bool> {
+    let schema = Schema::new(types_of(alloc, faults::TYPES).ok()?).ok()?;
+    let value = decode(alloc, Codec::Der, &schema, TypeId(14), octets).ok()?;
+    Some(is_chosen(&value, path, innermost))
+}
+
+// X.690 8.13.1: a CHOICE is encoded as its alternative, so all of them have the same octets.
+#[test]
+fn choices_in_one_another_are_read(rt: HostRuntime) {
+    let alloc = rt.alloc();
+    assert!(rt; is_read_as(alloc, &[5, 0], &[0], &Value::Null) == Some(true));
+    assert!(rt; is_read_as(alloc, &[1, 1, 0xFF], &[1, 1, 1, 0], &Value::Boolean(true)) == Some(true));
+    assert!(rt; is_read_as(alloc, &[1, 1, 0], &[1, 1, 1, 0], &Value::Boolean(false)) == Some(true));
+    assert!(rt; is_read_as(alloc, &[1, 1, 0], &[1, 1, 0, 0], &Value::Boolean(false)) == Some(false));
 }

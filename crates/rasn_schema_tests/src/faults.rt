@@ -19,6 +19,12 @@ pub const TYPES: &[StaticType] = &[
     Unknown,
     Sequence(Tag::SEQUENCE, EXTENSIBLE),
     Set("Open", Tag::SET, OPEN),
+    Leaf(Null, Tag::NULL, NONE, &[]),
+    Tagged(tag!(Context, 0), 1),
+    Choice("Fourth", &[("flag", 0), ("pair", 2)]),
+    Choice("Third", &[("number", 1), ("fourth", 11)]),
+    Choice("Second", &[("tagged", 10), ("third", 12)]),
+    Choice("First", &[("none", 9), ("second", 13)]),
 ];
 
 const EXTENSIBLE: &[StaticComponent] = &[("flag", Required, 0), ("...", Required, 6)];
@@ -115,6 +121,59 @@ fn innermost_value_is_named(rt: HostRuntime) {
             8,
             &[0x31, 6, 5, 0, 0xA0, 2, 1, 5],
             (0, 8, &[], "byte 0: BER: "),
+        ),
+    ];
+    for (id, octets, place) in ROWS {
+        let refused = is_refused_at(rt.alloc(), TypeId(*id), octets, place);
+        assert!(rt; refused == Some(true));
+    }
+}
+
+// X.690 8.13: of CHOICEs in one another each is a step, whichever of their alternatives is refused.
+#[test]
+fn choices_in_one_another_are_steps(rt: HostRuntime) {
+    const ROWS: &[Row] = &[
+        (14, &[4, 0], (0, 14, &[], "byte 0: BER: ")),
+        (14, &[5, 1, 0], (0, 9, &[0], "none, byte 0: BER: ")),
+        (
+            14,
+            &[0xA0, 2, 2, 0],
+            (2, 1, &[1, 0, 0], "second.tagged, byte 2: BER: "),
+        ),
+        (
+            14,
+            &[2, 0],
+            (0, 1, &[1, 1, 0], "second.third.number, byte 0: BER: "),
+        ),
+        (
+            14,
+            &[1, 2, 0, 0],
+            (
+                0,
+                0,
+                &[1, 1, 1, 0],
+                "second.third.fourth.flag, byte 0: BER: ",
+            ),
+        ),
+        (
+            14,
+            &[0x30, 5, 1, 1, 0xFF],
+            (
+                0,
+                2,
+                &[1, 1, 1, 1],
+                "second.third.fourth.pair, byte 0: BER: ",
+            ),
+        ),
+        (
+            14,
+            &[0x30, 6, 1, 1, 0xFF, 2, 2, 7],
+            (
+                5,
+                1,
+                &[1, 1, 1, 1, 1],
+                "second.third.fourth.pair.number, byte 5: BER: ",
+            ),
         ),
     ];
     for (id, octets, place) in ROWS {

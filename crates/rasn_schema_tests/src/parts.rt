@@ -173,6 +173,31 @@ fn unknown_components_are_parts(rt: HostRuntime) {
     assert!(rt; are_listed(rt.alloc(), 8, &[0x31, 6, 2, 1, 7, 1, 1, 0xFF], named) == Some(true));
 }
 
+// X.690 8.13: each of CHOICEs in one another is a part, with all of the octets.
+#[test]
+fn choices_in_one_another_are_parts(rt: HostRuntime) {
+    let tagged: &[(&'static [usize], usize, usize, usize)] = &[
+        (&[], 0, 14, 5),
+        (&[1], 0, 13, 5),
+        (&[1, 0], 0, 10, 5),
+        (&[1, 0, 0], 2, 1, 3),
+    ];
+    assert!(rt; are_listed(rt.alloc(), 14, &[0xA0, 3, 2, 1, 7], tagged) == Some(true));
+    assert!(rt; parts_found(rt.alloc(), 14, &[0xA0, 3, 2, 1, 7]) == Some(4));
+    let pair: &[(&'static [usize], usize, usize, usize)] = &[
+        (&[], 0, 14, 8),
+        (&[1], 0, 13, 8),
+        (&[1, 1], 0, 12, 8),
+        (&[1, 1, 1], 0, 11, 8),
+        (&[1, 1, 1, 1], 0, 2, 8),
+        (&[1, 1, 1, 1, 0], 2, 0, 3),
+        (&[1, 1, 1, 1, 1], 5, 1, 3),
+    ];
+    let octets: &[u8] = &[0x30, 6, 1, 1, 0xFF, 2, 1, 7];
+    assert!(rt; are_listed(rt.alloc(), 14, octets, pair) == Some(true));
+    assert!(rt; parts_found(rt.alloc(), 14, octets) == Some(7));
+}
+
 // The contents of an unknown component aren't parts, whatever its length form is.
 #[test]
 fn nothing_is_in_unknown_components(rt: HostRuntime) {

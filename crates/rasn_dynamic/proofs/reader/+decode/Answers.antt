@@ -38,6 +38,7 @@ use Rattle.rasn_schema.specs.Fitting.{Fits, IsNumber, AreOctets, EachFits}
 use Rattle.rasn_dynamic.proofs.FitsRead.{if_ok, fits_below, each_more, fit_more, fit_end, made_fits, gathered_fit, all_fit, all_left_fit, nones_fit, found_length, found_kept, put_fits}
 use Rattle.rasn_dynamic.proofs.Nothing.{refused_at_zero, refused_not_there, found_here}
 use Rattle.rasn_dynamic.proofs.OpenChoice.{lawful_at}
+use Rattle.rasn_dynamic.proofs.ChoicesInside.{part_named}
 use Rattle.rasn_dynamic.proofs.Chosen.{no_tag, none_for, for_both, chosen_got, chosen_refused}
 use Rattle.rasn_dynamic.proofs.InOrder.{lawful_parts, all_left_read, in_turn}
 use Rattle.rasn_dynamic.proofs.OnePart.{always, always_fails, looked, looked_fails, made, made_fails, unread, unread_fails, plain, loose, differs, default_is_written, not_required, next_of, made_of}
@@ -116,24 +117,24 @@ decode_choice-returns-in_default-clause-rules g t c = c.refuse_choice.ensures.0
 pub decode_choice-bounds-alternatives-number : goal.decode_choice-bounds-alternatives-number
 decode_choice-bounds-alternatives-number g t c = slice_get_within c.args.alternatives.now c.in-Some.number c.in-Some.ensures.0 (sym c.in-Some.ensures.1.0)
 
-pub decode_choice-decode_part-requires : goal.decode_choice-decode_part-requires
-decode_choice-decode_part-requires g t c =
+pub decode_choice-decode_alternative-requires : goal.decode_choice-decode_alternative-requires
+decode_choice-decode_alternative-requires g t c =
     let el = get_or c.args.alternatives.now c.in-Some.number c.index-alternatives-number.result in
     let at : Some el ≡ slice_get c.args.alternatives.now c.in-Some.number = subst (λ (a : Alternative). Some a ≡ slice_get c.args.alternatives.now c.in-Some.number) c.index-alternatives-number.is
     (read_at c.args.alternatives.now c.in-Some.number c.index-alternatives-number.result (slice_get_within c.args.alternatives.now c.in-Some.number c.in-Some.ensures.0 (sym c.in-Some.ensures.1.0)) c.index-alternatives-number.is) in
-    λ κs o. (search rules, (search rules, (lawful_at (shape_of_type c.args.types.now c.args.below) c.args.alternatives.now c.in-Some.number el c.requires.1.1.1.0 at, c.requires.1.1.1.1)))
+    λ κs o. (search rules, (search rules, (lawful_at (shape_of_type c.args.types.now c.args.below) c.args.alternatives.now c.in-Some.number el c.requires.1.1.1.0 at, (c.requires.1.1.1.1, c.in_ok-tag.ensures.next))))
 
-pub decode_choice-returns-in_err-decode_part-clause-reads : goal.decode_choice-returns-in_err-decode_part-clause-reads
-decode_choice-returns-in_err-decode_part-clause-reads g t c =
+pub decode_choice-returns-in_err-decode_alternative-clause-reads : goal.decode_choice-returns-in_err-decode_alternative-clause-reads
+decode_choice-returns-in_err-decode_alternative-clause-reads g t c =
     let el = get_or c.args.alternatives.now c.in-Some.number c.index-alternatives-number.result in
     let at : Some el ≡ slice_get c.args.alternatives.now c.in-Some.number = subst (λ (a : Alternative). Some a ≡ slice_get c.args.alternatives.now c.in-Some.number) c.index-alternatives-number.is
     (read_at c.args.alternatives.now c.in-Some.number c.index-alternatives-number.result (slice_get_within c.args.alternatives.now c.in-Some.number c.in-Some.ensures.0 (sym c.in-Some.ensures.1.0)) c.index-alternatives-number.is) in
-    rw (residual _ c.from_residual-in_err-decode_part.ensures.1)
+    rw (residual _ c.from_residual-in_err-decode_alternative.ensures.1)
     (chosen_refused (shape_of_type c.args.types.now c.args.below) c.args.alternatives.now c.in-Some.number el c.in_ok-tag.tag c.requires.1.1.1.0
-    (for_both (shape_of_type c.args.types.now c.args.below) c.args.alternatives.now c.in-Some.number c.in-Some.ensures.0 _ c.in_ok-tag.tag c.in-Some.ensures.1 at) _ _ c.in_ok-tag.ensures.next _ c.in_err-decode_part.ensures.reads)
+    (for_both (shape_of_type c.args.types.now c.args.below) c.args.alternatives.now c.in-Some.number c.in-Some.ensures.0 _ c.in_ok-tag.tag c.in-Some.ensures.1 at) _ _ c.in_ok-tag.ensures.next _ c.in_err-decode_alternative.ensures.reads)
 
-pub decode_choice-returns-in_err-decode_part-clause-unknown : goal.decode_choice-returns-in_err-decode_part-clause-unknown
-decode_choice-returns-in_err-decode_part-clause-unknown g t c = rw (residual _ c.from_residual-in_err-decode_part.ensures.1) (λ tag n others.
+pub decode_choice-returns-in_err-decode_alternative-clause-unknown : goal.decode_choice-returns-in_err-decode_alternative-clause-unknown
+decode_choice-returns-in_err-decode_alternative-clause-unknown g t c = rw (residual _ c.from_residual-in_err-decode_alternative.ensures.1) (λ tag n others.
     absurd (others (subst (IsFirstOf (alternatives_by (shape_of_type c.args.types.now c.args.below) c.args.alternatives.now)) (next_one c.args.decoder.now.rest c.in_ok-tag.tag tag c.in_ok-tag.ensures.next n)
     (first_of_all (shape_of_type c.args.types.now c.args.below) c.in_ok-tag.tag c.args.alternatives.now c.in-Some.number c.in-Some.ensures.0 c.in-Some.ensures.1.0 c.in-Some.ensures.1.1))))
 
@@ -143,27 +144,81 @@ decode_choice-returns-clause-unknown g t c = any_err _ (λ e tag n others.
     (first_of_all (shape_of_type c.args.types.now c.args.below) c.in_ok-tag.tag c.args.alternatives.now c.in-Some.number c.in-Some.ensures.0 c.in-Some.ensures.1.0 c.in-Some.ensures.1.1)))) (outcome c.choose.result c.choose.new.out c.choose.new.error)
 
 pub decode_choice-returns-clause-told : goal.decode_choice-returns-clause-told
-decode_choice-returns-clause-told g t c = unnamed _ (outcome c.choose.result c.choose.new.out c.choose.new.error) _ c.in_ok-decode_part.ensures.told
+decode_choice-returns-clause-told g t c = unnamed _ (outcome c.choose.result c.choose.new.out c.choose.new.error) _ c.in_ok-decode_alternative.ensures.told
 
 pub decode_choice-returns-clause-rules : goal.decode_choice-returns-clause-rules
-decode_choice-returns-clause-rules g t c = subst (λ z. IfErr (outcome c.choose.result c.choose.new.out c.choose.new.error) (λ e. e.codec ≡ z)) (same_rules c.in_ok-decode_part.ensures.reads.2.stays) c.choose.ensures.rules
+decode_choice-returns-clause-rules g t c = subst (λ z. IfErr (outcome c.choose.result c.choose.new.out c.choose.new.error) (λ e. e.codec ≡ z)) (same_rules c.in_ok-decode_alternative.ensures.reads.2.stays) c.choose.ensures.rules
 
 pub decode_choice-returns-clause-fits : goal.decode_choice-returns-clause-fits
 decode_choice-returns-clause-fits g t c =
     let at = read_at c.args.alternatives.now c.in-Some.number c.index-alternatives-number.result (slice_get_within c.args.alternatives.now c.in-Some.number c.in-Some.ensures.0 (sym c.in-Some.ensures.1.0)) c.index-alternatives-number.is in
-    choice_fits _ c.in-Some.number c.decode_part.new.out _ (outcome c.choose.result c.choose.new.out c.choose.new.error) c.choose.ensures.ok
-    (λ k. (c.index-alternatives-number.result, at, subst (λ (a : Alternative). Fits c.args.types.now c.args.below a.type_id.0 c.decode_part.new.out) (sym c.index-alternatives-number.is) (c.in_ok-decode_part.ensures.fits k)))
+    choice_fits _ c.in-Some.number c.decode_alternative.new.out _ (outcome c.choose.result c.choose.new.out c.choose.new.error) c.choose.ensures.ok
+    (λ k. (c.index-alternatives-number.result, at, subst (λ (a : Alternative). Fits c.args.types.now c.args.below a.type_id.0 c.decode_alternative.new.out) (sym c.index-alternatives-number.is) (c.in_ok-decode_alternative.ensures.fits k)))
 
 pub decode_choice-returns-clause-reads : goal.decode_choice-returns-clause-reads
 decode_choice-returns-clause-reads g t c =
     let el = get_or c.args.alternatives.now c.in-Some.number c.index-alternatives-number.result in
     let at : Some el ≡ slice_get c.args.alternatives.now c.in-Some.number = subst (λ (a : Alternative). Some a ≡ slice_get c.args.alternatives.now c.in-Some.number) c.index-alternatives-number.is
     (read_at c.args.alternatives.now c.in-Some.number c.index-alternatives-number.result (slice_get_within c.args.alternatives.now c.in-Some.number c.in-Some.ensures.0 (sym c.in-Some.ensures.1.0)) c.index-alternatives-number.is) in
-    let w = c.in_ok-decode_part.ensures.reads in
-    choice_made _ c.in-Some.number c.decode_part.new.out (DecodesTree (choice_among (alternatives_by (shape_of_type c.args.types.now c.args.below) c.args.alternatives.now))) c.args.decoder.now w.0 (outcome c.choose.result c.choose.new.out c.choose.new.error) _ w.1 c.choose.ensures.ok c.choose.ensures.kind
+    let w = c.in_ok-decode_alternative.ensures.reads in
+    choice_made _ c.in-Some.number c.decode_alternative.new.out (DecodesTree (choice_among (alternatives_by (shape_of_type c.args.types.now c.args.below) c.args.alternatives.now))) c.args.decoder.now w.0 (outcome c.choose.result c.choose.new.out c.choose.new.error) _ w.1 c.choose.ensures.ok c.choose.ensures.kind
     (chosen_got (shape_of_type c.args.types.now c.args.below) c.args.alternatives.now c.in-Some.number el c.in_ok-tag.tag c.requires.1.1.1.0
     (for_both (shape_of_type c.args.types.now c.args.below) c.args.alternatives.now c.in-Some.number c.in-Some.ensures.0 _ c.in_ok-tag.tag c.in-Some.ensures.1 at) _ _ c.in_ok-tag.ensures.next w.0 w.2)
     (λ e m. alloc_failed _ (λ (z : Tree). z) c.args.decoder.now _ e m w.2.stays w.2.end)
+
+-- ---- CHOICEs directly in one another
+
+pub decode_alternative-returns-in-Some : goal.decode_alternative-returns-in-Some
+decode_alternative-returns-in-Some g t c = c.decode_nested.ensures
+
+pub decode_alternative-returns-in-None : goal.decode_alternative-returns-in-None
+decode_alternative-returns-in-None g t c = record {
+  reads = c.decode_part.ensures.reads;
+  fits = c.decode_part.ensures.fits;
+  rules = c.decode_part.ensures.rules;
+  told = c.decode_part.ensures.told;
+  listed = c.decode_part.ensures.listed;
+}
+
+pub decode_nested-returns : goal.decode_nested-returns
+decode_nested-returns g t c = c.ascend.ensures c.args.types.now c.args.decoder.now c.args.part c.args.walk.now.spans c.decode_innermost-innermost.ensures
+
+pub decode_innermost-decode_part-requires : goal.decode_innermost-decode_part-requires
+decode_innermost-decode_part-requires g t c = λ κs o. (search rules, (search rules, (c.in-Ok.ensures.goes.1, search rules)))
+
+pub decode_innermost-returns-in-Ok : goal.decode_innermost-returns-in-Ok
+decode_innermost-returns-in-Ok g t c = (
+  c.descend-entered.new.nested.part,
+  c.descend-entered.new.walk.spans,
+  refl,
+  c.in-Ok.ensures.goes.0,
+  record {
+    reads = c.decode_part.ensures.reads;
+    fits = c.decode_part.ensures.fits;
+    rules = c.decode_part.ensures.rules;
+    told = c.decode_part.ensures.told;
+    listed = c.decode_part.ensures.listed;
+  },
+)
+
+pub decode_innermost-returns-in-Err : goal.decode_innermost-returns-in-Err
+decode_innermost-returns-in-Err g t c =
+    let part = c.descend-entered.new.nested.part in
+    let e = c.descend-entered.new.walk.error in
+    let d = c.in-Err.ensures.goes in
+    let same = c.in-Err.ensures.unnamed ∙ c.requires.clear in (
+      part,
+      d.0,
+      refl,
+      d.1,
+      record {
+        reads = d.2.0;
+        fits = λ k. tt;
+        rules = d.2.2;
+        told = part_named c.args.types.now part _ c.args.decoder.now e _ c.mark_part.ensures.0 _ (λ f i. absurd (not_named _ f i same)) (λ i. d.2.1) d.2.0 (ap length c.remaining-left.ensures.value) c.mark_part.ensures.1 c.mark_part.ensures.2;
+        listed = tt;
+      },
+    )
 
 -- ---- contents
 
@@ -780,14 +835,14 @@ decode_components-returns-then-leaves_all_out-clause-told g t c = unnamed _ _ _ 
 pub decode_component-returns-in-Ok-false-clause-told : goal.decode_component-returns-in-Ok-false-clause-told
 decode_component-returns-in-Ok-false-clause-told g t c = unnamed _ _ _ c.requires.clear
 
-pub decode_choice-returns-in_err-decode_part-clause-told : goal.decode_choice-returns-in_err-decode_part-clause-told
-decode_choice-returns-in_err-decode_part-clause-told g t c =
+pub decode_choice-returns-in_err-decode_alternative-clause-told : goal.decode_choice-returns-in_err-decode_alternative-clause-told
+decode_choice-returns-in_err-decode_alternative-clause-told g t c =
     let el = get_or c.args.alternatives.now c.in-Some.number c.index-alternatives-number.result in
     let at : Some el ≡ slice_get c.args.alternatives.now c.in-Some.number = subst (λ (a : Alternative). Some a ≡ slice_get c.args.alternatives.now c.in-Some.number) c.index-alternatives-number.is
     (read_at c.args.alternatives.now c.in-Some.number c.index-alternatives-number.result (slice_get_within c.args.alternatives.now c.in-Some.number c.in-Some.ensures.0 (sym c.in-Some.ensures.1.0)) c.index-alternatives-number.is) in
-    rw (residual _ c.from_residual-in_err-decode_part.ensures.1)
+    rw (residual _ c.from_residual-in_err-decode_alternative.ensures.1)
     (tells_err _ _ (λ k f. weaker c.args.types.now c.args.below _ _ c.args.decoder.now c.args.decoder.now (alternative_there (shape_of_type c.args.types.now c.args.below) c.args.alternatives.now c.in-Some.number el c.args.decoder.now
-    (c.in_ok-tag.tag, c.in_ok-tag.ensures.next, for_both (shape_of_type c.args.types.now c.args.below) c.args.alternatives.now c.in-Some.number c.in-Some.ensures.0 el c.in_ok-tag.tag c.in-Some.ensures.1 at)) k f) c.decode_part.new.walk.error _ c.in_err-decode_part.ensures.told)
+    (c.in_ok-tag.tag, c.in_ok-tag.ensures.next, for_both (shape_of_type c.args.types.now c.args.below) c.args.alternatives.now c.in-Some.number c.in-Some.ensures.0 el c.in_ok-tag.tag c.in-Some.ensures.1 at)) k f) c.decode_alternative.new.walk.error _ c.in_err-decode_alternative.ensures.told)
 
 pub decode_elements-returns-in_err-decode_part-clause-told : goal.decode_elements-returns-in_err-decode_part-clause-told
 decode_elements-returns-in_err-decode_part-clause-told g t c =
@@ -883,9 +938,9 @@ pub decode_choice-returns-in_default-clause-itself : goal.decode_choice-returns-
 decode_choice-returns-in_default-clause-itself g t c =
     λ n. inr (inl (c.in_ok-tag.tag, c.in_ok-tag.ensures.next, c.in_default.ensures))
 
-pub decode_choice-returns-in_err-decode_part-clause-itself : goal.decode_choice-returns-in_err-decode_part-clause-itself
-decode_choice-returns-in_err-decode_part-clause-itself g t c =
-    rw (residual _ c.from_residual-in_err-decode_part.ensures.1) (λ n. absurd (not_named _ _ c.in_err-decode_part.ensures.told.1 n))
+pub decode_choice-returns-in_err-decode_alternative-clause-itself : goal.decode_choice-returns-in_err-decode_alternative-clause-itself
+decode_choice-returns-in_err-decode_alternative-clause-itself g t c =
+    rw (residual _ c.from_residual-in_err-decode_alternative.ensures.1) (λ n. absurd (not_named _ _ c.in_err-decode_alternative.ensures.told.1 n))
 
 pub decode_choice-returns-clause-itself : goal.decode_choice-returns-clause-itself
 decode_choice-returns-clause-itself g t c =
@@ -1060,7 +1115,7 @@ decode_choice-returns-clause-listed g t c =
     let at : Some el ≡ slice_get c.args.alternatives.now c.in-Some.number = subst (λ (a : Alternative). Some a ≡ slice_get c.args.alternatives.now c.in-Some.number) c.index-alternatives-number.is
     (read_at c.args.alternatives.now c.in-Some.number c.index-alternatives-number.result (slice_get_within c.args.alternatives.now c.in-Some.number c.in-Some.ensures.0 (sym c.in-Some.ensures.1.0)) c.index-alternatives-number.is) in
     if_any _ (alternative_listed (shape_of_type c.args.types.now c.args.below) c.args.below (Inside c.args.types.now c.args.below) c.args.alternatives.now c.in-Some.number el c.args.decoder.now _ _ _
-    (c.in_ok-tag.tag, c.in_ok-tag.ensures.next, for_both (shape_of_type c.args.types.now c.args.below) c.args.alternatives.now c.in-Some.number c.in-Some.ensures.0 el c.in_ok-tag.tag c.in-Some.ensures.1 at) c.in_ok-decode_part.ensures.listed)
+    (c.in_ok-tag.tag, c.in_ok-tag.ensures.next, for_both (shape_of_type c.args.types.now c.args.below) c.args.alternatives.now c.in-Some.number c.in-Some.ensures.0 el c.in_ok-tag.tag c.in-Some.ensures.1 at) c.in_ok-decode_alternative.ensures.listed)
 
 pub decode_elements-returns-clause-listed : goal.decode_elements-returns-clause-listed
 decode_elements-returns-clause-listed g t c = elements_listed (shape_of_type c.args.types.now c.args.below) c.args.below (Inside c.args.types.now c.args.below) c.args.element.0 c.loop-element.count c.args.decoder.now c.loop-element.decoder _ _ c.loop-element-test.ensures c.loop-element.invariant.3

@@ -37,6 +37,15 @@ decreases-decode_type g l = 32 * l.below + 24
 abbrev pub decreases-decode_choice : goal.decreases-decode_choice
 decreases-decode_choice g l = 32 * l.below + 22
 
+abbrev pub decreases-decode_alternative : goal.decreases-decode_alternative
+decreases-decode_alternative g l = 32 * l.part.levels + 5
+
+abbrev pub decreases-decode_nested : goal.decreases-decode_nested
+decreases-decode_nested g l = 32 * l.part.levels + 4
+
+abbrev pub decreases-decode_innermost : goal.decreases-decode_innermost
+decreases-decode_innermost g l = 32 * l.nested.now.part.levels + 3
+
 abbrev pub decreases-decode_components : goal.decreases-decode_components
 decreases-decode_components g l = 32 * l.below + 18
 
