@@ -192,8 +192,8 @@ pub(crate) fn primitive_text(
     known: &Known,
     entry: &Entry<'_>,
 ) -> Result<String, AllocError> {
-    match known.universal_value(alloc, entry.octets)? {
-        Some(Value::Chosen(_, value)) => leaf_text(alloc, None, &value),
+    match &known.universal_value(alloc, entry.octets)? {
+        Some(Value::Chosen(_, value)) => leaf_text(alloc, None, value),
         _ => octets_text(alloc, entry.octets.get(entry.header_len..).unwrap_or(&[])),
     }
 }

@@ -95,10 +95,11 @@ fn string_of(alloc: Global, known: &Known, octets: &[u8]) -> Result<Option<Strin
     let Some(0x0C | 0x12 | 0x13 | 0x14 | 0x16 | 0x1A | 0x1E) = octets.first() else {
         return Ok(None);
     };
-    let Some(Value::Chosen(_, value)) = known.universal_value(alloc, octets)? else {
+    let found = known.universal_value(alloc, octets)?;
+    let Some(Value::Chosen(_, value)) = &found else {
         return Ok(None);
     };
-    let text = match &*value {
+    let text = match &**value {
         Value::Text(text) => Some(String::from_str(alloc, text.as_str())?),
         Value::Units(units) => characters_of(alloc, units)?,
         Value::Octets(octets) => match str::from_utf8(octets.as_slice()) {

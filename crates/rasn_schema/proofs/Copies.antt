@@ -1,5 +1,5 @@
 -- A copy means the same, and is a value of each type of which the value is one.
-use Rattle.std.proofs.Common.{◌≡◌, ℕ, zero, suc, ◌+◌, ◌<◌, ℤ, List, [], ◌∷◌, ◌++◌, length, take, get_or, Option, Some, None, Vec, Global, inl, inr, refl, sym, ap, ◌∙◌, subst}
+use Rattle.std.proofs.Common.{◌≡◌, ℕ, zero, suc, ◌+◌, ◌<◌, ◌≤◌, ℤ, List, [], ◌∷◌, ◌++◌, length, take, get_or, Option, Some, None, Vec, Box, Global, inl, inr, rules, arith, refl, sym, ap, ◌∙◌, subst}
 use Rattle.std.specs.Prelude.{slice_get, chars}
 use Rattle.std.proofs.lemmas.List.{take_more}
 use mathlib.Core.Former.{Count}
@@ -11,11 +11,12 @@ use Rattle.rasn_schema.specs.declared.types.Alternative.{Alternative}
 use Rattle.rasn_schema.specs.declared.types.Component.{Component}
 use Rattle.rasn_schema.specs.declared.types.«Type».{«Type»}
 use Rattle.rasn_schema.specs.declared.types.«Type».TheVariants.{Leaf, Enumerated, Any, Tagged, Choice, Sequence, Set, SequenceOf, SetOf, Unknown}
-use Rattle.rasn_schema.specs.declared.value.Value.{Value, Integer, Bits, Octets, Text, Items, Items', Elements, Elements', Chosen', Row_of-Value, end_of-Value, more_of-Value, items-the_row-Value, items_hidden-the_row-Value-0}
+use Rattle.rasn_schema.specs.declared.value.Value.{Value, Integer, Bits, Octets, Text, Items, Items', Elements, Elements', Chosen, Chosen', size-Value, Row_of-Value, end_of-Value, more_of-Value, items-the_row-Value, items_hidden-the_row-Value-0}
+use Rattle.rasn_schema.specs.declared.value.Value.TheViews.{sized-Chosen}
 use Rattle.rasn_schema.specs.Trees.{tree_of, trees_in}
 use Rattle.rasn_schema.specs.Shapes.{presence_of, numbers_of}
 use Rattle.rasn_schema.specs.Fitting.{FitsLeaf, OctetsFit, BitsFit, IsNumber, AreOctets, AreItems, AreElements, IsChosen, AlternativeFits, IsLeftOutAs, ComponentFits, ComponentsFit, EachFits, FitsBy, FitsFound, Fits}
-use Rattle.rasn_schema.specs.Copies.{IsCopy, AreCopies}
+use Rattle.rasn_schema.specs.Copies.{IsCopy, AreCopies, IsChosenBy}
 use Rattle.rasn_schema.proofs.Values.{row_of, trees_listed}
 
 -- ---- lists
@@ -133,3 +134,50 @@ pub copy_fits : (types : List «Type») (levels k : ℕ) (w v : Value) → IsCop
 unfolding Fits
 copy_fits types zero k w v c f = f
 copy_fits types (suc n) k w v c f = found_copied (λ j u. Fits types n j u) (λ j a b d e. copy_fits types n j a b d e) (slice_get types k) w v c f
+
+-- ---- alternatives in one another
+
+-- One more alternative inside.
+pub chosen_last : (ks : List ℕ) (k : ℕ) (w u v : Value) → IsChosen (λ i x. (i ≡ k) × (x ≡ w)) u → IsChosenBy ks u v → IsChosenBy (ks ++ (k ∷ [])) w v
+chosen_last [] k w u v c e = subst (IsChosen (λ i x. (i ≡ k) × (x ≡ w))) (sym e) c
+chosen_last (j ∷ ks) k w u (Chosen' i _ x) c (e, h) = (e, chosen_last ks k w u x c h)
+chosen_last (j ∷ ks) k w u _ c h = absurd h
+
+last_chosen : (ks : List ℕ) (k : ℕ) (w v : Value) → IsChosenBy (ks ++ (k ∷ [])) w v → (u : Value) × IsChosenBy ks u v × IsChosen (λ i x. (i ≡ k) × (x ≡ w)) u
+last_chosen [] k w v h = (v, refl, h)
+last_chosen (j ∷ ks) k w (Chosen' i _ x) (e, h) = let r = last_chosen ks k w x h in (r.0, (e, r.1), r.2)
+last_chosen (j ∷ ks) k w _ h = absurd h
+
+-- A copy of what is inside, in alternatives with these indices, is a copy of the whole.
+pub record CopiesInside (ks : List ℕ) (inner whole : Value) : Type 0 where
+  pub on : (c v : Value) → IsCopy inner c → IsChosenBy ks c v → IsCopy whole v
+
+one_copied : (k : ℕ) (w c u : Value) → IsCopy w c → IsChosen (λ i x. (i ≡ k) × (x ≡ c)) u → IsChosen (λ i x. (i ≡ k) × IsCopy w x) u
+one_copied k w c (Chosen' i _ x) h (e, f) = (e, subst (IsCopy w) (sym f) h)
+one_copied k w c _ h f = absurd f
+
+pub copies_more : (ks more : List ℕ) (k : ℕ) (inner u whole : Value) (b : Box Value Global) → inner ≡ Chosen k b → u ≡ b.value → more ≡ ks ++ (k ∷ []) → CopiesInside ks inner whole → CopiesInside more u whole
+copies_more ks more k inner u whole b e a f h = record { on = go }
+  where
+    go : (c v : Value) → IsCopy u c → IsChosenBy more c v → IsCopy whole v
+    go c v d g =
+        let r = last_chosen ks k c v (subst (λ l. IsChosenBy l c v) f g) in
+        h.on r.0 v (subst (λ x. IsCopy x r.0) (sym e) (one_copied k b.value c r.0 (subst (λ x. IsCopy x c) a d) r.2)) r.1
+
+chosen_deeper : (k : ℕ) (b : Box Value Global) → size-Value b.value ≤ size-Value (Chosen k b)
+chosen_deeper k b = search (rules, sized-Chosen)
+
+-- What is inside is no deeper.
+pub no_deeper : (k : ℕ) (inner u whole : Value) (b : Box Value Global) → inner ≡ Chosen k b → u ≡ b.value → size-Value inner ≤ size-Value whole → size-Value u ≤ size-Value whole
+no_deeper k inner u whole b e a h =
+    let d = chosen_deeper k b in
+    let m : size-Value (Chosen k b) ≤ size-Value whole = subst (λ x. size-Value x ≤ size-Value whole) e h in
+    subst (λ x. size-Value x ≤ size-Value whole) (sym a) (omega (arith, d, m))
+
+-- What is in the alternatives that are left is in all of them.
+abbrev pub IsInside : List ℕ → Value → List ℕ → Value → Type 0
+IsInside left outer ks w = (v : Value) → IsChosenBy left outer v → IsChosenBy ks w v
+
+pub inside_more : (old left : List ℕ) (k : ℕ) (outer : Value) (b : Box Value Global) (ks : List ℕ) (w : Value) → old ≡ left ++ (k ∷ []) → b.value ≡ outer → IsInside old outer ks w → IsInside left (Chosen k b) ks w
+inside_more old left k outer b ks w e f h v g =
+    h v (subst (λ l. IsChosenBy l outer v) (sym e) (chosen_last left k outer (Chosen k b) v (refl, f) g))

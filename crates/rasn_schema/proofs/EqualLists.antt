@@ -1,13 +1,15 @@
 -- Lists of values that are the same.
-use Rattle.std.proofs.Common.{◌≡◌, ℕ, zero, suc, List, [], ◌∷◌, length, Some, true, false, refl, sym, ap, subst, true≢false}
+use Rattle.std.proofs.Common.{◌≡◌, ℕ, zero, suc, List, [], ◌∷◌, length, Some, Bool, true, false, Box, Global, refl, sym, ap, subst, true≢false, nat_eq}
 use Rattle.std.specs.Prelude.{slice_get, chars}
 use Rattle.std.proofs.lemmas.Str.{chars-nil}
-use Rattle.rasn_types.specs.Shapes.{Tree}
+use Rattle.rasn_types.specs.Shapes.{Tree, chosen}
 use Rattle.rasn_types.specs.Bytes.{Same}
 use Rattle.rasn_types.specs.Equality.{DecidesSame}
 use Rattle.rasn_types.specs.Trees.{list_tree}
-use Rattle.rasn_schema.specs.declared.value.Value.{Value}
+use Rattle.rasn_schema.specs.declared.value.Value.{Value, Chosen}
 use Rattle.rasn_schema.specs.Trees.{tree_of}
+use Rattle.rasn_schema.specs.Kinds.{kind}
+use Rattle.rasn_schema.specs.Equals.{apart}
 
 pub not_same : (t u : Tree) → (Same t u → ⊥) → DecidesSame false t u
 not_same t u n = record { same = λ e. absurd (true≢false (sym e)); equal = λ s. absurd (n s) }
@@ -45,3 +47,13 @@ lists_at (v ∷ xs) (w ∷ ys) (u, us, e, s, h) (suc j) x y d f =
 pub no_chars : (l : List ℕ) → length l ≡ 0 → chars l ≡ []
 no_chars [] e = chars-nil
 no_chars (x ∷ l) e = absurd cc
+
+-- ---- alternatives in one another
+
+-- What tells whether what is inside is the same tells it of the whole.
+abbrev pub TellsWhole : Value → Value → Value → Value → Type 0
+TellsWhole own its v w = (b : Bool) → DecidesSame b (tree_of own) (tree_of its) → DecidesSame b (tree_of v) (tree_of w)
+
+pub no_alternative_there : (own its v w : Value) (k : ℕ) (b : Box Value Global) → own ≡ Chosen k b → nat_eq 7 (kind (tree_of its)) ≡ false → TellsWhole own its v w → DecidesSame false (tree_of v) (tree_of w)
+no_alternative_there own its v w k b e n h =
+    h false (subst (λ o. DecidesSame false (tree_of o) (tree_of its)) (sym e) (apart (chosen k (tree_of b.value)) (tree_of its) n))

@@ -16,6 +16,7 @@ pub mod Presences
 pub mod Depth
 pub mod Clash
 pub mod Fitted
+pub mod Reach
 pub mod Significant
 pub mod ListsOf
 pub mod Untagged

@@ -1,5 +1,5 @@
 -- Copies of values.
-use Rattle.std.specs.Prelude.{◌≡◌, List, [], ◌∷◌}
+use Rattle.std.specs.Prelude.{◌≡◌, ℕ, List, [], ◌∷◌}
 use Rattle.std.specs.Cow.{cow_slice_items, cow_str_bytes}
 use Rattle.rasn_types.specs.CowBits.{cow_bits}
 use Rattle.rasn_schema.specs.declared.value.Value.{Value, Bits, Octets, Text, Items', Elements', Chosen', Row_of-Value, end_of-Value, more_of-Value}
@@ -20,3 +20,8 @@ abbrev mutual
   pub AreCopies : {n : _} → Row_of-Value n → List Value → Type 0
   AreCopies end_of-Value vs = vs ≡ []
   AreCopies (more_of-Value w rest) vs = (v : Value) × (more : List Value) × (vs ≡ v ∷ more) × IsCopy w v × AreCopies rest more
+
+-- The value is that of a CHOICE whose alternatives, in one another, have these indices, the last of which has the value w.
+abbrev pub IsChosenBy : List ℕ → Value → Value → Type 0
+IsChosenBy [] w v = v ≡ w
+IsChosenBy (k ∷ ks) w v = IsChosen (λ i u. (i ≡ k) × IsChosenBy ks w u) v

@@ -12,6 +12,7 @@ pub mod Held
 pub mod Named
 pub mod Depth
 pub mod Fitting
+pub mod Reach
 pub mod Copies
 pub mod Shown
 pub mod WorkedHeld

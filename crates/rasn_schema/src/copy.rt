@@ -1,9 +1,10 @@
 //! Copies of values.
-ghost use Rattle.std.specs.Prelude.{◌≡◌, IfOk};
+ghost use Rattle.std.specs.Prelude.{◌≡◌, ℕ, IfOk};
 ghost use Rattle.std.specs.Cow.{cow_slice_items, cow_str_bytes};
 ghost use Rattle.rasn_types.specs.CowBits.{cow_bits};
 ghost use Rattle.rasn_types.specs.Order.{Each};
-ghost use Rattle.rasn_schema.specs.Copies.{IsCopy};
+ghost use Rattle.rasn_schema.specs.declared.value.Value.{Chosen};
+ghost use Rattle.rasn_schema.specs.Copies.{IsChosenBy, IsCopy};
 
 use crate::value::Value;
 use rasn_types::types::{BitString, CowBits, TryClone};
@@ -28,9 +29,42 @@ fn owned_text<'any>(text: &str, alloc: Global) -> Result<CowStr<'any>, AllocErro
     Ok(CowStr::Owned(String::from_str(alloc, text)?))
 }
 
-/// Returns a copy of a value, with memory of its own.
+/// Returns the value of a CHOICE whose alternatives, in one another, have these indices, the last of
+/// which has this value.
+fn chosen_by<'any>(
+    value: Value<'any>,
+    mut indices: Vec<usize>,
+    alloc: Global,
+) -> Result<Value<'any>, AllocError>
+    ensures { IfOk result (λ outer. IsChosenBy indices.items value.entry outer) }
+{
+    let mut outer = value;
+    while let Some(index) = indices.pop() {
+        outer = Value::Chosen(index, Box::new(alloc, outer)?);
+    }
+    Ok(outer)
+}
+
+/// Returns a copy of a value, with memory of its own. CHOICEs directly in one another take no
+/// stack.
 #[cycle(copy)]
 pub fn copy_of<'any>(value: &Value<'_>, alloc: Global) -> Result<Value<'any>, AllocError>
+    ensures { IfOk result (λ copy. IsCopy value.now copy) }
+{
+    let mut indices = Vec::new(alloc);
+    let mut inner = value;
+    while let Value::Chosen(index, chosen) = inner {
+        indices.push(*index)?;
+        inner = chosen;
+    }
+    let copy = copy_of_innermost(inner, alloc)?;
+    chosen_by(copy, indices, alloc)
+}
+
+/// Returns a copy of a value that isn't a CHOICE's.
+#[cycle(copy)]
+fn copy_of_innermost<'any>(value: &Value<'_>, alloc: Global) -> Result<Value<'any>, AllocError>
+    requires { (index : ℕ) (inner : _) → value.now ≡ Chosen index inner → ⊥ }
     ensures { IfOk result (λ copy. IsCopy value.now copy) }
 {
     match value {
@@ -46,10 +80,7 @@ pub fn copy_of<'any>(value: &Value<'_>, alloc: Global) -> Result<Value<'any>, Al
         Value::Day(date) => Ok(Value::Day(*date)),
         Value::Items(values) => Ok(Value::Items(copies_of(values.as_slice(), alloc)?)),
         Value::Elements(values) => Ok(Value::Elements(copies_of(values.as_slice(), alloc)?)),
-        Value::Chosen(index, value) => {
-            let copy = copy_of(value, alloc)?;
-            Ok(Value::Chosen(*index, Box::new(alloc, copy)?))
-        }
+        Value::Chosen(_, _) => unreachable!(),
         Value::Absent => Ok(Value::Absent),
     }
 }

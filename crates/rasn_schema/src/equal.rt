@@ -1,10 +1,11 @@
 //! Whether two values mean the same.
-ghost use Rattle.std.specs.Prelude.{◌≡◌, count_by};
+ghost use Rattle.std.specs.Prelude.{◌≡◌, ℕ, count_by};
 ghost use Rattle.std.specs.Bool.{Decides};
-ghost use Rattle.rasn_types.specs.Shapes.{number, bits, numbers, instant, on_day, set_elements, chosen, absent};
+ghost use Rattle.rasn_types.specs.Shapes.{number, bits, numbers, instant, on_day, set_elements, absent};
 ghost use Rattle.rasn_types.specs.CowBits.{cow_bits};
 ghost use Rattle.rasn_types.specs.Equality.{DecidesSame};
 ghost use Rattle.rasn_types.specs.Trees.{list_tree};
+ghost use Rattle.rasn_schema.specs.declared.value.Value.{Chosen};
 ghost use Rattle.rasn_schema.specs.Trees.{tree_of};
 ghost use Rattle.rasn_schema.specs.Equal.{value_eq};
 ghost use Rattle.rasn_schema.specs.Numbers.{numbers_left};
@@ -107,9 +108,30 @@ fn is_absent(other: &Value<'_>) -> bool
     }
 }
 
-/// Returns whether two values mean the same.
+/// Returns whether two values mean the same. CHOICEs directly in one another take no stack.
 #[cycle(same)]
 pub fn is_same(value: &Value<'_>, other: &Value<'_>) -> bool
+    ensures { DecidesSame result (tree_of value.now) (tree_of other.now) }
+{
+    let mut own = value;
+    let mut its = other;
+    while let Value::Chosen(index, inner) = own {
+        let Value::Chosen(place, chosen) = its else {
+            return false;
+        };
+        if *index != *place {
+            return false;
+        }
+        own = inner;
+        its = chosen;
+    }
+    is_innermost_same(own, its)
+}
+
+/// Returns whether a value that isn't a CHOICE's means the same as another one.
+#[cycle(same)]
+fn is_innermost_same(value: &Value<'_>, other: &Value<'_>) -> bool
+    requires { (index : ℕ) (inner : _) → value.now ≡ Chosen index inner → ⊥ }
     ensures { DecidesSame result (tree_of value.now) (tree_of other.now) }
 {
     match value {
@@ -125,7 +147,7 @@ pub fn is_same(value: &Value<'_>, other: &Value<'_>) -> bool
         Value::Day(date) => is_day(date, other),
         Value::Items(values) => is_items(values.as_slice(), other),
         Value::Elements(values) => is_elements(values.as_slice(), other),
-        Value::Chosen(index, value) => is_chosen(*index, value, other),
+        Value::Chosen(_, _) => unreachable!(),
         Value::Absent => is_absent(other),
     }
 }
@@ -148,17 +170,6 @@ fn is_elements(values: &[Value<'_>], other: &Value<'_>) -> bool
 {
     match other {
         Value::Elements(others) => hold_same(values, others.as_slice()),
-        _ => false,
-    }
-}
-
-/// Returns whether the value is that of an alternative.
-#[cycle(same)]
-fn is_chosen(index: usize, value: &Value<'_>, other: &Value<'_>) -> bool
-    ensures { DecidesSame result (chosen index (tree_of value.now)) (tree_of other.now) }
-{
-    match other {
-        Value::Chosen(place, other) => index == *place && is_same(value, other),
         _ => false,
     }
 }

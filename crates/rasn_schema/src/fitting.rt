@@ -7,12 +7,14 @@ ghost use Rattle.rasn_types.specs.BitString.{significant};
 ghost use Rattle.rasn_types.specs.CowBits.{cow_bits};
 ghost use Rattle.rasn_types.specs.Truth.{IsWhether};
 ghost use Rattle.rasn_schema.specs.Shapes.{numbers_of};
-ghost use Rattle.rasn_schema.specs.Fitting.{IsNumber, NumberFits, OctetsFit, BitsFit, FitsLeaf, AreOctets, AlternativeFits, IsChosen, ComponentFits, ComponentsFit, AreItems, EachFits, FitsBy, Fits};
+ghost use Rattle.rasn_schema.specs.Schemas.{IsChoice};
+ghost use Rattle.rasn_schema.specs.Fitting.{IsNumber, NumberFits, OctetsFit, BitsFit, FitsLeaf, AreOctets, ComponentFits, ComponentsFit, AreItems, EachFits, FitsBy, Fits};
 
 use crate::fit::{elements_of, is_left_out, items_of};
+use crate::innermost::innermost_at;
 use crate::schema::Schema;
 use crate::type_id::TypeId;
-use crate::types::{Alternative, Component, LeafKind, NamedNumber, Type, type_at};
+use crate::types::{Component, LeafKind, NamedNumber, Type};
 use crate::value::Value;
 use rasn_types::types::{Alphabet, CowBits, Integer};
 
@@ -181,11 +183,8 @@ fn are_unknown(value: &Value<'_>) -> bool
 pub fn fits_at(types: &[Type], levels: usize, id: TypeId, value: &Value<'_>) -> bool
     ensures { IsWhether result (Fits types.now levels id.0 value.now) }
 {
-    if levels == 0 {
-        return false;
-    }
-    match type_at(types, id) {
-        Some(ty) => type_fits(types, levels - 1, ty, value),
+    match innermost_at(types, levels, id, value) {
+        Some(inner) => type_fits(types, inner.below, inner.ty, inner.value),
         None => false,
     }
 }
@@ -193,6 +192,7 @@ pub fn fits_at(types: &[Type], levels: usize, id: TypeId, value: &Value<'_>) -> 
 /// Returns whether the value is one of the type.
 #[cycle(fits)]
 fn type_fits(types: &[Type], below: usize, ty: &Type, value: &Value<'_>) -> bool
+    requires { IsChoice ty.now → ⊥ }
     ensures { IsWhether result (FitsBy (Fits types.now below) ty.now value.now) }
 {
     match ty {
@@ -200,7 +200,7 @@ fn type_fits(types: &[Type], below: usize, ty: &Type, value: &Value<'_>) -> bool
         Type::Enumerated { numbers, .. } => is_number(numbers, value),
         Type::Any { .. } => are_octets(value),
         Type::Tagged { inner, .. } => fits_at(types, below, *inner, value),
-        Type::Choice { alternatives, .. } => is_alternative(types, below, alternatives, value),
+        Type::Choice { .. } => unreachable!(),
         Type::Sequence { components, .. } => are_components(types, below, components, value),
         Type::Set { components, .. } => are_components(types, below, components, value),
         Type::SequenceOf { element, .. } => match items_of(value) {
@@ -212,25 +212,6 @@ fn type_fits(types: &[Type], below: usize, ty: &Type, value: &Value<'_>) -> bool
             None => false,
         },
         Type::Unknown => are_unknown(value),
-    }
-}
-
-/// Returns whether the value is that of an alternative.
-#[cycle(fits)]
-fn is_alternative(
-    types: &[Type],
-    below: usize,
-    alternatives: &[Alternative],
-    value: &Value<'_>,
-) -> bool
-    ensures { IsWhether result (IsChosen (AlternativeFits (Fits types.now below) alternatives.now) value.now) }
-{
-    let Value::Chosen(index, inner) = value else {
-        return false;
-    };
-    match alternatives.get(*index) {
-        Some(alternative) => fits_at(types, below, alternative.type_id, inner),
-        None => false,
     }
 }
 

@@ -14,7 +14,6 @@ use std::borrow::{CowSlice, CowStr};
 
 /// A value of any type. Strings, a BIT STRING among them, and open types borrow from the input
 /// where their encoding is primitive.
-#[derive(Drop)]
 pub enum Value<'input> {
     /// A BOOLEAN.
     Boolean(bool),
@@ -45,6 +44,30 @@ pub enum Value<'input> {
     Chosen(usize, Box<Value<'input>>),
     /// A component that is absent.
     Absent,
+}
+
+/// Drops a value. CHOICEs directly in one another take no stack.
+impl Drop for Value<'_> {
+    fn drop(mut self) {
+        loop {
+            match self {
+                Value::Chosen(_, inner) => self = Box::into_inner(inner),
+                Value::Boolean(_) => return,
+                Value::Null => return,
+                Value::Integer(_) => return,
+                Value::Bits(_) => return,
+                Value::Octets(_) => return,
+                Value::Text(_) => return,
+                Value::Units(_) => return,
+                Value::Arcs(_) => return,
+                Value::Instant(_) => return,
+                Value::Day(_) => return,
+                Value::Items(_) => return,
+                Value::Elements(_) => return,
+                Value::Absent => return,
+            }
+        }
+    }
 }
 
 impl Value<'_> {

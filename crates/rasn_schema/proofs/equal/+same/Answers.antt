@@ -1,6 +1,6 @@
 use Rattle.std.proofs.Common.{◌≡◌, ◌+◌, sym, ap, subst, ◌∙◌, refl, arith, true, false, true≢false}
 use Rattle.std.proofs.lemmas.List.Sums.{count_by_more_yes, count_by_more_no}
-use Rattle.rasn_types.specs.Shapes.{set_elements, chosen}
+use Rattle.rasn_types.specs.Shapes.{set_elements}
 use Rattle.rasn_types.specs.Bytes.{Same}
 use Rattle.rasn_types.specs.Trees.{list_tree}
 use Rattle.rasn_schema.specs.Trees.{tree_of}
@@ -8,16 +8,16 @@ use Rattle.rasn_schema.specs.Equal.{value_eq}
 use Rattle.rasn_schema.specs.Equals.{apart, one_answer, sets_same, sets_as_often}
 use Rattle.rasn_schema.proofs.Values.{tree_items, tree_elements}
 use Rattle.rasn_schema.proofs.OtherKinds.{list_kind, not_items, not_elements, not_chosen}
-use Rattle.rasn_schema.proofs.EqualLists.{not_same, are_same, lists_same, lists_length, lists_at}
+use Rattle.rasn_schema.proofs.EqualLists.{no_alternative_there, not_same, are_same, lists_same, lists_length, lists_at}
 use Rattle.rasn_schema.proofs.Lists.{so_far_more, so_far_end, read_at, some_is}
 use Rattle.rasn_schema.proofs.equal.+same.Goals.{count-then-is_same, count-else-is_same}
 use Rattle.rasn_schema.proofs.equal.+same.Goals as goal
 
-pub is_same-returns-in-Items : goal.is_same-returns-in-Items
-is_same-returns-in-Items t c = rw (c.in-Items.is, tree_items _, ← c.as_slice-in-Items.ensures.value) c.is_items.ensures
+pub is_innermost_same-returns-in-Items : goal.is_innermost_same-returns-in-Items
+is_innermost_same-returns-in-Items t c = rw (c.in-Items.is, tree_items _, ← c.as_slice-in-Items.ensures.value) c.is_items.ensures
 
-pub is_same-returns-in-Elements : goal.is_same-returns-in-Elements
-is_same-returns-in-Elements t c = rw (c.in-Elements.is, tree_elements _, ← c.as_slice-in-Elements.ensures.value) c.is_elements.ensures
+pub is_innermost_same-returns-in-Elements : goal.is_innermost_same-returns-in-Elements
+is_innermost_same-returns-in-Elements t c = rw (c.in-Elements.is, tree_elements _, ← c.as_slice-in-Elements.ensures.value) c.is_elements.ensures
 
 pub is_items-returns-in-Items : goal.is_items-returns-in-Items
 is_items-returns-in-Items t c = rw (c.in-Items.is, tree_items _, ← c.as_slice.ensures.value) c.are_same.ensures
@@ -31,8 +31,8 @@ is_elements-returns-in-Elements t c = rw (c.in-Elements.is, tree_elements _, ←
 pub is_elements-returns-in_default : goal.is_elements-returns-in_default
 is_elements-returns-in_default t c = apart (set_elements (list_tree tree_of c.args.values.now)) (tree_of c.args.other.now) (not_elements c.args.other.now c.in_default.not-Elements)
 
-pub is_chosen-returns-in_default : goal.is_chosen-returns-in_default
-is_chosen-returns-in_default t c = apart (chosen c.args.index (tree_of c.args.value.now)) (tree_of c.args.other.now) (not_chosen c.args.other.now c.in_default.not-Chosen)
+pub is_same-returns-in_default-its : goal.is_same-returns-in_default-its
+is_same-returns-in_default-its t c = no_alternative_there c.loop-own.own.now c.loop-own.its.now c.args.value.now c.args.other.now _ _ c.in-Chosen.is (not_chosen c.loop-own.its.now c.in_default-its.not-Chosen) c.loop-own.invariant.tells
 
 pub are_same-returns-then-values-others : goal.are_same-returns-then-values-others
 are_same-returns-then-values-others t c = not_same _ _ (λ s. let n = lists_length c.args.values.now c.args.others.now s in omega (arith, n))

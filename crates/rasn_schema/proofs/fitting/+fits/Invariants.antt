@@ -9,9 +9,6 @@ decreases-fits_at l = 8 * l.levels
 abbrev pub decreases-type_fits : goal.decreases-type_fits
 decreases-type_fits l = 8 * l.below + 7
 
-abbrev pub decreases-is_alternative : goal.decreases-is_alternative
-decreases-is_alternative l = 8 * l.below + 6
-
 abbrev pub decreases-are_components : goal.decreases-are_components
 decreases-are_components l = 8 * l.below + 6
 
