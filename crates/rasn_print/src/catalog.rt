@@ -6,6 +6,7 @@ use crate::known::Known;
 use crate::standards::{COUNT, standard};
 use crate::types::{MessageType, message_type, type_named};
 use rasn_compiler::{Assigned, Assignment, Module, Modules, Resolved, Source, Stop};
+use rasn_text::{Escaping, visible};
 use std::alloc::{AllocError, Global};
 use std::io::Write;
 
@@ -26,7 +27,8 @@ pub fn modules_of<'text>(alloc: Global, texts: &[Source<'text>]) -> Result<Modul
     let read = Modules::parse(alloc, sources.as_slice())?;
     let mut faults = String::new(alloc);
     for fault in &read.faults {
-        writeln!(faults, "{fault}")?;
+        let line = visible(alloc, Escaping::Line, fault.to_string(alloc)?.as_str())?;
+        writeln!(faults, "{line}")?;
     }
     if faults.is_empty() {
         Ok(read)
@@ -101,7 +103,8 @@ fn print_types_of<W: Write>(
     for assignment in &module.assignments {
         if is_plain_type(assignment) && !read.is_class(module.name, assignment.name) {
             let line = type_line(alloc, read, module.name, assignment.name)?;
-            output.write_all(line.as_bytes()).map_err(Fault::of_write)?;
+            let line = visible(alloc, Escaping::Line, line.as_str())?;
+            writeln!(output, "{line}").map_err(Fault::of_write)?;
         }
     }
     Ok(())
@@ -123,14 +126,14 @@ fn type_line(
     name: &str,
 ) -> Result<String, AllocError> {
     match read.schema(alloc, module, name) {
-        Ok(resolved) if resolved.unchecked == 0 => format!(in alloc; "{module}.{name}\n"),
+        Ok(resolved) if resolved.unchecked == 0 => format!(in alloc; "{module}.{name}"),
         Ok(resolved) => {
             let count = resolved.unchecked;
             format!(in alloc;
-                "{module}.{name}: constraints and contents that aren't checked: {count}\n"
+                "{module}.{name}: constraints and contents that aren't checked: {count}"
             )
         }
         Err(Stop::OutOfMemory) => Err(AllocError),
-        Err(stop) => format!(in alloc; "{module}.{name}: {stop}\n"),
+        Err(stop) => format!(in alloc; "{module}.{name}: {stop}"),
     }
 }
