@@ -6,6 +6,7 @@ use crate::known::Known;
 use crate::standards::{COUNT, standard};
 use crate::types::{MessageType, message_type, type_named};
 use rasn_compiler::{Assigned, Assignment, Module, Modules, Resolved, Source, Steps, Stop};
+use rasn_text::{Escaping, visible};
 use std::alloc::{AllocError, Global};
 use std::collections::BTreeSet;
 use std::io::Write;
@@ -31,7 +32,8 @@ pub fn modules_of<'text>(alloc: Global, texts: &[Source<'text>]) -> Result<Modul
     let read = Modules::parse(alloc, sources.as_slice())?;
     let mut faults = String::new(alloc);
     for fault in &read.faults {
-        writeln!(faults, "{fault}")?;
+        let line = visible(alloc, Escaping::Line, fault.to_string(alloc)?.as_str())?;
+        writeln!(faults, "{line}")?;
     }
     if faults.is_empty() {
         Ok(read)
@@ -119,7 +121,8 @@ fn print_types_of<W: Write>(
     for assignment in &module.assignments {
         if is_plain_type(assignment) && !read.is_class(module.name, assignment.name) {
             let line = type_line(alloc, read, module.name, assignment.name, steps)?;
-            output.write_all(line.as_bytes()).map_err(Fault::of_write)?;
+            let line = visible(alloc, Escaping::Line, line.as_str())?;
+            writeln!(output, "{line}").map_err(Fault::of_write)?;
         }
     }
     Ok(())
@@ -142,14 +145,14 @@ fn type_line(
     steps: &mut Steps,
 ) -> Result<String, AllocError> {
     match read.schema_within(alloc, module, name, steps) {
-        Ok(resolved) if resolved.unchecked == 0 => format!(in alloc; "{module}.{name}\n"),
+        Ok(resolved) if resolved.unchecked == 0 => format!(in alloc; "{module}.{name}"),
         Ok(resolved) => {
             let count = resolved.unchecked;
             format!(in alloc;
-                "{module}.{name}: constraints and contents that aren't checked: {count}\n"
+                "{module}.{name}: constraints and contents that aren't checked: {count}"
             )
         }
         Err(Stop::OutOfMemory) => Err(AllocError),
-        Err(stop) => format!(in alloc; "{module}.{name}: {stop}\n"),
+        Err(stop) => format!(in alloc; "{module}.{name}: {stop}"),
     }
 }

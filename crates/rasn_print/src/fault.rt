@@ -1,5 +1,6 @@
 //! Why the program stops.
 
+use rasn_text::{Escaping, visible};
 use std::alloc::{AllocError, AllocFailed, Global};
 use std::fmt;
 use std::io::{self, ErrorKind};
@@ -31,8 +32,8 @@ impl<T: Drop> From<AllocFailed<T>> for Fault {
 
 impl Fault {
     /// Returns the fault of a wrong call.
-    pub(crate) fn of_call<T: fmt::Display>(alloc: Global, text: &T) -> Fault {
-        match format!(in alloc; "soqavise: {text}\n") {
+    pub fn of_call<T: fmt::Display>(alloc: Global, text: &T) -> Fault {
+        match call_line(alloc, text) {
             Ok(text) => Fault::Call(text),
             Err(_) => Fault::Memory,
         }
@@ -46,4 +47,10 @@ impl Fault {
             _ => Fault::Write,
         }
     }
+}
+
+/// Returns the line that says what is wrong about a call.
+fn call_line<T: fmt::Display>(alloc: Global, text: &T) -> Result<String, AllocError> {
+    let shown = visible(alloc, Escaping::Line, text.to_string(alloc)?.as_str())?;
+    format!(in alloc; "soqavise: {shown}\n")
 }

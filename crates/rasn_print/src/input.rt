@@ -7,6 +7,14 @@ use hex::FromHexError;
 use rasn_text::blocks;
 use std::alloc::{AllocError, Global};
 
+/// The byte order mark of UTF-8, with which some programs begin a text (Unicode 16.0, 23.8).
+const MARK: &[u8] = b"\xEF\xBB\xBF";
+
+/// Returns a text without the byte order mark that it may begin with.
+pub fn without_mark(text: &[u8]) -> &[u8] {
+    text.strip_prefix(MARK).unwrap_or(text)
+}
+
 /// Returns the form of octets that a call doesn't say, and of JSON: PEM if a line begins a block,
 /// hexadecimal if there is nothing else but digits and white space, and octets as they are.
 pub fn form_of(alloc: Global, call: &Call, octets: &[u8]) -> Result<InputForm, AllocError> {
@@ -16,10 +24,11 @@ pub fn form_of(alloc: Global, call: &Call, octets: &[u8]) -> Result<InputForm, A
     if let Some(form) = call.input {
         return Ok(form);
     }
-    if !blocks(alloc, octets)?.is_empty() {
+    let text = without_mark(octets);
+    if !blocks(alloc, text)?.is_empty() {
         return Ok(InputForm::Pem);
     }
-    if is_hexadecimal(octets) {
+    if is_hexadecimal(text) {
         return Ok(InputForm::Hex);
     }
     Ok(InputForm::Der)
@@ -61,14 +70,14 @@ pub fn why_not_hexadecimal(text: &[u8], otherwise: &'static str) -> &'static str
 
 /// Returns the octets of a line of JSON, or those that a line denotes, in hexadecimal or else in
 /// base64.
-pub fn from_line(alloc: Global, work: Work, line: &str) -> Result<Option<Vec<u8>>, AllocError> {
+pub fn from_line(alloc: Global, work: Work, line: &[u8]) -> Result<Option<Vec<u8>>, AllocError> {
     if work == Work::Encode {
-        return Ok(Some(Vec::from_slice(alloc, line.as_bytes())?));
+        return Ok(Some(Vec::from_slice(alloc, line)?));
     }
-    if let Some(octets) = from_hexadecimal(alloc, line.as_bytes())? {
+    if let Some(octets) = from_hexadecimal(alloc, line)? {
         return Ok(Some(octets));
     }
-    match STANDARD.decode(alloc, line.trim().as_bytes()) {
+    match STANDARD.decode(alloc, line.trim_ascii()) {
         Ok(octets) => Ok(Some(octets)),
         Err(DecodeAllocError::OutOfMemory) => Err(AllocError),
         Err(_) => Ok(None),

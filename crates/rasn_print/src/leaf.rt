@@ -116,11 +116,25 @@ fn bits_text(alloc: Global, bits: &BitStr<'_>) -> Result<String, AllocError> {
 }
 
 /// Returns octets that are UTF-8 without control characters as quoted text, others in hexadecimal.
+/// Characters that are hidden otherwise are escaped where the text is printed.
 pub(crate) fn octets_text(alloc: Global, octets: &[u8]) -> Result<String, AllocError> {
     match str::from_utf8(octets) {
-        Ok(text) if !text.chars().any(|it| it.is_control()) => format!(in alloc; "\"{text}\""),
+        Ok(text) if !text.chars().any(|it| it.is_control()) => quoted(alloc, text),
         _ => Hexadecimal::new(octets).to_string(alloc),
     }
+}
+
+/// Returns a text in quotation marks. A backslash precedes those inside it, and a backslash.
+fn quoted(alloc: Global, text: &str) -> Result<String, AllocError> {
+    let mut shown = String::from_str(alloc, "\"")?;
+    for character in text.chars() {
+        if matches!(character, '"' | '\\') {
+            shown.push('\\')?;
+        }
+        shown.push(character)?;
+    }
+    shown.push('"')?;
+    Ok(shown)
 }
 
 /// Returns the characters of a BMPString; `None` if a unit isn't a character.

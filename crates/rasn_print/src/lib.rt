@@ -14,6 +14,7 @@ mod leaf;
 mod messages;
 mod name;
 mod offsets;
+mod pem_fault;
 mod printer;
 mod reading;
 mod refusal_text;

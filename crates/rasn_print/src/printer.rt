@@ -14,8 +14,13 @@ use std::alloc::{AllocError, Global};
 use std::fmt;
 use std::net::{Ipv4Addr, Ipv6Addr};
 
-/// How many values may be in one another, those in open types among them.
-const LEVELS: usize = 512;
+/// How many values may be in one another, those in open types among them. A CHOICE and what is in an
+/// explicit tag are at the level of what they hold.
+const LEVELS: usize = 256;
+
+/// How many of them a message may have: a decoder has as many levels. Where fewer remain an open type
+/// is shown without its type, so values that are read are shown whole.
+const MESSAGE_LEVELS: usize = 128;
 
 /// Where a value is printed.
 #[derive(Clone, Copy)]
@@ -68,28 +73,64 @@ fn push_line<T: fmt::Display>(text: &mut String, place: Place<'_>, value: &T) ->
     writeln!(text, "{title}: {value}")
 }
 
-/// Appends the lines of a value.
+/// Appends the lines of a value. The names of the alternatives that it is of CHOICEs in one another
+/// follow the title.
 #[cycle(print)]
 fn print(text: &mut String, place: Place<'_>, view: &View<'_, '_>) -> Appended {
     if place.levels == 0 {
         return push_line(text, place, &"..");
     }
     let levels = place.levels - 1;
-    if let Some(shown) = short_text(place, view)? {
-        return push_line(text, place, &shown);
+    let mut title = String::from_str(place.alloc, place.title)?;
+    let (schema, mut type_id, mut value) = (view.schema, view.type_id, view.value);
+    for _ in 0..usize::MAX {
+        let view = schema.view(type_id, value);
+        if let Some(shown) = short_text(place, title.as_str(), &view)? {
+            let title = title.as_str();
+            return push_line(text, Place { title, ..place }, &shown);
+        }
+        let Some((name, inner)) = inside(&view) else {
+            break;
+        };
+        if !name.is_empty() {
+            write!(title, ".{name}")?;
+        }
+        (type_id, value) = (inner.type_id, inner.value);
     }
-    match type_at(view.schema.types(), view.type_id) {
-        Some(ty) => print_by(text, Place { levels, ..place }, view, ty),
-        None => Ok(()),
-    }
+    let title = title.as_str();
+    let place = Place {
+        levels,
+        title,
+        ..place
+    };
+    print_by(text, place, &schema.view(type_id, value))
 }
 
-/// Appends the lines of a value of this type.
+/// Returns what is in an explicit tag, or the alternative of a CHOICE with its name, which is empty
+/// if it is the only one. Returns `None` of other values.
+fn inside<'view, 'input>(view: &View<'view, 'input>) -> Option<(&'view str, View<'view, 'input>)> {
+    let ty = type_at(view.schema.types(), view.type_id)?;
+    if let Type::Tagged { inner, .. } = ty {
+        return Some(("", view.schema.view(*inner, view.value)));
+    }
+    let Value::Chosen(index, value) = view.value else {
+        return None;
+    };
+    let inner = view.schema.view(part_type(ty, *index)?, value);
+    if part_type(ty, 1).is_none() {
+        return Some(("", inner));
+    }
+    Some((part_name(ty, *index)?, inner))
+}
+
+/// Appends the lines of a value that is in no CHOICE and no explicit tag any more.
 #[cycle(print)]
-fn print_by(text: &mut String, place: Place<'_>, view: &View<'_, '_>, ty: &Type) -> Appended {
+fn print_by(text: &mut String, place: Place<'_>, view: &View<'_, '_>) -> Appended {
     let value = view.value;
+    let Some(ty) = type_at(view.schema.types(), view.type_id) else {
+        return Ok(());
+    };
     match ty {
-        Type::Tagged { inner, .. } => print(text, place, &view.schema.view(*inner, value)),
         Type::Any { .. } => print_octets(text, place, value, Form::Open),
         Type::Unknown => print_additions(text, place, value),
         Type::Leaf { kind, .. } if *kind == LeafKind::OctetString => {
@@ -101,32 +142,13 @@ fn print_by(text: &mut String, place: Place<'_>, view: &View<'_, '_>, ty: &Type)
         Type::Leaf { .. } | Type::Enumerated { .. } => {
             push_line(text, place, &leaf_text(place.alloc, Some(ty), value)?)
         }
-        _ => print_held(text, place, view, ty),
+        _ => match value {
+            Value::Items(values) | Value::Elements(values) => {
+                print_parts(text, place, view.schema, ty, values.as_slice())
+            }
+            _ => Ok(()),
+        },
     }
-}
-
-/// Appends the lines of a value that holds others. The name of an alternative follows the title
-/// after a point, unless it is the only one.
-#[cycle(print)]
-fn print_held(text: &mut String, place: Place<'_>, view: &View<'_, '_>, ty: &Type) -> Appended {
-    let (index, value) = match view.value {
-        Value::Items(values) | Value::Elements(values) => {
-            return print_parts(text, place, view.schema, ty, values.as_slice());
-        }
-        Value::Chosen(index, value) => (*index, value),
-        _ => return Ok(()),
-    };
-    let (Some(name), Some(id)) = (part_name(ty, index), part_type(ty, index)) else {
-        return Ok(());
-    };
-    let chosen = view.schema.view(id, value);
-    if part_type(ty, 1).is_none() {
-        return print(text, place, &chosen);
-    }
-    let outer = place.title;
-    let title = format!(in place.alloc; "{outer}.{name}")?;
-    let title = title.as_str();
-    print(text, Place { title, ..place }, &chosen)
 }
 
 /// Appends the lines of components or elements. An identifier that is the first component is in the
@@ -196,7 +218,12 @@ fn print_octets(text: &mut String, place: Place<'_>, value: &Value<'_>, form: Fo
         Value::Bits(bits) => bits.as_bitstr().append_to(&mut octets)?,
         _ => return Ok(()),
     }
-    let Some(id) = known.find(form, hint) else {
+    let known_type = if place.levels > MESSAGE_LEVELS {
+        known.find(form, hint)
+    } else {
+        None
+    };
+    let Some(id) = known_type else {
         if form == Form::Open {
             return print_encoding(text, place, &octets);
         }
@@ -278,7 +305,11 @@ fn name_of_type(schema: &Schema, id: TypeId) -> Option<&str> {
 }
 
 /// Returns a value in one line, if it reads better so: distinguished names and addresses.
-fn short_text(place: Place<'_>, view: &View<'_, '_>) -> Result<Option<String>, AllocError> {
+fn short_text(
+    place: Place<'_>,
+    title: &str,
+    view: &View<'_, '_>,
+) -> Result<Option<String>, AllocError> {
     let (alloc, value) = (place.alloc, view.value);
     let name = name_of_type(view.schema, view.type_id).unwrap_or("");
     match value {
@@ -286,7 +317,7 @@ fn short_text(place: Place<'_>, view: &View<'_, '_>) -> Result<Option<String>, A
         Value::Elements(_) if name == "RelativeDistinguishedName" => {
             name_text(alloc, place.known, value)
         }
-        Value::Octets(octets) if name == "IpAddress" || place.title.ends_with("iPAddress") => {
+        Value::Octets(octets) if name == "IpAddress" || title.ends_with("iPAddress") => {
             address_text(alloc, octets.as_slice())
         }
         _ => Ok(None),

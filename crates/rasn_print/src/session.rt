@@ -3,10 +3,11 @@
 use crate::command_line::{InputForm, Work};
 use crate::dump::dump_text;
 use crate::fault::Fault;
-use crate::input::{form_of, from_hexadecimal, from_line, why_not_hexadecimal};
-use crate::work::{Answer, Input, Tools, answer_to};
-use rasn_text::blocks;
-use std::alloc::AllocError;
+use crate::input::{form_of, from_hexadecimal, from_line, why_not_hexadecimal, without_mark};
+use crate::pem_fault::block_fault;
+use crate::work::{Answer, Input, Tools, answer_to, printed};
+use rasn_text::{Escaping, blocks, visible};
+use std::alloc::{AllocError, Global};
 use std::io::{self, BufRead, ErrorKind, Write};
 use std::{fmt, str};
 
@@ -29,7 +30,7 @@ impl<W: Write + Drop, E: Write + Drop> Session<'_, '_, W, E> {
     /// Writes why a message of the input with this name is refused.
     fn refuse<T: fmt::Display>(&mut self, name: &str, reason: &T) -> Result<(), Fault> {
         self.is_refused = true;
-        let line = format!(in self.tools.alloc; "{name}: {reason}\n")?;
+        let line = line_of(self.tools.alloc, name, reason)?;
         self.refusals
             .write_all(line.as_bytes())
             .map_err(Fault::of_write)
@@ -52,12 +53,20 @@ impl<W: Write + Drop, E: Write + Drop> Session<'_, '_, W, E> {
     pub fn input(&mut self, name: &str, octets: &[u8]) -> Result<(), Fault> {
         let alloc = self.tools.alloc;
         match form_of(alloc, self.tools.call, octets)? {
-            InputForm::Pem => self.pem(name, octets),
-            InputForm::Hex => match from_hexadecimal(alloc, octets)? {
-                Some(octets) => self.message(name, &octets, None, true),
-                None => self.refuse(name, &why_not_hexadecimal(octets, "not hexadecimal digits")),
-            },
+            InputForm::Pem => self.pem(name, without_mark(octets)),
+            InputForm::Hex => self.digits(name, without_mark(octets)),
+            InputForm::Der if self.tools.call.work == Work::Encode => {
+                self.message(name, without_mark(octets), None, false)
+            }
             InputForm::Der => self.message(name, octets, None, false),
+        }
+    }
+
+    /// Works on the message of an input of hexadecimal digits.
+    fn digits(&mut self, name: &str, text: &[u8]) -> Result<(), Fault> {
+        match from_hexadecimal(self.tools.alloc, text)? {
+            Some(octets) => self.message(name, &octets, None, true),
+            None => self.refuse(name, &why_not_hexadecimal(text, "not hexadecimal digits")),
         }
     }
 
@@ -74,7 +83,10 @@ impl<W: Write + Drop, E: Write + Drop> Session<'_, '_, W, E> {
             let name = format!(in alloc; "{name}: {label} in line {line}")?;
             match &block.contents {
                 Ok(octets) => self.message(name.as_str(), octets, Some(label), false)?,
-                Err(error) => self.refuse(name.as_str(), error)?,
+                Err(error) => {
+                    let reason = block_fault(alloc, octets, line, error)?;
+                    self.refuse(name.as_str(), &reason)?;
+                }
             }
         }
         Ok(())
@@ -101,7 +113,8 @@ impl<W: Write + Drop, E: Write + Drop> Session<'_, '_, W, E> {
             Answer::Departures(lines) => {
                 self.is_refused = true;
                 for line in &lines {
-                    writeln!(self.output, "{name}: {line}").map_err(Fault::of_write)?;
+                    let line = line_of(self.tools.alloc, name, line)?;
+                    self.write(line.as_bytes())?;
                 }
                 Ok(())
             }
@@ -111,8 +124,9 @@ impl<W: Write + Drop, E: Write + Drop> Session<'_, '_, W, E> {
 
     /// Prints the encodings of octets.
     fn dump(&mut self, name: &str, octets: &[u8]) -> Result<(), Fault> {
-        let (text, fault) = dump_text(self.tools.alloc, self.tools.known, octets)?;
-        self.write(text.as_bytes())?;
+        let alloc = self.tools.alloc;
+        let (text, fault) = dump_text(alloc, self.tools.known, octets)?;
+        self.write(printed(alloc, Escaping::Lines, text)?.as_bytes())?;
         match fault {
             Some(fault) => self.refuse(name, &fault),
             None => Ok(()),
@@ -125,9 +139,9 @@ impl<W: Write + Drop, E: Write + Drop> Session<'_, '_, W, E> {
     /// # Errors
     /// As `flush`.
     pub fn lines<R: BufRead + Drop>(&mut self, name: &str, reader: R) -> Result<(), Fault> {
-        for line in reader.lines(self.tools.alloc) {
+        for line in reader.split(self.tools.alloc, b'\n') {
             match line {
-                Ok(line) if line.as_str().starts_with("-----BEGIN ") => {
+                Ok(line) if without_mark(&line).starts_with(b"-----BEGIN ") => {
                     return self.refuse(name, &"PEM, which is read without --lines");
                 }
                 Ok(line) => self.line(&line)?,
@@ -147,7 +161,7 @@ impl<W: Write + Drop, E: Write + Drop> Session<'_, '_, W, E> {
     }
 
     /// Works on a line: prints its answer, `ok` if that is empty, or why it is refused.
-    fn line(&mut self, line: &str) -> Result<(), Fault> {
+    fn line(&mut self, line: &[u8]) -> Result<(), Fault> {
         let text = match self.line_answer(line)? {
             Answer::Done(text) if text.is_empty() => return self.write(b"ok\n"),
             Answer::Done(text) => return self.write(&text),
@@ -155,14 +169,16 @@ impl<W: Write + Drop, E: Write + Drop> Session<'_, '_, W, E> {
             Answer::Refused(text) => text,
         };
         self.is_refused = true;
+        let text = visible(self.tools.alloc, Escaping::Line, text.as_str())?;
         writeln!(self.output, "{text}").map_err(Fault::of_write)
     }
 
     /// Returns what is printed for the octets that a line denotes, or for those of its JSON.
-    fn line_answer(&self, line: &str) -> Result<Answer, AllocError> {
+    fn line_answer(&self, line: &[u8]) -> Result<Answer, AllocError> {
         let alloc = self.tools.alloc;
+        let line = without_mark(line);
         let Some(octets) = from_line(alloc, self.tools.call.work, line)? else {
-            let reason = why_not_hexadecimal(line.as_bytes(), "neither hexadecimal nor base64");
+            let reason = why_not_hexadecimal(line, "neither hexadecimal nor base64");
             return Ok(Answer::Refused(String::from_str(alloc, reason)?));
         };
         let input = Input {
@@ -172,4 +188,12 @@ impl<W: Write + Drop, E: Write + Drop> Session<'_, '_, W, E> {
         };
         answer_to(&self.tools, &input)
     }
+}
+
+/// Returns the line that says something of the message with this name.
+fn line_of<T: fmt::Display>(alloc: Global, name: &str, reason: &T) -> Result<String, AllocError> {
+    let line = format!(in alloc; "{name}: {reason}")?;
+    let mut line = visible(alloc, Escaping::Line, line.as_str())?;
+    line.push('\n')?;
+    Ok(line)
 }

@@ -12,6 +12,7 @@ use rasn_compiler::{Modules, Stop};
 use rasn_dynamic::{NormaliseError, Refusal, normalise};
 use rasn_json::{ToJsonError, encode, json};
 use rasn_lint::{Departure, LintError, check as check_der, lint};
+use rasn_text::{Escaping, is_hidden, visible};
 use rasn_types::error::DecodeError;
 use rasn_types::types::{Codec, Hexadecimal};
 use std::alloc::{AllocError, Global};
@@ -218,13 +219,14 @@ impl Message<'_, '_, '_> {
 
     /// Returns its text, in colour if that is asked for.
     fn shown(&self) -> Answered {
-        match self.text() {
-            Ok(text) if self.is_colored => {
-                Ok(Answer::Done(colored(self.alloc, text.as_str())?.into_bytes()))
-            }
-            Ok(text) => Ok(Answer::Done(text.into_bytes())),
-            Err(refusal) => self.refused(&refusal),
+        let text = match self.text() {
+            Ok(text) => printed(self.alloc, Escaping::Lines, text)?,
+            Err(refusal) => return self.refused(&refusal),
+        };
+        if self.is_colored {
+            return Ok(Answer::Done(colored(self.alloc, text.as_str())?.into_bytes()));
         }
+        Ok(Answer::Done(text.into_bytes()))
     }
 
     /// Returns it as text or the parts of it, or no text if it is only checked.
@@ -245,7 +247,11 @@ impl Message<'_, '_, '_> {
         let (alloc, octets, layout) = (self.alloc, self.octets, self.call.layout());
         let (rule, schema, root) = self.wanted.parts();
         match json(alloc, rule, schema, root, octets, layout) {
-            Ok(text) => Ok(Answer::Done(format!(in alloc; "{text}\n")?.into_bytes())),
+            Ok(text) => {
+                let mut text = printed(alloc, Escaping::Json, text)?;
+                text.push('\n')?;
+                Ok(Answer::Done(text.into_bytes()))
+            }
             Err(ToJsonError::Decode(error)) => self.unread(&error),
             Err(ToJsonError::Json(error)) => refused_for(alloc, error.is_out_of_memory(), &error),
         }
@@ -274,6 +280,18 @@ impl Message<'_, '_, '_> {
     }
 }
 
+/// Returns lines as they are printed, which most are as they are.
+pub(crate) fn printed(
+    alloc: Global,
+    escaping: Escaping,
+    text: String,
+) -> Result<String, AllocError> {
+    if text.chars().any(|it| it != '\n' && is_hidden(it)) {
+        return visible(alloc, escaping, text.as_str());
+    }
+    Ok(text)
+}
+
 /// Returns a text in which the name that begins each line is in bold (ECMA-48 8.3.117).
 fn colored(alloc: Global, text: &str) -> Result<String, AllocError> {
     let mut shown = String::new(alloc);
@@ -291,6 +309,7 @@ fn colored(alloc: Global, text: &str) -> Result<String, AllocError> {
 fn in_form(alloc: Global, input: &Input<'_>, octets: Vec<u8>) -> Answered {
     let text = match input.label {
         Some(label) => {
+            let label = visible(alloc, Escaping::Line, label)?;
             let lines = base64_lines(alloc, &octets)?;
             format!(in alloc; "-----BEGIN {label}-----\n{lines}\n-----END {label}-----\n")?
         }

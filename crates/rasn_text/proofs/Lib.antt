@@ -4,5 +4,6 @@ mod PemBlocks
 mod PemContents
 mod PemLines
 pub mod PemPlaces
+mod ShownTexts
 mod ValueTexts
 mod Worked

@@ -79,7 +79,7 @@ fn push_octet(text: &mut String, octet: u8) -> Result<(), AllocError>
 }
 
 /// Returns a hexadecimal digit.
-fn digit(value: u8) -> char
+pub(crate) fn digit(value: u8) -> char
     requires { value < 16 }
     ensures { result ≡ digit_glyph false value }
 {

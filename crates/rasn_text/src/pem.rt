@@ -222,7 +222,7 @@ fn push_symbols(symbols: &mut Vec<u8>, line: &[u8]) -> Result<(), AllocError>
 }
 
 /// Returns whether the octet is white space (RFC 7468, 3).
-fn is_space(octet: u8) -> bool
+pub fn is_space(octet: u8) -> bool
     ensures { result ≡ is_space octet }
 {
     matches!(octet, b' ' | b'\t' | b'\n' | 0x0B | 0x0C | b'\r')

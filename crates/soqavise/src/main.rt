@@ -2,8 +2,9 @@
 #![tactic(auto)]
 
 mod rust;
+mod words;
 
-use clap::ArgMatches;
+use clap::{ArgMatches, Command};
 use rasn_compiler::{Modules, Source};
 use rasn_print::{
     Call, ColorChoice, Fault, Known, MessageType, Session, Tools, Work, call_of, command, known_of,
@@ -14,13 +15,17 @@ use std::alloc::{AllocError, Global};
 use std::fs::{self, File};
 use std::io::{BufReader, BufWriter, ErrorKind, IsTerminal, Read, Write};
 use std::process::ExitCode;
-use std::{env, io};
+use std::{env, fmt, io};
+use words::{is_marked, name_shown, words_of, words_shown};
 
 /// The exit status of a program that refuses a message.
 const REFUSED: u8 = 1;
 
 /// The exit status of a program that is called wrongly, or can't read or write.
 const USAGE: u8 = 2;
+
+/// Why a file isn't opened whose name isn't UTF-8.
+const NO_NAME: &str = "the name isn't UTF-8";
 
 /// The name of standard input among files.
 const STDIN: &str = "-";
@@ -31,7 +36,7 @@ const ERASED: &str = "\x1b[2K";
 fn main(rt: HostRuntime) -> ExitCode {
     match run(&rt) {
         Ok(status) => ExitCode::from(status),
-        Err(Fault::Closed) => ExitCode::SUCCESS,
+        Err(Fault::Closed) => ExitCode::from(USAGE),
         Err(Fault::Call(text)) => failed(&rt, text.as_str()),
         Err(Fault::Write) => failed(&rt, "soqavise: cannot write\n"),
         Err(Fault::Memory) => failed(&rt, "soqavise: out of memory\n"),
@@ -46,26 +51,34 @@ fn failed(rt: &HostRuntime, text: &str) -> ExitCode {
 
 /// Runs the program for its arguments. Returns its exit status.
 fn run(rt: &HostRuntime) -> Result<u8, Fault> {
-    let mut words = Vec::new(rt.alloc());
-    for word in env::args(rt).map_err(Fault::of_write)? {
-        words.push(word)?;
-    }
+    let words = words_of(rt)?;
     run_words(rt, words.as_slice())
 }
 
 /// Runs the program for these words.
 fn run_words(rt: &HostRuntime, words: &[String]) -> Result<u8, Fault> {
-    let rust = rust_command(rt.alloc())?;
-    match command(rt.alloc())?
-        .subcommand(rust)?
-        .try_get_matches_from(words)
-    {
+    match whole_command(rt.alloc())?.try_get_matches_from(words) {
         Ok(matches) => run_matches(rt, matches),
-        Err(error) => {
-            error.print(rt).map_err(Fault::of_write)?;
-            Ok(if error.exit_code() == 0 { 0 } else { USAGE })
-        }
+        Err(error) => refuse_words(rt, words, error),
     }
+}
+
+/// Returns the program's command with all subcommands.
+fn whole_command<'a>(alloc: Global) -> Result<Command<'a>, AllocError> {
+    let rust = rust_command(alloc)?;
+    command(alloc)?.subcommand(rust)
+}
+
+/// Prints why these words are no call, or the help that they ask for: what is said of the same words
+/// with escapes, since it has words in it. Returns the exit status.
+fn refuse_words(rt: &HostRuntime, words: &[String], error: clap::Error) -> Result<u8, Fault> {
+    let shown = words_shown(rt.alloc(), words)?;
+    let error = match whole_command(rt.alloc())?.try_get_matches_from(shown.as_slice()) {
+        Ok(_) => error,
+        Err(error) => error,
+    };
+    error.print(rt).map_err(Fault::of_write)?;
+    Ok(if error.exit_code() == 0 { 0 } else { USAGE })
 }
 
 /// Runs the call that the command line asks for.
@@ -100,6 +113,9 @@ fn run_call(rt: &HostRuntime, call: &Call) -> Result<u8, Fault> {
     let alloc = rt.alloc();
     let mut texts = Vec::new(alloc);
     for name in &call.modules {
+        if is_marked(name) {
+            return unreadable_as(rt, name, &NO_NAME);
+        }
         match fs::read_to_string(rt, name.as_str()) {
             Ok(text) => texts.push((name.as_str(), text))?,
             Err(error) => return unreadable(rt, name, &error),
@@ -220,6 +236,9 @@ fn file_source<W: Write + Drop, E: Write + Drop>(
     if name == STDIN {
         return source(rt, "standard input", rt.stdin(), session);
     }
+    if is_marked(name) {
+        return unreadable_as(rt, name, &NO_NAME);
+    }
     match File::open(rt, name) {
         Ok(file) => source(rt, name, file, session),
         Err(error) => unreadable(rt, name, &error),
@@ -267,6 +286,12 @@ fn unreadable(rt: &HostRuntime, name: &str, error: &io::Error) -> Result<u8, Fau
     if error.kind() == ErrorKind::OutOfMemory {
         return Err(Fault::Memory);
     }
-    eprintln!(rt; "{name}: cannot read: {error}").map_err(Fault::of_write)?;
+    unreadable_as(rt, name, error)
+}
+
+/// Prints that a file can't be read for this reason.
+fn unreadable_as<T: fmt::Display>(rt: &HostRuntime, name: &str, reason: &T) -> Result<u8, Fault> {
+    let name = name_shown(rt.alloc(), name)?;
+    eprintln!(rt; "{name}: cannot read: {reason}").map_err(Fault::of_write)?;
     Ok(USAGE)
 }

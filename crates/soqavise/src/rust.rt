@@ -1,12 +1,14 @@
 //! The subcommand `rust`, which writes a crate of typed Rattle for the types of modules.
 
-use crate::{REFUSED, USAGE, sources_of, unreadable};
+use crate::words::{is_marked, name_shown};
+use crate::{NO_NAME, REFUSED, USAGE, sources_of, unreadable, unreadable_as};
 use clap::{Arg, ArgAction, ArgMatches, Command};
 use rasn_compiler::{Modules, Source, Stop};
 use rasn_print::{Fault, modules_of};
 use rasn_rattle::{
     File, HOLDER_NAMES, Held, Holder, Options, crate_files, holder_of, is_crate_name,
 };
+use rasn_text::{Escaping, visible};
 use std::alloc::{AllocError, Global};
 use std::{fs, io};
 
@@ -110,6 +112,7 @@ fn form_of(option: &str) -> &'static str {
 
 /// Prints what is wrong about a word of the command line. Returns the exit status.
 fn wrong(rt: &HostRuntime, word: &str, reason: &str) -> Result<u8, Fault> {
+    let word = name_shown(rt.alloc(), word)?;
     eprintln!(rt; "{word}: {reason}").map_err(Fault::of_write)?;
     Ok(USAGE)
 }
@@ -123,6 +126,9 @@ fn run_options(
 ) -> Result<u8, Fault> {
     let mut texts = Vec::new(rt.alloc());
     for file in matches.get_strs("file").unwrap_or(&[]) {
+        if is_marked(file) {
+            return unreadable_as(rt, file, &NO_NAME);
+        }
         match fs::read_to_string(rt, *file) {
             Ok(text) => texts.push((*file, text))?,
             Err(error) => return unreadable(rt, file, &error),
@@ -216,9 +222,10 @@ fn held_types<'a>(
         Err(fault) => return Err(fault),
     };
     if let Some(name) = options.unknown_in(&read) {
-        return Err(Fault::Call(format!(in alloc;
-            "soqavise: no type {name} is known; `soqavise types` prints those that are known\n"
-        )?));
+        let text = format!(in alloc;
+            "no type {name} is known; `soqavise types` prints those that are known"
+        )?;
+        return Err(Fault::of_call(alloc, &text));
     }
     Ok(Ok(holder_of(options, &read, own.modules.len())?))
 }
@@ -241,7 +248,10 @@ fn run_held<'a>(
             write_files(rt, folder, options, files.as_slice())
         }
         Err(Stop::OutOfMemory) => Err(Fault::Memory),
-        Err(stop) => refused(rt, format!(in alloc; "{stop}\n{WITHOUT}")?.as_str()),
+        Err(stop) => {
+            let stop = visible(alloc, Escaping::Line, stop.to_string(alloc)?.as_str())?;
+            refused(rt, format!(in alloc; "{stop}\n{WITHOUT}")?.as_str())
+        }
     }
 }
 
@@ -265,14 +275,14 @@ fn write_files(
             return Ok(status);
         }
         if let Some(reason) = file.reason {
-            eprintln!(rt;
-                "{folder}/src/{}.rt: an open type, since {reason}",
-                file.name.as_str()
-            )
-            .map_err(Fault::of_write)?;
+            let (folder, name) = (name_shown(rt.alloc(), folder)?, file.name.as_str());
+            eprintln!(rt; "{folder}/src/{name}.rt: an open type, since {reason}").map_err(
+                Fault::of_write,
+            )?;
         }
     }
-    println!(rt; "{}", options.crates_line()?.as_str()).map_err(Fault::of_write)?;
+    let line = visible(rt.alloc(), Escaping::Line, options.crates_line()?.as_str())?;
+    println!(rt; "{line}").map_err(Fault::of_write)?;
     Ok(0)
 }
 
@@ -307,6 +317,7 @@ fn write_text(rt: &HostRuntime, folder: &str, name: &str, text: &str) -> Result<
 
 /// Prints that a file can't be written.
 fn unwritable(rt: &HostRuntime, name: &str, error: &io::Error) -> Result<u8, Fault> {
+    let name = name_shown(rt.alloc(), name)?;
     eprintln!(rt; "{name}: cannot write: {error}").map_err(Fault::of_write)?;
     Ok(USAGE)
 }

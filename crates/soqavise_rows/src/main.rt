@@ -109,11 +109,14 @@ fn answer_to_call<'a, 'text>(
     run(tools, input)
 }
 
-/// Returns a text in which `\n` is a line feed, up to the quotation mark after it.
+/// Returns a text in which `\n` is a line feed, `\e` an escape character and `\m` a byte order mark,
+/// up to the quotation mark after it.
 fn unquoted(alloc: Global, text: &str) -> Result<String, AllocError> {
     let mut plain = String::new(alloc);
     for line in text.trim_ascii_end().trim_end_matches('"').split("\\n") {
-        plain.push_str(line)?;
+        let line = line.replace(alloc, "\\e", "\x1b")?;
+        let line = line.as_str().replace(alloc, "\\m", "\u{FEFF}")?;
+        plain.push_str(line.as_str())?;
         plain.push('\n')?;
     }
     Ok(plain)
