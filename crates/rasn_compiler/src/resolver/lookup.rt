@@ -18,10 +18,10 @@ enum Found<'modules, 'text> {
 }
 
 /// How many names may lead to one another.
-pub(crate) const MAX_NAMES: usize = 64;
+pub(crate) const MAX_NAMES: usize = 256;
 
 /// What names have that more lead to.
-pub(crate) const TOO_MANY_NAMES: &str = "64 names that lead to one another";
+pub(crate) const TOO_MANY_NAMES: &str = "256 names that lead to one another";
 
 impl<'text> Modules<'text> {
     /// Returns a fault in a module.

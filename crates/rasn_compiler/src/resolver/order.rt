@@ -7,12 +7,12 @@ use crate::tags::MAX_TAGS;
 use rasn_schema::{Type, TypeId};
 use std::alloc::{AllocError, Global};
 
-/// How many CHOICEs may be in one another, each an alternative of the next without a tag: reading a
-/// value calls itself for each of them.
-const MAX_CHOICES: usize = 32;
+/// How many CHOICEs may be in one another, each an alternative of the next without a tag: to find the
+/// alternative that has a tag a reader calls itself for each of them.
+const MAX_CHOICES: usize = 512;
 
 /// What a type has that has more.
-const TOO_MANY_CHOICES: &str = "32 CHOICEs in one another";
+const TOO_MANY_CHOICES: &str = "512 CHOICEs in one another";
 
 /// How often the types are gone through. In each round the next of the CHOICEs in one another and
 /// of a type's tags get their numbers, of which there are no more than this.

@@ -1,5 +1,5 @@
 use Rattle.std.proofs.Common.{◌+◌, ◌*◌}
-use Rattle.rasn_compiler_rows.proofs.show.+show.Given as goal
+use Rattle.rasn_schema_rows.proofs.show.+show.Given as goal
 
 abbrev pub decreases-show : goal.decreases-show
 decreases-show l = 2 * l.levels

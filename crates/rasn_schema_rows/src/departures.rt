@@ -1,8 +1,4 @@
-//! Lists the departures of messages from DER. Each line of standard input is a type of the table,
-//! what is asked, and octets in hexadecimal; it is printed with its result.
-#![tactic(auto)]
-
-mod table;
+//! Departures of messages from DER: a type of the table, and octets in hexadecimal.
 
 use crate::table::{NAMES, TYPES};
 use rasn_lint::{Departure, OpenTypes, check, lint};
@@ -10,34 +6,10 @@ use rasn_schema::{Schema, TypeId};
 use rasn_schema_bench::{CERTIFICATE, CERTIFICATE_TYPES};
 use rasn_schema_static::{StaticType, types_of};
 use std::alloc::{AllocError, Global};
-use std::io::{self, BufRead, BufReader, BufWriter, Write};
-
-fn main(rt: HostRuntime) -> io::Result<()> {
-    let alloc = rt.alloc();
-    let input = BufReader::new(alloc, rt.stdin())?;
-    let mut output = BufWriter::new(alloc, rt.stdout())?;
-    for line in input.lines(alloc) {
-        let line = line?;
-        print_row(alloc, &line, &mut output)?;
-    }
-    output.flush()
-}
+use std::io::{self, Write};
 
 /// A type: a table, and its number there.
 type Named = (&'static [StaticType], TypeId);
-
-/// Prints a line, and after a row its result. An empty line and a comment, which begins with `#`,
-/// have none.
-fn print_row<W: Write>(alloc: Global, line: &str, output: &mut W) -> io::Result<()> {
-    writeln!(output, "{line}")?;
-    if line.is_empty() || line.starts_with('#') {
-        return Ok(());
-    }
-    match words_of(line) {
-        Some((named, question, digits)) => print_answer(alloc, named, question, digits, output),
-        None => writeln!(output, "  is no row"),
-    }
-}
 
 /// What is asked of a message.
 #[derive(Clone, Copy)]
@@ -50,11 +22,23 @@ enum Question {
     First,
 }
 
-/// Returns the words of a line: a type, what is asked, and digits.
-fn words_of(line: &str) -> Option<(Named, Question, &str)> {
-    let (name, rest) = line.split_once(' ')?;
-    let (question, digits) = rest.split_once(' ')?;
-    Some((type_named(name)?, question_named(question)?, digits))
+/// Prints the departures of octets that a row asks for.
+pub fn print_departures<W: Write>(
+    alloc: Global,
+    verb: &str,
+    text: &str,
+    output: &mut W,
+) -> io::Result<()> {
+    match asked_of(verb, text) {
+        Some((named, question, digits)) => print_answer(alloc, named, question, digits, output),
+        None => writeln!(output, "  is no row"),
+    }
+}
+
+/// Returns what a verb and the text after it ask: the type, the departures, and digits.
+fn asked_of<'text>(verb: &str, text: &'text str) -> Option<(Named, Question, &'text str)> {
+    let (name, digits) = text.split_once(' ')?;
+    Some((type_named(name)?, question_named(verb)?, digits))
 }
 
 /// Returns the type with this name.
@@ -107,18 +91,14 @@ fn print_answer<W: Write>(
         return writeln!(output, "  has no octets");
     };
     match question {
-        Question::Typed => {
-            print_departures(alloc, &schema, id, &octets, OpenTypes::Unexamined, output)
-        }
-        Question::Open => {
-            print_departures(alloc, &schema, id, &octets, OpenTypes::Examined, output)
-        }
+        Question::Typed => { print_all(alloc, &schema, id, &octets, OpenTypes::Unexamined, output) }
+        Question::Open => { print_all(alloc, &schema, id, &octets, OpenTypes::Examined, output) }
         Question::First => print_first(alloc, &schema, id, &octets, output),
     }
 }
 
 /// Prints each departure of octets.
-fn print_departures<W: Write>(
+fn print_all<W: Write>(
     alloc: Global,
     schema: &Schema,
     id: TypeId,

@@ -1,9 +1,18 @@
-//! Reads files of modules, and rows of standard input: `rasn-json-rows FILE..`. Prints each fault
-//! of a text, and then each row with its result.
+//! Reads files of modules, and rows of standard input: `rasn-schema-rows FILE..`. Prints each fault
+//! of the files, and then each row with its result.
 #![tactic(auto)]
 
+mod departures;
+mod json;
+mod messages;
+mod modules;
 mod octets;
 mod rows;
+mod same;
+mod schema_octets;
+mod show;
+mod table;
+mod types;
 
 use crate::rows::print_rows;
 use rasn_compiler::{Modules, Source};
