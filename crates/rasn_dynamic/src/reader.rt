@@ -32,7 +32,7 @@ ghost use Rattle.rasn_dynamic.specs.Listed.{Lists, Inside, PartsInside, PartList
 
 use crate::components::{is_always_there, leaves_all_out, missing};
 use crate::made::Made;
-use crate::nested::{NextPart, Nested, ascend, choice_at, choose, descend};
+use crate::nested::{Nested, NextPart, ascend, choice_at, choose, descend};
 use crate::order::{is_less, octets_before};
 use crate::read_leaf::{decode_any_value, put_any, put_leaf, put_number, put_unknown};
 use crate::refuse::{
@@ -503,9 +503,7 @@ fn decode_alternative<'input, M: Made>(
 {
     match choice_at(types, part) {
         Some(_) => decode_nested::<M>(decoder, walk, types, tag, part, out),
-        None => {
-            decode_part::<M>(decoder, walk, types, part.levels, part.id, part.index, out)
-        }
+        None => { decode_part::<M>(decoder, walk, types, part.levels, part.id, part.index, out) }
     }
 }
 
@@ -553,9 +551,7 @@ fn decode_innermost<'input, M: Made>(
     let entered = descend(decoder, walk, types, tag, nested);
     let part = nested.part;
     match entered {
-        Ok(()) => {
-            decode_part::<M>(decoder, walk, types, part.levels, part.id, part.index, out)
-        }
+        Ok(()) => { decode_part::<M>(decoder, walk, types, part.levels, part.id, part.index, out) }
         Err(refused) => {
             let left = decoder.remaining().len();
             mark_part(decoder.alloc(), &mut walk.fault, part.id, left, part.index);

@@ -125,7 +125,11 @@ fn is_read_as(alloc: Global, octets: &[u8], path: &[usize], innermost: &Value<'_
 fn choices_in_one_another_are_read(rt: HostRuntime) {
     let alloc = rt.alloc();
     assert!(rt; is_read_as(alloc, &[5, 0], &[0], &Value::Null) == Some(true));
-    assert!(rt; is_read_as(alloc, &[1, 1, 0xFF], &[1, 1, 1, 0], &Value::Boolean(true)) == Some(true));
+    assert!(rt;
+        is_read_as(alloc, &[1, 1, 0xFF], &[1, 1, 1, 0], &Value::Boolean(true)) == Some(true)
+    );
     assert!(rt; is_read_as(alloc, &[1, 1, 0], &[1, 1, 1, 0], &Value::Boolean(false)) == Some(true));
-    assert!(rt; is_read_as(alloc, &[1, 1, 0], &[1, 1, 0, 0], &Value::Boolean(false)) == Some(false));
+    assert!(rt;
+        is_read_as(alloc, &[1, 1, 0], &[1, 1, 0, 0], &Value::Boolean(false)) == Some(false)
+    );
 }
