@@ -14,6 +14,8 @@ mod faults;
 #[cfg(test)]
 mod names;
 #[cfg(test)]
+mod nested_choices;
+#[cfg(test)]
 mod parts;
 #[cfg(test)]
 mod sizes;
