@@ -1,5 +1,5 @@
 -- Calls that write only values that fit.
-use Rattle.std.proofs.Common.{◌≡◌, Result, Ok, Err, OnOk, IfErr, subst}
+use Rattle.std.proofs.Common.{◌≡◌, Result, Ok, Err, OnOk, IfErr}
 use Rattle.std.proofs.lemmas.Result.{on_ok_weaker}
 use Rattle.rasn_types.specs.declared.types.codec.Codec.{Codec}
 use Rattle.rasn_types.specs.declared.error.encode.EncodeError.{EncodeError}
@@ -21,6 +21,3 @@ module _ {F D K : Type 0} {rule : Codec} where
   -- The same of another way to say that the value fits, and of what follows.
   pub fits_as : {G E : Type 0} (r : Result (Unit {0}) EncodeError) → (F → G) → (G → F) → (D → E) → OnlyFitting F D K rule r → OnlyFitting G E K rule r
   fits_as r to from on h = record { fits = on_ok_weaker r to h.fits; does = λ g. on (h.does (from g)); keeps = h.keeps; rules = h.rules }
-
-  pub fits_same : {G : Type 0} (r : Result (Unit {0}) EncodeError) → F ≡ G → OnlyFitting F D K rule r → OnlyFitting G D K rule r
-  fits_same r e h = subst (λ X. OnlyFitting X D K rule r) e h

@@ -1,5 +1,5 @@
 -- Paths by names.
-use Rattle.std.proofs.Common.{◌≡◌, ◌≢◌, ◌⊎◌, ℕ, suc, ◌-◌, ◌≤◌, ◌<◌, List, [], ◌∷◌, ◌++◌, length, take, drop, get_or, append_assoc, Vec, Global, String, Option, Some, None, Bool, true, false, inl, inr, refl, sym, ap, ◌∙◌, subst, arith}
+use Rattle.std.proofs.Common.{◌≡◌, ◌≢◌, ◌⊎◌, ℕ, suc, ◌-◌, ◌≤◌, ◌<◌, List, [], ◌∷◌, ◌++◌, length, take, drop, get_or, append_assoc, append-nil, Vec, Global, String, Option, Some, None, Bool, true, false, inl, inr, refl, sym, ap, ◌∙◌, subst, arith}
 use Rattle.std.specs.Prelude.{slice_get, option_map, MatchBool, MatchOption}
 use Rattle.std.specs.String.{string_bytes}
 use Rattle.std.proofs.lemmas.Bool.{cases_order}
@@ -96,7 +96,7 @@ pub some_left : {X : Type 0} (l : List X) → 1 ≤ length l → l ≢ []
 some_left l h e = let n = ap length e in omega (arith, n, h)
 
 module _ (types : List «Type») where
-  pub way_ends : (levels id : ℕ) (steps : List Step) → steps ≡ [] → IsWay types levels id steps []
+  way_ends : (levels id : ℕ) (steps : List Step) → steps ≡ [] → IsWay types levels id steps []
   unfolding IsWay
   way_ends levels id steps e = e
 
@@ -122,7 +122,7 @@ module _ (types : List «Type») where
       unfolding IsNoWay
       no_tag_way w = subst (λ z. IsNoWay types z id steps) (sym l) (step, after, e, inr (inl (tag, inner, g, w)))
 
-      pub tagged_way : (b : Bool) → MatchBool b (Appended mid new (IsWay types n inner.0 steps)) (IsNoWay types n inner.0 steps) → MatchBool b (Appended old new (IsWay types levels id steps)) (IsNoWay types levels id steps)
+      tagged_way : (b : Bool) → MatchBool b (Appended mid new (IsWay types n inner.0 steps)) (IsNoWay types n inner.0 steps) → MatchBool b (Appended old new (IsWay types levels id steps)) (IsNoWay types levels id steps)
       tagged_way b w = bool_weaker b _ _ _ _ tag_way no_tag_way w
 
     module _ (ty : «Type») (g : Some ty ≡ slice_get types id) (t : IsTagged ty → ⊥) (old new : List ℕ) where
@@ -134,10 +134,36 @@ module _ (types : List «Type») where
       unfolding IsNoWay
       no_one_way w = subst (λ z. IsNoWay types z id steps) (sym l) (step, after, e, inr (inr (ty, g, t, w)))
 
-      pub part_way : (b : Bool) → MatchBool b (Appended old new (IsPartWay types n ty step after)) (IsNoPartWay types n ty step after) → MatchBool b (Appended old new (IsWay types levels id steps)) (IsNoWay types levels id steps)
+      part_way : (b : Bool) → MatchBool b (Appended old new (IsPartWay types n ty step after)) (IsNoPartWay types n ty step after) → MatchBool b (Appended old new (IsWay types levels id steps)) (IsNoWay types levels id steps)
       part_way b w = bool_weaker b _ _ _ _ one_way no_one_way w
 
-  pub stepped_way : (n : ℕ) (ty : «Type») (step : Step) (after : List Step) (k : ℕ) (next : TypeId) → IsStepOf ty step k next → (old mid new : List ℕ) → mid ≡ old ++ k ∷ [] → (b : Bool)
+  stepped_way : (n : ℕ) (ty : «Type») (step : Step) (after : List Step) (k : ℕ) (next : TypeId) → IsStepOf ty step k next → (old mid new : List ℕ) → mid ≡ old ++ k ∷ [] → (b : Bool)
       → MatchBool b ((more : List ℕ) × (new ≡ mid ++ more) × IsWay types n next.0 after more) (IsNoWay types n next.0 after) → MatchBool b ((more : List ℕ) × (new ≡ old ++ more) × IsPartWay types n ty step after more) (IsNoPartWay types n ty step after)
   stepped_way n ty step after k next s old mid new m b w =
       bool_weaker b _ _ _ _ (λ (more, q, v). (k ∷ more, q ∙ ap (λ z. z ++ more) m ∙ append_assoc old (k ∷ []) more, (k, next, more, refl, s, v))) (λ v. inr (k, next, s, v)) w
+
+-- ---- the loop
+
+-- A way from here, or none, after the path so far is one from the first type.
+abbrev pub OnWay : List «Type» → ℕ → ℕ → List Step → List ℕ → ℕ → ℕ → List Step → List ℕ → Type 0
+OnWay types levels id steps old left next rest now = (new : List ℕ) (b : Bool)
+    → MatchBool b ((more : List ℕ) × (new ≡ now ++ more) × IsWay types left next rest more) (IsNoWay types left next rest)
+    → MatchBool b ((more : List ℕ) × (new ≡ old ++ more) × IsWay types levels id steps more) (IsNoWay types levels id steps)
+
+module _ (types : List «Type») (levels id : ℕ) (steps : List Step) (old : List ℕ) (left next : ℕ) (rest : List Step) (now : List ℕ) (on : OnWay types levels id steps old left next rest now) where
+  pub way_found : rest ≡ [] → (more : List ℕ) × (now ≡ old ++ more) × IsWay types levels id steps more
+  way_found e = on now true ([], sym (append-nil now), way_ends types left next rest e)
+
+  pub no_way_found : (new : List ℕ) → IsNoWay types left next rest → IsNoWay types levels id steps
+  no_way_found new n = on new false n
+
+  module _ (n : ℕ) (l : left ≡ suc n) (step : Step) (after : List Step) (e : rest ≡ step ∷ after) where
+    pub way_in_tag : (tag : Tag) (inner : TypeId) → Some (Tagged tag inner) ≡ slice_get types next → (mid : List ℕ) → mid ≡ now ++ 0 ∷ [] → OnWay types levels id steps old n inner.0 rest mid
+    way_in_tag tag inner g mid m = λ new b w. on new b (tagged_way types left n next l rest step after e tag inner g now mid new m b w)
+
+    module _ (ty : «Type») (g : Some ty ≡ slice_get types next) (t : IsTagged ty → ⊥) where
+      pub no_step : ((k : ℕ) (part : TypeId) → IsStepOf ty step k part → ⊥) → IsNoWay types left next rest
+      no_step h = part_way types left n next l rest step after e ty g t now now false (inl h)
+
+      pub way_in_part : (k : ℕ) (part : TypeId) → IsStepOf ty step k part → (mid : List ℕ) → mid ≡ now ++ k ∷ [] → OnWay types levels id steps old n part.0 after mid
+      way_in_part k part s mid m = λ new b w. on new b (part_way types left n next l rest step after e ty g t now new b (stepped_way types n ty step after k part s now mid new m b w))

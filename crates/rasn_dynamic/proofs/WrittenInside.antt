@@ -1,5 +1,5 @@
 -- What is written inside values that hold others.
-use Rattle.std.proofs.Common.{◌≡◌, ◌≢◌, ◌≤◌, ◌⊎◌, inl, inr, ◌∷◌, [], ◌++◌, ℕ, List, map, length, Bool, true, false, true≢false, nat_eq, None, Some, Result, Ok, Err, OnOk, IfErr, refl, sym, ap, ◌∙◌, subst, rules, tests}
+use Rattle.std.proofs.Common.{◌≡◌, ◌≤◌, ◌⊎◌, inl, inr, ◌∷◌, [], ◌++◌, ℕ, List, map, length, Bool, true, false, true≢false, nat_eq, None, Some, Result, Ok, Err, OnOk, IfErr, refl, sym, ap, ◌∙◌, subst, rules, tests}
 use Rattle.rasn_types.specs.declared.types.tag.Tag.{Tag}
 use Rattle.rasn_types.specs.declared.types.constraints.Constraints.{Constraints}
 use Rattle.rasn_types.specs.declared.error.encode.EncodeError.{EncodeError}
@@ -17,14 +17,16 @@ use Rattle.rasn_enc.proofs.OwnTypes.Sequence.{appended-nil, part_appended, parts
 use Rattle.rasn_enc.proofs.Constructed.SequenceOf.{ElementsSoFar, element_refused, each_at}
 use Rattle.rasn_enc.proofs.Constructed.SetOf.{SetOfSoFar, set_elements_one, front_is, order_front, set_of_element_refused}
 use Rattle.rasn_schema.specs.declared.types.Component.{Component}
-use Rattle.rasn_schema.specs.declared.value.Value.{Value, Chosen, Chosen'}
-use Rattle.rasn_schema.specs.Kinds.{kind}
-use Rattle.rasn_schema.proofs.OtherKinds.{is_other, not_chosen}
+use Rattle.rasn_schema.specs.declared.value.Value.{Value, Chosen'}
+use Rattle.rasn_schema.specs.declared.types.«Type».{«Type»}
+use Rattle.rasn_schema.specs.declared.types.«Type».TheVariants.{Choice}
+use Rattle.rasn_schema.specs.Reach.{Reaches}
+use Rattle.rasn_schema.proofs.TypeShapes.{shape_below}
 use Rattle.rasn_schema.specs.Trees.{tree_of}
 use Rattle.std.proofs.Common.{zero, suc, arith}
 use Rattle.rasn_types.specs.Shapes.{chosen}
 use Rattle.rasn_enc.specs.Choice.{IsAlternative}
-use Rattle.rasn_schema.specs.Shapes.{components_by, alternatives_by, choice_among, presence_by, presence_in, presence_of}
+use Rattle.rasn_schema.specs.Shapes.{shape_of_type, type_by, components_by, alternatives_by, choice_among, presence_by, presence_in, presence_of}
 use Rattle.rasn_schema.proofs.Presences.{left_out_by}
 use Rattle.rasn_types.specs.Trees.{list_tree}
 use Rattle.std.specs.Prelude.{slice_get}
@@ -32,7 +34,7 @@ use Rattle.rasn_enc.specs.Primitive.{IsAllocError}
 use Rattle.rasn_enc.specs.Errors.{FailsAtSize}
 use Rattle.rasn_schema.specs.declared.types.Alternative.{Alternative}
 use Rattle.rasn_schema.proofs.Lists.{some_is}
-use Rattle.rasn_schema.specs.Fitting.{ComponentFits, ComponentsFit, EachFits, IsChosen}
+use Rattle.rasn_schema.specs.Fitting.{AlternativeFits, ComponentFits, ComponentsFit, EachFits, IsChosen}
 use Rattle.rasn_dynamic.specs.Written.{WritesInside, EncodesPartIf, Encodes, EncodesIf, EncodesInside, EncodesInsideIf, EncodesPartsIf, EncodesElements, EncodesElementsIf, EncodesSetOf, EncodesSetOfIf, OnlyFitting, IsEnclosed, HoldsOthers}
 use Rattle.rasn_schema.specs.Fitting.{IsLeftOutAs}
 use Rattle.rasn_dynamic.proofs.OnlyFitting.{fits_as}
@@ -235,18 +237,27 @@ module _ (f : ℕ → Shape) where
   alternative_at (j ∷ ks) zero a e = ap (λ (x : Alternative). f x.type_id.0) (some_is j a (sym e))
   alternative_at (j ∷ ks) (suc k) a e = alternative_at ks k a e
 
-  pub alternative_written : (ks : List Alternative) (k : ℕ) (a : Alternative) (t : Tree) (v w : View) (r : Result (Unit {0}) EncodeError) → Some a ≡ slice_get ks k
+  alternative_written : (ks : List Alternative) (k : ℕ) (a : Alternative) (t : Tree) (v w : View) (r : Result (Unit {0}) EncodeError) → Some a ≡ slice_get ks k
       → Encodes (f a.type_id.0) t v r w → Encodes (choice_among (alternatives_by f ks)) (chosen k t) v r w
   alternative_written ks k a t v w (Ok x) e h = record { ok = among_encoded (alternatives_by f ks) k (f a.type_id.0) t (alternative_at ks k a e) v w h.ok; refused = tt }
   alternative_written ks k a t v w (Err x) e h = record { ok = tt; refused = among_refused (alternatives_by f ks) k (f a.type_id.0) t (alternative_at ks k a e) v v x h.refused }
 
--- A value that isn't an alternative's.
-chosen_kind : (P : ℕ → Value → Type 0) (v : Value) → IsChosen P v → kind (tree_of v) ≡ 7
-chosen_kind P (Chosen' i _ w) h = refl
-chosen_kind P _ h = absurd h
-
-pub no_choice : (P : ℕ → Value → Type 0) (v : Value) → ((k : ℕ) (w : _) → v ≡ Chosen k w → ⊥) → IsChosen P v → ⊥
-no_choice P v n h = is_other 7 v (not_chosen v n) (chosen_kind P v h)
+-- What is written of the value that is reached is what is written of the first one.
+pub reached_written : (types : List «Type») (levels k n : ℕ) (v w : Value) (ty : «Type») → Reaches types levels k v n ty w → (a b : View) (r : Result (Unit {0}) EncodeError)
+    → Encodes (type_by (shape_of_type types n) ty) (tree_of w) a r b → Encodes (shape_of_type types levels k) (tree_of v) a r b
+unfolding Reaches
+reached_written types zero k n v w ty l a b r h = absurd l
+reached_written types (suc m) k n v w ty (inl (e, f, g)) a b r h =
+    subst (λ s. Encodes s (tree_of v) a r b) (sym (shape_below types (suc m) m k ty refl e))
+    (subst (λ x. Encodes (type_by (shape_of_type types m) ty) (tree_of x) a r b) g (subst (λ q. Encodes (type_by (shape_of_type types q) ty) (tree_of w) a r b) f h))
+reached_written types (suc m) k n v w ty (inr (name, ks, e, c)) a b r h =
+    subst (λ s. Encodes s (tree_of v) a r b) (sym (shape_below types (suc m) m k (Choice name ks) refl e))
+    (go v c (λ j u l. reached_written types m j n u w ty l a b r h))
+  where
+    go : (x : Value) → IsChosen (AlternativeFits (λ j u. Reaches types m j u n ty w) ks.items) x
+        → ((j : ℕ) (u : Value) → Reaches types m j u n ty w → Encodes (shape_of_type types m j) (tree_of u) a r b) → Encodes (choice_among (alternatives_by (shape_of_type types m) ks.items)) (tree_of x) a r b
+    go (Chosen' i _ u) (q, at, l) more = alternative_written (shape_of_type types m) ks.items i q (tree_of u) a b r at (more q.type_id.0 u l)
+    go _ l more = absurd l
 
 -- No component and no value is left.
 pub parts_ended : (f : ℕ → Shape) (rest : List Component) (left : List Value) (v : View) → rest ≡ [] → left ≡ [] → EncodesParts (components_by f rest) (list_tree tree_of left) v (Ok tt) v

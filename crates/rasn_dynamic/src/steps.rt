@@ -2,7 +2,7 @@
 ghost use Rattle.std.specs.Prelude.{◌≡◌, ◌++◌, ℕ, List, Some, OnOk, IfOk, MatchOption, MatchBool, ◌∷◌, []};
 ghost use Rattle.rasn_schema.specs.declared.type_id.TypeId.{TypeId};
 ghost use Rattle.rasn_schema.specs.Held.{part_name};
-ghost use Rattle.rasn_dynamic.specs.Steps.{IsFirstName, IsNamedStep, IsIndexedStep, IsStepOf, IsWay, IsNoWay, IsPartWay, IsNoPartWay};
+ghost use Rattle.rasn_dynamic.specs.Steps.{IsFirstName, IsNamedStep, IsIndexedStep, IsStepOf, IsWay, IsNoWay};
 
 use rasn_schema::{Schema, Type, TypeId, components_of, index_named, part_type, type_at};
 use std::alloc::{AllocError, Global};
@@ -67,7 +67,6 @@ fn append(path: &mut Vec<usize>, index: usize) -> Result<(), AllocError>
 
 /// Appends the indices to which steps lead from a type. Returns whether each step leads to a part.
 /// Types are followed `levels` deep.
-#[cycle(way)]
 fn append_way(
     types: &[Type],
     levels: usize,
@@ -79,43 +78,30 @@ fn append_way(
         ((more : List ℕ) × (path.new.items ≡ path.old.items ++ more) × IsWay types.now levels id.0 steps.now more)
         (IsNoWay types.now levels id.0 steps.now)) }
 {
-    let [step, after @ ..] = steps else {
-        return Ok(true);
-    };
-    if levels == 0 {
-        return Ok(false);
-    }
-    let Some(ty) = type_at(types, id) else {
-        return Ok(false);
-    };
-    match ty {
-        Type::Tagged { inner, .. } => {
-            append(path, 0)?;
-            append_way(types, levels - 1, *inner, steps, path)
+    let mut left = levels;
+    let mut next = id;
+    let mut rest = steps;
+    while let [step, after @ ..] = rest {
+        if left == 0 {
+            return Ok(false);
         }
-        _ => append_part(types, levels - 1, ty, step, after, path),
+        left -= 1;
+        let Some(ty) = type_at(types, next) else {
+            return Ok(false);
+        };
+        if let Type::Tagged { inner, .. } = ty {
+            append(path, 0)?;
+            next = *inner;
+            continue;
+        }
+        let Some((index, part)) = part_step(ty, step) else {
+            return Ok(false);
+        };
+        append(path, index)?;
+        next = part;
+        rest = after;
     }
-}
-
-/// Appends the indices to which a step and those after it lead from a type that is no explicit tag.
-#[cycle(way)]
-fn append_part(
-    types: &[Type],
-    below: usize,
-    ty: &Type,
-    step: &Step<'_>,
-    after: &[Step<'_>],
-    path: &mut Vec<usize>,
-) -> Result<bool, AllocError>
-    ensures { IfOk result (λ found. MatchBool found
-        ((more : List ℕ) × (path.new.items ≡ path.old.items ++ more) × IsPartWay types.now below ty.now step.now after.now more)
-        (IsNoPartWay types.now below ty.now step.now after.now)) }
-{
-    let Some((index, next)) = part_step(ty, step) else {
-        return Ok(false);
-    };
-    append(path, index)?;
-    append_way(types, below, next, after, path)
+    Ok(true)
 }
 
 /// Returns the path to the part to which steps lead from the type with this number, for

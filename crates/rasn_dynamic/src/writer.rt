@@ -9,8 +9,9 @@ ghost use Rattle.rasn_enc.specs.Encoding.{NoEncodingOfPart};
 ghost use Rattle.rasn_enc.specs.View.{fresh};
 ghost use Rattle.rasn_enc.specs.Primitive.{IsOrderError};
 ghost use Rattle.rasn_schema.specs.Trees.{tree_of};
-ghost use Rattle.rasn_schema.specs.Shapes.{shape_of_type, type_by, alternatives_by, choice_among, set_among, components_by, presence_in};
-ghost use Rattle.rasn_schema.specs.Fitting.{AlternativeFits, IsChosen, ComponentFits, ComponentsFit, EachFits, FitsBy, Fits};
+ghost use Rattle.rasn_schema.specs.Schemas.{IsChoice};
+ghost use Rattle.rasn_schema.specs.Shapes.{shape_of_type, type_by, set_among, components_by, presence_in};
+ghost use Rattle.rasn_schema.specs.Fitting.{ComponentFits, ComponentsFit, EachFits, FitsBy, Fits};
 ghost use Rattle.rasn_dynamic.specs.Making.{reported};
 ghost use Rattle.rasn_dynamic.specs.Written.{EncodesIf, EncodesPartIf, EncodesInsideIf, EncodesPartsIf, EncodesElementsIf, EncodesSetOfIf, HoldsOthers, HoldsSet, FailsAtSet, AddsPart, FailsAtPart};
 
@@ -25,7 +26,7 @@ use crate::write_leaf::{
 use rasn_enc::ber::enc::set_parts::{SetComponent, insert_component};
 use rasn_enc::ber::enc::{Encoder, EncoderOptions};
 use rasn_schema::{
-    Alternative, Component, Type, TypeId, Value, elements_of, is_left_out, items_of, type_at,
+    Component, Type, TypeId, Value, elements_of, innermost_at, is_left_out, items_of,
 };
 use rasn_types::error::{BerEncodeErrorKind, CodecEncodeError, EncodeError, EncodeErrorKind};
 
@@ -67,16 +68,13 @@ pub fn encode_at(
 ) -> Result<(), Refused>
     ensures { EncodesIf (Fits types.now levels id.0 value.now) (shape_of_type types.now levels id.0) (tree_of value.now) encoder.old (reported result error.new) encoder.new }
 {
-    if levels == 0 {
-        return refuse_form(encoder, error);
-    }
-    match type_at(types, id) {
-        Some(ty) => encode_type(encoder, types, levels - 1, ty, value, error),
+    match innermost_at(types, levels, id, value) {
+        Some(inner) => encode_type(encoder, types, inner.below, inner.ty, inner.value, error),
         None => refuse_form(encoder, error),
     }
 }
 
-/// Writes a value of a type.
+/// Writes a value of a type that isn't a CHOICE.
 #[cycle(encode)]
 fn encode_type(
     encoder: &mut Encoder,
@@ -86,6 +84,7 @@ fn encode_type(
     value: &Value<'_>,
     error: &mut EncodeError,
 ) -> Result<(), Refused>
+    requires { IsChoice ty.now → ⊥ }
     ensures { EncodesIf (FitsBy (Fits types.now below) ty.now value.now) (type_by (shape_of_type types.now below) ty.now) (tree_of value.now) encoder.old (reported result error.new) encoder.new }
 {
     match ty {
@@ -98,40 +97,12 @@ fn encode_type(
         Type::Enumerated { tag, numbers } => encode_number(encoder, *tag, numbers, value, error),
         Type::Any { tag } => encode_open_value(encoder, *tag, value, error),
         Type::Unknown => encode_unknown_values(encoder, value, error),
-        Type::Choice { alternatives, .. } => encode_choice(
-            encoder,
-            types,
-            below,
-            alternatives,
-            value,
-            error,
-        ),
+        Type::Choice { .. } => unreachable!(),
         Type::Tagged { .. } => encode_inside(encoder, types, below, ty, value, error),
         Type::Sequence { .. } => encode_inside(encoder, types, below, ty, value, error),
         Type::Set { .. } => encode_inside(encoder, types, below, ty, value, error),
         Type::SequenceOf { .. } => encode_inside(encoder, types, below, ty, value, error),
         Type::SetOf { .. } => encode_inside(encoder, types, below, ty, value, error),
-    }
-}
-
-/// Writes the alternative that was chosen (X.690 8.13).
-#[cycle(encode)]
-fn encode_choice(
-    encoder: &mut Encoder,
-    types: &[Type],
-    below: usize,
-    alternatives: &[Alternative],
-    value: &Value<'_>,
-    error: &mut EncodeError,
-) -> Result<(), Refused>
-    ensures { EncodesIf (IsChosen (AlternativeFits (Fits types.now below) alternatives.now) value.now) (choice_among (alternatives_by (shape_of_type types.now below) alternatives.now)) (tree_of value.now) encoder.old (reported result error.new) encoder.new }
-{
-    let Value::Chosen(index, inner) = value else {
-        return refuse_form(encoder, error);
-    };
-    match alternatives.get(*index) {
-        Some(alternative) => encode_at(encoder, types, below, alternative.type_id, inner, error),
-        None => refuse_form(encoder, error),
     }
 }
 

@@ -1,7 +1,7 @@
-use Rattle.std.proofs.Common.{◌≡◌, List, Bool, ap, sym, subst}
-use Rattle.rasn_types.specs.Shapes.{Tree, bits, bit_string}
+use Rattle.std.proofs.Common.{◌≡◌, ap, sym, subst}
+use Rattle.rasn_types.specs.Shapes.{bits, bit_string}
 use Rattle.rasn_types.specs.BitString.{significant}
-use Rattle.rasn_schema.specs.declared.types.LeafKind.TheVariants.{BitString, NamedBits}
+use Rattle.rasn_schema.specs.declared.types.LeafKind.TheVariants.{BitString}
 use Rattle.rasn_schema.specs.Fitting.{BitsFit}
 use Rattle.rasn_enc.proofs.Leaves.Primitive.{size_refused}
 use Rattle.rasn_dynamic.proofs.LeafWritten.{plain_bits}

@@ -1,4 +1,4 @@
-use Rattle.std.proofs.Common.{arith, ◌≡◌, ◌≤◌, ◌-◌, map, true, false, refl, sym, ap, ◌∙◌, subst, inr, ◌≢◌, [], rules}
+use Rattle.std.proofs.Common.{arith, ◌≡◌, ◌≤◌, map, true, false, refl, sym, ap, ◌∙◌, subst, inr, ◌≢◌, [], rules}
 use Rattle.std.proofs.lemmas.List.{length-map}
 use Rattle.rasn_types.specs.declared.error.encode.EncodeError.{EncodeError}
 use Rattle.rasn_types.specs.Shapes.{Admits, IsFirst}
@@ -7,14 +7,14 @@ use Rattle.rasn_enc.proofs.Constructed.SequenceOf.{ElementsSoFar, split_is, elem
 use Rattle.rasn_enc.proofs.Constructed.SetOf.{SetOfSoFar, set_of_start, set_of_more, set_of_end, none_left, fall_refused}
 use Rattle.rasn_schema.specs.Trees.{tree_of}
 use Rattle.rasn_schema.specs.Shapes.{shape_of_type, type_by, tag_of_type, components_by, key_of, presence_in}
-use Rattle.rasn_schema.proofs.TypeShapes.{shape_below}
-use Rattle.rasn_schema.proofs.Lists.{split, nothing_left, read_at}
-use Rattle.rasn_schema.specs.Fitting.{Fits, ComponentsFit, EachFits, AlternativeFits}
+use Rattle.rasn_schema.proofs.Reach.{fits_up, fits_down}
+use Rattle.rasn_schema.proofs.Lists.{split, nothing_left}
+use Rattle.rasn_schema.specs.Fitting.{Fits, ComponentsFit, EachFits}
 use Rattle.rasn_dynamic.proofs.Enclosed.{enclosed, dropped, enclosed_tag}
-use Rattle.rasn_dynamic.proofs.OnlyFitting.{form_refused, fits_as, fits_same}
-use Rattle.rasn_schema.proofs.Fitted.{fits_is, fits_none, fits_zero, no_alternative, alternative_there, fit_start, fit_more, fit_short, fit_end, each_start, each_more, each_end}
+use Rattle.rasn_dynamic.proofs.OnlyFitting.{form_refused, fits_as}
+use Rattle.rasn_schema.proofs.Fitted.{fit_start, fit_more, fit_short, fit_end, each_start, each_more, each_end}
 use Rattle.rasn_schema.proofs.ListsOf.{list_to, list_from, set_to, set_from, no_list, no_set, list_means, set_means}
-use Rattle.rasn_dynamic.proofs.WrittenInside.{left_as_it_was, leaves_by, leaves_both, prefix_inside, seq_inside, size_refused, list_inside, set_of_inside, list_unsized, set_of_unsized, written_start, written_more, alternative_written, parts_ended, part_skipped, part_written, not_opened, no_choice, none_when, some_when, component_refused, element_not_written, set_element_not_written}
+use Rattle.rasn_dynamic.proofs.WrittenInside.{left_as_it_was, leaves_by, leaves_both, prefix_inside, seq_inside, size_refused, list_inside, set_of_inside, list_unsized, set_of_unsized, written_start, written_more, reached_written, parts_ended, part_skipped, part_written, not_opened, none_when, some_when, component_refused, element_not_written, set_element_not_written}
 use Rattle.std.proofs.lemmas.Result.{on_ok_weaker}
 use Rattle.rasn_types.specs.Bytes.{IsPlacedBy}
 use Rattle.rasn_enc.proofs.OwnTypes.SortedSet.{no_octets, some_octets}
@@ -24,26 +24,13 @@ use Rattle.rasn_types.specs.Tags.{eoc}
 use Rattle.rasn_types.specs.Trees.{list_tree}
 use Rattle.rasn_dynamic.proofs.writer.+encode.Goals as goal
 
-pub encode_at-returns-then-levels-eq0 : goal.encode_at-returns-then-levels-eq0
-encode_at-returns-then-levels-eq0 t c = rw c.refuse_form.ensures.1 (form_refused _ (fits_zero c.args.types.now c.args.levels c.args.id.0 c.args.value.now c.if-levels-eq0.true) refl c.refuse_form.ensures.2)
-
 pub encode_at-returns-in-Some : goal.encode_at-returns-in-Some
-encode_at-returns-in-Some t c = rw (shape_below c.args.types.now c.args.levels (c.args.levels - 1) c.args.id.0 c.in-Some.ty.now (let n = c.if-levels-eq0.false in omega arith) c.in-Some.ensures) (fits_same _ (fits_is c.args.types.now c.args.levels (c.args.levels - 1) c.args.id.0 c.in-Some.ty.now c.args.value.now (let n = c.if-levels-eq0.false in omega arith) c.in-Some.ensures) c.encode_type.ensures)
+encode_at-returns-in-Some t c =
+    let reaches = c.in-Some.ensures.reaches in
+    fits_as _ (fits_up _ _ _ _ _ _ _ reaches) (fits_down _ _ _ _ _ _ _ reaches) (reached_written _ _ _ _ _ _ _ reaches _ _ _) c.encode_type.ensures
 
 pub encode_at-returns-in-None : goal.encode_at-returns-in-None
-encode_at-returns-in-None t c = rw c.refuse_form-in-None.ensures.1 (form_refused _ (fits_none c.args.types.now c.args.levels c.args.id.0 c.args.value.now c.in-None.ensures) refl c.refuse_form-in-None.ensures.2)
-
-pub encode_choice-returns-in-Some : goal.encode_choice-returns-in-Some
-encode_choice-returns-in-Some t c =
-    let at = read_at _ _ _ c.in-Some.ensures.lookup.3.0 c.in-Some.ensures.lookup.1 in
-    rw c.in-Chosen.is (fits_as _ (λ h. (c.in-Some.alternative.now, at, h)) (alternative_there (Fits c.args.types.now c.args.below) c.args.alternatives.now c.in-Chosen.index _ c.in-Some.alternative.now at)
-    (alternative_written (shape_of_type c.args.types.now c.args.below) c.args.alternatives.now c.in-Chosen.index c.in-Some.alternative.now _ _ _ _ at) (rw (← c.deref.ensures) c.encode_at.ensures))
-
-pub encode_choice-returns-in-None : goal.encode_choice-returns-in-None
-encode_choice-returns-in-None t c = rw (c.in-Chosen.is, c.refuse_form-in-None.ensures.1) (form_refused _ (no_alternative (Fits c.args.types.now c.args.below) c.args.alternatives.now c.in-Chosen.index _ c.in-None.ensures.lookup.3) refl c.refuse_form-in-None.ensures.2)
-
-pub encode_choice-returns-in_default : goal.encode_choice-returns-in_default
-encode_choice-returns-in_default t c = rw c.refuse_form.ensures.1 (form_refused _ (no_choice (AlternativeFits (Fits c.args.types.now c.args.below) c.args.alternatives.now) c.args.value.now c.in_default.not-Chosen) refl c.refuse_form.ensures.2)
+encode_at-returns-in-None t c = rw c.refuse_form.ensures.1 (form_refused _ c.in-None.ensures.reaches refl c.refuse_form.ensures.2)
 
 pub encode_contents-returns-in-Tagged : goal.encode_contents-returns-in-Tagged
 encode_contents-returns-in-Tagged t c = rw c.in-Tagged.is (prefix_inside c.in-Tagged.tag ((shape_of_type c.args.types.now c.args.below) c.in-Tagged.inner.0) _ _ _ c.requires.fresh _ c.encode_at.ensures)

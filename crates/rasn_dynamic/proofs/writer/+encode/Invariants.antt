@@ -16,9 +16,6 @@ decreases-encode_at l = 16 * l.levels
 abbrev pub decreases-encode_type : goal.decreases-encode_type
 decreases-encode_type l = 16 * l.below + 15
 
-abbrev pub decreases-encode_choice : goal.decreases-encode_choice
-decreases-encode_choice l = 16 * l.below + 14
-
 abbrev pub decreases-encode_inside : goal.decreases-encode_inside
 decreases-encode_inside l = 16 * l.below + 14
 
