@@ -82,28 +82,40 @@ fn print(text: &mut String, place: Place<'_>, view: &View<'_, '_>) -> Appended {
     }
     let levels = place.levels - 1;
     let mut title = String::from_str(place.alloc, place.title)?;
-    let (schema, mut type_id, mut value) = (view.schema, view.type_id, view.value);
-    for _ in 0..usize::MAX {
-        let view = schema.view(type_id, value);
-        if let Some(shown) = short_text(place, title.as_str(), &view)? {
-            let title = title.as_str();
-            return push_line(text, Place { title, ..place }, &shown);
-        }
-        let Some((name, inner)) = inside(&view) else {
-            break;
-        };
-        if !name.is_empty() {
-            write!(title, ".{name}")?;
-        }
-        (type_id, value) = (inner.type_id, inner.value);
-    }
+    let (inner, shown) = innermost(&mut title, place, view)?;
     let title = title.as_str();
     let place = Place {
         levels,
         title,
         ..place
     };
-    print_by(text, place, &schema.view(type_id, value))
+    match shown {
+        Some(shown) => push_line(text, place, &shown),
+        None => print_by(text, place, &inner),
+    }
+}
+
+/// Returns what is inside CHOICEs and explicit tags, with its text if it has one in a line, and
+/// appends the names of the alternatives to the title.
+fn innermost<'view, 'input>(
+    title: &mut String,
+    place: Place<'_>,
+    view: &View<'view, 'input>,
+) -> Result<(View<'view, 'input>, Option<String>), AllocError> {
+    let mut inner = view.schema.view(view.type_id, view.value);
+    for _ in 0..usize::MAX {
+        if let Some(shown) = short_text(place, title.as_str(), &inner)? {
+            return Ok((inner, Some(shown)));
+        }
+        let Some((name, next)) = inside(&inner) else {
+            break;
+        };
+        if !name.is_empty() {
+            write!(title, ".{name}")?;
+        }
+        inner = next;
+    }
+    Ok((inner, None))
 }
 
 /// Returns what is in an explicit tag, or the alternative of a CHOICE with its name, which is empty
