@@ -51,6 +51,8 @@ impl Present for Elevation {
 }
 
 impl Decode for Elevation {
+    ghost errors = { ⟦<Integer as Decode>⟧.errors };
+
     fn decode_with_tag_and_constraints(
         decoder: &mut Decoder<'_>,
         tag: Tag,

@@ -43,6 +43,8 @@ impl Present for Greeting {
 }
 
 impl Decode for Greeting {
+    ghost errors = { ⟦<Any as Decode>⟧.errors };
+
     fn decode_with_tag_and_constraints(
         decoder: &mut Decoder<'_>,
         tag: Tag,

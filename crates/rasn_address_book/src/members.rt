@@ -56,6 +56,8 @@ impl Present for Members {
 }
 
 impl Decode for Members {
+    ghost errors = { ⟦<SetOf<Contact> as Decode>⟧.errors };
+
     fn decode_with_tag_and_constraints(
         decoder: &mut Decoder<'_>,
         tag: Tag,

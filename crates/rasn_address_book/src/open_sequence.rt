@@ -43,6 +43,8 @@ impl Present for OpenSequence {
 }
 
 impl Decode for OpenSequence {
+    ghost errors = { ⟦<Any as Decode>⟧.errors };
+
     fn decode_with_tag_and_constraints(
         decoder: &mut Decoder<'_>,
         tag: Tag,

@@ -53,16 +53,22 @@ impl Present for Review {
 }
 
 impl Decode for Review {
+    ghost use Rattle.std.specs.Prelude.{[], ◌∷◌, codes};
+    ghost use Rattle.rasn_de.specs.SetPartTypes.{DecodesNamedParts};
+    ghost use Rattle.rasn_de.specs.ValueErrors.{errors_of};
+
+    ghost errors = { λ tag _. errors_of (DecodesNamedParts ⟦<Parts as DecodeSetParts>⟧.extensible ⟦<Parts as DecodeSetParts>⟧.parts ⟦<Parts as DecodeSetParts>⟧.tree (codes "Review") (codes "reviewer" ∷ codes "passed" ∷ []) ⟦<Parts as DecodeSetParts>⟧.errors tag) };
+
     fn decode_with_tag_and_constraints(
         decoder: &mut Decoder<'_>,
         tag: Tag,
         _constraints: &Constraints,
     ) -> Result<Review, DecodeError> {
-        let Required(reviewer, rest) = decoder.read_set::<Parts>(
-            tag,
-            "Review",
-            &["reviewer", "passed"],
-        )?;
+        let parts = match decoder.read_set::<Parts>(tag, "Review", &["reviewer", "passed"]) {
+            Ok(parts) => parts,
+            Err(error) => return Err(error),
+        };
+        let Required(reviewer, rest) = parts;
         let Required(passed, unknown) = rest;
         Ok(Review {
             reviewer,

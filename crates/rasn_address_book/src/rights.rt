@@ -43,6 +43,8 @@ impl Present for Rights {
 }
 
 impl Decode for Rights {
+    ghost errors = { ⟦<NamedBits as Decode>⟧.errors };
+
     fn decode_with_tag_and_constraints(
         decoder: &mut Decoder<'_>,
         tag: Tag,

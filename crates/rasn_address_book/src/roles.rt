@@ -51,6 +51,8 @@ impl Present for Roles {
 }
 
 impl Decode for Roles {
+    ghost errors = { ⟦<Vec<ObjectIdentifier> as Decode>⟧.errors };
+
     fn decode_with_tag_and_constraints(
         decoder: &mut Decoder<'_>,
         tag: Tag,

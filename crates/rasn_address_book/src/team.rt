@@ -59,16 +59,26 @@ impl Present for Team {
 }
 
 impl Decode for Team {
+    ghost use Rattle.std.specs.Prelude.{[], ◌∷◌, codes};
+    ghost use Rattle.rasn_de.specs.SetPartTypes.{DecodesNamedParts};
+    ghost use Rattle.rasn_de.specs.ValueErrors.{errors_of};
+
+    ghost errors = { λ tag _. errors_of (DecodesNamedParts ⟦<Parts as DecodeSetParts>⟧.extensible ⟦<Parts as DecodeSetParts>⟧.parts ⟦<Parts as DecodeSetParts>⟧.tree (codes "Team") (codes "availability" ∷ codes "title" ∷ codes "open" ∷ []) ⟦<Parts as DecodeSetParts>⟧.errors tag) };
+
     fn decode_with_tag_and_constraints(
         decoder: &mut Decoder<'_>,
         tag: Tag,
         _constraints: &Constraints,
     ) -> Result<Team, DecodeError> {
-        let Optional(availability, rest) = decoder.read_set::<Parts>(
+        let parts = match decoder.read_set::<Parts>(
             tag,
             "Team",
             &["availability", "title", "open"],
-        )?;
+        ) {
+            Ok(parts) => parts,
+            Err(error) => return Err(error),
+        };
+        let Optional(availability, rest) = parts;
         let Required(title, rest) = rest;
         let Defaulted(open_value, End) = rest;
         Ok(Team {

@@ -51,6 +51,8 @@ impl Present for Title {
 }
 
 impl Decode for Title {
+    ghost errors = { ⟦<Utf8String as Decode>⟧.errors };
+
     fn decode_with_tag_and_constraints(
         decoder: &mut Decoder<'_>,
         tag: Tag,

@@ -87,12 +87,21 @@ impl Decode for AuthEnvelopedData {
 
     ghost beyond = { λ tag old result _. IfOk result (λ a. BeyondInside ⟦<Parts as DecodeParts>⟧.beyond (sequence_header tag) old (record { 0 = a.version; 1 = record { 0 = a.originator_info; 1 = record { 0 = a.recipient_infos; 1 = record { 0 = a.auth_encrypted_content_info; 1 = record { 0 = a.auth_attrs; 1 = record { 0 = a.mac; 1 = record { 0 = a.unauth_attrs; 1 = record {} } } } } } } })) };
 
+    ghost use Rattle.rasn_de.specs.PartTypes.{DecodesSequenceParts};
+    ghost use Rattle.rasn_de.specs.ValueErrors.{errors_of};
+
+    ghost errors = { λ tag _. errors_of (DecodesSequenceParts ⟦<Parts as DecodeParts>⟧.parts ⟦<Parts as DecodeParts>⟧.tree ⟦<Parts as DecodeParts>⟧.errors tag) };
+
     fn decode_with_tag_and_constraints(
         decoder: &mut Decoder<'_>,
         tag: Tag,
         _constraints: &Constraints,
     ) -> Result<AuthEnvelopedData, DecodeError> {
-        let Required(version, rest) = decoder.read_sequence::<Parts>(tag)?;
+        let parts = match decoder.read_sequence::<Parts>(tag) {
+            Ok(parts) => parts,
+            Err(error) => return Err(error),
+        };
+        let Required(version, rest) = parts;
         let Optional(originator_info, rest) = rest;
         let Required(recipient_infos, rest) = rest;
         let Required(auth_encrypted_content_info, rest) = rest;

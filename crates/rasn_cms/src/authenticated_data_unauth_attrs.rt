@@ -59,6 +59,8 @@ impl Present for AuthenticatedDataUnauthAttrs {
 }
 
 impl Decode for AuthenticatedDataUnauthAttrs {
+    ghost errors = { ⟦<SetOf<Attribute> as Decode>⟧.errors };
+
     fn decode_with_tag_and_constraints(
         decoder: &mut Decoder<'_>,
         tag: Tag,

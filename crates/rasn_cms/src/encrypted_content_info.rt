@@ -56,12 +56,21 @@ impl Present for EncryptedContentInfo {
 }
 
 impl Decode for EncryptedContentInfo {
+    ghost use Rattle.rasn_de.specs.PartTypes.{DecodesSequenceParts};
+    ghost use Rattle.rasn_de.specs.ValueErrors.{errors_of};
+
+    ghost errors = { λ tag _. errors_of (DecodesSequenceParts ⟦<Parts as DecodeParts>⟧.parts ⟦<Parts as DecodeParts>⟧.tree ⟦<Parts as DecodeParts>⟧.errors tag) };
+
     fn decode_with_tag_and_constraints(
         decoder: &mut Decoder<'_>,
         tag: Tag,
         _constraints: &Constraints,
     ) -> Result<EncryptedContentInfo, DecodeError> {
-        let Required(content_type, rest) = decoder.read_sequence::<Parts>(tag)?;
+        let parts = match decoder.read_sequence::<Parts>(tag) {
+            Ok(parts) => parts,
+            Err(error) => return Err(error),
+        };
+        let Required(content_type, rest) = parts;
         let Required(content_encryption_algorithm, rest) = rest;
         let Optional(encrypted_content, End) = rest;
         Ok(EncryptedContentInfo {

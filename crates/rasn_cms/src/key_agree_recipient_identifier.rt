@@ -65,14 +65,14 @@ impl FirstTags for KeyAgreeRecipientIdentifier {
 impl Decode for KeyAgreeRecipientIdentifier {
     ghost use Rattle.std.specs.Prelude.{codes};
     ghost use Rattle.rasn_de.specs.AlternativeTypes.{DecodesAlternativeBy};
-    ghost use Rattle.rasn_de.specs.ValueErrors.{errors_of};
+    ghost use Rattle.rasn_de.specs.ValueErrors.{errors_of, IsErrorByTag};
     ghost use Rattle.std.specs.Prelude.{IfOk};
     ghost use Rattle.rasn_de.specs.Beyond.{got};
     ghost use Rattle.rasn_cms.specs.declared.key_agree_recipient_identifier.KeyAgreeRecipientIdentifier.TheVariants.{IssuerAndSerialNumber, RKeyId};
 
     ghost beyond = { λ _ old result new. IfOk result (elim [ IssuerAndSerialNumber x ↦ Unit {0} | RKeyId x ↦ got (⟦<Implicit<ContextTag<0>, RecipientKeyIdentifier> as Decode>⟧.beyond ⟦<Implicit<ContextTag<0>, RecipientKeyIdentifier> as AsnType>⟧.TAG) old x new ]) };
 
-    ghost errors = { λ _ _. errors_of (DecodesAlternativeBy ⟦<Alternatives as DecodeAlternatives>⟧.extensible ⟦<Alternatives as DecodeAlternatives>⟧.parts ⟦<Alternatives as DecodeAlternatives>⟧.inner (codes "KeyAgreeRecipientIdentifier")) };
+    ghost errors = { λ _ _ old e new. errors_of (DecodesAlternativeBy ⟦<Alternatives as DecodeAlternatives>⟧.extensible ⟦<Alternatives as DecodeAlternatives>⟧.parts ⟦<Alternatives as DecodeAlternatives>⟧.inner (codes "KeyAgreeRecipientIdentifier")) old e new × IsErrorByTag ⟦<Alternatives as DecodeAlternatives>⟧.errors old e new };
 
     fn decode_with_tag_and_constraints(
         decoder: &mut Decoder<'_>,

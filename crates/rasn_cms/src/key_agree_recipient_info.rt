@@ -72,12 +72,21 @@ impl Decode for KeyAgreeRecipientInfo {
 
     ghost beyond = { λ tag old result _. IfOk result (λ a. BeyondInside ⟦<Parts as DecodeParts>⟧.beyond (sequence_header tag) old (record { 0 = a.version; 1 = record { 0 = a.originator; 1 = record { 0 = a.ukm; 1 = record { 0 = a.key_encryption_algorithm; 1 = record { 0 = a.recipient_encrypted_keys; 1 = record {} } } } } })) };
 
+    ghost use Rattle.rasn_de.specs.PartTypes.{DecodesSequenceParts};
+    ghost use Rattle.rasn_de.specs.ValueErrors.{errors_of};
+
+    ghost errors = { λ tag _. errors_of (DecodesSequenceParts ⟦<Parts as DecodeParts>⟧.parts ⟦<Parts as DecodeParts>⟧.tree ⟦<Parts as DecodeParts>⟧.errors tag) };
+
     fn decode_with_tag_and_constraints(
         decoder: &mut Decoder<'_>,
         tag: Tag,
         _constraints: &Constraints,
     ) -> Result<KeyAgreeRecipientInfo, DecodeError> {
-        let Required(version, rest) = decoder.read_sequence::<Parts>(tag)?;
+        let parts = match decoder.read_sequence::<Parts>(tag) {
+            Ok(parts) => parts,
+            Err(error) => return Err(error),
+        };
+        let Required(version, rest) = parts;
         let Required(originator, rest) = rest;
         let Optional(ukm, rest) = rest;
         let Required(key_encryption_algorithm, rest) = rest;

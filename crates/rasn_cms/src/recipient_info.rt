@@ -83,14 +83,14 @@ impl FirstTags for RecipientInfo {
 impl Decode for RecipientInfo {
     ghost use Rattle.std.specs.Prelude.{codes};
     ghost use Rattle.rasn_de.specs.AlternativeTypes.{DecodesAlternativeBy};
-    ghost use Rattle.rasn_de.specs.ValueErrors.{errors_of};
+    ghost use Rattle.rasn_de.specs.ValueErrors.{errors_of, IsErrorByTag};
     ghost use Rattle.std.specs.Prelude.{IfOk};
     ghost use Rattle.rasn_de.specs.Beyond.{got};
     ghost use Rattle.rasn_cms.specs.declared.recipient_info.RecipientInfo.TheVariants.{Ktri, Kari, Kekri, Pwri, Ori};
 
     ghost beyond = { λ _ old result new. IfOk result (elim [ Ktri x ↦ Unit {0} | Kari x ↦ got (⟦<Implicit<ContextTag<1>, KeyAgreeRecipientInfo> as Decode>⟧.beyond ⟦<Implicit<ContextTag<1>, KeyAgreeRecipientInfo> as AsnType>⟧.TAG) old x new | Kekri x ↦ got (⟦<Implicit<ContextTag<2>, KekRecipientInfo> as Decode>⟧.beyond ⟦<Implicit<ContextTag<2>, KekRecipientInfo> as AsnType>⟧.TAG) old x new | Pwri x ↦ Unit {0} | Ori x ↦ Unit {0} ]) };
 
-    ghost errors = { λ _ _. errors_of (DecodesAlternativeBy ⟦<Alternatives as DecodeAlternatives>⟧.extensible ⟦<Alternatives as DecodeAlternatives>⟧.parts ⟦<Alternatives as DecodeAlternatives>⟧.inner (codes "RecipientInfo")) };
+    ghost errors = { λ _ _ old e new. errors_of (DecodesAlternativeBy ⟦<Alternatives as DecodeAlternatives>⟧.extensible ⟦<Alternatives as DecodeAlternatives>⟧.parts ⟦<Alternatives as DecodeAlternatives>⟧.inner (codes "RecipientInfo")) old e new × IsErrorByTag ⟦<Alternatives as DecodeAlternatives>⟧.errors old e new };
 
     fn decode_with_tag_and_constraints(
         decoder: &mut Decoder<'_>,

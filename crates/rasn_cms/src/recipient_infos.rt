@@ -61,6 +61,8 @@ impl Decode for RecipientInfos {
 
     ghost beyond = { λ tag old result new. IfOk result (λ a. got (⟦<SetOf<RecipientInfo> as Decode>⟧.beyond tag) old a.value new) };
 
+    ghost errors = { ⟦<SetOf<RecipientInfo> as Decode>⟧.errors };
+
     fn decode_with_tag_and_constraints(
         decoder: &mut Decoder<'_>,
         tag: Tag,

@@ -1,7 +1,7 @@
 //! `AlgorithmIdentifier ::= SEQUENCE { algorithm OBJECT IDENTIFIER,
 //! parameters ANY DEFINED BY algorithm OPTIONAL }` (RFC 5280, 4.1.1.2).
 use rasn::error::{DecodeError, EncodeError};
-use rasn::parts::{End, Optional, Put, PutOptional, Required};
+use rasn::parts::{DecodeParts, End, Optional, Put, PutOptional, Required};
 use rasn::types::{
     Any, AsnType, Constraints, Identifier, LawfulEq, ObjectIdentifier, Present, Tag,
 };
@@ -50,13 +50,25 @@ impl Present for AlgorithmIdentifier {
     ghost present = { λ _. parts_not_absent };
 }
 
+/// The components, as they are read.
+type Parts = Required<ObjectIdentifier, Optional<Any, End>>;
+
 impl Decode for AlgorithmIdentifier {
+    ghost use Rattle.rasn_de.specs.PartTypes.{DecodesSequenceParts};
+    ghost use Rattle.rasn_de.specs.ValueErrors.{errors_of};
+
+    ghost errors = { λ tag _. errors_of (DecodesSequenceParts ⟦<Parts as DecodeParts>⟧.parts ⟦<Parts as DecodeParts>⟧.tree ⟦<Parts as DecodeParts>⟧.errors tag) };
+
     fn decode_with_tag_and_constraints(
         decoder: &mut Decoder<'_>,
         tag: Tag,
         _constraints: &Constraints,
     ) -> Result<AlgorithmIdentifier, DecodeError> {
-        let Required(algorithm, Optional(parameters, End)) = decoder.read_sequence(tag)?;
+        let parts = match decoder.read_sequence::<Parts>(tag) {
+            Ok(parts) => parts,
+            Err(error) => return Err(error),
+        };
+        let Required(algorithm, Optional(parameters, End)) = parts;
         Ok(AlgorithmIdentifier {
             algorithm,
             parameters,

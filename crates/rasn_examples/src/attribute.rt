@@ -1,7 +1,7 @@
 //! `AttributeTypeAndValue ::= SEQUENCE { type OBJECT IDENTIFIER, value ANY DEFINED BY type }`
 //! (RFC 5280, 4.1.2.4).
 use rasn::error::{DecodeError, EncodeError};
-use rasn::parts::{End, Put, Required};
+use rasn::parts::{DecodeParts, End, Put, Required};
 use rasn::types::{
     Any, AsnType, Constraints, Identifier, LawfulEq, ObjectIdentifier, Present, Tag,
 };
@@ -49,13 +49,25 @@ impl Present for AttributeTypeAndValue {
     ghost present = { λ _. parts_not_absent };
 }
 
+/// The components, as they are read.
+type Parts = Required<ObjectIdentifier, Required<Any, End>>;
+
 impl Decode for AttributeTypeAndValue {
+    ghost use Rattle.rasn_de.specs.PartTypes.{DecodesSequenceParts};
+    ghost use Rattle.rasn_de.specs.ValueErrors.{errors_of};
+
+    ghost errors = { λ tag _. errors_of (DecodesSequenceParts ⟦<Parts as DecodeParts>⟧.parts ⟦<Parts as DecodeParts>⟧.tree ⟦<Parts as DecodeParts>⟧.errors tag) };
+
     fn decode_with_tag_and_constraints(
         decoder: &mut Decoder<'_>,
         tag: Tag,
         _constraints: &Constraints,
     ) -> Result<AttributeTypeAndValue, DecodeError> {
-        let Required(kind, Required(value, End)) = decoder.read_sequence(tag)?;
+        let parts = match decoder.read_sequence::<Parts>(tag) {
+            Ok(parts) => parts,
+            Err(error) => return Err(error),
+        };
+        let Required(kind, Required(value, End)) = parts;
         Ok(AttributeTypeAndValue { kind, value })
     }
 }

@@ -87,6 +87,11 @@ impl Present for Colour {
 }
 
 impl Decode for Colour {
+    ghost use Rattle.rasn_de.specs.Leaves.{FailsAs};
+    ghost use Rattle.rasn_de.specs.Enumerated.{EnumeratedAt};
+
+    ghost errors = { λ tag _ old. FailsAs (EnumeratedAt ⟦<Colour as Enumerated>⟧.known old.rule tag old.rest) old };
+
     #[tactic(auto, unfolding(rasn_types::specs::Grammar::Reads))]
     fn decode_with_tag_and_constraints(
         decoder: &mut Decoder<'_>,

@@ -3,7 +3,7 @@
 
 use crate::Both;
 use rasn::error::{DecodeError, EncodeError};
-use rasn::parts::{End, Optional, Put, PutOptional, Required};
+use rasn::parts::{DecodeParts, End, Optional, Put, PutOptional, Required};
 use rasn::types::{AsnType, Constraints, ContextTag, Identifier, Implicit, Integer, LawfulEq, Tag};
 use rasn::{Decode, Decoder, Encode, Encoder};
 
@@ -46,13 +46,25 @@ impl LawfulEq for Grouped {
     ghost decides = { Prim.search deciding depth 64 };
 }
 
+/// The components, as they are read.
+type Parts = Required<bool, Optional<Implicit<ContextTag<1>, Integer>, Optional<Group, End>>>;
+
 impl Decode for Grouped {
+    ghost use Rattle.rasn_de.specs.PartTypes.{DecodesSequenceParts};
+    ghost use Rattle.rasn_de.specs.ValueErrors.{errors_of};
+
+    ghost errors = { λ tag _. errors_of (DecodesSequenceParts ⟦<Parts as DecodeParts>⟧.parts ⟦<Parts as DecodeParts>⟧.tree ⟦<Parts as DecodeParts>⟧.errors tag) };
+
     fn decode_with_tag_and_constraints(
         decoder: &mut Decoder<'_>,
         tag: Tag,
         _constraints: &Constraints,
     ) -> Result<Grouped, DecodeError> {
-        let Required(truth, Optional(number, Optional(group, End))) = decoder.read_sequence(tag)?;
+        let parts = match decoder.read_sequence::<Parts>(tag) {
+            Ok(parts) => parts,
+            Err(error) => return Err(error),
+        };
+        let Required(truth, Optional(number, Optional(group, End))) = parts;
         Ok(Grouped {
             truth,
             number,

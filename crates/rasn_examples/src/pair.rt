@@ -1,7 +1,7 @@
 //! `Pair ::= SEQUENCE { number INTEGER (-2147483648..2147483647), truth BOOLEAN }`
 
 use rasn::error::{DecodeError, EncodeError};
-use rasn::parts::{End, Put, Required};
+use rasn::parts::{DecodeParts, End, Put, Required};
 use rasn::types::{AsnType, Constraints, Identifier, LawfulEq, Present, Tag};
 use rasn::{Decode, Decoder, Encode, Encoder};
 
@@ -45,13 +45,25 @@ impl Present for Pair {
     ghost present = { λ _. parts_not_absent };
 }
 
+/// The components, as they are read.
+type Parts = Required<i32, Required<bool, End>>;
+
 impl Decode for Pair {
+    ghost use Rattle.rasn_de.specs.PartTypes.{DecodesSequenceParts};
+    ghost use Rattle.rasn_de.specs.ValueErrors.{errors_of};
+
+    ghost errors = { λ tag _. errors_of (DecodesSequenceParts ⟦<Parts as DecodeParts>⟧.parts ⟦<Parts as DecodeParts>⟧.tree ⟦<Parts as DecodeParts>⟧.errors tag) };
+
     fn decode_with_tag_and_constraints(
         decoder: &mut Decoder<'_>,
         tag: Tag,
         _constraints: &Constraints,
     ) -> Result<Pair, DecodeError> {
-        let Required(number, Required(truth, End)) = decoder.read_sequence(tag)?;
+        let parts = match decoder.read_sequence::<Parts>(tag) {
+            Ok(parts) => parts,
+            Err(error) => return Err(error),
+        };
+        let Required(number, Required(truth, End)) = parts;
         Ok(Pair { number, truth })
     }
 }

@@ -1,7 +1,7 @@
 //! `Set3 ::= SET { zero [0] IMPLICIT INTEGER (0..255), one [1] IMPLICIT INTEGER (0..255), two [2]
 //! IMPLICIT INTEGER (0..255) }`
 use rasn::error::{DecodeError, EncodeError};
-use rasn::parts::{End, Put, Required};
+use rasn::parts::{DecodeSetParts, End, Put, Required};
 use rasn::types::{
     AsnType, Class, Constraints, Constructed, ContextTag, Field, FieldPresence, Fields, Identifier,
     Implicit, LawfulEq, Present, Tag,
@@ -113,16 +113,22 @@ impl Constructed<3, 0> for Set3 {
 }
 
 impl Decode for Set3 {
+    ghost use Rattle.std.specs.Prelude.{[], ◌∷◌, codes};
+    ghost use Rattle.rasn_de.specs.SetPartTypes.{DecodesNamedParts};
+    ghost use Rattle.rasn_de.specs.ValueErrors.{errors_of};
+
+    ghost errors = { λ tag _. errors_of (DecodesNamedParts ⟦<Components as DecodeSetParts>⟧.extensible ⟦<Components as DecodeSetParts>⟧.parts ⟦<Components as DecodeSetParts>⟧.tree (codes "Set3") (codes "zero" ∷ codes "one" ∷ codes "two" ∷ []) ⟦<Components as DecodeSetParts>⟧.errors tag) };
+
     fn decode_with_tag_and_constraints(
         decoder: &mut Decoder<'_>,
         tag: Tag,
         _constraints: &Constraints,
     ) -> Result<Set3, DecodeError> {
-        let Required(zero, Required(one, Required(two, End))): Components = decoder.read_set(
-            tag,
-            "Set3",
-            &["zero", "one", "two"],
-        )?;
+        let parts = match decoder.read_set::<Components>(tag, "Set3", &["zero", "one", "two"]) {
+            Ok(parts) => parts,
+            Err(error) => return Err(error),
+        };
+        let Required(zero, Required(one, Required(two, End))) = parts;
         Ok(Set3 {
             zero: *zero,
             one: *one,

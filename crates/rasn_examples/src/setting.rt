@@ -1,7 +1,7 @@
 //! `Setting ::= SEQUENCE { truth BOOLEAN, level INTEGER (0..255) DEFAULT 7 }`
 
 use rasn::error::{DecodeError, EncodeError};
-use rasn::parts::{DefaultValue, Defaulted, End, Put, PutDefault, Required};
+use rasn::parts::{DecodeParts, DefaultValue, Defaulted, End, Put, PutDefault, Required};
 use rasn::types::{AsnType, Constraints, Identifier, LawfulEq, Present, Tag};
 use rasn::{Decode, Decoder, Encode, Encoder};
 use std::alloc::{AllocError, Global};
@@ -63,13 +63,25 @@ impl DefaultValue for Seven {
     }
 }
 
+/// The components, as they are read.
+type Parts = Required<bool, Defaulted<Seven, End>>;
+
 impl Decode for Setting {
+    ghost use Rattle.rasn_de.specs.PartTypes.{DecodesSequenceParts};
+    ghost use Rattle.rasn_de.specs.ValueErrors.{errors_of};
+
+    ghost errors = { λ tag _. errors_of (DecodesSequenceParts ⟦<Parts as DecodeParts>⟧.parts ⟦<Parts as DecodeParts>⟧.tree ⟦<Parts as DecodeParts>⟧.errors tag) };
+
     fn decode_with_tag_and_constraints(
         decoder: &mut Decoder<'_>,
         tag: Tag,
         _constraints: &Constraints,
     ) -> Result<Setting, DecodeError> {
-        let Required(truth, Defaulted::<Seven, _>(level, End)) = decoder.read_sequence(tag)?;
+        let parts = match decoder.read_sequence::<Parts>(tag) {
+            Ok(parts) => parts,
+            Err(error) => return Err(error),
+        };
+        let Required(truth, Defaulted::<Seven, _>(level, End)) = parts;
         Ok(Setting { truth, level })
     }
 }

@@ -62,9 +62,12 @@ impl Decode for Time {
     ghost use Rattle.std.specs.Prelude.{◌≡◌, IfOk, IfErr, Err};
     ghost use Rattle.rasn_de.specs.Decodes.{Decodes};
     ghost use Rattle.rasn_de.specs.AlternativeTypes.{DecodesAlternative};
+    ghost use Rattle.rasn_de.specs.ValueErrors.{IsErrorByTag};
     ghost use Rattle.rasn_examples.specs.Times.{time_alternatives, time_shape, time_tree, time_name, time_beyond};
 
     ghost beyond = { λ _ old result new. IfOk result (λ v. time_beyond old v new) };
+
+    ghost errors = { λ _ _ old e new. DecodesAlternative time_alternatives time_tree time_name old (Err e) new × IsErrorByTag ⟦<Times as DecodeAlternatives>⟧.errors old e new };
 
     fn decode_with_tag_and_constraints(
         decoder: &mut Decoder<'_>,
@@ -75,6 +78,7 @@ impl Decode for Time {
         ensures beyond { IfOk result (λ v. time_beyond decoder.old v decoder.new) }
         ensures rules { IfErr result (λ e. e.codec ≡ decoder.old.rule) }
         ensures fails { IfErr result (λ e. DecodesAlternative time_alternatives time_tree time_name decoder.old (Err e) decoder.new) }
+        ensures errors { IfErr result (λ e. DecodesAlternative time_alternatives time_tree time_name decoder.old (Err e) decoder.new × IsErrorByTag ⟦<Times as DecodeAlternatives>⟧.errors decoder.old e decoder.new) }
     {
         match decoder.read_choice::<Times>("Time")? {
             OneOf::This(time) => Ok(Time::Utc(time)),

@@ -52,6 +52,8 @@ impl Present for AttributeVals {
 }
 
 impl Decode for AttributeVals {
+    ghost errors = { ⟦<Vec<AttributeValue> as Decode>⟧.errors };
+
     fn decode_with_tag_and_constraints(
         decoder: &mut Decoder<'_>,
         tag: Tag,

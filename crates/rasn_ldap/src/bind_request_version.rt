@@ -51,6 +51,8 @@ impl Present for BindRequestVersion {
 }
 
 impl Decode for BindRequestVersion {
+    ghost errors = { ⟦<u8 as Decode>⟧.errors };
+
     fn decode_with_tag_and_constraints(
         decoder: &mut Decoder<'_>,
         tag: Tag,

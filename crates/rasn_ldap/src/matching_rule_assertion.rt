@@ -62,12 +62,21 @@ impl Present for MatchingRuleAssertion {
 }
 
 impl Decode for MatchingRuleAssertion {
+    ghost use Rattle.rasn_de.specs.PartTypes.{DecodesSequenceParts};
+    ghost use Rattle.rasn_de.specs.ValueErrors.{errors_of};
+
+    ghost errors = { λ tag _. errors_of (DecodesSequenceParts ⟦<Parts as DecodeParts>⟧.parts ⟦<Parts as DecodeParts>⟧.tree ⟦<Parts as DecodeParts>⟧.errors tag) };
+
     fn decode_with_tag_and_constraints(
         decoder: &mut Decoder<'_>,
         tag: Tag,
         _constraints: &Constraints,
     ) -> Result<MatchingRuleAssertion, DecodeError> {
-        let Optional(matching_rule, rest) = decoder.read_sequence::<Parts>(tag)?;
+        let parts = match decoder.read_sequence::<Parts>(tag) {
+            Ok(parts) => parts,
+            Err(error) => return Err(error),
+        };
+        let Optional(matching_rule, rest) = parts;
         let Optional(type_value, rest) = rest;
         let Required(match_value, rest) = rest;
         let Defaulted(dn_attributes, rest) = rest;

@@ -65,12 +65,21 @@ impl Present for ModifyDnRequest {
 }
 
 impl Decode for ModifyDnRequest {
+    ghost use Rattle.rasn_de.specs.PartTypes.{DecodesSequenceParts};
+    ghost use Rattle.rasn_de.specs.ValueErrors.{errors_of};
+
+    ghost errors = { λ tag _. errors_of (DecodesSequenceParts ⟦<Parts as DecodeParts>⟧.parts ⟦<Parts as DecodeParts>⟧.tree ⟦<Parts as DecodeParts>⟧.errors tag) };
+
     fn decode_with_tag_and_constraints(
         decoder: &mut Decoder<'_>,
         tag: Tag,
         _constraints: &Constraints,
     ) -> Result<ModifyDnRequest, DecodeError> {
-        let Required(entry, rest) = decoder.read_sequence::<Parts>(tag)?;
+        let parts = match decoder.read_sequence::<Parts>(tag) {
+            Ok(parts) => parts,
+            Err(error) => return Err(error),
+        };
+        let Required(entry, rest) = parts;
         let Required(newrdn, rest) = rest;
         let Required(deleteoldrdn, rest) = rest;
         let Optional(new_superior, rest) = rest;

@@ -52,6 +52,8 @@ impl Present for Referral {
 }
 
 impl Decode for Referral {
+    ghost errors = { ⟦<Vec<LdapString> as Decode>⟧.errors };
+
     fn decode_with_tag_and_constraints(
         decoder: &mut Decoder<'_>,
         tag: Tag,

@@ -54,12 +54,21 @@ impl Present for SaslCredentials {
 }
 
 impl Decode for SaslCredentials {
+    ghost use Rattle.rasn_de.specs.PartTypes.{DecodesSequenceParts};
+    ghost use Rattle.rasn_de.specs.ValueErrors.{errors_of};
+
+    ghost errors = { λ tag _. errors_of (DecodesSequenceParts ⟦<Parts as DecodeParts>⟧.parts ⟦<Parts as DecodeParts>⟧.tree ⟦<Parts as DecodeParts>⟧.errors tag) };
+
     fn decode_with_tag_and_constraints(
         decoder: &mut Decoder<'_>,
         tag: Tag,
         _constraints: &Constraints,
     ) -> Result<SaslCredentials, DecodeError> {
-        let Required(mechanism, rest) = decoder.read_sequence::<Parts>(tag)?;
+        let parts = match decoder.read_sequence::<Parts>(tag) {
+            Ok(parts) => parts,
+            Err(error) => return Err(error),
+        };
+        let Required(mechanism, rest) = parts;
         let Optional(credentials, rest) = rest;
         let Required(unknown, End) = rest;
         Ok(SaslCredentials {

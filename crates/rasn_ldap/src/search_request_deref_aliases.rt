@@ -88,6 +88,11 @@ impl Present for SearchRequestDerefAliases {
 }
 
 impl Decode for SearchRequestDerefAliases {
+    ghost use Rattle.rasn_de.specs.Leaves.{FailsAs};
+    ghost use Rattle.rasn_de.specs.Enumerated.{EnumeratedAt};
+
+    ghost errors = { λ tag _ old. FailsAs (EnumeratedAt ⟦<SearchRequestDerefAliases as Enumerated>⟧.known old.rule tag old.rest) old };
+
     #[tactic(auto, unfolding(rasn_types::specs::Grammar::Reads))]
     fn decode_with_tag_and_constraints(
         decoder: &mut Decoder<'_>,

@@ -54,6 +54,8 @@ impl Present for SubstringFilterSubstrings {
 }
 
 impl Decode for SubstringFilterSubstrings {
+    ghost errors = { ⟦<Vec<Substring> as Decode>⟧.errors };
+
     fn decode_with_tag_and_constraints(
         decoder: &mut Decoder<'_>,
         tag: Tag,

@@ -51,6 +51,8 @@ impl Present for AttributeValues {
 }
 
 impl Decode for AttributeValues {
+    ghost errors = { ⟦<SetOf<Any> as Decode>⟧.errors };
+
     fn decode_with_tag_and_constraints(
         decoder: &mut Decoder<'_>,
         tag: Tag,

@@ -56,12 +56,21 @@ impl Present for AuthorityKeyIdentifier {
 }
 
 impl Decode for AuthorityKeyIdentifier {
+    ghost use Rattle.rasn_de.specs.PartTypes.{DecodesSequenceParts};
+    ghost use Rattle.rasn_de.specs.ValueErrors.{errors_of};
+
+    ghost errors = { λ tag _. errors_of (DecodesSequenceParts ⟦<Parts as DecodeParts>⟧.parts ⟦<Parts as DecodeParts>⟧.tree ⟦<Parts as DecodeParts>⟧.errors tag) };
+
     fn decode_with_tag_and_constraints(
         decoder: &mut Decoder<'_>,
         tag: Tag,
         _constraints: &Constraints,
     ) -> Result<AuthorityKeyIdentifier, DecodeError> {
-        let Optional(key_identifier, rest) = decoder.read_sequence::<Parts>(tag)?;
+        let parts = match decoder.read_sequence::<Parts>(tag) {
+            Ok(parts) => parts,
+            Err(error) => return Err(error),
+        };
+        let Optional(key_identifier, rest) = parts;
         let Optional(authority_cert_issuer, rest) = rest;
         let Optional(authority_cert_serial_number, End) = rest;
         Ok(AuthorityKeyIdentifier {

@@ -51,6 +51,8 @@ impl Present for BasicConstraintsPathLenConstraint {
 }
 
 impl Decode for BasicConstraintsPathLenConstraint {
+    ghost errors = { ⟦<Integer as Decode>⟧.errors };
+
     fn decode_with_tag_and_constraints(
         decoder: &mut Decoder<'_>,
         tag: Tag,

@@ -62,12 +62,21 @@ impl Decode for CertificateList {
 
     ghost beyond = { λ tag old result _. IfOk result (λ a. BeyondInside ⟦<Parts as DecodeParts>⟧.beyond (sequence_header tag) old (record { 0 = a.tbs_cert_list; 1 = record { 0 = a.signature_algorithm; 1 = record { 0 = a.signature_value; 1 = record {} } } })) };
 
+    ghost use Rattle.rasn_de.specs.PartTypes.{DecodesSequenceParts};
+    ghost use Rattle.rasn_de.specs.ValueErrors.{errors_of};
+
+    ghost errors = { λ tag _. errors_of (DecodesSequenceParts ⟦<Parts as DecodeParts>⟧.parts ⟦<Parts as DecodeParts>⟧.tree ⟦<Parts as DecodeParts>⟧.errors tag) };
+
     fn decode_with_tag_and_constraints(
         decoder: &mut Decoder<'_>,
         tag: Tag,
         _constraints: &Constraints,
     ) -> Result<CertificateList, DecodeError> {
-        let Required(tbs_cert_list, rest) = decoder.read_sequence::<Parts>(tag)?;
+        let parts = match decoder.read_sequence::<Parts>(tag) {
+            Ok(parts) => parts,
+            Err(error) => return Err(error),
+        };
+        let Required(tbs_cert_list, rest) = parts;
         let Required(signature_algorithm, rest) = rest;
         let Required(signature_value, End) = rest;
         Ok(CertificateList {

@@ -51,6 +51,8 @@ impl Present for DirectoryStringBmpString {
 }
 
 impl Decode for DirectoryStringBmpString {
+    ghost errors = { ⟦<BmpString as Decode>⟧.errors };
+
     fn decode_with_tag_and_constraints(
         decoder: &mut Decoder<'_>,
         tag: Tag,

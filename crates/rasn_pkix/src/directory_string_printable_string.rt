@@ -51,6 +51,8 @@ impl Present for DirectoryStringPrintableString {
 }
 
 impl Decode for DirectoryStringPrintableString {
+    ghost errors = { ⟦<PrintableString as Decode>⟧.errors };
+
     fn decode_with_tag_and_constraints(
         decoder: &mut Decoder<'_>,
         tag: Tag,

@@ -51,6 +51,8 @@ impl Present for DirectoryStringTeletexString {
 }
 
 impl Decode for DirectoryStringTeletexString {
+    ghost errors = { ⟦<TeletexString as Decode>⟧.errors };
+
     fn decode_with_tag_and_constraints(
         decoder: &mut Decoder<'_>,
         tag: Tag,

@@ -54,6 +54,8 @@ impl Present for DirectoryStringUniversalString {
 }
 
 impl Decode for DirectoryStringUniversalString {
+    ghost errors = { ⟦<GeneralString as Decode>⟧.errors };
+
     fn decode_with_tag_and_constraints(
         decoder: &mut Decoder<'_>,
         tag: Tag,

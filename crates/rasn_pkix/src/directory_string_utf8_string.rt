@@ -51,6 +51,8 @@ impl Present for DirectoryStringUtf8String {
 }
 
 impl Decode for DirectoryStringUtf8String {
+    ghost errors = { ⟦<Utf8String as Decode>⟧.errors };
+
     fn decode_with_tag_and_constraints(
         decoder: &mut Decoder<'_>,
         tag: Tag,

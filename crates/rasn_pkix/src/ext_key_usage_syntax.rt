@@ -52,6 +52,8 @@ impl Present for ExtKeyUsageSyntax {
 }
 
 impl Decode for ExtKeyUsageSyntax {
+    ghost errors = { ⟦<Vec<KeyPurposeId> as Decode>⟧.errors };
+
     fn decode_with_tag_and_constraints(
         decoder: &mut Decoder<'_>,
         tag: Tag,

@@ -54,12 +54,21 @@ impl Present for Extension {
 }
 
 impl Decode for Extension {
+    ghost use Rattle.rasn_de.specs.PartTypes.{DecodesSequenceParts};
+    ghost use Rattle.rasn_de.specs.ValueErrors.{errors_of};
+
+    ghost errors = { λ tag _. errors_of (DecodesSequenceParts ⟦<Parts as DecodeParts>⟧.parts ⟦<Parts as DecodeParts>⟧.tree ⟦<Parts as DecodeParts>⟧.errors tag) };
+
     fn decode_with_tag_and_constraints(
         decoder: &mut Decoder<'_>,
         tag: Tag,
         _constraints: &Constraints,
     ) -> Result<Extension, DecodeError> {
-        let Required(extn_id, rest) = decoder.read_sequence::<Parts>(tag)?;
+        let parts = match decoder.read_sequence::<Parts>(tag) {
+            Ok(parts) => parts,
+            Err(error) => return Err(error),
+        };
+        let Required(extn_id, rest) = parts;
         let Defaulted(critical, rest) = rest;
         let Required(extn_value, End) = rest;
         Ok(Extension {

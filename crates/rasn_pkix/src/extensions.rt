@@ -54,6 +54,8 @@ impl Present for Extensions {
 }
 
 impl Decode for Extensions {
+    ghost errors = { ⟦<Vec<Extension> as Decode>⟧.errors };
+
     fn decode_with_tag_and_constraints(
         decoder: &mut Decoder<'_>,
         tag: Tag,

@@ -95,9 +95,9 @@ impl FirstTags for GeneralName {
 impl Decode for GeneralName {
     ghost use Rattle.std.specs.Prelude.{codes};
     ghost use Rattle.rasn_de.specs.AlternativeTypes.{DecodesAlternativeBy};
-    ghost use Rattle.rasn_de.specs.ValueErrors.{errors_of};
+    ghost use Rattle.rasn_de.specs.ValueErrors.{errors_of, IsErrorByTag};
 
-    ghost errors = { λ _ _. errors_of (DecodesAlternativeBy ⟦<Alternatives as DecodeAlternatives>⟧.extensible ⟦<Alternatives as DecodeAlternatives>⟧.parts ⟦<Alternatives as DecodeAlternatives>⟧.inner (codes "GeneralName")) };
+    ghost errors = { λ _ _ old e new. errors_of (DecodesAlternativeBy ⟦<Alternatives as DecodeAlternatives>⟧.extensible ⟦<Alternatives as DecodeAlternatives>⟧.parts ⟦<Alternatives as DecodeAlternatives>⟧.inner (codes "GeneralName")) old e new × IsErrorByTag ⟦<Alternatives as DecodeAlternatives>⟧.errors old e new };
 
     fn decode_with_tag_and_constraints(
         decoder: &mut Decoder<'_>,

@@ -54,6 +54,8 @@ impl Present for GeneralNames {
 }
 
 impl Decode for GeneralNames {
+    ghost errors = { ⟦<Vec<GeneralName> as Decode>⟧.errors };
+
     fn decode_with_tag_and_constraints(
         decoder: &mut Decoder<'_>,
         tag: Tag,

@@ -47,6 +47,8 @@ impl Present for KeyUsage {
 }
 
 impl Decode for KeyUsage {
+    ghost errors = { ⟦<NamedBits as Decode>⟧.errors };
+
     fn decode_with_tag_and_constraints(
         decoder: &mut Decoder<'_>,
         tag: Tag,

@@ -43,6 +43,8 @@ impl Present for OrAddress {
 }
 
 impl Decode for OrAddress {
+    ghost errors = { ⟦<Vec<Any> as Decode>⟧.errors };
+
     fn decode_with_tag_and_constraints(
         decoder: &mut Decoder<'_>,
         tag: Tag,

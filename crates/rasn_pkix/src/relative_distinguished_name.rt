@@ -56,6 +56,8 @@ impl Present for RelativeDistinguishedName {
 }
 
 impl Decode for RelativeDistinguishedName {
+    ghost errors = { ⟦<SetOf<AttributeTypeAndValue> as Decode>⟧.errors };
+
     fn decode_with_tag_and_constraints(
         decoder: &mut Decoder<'_>,
         tag: Tag,

@@ -63,12 +63,21 @@ impl Decode for RevokedCertificate {
 
     ghost beyond = { λ tag old result _. IfOk result (λ a. BeyondInside ⟦<Parts as DecodeParts>⟧.beyond (sequence_header tag) old (record { 0 = a.user_certificate; 1 = record { 0 = a.revocation_date; 1 = record { 0 = a.crl_entry_extensions; 1 = record {} } } })) };
 
+    ghost use Rattle.rasn_de.specs.PartTypes.{DecodesSequenceParts};
+    ghost use Rattle.rasn_de.specs.ValueErrors.{errors_of};
+
+    ghost errors = { λ tag _. errors_of (DecodesSequenceParts ⟦<Parts as DecodeParts>⟧.parts ⟦<Parts as DecodeParts>⟧.tree ⟦<Parts as DecodeParts>⟧.errors tag) };
+
     fn decode_with_tag_and_constraints(
         decoder: &mut Decoder<'_>,
         tag: Tag,
         _constraints: &Constraints,
     ) -> Result<RevokedCertificate, DecodeError> {
-        let Required(user_certificate, rest) = decoder.read_sequence::<Parts>(tag)?;
+        let parts = match decoder.read_sequence::<Parts>(tag) {
+            Ok(parts) => parts,
+            Err(error) => return Err(error),
+        };
+        let Required(user_certificate, rest) = parts;
         let Required(revocation_date, rest) = rest;
         let Optional(crl_entry_extensions, End) = rest;
         Ok(RevokedCertificate {

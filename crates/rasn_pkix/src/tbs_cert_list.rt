@@ -83,12 +83,21 @@ impl Decode for TbsCertList {
 
     ghost beyond = { λ tag old result _. IfOk result (λ a. BeyondInside ⟦<Parts as DecodeParts>⟧.beyond (sequence_header tag) old (record { 0 = a.version; 1 = record { 0 = a.signature; 1 = record { 0 = a.issuer; 1 = record { 0 = a.this_update; 1 = record { 0 = a.next_update; 1 = record { 0 = a.revoked_certificates; 1 = record { 0 = a.crl_extensions; 1 = record {} } } } } } } })) };
 
+    ghost use Rattle.rasn_de.specs.PartTypes.{DecodesSequenceParts};
+    ghost use Rattle.rasn_de.specs.ValueErrors.{errors_of};
+
+    ghost errors = { λ tag _. errors_of (DecodesSequenceParts ⟦<Parts as DecodeParts>⟧.parts ⟦<Parts as DecodeParts>⟧.tree ⟦<Parts as DecodeParts>⟧.errors tag) };
+
     fn decode_with_tag_and_constraints(
         decoder: &mut Decoder<'_>,
         tag: Tag,
         _constraints: &Constraints,
     ) -> Result<TbsCertList, DecodeError> {
-        let Optional(version, rest) = decoder.read_sequence::<Parts>(tag)?;
+        let parts = match decoder.read_sequence::<Parts>(tag) {
+            Ok(parts) => parts,
+            Err(error) => return Err(error),
+        };
+        let Optional(version, rest) = parts;
         let Required(signature, rest) = rest;
         let Required(issuer, rest) = rest;
         let Required(this_update, rest) = rest;

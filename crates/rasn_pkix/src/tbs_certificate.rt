@@ -98,12 +98,21 @@ impl Decode for TbsCertificate {
 
     ghost beyond = { λ tag old result _. IfOk result (λ a. BeyondInside ⟦<Parts as DecodeParts>⟧.beyond (sequence_header tag) old (record { 0 = a.version; 1 = record { 0 = a.serial_number; 1 = record { 0 = a.signature; 1 = record { 0 = a.issuer; 1 = record { 0 = a.validity; 1 = record { 0 = a.subject; 1 = record { 0 = a.subject_public_key_info; 1 = record { 0 = a.issuer_unique_id; 1 = record { 0 = a.subject_unique_id; 1 = record { 0 = a.extensions; 1 = record {} } } } } } } } } } })) };
 
+    ghost use Rattle.rasn_de.specs.PartTypes.{DecodesSequenceParts};
+    ghost use Rattle.rasn_de.specs.ValueErrors.{errors_of};
+
+    ghost errors = { λ tag _. errors_of (DecodesSequenceParts ⟦<Parts as DecodeParts>⟧.parts ⟦<Parts as DecodeParts>⟧.tree ⟦<Parts as DecodeParts>⟧.errors tag) };
+
     fn decode_with_tag_and_constraints(
         decoder: &mut Decoder<'_>,
         tag: Tag,
         _constraints: &Constraints,
     ) -> Result<TbsCertificate, DecodeError> {
-        let DefaultedExplicit(version, rest) = decoder.read_sequence::<Parts>(tag)?;
+        let parts = match decoder.read_sequence::<Parts>(tag) {
+            Ok(parts) => parts,
+            Err(error) => return Err(error),
+        };
+        let DefaultedExplicit(version, rest) = parts;
         let Required(serial_number, rest) = rest;
         let Required(signature, rest) = rest;
         let Required(issuer, rest) = rest;

@@ -62,14 +62,14 @@ impl FirstTags for Time {
 impl Decode for Time {
     ghost use Rattle.std.specs.Prelude.{codes};
     ghost use Rattle.rasn_de.specs.AlternativeTypes.{DecodesAlternativeBy};
-    ghost use Rattle.rasn_de.specs.ValueErrors.{errors_of};
+    ghost use Rattle.rasn_de.specs.ValueErrors.{errors_of, IsErrorByTag};
     ghost use Rattle.std.specs.Prelude.{IfOk};
     ghost use Rattle.rasn_de.specs.Beyond.{got};
     ghost use Rattle.rasn_pkix.specs.declared.time.Time.TheVariants.{UtcTime, GeneralTime};
 
     ghost beyond = { λ _ old result new. IfOk result (elim [ UtcTime x ↦ Unit {0} | GeneralTime x ↦ got (⟦<GeneralizedTime as Decode>⟧.beyond ⟦<GeneralizedTime as AsnType>⟧.TAG) old x new ]) };
 
-    ghost errors = { λ _ _. errors_of (DecodesAlternativeBy ⟦<Alternatives as DecodeAlternatives>⟧.extensible ⟦<Alternatives as DecodeAlternatives>⟧.parts ⟦<Alternatives as DecodeAlternatives>⟧.inner (codes "Time")) };
+    ghost errors = { λ _ _ old e new. errors_of (DecodesAlternativeBy ⟦<Alternatives as DecodeAlternatives>⟧.extensible ⟦<Alternatives as DecodeAlternatives>⟧.parts ⟦<Alternatives as DecodeAlternatives>⟧.inner (codes "Time")) old e new × IsErrorByTag ⟦<Alternatives as DecodeAlternatives>⟧.errors old e new };
 
     fn decode_with_tag_and_constraints(
         decoder: &mut Decoder<'_>,

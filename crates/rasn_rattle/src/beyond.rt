@@ -32,12 +32,35 @@ const OF_CONSTRAINED: &str = "    ghost use Rattle.std.specs.Prelude.{IfOk};
 
 ";
 
-/// Which errors there are of a CHOICE: they have its name.
+/// Which errors there are of a SEQUENCE: those of its parts, or of what is around them.
+const ERRORS_OF_SEQUENCE: &str =
+    "    ghost use Rattle.rasn_de.specs.PartTypes.{DecodesSequenceParts};
+    ghost use Rattle.rasn_de.specs.ValueErrors.{errors_of};
+
+    ghost errors = { λ tag _. errors_of (DecodesSequenceParts ⟦<Parts as DecodeParts>⟧.parts ⟦<Parts as DecodeParts>⟧.tree ⟦<Parts as DecodeParts>⟧.errors tag) };
+
+";
+
+/// Which errors there are of a SET: they have its name and those of its parts, or are the parts'.
+const ERRORS_OF_SET: &str = "    ghost use Rattle.std.specs.Prelude.{[], ◌∷◌, codes};
+    ghost use Rattle.rasn_de.specs.SetPartTypes.{DecodesNamedParts};
+    ghost use Rattle.rasn_de.specs.ValueErrors.{errors_of};
+
+    ghost errors = { λ tag _. errors_of (DecodesNamedParts ⟦<Parts as DecodeSetParts>⟧.extensible ⟦<Parts as DecodeSetParts>⟧.parts ⟦<Parts as DecodeSetParts>⟧.tree (codes \"@Name@\") (@part_names@) ⟦<Parts as DecodeSetParts>⟧.errors tag) };
+
+";
+
+/// Which errors there are of a type with a constraint: those of the type without it.
+pub(crate) const ERRORS_OF_CONSTRAINED: &str = "    ghost errors = { ⟦<@inner@ as Decode>⟧.errors };
+
+";
+
+/// Which errors there are of a CHOICE: they have its name, or are those of the alternative.
 pub(crate) const ERRORS_OF_CHOICE: &str = "    ghost use Rattle.std.specs.Prelude.{codes};
     ghost use Rattle.rasn_de.specs.AlternativeTypes.{DecodesAlternativeBy};
-    ghost use Rattle.rasn_de.specs.ValueErrors.{errors_of};
+    ghost use Rattle.rasn_de.specs.ValueErrors.{errors_of, IsErrorByTag};
 @beyond@
-    ghost errors = { λ _ _. errors_of (DecodesAlternativeBy ⟦<Alternatives as DecodeAlternatives>⟧.extensible ⟦<Alternatives as DecodeAlternatives>⟧.parts ⟦<Alternatives as DecodeAlternatives>⟧.inner (codes \"@Name@\")) };
+    ghost errors = { λ _ _ old e new. errors_of (DecodesAlternativeBy ⟦<Alternatives as DecodeAlternatives>⟧.extensible ⟦<Alternatives as DecodeAlternatives>⟧.parts ⟦<Alternatives as DecodeAlternatives>⟧.inner (codes \"@Name@\")) old e new × IsErrorByTag ⟦<Alternatives as DecodeAlternatives>⟧.errors old e new };
 ";
 
 /// What the value of a CHOICE keeps.
@@ -111,6 +134,22 @@ impl Plan<'_> {
         let mut values = Values::new(self.alloc);
         values.add_str("tree", tree)?;
         values.filled(if is_set { OF_SET } else { OF_SEQUENCE })
+    }
+
+    /// Returns which errors there are of a SEQUENCE or a SET, whose components have these names.
+    pub(crate) fn errors_of_struct(
+        &self,
+        id: usize,
+        is_set: bool,
+        part_names: String,
+    ) -> Result<String, AllocError> {
+        let mut values = self.values_of(id)?;
+        values.add("part_names", part_names)?;
+        values.filled(if is_set {
+            ERRORS_OF_SET
+        } else {
+            ERRORS_OF_SEQUENCE
+        })
     }
 
     /// Returns what the value of a CHOICE keeps, whose alternatives keep this.

@@ -1,4 +1,5 @@
 //! A type with a constraint (X.680 51) as a struct of one field.
+use crate::beyond::ERRORS_OF_CONSTRAINED;
 use crate::bounds::bounds_of;
 use crate::expression::push_word;
 use crate::layout::{comment, is_short};
@@ -52,7 +53,7 @@ impl Present for @Name@ {
 }
 
 impl Decode for @Name@ {
-@beyond@    fn decode_with_tag_and_constraints(
+@beyond@@errors@    fn decode_with_tag_and_constraints(
         decoder: &mut Decoder<'_>,
         tag: Tag,
         constraints: &Constraints,
@@ -174,6 +175,7 @@ fn add_field(
     values.add("bounds", term)?;
     values.add("const_bounds", constant)?;
     values.add_str("inner", inner)?;
+    values.add("errors", values.filled(ERRORS_OF_CONSTRAINED)?)?;
     values.add("read", read_text(alloc, inner)?)
 }
 

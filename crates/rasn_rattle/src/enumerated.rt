@@ -81,6 +81,11 @@ impl Present for @Name@ {
 }
 
 impl Decode for @Name@ {
+    ghost use Rattle.rasn_de.specs.Leaves.{FailsAs};
+    ghost use Rattle.rasn_de.specs.Enumerated.{EnumeratedAt};
+
+    ghost errors = { λ tag _ old. FailsAs (EnumeratedAt ⟦<@Name@ as Enumerated>⟧.known old.rule tag old.rest) old };
+
     #[tactic(auto, unfolding(rasn_types::specs::Grammar::Reads))]
     fn decode_with_tag_and_constraints(
         decoder: &mut Decoder<'_>,

@@ -1,6 +1,6 @@
 //! The components of a SEQUENCE or a SET, as parts of a struct's text.
 use crate::defaults::{DefaultText, default_name, push_default};
-use crate::layout::push_alias;
+use crate::layout::{is_short, push_alias};
 use crate::plan::Plan;
 use crate::template::{push_separator, push_times};
 use crate::words::field_name;
@@ -120,7 +120,7 @@ impl<'schema> Plan<'schema> {
         Ok(text)
     }
 
-    /// Returns the call that reads the parts of a SET.
+    /// Returns the beginning of the `match` that reads the parts of a SET.
     fn read_set_call(&self, id: usize, parts: &[Part<'_>]) -> Result<String, AllocError> {
         let mut names = String::new(self.alloc);
         for part in parts {
@@ -130,14 +130,18 @@ impl<'schema> Plan<'schema> {
             }
         }
         let (name, _file) = self.names_of(id);
-        if names.len().saturating_add(name.len()) < 25 {
-            return format!(in self.alloc;
-                "decoder.read_set::<Parts>(tag, \"{name}\", &[{names}])?"
-            );
+        let line = format!(in self.alloc;
+            "        let parts = match decoder.read_set::<Parts>(tag, \"{name}\", &[{names}]) {{"
+        )?;
+        if is_short(line.as_str()) {
+            return Ok(line);
         }
-        let mut call = String::from_str(self.alloc, "decoder.read_set::<Parts>(\n")?;
+        let mut call = String::from_str(
+            self.alloc,
+            "        let parts = match decoder.read_set::<Parts>(\n",
+        )?;
         write!(call, "            tag,\n            \"{name}\",\n")?;
-        write!(call, "            &[{names}],\n        )?")?;
+        write!(call, "            &[{names}],\n        ) {{")?;
         Ok(call)
     }
 
@@ -152,20 +156,40 @@ impl<'schema> Plan<'schema> {
         let call = if is_set {
             self.read_set_call(id, parts)?
         } else {
-            String::from_str(self.alloc, "decoder.read_sequence::<Parts>(tag)?")?
+            String::from_str(
+                self.alloc,
+                "        let parts = match decoder.read_sequence::<Parts>(tag) {",
+            )?
         };
+        writeln!(text, "{call}\n            Ok(parts) => parts,")?;
+        writeln!(
+            text,
+            "            Err(error) => return Err(error),\n        }};"
+        )?;
         if parts.is_empty() {
-            writeln!(text, "        let End = {call};")?;
+            writeln!(text, "        let End = parts;")?;
         }
-        push_patterns(&mut text, parts, call.as_str())?;
+        push_patterns(&mut text, parts)?;
         let (name, _file) = self.names_of(id);
         push_literal(&mut text, name, parts)?;
         Ok(text)
     }
 }
 
+/// Returns the names of the parts, as a term.
+pub(crate) fn names_term(alloc: Global, parts: &[Part<'_>]) -> Result<String, AllocError> {
+    let mut names = String::new(alloc);
+    for part in parts {
+        if !part.is_rest {
+            write!(names, "codes \"{}\" ∷ ", part.name)?;
+        }
+    }
+    names.push_str("[]")?;
+    Ok(names)
+}
+
 /// Adds the patterns that take the parts apart, one after another.
-fn push_patterns(text: &mut String, parts: &[Part<'_>], call: &str) -> Result<(), AllocError> {
+fn push_patterns(text: &mut String, parts: &[Part<'_>]) -> Result<(), AllocError> {
     for (index, part) in parts.iter().enumerate() {
         if part.is_rest {
             break;
@@ -175,7 +199,7 @@ fn push_patterns(text: &mut String, parts: &[Part<'_>], call: &str) -> Result<()
             Some(_) => "rest",
             None => "End",
         };
-        let source = if index == 0 { call } else { "rest" };
+        let source = if index == 0 { "parts" } else { "rest" };
         let (presence, field) = (part.presence, part.field.as_str());
         writeln!(text, "        let {presence}({field}, {rest}) = {source};")?;
     }

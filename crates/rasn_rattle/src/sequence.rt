@@ -1,5 +1,7 @@
 //! A SEQUENCE or a SET (X.680 25, 27) as a struct.
-use crate::parts::{Part, defaults_text, ends_with_rest, parts_text, tree_text, write_text};
+use crate::parts::{
+    Part, defaults_text, ends_with_rest, names_term, parts_text, tree_text, write_text,
+};
 use crate::plan::Plan;
 use crate::template::Values;
 use rasn_schema::Type;
@@ -46,7 +48,7 @@ impl Present for @Name@ {
 }
 
 impl Decode for @Name@ {
-@beyond@    fn decode_with_tag_and_constraints(
+@beyond@@errors@    fn decode_with_tag_and_constraints(
         decoder: &mut Decoder<'_>,
         tag: Tag,
         _constraints: &Constraints,
@@ -87,6 +89,8 @@ impl Plan<'_> {
         values.add("parts", parts_text(self.alloc, parts)?)?;
         let tree = tree_text(self.alloc, parts)?;
         values.add("beyond", self.beyond_of_struct(id, is_set, tree.as_str())?)?;
+        let part_names = names_term(self.alloc, parts)?;
+        values.add("errors", self.errors_of_struct(id, is_set, part_names)?)?;
         values.add("tree", tree)?;
         values.add("laws", laws.uses)?;
         values.add("search", laws.search)?;

@@ -62,12 +62,21 @@ impl Present for HeaderData {
 }
 
 impl Decode for HeaderData {
+    ghost use Rattle.rasn_de.specs.PartTypes.{DecodesSequenceParts};
+    ghost use Rattle.rasn_de.specs.ValueErrors.{errors_of};
+
+    ghost errors = { λ tag _. errors_of (DecodesSequenceParts ⟦<Parts as DecodeParts>⟧.parts ⟦<Parts as DecodeParts>⟧.tree ⟦<Parts as DecodeParts>⟧.errors tag) };
+
     fn decode_with_tag_and_constraints(
         decoder: &mut Decoder<'_>,
         tag: Tag,
         _constraints: &Constraints,
     ) -> Result<HeaderData, DecodeError> {
-        let Required(msg_id, rest) = decoder.read_sequence::<Parts>(tag)?;
+        let parts = match decoder.read_sequence::<Parts>(tag) {
+            Ok(parts) => parts,
+            Err(error) => return Err(error),
+        };
+        let Required(msg_id, rest) = parts;
         let Required(msg_max_size, rest) = rest;
         let Required(msg_flags, rest) = rest;
         let Required(msg_security_model, End) = rest;

@@ -51,6 +51,8 @@ impl Present for HeaderDataMsgFlags {
 }
 
 impl Decode for HeaderDataMsgFlags {
+    ghost errors = { ⟦<OctetString as Decode>⟧.errors };
+
     fn decode_with_tag_and_constraints(
         decoder: &mut Decoder<'_>,
         tag: Tag,

@@ -51,6 +51,8 @@ impl Present for HeaderDataMsgSecurityModel {
 }
 
 impl Decode for HeaderDataMsgSecurityModel {
+    ghost errors = { ⟦<u32 as Decode>⟧.errors };
+
     fn decode_with_tag_and_constraints(
         decoder: &mut Decoder<'_>,
         tag: Tag,

@@ -54,6 +54,8 @@ impl Present for IpAddress {
 }
 
 impl Decode for IpAddress {
+    ghost errors = { ⟦<OctetString as Decode>⟧.errors };
+
     fn decode_with_tag_and_constraints(
         decoder: &mut Decoder<'_>,
         tag: Tag,

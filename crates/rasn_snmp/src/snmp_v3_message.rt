@@ -61,12 +61,21 @@ impl Present for SnmpV3Message {
 }
 
 impl Decode for SnmpV3Message {
+    ghost use Rattle.rasn_de.specs.PartTypes.{DecodesSequenceParts};
+    ghost use Rattle.rasn_de.specs.ValueErrors.{errors_of};
+
+    ghost errors = { λ tag _. errors_of (DecodesSequenceParts ⟦<Parts as DecodeParts>⟧.parts ⟦<Parts as DecodeParts>⟧.tree ⟦<Parts as DecodeParts>⟧.errors tag) };
+
     fn decode_with_tag_and_constraints(
         decoder: &mut Decoder<'_>,
         tag: Tag,
         _constraints: &Constraints,
     ) -> Result<SnmpV3Message, DecodeError> {
-        let Required(msg_version, rest) = decoder.read_sequence::<Parts>(tag)?;
+        let parts = match decoder.read_sequence::<Parts>(tag) {
+            Ok(parts) => parts,
+            Err(error) => return Err(error),
+        };
+        let Required(msg_version, rest) = parts;
         let Required(msg_global_data, rest) = rest;
         let Required(msg_security_parameters, rest) = rest;
         let Required(msg_data, End) = rest;

@@ -51,6 +51,8 @@ impl Present for SnmpV3MessageMsgVersion {
 }
 
 impl Decode for SnmpV3MessageMsgVersion {
+    ghost errors = { ⟦<u32 as Decode>⟧.errors };
+
     fn decode_with_tag_and_constraints(
         decoder: &mut Decoder<'_>,
         tag: Tag,

@@ -69,12 +69,21 @@ impl Present for TrapPdu {
 }
 
 impl Decode for TrapPdu {
+    ghost use Rattle.rasn_de.specs.PartTypes.{DecodesSequenceParts};
+    ghost use Rattle.rasn_de.specs.ValueErrors.{errors_of};
+
+    ghost errors = { λ tag _. errors_of (DecodesSequenceParts ⟦<Parts as DecodeParts>⟧.parts ⟦<Parts as DecodeParts>⟧.tree ⟦<Parts as DecodeParts>⟧.errors tag) };
+
     fn decode_with_tag_and_constraints(
         decoder: &mut Decoder<'_>,
         tag: Tag,
         _constraints: &Constraints,
     ) -> Result<TrapPdu, DecodeError> {
-        let Required(enterprise, rest) = decoder.read_sequence::<Parts>(tag)?;
+        let parts = match decoder.read_sequence::<Parts>(tag) {
+            Ok(parts) => parts,
+            Err(error) => return Err(error),
+        };
+        let Required(enterprise, rest) = parts;
         let Required(agent_addr, rest) = rest;
         let Required(generic_trap, rest) = rest;
         let Required(specific_trap, rest) = rest;

@@ -68,12 +68,21 @@ impl Present for UsmSecurityParameters {
 }
 
 impl Decode for UsmSecurityParameters {
+    ghost use Rattle.rasn_de.specs.PartTypes.{DecodesSequenceParts};
+    ghost use Rattle.rasn_de.specs.ValueErrors.{errors_of};
+
+    ghost errors = { λ tag _. errors_of (DecodesSequenceParts ⟦<Parts as DecodeParts>⟧.parts ⟦<Parts as DecodeParts>⟧.tree ⟦<Parts as DecodeParts>⟧.errors tag) };
+
     fn decode_with_tag_and_constraints(
         decoder: &mut Decoder<'_>,
         tag: Tag,
         _constraints: &Constraints,
     ) -> Result<UsmSecurityParameters, DecodeError> {
-        let Required(msg_authoritative_engine_id, rest) = decoder.read_sequence::<Parts>(tag)?;
+        let parts = match decoder.read_sequence::<Parts>(tag) {
+            Ok(parts) => parts,
+            Err(error) => return Err(error),
+        };
+        let Required(msg_authoritative_engine_id, rest) = parts;
         let Required(msg_authoritative_engine_boots, rest) = rest;
         let Required(msg_authoritative_engine_time, rest) = rest;
         let Required(msg_user_name, rest) = rest;

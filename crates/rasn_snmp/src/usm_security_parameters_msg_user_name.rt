@@ -51,6 +51,8 @@ impl Present for UsmSecurityParametersMsgUserName {
 }
 
 impl Decode for UsmSecurityParametersMsgUserName {
+    ghost errors = { ⟦<OctetString as Decode>⟧.errors };
+
     fn decode_with_tag_and_constraints(
         decoder: &mut Decoder<'_>,
         tag: Tag,

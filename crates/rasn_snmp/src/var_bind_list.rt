@@ -54,6 +54,8 @@ impl Present for VarBindList {
 }
 
 impl Decode for VarBindList {
+    ghost errors = { ⟦<Vec<VarBind> as Decode>⟧.errors };
+
     fn decode_with_tag_and_constraints(
         decoder: &mut Decoder<'_>,
         tag: Tag,
