@@ -4,7 +4,7 @@ ghost use Rattle.std.specs.Prelude.{◌≡◌};
 /// The steps that are left to find out what types are. Each component, name, tag and value that is
 /// looked at takes one, and so does each octet of a constraint, a value or a list of parameters
 /// whenever it is read, and each octet of a name whenever it is copied. A type takes 32 beside
-/// these.
+/// these, and a name of a number 16.
 #[derive(Clone, Copy, Debug, PartialEq, Eq)]
 pub struct Steps {
     pub left: usize,

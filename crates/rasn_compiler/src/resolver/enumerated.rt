@@ -11,6 +11,9 @@ use std::collections::BTreeSet;
 /// What is wrong with a number of an ENUMERATED that another name has.
 const REPEATED: &str = "two of the numbers are the same (X.680 20.3)";
 
+/// How many steps each name takes, beside those for its octets.
+const STEPS: usize = 16;
+
 /// The names of an ENUMERATED, with their numbers.
 #[derive(Drop)]
 pub(crate) struct Enumeration {
@@ -144,7 +147,7 @@ impl<'modules, 'text> Resolver<'modules, 'text> {
         let mut seen = BTreeSet::new(self.alloc);
         for named in names {
             if let Some(name) = named.name {
-                self.step(name.len(), place, named.position)?;
+                self.step(name.len().saturating_add(STEPS), place, named.position)?;
                 if !seen.insert(name)? {
                     let rule = "two names are the same (X.680 19, 20)";
                     return Err(self.broken(place, named.position, rule));

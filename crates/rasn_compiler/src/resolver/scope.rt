@@ -138,7 +138,8 @@ impl<'modules, 'text> Resolver<'modules, 'text> {
         position: Position,
     ) -> Result<Place, Halt<'text>> {
         let module = scope.module;
-        self.step(self.scopes.len(), from, position)?;
+        let count = self.scopes.len();
+        self.step(count, from, position)?;
         for (index, known) in self.scopes.iter().enumerate() {
             if known.is_same(&scope) {
                 return Ok(Place {
