@@ -27,8 +27,9 @@ pub enum JsonErrorKind {
         line: usize,
         column: usize,
     },
-    /// Arrays and objects are nested more than [`MAX_NESTING`](crate::MAX_NESTING) deep.
-    #[error("arrays and objects are nested more than 512 deep")]
+    /// Arrays and objects are nested more than [`MAX_NESTING`](crate::MAX_NESTING) deep, or explicit
+    /// tags between them more than a decoder admits.
+    #[error("nested more than 512 deep")]
     TooDeep,
     /// The JSON value is of another form than values of the type.
     #[error("expected {expected}, found {found}")]

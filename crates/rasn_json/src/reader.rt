@@ -13,6 +13,7 @@ use crate::found::{copied, other_form};
 use crate::members::{check_member, missing_member};
 use crate::number::enumerated_value;
 use crate::read_leaf::{check_size, leaf_value, open_value};
+use crate::syntax::MAX_NESTING;
 use json::Value as Json;
 use rasn_schema::{
     Alternative, Component, Presence, Type, TypeId, Value, index_named, is_unknown_at, type_at,
@@ -20,8 +21,21 @@ use rasn_schema::{
 use rasn_types::types::Constraints;
 use std::alloc::Global;
 
+/// How many types of a value may be in one another: those of arrays and objects, of the explicit
+/// tags that a decoder admits between them, and of what is inside the innermost.
+const MAX_LEVELS: usize = MAX_NESTING + 129;
+
+/// Returns whether more types are in one another than may be, if this many of `usize::MAX` levels
+/// are left.
+fn is_too_deep(levels: usize) -> bool {
+    usize::MAX - levels >= MAX_LEVELS
+}
+
 /// Returns the value of the type with this number that a JSON value is. Types are followed `levels`
-/// deep.
+/// deep, from `usize::MAX` on.
+///
+/// # Errors
+/// `TooDeep` also for explicit tags in one another, which JSON doesn't show.
 #[cycle(read)]
 pub fn value_at<'any>(
     alloc: Global,
@@ -35,6 +49,9 @@ pub fn value_at<'any>(
 {
     if levels == 0 {
         return Err(no_type(alloc, id));
+    }
+    if is_too_deep(levels) {
+        return Err(JsonError::new(alloc, JsonErrorKind::TooDeep));
     }
     match type_at(types, id) {
         Some(ty) => value_of(alloc, types, levels - 1, ty, json),
