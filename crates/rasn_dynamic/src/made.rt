@@ -1,4 +1,4 @@
-//! What a reader makes of what it reads.
+//! Whether a reader builds values, or only checks.
 ghost use Rattle.std.specs.Prelude.{◌≡◌, Bool, true, false, None, MatchOption, IfSome, IfOk, IfErr};
 ghost use Rattle.rasn_schema.specs.Shapes.{shape_of_type, IsReadable};
 ghost use Rattle.rasn_schema.specs.Trees.{tree_of};
@@ -13,7 +13,7 @@ use crate::walk::{Refused, Walk};
 use rasn_de::ber::de::Decoder;
 use rasn_schema::{Type, TypeId, Value};
 
-/// What a reader makes of what it reads.
+/// Whether a reader builds values, or only checks.
 pub trait Made {
     /// Whether it makes values.
     const KEEP: bool;

@@ -25,7 +25,7 @@ pub fn no_value(decoder: &Decoder<'_>) -> DecodeError
     }
 }
 
-/// Returns the error that a value took nothing.
+/// Returns `UnexpectedExtraData`: an element consumed no octets.
 pub fn extra(decoder: &Decoder<'_>, left: usize) -> DecodeError
     ensures { IsErrorOf (UnexpectedExtraData left) decoder.now result }
 {

@@ -150,7 +150,8 @@ pub fn gather<'input, M: Made>(
     Ok(values)
 }
 
-/// Returns the values of components that are all absent, where values are kept.
+/// Returns the values of components that are all absent: `Absent`, or their defaults. Empty if no
+/// values are kept.
 ///
 /// # Errors
 /// `OutOfMemory` if there is no room for them.

@@ -36,7 +36,7 @@ pub struct Spans<'input> {
     pub after: usize,
 }
 
-/// Returns what notes no parts.
+/// Returns a list of parts that notes none.
 pub fn no_list<'input>() -> Spans<'input> {
     Spans {
         list: None,
@@ -55,7 +55,7 @@ fn empty_list<'input>(alloc: Global, len: usize) -> Vec<Span<'input>>
     }
 }
 
-/// Returns what notes the parts of a message of so many octets from its start on.
+/// Returns an empty list of the parts of a message of `len` octets.
 pub fn new_list<'input>(alloc: Global, len: usize) -> Spans<'input>
     ensures { IsEmpty result }
 {

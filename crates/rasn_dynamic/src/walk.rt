@@ -1,4 +1,4 @@
-//! What goes along while a message is read.
+//! The state of one reading.
 ghost use Rattle.std.specs.Prelude.{◌≡◌, ◌+◌, ◌<◌, ◌^◌, length, Some, None};
 ghost use Rattle.rasn_de.specs.Set.{PeeksInOrder};
 ghost use Rattle.rasn_de.specs.Steps.{PeeksTag, IsNextTag};
@@ -13,11 +13,11 @@ use rasn_de::ber::de::Decoder;
 use rasn_types::error::{DecodeError, DecodeErrorKind};
 use rasn_types::types::{Codec, Tag};
 
-/// A value isn't read or written, for the reason that is kept beside it.
+/// Says that a value isn't read or written. The error is stored in the caller's `error`.
 #[derive(Clone, Copy)]
 pub struct Refused;
 
-/// What is known of a message while it is read.
+/// The state of one reading: the error, its place, and the parts so far.
 #[derive(Drop)]
 pub struct Walk<'input> {
     /// The innermost value that can't be read, once one can't.
@@ -81,7 +81,7 @@ pub fn count_after(
     }
 }
 
-/// Returns the next tag, or keeps the error that there is none.
+/// Returns the next tag, or stores in `error` why there is none.
 #[inline(never)]
 pub fn peek(decoder: &Decoder<'_>, error: &mut DecodeError) -> Result<Tag, Refused>
     ensures next { IsNextTag decoder.now (reported result error.new) }

@@ -159,7 +159,7 @@ pub enum ToJsonError {
     Json(JsonError),
 }
 
-/// Why JSON has no octets.
+/// Why a JSON text can't be encoded.
 #[derive(Debug, Drop, Error)]
 pub enum EncodeJsonError {
     /// The text isn't the JSON of a value of the type.

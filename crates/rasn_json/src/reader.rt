@@ -31,8 +31,8 @@ fn is_too_deep(levels: usize) -> bool {
     usize::MAX - levels >= MAX_LEVELS
 }
 
-/// Returns the value of the type with this number that a JSON value is. Types are followed `levels`
-/// deep, from `usize::MAX` on.
+/// Converts a JSON value to a value of the type with this number. Types are followed `levels` deep,
+/// from `usize::MAX` on.
 ///
 /// # Errors
 /// `TooDeep` also for explicit tags in one another, which JSON doesn't show.

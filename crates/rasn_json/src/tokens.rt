@@ -7,7 +7,7 @@ ghost use Rattle.json.specs.Print.{IsPrintable};
 use json::{Pretty, Token, Writer};
 use std::alloc::AllocError;
 
-/// What takes the tokens of JSON, one after the other.
+/// A sink for the tokens of JSON.
 pub trait Tokens {
     ghost written: { Self → List SpecToken };
 

@@ -28,7 +28,7 @@ pub enum Aspect {
 pub struct Departure {
     /// The part, with its offset and the error that the reader of DER has for it.
     pub refusal: Refusal,
-    /// What of it departs.
+    /// Which aspect differs from DER: its header, its contents or its place.
     pub aspect: Aspect,
     /// If the part is an open type, and an encoding inside it departs, the index of each encoding
     /// on the way to that one: the offset is its own.
@@ -46,7 +46,7 @@ impl Departure {
         }
     }
 
-    /// Returns the same without what departs: where it is and the error.
+    /// Returns the path and the error with names, without the aspect.
     pub fn place_with_names<'a>(&'a self, schema: &'a Schema, id: TypeId) -> NamedPlace<'a>
         ensures { (result.departure.now ≡ self.now) × (result.schema.now ≡ schema.now) × (result.id ≡ id) }
     {

@@ -1,4 +1,4 @@
-//! What departs of one part.
+//! Finds the departures of one part from DER.
 ghost use Rattle.std.specs.Prelude.{◌≡◌, ◌++◌, OnOk, IfOk, List};
 ghost use Rattle.rasn_lint.specs.Judged.{IsSiteAt, IsCopied, AreNoted, IsAnyRefusal, IsAnyFault, IsOpenFault, AreHeaderFaults, AreFaultsOf, AreListed};
 ghost use Rattle.rasn_lint.specs.Header.{has_own_header};
@@ -30,7 +30,7 @@ pub struct Faults {
     pub form: Option<DecodeError>,
     /// Of its length (X.690 10.1).
     pub length: Option<DecodeError>,
-    /// Of its contents.
+    /// The error in its contents octets.
     pub contents: Option<DecodeError>,
 }
 
@@ -58,8 +58,8 @@ pub struct Site<'a> {
     pub inner: Option<&'a [usize]>,
 }
 
-/// Returns the site of a part, or of an encoding inside it, from whose start so many octets are
-/// left to the end of the message.
+/// Returns the site of a part, or of an encoding inside it, that begins `left` octets before the end
+/// of the message.
 pub fn site_at<'a>(way: Way<'a, '_>, left: usize, inner: Option<&'a [usize]>) -> Site<'a>
     ensures { IsSiteAt way.entry.len left way.entry.part.now way.entry.path.now inner.entry result }
 {

@@ -25,7 +25,7 @@ fn depth_of(part: &Span<'_>) -> usize
     usize::MAX - part.levels
 }
 
-/// Goes on to a part: the trail leads to it then.
+/// Moves the trail to a part.
 pub fn extend_trail<'input>(
     trail: &mut Vec<Step<'input>>,
     part: &Span<'input>,

@@ -51,7 +51,7 @@ pub struct Call {
     pub input: Option<InputForm>,
     /// Whether open types are looked into.
     pub open_types: OpenTypes,
-    /// Whether where each part begins is shown.
+    /// Whether `show` prints where each part begins.
     pub has_offsets: bool,
     /// Whether each line is a message.
     pub has_lines: bool,

@@ -32,8 +32,8 @@ pub struct Entry<'input> {
 /// The encodings of octets, and where and why no more can be read.
 type Entries<'input> = (Vec<Entry<'input>>, Option<String>);
 
-/// Returns the encodings that the octets are, each before those inside it, or those up to the first
-/// one whose header can't be read, and where that is and why.
+/// Lists the encodings, outer before inner, up to the first whose header can't be read, and where
+/// that is and why.
 ///
 /// # Errors
 /// If an allocation fails.

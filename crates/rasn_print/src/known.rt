@@ -13,7 +13,8 @@ pub(crate) enum Form {
     Bits,
 }
 
-/// The types of the module Contents (`contents.asn1`), in the schema of the type `Contents`.
+/// The types of what extensions, attributes and contents hold, by identifier: those of the module
+/// Contents (`contents.asn1`), in the schema of the type `Contents`.
 #[derive(Drop)]
 pub struct Known {
     pub(crate) schema: Schema,

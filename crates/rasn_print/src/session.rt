@@ -11,7 +11,7 @@ use std::alloc::{AllocError, Global};
 use std::io::{self, BufRead, ErrorKind, Write};
 use std::{fmt, str};
 
-/// Prints what is to be said of messages.
+/// Processes messages, and prints the results.
 #[derive(Drop)]
 pub struct Session<'a, 'text, W: Write + Drop, E: Write + Drop> {
     pub tools: Tools<'a, 'text>,

@@ -39,7 +39,7 @@ impl Options {
         })
     }
 
-    /// Adds what the option with this name says: `message` that a type is one of whole messages,
+    /// Sets an option of the subcommand: `message` that a type is one of whole messages,
     /// with its rules, as `Certificate=der`; `also` that the crate has a file by hand; `type` that
     /// a type is wanted; `open` that a type is written as an open type. Returns whether there is
     /// such an option, and it may have this value.

@@ -257,7 +257,7 @@ fn print_progress(rt: &HostRuntime, done: usize, count: usize) -> Result<(), Fau
     eprint!(rt; "{ERASED}{done} of {count}\r").map_err(Fault::of_write)
 }
 
-/// Works on what a reader has.
+/// Reads all input, and processes its messages.
 fn source<R: Read + Drop, W: Write + Drop, E: Write + Drop>(
     rt: &HostRuntime,
     name: &str,

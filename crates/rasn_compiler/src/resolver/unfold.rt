@@ -76,7 +76,7 @@ impl<'text> Unfolded<'text> {
         Ok(())
     }
 
-    /// Goes on to a type. It means the same if nothing is said on the way.
+    /// Follows a reference. The target is the same type if no tag or constraint was added.
     fn go_to(&mut self, alloc: Global, next: Next<'text>) -> Result<(), AllocError> {
         self.place = next.place;
         self.index = next.index;

@@ -2,10 +2,10 @@
 
 use crate::asserts::{assert_has, assert_written_as};
 use crate::messages::spoilt::{READ, Spoilt, assert_spoilt};
+use crate::samples::certificate::CERTIFICATE;
 use rasn::WholeMessage;
 use rasn::types::Codec;
 use rasn_pkix::{Certificate, Extensions, Name, Time};
-use crate::samples::certificate::CERTIFICATE;
 
 /// Returns whether the time is 13:07 on a day in 2026, as a UTCTime.
 fn is_start(time: &Time) -> bool {

@@ -4,10 +4,10 @@ use crate::asserts::{
     Answer, ahead_of, assert_decodes, assert_has, assert_read_back, assert_written_as,
 };
 use crate::messages::spoilt::{READ, Spoilt, assert_spoilt};
+use crate::samples::cms::{MESSAGE, STREAMED};
 use rasn::WholeMessage;
 use rasn::types::Codec;
 use rasn_cms::{SignedMessage, SignerIdentifier};
-use crate::samples::cms::{MESSAGE, STREAMED};
 
 /// Returns whether these are the parts that OpenSSL was given.
 fn has_parts(message: &SignedMessage) -> bool {

@@ -4,16 +4,16 @@ use crate::asserts::{
     Answer, Rewritten, ahead_of, assert_decodes, assert_has, assert_output, assert_rewrites,
     assert_written_as,
 };
+use crate::samples::ldap::{
+    BIND, BIND_CONTINUES, BIND_STEP, BOUND, CHILDREN, DONE, ENTRY, EXTENDED, MODIFIED, MODIFY,
+    REFERENCE, SEARCH, UNBIND, WHO,
+};
 use rasn::WholeMessage;
 use rasn::error::EncodeError;
 use rasn::types::{Codec, Implicit, Unknown};
 use rasn_ldap::{
     ChangeOperationName, LdapMessage, MaxInt, ProtocolOp, ResultCodeName, SearchRequest,
     SearchRequestDerefAliases, SearchRequestScopeName,
-};
-use crate::samples::ldap::{
-    BIND, BIND_CONTINUES, BIND_STEP, BOUND, CHILDREN, DONE, ENTRY, EXTENDED, MODIFIED, MODIFY,
-    REFERENCE, SEARCH, UNBIND, WHO,
 };
 use std::alloc::Global;
 use std::process::Abort;

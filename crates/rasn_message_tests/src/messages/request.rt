@@ -2,10 +2,10 @@
 
 use crate::asserts::{assert_has, assert_written_as};
 use crate::messages::spoilt::{READ, Spoilt, assert_spoilt};
+use crate::samples::request::REQUEST;
 use rasn::WholeMessage;
 use rasn::types::Codec;
 use rasn_pkix::{CertificationRequest, Name};
-use crate::samples::request::REQUEST;
 
 /// Returns whether the name is made of two others.
 fn is_of_two(name: &Name) -> bool {

@@ -2,11 +2,11 @@
 
 use crate::asserts::{assert_has, assert_written_as};
 use crate::messages::spoilt::{READ, Spoilt, assert_spoilt};
+use crate::samples::revocation::REVOCATION_LIST;
 use rasn::WholeMessage;
 use rasn::error::DecodeErrorKind;
 use rasn::types::Codec;
 use rasn_pkix::{CertificateList, Time, Version};
-use crate::samples::revocation::REVOCATION_LIST;
 
 // The same list without revoked certificates and extensions, which is of version 1.
 const EMPTY_LIST: &[u8] = &[

@@ -3,12 +3,12 @@
 
 use crate::asserts::{Answer, ahead_of, assert_decodes, assert_has, assert_written_as, decoded};
 use crate::messages::spoilt::{Spoilt, assert_spoilt, spoilt};
-use rasn::WholeMessage;
-use rasn::types::Codec;
 use crate::samples::snmp::{
     END_OF_VIEW, GET, GET_BULK, GET_NEXT, INFORM, NOT_WRITABLE, RESPONSE, SET, TRAP,
     TRAP_OF_VERSION_1,
 };
+use rasn::WholeMessage;
+use rasn::types::Codec;
 use rasn_snmp::version::{VERSION_2C, VERSION_3};
 use rasn_snmp::{Message, Pdus, ScopedPduData, SnmpV3Message, UsmSecurityParameters, VarBindValue};
 use std::alloc::Global;

@@ -83,8 +83,8 @@ impl<'input> Decoder<'input> {
         }
     }
 
-    /// Reads a BIT STRING whose size in bits meets the constraint, and makes nothing of it. Nothing
-    /// is allocated.
+    /// Checks and consumes a BIT STRING whose size in bits meets the constraint, without building a
+    /// value. Nothing is allocated.
     ///
     /// # Errors
     /// As `decode_bit_string`, except `OutOfMemory`.

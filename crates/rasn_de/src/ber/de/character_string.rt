@@ -276,7 +276,7 @@ impl<'input> Decoder<'input> {
         }
     }
 
-    /// Reads a BMPString, and makes nothing of it. Nothing is allocated.
+    /// Checks and consumes a BMPString without building a value. Nothing is allocated.
     ///
     /// # Errors
     /// As `decode_bmp_string`, except `OutOfMemory`.
@@ -348,8 +348,8 @@ impl<'input> Decoder<'input> {
         }
     }
 
-    /// Reads a UTF8String as `decode_utf8_string` does, and makes nothing of it. Nothing is
-    /// allocated.
+    /// Checks and consumes a UTF8String as `decode_utf8_string` does, without building a value.
+    /// Nothing is allocated.
     ///
     /// # Errors
     /// As `decode_utf8_string`, except `OutOfMemory`.
@@ -419,8 +419,8 @@ impl<'input> Decoder<'input> {
         }
     }
 
-    /// Reads a string as `decode_restricted_string` does, and makes nothing of it. Nothing is
-    /// allocated.
+    /// Checks and consumes a string as `decode_restricted_string` does, without building a value.
+    /// Nothing is allocated.
     ///
     /// # Errors
     /// As `decode_restricted_string`, except `OutOfMemory`.

@@ -67,8 +67,8 @@ impl<'input> Decoder<'input> {
         }
     }
 
-    /// Reads an INTEGER that is within its bound, and makes nothing of it. Nothing is allocated,
-    /// except for an error.
+    /// Checks and consumes an INTEGER that is within its bound, without building a value. Nothing is
+    /// allocated, except for an error.
     ///
     /// # Errors
     /// As `decode_integer` for an `Integer`, except `OutOfMemory` for the number.

@@ -93,8 +93,8 @@ impl<'input> Decoder<'input> {
         }
     }
 
-    /// Reads a BIT STRING whose bits have names, as
-    /// [`decode_named_bits`](Decoder::decode_named_bits) does, and makes nothing of it. Nothing is
+    /// Checks and consumes a BIT STRING whose bits have names, as
+    /// [`decode_named_bits`](Decoder::decode_named_bits) does, without building a value. Nothing is
     /// allocated.
     ///
     /// # Errors

@@ -32,7 +32,7 @@ impl<'input> Decoder<'input> {
         self.object_identifier(rules, contents)
     }
 
-    /// Reads an OBJECT IDENTIFIER, and makes nothing of it. Nothing is allocated.
+    /// Checks and consumes an OBJECT IDENTIFIER without building a value. Nothing is allocated.
     ///
     /// # Errors
     /// As `decode_object_identifier`, except `OutOfMemory`.

@@ -88,8 +88,8 @@ impl<'input> Decoder<'input> {
         }
     }
 
-    /// Reads an OCTET STRING whose size in octets meets the constraint, and makes nothing of it.
-    /// Nothing is allocated.
+    /// Checks and consumes an OCTET STRING whose size in octets meets the constraint, without
+    /// building a value. Nothing is allocated.
     ///
     /// # Errors
     /// As `decode_octet_string`, except `OutOfMemory`.
