@@ -3,13 +3,14 @@ use Rattle.std.specs.Prelude.{◌≡◌, ◌≢◌, ◌≤◌, ◌<◌, ℕ, Lis
 use Rattle.std.specs.List.{All}
 use Rattle.rasn_types.specs.declared.types.codec.Codec.{Codec}
 use Rattle.rasn_types.specs.Tags.{in_universal}
-use Rattle.rasn_types.specs.Shapes.{Shape, Tree, list}
+use Rattle.rasn_types.specs.Shapes.{Shape, list}
 use Rattle.rasn_types.specs.Trees.{list_tree}
 use Rattle.rasn_types.specs.Text.{dotted}
 use Rattle.rasn_types.specs.Grammar.{Reads, top}
 use Rattle.rasn_pkix.specs.declared.extension.Extension.{Extension}
 use Rattle.rasn_pkix.specs.contracts.extension.ExtensionAsnType.TheImpl.{ghosts as extension_ghosts}
 use Rattle.rasn_c.specs.Rules.{rule_number, IsUnknownRule}
+use Rattle.rasn_c.specs.Whole.{IsNoWhole}
 use Rattle.rasn_c.specs.Buffers.{written_over}
 use Rattle.rasn_c.specs.Leaves.{IsUnwritten}
 use Rattle.rasn_c.specs.declared.status.Status.{Status}
@@ -25,9 +26,7 @@ AreExtensions rule octets es = Reads rule extensions_shape 128 (top rule) octets
 
 -- They are none; or there is no memory for them.
 abbrev pub AreNoExtensions : Codec → List ℕ → Status → Type 0
-AreNoExtensions rule octets Refused = (t : Tree) → Reads rule extensions_shape 128 (top rule) octets t [] → ⊥
-AreNoExtensions rule octets OutOfMemory = Unit {0}
-AreNoExtensions rule octets _ = ⊥
+AreNoExtensions rule octets status = IsNoWhole rule extensions_shape octets status
 
 -- The identifier of the extension has another text.
 abbrev pub HasOther : List ℕ → Extension → Type 0

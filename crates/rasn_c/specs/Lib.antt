@@ -21,6 +21,7 @@ pub mod Checking
 pub mod Converting
 pub mod Compiling
 pub mod Listing
+pub mod Whole
 pub mod Names
 pub mod Blocks
 pub mod Extensions

@@ -1,12 +1,12 @@
 -- The text of a distinguished name, in a buffer.
 use Rattle.std.specs.Prelude.{◌≡◌, ◌≤◌, ◌<◌, ℕ, List, [], ◌∷◌, ◌++◌, length}
 use Rattle.rasn_types.specs.declared.types.codec.Codec.{Codec}
-use Rattle.rasn_types.specs.Shapes.{Tree}
 use Rattle.rasn_types.specs.Grammar.{Reads, top}
 use Rattle.rasn_pkix.specs.declared.name.Name.{Name}
 use Rattle.rasn_pkix.specs.contracts.name.NameAsnType.TheImpl.{ghosts as name_ghosts}
 use Rattle.rasn_text.specs.Names.{IsNameText}
 use Rattle.rasn_c.specs.Rules.{rule_number, IsUnknownRule}
+use Rattle.rasn_c.specs.Whole.{IsNoWhole}
 use Rattle.rasn_c.specs.Buffers.{written_over}
 use Rattle.rasn_c.specs.Leaves.{IsUnwritten}
 use Rattle.rasn_c.specs.declared.status.Status.{Status}
@@ -18,9 +18,7 @@ IsName rule octets name = Reads rule name_ghosts.shape 128 (top rule) octets (na
 
 -- They are none; or there is no memory for it.
 abbrev pub IsNoName : Codec → List ℕ → Status → Type 0
-IsNoName rule octets Refused = (t : Tree) → Reads rule name_ghosts.shape 128 (top rule) octets t [] → ⊥
-IsNoName rule octets OutOfMemory = Unit {0}
-IsNoName rule octets _ = ⊥
+IsNoName rule octets status = IsNoWhole rule name_ghosts.shape octets status
 
 -- The text of the name, and a zero.
 abbrev pub IsEndedText : Name → List ℕ → Type 0

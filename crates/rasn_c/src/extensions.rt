@@ -1,15 +1,15 @@
 //! The octets of an extension by its identifier (RFC 5280, 4.1).
-ghost use Rattle.std.specs.Prelude.{◌≡◌, IfOk, MatchOption, MatchResult};
+ghost use Rattle.std.specs.Prelude.{◌≡◌, IfOk, MatchOption};
 ghost use Rattle.std.specs.List.{All};
 ghost use Rattle.rasn_types.specs.Text.{dotted};
 ghost use Rattle.rasn_types.specs.Truth.{IsWhether};
 ghost use Rattle.rasn_c.specs.Status.{IsNumberOf};
-ghost use Rattle.rasn_c.specs.Extensions.{AnswersExtension, AreExtensions, AreNoExtensions, HasOther, IsFirstWith};
+ghost use Rattle.rasn_c.specs.Extensions.{AnswersExtension, HasOther, IsFirstWith};
 
 use crate::buffers::fill;
 use crate::rules::rule_numbered;
 use crate::status::Status;
-use rasn::types::Codec;
+use crate::whole::whole_value;
 use rasn_pkix::Extension;
 use std::alloc::{AllocError, Global};
 
@@ -44,7 +44,7 @@ fn put_extension(
     let Some(rule) = rule_numbered(rule) else {
         return Status::UnknownRule;
     };
-    let extensions = match extensions_of(alloc, rule, octets) {
+    let extensions = match whole_value::<Vec<Extension>>(alloc, rule, octets) {
         Ok(extensions) => extensions,
         Err(status) => return status,
     };
@@ -52,22 +52,6 @@ fn put_extension(
         Ok(Some(extension)) => fill(extension.extn_value.as_octets(), buffer, needed),
         Ok(None) => Status::Absent,
         Err(_) => Status::OutOfMemory,
-    }
-}
-
-/// Returns the Extensions that all of the octets are, or the status of a refusal.
-fn extensions_of(alloc: Global, rule: Codec, octets: &[u8]) -> Result<Vec<Extension>, Status>
-    ensures { MatchResult result (λ es. AreExtensions rule octets.now es.items) (AreNoExtensions rule octets.now) }
-{
-    match rasn::decode::<Vec<Extension>>(alloc, rule, octets) {
-        Ok(extensions) => Ok(extensions),
-        Err(error) => {
-            if error.is_out_of_memory() {
-                Err(Status::OutOfMemory)
-            } else {
-                Err(Status::Refused)
-            }
-        }
     }
 }
 

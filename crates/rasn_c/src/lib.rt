@@ -34,3 +34,4 @@ mod status;
 mod strings;
 mod time;
 mod types;
+mod whole;

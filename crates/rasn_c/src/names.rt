@@ -1,12 +1,12 @@
 //! Distinguished names as text (RFC 4514).
-ghost use Rattle.std.specs.Prelude.{MatchResult, IfOk};
+ghost use Rattle.std.specs.Prelude.{IfOk};
 ghost use Rattle.rasn_c.specs.Status.{IsNumberOf};
-ghost use Rattle.rasn_c.specs.Names.{AnswersName, IsName, IsNoName, IsEndedText};
+ghost use Rattle.rasn_c.specs.Names.{AnswersName, IsEndedText};
 
 use crate::buffers::fill;
 use crate::rules::rule_numbered;
 use crate::status::Status;
-use rasn::types::Codec;
+use crate::whole::whole_value;
 use rasn_pkix::Name;
 use rasn_text::name_text;
 use std::alloc::{AllocError, Global};
@@ -40,7 +40,7 @@ fn put_name(
     let Some(rule) = rule_numbered(rule) else {
         return Status::UnknownRule;
     };
-    let name = match name_of(alloc, rule, octets) {
+    let name = match whole_value::<Name>(alloc, rule, octets) {
         Ok(name) => name,
         Err(status) => return status,
     };
@@ -48,22 +48,6 @@ fn put_name(
         return Status::OutOfMemory;
     };
     fill(&text, buffer, needed)
-}
-
-/// Returns the Name that all of the octets are, or the status of a refusal.
-fn name_of(alloc: Global, rule: Codec, octets: &[u8]) -> Result<Name, Status>
-    ensures { MatchResult result (λ name. IsName rule octets.now name) (IsNoName rule octets.now) }
-{
-    match rasn::decode::<Name>(alloc, rule, octets) {
-        Ok(name) => Ok(name),
-        Err(error) => {
-            if error.is_out_of_memory() {
-                Err(Status::OutOfMemory)
-            } else {
-                Err(Status::Refused)
-            }
-        }
-    }
 }
 
 /// Returns the text of a name, and a zero.
