@@ -110,7 +110,7 @@ fn is_chosen(outermost: &Value<'_>, path: &[usize], innermost: &Value<'_>) -> bo
             _ => return false,
         }
     }
-    value == innermost
+    value.means_same(innermost)
 }
 
 /// Returns whether octets are read as such a value.

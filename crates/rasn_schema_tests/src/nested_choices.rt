@@ -75,9 +75,9 @@ fn other_alternatives_are_not_equal(rt: HostRuntime) {
     }
 }
 
-/// Returns the value in so many alternatives, each the first of its CHOICE.
-fn in_choices(alloc: Global, inner: Value<'static>, depth: usize) -> Option<Value<'static>> {
-    let mut value = inner;
+/// Returns a NULL in so many alternatives, each the first of its CHOICE.
+fn in_choices<'any>(alloc: Global, depth: usize) -> Option<Value<'any>> {
+    let mut value = Value::Null;
     for _ in 0..depth {
         value = Value::Chosen(0, Box::new(alloc, value).ok()?);
     }
@@ -87,7 +87,7 @@ fn in_choices(alloc: Global, inner: Value<'static>, depth: usize) -> Option<Valu
 /// Returns the path to the part that isn't of its type.
 fn unfit_path(alloc: Global, depth: usize) -> Option<Vec<usize>> {
     let schema = schema(alloc)?;
-    let value = in_choices(alloc, Value::Null, depth)?;
+    let value = in_choices(alloc, depth)?;
     match encode(alloc, Codec::Der, &schema, FIRST, &value) {
         Err(WriteError::Unfit { path }) => Some(path.indices),
         _ => None,
@@ -128,7 +128,7 @@ fn alternatives_are_found_by_names(rt: HostRuntime) {
 /// Returns whether a value in so many CHOICEs is equal to its copy, and none of its type.
 fn is_deep(alloc: Global, depth: usize) -> Option<bool> {
     let schema = schema(alloc)?;
-    let value = in_choices(alloc, Value::Null, depth)?;
+    let value = in_choices(alloc, depth)?;
     let copy = value.try_clone(alloc).ok()?;
     Some(copy == value && !fits(&schema, FIRST, &copy))
 }
