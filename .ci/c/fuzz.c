@@ -1,6 +1,6 @@
 /*
- * A fuzzer of the calls by a schema. The gate runs it by `.ci/fuzz c`, with the driver at its end; with libFuzzer, which counts
- * branches, it is built and run so (SECURITY.md has the figures of a run):
+ * A fuzzer of the calls by a schema. `.ci/fuzz c` runs it with the driver at its end; with libFuzzer, which counts branches, it is
+ * built and run so (SECURITY.md has the figures of a run):
  * clang -std=c11 -fsanitize=fuzzer,address -Iinclude .ci/c/fuzz.c libsoqavise.a -o fuzz && ./fuzz -max_total_time=60 FOLDER
  * The environment variable MODULE names the file of a module with the type Certificate. The folder may have certificates in DER.
  */
