@@ -1,6 +1,7 @@
 pub mod AllLaws
 pub mod Worked
 pub mod OneReading
+pub mod OneRefusal
 pub mod LawsHold
 pub mod Included
 pub mod TagOrder

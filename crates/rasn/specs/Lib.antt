@@ -1,5 +1,7 @@
 pub mod Headline
 pub mod Refusals
+pub mod OneRefusal
+pub mod RefusalLaws
 pub mod Laws
 pub mod Carries
 pub mod Messages

@@ -12,6 +12,7 @@ mod normal;
 pub mod open_type;
 pub mod parts;
 pub mod prelude;
+pub mod refusal_laws;
 pub mod time_laws;
 pub mod types;
 

@@ -37,7 +37,7 @@ contents_one rule null l t u h k = h.0 ∙ sym k.0
 contents_one rule object_identifier l t u h k = h.1 ∙ (ap numbers (identifier_one l h.0 k.0 h.2 k.2) ∙ sym k.1)
 contents_one rule kind l t u h k = absurd h
 
-units_one : (l a b : List ℕ) → units l a → units l b → a ≡ b
+pub units_one : (l a b : List ℕ) → units l a → units l b → a ≡ b
 units_one [] a b h k = cc
 units_one (x ∷ []) a b h k = absurd h
 units_one (x ∷ y ∷ l) a b h k = let e = units_one l h.0 k.0 h.2 k.2 in let p = h.1 in let q = k.1 in cc

@@ -1,0 +1,11 @@
+pub mod Calls
+pub mod Leaves
+pub mod Strings
+pub mod Open
+pub mod Inside
+pub mod Optional
+pub mod Parts
+pub mod Lists
+pub mod Alternatives
+pub mod Sets
+pub mod Laws

@@ -1,0 +1,31 @@
+-- The law of one refusal for values that contain no others.
+use Rattle.rasn_types.specs.Inline.{IsLong}
+use Rattle.rasn_types.specs.Shapes.{every}
+use Rattle.rasn_de.proofs.Strings.Checks.{by_alphabet, by_utf8, by_units, by_length, by_size}
+use Rattle.rasn.specs.RefusalLaws.{LeavesAreApart}
+use Rattle.rasn.proofs.OneRefusal.Leaves.{boolean_apart, null_apart, integer_apart, enumerated_apart, object_identifier_apart}
+use Rattle.rasn.proofs.OneRefusal.Strings.{by_size_once, by_length_once, by_alphabet_once, by_utf8_once, by_units_once, string_apart, bit_string_apart, named_bits_apart, utc_time_apart, generalized_time_apart, date_apart}
+use Rattle.rasn.proofs.OneRefusal.Open.{open_type_apart}
+use Rattle.rasn.proofs.OneRefusal.Lists.{unknown_apart}
+
+pub leaves : LeavesAreApart
+leaves = record {
+  of_boolean = boolean_apart;
+  of_null = null_apart;
+  of_integer = λ width range tag c. integer_apart width range c (λ z. ⊥) tag;
+  of_long_integer = λ tag c. integer_apart 0 every c IsLong tag;
+  of_enumerated = enumerated_apart;
+  of_object_identifier = object_identifier_apart;
+  of_bit_string = bit_string_apart;
+  of_named_bits = named_bits_apart;
+  of_octet_string = λ tag c. string_apart (by_size c) (by_size_once c.size) tag;
+  of_fixed = λ n tag c. string_apart (by_length n c) (by_length_once n c.size) tag;
+  of_characters = λ a tag c. string_apart (by_alphabet a c) (by_alphabet_once a c.size) tag;
+  of_utf8 = λ tag c. string_apart (by_utf8 c) (by_utf8_once c.size) tag;
+  of_bmp = λ tag c. string_apart (by_units c) (by_units_once c.size) tag;
+  of_utc_time = utc_time_apart;
+  of_generalized_time = generalized_time_apart;
+  of_date = date_apart;
+  of_open_type = open_type_apart;
+  of_unknown = unknown_apart;
+}

@@ -1,0 +1,11 @@
+use Rattle.std.specs.Prelude.{◌≡◌, IfOk}
+use Rattle.rasn_types.specs.Shapes.{default}
+use Rattle.rasn.proofs.OneRefusal.Optional.{default_or_apart}
+use Rattle.rasn.proofs.OneRefusal.Alternatives.{alternative_apart}
+use Rattle.rasn.proofs.refusal_laws.set_default.Goals as goal
+
+pub returns : goal.returns
+returns g c = λ is e once name rest.
+    let one = default_or_apart g.V.Value.AsnType.shape g.V.Value.AsnType.tree (g.V.Value.Decode.errors g.V.Value.AsnType.TAG g.V.Value.AsnType.CONSTRAINTS) once
+    (λ made. IfOk made (λ v. g.V.Value.AsnType.tree v ≡ g.V.DefaultValue.default_tree)) g.V.DefaultValue.default_tree (λ v q. q) g.V.Value.AsnType.TAG e in
+    alternative_apart g.R.DecodeSetParts.extensible (default g.V.DefaultValue.default_tree) g.V.Value.AsnType.shape g.R.DecodeSetParts.parts name g.V.Value.AsnType.TAG _ g.R.DecodeSetParts.errors is one.once rest

@@ -1,0 +1,85 @@
+-- Which inputs are refused, and as what: the relation beside the grammar's.
+use Rattle.std.specs.Prelude.{◌≡◌, ℕ, ℤ, List, Bool, Vec, Some}
+use Rattle.std.specs.Global.{Global}
+use Rattle.rasn_types.specs.declared.types.codec.Codec.{Codec}
+use Rattle.rasn_types.specs.declared.types.tag.Tag.{Tag}
+use Rattle.rasn_types.specs.declared.types.constraints.Bounded.{Bounded}
+use Rattle.rasn_types.specs.declared.error.decode.DecodeError.{DecodeError}
+use Rattle.rasn_types.specs.declared.error.decode.DecodeErrorKind.{DecodeErrorKind}
+use Rattle.rasn_types.specs.declared.error.decode.DecodeErrorKind.TheVariants.{ValueConstraintNotSatisfied}
+use Rattle.rasn_types.specs.declared.error.decode.BerDecodeErrorKind.TheVariants.{InvalidDate}
+use Rattle.rasn_types.specs.Errors.{IsOutOfMemory}
+use Rattle.rasn_types.specs.Framing.{AreOctets}
+use Rattle.rasn_types.specs.Shapes.{Tree, Shape, own, Parts, part, required, IsFirstOf}
+use Rattle.rasn_types.specs.Shapes.Parts.{none}
+use Rattle.rasn_types.specs.Readings.{Reading}
+use Rattle.rasn_types.specs.Grammar.{Reads}
+use Rattle.rasn_de.specs.Causes.{in_ber}
+use Rattle.rasn_de.specs.NamedErrors.{IsNoValidChoice, IsMissingField, IsDuplicateField}
+use Rattle.rasn_de.specs.State.{State}
+use Rattle.rasn_de.specs.Constructed.{Keeps}
+use Rattle.rasn_de.specs.ValueErrors.{Errors, errors_of, IsErrorByTag}
+use Rattle.rasn_de.specs.AlternativeTypes.{FailsAtAlternativeBy, DecodesAlternativeBy}
+
+-- The input of the state before is refused with this error, and the state after has what remains: it is one of these
+-- errors, other than a failed allocation.
+abbrev pub Refuses : Errors → Errors
+Refuses errors old e new = errors old e new × (IsOutOfMemory e.kind → ⊥)
+
+-- The error reports this number and this bound.
+abbrev pub ReportsBound : ℤ → Bounded ℤ → DecodeErrorKind → Type 0
+ReportsBound z bound (ValueConstraintNotSatisfied value expected) = (value ≡ z) × (expected.value ≡ bound)
+ReportsBound z bound _ = ⊥
+
+-- The error reports this text, which isn't a time or a date.
+abbrev pub ReportsText : List ℕ → DecodeErrorKind → Type 0
+ReportsText text kind = (octets : Vec ℕ Global) × (octets.items ≡ text) × (kind ≡ in_ber (InvalidDate octets))
+
+-- Two errors are of the same kind, with the same fields: names, texts and bounds are compared by what they contain.
+pub data IsSameKind (k l : DecodeErrorKind) : Type 0 where
+  equal : k ≡ l → IsSameKind k l
+  same_choice : (name : List ℕ) → IsNoValidChoice name k → IsNoValidChoice name l → IsSameKind k l
+  same_missing : (name : List ℕ) → IsMissingField name k → IsMissingField name l → IsSameKind k l
+  same_duplicate : (name : List ℕ) → IsDuplicateField name k → IsDuplicateField name l → IsSameKind k l
+  same_bound : (z : ℤ) (bound : Bounded ℤ) → ReportsBound z bound k → ReportsBound z bound l → IsSameKind k l
+  same_text : (text : List ℕ) → ReportsText text k → ReportsText text l → IsSameKind k l
+
+abbrev pub IsSameError : DecodeError → DecodeError → Type 0
+IsSameError e f = IsSameKind e.kind f.kind × (e.codec ≡ f.codec)
+
+-- Readings by rules, depth, and whether end-of-contents octets may end the contents.
+abbrev pub ReadingBy : Type 1
+ReadingBy = Codec → ℕ → Bool → Reading Tree
+
+abbrev pub ReadsShape : Shape → ReadingBy
+ReadsShape s rule = Reads rule s
+
+-- An input is refused as one error alone, and one rest remains.
+abbrev pub IsRefusedOnce : Errors → Type 0
+IsRefusedOnce errors = (old : State) → AreOctets old.rest → (e f : DecodeError) (new other : State) → Refuses errors old e new → Refuses errors old f other → IsSameError e f × (new ≡ other)
+
+-- An input is read or refused in one way at most. Reading it once is the grammar's law; this is the rest of it.
+pub record AreApart (errors : Errors) (reads : ReadingBy) : Type 0 where
+  -- What is refused isn't read.
+  pub unread : (old : State) → AreOctets old.rest → (e : DecodeError) (new : State) → Refuses errors old e new → (t : Tree) (rest : List ℕ) → reads old.rule old.depth old.closing old.rest t rest → ⊥
+  -- What is refused is refused as one error, and one rest remains.
+  pub once : IsRefusedOnce errors
+  -- What remains is an end of the input, and nothing else changes.
+  pub kept : (old : State) → AreOctets old.rest → (e : DecodeError) (new : State) → Refuses errors old e new → Keeps old new
+
+-- Why none of these alternatives is read, the error being one of these for the next tag.
+abbrev pub FailsByTag : Bool → Parts → List ℕ → (Tag → Errors) → Tag → Errors
+FailsByTag extensible ps name errors tag old e new = FailsAtAlternativeBy extensible ps name tag old e new × errors tag old e new
+
+-- Whatever the next tag is, an input that isn't read as one of these alternatives is refused as one error.
+abbrev pub AreRefusedOnce : Bool → Parts → List ℕ → (Tag → Errors) → Type 0
+AreRefusedOnce extensible ps name errors = (tag : Tag) → IsRefusedOnce (FailsByTag extensible ps name errors tag)
+
+-- Each alternative is required and has a tag of its own, with which none of those after it may begin.
+abbrev pub HaveOwnTags : Parts → Type 0
+HaveOwnTags none = Unit {0}
+HaveOwnTags (part p s ps) = (p ≡ required) × ((tag : Tag) × (own s ≡ Some tag) × (IsFirstOf ps tag → ⊥)) × HaveOwnTags ps
+
+-- The errors of a CHOICE with these alternatives: why none of them is read, the error being one of these for the next tag.
+abbrev pub ErrorsOfChoice : {D : Type 0} → Bool → Parts → (D → Tree) → List ℕ → (Tag → Errors) → Errors
+ErrorsOfChoice extensible ps tree name errors old e new = errors_of (DecodesAlternativeBy extensible ps tree name) old e new × IsErrorByTag errors old e new

@@ -1,0 +1,142 @@
+//! The laws of refusals, for every rule: an input is read, or refused as one error, after which one
+//! rest remains. Failed allocations are left out. The contract of each function is a theorem about
+//! the `errors` of a type; the functions do nothing when they run.
+#![tactic(auto)]
+
+ghost use Rattle.std.specs.Prelude.{◌≡◌, ℕ, List, Some, true};
+ghost use Rattle.rasn_types.specs.declared.types.tag.Tag.{Tag};
+ghost use Rattle.rasn_types.specs.declared.types.constraints.Constraints.{Constraints};
+ghost use Rattle.rasn_types.specs.Shapes.{Parts, choice_by, chosen, list, looked_for, option, own, prefix, seq, set_of, tagged_as};
+ghost use Rattle.rasn_de.specs.Decodes.{ReadsParts};
+ghost use Rattle.rasn_de.specs.PartTypes.{DecodesSequenceParts, needs_no_initializer};
+ghost use Rattle.rasn_de.specs.SetPartTypes.{DecodesNamedParts, set_by};
+ghost use Rattle.rasn_de.specs.ValueErrors.{errors_of};
+ghost use Rattle.rasn.specs.OneRefusal.{AreApart, AreRefusedOnce, ErrorsOfChoice, HaveOwnTags, IsRefusedOnce, ReadsShape};
+ghost use Rattle.rasn.specs.RefusalLaws.{LeavesAreApart};
+
+use crate::parts::{
+    Addition, DecodeAlternatives, DecodeParts, DecodeSetParts, DefaultValue, Defaulted,
+    DefaultedChoice, DefaultedExplicit, End, ExplicitDefault, Last, OneOf, Optional,
+    OptionalChoice, Required,
+};
+use rasn_de::de::Decode;
+use rasn_types::types::{Any, AsnType, Explicit, FirstTags, SetOf, Unknown};
+
+/// Proves that an input is read as a value of a leaf type, or refused as one error, but not both.
+pub fn leaves()
+    ensures { LeavesAreApart }
+{}
+
+/// Proves the same of a value under an explicit tag, if it is true of the value.
+pub fn explicit<G: AsnType, T: Decode>()
+    ensures { IsRefusedOnce (T.errors T.TAG T.CONSTRAINTS) → (tag : Tag) (c : Constraints)
+        → AreApart (⟦<Explicit<G, T> as Decode>⟧.errors tag c) (ReadsShape (prefix tag T.shape)) }
+{}
+
+/// Proves the same of a SEQUENCE OF, if it is true of the elements.
+pub fn sequence_of<T: Decode>()
+    ensures { IsRefusedOnce (T.errors T.TAG T.CONSTRAINTS) → (tag : Tag) (c : Constraints)
+        → AreApart (⟦<Vec<T> as Decode>⟧.errors tag c) (ReadsShape (list tag T.shape c.size)) }
+{}
+
+/// Proves the same of a SET OF, if it is true of the elements.
+pub fn set_of<T: Decode + Eq>()
+    ensures { IsRefusedOnce (T.errors T.TAG T.CONSTRAINTS) → (tag : Tag) (c : Constraints)
+        → AreApart (⟦<SetOf<T> as Decode>⟧.errors tag c) (ReadsShape (set_of tag T.shape c.size)) }
+{}
+
+/// Proves the same of a value that may be left out, if it is true of the value.
+pub fn optional<T: Decode>()
+    ensures { (tag : Tag) (c : Constraints) → IsRefusedOnce (T.errors tag c)
+        → AreApart (⟦<Option<T> as Decode>⟧.errors tag c) (ReadsShape (option (looked_for tag) (tagged_as tag c T.shape))) }
+{}
+
+/// Proves the same of parts in order, if it is true of the first one and of the others.
+pub fn parts<A: Decode, R: DecodeParts>()
+    ensures none { AreApart ⟦<End as DecodeParts>⟧.errors (ReadsParts ⟦<End as DecodeParts>⟧.parts) }
+    ensures required { AreApart (A.errors A.TAG A.CONSTRAINTS) (ReadsShape A.shape) → AreApart R.errors (ReadsParts R.parts)
+        → AreApart ⟦<Required<A, R> as DecodeParts>⟧.errors (ReadsParts ⟦<Required<A, R> as DecodeParts>⟧.parts) }
+    ensures optional { own A.shape ≡ looked_for A.TAG → IsRefusedOnce (A.errors A.TAG A.CONSTRAINTS) → AreApart R.errors (ReadsParts R.parts)
+        → AreApart ⟦<Optional<A, R> as DecodeParts>⟧.errors (ReadsParts ⟦<Optional<A, R> as DecodeParts>⟧.parts) }
+    ensures addition { AreApart (A.errors A.TAG A.CONSTRAINTS) (ReadsShape A.shape) → AreApart R.errors (ReadsParts R.parts)
+        → AreApart ⟦<Addition<A, R> as DecodeParts>⟧.errors (ReadsParts ⟦<Addition<A, R> as DecodeParts>⟧.parts) }
+{}
+
+/// Proves the same of a CHOICE that may be left out and of the parts after it.
+pub fn optional_choice<A: Decode + FirstTags, R: DecodeParts>()
+    ensures { IsRefusedOnce (A.errors A.TAG A.CONSTRAINTS) → AreApart R.errors (ReadsParts R.parts)
+        → AreApart ⟦<OptionalChoice<A, R> as DecodeParts>⟧.errors (ReadsParts ⟦<OptionalChoice<A, R> as DecodeParts>⟧.parts) }
+{}
+
+/// Proves the same of a part that has a default and of the parts after it.
+pub fn default_part<V: DefaultValue, R: DecodeParts>()
+where
+    V::Value: Decode,
+    ensures { own V.Value.shape ≡ looked_for V.Value.TAG → IsRefusedOnce (V.Value.errors V.Value.TAG V.Value.CONSTRAINTS) → AreApart R.errors (ReadsParts R.parts)
+        → AreApart ⟦<Defaulted<V, R> as DecodeParts>⟧.errors (ReadsParts ⟦<Defaulted<V, R> as DecodeParts>⟧.parts) }
+{}
+
+/// Proves the same of a CHOICE that has a default and of the parts after it.
+pub fn default_choice<V: DefaultValue, R: DecodeParts>()
+where
+    V::Value: Decode + FirstTags,
+    ensures { IsRefusedOnce (V.Value.errors V.Value.TAG V.Value.CONSTRAINTS) → AreApart R.errors (ReadsParts R.parts)
+        → AreApart ⟦<DefaultedChoice<V, R> as DecodeParts>⟧.errors (ReadsParts ⟦<DefaultedChoice<V, R> as DecodeParts>⟧.parts) }
+{}
+
+/// Proves the same of a part under an explicit tag that has a default and of the parts after it.
+pub fn explicit_default<V: ExplicitDefault, R: DecodeParts>()
+where
+    V::Value: Decode,
+    ensures { Some V.Prefix.TAG ≡ looked_for V.Prefix.TAG → IsRefusedOnce (V.Value.errors V.Value.TAG V.Value.CONSTRAINTS) → AreApart R.errors (ReadsParts R.parts)
+        → AreApart ⟦<DefaultedExplicit<V, R> as DecodeParts>⟧.errors (ReadsParts ⟦<DefaultedExplicit<V, R> as DecodeParts>⟧.parts) }
+{}
+
+/// Proves the same of a SEQUENCE, if it is true of its parts.
+pub fn sequence<P: DecodeParts>()
+    ensures { needs_no_initializer P.parts ≡ true → IsRefusedOnce P.errors → (tag : Tag)
+        → AreApart (errors_of (DecodesSequenceParts P.parts P.tree P.errors tag)) (ReadsShape (seq tag P.parts)) }
+{}
+
+/// Proves that alternatives are refused as one error for each tag, if the first one is and the
+/// others are. `Any` is the unknown alternative.
+pub fn alternatives<A: Decode, R: DecodeAlternatives>()
+    ensures unknown { (name : List ℕ) → AreRefusedOnce ⟦<Any as DecodeAlternatives>⟧.extensible ⟦<Any as DecodeAlternatives>⟧.parts name ⟦<Any as DecodeAlternatives>⟧.errors }
+    ensures last { own A.shape ≡ Some A.TAG → IsRefusedOnce (A.errors A.TAG A.CONSTRAINTS) → (name : List ℕ)
+        → AreRefusedOnce ⟦<Last<A> as DecodeAlternatives>⟧.extensible ⟦<Last<A> as DecodeAlternatives>⟧.parts name ⟦<Last<A> as DecodeAlternatives>⟧.errors }
+    ensures first { own A.shape ≡ Some A.TAG → IsRefusedOnce (A.errors A.TAG A.CONSTRAINTS) → (name : List ℕ) → AreRefusedOnce R.extensible R.parts name R.errors
+        → AreRefusedOnce ⟦<OneOf<A, R> as DecodeAlternatives>⟧.extensible ⟦<OneOf<A, R> as DecodeAlternatives>⟧.parts name ⟦<OneOf<A, R> as DecodeAlternatives>⟧.errors }
+{}
+
+/// Proves that an input is read as a CHOICE, or refused as one error, if its alternatives are
+/// refused as one error for each tag, and have tags of their own.
+pub fn choice<P: DecodeAlternatives>()
+    ensures { HaveOwnTags P.parts → (name : List ℕ) → AreRefusedOnce P.extensible P.parts name P.errors
+        → AreApart (ErrorsOfChoice P.extensible P.parts (λ (v : P). chosen (P.number v) (P.inner v)) name P.errors) (ReadsShape (choice_by P.extensible P.parts)) }
+{}
+
+/// Proves that the parts of a SET are refused as one error for each tag, if the first one is and
+/// the others are. `Unknown` are unknown components.
+pub fn set_parts<A: Decode, R: DecodeSetParts>()
+    ensures none { (name : List ℕ) → AreRefusedOnce ⟦<End as DecodeSetParts>⟧.extensible ⟦<End as DecodeSetParts>⟧.parts name ⟦<End as DecodeSetParts>⟧.errors }
+    ensures unknown { (name : List ℕ) → AreRefusedOnce ⟦<Unknown as DecodeSetParts>⟧.extensible ⟦<Unknown as DecodeSetParts>⟧.parts name ⟦<Unknown as DecodeSetParts>⟧.errors }
+    ensures required { own A.shape ≡ Some A.TAG → IsRefusedOnce (A.errors A.TAG A.CONSTRAINTS) → (name : List ℕ) → AreRefusedOnce R.extensible R.parts name R.errors
+        → AreRefusedOnce ⟦<Required<A, R> as DecodeSetParts>⟧.extensible ⟦<Required<A, R> as DecodeSetParts>⟧.parts name ⟦<Required<A, R> as DecodeSetParts>⟧.errors }
+    ensures optional { own A.shape ≡ Some A.TAG → IsRefusedOnce (A.errors A.TAG A.CONSTRAINTS) → (name : List ℕ) → AreRefusedOnce R.extensible R.parts name R.errors
+        → AreRefusedOnce ⟦<Optional<A, R> as DecodeSetParts>⟧.extensible ⟦<Optional<A, R> as DecodeSetParts>⟧.parts name ⟦<Optional<A, R> as DecodeSetParts>⟧.errors }
+{}
+
+/// Proves the same of a part of a SET that has a default, and of the others.
+pub fn set_default<V: DefaultValue, R: DecodeSetParts>()
+where
+    V::Value: Decode,
+    ensures { own V.Value.shape ≡ Some V.Value.TAG → own V.Value.shape ≡ looked_for V.Value.TAG → IsRefusedOnce (V.Value.errors V.Value.TAG V.Value.CONSTRAINTS) → (name : List ℕ) → AreRefusedOnce R.extensible R.parts name R.errors
+        → AreRefusedOnce ⟦<Defaulted<V, R> as DecodeSetParts>⟧.extensible ⟦<Defaulted<V, R> as DecodeSetParts>⟧.parts name ⟦<Defaulted<V, R> as DecodeSetParts>⟧.errors }
+{}
+
+/// Proves that an input is read as a SET, or refused as one error, if its parts are refused as one
+/// error for each tag.
+pub fn set<P: DecodeSetParts>()
+    ensures { (name : List ℕ) → AreRefusedOnce P.extensible P.parts name P.errors → (names : List (List ℕ)) (tag : Tag)
+        → AreApart (errors_of (DecodesNamedParts P.extensible P.parts P.tree name names P.errors tag)) (ReadsShape (set_by P.extensible tag P.parts)) }
+{}
