@@ -6,6 +6,8 @@ pub mod Depths
 pub mod Fractions
 pub mod Headers
 pub mod Refusals
+pub mod Kinds
+pub mod Wholes
 pub mod Lenient
 pub mod Nested
 pub mod Any

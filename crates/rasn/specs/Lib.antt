@@ -11,6 +11,8 @@ pub mod WorkedShapes
 pub mod WorkedDepths
 pub mod WorkedHeaders
 pub mod WorkedRefusals
+pub mod WorkedKinds
+pub mod WorkedWholes
 pub mod WorkedValues
 pub mod WorkedClauses
 pub mod Normal

@@ -13,6 +13,8 @@ ghost use Rattle.rasn_de.specs.SetPartTypes.{DecodesNamedParts, set_by};
 ghost use Rattle.rasn_de.specs.ValueErrors.{errors_of};
 ghost use Rattle.rasn.specs.OneRefusal.{AreApart, AreRefusedOnce, ErrorsOfChoice, HaveOwnTags, IsRefusedOnce, ReadsShape};
 ghost use Rattle.rasn.specs.RefusalLaws.{LeavesAreApart};
+ghost use Rattle.rasn.specs.WorkedKinds.{WorkedKinds};
+ghost use Rattle.rasn.specs.WorkedWholes.{WorkedWholes};
 
 use crate::parts::{
     Addition, DecodeAlternatives, DecodeParts, DecodeSetParts, DefaultValue, Defaulted,
@@ -139,4 +141,15 @@ where
 pub fn set<P: DecodeSetParts>()
     ensures { (name : List ℕ) → AreRefusedOnce P.extensible P.parts name P.errors → (names : List (List ℕ)) (tag : Tag)
         → AreApart (errors_of (DecodesNamedParts P.extensible P.parts P.tree name names P.errors tag)) (ReadsShape (set_by P.extensible tag P.parts)) }
+{}
+
+/// Proves of octets that were worked out by hand as which error leaf types refuse them, and what
+/// remains.
+pub fn worked_kinds()
+    ensures { WorkedKinds }
+{}
+
+/// Proves the same of a SEQUENCE and of a value under an explicit tag.
+pub fn worked_wholes()
+    ensures { WorkedWholes }
 {}

@@ -1,9 +1,7 @@
 -- A CHOICE is refused in one way if its alternatives are.
-use Rattle.std.proofs.Common.{◌≡◌, ℕ, suc, ◌⊎◌, inl, inr, List, Bool, true, false, Option, Some, Result, Ok, Err, refl, sym, ap, ◌∙◌, subst}
+use Rattle.std.proofs.Common.{◌≡◌, ℕ, suc, ◌⊎◌, inl, inr, List, Bool, true, false, Some, Err, refl, sym, ◌∙◌, subst}
 use Rattle.rasn_types.specs.declared.types.tag.Tag.{Tag}
 use Rattle.rasn_types.specs.declared.error.decode.DecodeError.{DecodeError}
-use Rattle.rasn_types.specs.declared.error.decode.DecodeErrorKind.{DecodeErrorKind}
-use Rattle.rasn_types.specs.declared.error.decode.DecodeErrorKind.TheVariants.{OutOfMemory}
 use Rattle.rasn_types.specs.Errors.{IsOutOfMemory}
 use Rattle.rasn_types.specs.Tags.{form, eoc}
 use Rattle.rasn_types.specs.Framing.{AreOctets, NextTag}
@@ -16,14 +14,14 @@ use Rattle.rasn_de.specs.Steps.{PeeksTag}
 use Rattle.rasn_de.specs.Outcomes.{refusal}
 use Rattle.rasn_de.specs.Decodes.{DecodesExactly}
 use Rattle.rasn_de.specs.NamedErrors.{IsNamedError, IsNoValidChoice}
-use Rattle.rasn_de.specs.AlternativeTypes.{ReadsNumberedBy, FailsAtValue, FailsAtAlternative, FailsAtAlternativeBy, DecodesAlternativeBy}
-use Rattle.rasn_de.specs.ValueErrors.{Errors, errors_of, IsErrorOfAlternative, IsErrorByTag}
+use Rattle.rasn_de.specs.AlternativeTypes.{ReadsNumberedBy, FailsAtValue, FailsAtAlternativeBy, DecodesAlternativeBy}
+use Rattle.rasn_de.specs.ValueErrors.{Errors, IsErrorOfAlternative, IsErrorByTag}
 use Rattle.rasn_de.proofs.Headers.Ends.{IsEnd-refl}
 use Rattle.rasn_de.proofs.Leaves.Outcomes.{Exact-none}
 use Rattle.rasn_de.proofs.Constructed.Optional.{peeks_none}
 use Rattle.rasn_de.proofs.Constructed.Choice.{choice_by_next}
 use Rattle.rasn_de.proofs.OwnTypes.AlternativeTypes.{own_tag, other_tag, first_known, first_refused, others_read, none_read, unknown_read, choice_by_read}
-use Rattle.rasn.specs.OneRefusal.{Refuses, IsSameKind, same_choice, IsSameError, ReadsShape, IsRefusedOnce, AreApart, FailsByTag, AreRefusedOnce, HaveOwnTags, ErrorsOfChoice}
+use Rattle.rasn.specs.OneRefusal.{same_choice, IsSameError, ReadsShape, IsRefusedOnce, AreApart, FailsByTag, AreRefusedOnce, HaveOwnTags, ErrorsOfChoice}
 use Rattle.rasn.proofs.OneRefusal.Calls.{exactly_apart, peeks_once}
 use Rattle.rasn.proofs.OneRefusal.Open.{open_type_once}
 

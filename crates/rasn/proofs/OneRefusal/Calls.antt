@@ -1,5 +1,5 @@
 -- Calls whose errors are those of one refusal.
-use Rattle.std.proofs.Common.{◌≡◌, ◌≢◌, ℕ, List, ◌++◌, Result, Ok, Err, refl, sym, ap, ap₂, ◌∙◌, subst}
+use Rattle.std.proofs.Common.{◌≡◌, ◌≢◌, ℕ, List, Result, Ok, Err, refl, sym, ap, ◌∙◌, subst}
 use Rattle.rasn_types.specs.declared.types.codec.Codec.{Codec}
 use Rattle.rasn_types.specs.declared.error.decode.DecodeError.{DecodeError}
 use Rattle.rasn_types.specs.declared.error.decode.DecodeErrorKind.{DecodeErrorKind}
@@ -15,10 +15,9 @@ use Rattle.rasn_de.specs.State.{State, Call, at, IsEnd}
 use Rattle.rasn_de.specs.Steps.{PeeksTag}
 use Rattle.rasn_de.specs.Outcomes.{Exact, refusal}
 use Rattle.rasn_de.specs.Decodes.{DecodesExactly, DecodesBy}
-use Rattle.rasn_de.specs.Constructed.{Keeps}
 use Rattle.rasn_de.specs.ValueErrors.{Errors, errors_of}
 use Rattle.rasn_de.proofs.Headers.Results.{octets_back}
-use Rattle.rasn.specs.OneRefusal.{Refuses, IsSameKind, equal, IsSameError, ReadingBy, IsRefusedOnce, AreApart}
+use Rattle.rasn.specs.OneRefusal.{equal, IsSameError, ReadingBy, IsRefusedOnce, AreApart}
 
 -- Errors are the same if they are equal, or report the same fault.
 pub equal_errors : {e f : DecodeError} → e ≡ f → IsSameError e f

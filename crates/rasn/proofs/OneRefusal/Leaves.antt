@@ -1,5 +1,5 @@
 -- Leaves that are read at once are refused in one way.
-use Rattle.std.proofs.Common.{◌≡◌, ◌≢◌, ℕ, ◌+◌, ◌*◌, ◌^◌, ◌<◌, ℤ, ◌⊎◌, inl, inr, List, [], ◌∷◌, ◌++◌, length, Bool, true, false, Result, Ok, Err, refl, sym, ap, ap₂, ◌∙◌, subst, arith, append_assoc}
+use Rattle.std.proofs.Common.{◌≡◌, ℕ, ◌+◌, ◌*◌, ◌^◌, ◌<◌, ℤ, inl, inr, List, [], ◌∷◌, ◌++◌, length, Bool, true, false, Result, Ok, Err, refl, sym, ap, ap₂, ◌∙◌, subst, arith, append_assoc}
 use Rattle.std.proofs.lemmas.Bool.Decides.{nat_tests}
 use Rattle.rasn_types.specs.declared.types.codec.Codec.{Codec}
 use Rattle.rasn_types.specs.declared.types.tag.Tag.{Tag}
@@ -14,28 +14,27 @@ use Rattle.rasn_types.specs.Framing.{AreOctets, IsChain, Spells128, number_in}
 use Rattle.rasn_types.specs.Tags.{IsStrict}
 use Rattle.rasn_types.specs.Numbered.{fit_isize}
 use Rattle.rasn_types.specs.Shapes.{Tree, Interval, leaf, boolean, null, integer, enumerated, object_identifier, number}
-use Rattle.rasn_types.specs.Trees.{unconstrained, bool_tree}
+use Rattle.rasn_types.specs.Trees.{unconstrained}
 use Rattle.rasn_types.specs.Contents.{Contents, signed, Arcs, ShortArcs, IsShortest, IsShortest128}
 use Rattle.rasn_types.specs.Grammar.{Reads}
 use Rattle.rasn_types.proofs.Enumerated.Range.{fits-isize}
 use Rattle.rasn_de.specs.declared.ber.de.parser.ParseError.{ParseError}
 use Rattle.rasn_de.specs.declared.ber.de.parser.ParseError.TheVariants.{UnsupportedObjectIdentifierArc}
 use Rattle.rasn_de.specs.Headers.{number128_at, is_padded}
-use Rattle.rasn_de.specs.Outcomes.{refusal}
-use Rattle.rasn_de.specs.Decodes.{DecodesExactly}
+use Rattle.rasn_de.specs.Decodes.{DecodesBy}
 use Rattle.rasn_de.proofs.Headers.Numbers.{number128_spelled}
 use Rattle.rasn_de.proofs.Leaves.Outcomes.{decoded_answers, plain_agrees}
 use Rattle.rasn_de.specs.Causes.{Cause, fault, out_of_bound, HasCause}
 use Rattle.rasn_de.specs.State.{State, at}
 use Rattle.rasn_de.specs.ValueErrors.{errors_of, integer_errors}
-use Rattle.rasn_de.specs.Leaves.{Readings, FromContents, definite_at, LeafAt, as_cause, bool_in, BoolAt, IsIntegerContents, IsNotIntegerContents, IntegerIn, IntegerAt, FailsAs}
+use Rattle.rasn_de.specs.Leaves.{Readings, FromContents, definite_at, LeafAt, as_cause, bool_in, BoolAt, IsIntegerContents, IsNotIntegerContents, IntegerIn, IntegerAt, FailsAs, DecodesLeaf}
 use Rattle.rasn_de.specs.Enumerated.{EnumeratedIn, EnumeratedAt, NullIn, NullAt}
-use Rattle.rasn_de.specs.ObjectIdentifier.{arc_at, FailsAtSubidentifier, ObjectIdentifierIn, ObjectIdentifierAt, DecodesObjectIdentifier}
+use Rattle.rasn_de.specs.ObjectIdentifier.{arc_at, ObjectIdentifierIn, ObjectIdentifierAt, DecodesObjectIdentifier}
 use Rattle.rasn_de.proofs.Leaves.Boolean.{bool_ensured}
 use Rattle.rasn_de.proofs.Leaves.Null.{null_ensured}
 use Rattle.rasn_de.proofs.Leaves.Integer.{integer_ensured}
 use Rattle.rasn_de.proofs.Leaves.ObjectIdentifier.{object_decodes}
-use Rattle.rasn.specs.OneRefusal.{Refuses, ReportsBound, IsSameKind, equal, same_bound, IsSameError, ReadsShape, IsRefusedOnce, AreApart}
+use Rattle.rasn.specs.OneRefusal.{ReportsBound, IsSameKind, equal, same_bound, IsSameError, ReadsShape, IsRefusedOnce, AreApart}
 use Rattle.rasn.proofs.OneRefusal.Calls.{exactly_apart}
 
 reports : (z : ℤ) (bound : Bounded ℤ) (k : DecodeErrorKind) → (IsOutOfMemory k → ⊥) → HasCause (out_of_bound z bound) k → ReportsBound z bound k
@@ -145,15 +144,15 @@ module _ (known : List ℤ) where
     enumerated_none rule c (fault f) t o (inr (inr h)) k s u = h.2 k.2
     enumerated_none rule c (out_of_bound z b) t o h k s u = h
 
-    enumerated_unread : (tag : Tag) (old : State) → AreOctets old.rest → (e : DecodeError) (new : State) → FailsAs (EnumeratedAt known old.rule tag old.rest) old e new
-        → DecodesExactly (ReadsShape (leaf (enumerated known) tag unconstrained)) old (refusal e.kind) new
+    pub enumerated_exact : (tag : Tag) (old : State) → AreOctets old.rest → (r : Result ℤ DecodeError) (new : State) → DecodesLeaf (λ (z : ℤ). z) (EnumeratedAt known old.rule tag old.rest) old r new
+        → DecodesBy (ReadsShape (leaf (enumerated known) tag unconstrained)) number old r new
     unfolding Reads
-    enumerated_unread tag old o e new a =
-        decoded_answers (ReadsShape (leaf (enumerated known) tag unconstrained)) number (λ (z : ℤ). z) _ old new (Err e)
+    enumerated_exact tag old o r new a =
+        decoded_answers (ReadsShape (leaf (enumerated known) tag unconstrained)) number (λ (z : ℤ). z) _ old new r
         (plain_agrees old.rule tag old.rest o (enumerated known) old.depth (λ t. Unit {0}) number (EnumeratedIn old.rule known) (enumerated_found old.rule) (enumerated_only old.rule) (enumerated_none old.rule)) a
 
     pub enumerated_apart : (tag : Tag) → AreApart (λ old. FailsAs (EnumeratedAt known old.rule tag old.rest) old) (ReadsShape (leaf (enumerated known) tag unconstrained))
-    enumerated_apart tag = exactly_apart _ (ReadsShape (leaf (enumerated known) tag unconstrained)) (enumerated_unread tag)
+    enumerated_apart tag = exactly_apart _ (ReadsShape (leaf (enumerated known) tag unconstrained)) (λ old o e new a. enumerated_exact tag old o (Err e) new a)
         (λ old o e f new other a b. fails_once (EnumeratedAt known old.rule tag old.rest) (leaf_once (EnumeratedIn old.rule known) (enumerated_once old.rule) old.rule tag old.rest) old e f new other a.1 b.1 a.0 b.0)
 
 -- OBJECT IDENTIFIER: a subidentifier is read in one way, so the first that can't be read is in one place.

@@ -1,5 +1,5 @@
 -- Elements up to the end are refused in one way if each element is.
-use Rattle.std.proofs.Common.{◌≡◌, ◌≢◌, ℕ, ◌⊎◌, inl, inr, List, [], ◌∷◌, ◌++◌, length, map, Vec, None, Result, Ok, Err, refl, sym, ap, ap₂, ◌∙◌, subst, append_assoc}
+use Rattle.std.proofs.Common.{◌≡◌, ◌≢◌, ℕ, ◌⊎◌, inl, inr, List, [], ◌∷◌, ◌++◌, length, map, Vec, None, Ok, Err, refl, sym, ap, ap₂, ◌∙◌, subst, append_assoc}
 use Rattle.std.specs.Global.{Global}
 use Rattle.std.specs.Prelude.{vec_len}
 use Rattle.std.proofs.lemmas.List.{append_cancel_right, length-map}
@@ -11,13 +11,13 @@ use Rattle.rasn_types.specs.Errors.{IsOutOfMemory}
 use Rattle.rasn_types.specs.Tags.{IsStrict, eoc}
 use Rattle.rasn_types.specs.Order.{IsLess, AreAscending}
 use Rattle.rasn_types.specs.Framing.{AreOctets, Ended}
-use Rattle.rasn_types.specs.Shapes.{Tree, items, set_elements, numbers, any, Shape, list, set_of, unknown, constraint_of}
+use Rattle.rasn_types.specs.Shapes.{Tree, set_elements, numbers, any, Shape, list, set_of, unknown, constraint_of}
 use Rattle.rasn_types.specs.Trees.{list_tree}
 use Rattle.rasn_types.proofs.SetOf.Same.{items_one}
 use Rattle.rasn_de.specs.declared.ber.de.parser.ParseError.TheVariants.{SizeConstraintNotSatisfied}
-use Rattle.rasn_de.specs.State.{State, Call, at, IsEnd}
-use Rattle.rasn_de.specs.Constructed.{list_header, DecodesInside}
-use Rattle.rasn_de.specs.SequenceOf.{ReadsElements, ReadsSetElements, ConsumesNothing, DecodesInTurn, RefusesElement, FailsAtElement, DecodesElements, DecodesInTurnFrom, IsOutOfOrder, DecodesElementsInOrder, DecodesInList, DecodesSized, DecodesSequenceOfBy, DecodesSetOfBy}
+use Rattle.rasn_de.specs.State.{State, Call, at}
+use Rattle.rasn_de.specs.Constructed.{list_header}
+use Rattle.rasn_de.specs.SequenceOf.{ReadsElements, ReadsSetElements, DecodesInTurn, RefusesElement, FailsAtElement, DecodesElements, DecodesInTurnFrom, IsOutOfOrder, DecodesElementsInOrder, DecodesSized, DecodesSequenceOfBy, DecodesSetOfBy}
 use Rattle.rasn_de.specs.Any.{DecodesOpenType}
 use Rattle.rasn_de.specs.Unknown.{DecodesUnknown}
 use Rattle.rasn_de.specs.Decodes.{Decodes}
@@ -27,7 +27,7 @@ use Rattle.rasn_de.proofs.Any.Unknown.{unknown_decodes}
 use Rattle.rasn_de.proofs.Headers.Tags.{front_in_order}
 use Rattle.rasn_de.proofs.Constructed.SetOfElements.{each_decodes, in_order_decodes}
 use Rattle.rasn_de.proofs.Constructed.ValueErrors.{elements_by, in_order_by, or_decodes, sequence_of_or, set_of_or}
-use Rattle.rasn.specs.OneRefusal.{Refuses, IsSameError, ReadingBy, ReadsShape, IsRefusedOnce, AreApart}
+use Rattle.rasn.specs.OneRefusal.{IsSameError, ReadingBy, ReadsShape, IsRefusedOnce, AreApart}
 use Rattle.rasn.proofs.OneRefusal.Calls.{equal_errors, same_fault, exactly_apart, octets_end, IsExactCall, one_value, not_both}
 use Rattle.rasn.proofs.OneRefusal.Inside.{inside_once, inside_same, inside_not_both, or_exact, or_once}
 use Rattle.rasn.proofs.OneRefusal.Open.{open_type_once}

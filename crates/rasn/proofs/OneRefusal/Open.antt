@@ -1,19 +1,16 @@
 -- An open type is refused in one way: there is one place at which skipping stops.
-use Rattle.std.proofs.Common.{◌≡◌, ◌≢◌, ℕ, zero, suc, ◌⊎◌, inl, inr, Bool, true, List, [], ◌∷◌, ◌++◌, Option, Some, None, Result, Ok, Err, refl, sym, ap, ◌∙◌, subst, append_assoc}
+use Rattle.std.proofs.Common.{◌≡◌, ℕ, zero, suc, inl, inr, Bool, true, List, [], ◌∷◌, ◌++◌, Option, Some, None, Result, Err, refl, sym, ap, ◌∙◌, subst, append_assoc}
 use Rattle.rasn_types.specs.declared.types.codec.Codec.{Codec}
 use Rattle.rasn_types.specs.declared.types.tag.Tag.{Tag}
-use Rattle.rasn_types.specs.declared.types.any.Any.{Any}
-use Rattle.rasn_types.specs.declared.error.decode.DecodeError.{DecodeError}
 use Rattle.rasn_types.specs.Tags.{loose, form}
 use Rattle.rasn_types.specs.Framing.{AreOctets, Extent, definite, indefinite, Frame, CompleteEncoding, plain, closed, CompleteEncodings, none, one_more}
-use Rattle.rasn_types.specs.Shapes.{any, numbers, looked_for, unknown}
+use Rattle.rasn_types.specs.Shapes.{any, looked_for}
 use Rattle.rasn_types.proofs.Headers.Frames.{frame_one}
 use Rattle.rasn_types.proofs.Encoding.Complete.{frame_more, whole_one, whole_text_one}
 use Rattle.rasn_de.specs.declared.ber.de.parser.ParseError.{ParseError}
 use Rattle.rasn_de.specs.declared.ber.de.parser.headers.Expected.TheVariants.{AnyTag}
 use Rattle.rasn_de.specs.Headers.{Header, header_at, as_written}
 use Rattle.rasn_de.specs.Skipping.{IsNestedIn, IsUnparsable, IsFault}
-use Rattle.rasn_de.specs.State.{State}
 use Rattle.rasn_de.specs.ValueErrors.{errors_of}
 use Rattle.rasn_de.specs.Any.{IsOpenFault, DecodesOpenType}
 use Rattle.rasn_de.proofs.Headers.Frames.{header_parsed, header_spelled}
@@ -21,7 +18,7 @@ use Rattle.rasn_de.proofs.Headers.Fronts.{frame_not_zero}
 use Rattle.rasn_de.proofs.Strings.Reads.{frame_octets}
 use Rattle.rasn_de.proofs.Headers.Results.{octets_back}
 use Rattle.rasn_de.proofs.Any.Reads.{open_decodes}
-use Rattle.rasn.specs.OneRefusal.{Refuses, ReadsShape, IsRefusedOnce, AreApart}
+use Rattle.rasn.specs.OneRefusal.{ReadsShape, IsRefusedOnce, AreApart}
 use Rattle.rasn.proofs.OneRefusal.Calls.{same_fault, exactly_apart}
 
 module _ (rule : Codec) where

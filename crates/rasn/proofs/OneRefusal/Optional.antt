@@ -1,16 +1,15 @@
 -- A value that may be left out is refused in one way if the value is.
-use Rattle.std.proofs.Common.{◌≡◌, ◌≢◌, ℕ, ◌⊎◌, inl, inr, List, Bool, true, false, Option, Some, None, Result, Ok, Err, refl, sym, ap, ◌∙◌, subst}
+use Rattle.std.proofs.Common.{◌≡◌, inl, inr, true, Some, None, Result, Ok, Err, refl, sym, ap, ◌∙◌, subst}
 use Rattle.std.specs.declared.alloc.AllocError.{AllocError}
 use Rattle.rasn_types.specs.declared.types.tag.Tag.{Tag}
 use Rattle.rasn_types.specs.declared.error.decode.DecodeError.{DecodeError}
 use Rattle.rasn_types.specs.Errors.{IsOutOfMemory}
 use Rattle.rasn_types.specs.Framing.{AreOctets}
 use Rattle.rasn_types.specs.Shapes.{Tree, Shape, prefix, option, Key, own_tag, first_tags, own, looked_for, Sought, one_tag, any_of, IsFirst, optional, default, optional_choice, default_choice}
-use Rattle.rasn_types.specs.Trees.{option_tree}
 use Rattle.rasn_types.specs.Grammar.{Reads, parts_of}
 use Rattle.rasn_de.specs.State.{State, Call}
 use Rattle.rasn_de.specs.Outcomes.{refusal}
-use Rattle.rasn_de.specs.Decodes.{Decodes, DecodesExactly}
+use Rattle.rasn_de.specs.Decodes.{DecodesExactly}
 use Rattle.rasn_de.specs.ValueErrors.{Errors, errors_of, DecodesOr}
 use Rattle.rasn_de.specs.Prefix.{DecodesPrefixBy}
 use Rattle.rasn_de.specs.Optional.{OnePart, NextIs, DecodesIfSought, DecodesIfPresent, MakesValue, DecodesSoughtOrDefault, DecodesOrDefault, FailsWithDefault, no_look, no_default, no_read, not_compared, present}

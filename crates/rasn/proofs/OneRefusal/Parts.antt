@@ -1,13 +1,12 @@
 -- Parts in order, and a SEQUENCE of them, are refused in one way if each part is.
-use Rattle.std.proofs.Common.{◌≡◌, ℕ, ◌⊎◌, inl, inr, List, Bool, true, Result, Ok, Err, refl, sym, ap, ◌∙◌, subst}
+use Rattle.std.proofs.Common.{◌≡◌, ℕ, inl, inr, List, true, Result, Ok, Err, refl, sym, ap, ◌∙◌, subst}
 use Rattle.rasn_types.specs.declared.types.tag.Tag.{Tag}
 use Rattle.rasn_types.specs.declared.error.decode.DecodeError.{DecodeError}
-use Rattle.rasn_types.specs.Errors.{IsOutOfMemory}
 use Rattle.rasn_types.specs.Framing.{AreOctets}
 use Rattle.rasn_types.specs.Shapes.{Tree, items, Shape, seq, Parts, part, Presence, required, addition, optional_by, default_by, sought_by}
 use Rattle.rasn_types.specs.Shapes.Parts.{none}
 use Rattle.rasn_types.specs.Readings.{ReadsInOrder}
-use Rattle.rasn_types.specs.Grammar.{Reads, parts_of}
+use Rattle.rasn_types.specs.Grammar.{parts_of}
 use Rattle.rasn_de.specs.State.{State, at}
 use Rattle.rasn_de.specs.Outcomes.{Got, refusal}
 use Rattle.rasn_de.specs.Decodes.{DecodesExactly, DecodesParts, ReadsParts}
@@ -18,8 +17,8 @@ use Rattle.rasn_de.specs.ValueErrors.{Errors, errors_of}
 use Rattle.rasn_de.proofs.Constructed.Optional.{sought_decodes, sought_default_decodes}
 use Rattle.rasn_de.proofs.OwnTypes.Parts.{part_refused, after_part_refused, keeps_then, call_keeps}
 use Rattle.rasn_de.proofs.OwnTypes.PartTypes.{parts_decode}
-use Rattle.rasn.specs.OneRefusal.{Refuses, IsSameError, ReadsShape, IsRefusedOnce, AreApart}
-use Rattle.rasn.proofs.OneRefusal.Calls.{octets_end, exactly_apart, IsExactCall}
+use Rattle.rasn.specs.OneRefusal.{Refuses, ReadsShape, IsRefusedOnce, AreApart}
+use Rattle.rasn.proofs.OneRefusal.Calls.{octets_end, exactly_apart}
 use Rattle.rasn.proofs.OneRefusal.Inside.{inside_once}
 
 -- What can't be read as a part, or as parts, isn't related to anything.

@@ -1,5 +1,5 @@
 -- A SET is refused in one way if its parts are.
-use Rattle.std.proofs.Common.{◌≡◌, ◌≢◌, ℕ, zero, suc, ◌+◌, ◌⊎◌, inl, inr, List, [], ◌∷◌, ◌++◌, length, map, Bool, true, Result, Ok, Err, refl, sym, ap, ap₂, ◌∙◌, subst, arith, append_assoc}
+use Rattle.std.proofs.Common.{◌≡◌, ℕ, zero, suc, ◌+◌, ◌⊎◌, inl, inr, List, [], ◌∷◌, ◌++◌, Bool, Result, Ok, Err, refl, sym, ap, ap₂, ◌∙◌, subst, arith, append_assoc}
 use Rattle.rasn_types.specs.declared.types.codec.Codec.{Codec}
 use Rattle.rasn_types.specs.declared.types.tag.Tag.{Tag}
 use Rattle.rasn_types.specs.declared.error.decode.DecodeError.{DecodeError}
@@ -7,17 +7,17 @@ use Rattle.rasn_types.specs.Errors.{IsOutOfMemory}
 use Rattle.rasn_types.specs.Tags.{form, IsStrict, IsTagBelow}
 use Rattle.rasn_types.specs.Framing.{AreOctets, Ended, NextTag, Begins}
 use Rattle.rasn_types.specs.Order.{Each, AreAscending}
-use Rattle.rasn_types.specs.Shapes.{Tree, chosen, Parts, part, Presence, required, presences, choice_by}
+use Rattle.rasn_types.specs.Shapes.{Tree, chosen, Parts, part, Presence, presences, choice_by}
 use Rattle.rasn_types.specs.Shapes.Parts.{none}
 use Rattle.rasn_types.specs.Readings.{AreInTagOrder, NoneOf, OneOf}
 use Rattle.rasn_de.specs.State.{State, Call, at}
 use Rattle.rasn_de.specs.Steps.{PeeksTag}
-use Rattle.rasn_de.specs.Decodes.{Decodes, DecodesBy}
-use Rattle.rasn_de.specs.Constructed.{sequence_header, DecodesInside}
+use Rattle.rasn_de.specs.Decodes.{Decodes}
+use Rattle.rasn_de.specs.Constructed.{sequence_header}
 use Rattle.rasn_de.specs.NamedErrors.{IsNamedError, IsMissingField, IsDuplicateField}
-use Rattle.rasn_de.specs.SequenceOf.{RefusesElement, DecodesInTurnFrom}
-use Rattle.rasn_de.specs.Set.{FailsAtComponent, no_tag, falls, not_read, DecodesUpTo, DecodesIntoSlots, DecodesSetContents}
-use Rattle.rasn_de.specs.SetPartTypes.{name_at, IsPart, FailsAtSetPart, DecodesOneOf, AreOnce, RepeatsFirst, LacksFirst, MakesOfReadings, MakesNamed, DecodesSetPartContents, DecodesNamedContents, DecodesNamedParts, set_by}
+use Rattle.rasn_de.specs.SequenceOf.{RefusesElement}
+use Rattle.rasn_de.specs.Set.{FailsAtComponent, no_tag, falls, not_read, DecodesIntoSlots}
+use Rattle.rasn_de.specs.SetPartTypes.{name_at, IsPart, FailsAtSetPart, DecodesOneOf, AreOnce, RepeatsFirst, LacksFirst, MakesOfReadings, DecodesSetPartContents, DecodesNamedContents, DecodesNamedParts, set_by}
 use Rattle.rasn_de.specs.AlternativeTypes.{FailsAtAlternativeBy}
 use Rattle.rasn_de.specs.ValueErrors.{Errors, errors_of}
 use Rattle.rasn_de.proofs.Headers.Begins.{begins_more}
@@ -30,7 +30,7 @@ use Rattle.rasn_de.proofs.Constructed.SortedSetContents.{SortedSetReads}
 use Rattle.rasn_de.proofs.OwnTypes.Components.{not_none}
 use Rattle.rasn_de.proofs.OwnTypes.SetPartTypes.{same_trees}
 use Rattle.rasn_de.proofs.OwnTypes.SortedSetParts.{members_decode, sorted_parts_decode, set_parts_decode}
-use Rattle.rasn.specs.OneRefusal.{IsSameKind, same_missing, same_duplicate, IsSameError, ReadsShape, IsRefusedOnce, AreApart, AreRefusedOnce}
+use Rattle.rasn.specs.OneRefusal.{same_missing, same_duplicate, IsSameError, ReadsShape, IsRefusedOnce, AreApart, AreRefusedOnce}
 use Rattle.rasn.proofs.OneRefusal.Calls.{equal_errors, exactly_apart, IsExactCall, peeks_once}
 use Rattle.rasn.proofs.OneRefusal.Inside.{inside_once}
 use Rattle.rasn.proofs.OneRefusal.Lists.{element_once, stuck, GoesOn, Compared, same, longer, shorter, compare, run_end}

@@ -1,5 +1,5 @@
 -- Strings and times, whose octets may be in segments, are refused in one way.
-use Rattle.std.proofs.Common.{◌≡◌, ◌≢◌, ℕ, ◌<◌, ◌≤◌, ◌^◌, ◌⊎◌, inl, inr, List, ◌∷◌, Bool, length, Option, Result, Ok, Err, refl, sym, ap, ap₂, ◌∙◌, subst, arith}
+use Rattle.std.proofs.Common.{◌≡◌, ℕ, ◌<◌, inl, inr, List, Bool, length, Option, Result, Ok, Err, sym, ap, ap₂, ◌∙◌, subst, arith}
 use Rattle.std.specs.Prelude.{slice_index}
 use Rattle.rasn_types.specs.declared.types.codec.Codec.{Codec}
 use Rattle.rasn_types.specs.declared.types.tag.Tag.{Tag}
@@ -9,12 +9,10 @@ use Rattle.rasn_types.specs.declared.types.strings.alphabet.Alphabet.{Alphabet}
 use Rattle.rasn_types.specs.declared.error.decode.DecodeError.{DecodeError}
 use Rattle.rasn_types.specs.Errors.{IsOutOfMemory}
 use Rattle.rasn_types.specs.Framing.{AreOctets}
-use Rattle.rasn_types.specs.Calendar.{Moment, Stamp, Day}
 use Rattle.rasn_types.specs.Time.{DateText}
 use Rattle.rasn_types.specs.Grammar.{UtcText, GeneralizedText}
-use Rattle.rasn_types.specs.Shapes.{leaf, bit_string, named_bits, octet_string, fixed, bmp, utf8, utc_time, generalized_time, date, Kind, numbers, bits, instant, on_day}
+use Rattle.rasn_types.specs.Shapes.{leaf, bit_string, named_bits, utc_time, generalized_time, date, Kind, bits}
 use Rattle.rasn_types.specs.Trees.{unconstrained}
-use Rattle.rasn_types.specs.BitString.{significant}
 use Rattle.rasn_de.specs.declared.ber.de.parser.ParseError.{ParseError}
 use Rattle.rasn_de.specs.declared.ber.de.parser.ParseError.TheVariants as parse
 use Rattle.rasn_de.specs.Causes.{Cause, fault}
@@ -23,16 +21,15 @@ use Rattle.rasn_de.specs.Steps.{IsErrorOf}
 use Rattle.rasn_de.specs.Outcomes.{refusal}
 use Rattle.rasn_de.specs.Decodes.{Decodes, DecodesExactly}
 use Rattle.rasn_de.specs.ValueErrors.{errors_of}
-use Rattle.rasn_de.specs.OctetString.{octet_string_at, DecodesOctets}
 use Rattle.rasn_de.specs.CharacterString.{StringCheck, IsOutOfSize, IsOutsideAlphabet, ByAlphabet, ByCharacters, ByLength, AreUtf8, BySize, ByUtf8, ByUnits, StringAt, DecodesString}
-use Rattle.rasn_de.specs.BitString.{bit_string_at, bits_tree, IsOversized, BitsAt, DecodesBitString}
+use Rattle.rasn_de.specs.BitString.{bits_tree, IsOversized, BitsAt, DecodesBitString}
 use Rattle.rasn_de.specs.NamedBits.{AreNamedBits, DecodesNamedBits}
-use Rattle.rasn_de.specs.Time.{AtAnyOffset, IsInvalidDate, DecodesTime}
+use Rattle.rasn_de.specs.Time.{AtAnyOffset, DecodesTime}
 use Rattle.rasn_de.proofs.Strings.CharacterString.{Fits, string_decodes}
 use Rattle.rasn_de.proofs.Strings.BitString.{bits_decodes}
 use Rattle.rasn_de.proofs.Strings.NamedBits.{named_unread, named_refused}
 use Rattle.rasn_de.proofs.Strings.Time.{utc_decodes, generalized_decodes, date_decodes}
-use Rattle.rasn.specs.OneRefusal.{Refuses, IsSameKind, same_text, IsSameError, ReadsShape, IsRefusedOnce, AreApart}
+use Rattle.rasn.specs.OneRefusal.{same_text, IsSameError, ReadsShape, IsRefusedOnce, AreApart}
 use Rattle.rasn.proofs.OneReading.Leaves.{units_one}
 use Rattle.rasn.proofs.OneRefusal.Calls.{same_fault, no_memory, exactly_apart, one_value, not_both}
 use Rattle.rasn.proofs.OneRefusal.Leaves.{FailsOnce, fails_once}

@@ -1,0 +1,78 @@
+-- Octets that were worked out by hand are refused where values contain others.
+use Rattle.std.proofs.Common.{◌≡◌, ◌≢◌, ℕ, inl, inr, List, [], ◌∷◌, true, false, pos, Ok, Err, refl, sym, subst, arith}
+use Rattle.rasn_types.specs.Tags.{in_universal}
+use Rattle.rasn_types.specs.declared.types.codec.Codec.TheVariants.{Der}
+use Rattle.rasn_types.specs.declared.types.tag.Tag.{Tag}
+use Rattle.rasn_types.specs.declared.types.tag.Class.TheVariants.{Context}
+use Rattle.rasn_types.specs.declared.error.decode.DecodeError.{DecodeError}
+use Rattle.rasn_types.specs.Framing.{AreOctets, definite}
+use Rattle.rasn_types.specs.Shapes.{number}
+use Rattle.rasn_de.specs.declared.ber.de.parser.ParseError.{ParseError}
+use Rattle.rasn_de.specs.declared.ber.de.parser.ParseError.TheVariants as parse
+use Rattle.rasn_de.specs.Headers.{Header, number128_at, tag_number_at, identifier_by, number256_at, long_at, length_at, header_by}
+use Rattle.rasn_de.specs.Causes.{fault, error_kind}
+use Rattle.rasn_de.specs.State.{State, IsEnd}
+use Rattle.rasn_de.specs.Leaves.{FromContents, definite_at, as_cause, bool_in, BoolAt, FailsAs}
+use Rattle.rasn_de.specs.Enumerated.{NullAt}
+use Rattle.rasn_de.specs.Constructed.{sequence_header, constructed_header_at, inside}
+use Rattle.rasn_de.proofs.Headers.NextTag.{kind_memory}
+use Rattle.rasn_de.proofs.Leaves.Boolean.{bool_ensured}
+use Rattle.rasn_de.proofs.Leaves.Null.{null_ensured}
+use Rattle.rasn.specs.WorkedKinds.{IsRefusedWith}
+use Rattle.rasn.specs.WorkedWholes.{sequence_errors, prefix_errors, WorkedWholes}
+
+-- The header of a value whose contents and rest are these, and the decoder inside it.
+abbrev held : Tag → List ℕ → List ℕ → Header
+held tag contents rest = record { tag = tag; bit = true; extent = definite contents; rest = rest }
+
+abbrev within : List ℕ → List ℕ → State
+within contents l = record { rule = Der; depth = 127; closing = false; whole = contents; rest = l }
+
+true_read : (contents after : List ℕ) → definite_at Der (in_universal 1) contents ≡ Ok (255 ∷ [], after) → BoolAt Der (in_universal 1) contents (Ok (true, after))
+true_read contents after e = subst (λ d. FromContents (λ c r. as_cause (bool_in Der c) ≡ r) d (Ok (true, after))) (sym e) (refl, refl)
+
+-- A BOOLEAN is read, and the NULL after it is refused.
+second_refused : (input contents after left rest : List ℕ) (f : ParseError) → constructed_header_at (sequence_header (in_universal 16)) Der 128 input ≡ Ok (held (in_universal 16) contents rest) → IsEnd input rest
+    → AreOctets contents → AreOctets after → definite_at Der (in_universal 1) contents ≡ Ok (255 ∷ [], after) → f ≢ parse.OutOfMemory
+    → FailsAs (NullAt Der (in_universal 5) after) (within contents after) (record { kind = error_kind f; codec = Der }) (within contents left) → IsRefusedWith sequence_errors Der input (error_kind f) rest
+second_refused input contents after left rest f opened end o p first n second =
+    let e : DecodeError = record { kind = error_kind f; codec = Der } in
+    let read = (bool_ensured (in_universal 1) (within contents contents) (within contents after) (Ok true) o (true_read contents after first, refl)).reads in
+    let unread = (null_ensured (in_universal 5) (within contents after) (within contents left) (Err e) p second).reads in (
+      (
+        record { stays = refl; end = end },
+        inside (held (in_universal 16) contents rest) opened (within contents left)
+            (inr (number (pos 1), within contents after, read, inl unread), inr (number (pos 1), within contents after, read, inl second)) refl,
+      ),
+      kind_memory f n,
+    )
+
+missing_part : IsRefusedWith sequence_errors Der (48 ∷ 3 ∷ 1 ∷ 1 ∷ 255 ∷ 9 ∷ []) (error_kind (parse.Incomplete 1)) (9 ∷ [])
+unfolding number128_at tag_number_at identifier_by number256_at long_at length_at header_by
+missing_part = second_refused (48 ∷ 3 ∷ 1 ∷ 1 ∷ 255 ∷ 9 ∷ []) (1 ∷ 1 ∷ 255 ∷ []) [] [] (9 ∷ []) (parse.Incomplete 1) refl (48 ∷ 3 ∷ 1 ∷ 1 ∷ 255 ∷ [], refl)
+    (omega arith, (omega arith, (omega arith, tt))) tt refl (λ e. cc) (fault (parse.Incomplete 1), refl, refl, refl, refl)
+
+second_part : IsRefusedWith sequence_errors Der (48 ∷ 6 ∷ 1 ∷ 1 ∷ 255 ∷ 5 ∷ 1 ∷ 0 ∷ []) (error_kind (parse.MismatchedLength 0 1)) []
+unfolding number128_at tag_number_at identifier_by number256_at long_at length_at header_by
+second_part = second_refused (48 ∷ 6 ∷ 1 ∷ 1 ∷ 255 ∷ 5 ∷ 1 ∷ 0 ∷ []) (1 ∷ 1 ∷ 255 ∷ 5 ∷ 1 ∷ 0 ∷ []) (5 ∷ 1 ∷ 0 ∷ []) [] [] (parse.MismatchedLength 0 1) refl (48 ∷ 6 ∷ 1 ∷ 1 ∷ 255 ∷ 5 ∷ 1 ∷ 0 ∷ [], refl)
+    (omega arith, (omega arith, (omega arith, (omega arith, (omega arith, (omega arith, tt)))))) (omega arith, (omega arith, (omega arith, tt))) refl (λ e. cc)
+    (fault (parse.MismatchedLength 0 1), (((λ e. cc), refl), refl), refl, refl, refl)
+
+five_refused : FailsAs (BoolAt Der (in_universal 1) (1 ∷ 1 ∷ 5 ∷ [])) (within (1 ∷ 1 ∷ 5 ∷ []) (1 ∷ 1 ∷ 5 ∷ [])) (record { kind = error_kind (parse.InvalidBool 5); codec = Der }) (within (1 ∷ 1 ∷ 5 ∷ []) [])
+unfolding number128_at tag_number_at identifier_by number256_at long_at length_at header_by
+five_refused = (fault (parse.InvalidBool 5), (refl, refl), refl, refl, refl)
+
+inside_a_tag : IsRefusedWith prefix_errors Der (160 ∷ 3 ∷ 1 ∷ 1 ∷ 5 ∷ 9 ∷ []) (error_kind (parse.InvalidBool 5)) (9 ∷ [])
+unfolding number128_at tag_number_at identifier_by number256_at long_at length_at header_by
+inside_a_tag =
+    let contents = 1 ∷ 1 ∷ 5 ∷ [] in
+    let read = (bool_ensured (in_universal 1) (within contents contents) (within contents []) (Err (record { kind = error_kind (parse.InvalidBool 5); codec = Der })) (omega arith, (omega arith, (omega arith, tt))) five_refused).reads in (
+      (
+        record { stays = refl; end = (160 ∷ 3 ∷ 1 ∷ 1 ∷ 5 ∷ [], refl) },
+        inside (held (record { class = Context; value = 0 }) contents (9 ∷ [])) refl (within contents []) (read, five_refused) refl,
+      ),
+      λ e. cc,
+    )
+
+pub worked : WorkedWholes
+worked = record { missing_part = missing_part; second_part = second_part; inside_a_tag = inside_a_tag }
