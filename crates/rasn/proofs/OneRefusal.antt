@@ -1,7 +1,10 @@
 pub mod Calls
 pub mod Leaves
+pub mod Decided
+pub mod Read
 pub mod Strings
 pub mod Open
+pub mod OpenRead
 pub mod Inside
 pub mod Optional
 pub mod Parts

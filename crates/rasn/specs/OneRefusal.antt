@@ -1,5 +1,5 @@
 -- Which inputs are refused, and as what: the relation beside the grammar's.
-use Rattle.std.specs.Prelude.{◌≡◌, ℕ, ℤ, List, Bool, Vec, Some}
+use Rattle.std.specs.Prelude.{◌≡◌, ◌<◌, ◌^◌, ℕ, ℤ, List, length, Bool, Vec, Some}
 use Rattle.std.specs.Global.{Global}
 use Rattle.rasn_types.specs.declared.types.codec.Codec.{Codec}
 use Rattle.rasn_types.specs.declared.types.tag.Tag.{Tag}
@@ -66,6 +66,11 @@ pub record AreApart (errors : Errors) (reads : ReadingBy) : Type 0 where
   pub once : IsRefusedOnce errors
   -- What remains is an end of the input, and nothing else changes.
   pub kept : (old : State) → AreOctets old.rest → (e : DecodeError) (new : State) → Refuses errors old e new → Keeps old new
+
+-- Each input that memory can hold is read or refused: none is neither.
+abbrev pub LeaveNone : Errors → ReadingBy → Type 0
+LeaveNone errors reads = (old : State) → AreOctets old.rest → length old.rest < 2 ^ 63
+    → ((t : Tree) (rest : List ℕ) → reads old.rule old.depth old.closing old.rest t rest → ⊥) → ((e : DecodeError) (new : State) → Refuses errors old e new → ⊥) → ⊥
 
 -- Why none of these alternatives is read, the error being one of these for the next tag.
 abbrev pub FailsByTag : Bool → Parts → List ℕ → (Tag → Errors) → Tag → Errors

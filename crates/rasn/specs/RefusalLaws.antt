@@ -20,7 +20,7 @@ use Rattle.rasn_de.specs.Time.{AtAnyOffset, DecodesTime}
 use Rattle.rasn_de.specs.Any.{DecodesOpenType}
 use Rattle.rasn_de.specs.Unknown.{DecodesUnknown}
 use Rattle.rasn_de.specs.ValueErrors.{errors_of, integer_errors}
-use Rattle.rasn.specs.OneRefusal.{ReadsShape, AreApart}
+use Rattle.rasn.specs.OneRefusal.{ReadsShape, AreApart, LeaveNone}
 
 -- Each kind of value that contains no others, under any tag and, where they apply, any constraints.
 pub record LeavesAreApart : Type 0 where
@@ -44,3 +44,24 @@ pub record LeavesAreApart : Type 0 where
   pub of_date : (tag : Tag) (c : Constraints) → AreApart (errors_of (DecodesTime DateText tag)) (ReadsShape (leaf date tag c))
   pub of_open_type : (tag : Tag) → AreApart (errors_of (DecodesOpenType tag)) (ReadsShape (any (looked_for tag)))
   pub of_unknown : AreApart (errors_of DecodesUnknown) (ReadsShape unknown)
+
+-- The same kinds: each input is read or refused.
+pub record LeavesLeaveNone : Type 0 where
+  pub of_boolean : (tag : Tag) → LeaveNone (λ old. FailsAs (BoolAt old.rule tag old.rest) old) (ReadsShape (leaf boolean tag unconstrained))
+  pub of_null : (tag : Tag) → LeaveNone (λ old. FailsAs (NullAt old.rule tag old.rest) old) (ReadsShape (leaf null tag unconstrained))
+  pub of_integer : (width : ℕ) (range : Interval) (tag : Tag) (c : Constraints) → LeaveNone (integer_errors (λ z. ⊥) width range tag c) (ReadsShape (leaf (integer range) tag c))
+  pub of_long_integer : (tag : Tag) (c : Constraints) → LeaveNone (integer_errors IsLong 0 every tag c) (ReadsShape (leaf (integer every) tag c))
+  pub of_enumerated : (known : List ℤ) → fit_isize known ≡ true → (tag : Tag)
+      → LeaveNone (λ old. FailsAs (EnumeratedAt known old.rule tag old.rest) old) (ReadsShape (leaf (enumerated known) tag unconstrained))
+  pub of_object_identifier : (tag : Tag) → LeaveNone (errors_of (DecodesObjectIdentifier tag)) (ReadsShape (leaf object_identifier tag unconstrained))
+  pub of_bit_string : (tag : Tag) (c : Constraints) → LeaveNone (errors_of (DecodesBitString tag c)) (ReadsShape (leaf bit_string tag c))
+  pub of_named_bits : (tag : Tag) (c : Constraints) → LeaveNone (errors_of (DecodesNamedBits tag c)) (ReadsShape (leaf named_bits tag c))
+  pub of_octet_string : (tag : Tag) (c : Constraints) → LeaveNone (errors_of (DecodesString (λ (l : List ℕ). l) (BySize c.size) tag)) (ReadsShape (leaf octet_string tag c))
+  pub of_fixed : (n : ℕ) (tag : Tag) (c : Constraints) → LeaveNone (errors_of (DecodesString (λ (l : List ℕ). l) (ByLength n c.size) tag)) (ReadsShape (leaf (fixed n) tag c))
+  pub of_characters : (a : Alphabet) (tag : Tag) (c : Constraints) → LeaveNone (errors_of (DecodesString (λ (l : List ℕ). l) (ByAlphabet a c.size) tag)) (ReadsShape (leaf (string_kind a) tag c))
+  pub of_utf8 : (tag : Tag) (c : Constraints) → LeaveNone (errors_of (DecodesString (λ (l : List ℕ). l) (ByUtf8 c.size) tag)) (ReadsShape (leaf utf8 tag c))
+  pub of_bmp : (tag : Tag) (c : Constraints) → LeaveNone (errors_of (DecodesString (λ (l : List ℕ). l) (ByUnits c.size) tag)) (ReadsShape (leaf bmp tag c))
+  pub of_utc_time : (tag : Tag) (c : Constraints) → LeaveNone (λ old. errors_of (DecodesTime (AtAnyOffset (UtcText old.rule)) tag) old) (ReadsShape (leaf utc_time tag c))
+  pub of_generalized_time : (tag : Tag) (c : Constraints) → LeaveNone (λ old. errors_of (DecodesTime (GeneralizedText old.rule) tag) old) (ReadsShape (leaf generalized_time tag c))
+  pub of_date : (tag : Tag) (c : Constraints) → LeaveNone (errors_of (DecodesTime DateText tag)) (ReadsShape (leaf date tag c))
+  pub of_open_type : (tag : Tag) → LeaveNone (errors_of (DecodesOpenType tag)) (ReadsShape (any (looked_for tag)))

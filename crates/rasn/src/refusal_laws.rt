@@ -12,7 +12,7 @@ ghost use Rattle.rasn_de.specs.PartTypes.{DecodesSequenceParts, needs_no_initial
 ghost use Rattle.rasn_de.specs.SetPartTypes.{DecodesNamedParts, set_by};
 ghost use Rattle.rasn_de.specs.ValueErrors.{errors_of};
 ghost use Rattle.rasn.specs.OneRefusal.{AreApart, AreRefusedOnce, ErrorsOfChoice, HaveOwnTags, IsRefusedOnce, ReadsShape};
-ghost use Rattle.rasn.specs.RefusalLaws.{LeavesAreApart};
+ghost use Rattle.rasn.specs.RefusalLaws.{LeavesAreApart, LeavesLeaveNone};
 ghost use Rattle.rasn.specs.WorkedKinds.{WorkedKinds};
 ghost use Rattle.rasn.specs.WorkedWholes.{WorkedWholes};
 
@@ -24,9 +24,11 @@ use crate::parts::{
 use rasn_de::de::Decode;
 use rasn_types::types::{Any, AsnType, Explicit, FirstTags, SetOf, Unknown};
 
-/// Proves that an input is read as a value of a leaf type, or refused as one error, but not both.
+/// Proves that an input is read as a value of a leaf type, or refused as one error, but not both;
+/// and that it is one of them (unknown values aside).
 pub fn leaves()
-    ensures { LeavesAreApart }
+    ensures apart { LeavesAreApart }
+    ensures none { LeavesLeaveNone }
 {}
 
 /// Proves the same of a value under an explicit tag, if it is true of the value.

@@ -2,9 +2,12 @@
 use Rattle.rasn_types.specs.Inline.{IsLong}
 use Rattle.rasn_types.specs.Shapes.{every}
 use Rattle.rasn_de.proofs.Strings.Checks.{by_alphabet, by_utf8, by_units, by_length, by_size}
-use Rattle.rasn.specs.RefusalLaws.{LeavesAreApart}
+use Rattle.rasn.specs.RefusalLaws.{LeavesAreApart, LeavesLeaveNone}
 use Rattle.rasn.proofs.OneRefusal.Leaves.{boolean_apart, null_apart, integer_apart, enumerated_apart, object_identifier_apart}
 use Rattle.rasn.proofs.OneRefusal.Strings.{by_size_once, by_length_once, by_alphabet_once, by_utf8_once, by_units_once, string_apart, bit_string_apart, named_bits_apart, utc_time_apart, generalized_time_apart, date_apart}
+use Rattle.rasn.proofs.OneRefusal.Decided.{boolean_decided, null_decided, integer_decided, enumerated_decided}
+use Rattle.rasn.proofs.OneRefusal.Read.{by_size_all, by_length_all, by_characters_all, string_read, bit_string_read, named_bits_read, by_alphabet_all, object_identifier_read, utc_time_read, generalized_time_read, date_read}
+use Rattle.rasn.proofs.OneRefusal.OpenRead.{open_type_read}
 use Rattle.rasn.proofs.OneRefusal.Open.{open_type_apart}
 use Rattle.rasn.proofs.OneRefusal.Lists.{unknown_apart}
 
@@ -28,4 +31,25 @@ leaves = record {
   of_date = date_apart;
   of_open_type = open_type_apart;
   of_unknown = unknown_apart;
+}
+
+pub decided : LeavesLeaveNone
+decided = record {
+  of_boolean = boolean_decided;
+  of_null = null_decided;
+  of_integer = λ width range tag c. integer_decided width range c (λ z. ⊥) tag;
+  of_long_integer = λ tag c. integer_decided 0 every c IsLong tag;
+  of_enumerated = enumerated_decided;
+  of_object_identifier = object_identifier_read;
+  of_bit_string = bit_string_read;
+  of_named_bits = named_bits_read;
+  of_octet_string = λ tag c. string_read (by_size c) (by_size_all c.size) tag;
+  of_fixed = λ n tag c. string_read (by_length n c) (by_length_all n c.size) tag;
+  of_characters = λ a tag c. string_read (by_alphabet a c) (by_alphabet_all a c.size) tag;
+  of_utf8 = λ tag c. string_read (by_utf8 c) (by_characters_all _ _ c.size) tag;
+  of_bmp = λ tag c. string_read (by_units c) (by_characters_all _ _ c.size) tag;
+  of_utc_time = utc_time_read;
+  of_generalized_time = generalized_time_read;
+  of_date = date_read;
+  of_open_type = open_type_read;
 }

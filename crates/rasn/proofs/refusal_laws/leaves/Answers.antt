@@ -1,5 +1,8 @@
-use Rattle.rasn.proofs.OneRefusal.Laws.{leaves as law}
+use Rattle.rasn.proofs.OneRefusal.Laws.{leaves as apart, decided}
 use Rattle.rasn.proofs.refusal_laws.leaves.Goals as goal
 
-pub returns : goal.returns
-returns c = law
+pub returns-clause-apart : goal.returns-clause-apart
+returns-clause-apart c = apart
+
+pub returns-clause-none : goal.returns-clause-none
+returns-clause-none c = decided
