@@ -8,7 +8,9 @@ pub mod OpenRead
 pub mod Inside
 pub mod Optional
 pub mod Parts
+pub mod Settled
 pub mod Lists
+pub mod SettledLists
 pub mod Alternatives
 pub mod Sets
 pub mod Laws

@@ -1,5 +1,5 @@
 -- Which inputs are refused, and as what: the relation beside the grammar's.
-use Rattle.std.specs.Prelude.{◌≡◌, ◌<◌, ◌^◌, ℕ, ℤ, List, length, Bool, Vec, Some}
+use Rattle.std.specs.Prelude.{◌≡◌, ◌<◌, ◌^◌, ℕ, ℤ, List, length, Bool, Vec, Some, Ok}
 use Rattle.std.specs.Global.{Global}
 use Rattle.rasn_types.specs.declared.types.codec.Codec.{Codec}
 use Rattle.rasn_types.specs.declared.types.tag.Tag.{Tag}
@@ -16,7 +16,7 @@ use Rattle.rasn_types.specs.Readings.{Reading}
 use Rattle.rasn_types.specs.Grammar.{Reads}
 use Rattle.rasn_de.specs.Causes.{in_ber}
 use Rattle.rasn_de.specs.NamedErrors.{IsNoValidChoice, IsMissingField, IsDuplicateField}
-use Rattle.rasn_de.specs.State.{State}
+use Rattle.rasn_de.specs.State.{State, Call}
 use Rattle.rasn_de.specs.Constructed.{Keeps}
 use Rattle.rasn_de.specs.ValueErrors.{Errors, errors_of, IsErrorByTag}
 use Rattle.rasn_de.specs.AlternativeTypes.{FailsAtAlternativeBy, DecodesAlternativeBy}
@@ -71,6 +71,11 @@ pub record AreApart (errors : Errors) (reads : ReadingBy) : Type 0 where
 abbrev pub LeaveNone : Errors → ReadingBy → Type 0
 LeaveNone errors reads = (old : State) → AreOctets old.rest → length old.rest < 2 ^ 63
     → ((t : Tree) (rest : List ℕ) → reads old.rule old.depth old.closing old.rest t rest → ⊥) → ((e : DecodeError) (new : State) → Refuses errors old e new → ⊥) → ⊥
+
+-- A call decodes or refuses each input that memory can hold: it isn't so that it does neither.
+abbrev pub Settles : {D : Type 0} → Call D → Type 0
+Settles {D} read = (old : State) → AreOctets old.rest → length old.rest < 2 ^ 63
+    → ((v : D) (new : State) → read old (Ok v) new → ⊥) → ((e : DecodeError) (new : State) → Refuses (errors_of read) old e new → ⊥) → ⊥
 
 -- Why none of these alternatives is read, the error being one of these for the next tag.
 abbrev pub FailsByTag : Bool → Parts → List ℕ → (Tag → Errors) → Tag → Errors

@@ -65,3 +65,4 @@ pub record LeavesLeaveNone : Type 0 where
   pub of_generalized_time : (tag : Tag) (c : Constraints) → LeaveNone (λ old. errors_of (DecodesTime (GeneralizedText old.rule) tag) old) (ReadsShape (leaf generalized_time tag c))
   pub of_date : (tag : Tag) (c : Constraints) → LeaveNone (errors_of (DecodesTime DateText tag)) (ReadsShape (leaf date tag c))
   pub of_open_type : (tag : Tag) → LeaveNone (errors_of (DecodesOpenType tag)) (ReadsShape (any (looked_for tag)))
+  pub of_unknown : LeaveNone (errors_of DecodesUnknown) (ReadsShape unknown)

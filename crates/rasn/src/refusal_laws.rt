@@ -3,15 +3,17 @@
 //! the `errors` of a type; the functions do nothing when they run.
 #![tactic(auto)]
 
-ghost use Rattle.std.specs.Prelude.{◌≡◌, ℕ, List, Some, true};
+ghost use Rattle.std.specs.Global.{Global};
+ghost use Rattle.std.specs.Prelude.{◌≡◌, ℕ, List, Some, Vec, true};
 ghost use Rattle.rasn_types.specs.declared.types.tag.Tag.{Tag};
 ghost use Rattle.rasn_types.specs.declared.types.constraints.Constraints.{Constraints};
-ghost use Rattle.rasn_types.specs.Shapes.{Parts, choice_by, chosen, list, looked_for, option, own, prefix, seq, set_of, tagged_as};
+ghost use Rattle.rasn_types.specs.Shapes.{Parts, choice_by, chosen, list, looked_for, option, own, prefix, seq, set_elements, set_of, tagged_as};
 ghost use Rattle.rasn_de.specs.Decodes.{ReadsParts};
-ghost use Rattle.rasn_de.specs.PartTypes.{DecodesSequenceParts, needs_no_initializer};
+ghost use Rattle.rasn_de.specs.PartTypes.{DecodesInParts, DecodesSequenceParts, needs_no_initializer};
 ghost use Rattle.rasn_de.specs.SetPartTypes.{DecodesNamedParts, set_by};
-ghost use Rattle.rasn_de.specs.ValueErrors.{errors_of};
-ghost use Rattle.rasn.specs.OneRefusal.{AreApart, AreRefusedOnce, ErrorsOfChoice, HaveOwnTags, IsRefusedOnce, ReadsShape};
+ghost use Rattle.rasn_de.specs.ValueErrors.{DecodesOr, errors_of};
+ghost use Rattle.rasn_types.specs.Trees.{list_tree, option_tree};
+ghost use Rattle.rasn.specs.OneRefusal.{AreApart, AreRefusedOnce, ErrorsOfChoice, HaveOwnTags, IsRefusedOnce, LeaveNone, ReadsShape, Settles};
 ghost use Rattle.rasn.specs.RefusalLaws.{LeavesAreApart, LeavesLeaveNone};
 ghost use Rattle.rasn.specs.WorkedKinds.{WorkedKinds};
 ghost use Rattle.rasn.specs.WorkedWholes.{WorkedWholes};
@@ -25,7 +27,7 @@ use rasn_de::de::Decode;
 use rasn_types::types::{Any, AsnType, Explicit, FirstTags, SetOf, Unknown};
 
 /// Proves that an input is read as a value of a leaf type, or refused as one error, but not both;
-/// and that it is one of them (unknown values aside).
+/// and that it is one of them.
 pub fn leaves()
     ensures apart { LeavesAreApart }
     ensures none { LeavesLeaveNone }
@@ -143,6 +145,41 @@ where
 pub fn set<P: DecodeSetParts>()
     ensures { (name : List ℕ) → AreRefusedOnce P.extensible P.parts name P.errors → (names : List (List ℕ)) (tag : Tag)
         → AreApart (errors_of (DecodesNamedParts P.extensible P.parts P.tree name names P.errors tag)) (ReadsShape (set_by P.extensible tag P.parts)) }
+{}
+
+/// Proves that each input is decoded or refused as a value under an explicit tag, an `Option` or a
+/// SEQUENCE OF, if each is as the value inside; and what that says of the grammar.
+pub fn settled<G: AsnType, T: Decode>()
+    ensures grammar { (tag : Tag) (c : Constraints) → Settles (DecodesOr (tagged_as tag c T.shape) T.tree (T.errors tag c)) → LeaveNone (T.errors tag c) (ReadsShape (tagged_as tag c T.shape)) }
+    ensures explicit { Settles (DecodesOr T.shape T.tree (T.errors T.TAG T.CONSTRAINTS)) → (tag : Tag) (c : Constraints)
+        → Settles (DecodesOr (prefix tag T.shape) T.tree (⟦<Explicit<G, T> as Decode>⟧.errors tag c)) }
+    ensures optional { (tag : Tag) (c : Constraints) → Settles (DecodesOr (tagged_as tag c T.shape) T.tree (T.errors tag c))
+        → Settles (DecodesOr (option (looked_for tag) (tagged_as tag c T.shape)) (option_tree T.tree) (⟦<Option<T> as Decode>⟧.errors tag c)) }
+    ensures sequence_of { Settles (DecodesOr T.shape T.tree (T.errors T.TAG T.CONSTRAINTS)) → (tag : Tag) (c : Constraints)
+        → Settles (DecodesOr (list tag T.shape c.size) (λ (v : Vec T Global). list_tree T.tree v.items) (⟦<Vec<T> as Decode>⟧.errors tag c)) }
+{}
+
+/// Proves the same of a SET OF.
+pub fn settled_set_of<T: Decode + Eq>()
+    ensures { Settles (DecodesOr T.shape T.tree (T.errors T.TAG T.CONSTRAINTS)) → (tag : Tag) (c : Constraints)
+        → Settles (DecodesOr (set_of tag T.shape c.size) (λ (v : List T). set_elements (list_tree T.tree v)) (⟦<SetOf<T> as Decode>⟧.errors tag c)) }
+{}
+
+/// Proves the same of parts in order.
+pub fn settled_parts<A: Decode, R: DecodeParts>()
+    ensures none { Settles (DecodesInParts ⟦<End as DecodeParts>⟧.parts ⟦<End as DecodeParts>⟧.tree ⟦<End as DecodeParts>⟧.errors) }
+    ensures required { Settles (DecodesOr A.shape A.tree (A.errors A.TAG A.CONSTRAINTS)) → Settles (DecodesInParts R.parts R.tree R.errors)
+        → Settles (DecodesInParts ⟦<Required<A, R> as DecodeParts>⟧.parts ⟦<Required<A, R> as DecodeParts>⟧.tree ⟦<Required<A, R> as DecodeParts>⟧.errors) }
+    ensures optional { own A.shape ≡ looked_for A.TAG → Settles (DecodesOr A.shape A.tree (A.errors A.TAG A.CONSTRAINTS)) → Settles (DecodesInParts R.parts R.tree R.errors)
+        → Settles (DecodesInParts ⟦<Optional<A, R> as DecodeParts>⟧.parts ⟦<Optional<A, R> as DecodeParts>⟧.tree ⟦<Optional<A, R> as DecodeParts>⟧.errors) }
+    ensures addition { Settles (DecodesOr A.shape A.tree (A.errors A.TAG A.CONSTRAINTS)) → Settles (DecodesInParts R.parts R.tree R.errors)
+        → Settles (DecodesInParts ⟦<Addition<A, R> as DecodeParts>⟧.parts ⟦<Addition<A, R> as DecodeParts>⟧.tree ⟦<Addition<A, R> as DecodeParts>⟧.errors) }
+{}
+
+/// Proves the same of a SEQUENCE, if it is true of its parts.
+pub fn settled_sequence<P: DecodeParts>()
+    ensures { Settles (DecodesInParts P.parts P.tree P.errors) → needs_no_initializer P.parts ≡ true → (tag : Tag)
+        → Settles (DecodesOr (seq tag P.parts) P.tree (errors_of (DecodesSequenceParts P.parts P.tree P.errors tag))) }
 {}
 
 /// Proves of octets that were worked out by hand as which error leaf types refuse them, and what

@@ -10,6 +10,7 @@ use Rattle.rasn.proofs.OneRefusal.Read.{by_size_all, by_length_all, by_character
 use Rattle.rasn.proofs.OneRefusal.OpenRead.{open_type_read}
 use Rattle.rasn.proofs.OneRefusal.Open.{open_type_apart}
 use Rattle.rasn.proofs.OneRefusal.Lists.{unknown_apart}
+use Rattle.rasn.proofs.OneRefusal.SettledLists.{unknown_read}
 
 pub leaves : LeavesAreApart
 leaves = record {
@@ -52,4 +53,5 @@ decided = record {
   of_generalized_time = generalized_time_read;
   of_date = date_read;
   of_open_type = open_type_read;
+  of_unknown = unknown_read;
 }

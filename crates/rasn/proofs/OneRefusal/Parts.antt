@@ -69,15 +69,16 @@ pub part_apart : (p : Presence) (s : Shape) (ps : Parts) (first others : Errors)
 part_apart p s ps first others one rest = parts_apart p s ps first others one rest
 
 -- A SEQUENCE.
-module _ {D : Type 0} (ps : Parts) (tree : D → Tree) (errors : Errors) (once : IsRefusedOnce errors) where
-  in_parts_exact : (old : State) (r : Result D DecodeError) (new : State) → DecodesInParts ps tree errors old r new → DecodesParts ps tree old r new
+module _ {D : Type 0} (ps : Parts) (tree : D → Tree) (errors : Errors) where
+  pub in_parts_exact : (old : State) (r : Result D DecodeError) (new : State) → DecodesInParts ps tree errors old r new → DecodesParts ps tree old r new
   in_parts_exact old (Ok v) new a = a
   in_parts_exact old (Err e) new (f, a) = parts_fail ps old e new f
 
-  in_parts_once : IsRefusedOnce (errors_of (DecodesInParts ps tree errors))
-  in_parts_once old o e f new other (a, m) (b, n) = once old o e f new other (a.1, m) (b.1, n)
+  module _ (once : IsRefusedOnce errors) where
+    in_parts_once : IsRefusedOnce (errors_of (DecodesInParts ps tree errors))
+    in_parts_once old o e f new other (a, m) (b, n) = once old o e f new other (a.1, m) (b.1, n)
 
-  pub sequence_apart : needs_no_initializer ps ≡ true → (tag : Tag) → AreApart (errors_of (DecodesSequenceParts ps tree errors tag)) (ReadsShape (seq tag ps))
-  sequence_apart plain tag = exactly_apart _ (ReadsShape (seq tag ps))
-      (λ old o e new a. parts_decode ps plain tree (DecodesInParts ps tree errors) tag old (λ _. o) in_parts_exact (Err e) new a)
-      (inside_once (DecodesInParts ps tree errors) (ReadsParts ps) tree (λ old o r new a. in_parts_exact old r new a) (sequence_header tag) in_parts_once)
+    pub sequence_apart : needs_no_initializer ps ≡ true → (tag : Tag) → AreApart (errors_of (DecodesSequenceParts ps tree errors tag)) (ReadsShape (seq tag ps))
+    sequence_apart plain tag = exactly_apart _ (ReadsShape (seq tag ps))
+        (λ old o e new a. parts_decode ps plain tree (DecodesInParts ps tree errors) tag old (λ _. o) in_parts_exact (Err e) new a)
+        (inside_once (DecodesInParts ps tree errors) (ReadsParts ps) tree (λ old o r new a. in_parts_exact old r new a) (sequence_header tag) in_parts_once)

@@ -56,7 +56,7 @@ none_then : {X Y : Type 0} (r : Result X ParseError) (f : X → Result Y ParseEr
 none_then (Ok x) f p q = q x
 none_then (Err e) f p q = p
 
-end_none : (x : Extent) (rest left : List ℕ) → NoMemory (end_at x rest left)
+pub end_none : (x : Extent) (rest left : List ℕ) → NoMemory (end_at x rest left)
 unfolding end_of_contents_at
 end_none (definite c) rest [] = tt
 end_none (definite c) rest (b ∷ l) = λ e. cc

@@ -1,0 +1,210 @@
+-- Values that hold others are decoded or refused if those are.
+use Rattle.std.proofs.Common.{◌≡◌, ◌≢◌, ℕ, ◌+◌, ◌<◌, ◌≤◌, ◌^◌, ◌⊎◌, inl, inr, Bool, true, false, cond, ◌&&◌, not, List, ◌∷◌, ◌++◌, length, Option, Some, None, Result, Ok, Err, refl, sym, ap, ◌∙◌, subst, arith, length-append}
+use Rattle.std.specs.Prelude.{nat_eq}
+use Rattle.rasn_types.specs.declared.types.codec.Codec.{Codec}
+use Rattle.rasn_types.specs.declared.types.tag.Tag.{Tag}
+use Rattle.rasn_types.specs.declared.error.decode.DecodeError.{DecodeError}
+use Rattle.rasn_types.specs.Errors.{IsOutOfMemory}
+use Rattle.rasn_types.specs.Tags.{Form, form}
+use Rattle.rasn_types.specs.Framing.{AreOctets, Extent, definite, indefinite, Frame, with_length, without_length, NextTag, Ended}
+use Rattle.rasn_types.specs.Shapes.{Tree, Shape, prefix, option, own, looked_for, Sought, one_tag, any_of, done, joined, seq, Parts, part, Presence, required, addition, optional}
+use Rattle.rasn_types.specs.Shapes.Parts.{none}
+use Rattle.rasn_types.specs.Trees.{option_tree}
+use Rattle.rasn_types.specs.Readings.{IsLeftOut, IsPresent}
+use Rattle.rasn_de.specs.declared.ber.de.parser.ParseError.{ParseError}
+use Rattle.rasn_de.specs.declared.ber.de.parser.ParseError.TheVariants as parse
+use Rattle.rasn_de.specs.declared.ber.de.constructed.ConstructedHeader.{ConstructedHeader}
+use Rattle.rasn_de.specs.Causes.{error_kind}
+use Rattle.rasn_de.specs.Headers.{spelled, Header, header_at, Identified, identifier_at}
+use Rattle.rasn_de.specs.Segments.{octets_inside, end_at}
+use Rattle.rasn_de.specs.State.{State, Call, at, IsEnd}
+use Rattle.rasn_de.specs.Steps.{PeeksTag}
+use Rattle.rasn_de.specs.Outcomes.{Got}
+use Rattle.rasn_de.specs.Decodes.{DecodesExactly, Decodes, ReadsParts}
+use Rattle.rasn_de.specs.Constructed.{expected_header, through, constructed_header_at, contents_state, unclosed, Keeps, no_value, inside, not_closed, DecodesInside, sequence_header, prefix_header}
+use Rattle.rasn_de.specs.Optional.{OnePart, NextIs, DecodesIfSought, DecodesIfPresent}
+use Rattle.rasn_de.specs.PartTypes.{needs_no_initializer, FailsAtOnePart, IsErrorOfParts, DecodesInParts, DecodesSequenceParts}
+use Rattle.rasn_de.specs.ValueErrors.{Errors, errors_of, DecodesOr}
+use Rattle.rasn_de.proofs.Headers.Memory.{NoMemory, header_none, identifier_none}
+use Rattle.rasn_de.proofs.Headers.NextTag.{next_parsed, kind_memory}
+use Rattle.rasn_de.proofs.Headers.Ends.{IsEnd-refl, IsEnd-trans, IsEnd-header}
+use Rattle.rasn_de.proofs.Headers.Frames.{header_parsed}
+use Rattle.rasn_de.proofs.Headers.Results.{chosen}
+use Rattle.rasn_de.proofs.Strings.Reads.{frame_octets}
+use Rattle.rasn_de.proofs.Constructed.Contents.{constructed_header_parsed}
+use Rattle.rasn_de.proofs.Constructed.Opening.{closed_end}
+use Rattle.rasn_de.proofs.Constructed.ValueErrors.{perhaps_or, sought_failed}
+use Rattle.rasn_de.proofs.OwnTypes.Parts.{no_parts, part_got, optional_part, optional_fails}
+use Rattle.rasn_de.proofs.OwnTypes.PartTypes.{parts_decode}
+use Rattle.rasn.specs.OneRefusal.{ReadingBy, ReadsShape, LeaveNone, Settles}
+use Rattle.rasn.proofs.OneRefusal.Calls.{octets_end, IsExactCall}
+use Rattle.rasn.proofs.OneRefusal.Inside.{or_exact, prefix_exact}
+use Rattle.rasn.proofs.OneRefusal.Parts.{in_parts_exact}
+use Rattle.rasn.proofs.OneRefusal.Read.{end_none}
+
+-- What remains is no longer.
+pub ends_shorter : (l m : List ℕ) → IsEnd l m → length m ≤ length l
+ends_shorter l m (front, e) = let a = ap length e in let b = length-append front m in omega arith
+
+ends_below : (l m : List ℕ) → IsEnd l m → length l < 2 ^ 63 → length m < 2 ^ 63
+ends_below l m e b = let a = ends_shorter l m e in omega arith
+
+-- A call whose value is a shape's, with the errors of the call.
+pub or_settles : {D : Type 0} (call : Call D) (s : Shape) (tree : D → Tree) → IsExactCall call (ReadsShape s) tree → Settles call → Settles (DecodesOr s tree (errors_of call))
+or_settles call s tree exact all old o b passed failed =
+    all old o b (λ v new a. passed v new (exact old o (Ok v) new a, tt)) (λ e new a. failed e new ((exact old o (Err e) new a.0, a.0), a.1))
+
+-- Then each input is read or refused.
+pub settled_none : {D : Type 0} (s : Shape) (tree : D → Tree) (errors : Errors) → Settles (DecodesOr s tree errors) → LeaveNone errors (ReadsShape s)
+settled_none s tree errors all old o b unread unrefused =
+    all old o b (λ v new a. unread (tree v) new.rest a.0.exact.0) (λ e new a. unrefused e new (a.0.1, a.1))
+
+-- The contents of a value are in the input.
+frame_inside : {spelling : Form} (input : List ℕ) {tag : Tag} {bit : Bool} {rest : List ℕ} {x : Extent} → Frame spelling input tag bit rest x → length (octets_inside x rest) ≤ length input
+frame_inside input {rest = rest} (with_length id len contents p q r i) =
+    let a = ap length i in
+    let b = length-append id (len ++ (contents ++ rest)) in
+    let c = length-append len (contents ++ rest) in
+    let d = length-append contents rest in
+    omega arith
+frame_inside input {rest = rest} (without_length id p q r i) = let a = ap length i in let b = length-append id (128 ∷ rest) in omega arith
+
+-- A header that isn't there.
+through_fault : (needed : Bool) (l : List ℕ) (r : Result Header ParseError) → NoMemory r → ((h : Header) → r ≡ Ok h → IsEnd l h.rest) → (p : ParseError × List ℕ) → through needed l r ≡ Err p → (p.0 ≢ parse.OutOfMemory) × IsEnd l p.1
+through_fault needed l (Err f) n i p e =
+    let z : (f, l) ≡ p = cc in
+    (subst (λ (x : ParseError × List ℕ). x.0 ≢ parse.OutOfMemory) z n, subst (λ (x : ParseError × List ℕ). IsEnd l x.1) z (IsEnd-refl l))
+through_fault needed l (Ok h) n i p e = elim (chosen (needed && not h.bit) (Err (parse.InvalidConstructedIdentifier, h.rest)) (Ok h) (Err p) e) [ inl (t, q) ↦ refused q | inr (t, q) ↦ absurd (found q) ]
+  where
+    refused : ◌≡◌ {A = Result Header (ParseError × List ℕ)} (Err (parse.InvalidConstructedIdentifier, h.rest)) (Err p) → (p.0 ≢ parse.OutOfMemory) × IsEnd l p.1
+    refused q = let z : (parse.InvalidConstructedIdentifier, h.rest) ≡ p = cc in
+        (subst (λ (x : ParseError × List ℕ). x.0 ≢ parse.OutOfMemory) z (λ w. cc), subst (λ (x : ParseError × List ℕ). IsEnd l x.1) z (i h refl))
+
+    found : ◌≡◌ {A = Result Header (ParseError × List ℕ)} (Ok h) (Err p) → ⊥
+    found q = cc
+
+header_fault : (d : ConstructedHeader) (rule : Codec) (depth : ℕ) (l : List ℕ) → AreOctets l → (p : ParseError × List ℕ) → constructed_header_at d rule depth l ≡ Err p → (p.0 ≢ parse.OutOfMemory) × IsEnd l p.1
+header_fault d rule depth l o p e = elim (chosen (nat_eq depth 0) (Err (parse.ExceedsMaxParseDepth, l)) _ (Err p) e) [ inl (t, q) ↦ deep q | inr (t, q) ↦ through_fault d.must_be_constructed l (header_at (form rule) (expected_header d rule) l) (header_none _ (expected_header d rule) l) (λ h f. IsEnd-header (form rule) (expected_header d rule) l h o f) p q ]
+  where
+    deep : ◌≡◌ {A = Result Header (ParseError × List ℕ)} (Err (parse.ExceedsMaxParseDepth, l)) (Err p) → (p.0 ≢ parse.OutOfMemory) × IsEnd l p.1
+    deep q = let z : (parse.ExceedsMaxParseDepth, l) ≡ p = cc in
+        (subst (λ (x : ParseError × List ℕ). x.0 ≢ parse.OutOfMemory) z (λ w. cc), subst (λ (x : ParseError × List ℕ). IsEnd l x.1) z (IsEnd-refl l))
+
+-- What is inside a value is decoded or refused.
+module _ {D : Type 0} (read : Call D) (reads : ReadingBy) (tree : D → Tree) (exact : IsExactCall read reads tree) (all : Settles read) (d : ConstructedHeader) where
+  pub inside_settles : Settles (DecodesInside read d)
+  inside_settles old o b passed failed = go (constructed_header_at d old.rule old.depth old.rest) refl
+    where
+      kept : (rest : List ℕ) → IsEnd old.rest rest → Keeps old (at old rest)
+      kept rest e = record { stays = refl; end = e }
+
+      error : ParseError → DecodeError
+      error f = record { kind = error_kind f; codec = old.rule }
+
+      opened : (h : Header) → constructed_header_at d old.rule old.depth old.rest ≡ Ok h → ⊥
+      opened h q =
+          let e = (constructed_header_parsed d old.rule old.depth old.rest h q).1 in
+          let f = (header_parsed (form old.rule) (expected_header d old.rule) old.rest h o e).0 in
+          let s = IsEnd-header (form old.rule) (expected_header d old.rule) old.rest h o e in
+          let w = frame_inside old.rest f in
+          let octets = (frame_octets old.rest o f).1 in
+          all (contents_state d old h) octets (omega (arith, w, b)) (λ v left r. closing v left r (exact (contents_state d old h) octets (Ok v) left r).end s (end_at h.extent h.rest left.rest) refl)
+          (λ e left r. failed e (at old h.rest) ((kept h.rest s, inside h q left r.0 refl), r.1))
+        where
+          left_end : (x : Extent) (rest left : List ℕ) → IsEnd (octets_inside x rest) left → x ≡ indefinite → IsEnd rest left
+          left_end (definite c) rest left e i = cc
+          left_end indefinite rest left e i = e
+
+          left_over : (x : Extent) (rest left : List ℕ) → IsEnd (octets_inside x rest) left → IsEnd rest (unclosed x rest left)
+          left_over (definite c) rest left e = IsEnd-refl rest
+          left_over indefinite rest left e = e
+
+          closing : (v : D) (left : State) → read (contents_state d old h) (Ok v) left → IsEnd (octets_inside h.extent h.rest) left.rest → IsEnd old.rest h.rest → (r : Result (List ℕ) ParseError) → end_at h.extent h.rest left.rest ≡ r → ⊥
+          closing v left r i s (Ok rest) e =
+              passed v (at old rest)
+              (kept rest (IsEnd-trans old.rest h.rest rest s (closed_end h.extent h.rest left.rest rest (left_end h.extent h.rest left.rest i) e)), record { header = h; opened = q; left = left; call = r; closed = e })
+          closing v left r i s (Err f) e =
+              let rest = unclosed h.extent h.rest left.rest in
+              failed (error f) (at old rest)
+              ((kept rest (IsEnd-trans old.rest h.rest rest s (left_over h.extent h.rest left.rest i)), not_closed h q v left r f e refl refl), kind_memory f (subst NoMemory e (end_none h.extent h.rest left.rest)))
+
+      go : (r : Result Header (ParseError × List ℕ)) → constructed_header_at d old.rule old.depth old.rest ≡ r → ⊥
+      go (Ok h) q = opened h q
+      go (Err p) q = let n = header_fault d old.rule old.depth old.rest o p q in failed (error p.0) (at old p.1) ((kept p.1 n.1, no_value p.0 q refl), kind_memory p.0 n.0)
+
+-- An explicit tag.
+pub prefix_settles : {D : Type 0} (s : Shape) (tree : D → Tree) (errors : Errors) → Settles (DecodesOr s tree errors) → (tag : Tag) → Settles (DecodesOr (prefix tag s) tree (errors_of (DecodesInside (DecodesOr s tree errors) (prefix_header tag))))
+prefix_settles s tree errors all tag =
+    or_settles (DecodesInside (DecodesOr s tree errors) (prefix_header tag)) (prefix tag s) tree (prefix_exact s tree errors tag)
+    (inside_settles (DecodesOr s tree errors) (ReadsShape s) tree (or_exact s tree errors) all (prefix_header tag))
+
+-- The next tag is one that is looked for, or not, or there is none.
+next_or : (tags : Sought) (old : State) → AreOctets old.rest → (NextIs tags old (Ok true) → ⊥) → (NextIs tags old (Ok false) → ⊥) → ((e : DecodeError) → (IsOutOfMemory e.kind → ⊥) → NextIs tags old (Err e) → ⊥) → ⊥
+next_or (one_tag None) old o there absent fails = there absent
+next_or (one_tag (Some tag)) old o there absent fails = go (identifier_at (form old.rule) old.rest) refl
+  where
+    go : (r : Result Identified ParseError) → identifier_at (form old.rule) old.rest ≡ r → ⊥
+    go (Ok i) q = let n = next_parsed (form old.rule) old.rest i o q in absent (inr (i.tag, n, λ e. there ((λ h. absent (inl h)), subst (NextTag (form old.rule) old.rest) e n)))
+    go (Err f) q = fails (record { kind = error_kind f; codec = old.rule }) (kind_memory f (subst NoMemory q (identifier_none _ old.rest))) ((λ e. cc), (λ h. absent (inl h)), (f, rw q refl, refl))
+next_or (any_of P) old o there absent fails = go (identifier_at (form old.rule) old.rest) refl
+  where
+    go : (r : Result Identified ParseError) → identifier_at (form old.rule) old.rest ≡ r → ⊥
+    go (Ok i) q = let n = next_parsed (form old.rule) old.rest i o q in absent (inr (i.tag, n, λ p. there ((λ h. absent (inl h)), i.tag, n, p)))
+    go (Err f) q = fails (record { kind = error_kind f; codec = old.rule }) (kind_memory f (subst NoMemory q (identifier_none _ old.rest))) (tt, (λ h. absent (inl h)), (f, rw q refl, refl))
+
+pub sought_settles : {D : Type 0} (read : Call D) → Settles read → (tags : Sought) → Settles (DecodesIfSought read tags)
+sought_settles read all tags old o b passed failed =
+    next_or tags old o
+    (λ t. all old o b (λ v new r. passed (Some v) new (t, r)) (λ e new r. failed e new (inr (t, r.0), r.1)))
+    (λ t. passed None old (t, refl))
+    (λ e n t. failed e old (inl (t, refl), n))
+
+pub option_settles : {D : Type 0} (s : Shape) (tree : D → Tree) (errors : Errors) → Settles (DecodesOr s tree errors) → (tag : Tag) → Settles (DecodesOr (option (looked_for tag) s) (option_tree tree) (errors_of (DecodesIfPresent (DecodesOr s tree errors) tag)))
+option_settles s tree errors all tag =
+    or_settles (DecodesIfPresent (DecodesOr s tree errors) tag) (option (looked_for tag) s) (option_tree tree) (λ old o r new a. perhaps_or s tree errors tag old r new a)
+    (sought_settles (DecodesOr s tree errors) all (one_tag (looked_for tag)))
+
+-- Parts in order.
+pub no_parts_settle : {D : Type 0} (v : D) (tree : D → Tree) → tree v ≡ done → Settles (DecodesInParts none tree (λ _ _ _. ⊥))
+no_parts_settle v tree is old o b passed failed = passed v old (subst (λ t. DecodesExactly (ReadsParts none) old (Got t old.rest) old) (sym is) no_parts)
+
+module _ {X R D : Type 0} (p : Presence) (s : Shape) (ps : Parts) (one : Call X) (first_tree : X → Tree) (first others : Errors) (rest_tree : R → Tree) (tree : D → Tree) (make : X → R → D)
+    (is : (x : X) (r : R) → tree (make x r) ≡ joined (first_tree x) (rest_tree r))
+    (got : (old : State) (x : X) (new : State) → AreOctets old.rest → one old (Ok x) new → DecodesExactly (OnePart p s) old (Got (first_tree x) new.rest) new)
+    (fails : (old : State) (e : DecodeError) (new : State) → one old (Err e) new → FailsAtOnePart p s old e new × first old e new) where
+  pub part_settles : Settles one → Settles (DecodesInParts ps rest_tree others) → Settles (DecodesInParts (part p s ps) tree (IsErrorOfParts p s first others))
+  part_settles first_all rest_all old o b passed failed =
+      first_all old o b
+      (λ x here a.
+      let g = got old x here o a in
+      rest_all here (octets_end o g.end) (ends_below old.rest here.rest g.end b)
+      (λ r new c. passed (make x r) new (subst (λ t. DecodesExactly (ReadsParts (part p s ps)) old (Got t new.rest) new) (sym (is x r)) (part_got p s ps g c)))
+      (λ e new c. failed e new ((inr (first_tree x, here, g, c.0.0), inr (first_tree x, here, g, c.0.1)), c.1)))
+      (λ e new a. let f = fails old e new a.0 in failed e new ((inl f.0, inl f.1), a.1))
+
+-- A SEQUENCE.
+pub sequence_settles : {D : Type 0} (ps : Parts) (tree : D → Tree) (errors : Errors) → Settles (DecodesInParts ps tree errors) → needs_no_initializer ps ≡ true → (tag : Tag) → Settles (DecodesOr (seq tag ps) tree (errors_of (DecodesSequenceParts ps tree errors tag)))
+sequence_settles ps tree errors all plain tag =
+    or_settles (DecodesSequenceParts ps tree errors tag) (seq tag ps) tree
+    (λ old o r new a. parts_decode ps plain tree (DecodesInParts ps tree errors) tag old (λ _. o) (λ old r new a. in_parts_exact ps tree errors old r new a) r new a)
+    (inside_settles (DecodesInParts ps tree errors) _ tree (λ old o r new a. in_parts_exact ps tree errors old r new a) all (sequence_header tag))
+
+-- A part that must be present, one that may be left out, and an addition.
+module _ {A R D : Type 0} (s : Shape) (ps : Parts) (first others : Errors) (first_tree : A → Tree) (rest_tree : R → Tree) (rest_all : Settles (DecodesInParts ps rest_tree others)) (tree : D → Tree) where
+  module _ (make : A → R → D) (is : (x : A) (r : R) → tree (make x r) ≡ joined (first_tree x) (rest_tree r)) (all : Settles (DecodesOr s first_tree first)) where
+    pub required_settles : Settles (DecodesInParts (part required s ps) tree (IsErrorOfParts required s first others))
+    required_settles =
+        part_settles required s ps (DecodesOr s first_tree first) first_tree first others rest_tree tree make is
+        (λ old x new o a. record { stays = a.0.stays; end = a.0.end; exact = a.0.exact }) (λ old e new a. (record { stays = a.0.stays; end = a.0.end; exact = a.0.exact }, a.1)) all rest_all
+
+    pub addition_settles : Settles (DecodesInParts (part addition s ps) tree (IsErrorOfParts addition s first others))
+    addition_settles =
+        part_settles addition s ps (DecodesOr s first_tree first) first_tree first others rest_tree tree make is
+        (λ old x new o a. record { stays = a.0.stays; end = a.0.end; exact = a.0.exact }) (λ old e new a. (record { stays = a.0.stays; end = a.0.end; exact = a.0.exact }, a.1)) all rest_all
+
+  pub optional_settles : (make : Option A → R → D) → ((x : Option A) (r : R) → tree (make x r) ≡ joined (option_tree first_tree x) (rest_tree r)) → (tag : Tag) → own s ≡ looked_for tag → Settles (DecodesOr s first_tree first)
+      → Settles (DecodesInParts (part optional s ps) tree (IsErrorOfParts optional s (errors_of (DecodesIfPresent (DecodesOr s first_tree first) tag)) others))
+  optional_settles make is tag own_is all =
+      part_settles optional s ps (DecodesIfPresent (DecodesOr s first_tree first) tag) (option_tree first_tree) (errors_of (DecodesIfPresent (DecodesOr s first_tree first) tag)) others rest_tree tree make is
+      (λ old x new o a. optional_part s own_is (perhaps_or s first_tree first tag old (Ok x) new a))
+      (λ old e new a. (optional_fails s own_is (sought_failed s first_tree first (one_tag (looked_for tag)) old e new a), a)) (sought_settles (DecodesOr s first_tree first) all (one_tag (looked_for tag))) rest_all
