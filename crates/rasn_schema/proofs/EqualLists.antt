@@ -1,8 +1,10 @@
 -- Lists of values that are the same.
 use Rattle.std.proofs.Common.{◌≡◌, ℕ, zero, suc, List, [], ◌∷◌, length, Some, Bool, true, false, Box, Global, refl, sym, ap, subst, true≢false, nat_eq}
 use Rattle.std.specs.Prelude.{slice_get, chars}
+use Rattle.std.specs.Prelude.{map}
 use Rattle.std.proofs.lemmas.Str.{chars-nil}
-use Rattle.rasn_types.specs.Shapes.{Tree, chosen}
+use Rattle.std.proofs.lemmas.List.Sorted.{IsPermutation-refl}
+use Rattle.rasn_types.specs.Shapes.{Tree, chosen, set_elements}
 use Rattle.rasn_types.specs.Bytes.{Same}
 use Rattle.rasn_types.specs.Equality.{DecidesSame}
 use Rattle.rasn_types.specs.Trees.{list_tree}
@@ -42,6 +44,10 @@ lists_at (v ∷ xs) (w ∷ ys) (u, us, e, s, h) zero x y d f =
     subst (λ z. Same (tree_of z) (tree_of y)) (sym a) (subst (Same (tree_of v)) b s)
 lists_at (v ∷ xs) (w ∷ ys) (u, us, e, s, h) (suc j) x y d f =
     lists_at xs ys (let g : us ≡ list_tree tree_of ys = cc in subst (Same (list_tree tree_of xs)) g h) j x y d f
+
+-- In the same order they are the same sets.
+pub sets_in_order : (xs ys : List Value) → Lists xs ys → Same (set_elements (list_tree tree_of xs)) (set_elements (list_tree tree_of ys))
+sets_in_order xs ys s = (map tree_of ys, map tree_of ys, refl, IsPermutation-refl (map tree_of ys), s)
 
 -- no characters
 pub no_chars : (l : List ℕ) → length l ≡ 0 → chars l ≡ []

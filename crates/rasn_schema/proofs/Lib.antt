@@ -25,3 +25,4 @@ pub mod Copies
 pub mod WorkedHeld
 pub mod WorkedFitting
 pub mod WorkedRules
+pub mod Ascending

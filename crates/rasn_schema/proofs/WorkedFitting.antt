@@ -12,6 +12,7 @@ use Rattle.rasn_schema.specs.declared.types.Presence.TheVariants.{Required}
 use Rattle.rasn_schema.specs.declared.types.Component.{Component}
 use Rattle.rasn_schema.specs.Shapes.{presence_of}
 use Rattle.rasn_schema.specs.Trees.{tree_of}
+use Rattle.rasn_schema.specs.Reach.{Reaches}
 use Rattle.rasn_schema.specs.Fitting.{OctetsFit, AreOctets, IsListOf, IsLeftOutAs, ComponentsFit, EachFits, Fits}
 use Rattle.rasn_schema.specs.WorkedFitting.{unknown_and_set, WorkedFitting}
 use Rattle.rasn_schema.proofs.ListsOf.{list_to, list_from}
@@ -24,6 +25,15 @@ digits (suc (suc k)) d l = absurd (omega (arith, l))
 letter : IsDigitOrSpace 65 → ⊥
 letter (inl h) = omega (arith, h.1)
 letter (inr e) = omega (arith, e)
+
+itself : (v : Value) → Reaches (Any eoc ∷ []) 1 0 v 0 (Any eoc) v
+unfolding Reaches
+itself v = inl (refl, refl, refl)
+
+no_other : (v w : Value) → (w ≡ v → ⊥) → Reaches (Any eoc ∷ []) 1 0 v 0 (Any eoc) w → ⊥
+unfolding Reaches
+no_other v w n (inl (t, l, e)) = n e
+no_other v w n (inr (name, ks, e, h)) = cc
 
 open_value : (o : _) → Fits (Any eoc ∷ []) 1 0 (Octets o)
 unfolding Fits
@@ -104,4 +114,10 @@ worked_fitting = record {
   only_octets_are_unknown = λ name ps c v w s r k l m h. only_octets_are_unknown name ps c v w s r k l m h;
   nothing_of_a_missing_type = missing;
   nothing_at_no_level = nothing;
+  reaches_itself = itself;
+  reaches_no_other = no_other;
+  chosen_by_nothing = λ v. refl;
+  chosen_by_its_index = λ b. (refl, refl);
+  not_by_another = λ b h. omega (arith, h.0);
+  null_is_not_chosen = λ w h. h;
 }

@@ -1,5 +1,5 @@
 -- Values and types that were worked out by hand: which are values of which.
-use Rattle.std.specs.Prelude.{◌≡◌, ℕ, pos, negsuc, Vec, String, List, [], ◌∷◌, true, false}
+use Rattle.std.specs.Prelude.{◌≡◌, ℕ, pos, negsuc, Box, Vec, String, List, [], ◌∷◌, true, false}
 use Rattle.std.specs.Global.{Global}
 use Rattle.rasn_types.specs.Tags.{eoc}
 use Rattle.rasn_types.specs.Shapes.{number, absent, required, optional_by, default_by, own_tag}
@@ -8,7 +8,9 @@ use Rattle.rasn_schema.specs.declared.types.Presence.TheVariants.{Required}
 use Rattle.rasn_schema.specs.declared.types.Component.{Component}
 use Rattle.rasn_schema.specs.declared.types.«Type».{«Type»}
 use Rattle.rasn_schema.specs.declared.types.«Type».TheVariants.{Any, Set, Unknown}
-use Rattle.rasn_schema.specs.declared.value.Value.{Value, Boolean, Null, Integer, Octets}
+use Rattle.rasn_schema.specs.declared.value.Value.{Value, Boolean, Null, Integer, Octets, Chosen}
+use Rattle.rasn_schema.specs.Copies.{IsChosenBy}
+use Rattle.rasn_schema.specs.Reach.{Reaches}
 use Rattle.rasn_schema.specs.Fitting.{NumberFits, OctetsFit, BitsFit, FitsLeaf, IsNumber, IsListOf, IsNoList, IsChosen, IsLeftOutAs, ComponentsFit, EachFits, Fits}
 
 -- Unknown values, and a SET.
@@ -51,3 +53,9 @@ pub record WorkedFitting : Type 0 where
       → IsListOf (w ∷ []) v → IsListOf (Null ∷ []) w → Fits (unknown_and_set name ps) 2 1 v → ⊥
   pub nothing_of_a_missing_type : (levels : ℕ) (v : Value) → Fits [] levels 0 v → ⊥
   pub nothing_at_no_level : (types : List «Type») (v : Value) → Fits types 0 0 v → ⊥
+  pub reaches_itself : (v : Value) → Reaches (Any eoc ∷ []) 1 0 v 0 (Any eoc) v
+  pub reaches_no_other : (v w : Value) → (w ≡ v → ⊥) → Reaches (Any eoc ∷ []) 1 0 v 0 (Any eoc) w → ⊥
+  pub chosen_by_nothing : (v : Value) → IsChosenBy [] v v
+  pub chosen_by_its_index : (b : Box Value Global) → IsChosenBy (2 ∷ []) b.value (Chosen 2 b)
+  pub not_by_another : (b : Box Value Global) → IsChosenBy (3 ∷ []) b.value (Chosen 2 b) → ⊥
+  pub null_is_not_chosen : (w : Value) → IsChosenBy (2 ∷ []) w Null → ⊥

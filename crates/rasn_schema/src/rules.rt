@@ -1,6 +1,6 @@
 //! The rules that each type of a schema keeps: it is looked at once, however deep values are nested
 //! (X.680 25.6, 27.3, 29.3).
-ghost use Rattle.std.specs.Prelude.{◌≡◌, ◌≢◌, [], ◌<◌, ℕ, suc, true, length, slice_get, Some, None, MatchOption};
+ghost use Rattle.std.specs.Prelude.{◌≡◌, ◌≢◌, [], ◌<◌, ◌<ℤ◌, ℕ, suc, true, length, slice_get, Some, None, MatchOption};
 ghost use Rattle.rasn_types.specs.Tags.{eoc};
 ghost use Rattle.rasn_types.specs.Grammar.{family};
 ghost use Rattle.rasn_types.specs.Shapes.{IsFirst, addition};
@@ -183,6 +183,25 @@ fn is_same_number(named: &NamedNumber, other: &NamedNumber) -> bool
     named.number == other.number
 }
 
+fn is_below(named: &NamedNumber, other: &NamedNumber) -> bool
+    ensures { IsWhether result (named.now.number <ℤ other.now.number) }
+{
+    named.number < other.number
+}
+
+/// Returns whether each number is above the one before it, as in most types. Then no two are the
+/// same.
+fn are_ascending(numbers: &[NamedNumber]) -> bool
+    ensures { result ≡ true → AreDistinctNumbers numbers.now }
+{
+    for index in 1..numbers.len() {
+        if !is_below(&numbers[index - 1], &numbers[index]) {
+            return false;
+        }
+    }
+    true
+}
+
 /// Returns the index of the first number after `index` that is the same.
 fn same_number(numbers: &[NamedNumber], index: usize, named: &NamedNumber) -> Option<usize>
     requires { index < length numbers.now }
@@ -208,6 +227,9 @@ fn numbers_fault(id: TypeId, tag: Tag, numbers: &[NamedNumber]) -> Option<Schema
     }
     if numbers.is_empty() {
         return Some(SchemaError::NoNumbers { id });
+    }
+    if are_ascending(numbers) {
+        return None;
     }
     for (index, named) in numbers.iter().enumerate() {
         if let Some(other) = same_number(numbers, index, named) {

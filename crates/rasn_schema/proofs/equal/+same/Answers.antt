@@ -8,7 +8,7 @@ use Rattle.rasn_schema.specs.Equal.{value_eq}
 use Rattle.rasn_schema.specs.Equals.{apart, one_answer, sets_same, sets_as_often}
 use Rattle.rasn_schema.proofs.Values.{tree_items, tree_elements}
 use Rattle.rasn_schema.proofs.OtherKinds.{list_kind, not_items, not_elements, not_chosen}
-use Rattle.rasn_schema.proofs.EqualLists.{no_alternative_there, not_same, are_same, lists_same, lists_length, lists_at}
+use Rattle.rasn_schema.proofs.EqualLists.{no_alternative_there, not_same, are_same, lists_same, lists_length, lists_at, sets_in_order}
 use Rattle.rasn_schema.proofs.Lists.{so_far_more, so_far_end, read_at, some_is}
 use Rattle.rasn_schema.proofs.equal.+same.Goals.{count-then-is_same, count-else-is_same}
 use Rattle.rasn_schema.proofs.equal.+same.Goals as goal
@@ -46,6 +46,9 @@ are_same-loop-index-preserved t c = so_far_more _ c.args.values.now c.loop-index
 
 pub are_same-returns : goal.are_same-returns
 are_same-returns t c = are_same _ _ (lists_same c.args.values.now c.args.others.now (omega arith) (λ j x y d e. so_far_end _ c.args.values.now c.loop-index.index (let n = c.loop-index-test.false in omega arith) c.loop-index.invariant j x d y e))
+
+pub hold_same-returns-then-are_same : goal.hold_same-returns-then-are_same
+hold_same-returns-then-are_same t c = are_same _ _ (sets_in_order c.args.values.now c.args.others.now (c.if-are_same.ensures.same refl))
 
 pub hold_same-returns-then-values-others : goal.hold_same-returns-then-values-others
 hold_same-returns-then-values-others t c = not_same _ _ (λ s. let n = (sets_as_often c.args.values.now c.args.others.now s).0 in omega (arith, n))
