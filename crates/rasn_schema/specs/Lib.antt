@@ -5,6 +5,7 @@ pub mod Schemas
 pub mod Faults
 pub mod SchemaProps
 pub mod Kinds
+pub mod KindNames
 pub mod Numbers
 pub mod Equal
 pub mod Equals

@@ -140,5 +140,12 @@ HasUnfitDefault g ty i = (p : Component) × (Some p ≡ slice_get (components_in
 abbrev pub HaveFitDefaults : List «Type» → Type 0
 HaveFitDefaults types = (k : ℕ) (ty : «Type») → Some ty ≡ slice_get types k → (i : ℕ) → HasUnfitDefault (Fits types 18446744073709551615) ty i → ⊥
 
+-- The same of the type with number k alone.
+abbrev pub IsWellFormedAt : List «Type» → ℕ → Type 0
+IsWellFormedAt types k = (ty : «Type») → Some ty ≡ slice_get types k → IsWellFormed (own_at types) (begin_at types) k ty
+
+abbrev pub HasFitDefaultsAt : List «Type» → ℕ → Type 0
+HasFitDefaultsAt types k = (ty : «Type») → Some ty ≡ slice_get types k → (i : ℕ) → HasUnfitDefault (Fits types 18446744073709551615) ty i → ⊥
+
 abbrev pub IsSchema : List «Type» → Type 0
 IsSchema types = AreWellFormed (own_at types) (begin_at types) types × HaveFitDefaults types

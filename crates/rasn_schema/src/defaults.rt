@@ -2,13 +2,13 @@
 ghost use Rattle.std.specs.Prelude.{ℕ, MatchOption};
 ghost use Rattle.rasn_types.specs.Truth.{IsWhether};
 ghost use Rattle.rasn_schema.specs.Fitting.{Fits};
-ghost use Rattle.rasn_schema.specs.Schemas.{IsUnfitDefault, HasUnfitDefault, HaveFitDefaults};
+ghost use Rattle.rasn_schema.specs.Schemas.{IsUnfitDefault, HasUnfitDefault, HasFitDefaultsAt, HaveFitDefaults};
 ghost use Rattle.rasn_schema.specs.Faults.{IsDefaultFault};
 
 use crate::error::SchemaError;
 use crate::fitting::fits_at;
 use crate::type_id::TypeId;
-use crate::types::{Component, Presence, Type, components_of};
+use crate::types::{Component, Presence, Type, components_of, type_at};
 
 /// Returns whether the component has a default that isn't a value of its type.
 fn is_unfit_default(types: &[Type], component: &Component) -> bool
@@ -32,6 +32,22 @@ fn unfit_default(types: &[Type], ty: &Type) -> Option<usize>
         }
     }
     None
+}
+
+/// Returns the first default of the type with this number that isn't a value of its component's
+/// type. All rules of [`broken_rule_at`] have to be kept, as [`first_unfit_default`] says.
+///
+/// [`broken_rule_at`]: crate::broken_rule_at
+pub fn unfit_default_at(types: &[Type], id: TypeId) -> Option<SchemaError>
+    ensures { MatchOption result (HasFitDefaultsAt types.now id.0) (λ e. IsDefaultFault types.now e) }
+{
+    let Some(ty) = type_at(types, id) else {
+        return None;
+    };
+    match unfit_default(types, ty) {
+        Some(index) => Some(SchemaError::UnfitDefault { id, index }),
+        None => None,
+    }
 }
 
 /// Returns the first default that isn't a value of its component's type. Values are compared with

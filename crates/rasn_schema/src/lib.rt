@@ -26,17 +26,19 @@ mod value;
 mod view;
 
 pub use begin::{alternative_for, begins, is_choice_at};
+pub use defaults::unfit_default_at;
 pub use error::SchemaError;
 pub use facts::{worked_fitting, worked_held, worked_rules};
 pub use fit::{elements_of, is_left_out, items_of};
 pub use fitting::{component_fits, fits, fits_at, is_listed, leaf_fits};
 pub use innermost::{Innermost, innermost_at};
 pub use named::{Named, TypeName, index_named, name_of_number};
+pub use rules::broken_rule_at;
 pub use schema::Schema;
 pub use type_id::TypeId;
 pub use types::{
-    Alternative, Component, LeafKind, NamedNumber, Presence, Type, components_of, is_unknown_at,
-    tag_at, type_at,
+    Alternative, Component, KindNames, LeafKind, NamedNumber, Presence, Type, components_of,
+    is_unknown_at, tag_at, type_at,
 };
 pub use value::Value;
 pub use view::{View, part_name, part_type};

@@ -11,7 +11,7 @@ ghost use Rattle.rasn_types.specs.Lawful.{IsBitFree, HasTag};
 ghost use Rattle.rasn_types.specs.Truth.{IsWhether};
 ghost use Rattle.rasn_schema.specs.FirstTags.{IsAlwaysThere};
 ghost use Rattle.rasn_schema.specs.Shapes.{shape_of_type, type_by, presence_of, kind_of, is_open};
-ghost use Rattle.rasn_schema.specs.Schemas.{IsPrefix, IsUnknown, IsRequired, EndsUnknown, IsTaggedOrOpen, AreLowerAndTagged, AreDistinctAlternatives, AreDistinctNumbers, AreDistinct, AreToldInOrder, MayFollow, IsRecognizable, IsToldFrom, IsTaggedOrUnknown, AreTagged, AreDistinctComponents, IsWellFormed, AreOthersWellFormed, AreChoicesWellFormed, IsChoice, own_at};
+ghost use Rattle.rasn_schema.specs.Schemas.{IsPrefix, IsUnknown, IsRequired, EndsUnknown, IsTaggedOrOpen, AreLowerAndTagged, AreDistinctAlternatives, AreDistinctNumbers, AreDistinct, AreToldInOrder, MayFollow, IsRecognizable, IsToldFrom, IsTaggedOrUnknown, AreTagged, AreDistinctComponents, IsWellFormed, IsWellFormedAt, AreOthersWellFormed, AreChoicesWellFormed, IsChoice, own_at, begin_at};
 ghost use Rattle.rasn_schema.specs.Faults.{IsListFault, IsTaggedFault, IsLeafFault, IsNumbersFault, IsAlternativesFault, IsMisplaced, IsSequenceFault, IsSetFault, IsFaultOf, SomeFault};
 
 use crate::begin::begins;
@@ -749,6 +749,19 @@ fn type_fault(types: &[Type], levels: usize, id: TypeId, ty: &Type) -> Option<Sc
         Type::SequenceOf { tag, element, .. } => list_fault(types, levels, id, *tag, *element),
         Type::SetOf { tag, element, .. } => list_fault(types, levels, id, *tag, *element),
         Type::Unknown => None,
+    }
+}
+
+/// Returns what is wrong with the type with this number, so that of many types all can be found
+/// that break a rule. Whether defaults are values of their types is [`unfit_default_at`].
+///
+/// [`unfit_default_at`]: crate::unfit_default_at
+pub fn broken_rule_at(types: &[Type], id: TypeId) -> Option<SchemaError>
+    ensures { MatchOption result (IsWellFormedAt types.now id.0) (λ e. SomeFault (own_at types.now) (begin_at types.now) types.now e) }
+{
+    match type_at(types, id) {
+        Some(ty) => type_fault(types, types.len() + 1, id, ty),
+        None => None,
     }
 }
 

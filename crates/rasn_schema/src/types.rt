@@ -1,9 +1,10 @@
 //! Types, and the components of those that have some.
-ghost use Rattle.std.specs.Prelude.{◌≡◌, ◌≢◌, ℕ, slice_get, option_copied};
+ghost use Rattle.std.specs.Prelude.{◌≡◌, ◌≢◌, ℕ, [], codes, slice_get, option_copied};
 ghost use Rattle.rasn_types.specs.Truth.{IsWhether};
 ghost use Rattle.rasn_schema.specs.Shapes.{shape_of_type, tag_of_type, tag_at, type_by, alternatives_by, is_open, ends_open};
 ghost use Rattle.rasn_schema.specs.Schemas.{IsUnknown, components_in};
 ghost use Rattle.rasn_schema.specs.Held.{is_unknown, is_unknown_found};
+ghost use Rattle.rasn_schema.specs.KindNames.{names_of};
 
 use crate::type_id::TypeId;
 use crate::value::Value;
@@ -56,6 +57,80 @@ pub enum LeafKind {
     GeneralizedTime,
     /// A DATE.
     Date,
+}
+
+/// The number and the names that a kind of leaf has.
+#[derive(Clone, Copy, Debug, PartialEq, Eq)]
+pub struct KindNames {
+    /// The number of its universal tag (X.680 8.4).
+    pub number: u32,
+    /// Its words in a module.
+    pub notation: &'static str,
+    /// The range of an INTEGER that a number of fixed width holds, as a module has it. Empty for
+    /// any other kind.
+    pub range: &'static str,
+    /// Its type in Rattle.
+    pub rattle: &'static str,
+}
+
+impl LeafKind {
+    /// Returns the number of the universal tag of a kind, its notation and its type in Rattle. A
+    /// string of any octets has those of a GeneralString.
+    pub fn names(self) -> KindNames
+        ensures number { result.number ≡ (names_of self).number }
+        ensures notation { result.notation.now ≡ (names_of self).notation }
+        ensures range { result.range.now ≡ (names_of self).range }
+        ensures rattle { result.rattle.now ≡ (names_of self).rattle }
+    {
+        match self {
+            LeafKind::Boolean => row(1, "BOOLEAN", "bool"),
+            LeafKind::Null => row(5, "NULL", "()"),
+            LeafKind::ObjectIdentifier => row(6, "OBJECT IDENTIFIER", "ObjectIdentifier"),
+            LeafKind::BitString => row(3, "BIT STRING", "BitString"),
+            LeafKind::NamedBits => row(3, "BIT STRING", "NamedBits"),
+            LeafKind::OctetString => row(4, "OCTET STRING", "OctetString"),
+            LeafKind::FixedOctetString(_) => row(4, "OCTET STRING", "FixedOctetString"),
+            LeafKind::Integer => integer("Integer", ""),
+            LeafKind::Signed32 => integer("i32", "-2147483648..2147483647"),
+            LeafKind::Signed64 => integer("i64", "-9223372036854775808..9223372036854775807"),
+            LeafKind::Unsigned32 => integer("u32", "0..4294967295"),
+            LeafKind::Unsigned64 => integer("u64", "0..18446744073709551615"),
+            LeafKind::Numeric => row(18, "NumericString", "NumericString"),
+            LeafKind::Printable => row(19, "PrintableString", "PrintableString"),
+            LeafKind::Visible => row(26, "VisibleString", "VisibleString"),
+            LeafKind::Ia5 => row(22, "IA5String", "Ia5String"),
+            LeafKind::AnyOctets => row(27, "GeneralString", "GeneralString"),
+            LeafKind::Bmp => row(30, "BMPString", "BmpString"),
+            LeafKind::Utf8 => row(12, "UTF8String", "Utf8String"),
+            LeafKind::UtcTime => row(23, "UTCTime", "UtcTime"),
+            LeafKind::GeneralizedTime => row(24, "GeneralizedTime", "GeneralizedTime"),
+            LeafKind::Date => row(31, "DATE", "Date"),
+        }
+    }
+}
+
+/// Returns the number and the names of a kind that isn't an INTEGER.
+fn row(number: u32, notation: &'static str, rattle: &'static str) -> KindNames
+    ensures { (result.number ≡ number) × (result.notation.now ≡ notation.now) × (result.range.now ≡ []) × (result.rattle.now ≡ rattle.now) }
+{
+    KindNames {
+        number,
+        notation,
+        range: "",
+        rattle,
+    }
+}
+
+/// Returns the number and the names of an INTEGER.
+fn integer(rattle: &'static str, range: &'static str) -> KindNames
+    ensures { (result.number ≡ 2) × (result.notation.now ≡ codes "INTEGER") × (result.range.now ≡ range.now) × (result.rattle.now ≡ rattle.now) }
+{
+    KindNames {
+        number: 2,
+        notation: "INTEGER",
+        range,
+        rattle,
+    }
 }
 
 /// A type. Other types that it is made of are named by their numbers in the schema.
