@@ -4,12 +4,17 @@ use Rattle.std.specs.Borrow.{Bor}
 use Rattle.rasn_types.specs.declared.types.tag.Tag.{Tag}
 use Rattle.rasn_types.specs.declared.error.decode.DecodeError.{DecodeError}
 use Rattle.rasn_types.specs.Framing.{Ended}
-use Rattle.rasn_types.specs.Shapes.{Tree, items, IsSetTree, choice_by, Parts, Presence, presences}
+use Rattle.rasn_types.specs.Shapes.{Shape, Tree, items, IsSetTree, choice_by, Parts, Presence, presences}
 use Rattle.rasn_de.specs.State.{State}
 use Rattle.rasn_de.specs.Constructed.{Keeps}
-use Rattle.rasn_de.specs.SetPartTypes.{LacksSlot, IsLackOf, HasGap, IsRequiredOrDefault, AreGathered, DecodesNext, DecodesSetPartContents}
+use Rattle.rasn_schema.specs.declared.types.Component.{Component}
+use Rattle.rasn_schema.specs.Shapes.{components_by}
+use Rattle.rasn_dynamic.specs.Calls.{names_of}
+use Rattle.rasn_dynamic.specs.Faults.{StopsInSet}
+use Rattle.rasn_de.specs.NamedErrors.{IsNamedError, IsDuplicateField}
+use Rattle.rasn_de.specs.SetPartTypes.{text, LacksSlot, IsLackOf, HasGap, IsRequiredOrDefault, AreGathered, DecodesNext, DecodesSetPartContents}
 use Rattle.rasn_de.proofs.Constructed.SetOfElements.{came}
-use Rattle.rasn_de.proofs.OwnTypes.SetPartTypes.{ReadTo, all_once}
+use Rattle.rasn_de.proofs.OwnTypes.SetPartTypes.{ReadTo, all_once, all_made, made_twice}
 use Rattle.rasn_schema.specs.declared.value.Value.{Value, Items}
 use Rattle.rasn_schema.specs.Trees.{tree_of}
 use Rattle.rasn_dynamic.specs.Typed.{MayRunOut}
@@ -56,3 +61,18 @@ module _ (extensible : Bool) (ps : Parts) (names : List (List ℕ)) where
 
       pub members_made : (ts : List Tree) → AreGathered (presences ps) held ts → (extensible ≡ false → us ≡ []) → DecodesSetPartContents extensible ps items names old (Ok (set_trees extensible ts us)) here
       members_made ts g x = all_once extensible ps names items old here last held us n k (Ok (set_trees extensible ts us)) (ts, set_tree extensible ts us x, g) tt
+
+-- ---- what stops the reading of a SET once all of its components are read
+
+module _ (f : ℕ → Shape) (name : List ℕ) (extensible : Bool) (cs : List Component) (old here : State) (last : Option Tag) (held : List (Option Tree)) (us : List Tree) (n : Ended here.closing here.rest) where
+  pub lacks_member : ReadTo extensible (components_by f cs) (names_of cs) old here last None held us → (e : DecodeError) → IsLackOf (components_by f cs) (names_of cs) here.rule held e → StopsInSet f name extensible cs old e
+  lacks_member k e (inl m) = inl m
+  lacks_member k e (inr w) =
+      let made = all_made extensible (components_by f cs) (names_of cs) items old here last held us n k (Err e) (inr w) (λ o. lacks_gap (presences (components_by f cs)) held w.0 w.1) in
+      inr (inr (made.0, here, made.1, made.2.0))
+
+  pub repeats_member : (x : Bor (List ℕ)) → ReadTo extensible (components_by f cs) (names_of cs) old here last (Some x) held us → (e : DecodeError) → IsNamedError (IsDuplicateField (text x)) here.rule e
+      → StopsInSet f name extensible cs old e
+  repeats_member x k e w =
+      let made = made_twice extensible (components_by f cs) (names_of cs) items old here last held us n x k e w in
+      inr (inr (made.0, here, made.1, made.2.0))

@@ -1,6 +1,6 @@
 -- What is read from the front of an input.
 use Rattle.std.proofs.Common.{◌≡◌, List, ℕ, [], inl, inr, Bool, true, Option, Some, None, Result, Ok, Err, refl, sym, subst}
-use Rattle.std.specs.Prelude.{MatchResult}
+use Rattle.std.specs.Prelude.{◌⊎◌, MatchResult, IfErr}
 use Rattle.std.specs.Borrow.{Bor}
 use Rattle.rasn_types.specs.declared.types.codec.Codec.{Codec}
 use Rattle.rasn_types.specs.declared.error.decode.DecodeError.{DecodeError}
@@ -13,7 +13,7 @@ use Rattle.rasn_types.specs.Grammar.{Reads, top}
 use Rattle.rasn_de.specs.State.{State}
 use Rattle.rasn_de.specs.Outcomes.{Exact, Outcome, Got, refusal}
 use Rattle.rasn_de.specs.Decodes.{DecodesExactly}
-use Rattle.rasn.specs.Headline.{IsExtraData, Answered, AnsweredAlone}
+use Rattle.rasn.specs.Headline.{IsExtraData, IsFollowed, Answered, AnsweredAlone}
 use Rattle.rasn_schema.specs.declared.value.Value.{Value}
 use Rattle.rasn_schema.specs.Trees.{tree_of}
 use Rattle.rasn_dynamic.specs.declared.refusal.Refusal.{Refusal}
@@ -53,6 +53,12 @@ module _ (rule : Codec) (s : Shape) (input : List ℕ) where
   pub checked : (rest : Bor (List ℕ)) → IsCheckedUpTo rule s input (Ok rest) → (r : Result (Unit {0}) DecodeError) → MatchResult r (λ u. rest.now ≡ []) (IsExtraData rule rest.now) → IsChecked rule s input r
   checked rest (t, h) (Ok u) f = (t, subst (λ l. Exact (Reads rule s 128 (top rule)) input (Got t l)) f h)
   checked rest (t, h) (Err x) f = inr (record { t = t; rest = rest.now; read = h; extra = f })
+
+-- Octets follow the value that was checked.
+pub followed : (X : DecodeError → Type 0) (rule : Codec) (s : Shape) (input : List ℕ) (rest : Bor (List ℕ)) → IsCheckedUpTo rule s input (Ok rest) → (r : Result (Unit {0}) DecodeError)
+    → MatchResult r (λ u. rest.now ≡ []) (IsExtraData rule rest.now) → IfErr r (λ e. X e ⊎ IsFollowed rule s input e)
+followed X rule s input rest (t, h) (Ok u) f = tt
+followed X rule s input rest (t, h) (Err x) f = inr (record { t = t; rest = rest.now; read = h; extra = f })
 
 pub memory_or_none : (k : DecodeErrorKind) (R : Reading Tree) (input : List ℕ) (t : Tree) (rest : List ℕ) → Exact R input (refusal k) → R input t rest → IsOutOfMemory k
 memory_or_none OutOfMemory R input t rest h r = refl

@@ -1,5 +1,5 @@
 -- CHOICEs directly in one another are gone into and left.
-use Rattle.std.proofs.Common.{◌≡◌, ◌≢◌, ◌+◌, ◌-◌, ℕ, suc, Bool, true, false, List, [], ◌∷◌, ◌++◌, length, reverse, take, Option, Some, None, Vec, Global, String, Result, Ok, Err, inl, inr, refl, sym, ap, ◌∙◌, subst, arith}
+use Rattle.std.proofs.Common.{◌≡◌, ◌+◌, ◌-◌, ℕ, suc, Bool, false, List, [], ◌∷◌, ◌++◌, length, reverse, take, Option, Some, None, Vec, Global, String, Result, Ok, Err, inl, inr, refl, sym, ap, ◌∙◌, subst, arith}
 use Rattle.std.specs.Prelude.{slice_get, MatchOption}
 use Rattle.std.proofs.lemmas.List.{reverse-append}
 use Rattle.rasn_types.specs.declared.types.tag.Tag.{Tag}
@@ -7,10 +7,10 @@ use Rattle.rasn_types.specs.declared.error.decode.DecodeError.{DecodeError}
 use Rattle.rasn_types.specs.Errors.{IsOutOfMemory}
 use Rattle.rasn_types.specs.Tags.{form}
 use Rattle.rasn_types.specs.Framing.{NextTag}
-use Rattle.rasn_types.specs.Grammar.{Reads}
 use Rattle.rasn_types.specs.Shapes.{Shape, Tree, chosen, IsFirstOf}
 use Rattle.rasn_de.specs.State.{State}
-use Rattle.rasn_de.specs.Outcomes.{Exact, refusal}
+use Rattle.rasn_de.specs.NamedErrors.{IsNamedError, IsNoValidChoice}
+use Rattle.std.specs.String.{string_bytes}
 use Rattle.rasn_de.proofs.Headers.Ends.{IsEnd-refl}
 use Rattle.rasn_de.proofs.Leaves.Outcomes.{alloc_failed}
 use Rattle.rasn_de.proofs.Leaves.Rules.{same_rules}
@@ -42,8 +42,8 @@ use Rattle.rasn_dynamic.proofs.Listed.{part_listed, value_listed, choice_listed,
 
 -- ---- a part that is a CHOICE
 
-choice_of : (text : List ℕ) (l : List Alternative) (ty : «Type») → IsChoiceOf text l ty → (name : String Global) × (ks : Vec Alternative Global) × (ty ≡ Choice name ks) × (l ≡ ks.items)
-choice_of text l (Choice name ks) (e, i) = (name, ks, refl, i)
+choice_of : (text : List ℕ) (l : List Alternative) (ty : «Type») → IsChoiceOf text l ty → (name : String Global) × (ks : Vec Alternative Global) × (ty ≡ Choice name ks) × (l ≡ ks.items) × (text ≡ string_bytes name)
+choice_of text l (Choice name ks) (e, i) = (name, ks, refl, i, e)
 choice_of text l (Leaf kind tag c names) h = absurd h
 choice_of text l (Enumerated tag ns) h = absurd h
 choice_of text l (Any tag) h = absurd h
@@ -68,7 +68,7 @@ module _ (types : List «Type») (s : State) (part : NextPart) (below : ℕ) (de
   abbrev All : Shape
   All = choice_among (alternatives_by In l)
 
-  abbrev Named : (name : String Global) × (ks : Vec Alternative Global) × (here.1 ≡ Choice name ks) × (l ≡ ks.items)
+  abbrev Named : (name : String Global) × (ks : Vec Alternative Global) × (here.1 ≡ Choice name ks) × (l ≡ ks.items) × (text ≡ string_bytes name)
   Named = choice_of text l here.1 here.3
 
   found : slice_get types part.id.0 ≡ Some (Choice Named.0 Named.1)
@@ -79,10 +79,10 @@ module _ (types : List «Type») (s : State) (part : NextPart) (below : ℕ) (de
 
   module _ (tag : Tag) (n : NextTag (form s.rule) s.rest tag) where
     -- No alternative begins with the tag.
-    pub none_here : (IsFirstOf (alternatives_by In l) tag → ⊥) → (e : DecodeError) → e.codec ≡ s.rule → IsRefusedHere types s part e
-    none_here others e c = (
+    pub none_here : (IsFirstOf (alternatives_by In l) tag → ⊥) → (e : DecodeError) → e.codec ≡ s.rule → IsNamedError (IsNoValidChoice text) s.rule e → IsRefusedHere types s part e
+    none_here others e c w = (
       subst (λ z. DecodesTree z s (Err e) s) (sym shape_here) (none_for In l tag s n others e.kind),
-      fails_found types part.levels part.id.0 below (Choice Named.0 Named.1) s e deep found (inr (inl (tag, n, subst (λ z. IsFirstOf (alternatives_by In z) tag → ⊥) Named.3 others))),
+      fails_found types part.levels part.id.0 below (Choice Named.0 Named.1) s e deep found (inr (inl ((tag, n, subst (λ z. IsFirstOf (alternatives_by In z) tag → ⊥) Named.3 others), subst (λ z. IsNamedError (IsNoValidChoice z) s.rule e) Named.4 w))),
       c,
     )
 

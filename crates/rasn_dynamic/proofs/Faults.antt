@@ -1,23 +1,27 @@
 -- Where in the input a value couldn't be read.
-use Rattle.std.proofs.Common.{◌≡◌, ◌≢◌, ℕ, suc, ◌+◌, ◌≤◌, List, [], ◌∷◌, ◌++◌, inl, inr, Vec, Global, String, length, length-append, append_assoc, Option, Some, None, Result, Ok, Err, Bool, true, false, refl, sym, ap, ◌∙◌, subst, arith}
+use Rattle.std.proofs.Common.{◌≡◌, ◌≢◌, ℕ, zero, suc, ◌+◌, ◌≤◌, List, [], ◌∷◌, ◌++◌, inl, inr, Vec, Global, String, length, length-append, append_assoc, Option, Some, None, Result, Ok, Err, Bool, true, false, refl, sym, ap, ◌∙◌, subst, arith}
 use Rattle.std.specs.Prelude.{◌⊎◌, IfErr, reverse, slice_get}
 use Rattle.std.proofs.lemmas.List.{append-nil, reverse-append}
+use Rattle.std.specs.String.{string_bytes}
 use Rattle.rasn_types.specs.declared.types.codec.Codec.{Codec}
+use Rattle.rasn_types.specs.declared.types.tag.Tag.{Tag}
 use Rattle.rasn_types.specs.declared.error.decode.DecodeError.{DecodeError}
 use Rattle.rasn_types.specs.Framing.{Ended, AreOctets, Extent, definite, indefinite, Frame, with_length, without_length}
-use Rattle.rasn_types.specs.Tags.{form, IsStrict}
+use Rattle.rasn_types.specs.Tags.{form, eoc, IsStrict}
 use Rattle.rasn_types.specs.Grammar.{Reads, ReadsAny}
 use Rattle.rasn_types.specs.Readings.{ReadsMany}
-use Rattle.rasn_types.specs.Shapes.{Shape, Tree, any, unknown, Same, choice_by}
+use Rattle.rasn_types.specs.Shapes.{Shape, Tree, any, unknown, looked_for, Same, choice_by}
 use Rattle.rasn_de.specs.Headers.{Header}
 use Rattle.rasn_de.specs.Segments.{octets_inside}
+use Rattle.rasn_de.specs.Any.{BorrowsOpenType}
+use Rattle.rasn_de.specs.ValueErrors.{errors_of}
 use Rattle.rasn_de.specs.State.{State, at, IsEnd, Call}
 use Rattle.rasn_de.specs.Outcomes.{Exact, refusal}
 use Rattle.rasn_de.specs.Decodes.{Decodes}
 use Rattle.rasn_de.specs.SequenceOf.{DecodesInTurn, DecodesInTurnFrom}
 use Rattle.rasn_de.specs.declared.ber.de.parser.Contents.{Contents}
 use Rattle.rasn_de.specs.declared.ber.de.constructed.ConstructedHeader.{ConstructedHeader}
-use Rattle.rasn_de.specs.Constructed.{expected_header, constructed_header_at, is_indefinite_extent, ConsumesOpening, DecodesInside}
+use Rattle.rasn_de.specs.Constructed.{expected_header, constructed_header_at, is_indefinite_extent, Keeps, ConsumesOpening, DecodesInside}
 use Rattle.rasn_types.specs.declared.error.decode.DecodeErrorKind.{DecodeErrorKind}
 use Rattle.rasn_de.proofs.Leaves.Outcomes.{Exact-refusal}
 use Rattle.rasn_de.proofs.Headers.Ends.{IsEnd-refl, IsEnd-trans}
@@ -29,13 +33,13 @@ use Rattle.rasn_schema.specs.declared.types.Component.{Component}
 use Rattle.rasn_schema.specs.declared.types.Alternative.{Alternative}
 use Rattle.rasn_schema.specs.declared.value.Value.{Value}
 use Rattle.rasn_schema.specs.Trees.{tree_of}
-use Rattle.rasn_schema.specs.Shapes.{shape_of_type, type_by, alternatives_by, components_by, presence_in, presence_of}
+use Rattle.rasn_schema.specs.Shapes.{shape_of_type, type_by, tag_at, nothing, alternatives_by, components_by, presence_in, presence_of}
 use Rattle.rasn_schema.proofs.OpenEnds.{among_known}
-use Rattle.rasn_schema.proofs.TypeShapes.{shape_below}
+use Rattle.rasn_schema.proofs.TypeShapes.{shape_below, shape_none}
 use Rattle.rasn_dynamic.specs.Inside.{DecodesTree, DecodesComponent}
 use Rattle.rasn_types.specs.declared.error.decode.DerDecodeErrorKind.TheVariants.{DefaultValuePresent}
 use Rattle.rasn_types.specs.Errors.{IsOutOfMemory}
-use Rattle.rasn_de.specs.declared.ber.de.parser.ParseError.TheVariants.{UnexpectedExtraData, OutOfMemory, Der}
+use Rattle.rasn_de.specs.declared.ber.de.parser.ParseError.TheVariants.{UnexpectedEmptyInput, UnexpectedExtraData, OutOfMemory, Der}
 use Rattle.rasn_de.specs.Steps.{IsErrorOf}
 use Rattle.rasn_de.proofs.Constructed.Steps.{rules_same}
 use Rattle.rasn_de.proofs.OwnTypes.Parts.{call_keeps}
@@ -44,7 +48,7 @@ use Rattle.rasn_schema.specs.declared.types.Presence.TheVariants.{Default}
 use Rattle.rasn_dynamic.specs.Calls.{IsDefaultOf, IsMade}
 use Rattle.rasn_dynamic.specs.declared.trace.Fault.{Fault}
 use Rattle.rasn_dynamic.specs.declared.refusal.Refusal.{Refusal}
-use Rattle.rasn_dynamic.specs.Faults.{IsMarked, IsStepped, IsMoved, octets_after, IsWithin, IsComponentAt, ComponentsInTurn, IsUnknown, IsUnknownMember, IsElementAt, IsNextAlternative, IsAlternativeAt, IsOnly, IsMemberHere, IsMemberAfter, IsAnyPart, LeadsBy, LeadsToAny, HasPath, IsFault, IsFaultIn, IsFaultOf, IsFaultInside, Told, TellsOf, IsRefusalOf, IsLocated, FailsAt, FailsItself, StopsAtChoice, StopsInElements, StopsInOrder, StopsInSequence, StopsAtComponent, IsDefaultWritten, TakesNothing, start}
+use Rattle.rasn_dynamic.specs.Faults.{IsMarked, IsStepped, IsMoved, octets_after, IsWithin, IsComponentAt, ComponentsInTurn, IsUnknown, IsUnknownMember, IsElementAt, IsNextAlternative, IsAlternativeAt, IsOnly, IsMemberHere, IsMemberAfter, IsAnyPart, LeadsBy, LeadsToAny, HasPath, IsFault, IsFaultIn, IsFaultOf, IsFaultInside, Told, TellsOf, IsRefusalOf, IsLocated, LacksType, FailsAt, FailsItself, StopsAtChoice, StopsInElements, StopsInOrder, StopsInSequence, StopsAtComponent, IsDefaultWritten, TakesNothing, start}
 
 -- ---- lists
 
@@ -337,35 +341,52 @@ none_of_many rule depth closing input kind more x =
     go nothing [] r (e, p) = more e
     go nothing (t ∷ ts) r (n, middle, k, others) = nothing t middle k
 
--- A type of unknown values fails itself, whatever the error is.
-unknown_itself : (f : ℕ → Shape) (ty : «Type») (s : State) (e : DecodeError) → type_by f ty ≡ unknown → FailsItself f ty s e
-unknown_itself f (Leaf kind tag c names) s e u = tt
-unknown_itself f (Enumerated tag ns) s e u = tt
-unknown_itself f (Any tag) s e u = tt
-unknown_itself f Unknown s e u = tt
-unknown_itself f (Tagged tag id) s e u = absurd cc
-unknown_itself f (Choice name ks) s e u = absurd (among_known (alternatives_by f ks.items) u)
-unknown_itself f (Sequence tag ps) s e u = absurd cc
-unknown_itself f (Set name tag ps) s e u = absurd cc
-unknown_itself f (SequenceOf tag id c) s e u = absurd cc
-unknown_itself f (SetOf tag id c) s e u = absurd cc
+-- A type of unknown values fails itself, where the first of them can't be read.
+unknown_itself : (f : ℕ → Shape) (ty : «Type») (s new : State) (e : DecodeError) → (Ended s.closing s.rest → ⊥) → errors_of (BorrowsOpenType eoc) s e new → type_by f ty ≡ unknown → FailsItself f ty s e
+unknown_itself f (Leaf kind tag c names) s new e more h u = absurd cc
+unknown_itself f (Enumerated tag ns) s new e more h u = absurd cc
+unknown_itself f (Any tag) s new e more h u = absurd cc
+unknown_itself f Unknown s new e more h u = (new, inr ([], s, refl, more, h))
+unknown_itself f (Tagged tag id) s new e more h u = absurd cc
+unknown_itself f (Choice name ks) s new e more h u = absurd (among_known (alternatives_by f ks.items) u)
+unknown_itself f (Sequence tag ps) s new e more h u = absurd cc
+unknown_itself f (Set name tag ps) s new e more h u = absurd cc
+unknown_itself f (SequenceOf tag id c) s new e more h u = absurd cc
+unknown_itself f (SetOf tag id c) s new e more h u = absurd cc
 
-unknown_fails : (types : List «Type») (levels id : ℕ) (s : State) (e : DecodeError)
+no_shape : (tag : Option Tag) → nothing tag ≡ unknown → ⊥
+no_shape None u = cc
+no_shape (Some tag) u = cc
+
+-- The type is there.
+no_unknown : (types : List «Type») (levels id : ℕ) → levels ≡ 0 → shape_of_type types levels id ≡ unknown → ⊥
+unfolding shape_of_type
+no_unknown types zero id z u = no_shape (looked_for (tag_at types id)) u
+no_unknown types (suc n) id z u = omega (arith, z)
+
+unknown_held : (types : List «Type») (levels id : ℕ) → shape_of_type types levels id ≡ unknown → LacksType types levels id → ⊥
+unknown_held types levels id u (inl z) = no_unknown types levels id z u
+unknown_held types zero id u (inr m) = no_unknown types zero id refl u
+unknown_held types (suc n) id u (inr m) = let none = shape_none types (suc n) id (λ z. omega (arith, z)) m in cc
+
+unknown_fails : (types : List «Type») (levels id : ℕ) (s new : State) (e : DecodeError) → (Ended s.closing s.rest → ⊥) → errors_of (BorrowsOpenType eoc) s e new
     → shape_of_type types levels id ≡ unknown → FailsAt types levels id s e
-unknown_fails types levels id s e u n ty l at =
-    unknown_itself (shape_of_type types n) ty s e (sym (shape_below types levels n id ty l (sym at)) ∙ u)
+unknown_fails types levels id s new e more h u = record {
+  fails = λ n ty l at. unknown_itself (shape_of_type types n) ty s new e more h (sym (shape_below types levels n id ty l (sym at)) ∙ u);
+  missing = λ l. absurd (unknown_held types levels id u l);
+}
 
 -- It is named, with its index.
-pub unknown_named : (types : List «Type») (levels : ℕ) (id : TypeId) (index left : ℕ) (s : State) (k : DecodeError)
+pub unknown_named : (types : List «Type») (levels : ℕ) (id : TypeId) (index left : ℕ) (s last : State) (k : DecodeError)
     (old mid new : Option Fault) → old ≡ None → IsMarked id left old mid → IsStepped index mid new
     → left ≡ length s.rest → Exact (Reads s.rule (any None) s.depth s.closing) s.rest (refusal k.kind)
-    → shape_of_type types levels id.0 ≡ unknown → (Ended s.closing s.rest → ⊥)
+    → shape_of_type types levels id.0 ≡ unknown → (Ended s.closing s.rest → ⊥) → errors_of (BorrowsOpenType eoc) s k last
     → (g : Fault) × (new ≡ Some g) × IsFaultIn types levels (IsOnly index id.0 s) s s k g
-unknown_named types levels id index left s k old mid new none m step l x u more =
+unknown_named types levels id index left s last k old mid new none m step l x u more h =
     let refused = subst (λ z. Exact (Reads s.rule z s.depth s.closing) s.rest (refusal k.kind)) (sym u)
     (none_of_many s.rule s.depth s.closing s.rest k.kind more x) in
     let one = marked types levels id left s k old mid (λ f e. absurd (not_named old f e none)) m l refused
-    (λ z. unknown_fails types levels id.0 s k u) in
+    (λ z. unknown_fails types levels id.0 s last k more h u) in
     stepped types levels id.0 index s k mid new one step
 
 -- ---- a refusal
@@ -423,20 +444,35 @@ at_err X R (Ok v) h = tt
 at_err X R (Err e) h = λ x. h
 
 pub fails_found : (types : List «Type») (levels id n : ℕ) (ty : «Type») (s : State) (e : DecodeError) → levels ≡ suc n → slice_get types id ≡ Some ty → FailsItself (shape_of_type types n) ty s e → FailsAt types levels id s e
-fails_found types levels id n ty s e l g h m u k j =
-    let a : n ≡ m = omega (arith, l, k) in
-    let b : ty ≡ u = cc in
-    subst (λ z. FailsItself (shape_of_type types z) u s e) a (subst (λ z. FailsItself (shape_of_type types n) z s e) b h)
+fails_found types levels id n ty s e l g h = record { fails = same; missing = none }
+  where
+    same : (m : ℕ) (u : «Type») → levels ≡ suc m → slice_get types id ≡ Some u → FailsItself (shape_of_type types m) u s e
+    same m u k j =
+        let a : n ≡ m = omega (arith, l, k) in
+        let b : ty ≡ u = cc in
+        subst (λ z. FailsItself (shape_of_type types z) u s e) a (subst (λ z. FailsItself (shape_of_type types n) z s e) b h)
+
+    none : LacksType types levels id → IsErrorOf UnexpectedEmptyInput s e
+    none (inl z) = absurd (omega (arith, l, z))
+    none (inr m) = cc
+
+-- There is no such type.
+pub fails_missing : (types : List «Type») (levels id : ℕ) (s : State) (e : DecodeError) → LacksType types levels id → IsErrorOf UnexpectedEmptyInput s e → FailsAt types levels id s e
+fails_missing types levels id s e lacks w = record { fails = none lacks; missing = λ l. w }
+  where
+    none : LacksType types levels id → (n : ℕ) (ty : «Type») → levels ≡ suc n → slice_get types id ≡ Some ty → FailsItself (shape_of_type types n) ty s e
+    none (inl z) n ty l g = absurd (omega (arith, l, z))
+    none (inr m) n ty l g = absurd cc
 
 pub found_itself : {T : Type 0} (types : List «Type») (levels id n : ℕ) (ty : «Type») (s : State) (X : Type 0) → levels ≡ suc n → slice_get types id ≡ Some ty → (r : Result T DecodeError)
     → IfErr r (λ e. X → FailsItself (shape_of_type types n) ty s e) → IfErr r (λ e. X → FailsAt types levels id s e)
 found_itself types levels id n ty s X l g r h = if_err_map (λ e. X → FailsItself (shape_of_type types n) ty s e) (λ e. X → FailsAt types levels id s e) (λ e a x. fails_found types levels id n ty s e l g (a x)) r h
 
 -- A value of a CHOICE.
-pub itself_choice : (f : ℕ → Shape) (ty : «Type») (old : State) (X : Type 0) (name : String Global) (ks : Vec Alternative Global) (l : List Alternative) → ty ≡ Choice name ks → l ≡ ks.items
-    → (r : Result Value DecodeError) → IfErr r (λ e. X → StopsAtChoice f l old e) → IfErr r (λ e. X → FailsItself f ty old e)
-itself_choice f ty old X name ks l i j r h = if_err_map (λ e. X → StopsAtChoice f l old e) (λ e. X → FailsItself f ty old e)
-    (λ e a x. subst (λ z. FailsItself f z old e) (sym i) (subst (λ z. StopsAtChoice f z old e) j (a x))) r h
+pub itself_choice : (f : ℕ → Shape) (ty : «Type») (old : State) (X : Type 0) (name : String Global) (ks : Vec Alternative Global) (text : List ℕ) (l : List Alternative) → ty ≡ Choice name ks → text ≡ string_bytes name → l ≡ ks.items
+    → (r : Result Value DecodeError) → IfErr r (λ e. X → StopsAtChoice f text l old e) → IfErr r (λ e. X → FailsItself f ty old e)
+itself_choice f ty old X name ks text l i n j r h = if_err_map (λ e. X → StopsAtChoice f text l old e) (λ e. X → FailsItself f ty old e)
+    (λ e a x. subst (λ z. FailsItself f z old e) (sym i) (subst (λ t. StopsAtChoice f t ks.items old e) n (subst (λ z. StopsAtChoice f text z old e) j (a x)))) r h
 
 pub present_stops : (f : ℕ → Shape) (p : Component) (s : State) (X : Type 0) (r : Result Value DecodeError) → IfErr r (λ e. X → IsDefaultWritten f p s e) → IfErr r (λ e. X → StopsAtComponent f p s e)
 present_stops f p s X r h = if_err_map (λ e. X → IsDefaultWritten f p s e) (λ e. X → StopsAtComponent f p s e) (λ e a x. inr (inl (a x))) r h
@@ -444,11 +480,15 @@ present_stops f p s X r h = if_err_map (λ e. X → IsDefaultWritten f p s e) (�
 out_of_memory_told : (s : State) (x : DecodeError) → IsErrorOf OutOfMemory s x → IsOutOfMemory x.kind
 out_of_memory_told s x w = subst (λ (z : DecodeError). IsOutOfMemory z.kind) (sym w) refl
 
+-- The number of octets that are left is reported by the rules of the state before.
+pub taken_none : (old new : State) (e : DecodeError) → Keeps old new → (left : ℕ) → left ≡ length old.rest → IsErrorOf (UnexpectedExtraData left) new e → IsErrorOf (UnexpectedExtraData (length old.rest)) old e
+taken_none old new e k left l w = subst (λ n. IsErrorOf (UnexpectedExtraData n) old e) l (rules_same old new (UnexpectedExtraData left) e k w)
+
 module _ (f : ℕ → Shape) (id : ℕ) (old here new : State) (t : Tree) (k : DecodesTree (f id) here (Ok t) new) (left : ℕ) (l : left ≡ length here.rest) (e : DecodeError)
     (w : ((length new.rest ≡ left) × IsErrorOf (UnexpectedExtraData left) new e) ⊎ IsErrorOf OutOfMemory new e) where
-  kept_not : TakesNothing f id here ⊎ IsOutOfMemory e.kind
+  kept_not : TakesNothing f id here e ⊎ IsOutOfMemory e.kind
   kept_not = elim w [
-    | inl p ↦ inl (t, new, k, p.0 ∙ l)
+    | inl p ↦ inl (t, new, k, p.0 ∙ l, taken_none here new e (call_keeps k) left l p.1)
     | inr m ↦ inr (out_of_memory_told new e m)
   ]
 

@@ -20,6 +20,7 @@ pub mod Numbers
 pub mod UnfitParts
 pub mod LeafWritten
 pub mod Making
+pub mod LeafErrors
 pub mod Faults
 pub mod Parts
 pub mod Worked

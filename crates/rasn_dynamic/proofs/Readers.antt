@@ -1,6 +1,7 @@
 -- A value that holds others is read: its header, its contents and its end.
 use Rattle.std.proofs.Common.{◌≡◌, ◌≢◌, ◌+◌, ◌<◌, ◌≤◌, ◌^◌, ℕ, Bool, true, List, length, Vec, Global, String, Option, Some, None, Result, Ok, Err, refl, sym, ap, ◌∙◌, subst, arith}
 use Rattle.std.specs.Prelude.{◌⊎◌, IfOk, IfErr}
+use Rattle.std.specs.String.{string_bytes}
 use Rattle.rasn_types.specs.declared.error.decode.DecodeError.{DecodeError}
 use Rattle.rasn_types.specs.declared.types.constraints.Constraints.{Constraints}
 use Rattle.rasn_types.specs.declared.types.tag.Tag.{Tag}
@@ -43,7 +44,7 @@ use Rattle.rasn_dynamic.specs.Readers.{IsCounted, DecodesCounted, ReadsContents,
 use Rattle.rasn_dynamic.proofs.Making.{made_as, items_made, elements_made}
 use Rattle.rasn_dynamic.proofs.Typed.{contents_end, contents_stay, is_sized, missized, not_sized, type_decodes, count_items, named_so}
 use Rattle.rasn_dynamic.proofs.FitsRead.{if_ok, are_items, are_elements, members_fit}
-use Rattle.rasn_dynamic.proofs.Faults.{opened, opened_short, not_named, unmoved, named, unnamed, any_err, tells, told_map, got_inside, if_err_map}
+use Rattle.rasn_dynamic.proofs.Faults.{opened, opened_short, not_named, unmoved, named, unnamed, tells, told_map, got_inside, if_err_map}
 use Rattle.rasn_dynamic.proofs.Listed.{HasHeader, HoldsNone, if_any, inside_listed, holder_listed, tagged_listed, none_listed, components_same}
 
 -- What is read of a value with this header, whose contents are read as `read` says.
@@ -327,27 +328,15 @@ module _ (types : List «Type») (below : ℕ) (keep : Bool) where
     exact_none (SequenceOf tag id c) h k = absurd h
     exact_none (SetOf tag id c) h k = absurd h
 
-    fails_none : (ty : «Type») → HoldsNone ty → (e : DecodeError) → FailsItself f ty old e
-    fails_none (Leaf kind tag c names) h e = tt
-    fails_none (Enumerated tag ns) h e = tt
-    fails_none (Any tag) h e = tt
-    fails_none Unknown h e = tt
-    fails_none (Tagged tag id) h e = absurd h
-    fails_none (Choice name ks) h e = absurd h
-    fails_none (Sequence tag ps) h e = absurd h
-    fails_none (Set name tag ps) h e = absurd h
-    fails_none (SequenceOf tag id c) h e = absurd h
-    fails_none (SetOf tag id c) h e = absurd h
-
     pub leaf_read : (ty : «Type») → HoldsNone ty → Making keep tree_of (DecodesTree (type_by f ty)) old r new → (keep ≡ true → IfOk r (FitsBy (Fits types below) ty))
-        → IfErr r (λ e. e.codec ≡ old.rule) → fault ≡ None → ReadsType types below keep ty old spans r new fault spans
-    leaf_read ty none reads fits rules clear = record {
+        → IfErr r (λ e. e.codec ≡ old.rule) → IfErr r (FailsItself f ty old) → fault ≡ None → ReadsType types below keep ty old spans r new fault spans
+    leaf_read ty none reads fits rules fails clear = record {
       exact = exact_none ty none reads;
       reads = reads;
       fits = fits;
       rules = rules;
       told = unnamed (IsFaultOf types below ty old) r fault clear;
-      itself = any_err (λ e. fault ≡ None → FailsItself f ty old e) (λ e n. fails_none ty none e) r;
+      itself = if_err_map (FailsItself f ty old) (λ e. fault ≡ None → FailsItself f ty old e) (λ e h n. h) r fails;
       listed = if_any r (none_listed f below (Inside types below) ty old spans none);
     }
 
@@ -400,13 +389,13 @@ module _ (types : List «Type») (below : ℕ) (keep : Bool) where
         Read r b z = MayRunOut (DecodesSetPartContents b (components_by f z) items (names_of z)) old r new
 
         pub members_refused : (x : DecodeError) → Read (Err x) extensible qs → x.codec ≡ old.rule
-            → ((y : Fault) → fault ≡ Some y → IsFaultIn types below (IsMemberAfter f extensible qs other old) old old x y) → (fault ≡ None → StopsInSet f extensible qs old x) → InSet (Err x)
+            → ((y : Fault) → fault ≡ Some y → IsFaultIn types below (IsMemberAfter f extensible qs other old) old old x y) → (fault ≡ None → StopsInSet f (string_bytes name) extensible qs old x) → InSet (Err x)
         members_refused x reads rules told itself = record {
           exact = so (λ b z o. Read (Err x) b z) reads;
           fits = λ k. tt;
           rules = rules;
           told = λ y s. so (λ b z o. IsFaultIn types below (IsMemberAfter f b z o old) old old x y) (told y s);
-          itself = λ n. so (λ b z o. StopsInSet f b z old x) (itself n);
+          itself = λ n. so (λ b z o. StopsInSet f (string_bytes name) b z old x) (itself n);
           listed = tt;
         }
 

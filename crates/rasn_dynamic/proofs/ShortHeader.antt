@@ -2,12 +2,11 @@
 use Rattle.std.proofs.Common.{arith, ◌≡◌, ◌≢◌, ℕ, zero, suc, ◌+◌, ◌-◌, ◌*◌, ◌/◌, ◌%◌, ◌<◌, ◌≤◌, List, [], ◌∷◌, ◌++◌, length, Bool, true, false, Option, Some, None, IfSome, length-append, refl, sym, ap, subst, ◌∙◌, inl, inr}
 use Rattle.std.specs.Prelude.{take, drop, slice_index_or}
 use Rattle.std.proofs.lemmas.List.{take-append-drop, length-take-le, take_rest}
-use Rattle.rasn_types.specs.declared.types.codec.Codec.TheVariants.{Ber}
 use Rattle.rasn_types.specs.declared.types.tag.Class.{Class}
 use Rattle.rasn_types.specs.declared.types.tag.Class.TheVariants.{Universal, Application, Context, Private}
 use Rattle.rasn_types.specs.declared.types.tag.Tag.{Tag}
-use Rattle.rasn_types.specs.Tags.{form, rank, eoc}
-use Rattle.rasn_types.specs.Framing.{Frame, with_length, SpellsIdentifier, SpellsLength, bit_of, AreOctets}
+use Rattle.rasn_types.specs.Tags.{rank}
+use Rattle.rasn_types.specs.Framing.{with_length, SpellsIdentifier, SpellsLength, bit_of, AreOctets}
 use Rattle.rasn_schema.proofs.Lists.{split}
 use Rattle.rasn_dynamic.specs.Parts.{BeginsWithLength, IsHeader}
 

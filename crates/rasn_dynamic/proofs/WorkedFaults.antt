@@ -1,6 +1,6 @@
 -- Refusals and faults that were worked out by hand.
-use Rattle.std.proofs.Common.{◌≡◌, ℕ, zero, suc, true, false, ◌<◌, List, [], ◌∷◌, ◌++◌, length, length-append, Some, None, Result, Ok, Err, inl, inr, refl, sym, ap, subst, arith}
-use Rattle.std.specs.Prelude.{slice_get}
+use Rattle.std.proofs.Common.{◌≡◌, ℕ, zero, suc, Bool, true, false, ◌<◌, List, [], ◌∷◌, ◌++◌, length, length-append, Option, Some, None, Result, Ok, Err, inl, inr, refl, sym, ap, ◌∙◌, subst, arith}
+use Rattle.std.specs.Prelude.{slice_get, reverse}
 use Rattle.rasn_types.specs.declared.types.codec.Codec.{Codec}
 use Rattle.rasn_types.specs.declared.types.codec.Codec.TheVariants.{Der}
 use Rattle.rasn_types.specs.declared.error.decode.DecodeError.{DecodeError}
@@ -11,32 +11,40 @@ use Rattle.rasn_types.specs.Readings.{Reading}
 use Rattle.rasn_types.specs.Grammar.{Reads, top}
 use Rattle.rasn_de.specs.State.{State}
 use Rattle.rasn_de.specs.Steps.{PeeksTag}
+use Rattle.rasn_de.specs.NamedErrors.{IsNamedError, IsNoValidChoice}
+use Rattle.rasn_types.specs.Tags.{in_universal}
+use Rattle.rasn_types.specs.declared.types.constraints.Constraints.{Constraints}
+use Rattle.rasn.specs.WorkedRefusals.{WorkedRefusals}
+use Rattle.rasn.proofs.Worked.Refusals.{worked}
 use Rattle.rasn_de.specs.Outcomes.{Exact, refusal}
 use Rattle.rasn_schema.specs.declared.types.Component.{Component}
 use Rattle.rasn_schema.specs.declared.types.«Type».{«Type»}
 use Rattle.rasn_schema.proofs.Lists.{some_is}
 use Rattle.rasn_schema.proofs.Parts.{not_none}
-use Rattle.rasn_schema.specs.Shapes.{shape_of_type, alternatives_by}
+use Rattle.rasn_schema.specs.Shapes.{shape_of_type, alternatives_by, IsReadable}
+use Rattle.rasn_schema.specs.declared.types.LeafKind.TheVariants.{Boolean}
+use Rattle.rasn_schema.specs.declared.types.«Type».TheVariants.{Unknown}
 use Rattle.rasn_dynamic.specs.declared.refusal.Refusal.{Refusal}
 use Rattle.rasn_schema.specs.declared.value.Value.{Value}
 use Rattle.rasn_dynamic.specs.Faults.{LeadsBy, LeadsToAny, IsMemberHere, StopsAtMember, FailsAt, StopsInSequence, IsLocated, start}
+use Rattle.rasn_dynamic.specs.declared.span.Spans.{Spans}
+use Rattle.rasn_dynamic.specs.declared.trace.Fault.{Fault}
+use Rattle.rasn_dynamic.specs.declared.nested.NextPart.{NextPart}
+use Rattle.rasn_dynamic.specs.declared.nested.Nested.{Nested}
+use Rattle.rasn_dynamic.specs.LeafErrors.{leaf_errors}
+use Rattle.rasn_dynamic.specs.Nested.{IsNoChoice, LeadsInto, Descends, ReadsWithin}
 use Rattle.rasn_dynamic.specs.WorkedFaults.{WorkedFaults}
+use Rattle.rasn_dynamic.proofs.Faults.{fails_found, fails_missing}
 use Rattle.rasn_dynamic.proofs.OpenChoice.{open_begins}
 
-no_way : (levels : ℕ) (s : State) (id : ℕ) → id ≡ 0 → LeadsToAny [] [] levels 0 s levels id s
+no_way : (types : List «Type») (levels : ℕ) (s : State) (id : ℕ) → id ≡ 0 → LeadsToAny types [] levels 0 s levels id s
 unfolding LeadsBy
-no_way levels s id e = (refl, sym e, refl)
-
-no_type : (levels : ℕ) (s : State) (e : DecodeError) (id : ℕ) → FailsAt [] levels id s e
-no_type levels s e id = λ n ty l g. absurd (none ty g)
-  where
-    none : (ty : «Type») → None ≡ Some ty → ⊥
-    none ty g = cc
+no_way types levels s id e = (refl, sym e, refl)
 
 anything : (R : Reading Tree) (input : List ℕ) (k : DecodeErrorKind) → IsOutOfMemory k → Exact R input (refusal k)
 anything R input k e = subst (λ z. Exact R input (refusal z)) (sym e) tt
 
-at_the_start : (r : Refusal) → IsOutOfMemory r.error.kind → r.id.0 ≡ 0 → r.offset ≡ 0 → r.steps.items ≡ [] → IsLocated [] Der 0 [] r
+at_the_start : (r : Refusal) → IsOutOfMemory r.error.kind → r.id.0 ≡ 0 → r.offset ≡ 0 → r.steps.items ≡ [] → IsLocated (Unknown ∷ []) Der 0 [] r
 at_the_start r m i o s = record {
   path = [];
   below = 18446744073709551615;
@@ -46,9 +54,9 @@ at_the_start r m i o s = record {
   is = refl;
   offset = sym o;
   has_path = λ c. s;
-  leads = no_way 18446744073709551615 (start Der []) r.id.0 i;
-  refused = anything (Reads Der (shape_of_type [] 18446744073709551615 r.id.0) 128 (top Der)) [] r.error.kind m;
-  itself = no_type 18446744073709551615 (start Der []) r.error r.id.0;
+  leads = no_way (Unknown ∷ []) 18446744073709551615 (start Der []) r.id.0 i;
+  refused = anything (Reads Der (shape_of_type (Unknown ∷ []) 18446744073709551615 r.id.0) 128 (top Der)) [] r.error.kind m;
+  itself = subst (λ n. FailsAt (Unknown ∷ []) 18446744073709551615 n (start Der []) r.error) (sym i) (fails_found (Unknown ∷ []) 18446744073709551615 0 18446744073709551614 Unknown (start Der []) r.error refl refl (start Der [], inl m));
 }
 
 not_after : (types : List «Type») (rule : Codec) (id : ℕ) (r : Refusal) → 0 < r.offset → IsLocated types rule id [] r → ⊥
@@ -77,11 +85,33 @@ named_component : (f : ℕ → Shape) (s : State) (p : Component) → p.type_id.
 named_component f s p e (inl (q, at, i, g)) = omega (arith, i, e, ap (λ (x : Component). x.type_id.0) (some_is q p at))
 named_component f s p e (inr ((x, k, n, u), g)) = omega (arith, k)
 
-open_set : (f : ℕ → Shape) (s : State) (e : DecodeError) → (PeeksTag s (Err e) → ⊥) → (IsOutOfMemory e.kind → ⊥) → StopsAtMember f true [] s e → ⊥
-open_set f s e n m (inl p) = n p
-open_set f s e n m (inr (inl (u, x))) = cc
-open_set f s e n m (inr (inr (inl o))) = m o
-open_set f s e n m (inr (inr (inr (k, p, at, h)))) = no_component k p at
+open_set : (f : ℕ → Shape) (s : State) (e : DecodeError) → (PeeksTag s (Err e) → ⊥) → (IsOutOfMemory e.kind → ⊥) → (name : List ℕ) → StopsAtMember f name true [] s e → ⊥
+open_set f s e n m name (inl p) = n p
+open_set f s e n m name (inr (inl (u, x))) = cc
+open_set f s e n m name (inr (inr (inl o))) = m o
+open_set f s e n m name (inr (inr (inr (k, p, at, h)))) = no_component k p at
+
+other_name : (f : ℕ → Shape) (s : State) (e : DecodeError) → (PeeksTag s (Err e) → ⊥) → (IsOutOfMemory e.kind → ⊥) → (name : List ℕ) → (IsNamedError (IsNoValidChoice name) s.rule e → ⊥) → StopsAtMember f name false [] s e → ⊥
+other_name f s e n m name w (inl p) = n p
+other_name f s e n m name w (inr (inl ((u, named), x))) = w named
+other_name f s e n m name w (inr (inr (inl o))) = m o
+other_name f s e n m name w (inr (inr (inr (k, p, at, h)))) = no_component k p at
+
+boolean : (c : Constraints) → WorkedRefusals (leaf_errors Boolean (in_universal 1) c)
+unfolding leaf_errors
+boolean c = worked
+
+no_choice : (types : List «Type») (s : State) (outer : NextPart) (before : Spans) (new : Nested) → new.choices.items ≡ [] → new.part ≡ outer
+    → IsReadable (shape_of_type types outer.levels outer.id.0) → IsNoChoice types outer → Descends types s outer before (Ok tt) new before
+no_choice types s outer before new e p readable none = (
+  subst (λ l. LeadsInto types s (reverse l) outer before new.part before) (sym e) (p, refl),
+  subst (λ (z : NextPart). IsReadable (shape_of_type types z.levels z.id.0)) (sym p) readable,
+  subst (IsNoChoice types) (sym p) none,
+)
+
+other_index : (types : List «Type») (keep : Bool) (outer : NextPart) (s : State) (before : Spans) (index : ℕ) (r : Result Value DecodeError) (new : State) (fault : Option Fault) (after : Spans)
+    → (outer.index ≡ index → ⊥) → ReadsWithin types keep outer s before [] index r new fault after → ⊥
+other_index types keep outer s before index r new fault after n (inner, spans, i, (e, b), h) = n (ap (λ (z : NextPart). z.index) (sym e) ∙ i)
 
 not_both : {T : Type 0} (v : T) (e : DecodeError) → Ok v ≡ Err e → ⊥
 not_both v e h = cc
@@ -90,10 +120,12 @@ pub worked_faults : WorkedFaults
 worked_faults = record {
   no_memory_at_the_start = at_the_start;
   not_after_the_input = not_after;
-  open_type_fails_itself = λ f s e. tt;
+  boolean_fails = boolean;
+  unknown_values_without_memory = λ f s e m. (s, inl m);
   nothing_stops_inside_an_open_type = λ f s e h. h;
-  anything_is_said_of_a_missing_type = λ levels s e. no_type levels s e 0;
-  no_memory_at_a_choice = λ f ks s e m. inr (inr m);
+  missing_type_has_no_octets = λ levels s e w. fails_missing [] levels 0 s e (inr refl) w;
+  missing_type_has_no_other_error = λ levels s e n h. n (h.missing (inr refl));
+  no_memory_at_a_choice = λ f name ks s e m. inr (inr m);
   no_tag_is_unknown_to_an_open_choice = λ f ks s o h. h.2 (open_begins (alternatives_by f ks) h.0 o);
   each_tag_is_unknown_without_alternatives = λ f s tag n. (tag, n, λ h. h);
   no_memory_in_a_sequence = λ f s e m. inl m;
@@ -102,8 +134,13 @@ worked_faults = record {
   unknown_component_can_be_named = λ f s tag n. inr ((refl, refl, refl, (tag, n, λ h. h)), refl);
   not_in_a_closed_set = closed_set;
   not_as_a_named_component = named_component;
-  unknown_tag_stops_at_a_closed_set = λ f s e tag n. inr (inl ((tag, n, λ h. h), refl));
+  unknown_tag_stops_at_a_closed_set = λ f s e tag n name w. inr (inl (((tag, n, λ h. h), w), refl));
+  no_other_name_at_a_closed_set = other_name;
   no_tag_stops_at_an_open_set = open_set;
+  goes_into_no_choice = no_choice;
+  not_down_to_a_choice = λ types s outer before after new text l h d. d.2 text l h;
+  read_within_no_choice = λ types keep outer s before r new fault after h. (outer, before, refl, (refl, refl), h);
+  not_read_with_another_index = other_index;
   value_in_its_place_is_returned = λ u v e. refl;
   error_in_its_place_is_returned = λ r v e. refl;
   no_value_of_what_is_refused = λ r v w e h. not_both w e (sym h);

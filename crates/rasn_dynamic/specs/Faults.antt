@@ -1,5 +1,6 @@
 -- Where in the input a value couldn't be read.
 use Rattle.std.specs.Prelude.{◌≡◌, ◌⊎◌, ◌+◌, ◌-◌, ℕ, suc, List, [], ◌∷◌, ◌++◌, length, reverse, Bool, true, false, slice_get, Option, Some, None, Result, Ok, Err}
+use Rattle.std.specs.String.{string_bytes}
 use Rattle.rasn_types.specs.declared.types.codec.Codec.{Codec}
 use Rattle.rasn_types.specs.declared.error.decode.DecodeError.{DecodeError}
 use Rattle.rasn_types.specs.Framing.{Ended, NextTag}
@@ -8,14 +9,18 @@ use Rattle.rasn_types.specs.declared.error.decode.DerDecodeErrorKind.TheVariants
 use Rattle.rasn_types.specs.declared.types.tag.Tag.{Tag}
 use Rattle.rasn_types.specs.Tags.{form, IsStrict}
 use Rattle.rasn_types.specs.Errors.{IsOutOfMemory}
-use Rattle.rasn_types.specs.Shapes.{Shape, Tree, Parts, choice_by, IsFirstOf}
+use Rattle.rasn_types.specs.Shapes.{Shape, Tree, Parts, items, choice_by, IsFirstOf}
 use Rattle.rasn_de.specs.Headers.{Header}
-use Rattle.rasn_de.specs.declared.ber.de.parser.ParseError.TheVariants.{Der}
+use Rattle.rasn_de.specs.declared.ber.de.parser.ParseError.TheVariants.{Der, UnexpectedEmptyInput, UnexpectedExtraData}
+use Rattle.rasn_de.specs.Any.{BorrowsOpenType}
+use Rattle.rasn_de.specs.ValueErrors.{errors_of}
 use Rattle.rasn_de.specs.State.{State, at, IsEnd, Call}
 use Rattle.rasn_de.specs.Steps.{IsErrorOf, PeeksTag}
 use Rattle.rasn_de.specs.Outcomes.{Exact, refusal}
 use Rattle.rasn_de.specs.SequenceOf.{DecodesInTurn, DecodesInTurnFrom, IsOutOfOrder, DecodesSized}
-use Rattle.rasn_de.specs.Set.{FailsAtComponent}
+use Rattle.rasn_de.specs.Set.{FailsAtComponent, DecodesIntoSlots}
+use Rattle.rasn_de.specs.SetPartTypes.{MakesOfReadings}
+use Rattle.rasn_de.specs.NamedErrors.{IsNamedError, IsNoValidChoice}
 use Rattle.rasn_de.specs.declared.ber.de.constructed.ConstructedHeader.{ConstructedHeader}
 use Rattle.rasn_de.specs.Constructed.{sequence_header, list_header, prefix_header, constructed_header_at, contents_state, DecodesInside}
 use Rattle.rasn_schema.specs.declared.type_id.TypeId.{TypeId}
@@ -23,11 +28,12 @@ use Rattle.rasn_schema.specs.declared.types.Component.{Component}
 use Rattle.rasn_schema.specs.declared.types.Alternative.{Alternative}
 use Rattle.rasn_schema.specs.declared.types.«Type».{«Type»}
 use Rattle.rasn_schema.specs.declared.types.«Type».TheVariants.{Leaf, Enumerated, Any, Tagged, Choice, Sequence, Set, SequenceOf, SetOf, Unknown}
-use Rattle.rasn_schema.specs.Shapes.{shape_of_type, alternatives_by, components_by, presence_of, presence_in}
+use Rattle.rasn_schema.specs.Shapes.{shape_of_type, alternatives_by, components_by, presence_of, presence_in, numbers_of}
 use Rattle.rasn_schema.specs.FirstTags.{IsAlternativeFor, IsAlwaysThere}
 use Rattle.rasn_dynamic.specs.Inside.{DecodesTree, DecodesComponent}
 use Rattle.rasn_dynamic.specs.Sets.{is_extensible, named_components, last_type}
-use Rattle.rasn_dynamic.specs.Calls.{IsDefaultOf}
+use Rattle.rasn_dynamic.specs.Calls.{IsDefaultOf, FailsAtNumber, names_of}
+use Rattle.rasn_dynamic.specs.LeafErrors.{leaf_errors, unknown_errors, RunsOutOr}
 use Rattle.rasn_dynamic.specs.Typed.{element_count, DecodesContents}
 use Rattle.rasn_dynamic.specs.declared.trace.Fault.{Fault}
 use Rattle.rasn_dynamic.specs.declared.refusal.Refusal.{Refusal}
@@ -115,17 +121,21 @@ module _ (f : ℕ → Shape) where
   abbrev pub IsDefaultWritten : Component → State → DecodeError → Type 0
   IsDefaultWritten p s e = (t : Tree) × (new : State) × DecodesTree (f p.type_id.0) s (Ok t) new × IsStrict s.rule × IsDefaultOf (presence_of p.presence) t × IsErrorOf (Der DefaultValuePresent) s e
 
-  -- A value of the type is read, but it takes none of the octets.
-  abbrev pub TakesNothing : ℕ → State → Type 0
-  TakesNothing id s = (t : Tree) × (new : State) × DecodesTree (f id) s (Ok t) new × (length new.rest ≡ length s.rest)
+  -- A value of the type is read, but it takes none of the octets, whose number is reported.
+  abbrev pub TakesNothing : ℕ → State → DecodeError → Type 0
+  TakesNothing id s e = (t : Tree) × (new : State) × DecodesTree (f id) s (Ok t) new × (length new.rest ≡ length s.rest) × IsErrorOf (UnexpectedExtraData (length s.rest)) s e
 
   -- The next tag is that of no part.
   abbrev pub IsUnknown : Parts → State → Type 0
   IsUnknown ps s = (tag : Tag) × NextTag (form s.rule) s.rest tag × (IsFirstOf ps tag → ⊥)
 
-  -- No tag follows, or none of an alternative; or an allocation fails.
-  abbrev pub StopsAtChoice : List Alternative → State → DecodeError → Type 0
-  StopsAtChoice ks s e = PeeksTag s (Err e) ⊎ (IsUnknown (alternatives_by f ks) s ⊎ IsOutOfMemory e.kind)
+  -- The next tag is that of no part, and the error has this name.
+  abbrev pub IsNoChoiceOf : List ℕ → Parts → State → DecodeError → Type 0
+  IsNoChoiceOf name ps s e = IsUnknown ps s × IsNamedError (IsNoValidChoice name) s.rule e
+
+  -- No tag follows, or none of an alternative of the CHOICE with this name; or an allocation fails.
+  abbrev pub StopsAtChoice : List ℕ → List Alternative → State → DecodeError → Type 0
+  StopsAtChoice name ks s e = PeeksTag s (Err e) ⊎ (IsNoChoiceOf name (alternatives_by f ks) s e ⊎ IsOutOfMemory e.kind)
 
   -- No tag follows that says whether the component is there; or it is its default.
   abbrev pub StopsAtComponent : Component → State → DecodeError → Type 0
@@ -136,26 +146,34 @@ module _ (f : ℕ → Shape) where
   StopsInSequence ps s e = IsOutOfMemory e.kind
       ⊎ ((done : List Component) × (p : Component) × (after : List Component) × (here : State) × (ps ≡ done ++ p ∷ after) × ComponentsInTurn f done s here × StopsAtComponent p here e)
 
-  -- No tag follows; or none of a component of the SET does, which has no unknown ones; or memory runs out; or the
-  -- component is its default, or takes nothing.
-  abbrev pub StopsAtMember : Bool → List Component → State → DecodeError → Type 0
-  StopsAtMember extensible ps s e = PeeksTag s (Err e)
-      ⊎ ((IsUnknown (components_by f ps) s × (extensible ≡ false)) ⊎ (IsOutOfMemory e.kind
-      ⊎ ((k : ℕ) × (p : Component) × (Some p ≡ slice_get ps k) × (IsDefaultWritten p s e ⊎ TakesNothing p.type_id.0 s))))
+  -- No tag follows; or none of a component of the SET with this name does, which has no unknown ones; or memory runs out;
+  -- or the component is its default, or takes nothing.
+  abbrev pub StopsAtMember : List ℕ → Bool → List Component → State → DecodeError → Type 0
+  StopsAtMember name extensible ps s e = PeeksTag s (Err e)
+      ⊎ ((IsNoChoiceOf name (components_by f ps) s e × (extensible ≡ false)) ⊎ (IsOutOfMemory e.kind
+      ⊎ ((k : ℕ) × (p : Component) × (Some p ≡ slice_get ps k) × (IsDefaultWritten p s e ⊎ TakesNothing p.type_id.0 s e))))
 
-  -- Components of a SET were read up to there, or all were: then one is missing, or is there twice; or an allocation fails.
-  abbrev pub StopsInSet : Bool → List Component → State → DecodeError → Type 0
-  StopsInSet extensible ps s e = IsOutOfMemory e.kind ⊎ ((done : List Tree) × (bs : List (List ℕ)) × (here : State) × DecodesInTurnFrom (DecodesTree (choice_by extensible (components_by f ps))) s done bs here
-      × (Ended here.closing here.rest ⊎ ((new : State) × FailsAtComponent (λ there x after. StopsAtMember extensible ps there x) bs here e new)))
+  -- Components of a SET were read up to there.
+  abbrev pub StopsAmongMembers : List ℕ → Bool → List Component → State → DecodeError → Type 0
+  StopsAmongMembers name extensible ps s e = (done : List Tree) × (bs : List (List ℕ)) × (here : State) × DecodesInTurnFrom (DecodesTree (choice_by extensible (components_by f ps))) s done bs here
+      × (new : State) × FailsAtComponent (λ there x after. StopsAtMember name extensible ps there x) bs here e new
+
+  -- All were read, and the first that is there twice is reported, or else the first required one that is missing.
+  abbrev pub LacksMember : Bool → List Component → State → DecodeError → Type 0
+  LacksMember extensible ps s e = (readings : List Tree) × (here : State) × DecodesIntoSlots (DecodesTree (choice_by extensible (components_by f ps))) s (Ok readings) here
+      × MakesOfReadings extensible (components_by f ps) items (names_of ps) s.rule readings (Err e)
+
+  abbrev pub StopsInSet : List ℕ → Bool → List Component → State → DecodeError → Type 0
+  StopsInSet name extensible ps s e = IsOutOfMemory e.kind ⊎ (StopsAmongMembers name extensible ps s e ⊎ LacksMember extensible ps s e)
 
   -- Elements were read up to there, and the next one takes nothing; or memory runs out.
   abbrev pub StopsInElements : ℕ → State → DecodeError → Type 0
-  StopsInElements id s e = IsOutOfMemory e.kind ⊎ ((ts : List Tree) × (here : State) × DecodesInTurn (DecodesTree (f id)) s ts here × TakesNothing id here)
+  StopsInElements id s e = IsOutOfMemory e.kind ⊎ ((ts : List Tree) × (here : State) × DecodesInTurn (DecodesTree (f id)) s ts here × TakesNothing id here e)
 
   -- The same; or the next one's octets are less than those of an element before it (X.690 11.6).
   abbrev pub StopsInOrder : ℕ → State → DecodeError → Type 0
   StopsInOrder id s e = IsOutOfMemory e.kind ⊎ ((ts : List Tree) × (bs : List (List ℕ)) × (here : State) × DecodesInTurnFrom (DecodesTree (f id)) s ts bs here
-      × (TakesNothing id here ⊎ ((new : State) × IsOutOfOrder (DecodesTree (f id)) bs here e new)))
+      × (TakesNothing id here e ⊎ ((new : State) × IsOutOfOrder (DecodesTree (f id)) bs here e new)))
 
   -- The contents of a value.
   abbrev pub StopsInside : «Type» → State → DecodeError → Type 0
@@ -166,7 +184,7 @@ module _ (f : ℕ → Shape) where
   StopsInside (Tagged tag id) s e = ⊥
   StopsInside (Choice name ks) s e = ⊥
   StopsInside (Sequence tag ps) s e = StopsInSequence ps.items s e
-  StopsInside (Set name tag ps) s e = StopsInSet (is_extensible f ps.items) (named_components f ps.items) s e
+  StopsInside (Set name tag ps) s e = StopsInSet (string_bytes name) (is_extensible f ps.items) (named_components f ps.items) s e
   StopsInside (SequenceOf tag id c) s e = StopsInElements id.0 s e
   StopsInside (SetOf tag id c) s e = StopsInOrder id.0 s e
 
@@ -177,20 +195,25 @@ module _ (f : ℕ → Shape) where
 
   -- A value, with its header and its end, and the number of its elements.
   abbrev pub FailsItself : «Type» → State → DecodeError → Type 0
-  FailsItself (Leaf kind tag c names) s e = Unit {0}
-  FailsItself (Enumerated tag ns) s e = Unit {0}
-  FailsItself (Any tag) s e = Unit {0}
-  FailsItself Unknown s e = Unit {0}
+  FailsItself (Leaf kind tag c names) s e = (new : State) × RunsOutOr (leaf_errors kind tag c) s e new
+  FailsItself (Enumerated tag ns) s e = (new : State) × FailsAtNumber (numbers_of ns.items) tag s e new
+  FailsItself (Any tag) s e = (new : State) × errors_of (BorrowsOpenType tag) s e new
+  FailsItself Unknown s e = (new : State) × RunsOutOr unknown_errors s e new
   FailsItself (Tagged tag id) s e = (new : State) × DecodesInside (ReadsEachPart (Tagged tag id)) (prefix_header tag) s (Err e) new
-  FailsItself (Choice name ks) s e = StopsAtChoice ks.items s e
+  FailsItself (Choice name ks) s e = StopsAtChoice (string_bytes name) ks.items s e
   FailsItself (Sequence tag ps) s e = (new : State) × DecodesInside (ReadsEachPart (Sequence tag ps)) (sequence_header tag) s (Err e) new
   FailsItself (Set name tag ps) s e = (new : State) × DecodesInside (ReadsEachPart (Set name tag ps)) (sequence_header tag) s (Err e) new
   FailsItself (SequenceOf tag id c) s e = (new : State) × DecodesSized (ReadsEachPart (SequenceOf tag id c)) element_count tag c s (Err e) new
   FailsItself (SetOf tag id c) s e = (new : State) × DecodesSized (ReadsEachPart (SetOf tag id c)) element_count tag c s (Err e) new
 
--- A value of the type with the number, if there is one.
-abbrev pub FailsAt : List «Type» → ℕ → ℕ → State → DecodeError → Type 0
-FailsAt types levels id s e = (n : ℕ) (ty : «Type») → levels ≡ suc n → slice_get types id ≡ Some ty → FailsItself (shape_of_type types n) ty s e
+-- No type has the number, or none that deep.
+abbrev pub LacksType : List «Type» → ℕ → ℕ → Type 0
+LacksType types levels id = (levels ≡ 0) ⊎ (None ≡ slice_get types id)
+
+-- A value of the type with the number. Of a type that there isn't, no value is looked for.
+pub record FailsAt (types : List «Type») (levels id : ℕ) (s : State) (e : DecodeError) : Type 0 where
+  pub fails : (n : ℕ) (ty : «Type») → levels ≡ suc n → slice_get types id ≡ Some ty → FailsItself (shape_of_type types n) ty s e
+  pub missing : LacksType types levels id → IsErrorOf UnexpectedEmptyInput s e
 
 -- ---- a part that can't be read
 

@@ -4,8 +4,10 @@ pub mod Typed
 pub mod Sets
 pub mod Placed
 pub mod Calls
+pub mod LeafErrors
 pub mod Written
 pub mod Entry
+pub mod Refusals
 pub mod Unfit
 pub mod Found
 pub mod Faults

@@ -1,33 +1,46 @@
 -- Refusals and faults that were worked out by hand, and what is none.
-use Rattle.std.specs.Prelude.{◌≡◌, ◌<◌, ℕ, true, false, List, [], ◌∷◌, Ok, Err}
+use Rattle.std.specs.Prelude.{◌≡◌, ◌<◌, ℕ, Bool, true, false, List, [], ◌∷◌, Option, Result, Ok, Err}
 use Rattle.rasn_types.specs.declared.types.codec.Codec.{Codec}
 use Rattle.rasn_types.specs.declared.types.codec.Codec.TheVariants.{Der}
 use Rattle.rasn_types.specs.declared.error.decode.DecodeError.{DecodeError}
 use Rattle.rasn_types.specs.Errors.{IsOutOfMemory}
 use Rattle.rasn_types.specs.declared.types.tag.Tag.{Tag}
 use Rattle.rasn_types.specs.Framing.{NextTag}
-use Rattle.rasn_types.specs.Tags.{form, eoc}
+use Rattle.rasn_types.specs.Tags.{form, eoc, in_universal}
+use Rattle.rasn_types.specs.declared.types.constraints.Constraints.{Constraints}
+use Rattle.rasn_de.specs.declared.ber.de.parser.ParseError.TheVariants.{UnexpectedEmptyInput}
+use Rattle.rasn_de.specs.NamedErrors.{IsNamedError, IsNoValidChoice}
+use Rattle.rasn.specs.WorkedRefusals.{WorkedRefusals}
 use Rattle.rasn_types.specs.Shapes.{Shape}
 use Rattle.rasn_de.specs.State.{State}
-use Rattle.rasn_de.specs.Steps.{PeeksTag}
+use Rattle.rasn_de.specs.Steps.{IsErrorOf, PeeksTag}
 use Rattle.rasn_schema.specs.declared.types.Alternative.{Alternative}
 use Rattle.rasn_schema.specs.declared.types.Component.{Component}
 use Rattle.rasn_schema.specs.declared.types.«Type».{«Type»}
-use Rattle.rasn_schema.specs.declared.types.«Type».TheVariants.{Any}
-use Rattle.rasn_schema.specs.Shapes.{alternatives_by, ends_open}
+use Rattle.rasn_schema.specs.declared.types.«Type».TheVariants.{Any, Unknown}
+use Rattle.rasn_schema.specs.declared.types.LeafKind.TheVariants.{Boolean}
+use Rattle.rasn_schema.specs.Shapes.{shape_of_type, alternatives_by, ends_open, IsReadable}
 use Rattle.rasn_schema.specs.declared.value.Value.{Value}
 use Rattle.rasn_dynamic.specs.declared.refusal.Refusal.{Refusal}
 use Rattle.rasn_dynamic.specs.declared.walk.Refused.{Refused}
+use Rattle.rasn_dynamic.specs.declared.span.Spans.{Spans}
+use Rattle.rasn_dynamic.specs.declared.trace.Fault.{Fault}
+use Rattle.rasn_dynamic.specs.declared.nested.NextPart.{NextPart}
+use Rattle.rasn_dynamic.specs.declared.nested.Nested.{Nested}
+use Rattle.rasn_dynamic.specs.LeafErrors.{leaf_errors}
+use Rattle.rasn_dynamic.specs.Nested.{IsChoiceHere, IsNoChoice, Descends, ReadsPart, ReadsWithin}
 use Rattle.rasn_dynamic.specs.Making.{outcome, reported}
 use Rattle.rasn_dynamic.specs.Faults.{IsUnknown, IsMemberHere, StopsAtMember, StopsAtChoice, StopsInSequence, StopsInElements, StopsInside, FailsItself, FailsAt, IsLocated}
 
 pub record WorkedFaults : Type 0 where
-  pub no_memory_at_the_start : (r : Refusal) → IsOutOfMemory r.error.kind → r.id.0 ≡ 0 → r.offset ≡ 0 → r.steps.items ≡ [] → IsLocated [] Der 0 [] r
+  pub no_memory_at_the_start : (r : Refusal) → IsOutOfMemory r.error.kind → r.id.0 ≡ 0 → r.offset ≡ 0 → r.steps.items ≡ [] → IsLocated (Unknown ∷ []) Der 0 [] r
   pub not_after_the_input : (types : List «Type») (rule : Codec) (id : ℕ) (r : Refusal) → 0 < r.offset → IsLocated types rule id [] r → ⊥
-  pub open_type_fails_itself : (f : ℕ → Shape) (s : State) (e : DecodeError) → FailsItself f (Any eoc) s e
+  pub boolean_fails : (c : Constraints) → WorkedRefusals (leaf_errors Boolean (in_universal 1) c)
+  pub unknown_values_without_memory : (f : ℕ → Shape) (s : State) (e : DecodeError) → IsOutOfMemory e.kind → FailsItself f Unknown s e
   pub nothing_stops_inside_an_open_type : (f : ℕ → Shape) (s : State) (e : DecodeError) → StopsInside f (Any eoc) s e → ⊥
-  pub anything_is_said_of_a_missing_type : (levels : ℕ) (s : State) (e : DecodeError) → FailsAt [] levels 0 s e
-  pub no_memory_at_a_choice : (f : ℕ → Shape) (ks : List Alternative) (s : State) (e : DecodeError) → IsOutOfMemory e.kind → StopsAtChoice f ks s e
+  pub missing_type_has_no_octets : (levels : ℕ) (s : State) (e : DecodeError) → IsErrorOf UnexpectedEmptyInput s e → FailsAt [] levels 0 s e
+  pub missing_type_has_no_other_error : (levels : ℕ) (s : State) (e : DecodeError) → (IsErrorOf UnexpectedEmptyInput s e → ⊥) → FailsAt [] levels 0 s e → ⊥
+  pub no_memory_at_a_choice : (f : ℕ → Shape) (name : List ℕ) (ks : List Alternative) (s : State) (e : DecodeError) → IsOutOfMemory e.kind → StopsAtChoice f name ks s e
   pub no_tag_is_unknown_to_an_open_choice : (f : ℕ → Shape) (ks : List Alternative) (s : State) → ends_open (alternatives_by f ks) ≡ true → IsUnknown f (alternatives_by f ks) s → ⊥
   pub each_tag_is_unknown_without_alternatives : (f : ℕ → Shape) (s : State) (tag : Tag) → NextTag (form s.rule) s.rest tag → IsUnknown f (alternatives_by f []) s
   pub no_memory_in_a_sequence : (f : ℕ → Shape) (s : State) (e : DecodeError) → IsOutOfMemory e.kind → StopsInSequence f [] s e
@@ -39,9 +52,19 @@ pub record WorkedFaults : Type 0 where
   pub not_as_a_named_component : (f : ℕ → Shape) (s : State) (p : Component) → p.type_id.0 ≡ 5
       → IsMemberHere f true (p ∷ []) 6 s 0 6 s → ⊥
   pub unknown_tag_stops_at_a_closed_set : (f : ℕ → Shape) (s : State) (e : DecodeError) (tag : Tag)
-      → NextTag (form s.rule) s.rest tag → StopsAtMember f false [] s e
+      → NextTag (form s.rule) s.rest tag → (name : List ℕ) → IsNamedError (IsNoValidChoice name) s.rule e → StopsAtMember f name false [] s e
+  pub no_other_name_at_a_closed_set : (f : ℕ → Shape) (s : State) (e : DecodeError) → (PeeksTag s (Err e) → ⊥) → (IsOutOfMemory e.kind → ⊥)
+      → (name : List ℕ) → (IsNamedError (IsNoValidChoice name) s.rule e → ⊥) → StopsAtMember f name false [] s e → ⊥
   pub no_tag_stops_at_an_open_set : (f : ℕ → Shape) (s : State) (e : DecodeError) → (PeeksTag s (Err e) → ⊥)
-      → (IsOutOfMemory e.kind → ⊥) → StopsAtMember f true [] s e → ⊥
+      → (IsOutOfMemory e.kind → ⊥) → (name : List ℕ) → StopsAtMember f name true [] s e → ⊥
+  pub goes_into_no_choice : (types : List «Type») (s : State) (outer : NextPart) (before : Spans) (new : Nested) → new.choices.items ≡ [] → new.part ≡ outer
+      → IsReadable (shape_of_type types outer.levels outer.id.0) → IsNoChoice types outer → Descends types s outer before (Ok tt) new before
+  pub not_down_to_a_choice : (types : List «Type») (s : State) (outer : NextPart) (before after : Spans) (new : Nested) (text : List ℕ) (l : List Alternative)
+      → IsChoiceHere types new.part text l → Descends types s outer before (Ok tt) new after → ⊥
+  pub read_within_no_choice : (types : List «Type») (keep : Bool) (outer : NextPart) (s : State) (before : Spans) (r : Result Value DecodeError) (new : State) (fault : Option Fault) (after : Spans)
+      → ReadsPart types keep outer s before r new fault after → ReadsWithin types keep outer s before [] outer.index r new fault after
+  pub not_read_with_another_index : (types : List «Type») (keep : Bool) (outer : NextPart) (s : State) (before : Spans) (index : ℕ) (r : Result Value DecodeError) (new : State) (fault : Option Fault) (after : Spans)
+      → (outer.index ≡ index → ⊥) → ReadsWithin types keep outer s before [] index r new fault after → ⊥
   pub value_in_its_place_is_returned : (u : Unit {0}) (v : Value) (e : DecodeError) → outcome (Ok u) v e ≡ Ok v
   pub error_in_its_place_is_returned : (r : Refused) (v : Value) (e : DecodeError) → outcome (Err r) v e ≡ Err e
   pub no_value_of_what_is_refused : (r : Refused) (v w : Value) (e : DecodeError) → outcome (Err r) v e ≡ Ok w → ⊥

@@ -11,6 +11,7 @@ ghost use Rattle.rasn.specs.Normal.{IsNormal, IsNoNormal, IsIdentified, IsKept, 
 ghost use Rattle.rasn_enc.specs.Primitive.{IsAllocError};
 ghost use Rattle.rasn_schema.specs.Trees.{tree_of};
 ghost use Rattle.rasn_dynamic.specs.Entry.{IsEncoded, IsNotEncoded, FailsIfFits, NamesRules, IsReadBack, IsNormalOf, IsNoNormalOf, FitsType, IsChecked, Agree, shape_of};
+ghost use Rattle.rasn_dynamic.specs.Refusals.{FailsSomewhere, FailsWhole};
 
 use crate::locate::{check_or_locate, decode_or_locate};
 use crate::path::ValuePath;
@@ -47,6 +48,7 @@ pub fn decode_with_remainder<'input>(
 ) -> Result<(Value<'input>, &'input [u8]), DecodeError>
     ensures exact { Answered rule (shape_of schema.now.types.items id.0) tree_of input.now result }
     ensures fits { IfOk result (λ read. FitsType schema.now.types.items id.0 read.0) }
+    ensures fails { IfErr result (FailsSomewhere schema.now.types.items rule id.0 input.now) }
     ensures rules { IfErr result (λ e. e.codec ≡ rule) }
 {
     match decode_or_locate(alloc, rule, schema, id, input) {
@@ -81,6 +83,7 @@ pub fn decode<'input>(
     ensures exact { AnsweredAlone rule (shape_of schema.now.types.items id.0) tree_of input.now result }
     ensures written { rule ≡ Der → IsAsWritten (shape_of schema.now.types.items id.0) tree_of input.now result }
     ensures fits { IfOk result (λ v. FitsType schema.now.types.items id.0 v) }
+    ensures fails { IfErr result (FailsWhole schema.now.types.items rule id.0 input.now) }
     ensures rules { IfErr result (λ e. e.codec ≡ rule) }
 {
     let (value, remainder) = decode_with_remainder(alloc, rule, schema, id, input)?;
@@ -111,6 +114,7 @@ pub fn check(
 ) -> Result<(), DecodeError>
     ensures exact { IsChecked rule (shape_of schema.now.types.items id.0) input.now result }
     ensures agrees { (r : Result Value DecodeError) → AnsweredAlone rule (shape_of schema.now.types.items id.0) tree_of input.now r → Agree result r }
+    ensures fails { IfErr result (FailsWhole schema.now.types.items rule id.0 input.now) }
     ensures rules { IfErr result (λ e. e.codec ≡ rule) }
 {
     match check_or_locate(alloc, rule, schema, id, input) {

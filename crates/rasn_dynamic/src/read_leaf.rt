@@ -17,6 +17,17 @@ ghost use Rattle.rasn_schema.specs.Shapes.{kind_of, numbers_of};
 ghost use Rattle.rasn_schema.specs.declared.types.LeafKind.TheVariants.{Boolean as BooleanKind, FixedOctetString as FixedKind, UtcTime as UtcTimeKind};
 ghost use Rattle.rasn_dynamic.specs.Calls.{IsNumberIn, IsStringOf, FailsAtNumber, FailsAtFixed};
 ghost use Rattle.rasn_schema.specs.Fitting.{FitsLeaf, IsNumber, AreOctets, AreItems, EachFits};
+ghost use Rattle.rasn_types.specs.Grammar.{UtcText, GeneralizedText};
+ghost use Rattle.rasn_types.specs.Time.{DateText};
+ghost use Rattle.rasn_de.specs.Any.{BorrowsOpenType};
+ghost use Rattle.rasn_de.specs.BitString.{DecodesBitString};
+ghost use Rattle.rasn_de.specs.CharacterString.{ByAlphabet, BySize, ByLength, ByUnits, ByUtf8};
+ghost use Rattle.rasn_de.specs.Leaves.{BoolAt, FailsAs};
+ghost use Rattle.rasn_de.specs.NamedBits.{DecodesNamedBits};
+ghost use Rattle.rasn_de.specs.ObjectIdentifier.{DecodesObjectIdentifier};
+ghost use Rattle.rasn_de.specs.Time.{AtAnyOffset, DecodesTime};
+ghost use Rattle.rasn_de.specs.ValueErrors.{errors_of, integer_errors};
+ghost use Rattle.rasn_dynamic.specs.LeafErrors.{string_errors, leaf_errors, unknown_errors, RunsOutOr};
 
 use crate::made::Made;
 use crate::walk::{Refused, kept};
@@ -96,6 +107,7 @@ fn decode_fixed_width<'input, I: IntegerType + Decode>(
 ) -> Result<Value<'input>, DecodeError>
     ensures reads { Decodes (leaf (integer I.range) tag constraints.now) tree_of decoder.old result decoder.new }
     ensures fits { IfOk result (λ v. IsNumberIn I.range v) }
+    ensures fails { IfErr result (λ e. RunsOutOr (integer_errors I.takes_memory I.WIDTH I.range tag constraints.now) decoder.old e decoder.new) }
     ensures rules { IfErr result (λ e. e.codec ≡ decoder.old.rule) }
 {
     let number = decoder.decode_integer::<I>(tag, constraints)?;
@@ -138,6 +150,7 @@ fn decode_string<'input>(
 ) -> Result<Value<'input>, DecodeError>
     ensures reads { Decodes (leaf (string_kind alphabet) tag constraints.now) tree_of decoder.old result decoder.new }
     ensures fits { IfOk result (λ v. IsStringOf alphabet v) }
+    ensures fails { IfErr result (λ e. string_errors (ByAlphabet alphabet constraints.now.size) tag decoder.old e decoder.new) }
     ensures rules { IfErr result (λ e. e.codec ≡ decoder.old.rule) }
 {
     let octets = decoder.decode_restricted_string(alphabet, tag, constraints)?;
@@ -153,6 +166,7 @@ fn decode_utc_time<'input>(
 ) -> Result<Value<'input>, DecodeError>
     ensures reads { Decodes (leaf utc_time tag constraints.now) tree_of decoder.old result decoder.new }
     ensures fits { IfOk result (λ v. FitsLeaf UtcTimeKind v) }
+    ensures fails { IfErr result (λ e. errors_of (DecodesTime (AtAnyOffset (UtcText decoder.old.rule)) tag) decoder.old e decoder.new) }
     ensures rules { IfErr result (λ e. e.codec ≡ decoder.old.rule) }
 {
     let time = UtcTime::decode_with_tag_and_constraints(decoder, tag, constraints)?;
@@ -171,6 +185,7 @@ fn decode_leaf<'input>(
 ) -> Result<Value<'input>, DecodeError>
     ensures reads { Decodes (leaf (kind_of kind) tag bounds.now) tree_of decoder.old result decoder.new }
     ensures fits { IfOk result (λ v. FitsLeaf kind v) }
+    ensures fails { IfErr result (λ e. RunsOutOr (leaf_errors kind tag bounds.now) decoder.old e decoder.new) }
     ensures rules { IfErr result (λ e. e.codec ≡ decoder.old.rule) }
 {
     match kind {
@@ -216,6 +231,7 @@ fn decode_leaf<'input>(
 #[inline(never)]
 fn check_arcs(decoder: &mut Decoder<'_>, error: &mut DecodeError, tag: Tag) -> Result<(), Refused>
     ensures reads { Checks (leaf object_identifier tag unconstrained) decoder.old (reported result error.new) decoder.new }
+    ensures fails { IfErr (reported result error.new) (λ e. errors_of (DecodesObjectIdentifier tag) decoder.old e decoder.new) }
     ensures rules { IfErr (reported result error.new) (λ e. e.codec ≡ decoder.old.rule) }
 {
     match decoder.check_object_identifier(tag) {
@@ -236,6 +252,7 @@ fn check_integer(
     bounds: &Constraints,
 ) -> Result<(), Refused>
     ensures reads { Checks (leaf (integer every) tag bounds.now) decoder.old (reported result error.new) decoder.new }
+    ensures fails { IfErr (reported result error.new) (λ e. integer_errors (λ z. ⊥) 0 every tag bounds.now decoder.old e decoder.new) }
     ensures rules { IfErr (reported result error.new) (λ e. e.codec ≡ decoder.old.rule) }
 {
     match decoder.check_integer(tag, bounds) {
@@ -256,6 +273,7 @@ fn check_bits(
     bounds: &Constraints,
 ) -> Result<(), Refused>
     ensures reads { Checks (leaf bit_string tag bounds.now) decoder.old (reported result error.new) decoder.new }
+    ensures fails { IfErr (reported result error.new) (λ e. errors_of (DecodesBitString tag bounds.now) decoder.old e decoder.new) }
     ensures rules { IfErr (reported result error.new) (λ e. e.codec ≡ decoder.old.rule) }
 {
     match decoder.check_bit_string(tag, bounds) {
@@ -276,6 +294,7 @@ fn check_named_bits(
     bounds: &Constraints,
 ) -> Result<(), Refused>
     ensures reads { Checks (leaf named_bits tag bounds.now) decoder.old (reported result error.new) decoder.new }
+    ensures fails { IfErr (reported result error.new) (λ e. errors_of (DecodesNamedBits tag bounds.now) decoder.old e decoder.new) }
     ensures rules { IfErr (reported result error.new) (λ e. e.codec ≡ decoder.old.rule) }
 {
     match decoder.check_named_bits(tag, bounds) {
@@ -296,6 +315,7 @@ fn check_octets(
     bounds: &Constraints,
 ) -> Result<(), Refused>
     ensures reads { Checks (leaf octet_string tag bounds.now) decoder.old (reported result error.new) decoder.new }
+    ensures fails { IfErr (reported result error.new) (λ e. string_errors (BySize bounds.now.size) tag decoder.old e decoder.new) }
     ensures rules { IfErr (reported result error.new) (λ e. e.codec ≡ decoder.old.rule) }
 {
     match decoder.check_octet_string(tag, bounds) {
@@ -317,6 +337,7 @@ fn check_fixed_octets(
     bounds: &Constraints,
 ) -> Result<(), Refused>
     ensures reads { Checks (leaf (fixed len) tag bounds.now) decoder.old (reported result error.new) decoder.new }
+    ensures fails { IfErr (reported result error.new) (λ e. string_errors (ByLength len bounds.now.size) tag decoder.old e decoder.new) }
     ensures rules { IfErr (reported result error.new) (λ e. e.codec ≡ decoder.old.rule) }
 {
     match decoder.check_fixed_octet_string(len, tag, bounds) {
@@ -338,6 +359,7 @@ fn check_string(
     bounds: &Constraints,
 ) -> Result<(), Refused>
     ensures reads { Checks (leaf (string_kind alphabet) tag bounds.now) decoder.old (reported result error.new) decoder.new }
+    ensures fails { IfErr (reported result error.new) (λ e. string_errors (ByAlphabet alphabet bounds.now.size) tag decoder.old e decoder.new) }
     ensures rules { IfErr (reported result error.new) (λ e. e.codec ≡ decoder.old.rule) }
 {
     match decoder.check_restricted_string(alphabet, tag, bounds) {
@@ -358,6 +380,7 @@ fn check_bmp(
     bounds: &Constraints,
 ) -> Result<(), Refused>
     ensures reads { Checks (leaf bmp tag bounds.now) decoder.old (reported result error.new) decoder.new }
+    ensures fails { IfErr (reported result error.new) (λ e. string_errors (ByUnits bounds.now.size) tag decoder.old e decoder.new) }
     ensures rules { IfErr (reported result error.new) (λ e. e.codec ≡ decoder.old.rule) }
 {
     match decoder.check_bmp_string(tag, bounds) {
@@ -378,6 +401,7 @@ fn check_text(
     bounds: &Constraints,
 ) -> Result<(), Refused>
     ensures reads { Checks (leaf utf8 tag bounds.now) decoder.old (reported result error.new) decoder.new }
+    ensures fails { IfErr (reported result error.new) (λ e. string_errors (ByUtf8 bounds.now.size) tag decoder.old e decoder.new) }
     ensures rules { IfErr (reported result error.new) (λ e. e.codec ≡ decoder.old.rule) }
 {
     match decoder.check_utf8_string(tag, bounds) {
@@ -398,6 +422,7 @@ fn check_utc_time(
     bounds: &Constraints,
 ) -> Result<(), Refused>
     ensures reads { Checks (leaf utc_time tag bounds.now) decoder.old (reported result error.new) decoder.new }
+    ensures fails { IfErr (reported result error.new) (λ e. errors_of (DecodesTime (AtAnyOffset (UtcText decoder.old.rule)) tag) decoder.old e decoder.new) }
     ensures rules { IfErr (reported result error.new) (λ e. e.codec ≡ decoder.old.rule) }
 {
     match decoder.check_utc_time(tag) {
@@ -418,6 +443,7 @@ fn check_generalized_time(
     bounds: &Constraints,
 ) -> Result<(), Refused>
     ensures reads { Checks (leaf generalized_time tag bounds.now) decoder.old (reported result error.new) decoder.new }
+    ensures fails { IfErr (reported result error.new) (λ e. errors_of (DecodesTime (GeneralizedText decoder.old.rule) tag) decoder.old e decoder.new) }
     ensures rules { IfErr (reported result error.new) (λ e. e.codec ≡ decoder.old.rule) }
 {
     match decoder.check_generalized_time(tag) {
@@ -438,6 +464,7 @@ fn check_date(
     bounds: &Constraints,
 ) -> Result<(), Refused>
     ensures reads { Checks (leaf date tag bounds.now) decoder.old (reported result error.new) decoder.new }
+    ensures fails { IfErr (reported result error.new) (λ e. errors_of (DecodesTime DateText tag) decoder.old e decoder.new) }
     ensures rules { IfErr (reported result error.new) (λ e. e.codec ≡ decoder.old.rule) }
 {
     match decoder.check_date(tag) {
@@ -459,6 +486,7 @@ fn check_by_value(
     bounds: &Constraints,
 ) -> Result<(), Refused>
     ensures reads { Checks (leaf (kind_of kind) tag bounds.now) decoder.old (reported result error.new) decoder.new }
+    ensures fails { IfErr (reported result error.new) (λ e. RunsOutOr (leaf_errors kind tag bounds.now) decoder.old e decoder.new) }
     ensures rules { IfErr (reported result error.new) (λ e. e.codec ≡ decoder.old.rule) }
 {
     match decode_leaf(decoder, kind, tag, bounds) {
@@ -487,6 +515,7 @@ fn check_leaf(
     bounds: &Constraints,
 ) -> Result<(), Refused>
     ensures reads { Checks (leaf (kind_of kind) tag bounds.now) decoder.old (reported result error.new) decoder.new }
+    ensures fails { IfErr (reported result error.new) (λ e. RunsOutOr (leaf_errors kind tag bounds.now) decoder.old e decoder.new) }
     ensures rules { IfErr (reported result error.new) (λ e. e.codec ≡ decoder.old.rule) }
 {
     match kind {
@@ -521,6 +550,7 @@ fn make_boolean<'input>(
 ) -> Result<(), Refused>
     ensures reads { Decodes (leaf boolean tag bounds.now) tree_of decoder.old (outcome result out.new error.new) decoder.new }
     ensures fits { IfOk (outcome result out.new error.new) (λ v. FitsLeaf BooleanKind v) }
+    ensures fails { IfErr (outcome result out.new error.new) (λ e. FailsAs (BoolAt decoder.old.rule tag decoder.old.rest) decoder.old e decoder.new) }
     ensures rules { IfErr (outcome result out.new error.new) (λ e. e.codec ≡ decoder.old.rule) }
 {
     match bool::decode_with_tag_and_constraints(decoder, tag, bounds) {
@@ -547,6 +577,7 @@ fn make_leaf<'input>(
 ) -> Result<(), Refused>
     ensures reads { Decodes (leaf (kind_of kind) tag bounds.now) tree_of decoder.old (outcome result out.new error.new) decoder.new }
     ensures fits { IfOk (outcome result out.new error.new) (λ v. FitsLeaf kind v) }
+    ensures fails { IfErr (outcome result out.new error.new) (λ e. RunsOutOr (leaf_errors kind tag bounds.now) decoder.old e decoder.new) }
     ensures rules { IfErr (outcome result out.new error.new) (λ e. e.codec ≡ decoder.old.rule) }
 {
     if let LeafKind::Boolean = kind {
@@ -577,6 +608,7 @@ pub fn put_leaf<'input, M: Made>(
 ) -> Result<(), Refused>
     ensures reads { Making M.KEEP tree_of (DecodesTree (leaf (kind_of kind) tag bounds.now)) decoder.old (outcome result out.new error.new) decoder.new }
     ensures fits { M.KEEP ≡ true → IfOk (outcome result out.new error.new) (λ v. FitsLeaf kind v) }
+    ensures fails { IfErr (outcome result out.new error.new) (λ e. RunsOutOr (leaf_errors kind tag bounds.now) decoder.old e decoder.new) }
     ensures rules { IfErr (outcome result out.new error.new) (λ e. e.codec ≡ decoder.old.rule) }
 {
     if M::KEEP {
@@ -661,6 +693,7 @@ pub fn decode_any_value<'input>(
 ) -> Result<Value<'input>, DecodeError>
     ensures reads { Decodes (any (looked_for tag)) tree_of decoder.old result decoder.new }
     ensures fits { IfOk result AreOctets }
+    ensures fails { IfErr result (λ e. errors_of (BorrowsOpenType tag) decoder.old e decoder.new) }
     ensures rules { IfErr result (λ e. e.codec ≡ decoder.old.rule) }
 {
     let octets = decoder.decode_open(tag)?;
@@ -678,6 +711,7 @@ pub fn decode_unknown_values<'input, M: Made>(
 ) -> Result<Value<'input>, DecodeError>
     ensures reads { Making M.KEEP tree_of (DecodesTree unknown) decoder.old result decoder.new }
     ensures fits { M.KEEP ≡ true → IfOk result (AreItems (EachFits AreOctets)) }
+    ensures fails { IfErr result (λ e. RunsOutOr unknown_errors decoder.old e decoder.new) }
     ensures rules { IfErr result (λ e. e.codec ≡ decoder.old.rule) }
 {
     let mut values = Vec::new(decoder.alloc());
@@ -699,6 +733,7 @@ pub fn put_number<'input, M: Made>(
 ) -> Result<(), Refused>
     ensures reads { Making M.KEEP tree_of (DecodesTree (leaf (enumerated (numbers_of numbers.now)) tag unconstrained)) decoder.old (outcome result out.new error.new) decoder.new }
     ensures fits { M.KEEP ≡ true → IfOk (outcome result out.new error.new) (λ v. IsNumber (numbers_of numbers.now) v) }
+    ensures fails { IfErr (outcome result out.new error.new) (λ e. FailsAtNumber (numbers_of numbers.now) tag decoder.old e decoder.new) }
     ensures rules { IfErr (outcome result out.new error.new) (λ e. e.codec ≡ decoder.old.rule) }
 {
     match decode_number(decoder, tag, numbers) {
@@ -725,6 +760,7 @@ pub fn put_any<'input, M: Made>(
 ) -> Result<(), Refused>
     ensures reads { Making M.KEEP tree_of (DecodesTree (any (looked_for tag))) decoder.old (outcome result out.new error.new) decoder.new }
     ensures fits { M.KEEP ≡ true → IfOk (outcome result out.new error.new) AreOctets }
+    ensures fails { IfErr (outcome result out.new error.new) (λ e. errors_of (BorrowsOpenType tag) decoder.old e decoder.new) }
     ensures rules { IfErr (outcome result out.new error.new) (λ e. e.codec ≡ decoder.old.rule) }
 {
     match decode_any_value(decoder, tag) {
@@ -750,6 +786,7 @@ pub fn put_unknown<'input, M: Made>(
 ) -> Result<(), Refused>
     ensures reads { Making M.KEEP tree_of (DecodesTree unknown) decoder.old (outcome result out.new error.new) decoder.new }
     ensures fits { M.KEEP ≡ true → IfOk (outcome result out.new error.new) (AreItems (EachFits AreOctets)) }
+    ensures fails { IfErr (outcome result out.new error.new) (λ e. RunsOutOr unknown_errors decoder.old e decoder.new) }
     ensures rules { IfErr (outcome result out.new error.new) (λ e. e.codec ≡ decoder.old.rule) }
 {
     *out = kept(decode_unknown_values::<M>(decoder), error)?;

@@ -467,7 +467,7 @@ fn decode_choice<'input, M: Made>(
     ensures unknown { IfErr (outcome result out.new walk.new.error) (λ e. IsNoAlternative (alternatives_by (shape_of_type types.now below) alternatives.now) name.now decoder.old e decoder.new) }
     ensures rules { IfErr (outcome result out.new walk.new.error) (λ e. e.codec ≡ decoder.old.rule) }
     ensures told { Told (IsFaultIn types.now below (IsAlternativeAt (shape_of_type types.now below) alternatives.now decoder.old) decoder.old decoder.old) (outcome result out.new walk.new.error) walk.new.fault }
-    ensures itself { IfErr (outcome result out.new walk.new.error) (λ e. walk.new.fault ≡ None → StopsAtChoice (shape_of_type types.now below) alternatives.now decoder.old e) }
+    ensures itself { IfErr (outcome result out.new walk.new.error) (λ e. walk.new.fault ≡ None → StopsAtChoice (shape_of_type types.now below) name.now alternatives.now decoder.old e) }
     ensures listed { IfOk (outcome result out.new walk.new.error) (λ v. Lists (λ b es. AlternativeListed (shape_of_type types.now below) below (Inside types.now below) alternatives.now b decoder.old es) walk.old.spans walk.new.spans) }
 {
     let tag = peek(decoder, &mut walk.error)?;
@@ -1168,7 +1168,7 @@ fn decode_set_components<'input, M: Made>(
     ensures fits { M.KEEP ≡ true → IfOk (reported result walk.new.error) (λ v. MembersFit (Fits types.now below) extensible components.now v.items) }
     ensures rules { IfErr (reported result walk.new.error) (λ e. e.codec ≡ decoder.old.rule) }
     ensures told { Told (IsFaultIn types.now below (IsMemberAfter (shape_of_type types.now below) extensible components.now other_id.0 decoder.old) decoder.old decoder.old) (reported result walk.new.error) walk.new.fault }
-    ensures itself { IfErr (reported result walk.new.error) (λ e. walk.new.fault ≡ None → StopsInSet (shape_of_type types.now below) extensible components.now decoder.old e) }
+    ensures itself { IfErr (reported result walk.new.error) (λ e. walk.new.fault ≡ None → StopsInSet (shape_of_type types.now below) name.now extensible components.now decoder.old e) }
     ensures listed { IfOk (reported result walk.new.error) (λ v. Lists (λ b es. MembersListed (shape_of_type types.now below) below (Inside types.now below) extensible components.now other_id.0 b decoder.old es) walk.old.spans walk.new.spans) }
 {
     let mut unknown = Vec::new(decoder.alloc());
@@ -1234,7 +1234,7 @@ fn decode_set_component<'input, 'names, M: Made>(
     ensures unknown { IfErr (reported result walk.new.error) (λ e. IsNoMember extensible (components_by (shape_of_type types.now below) components.now) name.now decoder.old e decoder.new) }
     ensures rules { IfErr (reported result walk.new.error) (λ e. e.codec ≡ decoder.old.rule) }
     ensures told { Told (IsFaultIn types.now below (IsMemberHere (shape_of_type types.now below) extensible components.now other_id.0 decoder.old) decoder.old decoder.old) (reported result walk.new.error) walk.new.fault }
-    ensures itself { IfErr (reported result walk.new.error) (λ e. walk.new.fault ≡ None → StopsAtMember (shape_of_type types.now below) extensible components.now decoder.old e) }
+    ensures itself { IfErr (reported result walk.new.error) (λ e. walk.new.fault ≡ None → StopsAtMember (shape_of_type types.now below) name.now extensible components.now decoder.old e) }
     ensures listed { IfOk (reported result walk.new.error) (λ v. Lists (λ b es. MemberListed (shape_of_type types.now below) below (Inside types.now below) extensible components.now other_id.0 b decoder.old decoder.new es) walk.old.spans walk.new.spans) }
 {
     let left = decoder.remaining().len();

@@ -1,4 +1,4 @@
-use Rattle.std.proofs.Common.{arith, ◌++◌, length, refl, sym, ap, ◌∙◌, subst}
+use Rattle.std.proofs.Common.{arith, ◌++◌, length, refl, sym, ap, ◌∙◌}
 use Rattle.rasn_dynamic.proofs.find.read_part.Goals as goal
 
 pub overflow_sub-result : goal.overflow_sub-result

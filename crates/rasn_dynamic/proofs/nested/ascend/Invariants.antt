@@ -1,4 +1,4 @@
-use Rattle.std.proofs.Common.{◌≡◌, List, reverse, []}
+use Rattle.std.proofs.Common.{List, reverse}
 use Rattle.std.specs.Prelude.{vec_len}
 use Rattle.rasn_de.specs.State.{State}
 use Rattle.rasn_schema.specs.declared.types.«Type».{«Type»}

@@ -1,4 +1,4 @@
-use Rattle.std.proofs.Common.{◌≡◌, ◌-◌, suc, Some, length, refl, sym, ap, subst, arith}
+use Rattle.std.proofs.Common.{◌≡◌, ◌-◌, Some, length, refl, sym, ap, subst, arith}
 use Rattle.std.specs.Prelude.{get_or, slice_get}
 use Rattle.std.proofs.lemmas.Option.{slice_get_within}
 use Rattle.rasn_schema.specs.declared.types.Alternative.{Alternative}
@@ -15,7 +15,7 @@ pub returns-in_default-alternative_for-clause-goes : goal.returns-in_default-alt
 returns-in_default-alternative_for-clause-goes c =
     let part = c.args.nested.now.part in
     let here = c.in-Some.ensures in
-    (refl, refl, none_here c.args.types.now c.args.decoder.now part (part.levels - 1) (let n = here.0 in omega arith) c.in-Some.name.now c.in-Some.alternatives.now here c.args.tag c.requires.next c.in_default-alternative_for.ensures _ c.refuse_choice.ensures.0)
+    (refl, refl, none_here c.args.types.now c.args.decoder.now part (part.levels - 1) (let n = here.0 in omega arith) c.in-Some.name.now c.in-Some.alternatives.now here c.args.tag c.requires.next c.in_default-alternative_for.ensures _ c.refuse_choice.ensures.0 c.refuse_choice.ensures)
 
 pub bounds-alternatives-index : goal.bounds-alternatives-index
 bounds-alternatives-index c = slice_get_within c.in-Some.alternatives.now c.in-Some-alternative_for.index c.in-Some-alternative_for.ensures.0 (sym c.in-Some-alternative_for.ensures.1.0)

@@ -1,6 +1,15 @@
 use Rattle.rasn_types.specs.Trees.{signed_range, unsigned_range}
 use Rattle.rasn_types.specs.declared.types.strings.alphabet.Alphabet.TheVariants.{Numeric as NumericAlphabet, Printable as PrintableAlphabet, Visible as VisibleAlphabet, Ia5 as Ia5Alphabet, Every}
 use Rattle.rasn_schema.specs.declared.types.LeafKind.TheVariants.{Signed32, Signed64, Unsigned32, Unsigned64, Numeric, Printable, Visible, Ia5, AnyOctets}
+use Rattle.std.proofs.Common.{inr}
+use Rattle.std.specs.Prelude.{chars}
+use Rattle.std.specs.Cow.{cow_slice_items, cow_str_bytes}
+use Rattle.rasn_de.specs.CharacterString.{BySize, ByUtf8, IsTextBorrowedIfPrimitive}
+use Rattle.rasn_de.specs.OctetString.{IsBorrowedIfPrimitive}
+use Rattle.rasn_de.proofs.Leaves.Returns.{residual}
+use Rattle.rasn_dynamic.specs.LeafErrors.{leaf_errors}
+use Rattle.rasn_dynamic.proofs.Faults.{if_err_map}
+use Rattle.rasn_dynamic.proofs.LeafErrors.{borrowed_fails, fixed_fails}
 use Rattle.rasn_dynamic.proofs.FitsRead.{number_fits, string_fits, if_ok}
 use Rattle.rasn_dynamic.proofs.read_leaf.decode_leaf.Goals as goal
 
@@ -30,3 +39,91 @@ returns-in-Ia5-clause-fits c = rw c.in-Ia5.is (if_ok _ _ _ (string_fits Ia5 Ia5A
 
 pub returns-in-AnyOctets-clause-fits : goal.returns-in-AnyOctets-clause-fits
 returns-in-AnyOctets-clause-fits c = rw c.in-AnyOctets.is (if_ok _ _ _ (string_fits AnyOctets Every (λ l h. tt)) c.decode_string-in-AnyOctets.ensures.fits)
+
+pub returns-in_err-decode_with_tag_and_constraints-in-Boolean-clause-fails : goal.returns-in_err-decode_with_tag_and_constraints-in-Boolean-clause-fails
+unfolding leaf_errors
+returns-in_err-decode_with_tag_and_constraints-in-Boolean-clause-fails c = rw c.in-Boolean.is (rw (residual _ c.from_residual.ensures.1) (inr c.in_err-decode_with_tag_and_constraints-in-Boolean.ensures.errors))
+
+pub returns-in_err-decode_with_tag_and_constraints-in-Null-clause-fails : goal.returns-in_err-decode_with_tag_and_constraints-in-Null-clause-fails
+unfolding leaf_errors
+returns-in_err-decode_with_tag_and_constraints-in-Null-clause-fails c = rw c.in-Null.is (rw (residual _ c.from_residual-in_err-decode_with_tag_and_constraints-in-Null.ensures.1) (inr c.in_err-decode_with_tag_and_constraints-in-Null.ensures.errors))
+
+pub returns-in_err-decode_with_tag_and_constraints-in-ObjectIdentifier-clause-fails : goal.returns-in_err-decode_with_tag_and_constraints-in-ObjectIdentifier-clause-fails
+unfolding leaf_errors
+returns-in_err-decode_with_tag_and_constraints-in-ObjectIdentifier-clause-fails c = rw c.in-ObjectIdentifier.is (rw (residual _ c.from_residual-in_err-decode_with_tag_and_constraints-in-ObjectIdentifier.ensures.1) (inr c.in_err-decode_with_tag_and_constraints-in-ObjectIdentifier.ensures.errors))
+
+pub returns-in_err-decode_bits-in-BitString-clause-fails : goal.returns-in_err-decode_bits-in-BitString-clause-fails
+unfolding leaf_errors
+returns-in_err-decode_bits-in-BitString-clause-fails c = rw c.in-BitString.is (rw (residual _ c.from_residual-in_err-decode_bits-in-BitString.ensures.1) (inr c.in_err-decode_bits-in-BitString.ensures.exact.0))
+
+pub returns-in_err-decode_significant_bits-in-NamedBits-clause-fails : goal.returns-in_err-decode_significant_bits-in-NamedBits-clause-fails
+unfolding leaf_errors
+returns-in_err-decode_significant_bits-in-NamedBits-clause-fails c = rw c.in-NamedBits.is (rw (residual _ c.from_residual-in_err-decode_significant_bits-in-NamedBits.ensures.1) (inr c.in_err-decode_significant_bits-in-NamedBits.ensures.exact.0))
+
+pub returns-in_err-decode_octet_string-in-OctetString-clause-fails : goal.returns-in_err-decode_octet_string-in-OctetString-clause-fails
+unfolding leaf_errors
+returns-in_err-decode_octet_string-in-OctetString-clause-fails c = rw c.in-OctetString.is (rw (residual _ c.from_residual-in_err-decode_octet_string-in-OctetString.ensures.1) (inr (borrowed_fails cow_slice_items IsBorrowedIfPrimitive (BySize c.args.bounds.now.size) c.args.tag c.args.decoder.now _ _ c.in_err-decode_octet_string-in-OctetString.ensures.exact)))
+
+pub returns-in_err-decode_with_tag_and_constraints-in-Integer-clause-fails : goal.returns-in_err-decode_with_tag_and_constraints-in-Integer-clause-fails
+unfolding leaf_errors
+returns-in_err-decode_with_tag_and_constraints-in-Integer-clause-fails c = rw c.in-Integer.is (rw (residual _ c.from_residual-in_err-decode_with_tag_and_constraints-in-Integer.ensures.1) (inr c.in_err-decode_with_tag_and_constraints-in-Integer.ensures.errors))
+
+pub returns-in_err-decode_bmp_string-in-Bmp-clause-fails : goal.returns-in_err-decode_bmp_string-in-Bmp-clause-fails
+unfolding leaf_errors
+returns-in_err-decode_bmp_string-in-Bmp-clause-fails c = rw c.in-Bmp.is (rw (residual _ c.from_residual-in_err-decode_bmp_string-in-Bmp.ensures.1) (inr c.in_err-decode_bmp_string-in-Bmp.ensures.exact))
+
+pub returns-in_err-decode_utf8_text-in-Utf8-clause-fails : goal.returns-in_err-decode_utf8_text-in-Utf8-clause-fails
+unfolding leaf_errors
+returns-in_err-decode_utf8_text-in-Utf8-clause-fails c = rw c.in-Utf8.is (rw (residual _ c.from_residual-in_err-decode_utf8_text-in-Utf8.ensures.1) (inr (borrowed_fails (λ t. chars (cow_str_bytes t)) IsTextBorrowedIfPrimitive (ByUtf8 c.args.bounds.now.size) c.args.tag c.args.decoder.now _ _ c.in_err-decode_utf8_text-in-Utf8.ensures.exact)))
+
+pub returns-in_err-decode_with_tag_and_constraints-in-GeneralizedTime-clause-fails : goal.returns-in_err-decode_with_tag_and_constraints-in-GeneralizedTime-clause-fails
+unfolding leaf_errors
+returns-in_err-decode_with_tag_and_constraints-in-GeneralizedTime-clause-fails c = rw c.in-GeneralizedTime.is (rw (residual _ c.from_residual-in_err-decode_with_tag_and_constraints-in-GeneralizedTime.ensures.1) (inr c.in_err-decode_with_tag_and_constraints-in-GeneralizedTime.ensures.exact))
+
+pub returns-in_err-decode_with_tag_and_constraints-in-Date-clause-fails : goal.returns-in_err-decode_with_tag_and_constraints-in-Date-clause-fails
+unfolding leaf_errors
+returns-in_err-decode_with_tag_and_constraints-in-Date-clause-fails c = rw c.in-Date.is (rw (residual _ c.from_residual-in_err-decode_with_tag_and_constraints-in-Date.ensures.1) (inr c.in_err-decode_with_tag_and_constraints-in-Date.ensures.errors))
+
+pub returns-in-FixedOctetString-clause-fails : goal.returns-in-FixedOctetString-clause-fails
+unfolding leaf_errors
+returns-in-FixedOctetString-clause-fails c = rw c.in-FixedOctetString.is (if_err_map _ _ (λ e h. inr (fixed_fails c.in-FixedOctetString.len c.args.tag c.args.bounds.now c.args.decoder.now _ e h)) c.decode_fixed_octets.result c.decode_fixed_octets.ensures.fails)
+
+pub returns-in-Signed32-clause-fails : goal.returns-in-Signed32-clause-fails
+unfolding leaf_errors
+returns-in-Signed32-clause-fails c = rw c.in-Signed32.is c.decode_fixed_width.ensures.fails
+
+pub returns-in-Signed64-clause-fails : goal.returns-in-Signed64-clause-fails
+unfolding leaf_errors
+returns-in-Signed64-clause-fails c = rw c.in-Signed64.is c.decode_fixed_width-in-Signed64.ensures.fails
+
+pub returns-in-Unsigned32-clause-fails : goal.returns-in-Unsigned32-clause-fails
+unfolding leaf_errors
+returns-in-Unsigned32-clause-fails c = rw c.in-Unsigned32.is c.decode_fixed_width-in-Unsigned32.ensures.fails
+
+pub returns-in-Unsigned64-clause-fails : goal.returns-in-Unsigned64-clause-fails
+unfolding leaf_errors
+returns-in-Unsigned64-clause-fails c = rw c.in-Unsigned64.is c.decode_fixed_width-in-Unsigned64.ensures.fails
+
+pub returns-in-Numeric-clause-fails : goal.returns-in-Numeric-clause-fails
+unfolding leaf_errors
+returns-in-Numeric-clause-fails c = rw c.in-Numeric.is (if_err_map _ _ (λ e h. inr h) c.decode_string.result c.decode_string.ensures.fails)
+
+pub returns-in-Printable-clause-fails : goal.returns-in-Printable-clause-fails
+unfolding leaf_errors
+returns-in-Printable-clause-fails c = rw c.in-Printable.is (if_err_map _ _ (λ e h. inr h) c.decode_string-in-Printable.result c.decode_string-in-Printable.ensures.fails)
+
+pub returns-in-Visible-clause-fails : goal.returns-in-Visible-clause-fails
+unfolding leaf_errors
+returns-in-Visible-clause-fails c = rw c.in-Visible.is (if_err_map _ _ (λ e h. inr h) c.decode_string-in-Visible.result c.decode_string-in-Visible.ensures.fails)
+
+pub returns-in-Ia5-clause-fails : goal.returns-in-Ia5-clause-fails
+unfolding leaf_errors
+returns-in-Ia5-clause-fails c = rw c.in-Ia5.is (if_err_map _ _ (λ e h. inr h) c.decode_string-in-Ia5.result c.decode_string-in-Ia5.ensures.fails)
+
+pub returns-in-AnyOctets-clause-fails : goal.returns-in-AnyOctets-clause-fails
+unfolding leaf_errors
+returns-in-AnyOctets-clause-fails c = rw c.in-AnyOctets.is (if_err_map _ _ (λ e h. inr h) c.decode_string-in-AnyOctets.result c.decode_string-in-AnyOctets.ensures.fails)
+
+pub returns-in-UtcTime-clause-fails : goal.returns-in-UtcTime-clause-fails
+unfolding leaf_errors
+returns-in-UtcTime-clause-fails c = rw c.in-UtcTime.is (if_err_map _ _ (λ e h. inr h) c.decode_utc_time.result c.decode_utc_time.ensures.fails)

@@ -1,4 +1,4 @@
-use Rattle.std.proofs.Common.{None, inl, refl, ◌∙◌, [], ◌∷◌, ◌++◌, arith}
+use Rattle.std.proofs.Common.{None, inl, inr, refl, ◌∙◌, [], ◌∷◌, ◌++◌, arith}
 use Rattle.rasn_types.specs.Shapes.{Tree, any}
 use Rattle.rasn_de.proofs.Constructed.NextElement.{passes_more, turn_rules}
 use Rattle.rasn_de.proofs.Leaves.Rules.{same_rules}
@@ -52,3 +52,8 @@ loop-decoder-preserved g c =
 
 pub loop-decoder-smaller : goal.loop-decoder-smaller
 loop-decoder-smaller g c = value_shorter _ _ _ c.in_ok-value.ensures.reads
+
+pub returns-in_err-value-clause-fails : goal.returns-in_err-value-clause-fails
+returns-in_err-value-clause-fails g c =
+    let i = c.loop-decoder.invariant.0 in
+    rw (residual _ c.from_residual.ensures.1) (inr (i.0, c.loop-decoder.decoder, i.2, c.loop-decoder-test.ensures, c.in_err-value.ensures.fails))

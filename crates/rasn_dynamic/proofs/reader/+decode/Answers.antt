@@ -31,7 +31,7 @@ use Rattle.rasn_schema.proofs.Lists.{split, nothing_left, read_at}
 use Rattle.rasn_schema.specs.declared.types.«Type».TheVariants.{Tagged, Sequence, Set, SequenceOf, SetOf}
 use Rattle.rasn_dynamic.specs.Inside.{DecodesTree, DecodesComponent}
 use Rattle.rasn_dynamic.specs.Making.{Making, outcome}
-use Rattle.rasn_dynamic.specs.Typed.{DecodesContents, elements}
+use Rattle.rasn_dynamic.specs.Typed.{DecodesContents}
 use Rattle.rasn_dynamic.specs.Calls.{held, Gathers, names_of, nones, DecodesPresent}
 use Rattle.rasn_dynamic.proofs.Making.{made_as, made_fails_as, choice_exact, if_kept, one_made, choice_made, choice_fits}
 use Rattle.rasn_schema.specs.Fitting.{Fits, IsNumber, AreOctets, EachFits}
@@ -45,7 +45,7 @@ use Rattle.rasn_dynamic.proofs.OnePart.{always, always_fails, looked, looked_fai
 use Rattle.rasn_dynamic.proofs.Contents.{prefix_lawful, list_lawful, set_of_lawful, seq_lawful, sequence_runs_out, parts_start, parts_more, part_fails, part_fails_at, parts_run_out, parts_end}
 use Rattle.rasn_dynamic.proofs.Pieces.{got_below, first_of_part, part_lawful, nones_come, nones_held, made_parts, lacks_part}
 use Rattle.rasn_dynamic.proofs.Component.{member_unpeeked, member_none, unknown_unread, unknown_kept, unknown_left, member_unread, member_idle, member_put, member_shorter}
-use Rattle.rasn_dynamic.proofs.AllMembers.{set_trees, all_trees, none_unknown, members_lack, members_made, members_keep}
+use Rattle.rasn_dynamic.proofs.AllMembers.{set_trees, all_trees, none_unknown, members_lack, members_made, members_keep, lacks_member, repeats_member}
 use Rattle.rasn_de.proofs.OwnTypes.SetPartTypes.{ReadTo, read_rules, none_read, untold, next_fails, next_passes, one_twice}
 use Rattle.rasn_dynamic.proofs.Members.{passed_unknown}
 use Rattle.rasn_dynamic.proofs.Named.{named_lawful, last_unknown}
@@ -60,11 +60,16 @@ use Rattle.rasn_dynamic.proofs.Listed.{if_any, lists_start, lists_more, part_lis
 use Rattle.rasn_dynamic.proofs.reader.+decode.Goals as goal
 use Rattle.rasn_de.specs.Set.{not_read}
 use Rattle.rasn_de.proofs.Headers.Tags.{look_refused, look_follows}
-use Rattle.rasn_dynamic.specs.Faults.{IsFaultOf, IsFaultIn, IsOnly, IsAlternativeAt, StopsAtMember, TellsOf}
-use Rattle.rasn_dynamic.proofs.Faults.{any_err, if_err_map, unnamed, one_taken, turns_long, marked, stepped, further, weaker, entered, opened, told_map, tells, tells_err, alternative_there, element_there, forgotten, one_part_more, part_there, member_there, member_behind, unknown_there, turns_keep, named, not_named, found_itself, present_stops, itself_choice, element_stops, set_element_stops, default_stops, unmade_stops, only_memory}
+use Rattle.rasn_dynamic.specs.Faults.{IsFaultOf, IsFaultIn, IsOnly, IsAlternativeAt, StopsAtMember, StopsInSet, TellsOf}
+use Rattle.rasn_dynamic.proofs.Faults.{any_err, if_err_map, unnamed, one_taken, turns_long, marked, stepped, further, weaker, entered, told_map, tells, tells_err, alternative_there, element_there, forgotten, one_part_more, part_there, member_there, member_behind, unknown_there, turns_keep, named, not_named, found_itself, present_stops, itself_choice, element_stops, set_element_stops, default_stops, unmade_stops, only_memory, taken_none, fails_missing}
 -- ---- the type with a number
 
 use Rattle.rasn_dynamic.specs.Readers.{DecodesCounted}
+use Rattle.rasn_de.specs.Any.{BorrowsOpenType}
+use Rattle.rasn_de.specs.ValueErrors.{errors_of}
+use Rattle.rasn_dynamic.specs.Calls.{FailsAtNumber}
+use Rattle.rasn_dynamic.specs.LeafErrors.{leaf_errors, unknown_errors, RunsOutOr}
+use Rattle.rasn_dynamic.proofs.LeafErrors.{ends_somewhere}
 use Rattle.rasn_types.specs.Errors.{IsOutOfMemory}
 use Rattle.rasn_schema.specs.Fitting.{FitsBy, IsChosen, AlternativeFits}
 use Rattle.rasn_dynamic.proofs.Readers.{unopened, may_count, refused, may_close, unclosed, closed, tagged, sequence, set, tagged_contents, sequence_contents, set_contents, list_contents, set_of_contents, counted, list_unread, list_sized, set_of_unread, set_of_sized, leaf_read, components_refused, components_put, members_refused, members_put, elements_put, set_of_put}
@@ -920,11 +925,11 @@ decode_set_component-returns-in_default-clause-told g t c =
 
 pub decode_found-returns-then-levels-eq0-clause-itself : goal.decode_found-returns-then-levels-eq0-clause-itself
 decode_found-returns-then-levels-eq0-clause-itself g t c =
-    λ nothing n ty l e. let z = c.if-levels-eq0.true in absurd (omega (arith, l, z))
+    λ nothing. fails_missing c.args.types.now c.args.levels c.args.id.0 c.args.decoder.now _ (inl c.if-levels-eq0.true) c.refuse_no_value.ensures
 
 pub decode_found-returns-in-None-clause-itself : goal.decode_found-returns-in-None-clause-itself
 decode_found-returns-in-None-clause-itself g t c =
-    λ nothing n ty l e. let z = c.in-None.ensures in cc
+    λ nothing. fails_missing c.args.types.now c.args.levels c.args.id.0 c.args.decoder.now _ (inr c.in-None.ensures) c.refuse_no_value-in-None.ensures
 
 pub decode_found-returns-in-Some-clause-itself : goal.decode_found-returns-in-Some-clause-itself
 decode_found-returns-in-Some-clause-itself g t c =
@@ -936,7 +941,7 @@ decode_choice-returns-in_err-tag-clause-itself g t c =
 
 pub decode_choice-returns-in_default-clause-itself : goal.decode_choice-returns-in_default-clause-itself
 decode_choice-returns-in_default-clause-itself g t c =
-    λ n. inr (inl (c.in_ok-tag.tag, c.in_ok-tag.ensures.next, c.in_default.ensures))
+    λ n. inr (inl ((c.in_ok-tag.tag, c.in_ok-tag.ensures.next, c.in_default.ensures), c.refuse_choice.ensures))
 
 pub decode_choice-returns-in_err-decode_alternative-clause-itself : goal.decode_choice-returns-in_err-decode_alternative-clause-itself
 decode_choice-returns-in_err-decode_alternative-clause-itself g t c =
@@ -1042,7 +1047,7 @@ decode_set_components-returns-in_err-last-clause-itself g t c =
     let k = at.invariant.0.4 in
     let stays = came_stays (choice_by c.args.extensible (components_by (shape_of_type c.args.types.now c.args.below) c.args.components.now)) (λ (z : Tree). z) c.args.decoder.now at.decoder k.0 k.1 k.2 in
     rw (residual _ c.from_residual.ensures.1)
-    (λ n. inr (k.0, k.1, at.decoder, k.2, inr (_, look_refused c.args.decoder.now at.decoder stays k.1 at.last k.3 (λ there x after. StopsAtMember (shape_of_type c.args.types.now c.args.below) c.args.extensible c.args.components.now there x) _ c.in_err-last.ensures)))
+    (λ n. inr (inl (k.0, k.1, at.decoder, k.2, _, look_refused c.args.decoder.now at.decoder stays k.1 at.last k.3 (λ there x after. StopsAtMember (shape_of_type c.args.types.now c.args.below) c.args.name.now c.args.extensible c.args.components.now there x) _ c.in_err-last.ensures)))
 
 pub decode_set_components-returns-in_err-next-clause-itself : goal.decode_set_components-returns-in_err-next-clause-itself
 decode_set_components-returns-in_err-next-clause-itself g t c =
@@ -1050,17 +1055,30 @@ decode_set_components-returns-in_err-next-clause-itself g t c =
     let k = at.invariant.0.4 in
     let stays = came_stays (choice_by c.args.extensible (components_by (shape_of_type c.args.types.now c.args.below) c.args.components.now)) (λ (z : Tree). z) c.args.decoder.now at.decoder k.0 k.1 k.2 in
     rw (residual _ c.from_residual-in_err-next.ensures.1)
-    (λ n. inr (k.0, k.1, at.decoder, k.2, inr (at.decoder, not_read (look_follows c.args.decoder.now at.decoder stays k.1 at.last k.3 _ c.in_ok-last.ensures) (c.in_err-next.ensures.itself n))))
+    (λ n. inr (inl (k.0, k.1, at.decoder, k.2, at.decoder, not_read (look_follows c.args.decoder.now at.decoder stays k.1 at.last k.3 _ c.in_ok-last.ensures) (c.in_err-next.ensures.itself n))))
 
 pub decode_set_components-returns-in-Some-clause-itself : goal.decode_set_components-returns-in-Some-clause-itself
 decode_set_components-returns-in-Some-clause-itself g t c =
-    let k = c.loop-other_id.invariant.0.4 in
-    λ n. inr (k.0, k.1, c.loop-other_id.decoder, k.2, inl c.loop-other_id-test.ensures)
+    let at = c.loop-other_id in
+    let i = at.invariant.0 in
+    let ps = components_by (shape_of_type c.args.types.now c.args.below) c.args.components.now in
+    let names = names_of c.args.components.now in
+    let h : at.twice ≡ Some c.in-Some.repeated = search rules in
+    λ n. repeats_member (shape_of_type c.args.types.now c.args.below) c.args.name.now c.args.extensible c.args.components.now c.args.decoder.now at.decoder at.last i.0 i.1 c.loop-other_id-test.ensures c.in-Some.repeated
+    (subst (λ z. ReadTo c.args.extensible ps names c.args.decoder.now at.decoder at.last z i.0 i.1) h i.4) _
+    (subst (λ z. IsNamedError (IsDuplicateField (text c.in-Some.repeated)) z c.duplicate_field.result) c.codec.ensures c.duplicate_field.ensures)
 
 pub decode_set_components-returns-in_err-values-clause-itself : goal.decode_set_components-returns-in_err-values-clause-itself
 decode_set_components-returns-in_err-values-clause-itself g t c =
-    let k = c.loop-other_id.invariant.0.4 in
-    rw (residual _ c.from_residual-in_err-values.ensures.1) (λ n. inr (k.0, k.1, c.loop-other_id.decoder, k.2, inl c.loop-other_id-test.ensures))
+    let at = c.loop-other_id in
+    let i = at.invariant.0 in
+    let ps = components_by (shape_of_type c.args.types.now c.args.below) c.args.components.now in
+    let names = names_of c.args.components.now in
+    let h : at.twice ≡ None = search rules in
+    rw (residual _ c.from_residual-in_err-values.ensures.1)
+    (λ n. lacks_member (shape_of_type c.args.types.now c.args.below) c.args.name.now c.args.extensible c.args.components.now c.args.decoder.now at.decoder at.last i.0 i.1 c.loop-other_id-test.ensures
+    (subst (λ z. ReadTo c.args.extensible ps names c.args.decoder.now at.decoder at.last z i.0 i.1) h i.4) _
+    (lacks_part _ (shape_of_type c.args.types.now c.args.below) c.args.components.now at.decoder.rule at.found.items i.0 _ i.2 (subst (λ z. Gathers g.M.Made.KEEP c.args.components.now c.loop-other_id.decoder.rule c.loop-other_id.found.items z) (sym c.in_err-values.ensures) c.gather.ensures.gathers)))
 
 pub decode_set_components-returns-in_err-take-clause-itself : goal.decode_set_components-returns-in_err-take-clause-itself
 decode_set_components-returns-in_err-take-clause-itself g t c =
@@ -1072,7 +1090,7 @@ decode_set_component-returns-in_err-tag-clause-itself g t c =
 
 pub decode_set_component-returns-then-not-extensible-clause-itself : goal.decode_set_component-returns-then-not-extensible-clause-itself
 decode_set_component-returns-then-not-extensible-clause-itself g t c =
-    λ n. inr (inl ((c.in_ok-tag.tag, c.in_ok-tag.ensures.next, c.in_default.ensures), search rules))
+    λ n. inr (inl (((c.in_ok-tag.tag, c.in_ok-tag.ensures.next, c.in_default.ensures), c.refuse_choice.ensures), search rules))
 
 pub decode_set_component-returns-in_err-other-clause-itself : goal.decode_set_component-returns-in_err-other-clause-itself
 decode_set_component-returns-in_err-other-clause-itself g t c =
@@ -1095,7 +1113,7 @@ decode_set_component-returns-then-remaining-left-clause-itself g t c =
       c.in-Some.number,
       c.in-Some.component.now,
       c.in-Some.ensures.0,
-      inr (w.0, _, w.2.0, sym (ap length c.remaining.ensures.value) ∙ c.if-remaining-left.true ∙ ap length c.remaining-left.ensures.value),
+      inr (w.0, _, w.2.0, sym (ap length c.remaining.ensures.value) ∙ c.if-remaining-left.true ∙ ap length c.remaining-left.ensures.value, taken_none c.args.decoder.now _ _ (call_keeps w.2.0) _ (ap length c.remaining-left.ensures.value) c.refuse_extra.ensures),
     )))
 
 -- ---- the parts that are listed
@@ -1194,22 +1212,27 @@ decode_present-decode_stated-requires g t c = λ κs o. (search rules, (search r
 pub decode_type-returns-in-Leaf : goal.decode_type-returns-in-Leaf
 decode_type-returns-in-Leaf g t c =
     leaf_read c.args.types.now c.args.below g.M.Made.KEEP c.args.decoder.now c.args.walk.now.spans (outcome c.put_leaf.result c.put_leaf.new.out c.put_leaf.new.error) c.put_leaf.new.decoder c.args.walk.now.fault c.args.ty.now (rw c.in-Leaf.is tt)
-    (rw c.in-Leaf.is c.put_leaf.ensures.reads) (λ k. rw c.in-Leaf.is (c.put_leaf.ensures.fits k)) c.put_leaf.ensures.rules c.requires.clear
+    (rw c.in-Leaf.is c.put_leaf.ensures.reads) (λ k. rw c.in-Leaf.is (c.put_leaf.ensures.fits k)) c.put_leaf.ensures.rules
+    (rw c.in-Leaf.is (ends_somewhere (RunsOutOr (leaf_errors c.in-Leaf.kind c.in-Leaf.tag c.in-Leaf.constraints)) c.args.decoder.now _ _ c.put_leaf.ensures.fails)) c.requires.clear
 
 pub decode_type-returns-in-Enumerated : goal.decode_type-returns-in-Enumerated
 decode_type-returns-in-Enumerated g t c =
     leaf_read c.args.types.now c.args.below g.M.Made.KEEP c.args.decoder.now c.args.walk.now.spans (outcome c.put_number.result c.put_number.new.out c.put_number.new.error) c.put_number.new.decoder c.args.walk.now.fault c.args.ty.now (rw c.in-Enumerated.is tt)
-    (rw (c.in-Enumerated.is, ← c.deref.ensures.value) c.put_number.ensures.reads) (λ k. rw c.in-Enumerated.is (subst (λ l. IfOk (outcome c.put_number.result c.put_number.new.out c.put_number.new.error) (λ v. IsNumber (numbers_of l) v)) c.deref.ensures.value (c.put_number.ensures.fits k))) c.put_number.ensures.rules c.requires.clear
+    (rw (c.in-Enumerated.is, ← c.deref.ensures.value) c.put_number.ensures.reads) (λ k. rw c.in-Enumerated.is (subst (λ l. IfOk (outcome c.put_number.result c.put_number.new.out c.put_number.new.error) (λ v. IsNumber (numbers_of l) v)) c.deref.ensures.value (c.put_number.ensures.fits k))) c.put_number.ensures.rules
+    (rw c.in-Enumerated.is (subst (λ l. IfErr (outcome c.put_number.result c.put_number.new.out c.put_number.new.error) (λ e. (n : State) × FailsAtNumber (numbers_of l) c.in-Enumerated.tag c.args.decoder.now e n)) c.deref.ensures.value
+    (ends_somewhere (FailsAtNumber (numbers_of c.deref.result.now) c.in-Enumerated.tag) c.args.decoder.now _ _ c.put_number.ensures.fails))) c.requires.clear
 
 pub decode_type-returns-in-Any : goal.decode_type-returns-in-Any
 decode_type-returns-in-Any g t c =
     leaf_read c.args.types.now c.args.below g.M.Made.KEEP c.args.decoder.now c.args.walk.now.spans (outcome c.put_any.result c.put_any.new.out c.put_any.new.error) c.put_any.new.decoder c.args.walk.now.fault c.args.ty.now (rw c.in-Any.is tt)
-    (rw c.in-Any.is c.put_any.ensures.reads) (λ k. rw c.in-Any.is (c.put_any.ensures.fits k)) c.put_any.ensures.rules c.requires.clear
+    (rw c.in-Any.is c.put_any.ensures.reads) (λ k. rw c.in-Any.is (c.put_any.ensures.fits k)) c.put_any.ensures.rules
+    (rw c.in-Any.is (ends_somewhere (errors_of (BorrowsOpenType c.in-Any.tag)) c.args.decoder.now _ _ c.put_any.ensures.fails)) c.requires.clear
 
 pub decode_type-returns-in-Unknown : goal.decode_type-returns-in-Unknown
 decode_type-returns-in-Unknown g t c =
     leaf_read c.args.types.now c.args.below g.M.Made.KEEP c.args.decoder.now c.args.walk.now.spans (outcome c.put_unknown.result c.put_unknown.new.out c.put_unknown.new.error) c.put_unknown.new.decoder c.args.walk.now.fault c.args.ty.now (rw c.in-Unknown.is tt)
-    (rw c.in-Unknown.is c.put_unknown.ensures.reads) (λ k. rw c.in-Unknown.is (c.put_unknown.ensures.fits k)) c.put_unknown.ensures.rules c.requires.clear
+    (rw c.in-Unknown.is c.put_unknown.ensures.reads) (λ k. rw c.in-Unknown.is (c.put_unknown.ensures.fits k)) c.put_unknown.ensures.rules
+    (rw c.in-Unknown.is (ends_somewhere (RunsOutOr unknown_errors) c.args.decoder.now _ _ c.put_unknown.ensures.fails)) c.requires.clear
 
 pub decode_type-returns-in-Choice : goal.decode_type-returns-in-Choice
 decode_type-returns-in-Choice g t c = record {
@@ -1218,7 +1241,7 @@ decode_type-returns-in-Choice g t c = record {
   reads = subst (λ z. Making g.M.Made.KEEP tree_of (DecodesTree (type_by (shape_of_type c.args.types.now c.args.below) z)) c.args.decoder.now (outcome c.decode_choice.result c.decode_choice.new.out c.decode_choice.new.walk.error) c.decode_choice.new.decoder) (sym c.in-Choice.is) (subst (λ l. Making g.M.Made.KEEP tree_of (DecodesTree (choice_among (alternatives_by (shape_of_type c.args.types.now c.args.below) l))) c.args.decoder.now (outcome c.decode_choice.result c.decode_choice.new.out c.decode_choice.new.walk.error) c.decode_choice.new.decoder) c.deref-in-Choice.ensures.value c.decode_choice.ensures.reads);
   told = told_map _ _ (λ k f i. subst (λ n. IsFaultOf c.args.types.now c.args.below n c.args.decoder.now k f) (sym c.in-Choice.is)
       (c.args.decoder.now, refl, subst (λ l. IsFaultIn c.args.types.now c.args.below (IsAlternativeAt (shape_of_type c.args.types.now c.args.below) l c.args.decoder.now) c.args.decoder.now c.args.decoder.now k f) c.deref-in-Choice.ensures.value i)) _ _ c.decode_choice.ensures.told;
-  itself = itself_choice (shape_of_type c.args.types.now c.args.below) c.args.ty.now c.args.decoder.now _ c.in-Choice.name c.in-Choice.alternatives _ c.in-Choice.is c.deref-in-Choice.ensures.value _ c.decode_choice.ensures.itself;
+  itself = itself_choice (shape_of_type c.args.types.now c.args.below) c.args.ty.now c.args.decoder.now _ c.in-Choice.name c.in-Choice.alternatives _ _ c.in-Choice.is c.as_str.ensures.value c.deref-in-Choice.ensures.value _ c.decode_choice.ensures.itself;
   listed = if_ok _ _ _ (λ v. choice_listed (shape_of_type c.args.types.now c.args.below) c.args.below (Inside c.args.types.now c.args.below) c.args.ty.now c.deref-in-Choice.result.now c.args.decoder.now _ _ (rw c.in-Choice.is c.deref-in-Choice.ensures.value)) c.decode_choice.ensures.listed;
   rules = c.decode_choice.ensures.rules;
 }
@@ -1495,7 +1518,8 @@ put_set_components-returns-in_err-found g t c = rw (residual _ c.from_residual.e
 
 pub put_set_components-returns-in_err-values : goal.put_set_components-returns-in_err-values
 put_set_components-returns-in_err-values g t c = rw (residual _ c.from_residual-in_err-values.ensures.1)
-    (members_refused c.args.types.now c.args.below g.M.Made.KEEP c.args.decoder.now c.args.walk.now.spans c.decode_set_components.new.decoder c.decode_set_components.new.walk.fault c.decode_set_components.new.walk.spans c.args.name.now c.args.components.now c.deref-components.result.now c.deref-components.ensures.value c.named_components-extensible.result.1 c.named_components-extensible.result.0.now c.last_type-other_id.result.0 c.named_components-extensible.ensures.extensible c.named_components-extensible.ensures.named c.last_type-other_id.ensures c.decode_set_components.new.walk.error c.in_err-values.ensures.exact c.in_err-values.ensures.rules c.in_err-values.ensures.told c.in_err-values.ensures.itself)
+    (members_refused c.args.types.now c.args.below g.M.Made.KEEP c.args.decoder.now c.args.walk.now.spans c.decode_set_components.new.decoder c.decode_set_components.new.walk.fault c.decode_set_components.new.walk.spans c.args.name.now c.args.components.now c.deref-components.result.now c.deref-components.ensures.value c.named_components-extensible.result.1 c.named_components-extensible.result.0.now c.last_type-other_id.result.0 c.named_components-extensible.ensures.extensible c.named_components-extensible.ensures.named c.last_type-other_id.ensures c.decode_set_components.new.walk.error c.in_err-values.ensures.exact c.in_err-values.ensures.rules c.in_err-values.ensures.told
+    (λ n. subst (λ t. StopsInSet (shape_of_type c.args.types.now c.args.below) t c.named_components-extensible.result.1 c.named_components-extensible.result.0.now c.args.decoder.now c.decode_set_components.new.walk.error) c.as_str-name.ensures.value (c.in_err-values.ensures.itself n)))
 
 pub put_set_components-returns : goal.put_set_components-returns
 put_set_components-returns g t c =

@@ -10,4 +10,4 @@ returns-in-Ok-clause-listed c =
 
 pub returns-in-Err-clause-told : goal.returns-in-Err-clause-told
 returns-in-Err-clause-told c = λ types u.
-    unknown_named types c.args.levels c.args.id c.args.index _ c.args.decoder.now _ _ c.mark_part.ensures.0 _ c.requires.clear c.mark_part.ensures.1 c.mark_part.ensures.2 (ap length c.remaining-start.ensures.value) c.in-Err.ensures.reads.exact u c.requires.more
+    unknown_named types c.args.levels c.args.id c.args.index _ c.args.decoder.now _ _ _ c.mark_part.ensures.0 _ c.requires.clear c.mark_part.ensures.1 c.mark_part.ensures.2 (ap length c.remaining-start.ensures.value) c.in-Err.ensures.reads.exact u c.requires.more c.in-Err.ensures.fails

@@ -1,4 +1,4 @@
-use Rattle.std.proofs.Common.{◌<◌, ◌≡◌, ◌∙◌, Vec, refl, sym, subst, arith}
+use Rattle.std.proofs.Common.{◌<◌, ◌≡◌, Vec, refl, subst, arith}
 use Rattle.std.specs.Vec.{vec_len, vec_capacity}
 use Rattle.std.specs.Global.{Global}
 use Rattle.rasn_dynamic.specs.declared.span.Span.{Span}
