@@ -1,5 +1,5 @@
 //! The types as data, for what reads and writes by a schema.
-use rasn_schema_static::prelude::*;
+use rasn_schema::constants::prelude::*;
 
 /// The types, which refer to one another by their numbers. A CHOICE has the alternatives of those
 /// that are alternatives of it, and what this crate has as open types is open.

@@ -74,7 +74,7 @@ impl Options {
             }
             last = crate_name.as_str();
         }
-        line.push_str(" rasn rasn_schema_static rasn_schema rasn_types rasn_de rasn_enc")?;
+        line.push_str(" rasn rasn_schema rasn_types rasn_de rasn_enc")?;
         Ok(line)
     }
 

@@ -27,3 +27,4 @@ pub mod WorkedHeld
 pub mod WorkedFitting
 pub mod WorkedRules
 pub mod Ascending
+pub mod Copied

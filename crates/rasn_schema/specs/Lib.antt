@@ -19,3 +19,5 @@ pub mod Shown
 pub mod WorkedHeld
 pub mod WorkedFitting
 pub mod WorkedRules
+pub mod Statics
+pub mod Ranged

@@ -6,6 +6,7 @@
 #![tactic(auto)]
 
 mod begin;
+pub mod constants;
 mod copy;
 mod defaults;
 mod equal;

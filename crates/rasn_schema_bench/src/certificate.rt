@@ -1,7 +1,7 @@
 //! Certificate (RFC 5280 4.1 and appendix A.1) as types of a schema.
 
 use rasn_schema::TypeId;
-use rasn_schema_static::prelude::*;
+use rasn_schema::constants::prelude::*;
 
 /// Certificate and the types that it is made of.
 pub const CERTIFICATE_TYPES: &[StaticType] = &[

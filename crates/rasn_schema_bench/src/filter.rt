@@ -1,7 +1,7 @@
 //! Filter (RFC 4511 4.5.1) as types of a schema.
 
 use rasn_schema::TypeId;
-use rasn_schema_static::prelude::*;
+use rasn_schema::constants::prelude::*;
 
 /// Filter and the types that it is made of, itself among them.
 pub const FILTER_TYPES: &[StaticType] = &[

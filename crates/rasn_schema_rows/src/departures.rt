@@ -2,9 +2,9 @@
 
 use crate::table::{NAMES, TYPES};
 use rasn_lint::{Departure, OpenTypes, check, lint};
+use rasn_schema::constants::{StaticType, types_of};
 use rasn_schema::{Schema, TypeId};
 use rasn_schema_bench::{CERTIFICATE, CERTIFICATE_TYPES};
-use rasn_schema_static::{StaticType, types_of};
 use std::alloc::{AllocError, Global};
 use std::io::{self, Write};
 

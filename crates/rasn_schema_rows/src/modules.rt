@@ -4,9 +4,9 @@
 use crate::same::are_same;
 use crate::schema_octets::octets_difference;
 use rasn_compiler::{Assigned, Assignment, Module, Modules, Resolved, Source};
+use rasn_schema::constants::{StaticType, types_of};
 use rasn_schema::{Schema, TypeId};
 use rasn_schema_bench::{CERTIFICATE, CERTIFICATE_TYPES, FILTER, FILTER_TYPES};
-use rasn_schema_static::{StaticType, types_of};
 use std::alloc::{AllocError, Global};
 use std::io::{self, Write};
 

@@ -1,6 +1,6 @@
 //! The types of the rows.
 
-use rasn_schema_static::prelude::*;
+use rasn_schema::constants::prelude::*;
 
 const ATTRIBUTE: &[StaticComponent] = &[("type", Required, 2), ("value", Required, 9)];
 

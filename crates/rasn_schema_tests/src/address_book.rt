@@ -11,8 +11,8 @@ use rasn_address_book::{
     Person, Relation, Reply, Review, Rights, Roles, Team, Title, Titles,
 };
 use rasn_dynamic::{decode, encode};
+use rasn_schema::constants::{HasSchema, types_of};
 use rasn_schema::{Schema, TypeId};
-use rasn_schema_static::{HasSchema, types_of};
 use std::alloc::{AllocError, Global};
 use std::process::Abort;
 

@@ -3,9 +3,9 @@
 
 use crate::faults;
 use rasn_dynamic::{decode, decode_or_locate, encode};
+use rasn_schema::constants::prelude::*;
+use rasn_schema::constants::types_of;
 use rasn_schema::{Schema, SchemaError, TypeId, Value};
-use rasn_schema_static::prelude::*;
-use rasn_schema_static::types_of;
 use rasn_types::types::Codec;
 use std::alloc::Global;
 

@@ -1,9 +1,9 @@
 //! Where an input is refused.
 
 use rasn_dynamic::{Refusal, check_or_locate, decode_or_locate};
+use rasn_schema::constants::prelude::*;
+use rasn_schema::constants::types_of;
 use rasn_schema::{Schema, TypeId};
-use rasn_schema_static::prelude::*;
-use rasn_schema_static::types_of;
 use rasn_types::types::Codec;
 use std::alloc::Global;
 

@@ -1,8 +1,8 @@
 //! Parts and types that are found by name.
 
 use crate::types::{A_PAIR, PAIR, TYPES, schema, value};
+use rasn_schema::constants::types_of;
 use rasn_schema::{Schema, Type, TypeId, TypeName, View, index_named, name_of_number};
-use rasn_schema_static::types_of;
 use std::alloc::Global;
 
 /// Returns whether there is a part that is shown so.

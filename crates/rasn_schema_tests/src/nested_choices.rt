@@ -1,9 +1,9 @@
 //! CHOICEs directly in one another.
 
 use rasn_dynamic::{Step, WriteError, decode, encode, fits, path_named};
+use rasn_schema::constants::prelude::*;
+use rasn_schema::constants::types_of;
 use rasn_schema::{Schema, TypeId, Value};
-use rasn_schema_static::prelude::*;
-use rasn_schema_static::types_of;
 use rasn_types::types::Codec;
 use std::alloc::Global;
 

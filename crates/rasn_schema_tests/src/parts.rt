@@ -2,8 +2,8 @@
 
 use crate::faults::TYPES;
 use rasn_dynamic::{Part, Step, component_at, find_part, parts_of, path_named};
+use rasn_schema::constants::types_of;
 use rasn_schema::{Schema, TypeId};
-use rasn_schema_static::types_of;
 use rasn_types::types::Codec;
 use std::alloc::Global;
 

@@ -1,9 +1,9 @@
 //! When the number of elements is checked.
 
 use rasn_dynamic::decode;
+use rasn_schema::constants::prelude::*;
+use rasn_schema::constants::types_of;
 use rasn_schema::{Schema, TypeId};
-use rasn_schema_static::prelude::*;
-use rasn_schema_static::types_of;
 use rasn_types::error::{DecodeError, DecodeErrorKind};
 use rasn_types::types::Codec;
 use std::alloc::Global;

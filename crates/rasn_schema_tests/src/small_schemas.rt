@@ -1,10 +1,10 @@
 //! Small schemas, whose octets are put together by hand (X.690 8).
 
+use rasn_schema::constants::prelude::*;
+use rasn_schema::constants::types_of;
 use rasn_schema::{Schema, TypeId};
 use rasn_schema_bench::{CERTIFICATE, CERTIFICATE_TYPES, FILTER, FILTER_TYPES};
 use rasn_schema_octets::{Compiled, read, write};
-use rasn_schema_static::prelude::*;
-use rasn_schema_static::types_of;
 use std::alloc::Global;
 
 /// Types, the number of one of them, and the octets.

@@ -4,7 +4,7 @@ ghost use Rattle.rasn_schema_vectors.specs.LineShapes.{type_number};
 
 use rasn_bench::ValueType;
 use rasn_schema::TypeId;
-use rasn_schema_static::prelude::*;
+use rasn_schema::constants::prelude::*;
 
 /// The types of lines, and those that they are made of. Comments say their numbers.
 pub const LINE_TYPES: &[StaticType] = &[

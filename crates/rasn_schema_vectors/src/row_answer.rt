@@ -5,9 +5,9 @@ use crate::row::{Row, Verb};
 use crate::row_types::{ROW_TYPES, TRIED_TYPES};
 use rasn_bench::ValueType;
 use rasn_dynamic::{check, decode, encode, is_canonical, normalise};
+use rasn_schema::constants::{StaticType, types_of};
 use rasn_schema::{Schema, TypeId, Value};
 use rasn_schema_bench::{CERTIFICATE, CERTIFICATE_TYPES, FILTER, FILTER_TYPES};
-use rasn_schema_static::{StaticType, types_of};
 use rasn_types::types::Hexadecimal;
 use std::alloc::{AllocError, Global};
 

@@ -1,6 +1,6 @@
 //! The types that rows name beside those of lines, and types that may be no schema.
 
-use rasn_schema_static::prelude::*;
+use rasn_schema::constants::prelude::*;
 
 /// The types that rows name beside those of lines, and those that they are made of. Comments say
 /// their numbers.

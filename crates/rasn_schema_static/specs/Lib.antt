@@ -1,2 +1,0 @@
-pub mod Statics
-pub mod Ranged
