@@ -14,7 +14,7 @@ ghost use Rattle.rasn_de.specs.SetPartTypes.{DecodesNamedParts, set_by};
 ghost use Rattle.rasn_de.specs.ValueErrors.{DecodesOr, errors_of};
 ghost use Rattle.rasn_types.specs.Trees.{list_tree, option_tree};
 ghost use Rattle.rasn.specs.OneRefusal.{AreApart, AreRefusedOnce, ErrorsOfChoice, HaveOwnTags, IsRefusedOnce, LeaveNone, ReadsShape, Settles};
-ghost use Rattle.rasn.specs.RefusalLaws.{LeavesAreApart, LeavesLeaveNone};
+ghost use Rattle.rasn.specs.RefusalLaws.{LeavesAreApart, LeavesLeaveNone, LeavesSettle};
 ghost use Rattle.rasn.specs.WorkedKinds.{WorkedKinds};
 ghost use Rattle.rasn.specs.WorkedWholes.{WorkedWholes};
 
@@ -31,6 +31,7 @@ use rasn_types::types::{Any, AsnType, Explicit, FirstTags, SetOf, Unknown};
 pub fn leaves()
     ensures apart { LeavesAreApart }
     ensures none { LeavesLeaveNone }
+    ensures settled { LeavesSettle }
 {}
 
 /// Proves the same of a value under an explicit tag, if it is true of the value.

@@ -36,8 +36,8 @@ use Rattle.rasn_de.proofs.Constructed.Opening.{closed_end}
 use Rattle.rasn_de.proofs.Constructed.ValueErrors.{perhaps_or, sought_failed}
 use Rattle.rasn_de.proofs.OwnTypes.Parts.{no_parts, part_got, optional_part, optional_fails}
 use Rattle.rasn_de.proofs.OwnTypes.PartTypes.{parts_decode}
-use Rattle.rasn.specs.OneRefusal.{ReadingBy, ReadsShape, LeaveNone, Settles}
-use Rattle.rasn.proofs.OneRefusal.Calls.{octets_end, IsExactCall}
+use Rattle.rasn.specs.OneRefusal.{ReadingBy, ReadsShape, Settles}
+use Rattle.rasn.proofs.OneRefusal.Calls.{octets_end, IsExactCall, or_settles}
 use Rattle.rasn.proofs.OneRefusal.Inside.{or_exact, prefix_exact}
 use Rattle.rasn.proofs.OneRefusal.Parts.{in_parts_exact}
 use Rattle.rasn.proofs.OneRefusal.Read.{end_none}
@@ -48,16 +48,6 @@ ends_shorter l m (front, e) = let a = ap length e in let b = length-append front
 
 ends_below : (l m : List ℕ) → IsEnd l m → length l < 2 ^ 63 → length m < 2 ^ 63
 ends_below l m e b = let a = ends_shorter l m e in omega arith
-
--- A call whose value is a shape's, with the errors of the call.
-pub or_settles : {D : Type 0} (call : Call D) (s : Shape) (tree : D → Tree) → IsExactCall call (ReadsShape s) tree → Settles call → Settles (DecodesOr s tree (errors_of call))
-or_settles call s tree exact all old o b passed failed =
-    all old o b (λ v new a. passed v new (exact old o (Ok v) new a, tt)) (λ e new a. failed e new ((exact old o (Err e) new a.0, a.0), a.1))
-
--- Then each input is read or refused.
-pub settled_none : {D : Type 0} (s : Shape) (tree : D → Tree) (errors : Errors) → Settles (DecodesOr s tree errors) → LeaveNone errors (ReadsShape s)
-settled_none s tree errors all old o b unread unrefused =
-    all old o b (λ v new a. unread (tree v) new.rest a.0.exact.0) (λ e new a. unrefused e new (a.0.1, a.1))
 
 -- The contents of a value are in the input.
 frame_inside : {spelling : Form} (input : List ℕ) {tag : Tag} {bit : Bool} {rest : List ℕ} {x : Extent} → Frame spelling input tag bit rest x → length (octets_inside x rest) ≤ length input
