@@ -189,7 +189,7 @@ pub fn worked_kinds()
     ensures { WorkedKinds }
 {}
 
-/// Proves the same of a SEQUENCE and of a value under an explicit tag.
+/// Proves the same of a SEQUENCE, a SEQUENCE OF, a SET OF and a value under an explicit tag.
 pub fn worked_wholes()
     ensures { WorkedWholes }
 {}
