@@ -1,5 +1,5 @@
 -- Strings and times are read or refused.
-use Rattle.std.proofs.Common.{◌≡◌, ◌≢◌, ℕ, zero, suc, ◌+◌, ◌<◌, ◌≤◌, ◌^◌, inl, inr, List, [], ◌∷◌, ◌++◌, length, Bool, true, false, cond, Option, Result, Ok, Err, refl, sym, ap, ◌∙◌, subst, arith}
+use Rattle.std.proofs.Common.{◌≡◌, ◌≢◌, ℕ, zero, suc, ◌+◌, ◌<◌, ◌≤◌, ◌^◌, inl, inr, List, [], ◌∷◌, ◌++◌, length, Bool, true, false, Option, Result, Ok, Err, refl, subst, arith}
 use Rattle.std.specs.Prelude.{nat_eq, ◌&&◌, slice_index, Vec}
 use Rattle.std.specs.Global.{Global}
 use Rattle.std.specs.List.{AllWithin}
@@ -16,8 +16,8 @@ use Rattle.rasn_types.specs.Errors.{IsOutOfMemory}
 use Rattle.rasn_types.specs.Tags.{form, in_universal, IsCanonical}
 use Rattle.rasn_types.specs.BitString.{significant}
 use Rattle.rasn_types.specs.NamedBits.{named_bits_tree}
-use Rattle.rasn_types.specs.Framing.{AreOctets, Extent, definite, indefinite}
-use Rattle.rasn_types.specs.Shapes.{Tree, Kind, leaf, bit_string, named_bits, object_identifier, utc_time, generalized_time, date, instant, on_day, numbers, Admits, AdmitsPadded, constraint_of}
+use Rattle.rasn_types.specs.Framing.{Extent, definite, indefinite}
+use Rattle.rasn_types.specs.Shapes.{Kind, leaf, bit_string, named_bits, object_identifier, utc_time, generalized_time, date, instant, on_day, numbers, Admits, AdmitsPadded, constraint_of}
 use Rattle.rasn_types.specs.CharacterString.{IsAdmitted}
 use Rattle.rasn_types.specs.Calendar.{Moment, Stamp, Day}
 use Rattle.rasn_types.specs.Time.{DateText}
@@ -29,14 +29,14 @@ use Rattle.rasn_de.specs.declared.ber.de.parser.ParseError.{ParseError}
 use Rattle.rasn_de.specs.declared.ber.de.parser.ParseError.TheVariants as parse
 use Rattle.rasn_de.specs.declared.ber.de.parser.headers.Expected.TheVariants.{Tagged}
 use Rattle.rasn_de.specs.Headers.{◌>>=◌, Header, header_at, is_der}
-use Rattle.rasn_de.specs.Segments.{ends, segments_at, end_of_contents_at, octets_inside, definite_end, end_at, string_in, too_deep, segments_in, string_of, string_at, octets}
+use Rattle.rasn_de.specs.Segments.{ends, segments_at, end_of_contents_at, octets_inside, end_at, string_in, too_deep, segments_in, string_of, string_at, octets}
 use Rattle.rasn_de.specs.Causes.{Cause, fault, in_ber, error_kind}
 use Rattle.rasn_de.specs.State.{State, at}
 use Rattle.rasn_de.specs.ValueErrors.{errors_of, DecodesOr}
 use Rattle.rasn_de.specs.Leaves.{Readings, FailsAs}
 use Rattle.rasn_de.specs.OctetString.{octet_string_at}
-use Rattle.rasn_de.specs.CharacterString.{StringCheck, IsOutsideAlphabet, ByAlphabet, ByCharacters, ByLength, BySize, ByUtf8, ByUnits, StringAt, DecodesString}
-use Rattle.rasn_de.specs.BitString.{segment_bits, bits_tree, bit_string_at, IsOversized, BitsAt, DecodesBitString}
+use Rattle.rasn_de.specs.CharacterString.{StringCheck, ByAlphabet, ByCharacters, ByLength, BySize, StringAt, DecodesString}
+use Rattle.rasn_de.specs.BitString.{segment_bits, bits_tree, bit_string_at, BitsAt, DecodesBitString}
 use Rattle.rasn_de.specs.NamedBits.{AreNamedBits, DecodesNamedBits}
 use Rattle.rasn_de.specs.ObjectIdentifier.{arc_at, ReadsArcs, FailsAtSubidentifier, ObjectIdentifierIn, DecodesObjectIdentifier}
 use Rattle.rasn_de.specs.Time.{AtAnyOffset, DecodesTime}
