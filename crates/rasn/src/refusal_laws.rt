@@ -14,7 +14,7 @@ ghost use Rattle.rasn_de.specs.SetPartTypes.{DecodesNamedParts, set_by};
 ghost use Rattle.rasn_de.specs.ValueErrors.{DecodesOr, errors_of};
 ghost use Rattle.rasn_types.specs.Trees.{list_tree, option_tree};
 ghost use Rattle.rasn.specs.OneRefusal.{AreApart, AreRefusedOnce, ErrorsOfChoice, HaveOwnTags, IsRefusedOnce, LeaveNone, ReadsShape, Settles};
-ghost use Rattle.rasn.specs.RefusalLaws.{LeavesAreApart, LeavesLeaveNone};
+ghost use Rattle.rasn.specs.RefusalLaws.{LeavesAreApart, LeavesLeaveNone, LeavesSettle};
 ghost use Rattle.rasn.specs.WorkedKinds.{WorkedKinds};
 ghost use Rattle.rasn.specs.WorkedWholes.{WorkedWholes};
 
@@ -31,6 +31,7 @@ use rasn_types::types::{Any, AsnType, Explicit, FirstTags, SetOf, Unknown};
 pub fn leaves()
     ensures apart { LeavesAreApart }
     ensures none { LeavesLeaveNone }
+    ensures settled { LeavesSettle }
 {}
 
 /// Proves the same of a value under an explicit tag, if it is true of the value.
@@ -176,6 +177,21 @@ pub fn settled_parts<A: Decode, R: DecodeParts>()
         → Settles (DecodesInParts ⟦<Addition<A, R> as DecodeParts>⟧.parts ⟦<Addition<A, R> as DecodeParts>⟧.tree ⟦<Addition<A, R> as DecodeParts>⟧.errors) }
 {}
 
+/// Proves the same of a CHOICE that may be left out and of the parts after it.
+pub fn settled_optional_choice<A: Decode + FirstTags, R: DecodeParts>()
+    ensures { Settles (DecodesOr A.shape A.tree (A.errors A.TAG A.CONSTRAINTS)) → Settles (DecodesInParts R.parts R.tree R.errors)
+        → Settles (DecodesInParts ⟦<OptionalChoice<A, R> as DecodeParts>⟧.parts ⟦<OptionalChoice<A, R> as DecodeParts>⟧.tree ⟦<OptionalChoice<A, R> as DecodeParts>⟧.errors) }
+{}
+
+/// Proves the same of a part that has a default and of the parts after it, if there is a value that
+/// equals the default.
+pub fn settled_default<V: DefaultValue, R: DecodeParts>()
+where
+    V::Value: Decode,
+    ensures { own V.Value.shape ≡ looked_for V.Value.TAG → (d : V.Value) → V.Value.tree d ≡ V.default_tree → Settles (DecodesOr V.Value.shape V.Value.tree (V.Value.errors V.Value.TAG V.Value.CONSTRAINTS)) → Settles (DecodesInParts R.parts R.tree R.errors)
+        → Settles (DecodesInParts ⟦<Defaulted<V, R> as DecodeParts>⟧.parts ⟦<Defaulted<V, R> as DecodeParts>⟧.tree ⟦<Defaulted<V, R> as DecodeParts>⟧.errors) }
+{}
+
 /// Proves the same of a SEQUENCE, if it is true of its parts.
 pub fn settled_sequence<P: DecodeParts>()
     ensures { Settles (DecodesInParts P.parts P.tree P.errors) → needs_no_initializer P.parts ≡ true → (tag : Tag)
@@ -188,7 +204,7 @@ pub fn worked_kinds()
     ensures { WorkedKinds }
 {}
 
-/// Proves the same of a SEQUENCE and of a value under an explicit tag.
+/// Proves the same of a SEQUENCE, a SEQUENCE OF, a SET OF and a value under an explicit tag.
 pub fn worked_wholes()
     ensures { WorkedWholes }
 {}

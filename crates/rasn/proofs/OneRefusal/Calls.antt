@@ -6,7 +6,7 @@ use Rattle.rasn_types.specs.declared.error.decode.DecodeErrorKind.{DecodeErrorKi
 use Rattle.rasn_types.specs.declared.error.decode.DecodeErrorKind.TheVariants.{OutOfMemory}
 use Rattle.rasn_types.specs.Errors.{IsOutOfMemory}
 use Rattle.rasn_types.specs.Framing.{AreOctets}
-use Rattle.rasn_types.specs.Shapes.{Tree}
+use Rattle.rasn_types.specs.Shapes.{Tree, Shape}
 use Rattle.rasn_types.specs.Readings.{Reading}
 use Rattle.rasn_de.specs.declared.ber.de.parser.ParseError.{ParseError}
 use Rattle.rasn_de.specs.declared.ber.de.parser.ParseError.TheVariants as parse
@@ -15,9 +15,9 @@ use Rattle.rasn_de.specs.State.{State, Call, at, IsEnd}
 use Rattle.rasn_de.specs.Steps.{PeeksTag}
 use Rattle.rasn_de.specs.Outcomes.{Exact, refusal}
 use Rattle.rasn_de.specs.Decodes.{DecodesExactly, DecodesBy}
-use Rattle.rasn_de.specs.ValueErrors.{Errors, errors_of}
+use Rattle.rasn_de.specs.ValueErrors.{Errors, errors_of, DecodesOr}
 use Rattle.rasn_de.proofs.Headers.Results.{octets_back}
-use Rattle.rasn.specs.OneRefusal.{equal, IsSameError, ReadingBy, IsRefusedOnce, AreApart}
+use Rattle.rasn.specs.OneRefusal.{equal, IsSameError, ReadingBy, ReadsShape, IsRefusedOnce, AreApart, LeaveNone, Settles}
 
 -- Errors are the same if they are equal, or report the same fault.
 pub equal_errors : {e f : DecodeError} → e ≡ f → IsSameError e f
@@ -72,3 +72,13 @@ module _ {D : Type 0} (read : Call D) (reads : ReadingBy) (tree : D → Tree) (e
 -- The look at the next tag fails in one way.
 pub peeks_once : (s : State) (e f : DecodeError) → PeeksTag s (Err e) → PeeksTag s (Err f) → IsSameError e f
 peeks_once s e f (x, p, a) (y, q, b) = let z : x ≡ y = cc in same_fault z a b
+
+-- A call whose value is a shape's, with the errors of the call.
+pub or_settles : {D : Type 0} (call : Call D) (s : Shape) (tree : D → Tree) → IsExactCall call (ReadsShape s) tree → Settles call → Settles (DecodesOr s tree (errors_of call))
+or_settles call s tree exact all old o b passed failed =
+    all old o b (λ v new a. passed v new (exact old o (Ok v) new a, tt)) (λ e new a. failed e new ((exact old o (Err e) new a.0, a.0), a.1))
+
+-- Then each input is read or refused.
+pub settled_none : {D : Type 0} (s : Shape) (tree : D → Tree) (errors : Errors) → Settles (DecodesOr s tree errors) → LeaveNone errors (ReadsShape s)
+settled_none s tree errors all old o b unread unrefused =
+    all old o b (λ v new a. unread (tree v) new.rest a.0.exact.0) (λ e new a. unrefused e new (a.0.1, a.1))

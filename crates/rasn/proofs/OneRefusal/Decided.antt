@@ -20,15 +20,17 @@ use Rattle.rasn_de.specs.declared.ber.de.parser.ParseError.{ParseError}
 use Rattle.rasn_de.specs.declared.ber.de.parser.ParseError.TheVariants as parse
 use Rattle.rasn_de.specs.Causes.{Cause, fault, out_of_bound, HasCause, error_kind}
 use Rattle.rasn_de.specs.State.{State, at}
-use Rattle.rasn_de.specs.ValueErrors.{integer_errors}
-use Rattle.rasn_de.specs.Leaves.{FromContents, definite_at, LeafAt, as_cause, bool_in, BoolAt, IsIntegerContents, IntegerIn, FailsAs}
+use Rattle.rasn_de.specs.ValueErrors.{integer_errors, DecodesOr}
+use Rattle.rasn_de.specs.Leaves.{DecodesLeaf, DecodesNumber, FromContents, definite_at, LeafAt, as_cause, bool_in, BoolAt, IsIntegerContents, IntegerIn, FailsAs}
 use Rattle.rasn_de.specs.Enumerated.{EnumeratedIn, EnumeratedAt, NullIn, NullAt}
 use Rattle.rasn_de.proofs.Headers.NextTag.{kind_memory}
 use Rattle.rasn_de.proofs.Leaves.Boolean.{bool_ensured}
 use Rattle.rasn_de.proofs.Leaves.Null.{null_ensured}
 use Rattle.rasn_de.proofs.Leaves.Integer.{integer_ensured}
 use Rattle.rasn_de.proofs.Leaves.Memory.{Plainly, definite_plain, bool_plain}
-use Rattle.rasn.specs.OneRefusal.{Refuses, ReadsShape, LeaveNone}
+use Rattle.rasn.specs.OneRefusal.{Refuses, Settles}
+use Rattle.rasn.specs.RefusalLaws.{null_tree}
+use Rattle.rasn.proofs.OneRefusal.Calls.{or_settles}
 use Rattle.rasn.proofs.OneRefusal.Leaves.{enumerated_exact}
 
 -- A cause other than missing memory is reported by some error.
@@ -70,17 +72,19 @@ bool_none rule c accepted refused = go (bool_in rule c) refl
     go (Ok b) q = accepted b (ap as_cause q)
     go (Err f) q = refused (fault f) (bool_plain rule c (fault f) (ap as_cause q)) (ap as_cause q)
 
-pub boolean_decided : (tag : Tag) → LeaveNone (λ old. FailsAs (BoolAt old.rule tag old.rest) old) (ReadsShape (leaf boolean tag unconstrained))
-boolean_decided tag old o b unread unrefused =
-    leaf_none (λ c r. as_cause (bool_in old.rule c) ≡ r) (bool_none old.rule) tag old
-    (λ x rest a. unread (bool_tree x) rest (bool_ensured tag old (at old rest) (Ok x) o (a, refl)).reads.exact.0) unrefused
+pub boolean_decided : (tag : Tag) → Settles (DecodesOr (leaf boolean tag unconstrained) bool_tree (λ old. FailsAs (BoolAt old.rule tag old.rest) old))
+boolean_decided tag =
+    or_settles (λ old. DecodesLeaf (λ (b : Bool). b) (BoolAt old.rule tag old.rest) old) (leaf boolean tag unconstrained) bool_tree (λ old o r new a. (bool_ensured tag old new r o a).reads)
+    (λ old o b passed failed. leaf_none (λ c r. as_cause (bool_in old.rule c) ≡ r) (bool_none old.rule) tag old (λ x rest a. passed x (at old rest) (a, refl)) failed)
 
 null_none : NoneLeft {X = Unit {0}} NullIn
 null_none [] accepted refused = accepted tt refl
 null_none (b ∷ l) accepted refused = refused (fault (parse.MismatchedLength 0 (length (b ∷ l)))) (λ e. cc) ((λ e. cc), refl)
 
-pub null_decided : (tag : Tag) → LeaveNone (λ old. FailsAs (NullAt old.rule tag old.rest) old) (ReadsShape (leaf null tag unconstrained))
-null_decided tag old o b unread unrefused = leaf_none NullIn null_none tag old (λ x rest a. unread _ rest (null_ensured tag old (at old rest) (Ok x) o (a, refl)).reads.exact.0) unrefused
+pub null_decided : (tag : Tag) → Settles (DecodesOr (leaf null tag unconstrained) null_tree (λ old. FailsAs (NullAt old.rule tag old.rest) old))
+null_decided tag =
+    or_settles (λ old. DecodesLeaf (λ (u : Unit {0}). u) (NullAt old.rule tag old.rest) old) (leaf null tag unconstrained) null_tree (λ old o r new a. (null_ensured tag old new r o a).reads)
+    (λ old o b passed failed. leaf_none NullIn null_none tag old (λ x rest a. passed x (at old rest) (a, refl)) failed)
 
 -- Numbers.
 shortest_unless : (c : List ℕ) → c ≢ [] → ((IsShortestInteger c → ⊥) → ⊥) → IsShortestInteger c
@@ -113,11 +117,10 @@ module _ (width : ℕ) (range : Interval) (bounds : Constraints) where
       out_of_bounds : IsIn range (signed c) → (Admits ◌≤ℤ◌ bounds.value (signed c) → ⊥) → ⊥
       out_of_bounds i n = refused (out_of_bound (signed c) (constraint_of bounds.value)) tt (is, i, n, refl, refl)
 
-  pub integer_decided : (Takes : ℤ → Type 0) (tag : Tag) → LeaveNone (integer_errors Takes width range tag bounds) (ReadsShape (leaf (integer range) tag bounds))
-  integer_decided Takes tag old o b unread unrefused =
-      leaf_none (IntegerIn old.rule width range bounds) (integer_none old.rule) tag old
-      (λ x rest a. unread (number x) rest (integer_ensured width range bounds (λ (z : ℤ). z) Takes tag old (at old rest) (Ok x) o (a, refl)).reads.exact.0)
-      (λ e new r. unrefused e new (inr r.0, r.1))
+  pub integer_decided : (Takes : ℤ → Type 0) (tag : Tag) → Settles (DecodesOr (leaf (integer range) tag bounds) number (integer_errors Takes width range tag bounds))
+  integer_decided Takes tag =
+      or_settles (DecodesNumber (λ (z : ℤ). z) Takes width range tag bounds) (leaf (integer range) tag bounds) number (λ old o r new a. (integer_ensured width range bounds (λ (z : ℤ). z) Takes tag old new r o a).reads)
+      (λ old o b passed failed. leaf_none (IntegerIn old.rule width range bounds) (integer_none old.rule) tag old (λ x rest a. passed x (at old rest) (a, refl)) (λ e new r. failed e new (inr r.0, r.1)))
 
 module _ (known : List ℤ) (fits : fit_isize known ≡ true) where
   enumerated_none : (rule : Codec) → NoneLeft (EnumeratedIn rule known)
@@ -132,7 +135,7 @@ module _ (known : List ℤ) (fits : fit_isize known ≡ true) where
       unnamed : IsIn (signed_range 64) (signed c) → (Contains known (signed c) → ⊥) → ⊥
       unnamed i n = refused (fault (parse.DiscriminantValueNotFound (signed c))) (λ e. cc) (inr (inr (is, i, n, refl)))
 
-  pub enumerated_decided : (tag : Tag) → LeaveNone (λ old. FailsAs (EnumeratedAt known old.rule tag old.rest) old) (ReadsShape (leaf (enumerated known) tag unconstrained))
-  enumerated_decided tag old o b unread unrefused =
-      leaf_none (EnumeratedIn old.rule known) (enumerated_none old.rule) tag old
-      (λ x rest a. unread (number x) rest (enumerated_exact known fits tag old o (Ok x) (at old rest) (a, refl)).exact.0) unrefused
+  pub enumerated_decided : (tag : Tag) → Settles (DecodesOr (leaf (enumerated known) tag unconstrained) number (λ old. FailsAs (EnumeratedAt known old.rule tag old.rest) old))
+  enumerated_decided tag =
+      or_settles (λ old. DecodesLeaf (λ (z : ℤ). z) (EnumeratedAt known old.rule tag old.rest) old) (leaf (enumerated known) tag unconstrained) number (λ old o r new a. enumerated_exact known fits tag old o r new a)
+      (λ old o b passed failed. leaf_none (EnumeratedIn old.rule known) (enumerated_none old.rule) tag old (λ x rest a. passed x (at old rest) (a, refl)) failed)

@@ -37,7 +37,7 @@ use Rattle.rasn_de.proofs.Leaves.ObjectIdentifier.{object_decodes}
 use Rattle.rasn.specs.OneRefusal.{ReportsBound, IsSameKind, equal, same_bound, IsSameError, ReadsShape, IsRefusedOnce, AreApart}
 use Rattle.rasn.proofs.OneRefusal.Calls.{exactly_apart}
 
-reports : (z : ℤ) (bound : Bounded ℤ) (k : DecodeErrorKind) → (IsOutOfMemory k → ⊥) → HasCause (out_of_bound z bound) k → ReportsBound z bound k
+pub reports : (z : ℤ) (bound : Bounded ℤ) (k : DecodeErrorKind) → (IsOutOfMemory k → ⊥) → HasCause (out_of_bound z bound) k → ReportsBound z bound k
 reports z bound (ValueConstraintNotSatisfied value expected) n h = h
 reports z bound OutOfMemory n h = absurd (n refl)
 reports z bound _ n h = h

@@ -1,5 +1,5 @@
 -- Open types and unknown values are read or refused.
-use Rattle.std.proofs.Common.{◌≡◌, ◌≢◌, true, ℕ, zero, suc, ◌+◌, ◌-◌, ◌<◌, ◌≤◌, ◌^◌, inl, inr, List, [], ◌∷◌, length, take, Option, Some, None, Result, Ok, Err, refl, sym, ap, ◌∙◌, subst, arith}
+use Rattle.std.proofs.Common.{◌≡◌, ◌≢◌, true, ℕ, zero, suc, ◌+◌, ◌-◌, ◌<◌, inr, List, [], ◌∷◌, length, take, Option, Some, None, Result, Ok, Err, refl, ap, subst, arith}
 use Rattle.rasn_types.specs.declared.types.codec.Codec.{Codec}
 use Rattle.rasn_types.specs.declared.types.tag.Tag.{Tag}
 use Rattle.rasn_types.specs.Tags.{form, loose}
@@ -13,14 +13,15 @@ use Rattle.rasn_de.specs.Causes.{error_kind}
 use Rattle.rasn_de.specs.Headers.{Header, header_at, as_written}
 use Rattle.rasn_de.specs.Skipping.{EncodingsToEnd, IsUnparsable, Exactly}
 use Rattle.rasn_de.specs.State.{State, at}
-use Rattle.rasn_de.specs.ValueErrors.{errors_of}
+use Rattle.rasn_de.specs.ValueErrors.{errors_of, DecodesOr}
 use Rattle.rasn_de.specs.Any.{OpenAt, DecodesOpenType}
 use Rattle.rasn_de.proofs.Any.Reads.{encoding_open, encoding_refused, tagged_definite, tagged_closed, tagged_unparsable, tagged_refused, open_decodes}
 use Rattle.rasn_de.proofs.Any.Skipping.{Passing, passing_start, passing_header, passing_close, passing_end, passing_unparsable, octets_left, header_shorter, skipped_open, skipped_plain, skipped_refused}
 use Rattle.rasn_de.proofs.Headers.Frames.{header_parsed}
 use Rattle.rasn_de.proofs.Leaves.Memory.{borrowed_plain}
 use Rattle.rasn_de.proofs.Strings.Reads.{frame_octets}
-use Rattle.rasn.specs.OneRefusal.{ReadsShape, LeaveNone}
+use Rattle.rasn.specs.OneRefusal.{Settles}
+use Rattle.rasn.proofs.OneRefusal.Calls.{or_settles}
 
 -- Contents of indefinite length are closed, or there is a first fault.
 module _ (rule : Codec) (input : List ℕ) (o : AreOctets input) where
@@ -124,6 +125,7 @@ open_or tag old o passed failed = let k = opens old.rule old.rest o (looked_for 
     go (Ok p) a = passed p.0 p.1 (a, refl)
     go (Err f) a = let e : DecodeError = record { kind = error_kind f; codec = old.rule } in failed e (borrowed_plain tag old old e ((f, a, refl), refl)) (inr (f, a, refl), refl)
 
-pub open_type_read : (tag : Tag) → LeaveNone (errors_of (DecodesOpenType tag)) (ReadsShape (any (looked_for tag)))
-open_type_read tag old o b unread unrefused =
-    open_or tag old o (λ a rest d. unread (numbers a) rest (open_decodes tag old (at old rest) (Ok a) d).exact.0) (λ e n d. unrefused e old (d, n))
+pub open_type_read : (tag : Tag) → Settles (DecodesOr (any (looked_for tag)) numbers (errors_of (DecodesOpenType tag)))
+open_type_read tag =
+    or_settles (DecodesOpenType tag) (any (looked_for tag)) numbers (λ old o r new a. open_decodes tag old new r a)
+    (λ old o b passed failed. open_or tag old o (λ a rest d. passed a (at old rest) d) (λ e n d. failed e old (d, n)))

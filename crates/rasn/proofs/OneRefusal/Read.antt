@@ -1,5 +1,5 @@
 -- Strings and times are read or refused.
-use Rattle.std.proofs.Common.{◌≡◌, ◌≢◌, ℕ, zero, suc, ◌+◌, ◌<◌, ◌≤◌, ◌^◌, inl, inr, List, [], ◌∷◌, ◌++◌, length, Bool, true, false, cond, Option, Result, Ok, Err, refl, sym, ap, ◌∙◌, subst, arith}
+use Rattle.std.proofs.Common.{◌≡◌, ◌≢◌, ℕ, zero, suc, ◌+◌, ◌<◌, ◌≤◌, ◌^◌, inl, inr, List, [], ◌∷◌, ◌++◌, length, Bool, true, false, Option, Result, Ok, Err, refl, subst, arith}
 use Rattle.std.specs.Prelude.{nat_eq, ◌&&◌, slice_index, Vec}
 use Rattle.std.specs.Global.{Global}
 use Rattle.std.specs.List.{AllWithin}
@@ -15,8 +15,9 @@ use Rattle.rasn_types.specs.declared.error.decode.DecodeError.{DecodeError}
 use Rattle.rasn_types.specs.Errors.{IsOutOfMemory}
 use Rattle.rasn_types.specs.Tags.{form, in_universal, IsCanonical}
 use Rattle.rasn_types.specs.BitString.{significant}
-use Rattle.rasn_types.specs.Framing.{AreOctets, Extent, definite, indefinite}
-use Rattle.rasn_types.specs.Shapes.{Tree, Kind, leaf, bit_string, named_bits, object_identifier, utc_time, generalized_time, date, instant, on_day, numbers, Admits, AdmitsPadded, constraint_of}
+use Rattle.rasn_types.specs.NamedBits.{named_bits_tree}
+use Rattle.rasn_types.specs.Framing.{Extent, definite, indefinite}
+use Rattle.rasn_types.specs.Shapes.{Kind, leaf, bit_string, named_bits, object_identifier, utc_time, generalized_time, date, instant, on_day, numbers, Admits, AdmitsPadded, constraint_of}
 use Rattle.rasn_types.specs.CharacterString.{IsAdmitted}
 use Rattle.rasn_types.specs.Calendar.{Moment, Stamp, Day}
 use Rattle.rasn_types.specs.Time.{DateText}
@@ -28,27 +29,28 @@ use Rattle.rasn_de.specs.declared.ber.de.parser.ParseError.{ParseError}
 use Rattle.rasn_de.specs.declared.ber.de.parser.ParseError.TheVariants as parse
 use Rattle.rasn_de.specs.declared.ber.de.parser.headers.Expected.TheVariants.{Tagged}
 use Rattle.rasn_de.specs.Headers.{◌>>=◌, Header, header_at, is_der}
-use Rattle.rasn_de.specs.Segments.{ends, segments_at, end_of_contents_at, octets_inside, definite_end, end_at, string_in, too_deep, segments_in, string_of, string_at, octets}
+use Rattle.rasn_de.specs.Segments.{ends, segments_at, end_of_contents_at, octets_inside, end_at, string_in, too_deep, segments_in, string_of, string_at, octets}
 use Rattle.rasn_de.specs.Causes.{Cause, fault, in_ber, error_kind}
 use Rattle.rasn_de.specs.State.{State, at}
-use Rattle.rasn_de.specs.ValueErrors.{errors_of}
+use Rattle.rasn_de.specs.ValueErrors.{errors_of, DecodesOr}
 use Rattle.rasn_de.specs.Leaves.{Readings, FailsAs}
 use Rattle.rasn_de.specs.OctetString.{octet_string_at}
-use Rattle.rasn_de.specs.CharacterString.{StringCheck, IsOutsideAlphabet, ByAlphabet, ByCharacters, ByLength, BySize, ByUtf8, ByUnits, StringAt, DecodesString}
-use Rattle.rasn_de.specs.BitString.{segment_bits, bits_tree, bit_string_at, IsOversized, BitsAt, DecodesBitString}
+use Rattle.rasn_de.specs.CharacterString.{StringCheck, ByAlphabet, ByCharacters, ByLength, BySize, StringAt, DecodesString}
+use Rattle.rasn_de.specs.BitString.{segment_bits, bits_tree, bit_string_at, BitsAt, DecodesBitString}
 use Rattle.rasn_de.specs.NamedBits.{AreNamedBits, DecodesNamedBits}
 use Rattle.rasn_de.specs.ObjectIdentifier.{arc_at, ReadsArcs, FailsAtSubidentifier, ObjectIdentifierIn, DecodesObjectIdentifier}
 use Rattle.rasn_de.specs.Time.{AtAnyOffset, DecodesTime}
-use Rattle.rasn_de.specs.Decodes.{DecodesBy}
+use Rattle.rasn_de.specs.Decodes.{Decodes}
 use Rattle.rasn_de.proofs.Headers.NextTag.{kind_memory}
 use Rattle.rasn_de.proofs.Headers.Memory.{NoMemory, none_cond, header_none}
 use Rattle.rasn_de.proofs.Strings.CharacterString.{Fits, string_decodes}
 use Rattle.rasn_de.proofs.Strings.BitString.{bits_decodes, segment_plain}
-use Rattle.rasn_de.proofs.Strings.NamedBits.{named_found, named_plain}
+use Rattle.rasn_de.proofs.Strings.NamedBits.{named_unread, named_found, named_refused, named_plain}
 use Rattle.rasn_de.proofs.Strings.Seen.{octets_fit}
 use Rattle.rasn_de.proofs.Strings.Time.{utc_decodes, generalized_decodes, date_decodes}
 use Rattle.rasn_de.proofs.Leaves.ObjectIdentifier.{arcs_of, ArcsSoFar, arcs_start, arcs_next, arcs_done, stops_first, stops_later, stops_memory, rest_shorter, object_decodes}
-use Rattle.rasn.specs.OneRefusal.{ReadingBy, ReadsShape, LeaveNone}
+use Rattle.rasn.specs.OneRefusal.{Settles}
+use Rattle.rasn.proofs.OneRefusal.Calls.{or_settles}
 use Rattle.rasn.proofs.OneRefusal.Decided.{IsReported, report, leaf_none}
 
 -- A string is refused for want of memory nowhere.
@@ -103,17 +105,19 @@ module _ {Y : Type 0} (Is : Readings Y) (old : State) (unrefused : (e : DecodeEr
 abbrev pub TellsAll : StringCheck → Type 0
 TellsAll Told = (l : List ℕ) → ((ns : List ℕ) → Told l (Ok ns) → ⊥) → ((f : ParseError) → Told l (Err f) → ⊥) → ⊥
 
-pub string_read : {kind : Kind} {bounds : Constraints} {Told : StringCheck} → Fits kind bounds Told → TellsAll Told → (tag : Tag) → LeaveNone (errors_of (DecodesString (λ (l : List ℕ). l) Told tag)) (ReadsShape (leaf kind tag bounds))
-string_read {kind} {bounds} {Told} fits all tag old o b unread unrefused = go (octet_string_at old.rule old.depth tag old.rest) refl
+pub string_read : {kind : Kind} {bounds : Constraints} {Told : StringCheck} → Fits kind bounds Told → TellsAll Told → (tag : Tag) → Settles (DecodesOr (leaf kind tag bounds) numbers (errors_of (DecodesString (λ (l : List ℕ). l) Told tag)))
+string_read {kind} {bounds} {Told} fits all tag =
+    or_settles (DecodesString (λ (l : List ℕ). l) Told tag) (leaf kind tag bounds) numbers (λ old o r new a. string_decodes fits (λ (l : List ℕ). l) tag old new r o a) settles
   where
-    refused : (cause : Cause) (rest : List ℕ) → IsReported cause → StringAt Told old.rule old.depth tag old.rest (Err (cause, rest)) → ⊥
-    refused = refused_as (StringAt Told old.rule old.depth tag old.rest) old (λ e new n a. unrefused e new (inr (inr (n, a)), n))
+    settles : Settles (DecodesString (λ (l : List ℕ). l) Told tag)
+    settles old o b passed failed = go (octet_string_at old.rule old.depth tag old.rest) refl
+      where
+        refused : (cause : Cause) (rest : List ℕ) → IsReported cause → StringAt Told old.rule old.depth tag old.rest (Err (cause, rest)) → ⊥
+        refused = refused_as (StringAt Told old.rule old.depth tag old.rest) old (λ e new n a. failed e new (inr (inr (n, a)), n))
 
-    go : (r : Result (List ℕ × List ℕ) ParseError) → octet_string_at old.rule old.depth tag old.rest ≡ r → ⊥
-    go (Err f) q = refused (fault f) old.rest (subst NoMemory q (octets_none old.rule old.depth tag old.rest)) (inl (f, q, refl))
-    go (Ok p) q =
-        all p.0 (λ ns a. unread (numbers ns) p.1 (string_decodes fits (λ (l : List ℕ). l) tag old (at old p.1) (Ok ns) o ((p.0, q, a), refl)).exact.0)
-        (λ f a. refused (fault f) p.1 (fits.plain p.0 f a) (inr (p.0, f, q, a, refl)))
+        go : (r : Result (List ℕ × List ℕ) ParseError) → octet_string_at old.rule old.depth tag old.rest ≡ r → ⊥
+        go (Err f) q = refused (fault f) old.rest (subst NoMemory q (octets_none old.rule old.depth tag old.rest)) (inl (f, q, refl))
+        go (Ok p) q = all p.0 (λ ns a. passed ns (at old p.1) ((p.0, q, a), refl)) (λ f a. refused (fault f) p.1 (fits.plain p.0 f a) (inr (p.0, f, q, a, refl)))
 
 pub by_size_all : (size : Option (Bound ℕ)) → TellsAll (BySize size)
 by_size_all size l passed failed = failed (parse.SizeConstraintNotSatisfied (length l) (constraint_of size)) ((λ a. passed l (refl, a)), refl)
@@ -150,9 +154,10 @@ module _ (tag : Tag) (bounds : Constraints) (old : State) where
           let below : length p.0 < 2 ^ 64 = omega (arith, wide) in
           refused (fault (parse.SizeConstraintNotSatisfied (length p.0) (constraint_of bounds.size))) p.1 (λ e. cc) (inr (p.0, q, inr (below, (λ a. passed p.0 p.1 ((q, below, a), refl)), refl)))
 
-pub bit_string_read : (tag : Tag) (bounds : Constraints) → LeaveNone (errors_of (DecodesBitString tag bounds)) (ReadsShape (leaf bit_string tag bounds))
-bit_string_read tag bounds old o b unread unrefused =
-    bits_or tag bounds old (λ bs rest a. unread (bits_tree bs) rest (bits_decodes tag bounds old (at old rest) (Ok bs) o a).exact.0) (λ e new n a. unrefused e new (a, n))
+pub bit_string_read : (tag : Tag) (bounds : Constraints) → Settles (DecodesOr (leaf bit_string tag bounds) bits_tree (errors_of (DecodesBitString tag bounds)))
+bit_string_read tag bounds =
+    or_settles (DecodesBitString tag bounds) (leaf bit_string tag bounds) bits_tree (λ old o r new a. bits_decodes tag bounds old new r o a)
+    (λ old o b passed failed. bits_or tag bounds old (λ bs rest a. passed bs (at old rest) a) (λ e new n a. failed e new (a, n)))
 
 -- Named bits.
 named_or : (rule : Codec) (P : Type 0) → ((IsCanonical rule → P) → ⊥) → (IsCanonical rule → (P → ⊥) → ⊥) → ⊥
@@ -160,8 +165,8 @@ named_or Ber P passed failed = passed (λ c. absurd c)
 named_or Cer P passed failed = failed tt (λ p. passed (λ c. p))
 named_or Der P passed failed = failed tt (λ p. passed (λ c. p))
 
-pub named_bits_read : (tag : Tag) (bounds : Constraints) → LeaveNone (errors_of (DecodesNamedBits tag bounds)) (ReadsShape (leaf named_bits tag bounds))
-named_bits_read tag bounds old o b unread unrefused = bits_or tag unconstrained old named (λ e new n a. unrefused e new (inl a, n))
+pub named_bits_read : (tag : Tag) (bounds : Constraints) → Settles (DecodesOr (leaf named_bits tag bounds) named_bits_tree (errors_of (DecodesNamedBits tag bounds)))
+named_bits_read tag bounds old o b taken unrefused = bits_or tag unconstrained old named (λ e new n a. unrefused e new (((named_unread tag bounds old new e (bits_decodes tag unconstrained old new (Err e) o a) a).reads, inl a), n))
   where
     named : (bs : List Bool) (rest : List ℕ) → DecodesBitString tag unconstrained old (Ok bs) (at old rest) → ⊥
     named bs rest a =
@@ -169,11 +174,16 @@ named_bits_read tag bounds old o b unread unrefused = bits_or tag unconstrained 
         (λ z. failed (parse.SizeConstraintNotSatisfied (length (significant bs)) (constraint_of bounds.size)) (inr (z, passed z, refl)))
         (λ c n. failed parse.TrailingZeroBits (inl (c, n, refl)))
       where
+        d : Decodes (leaf bit_string tag unconstrained) bits_tree old (Ok bs) (at old rest)
+        d = bits_decodes tag unconstrained old (at old rest) (Ok bs) o a
+
         failed : (f : ParseError) → AreNamedBits old.rule bounds bs (Err f) → ⊥
-        failed f h = unrefused (record { kind = error_kind f; codec = old.rule }) (at old rest) (inr (bs, f, a, h, refl), kind_memory f (named_plain old.rule bounds bs f h))
+        failed f h =
+            let e : DecodeError = record { kind = error_kind f; codec = old.rule } in
+            unrefused e (at old rest) (((named_refused tag bounds old (at old rest) bs d a f e h refl).reads, inr (bs, f, a, h, refl)), kind_memory f (named_plain old.rule bounds bs f h))
 
         passed : (IsCanonical old.rule → significant bs ≡ bs) → AdmitsPadded bounds.size (length (significant bs)) → ⊥
-        passed z h = unread _ rest (named_found tag bounds old (at old rest) bs (bits_decodes tag unconstrained old (at old rest) (Ok bs) o a) a z h (significant bs) refl).reads.exact.0
+        passed z h = taken (significant bs) (at old rest) ((named_found tag bounds old (at old rest) bs d a z h (significant bs) refl).reads, tt)
 
 -- Octets of an alphabet.
 pub by_alphabet_all : (a : Alphabet) (size : Option (Bound ℕ)) → TellsAll (ByAlphabet a size)
@@ -207,47 +217,50 @@ object_scan rule c passed failed (suc n) (b ∷ l) arcs h a = go (λ more all k 
         let s = rest_shorter rule (b ∷ l) p.0 p.1 q in
         on p.1 (arcs ++ p.0 ∷ []) (omega (arith, s, h)) (arcs_next rule c (b ∷ l) p.1 arcs (arcs ++ p.0 ∷ []) p.0 a q refl)
 
-pub object_identifier_read : (tag : Tag) → LeaveNone (errors_of (DecodesObjectIdentifier tag)) (ReadsShape (leaf object_identifier tag unconstrained))
-object_identifier_read tag old o b unread unrefused =
-    leaf_none (ObjectIdentifierIn old.rule) none tag old
-    (λ x rest a. unread (numbers x) rest (object_decodes tag old (at old rest) (Ok x) o (a, refl)).exact.0)
-    (λ e new r. unrefused e new (inr (r.1, r.0), r.1))
+pub object_identifier_read : (tag : Tag) → Settles (DecodesOr (leaf object_identifier tag unconstrained) numbers (errors_of (DecodesObjectIdentifier tag)))
+object_identifier_read tag =
+    or_settles (DecodesObjectIdentifier tag) (leaf object_identifier tag unconstrained) numbers (λ old o r new a. object_decodes tag old new r o a)
+    (λ old o b passed failed. leaf_none (ObjectIdentifierIn old.rule) (none old.rule) tag old (λ x rest a. passed x (at old rest) (a, refl)) (λ e new r. failed e new (inr (r.1, r.0), r.1)))
   where
-    none : (c : List ℕ) → ((x : List ℕ) → ObjectIdentifierIn old.rule c (Ok x) → ⊥) → ((e : Cause) → IsReported e → ObjectIdentifierIn old.rule c (Err e) → ⊥) → ⊥
-    none c passed refused = go (arc_at old.rule c) refl
+    none : (rule : Codec) (c : List ℕ) → ((x : List ℕ) → ObjectIdentifierIn rule c (Ok x) → ⊥) → ((e : Cause) → IsReported e → ObjectIdentifierIn rule c (Err e) → ⊥) → ⊥
+    none rule c passed refused = go (arc_at rule c) refl
       where
-        failed : (f : ParseError) → FailsAtSubidentifier old.rule c f → ⊥
-        failed f s = refused (fault f) (stops_memory old.rule c f s) s
+        failed : (f : ParseError) → FailsAtSubidentifier rule c f → ⊥
+        failed f s = refused (fault f) (stops_memory rule c f s) s
 
-        go : (r : Result (ℕ × List ℕ) ParseError) → arc_at old.rule c ≡ r → ⊥
-        go (Err f) q = failed f (stops_first old.rule c f q)
-        go (Ok p) q = object_scan old.rule c passed failed (suc (length p.1)) p.1 (arcs_of p.0 []) (omega arith) (arcs_start old.rule c p.1 (arcs_of p.0 []) p.0 q refl)
+        go : (r : Result (ℕ × List ℕ) ParseError) → arc_at rule c ≡ r → ⊥
+        go (Err f) q = failed f (stops_first rule c f q)
+        go (Ok p) q = object_scan rule c passed failed (suc (length p.1)) p.1 (arcs_of p.0 []) (omega arith) (arcs_start rule c p.1 (arcs_of p.0 []) p.0 q refl)
 
 -- Times and dates.
 held : (text : List ℕ) → length text < 2 ^ 63 → Vec ℕ Global
 held text b = record { ptr = null_ptr; len = length text; cap = length text; alloc = record { memory = record { seal = tt } }; items = text; ok = (refl, omega arith); small = b }
 
-time_read : {X : Type 0} (Means : Codec → List ℕ → X → Type 0) (reads : ReadingBy) (tree : X → Tree) (tag : Tag)
-    → ((old : State) (o : AreOctets old.rest) (x : X) (new : State) → DecodesTime (Means old.rule) tag old (Ok x) new → DecodesBy reads tree old (Ok x) new)
-    → LeaveNone (λ old. errors_of (DecodesTime (Means old.rule) tag) old) reads
+time_settles : {X : Type 0} (Means : Codec → List ℕ → X → Type 0) (tag : Tag) → Settles (λ old. DecodesTime (Means old.rule) tag old)
 unfolding held
-time_read Means reads tree tag exact old o b unread unrefused = go (octet_string_at old.rule old.depth tag old.rest) refl
+time_settles Means tag old o b passed failed = go (octet_string_at old.rule old.depth tag old.rest) refl
   where
     go : (r : Result (List ℕ × List ℕ) ParseError) → octet_string_at old.rule old.depth tag old.rest ≡ r → ⊥
     go (Err f) q =
         let plain : f ≢ parse.OutOfMemory = subst NoMemory q (octets_none old.rule old.depth tag old.rest) in
-        unrefused (record { kind = error_kind f; codec = old.rule }) old (inl (f, refl, refl, (λ n. q), (λ m. absurd (plain m))), kind_memory f plain)
+        failed (record { kind = error_kind f; codec = old.rule }) old (inl (f, refl, refl, (λ n. q), (λ m. absurd (plain m))), kind_memory f plain)
     go (Ok p) q =
         let fit = octets_fit old.rule old.depth tag old.rest o p.0 p.1 q in
         let text = held p.0 (omega (arith, fit, b)) in
-        unrefused (record { kind = in_ber (InvalidDate text); codec = old.rule }) (at old p.1)
-        (inr (p.0, q, refl, (λ x m. unread (tree x) p.1 (exact old o x (at old p.1) (p.0, q, refl, m)).exact.0), inl (record { octets = text; items = refl; is = refl })), λ e. cc)
+        failed (record { kind = in_ber (InvalidDate text); codec = old.rule }) (at old p.1)
+        (inr (p.0, q, refl, (λ x m. passed x (at old p.1) (p.0, q, refl, m)), inl (record { octets = text; items = refl; is = refl })), λ e. cc)
 
-pub utc_time_read : (tag : Tag) (c : Constraints) → LeaveNone (λ old. errors_of (DecodesTime (AtAnyOffset (UtcText old.rule)) tag) old) (ReadsShape (leaf utc_time tag c))
-utc_time_read tag c = time_read (λ rule. AtAnyOffset (UtcText rule)) (ReadsShape (leaf utc_time tag c)) (λ (m : Moment). instant m) tag (λ old o x new a. utc_decodes tag old new (Ok x) o a c)
+pub utc_time_read : (tag : Tag) (c : Constraints) → Settles (DecodesOr (leaf utc_time tag c) (λ (m : Moment). instant m) (λ old. errors_of (DecodesTime (AtAnyOffset (UtcText old.rule)) tag) old))
+utc_time_read tag c =
+    or_settles (λ old. DecodesTime (AtAnyOffset (UtcText old.rule)) tag old) (leaf utc_time tag c) (λ (m : Moment). instant m) (λ old o r new a. utc_decodes tag old new r o a c)
+    (time_settles (λ rule. AtAnyOffset (UtcText rule)) tag)
 
-pub generalized_time_read : (tag : Tag) (c : Constraints) → LeaveNone (λ old. errors_of (DecodesTime (GeneralizedText old.rule) tag) old) (ReadsShape (leaf generalized_time tag c))
-generalized_time_read tag c = time_read (λ rule. GeneralizedText rule) (ReadsShape (leaf generalized_time tag c)) (λ (s : Stamp). instant s.moment) tag (λ old o x new a. generalized_decodes tag old new (Ok x) o a c)
+pub generalized_time_read : (tag : Tag) (c : Constraints) → Settles (DecodesOr (leaf generalized_time tag c) (λ (s : Stamp). instant s.moment) (λ old. errors_of (DecodesTime (GeneralizedText old.rule) tag) old))
+generalized_time_read tag c =
+    or_settles (λ old. DecodesTime (GeneralizedText old.rule) tag old) (leaf generalized_time tag c) (λ (s : Stamp). instant s.moment) (λ old o r new a. generalized_decodes tag old new r o a c)
+    (time_settles (λ rule. GeneralizedText rule) tag)
 
-pub date_read : (tag : Tag) (c : Constraints) → LeaveNone (errors_of (DecodesTime DateText tag)) (ReadsShape (leaf date tag c))
-date_read tag c = time_read (λ rule. DateText) (ReadsShape (leaf date tag c)) (λ (d : Day). on_day d) tag (λ old o x new a. date_decodes tag old new (Ok x) o a c)
+pub date_read : (tag : Tag) (c : Constraints) → Settles (DecodesOr (leaf date tag c) (λ (d : Day). on_day d) (errors_of (DecodesTime DateText tag)))
+date_read tag c =
+    or_settles (DecodesTime DateText tag) (leaf date tag c) (λ (d : Day). on_day d) (λ old o r new a. date_decodes tag old new r o a c)
+    (time_settles (λ rule. DateText) tag)

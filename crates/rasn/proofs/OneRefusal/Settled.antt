@@ -1,28 +1,28 @@
 -- Values that hold others are decoded or refused if those are.
-use Rattle.std.proofs.Common.{◌≡◌, ◌≢◌, ℕ, ◌+◌, ◌<◌, ◌≤◌, ◌^◌, ◌⊎◌, inl, inr, Bool, true, false, cond, ◌&&◌, not, List, ◌∷◌, ◌++◌, length, Option, Some, None, Result, Ok, Err, refl, sym, ap, ◌∙◌, subst, arith, length-append}
-use Rattle.std.specs.Prelude.{nat_eq}
+use Rattle.std.proofs.Common.{◌≡◌, ◌≢◌, ℕ, ◌<◌, ◌≤◌, ◌^◌, inl, inr, Bool, true, false, ◌&&◌, not, List, ◌∷◌, ◌++◌, length, Option, Some, None, Result, Ok, Err, refl, sym, ap, subst, arith, length-append}
+use Rattle.std.specs.Prelude.{nat_eq, IfOk}
 use Rattle.rasn_types.specs.declared.types.codec.Codec.{Codec}
 use Rattle.rasn_types.specs.declared.types.tag.Tag.{Tag}
 use Rattle.rasn_types.specs.declared.error.decode.DecodeError.{DecodeError}
 use Rattle.rasn_types.specs.Errors.{IsOutOfMemory}
 use Rattle.rasn_types.specs.Tags.{Form, form}
-use Rattle.rasn_types.specs.Framing.{AreOctets, Extent, definite, indefinite, Frame, with_length, without_length, NextTag, Ended}
-use Rattle.rasn_types.specs.Shapes.{Tree, Shape, prefix, option, own, looked_for, Sought, one_tag, any_of, done, joined, seq, Parts, part, Presence, required, addition, optional}
+use Rattle.rasn_types.specs.Framing.{AreOctets, Extent, definite, indefinite, Frame, with_length, without_length, NextTag}
+use Rattle.rasn_types.specs.Shapes.{Tree, Shape, prefix, option, own, looked_for, Sought, one_tag, any_of, done, joined, seq, Parts, part, Presence, required, addition, optional, optional_choice, default, IsFirst}
 use Rattle.rasn_types.specs.Shapes.Parts.{none}
 use Rattle.rasn_types.specs.Trees.{option_tree}
-use Rattle.rasn_types.specs.Readings.{IsLeftOut, IsPresent}
 use Rattle.rasn_de.specs.declared.ber.de.parser.ParseError.{ParseError}
 use Rattle.rasn_de.specs.declared.ber.de.parser.ParseError.TheVariants as parse
 use Rattle.rasn_de.specs.declared.ber.de.constructed.ConstructedHeader.{ConstructedHeader}
 use Rattle.rasn_de.specs.Causes.{error_kind}
-use Rattle.rasn_de.specs.Headers.{spelled, Header, header_at, Identified, identifier_at}
+use Rattle.rasn_de.specs.Headers.{Header, header_at, Identified, identifier_at}
 use Rattle.rasn_de.specs.Segments.{octets_inside, end_at}
 use Rattle.rasn_de.specs.State.{State, Call, at, IsEnd}
-use Rattle.rasn_de.specs.Steps.{PeeksTag}
 use Rattle.rasn_de.specs.Outcomes.{Got}
-use Rattle.rasn_de.specs.Decodes.{DecodesExactly, Decodes, ReadsParts}
+use Rattle.rasn_de.specs.Decodes.{DecodesExactly, ReadsParts}
 use Rattle.rasn_de.specs.Constructed.{expected_header, through, constructed_header_at, contents_state, unclosed, Keeps, no_value, inside, not_closed, DecodesInside, sequence_header, prefix_header}
-use Rattle.rasn_de.specs.Optional.{OnePart, NextIs, DecodesIfSought, DecodesIfPresent}
+use Rattle.rasn_types.specs.declared.error.decode.DerDecodeErrorKind.TheVariants.{DefaultValuePresent}
+use Rattle.std.specs.declared.alloc.AllocError.{AllocError}
+use Rattle.rasn_de.specs.Optional.{OnePart, NextIs, DecodesIfSought, DecodesIfPresent, DecodesSoughtOrDefault, DecodesOrDefault, no_look, no_read, present}
 use Rattle.rasn_de.specs.PartTypes.{needs_no_initializer, FailsAtOnePart, IsErrorOfParts, DecodesInParts, DecodesSequenceParts}
 use Rattle.rasn_de.specs.ValueErrors.{Errors, errors_of, DecodesOr}
 use Rattle.rasn_de.proofs.Headers.Memory.{NoMemory, header_none, identifier_none}
@@ -33,11 +33,11 @@ use Rattle.rasn_de.proofs.Headers.Results.{chosen}
 use Rattle.rasn_de.proofs.Strings.Reads.{frame_octets}
 use Rattle.rasn_de.proofs.Constructed.Contents.{constructed_header_parsed}
 use Rattle.rasn_de.proofs.Constructed.Opening.{closed_end}
-use Rattle.rasn_de.proofs.Constructed.ValueErrors.{perhaps_or, sought_failed}
-use Rattle.rasn_de.proofs.OwnTypes.Parts.{no_parts, part_got, optional_part, optional_fails}
+use Rattle.rasn_de.proofs.Constructed.ValueErrors.{perhaps_or, sought_or, sought_failed, default_or, default_failed}
+use Rattle.rasn_de.proofs.OwnTypes.Parts.{no_parts, part_got, optional_part, optional_fails, default_part, default_fails, own_default_fails}
 use Rattle.rasn_de.proofs.OwnTypes.PartTypes.{parts_decode}
-use Rattle.rasn.specs.OneRefusal.{ReadingBy, ReadsShape, LeaveNone, Settles}
-use Rattle.rasn.proofs.OneRefusal.Calls.{octets_end, IsExactCall}
+use Rattle.rasn.specs.OneRefusal.{ReadingBy, ReadsShape, Settles}
+use Rattle.rasn.proofs.OneRefusal.Calls.{octets_end, IsExactCall, or_settles}
 use Rattle.rasn.proofs.OneRefusal.Inside.{or_exact, prefix_exact}
 use Rattle.rasn.proofs.OneRefusal.Parts.{in_parts_exact}
 use Rattle.rasn.proofs.OneRefusal.Read.{end_none}
@@ -48,16 +48,6 @@ ends_shorter l m (front, e) = let a = ap length e in let b = length-append front
 
 ends_below : (l m : List ℕ) → IsEnd l m → length l < 2 ^ 63 → length m < 2 ^ 63
 ends_below l m e b = let a = ends_shorter l m e in omega arith
-
--- A call whose value is a shape's, with the errors of the call.
-pub or_settles : {D : Type 0} (call : Call D) (s : Shape) (tree : D → Tree) → IsExactCall call (ReadsShape s) tree → Settles call → Settles (DecodesOr s tree (errors_of call))
-or_settles call s tree exact all old o b passed failed =
-    all old o b (λ v new a. passed v new (exact old o (Ok v) new a, tt)) (λ e new a. failed e new ((exact old o (Err e) new a.0, a.0), a.1))
-
--- Then each input is read or refused.
-pub settled_none : {D : Type 0} (s : Shape) (tree : D → Tree) (errors : Errors) → Settles (DecodesOr s tree errors) → LeaveNone errors (ReadsShape s)
-settled_none s tree errors all old o b unread unrefused =
-    all old o b (λ v new a. unread (tree v) new.rest a.0.exact.0) (λ e new a. unrefused e new (a.0.1, a.1))
 
 -- The contents of a value are in the input.
 frame_inside : {spelling : Form} (input : List ℕ) {tag : Tag} {bit : Bool} {rest : List ℕ} {x : Extent} → Frame spelling input tag bit rest x → length (octets_inside x rest) ≤ length input
@@ -208,3 +198,32 @@ module _ {A R D : Type 0} (s : Shape) (ps : Parts) (first others : Errors) (firs
       part_settles optional s ps (DecodesIfPresent (DecodesOr s first_tree first) tag) (option_tree first_tree) (errors_of (DecodesIfPresent (DecodesOr s first_tree first) tag)) others rest_tree tree make is
       (λ old x new o a. optional_part s own_is (perhaps_or s first_tree first tag old (Ok x) new a))
       (λ old e new a. (optional_fails s own_is (sought_failed s first_tree first (one_tag (looked_for tag)) old e new a), a)) (sought_settles (DecodesOr s first_tree first) all (one_tag (looked_for tag))) rest_all
+
+-- A CHOICE that may be left out.
+pub optional_choice_settles : {A R D : Type 0} (s : Shape) (ps : Parts) (first others : Errors) (first_tree : A → Tree) (rest_tree : R → Tree) → Settles (DecodesInParts ps rest_tree others) → (tree : D → Tree) (make : Option A → R → D)
+    → ((x : Option A) (r : R) → tree (make x r) ≡ joined (option_tree first_tree x) (rest_tree r)) → Settles (DecodesOr s first_tree first)
+    → Settles (DecodesInParts (part optional_choice s ps) tree (IsErrorOfParts optional_choice s (errors_of (DecodesIfSought (DecodesOr s first_tree first) (any_of (IsFirst s)))) others))
+optional_choice_settles s ps first others first_tree rest_tree rest_all tree make is all =
+    part_settles optional_choice s ps (DecodesIfSought (DecodesOr s first_tree first) (any_of (IsFirst s))) (option_tree first_tree) (errors_of (DecodesIfSought (DecodesOr s first_tree first) (any_of (IsFirst s)))) others rest_tree tree make is
+    (λ old x new o a. sought_or s first_tree first (any_of (IsFirst s)) old (Ok x) new a)
+    (λ old e new a. (sought_failed s first_tree first (any_of (IsFirst s)) old e new a, a)) (sought_settles (DecodesOr s first_tree first) all (any_of (IsFirst s))) rest_all
+
+-- A value that has a default, if there is such a value.
+sought_default_settles : {D : Type 0} (read : Call D) (tree : D → Tree) (made : Result D AllocError → Type 0) → Settles read → (d : D) → made (Ok d) → (tags : Sought) → Settles (DecodesSoughtOrDefault read tree made tags)
+sought_default_settles read tree made all d m tags old o b passed failed =
+    next_or tags old o
+    (λ t. all old o b
+    (λ v new r. passed v new (inr (t, r, λ strict. (d, m, λ same. failed (record { kind = error_kind (parse.Der DefaultValuePresent); codec = old.rule }) new (present t v r strict d m same refl, λ w. cc)))))
+    (λ e new r. failed e new (no_read t r.0, r.1)))
+    (λ t. passed d old (inl (t, m, refl)))
+    (λ e n t. failed e old (no_look t refl, n))
+
+pub default_settles : {A R D : Type 0} (s : Shape) (ps : Parts) (first others : Errors) (first_tree : A → Tree) (rest_tree : R → Tree) → Settles (DecodesInParts ps rest_tree others) → (tree : D → Tree) (make : A → R → D)
+    → ((x : A) (r : R) → tree (make x r) ≡ joined (first_tree x) (rest_tree r)) → (d : Tree) (v : A) → first_tree v ≡ d → (tag : Tag) → own s ≡ looked_for tag → Settles (DecodesOr s first_tree first)
+    → Settles (DecodesInParts (part (default d) s ps) tree (IsErrorOfParts (default d) s (errors_of (DecodesOrDefault (DecodesOr s first_tree first) first_tree (λ made. IfOk made (λ x. first_tree x ≡ d)) tag)) others))
+default_settles {A = A} s ps first others first_tree rest_tree rest_all tree make is d v there tag own_is all =
+    let made : Result A AllocError → Type 0 = λ made. IfOk made (λ x. first_tree x ≡ d) in
+    part_settles (default d) s ps (DecodesOrDefault (DecodesOr s first_tree first) first_tree made tag) first_tree (errors_of (DecodesOrDefault (DecodesOr s first_tree first) first_tree made tag)) others rest_tree tree make is
+    (λ old x new o a. default_part tag d s own_is (default_or s first_tree first made tag old (Ok x) new a d (λ y q. q)))
+    (λ old e new a. (own_default_fails s d own_is (default_fails s first_tree made d (one_tag (looked_for tag)) old new e (λ y q. q) (default_failed s first_tree first made (one_tag (looked_for tag)) old e new a)), a))
+    (sought_default_settles (DecodesOr s first_tree first) first_tree made all v there (one_tag (looked_for tag))) rest_all

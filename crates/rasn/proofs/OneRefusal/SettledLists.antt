@@ -1,5 +1,5 @@
 -- Elements up to the end are decoded or refused if each element is.
-use Rattle.std.proofs.Common.{◌≡◌, ◌≢◌, ℕ, zero, suc, ◌+◌, ◌<◌, ◌≤◌, ◌^◌, inl, inr, List, [], ◌∷◌, ◌++◌, length, Vec, None, Ok, Err, refl, sym, ap, ◌∙◌, subst, arith, length-append}
+use Rattle.std.proofs.Common.{◌≡◌, ℕ, zero, suc, ◌+◌, ◌<◌, ◌≤◌, ◌^◌, inl, inr, List, [], ◌∷◌, ◌++◌, length, Vec, None, Ok, refl, sym, ap, ◌∙◌, subst, arith, length-append}
 use Rattle.std.specs.Global.{Global}
 use Rattle.std.specs.Prelude.{vec_len}
 use denote.RawPtr.{null_ptr}
@@ -29,11 +29,11 @@ use Rattle.rasn_de.proofs.Any.Unknown.{unknown_decodes}
 use Rattle.rasn_de.proofs.Constructed.NextElement.{passes_more}
 use Rattle.rasn_de.proofs.Constructed.SetOfElements.{each_decodes, in_order_decodes, passes_from}
 use Rattle.rasn_de.proofs.Constructed.ValueErrors.{elements_by, in_order_by, or_decodes, sequence_of_or, set_of_or}
-use Rattle.rasn.specs.OneRefusal.{ReadingBy, ReadsShape, LeaveNone, Settles}
-use Rattle.rasn.proofs.OneRefusal.Calls.{octets_end, IsExactCall}
+use Rattle.rasn.specs.OneRefusal.{ReadingBy, ReadsShape, Settles}
+use Rattle.rasn.proofs.OneRefusal.Calls.{octets_end, IsExactCall, or_settles}
 use Rattle.rasn.proofs.OneRefusal.Inside.{or_exact}
 use Rattle.rasn.proofs.OneRefusal.OpenRead.{open_or}
-use Rattle.rasn.proofs.OneRefusal.Settled.{ends_shorter, or_settles, inside_settles}
+use Rattle.rasn.proofs.OneRefusal.Settled.{ends_shorter, inside_settles}
 
 -- A list in memory.
 abbrev pub vec_of : {X : Type 0} (xs : List X) → length xs < 2 ^ 63 → Vec X Global
@@ -115,8 +115,8 @@ module _ {D : Type 0} (s : Shape) (tree : D → Tree) (errors : Errors) (all : S
       (in_order_settle (DecodesOr s tree errors) (ReadsShape s) tree (or_exact s tree errors) all elements (λ vs b. (vs, refl))) (list_header tag)))
 
 -- Unknown values.
-pub unknown_read : LeaveNone (errors_of DecodesUnknown) (ReadsShape unknown)
-unknown_read old o b unread unrefused =
-    elements_settle (DecodesOpenType eoc) (ReadsShape (any None)) numbers (λ old o r new a. open_decodes eoc old new r a) (λ old o b passed failed. open_or eoc old o (λ a rest d. passed a (at old rest) d) (λ e n d. failed e old (d, n)))
-    (λ (u : Unknown). u.values.items) (λ vs b. (record { values = vec_of vs b }, refl)) old o b
-    (λ v new a. unread (list_tree numbers v.values.items) new.rest (unknown_decodes old (Ok v) new a).exact.0) (λ e new a. unrefused e new a)
+pub unknown_read : Settles (DecodesOr unknown (λ (u : Unknown). list_tree numbers u.values.items) (errors_of DecodesUnknown))
+unknown_read =
+    or_settles DecodesUnknown unknown (λ (u : Unknown). list_tree numbers u.values.items) (λ old o r new a. unknown_decodes old r new a)
+    (elements_settle (DecodesOpenType eoc) (ReadsShape (any None)) numbers (λ old o r new a. open_decodes eoc old new r a) (λ old o b passed failed. open_or eoc old o (λ a rest d. passed a (at old rest) d) (λ e n d. failed e old (d, n)))
+    (λ (u : Unknown). u.values.items) (λ vs b. (record { values = vec_of vs b }, refl)))

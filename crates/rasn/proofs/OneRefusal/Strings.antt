@@ -11,7 +11,7 @@ use Rattle.rasn_types.specs.Errors.{IsOutOfMemory}
 use Rattle.rasn_types.specs.Framing.{AreOctets}
 use Rattle.rasn_types.specs.Time.{DateText}
 use Rattle.rasn_types.specs.Grammar.{UtcText, GeneralizedText}
-use Rattle.rasn_types.specs.Shapes.{leaf, bit_string, named_bits, utc_time, generalized_time, date, Kind, bits}
+use Rattle.rasn_types.specs.Shapes.{leaf, bit_string, named_bits, utc_time, generalized_time, date, Kind}
 use Rattle.rasn_types.specs.Trees.{unconstrained}
 use Rattle.rasn_de.specs.declared.ber.de.parser.ParseError.{ParseError}
 use Rattle.rasn_de.specs.declared.ber.de.parser.ParseError.TheVariants as parse

@@ -1,5 +1,5 @@
 -- Octets that were worked out by hand are refused.
-use Rattle.std.proofs.Common.{◌≡◌, ◌≢◌, ℕ, inl, inr, List, [], ◌∷◌, Result, Ok, Err, refl, sym, subst, arith}
+use Rattle.std.proofs.Common.{◌≡◌, ◌≢◌, ℕ, ℤ, inl, inr, List, [], ◌∷◌, Result, Ok, Err, refl, sym, subst, arith}
 use Rattle.rasn_types.specs.Tags.{in_universal}
 use Rattle.rasn_types.specs.declared.types.codec.Codec.{Codec}
 use Rattle.rasn_types.specs.declared.types.codec.Codec.TheVariants.{Ber, Der}
@@ -11,17 +11,31 @@ use Rattle.rasn_de.specs.declared.ber.de.parser.ParseError.{ParseError}
 use Rattle.rasn_de.specs.declared.ber.de.parser.ParseError.TheVariants as parse
 use Rattle.rasn_de.specs.Headers.{number128_at, tag_number_at, identifier_by, number256_at, long_at, length_at, header_by}
 use Rattle.rasn_de.specs.Segments.{segments_at, string_of}
-use Rattle.rasn_de.specs.Causes.{Cause, fault, error_kind}
+use Rattle.rasn_de.specs.Causes.{Cause, fault, out_of_bound, error_kind}
 use Rattle.rasn_de.specs.State.{at}
 use Rattle.rasn_de.specs.Leaves.{FromContents, definite_at, LeafAt, FailsAs, IntegerIn}
 use Rattle.rasn_de.specs.Enumerated.{NullIn}
 use Rattle.rasn_de.specs.ObjectIdentifier.{ObjectIdentifierIn}
 use Rattle.rasn_de.specs.OctetString.{octet_string_at}
-use Rattle.rasn_de.specs.CharacterString.{StringCheck, StringAt, ByLength}
+use Rattle.rasn_de.specs.CharacterString.{StringCheck, StringAt, ByLength, ByAlphabet}
 use Rattle.rasn_de.specs.BitString.{bit_string_at}
 use Rattle.rasn_de.proofs.Headers.NextTag.{kind_memory}
 use Rattle.rasn.specs.Headline.{front}
-use Rattle.rasn.specs.WorkedKinds.{IsRefusedWith, IsNotRefused, null_errors, small_errors, object_errors, bits_errors, four_errors, WorkedKinds}
+use Rattle.rasn.specs.OneRefusal.{ReportsBound}
+use Rattle.rasn.proofs.OneRefusal.Decided.{report}
+use Rattle.rasn.proofs.OneRefusal.Leaves.{reports, integer_apart}
+use Rattle.rasn.proofs.OneRefusal.Strings.{string_apart, by_alphabet_once}
+use Rattle.rasn_de.proofs.Leaves.Integer.{integer_ensured}
+use Rattle.rasn_de.proofs.Strings.CharacterString.{string_decodes}
+use Rattle.rasn_de.proofs.Strings.Checks.{by_alphabet}
+use Rattle.rasn_types.specs.declared.error.decode.DecodeErrorKind.{DecodeErrorKind}
+use Rattle.rasn_types.specs.declared.types.strings.alphabet.Alphabet.TheVariants.{Visible}
+use Rattle.rasn_types.specs.CharacterString.{IsAdmitted}
+use Rattle.rasn_types.specs.Framing.{AreOctets}
+use Rattle.rasn_types.specs.Shapes.{number, numbers}
+use Rattle.std.specs.Prelude.{pos}
+use Rattle.std.proofs.lemmas.List.Elements.{AllWithin-none, AllWithin-more, All-from_all_within}
+use Rattle.rasn.specs.WorkedKinds.{five, five_errors, text_errors, IsRefusedWith, IsNotRefused, null_errors, small_errors, object_errors, bits_errors, four_errors, WorkedKinds}
 
 -- Contents that are refused, where the header is read.
 in_contents : {X : Type 0} (read : List ℕ → Result X Cause → Type 0) (rule : Codec) (tag : Tag) (input c rest : List ℕ) (f : ParseError) → definite_at rule tag input ≡ Ok (c, rest) → read c (Err (fault f))
@@ -94,6 +108,65 @@ one_of_four_octets : IsRefusedWith four_errors Der (4 ∷ 1 ∷ 7 ∷ 9 ∷ []) 
 unfolding number128_at tag_number_at identifier_by number256_at long_at length_at header_by string_of segments_at
 one_of_four_octets = (inr (inr ((λ e. cc), in_text (ByLength 4 unconstrained.size) (in_universal 4) (4 ∷ 1 ∷ 7 ∷ 9 ∷ []) (7 ∷ []) (9 ∷ []) (parse.SizeConstraintNotSatisfied 1 (Single 4)) (λ e. cc) refl (inl ((λ e. cc), refl)))), λ e. cc)
 
+-- A number out of the width of its type, and one out of its bound.
+number_out_of_width : IsRefusedWith small_errors Der (2 ∷ 2 ∷ 1 ∷ 0 ∷ 9 ∷ []) (error_kind (parse.IntegerOverflow 8)) (9 ∷ [])
+unfolding number128_at tag_number_at identifier_by number256_at long_at length_at header_by
+number_out_of_width = (
+  inr (in_contents (IntegerIn Der 8 (signed_range 8) unconstrained) Der (in_universal 2) (2 ∷ 2 ∷ 1 ∷ 0 ∷ 9 ∷ []) (1 ∷ 0 ∷ []) (9 ∷ []) (parse.IntegerOverflow 8) refl
+      (inr (((λ e. cc), (λ s. λ r. elim r [ inl h ↦ (let e = h.0 in cc) | inr h ↦ (let e = h.0 in cc) ])), (λ h. omega (arith, h.1)), refl))),
+  λ e. cc,
+)
+
+number_framed : definite_at Der (in_universal 2) (2 ∷ 1 ∷ 127 ∷ []) ≡ Ok (127 ∷ [], [])
+unfolding number128_at tag_number_at identifier_by number256_at long_at length_at header_by
+number_framed = refl
+
+-- What is read isn't refused.
+number_in_width : IsNotRefused small_errors Der (2 ∷ 1 ∷ 127 ∷ [])
+number_in_width e new a =
+    let here = front Der (2 ∷ 1 ∷ 127 ∷ []) in
+    let o : AreOctets here.rest = (omega arith, (omega arith, (omega arith, tt))) in
+    let there = subst (λ d. FromContents (IntegerIn Der 8 (signed_range 8) unconstrained) d (Ok (pos 127, []))) (sym number_framed) ((((λ e. cc), (λ s. tt)), (omega arith, omega arith), tt, refl), refl) in
+    let x = (integer_ensured 8 (signed_range 8) unconstrained (λ (z : ℤ). z) (λ z. ⊥) (in_universal 2) here (at here []) (Ok (pos 127)) o (there, refl)).reads in
+    (integer_apart 8 (signed_range 8) unconstrained (λ z. ⊥) (in_universal 2)).unread here o e new a (number (pos 127)) [] x.exact.0
+
+six_framed : definite_at Der (in_universal 2) (2 ∷ 1 ∷ 6 ∷ 9 ∷ []) ≡ Ok (6 ∷ [], 9 ∷ [])
+unfolding number128_at tag_number_at identifier_by number256_at long_at length_at header_by
+six_framed = refl
+
+six_is_not_five : pos 6 ≡ pos 5 → ⊥
+six_is_not_five e = cc
+
+number_out_of_bound : (kind : DecodeErrorKind) × ReportsBound (pos 6) (Single (pos 5)) kind × IsRefusedWith five_errors Der (2 ∷ 1 ∷ 6 ∷ 9 ∷ []) kind (9 ∷ [])
+number_out_of_bound =
+    let k = report (out_of_bound (pos 6) (Single (pos 5))) tt in
+    let there = subst (λ d. FromContents (IntegerIn Der 8 (signed_range 8) five) d (Err (out_of_bound (pos 6) (Single (pos 5)), 9 ∷ []))) (sym six_framed)
+    ((((λ e. cc), (λ s. tt)), (omega arith, omega arith), (λ h. elim h [ inl e ↦ cc | inr e ↦ six_is_not_five e ]), refl, refl), refl) in
+    (k.0, reports (pos 6) (Single (pos 5)) k.0 k.2 k.1, (inr (out_of_bound (pos 6) (Single (pos 5)), there, k.1, refl, refl), k.2))
+
+-- Characters.
+letter_framed : octet_string_at Der 128 (in_universal 26) (26 ∷ 1 ∷ 65 ∷ 9 ∷ []) ≡ Ok (65 ∷ [], 9 ∷ [])
+unfolding number128_at tag_number_at identifier_by number256_at long_at length_at header_by string_of segments_at
+letter_framed = refl
+
+characters_read : IsNotRefused text_errors Der (26 ∷ 1 ∷ 65 ∷ 9 ∷ [])
+characters_read e new a =
+    let here = front Der (26 ∷ 1 ∷ 65 ∷ 9 ∷ []) in
+    let o : AreOctets here.rest = (omega arith, (omega arith, (omega arith, (omega arith, tt)))) in
+    let x = string_decodes (by_alphabet Visible unconstrained) (λ (l : List ℕ). l) (in_universal 26) here (at here (9 ∷ [])) (Ok (65 ∷ [])) o ((65 ∷ [], letter_framed, (refl, tt, All-from_all_within (IsAdmitted Visible) (65 ∷ []) (AllWithin-more (IsAdmitted Visible) (65 ∷ []) 0 0 (AllWithin-none (IsAdmitted Visible) (65 ∷ []) 0) (λ d. (omega arith, omega arith))))), refl) in
+    (string_apart (by_alphabet Visible unconstrained) (by_alphabet_once Visible unconstrained.size) (in_universal 26)).unread here o e new a (numbers (65 ∷ [])) (9 ∷ []) x.exact.0
+
+foreign_character : IsRefusedWith text_errors Der (26 ∷ 2 ∷ 65 ∷ 10 ∷ 9 ∷ []) (error_kind (parse.PermittedAlphabetError 10 1)) (9 ∷ [])
+unfolding number128_at tag_number_at identifier_by number256_at long_at length_at header_by string_of segments_at
+foreign_character = (
+  inr (inr (
+    (λ e. cc),
+    in_text (ByAlphabet Visible unconstrained.size) (in_universal 26) (26 ∷ 2 ∷ 65 ∷ 10 ∷ 9 ∷ []) (65 ∷ 10 ∷ []) (9 ∷ []) (parse.PermittedAlphabetError 10 1) (λ e. cc) refl
+        (inr (tt, (1, omega arith, AllWithin-more (IsAdmitted Visible) (65 ∷ 10 ∷ []) 0 0 (AllWithin-none (IsAdmitted Visible) (65 ∷ 10 ∷ []) 0) (λ d. (omega arith, omega arith)), (λ h. omega (arith, h.0)), refl))),
+  )),
+  λ e. cc,
+)
+
 pub worked : WorkedKinds
 worked = record {
   null_of_an_octet = null_of_an_octet;
@@ -105,4 +178,9 @@ worked = record {
   no_unused_count = no_unused_count;
   eight_unused_bits = eight_unused_bits;
   one_of_four_octets = one_of_four_octets;
+  number_out_of_width = number_out_of_width;
+  number_in_width = number_in_width;
+  number_out_of_bound = number_out_of_bound;
+  foreign_character = foreign_character;
+  characters_read = characters_read;
 }

@@ -1,11 +1,14 @@
 -- Octets that were worked out by hand are refused where values contain others.
-use Rattle.std.proofs.Common.{◌≡◌, ◌≢◌, ℕ, inl, inr, List, [], ◌∷◌, true, false, pos, Ok, Err, refl, sym, subst, arith}
+use Rattle.std.proofs.Common.{◌≡◌, ◌≢◌, ℕ, inl, inr, List, [], ◌∷◌, length, true, false, pos, Ok, Err, refl, sym, subst, arith}
 use Rattle.rasn_types.specs.Tags.{in_universal}
 use Rattle.rasn_types.specs.declared.types.codec.Codec.TheVariants.{Der}
 use Rattle.rasn_types.specs.declared.types.tag.Tag.{Tag}
 use Rattle.rasn_types.specs.declared.types.tag.Class.TheVariants.{Context}
 use Rattle.rasn_types.specs.declared.error.decode.DecodeError.{DecodeError}
-use Rattle.rasn_types.specs.Framing.{AreOctets, definite}
+use Rattle.rasn_types.specs.Errors.{IsOutOfMemory}
+use Rattle.rasn_types.specs.Framing.{AreOctets, definite, Ended}
+use Rattle.rasn_types.specs.Order.{IsLess}
+use Rattle.rasn_types.specs.declared.error.decode.DerDecodeErrorKind.TheVariants.{SetOfOutOfOrder}
 use Rattle.rasn_types.specs.Shapes.{number}
 use Rattle.rasn_de.specs.declared.ber.de.parser.ParseError.{ParseError}
 use Rattle.rasn_de.specs.declared.ber.de.parser.ParseError.TheVariants as parse
@@ -19,7 +22,7 @@ use Rattle.rasn_de.proofs.Headers.NextTag.{kind_memory}
 use Rattle.rasn_de.proofs.Leaves.Boolean.{bool_ensured}
 use Rattle.rasn_de.proofs.Leaves.Null.{null_ensured}
 use Rattle.rasn.specs.WorkedKinds.{IsRefusedWith}
-use Rattle.rasn.specs.WorkedWholes.{sequence_errors, prefix_errors, WorkedWholes}
+use Rattle.rasn.specs.WorkedWholes.{sequence_errors, prefix_errors, list_errors, set_of_errors, WorkedWholes}
 
 -- The header of a value whose contents and rest are these, and the decoder inside it.
 abbrev held : Tag → List ℕ → List ℕ → Header
@@ -62,6 +65,9 @@ five_refused : FailsAs (BoolAt Der (in_universal 1) (1 ∷ 1 ∷ 5 ∷ [])) (wit
 unfolding number128_at tag_number_at identifier_by number256_at long_at length_at header_by
 five_refused = (fault (parse.InvalidBool 5), (refl, refl), refl, refl, refl)
 
+not_memory : IsOutOfMemory (error_kind (parse.InvalidBool 5)) → ⊥
+not_memory e = cc
+
 inside_a_tag : IsRefusedWith prefix_errors Der (160 ∷ 3 ∷ 1 ∷ 1 ∷ 5 ∷ 9 ∷ []) (error_kind (parse.InvalidBool 5)) (9 ∷ [])
 unfolding number128_at tag_number_at identifier_by number256_at long_at length_at header_by
 inside_a_tag =
@@ -71,8 +77,75 @@ inside_a_tag =
         record { stays = refl; end = (160 ∷ 3 ∷ 1 ∷ 1 ∷ 5 ∷ [], refl) },
         inside (held (record { class = Context; value = 0 }) contents (9 ∷ [])) refl (within contents []) (read, five_refused) refl,
       ),
-      λ e. cc,
+      not_memory,
+    )
+
+-- The decoder inside a list.
+abbrev in_list : List ℕ → List ℕ → State
+in_list contents l = record { rule = Der; depth = 126; closing = false; whole = contents; rest = l }
+
+goes_on : (x : ℕ) (l : List ℕ) → Ended false (x ∷ l) → ⊥
+goes_on x l (inl e) = cc
+goes_on x l (inr (e, more, f)) = cc
+
+five_in_list : FailsAs (BoolAt Der (in_universal 1) (1 ∷ 1 ∷ 5 ∷ [])) (in_list (1 ∷ 1 ∷ 5 ∷ []) (1 ∷ 1 ∷ 5 ∷ [])) (record { kind = error_kind (parse.InvalidBool 5); codec = Der }) (in_list (1 ∷ 1 ∷ 5 ∷ []) [])
+unfolding number128_at tag_number_at identifier_by number256_at long_at length_at header_by
+five_in_list = (fault (parse.InvalidBool 5), (refl, refl), refl, refl, refl)
+
+inside_a_list : IsRefusedWith list_errors Der (48 ∷ 3 ∷ 1 ∷ 1 ∷ 5 ∷ 9 ∷ []) (error_kind (parse.InvalidBool 5)) (9 ∷ [])
+unfolding number128_at tag_number_at identifier_by number256_at long_at length_at header_by
+inside_a_list =
+    let contents = 1 ∷ 1 ∷ 5 ∷ [] in
+    let read = (bool_ensured (in_universal 1) (in_list contents contents) (in_list contents []) (Err (record { kind = error_kind (parse.InvalidBool 5); codec = Der })) (omega arith, (omega arith, (omega arith, tt))) five_in_list).reads in (
+      inl (
+        record { stays = refl; end = (48 ∷ 3 ∷ 1 ∷ 1 ∷ 5 ∷ [], refl) },
+        inside (held (in_universal 16) contents (9 ∷ [])) refl (in_list contents []) ([], in_list contents contents, refl, goes_on 1 (1 ∷ 5 ∷ []), inl (read, five_in_list)) refl,
+      ),
+      not_memory,
+    )
+
+first_there : BoolAt Der (in_universal 1) (1 ∷ 1 ∷ 255 ∷ 1 ∷ 1 ∷ 0 ∷ []) (Ok (true, 1 ∷ 1 ∷ 0 ∷ []))
+unfolding number128_at tag_number_at identifier_by number256_at long_at length_at header_by
+first_there = (refl, refl)
+
+second_there : BoolAt Der (in_universal 1) (1 ∷ 1 ∷ 0 ∷ []) (Ok (false, []))
+unfolding number128_at tag_number_at identifier_by number256_at long_at length_at header_by
+second_there = (refl, refl)
+
+falls : IsLess (1 ∷ 1 ∷ 0 ∷ []) (1 ∷ 1 ∷ 255 ∷ [])
+falls = inr (refl, inr (refl, inl (omega arith)))
+
+order_not_memory : IsOutOfMemory (error_kind (parse.Der SetOfOutOfOrder)) → ⊥
+order_not_memory e = cc
+
+three_of_six : length {A = ℕ} (1 ∷ 1 ∷ 0 ∷ []) ≢ length {A = ℕ} (1 ∷ 1 ∷ 255 ∷ 1 ∷ 1 ∷ 0 ∷ [])
+three_of_six e = cc
+
+none_of_three : length {A = ℕ} [] ≢ length {A = ℕ} (1 ∷ 1 ∷ 0 ∷ [])
+none_of_three e = cc
+
+out_of_order : IsRefusedWith set_of_errors Der (49 ∷ 6 ∷ 1 ∷ 1 ∷ 255 ∷ 1 ∷ 1 ∷ 0 ∷ 9 ∷ []) (error_kind (parse.Der SetOfOutOfOrder)) (9 ∷ [])
+unfolding number128_at tag_number_at identifier_by number256_at long_at length_at header_by
+out_of_order =
+    let all = 1 ∷ 1 ∷ 255 ∷ 1 ∷ 1 ∷ 0 ∷ [] in
+    let last = 1 ∷ 1 ∷ 0 ∷ [] in
+    let first = (bool_ensured (in_universal 1) (in_list all all) (in_list all last) (Ok true) (omega arith, (omega arith, (omega arith, (omega arith, (omega arith, (omega arith, tt)))))) (first_there, refl)).reads in
+    let second = (bool_ensured (in_universal 1) (in_list all last) (in_list all []) (Ok false) (omega arith, (omega arith, (omega arith, tt))) (second_there, refl)).reads in (
+      inl (
+        record { stays = refl; end = (49 ∷ 6 ∷ all, refl) },
+        inside (held (in_universal 17) all (9 ∷ [])) refl (in_list all []) (
+          true ∷ [],
+          (1 ∷ 1 ∷ 255 ∷ []) ∷ [],
+          in_list all last,
+          (1 ∷ 1 ∷ 255 ∷ [], [], in_list all last, refl, refl, goes_on 1 (1 ∷ 255 ∷ last), (first, tt), three_of_six, (refl, refl)),
+          (λ s. tt),
+          goes_on 1 (1 ∷ 0 ∷ []),
+          inr (false, last, (second, tt), refl, none_of_three, tt, (λ up. up.0 falls), refl),
+        )
+            refl,
+      ),
+      order_not_memory,
     )
 
 pub worked : WorkedWholes
-worked = record { missing_part = missing_part; second_part = second_part; inside_a_tag = inside_a_tag }
+worked = record { missing_part = missing_part; second_part = second_part; inside_a_tag = inside_a_tag; inside_a_list = inside_a_list; out_of_order = out_of_order }

@@ -1,5 +1,6 @@
 use Rattle.rasn_types.specs.Shapes.{tagged_as}
-use Rattle.rasn.proofs.OneRefusal.Settled.{settled_none, prefix_settles, option_settles}
+use Rattle.rasn.proofs.OneRefusal.Settled.{prefix_settles, option_settles}
+use Rattle.rasn.proofs.OneRefusal.Calls.{settled_none}
 use Rattle.rasn.proofs.OneRefusal.SettledLists.{sequence_of_settles}
 use Rattle.rasn.proofs.refusal_laws.settled.Goals as goal
 
