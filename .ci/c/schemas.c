@@ -177,7 +177,7 @@ static void messages_are_checked(void) {
 }
 
 static void json_is_written_and_read(void) {
-    char text[200], out[sizeof json + 1];
+    char text[200], out[sizeof json + 1], deep[514];
     uint8_t octets[sizeof row + 1];
     soq_reason reason;
     size_t size, needed = 7;
@@ -197,6 +197,11 @@ static void json_is_written_and_read(void) {
     ENSURE(soq_encode(schema, schema_length, SOQ_DER, "{\"number\":5,\"list\":[true,0]}", 28, octets, sizeof octets, &needed, &reason, text, sizeof text) == SOQ_REFUSED);
     ENSURE(reason.path_length == 7 && strncmp(text, "list[1]: ", 9) == 0 && needed == 0);
     ENSURE(soq_encode(schema, schema_length, SOQ_DER, "{\n5}", 4, octets, sizeof octets, &needed, &reason, text, sizeof text) == SOQ_REFUSED && reason.line == 2);
+    /* a line, and 513 arrays in one another: the last of them is at line 2, column 513 */
+    deep[0] = '\n';
+    memset(deep + 1, '[', 513);
+    ENSURE(soq_encode(schema, schema_length, SOQ_DER, deep, sizeof deep, octets, sizeof octets, &needed, &reason, text, sizeof text) == SOQ_REFUSED);
+    ENSURE(reason.line == 2 && reason.column == 513);
     ENSURE(soq_encode(schema, schema_length, SOQ_DER, "\xFF", 1, octets, sizeof octets, &needed, &reason, text, sizeof text) == SOQ_REFUSED);
     ENSURE(soq_normalise_by(schema, schema_length, SOQ_BER, OF(spelled), octets, sizeof octets, &needed, &reason, text, sizeof text) == SOQ_OK);
     ENSURE(needed == sizeof row && memcmp(octets, row, sizeof row) == 0);

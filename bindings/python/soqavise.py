@@ -36,12 +36,16 @@ import itertools
 import json
 import os
 import pathlib
-from typing import Any, Iterator, Mapping, NamedTuple, Sequence
+from typing import Any, Iterator, Mapping, NamedTuple, Sequence, Union
 
 __all__ = [
-    "Encoding", "Part", "PemBlock", "Refused", "Rules", "Schema", "Type", "check", "encodings", "extension", "fault",
-    "identifier", "integer", "name_text", "next_encoding", "normalise", "pem_blocks", "skip", "time",
+    "Encoding", "ModuleFault", "Part", "PemBlock", "Refused", "Rules", "Schema", "Type", "UnknownPath", "UnknownType",
+    "check", "encodings", "extension", "fault", "identifier", "integer", "name_text", "next_encoding", "normalise",
+    "pem_blocks", "skip", "time",
 ]
+
+# What calls take as octets. Anything else is a TypeError.
+Octets = Union[bytes, bytearray, memoryview]
 
 
 class Rules(enum.IntEnum):
@@ -88,6 +92,23 @@ class Refused(ValueError):
         self.kind = kind
         self.offset = offset
         self.path = path
+
+
+class ModuleFault(ValueError):
+    """Modules have faults, each in a line `NAME:LINE:COLUMN: what is wrong`. `line` and `column` are those of the first."""
+
+    def __init__(self, text: str, line: int = 0, column: int = 0) -> None:
+        super().__init__(text)
+        self.line = line
+        self.column = column
+
+
+class UnknownType(LookupError):
+    """No module has a type of this name."""
+
+
+class UnknownPath(LookupError):
+    """No value of the type has a part with this path, or the text isn't a path."""
 
 
 class Encoding(NamedTuple):
@@ -174,7 +195,7 @@ def _load() -> ctypes.CDLL:
 
 
 _LIBRARY = _load()
-_OK, _REFUSED, _OUT_OF_MEMORY, _TOO_SMALL = range(4)
+_OK, _REFUSED, _OUT_OF_MEMORY, _TOO_SMALL, _UNKNOWN_TYPE, _UNKNOWN_RULE, _BAD_SCHEMA, _UNKNOWN_PATH, _ABSENT = range(9)
 _OCTETS = [ctypes.c_char_p, ctypes.c_size_t]
 _SIZE = ctypes.POINTER(ctypes.c_size_t)
 
@@ -197,7 +218,6 @@ _time = _function("soq_time", _KIND, _KIND, *_OCTETS, ctypes.POINTER(_Time))
 _name_text = _function("soq_name_text", _KIND, *_OCTETS, *_OCTETS, _SIZE)
 _extension = _function("soq_extension", _KIND, *_OCTETS, ctypes.c_char_p, *_OCTETS, _SIZE)
 _pem = _function("soq_pem", *_OCTETS, ctypes.c_size_t, ctypes.POINTER(_Block), *_OCTETS, _SIZE)
-_ABSENT = 8
 _REASON = [ctypes.POINTER(_Reason), *_OCTETS]
 _compile = _function("soq_compile", ctypes.POINTER(_Texts), ctypes.c_size_t, ctypes.c_char_p, *_OCTETS, _SIZE, *_REASON)
 _check_by = _function("soq_check_by", *_OCTETS, _KIND, ctypes.c_int, *_OCTETS, *_REASON)
@@ -207,10 +227,30 @@ _encode = _function("soq_encode", *_OCTETS, _KIND, *_OCTETS, *_OCTETS, _SIZE, *_
 _normalise_by = _function("soq_normalise_by", *_OCTETS, _KIND, *_OCTETS, *_OCTETS, _SIZE, *_REASON)
 
 
+def _octets(octets: Octets) -> bytes:
+    """Returns octets as ctypes hands them over. A text, or a number, isn't octets."""
+    if isinstance(octets, bytes):
+        return octets
+    if isinstance(octets, (bytearray, memoryview)):
+        return bytes(octets)
+    raise TypeError(f"octets are bytes, a bytearray or a memoryview, and not {type(octets).__name__}")
+
+
+def _word(text: str) -> bytes:
+    """Returns a text as C has it, which ends at the first NUL."""
+    if not isinstance(text, str):
+        raise TypeError(f"a name is a str, and not {type(text).__name__}")
+    if "\0" in text:
+        raise ValueError(f"{text!r} has a NUL")
+    return text.encode("utf-8")
+
+
 def _answer(status: int, text: str) -> None:
     """Raises the error of a status, unless it is SOQ_OK."""
     if status == _OUT_OF_MEMORY:
         raise MemoryError
+    if status in (_UNKNOWN_TYPE, _UNKNOWN_RULE):
+        raise ValueError("no call has this type and these rules")
     if status != _OK:
         raise Refused(text)
 
@@ -225,38 +265,42 @@ def _written(capacity: int, call) -> tuple[int, bytes]:
         capacity = needed.value
 
 
-def fault(type: Type, rules: Rules, octets: bytes) -> Refused | None:
+def fault(type: Type, rules: Rules, octets: Octets) -> Refused | None:
     """Returns why the octets aren't exactly one value of the type, or None if they are one."""
+    type, rules, octets = Type(type), Rules(rules), _octets(octets)
     told, text = _Fault(), ctypes.create_string_buffer(512)
     status = _decode_error(type, rules, octets, len(octets), told, text, len(text))
     if status == _REFUSED:
         return Refused(text.value.decode("utf-8", "replace"), told.kind, told.offset)
-    _answer(status, f"no call has type {type} and rules {rules}")
+    _answer(status, f"soq_status {status}")
     return None
 
 
-def check(type: Type, octets: bytes) -> None:
+def check(type: Type, octets: Octets) -> None:
     """Checks that the octets are the one DER encoding of a value of the type.
 
     Open types aren't looked into. Raises Refused if they aren't.
     """
+    type, octets = Type(type), _octets(octets)
     status = _check(type, octets, len(octets))
     if status == _REFUSED:
         raise fault(type, Rules.DER, octets) or Refused("not the DER encoding of its value")
-    _answer(status, f"no type has the number {type}")
+    _answer(status, f"soq_status {status}")
 
 
-def normalise(type: Type, rules: Rules, octets: bytes) -> bytes:
+def normalise(type: Type, rules: Rules, octets: Octets) -> bytes:
     """Returns the DER octets of the value that all of the octets encode under these rules."""
+    type, rules, octets = Type(type), Rules(rules), _octets(octets)
     status, normal = _written(len(octets), lambda *room: _normalise(type, rules, octets, len(octets), *room))
     if status == _REFUSED:
         raise fault(type, rules, octets) or Refused("its value has no DER encoding")
-    _answer(status, f"no call has type {type} and rules {rules}")
+    _answer(status, f"soq_status {status}")
     return normal
 
 
-def skip(rules: Rules, octets: bytes) -> int:
+def skip(rules: Rules, octets: Octets) -> int:
     """Returns the length of the one whole encoding at the front of the octets, of any type."""
+    rules, octets = Rules(rules), _octets(octets)
     passed = _Passed()
     _answer(_skip(rules, octets, len(octets), passed), "the octets don't begin with a whole encoding")
     return passed.consumed
@@ -272,13 +316,14 @@ def _encoding_at(rules: Rules, octets: bytes, at: int) -> Encoding:
     return Encoding(found.tag_class, found.tag_number, bool(found.constructed), contents, whole)
 
 
-def next_encoding(rules: Rules, octets: bytes) -> Encoding:
+def next_encoding(rules: Rules, octets: Octets) -> Encoding:
     """Returns the parts of the one whole encoding at the front of the octets, of any type."""
-    return _encoding_at(rules, octets, 0)
+    return _encoding_at(Rules(rules), _octets(octets), 0)
 
 
-def encodings(rules: Rules, octets: bytes) -> Iterator[Encoding]:
+def encodings(rules: Rules, octets: Octets) -> Iterator[Encoding]:
     """Yields the encodings of which the octets are made, such as those in constructed contents."""
+    rules, octets = Rules(rules), _octets(octets)
     at = 0
     while at < len(octets):
         found = _encoding_at(rules, octets, at)
@@ -286,46 +331,50 @@ def encodings(rules: Rules, octets: bytes) -> Iterator[Encoding]:
         at += len(found.whole)
 
 
-def integer(rules: Rules, octets: bytes) -> int:
+def integer(rules: Rules, octets: Octets) -> int:
     """Returns the number of the INTEGER that all of the octets are, of any length. Its tag may be any."""
+    rules, octets = Rules(rules), _octets(octets)
     buffer, needed = ctypes.create_string_buffer(len(octets) + 1), ctypes.c_size_t()
     status = _integer_octets(rules, octets, len(octets), buffer, len(buffer), needed)
     _answer(status, "the octets aren't one INTEGER")
     return int.from_bytes(buffer.raw[:needed.value], "big", signed=True)
 
 
-def identifier(rules: Rules, octets: bytes) -> str:
+def identifier(rules: Rules, octets: Octets) -> str:
     """Returns the OBJECT IDENTIFIER that all of the octets are, as '1.2.840'. Its tag may be any."""
+    rules, octets = Rules(rules), _octets(octets)
     capacity = 4 * len(octets) + 8
     status, text = _written(capacity, lambda *room: _identifier(rules, octets, len(octets), *room))
     _answer(status, "the octets aren't one OBJECT IDENTIFIER")
     return text[:-1].decode("ascii")
 
 
-def extension(rules: Rules, octets: bytes, identifier: str) -> bytes | None:
+def extension(rules: Rules, octets: Octets, identifier: str) -> bytes | None:
     """Returns the octets of the first extension with this identifier, '2.5.29.17', or None if none has it.
 
     All of the octets are Extensions (RFC 5280 4.1).
     """
+    rules, octets = Rules(rules), _octets(octets)
     buffer, needed = ctypes.create_string_buffer(max(len(octets), 1)), ctypes.c_size_t()
-    status = _extension(rules, octets, len(octets), identifier.encode("utf-8"), buffer, len(octets), needed)
+    status = _extension(rules, octets, len(octets), _word(identifier), buffer, len(octets), needed)
     if status == _ABSENT:
         return None
     _answer(status, "the octets aren't Extensions")
     return buffer.raw[:needed.value]
 
 
-def name_text(rules: Rules, octets: bytes) -> str:
+def name_text(rules: Rules, octets: Octets) -> str:
     """Returns the text of the Name (RFC 5280 4.1.2.4) that all of the octets are, by RFC 4514."""
+    rules, octets = Rules(rules), _octets(octets)
     capacity = 2 * len(octets) + 1
     status, text = _written(capacity, lambda *room: _name_text(rules, octets, len(octets), *room))
     _answer(status, "the octets aren't one Name")
     return text[:-1].decode("utf-8")
 
 
-def pem_blocks(text: bytes | str) -> Iterator[PemBlock]:
+def pem_blocks(text: Octets | str) -> Iterator[PemBlock]:
     """Yields the blocks of a text of PEM (RFC 7468). Other lines, before and between them, are skipped."""
-    text = text.encode("utf-8") if isinstance(text, str) else text
+    text = text.encode("utf-8") if isinstance(text, str) else _octets(text)
     buffer, needed, found = ctypes.create_string_buffer(max(len(text), 1)), ctypes.c_size_t(), _Block()
     for index in itertools.count():
         status = _pem(text, len(text), index, found, buffer, len(text), needed)
@@ -338,13 +387,14 @@ def pem_blocks(text: bytes | str) -> Iterator[PemBlock]:
         yield PemBlock(text[found.label:found.label + found.label_length], found.line, contents)
 
 
-def time(type: Type, rules: Rules, octets: bytes) -> datetime.datetime:
+def time(type: Type, rules: Rules, octets: Octets) -> datetime.datetime:
     """Returns the instant of the UTCTime or GeneralizedTime that all of the octets are, in UTC.
 
     Its tag may be any. The year of a UTCTime is from 1970 to 2069; in certificates 50 to 69 mean
     1950 to 1969. Nanoseconds are cut to microseconds; a leap second is the second before it.
-    Raises OverflowError for a year that a datetime can't have.
+    Raises OverflowError for a year that a datetime can't have, and ValueError for another type.
     """
+    type, rules, octets = Type(type), Rules(rules), _octets(octets)
     it = _Time()
     _answer(_time(type, rules, octets, len(octets), it), "the octets aren't one time")
     if not datetime.MINYEAR <= it.year <= datetime.MAXYEAR:
@@ -355,21 +405,31 @@ def time(type: Type, rules: Rules, octets: bytes) -> datetime.datetime:
     )
 
 
-def _told(status: int, reason: _Reason, text: ctypes.Array) -> None:
-    """Raises the error of a call by a schema, unless its status is SOQ_OK."""
+def _told(status: int, reason: _Reason, text: ctypes.Array, is_compiled: bool = False) -> None:
+    """Raises the error of a call by a schema, or of modules that are compiled, unless its status is SOQ_OK."""
+    if status == _OK:
+        return
     if status == _OUT_OF_MEMORY:
         raise MemoryError
-    if status != _OK:
-        said = text.raw[: min(reason.text_length, len(text) - 1)]
-        path = said[: reason.path_length].decode("utf-8", "replace")
-        raise Refused(said.decode("utf-8", "replace") or f"soq_status {status}", reason.kind, reason.offset, path)
+    said = text.raw[: min(reason.text_length, len(text) - 1)]
+    shown = said.decode("utf-8", "replace") or f"soq_status {status}"
+    if status == _UNKNOWN_PATH:
+        raise UnknownPath(shown)
+    if status == _UNKNOWN_TYPE:
+        raise UnknownType(shown)
+    if is_compiled and status == _REFUSED:
+        raise ModuleFault(shown, reason.line, reason.column)
+    if status != _REFUSED:
+        raise ValueError(shown)
+    path = said[: reason.path_length].decode("utf-8", "replace")
+    raise Refused(shown, reason.kind, reason.offset, path)
 
 
-def _made(capacity: int, call) -> bytes:
+def _made(capacity: int, call, is_compiled: bool = False) -> bytes:
     """Returns what a call writes, with a larger buffer if it asks for one."""
     text, reason = ctypes.create_string_buffer(4096), _Reason()
     status, octets = _written(capacity, lambda *room: call(*room, reason, text, len(text)))
-    _told(status, reason, text)
+    _told(status, reason, text, is_compiled)
     return octets
 
 
@@ -380,31 +440,31 @@ class Schema:
         """Reads modules, which are texts by their names, texts alone or one text, and takes a type of
         them: `TYPE`, the first of this name, or `MODULE.TYPE`.
 
-        Raises Refused with a line `NAME:LINE:COLUMN: what is wrong` for each fault of the modules.
+        Raises ModuleFault if the modules have faults, and UnknownType.
         """
+        asked = _word(type)
         modules = [modules] if isinstance(modules, str) else modules
         named = modules.items() if isinstance(modules, Mapping) else ((f"{i + 1}", it) for i, it in enumerate(modules))
         pairs = [(name.encode(), text.encode()) for name, text in named]
         texts = (_Texts * max(len(pairs), 1))(*(_Texts(name, len(name), text, len(text)) for name, text in pairs))
-        asked = type.encode()
-        self._octets = _made(1 << 14, lambda *to: _compile(texts, len(pairs), asked, *to))
+        self._octets = _made(1 << 14, lambda *to: _compile(texts, len(pairs), asked, *to), is_compiled=True)
 
-    def check(self, octets: bytes, rules: Rules = Rules.DER, open_types: bool = True) -> None:
+    def check(self, octets: Octets, rules: Rules = Rules.DER, open_types: bool = True) -> None:
         """Checks that all of the octets are one value of the type.
 
         By DER they are then its only encoding; with open_types those inside open types are well formed
         too. Raises Refused with the path to the part, where it begins, and why it isn't read.
         """
         reason, text = _Reason(), ctypes.create_string_buffer(4096)
-        octets = bytes(octets)
-        status = _check_by(self._octets, len(self._octets), rules, open_types, octets, len(octets), reason, text, len(text))
+        rules, octets = Rules(rules), _octets(octets)
+        status = _check_by(self._octets, len(self._octets), rules, bool(open_types), octets, len(octets), reason, text, len(text))
         _told(status, reason, text)
 
-    def loads(self, octets: bytes, rules: Rules = Rules.DER) -> Any:
+    def loads(self, octets: Octets, rules: Rules = Rules.DER) -> Any:
         """Returns the value that all of the octets are, in the form of JSON (X.697): a SEQUENCE as a
         dict, a SEQUENCE OF as a list, an OCTET STRING and an open type as hexadecimal digits, a time as
         its text. Raises Refused."""
-        octets = bytes(octets)
+        rules, octets = Rules(rules), _octets(octets)
         made = _made(
             4 * len(octets) + 256,
             lambda *to: _json(self._octets, len(self._octets), rules, 0, octets, len(octets), *to),
@@ -414,24 +474,25 @@ class Schema:
     def dumps(self, value: Any, rules: Rules = Rules.DER) -> bytes:
         """Returns the octets of a value in the form of JSON (X.697). Raises Refused with the path to the
         part that isn't of its type."""
+        rules = Rules(rules)
         text = json.dumps(value, ensure_ascii=False).encode()
         return _made(len(text), lambda *to: _encode(self._octets, len(self._octets), rules, text, len(text), *to))
 
-    def normalise(self, octets: bytes, rules: Rules = Rules.BER) -> bytes:
+    def normalise(self, octets: Octets, rules: Rules = Rules.BER) -> bytes:
         """Returns the DER octets of the value that all of the octets are. Raises Refused."""
-        octets = bytes(octets)
+        rules, octets = Rules(rules), _octets(octets)
         return _made(
             len(octets),
             lambda *to: _normalise_by(self._octets, len(self._octets), rules, octets, len(octets), *to),
         )
 
-    def find(self, octets: bytes, path: str, rules: Rules = Rules.DER) -> Part | None:
+    def find(self, octets: Octets, path: str, rules: Rules = Rules.DER) -> Part | None:
         """Returns the part to which a path leads, as `tbsCertificate.extensions[1].extnValue`, or None
         if the value doesn't have it. Parts after it aren't read. Raises Refused if a part before it
-        can't be read, or no value of the type has such a part."""
+        can't be read, and UnknownPath if no value of the type has such a part."""
         part, reason, text = _Part(), _Reason(), ctypes.create_string_buffer(4096)
-        octets = bytes(octets)
-        status = _find(self._octets, len(self._octets), rules, octets, len(octets), path.encode(), part, reason, text, len(text))
+        rules, octets = Rules(rules), _octets(octets)
+        status = _find(self._octets, len(self._octets), rules, octets, len(octets), _word(path), part, reason, text, len(text))
         if status == _ABSENT:
             return None
         _told(status, reason, text)

@@ -2,7 +2,10 @@
 import datetime
 import unittest
 
-from soqavise import Refused, Rules, Schema, Type, check, encodings, extension, fault, identifier, integer, name_text, next_encoding, normalise, pem_blocks, skip, time
+from soqavise import (
+    ModuleFault, Refused, Rules, Schema, Type, UnknownPath, UnknownType, check, encodings, extension, fault, identifier, integer, name_text,
+    next_encoding, normalise, pem_blocks, skip, time,
+)
 
 
 def octets(digits):
@@ -40,6 +43,26 @@ class Calls(unittest.TestCase):
             next_encoding(Rules.DER, octets("30800000"))
         with self.assertRaises(Refused):
             skip(Rules.DER, b"")
+
+    def test_takes_octets_alone(self):
+        calls = (check, lambda it: check(Type.BOOL, it)), (next_encoding, lambda it: next_encoding(Rules.DER, it)), (
+            encodings, lambda it: list(encodings(Rules.DER, it))), (integer, lambda it: integer(Rules.DER, it)), (
+            skip, lambda it: skip(Rules.DER, it)), (fault, lambda it: fault(Type.BOOL, Rules.DER, it)), (pem_blocks, lambda it: list(pem_blocks(it)))
+        for call, given in calls:
+            for wrong in (5, None, [1], *(() if call is pem_blocks else ("0" * 100_000,))):
+                with self.subTest(call=call.__name__, wrong=type(wrong)), self.assertRaises(TypeError):
+                    given(wrong)
+        for same in (bytearray, memoryview):
+            self.assertEqual(integer(Rules.DER, same(octets("020105"))), 5)
+
+    def test_refuses_wrong_calls(self):
+        for call in (lambda: check(2**32, octets("0101FF")), lambda: next_encoding(9, octets("0500")), lambda: skip(-1, octets("0500"))):
+            with self.assertRaises(ValueError) as wrong:
+                call()
+            self.assertNotIsInstance(wrong.exception, Refused)
+        with self.assertRaises(ValueError) as wrong:
+            extension(Rules.DER, octets("3000"), "2.5.29\0.15")
+        self.assertNotIsInstance(wrong.exception, Refused)
 
     def test_reads_integers(self):
         self.assertEqual(integer(Rules.DER, octets("0201FF")), -1)  # 8.3
@@ -80,7 +103,7 @@ class Calls(unittest.TestCase):
         noon = datetime.datetime(2026, 11, 24, 12, tzinfo=datetime.timezone.utc)
         self.assertEqual(time(Type.UTCTIME, Rules.DER, octets("170D3236313132343132303030305A")), noon)  # 11.8
         self.assertEqual(time(Type.GENTIME, Rules.DER, octets("180F32303236313132343132303030305A")), noon)  # 11.7
-        with self.assertRaises(Refused):
+        with self.assertRaises(ValueError):
             time(Type.BOOL, Rules.DER, octets("0101FF"))
 
 
@@ -127,15 +150,30 @@ class Schemas(unittest.TestCase):
         self.assertEqual((part.offset, part.tag_class, part.tag_number, part.contents), (17, 2, 1, octets("07")))
         self.assertEqual(integer(Rules.DER, part.whole), 7)
         self.assertIsNone(self.schema.find(self.row, "list[2]"))
-        with self.assertRaises(Refused):
-            self.schema.find(self.row, "names")
+        for unknown in ("names", "list[", "number.part"):
+            with self.assertRaises(UnknownPath):
+                self.schema.find(self.row, unknown)
+        with self.assertRaises(ValueError):
+            self.schema.find(self.row, "number\0.part")
+
+    def test_takes_octets_alone(self):
+        for call in (self.schema.check, self.schema.loads, self.schema.normalise, lambda it: self.schema.find(it, "number")):
+            for wrong in (5, self.row.decode("latin-1"), list(self.row)):
+                with self.assertRaises(TypeError):
+                    call(wrong)
+        for call in (self.schema.check, self.schema.loads, self.schema.normalise):
+            with self.assertRaises(ValueError):
+                call(self.row, 7)
 
     def test_reports_faults(self):
-        with self.assertRaises(Refused) as refused:
+        with self.assertRaises(ModuleFault) as faulty:
             Schema({"m.asn1": "M DEFINITIONS ::= BEGIN\nT ::= SEQUENCE { part Missing }\nEND\n"}, "T")
-        self.assertTrue(str(refused.exception).startswith("m.asn1:2:23: "))
-        with self.assertRaises(Refused):
+        self.assertTrue(str(faulty.exception).startswith("m.asn1:2:23: "))
+        self.assertEqual((faulty.exception.line, faulty.exception.column), (2, 23))
+        with self.assertRaises(UnknownType):
             Schema({"rows.asn1": MODULE}, "Other")
+        with self.assertRaises(ValueError):
+            Schema({"rows.asn1": MODULE}, "Row\0x")
 
 
 if __name__ == "__main__":

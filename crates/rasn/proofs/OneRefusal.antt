@@ -12,5 +12,7 @@ pub mod Settled
 pub mod Lists
 pub mod SettledLists
 pub mod Alternatives
+pub mod SettledAlternatives
 pub mod Sets
+pub mod SettledSets
 pub mod Laws

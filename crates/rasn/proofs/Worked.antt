@@ -6,8 +6,12 @@ pub mod Depths
 pub mod Fractions
 pub mod Headers
 pub mod Refusals
+pub mod RefusedTimes
+pub mod RefusedOpen
 pub mod Kinds
+pub mod RefusedSets
 pub mod Wholes
+pub mod Settled
 pub mod Lenient
 pub mod Nested
 pub mod Any

@@ -12,6 +12,7 @@ pub mod WorkedDepths
 pub mod WorkedHeaders
 pub mod WorkedRefusals
 pub mod WorkedKinds
+pub mod WorkedSettled
 pub mod WorkedWholes
 pub mod WorkedValues
 pub mod WorkedClauses

@@ -1,6 +1,7 @@
 -- Which inputs are refused, and as what: the relation beside the grammar's.
-use Rattle.std.specs.Prelude.{◌≡◌, ◌<◌, ◌^◌, ℕ, ℤ, List, length, Bool, Vec, Some, Ok}
+use Rattle.std.specs.Prelude.{◌≡◌, ◌<◌, ◌+◌, ◌^◌, ℕ, ℤ, List, [], length, Bool, IsUtf8, Vec, Option, Some, Ok, Err}
 use Rattle.std.specs.Global.{Global}
+use Rattle.std.specs.Borrow.{Bor}
 use Rattle.rasn_types.specs.declared.types.codec.Codec.{Codec}
 use Rattle.rasn_types.specs.declared.types.tag.Tag.{Tag}
 use Rattle.rasn_types.specs.declared.types.constraints.Bounded.{Bounded}
@@ -9,8 +10,9 @@ use Rattle.rasn_types.specs.declared.error.decode.DecodeErrorKind.{DecodeErrorKi
 use Rattle.rasn_types.specs.declared.error.decode.DecodeErrorKind.TheVariants.{ValueConstraintNotSatisfied}
 use Rattle.rasn_types.specs.declared.error.decode.BerDecodeErrorKind.TheVariants.{InvalidDate}
 use Rattle.rasn_types.specs.Errors.{IsOutOfMemory}
-use Rattle.rasn_types.specs.Framing.{AreOctets}
-use Rattle.rasn_types.specs.Shapes.{Tree, Shape, own, Parts, part, required, IsFirstOf}
+use Rattle.rasn_types.specs.Tags.{form}
+use Rattle.rasn_types.specs.Framing.{AreOctets, NextTag}
+use Rattle.rasn_types.specs.Shapes.{Tree, Shape, own, Parts, part, presences, required, IsFirstOf}
 use Rattle.rasn_types.specs.Shapes.Parts.{none}
 use Rattle.rasn_types.specs.Readings.{Reading}
 use Rattle.rasn_types.specs.Grammar.{Reads}
@@ -20,6 +22,7 @@ use Rattle.rasn_de.specs.State.{State, Call}
 use Rattle.rasn_de.specs.Constructed.{Keeps}
 use Rattle.rasn_de.specs.ValueErrors.{Errors, errors_of, IsErrorByTag}
 use Rattle.rasn_de.specs.AlternativeTypes.{FailsAtAlternativeBy, DecodesAlternativeBy}
+use Rattle.rasn_de.specs.SetPartTypes.{ReadsPartAt, RefusesPart, AreEmpty, DecodesPlaced, IsGathered, LacksSlot}
 
 -- The input of the state before is refused with this error, and the state after has what remains: it is one of these
 -- errors, other than a failed allocation.
@@ -93,3 +96,40 @@ HaveOwnTags (part p s ps) = (p ≡ required) × ((tag : Tag) × (own s ≡ Some 
 -- The errors of a CHOICE with these alternatives: why none of them is read, the error being one of these for the next tag.
 abbrev pub ErrorsOfChoice : {D : Type 0} → Bool → Parts → (D → Tree) → List ℕ → (Tag → Errors) → Errors
 ErrorsOfChoice extensible ps tree name errors old e new = errors_of (DecodesAlternativeBy extensible ps tree name) old e new × IsErrorByTag errors old e new
+
+-- A text that memory can hold, as each name of a type or a part is.
+abbrev pub IsName : List ℕ → Type 0
+IsName name = IsUtf8 name × (length name < 2 ^ 63)
+
+-- A call that is made where this is the next tag decodes or refuses each input that memory can hold.
+abbrev pub SettlesAt : {D : Type 0} → Tag → Call D → Type 0
+SettlesAt {D} tag read = (old : State) → AreOctets old.rest → length old.rest < 2 ^ 63 → NextTag (form old.rule) old.rest tag
+    → ((v : D) (new : State) → read old (Ok v) new → ⊥) → ((e : DecodeError) (new : State) → Refuses (errors_of read) old e new → ⊥) → ⊥
+
+-- The input is read as none of these parts, and the error is one of these for the next tag.
+abbrev pub RefusesByTag : Bool → Parts → List ℕ → (Tag → Errors) → Tag → Errors
+RefusesByTag extensible ps name errors tag old e new = RefusesPart extensible ps e old new × FailsByTag extensible ps name errors tag old e new
+
+-- The alternative that the value is one of is read, or none is.
+abbrev pub DecodesByTag : {D : Type 0} → Bool → Parts → (D → ℕ) → (D → Tree) → List ℕ → (Tag → Errors) → Tag → Call D
+DecodesByTag extensible ps number inner name errors tag old (Ok v) new = ReadsPartAt extensible ps (number v) (inner v) old new
+DecodesByTag extensible ps number inner name errors tag old (Err e) new = RefusesByTag extensible ps name errors tag old e new
+
+-- Whatever the next tag is, an input is decoded as one of these alternatives, or refused.
+abbrev pub AreSettled : {D : Type 0} → Bool → Parts → (D → ℕ) → (D → Tree) → List ℕ → (Tag → Errors) → Type 0
+AreSettled extensible ps number inner name errors = (tag : Tag) → SettlesAt tag (DecodesByTag extensible ps number inner name errors tag)
+
+-- The next component is read and put into one of these slots, or the name of the part whose slot is filled is returned; or
+-- it is read as none of the parts.
+abbrev pub PutsByTag : {S : Type 0} → Bool → Parts → (S → List (Option Tree)) → (S → List Tree) → List (List ℕ) → List ℕ → (Tag → Errors) → S → Tag → Call (Option (Bor (List ℕ)) × S)
+PutsByTag extensible ps held others names name errors slots tag old (Ok p) new = DecodesPlaced extensible ps names (held slots) (others slots) old (Ok p.0) new (held p.1) (others p.1)
+PutsByTag extensible ps held others names name errors slots tag old (Err e) new = RefusesByTag extensible ps name errors tag old e new
+
+-- The parts of a SET, with slots that have these trees.
+pub record AreSlotsSettled {P S : Type 0} (extensible : Bool) (ps : Parts) (tree : P → Tree) (held : S → List (Option Tree)) (others : S → List Tree) (name : List ℕ) (errors : Tag → Errors) : Type 0 where
+  -- There are empty slots.
+  pub empty : (slots : S) × AreEmpty ps (held slots) × (others slots ≡ [])
+  -- Whatever the next tag is, a component is put into slots that have room for one more unknown component, or refused.
+  pub put : (names : List (List ℕ)) (slots : S) → length (others slots) + 1 < 2 ^ 63 → (tag : Tag) → SettlesAt tag (PutsByTag extensible ps held others names name errors slots tag)
+  -- The parts are made of the slots, or a required one is missing.
+  pub made : (slots : S) → ((v : P) → IsGathered extensible ps (held slots) (others slots) (tree v) → ⊥) → ((k : ℕ) → LacksSlot (presences ps) (held slots) k → ⊥) → ⊥

@@ -8,14 +8,16 @@ ghost use Rattle.std.specs.Prelude.{◌≡◌, ℕ, List, Some, Vec, true};
 ghost use Rattle.rasn_types.specs.declared.types.tag.Tag.{Tag};
 ghost use Rattle.rasn_types.specs.declared.types.constraints.Constraints.{Constraints};
 ghost use Rattle.rasn_types.specs.Shapes.{Parts, choice_by, chosen, list, looked_for, option, own, prefix, seq, set_elements, set_of, tagged_as};
+ghost use Rattle.rasn_de.specs.Choice.{DecodesChosen};
 ghost use Rattle.rasn_de.specs.Decodes.{ReadsParts};
 ghost use Rattle.rasn_de.specs.PartTypes.{DecodesInParts, DecodesSequenceParts, needs_no_initializer};
-ghost use Rattle.rasn_de.specs.SetPartTypes.{DecodesNamedParts, set_by};
+ghost use Rattle.rasn_de.specs.SetPartTypes.{DecodesNamedParts, name_at, set_by};
 ghost use Rattle.rasn_de.specs.ValueErrors.{DecodesOr, errors_of};
 ghost use Rattle.rasn_types.specs.Trees.{list_tree, option_tree};
-ghost use Rattle.rasn.specs.OneRefusal.{AreApart, AreRefusedOnce, ErrorsOfChoice, HaveOwnTags, IsRefusedOnce, LeaveNone, ReadsShape, Settles};
+ghost use Rattle.rasn.specs.OneRefusal.{AreApart, AreRefusedOnce, AreSettled, AreSlotsSettled, ErrorsOfChoice, HaveOwnTags, IsName, IsRefusedOnce, LeaveNone, ReadsShape, Settles, SettlesAt};
 ghost use Rattle.rasn.specs.RefusalLaws.{LeavesAreApart, LeavesLeaveNone, LeavesSettle};
 ghost use Rattle.rasn.specs.WorkedKinds.{WorkedKinds};
+ghost use Rattle.rasn.specs.WorkedSettled.{WorkedSettled};
 ghost use Rattle.rasn.specs.WorkedWholes.{WorkedWholes};
 
 use crate::parts::{
@@ -23,7 +25,7 @@ use crate::parts::{
     DefaultedChoice, DefaultedExplicit, End, ExplicitDefault, Last, OneOf, Optional,
     OptionalChoice, Required,
 };
-use rasn_de::de::Decode;
+use rasn_de::de::{Decode, DecodeChoice};
 use rasn_types::types::{Any, AsnType, Explicit, FirstTags, SetOf, Unknown};
 
 /// Proves that an input is read as a value of a leaf type, or refused as one error, but not both;
@@ -122,6 +124,14 @@ pub fn choice<P: DecodeAlternatives>()
         → AreApart (ErrorsOfChoice P.extensible P.parts (λ (v : P). chosen (P.number v) (P.inner v)) name P.errors) (ReadsShape (choice_by P.extensible P.parts)) }
 {}
 
+/// Proves the same of a CHOICE that `Decoder::decode_choice` reads by `from_tag`, whatever the tags
+/// of its alternatives are, if what `from_tag` refuses is refused as one error; and that each input
+/// is decoded or refused, if that is true of `from_tag`.
+pub fn chosen<D: DecodeChoice>()
+    ensures apart { IsRefusedOnce D.errors → AreApart (errors_of (DecodesChosen (DecodesOr D.shape D.tree D.errors))) (ReadsShape D.shape) }
+    ensures settled { ((tag : Tag) → SettlesAt tag (DecodesOr D.shape D.tree D.errors)) → Settles (DecodesOr D.shape D.tree (errors_of (DecodesChosen (DecodesOr D.shape D.tree D.errors)))) }
+{}
+
 /// Proves that the parts of a SET are refused as one error for each tag, if the first one is and
 /// the others are. `Unknown` are unknown components.
 pub fn set_parts<A: Decode, R: DecodeSetParts>()
@@ -192,10 +202,69 @@ where
         → Settles (DecodesInParts ⟦<Defaulted<V, R> as DecodeParts>⟧.parts ⟦<Defaulted<V, R> as DecodeParts>⟧.tree ⟦<Defaulted<V, R> as DecodeParts>⟧.errors) }
 {}
 
+/// Proves the same of a CHOICE that has a default and of the parts after it.
+pub fn settled_default_choice<V: DefaultValue, R: DecodeParts>()
+where
+    V::Value: Decode + FirstTags,
+    ensures { (d : V.Value) → V.Value.tree d ≡ V.default_tree → Settles (DecodesOr V.Value.shape V.Value.tree (V.Value.errors V.Value.TAG V.Value.CONSTRAINTS)) → Settles (DecodesInParts R.parts R.tree R.errors)
+        → Settles (DecodesInParts ⟦<DefaultedChoice<V, R> as DecodeParts>⟧.parts ⟦<DefaultedChoice<V, R> as DecodeParts>⟧.tree ⟦<DefaultedChoice<V, R> as DecodeParts>⟧.errors) }
+{}
+
+/// Proves the same of a part under an explicit tag that has a default and of the parts after it.
+pub fn settled_explicit_default<V: ExplicitDefault, R: DecodeParts>()
+where
+    V::Value: Decode,
+    ensures { Some V.Prefix.TAG ≡ looked_for V.Prefix.TAG → (d : V.Value) → V.Value.tree d ≡ V.default_tree → Settles (DecodesOr V.Value.shape V.Value.tree (V.Value.errors V.Value.TAG V.Value.CONSTRAINTS)) → Settles (DecodesInParts R.parts R.tree R.errors)
+        → Settles (DecodesInParts ⟦<DefaultedExplicit<V, R> as DecodeParts>⟧.parts ⟦<DefaultedExplicit<V, R> as DecodeParts>⟧.tree ⟦<DefaultedExplicit<V, R> as DecodeParts>⟧.errors) }
+{}
+
 /// Proves the same of a SEQUENCE, if it is true of its parts.
 pub fn settled_sequence<P: DecodeParts>()
     ensures { Settles (DecodesInParts P.parts P.tree P.errors) → needs_no_initializer P.parts ≡ true → (tag : Tag)
         → Settles (DecodesOr (seq tag P.parts) P.tree (errors_of (DecodesSequenceParts P.parts P.tree P.errors tag))) }
+{}
+
+/// Proves that each input is decoded as one of these alternatives or refused, whatever the next tag
+/// is, if each is as the first one and as the others. `Any` is the unknown alternative.
+pub fn settled_alternatives<A: Decode, R: DecodeAlternatives>()
+    ensures unknown { (name : List ℕ) → AreSettled ⟦<Any as DecodeAlternatives>⟧.extensible ⟦<Any as DecodeAlternatives>⟧.parts ⟦<Any as DecodeAlternatives>⟧.number ⟦<Any as DecodeAlternatives>⟧.inner name ⟦<Any as DecodeAlternatives>⟧.errors }
+    ensures last { ⟦<Last<A> as DecodeAlternatives>⟧.tags_differ ≡ true → Settles (DecodesOr A.shape A.tree (A.errors A.TAG A.CONSTRAINTS)) → (name : List ℕ) → IsName name
+        → AreSettled ⟦<Last<A> as DecodeAlternatives>⟧.extensible ⟦<Last<A> as DecodeAlternatives>⟧.parts ⟦<Last<A> as DecodeAlternatives>⟧.number ⟦<Last<A> as DecodeAlternatives>⟧.inner name ⟦<Last<A> as DecodeAlternatives>⟧.errors }
+    ensures first { ⟦<OneOf<A, R> as DecodeAlternatives>⟧.tags_differ ≡ true → Settles (DecodesOr A.shape A.tree (A.errors A.TAG A.CONSTRAINTS)) → (name : List ℕ) → AreSettled R.extensible R.parts R.number R.inner name R.errors
+        → AreSettled ⟦<OneOf<A, R> as DecodeAlternatives>⟧.extensible ⟦<OneOf<A, R> as DecodeAlternatives>⟧.parts ⟦<OneOf<A, R> as DecodeAlternatives>⟧.number ⟦<OneOf<A, R> as DecodeAlternatives>⟧.inner name ⟦<OneOf<A, R> as DecodeAlternatives>⟧.errors }
+{}
+
+/// Proves that each input is decoded as a CHOICE or refused, if its alternatives are settled.
+pub fn settled_choice<P: DecodeAlternatives>()
+    ensures { (name : List ℕ) → AreSettled P.extensible P.parts P.number P.inner name P.errors
+        → Settles (DecodesOr (choice_by P.extensible P.parts) (λ (v : P). chosen (P.number v) (P.inner v)) (ErrorsOfChoice P.extensible P.parts (λ (v : P). chosen (P.number v) (P.inner v)) name P.errors)) }
+{}
+
+/// Proves that each component is put into the slots of a SET's parts or refused, whatever its tag
+/// is, and that the parts are made of the slots unless one is missing, if it is so of the first one
+/// and of the others. `Unknown` are unknown components.
+pub fn settled_set_parts<A: Decode, R: DecodeSetParts>()
+    ensures none { (name : List ℕ) → IsName name → AreSlotsSettled ⟦<End as DecodeSetParts>⟧.extensible ⟦<End as DecodeSetParts>⟧.parts ⟦<End as DecodeSetParts>⟧.tree ⟦<End as DecodeSetParts>⟧.held ⟦<End as DecodeSetParts>⟧.others name ⟦<End as DecodeSetParts>⟧.errors }
+    ensures unknown { (name : List ℕ) → AreSlotsSettled ⟦<Unknown as DecodeSetParts>⟧.extensible ⟦<Unknown as DecodeSetParts>⟧.parts ⟦<Unknown as DecodeSetParts>⟧.tree ⟦<Unknown as DecodeSetParts>⟧.held ⟦<Unknown as DecodeSetParts>⟧.others name ⟦<Unknown as DecodeSetParts>⟧.errors }
+    ensures required { ⟦<Required<A, R> as DecodeSetParts>⟧.tags_differ ≡ true → Settles (DecodesOr A.shape A.tree (A.errors A.TAG A.CONSTRAINTS)) → (name : List ℕ) → AreSlotsSettled R.extensible R.parts R.tree R.held R.others name R.errors
+        → AreSlotsSettled ⟦<Required<A, R> as DecodeSetParts>⟧.extensible ⟦<Required<A, R> as DecodeSetParts>⟧.parts ⟦<Required<A, R> as DecodeSetParts>⟧.tree ⟦<Required<A, R> as DecodeSetParts>⟧.held ⟦<Required<A, R> as DecodeSetParts>⟧.others name ⟦<Required<A, R> as DecodeSetParts>⟧.errors }
+    ensures optional { ⟦<Optional<A, R> as DecodeSetParts>⟧.tags_differ ≡ true → Settles (DecodesOr A.shape A.tree (A.errors A.TAG A.CONSTRAINTS)) → (name : List ℕ) → AreSlotsSettled R.extensible R.parts R.tree R.held R.others name R.errors
+        → AreSlotsSettled ⟦<Optional<A, R> as DecodeSetParts>⟧.extensible ⟦<Optional<A, R> as DecodeSetParts>⟧.parts ⟦<Optional<A, R> as DecodeSetParts>⟧.tree ⟦<Optional<A, R> as DecodeSetParts>⟧.held ⟦<Optional<A, R> as DecodeSetParts>⟧.others name ⟦<Optional<A, R> as DecodeSetParts>⟧.errors }
+{}
+
+/// Proves the same of a part of a SET that has a default, and of the others, if there is a value that
+/// equals the default.
+pub fn settled_set_default<V: DefaultValue, R: DecodeSetParts>()
+where
+    V::Value: Decode,
+    ensures { ⟦<Defaulted<V, R> as DecodeSetParts>⟧.tags_differ ≡ true → (d : V.Value) → V.Value.tree d ≡ V.default_tree → Settles (DecodesOr V.Value.shape V.Value.tree (V.Value.errors V.Value.TAG V.Value.CONSTRAINTS)) → (name : List ℕ) → AreSlotsSettled R.extensible R.parts R.tree R.held R.others name R.errors
+        → AreSlotsSettled ⟦<Defaulted<V, R> as DecodeSetParts>⟧.extensible ⟦<Defaulted<V, R> as DecodeSetParts>⟧.parts ⟦<Defaulted<V, R> as DecodeSetParts>⟧.tree ⟦<Defaulted<V, R> as DecodeSetParts>⟧.held ⟦<Defaulted<V, R> as DecodeSetParts>⟧.others name ⟦<Defaulted<V, R> as DecodeSetParts>⟧.errors }
+{}
+
+/// Proves that each input is decoded as a SET or refused, if its parts are settled.
+pub fn settled_set<P: DecodeSetParts>()
+    ensures { (name : List ℕ) → AreSlotsSettled P.extensible P.parts P.tree P.held P.others name P.errors → (names : List (List ℕ)) → ((k : ℕ) → IsName (name_at names k)) → (tag : Tag)
+        → Settles (DecodesOr (set_by P.extensible tag P.parts) P.tree (errors_of (DecodesNamedParts P.extensible P.parts P.tree name names P.errors tag))) }
 {}
 
 /// Proves of octets that were worked out by hand as which error leaf types refuse them, and what
@@ -204,7 +273,14 @@ pub fn worked_kinds()
     ensures { WorkedKinds }
 {}
 
-/// Proves the same of a SEQUENCE, a SEQUENCE OF, a SET OF and a value under an explicit tag.
+/// Proves the same of a SEQUENCE, a SET, a CHOICE, a SEQUENCE OF, a SET OF, a value under an
+/// explicit tag, one that may be left out, and one that has a default.
 pub fn worked_wholes()
     ensures { WorkedWholes }
+{}
+
+/// Proves what isn't settled: a call that does nothing, alternatives without errors, and a SET
+/// without a value.
+pub fn worked_settled()
+    ensures { WorkedSettled }
 {}

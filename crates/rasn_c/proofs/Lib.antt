@@ -17,3 +17,4 @@ pub mod Counted
 pub mod PathTexts
 pub mod Checked
 pub mod Asked
+pub mod WorkedWhole

@@ -7,8 +7,10 @@ use Rattle.rasn_types.specs.ErrorText.{shown_decode_error}
 use Rattle.rasn_types.specs.Shapes.{Shape, Tree}
 use Rattle.rasn_types.specs.Grammar.{Reads, top}
 use Rattle.rasn_de.specs.Outcomes.{Exact, Got, refusal}
+use Rattle.rasn_de.specs.ValueErrors.{Errors}
 use Rattle.rasn.specs.Headline.{IsExtraData}
-use Rattle.rasn_c.specs.Types.{IsUnknownType}
+use Rattle.rasn.specs.Refusals.{FailsFirst}
+use Rattle.rasn_c.specs.Types.{errors_at, numbered_errors, IsUnknownType}
 use Rattle.rasn_c.specs.Rules.{IsUnknownRule}
 use Rattle.rasn_c.specs.Buffers.{IsCutInto}
 use Rattle.rasn_c.specs.ErrorKinds.{kind_number}
@@ -31,17 +33,17 @@ pub record IsFollowedAt (rule : Codec) (shape : Shape) (octets : List ℕ) (offs
   pub offset_is : offset + length rest ≡ length octets
   pub extra : IsExtraData rule rest e
 
--- Under these rules the octets don't begin with a value, for the cause that the error has. The offset is 0.
-abbrev pub IsUnread : Codec → Shape → List ℕ → ℕ → DecodeError → Type 0
-IsUnread rule shape octets offset e = Exact (Reads rule shape 128 (top rule)) octets (refusal e.kind) × (offset ≡ 0) × (e.codec ≡ rule)
+-- Under these rules the octets don't begin with a value, and the error is one of these. The offset is 0.
+abbrev pub IsUnread : Codec → Shape → Errors → List ℕ → ℕ → DecodeError → Type 0
+IsUnread rule shape errors octets offset e = Exact (Reads rule shape 128 (top rule)) octets (refusal e.kind) × FailsFirst errors rule octets e × (offset ≡ 0) × (e.codec ≡ rule)
 
-abbrev pub IsRefusedAt : Codec → Shape → List ℕ → ℕ → DecodeError → Type 0
-IsRefusedAt rule shape octets offset e = IsFollowedAt rule shape octets offset e ⊎ IsUnread rule shape octets offset e
+abbrev pub IsRefusedAt : Codec → Shape → Errors → List ℕ → ℕ → DecodeError → Type 0
+IsRefusedAt rule shape errors octets offset e = IsFollowedAt rule shape octets offset e ⊎ IsUnread rule shape errors octets offset e
 
 -- The result of reading octets as exactly one value of a shape under these rules.
-abbrev pub IsReading : Codec → Shape → List ℕ → Reading → Type 0
-IsReading rule shape octets Alone = IsAlone rule shape octets
-IsReading rule shape octets (RefusedAt offset error) = IsRefusedAt rule shape octets offset error
+abbrev pub IsReading : Codec → Shape → Errors → List ℕ → Reading → Type 0
+IsReading rule shape errors octets Alone = IsAlone rule shape octets
+IsReading rule shape errors octets (RefusedAt offset error) = IsRefusedAt rule shape errors octets offset error
 
 -- There is nothing to report: all fields are 0.
 pub record IsNoFault (fault : Fault) : Type 0 where
@@ -63,16 +65,16 @@ IsReportOf offset error fault text OutOfMemory = IsNoFault fault
 IsReportOf offset error fault text _ = ⊥
 
 -- The octets are refused for an error, and the fault and the text are its own.
-pub record ReportsRefusal (rule : Codec) (shape : Shape) (octets : List ℕ) (fault : Fault) (text : List ℕ) : Type 0 where
+pub record ReportsRefusal (rule : Codec) (shape : Shape) (errors : Errors) (octets : List ℕ) (fault : Fault) (text : List ℕ) : Type 0 where
   pub offset : ℕ
   pub error : DecodeError
-  pub refused : IsRefusedAt rule shape octets offset error
+  pub refused : IsRefusedAt rule shape errors octets offset error
   pub report : IsFaultOf offset error fault text
 
 -- The status, fault and text of a call that reads octets as exactly one value, with the numbers of a type and of rules.
 abbrev pub AnswersError : ℕ → ℕ → List ℕ → Fault → List ℕ → Status → Type 0
 AnswersError type number octets fault text Ok = ((rule : Codec) × (shape : Shape) × Asks type number shape rule × IsAlone rule shape octets) × IsNoFault fault
-AnswersError type number octets fault text Refused = (rule : Codec) × (shape : Shape) × Asks type number shape rule × ReportsRefusal rule shape octets fault text
+AnswersError type number octets fault text Refused = (rule : Codec) × (shape : Shape) × Asks type number shape rule × ReportsRefusal rule shape (errors_at numbered_errors type) octets fault text
 AnswersError type number octets fault text OutOfMemory = ((rule : Codec) × (shape : Shape) × Asks type number shape rule) × IsNoFault fault
 AnswersError type number octets fault text UnknownType = IsUnknownType type × IsNoFault fault
 AnswersError type number octets fault text UnknownRule = IsUnknownRule number × IsNoFault fault

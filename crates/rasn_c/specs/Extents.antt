@@ -4,43 +4,17 @@ use Rattle.rasn_types.specs.declared.types.codec.Codec.TheVariants.{Ber}
 use Rattle.rasn_types.specs.declared.types.tag.Tag.{Tag}
 use Rattle.rasn_types.specs.Framing.{NextTag}
 use Rattle.rasn_types.specs.Tags.{form, rank}
-use Rattle.rasn_schema.specs.declared.types.LeafKind.{LeafKind}
-use Rattle.rasn_schema.specs.declared.types.LeafKind.TheVariants.{Boolean, Null, ObjectIdentifier, BitString, NamedBits, OctetString, FixedOctetString, Integer, Signed32, Signed64, Unsigned32, Unsigned64, Numeric, Printable, Visible, Ia5, AnyOctets, Bmp, Utf8, UtcTime, GeneralizedTime, Date}
 use Rattle.rasn_schema.specs.declared.types.«Type».{«Type»}
 use Rattle.rasn_schema.specs.declared.types.«Type».TheVariants.{Leaf, Enumerated, Any, Tagged, Choice, Sequence, Set, SequenceOf, SetOf, Unknown}
 use Rattle.rasn_schema.specs.Held.{is_unknown_found}
+use Rattle.rasn_schema.specs.KindNames.{names_of}
 use Rattle.rasn_dynamic.specs.declared.part.Part.{Part}
 use Rattle.rasn_c.specs.Encodings.{constructed_bit, end_length}
 use Rattle.rasn_c.specs.declared.extent.Extent.{Extent}
 
--- the number of the universal tag of a type whose values hold no others (X.680 8.4)
-abbrev pub leaf_kind_number : LeafKind → ℕ
-leaf_kind_number Boolean = 1
-leaf_kind_number Integer = 2
-leaf_kind_number Signed32 = 2
-leaf_kind_number Signed64 = 2
-leaf_kind_number Unsigned32 = 2
-leaf_kind_number Unsigned64 = 2
-leaf_kind_number BitString = 3
-leaf_kind_number NamedBits = 3
-leaf_kind_number OctetString = 4
-leaf_kind_number (FixedOctetString n) = 4
-leaf_kind_number Null = 5
-leaf_kind_number ObjectIdentifier = 6
-leaf_kind_number Utf8 = 12
-leaf_kind_number Numeric = 18
-leaf_kind_number Printable = 19
-leaf_kind_number Ia5 = 22
-leaf_kind_number UtcTime = 23
-leaf_kind_number GeneralizedTime = 24
-leaf_kind_number Visible = 26
-leaf_kind_number AnyOctets = 27
-leaf_kind_number Bmp = 30
-leaf_kind_number Date = 31
-
 -- The number of the kind of a type in C: `soq_part_kind`.
 abbrev pub type_kind_number : «Type» → ℕ
-type_kind_number (Leaf kind tag c names) = leaf_kind_number kind
+type_kind_number (Leaf kind tag c names) = (names_of kind).number
 type_kind_number (Enumerated tag ns) = 10
 type_kind_number (Sequence tag ps) = 16
 type_kind_number (Set name tag ps) = 17

@@ -25,3 +25,4 @@ pub mod Whole
 pub mod Names
 pub mod Blocks
 pub mod Extensions
+pub mod WorkedWhole

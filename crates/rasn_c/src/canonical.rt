@@ -17,7 +17,7 @@ impl TypedAnswer for Result<bool, AllocError> {
     ghost use Rattle.rasn_types.specs.Truth.{IsWhether};
     ghost use Rattle.rasn.specs.Normal.{IsNormal};
 
-    ghost IsOfType = { λ rule shape octets answer. IfOk answer (λ is. IsWhether is (IsNormal Der shape octets octets)) };
+    ghost IsOfType = { λ rule shape errors octets answer. IfOk answer (λ is. IsWhether is (IsNormal Der shape octets octets)) };
 
     /// Returns whether the octets are the one DER encoding of a value of the type.
     fn of_type<T: Decode + Encode + LawfulEq>(

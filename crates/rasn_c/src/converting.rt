@@ -123,7 +123,9 @@ fn json_stop(alloc: Global, error: &JsonError) -> Stop
     };
     let mut reason = NO_REASON;
     reason.path_length = path_length(text.len(), own.len());
-    if let JsonErrorKind::Syntax { line, column } = kind {
+    if let JsonErrorKind::Syntax { line, column }
+    | JsonErrorKind::TextTooDeep { line, column } = kind
+    {
         reason.line = u32::try_from(*line).unwrap_or(u32::MAX);
         reason.column = u32::try_from(*column).unwrap_or(u32::MAX);
     }

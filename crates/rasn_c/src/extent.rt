@@ -1,6 +1,6 @@
 //! Where a part of a message is, and what it is.
 ghost use Rattle.std.specs.Prelude.{◌≡◌, slice_get};
-ghost use Rattle.rasn_c.specs.Extents.{IsExtentOf, BeginsWith, kind_found, type_kind_number, leaf_kind_number, header_of, end_of};
+ghost use Rattle.rasn_c.specs.Extents.{IsExtentOf, BeginsWith, kind_found, type_kind_number, header_of, end_of};
 ghost use Rattle.rasn_types.specs.Tags.{rank};
 
 use crate::encoding::{class_number, constructed_bit, end_length};
@@ -8,7 +8,7 @@ use rasn::Decoder;
 use rasn::ber::de::DecoderOptions;
 use rasn::types::{Codec, Tag};
 use rasn_dynamic::Part;
-use rasn_schema::{LeafKind, Schema, Type, TypeId, is_unknown_at, type_at};
+use rasn_schema::{Schema, Type, TypeId, is_unknown_at, type_at};
 use std::alloc::Global;
 
 /// A part of a message: `soq_part` of the header.
@@ -111,7 +111,7 @@ fn type_kind(ty: &Type) -> u32
     ensures { result ≡ type_kind_number ty.now }
 {
     match ty {
-        Type::Leaf { kind, .. } => leaf_kind(*kind),
+        Type::Leaf { kind, .. } => kind.names().number,
         Type::Enumerated { .. } => 10,
         Type::Sequence { .. } => 16,
         Type::Set { .. } => 17,
@@ -121,33 +121,5 @@ fn type_kind(ty: &Type) -> u32
         Type::Tagged { .. } => 65,
         Type::Any { .. } => 66,
         Type::Unknown => 67,
-    }
-}
-
-/// Returns the number of the kind of a type whose values hold no others.
-fn leaf_kind(kind: LeafKind) -> u32
-    ensures { result ≡ leaf_kind_number kind }
-{
-    match kind {
-        LeafKind::Boolean => 1,
-        LeafKind::Integer
-        | LeafKind::Signed32
-        | LeafKind::Signed64
-        | LeafKind::Unsigned32
-        | LeafKind::Unsigned64 => 2,
-        LeafKind::BitString | LeafKind::NamedBits => 3,
-        LeafKind::OctetString | LeafKind::FixedOctetString(_) => 4,
-        LeafKind::Null => 5,
-        LeafKind::ObjectIdentifier => 6,
-        LeafKind::Utf8 => 12,
-        LeafKind::Numeric => 18,
-        LeafKind::Printable => 19,
-        LeafKind::Ia5 => 22,
-        LeafKind::UtcTime => 23,
-        LeafKind::GeneralizedTime => 24,
-        LeafKind::Visible => 26,
-        LeafKind::AnyOctets => 27,
-        LeafKind::Bmp => 30,
-        LeafKind::Date => 31,
     }
 }

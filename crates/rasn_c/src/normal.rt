@@ -16,7 +16,7 @@ impl TypedAnswer for Result<Vec<u8>, NormaliseError> {
     ghost use Rattle.std.specs.Prelude.{MatchResult};
     ghost use Rattle.rasn.specs.Normal.{IsNormal, IsNoNormal};
 
-    ghost IsOfType = { λ rule shape input answer. MatchResult answer (λ octets. IsNormal rule shape input octets.items) (IsNoNormal rule shape input) };
+    ghost IsOfType = { λ rule shape errors input answer. MatchResult answer (λ octets. IsNormal rule shape input octets.items) (IsNoNormal rule shape input) };
 
     /// Returns the DER octets of the value that all of the octets encode.
     fn of_type<T: Decode + Encode + LawfulEq>(

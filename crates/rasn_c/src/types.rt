@@ -2,6 +2,7 @@
 ghost use Rattle.std.specs.Prelude.{List, ℕ, MatchOption};
 ghost use Rattle.rasn_types.specs.declared.types.codec.Codec.{Codec};
 ghost use Rattle.rasn_types.specs.Shapes.{Shape};
+ghost use Rattle.rasn_de.specs.ValueErrors.{Errors};
 ghost use Rattle.rasn_c.specs.Types.{IsUnknownType, OfType};
 
 use rasn::de::Decode;
@@ -18,11 +19,11 @@ use std::alloc::Global;
 
 /// A result of reading octets as a value of a type.
 pub(crate) trait TypedAnswer {
-    ghost IsOfType: { Codec → Shape → List ℕ → Self → Type 0 };
+    ghost IsOfType: { Codec → Shape → Errors → List ℕ → Self → Type 0 };
 
     /// Returns the result for these octets under this rule.
     fn of_type<T: Decode + Encode + LawfulEq>(alloc: Global, rule: Codec, octets: &[u8]) -> Self
-        ensures { IsOfType rule T.shape octets.now result };
+        ensures { IsOfType rule T.shape (T.Decode.errors T.TAG T.CONSTRAINTS) octets.now result };
 }
 
 /// Returns the result for these octets under this rule, as the type of this number; `None` if there

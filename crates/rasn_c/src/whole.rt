@@ -2,6 +2,7 @@
 ghost use Rattle.std.specs.Prelude.{MatchResult, []};
 ghost use Rattle.rasn_types.specs.Grammar.{Reads, top};
 ghost use Rattle.rasn_c.specs.Whole.{IsNoWhole};
+ghost use Rattle.rasn_c.specs.WorkedWhole.{WorkedWhole};
 
 use crate::status::Status;
 use rasn::de::Decode;
@@ -26,3 +27,8 @@ pub fn whole_value<T: Decode>(alloc: Global, rule: Codec, octets: &[u8]) -> Resu
         }
     }
 }
+
+/// Proves of a few octets whether they are a whole value. The function does nothing when it runs.
+pub fn worked_whole_values()
+    ensures { WorkedWhole }
+{}

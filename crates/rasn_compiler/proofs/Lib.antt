@@ -1,2 +1,4 @@
 pub mod TypeNames
+pub mod Libraries
 pub mod Texts
+pub mod Called

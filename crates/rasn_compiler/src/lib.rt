@@ -8,6 +8,7 @@ mod fault;
 mod given;
 mod imports;
 mod lexer;
+mod library;
 mod module;
 mod modules;
 mod names;
@@ -25,8 +26,9 @@ mod value;
 mod words;
 
 pub use fault::{Fault, Problem, Stop};
+pub use library::{Library, Root, TypeRef, Unresolved};
 pub use modules::{Modules, Source};
-pub use notation::Notation;
+pub use notation::{Notation, notation_of};
 pub use position::Position;
 pub use resolver::Resolved;
 pub use steps::Steps;

@@ -27,8 +27,12 @@ pub struct Modules<'text> {
     pub modules: Vec<Module<'text>>,
     /// One for each assignment at most, in the order of the texts.
     pub faults: Vec<Fault<'text>>,
-    /// The index of the first module of each name.
+    /// The index of the first module of each name, of those that aren't built in.
     names: BTreeMap<String, usize>,
+    /// The index of the first built-in module of each name.
+    built_in: BTreeMap<String, usize>,
+    /// The number of modules that aren't built in: the first ones.
+    own: usize,
     /// What every module may use.
     given: Option<Module<'text>>,
 }
@@ -53,21 +57,44 @@ impl<'text> Modules<'text> {
     pub fn parse(alloc: Global, sources: &[Source<'text>]) -> Result<Modules<'text>, AllocError>
         ensures { IfOk result (λ read. AreOf sources.now read.modules.items) }
     {
+        Modules::parse_with_built_in(alloc, sources, sources.len())
+    }
+
+    /// Reads all modules of these texts, as [`Modules::parse`] does. Those after the first ones, as
+    /// many as `own`, are built in: they refer to built-in modules alone, whatever the others are
+    /// called, and others refer to a built-in one if none of them has its name.
+    ///
+    /// # Errors
+    /// `AllocError` if memory runs out.
+    pub fn parse_with_built_in(
+        alloc: Global,
+        sources: &[Source<'text>],
+        own: usize,
+    ) -> Result<Modules<'text>, AllocError>
+        ensures { IfOk result (λ read. AreOf sources.now read.modules.items) }
+    {
         let mut read = Modules {
             alloc,
             modules: Vec::new(alloc),
             faults: Vec::new(alloc),
             names: BTreeMap::new(alloc),
+            built_in: BTreeMap::new(alloc),
+            own: 0,
             given: given(alloc)?,
         };
-        for source in sources {
-            read.read(alloc, *source)?;
+        for (index, source) in sources.iter().enumerate() {
+            read.read(alloc, *source, index >= own)?;
         }
         Ok(read)
     }
 
     /// Adds the modules of a text.
-    fn read(&mut self, alloc: Global, source: Source<'text>) -> Result<(), AllocError>
+    fn read(
+        &mut self,
+        alloc: Global,
+        source: Source<'text>,
+        are_built_in: bool,
+    ) -> Result<(), AllocError>
         ensures { (all : _) → HasName all source.entry.name.now → AreOf all self.old.modules.items → OnOk result (AreOf all self.new.modules.items) }
     {
         let tokens = tokens(alloc, source.text, Position::START)?;
@@ -82,7 +109,7 @@ impl<'text> Modules<'text> {
             if parser.rest.is_empty() {
                 break;
             }
-            self.read_module(alloc, source.name, &mut parser)?;
+            self.read_module(alloc, source.name, &mut parser, are_built_in)?;
         }
         Ok(())
     }
@@ -93,12 +120,13 @@ impl<'text> Modules<'text> {
         alloc: Global,
         source: &'text str,
         parser: &mut Parser<'_, 'text>,
+        is_built_in: bool,
     ) -> Result<(), AllocError>
         ensures { (all : _) → HasName all source.now → AreOf all self.old.modules.items → OnOk result (AreOf all self.new.modules.items) }
     {
         match parser.module(source, &mut self.faults) {
             Ok(added) => {
-                self.add(alloc, added)?;
+                self.add(alloc, added, is_built_in)?;
                 Ok(())
             }
             Err(Halt::OutOfMemory) => Err(AllocError),
@@ -112,15 +140,28 @@ impl<'text> Modules<'text> {
     }
 
     /// Adds a module.
-    fn add(&mut self, alloc: Global, added: Module<'text>) -> Result<(), AllocError>
+    fn add(
+        &mut self,
+        alloc: Global,
+        added: Module<'text>,
+        is_built_in: bool,
+    ) -> Result<(), AllocError>
         ensures { OnOk result (self.new.modules.items ≡ self.old.modules.items ++ added.entry ∷ []) }
     {
-        if !self.names.contains_key(added.name) {
-            let name = String::from_str(alloc, added.name)?;
-            self.names.insert(name, self.modules.len())?;
+        let index = self.modules.len();
+        if is_built_in {
+            add_name(alloc, &mut self.built_in, added.name, index)?;
+        } else {
+            add_name(alloc, &mut self.names, added.name, index)?;
+            self.own = index.saturating_add(1);
         }
         self.modules.push(added)?;
         Ok(())
+    }
+
+    /// Returns whether the module with this index is built in.
+    pub(crate) fn is_built_in(&self, index: usize) -> bool {
+        index >= self.own
     }
 
     /// Returns a module by its index. What every module may use has the index after the last.
@@ -132,11 +173,36 @@ impl<'text> Modules<'text> {
         }
     }
 
-    /// Returns the index of the first module with this name.
+    /// Returns the name of a module.
+    pub(crate) fn name_of_module(&self, index: usize) -> &'text str {
+        match self.modules.get(index) {
+            Some(module) => module.name,
+            None => "",
+        }
+    }
+
+    /// Returns the index of the first module with this name, of a built-in one if no other has it.
     pub(crate) fn index_of(&self, name: &str) -> Option<usize>
         ensures { IfSome result (λ k. (m : Module) × (Some m ≡ slice_get self.now.modules.items k) × (m.name.now ≡ name.now)) }
     {
-        let index = *self.names.get(name)?;
+        match self.named(&self.names, name) {
+            Some(index) => Some(index),
+            None => self.named(&self.built_in, name),
+        }
+    }
+
+    /// Returns the index of the first built-in module with this name.
+    pub(crate) fn built_in_index_of(&self, name: &str) -> Option<usize>
+        ensures { IfSome result (λ k. (m : Module) × (Some m ≡ slice_get self.now.modules.items k) × (m.name.now ≡ name.now)) }
+    {
+        self.named(&self.built_in, name)
+    }
+
+    /// Returns the index that these names have for the module with this name.
+    fn named(&self, names: &BTreeMap<String, usize>, name: &str) -> Option<usize>
+        ensures { IfSome result (λ k. (m : Module) × (Some m ≡ slice_get self.now.modules.items k) × (m.name.now ≡ name.now)) }
+    {
+        let index = *names.get(name)?;
         let module = self.modules.get(index)?;
         if has_name(module, name) {
             Some(index)
@@ -144,6 +210,19 @@ impl<'text> Modules<'text> {
             None
         }
     }
+}
+
+/// Adds the index of a module with this name, unless one is known.
+fn add_name(
+    alloc: Global,
+    names: &mut BTreeMap<String, usize>,
+    name: &str,
+    index: usize,
+) -> Result<(), AllocError> {
+    if !names.contains_key(name) {
+        names.insert(String::from_str(alloc, name)?, index)?;
+    }
+    Ok(())
 }
 
 /// Returns whether this is the module's name.

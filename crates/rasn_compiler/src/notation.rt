@@ -42,16 +42,27 @@ impl Resolved {
         let schema = &self.schema;
         Ok(Notation {
             schema,
-            names: type_names(alloc, schema, self.root)?,
+            names: type_names(alloc, schema, Some(self.root))?,
         })
     }
 }
 
-/// Returns the names of a schema's types, each the name of one type only.
+/// Returns the types of a schema as a module.
+///
+/// # Errors
+/// `AllocError` if memory runs out.
+pub fn notation_of(alloc: Global, schema: &Schema) -> Result<Notation<'_>, AllocError> {
+    Ok(Notation {
+        schema,
+        names: type_names(alloc, schema, None)?,
+    })
+}
+
+/// Returns the names of a schema's types, each the name of one type only. The root has one.
 fn type_names(
     alloc: Global,
     schema: &Schema,
-    root: TypeId,
+    root: Option<TypeId>,
 ) -> Result<BTreeMap<usize, String>, AllocError> {
     let mut names = Names {
         of_types: BTreeMap::new(alloc),
@@ -61,7 +72,7 @@ fn type_names(
         names.add_known(alloc, known)?;
     }
     for (id, ty) in schema.types().iter().enumerate() {
-        if id == root.0 || is_made_of_others(ty) {
+        if root == Some(TypeId(id)) || is_made_of_others(ty) {
             names.add_missing(alloc, id)?;
         }
     }
@@ -120,7 +131,11 @@ fn is_made_of_others(ty: &Type) -> bool {
         | Type::Any { .. }
         | Type::Unknown
         | Type::Tagged { .. } => false,
-        _ => true,
+        Type::Choice { .. }
+        | Type::Sequence { .. }
+        | Type::Set { .. }
+        | Type::SequenceOf { .. }
+        | Type::SetOf { .. } => true,
     }
 }
 
@@ -402,7 +417,11 @@ fn write_kind<W: fmt::Write>(f: &mut fmt::Formatter<W>, kind: LeafKind) -> fmt::
     if let LeafKind::FixedOctetString(size) = kind {
         return write!(f, " (SIZE ({size}))");
     }
-    f.write_str(range_of(kind))
+    let range = kind.names().range;
+    if range.is_empty() {
+        return Ok(());
+    }
+    write!(f, " ({range})")
 }
 
 /// Writes the bounds of a value (X.680 51.4).
@@ -466,38 +485,35 @@ fn write_any<W: fmt::Write>(f: &mut fmt::Formatter<W>, tag: Tag) -> fmt::Result 
 /// (X.680 36).
 fn unseen_words(tag: Tag) -> (&'static str, u32) {
     match (tag.class, tag.value) {
-        (Class::Universal, 9) => ("REAL", 9),
-        (Class::Universal, 13) => ("RELATIVE-OID", 13),
-        (Class::Universal, 14) => ("TIME", 14),
         (Class::Universal, 29) => ("CHARACTER STRING", 29),
-        (Class::Universal, 32) => ("TIME-OF-DAY", 32),
-        (Class::Universal, 33) => ("DATE-TIME", 33),
-        (Class::Universal, 34) => ("DURATION", 34),
-        (Class::Universal, 35) => ("OID-IRI", 35),
-        (Class::Universal, 36) => ("RELATIVE-OID-IRI", 36),
         _ => ("EMBEDDED PDV", 11),
     }
 }
 
 /// Returns the words of a type, and the number of its universal tag (X.680 table 1).
 fn words_of(kind: LeafKind, tag: Tag) -> (&'static str, u32) {
-    match kind {
-        LeafKind::Boolean => ("BOOLEAN", 1),
-        LeafKind::Null => ("NULL", 5),
-        LeafKind::ObjectIdentifier => ("OBJECT IDENTIFIER", 6),
-        LeafKind::BitString | LeafKind::NamedBits => ("BIT STRING", 3),
-        LeafKind::OctetString | LeafKind::FixedOctetString(_) => ("OCTET STRING", 4),
-        LeafKind::Numeric => ("NumericString", 18),
-        LeafKind::Printable => ("PrintableString", 19),
-        LeafKind::Visible => ("VisibleString", 26),
-        LeafKind::Ia5 => ("IA5String", 22),
-        LeafKind::AnyOctets => string_words(tag),
-        LeafKind::Bmp => ("BMPString", 30),
-        LeafKind::Utf8 => ("UTF8String", 12),
-        LeafKind::UtcTime => ("UTCTime", 23),
-        LeafKind::GeneralizedTime => ("GeneralizedTime", 24),
-        LeafKind::Date => ("DATE", 31),
-        _ => ("INTEGER", 2),
+    if kind == LeafKind::AnyOctets {
+        return string_words(tag);
+    }
+    match unparsed_words(kind, tag) {
+        Some(words) => (words, tag.value),
+        None => (kind.names().notation, kind.names().number),
+    }
+}
+
+/// Returns the words of a type whose contents aren't checked, if this is the kind of its leaf, and
+/// its universal tag.
+fn unparsed_words(kind: LeafKind, tag: Tag) -> Option<&'static str> {
+    match (kind, tag.class, tag.value) {
+        (LeafKind::OctetString, Class::Universal, 9) => Some("REAL"),
+        (LeafKind::OctetString, Class::Universal, 13) => Some("RELATIVE-OID"),
+        (LeafKind::Visible, Class::Universal, 14) => Some("TIME"),
+        (LeafKind::Visible, Class::Universal, 32) => Some("TIME-OF-DAY"),
+        (LeafKind::Visible, Class::Universal, 33) => Some("DATE-TIME"),
+        (LeafKind::Visible, Class::Universal, 34) => Some("DURATION"),
+        (LeafKind::Utf8, Class::Universal, 35) => Some("OID-IRI"),
+        (LeafKind::Utf8, Class::Universal, 36) => Some("RELATIVE-OID-IRI"),
+        _ => None,
     }
 }
 
@@ -511,16 +527,5 @@ fn string_words(tag: Tag) -> (&'static str, u32) {
         (Class::Universal, 25) => ("GraphicString", 25),
         (Class::Universal, 28) => ("UniversalString", 28),
         _ => ("GeneralString", 27),
-    }
-}
-
-/// Returns the range of an INTEGER of fixed width, as a constraint.
-fn range_of(kind: LeafKind) -> &'static str {
-    match kind {
-        LeafKind::Signed32 => " (-2147483648..2147483647)",
-        LeafKind::Signed64 => " (-9223372036854775808..9223372036854775807)",
-        LeafKind::Unsigned32 => " (0..4294967295)",
-        LeafKind::Unsigned64 => " (0..18446744073709551615)",
-        _ => "",
     }
 }

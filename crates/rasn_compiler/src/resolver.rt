@@ -30,16 +30,18 @@ mod reference;
 mod schema_fault;
 mod scope;
 mod shape;
+mod spoilt;
 mod unfold;
 mod unknown;
 mod value;
 
-use crate::fault::{Halt, Stop};
+use crate::fault::{Halt, Problem, Stop};
+use crate::library::{Library, TypeRef};
 use crate::modules::Modules;
 use crate::steps::Steps;
-use emit::emit;
+pub(crate) use emit::assembled;
 use rasn_schema::{Schema, TypeId};
-use shape::Resolver;
+pub(crate) use shape::Resolver;
 use std::alloc::Global;
 
 /// A type that was resolved.
@@ -108,16 +110,25 @@ impl<'text> Modules<'text> {
         ensures root { IfOk result (λ r. r.root.0 < length r.schema.types.items) }
         ensures named { IfOk result (λ r. (names : _) × (r.schema.names ≡ Some names) × IsNamed names.items name.now r.root) }
     {
-        let (module, known, position) = self.type_named(module, name)?;
-        let mut resolver = Resolver {
-            alloc,
-            modules: self,
-            unchecked: 0,
-            scopes: Vec::new(alloc),
-            steps: *steps,
+        let (index, known, position) = self.type_named(module, name)?;
+        let of = TypeRef {
+            module: index,
+            name: known,
+            position,
         };
-        let nodes = resolver.nodes_of(module, known, position);
-        *steps = resolver.steps;
-        emit(alloc, self, nodes?, name, resolver.unchecked)
+        let library = self.library_within(alloc, &[of], steps)?;
+        if let Some(found) = library.faults.first() {
+            return Err(Halt::of(alloc, found.fault));
+        }
+        let Some(root) = library.first_root(name) else {
+            return Err(self.fault(index, position, Problem::Expected("a type")));
+        };
+        let unchecked = library.unchecked(alloc, root)?;
+        let Library { schema, .. } = library;
+        Ok(Resolved {
+            schema,
+            root,
+            unchecked,
+        })
     }
 }

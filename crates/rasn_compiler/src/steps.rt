@@ -14,6 +14,10 @@ impl Steps {
     /// The steps that one type may take.
     pub const OF_A_TYPE: usize = 10_000_000;
 
+    /// The steps that all types of a library may take for each type in the texts, beside those that
+    /// one type may take.
+    pub const OF_EACH: usize = 5_000;
+
     /// Returns so many steps.
     pub fn new(left: usize) -> Steps
         ensures { result.left ≡ left }

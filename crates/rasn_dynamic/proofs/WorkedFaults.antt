@@ -1,18 +1,23 @@
 -- Refusals and faults that were worked out by hand.
-use Rattle.std.proofs.Common.{◌≡◌, ℕ, zero, suc, Bool, true, false, ◌<◌, List, [], ◌∷◌, ◌++◌, length, length-append, Option, Some, None, Result, Ok, Err, inl, inr, refl, sym, ap, ◌∙◌, subst, arith}
+use Rattle.std.proofs.Common.{◌≡◌, ℕ, zero, suc, Bool, true, false, ◌<◌, List, [], ◌∷◌, ◌++◌, length, length-append, append-nil, Vec, Global, Option, Some, None, Result, Ok, Err, inl, inr, refl, sym, ap, ◌∙◌, subst, arith}
 use Rattle.std.specs.Prelude.{slice_get, reverse}
 use Rattle.rasn_types.specs.declared.types.codec.Codec.{Codec}
 use Rattle.rasn_types.specs.declared.types.codec.Codec.TheVariants.{Der}
 use Rattle.rasn_types.specs.declared.error.decode.DecodeError.{DecodeError}
 use Rattle.rasn_types.specs.declared.error.decode.DecodeErrorKind.{DecodeErrorKind}
 use Rattle.rasn_types.specs.Errors.{IsOutOfMemory}
-use Rattle.rasn_types.specs.Shapes.{Shape, Tree}
+use Rattle.rasn_types.specs.Shapes.{Shape, Tree, any}
+use Rattle.rasn_types.specs.declared.error.decode.DecodeErrorKind.TheVariants.{UnexpectedEmptyInput as EmptyInput}
+use Rattle.rasn_types.specs.declared.types.tag.Tag.{Tag}
+use Rattle.rasn_de.specs.declared.ber.de.parser.ParseError.TheVariants.{UnexpectedEmptyInput}
+use Rattle.rasn_de.specs.Any.{BorrowsOpenType}
+use Rattle.rasn_de.specs.ValueErrors.{errors_of}
 use Rattle.rasn_types.specs.Readings.{Reading}
 use Rattle.rasn_types.specs.Grammar.{Reads, top}
 use Rattle.rasn_de.specs.State.{State}
-use Rattle.rasn_de.specs.Steps.{PeeksTag}
+use Rattle.rasn_de.specs.Steps.{IsErrorOf, PeeksTag}
 use Rattle.rasn_de.specs.NamedErrors.{IsNamedError, IsNoValidChoice}
-use Rattle.rasn_types.specs.Tags.{in_universal}
+use Rattle.rasn_types.specs.Tags.{eoc, in_universal}
 use Rattle.rasn_types.specs.declared.types.constraints.Constraints.{Constraints}
 use Rattle.rasn.specs.WorkedRefusals.{WorkedRefusals}
 use Rattle.rasn.proofs.Worked.Refusals.{worked}
@@ -23,19 +28,24 @@ use Rattle.rasn_schema.proofs.Lists.{some_is}
 use Rattle.rasn_schema.proofs.Parts.{not_none}
 use Rattle.rasn_schema.specs.Shapes.{shape_of_type, alternatives_by, IsReadable}
 use Rattle.rasn_schema.specs.declared.types.LeafKind.TheVariants.{Boolean}
-use Rattle.rasn_schema.specs.declared.types.«Type».TheVariants.{Unknown}
+use Rattle.rasn_schema.specs.declared.types.«Type».TheVariants.{Leaf, Unknown}
 use Rattle.rasn_dynamic.specs.declared.refusal.Refusal.{Refusal}
-use Rattle.rasn_schema.specs.declared.value.Value.{Value}
-use Rattle.rasn_dynamic.specs.Faults.{LeadsBy, LeadsToAny, IsMemberHere, StopsAtMember, FailsAt, StopsInSequence, IsLocated, start}
+use Rattle.rasn_schema.specs.declared.value.Value.{Value, Boolean as BooleanValue, Null}
+use Rattle.rasn_schema.specs.declared.types.NamedNumber.{NamedNumber}
+use Rattle.rasn_dynamic.specs.Faults.{LeadsBy, LeadsToAny, LacksType, IsMemberHere, StopsAtMember, FailsAt, StopsInSequence, IsLocated, start}
 use Rattle.rasn_dynamic.specs.declared.span.Spans.{Spans}
 use Rattle.rasn_dynamic.specs.declared.trace.Fault.{Fault}
 use Rattle.rasn_dynamic.specs.declared.nested.NextPart.{NextPart}
 use Rattle.rasn_dynamic.specs.declared.nested.Nested.{Nested}
-use Rattle.rasn_dynamic.specs.LeafErrors.{leaf_errors}
-use Rattle.rasn_dynamic.specs.Nested.{IsNoChoice, LeadsInto, Descends, ReadsWithin}
+use Rattle.rasn_dynamic.specs.LeafErrors.{leaf_errors, unknown_errors, RunsOutOr}
+use Rattle.rasn_dynamic.specs.Refusals.{FailsSomewhere, FailsWhole}
+use Rattle.rasn_dynamic.specs.Inside.{DecodesTree}
+use Rattle.rasn_dynamic.specs.Unfit.{IsUnfitAt}
+use Rattle.rasn_dynamic.specs.Nested.{IsNoChoice, IsRefusedHere, LeadsInto, Descends, ReadsWithin}
 use Rattle.rasn_dynamic.specs.WorkedFaults.{WorkedFaults}
 use Rattle.rasn_dynamic.proofs.Faults.{fails_found, fails_missing}
 use Rattle.rasn_dynamic.proofs.OpenChoice.{open_begins}
+use Rattle.rasn_dynamic.proofs.Nothing.{refused_not_there}
 
 no_way : (types : List «Type») (levels : ℕ) (s : State) (id : ℕ) → id ≡ 0 → LeadsToAny types [] levels 0 s levels id s
 unfolding LeadsBy
@@ -58,6 +68,57 @@ at_the_start r m i o s = record {
   refused = anything (Reads Der (shape_of_type (Unknown ∷ []) 18446744073709551615 r.id.0) 128 (top Der)) [] r.error.kind m;
   itself = subst (λ n. FailsAt (Unknown ∷ []) 18446744073709551615 n (start Der []) r.error) (sym i) (fails_found (Unknown ∷ []) 18446744073709551615 0 18446744073709551614 Unknown (start Der []) r.error refl refl (start Der [], inl m));
 }
+
+missing_type : (rule : Codec) (input : List ℕ) (r : Refusal) → IsErrorOf UnexpectedEmptyInput (start rule input) r.error → r.id.0 ≡ 0 → r.offset ≡ 0 → r.steps.items ≡ [] → FailsSomewhere [] rule 0 input r.error
+missing_type rule input r w i o s = (
+  r,
+  refl,
+  record {
+    path = [];
+    below = 18446744073709551615;
+    last = start rule input;
+    front = [];
+    back = [];
+    is = sym (append-nil input);
+    offset = sym o;
+    has_path = λ c. s;
+    leads = no_way [] 18446744073709551615 (start rule input) r.id.0 i;
+    refused = subst (λ n. Exact (Reads rule (shape_of_type [] 18446744073709551615 n) 128 (top rule)) input (refusal r.error.kind)) (sym i) (refused_not_there [] 18446744073709551615 0 (start rule input) r.error.kind refl).exact;
+    itself = subst (λ n. FailsAt [] 18446744073709551615 n (start rule input) r.error) (sym i) (fails_missing [] 18446744073709551615 0 (start rule input) r.error (inr refl) w);
+  },
+)
+
+no_part : (path : List ℕ) (s : State) (below id : ℕ) (last : State) (e : DecodeError) → LeadsToAny [] path 18446744073709551615 0 s below id last → FailsAt [] below id last e → IsErrorOf UnexpectedEmptyInput s e
+unfolding LeadsBy
+no_part [] s below id last e (b, i, q) f = subst (λ z. IsErrorOf UnexpectedEmptyInput z e) (sym q) (f.missing (subst (λ n. LacksType [] below n) i (inr refl)))
+no_part (k ∷ path) s below id last e (n, l, ty, g, inner, enters, next, here, part, stays, ends, leads) f = cc
+
+missing_only : (rule : Codec) (input : List ℕ) (e : DecodeError) → (IsErrorOf UnexpectedEmptyInput (start rule input) e → ⊥) → FailsSomewhere [] rule 0 input e → ⊥
+missing_only rule input e n (r, q, h) = n (subst (IsErrorOf UnexpectedEmptyInput (start rule input)) q (no_part h.path (start rule input) h.below r.id.0 h.last r.error h.leads h.itself))
+
+missing_whole : (rule : Codec) (input : List ℕ) (e : DecodeError) → (IsErrorOf UnexpectedEmptyInput (start rule input) e → ⊥) → FailsWhole [] rule 0 input e → ⊥
+missing_whole rule input e n (inl h) = missing_only rule input e n h
+missing_whole rule input e n (inr h) = (refused_not_there [] 18446744073709551615 0 (start rule input) EmptyInput refl).exact h.t h.rest h.read.0
+
+at_the_first : (s : State) (e : DecodeError) (new : State) → (IsOutOfMemory e.kind → ⊥) → (errors_of (BorrowsOpenType eoc) s e new → ⊥)
+    → ((t : Tree) (next : State) → DecodesTree (any None) s (Ok t) next → ⊥) → RunsOutOr unknown_errors s e new → ⊥
+at_the_first s e new m n none (inl o) = m o
+at_the_first s e new m n none (inr ([], here, turn, more, h)) = n (subst (λ z. errors_of (BorrowsOpenType eoc) z e new) turn h)
+at_the_first s e new m n none (inr (t ∷ ts, here, turn, more, h)) = none t turn.0 turn.2
+
+outermost : (types : List «Type») (s : State) (outer : NextPart) (before after : Spans) (e : DecodeError) (new : Nested) → new.choices.items ≡ [] → new.part ≡ outer
+    → IsRefusedHere types s outer e → Descends types s outer before (Err e) new after
+outermost types s outer before after e new c p h =
+    (before, subst (λ l. LeadsInto types s (reverse l) outer before new.part before) (sym c) (p, refl), subst (λ (z : NextPart). IsRefusedHere types s z e) (sym p) h)
+
+null_unfit : (tag : Tag) (c : Constraints) (names : Vec NamedNumber Global) → IsUnfitAt (Leaf Boolean tag c names ∷ []) 1 0 Null []
+unfolding IsUnfitAt
+null_unfit tag c names = λ h. cc
+
+true_fits : (tag : Tag) (c : Constraints) (names : Vec NamedNumber Global) (path : List ℕ) → IsUnfitAt (Leaf Boolean tag c names ∷ []) 1 0 (BooleanValue true) path → ⊥
+unfolding IsUnfitAt
+true_fits tag c names [] h = h refl
+true_fits tag c names (i ∷ path) (j, w, p, h) = p
 
 not_after : (types : List «Type») (rule : Codec) (id : ℕ) (r : Refusal) → 0 < r.offset → IsLocated types rule id [] r → ⊥
 not_after types rule id r l h =
@@ -120,6 +181,10 @@ pub worked_faults : WorkedFaults
 worked_faults = record {
   no_memory_at_the_start = at_the_start;
   not_after_the_input = not_after;
+  missing_type_fails = missing_type;
+  missing_type_fails_only_so = missing_only;
+  missing_type_fails_whole = λ rule input r w i o s. inl (missing_type rule input r w i o s);
+  missing_type_fails_whole_only_so = missing_whole;
   boolean_fails = boolean;
   unknown_values_without_memory = λ f s e m. (s, inl m);
   nothing_stops_inside_an_open_type = λ f s e h. h;
@@ -137,6 +202,12 @@ worked_faults = record {
   unknown_tag_stops_at_a_closed_set = λ f s e tag n name w. inr (inl (((tag, n, λ h. h), w), refl));
   no_other_name_at_a_closed_set = other_name;
   no_tag_stops_at_an_open_set = open_set;
+  no_memory_for_an_unknown_value = λ s e new m. inl m;
+  no_unknown_value_after_the_end = at_the_first;
+  refused_at_the_outermost = outermost;
+  not_refused_by_other_rules = λ types s outer before after e new n d. n d.2.2;
+  null_is_no_boolean = null_unfit;
+  true_is_a_boolean = true_fits;
   goes_into_no_choice = no_choice;
   not_down_to_a_choice = λ types s outer before after new text l h d. d.2 text l h;
   read_within_no_choice = λ types keep outer s before r new fault after h. (outer, before, refl, (refl, refl), h);

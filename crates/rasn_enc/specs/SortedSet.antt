@@ -88,6 +88,10 @@ pub record IsPartAlone (Known : Shape → Type 0) (p : Presence) (s : Shape) (t 
   pub tree_is : tree ≡ joined t done
   pub known : Known s
 
+-- The writer holds the unknown value as the component.
+abbrev pub IsUnknown : List ℕ → SetComponent → Type 0
+IsUnknown value x = (x.octets.items ≡ value) × Begins value x.tag
+
 -- The writer holds these unknown values as components, in the order of their tags, whatever number the first has.
 pub record HoldsUnknown (values : List (List ℕ)) (xs : List SetComponent) : Type 0 where
   pub holds : (n : ℕ) → (es : List Component) × UnknownComponents n (map numbers values) es × HoldsInOrder n es xs

@@ -1,3 +1,4 @@
 pub mod LawfulTypes
+pub mod BothErrors
 pub mod EventComponents
 pub mod WorkedNormals

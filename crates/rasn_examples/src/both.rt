@@ -3,7 +3,8 @@ ghost use Rattle.std.specs.Prelude.{◌≡◌, IfOk, IfErr};
 ghost use Rattle.rasn_de.specs.Decodes.{DecodesParts};
 ghost use Rattle.rasn_enc.specs.Sequence.{EncodesParts};
 ghost use Rattle.rasn_de.specs.Beyond.{Held};
-ghost use Rattle.rasn_examples.specs.Both.{both_parts, both_tree, both_inside};
+ghost use Rattle.rasn_de.specs.PartTypes.{DecodesInParts};
+ghost use Rattle.rasn_examples.specs.Both.{both_parts, both_tree, both_inside, both_part_errors};
 
 use rasn::ber::de::Decoder;
 use rasn::ber::enc::Encoder;
@@ -95,9 +96,11 @@ impl<A: AsnType, B: AsnType> Constructed<2, 0> for Both<A, B> {
 impl<A: Decode, B: Decode> Decode for Both<A, B> {
     ghost use Rattle.std.specs.Prelude.{IfOk};
     ghost use Rattle.rasn_de.specs.Beyond.{Held};
-    ghost use Rattle.rasn_examples.specs.Both.{both_beyond};
+    ghost use Rattle.rasn_examples.specs.Both.{both_beyond, both_errors};
 
     ghost beyond = { λ tag old result _. IfOk result (both_beyond (Held A.shape A.tree (A.beyond A.TAG)) (Held B.shape B.tree (B.beyond B.TAG)) tag old) };
+
+    ghost errors = { λ tag _. both_errors A.shape B.shape A.tree B.tree (A.errors A.TAG A.CONSTRAINTS) (B.errors B.TAG B.CONSTRAINTS) tag };
 
     fn decode_with_tag_and_constraints(
         decoder: &mut Decoder<'_>,
@@ -115,6 +118,7 @@ impl<A: Decode, B: Decode> Decode for Both<A, B> {
                 ensures reads { DecodesParts (both_parts A.shape B.shape) (both_tree A.tree B.tree) decoder.old result decoder.new }
                 ensures beyond { IfOk result (λ v. both_inside (Held A.shape A.tree (A.beyond A.TAG)) (Held B.shape B.tree (B.beyond B.TAG)) decoder.old v decoder.new) }
                 ensures rules { IfErr result (λ e. e.codec ≡ decoder.old.rule) }
+                ensures exact { DecodesInParts (both_parts A.shape B.shape) (both_tree A.tree B.tree) (both_part_errors A.shape B.shape (A.errors A.TAG A.CONSTRAINTS) (B.errors B.TAG B.CONSTRAINTS)) decoder.old result decoder.new }
             {
                 let first = A::decode(decoder)?;
                 let second = B::decode(decoder)?;

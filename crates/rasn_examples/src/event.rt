@@ -18,6 +18,12 @@
 //! is read by a default form, an optional part as its value, and a CHOICE by each of its tags, with
 //! a lemma that it alone has them (`time_alone` of `EventComponents.antt`).
 //!
+//! # Errors
+//! A type that closures read also says by `errors` which error a refused reading has: `from_tag`
+//! that of the alternative with the next tag, the closure of `decode_set` in its clause `named` the
+//! component that is present twice or missing, and the closure of `decode_sequence` that of the
+//! first part that isn't read (`both.rt`).
+//!
 //! # Offsets of times
 //! A type that closures read also says by `beyond` that a GeneralizedTime has the offset of its
 //! text. The closure of `decode_set` says which components the parts are, and the method's answer
@@ -25,12 +31,13 @@
 //! `decoder.old` and `decoder.new`, and the answer starts from `exact`, by `read_inside` of
 //! `Beyond.antt` (`both.rt`). For `decode_choice`, `from_tag` has the ghost member `beyond`, and no
 //! answer is needed.
-ghost use Rattle.std.specs.Prelude.{◌≡◌, IfOk, IfErr, map};
+ghost use Rattle.std.specs.Prelude.{◌≡◌, false, Err, IfOk, IfErr, map};
 ghost use Rattle.rasn_types.specs.Shapes.{IsFirst};
 ghost use Rattle.rasn_de.specs.Set.{MakesSet};
+ghost use Rattle.rasn_de.specs.SetPartTypes.{MakesNamed};
 ghost use Rattle.rasn_enc.specs.Sequence.{EncodesParts};
 ghost use Rattle.rasn_examples.specs.Times.{time_shape};
-ghost use Rattle.rasn_examples.specs.Event.{event_parts, event_tree, component_tree, HoldsTime};
+ghost use Rattle.rasn_examples.specs.Event.{event_parts, event_tree, event_names, component_tree, HoldsTime};
 ghost use Rattle.rasn_types.specs.Truth.{IsWhether};
 
 use crate::Time;
@@ -183,9 +190,11 @@ impl AsnType for Component {
 }
 
 impl Decode for Component {
-    ghost use Rattle.rasn_examples.specs.Event.{DecodesComponent};
+    ghost use Rattle.rasn_examples.specs.Event.{DecodesComponent, OrNoTag};
 
     ghost beyond = { λ _. DecodesComponent };
+
+    ghost errors = { λ _ _. OrNoTag ⟦<Component as DecodeChoice>⟧.errors };
 
     fn decode_with_tag_and_constraints(
         decoder: &mut Decoder<'_>,
@@ -198,11 +207,13 @@ impl Decode for Component {
 
 impl DecodeChoice for Component {
     ghost use Rattle.std.specs.Prelude.{refl};
-    ghost use Rattle.rasn_examples.specs.Event.{event_parts, DecodesComponent};
+    ghost use Rattle.rasn_examples.specs.Event.{context, event_parts, DecodesComponent, component_errors, level_errors};
 
     ghost alternatives = { event_parts };
 
     ghost beyond = { DecodesComponent };
+
+    ghost errors = { component_errors (⟦<Time as Decode>⟧.errors ⟦<Time as AsnType>⟧.TAG ⟦<Time as AsnType>⟧.CONSTRAINTS) (level_errors (⟦<u8 as Decode>⟧.errors (context 0) ⟦<u8 as AsnType>⟧.CONSTRAINTS)) (⟦<bool as Decode>⟧.errors (context 1) ⟦<bool as AsnType>⟧.CONSTRAINTS) };
 
     fn from_tag(decoder: &mut Decoder<'_>, tag: Tag) -> Result<Component, DecodeError> {
         if is_time(tag) {
@@ -228,6 +239,7 @@ fn gather(alloc: Global, codec: Codec, components: Vec<Component>) -> Result<Eve
     ensures makes { MakesSet event_parts event_tree (map component_tree components.items) result }
     ensures beyond { IfOk result (HoldsTime components.items) }
     ensures rules { IfErr result (λ e. e.codec ≡ codec) }
+    ensures named { IfErr result (λ e. MakesNamed false event_parts event_tree event_names codec (map component_tree components.items) (Err e)) }
 {
     let mut time = None;
     let mut level = None;
@@ -264,9 +276,11 @@ fn gather(alloc: Global, codec: Codec, components: Vec<Component>) -> Result<Eve
 
 impl Decode for Event {
     ghost use Rattle.std.specs.Prelude.{IfOk};
-    ghost use Rattle.rasn_examples.specs.Event.{event_beyond};
+    ghost use Rattle.rasn_examples.specs.Event.{event_beyond, event_errors};
 
     ghost beyond = { λ tag old result _. IfOk result (event_beyond tag old) };
+
+    ghost errors = { λ tag _. event_errors (⟦<Component as Decode>⟧.errors ⟦<Component as AsnType>⟧.TAG ⟦<Component as AsnType>⟧.CONSTRAINTS) tag };
 
     fn decode_with_tag_and_constraints(
         decoder: &mut Decoder<'_>,
@@ -285,6 +299,7 @@ impl Decode for Event {
                 ensures makes { MakesSet event_parts event_tree (map component_tree components.items) result }
                 ensures beyond { IfOk result (HoldsTime components.items) }
                 ensures rules { IfErr result (λ e. e.codec ≡ codec) }
+                ensures named { IfErr result (λ e. MakesNamed false event_parts event_tree event_names codec (map component_tree components.items) (Err e)) }
             { gather(alloc, codec, components) },
         )
     }

@@ -40,7 +40,7 @@ name_once names n m j own (i, x, at, is, e) (s, f, k, y, here, named, that) =
     sym is ∙ (ap (λ (z : NamedNumber). z.number) (one_named name_of_number names i k x y own at here same) ∙ that)
 
 number_once : (n m : ℤ) (j : Json) → NumberJson n j → WholeRead j m → n ≡ m
-number_once n m j (s, e, d, a) (t, f, b) =
+number_once n m j (few, (s, e, d, a)) (t, f, b) =
     let g : Some s ≡ Some t = sym (ap as_number e) ∙ f in
     let h : s ≡ t = cc in
     whole_once t n m (subst (λ l. IsWhole l n) h a) b
@@ -48,7 +48,7 @@ number_once n m j (s, e, d, a) (t, f, b) =
 integer_once : (kind : LeafKind) (names : List NamedNumber) (n m : ℤ) (j : Json) → HaveOwnNames name_of_number names → IntegerJson kind names n j → IntegerRead kind names j m → n ≡ m
 integer_once kind names n m j own (inl (x, a)) (inl (y, b)) = name_once names n m j own a b
 integer_once kind names n m j own (inl (x, (i, q, at, is, e))) (inr (t, f, b)) = let g : None ≡ Some t = sym (ap as_number e) ∙ f in absurd cc
-integer_once kind names n m j own (inr (x, (s, e, d, a))) (inl (y, b)) = let g : None ≡ Some b.0 = sym (ap as_str e) ∙ b.1 in absurd cc
+integer_once kind names n m j own (inr (x, (few, (s, e, d, a)))) (inl (y, b)) = let g : None ≡ Some b.0 = sym (ap as_str e) ∙ b.1 in absurd cc
 integer_once kind names n m j own (inr (x, a)) (inr b) = number_once n m j a b
 
 -- ---- strings

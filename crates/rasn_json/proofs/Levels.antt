@@ -1,6 +1,6 @@
 -- The JSON of a value, one level deeper.
 use Rattle.std.proofs.Common.{◌≡◌, ℕ, zero, suc, Some, refl, sym, ap, subst, List, Result, Ok, Err, ◌∙◌, arith}
-use Rattle.std.specs.Prelude.{slice_get, IfOk, MatchResult, true, false, is_err, is_ok}
+use Rattle.std.specs.Prelude.{slice_get, IfOk, OnOk, MatchResult, true, false, is_err, is_ok}
 use Rattle.json.specs.Json.{Json}
 use Rattle.rasn_schema.specs.declared.types.«Type».{«Type»}
 use Rattle.rasn_schema.specs.declared.value.Value.{Value}
@@ -43,3 +43,8 @@ pub or_ok : {A E F : Type 0} (P : A → Type 0) (outcome : Result A E) (r : Resu
 or_ok P (Ok w) r m h = subst (λ x. IfOk x P) (sym m) h
 or_ok P (Err x) (Ok v) m h = absurd (not_true m)
 or_ok P (Err x) (Err y) m h = tt
+
+-- What holds where an outcome is a value holds where its value was handed on.
+pub passed : {A E F : Type 0} (P : Type 0) (outcome : Result A E) (r : Result A F) (v : A) → MatchResult outcome (λ w. r ≡ Ok w) (λ _. is_err r ≡ true) → r ≡ Ok v → OnOk outcome P → P
+passed P (Ok w) r v m e h = h
+passed P (Err x) r v m e h = absurd (no_error r v m e)

@@ -1,5 +1,5 @@
 -- A value that is refused has no JSON, and JSON that is written isn't nested deeper than allowed.
-use Rattle.std.proofs.Common.{◌≡◌, ◌⊎◌, ◌≤◌, ◌<◌, ◌+◌, ◌-◌, ◌++◌, ◌∙◌, ℕ, zero, suc, List, [], ◌∷◌, Bool, false, Option, Some, None, Result, Ok, Err, length, length-append, inl, inr, refl, sym, ap, subst, arith}
+use Rattle.std.proofs.Common.{ℤ, ◌≡◌, ◌⊎◌, ◌≤◌, ◌<◌, ◌+◌, ◌-◌, ◌++◌, ◌∙◌, ℕ, zero, suc, List, [], ◌∷◌, Bool, false, Option, Some, None, Result, Ok, Err, length, length-append, inl, inr, refl, sym, ap, subst, arith}
 use Rattle.std.specs.Prelude.{◌≢◌, slice_get, IfErr, IfOk, IsErrAnd, MatchOption, OnOk}
 use Rattle.std.specs.Cow.{cow_slice_items}
 use Rattle.std.specs.String.{string_bytes}
@@ -21,11 +21,12 @@ use Rattle.rasn_schema.specs.declared.types.«Type».TheVariants.{Leaf, Enumerat
 use Rattle.rasn_schema.specs.declared.value.Value.{Value, Boolean, Null, Integer, Bits, Octets, Text, Units, Arcs, Instant, Day, Items', Elements', Chosen', items-the_row-Value}
 use Rattle.rasn_schema.specs.Fitting.{AreItems, AreElements, IsChosen, IsListOf, IsSetOf, FitsLeaf}
 use Rattle.rasn_schema.proofs.Lists.{some_is}
+use Rattle.rasn_json.specs.Decimal.{IsLong}
 use Rattle.rasn_json.specs.declared.error.JsonError.{JsonError}
-use Rattle.rasn_json.specs.declared.error.JsonErrorKind.TheVariants.{NoJson, NoType, Unfit}
+use Rattle.rasn_json.specs.declared.error.JsonErrorKind.TheVariants.{LongNumber, NoJson, NoType, Unfit}
 use Rattle.rasn_json.specs.declared.error.JsonStep.{JsonStep}
 use Rattle.rasn_json.specs.declared.error.JsonStep.TheVariants.{Element}
-use Rattle.rasn_json.specs.Json.{BitsJson, IntegerJson, IsFilled, IsSize, LeafJson, OctetsJson, OpenJson, MembersJson, ItemsJson, ObjectJson, ArrayJson, ChosenJson, EnumeratedJson, Appends, IsCounted, JsonBy, JsonFound, JsonAt, JsonWithin, AppendsComponent, one_size, unknown_in}
+use Rattle.rasn_json.specs.Json.{BitsJson, IntegerJson, IsExtensible, IsFilled, IsUnnamed, NumberJson, IsSize, LeafJson, OctetsJson, OpenJson, MembersJson, ItemsJson, ObjectJson, ArrayJson, ChosenJson, EnumeratedJson, Appends, IsCounted, JsonBy, JsonFound, JsonAt, JsonWithin, AppendsComponent, one_size, unknown_in}
 use Rattle.rasn_json.specs.Refusals.{IsMemory, OrMemory, HasNone, IsOfItself, IsOfElement, IsOfMember, IsOfPart, IsAlternative, IsRefusedAlternative, AreRefusedBits, IsRefusedForm, IsRefusedLeaf, IsRefusedOpen, HasOpen, IsRefusedChoice, IsRefusedList, IsRefusedSet, IsRefusedComponent, AreRefusedComponents, AreRefusedElements, IsRefusedNested, IsRefusedInside, IsRefusedBy, IsRefusedFound, HasJsonWithin, IsRefusedAt}
 
 -- ---- errors of parts
@@ -70,6 +71,22 @@ no_text_fails Q P text J e f h (inr (is, x)) =
     let none = subst (λ r. IfOk r (λ o. MatchOption o ((s : List ℕ) → Q s → ⊥) P)) is h in
     inr (λ j k. let t = f j k in none t.0 t.1, x)
 
+-- A number has too many octets.
+pub long_fails : {S E : Type 0} (P : S → Type 0) (text : Result (Option S) E) (z : ℤ) (e : JsonError) → IfOk text (λ o. MatchOption o (IsLong z) P) → OrMemory (λ x. (text ≡ Ok None) × IsOfItself LongNumber x) e
+    → OrMemory (HasNone LongNumber (NumberJson z)) e
+long_fails P text z e h (inl m) = inl m
+long_fails P text z e h (inr (is, x)) =
+    let long = subst (λ r. IfOk r (λ o. MatchOption o (IsLong z) P)) is h in
+    inr (λ j k. k.0 long, x)
+
+-- A number without a name of its own has no other JSON.
+pub no_number : (kind : LeafKind) (names : List NamedNumber) (z : ℤ) (e : JsonError) → (IsExtensible kind names → IsUnnamed names z) → HasNone LongNumber (NumberJson z) e → HasNone LongNumber (IntegerJson kind names z) e
+no_number kind names z e none (n, x) = (λ j k. go j k, x)
+  where
+    go : (j : Json) → IntegerJson kind names z j → ⊥
+    go j (inl (is, (i, m, at, named, s))) = none is i m at named
+    go j (inr (u, k)) = n j k
+
 -- ---- how deep JSON is nested
 
 module _ (d : ℕ) (j : Json) where
@@ -84,7 +101,7 @@ module _ (d : ℕ) (j : Json) where
 
   integer_depth : (kind : LeafKind) (names : List NamedNumber) (n : _) → IntegerJson kind names n j → depth j ≤ d
   integer_depth kind names n (inl (x, (i, m, at, named, is))) = let k = ap depth is in omega (arith, k)
-  integer_depth kind names n (inr (x, (s, is, h, w))) = let k = ap depth is in omega (arith, k)
+  integer_depth kind names n (inr (x, (few, (s, is, h, w)))) = let k = ap depth is in omega (arith, k)
 
   octets_depth : (kind : LeafKind) (o : List ℕ) → OctetsJson kind o j → depth j ≤ d
   octets_depth OctetString o (a, is) = let k = ap depth is in omega (arith, k)
@@ -216,7 +233,8 @@ module _ (d : ℕ) (kind : LeafKind) (c : Constraints) (names : List NamedNumber
   none_bits (Some n) bs (wrong, i) (all, f, x) le = wrong (size_filled kind n bs all f)
   none_bits None bs (z, i) (w, (x, y, is)) le = let k = ap depth is in omega (arith, k, le, z)
 
-  none_form : (v : Value) → IsRefusedForm d kind c v e → LeafJson kind c names v j → depth j ≤ d → ⊥
+  none_form : (v : Value) → IsRefusedForm d kind c names v e → LeafJson kind c names v j → depth j ≤ d → ⊥
+  none_form (Integer n) x h le = x.0 j h
   none_form (Bits b) x h le = none_bits (one_size c) (cow_bits b) x h le
   none_form (Units u) x h le = x.0 j h
   none_form (Arcs a) x h le = x.0 j h
@@ -224,7 +242,7 @@ module _ (d : ℕ) (kind : LeafKind) (c : Constraints) (names : List NamedNumber
   none_form (Day t) x h le = x.0 j h
   none_form v x h le = absurd x
 
-  none_leaf : (v : Value) → IsRefusedLeaf d kind c v e → FitsLeaf kind v → LeafJson kind c names v j → depth j ≤ d → ⊥
+  none_leaf : (v : Value) → IsRefusedLeaf d kind c names v e → FitsLeaf kind v → LeafJson kind c names v j → depth j ≤ d → ⊥
   none_leaf v (inl (n, i)) f h le = n f
   none_leaf v (inr (f, x)) g h le = none_form v x h le
 

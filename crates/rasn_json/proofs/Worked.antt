@@ -1,18 +1,25 @@
 -- JSON that was worked out by hand.
-use Rattle.std.proofs.Common.{◌≡◌, ◌⊎◌, ◌+◌, ◌-◌, ◌/◌, ◌%◌, ◌<◌, ℕ, pos, List, [], ◌∷◌, ◌++◌, Bool, true, false, length, length-append, Option, Some, None, All, inl, inr, refl, sym, ap, ◌∙◌, subst, arith, codes, decimal, cond}
+use Rattle.std.proofs.Common.{◌≡◌, ◌⊎◌, ◌+◌, ◌-◌, ◌/◌, ◌%◌, ◌<◌, ◌≤◌, ℕ, zero, suc, pos, List, replicate, [], ◌∷◌, ◌++◌, Bool, true, false, length, length-append, Option, Some, None, All, inl, inr, refl, sym, ap, ◌∙◌, subst, arith, codes, decimal, cond}
 use Rattle.std.specs.Prelude.{nat_lt, encode_utf8_all}
 use Rattle.std.specs.List.{flat_map}
 use Rattle.std.specs.Str.{all_scalars}
 use Rattle.std.specs.Char.Escape.{encode_utf16}
 use Rattle.std.proofs.lemmas.Int.{ints}
+use Rattle.std.proofs.lemmas.List.{length-replicate}
 use Rattle.std.proofs.lemmas.List.Elements.{All-from_recursion}
 use Rattle.std.proofs.lemmas.Fmt.{decimal_digit}
 use Rattle.std.proofs.lemmas.Str.{encodes_same}
 use Rattle.json.specs.Json.{Json, string, object}
 use Rattle.json.specs.Find.{as_str}
+use Rattle.json.specs.Print.{IsNumber}
+use Rattle.json.specs.Word.{after_number}
 use Rattle.rasn_types.specs.BitString.{Packs}
+use Rattle.rasn_types.specs.Contents.{IsShortestInteger, RepeatsSign, signed}
+use Rattle.rasn_types.specs.Framing.{AreOctets}
+use Rattle.rasn_types.proofs.Integer.Shortest.{same_shortest}
 use Rattle.rasn_types.specs.Text.{IsSmall, dotted, shown_day}
 use Rattle.rasn_schema.specs.declared.types.LeafKind.TheVariants.{BitString, NamedBits}
+use Rattle.rasn_json.specs.Decimal.{IsLong, IsWhole}
 use Rattle.rasn_json.specs.Json.{BitsJson, DigitsJson, HexadecimalJson, counted}
 use Rattle.rasn_json.specs.Reading.{AllBitsRead}
 use Rattle.rasn_json.specs.Texts.{ArcsText, DayText, UnitsText}
@@ -97,6 +104,35 @@ a_day = (record { year = 1985; same = refl; below = omega arith }, refl)
 no_day : (s : List ℕ) → DayText s (day 12345) → ⊥
 no_day s (c, e) = let b = c.below in omega (arith, ints, c.same)
 
+few_octets : IsLong (pos 5) → ⊥
+few_octets (l, s, n) =
+    let e : l ≡ 5 ∷ [] = same_shortest l (5 ∷ []) s.octets (omega arith, tt) s.shortest tt s.is in
+    omega (arith, n, ap length e)
+
+noughts : (k : ℕ) → AreOctets (replicate k 0)
+noughts zero = tt
+noughts (suc k) = (omega arith, noughts k)
+
+fewest : (k : ℕ) → 0 < k → IsShortestInteger (1 ∷ replicate k 0)
+fewest zero h = absurd (omega arith)
+fewest (suc k) h = λ r. go r
+  where
+    go : RepeatsSign 1 0 → ⊥
+    go (inl e) = omega (arith, e.0)
+    go (inr e) = omega (arith, e.0)
+
+many_octets : (k : ℕ) → 16384 ≤ k → IsLong (signed (1 ∷ replicate k 0))
+many_octets k le =
+    let n = length-replicate {A = ℕ} k 0 in
+    (1 ∷ replicate k 0, record { is = refl; shortest = fewest k (omega (arith, le)); octets = (omega arith, noughts k) }, omega (arith, le, n))
+
+five_is_number : IsNumber (codes "5")
+unfolding after_number
+five_is_number = refl
+
+five_is_whole : IsWhole (codes "5") (pos 5)
+five_is_whole = inl ((omega arith, (omega arith, tt)), refl)
+
 pub worked_json : WorkedJson
 worked_json = record {
   digits_alone = (four_bits, (refl, refl), a0);
@@ -116,6 +152,10 @@ worked_json = record {
   no_subidentifier = no_subidentifier;
   a_day = a_day;
   no_day_of_five_digits = no_day;
+  five = (few_octets, (codes "5", refl, five_is_number, five_is_whole));
+  five_is_not_long = few_octets;
+  too_many_octets = many_octets;
+  no_number_of_too_many = λ k j le h. h.0 (many_octets k le);
 }
   where
     not_read : (bs : List Bool) → AllBitsRead None (string (codes "A0")) bs → ⊥

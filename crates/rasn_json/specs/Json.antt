@@ -25,16 +25,16 @@ use Rattle.rasn_schema.specs.declared.types.«Type».TheVariants.{Leaf, Enumerat
 use Rattle.rasn_schema.specs.declared.value.Value.{Value, Boolean, Null, Integer as Number, Bits, Octets, Text, Units, Arcs, Instant, Day as OnDay}
 use Rattle.rasn_schema.specs.Trees.{tree_of}
 use Rattle.rasn_schema.specs.Shapes.{presence_of}
-use Rattle.rasn_json.specs.Decimal.{IsWhole}
+use Rattle.rasn_json.specs.Decimal.{IsLong, IsWhole}
 use Rattle.rasn_json.specs.Texts.{WrittenInstant, UnitsText, ArcsText, DayText}
 use Rattle.rasn_schema.specs.Fitting.{AreItems, AreElements, FitsLeaf, IsListOf, IsChosen, IsLeftOutAs}
 use Rattle.rasn_schema.specs.Held.{is_unknown_found}
 
 -- ---- numbers
 
--- A number in decimal: JSON's numbers have no leading zeros.
+-- A number in decimal: JSON's numbers have no leading zeros. A number of too many octets has no JSON.
 abbrev pub NumberJson : ℤ → Json → Type 0
-NumberJson n j = (s : List ℕ) × (j ≡ number s) × IsNumber s × IsWhole s n
+NumberJson n j = (IsLong n → ⊥) × ((s : List ℕ) × (j ≡ number s) × IsNumber s × IsWhole s n)
 
 -- A name of the number.
 abbrev pub NameJson : List NamedNumber → ℤ → Json → Type 0

@@ -7,18 +7,19 @@ use Rattle.rasn_types.specs.Shapes.{constraint_of}
 use Rattle.rasn_types.specs.declared.types.constraints.Constraints.{Constraints}
 use Rattle.rasn_schema.specs.declared.type_id.TypeId.{TypeId}
 use Rattle.rasn_schema.specs.declared.types.LeafKind.{LeafKind}
+use Rattle.rasn_schema.specs.declared.types.NamedNumber.{NamedNumber}
 use Rattle.rasn_schema.specs.declared.types.Alternative.{Alternative}
 use Rattle.rasn_schema.specs.declared.types.Component.{Component}
 use Rattle.rasn_schema.specs.declared.types.«Type».{«Type»}
 use Rattle.rasn_schema.specs.declared.types.«Type».TheVariants.{Leaf, Enumerated, Any, Tagged, Choice, Sequence, Set, SequenceOf, SetOf, Unknown}
-use Rattle.rasn_schema.specs.declared.value.Value.{Value, Bits, Units, Arcs, Instant, Day as OnDay}
+use Rattle.rasn_schema.specs.declared.value.Value.{Value, Bits, Integer as Number, Units, Arcs, Instant, Day as OnDay}
 use Rattle.rasn_schema.specs.Fitting.{AreItems, AreElements, FitsLeaf, IsChosen, IsNoList, IsNoSet}
 use Rattle.rasn_json.specs.declared.error.JsonError.{JsonError}
 use Rattle.rasn_json.specs.declared.error.JsonErrorKind.{JsonErrorKind}
-use Rattle.rasn_json.specs.declared.error.JsonErrorKind.TheVariants.{OutOfMemory, NoJson, NoType, TooDeep, Unfit, WrongSize}
+use Rattle.rasn_json.specs.declared.error.JsonErrorKind.TheVariants.{LongNumber, OutOfMemory, NoJson, NoType, TooDeep, Unfit, WrongSize}
 use Rattle.rasn_json.specs.declared.error.JsonStep.{JsonStep}
 use Rattle.rasn_json.specs.declared.error.JsonStep.TheVariants.{Member, Element}
-use Rattle.rasn_json.specs.Json.{ArcsJson, DayJson, EnumeratedJson, InstantJson, IsLeftOut, IsSize, JsonWithin, OpenJson, UnitsJson, one_size, unknown_in}
+use Rattle.rasn_json.specs.Json.{ArcsJson, DayJson, EnumeratedJson, InstantJson, IntegerJson, IsLeftOut, IsSize, JsonWithin, OpenJson, UnitsJson, one_size, unknown_in}
 
 -- Memory ran out; or the error is another one, which is such.
 abbrev pub IsMemory : JsonError → Type 0
@@ -62,18 +63,19 @@ AreRefusedBits depth kind c (Some n) bs e =
     (IsSize kind n (length bs) → ⊥) × IsOfItself (WrongSize (length bs) (constraint_of c.size)) e
 AreRefusedBits depth kind c None bs e = (depth ≡ 0) × IsOfItself TooDeep e
 
--- A value of the kind has no text, or its bits are refused.
-abbrev pub IsRefusedForm : ℕ → LeafKind → Constraints → Value → JsonError → Type 0
-IsRefusedForm depth kind c (Bits b) e = AreRefusedBits depth kind c (one_size c) (cow_bits b) e
-IsRefusedForm depth kind c (Units u) e = HasNone NoJson (UnitsJson u) e
-IsRefusedForm depth kind c (Arcs a) e = HasNone NoJson (ArcsJson a) e
-IsRefusedForm depth kind c (Instant t) e = HasNone NoJson (InstantJson kind t.moment) e
-IsRefusedForm depth kind c (OnDay d) e = HasNone NoJson (DayJson d) e
-IsRefusedForm depth kind c _ e = ⊥
+-- A value of the kind has no text, or its bits are refused, or its number has too many octets.
+abbrev pub IsRefusedForm : ℕ → LeafKind → Constraints → List NamedNumber → Value → JsonError → Type 0
+IsRefusedForm depth kind c names (Number n) e = HasNone LongNumber (IntegerJson kind names n) e
+IsRefusedForm depth kind c names (Bits b) e = AreRefusedBits depth kind c (one_size c) (cow_bits b) e
+IsRefusedForm depth kind c names (Units u) e = HasNone NoJson (UnitsJson u) e
+IsRefusedForm depth kind c names (Arcs a) e = HasNone NoJson (ArcsJson a) e
+IsRefusedForm depth kind c names (Instant t) e = HasNone NoJson (InstantJson kind t.moment) e
+IsRefusedForm depth kind c names (OnDay d) e = HasNone NoJson (DayJson d) e
+IsRefusedForm depth kind c names _ e = ⊥
 
-abbrev pub IsRefusedLeaf : ℕ → LeafKind → Constraints → Value → JsonError → Type 0
-IsRefusedLeaf depth kind c v e =
-    ((FitsLeaf kind v → ⊥) × IsOfItself Unfit e) ⊎ (FitsLeaf kind v × IsRefusedForm depth kind c v e)
+abbrev pub IsRefusedLeaf : ℕ → LeafKind → Constraints → List NamedNumber → Value → JsonError → Type 0
+IsRefusedLeaf depth kind c names v e =
+    ((FitsLeaf kind v → ⊥) × IsOfItself Unfit e) ⊎ (FitsLeaf kind v × IsRefusedForm depth kind c names v e)
 
 abbrev pub IsRefusedOpen : Value → JsonError → Type 0
 IsRefusedOpen v e = HasNone Unfit (OpenJson v) e
@@ -142,7 +144,7 @@ IsRefusedNested u h g depth ty v e =
 
 abbrev pub IsRefusedBy : (ℕ → Bool) → (ℕ → ℕ → Value → Type 0) → (ℕ → ℕ → Value → JsonError → Type 0) → ℕ → «Type»
     → Value → JsonError → Type 0
-IsRefusedBy u h g depth (Leaf kind tag c names) v e = IsRefusedLeaf depth kind c v e
+IsRefusedBy u h g depth (Leaf kind tag c names) v e = IsRefusedLeaf depth kind c names.items v e
 IsRefusedBy u h g depth (Enumerated tag ns) v e = HasNone Unfit (EnumeratedJson ns.items v) e
 IsRefusedBy u h g depth (Any tag) v e = IsRefusedOpen v e
 IsRefusedBy u h g depth (Tagged tag k) v e = g depth k.0 v e

@@ -1,9 +1,11 @@
 -- JSON that was worked out by hand: what is the JSON of a value, and what isn't.
-use Rattle.std.specs.Prelude.{◌≡◌, ℕ, pos, List, [], ◌∷◌, Bool, true, false, Some, None, codes}
-use Rattle.json.specs.Json.{Json, string}
+use Rattle.std.specs.Prelude.{◌≡◌, ◌≤◌, ℕ, pos, List, [], ◌∷◌, replicate, Bool, true, false, Some, None, codes}
+use Rattle.json.specs.Json.{Json, number, string}
 use Rattle.rasn_types.specs.Calendar.{Day}
+use Rattle.rasn_types.specs.Contents.{signed}
 use Rattle.rasn_schema.specs.declared.types.LeafKind.TheVariants.{BitString, NamedBits}
-use Rattle.rasn_json.specs.Json.{BitsJson, counted}
+use Rattle.rasn_json.specs.Decimal.{IsLong}
+use Rattle.rasn_json.specs.Json.{BitsJson, NumberJson, counted}
 use Rattle.rasn_json.specs.Reading.{AllBitsRead}
 use Rattle.rasn_json.specs.Texts.{ArcsText, DayText, UnitsText}
 
@@ -32,3 +34,7 @@ pub record WorkedJson : Type 0 where
   pub no_subidentifier : (s : List ℕ) → ArcsText s (1 ∷ (40 ∷ [])) → ⊥
   pub a_day : DayText (codes "1985-11-14") (day 1985)
   pub no_day_of_five_digits : (s : List ℕ) → DayText s (day 12345) → ⊥
+  pub five : NumberJson (pos 5) (number (codes "5"))
+  pub five_is_not_long : IsLong (pos 5) → ⊥
+  pub too_many_octets : (k : ℕ) → 16384 ≤ k → IsLong (signed (1 ∷ replicate k 0))
+  pub no_number_of_too_many : (k : ℕ) (j : Json) → 16384 ≤ k → NumberJson (signed (1 ∷ replicate k 0)) j → ⊥

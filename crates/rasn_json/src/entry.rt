@@ -10,6 +10,7 @@ ghost use Rattle.rasn_dynamic.specs.Entry.{FitsType, IsEncoded, shape_of};
 ghost use Rattle.rasn_json.specs.Entry.{HasJson, HasNoJson, IsLaidOut, IsNoJsonOf, IsNotEncodedFrom, IsReadAs};
 
 use crate::error::JsonError;
+use crate::kept::Refused;
 use crate::layout::Layout;
 use crate::reader::value_at;
 use crate::syntax::{MAX_NESTING, parse};
@@ -31,6 +32,8 @@ use thiserror::Error;
 /// - `Unfit` if it isn't a value of its type, as `fits` tells, or a number of an ENUMERATED.
 /// - `NoJson` for a BMPString with an unpaired surrogate, arcs without a subidentifier, and a time
 ///   of a year that its text can't have, or with more than the text says.
+/// - `LongNumber` for an INTEGER of more octets than
+///   [`MAX_NUMBER_OCTETS`](crate::MAX_NUMBER_OCTETS).
 /// - `WrongSize` for a BIT STRING that hasn't the one size of its type.
 /// - `TooDeep` if it is an array or an object and would be nested deeper.
 /// - `NoType` if the schema has no such type.
@@ -145,7 +148,11 @@ pub fn from_json<'any>(
 {
     let mut scratch = Scratch::new(alloc);
     let json = parse(alloc, text, &mut scratch)?;
-    value_at(alloc, schema.types(), usize::MAX, id, &json)
+    let mut error = JsonError::memory(alloc);
+    match value_at(alloc, schema.types(), 0, id, &json, &mut error) {
+        Ok(value) => Ok(value),
+        Err(Refused) => Err(error),
+    }
 }
 
 /// Why octets have no JSON.

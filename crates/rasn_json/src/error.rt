@@ -27,8 +27,15 @@ pub enum JsonErrorKind {
         line: usize,
         column: usize,
     },
-    /// Arrays and objects are nested more than [`MAX_NESTING`](crate::MAX_NESTING) deep, or explicit
-    /// tags between them more than a decoder admits.
+    /// Arrays and objects of the text are nested more than [`MAX_NESTING`](crate::MAX_NESTING) deep:
+    /// where the first that is deeper begins.
+    #[error("line {line}, column {column}: nested more than 512 deep")]
+    TextTooDeep {
+        line: usize,
+        column: usize,
+    },
+    /// Arrays and objects of a value are nested more than [`MAX_NESTING`](crate::MAX_NESTING) deep,
+    /// or explicit tags between those of a text more than a decoder admits.
     #[error("nested more than 512 deep")]
     TooDeep,
     /// The JSON value is of another form than values of the type.
@@ -70,6 +77,9 @@ pub enum JsonErrorKind {
     /// The number has a fraction or an exponent.
     #[error("expected a whole number, without a point and an exponent")]
     NotWhole,
+    /// The number has more octets than [`MAX_NUMBER_OCTETS`](crate::MAX_NUMBER_OCTETS).
+    #[error("the number has more than 16384 octets")]
+    LongNumber,
     /// The number isn't admitted.
     #[error("the number isn't in {expected}")]
     NumberOutOfRange {

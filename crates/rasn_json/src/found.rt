@@ -4,7 +4,7 @@ ghost use Rattle.json.specs.Find.{as_str};
 ghost use Rattle.json.specs.Value.{value_view};
 ghost use Rattle.rasn_json.specs.Reading.{WholeRead};
 
-use crate::decimal::integer_of;
+use crate::decimal::{MAX_NUMBER_CHARACTERS, integer_of, is_long};
 use crate::error::{JsonError, JsonErrorKind, or_memory};
 use json::Value as Json;
 use rasn_types::types::Integer;
@@ -45,7 +45,7 @@ pub fn string_of<'text>(
     }
 }
 
-/// Returns a whole number.
+/// Returns a whole number, unless it has too many octets.
 pub fn whole_number(
     alloc: Global,
     expected: &'static str,
@@ -56,8 +56,16 @@ pub fn whole_number(
     let Some(text) = json.as_number() else {
         return Err(other_form(alloc, expected, json));
     };
+    if text.len() > MAX_NUMBER_CHARACTERS {
+        return Err(JsonError::new(alloc, JsonErrorKind::LongNumber));
+    }
     match or_memory(alloc, integer_of(alloc, text))? {
-        Some(number) => Ok(number),
+        Some(number) => {
+            if is_long(&number) {
+                return Err(JsonError::new(alloc, JsonErrorKind::LongNumber));
+            }
+            Ok(number)
+        }
         None => Err(JsonError::new(alloc, JsonErrorKind::NotWhole)),
     }
 }

@@ -12,6 +12,7 @@ mod digits;
 mod entry;
 mod error;
 mod found;
+mod kept;
 pub mod laws;
 mod layout;
 mod members;
@@ -24,6 +25,7 @@ mod tokens;
 mod write_leaf;
 mod writer;
 
+pub use decimal::MAX_NUMBER_OCTETS;
 pub use entry::{EncodeJsonError, ToJsonError, encode, from_json, json, to_json};
 pub use error::{JsonError, JsonErrorKind, JsonStep};
 pub use layout::Layout;

@@ -39,8 +39,9 @@ pub fn parse<'text>(
 /// Returns the error of a text that isn't JSON at this octet, or is nested too deep.
 fn syntax_error(alloc: Global, text: &str, offset: usize) -> JsonError {
     let mut scratch = Scratch::new(alloc);
-    if is_too_deep(text, &mut scratch) {
-        return JsonError::new(alloc, JsonErrorKind::TooDeep);
+    if let Some(deep) = first_too_deep(text, &mut scratch) {
+        let (line, column) = place_of(text.as_bytes(), deep);
+        return JsonError::new(alloc, JsonErrorKind::TextTooDeep { line, column });
     }
     let (line, column) = place_of(text.as_bytes(), offset);
     JsonError::new(alloc, JsonErrorKind::Syntax { line, column })
@@ -61,10 +62,22 @@ fn place_of(text: &[u8], offset: usize) -> (usize, usize) {
     (line, column)
 }
 
-/// Returns whether more arrays and objects than are admitted begin before one ends.
-fn is_too_deep(text: &str, scratch: &mut Scratch) -> bool {
+/// Returns the place of the last opening bracket before an octet.
+fn last_bracket(text: &[u8], offset: usize) -> usize {
+    let mut last = 0;
+    for (place, octet) in text[..offset.min(text.len())].iter().enumerate() {
+        if *octet == b'[' || *octet == b'{' {
+            last = place;
+        }
+    }
+    last
+}
+
+/// Returns the octet where the first array or object begins that is nested deeper than is admitted,
+/// if there is one.
+fn first_too_deep(text: &str, scratch: &mut Scratch) -> Option<usize> {
     let Ok(mut reader) = Reader::new(text, scratch) else {
-        return false;
+        return None;
     };
     let mut depth = 0usize;
     for _ in 0..text.len() {
@@ -72,11 +85,11 @@ fn is_too_deep(text: &str, scratch: &mut Scratch) -> bool {
             Some(Token::BeginArray | Token::BeginObject) => depth = depth.saturating_add(1),
             Some(Token::EndArray | Token::EndObject) => depth = depth.saturating_sub(1),
             Some(_) => {}
-            None => return false,
+            None => return None,
         }
         if depth > MAX_NESTING {
-            return true;
+            return Some(last_bracket(text.as_bytes(), reader.offset()));
         }
     }
-    false
+    None
 }

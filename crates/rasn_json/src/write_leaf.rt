@@ -1,5 +1,5 @@
 //! Values that hold no others, as JSON.
-ghost use Rattle.std.specs.Prelude.{◌≡◌, ◌≤◌, ◌<◌, ◌-◌, ◌∷◌, ◌++◌, [], None, Some, Ok, length, OnOk, IfErr, IfOk, string_bytes, decimal};
+ghost use Rattle.std.specs.Prelude.{◌≡◌, ◌≤◌, ◌<◌, ◌-◌, ◌∷◌, ◌++◌, [], None, Some, Ok, length, OnOk, IfErr, IfOk, MatchOption, string_bytes, decimal};
 ghost use Rattle.json.specs.Reads.{token_of};
 ghost use Rattle.json.specs.Print.{IsPrintable};
 ghost use Rattle.json.specs.Json.{string};
@@ -7,8 +7,8 @@ ghost use Rattle.json.specs.Token.{number};
 ghost use Rattle.rasn_types.specs.BitString.{zeros};
 ghost use Rattle.rasn_types.specs.Truth.{IsWhether};
 ghost use Rattle.rasn_schema.specs.Fitting.{FitsLeaf};
-ghost use Rattle.rasn_json.specs.Json.{Appends, ArcsJson, BitsJson, CountedJson, DayJson, DigitsJson, EnumeratedJson, HexadecimalJson, InstantJson, IntegerJson, IsCounted, IsSize, LeafJson, NumberJson, OctetsJson, OpenJson, ArrayJson, UnitsJson, one_size};
-ghost use Rattle.rasn_json.specs.declared.error.JsonErrorKind.TheVariants.{NoJson, Unfit};
+ghost use Rattle.rasn_json.specs.Json.{Appends, ArcsJson, BitsJson, CountedJson, DayJson, DigitsJson, EnumeratedJson, HexadecimalJson, InstantJson, IntegerJson, IsCounted, IsExtensible, IsSize, IsUnnamed, LeafJson, NameJson, NumberJson, OctetsJson, OpenJson, ArrayJson, UnitsJson, one_size};
+ghost use Rattle.rasn_json.specs.declared.error.JsonErrorKind.TheVariants.{LongNumber, NoJson, Unfit};
 ghost use Rattle.rasn_json.specs.Refusals.{AreRefusedBits, AreRefusedElements, HasNone, HasOpen, IsMemory, IsOfItself, IsRefusedLeaf, IsRefusedOpen, OrMemory};
 
 use crate::arcs::have_subidentifier;
@@ -36,14 +36,18 @@ pub fn put<T: Tokens>(out: &mut T, alloc: Global, token: Token<'_>) -> Result<()
     or_memory(alloc, out.put(token))
 }
 
-/// Returns a text, or an error if memory ran out or the value has none.
-fn some_text(alloc: Global, text: Result<Option<String>, AllocError>) -> Result<String, JsonError>
+/// Returns a text, or an error of this kind if the value has none, or that memory ran out.
+fn some_text(
+    alloc: Global,
+    none: JsonErrorKind,
+    text: Result<Option<String>, AllocError>,
+) -> Result<String, JsonError>
     ensures ok { IfOk result (λ s. text ≡ Ok (Some s)) }
-    ensures err { IfErr result (OrMemory (λ e. (text ≡ Ok None) × IsOfItself NoJson e)) }
+    ensures err { IfErr result (OrMemory (λ e. (text ≡ Ok None) × IsOfItself none e)) }
 {
     match text {
         Ok(Some(text)) => Ok(text),
-        Ok(None) => Err(JsonError::new(alloc, JsonErrorKind::NoJson)),
+        Ok(None) => Err(JsonError::new(alloc, none)),
         Err(_) => Err(JsonError::memory(alloc)),
     }
 }
@@ -58,10 +62,24 @@ pub fn unfit(alloc: Global) -> JsonError
 /// Appends a number.
 fn put_number<T: Tokens>(out: &mut T, alloc: Global, number: &Integer) -> Result<(), JsonError>
     ensures ok { OnOk result (Appends (NumberJson number.now) (T.Tokens.written out.old) (T.Tokens.written out.new)) }
-    ensures err { IfErr result IsMemory }
+    ensures err { IfErr result (OrMemory (HasNone LongNumber (NumberJson number.now))) }
 {
-    let text = or_memory(alloc, decimal_of(alloc, number))?;
+    let text = some_text(alloc, JsonErrorKind::LongNumber, decimal_of(alloc, number))?;
     put(out, alloc, Token::Number(text.as_str()))
+}
+
+/// Returns the name of a number of an ENUMERATED with an extension marker, if it has one.
+fn own_name<'types>(
+    kind: LeafKind,
+    names: &'types [NamedNumber],
+    number: &Integer,
+) -> Option<&'types str>
+    ensures { MatchOption result (IsExtensible kind names.now → IsUnnamed names.now number.now) (λ name. IsExtensible kind names.now × NameJson names.now number.now (string name.now)) }
+{
+    if !is_enumerated(kind, names) {
+        return None;
+    }
+    name_of(names, number)
 }
 
 /// Appends the number of an INTEGER, or of an ENUMERATED with an extension marker: its name or, if
@@ -74,14 +92,12 @@ fn put_integer<T: Tokens>(
     number: &Integer,
 ) -> Result<(), JsonError>
     ensures ok { OnOk result (Appends (IntegerJson kind names.now number.now) (T.Tokens.written out.old) (T.Tokens.written out.new)) }
-    ensures err { IfErr result IsMemory }
+    ensures err { IfErr result (OrMemory (HasNone LongNumber (IntegerJson kind names.now number.now))) }
 {
-    if is_enumerated(kind, names) {
-        if let Some(name) = name_of(names, number) {
-            return put(out, alloc, Token::String(name));
-        }
+    match own_name(kind, names, number) {
+        Some(name) => put(out, alloc, Token::String(name)),
+        None => put_number(out, alloc, number),
     }
-    put_number(out, alloc, number)
 }
 
 /// Appends the name of a number of an ENUMERATED.
@@ -255,7 +271,7 @@ fn put_units<T: Tokens>(out: &mut T, alloc: Global, units: &BmpString) -> Result
     ensures ok { OnOk result (Appends (UnitsJson units.now) (T.Tokens.written out.old) (T.Tokens.written out.new)) }
     ensures err { IfErr result (OrMemory (HasNone NoJson (UnitsJson units.now))) }
 {
-    let text = some_text(alloc, text_of_units(alloc, units))?;
+    let text = some_text(alloc, JsonErrorKind::NoJson, text_of_units(alloc, units))?;
     put(out, alloc, Token::String(text.as_str()))
 }
 
@@ -282,7 +298,11 @@ fn put_instant<T: Tokens>(
     ensures ok { OnOk result (Appends (InstantJson kind time.now.moment) (T.Tokens.written out.old) (T.Tokens.written out.new)) }
     ensures err { IfErr result (OrMemory (HasNone NoJson (InstantJson kind time.now.moment))) }
 {
-    let text = some_text(alloc, text_of_instant(alloc, kind, time))?;
+    let text = some_text(
+        alloc,
+        JsonErrorKind::NoJson,
+        text_of_instant(alloc, kind, time),
+    )?;
     put(out, alloc, Token::String(text.as_str()))
 }
 
@@ -291,7 +311,7 @@ fn put_day<T: Tokens>(out: &mut T, alloc: Global, day: &Date) -> Result<(), Json
     ensures ok { OnOk result (Appends (DayJson day.now) (T.Tokens.written out.old) (T.Tokens.written out.new)) }
     ensures err { IfErr result (OrMemory (HasNone NoJson (DayJson day.now))) }
 {
-    let text = some_text(alloc, text_of_day(alloc, day))?;
+    let text = some_text(alloc, JsonErrorKind::NoJson, text_of_day(alloc, day))?;
     put(out, alloc, Token::String(text.as_str()))
 }
 
@@ -308,7 +328,7 @@ pub fn put_leaf<T: Tokens>(
     ensures fits { OnOk result (FitsLeaf kind value.now) }
     ensures json { OnOk result (Appends (LeafJson kind constraints.now names.now value.now) (T.Tokens.written out.old) (T.Tokens.written out.new)) }
     ensures nested { OnOk result (IsCounted constraints.now value.now → 0 < depth) }
-    ensures err { IfErr result (OrMemory (IsRefusedLeaf depth kind constraints.now value.now)) }
+    ensures err { IfErr result (OrMemory (IsRefusedLeaf depth kind constraints.now names.now value.now)) }
 {
     if !leaf_fits(kind, value) {
         return Err(unfit(alloc));

@@ -99,7 +99,7 @@ pub use result_code::{ResultCode, ResultCodeName};
 pub use sasl_credentials::SaslCredentials;
 pub use schema::TYPES;
 pub use search_request::SearchRequest;
-pub use search_request_deref_aliases::SearchRequestDerefAliases;
+pub use search_request_deref_aliases::{SearchRequestDerefAliases, SearchRequestDerefAliasesName};
 pub use search_request_scope::{SearchRequestScope, SearchRequestScopeName};
 pub use search_result_done::SearchResultDone;
 pub use search_result_entry::SearchResultEntry;

@@ -30,8 +30,10 @@ pub const TYPES: &[StaticType] = &[
     Leaf(OctetString, tag!(Context, 0), NONE, &[]),
     SequenceOf(Tag::SEQUENCE, 55, size!(1..)),
     Leaf(Boolean, Tag::BOOL, NONE, &[]),
-    Enumerated(
+    Leaf(
+        Signed64,
         Tag::ENUMERATED,
+        NONE,
         &[
             ("neverDerefAliases", 0),
             ("derefInSearching", 1),

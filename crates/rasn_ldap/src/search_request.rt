@@ -73,9 +73,8 @@ impl AsnType for SearchRequest {
 impl LawfulEq for SearchRequest {
     ghost use Rattle.rasn_types.specs.Deciding.{deciding};
     ghost use Rattle.rasn_ldap.specs.contracts.max_int.MaxIntLawfulEq.TheImpl.Laws.{decides-law as max_int_law};
-    ghost use Rattle.rasn_ldap.specs.contracts.search_request_deref_aliases.SearchRequestDerefAliasesLawfulEq.TheImpl.Laws.{decides-law as search_request_deref_aliases_law};
 
-    ghost decides = { Prim.search (max_int_law, search_request_deref_aliases_law, deciding) depth 64 };
+    ghost decides = { Prim.search (max_int_law, deciding) depth 64 };
 }
 
 impl Present for SearchRequest {

@@ -1,8 +1,8 @@
 //! A departure from DER.
 ghost use Rattle.std.specs.Prelude.{◌≡◌};
 ghost use Rattle.std.specs.Fmt.{WritesOnOk};
-ghost use Rattle.rasn_lint.specs.Refusals.{aspect_of, der_aspect_of};
-ghost use Rattle.rasn_lint.specs.Shown.{indices_of, aspect_text, der_section, section_of, rule_text};
+ghost use Rattle.rasn_lint.specs.Refusals.{aspect_of, ber_aspect_of, der_aspect_of};
+ghost use Rattle.rasn_lint.specs.Shown.{indices_of, aspect_text, ber_section, der_section, section_of, rule_text};
 
 use rasn_dynamic::{NamedRefusal, Refusal};
 use rasn_schema::{Schema, TypeId};
@@ -157,10 +157,46 @@ pub fn aspect_of(kind: &DecodeErrorKind) -> Aspect
     match kind {
         DecodeErrorKind::CodecSpecific { inner } => match inner {
             CodecDecodeError::Der(kind) => der_aspect_of(*kind),
-            CodecDecodeError::Ber(BerDecodeErrorKind::IndefiniteLengthNotAllowed) => Aspect::Header,
-            CodecDecodeError::Ber(_) => Aspect::Contents,
+            CodecDecodeError::Ber(kind) => ber_aspect_of(kind),
         },
-        _ => Aspect::Contents,
+        DecodeErrorKind::InvalidBool { .. }
+        | DecodeErrorKind::InvalidBitString { .. }
+        | DecodeErrorKind::TrailingZeroBits
+        | DecodeErrorKind::Incomplete { .. }
+        | DecodeErrorKind::UnexpectedExtraData { .. }
+        | DecodeErrorKind::UnexpectedEmptyInput
+        | DecodeErrorKind::ExceedsMaxParseDepth
+        | DecodeErrorKind::RealNotSupported
+        | DecodeErrorKind::OutOfMemory
+        | DecodeErrorKind::LengthExceedsPlatformWidth
+        | DecodeErrorKind::MismatchedLength { .. }
+        | DecodeErrorKind::IntegerOverflow { .. }
+        | DecodeErrorKind::DiscriminantValueNotFound { .. }
+        | DecodeErrorKind::SizeConstraintNotSatisfied { .. }
+        | DecodeErrorKind::ValueConstraintNotSatisfied { .. }
+        | DecodeErrorKind::PermittedAlphabetError { .. }
+        | DecodeErrorKind::StringConversionFailed { .. }
+        | DecodeErrorKind::NoValidChoice { .. }
+        | DecodeErrorKind::MissingField { .. }
+        | DecodeErrorKind::DuplicateField { .. } => Aspect::Contents,
+    }
+}
+
+/// Returns what of an encoding an error kind of all rules is about.
+fn ber_aspect_of(kind: &BerDecodeErrorKind) -> Aspect
+    ensures { result ≡ ber_aspect_of kind.now }
+{
+    match kind {
+        BerDecodeErrorKind::IndefiniteLengthNotAllowed => Aspect::Header,
+        BerDecodeErrorKind::UnsupportedTagNumber
+        | BerDecodeErrorKind::UnsupportedObjectIdentifierArc
+        | BerDecodeErrorKind::UnexpectedEndOfContents
+        | BerDecodeErrorKind::MissingEndOfContents
+        | BerDecodeErrorKind::ReservedLengthOctet
+        | BerDecodeErrorKind::MismatchedTag { .. }
+        | BerDecodeErrorKind::InvalidConstructedIdentifier
+        | BerDecodeErrorKind::InvalidObjectIdentifier
+        | BerDecodeErrorKind::InvalidDate { .. } => Aspect::Contents,
     }
 }
 
@@ -192,13 +228,43 @@ fn section_of(kind: &DecodeErrorKind) -> &'static str
         DecodeErrorKind::InvalidBitString { .. } => "8.6.2",
         DecodeErrorKind::CodecSpecific { inner } => match inner {
             CodecDecodeError::Der(kind) => der_section_of(*kind),
-            CodecDecodeError::Ber(kind) => match kind {
-                BerDecodeErrorKind::IndefiniteLengthNotAllowed => "10.1",
-                BerDecodeErrorKind::InvalidDate { .. } => "11.7, 11.8",
-                _ => "8",
-            },
+            CodecDecodeError::Ber(kind) => ber_section_of(kind),
         },
-        _ => "8",
+        DecodeErrorKind::Incomplete { .. }
+        | DecodeErrorKind::UnexpectedExtraData { .. }
+        | DecodeErrorKind::UnexpectedEmptyInput
+        | DecodeErrorKind::ExceedsMaxParseDepth
+        | DecodeErrorKind::RealNotSupported
+        | DecodeErrorKind::OutOfMemory
+        | DecodeErrorKind::LengthExceedsPlatformWidth
+        | DecodeErrorKind::MismatchedLength { .. }
+        | DecodeErrorKind::IntegerOverflow { .. }
+        | DecodeErrorKind::DiscriminantValueNotFound { .. }
+        | DecodeErrorKind::SizeConstraintNotSatisfied { .. }
+        | DecodeErrorKind::ValueConstraintNotSatisfied { .. }
+        | DecodeErrorKind::PermittedAlphabetError { .. }
+        | DecodeErrorKind::StringConversionFailed { .. }
+        | DecodeErrorKind::NoValidChoice { .. }
+        | DecodeErrorKind::MissingField { .. }
+        | DecodeErrorKind::DuplicateField { .. } => "8",
+    }
+}
+
+/// Returns the section of X.690 that an error kind of all rules is about.
+fn ber_section_of(kind: &BerDecodeErrorKind) -> &'static str
+    ensures { result.now ≡ ber_section kind.now }
+{
+    match kind {
+        BerDecodeErrorKind::IndefiniteLengthNotAllowed => "10.1",
+        BerDecodeErrorKind::InvalidDate { .. } => "11.7, 11.8",
+        BerDecodeErrorKind::UnsupportedTagNumber
+        | BerDecodeErrorKind::UnsupportedObjectIdentifierArc
+        | BerDecodeErrorKind::UnexpectedEndOfContents
+        | BerDecodeErrorKind::MissingEndOfContents
+        | BerDecodeErrorKind::ReservedLengthOctet
+        | BerDecodeErrorKind::MismatchedTag { .. }
+        | BerDecodeErrorKind::InvalidConstructedIdentifier
+        | BerDecodeErrorKind::InvalidObjectIdentifier => "8",
     }
 }
 

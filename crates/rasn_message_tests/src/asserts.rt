@@ -5,7 +5,7 @@ use rasn::de::Decode;
 use rasn::enc::Encode;
 use rasn::error::{DecodeError, EncodeError};
 use rasn::types::Codec;
-use rasn::{ber, cer, der};
+use rasn::{WholeMessage, ber, cer, der};
 use std::alloc::{AllocError, Global};
 use std::fmt::Debug;
 use std::process::Abort;
@@ -44,60 +44,49 @@ pub fn assert_output(rt: &impl Abort, answer: Result<Vec<u8>, EncodeError>, octe
     }
 }
 
-/// Returns the message of a call, and asserts that the octets after it are `behind`.
-pub fn ahead_of<T>(
-    rt: &impl Abort,
-    answer: Result<(T, &[u8]), DecodeError>,
-    behind: &[u8],
-) -> Result<T, DecodeError> {
-    match answer {
-        Ok((message, rest)) => {
-            assert_eq!(rt; rest, behind);
-            Ok(message)
-        }
-        Err(error) => Err(error),
-    }
+/// Returns the message that the octets begin with, and asserts that those after it are `rest`.
+pub fn front<T: WholeMessage>(rt: &impl Abort, alloc: Global, octets: &[u8], rest: &[u8]) -> T {
+    let (message, found) = value(rt, T::read_with_remainder(alloc, octets));
+    assert_eq!(rt; found, rest);
+    message
 }
 
-/// Asserts that a call returns a value that `has_parts` accepts.
-pub fn assert_has<T: Drop, F: Fn(&T) -> bool>(
+/// Asserts that the octets are a message that `has_parts` accepts.
+pub fn assert_has<T: WholeMessage + Drop, F: Fn(&T) -> bool>(
     rt: &impl Abort,
-    answer: Result<T, DecodeError>,
+    alloc: Global,
+    octets: &[u8],
     has_parts: F,
 )
     requires { F.IsAlwaysCallable has_parts }
 {
-    let value = value(rt, answer);
-    assert!(rt; has_parts(&value));
+    let message = front::<T>(rt, alloc, octets, &[]);
+    assert!(rt; has_parts(&message));
 }
 
-/// Asserts that a call returns a value that `write` encodes as these octets.
-pub fn assert_written_as<T: Drop, W: Fn(Global, &T) -> Result<Vec<u8>, EncodeError>>(
+/// Asserts that the octets are a message by DER, which is written as the same octets.
+pub fn assert_der<T: WholeMessage + Drop>(rt: &impl Abort, alloc: Global, octets: &[u8]) {
+    let message = value(rt, T::read_der(alloc, octets));
+    assert_output(rt, message.write(alloc), octets);
+}
+
+/// Asserts that each of the messages is read, without octets after it, and written back.
+pub fn assert_written_back<T: WholeMessage + Drop>(
     rt: &impl Abort,
     alloc: Global,
-    answer: Result<T, DecodeError>,
-    write: W,
-    octets: &[u8],
-)
-    requires { W.IsAlwaysCallable write }
-{
-    let value = value(rt, answer);
-    assert_output(rt, write(alloc, &value), octets);
+    messages: &[&[u8]],
+) {
+    for octets in messages {
+        let message = front::<T>(rt, alloc, octets, &[]);
+        assert_output(rt, message.write(alloc), octets);
+    }
 }
 
-/// Asserts that a call returns a value that `read` reads back from the encoding that `write` makes
-/// of it.
-pub fn assert_read_back<
-    T: PartialEq + Drop,
-    W: Fn(Global, &T) -> Result<Vec<u8>, EncodeError>,
-    R: Fn(Global, &[u8]) -> Result<T, DecodeError>,
->(rt: &impl Abort, alloc: Global, answer: Result<T, DecodeError>, write: W, read: R)
-    requires write { W.IsAlwaysCallable write }
-    requires read { R.IsAlwaysCallable read }
-{
-    let original = value(rt, answer);
-    match write(alloc, &original) {
-        Ok(octets) => assert!(rt; value(rt, read(alloc, &octets)) == original),
+/// Asserts that the octets are a message that is read back from its DER encoding.
+pub fn assert_read_back<T: WholeMessage + Drop>(rt: &impl Abort, alloc: Global, octets: &[u8]) {
+    let original = front::<T>(rt, alloc, octets, &[]);
+    match original.write(alloc) {
+        Ok(octets) => assert!(rt; value(rt, T::read_der(alloc, &octets)) == original),
         Err(error) => assert!(rt; false, "{:?}", error.kind),
     }
 }

@@ -11,7 +11,7 @@ use Rattle.rasn_print.specs.declared.types.MessageType.{MessageType}
 
 -- The grammar relates the octets to this value, followed by the rest.
 abbrev pub IsRead : MessageType → List ℕ → Tree → List ℕ → Type 0
-IsRead m octets tree rest = Reads m.rule (shape_of m.schema.types.items m.root.0) 128 (top m.rule) octets tree rest
+IsRead m octets tree rest = Reads m.rule (shape_of m.schema.now.types.items m.root.0) 128 (top m.rule) octets tree rest
 
 -- All of the octets are the encoding of a value of the type.
 abbrev pub IsMessage : MessageType → List ℕ → Type 0
@@ -26,7 +26,7 @@ IsFollowed m octets r = (tree : Tree) × (rest : List ℕ) × IsRead m octets tr
 -- follows one.
 abbrev pub IsNoMessage : MessageType → List ℕ → Refusal → Type 0
 IsNoMessage m octets r = (IsMessage m octets → ⊥)
-    × (IsLocated m.schema.types.items m.rule m.root.0 octets r ⊎ IsFollowed m octets r)
+    × (IsLocated m.schema.now.types.items m.rule m.root.0 octets r ⊎ IsFollowed m octets r)
 
 -- Unless an allocation failed, the octets are refused for that.
 abbrev pub IsRefused : MessageType → List ℕ → Refusal → Type 0

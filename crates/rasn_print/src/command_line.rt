@@ -15,17 +15,32 @@ pub enum Work {
     Lint,
     Json,
     Encode,
+    /// Prints JSON that `Encode` encodes.
+    Example,
     Normalise,
     Types,
     Dump,
 }
 
+impl Work {
+    /// Returns whether what is printed for messages is messages.
+    pub(crate) fn prints_data(self) -> bool {
+        match self {
+            Work::Json | Work::Encode | Work::Example | Work::Normalise => true,
+            Work::Show | Work::Check | Work::Lint | Work::Types | Work::Dump => false,
+        }
+    }
+}
+
 /// The form in which messages are handed over.
 #[derive(Clone, Copy, Debug, PartialEq, Eq)]
 pub enum InputForm {
+    /// Octets as they are.
     Der,
     Pem,
+    /// Hexadecimal digits, with what may be between them, or a dump.
     Hex,
+    Base64,
 }
 
 /// When the output is in colour.
@@ -55,6 +70,10 @@ pub struct Call {
     pub has_offsets: bool,
     /// Whether each line is a message.
     pub has_lines: bool,
+    /// Prints JSON in place of a line that is refused, which says why.
+    pub has_json_errors: bool,
+    /// Reads messages that follow one another, with nothing between them.
+    pub is_stream: bool,
     pub color: ColorChoice,
 }
 
@@ -136,13 +155,22 @@ fn encode_command<'a>(alloc: Global) -> Result<Command<'a>, AllocError> {
         .about("Writes the messages whose JSON is read")
         .after_help("Example: soqavise encode --type Certificate cert.json")
         .arg(modules(alloc))?
-        .arg(type_name(alloc).required(true))?
+        .arg(type_name(alloc).required_unless_present("example")?)?
+        .arg(
+            Arg::new(alloc, "example")
+                .long("example")
+                .value_name("[MODULE.]TYPE")
+                .conflicts_with("type")?
+                .conflicts_with("lines")?
+                .conflicts_with("file")?
+                .help("Prints JSON of this type to begin with, and reads nothing"),
+        )?
         .arg(rules(alloc, "The encoding rules by which messages are written"))?
-        .arg(flag(
+        .arg(lines(
             alloc,
-            "lines",
             "Reads the JSON of a message from each line, and writes hexadecimal digits",
         ))?
+        .arg(errors(alloc)?)?
         .arg(files(alloc))
 }
 
@@ -154,9 +182,16 @@ fn normalise_command<'a>(alloc: Global) -> Result<Command<'a>, AllocError> {
 
 fn types_command<'a>(alloc: Global) -> Result<Command<'a>, AllocError> {
     Command::new(alloc, "types")
-        .about("Prints the types that are known, and what of them isn't checked")
+        .about(
+            "Lists the types of --module, or else those that are built in, or prints one of them",
+        )
         .after_help("Example: soqavise types --module My.asn1")
-        .arg(modules(alloc))
+        .arg(modules(alloc))?
+        .arg(
+            Arg::new(alloc, "type").value_name("[MODULE.]TYPE").help(
+                "Prints what this type is, with the types that it is made of",
+            ),
+        )
 }
 
 fn dump_command<'a>(alloc: Global) -> Result<Command<'a>, AllocError> {
@@ -173,18 +208,27 @@ fn messages<'a>(alloc: Global, name: &'a str, about: &'a str) -> Result<Command<
         .about(about)
         .arg(modules(alloc))?
         .arg(type_name(alloc))?
+        .arg(
+            lines(
+                alloc,
+                "Reads a message from each line, in hexadecimal or base64",
+            )
+            .conflicts_with("input")?
+            .conflicts_with("stream")?,
+        )?
+        .arg(errors(alloc)?)?
         .arg(flag(
             alloc,
-            "lines",
-            "Reads a message from each line, in hexadecimal or base64",
-        )
-        .conflicts_with("input")?)?
+            "stream",
+            "Reads several messages in a row, with nothing between them",
+        ))?
         .arg(input(alloc))?
         .arg(files(alloc))
 }
 
 fn type_name<'a>(alloc: Global) -> Arg<'a> {
     Arg::new(alloc, "type")
+        .short('t')
         .long("type")
         .value_name("[MODULE.]TYPE")
         .help("The type of the messages")
@@ -192,6 +236,7 @@ fn type_name<'a>(alloc: Global) -> Arg<'a> {
 
 fn modules<'a>(alloc: Global) -> Arg<'a> {
     Arg::new(alloc, "module")
+        .short('m')
         .long("module")
         .value_name("FILE")
         .action(ArgAction::Append)
@@ -200,18 +245,30 @@ fn modules<'a>(alloc: Global) -> Arg<'a> {
 
 fn rules<'a>(alloc: Global, help: &'a str) -> Arg<'a> {
     Arg::new(alloc, "rules")
+        .short('r')
         .long("rules")
         .value_name("RULES")
         .value_parser(ValueParser::from(["ber", "cer", "der"].as_slice()))
+        .ignore_case(true)
         .help(help)
 }
 
 fn input<'a>(alloc: Global) -> Arg<'a> {
     Arg::new(alloc, "input")
+        .short('i')
         .long("input")
         .value_name("FORM")
-        .value_parser(ValueParser::from(["der", "pem", "hex"].as_slice()))
+        .value_parser(ValueParser::from(["der", "pem", "hex", "base64"].as_slice()))
         .help("The form of the input, which is found out otherwise")
+}
+
+fn errors<'a>(alloc: Global) -> Result<Arg<'a>, AllocError> {
+    Arg::new(alloc, "errors")
+        .long("errors")
+        .value_name("FORM")
+        .value_parser(ValueParser::from(["text", "json"].as_slice()))
+        .help("The form in which --lines prints why a line is refused")
+        .requires_arg("lines")
 }
 
 fn color<'a>(alloc: Global) -> Arg<'a> {
@@ -233,6 +290,10 @@ fn outer<'a>(alloc: Global) -> Arg<'a> {
     flag(alloc, "outer", "Leaves out what is inside open types")
 }
 
+fn lines<'a>(alloc: Global, help: &'a str) -> Arg<'a> {
+    flag(alloc, "lines", help).short('l')
+}
+
 fn flag<'a>(alloc: Global, name: &'a str, help: &'a str) -> Arg<'a> {
     Arg::new(alloc, name)
         .long(name)
@@ -248,14 +309,14 @@ pub fn call_of(alloc: Global, matches: &ArgMatches<'_>) -> Result<Option<Call>, 
     let Some((name, inner)) = matches.subcommand() else {
         return Ok(None);
     };
-    let Some(work) = work_of(name) else {
+    let Some(work) = work_of(name, inner.get_str("example").is_some()) else {
         return Ok(None);
     };
     Ok(Some(Call {
         work,
         files: owned(alloc, inner.get_strs("file").unwrap_or(&[]))?,
         modules: owned(alloc, inner.get_strs("module").unwrap_or(&[]))?,
-        type_name: match inner.get_str("type") {
+        type_name: match inner.get_str("type").or(inner.get_str("example")) {
             Some(name) => Some(String::from_str(alloc, name)?),
             None => None,
         },
@@ -264,6 +325,8 @@ pub fn call_of(alloc: Global, matches: &ArgMatches<'_>) -> Result<Option<Call>, 
         open_types: open_types_of(inner.get_flag("outer")),
         has_offsets: inner.get_flag("offsets"),
         has_lines: inner.get_flag("lines"),
+        has_json_errors: inner.get_str("errors") == Some("json"),
+        is_stream: inner.get_flag("stream"),
         color: color_of(inner.get_str("color")),
     }))
 }
@@ -277,9 +340,10 @@ fn owned(alloc: Global, words: &[&str]) -> Result<Vec<String>, AllocError> {
     Ok(copies)
 }
 
-/// Returns the work that a subcommand asks for.
-fn work_of(name: &str) -> Option<Work> {
+/// Returns the work that a subcommand asks for, which may ask for an example.
+fn work_of(name: &str, is_example: bool) -> Option<Work> {
     match name {
+        "encode" if is_example => Some(Work::Example),
         "show" => Some(Work::Show),
         "check" => Some(Work::Check),
         "lint" => Some(Work::Lint),
@@ -292,13 +356,19 @@ fn work_of(name: &str) -> Option<Work> {
     }
 }
 
+/// Returns the rules of this name, in capitals or small letters.
 fn rules_of(name: Option<&str>) -> Option<Codec> {
-    match name? {
-        "ber" => Some(Codec::Ber),
-        "cer" => Some(Codec::Cer),
-        "der" => Some(Codec::Der),
-        _ => None,
+    let name = name?;
+    for (word, rules) in [
+        ("ber", Codec::Ber),
+        ("cer", Codec::Cer),
+        ("der", Codec::Der),
+    ] {
+        if name.eq_ignore_ascii_case(word) {
+            return Some(rules);
+        }
     }
+    None
 }
 
 fn form_of(name: Option<&str>) -> Option<InputForm> {
@@ -306,6 +376,7 @@ fn form_of(name: Option<&str>) -> Option<InputForm> {
         "der" => Some(InputForm::Der),
         "pem" => Some(InputForm::Pem),
         "hex" => Some(InputForm::Hex),
+        "base64" => Some(InputForm::Base64),
         _ => None,
     }
 }

@@ -6,13 +6,13 @@ use crate::leaf::{leaf_text, octets_text};
 use crate::refusal_text::text_of;
 use rasn_de::ber::de::{ConstructedHeader, Decoder, DecoderOptions};
 use rasn_schema::Value;
-use rasn_types::error::DecodeError;
+use rasn_types::error::{DecodeError, DecodeErrorKind};
 use rasn_types::types::{Class, Codec, Tag};
 use std::alloc::{AllocError, Global};
 
 /// An encoding.
 #[derive(Debug, Drop)]
-pub struct Entry<'input> {
+pub(crate) struct Entry<'input> {
     /// How many encodings it is in.
     pub depth: usize,
     /// Where it begins, in octets from the start of the input.
@@ -29,46 +29,168 @@ pub struct Entry<'input> {
     pub octets: &'input [u8],
 }
 
-/// The encodings of octets, and where and why no more can be read.
-type Entries<'input> = (Vec<Entry<'input>>, Option<String>);
+/// After so many levels their number is in place of the spaces that a line begins with.
+const INDENTED: usize = 64;
 
-/// Lists the encodings, outer before inner, up to the first whose header can't be read, and where
-/// that is and why.
-///
-/// # Errors
-/// If an allocation fails.
-pub fn entries<'input>(alloc: Global, octets: &'input [u8]) -> Result<Entries<'input>, AllocError> {
-    let mut list = Vec::new(alloc);
-    // Where each encoding that hasn't ended does at the latest, and whether its length is
-    // indefinite.
-    let mut around = Vec::new(alloc);
-    let mut at = 0usize;
-    // A step takes two octets at least, or leaves an encoding for which another one did.
-    for _ in 0..=octets.len() {
-        let (end, is_indefinite) = around.last().copied().unwrap_or((octets.len(), false));
-        let rest = octets.get(at..end).unwrap_or(&[]);
-        if is_ended(rest, is_indefinite) {
-            at = at.saturating_add(if is_indefinite { 2 } else { 0 });
-            if around.pop().is_none() {
+/// Tells what ends where octets are missing.
+#[derive(Clone, Copy)]
+pub(crate) enum End {
+    /// The input.
+    Input,
+    /// An encoding of definite length around them, of which nothing is left there.
+    Here,
+    /// The same, of which too few octets are left.
+    Around,
+    /// The contents of the encoding that is there, all of which are.
+    Contents,
+}
+
+/// The encodings of octets, outer before inner, up to the first whose header can't be read.
+#[derive(Drop)]
+pub(crate) struct Entries<'input> {
+    alloc: Global,
+    octets: &'input [u8],
+    /// Where each encoding that hasn't ended does at the latest, and whether its length is
+    /// indefinite.
+    around: Vec<(usize, bool)>,
+    /// Where the next encoding begins, or those that haven't ended do.
+    pub(crate) at: usize,
+}
+
+impl<'input> Entries<'input> {
+    /// Returns the encodings of octets.
+    pub(crate) fn new(alloc: Global, octets: &'input [u8]) -> Entries<'input> {
+        Entries {
+            alloc,
+            octets,
+            around: Vec::new(alloc),
+            at: 0,
+        }
+    }
+
+    /// Returns where the innermost encoding ends at the latest, and whether its length is
+    /// indefinite.
+    fn innermost(&self) -> (usize, bool) {
+        self.around
+            .last()
+            .copied()
+            .unwrap_or((self.octets.len(), false))
+    }
+
+    /// Returns what is left of the innermost encoding.
+    pub(crate) fn rest(&self) -> &'input [u8] {
+        self.octets.get(self.at..self.innermost().0).unwrap_or(&[])
+    }
+
+    /// Leaves the innermost encoding if it ends here. Returns whether it did.
+    fn leave(&mut self) -> bool {
+        let (_, is_indefinite) = self.innermost();
+        if self.around.is_empty() || !is_ended(self.rest(), is_indefinite) {
+            return false;
+        }
+        let end_len = if is_indefinite { 2 } else { 0 };
+        self.at = self.at.saturating_add(end_len);
+        self.around.pop().is_some()
+    }
+
+    /// Returns the next encoding; `None` if no octets are left.
+    ///
+    /// # Errors
+    /// If its header can't be read, or memory runs out.
+    pub(crate) fn next(&mut self) -> Result<Option<Entry<'input>>, DecodeError> {
+        for _ in 0..self.around.len() {
+            if !self.leave() {
                 break;
             }
-            continue;
         }
-        let entry = match entry_of(alloc, rest, around.len(), at) {
-            Ok(entry) => entry,
-            Err(error) => return Ok((list, Some(fault_text(alloc, at, &error, rest)?))),
-        };
-        let after = at.saturating_add(entry.octets.len());
-        at = at.saturating_add(entry.header_len);
-        if entry.is_constructed {
-            let end = if entry.is_indefinite { end } else { after };
-            around.push((end, entry.is_indefinite))?;
-        } else {
-            at = after;
+        if self.around.is_empty() && self.rest().is_empty() {
+            return Ok(None);
         }
-        list.push(entry)?;
+        let (end, _) = self.innermost();
+        let entry = entry_of(self.alloc, self.rest(), self.around.len(), self.at)?;
+        let after = self.at.saturating_add(entry.octets.len());
+        if !entry.is_constructed {
+            self.at = after;
+            return Ok(Some(entry));
+        }
+        let end = if entry.is_indefinite { end } else { after };
+        if self.around.push((end, entry.is_indefinite)).is_err() {
+            return Err(out_of_memory());
+        }
+        self.at = self.at.saturating_add(entry.header_len);
+        Ok(Some(entry))
     }
-    Ok((list, None))
+
+    /// Goes on to the encoding that begins so many octets after the start, and isn't before the next
+    /// one. Returns what ends there: the encoding is in so many others.
+    pub(crate) fn end_at(&mut self, offset: usize, levels: usize) -> Result<End, AllocError> {
+        // Each encoding is entered and left, and has two octets of its own.
+        for _ in self.octets {
+            if self.at >= offset {
+                break;
+            }
+            if self.leave() {
+                continue;
+            }
+            match self.next() {
+                Ok(Some(_)) => {}
+                Ok(None) => break,
+                Err(error) if error.is_out_of_memory() => return Err(AllocError),
+                Err(_) => break,
+            }
+        }
+        self.around.truncate(levels);
+        Ok(self.end())
+    }
+
+    /// Returns what ends where an encoding begins that has too few octets.
+    fn end(&self) -> End {
+        let is_whole = match entry_of(self.alloc, self.rest(), 0, 0) {
+            Ok(entry) => !entry.is_indefinite,
+            Err(_) => false,
+        };
+        if is_whole {
+            End::Contents
+        } else if self.around.iter().all(|it| it.1) {
+            End::Input
+        } else if self.rest().is_empty() {
+            End::Here
+        } else {
+            End::Around
+        }
+    }
+}
+
+/// Returns the error that memory ran out.
+fn out_of_memory() -> DecodeError {
+    DecodeError {
+        kind: DecodeErrorKind::OutOfMemory,
+        codec: Codec::Ber,
+    }
+}
+
+/// Returns where the first encoding begins that is in so many others, if there is one before the
+/// first whose header can't be read.
+pub(crate) fn deeper_at(
+    alloc: Global,
+    octets: &[u8],
+    levels: usize,
+) -> Result<Option<usize>, AllocError> {
+    // Each header has two octets.
+    if octets.len() / 2 <= levels {
+        return Ok(None);
+    }
+    let mut entries = Entries::new(alloc, octets);
+    for _ in octets {
+        match entries.next() {
+            Ok(Some(entry)) if entry.depth >= levels => return Ok(Some(entry.offset)),
+            Ok(Some(_)) => {}
+            Ok(None) => return Ok(None),
+            Err(error) if error.is_out_of_memory() => return Err(AllocError),
+            Err(_) => return Ok(None),
+        }
+    }
+    Ok(None)
 }
 
 /// Returns whether an encoding ends where these octets begin: with end-of-contents octets if its
@@ -81,22 +203,22 @@ fn is_ended(rest: &[u8], is_indefinite: bool) -> bool {
     }
 }
 
-/// Returns why the encoding at this byte, with which these octets begin, can't be read.
-fn fault_text(
+/// Returns why the next of these encodings can't be read, and where it is.
+pub(crate) fn fault_text(
     alloc: Global,
-    at: usize,
+    entries: &Entries<'_>,
     error: &DecodeError,
-    octets: &[u8],
 ) -> Result<String, AllocError> {
     if error.is_out_of_memory() {
         return Err(AllocError);
     }
-    let text = text_of(alloc, error, error, octets)?;
+    let at = entries.at;
+    let text = text_of(alloc, error, entries.rest(), entries.end())?;
     format!(in alloc; "byte {at}: {text}")
 }
 
 /// Returns the encoding with which the octets begin, which is in so many others.
-fn entry_of(
+pub(crate) fn entry_of(
     alloc: Global,
     octets: &[u8],
     depth: usize,
@@ -121,28 +243,26 @@ fn entry_of(
     })
 }
 
-/// Returns the octets of BER as lines: where each encoding begins, how many octets its header and
-/// its contents have, its tag, and the value if it is one of a universal type that holds no others.
-/// The lines end before the first encoding whose header can't be read, and the second value says
-/// where that is and why.
-///
-/// # Errors
-/// `AllocError` if memory runs out.
-pub fn dump_text(
+/// Returns the line of an encoding: where it begins, how many octets its header and its contents
+/// have, its tag, and the value if it is one of a universal type that holds no others.
+pub(crate) fn entry_line(
     alloc: Global,
     known: &Known,
-    octets: &[u8],
-) -> Result<(String, Option<String>), AllocError> {
-    let (list, fault) = entries(alloc, octets)?;
+    entry: &Entry<'_>,
+) -> Result<String, AllocError> {
+    let (offset, header_len, len) = (entry.offset, entry.header_len, entry.octets.len());
     let mut text = String::new(alloc);
-    for entry in &list {
-        let (offset, header_len, len) = (entry.offset, entry.header_len, entry.octets.len());
-        let (is_indefinite, depth) = (entry.is_indefinite, entry.depth);
-        push_place(&mut text, offset, header_len, len, is_indefinite, depth)?;
-        let shown = entry_text(alloc, known, entry)?;
-        writeln!(text, "{shown}")?;
-    }
-    Ok((text, fault))
+    push_place(
+        &mut text,
+        offset,
+        header_len,
+        len,
+        entry.is_indefinite,
+        entry.depth,
+    )?;
+    push_entry(&mut text, alloc, known, entry)?;
+    text.push('\n')?;
+    Ok(text)
 }
 
 /// Appends where an encoding begins, how many octets its header and contents have, and spaces.
@@ -164,26 +284,30 @@ pub(crate) fn push_place(
     push_indent(text, depth)
 }
 
-/// Appends two spaces for each level.
+/// Appends two spaces for each level, or the number of levels if these are more than 64.
 pub(crate) fn push_indent(text: &mut String, depth: usize) -> Result<(), AllocError> {
+    if depth > INDENTED {
+        return write!(text, "({depth}) ");
+    }
     for _ in 0..depth {
         text.push_str("  ")?;
     }
     Ok(())
 }
 
-/// Returns the tag of an encoding, and its value if it is primitive: `INTEGER 5`.
-pub(crate) fn entry_text(
+/// Appends the tag of an encoding, and its value if it is primitive: `INTEGER 5`.
+pub(crate) fn push_entry(
+    text: &mut String,
     alloc: Global,
     known: &Known,
     entry: &Entry<'_>,
-) -> Result<String, AllocError> {
-    let tag = tag_text(alloc, entry.tag)?;
+) -> Result<(), AllocError> {
+    text.push_str(tag_text(alloc, entry.tag)?.as_str())?;
     if entry.is_constructed || entry.tag == Tag::NULL {
-        return Ok(tag);
+        return Ok(());
     }
-    let value = primitive_text(alloc, known, entry)?;
-    format!(in alloc; "{tag} {value}")
+    text.push(' ')?;
+    text.push_str(primitive_text(alloc, known, entry)?.as_str())
 }
 
 /// Returns the value of a primitive encoding: by its universal type, or as text or hexadecimal.

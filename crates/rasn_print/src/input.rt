@@ -1,85 +1,106 @@
 //! The form of an input.
 
 use crate::command_line::{Call, InputForm, Work};
-use base64::DecodeAllocError;
-use base64::engine::general_purpose::STANDARD;
-use hex::FromHexError;
-use rasn_text::blocks;
+use crate::pasted::{from_base64, from_digits, is_hexadecimal};
+use rasn_text::{Block, blocks};
 use std::alloc::{AllocError, Global};
 
 /// The byte order mark of UTF-8, with which some programs begin a text (Unicode 16.0, 23.8).
 const MARK: &[u8] = b"\xEF\xBB\xBF";
 
+/// What an input is.
+#[derive(Drop)]
+pub(crate) enum Form<'text> {
+    /// Octets, or JSON, as they are.
+    Octets,
+    /// Blocks of PEM.
+    Pem(Vec<Block<'text>>),
+    /// Text that denotes these octets.
+    Text(Vec<u8>),
+    /// Not of the form that the call says, for this reason.
+    Wrong(&'static str),
+}
+
 /// Returns a text without the byte order mark that it may begin with.
-pub fn without_mark(text: &[u8]) -> &[u8] {
+pub(crate) fn without_mark(text: &[u8]) -> &[u8] {
     text.strip_prefix(MARK).unwrap_or(text)
 }
 
-/// Returns the form of octets that a call doesn't say, and of JSON: PEM if a line begins a block,
-/// hexadecimal if there is nothing else but digits and white space, and octets as they are.
-pub fn form_of(alloc: Global, call: &Call, octets: &[u8]) -> Result<InputForm, AllocError> {
+/// Returns what an input is, of which a mark and the blanks before PEM are left out: what the call
+/// says, JSON for `encode`, or else what is found out.
+pub(crate) fn form_of<'text>(
+    alloc: Global,
+    call: &Call,
+    text: &'text [u8],
+) -> Result<Form<'text>, AllocError> {
     if call.work == Work::Encode {
-        return Ok(InputForm::Der);
+        return Ok(Form::Octets);
     }
-    if let Some(form) = call.input {
-        return Ok(form);
+    match call.input {
+        Some(InputForm::Der) => Ok(Form::Octets),
+        Some(InputForm::Pem) => Ok(Form::Pem(blocks(alloc, text)?)),
+        Some(InputForm::Hex) => match from_digits(alloc, text)? {
+            Some(octets) => Ok(Form::Text(octets)),
+            None => Ok(Form::Wrong(why_not_hexadecimal(text, "not hexadecimal digits"))),
+        },
+        Some(InputForm::Base64) => match from_base64(alloc, text)? {
+            Some(octets) => Ok(Form::Text(octets)),
+            None => Ok(Form::Wrong("not base64")),
+        },
+        None => found_form(alloc, text),
     }
-    let text = without_mark(octets);
-    if !blocks(alloc, text)?.is_empty() {
-        return Ok(InputForm::Pem);
+}
+
+/// Returns the form of an input: PEM if there is a block of it. If all octets are graphic characters
+/// of ASCII and white space, hexadecimal digits or else base64 if it is such. Octets otherwise.
+fn found_form<'text>(alloc: Global, text: &'text [u8]) -> Result<Form<'text>, AllocError> {
+    let list = blocks(alloc, text)?;
+    if !list.is_empty() {
+        return Ok(Form::Pem(list));
+    }
+    if !is_plain_text(text) {
+        return Ok(Form::Octets);
+    }
+    if let Some(octets) = from_digits(alloc, text)? {
+        return Ok(Form::Text(octets));
     }
     if is_hexadecimal(text) {
-        return Ok(InputForm::Hex);
+        return Ok(Form::Wrong(ODD));
     }
-    Ok(InputForm::Der)
-}
-
-/// Returns whether a text is hexadecimal digits and white space.
-fn is_hexadecimal(text: &[u8]) -> bool {
-    text.iter().all(|octet| octet.is_ascii_hexdigit() || octet.is_ascii_whitespace())
-}
-
-/// Returns the octets that hexadecimal digits denote, between which white space may be; `None` if
-/// there is something else.
-pub fn from_hexadecimal(alloc: Global, text: &[u8]) -> Result<Option<Vec<u8>>, AllocError> {
-    if !is_hexadecimal(text) {
-        return Ok(None);
-    }
-    let mut digits = Vec::new(alloc);
-    for octet in text {
-        if !octet.is_ascii_whitespace() {
-            digits.push(*octet)?;
-        }
-    }
-    match hex::decode(alloc, &digits) {
-        Ok(octets) => Ok(Some(octets)),
-        Err(FromHexError::OutOfMemory) => Err(AllocError),
-        Err(_) => Ok(None),
+    match from_base64(alloc, text)? {
+        Some(octets) => Ok(Form::Text(octets)),
+        None => Ok(Form::Octets),
     }
 }
 
-/// Returns why a text from which [`from_hexadecimal`] returns `None` is refused, or `otherwise` if
-/// it isn't digits.
-pub fn why_not_hexadecimal(text: &[u8], otherwise: &'static str) -> &'static str {
-    if is_hexadecimal(text) {
-        "an odd number of hexadecimal digits"
-    } else {
-        otherwise
-    }
+/// Returns whether octets are some graphic characters of ASCII and white space.
+pub(crate) fn is_plain_text(octets: &[u8]) -> bool {
+    !octets.is_empty()
+        && octets.iter().all(|octet| octet.is_ascii_graphic() || octet.is_ascii_whitespace())
 }
 
-/// Returns the octets of a line of JSON, or those that a line denotes, in hexadecimal or else in
-/// base64.
-pub fn from_line(alloc: Global, work: Work, line: &[u8]) -> Result<Option<Vec<u8>>, AllocError> {
+/// What is wrong with digits of which one is left over.
+const ODD: &str = "an odd number of hexadecimal digits";
+
+/// Returns why a text that denotes no octets in digits is refused, or `otherwise` if it isn't
+/// digits.
+pub(crate) fn why_not_hexadecimal(text: &[u8], otherwise: &'static str) -> &'static str {
+    if is_hexadecimal(text) { ODD } else { otherwise }
+}
+
+/// Returns the octets of a line of JSON, or those that a line denotes, in hexadecimal digits or else
+/// in base64.
+pub(crate) fn from_line(
+    alloc: Global,
+    work: Work,
+    line: &[u8],
+) -> Result<Option<Vec<u8>>, AllocError> {
     if work == Work::Encode {
         return Ok(Some(Vec::from_slice(alloc, line)?));
     }
-    if let Some(octets) = from_hexadecimal(alloc, line)? {
-        return Ok(Some(octets));
+    let digits = from_digits(alloc, line)?;
+    if digits.is_some() || is_hexadecimal(line) {
+        return Ok(digits);
     }
-    match STANDARD.decode(alloc, line.trim_ascii()) {
-        Ok(octets) => Ok(Some(octets)),
-        Err(DecodeAllocError::OutOfMemory) => Err(AllocError),
-        Err(_) => Ok(None),
-    }
+    from_base64(alloc, line)
 }

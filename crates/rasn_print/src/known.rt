@@ -13,11 +13,16 @@ pub(crate) enum Form {
     Bits,
 }
 
-/// The types of what extensions, attributes and contents hold, by identifier: those of the module
-/// Contents (`contents.asn1`), in the schema of the type `Contents`.
+/// The types of a call, in one schema: those of messages, and those of what extensions, attributes
+/// and contents hold, by identifier, which are the ones of the module Contents (`contents.asn1`).
 #[derive(Drop)]
 pub struct Known {
     pub(crate) schema: Schema,
+    /// The types of the module Contents.
+    pub(crate) universal: Option<TypeId>,
+    pub(crate) open: Option<TypeId>,
+    pub(crate) octets: Option<TypeId>,
+    pub(crate) bits: Option<TypeId>,
 }
 
 impl Known {
@@ -27,7 +32,7 @@ impl Known {
         alloc: Global,
         octets: &'input [u8],
     ) -> Result<Option<Value<'input>>, AllocError> {
-        let Some(id) = self.schema.type_named("Universal") else {
+        let Some(id) = self.universal else {
             return Ok(None);
         };
         match decode(alloc, Codec::Ber, &self.schema, id, octets) {
@@ -41,12 +46,12 @@ impl Known {
     /// the explicit tag of the alternative that the name has.
     pub(crate) fn find(&self, form: Form, name: &str) -> Option<TypeId> {
         let list = match form {
-            Form::Open => "Open",
-            Form::Octets => "Octets",
-            Form::Bits => "Bits",
+            Form::Open => self.open,
+            Form::Octets => self.octets,
+            Form::Bits => self.bits,
         };
         let types = self.schema.types();
-        let choice = type_at(types, self.schema.type_named(list)?)?;
+        let choice = type_at(types, list?)?;
         let Type::Choice { alternatives, .. } = choice else {
             return None;
         };

@@ -17,12 +17,10 @@ pub(crate) fn leaf_text(
         Value::Boolean(false) => String::from_str(alloc, "FALSE"),
         Value::Null => String::from_str(alloc, "NULL"),
         Value::Integer(number) => number_text(alloc, names_of(ty), number),
-        Value::Bits(bits) => match ty {
-            Some(Type::Leaf { kind, names, .. }) if *kind == LeafKind::NamedBits => {
-                named_bits_text(alloc, names.as_slice(), &bits.as_bitstr())
-            }
-            _ => bits_text(alloc, &bits.as_bitstr()),
-        },
+        Value::Bits(bits) if is_named_bits(ty) => {
+            named_bits_text(alloc, names_of(ty), &bits.as_bitstr())
+        }
+        Value::Bits(bits) => bits_text(alloc, &bits.as_bitstr()),
         Value::Octets(octets) => octets_text(alloc, octets.as_slice()),
         Value::Text(text) => octets_text(alloc, text.as_str().as_bytes()),
         Value::Units(units) => match characters_of(alloc, units)? {
@@ -32,8 +30,15 @@ pub(crate) fn leaf_text(
         Value::Arcs(identifier) => identifier_text(alloc, identifier),
         Value::Instant(time) => time.to_string(alloc),
         Value::Day(date) => date.to_string(alloc),
-        _ => Ok(String::new(alloc)),
+        Value::Items(_) | Value::Elements(_) | Value::Chosen(_, _) | Value::Absent => {
+            Ok(String::new(alloc))
+        }
     }
+}
+
+/// Returns whether a type is a BIT STRING whose bits have names.
+fn is_named_bits(ty: Option<&Type>) -> bool {
+    matches!(ty, Some(Type::Leaf { kind, .. }) if *kind == LeafKind::NamedBits)
 }
 
 /// Returns the names of the numbers of a type, or of its bits.
@@ -41,7 +46,17 @@ fn names_of<'types>(ty: Option<&'types Type>) -> &'types [NamedNumber] {
     match ty {
         Some(Type::Leaf { names, .. } | Type::Enumerated { numbers: names, .. }) =>
             names.as_slice(),
-        _ => &[],
+        Some(
+            Type::Any { .. }
+            | Type::Tagged { .. }
+            | Type::Choice { .. }
+            | Type::Sequence { .. }
+            | Type::Set { .. }
+            | Type::SequenceOf { .. }
+            | Type::SetOf { .. }
+            | Type::Unknown,
+        )
+        | None => &[],
     }
 }
 

@@ -6,6 +6,7 @@
 mod catalog;
 mod command_line;
 mod dump;
+mod example;
 mod fault;
 mod identifiers;
 mod input;
@@ -14,23 +15,29 @@ mod leaf;
 mod messages;
 mod name;
 mod offsets;
+mod pasted;
 mod pem_fault;
 mod printer;
 mod reading;
+mod reason;
 mod refusal_text;
 mod session;
+mod similar;
 mod standards;
 mod types;
+mod unused;
 mod work;
 
-pub use catalog::{known_of, modules_of, print_types, wanted_type};
+pub use catalog::{
+    Catalog, known_of, message_types, modules_of, print_notation, print_types, types_for,
+};
 pub use command_line::{Call, ColorChoice, InputForm, Work, call_of, command};
-pub use dump::{Entry, dump_text, entries};
 pub use fault::Fault;
 pub use known::Known;
 pub use offsets::offsets_text;
 pub use printer::value_text;
 pub use reading::{check, show};
+pub use reason::Reason;
 pub use session::Session;
 pub use types::MessageType;
-pub use work::{Answer, Input, Tools, answer_to};
+pub use work::{Answer, Context, Input, answer_to};

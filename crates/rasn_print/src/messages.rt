@@ -1,64 +1,93 @@
 //! The messages whose types need not be named.
 
-use crate::types::NamedType;
 use rasn_types::types::Codec;
 
-/// The modules and types of messages as they are tried: LDAP's, which is extensible, is the last.
-pub const MESSAGES: &[NamedType<'static>] = &[
-    ("Certificates", "Certificate"),
-    ("Revocation", "CertificateList"),
-    ("Requests", "CertificationRequest"),
-    ("CMS", "ContentInfo"),
-    ("Keys", "OneAsymmetricKey"),
-    ("Keys", "EncryptedPrivateKeyInfo"),
-    ("Certificates", "SubjectPublicKeyInfo"),
-    ("Keys", "RSAPrivateKey"),
-    ("Keys", "RSAPublicKey"),
-    ("Keys", "ECPrivateKey"),
-    ("AttributeCertificates", "AttributeCertificate"),
-    ("PKCS12", "PFX"),
-    ("OCSP", "OCSPRequest"),
-    ("OCSP", "OCSPResponse"),
-    ("TimeStamps", "TimeStampReq"),
-    ("TimeStamps", "TimeStampResp"),
-    ("SNMP", "Message"),
-    ("SNMP", "SNMPv3Message"),
-    ("Kerberos", "AS-REQ"),
-    ("Kerberos", "AS-REP"),
-    ("Kerberos", "TGS-REQ"),
-    ("Kerberos", "TGS-REP"),
-    ("Kerberos", "AP-REQ"),
-    ("Kerberos", "AP-REP"),
-    ("Kerberos", "KRB-ERROR"),
-    ("CMP", "PKIMessage"),
-    ("LDAP", "LDAPMessage"),
-];
+/// The names of a module and of a type of messages, the labels of their blocks of PEM, which are
+/// those of RFC 7468 and those that programs write, and whether messages without a label are tried
+/// as such.
+pub(crate) type StandardType = (&'static str, &'static str, &'static [&'static str], bool);
 
-/// Returns the type of the message that a label of PEM names, of RFC 7468 or as programs write it.
-pub fn type_of_label(label: &str) -> Option<NamedType<'static>> {
-    let (module, name) = match label {
-        "CERTIFICATE" | "X509 CERTIFICATE" | "X.509 CERTIFICATE" => ("Certificates", "Certificate"),
-        "X509 CRL" | "CRL" => ("Revocation", "CertificateList"),
-        "CERTIFICATE REQUEST" | "NEW CERTIFICATE REQUEST" => ("Requests", "CertificationRequest"),
-        "CMS" | "PKCS7" | "PKCS #7 SIGNED DATA" => ("CMS", "ContentInfo"),
-        "PRIVATE KEY" => ("Keys", "OneAsymmetricKey"),
-        "ENCRYPTED PRIVATE KEY" => ("Keys", "EncryptedPrivateKeyInfo"),
-        "PUBLIC KEY" => ("Certificates", "SubjectPublicKeyInfo"),
-        "RSA PRIVATE KEY" => ("Keys", "RSAPrivateKey"),
-        "RSA PUBLIC KEY" => ("Keys", "RSAPublicKey"),
-        "EC PRIVATE KEY" => ("Keys", "ECPrivateKey"),
-        "ATTRIBUTE CERTIFICATE" => ("AttributeCertificates", "AttributeCertificate"),
-        "PKCS12" => ("PKCS12", "PFX"),
-        "OCSP REQUEST" => ("OCSP", "OCSPRequest"),
-        "OCSP RESPONSE" => ("OCSP", "OCSPResponse"),
-        _ => return None,
-    };
-    Some((module, name))
-}
+/// The label of a certificate after which openssl writes what it trusts the certificate for.
+pub(crate) const TRUSTED: &str = "TRUSTED CERTIFICATE";
+
+/// The label that what follows such a certificate gets.
+pub(crate) const TRUST: &str = "CERTIFICATE TRUST";
+
+/// The types of messages in the order in which they are tried: LDAP's, which is extensible, is the
+/// last.
+pub(crate) const MESSAGES: &[StandardType] = &[
+    (
+        "Certificates",
+        "Certificate",
+        &[
+            "CERTIFICATE",
+            "X509 CERTIFICATE",
+            "X.509 CERTIFICATE",
+            TRUSTED,
+        ],
+        true,
+    ),
+    ("Revocation", "CertificateList", &["X509 CRL", "CRL"], true),
+    (
+        "Requests",
+        "CertificationRequest",
+        &["CERTIFICATE REQUEST", "NEW CERTIFICATE REQUEST"],
+        true,
+    ),
+    (
+        "CMS",
+        "ContentInfo",
+        &["CMS", "PKCS7", "PKCS #7 SIGNED DATA"],
+        true,
+    ),
+    ("Keys", "OneAsymmetricKey", &["PRIVATE KEY"], true),
+    (
+        "Keys",
+        "EncryptedPrivateKeyInfo",
+        &["ENCRYPTED PRIVATE KEY"],
+        true,
+    ),
+    (
+        "Certificates",
+        "SubjectPublicKeyInfo",
+        &["PUBLIC KEY"],
+        true,
+    ),
+    ("Keys", "RSAPrivateKey", &["RSA PRIVATE KEY"], true),
+    ("Keys", "RSAPublicKey", &["RSA PUBLIC KEY"], true),
+    ("Keys", "ECPrivateKey", &["EC PRIVATE KEY"], true),
+    (
+        "AttributeCertificates",
+        "AttributeCertificate",
+        &["ATTRIBUTE CERTIFICATE"],
+        true,
+    ),
+    ("PKCS12", "PFX", &["PKCS12"], true),
+    ("OCSP", "OCSPRequest", &["OCSP REQUEST"], true),
+    ("OCSP", "OCSPResponse", &["OCSP RESPONSE"], true),
+    ("TimeStamps", "TimeStampReq", &[], true),
+    ("TimeStamps", "TimeStampResp", &[], true),
+    ("SNMP", "Message", &[], true),
+    ("SNMP", "SNMPv3Message", &[], true),
+    ("Kerberos", "AS-REQ", &[], true),
+    ("Kerberos", "AS-REP", &[], true),
+    ("Kerberos", "TGS-REQ", &[], true),
+    ("Kerberos", "TGS-REP", &[], true),
+    ("Kerberos", "AP-REQ", &[], true),
+    ("Kerberos", "AP-REP", &[], true),
+    ("Kerberos", "KRB-ERROR", &[], true),
+    ("CMP", "PKIMessage", &[], true),
+    ("LDAP", "LDAPMessage", &[], true),
+    ("Keys", "ECParameters", &["EC PARAMETERS"], false),
+    ("Keys", "Dss-Parms", &["DSA PARAMETERS"], false),
+    ("Keys", "DHParameter", &["DH PARAMETERS"], false),
+    ("Keys", "DomainParameters", &["X9.42 DH PARAMETERS"], false),
+    ("OpenSSL", "CertificateTrust", &[TRUST], false),
+];
 
 /// Returns the rules by which the standard of a module has its messages: BER for CMS (RFC 5652 2),
 /// PKCS #12 (RFC 7292 4), LDAP (RFC 4511 5.1) and SNMP (RFC 3417 8), otherwise DER.
-pub fn rules_of(module: &str) -> Codec {
+pub(crate) fn rules_of(module: &str) -> Codec {
     match module {
         "CMS" | "PKCS12" | "LDAP" | "SNMP" => Codec::Ber,
         _ => Codec::Der,

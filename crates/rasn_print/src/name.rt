@@ -59,10 +59,10 @@ fn attribute_of<'value>(
     let Value::Items(parts) = attribute else {
         return None;
     };
-    match (parts.first()?, parts.get(1)?) {
-        (Value::Arcs(kind), Value::Octets(octets)) => Some((kind, octets.as_slice())),
-        _ => None,
-    }
+    let (Value::Arcs(kind), Value::Octets(octets)) = (parts.first()?, parts.get(1)?) else {
+        return None;
+    };
+    Some((kind, octets.as_slice()))
 }
 
 /// Appends the type of an attribute, by its short name if it has one, and the characters of its
@@ -104,9 +104,19 @@ fn string_of(alloc: Global, known: &Known, octets: &[u8]) -> Result<Option<Strin
         Value::Units(units) => characters_of(alloc, units)?,
         Value::Octets(octets) => match str::from_utf8(octets.as_slice()) {
             Ok(text) if text.is_ascii() => Some(String::from_str(alloc, text)?),
-            _ => None,
+            Ok(_) | Err(_) => None,
         },
-        _ => None,
+        Value::Boolean(_)
+        | Value::Null
+        | Value::Integer(_)
+        | Value::Bits(_)
+        | Value::Arcs(_)
+        | Value::Instant(_)
+        | Value::Day(_)
+        | Value::Items(_)
+        | Value::Elements(_)
+        | Value::Chosen(_, _)
+        | Value::Absent => None,
     };
     Ok(text.filter(|text| !text.chars().any(|it| matches!(it, '\u{80}'..='\u{9F}'))))
 }

@@ -2,24 +2,29 @@
 
 use crate::dump::push_place;
 use crate::leaf::leaf_text;
-use crate::reading::out_of_memory;
+use crate::reading::{out_of_memory, refuse_rest};
 use crate::types::MessageType;
 use rasn_dynamic::{MessageParts, Part, Refusal, decode, parts_of};
 use rasn_schema::{Type, TypeId, is_unknown_at, part_name, type_at};
 use rasn_types::types::Hexadecimal;
 use std::alloc::{AllocError, Global};
 
-/// Returns the parts of the message with which the octets begin as lines: where each begins, how
-/// many octets its header and its contents have, its name, and its value if it holds no others.
+/// Returns the parts of the message that the octets are as lines: where each begins, how many octets
+/// its header and its contents have, its name, and its value if it holds no others.
 ///
 /// # Errors
-/// As [`check`](crate::check), but what follows the message isn't refused.
+/// As [`check`](crate::check), or if memory runs out.
 pub fn offsets_text(
     alloc: Global,
     wanted: &MessageType<'_>,
     octets: &[u8],
 ) -> Result<String, Refusal> {
-    let mut parts = parts_of(alloc, wanted.rule, &wanted.schema, wanted.root, octets)?;
+    let mut parts = parts_of(alloc, wanted.rule, wanted.schema, wanted.root, octets)?;
+    let end = match parts.list.first() {
+        Some(whole) => whole.octets.len(),
+        None => 0,
+    };
+    refuse_rest(alloc, wanted, octets, octets.get(end..).unwrap_or(&[]))?;
     text_of(alloc, wanted, &mut parts).map_err(|_| out_of_memory(alloc, wanted))
 }
 
@@ -89,10 +94,18 @@ fn push_value(
 ) -> Result<(), AllocError> {
     let shown = match type_at(wanted.schema.types(), part.id) {
         Some(Type::Any { .. } | Type::Unknown) => Hexadecimal::new(part.octets).to_string(alloc)?,
-        Some(ty) if matches!(ty, Type::Leaf { .. } | Type::Enumerated { .. }) => {
+        Some(ty @ (Type::Leaf { .. } | Type::Enumerated { .. })) => {
             part_text(alloc, wanted, part, ty)?
         }
-        _ => return text.push('\n'),
+        Some(
+            Type::Tagged { .. }
+            | Type::Choice { .. }
+            | Type::Sequence { .. }
+            | Type::Set { .. }
+            | Type::SequenceOf { .. }
+            | Type::SetOf { .. },
+        )
+        | None => return text.push('\n'),
     };
     writeln!(text, ": {shown}")
 }
@@ -104,7 +117,7 @@ fn part_text(
     part: &Part<'_>,
     ty: &Type,
 ) -> Result<String, AllocError> {
-    match decode(alloc, wanted.rule, &wanted.schema, part.id, part.octets) {
+    match decode(alloc, wanted.rule, wanted.schema, part.id, part.octets) {
         Ok(value) => leaf_text(alloc, Some(ty), &value),
         Err(error) if error.is_out_of_memory() => Err(AllocError),
         Err(_) => Hexadecimal::new(part.octets).to_string(alloc),

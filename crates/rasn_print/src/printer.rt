@@ -1,6 +1,6 @@
 //! Values as indented lines with the names of a schema.
 
-use crate::dump::{entries, entry_text, primitive_text, push_indent};
+use crate::dump::{End, Entries, Entry, primitive_text, push_entry, push_indent};
 use crate::identifiers::{identifier_name, identifier_text};
 use crate::known::{Form, Known};
 use crate::leaf::leaf_text;
@@ -154,12 +154,29 @@ fn print_by(text: &mut String, place: Place<'_>, view: &View<'_, '_>) -> Appende
         Type::Leaf { .. } | Type::Enumerated { .. } => {
             push_line(text, place, &leaf_text(place.alloc, Some(ty), value)?)
         }
-        _ => match value {
-            Value::Items(values) | Value::Elements(values) => {
-                print_parts(text, place, view.schema, ty, values.as_slice())
-            }
-            _ => Ok(()),
-        },
+        Type::Sequence { .. } | Type::Set { .. } | Type::SequenceOf { .. } | Type::SetOf { .. } =>
+            print_parts(text, place, view.schema, ty, parts_of(value)),
+        // What is in these is printed in their place.
+        Type::Tagged { .. } | Type::Choice { .. } => Ok(()),
+    }
+}
+
+/// Returns the components or elements of a value.
+fn parts_of<'value, 'input>(value: &'value Value<'input>) -> &'value [Value<'input>] {
+    match value {
+        Value::Items(values) | Value::Elements(values) => values.as_slice(),
+        Value::Boolean(_)
+        | Value::Null
+        | Value::Integer(_)
+        | Value::Bits(_)
+        | Value::Octets(_)
+        | Value::Text(_)
+        | Value::Units(_)
+        | Value::Arcs(_)
+        | Value::Instant(_)
+        | Value::Day(_)
+        | Value::Chosen(_, _)
+        | Value::Absent => &[],
     }
 }
 
@@ -206,30 +223,42 @@ fn print_heading(
     is_list: bool,
     values: &[Value<'_>],
 ) -> Appended {
-    match values.first() {
-        None if is_list => push_line(text, place, &"empty"),
-        Some(Value::Arcs(identifier)) if !is_list => {
-            push_line(text, place, &identifier_text(place.alloc, identifier)?)
-        }
-        _ => {
-            let title = place.title;
-            push_indent(text, place.depth)?;
-            writeln!(text, "{title}")
-        }
+    if is_list && values.is_empty() {
+        return push_line(text, place, &"empty");
     }
+    if let (false, Some(Value::Arcs(identifier))) = (is_list, values.first()) {
+        return push_line(text, place, &identifier_text(place.alloc, identifier)?);
+    }
+    let title = place.title;
+    push_indent(text, place.depth)?;
+    writeln!(text, "{title}")
 }
 
 /// Appends the lines of octets: of the value whose encoding they are, if the identifier beside them
 /// says its type.
 #[cycle(print)]
 fn print_octets(text: &mut String, place: Place<'_>, value: &Value<'_>, form: Form) -> Appended {
-    let (alloc, known, hint) = (place.alloc, place.known, place.hint.unwrap_or(""));
-    let mut octets = Vec::new(alloc);
-    match value {
-        Value::Octets(held) => octets.extend_from_slice(held.as_slice())?,
-        Value::Bits(bits) => bits.as_bitstr().append_to(&mut octets)?,
-        _ => return Ok(()),
+    if let Value::Bits(bits) = value {
+        let mut octets = Vec::new(place.alloc);
+        bits.as_bitstr().append_to(&mut octets)?;
+        return print_held(text, place, value, form, &octets);
     }
+    let Value::Octets(held) = value else {
+        return Ok(());
+    };
+    print_held(text, place, value, form, held.as_slice())
+}
+
+/// Appends the lines of a value that holds these octets.
+#[cycle(print)]
+fn print_held(
+    text: &mut String,
+    place: Place<'_>,
+    value: &Value<'_>,
+    form: Form,
+    octets: &[u8],
+) -> Appended {
+    let (alloc, known, hint) = (place.alloc, place.known, place.hint.unwrap_or(""));
     let known_type = if place.levels > MESSAGE_LEVELS {
         known.find(form, hint)
     } else {
@@ -237,11 +266,11 @@ fn print_octets(text: &mut String, place: Place<'_>, value: &Value<'_>, form: Fo
     };
     let Some(id) = known_type else {
         if form == Form::Open {
-            return print_encoding(text, place, &octets);
+            return print_encoding(text, place, octets);
         }
         return push_line(text, place, &leaf_text(alloc, None, value)?);
     };
-    match decode(alloc, place.rule, &known.schema, id, &octets) {
+    match decode(alloc, place.rule, &known.schema, id, octets) {
         Ok(value) => {
             let hint = None;
             print(
@@ -252,8 +281,8 @@ fn print_octets(text: &mut String, place: Place<'_>, value: &Value<'_>, form: Fo
         }
         Err(error) if error.is_out_of_memory() => Err(AllocError),
         Err(error) => {
-            let shown = Hexadecimal::new(&octets);
-            let cause = text_of(alloc, &error, &error, &octets)?;
+            let shown = Hexadecimal::new(octets);
+            let cause = text_of(alloc, &error, octets, End::Input)?;
             let shown = format!(in alloc; "{shown} (not of {hint}: {cause})")?;
             push_line(text, place, &shown)
         }
@@ -273,26 +302,50 @@ fn print_additions(text: &mut String, place: Place<'_>, value: &Value<'_>) -> Ap
     Ok(())
 }
 
+/// Returns whether the header of each encoding of octets can be read.
+fn are_entries(alloc: Global, octets: &[u8]) -> Result<bool, AllocError> {
+    let mut entries = Entries::new(alloc, octets);
+    // Each encoding has an octet of its own.
+    for _ in octets {
+        match entries.next() {
+            Ok(Some(_)) => {}
+            Ok(None) => return Ok(true),
+            Err(error) if error.is_out_of_memory() => return Err(AllocError),
+            Err(_) => return Ok(false),
+        }
+    }
+    Ok(true)
+}
+
 /// Appends the lines of an encoding of a type that isn't known.
 fn print_encoding(text: &mut String, place: Place<'_>, octets: &[u8]) -> Appended {
-    let (list, fault) = entries(place.alloc, octets)?;
-    if fault.is_some() {
+    if !are_entries(place.alloc, octets)? {
         return push_line(text, place, &Hexadecimal::new(octets));
     }
-    for entry in &list {
-        let shown = if entry.depth == 0 && !entry.is_constructed {
-            primitive_text(place.alloc, place.known, entry)?
-        } else {
-            entry_text(place.alloc, place.known, entry)?
-        };
-        if entry.depth == 0 {
-            push_line(text, place, &shown)?;
-        } else {
-            push_indent(text, place.depth.saturating_add(entry.depth))?;
-            writeln!(text, "{shown}")?;
+    let mut entries = Entries::new(place.alloc, octets);
+    for _ in octets {
+        match entries.next() {
+            Ok(Some(entry)) => print_entry(text, place, &entry)?,
+            Ok(None) => return Ok(()),
+            Err(_) => return Err(AllocError),
         }
     }
     Ok(())
+}
+
+/// Appends the line of an encoding in an open type, whose title the outermost one has.
+fn print_entry(text: &mut String, place: Place<'_>, entry: &Entry<'_>) -> Appended {
+    push_indent(text, place.depth.saturating_add(entry.depth))?;
+    if entry.depth == 0 {
+        let title = place.title;
+        write!(text, "{title}: ")?;
+    }
+    if entry.depth == 0 && !entry.is_constructed {
+        text.push_str(primitive_text(place.alloc, place.known, entry)?.as_str())?;
+    } else {
+        push_entry(text, place.alloc, place.known, entry)?;
+    }
+    text.push('\n')
 }
 
 /// Returns the name of the identifier that says what the open types of a SEQUENCE are: the first
@@ -324,16 +377,15 @@ fn short_text(
 ) -> Result<Option<String>, AllocError> {
     let (alloc, value) = (place.alloc, view.value);
     let name = name_of_type(view.schema, view.type_id).unwrap_or("");
-    match value {
-        Value::Items(_) if name == "RDNSequence" => name_text(alloc, place.known, value),
-        Value::Elements(_) if name == "RelativeDistinguishedName" => {
-            name_text(alloc, place.known, value)
-        }
-        Value::Octets(octets) if name == "IpAddress" || title.ends_with("iPAddress") => {
-            address_text(alloc, octets.as_slice())
-        }
-        _ => Ok(None),
+    if name == "RDNSequence" || name == "RelativeDistinguishedName" {
+        return name_text(alloc, place.known, value);
     }
+    if let Value::Octets(octets) = value {
+        if name == "IpAddress" || title.ends_with("iPAddress") {
+            return address_text(alloc, octets.as_slice());
+        }
+    }
+    Ok(None)
 }
 
 /// Returns an IPv4 or IPv6 address as such if it has 4 or 16 octets.

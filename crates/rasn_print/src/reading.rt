@@ -12,6 +12,7 @@ use rasn::refuse_remainder;
 use rasn_dynamic::{Refusal, check_or_locate, decode_or_locate};
 use rasn_schema::Value;
 use rasn_types::error::{DecodeError, DecodeErrorKind};
+use rasn_types::types::Codec;
 use std::alloc::Global;
 
 /// Returns the refusal at a place that is in no part of a value of this type.
@@ -35,8 +36,22 @@ pub(crate) fn out_of_memory(alloc: Global, wanted: &MessageType<'_>) -> Refusal
     refusal_at(alloc, wanted, DecodeError { kind, codec }, 0)
 }
 
+/// Returns the refusal of so many octets that follow a value of BER.
+pub(crate) fn remainder(
+    alloc: Global,
+    wanted: &MessageType<'_>,
+    octets: &[u8],
+    length: usize,
+) -> Refusal {
+    let error = DecodeError {
+        kind: DecodeErrorKind::UnexpectedExtraData { length },
+        codec: Codec::Ber,
+    };
+    refusal_at(alloc, wanted, error, octets.len().saturating_sub(length))
+}
+
 /// Refuses octets after the value, which begin at this place.
-fn refuse_rest(
+pub(crate) fn refuse_rest(
     alloc: Global,
     wanted: &MessageType<'_>,
     octets: &[u8],
@@ -62,7 +77,7 @@ fn refuse_rest(
 pub fn check(alloc: Global, wanted: &MessageType<'_>, octets: &[u8]) -> Result<(), Refusal>
     ensures { MatchResult result (λ _. IsMessage wanted.now octets.now) (IsRefused wanted.now octets.now) }
 {
-    let rest = check_or_locate(alloc, wanted.rule, &wanted.schema, wanted.root, octets)?;
+    let rest = check_or_locate(alloc, wanted.rule, wanted.schema, wanted.root, octets)?;
     refuse_rest(alloc, wanted, octets, rest)
 }
 
@@ -70,7 +85,7 @@ pub fn check(alloc: Global, wanted: &MessageType<'_>, octets: &[u8]) -> Result<(
 ///
 /// # Errors
 /// As [`check`].
-fn read_alone<'input>(
+pub(crate) fn read_alone<'input>(
     alloc: Global,
     wanted: &MessageType<'_>,
     octets: &'input [u8],
@@ -78,7 +93,7 @@ fn read_alone<'input>(
     ensures ok { IfOk result (λ v. IsRead wanted.now octets.now (tree_of v) []) }
     ensures err { IfErr result (IsRefused wanted.now octets.now) }
 {
-    match decode_or_locate(alloc, wanted.rule, &wanted.schema, wanted.root, octets) {
+    match decode_or_locate(alloc, wanted.rule, wanted.schema, wanted.root, octets) {
         Ok((value, rest)) => match refuse_rest(alloc, wanted, octets, rest) {
             Ok(()) => Ok(value),
             Err(refusal) => Err(refusal),

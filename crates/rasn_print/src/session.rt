@@ -1,27 +1,35 @@
 //! Goes over the messages of inputs.
 
-use crate::command_line::{InputForm, Work};
-use crate::dump::dump_text;
+use crate::command_line::Work;
+use crate::dump::{Entries, Entry, entry_line, fault_text};
 use crate::fault::Fault;
-use crate::input::{form_of, from_hexadecimal, from_line, why_not_hexadecimal, without_mark};
+use crate::input::{Form, form_of, from_line, is_plain_text, why_not_hexadecimal, without_mark};
+use crate::messages::{TRUST, TRUSTED};
+use crate::pasted::unindented;
 use crate::pem_fault::block_fault;
-use crate::work::{Answer, Input, Tools, answer_to, printed};
-use rasn_text::{Escaping, blocks, visible};
+use crate::reason::Reason;
+use crate::work::{Answer, Context, Input, answer_to, printed};
+use rasn_de::ber::de::{Decoder, DecoderOptions};
+use rasn_text::{Block, Escaping, visible};
+use rasn_types::types::Codec;
 use std::alloc::{AllocError, Global};
 use std::io::{self, BufRead, ErrorKind, Write};
-use std::{fmt, str};
+use std::{fmt, slice, str};
+
+/// What is added to why text is refused.
+const NO_FORM: &str = "; the input is text, but neither PEM, hexadecimal digits nor base64";
 
 /// Processes messages, and prints the results.
 #[derive(Drop)]
-pub struct Session<'a, 'text, W: Write + Drop, E: Write + Drop> {
-    pub tools: Tools<'a, 'text>,
+pub struct Session<'a, W: Write + Drop, E: Write + Drop> {
+    pub context: Context<'a>,
     pub output: W,
     pub refusals: E,
     /// Whether a message was refused.
     pub is_refused: bool,
 }
 
-impl<W: Write + Drop, E: Write + Drop> Session<'_, '_, W, E> {
+impl<W: Write + Drop, E: Write + Drop> Session<'_, W, E> {
     /// Writes octets.
     fn write(&mut self, octets: &[u8]) -> Result<(), Fault> {
         self.output.write_all(octets).map_err(Fault::of_write)
@@ -30,7 +38,7 @@ impl<W: Write + Drop, E: Write + Drop> Session<'_, '_, W, E> {
     /// Writes why a message of the input with this name is refused.
     fn refuse<T: fmt::Display>(&mut self, name: &str, reason: &T) -> Result<(), Fault> {
         self.is_refused = true;
-        let line = line_of(self.tools.alloc, name, reason)?;
+        let line = line_of(self.context.alloc, name, reason)?;
         self.refusals
             .write_all(line.as_bytes())
             .map_err(Fault::of_write)
@@ -51,40 +59,82 @@ impl<W: Write + Drop, E: Write + Drop> Session<'_, '_, W, E> {
     /// # Errors
     /// As `flush`.
     pub fn input(&mut self, name: &str, octets: &[u8]) -> Result<(), Fault> {
-        let alloc = self.tools.alloc;
-        match form_of(alloc, self.tools.call, octets)? {
-            InputForm::Pem => self.pem(name, without_mark(octets)),
-            InputForm::Hex => self.digits(name, without_mark(octets)),
-            InputForm::Der if self.tools.call.work == Work::Encode => {
-                self.message(name, without_mark(octets), None, false)
+        let alloc = self.context.alloc;
+        let plain = unindented(alloc, without_mark(octets))?;
+        let text = match &plain {
+            Some(text) => text.as_slice(),
+            None => without_mark(octets),
+        };
+        let is_headed = self.context.call.work == Work::Show && self.context.call.files.len() > 1;
+        match form_of(alloc, self.context.call, text)? {
+            Form::Pem(blocks) => self.pem(name, text, blocks.as_slice(), is_headed),
+            Form::Text(octets) => self.octets(name, &octets, true, is_headed),
+            Form::Wrong(reason) => self.refuse(name, &reason),
+            Form::Octets if self.context.call.work == Work::Encode => {
+                self.message(name, text, None, false, is_headed)
             }
-            InputForm::Der => self.message(name, octets, None, false),
+            Form::Octets => self.octets(name, octets, false, is_headed),
         }
     }
 
-    /// Works on the message of an input of hexadecimal digits.
-    fn digits(&mut self, name: &str, text: &[u8]) -> Result<(), Fault> {
-        match from_hexadecimal(self.tools.alloc, text)? {
-            Some(octets) => self.message(name, &octets, None, true),
-            None => self.refuse(name, &why_not_hexadecimal(text, "not hexadecimal digits")),
+    /// Works on the message that octets are or, if several are in a row, on each of them and on what
+    /// follows the last whole encoding.
+    fn octets(
+        &mut self,
+        name: &str,
+        octets: &[u8],
+        is_text: bool,
+        is_headed: bool,
+    ) -> Result<(), Fault> {
+        if !self.context.call.is_stream {
+            return self.message(name, octets, None, is_text, is_headed);
         }
+        let alloc = self.context.alloc;
+        let is_headed = self.context.call.work == Work::Show;
+        let mut rest = octets;
+        // Each encoding has an octet of its own.
+        for _ in octets {
+            if rest.is_empty() {
+                break;
+            }
+            let offset = octets.len().saturating_sub(rest.len());
+            let name = format!(in alloc; "{name}, byte {offset}")?;
+            let (first, after) = first_encoding(alloc, rest);
+            self.message(name.as_str(), first, None, is_text, is_headed)?;
+            rest = after;
+        }
+        Ok(())
     }
 
-    /// Works on the blocks of PEM of an input.
-    fn pem(&mut self, name: &str, octets: &[u8]) -> Result<(), Fault> {
-        let alloc = self.tools.alloc;
-        let list = blocks(alloc, octets)?;
-        if list.is_empty() {
+    /// Works on the blocks of PEM of a text, each of which has a name before it if that is wanted, or
+    /// if several are shown.
+    fn pem(
+        &mut self,
+        name: &str,
+        text: &[u8],
+        blocks: &[Block<'_>],
+        is_headed: bool,
+    ) -> Result<(), Fault> {
+        let alloc = self.context.alloc;
+        let is_headed = is_headed || (self.context.call.work == Work::Show && blocks.len() > 1);
+        if blocks.is_empty() {
             return self.refuse(name, &"no line -----BEGIN LABEL-----");
         }
-        for block in &list {
+        for block in blocks {
             let label = str::from_utf8(block.label).unwrap_or("?");
             let line = block.line;
             let name = format!(in alloc; "{name}: {label} in line {line}")?;
             match &block.contents {
-                Ok(octets) => self.message(name.as_str(), octets, Some(label), false)?,
+                Ok(octets) => {
+                    let (first, trust) = self.parted(label, octets);
+                    self.message(name.as_str(), first, Some(label), false, is_headed)?;
+                    if !trust.is_empty() {
+                        let name = format!(in alloc; "{name}, byte {}", first.len())?;
+                        self.message(name.as_str(), trust, Some(TRUST), false, is_headed)?;
+                    }
+                }
                 Err(error) => {
-                    let reason = block_fault(alloc, octets, line, error)?;
+                    let reason = block_fault(alloc, text, line, error)?;
                     self.refuse(name.as_str(), &reason)?;
                 }
             }
@@ -92,15 +142,31 @@ impl<W: Write + Drop, E: Write + Drop> Session<'_, '_, W, E> {
         Ok(())
     }
 
-    /// Works on a message, which may be in a block of PEM with this label or handed over as text.
+    /// Returns the octets of a block of PEM with this label, and what openssl writes after a
+    /// certificate that it trusts, unless the call names a type or all octets are dumped.
+    fn parted<'octets>(
+        &self,
+        label: &str,
+        octets: &'octets [u8],
+    ) -> (&'octets [u8], &'octets [u8]) {
+        let call = self.context.call;
+        if label != TRUSTED || call.type_name.is_some() || call.work == Work::Dump {
+            return (octets, &[]);
+        }
+        first_encoding(self.context.alloc, octets)
+    }
+
+    /// Works on a message, which may be in a block of PEM with this label or handed over as text, and
+    /// writes its name before it if that is wanted.
     fn message(
         &mut self,
         name: &str,
         octets: &[u8],
         label: Option<&str>,
         is_text: bool,
+        is_headed: bool,
     ) -> Result<(), Fault> {
-        if self.tools.call.work == Work::Dump {
+        if self.context.call.work == Work::Dump {
             return self.dump(name, octets);
         }
         let input = Input {
@@ -108,43 +174,87 @@ impl<W: Write + Drop, E: Write + Drop> Session<'_, '_, W, E> {
             label,
             is_text,
         };
-        match answer_to(&self.tools, &input)? {
-            Answer::Done(octets) => self.write(&octets),
-            Answer::Departures(lines) => {
-                self.is_refused = true;
-                for line in &lines {
-                    let line = line_of(self.tools.alloc, name, line)?;
-                    self.write(line.as_bytes())?;
+        match answer_to(&self.context, &input)? {
+            Answer::Done(octets) => {
+                if is_headed {
+                    let heading = visible(self.context.alloc, Escaping::Line, name)?;
+                    writeln!(self.output, "{heading}").map_err(Fault::of_write)?;
                 }
-                Ok(())
+                self.write(&octets)
             }
-            Answer::Refused(text) => self.refuse(name, &text),
+            Answer::Departures(reasons) => self.write_departures(name, reasons.as_slice()),
+            Answer::Refused(reason) => {
+                let mut text = reason.to_line(self.context.alloc)?;
+                let is_octets = label.is_none() && !is_text;
+                if is_octets && self.context.call.work != Work::Encode && is_plain_text(octets) {
+                    text.push_str(NO_FORM)?;
+                }
+                self.refuse(name, &text)
+            }
         }
     }
 
-    /// Prints the encodings of octets.
+    /// Writes a line for each departure of a message from DER, and how many there are.
+    fn write_departures(&mut self, name: &str, reasons: &[Reason]) -> Result<(), Fault> {
+        let alloc = self.context.alloc;
+        self.is_refused = true;
+        for reason in reasons {
+            let line = line_of(alloc, name, &reason.to_line(alloc)?)?;
+            self.write(line.as_bytes())?;
+        }
+        let count = match reasons {
+            [_] => String::from_str(alloc, "1 departure from DER")?,
+            _ => format!(in alloc; "{} departures from DER", reasons.len())?,
+        };
+        let line = line_of(alloc, name, &count)?;
+        self.write(line.as_bytes())
+    }
+
+    /// Prints a value of the type that the call names as JSON that `encode` encodes.
+    ///
+    /// # Errors
+    /// As `flush`.
+    pub fn example(&mut self) -> Result<(), Fault> {
+        self.message("example", &[], None, true, false)
+    }
+
+    /// Prints the encodings of octets, each as soon as it is read.
     fn dump(&mut self, name: &str, octets: &[u8]) -> Result<(), Fault> {
-        let alloc = self.tools.alloc;
-        let (text, fault) = dump_text(alloc, self.tools.known, octets)?;
-        self.write(printed(alloc, Escaping::Lines, text)?.as_bytes())?;
-        match fault {
-            Some(fault) => self.refuse(name, &fault),
-            None => Ok(()),
+        let mut entries = Entries::new(self.context.alloc, octets);
+        // Each encoding has an octet of its own.
+        for _ in octets {
+            match entries.next() {
+                Ok(Some(entry)) => self.write_entry(&entry)?,
+                Ok(None) => return Ok(()),
+                Err(error) => {
+                    let fault = fault_text(self.context.alloc, &entries, &error)?;
+                    return self.refuse(name, &fault);
+                }
+            }
         }
+        Ok(())
     }
 
-    /// Works on each line of an input, and prints a line for it. A line that is refused, and an
-    /// input that can't be read, or from a block of PEM on, set `is_refused` and are no errors.
+    /// Writes the line of an encoding.
+    fn write_entry(&mut self, entry: &Entry<'_>) -> Result<(), Fault> {
+        let alloc = self.context.alloc;
+        let line = entry_line(alloc, self.context.known, entry)?;
+        self.write(printed(alloc, Escaping::Lines, line)?.as_bytes())
+    }
+
+    /// Works on each line of an input, and prints a line for it; if that is data, why a line is
+    /// refused is printed elsewhere. A line that is refused, and an input that can't be read, or
+    /// from a block of PEM on, set `is_refused` and are no errors.
     ///
     /// # Errors
     /// As `flush`.
     pub fn lines<R: BufRead + Drop>(&mut self, name: &str, reader: R) -> Result<(), Fault> {
-        for line in reader.split(self.tools.alloc, b'\n') {
+        for (index, line) in reader.split(self.context.alloc, b'\n').enumerate() {
             match line {
                 Ok(line) if without_mark(&line).starts_with(b"-----BEGIN ") => {
                     return self.refuse(name, &"PEM, which is read without --lines");
                 }
-                Ok(line) => self.line(&line)?,
+                Ok(line) => self.line(name, index, &line)?,
                 Err(error) => return self.unreadable(name, &error),
             }
         }
@@ -156,37 +266,76 @@ impl<W: Write + Drop, E: Write + Drop> Session<'_, '_, W, E> {
         if error.kind() == ErrorKind::OutOfMemory {
             return Err(Fault::Memory);
         }
-        let reason = format!(in self.tools.alloc; "cannot read: {error}")?;
+        let reason = format!(in self.context.alloc; "cannot read: {error}")?;
         self.refuse(name, &reason)
     }
 
-    /// Works on a line: prints its answer, `ok` if that is empty, or why it is refused.
-    fn line(&mut self, line: &[u8]) -> Result<(), Fault> {
-        let text = match self.line_answer(line)? {
-            Answer::Done(text) if text.is_empty() => return self.write(b"ok\n"),
-            Answer::Done(text) => return self.write(&text),
-            Answer::Departures(lines) => lines.as_slice().join(self.tools.alloc, "; ")?,
-            Answer::Refused(text) => text,
-        };
+    /// Works on the line with this index: prints its answer, `ok` if that is empty, or why it is
+    /// refused.
+    fn line(&mut self, name: &str, index: usize, line: &[u8]) -> Result<(), Fault> {
+        let number = index.saturating_add(1);
+        match self.line_answer(line)? {
+            Answer::Done(text) if text.is_empty() => self.write(b"ok\n"),
+            Answer::Done(text) => self.write(&text),
+            Answer::Departures(reasons) => self.refuse_line(name, number, reasons.as_slice()),
+            Answer::Refused(reason) => self.refuse_line(name, number, slice::from_ref(&reason)),
+        }
+    }
+
+    /// Writes for which reasons the line with this number is refused: as objects of JSON if that is
+    /// asked for, or else in a line.
+    fn refuse_line(&mut self, name: &str, number: usize, reasons: &[Reason]) -> Result<(), Fault> {
+        let alloc = self.context.alloc;
+        let has_json = self.context.call.has_json_errors;
         self.is_refused = true;
-        let text = visible(self.tools.alloc, Escaping::Line, text.as_str())?;
+        let mut lines = Vec::new(alloc);
+        for reason in reasons {
+            lines.push(if has_json {
+                reason.to_json(alloc, number)?
+            } else {
+                reason.to_line(alloc)?
+            })?;
+        }
+        if has_json {
+            let text = lines.as_slice().join(alloc, "\n")?;
+            return writeln!(self.output, "{text}").map_err(Fault::of_write);
+        }
+        let text = lines.as_slice().join(alloc, "; ")?;
+        if self.context.call.work.prints_data() {
+            let name = format!(in alloc; "{name}, line {number}")?;
+            return self.refuse(name.as_str(), &text);
+        }
+        let text = visible(alloc, Escaping::Line, text.as_str())?;
         writeln!(self.output, "{text}").map_err(Fault::of_write)
     }
 
     /// Returns what is printed for the octets that a line denotes, or for those of its JSON.
     fn line_answer(&self, line: &[u8]) -> Result<Answer, AllocError> {
-        let alloc = self.tools.alloc;
+        let alloc = self.context.alloc;
         let line = without_mark(line);
-        let Some(octets) = from_line(alloc, self.tools.call.work, line)? else {
+        let Some(octets) = from_line(alloc, self.context.call.work, line)? else {
             let reason = why_not_hexadecimal(line, "neither hexadecimal nor base64");
-            return Ok(Answer::Refused(String::from_str(alloc, reason)?));
+            return Ok(Answer::Refused(Reason::of(alloc, &reason)?));
         };
         let input = Input {
             octets: octets.as_slice(),
             label: None,
             is_text: true,
         };
-        answer_to(&self.tools, &input)
+        answer_to(&self.context, &input)
+    }
+}
+
+/// Returns the whole encoding with which octets begin, or all of them without one, and what follows
+/// it.
+fn first_encoding(alloc: Global, octets: &[u8]) -> (&[u8], &[u8]) {
+    let mut decoder = Decoder::new(alloc, octets, DecoderOptions::of(Codec::Ber));
+    match decoder.skip_value() {
+        Ok(_) => {
+            let end = octets.len().saturating_sub(decoder.remaining().len());
+            octets.split_at_checked(end).unwrap_or((octets, &[]))
+        }
+        Err(_) => (octets, &[]),
     }
 }
 

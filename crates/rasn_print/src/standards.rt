@@ -2,7 +2,7 @@
 //! `modules/` and `contents.asn1`.
 
 /// How many modules there are.
-pub const COUNT: usize = 15;
+pub const COUNT: usize = 16;
 
 /// Returns the name of the file of the module with this number, and its text.
 pub fn standard(number: usize) -> Option<(&'static str, &'static str)> {
@@ -16,12 +16,13 @@ pub fn standard(number: usize) -> Option<(&'static str, &'static str)> {
         6 => Some(("keys.asn1", keys())),
         7 => Some(("ldap.asn1", ldap())),
         8 => Some(("ocsp.asn1", ocsp())),
-        9 => Some(("pkcs12.asn1", pkcs12())),
-        10 => Some(("requests.asn1", requests())),
-        11 => Some(("revocation.asn1", revocation())),
-        12 => Some(("snmp.asn1", snmp())),
-        13 => Some(("timestamps.asn1", timestamps())),
-        14 => Some(("contents.asn1", contents())),
+        9 => Some(("openssl.asn1", openssl())),
+        10 => Some(("pkcs12.asn1", pkcs12())),
+        11 => Some(("requests.asn1", requests())),
+        12 => Some(("revocation.asn1", revocation())),
+        13 => Some(("snmp.asn1", snmp())),
+        14 => Some(("timestamps.asn1", timestamps())),
+        15 => Some(("contents.asn1", contents())),
         _ => None,
     }
 }
@@ -1568,8 +1569,8 @@ END
 
 fn keys() -> &'static str {
     "-- Keys and signatures: RSA (PKCS #1, RFC 8017 A.1), private keys (PKCS #8, RFC 5958 2 and 3), elliptic
--- curves (SEC 1 C, RFC 5915 3, RFC 3279 2.2.3), DSA and Diffie-Hellman (RFC 3279 2.3), laid out from
--- the sections of the standards.
+-- curves (SEC 1 C, RFC 5915 3, RFC 3279 2.2.3), DSA and Diffie-Hellman (RFC 3279 2.3, PKCS #3 9), laid
+-- out from the sections of the standards.
 
 Keys DEFINITIONS IMPLICIT TAGS ::= BEGIN
 
@@ -1704,6 +1705,13 @@ DomainParameters ::= SEQUENCE {
 ValidationParms ::= SEQUENCE {
     seed                            BIT STRING,
     pgenCounter                     INTEGER
+}
+
+-- PKCS #3 9
+DHParameter ::= SEQUENCE {
+    prime                           INTEGER,
+    base                            INTEGER,
+    privateValueLength              INTEGER OPTIONAL
 }
 
 END
@@ -2129,6 +2137,28 @@ PreferredSignatureAlgorithms ::= SEQUENCE OF PreferredSignatureAlgorithm
 PreferredSignatureAlgorithm ::= SEQUENCE {
     sigIdentifier                   AlgorithmIdentifier,
     certIdentifier                  AlgorithmIdentifier OPTIONAL
+}
+
+END
+"
+}
+
+fn openssl() -> &'static str {
+    "-- What OpenSSL writes after a certificate in a block of PEM with the label TRUSTED CERTIFICATE
+-- (openssl-x509, \"Trust Settings\"): its X509_CERT_AUX, which no standard has.
+
+OpenSSL DEFINITIONS IMPLICIT TAGS ::= BEGIN
+
+IMPORTS
+    AlgorithmIdentifier
+        FROM Certificates;
+
+CertificateTrust ::= SEQUENCE {
+    trust                           SEQUENCE OF OBJECT IDENTIFIER OPTIONAL,
+    reject                          [0] SEQUENCE OF OBJECT IDENTIFIER OPTIONAL,
+    alias                           UTF8String OPTIONAL,
+    keyid                           OCTET STRING OPTIONAL,
+    other                           [1] SEQUENCE OF AlgorithmIdentifier OPTIONAL
 }
 
 END

@@ -1,60 +1,126 @@
-//! Types of modules by their names.
+//! The types of messages.
+ghost use Rattle.std.specs.Prelude.{◌≡◌, Some, IfOk};
+ghost use Rattle.rasn_types.specs.declared.types.codec.Codec.{Codec};
 
-use crate::catalog::is_plain_type;
 use crate::messages::rules_of;
-use rasn_compiler::{Modules, Resolved, Stop};
-use rasn_schema::{Schema, TypeId};
+use rasn_compiler::Root;
+use rasn_schema::{Schema, Type, TypeId, part_name, part_type, type_at};
 use rasn_types::types::Codec;
-use std::alloc::Global;
+use std::alloc::{AllocError, Global};
 
-/// The names of a module and of a type of it.
-pub type NamedType<'text> = (&'text str, &'text str);
-
-/// The type of a message: its schema, and the rules by which it is read.
-#[derive(Drop)]
-pub struct MessageType<'text> {
-    pub name: &'text str,
+/// The type of a message: its number in a schema, and the rules by which it is read.
+#[derive(Clone, Copy)]
+pub struct MessageType<'a> {
+    pub name: &'a str,
     pub rule: Codec,
-    pub schema: Schema,
+    pub schema: &'a Schema,
     pub root: TypeId,
+    /// Whether an open type or unknown values are among what it is made of.
+    pub holds_open: bool,
+    /// The labels of PEM that name it.
+    pub labels: &'static [&'static str],
+    /// Whether a message is tried as one of this type if nothing names its type.
+    pub is_tried: bool,
 }
 
-impl MessageType<'_> {
-    /// Returns its rules, its schema and the number that it has there.
-    pub(crate) fn parts(&self) -> (Codec, &Schema, TypeId) {
-        (self.rule, &self.schema, self.root)
+impl<'a> MessageType<'a> {
+    /// Returns a type of a schema, which is read by these rules or else by those of its module. It
+    /// has no label, and is tried.
+    pub(crate) fn new(
+        alloc: Global,
+        schema: &'a Schema,
+        root: &Root<'a>,
+        rules: Option<Codec>,
+    ) -> Result<MessageType<'a>, AllocError>
+        ensures rules { (rule : Codec) → rules ≡ Some rule → IfOk result (λ m. m.rule ≡ rule) }
+        ensures root { IfOk result (λ m. (m.root ≡ root.now.type_id) × (m.schema.now ≡ schema.now)) }
+    {
+        let rule = match rules {
+            Some(rule) => rule,
+            None => rules_of(root.module),
+        };
+        Ok(MessageType {
+            name: root.name,
+            rule,
+            schema,
+            root: root.type_id,
+            holds_open: holds_open(alloc, schema, root.type_id)?,
+            labels: &[],
+            is_tried: true,
+        })
     }
-}
 
-/// Returns a type with these rules, or with those of its standard.
-///
-/// # Errors
-/// As [`Modules::schema`].
-pub fn message_type<'text>(
-    alloc: Global,
-    read: &Modules<'text>,
-    named: NamedType<'text>,
-    rules: Option<Codec>,
-) -> Result<MessageType<'text>, Stop<'text>> {
-    let (module, name) = named;
-    let Resolved { schema, root, .. } = read.schema(alloc, module, name)?;
-    Ok(MessageType {
-        name,
-        rule: rules.unwrap_or(rules_of(module)),
-        schema,
-        root,
-    })
-}
-
-/// Returns the type that a name means: `MODULE.TYPE`, or the first type of this name.
-pub fn type_named<'text>(read: &Modules<'text>, name: &str) -> Option<NamedType<'text>> {
-    let (wanted, type_name) = name.split_once('.').unwrap_or(("", name));
-    for module in &read.modules {
-        let is_wanted = wanted.is_empty() || wanted == module.name;
-        let mut types = module.assignments.iter().filter(|it| is_plain_type(it));
-        if let Some(found) = types.find(|it| is_wanted && it.name == type_name) {
-            return Some((module.name, found.name));
+    /// Returns it with labels. It may be tried without one.
+    pub(crate) fn labelled(
+        self,
+        labels: &'static [&'static str],
+        is_tried: bool,
+    ) -> MessageType<'a> {
+        MessageType {
+            labels,
+            is_tried,
+            ..self
         }
     }
-    None
+
+    /// Returns its rules, its schema and the number that it has there.
+    pub(crate) fn parts(&self) -> (Codec, &'a Schema, TypeId)
+        ensures { (result.0 ≡ self.now.rule) × (result.1.now ≡ self.now.schema.now) × (result.2 ≡ self.now.root) }
+    {
+        (self.rule, self.schema, self.root)
+    }
+}
+
+/// Returns whether an open type or unknown values are among what a type is made of.
+fn holds_open(alloc: Global, schema: &Schema, root: TypeId) -> Result<bool, AllocError> {
+    let types = schema.types();
+    let mut is_known = vec![in alloc; false; types.len()]?;
+    let mut list = Vec::new(alloc);
+    add_type(&mut is_known, &mut list, root)?;
+    // Each type is in the list once.
+    for next in 0..types.len() {
+        let Some(id) = list.get(next).copied() else {
+            break;
+        };
+        match type_at(types, id) {
+            Some(Type::Any { .. } | Type::Unknown) => return Ok(true),
+            Some(ty) => add_parts(&mut is_known, &mut list, ty)?,
+            None => {}
+        }
+    }
+    Ok(false)
+}
+
+/// Adds the types of the parts of a type, unless they are known.
+fn add_parts(
+    is_known: &mut Vec<bool>,
+    list: &mut Vec<TypeId>,
+    ty: &Type,
+) -> Result<(), AllocError> {
+    for index in 0..usize::MAX {
+        let Some(id) = part_type(ty, index) else {
+            break;
+        };
+        add_type(is_known, list, id)?;
+        // What a list or an explicit tag holds has no name, and is the same for each index.
+        if part_name(ty, index).is_none() {
+            break;
+        }
+    }
+    Ok(())
+}
+
+/// Adds a type, unless it is known.
+fn add_type(
+    is_known: &mut Vec<bool>,
+    list: &mut Vec<TypeId>,
+    id: TypeId,
+) -> Result<(), AllocError> {
+    if let Some(is_known) = is_known.get_mut(id.0) {
+        if !*is_known {
+            *is_known = true;
+            list.push(id)?;
+        }
+    }
+    Ok(())
 }

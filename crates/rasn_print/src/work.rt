@@ -1,32 +1,43 @@
 //! What is done with each message.
+ghost use Rattle.std.specs.Prelude.{◌≡◌, Some, IfOk, IsTrue, slice_get};
+ghost use Rattle.rasn_types.specs.declared.types.codec.Codec.TheVariants.{Der};
+ghost use Rattle.rasn_print.specs.declared.types.MessageType.{MessageType};
+ghost use Rattle.rasn_print.specs.declared.command_line.Work.TheVariants.{Check};
+ghost use Rattle.rasn_print.specs.Verdicts.{IsVerdict, IsDerVerdict, IsRefusal, opens_of};
 
 use crate::command_line::{Call, Work};
+use crate::dump::{End, Entries, deeper_at, entry_of};
+use crate::example::example_of;
 use crate::known::Known;
-use crate::messages::{MESSAGES, type_of_label};
 use crate::offsets::offsets_text;
-use crate::reading::{check, show};
-use crate::refusal_text::text_of;
-use crate::types::{MessageType, NamedType, message_type};
+use crate::reading::{check, read_alone, remainder, show};
+use crate::reason::{ADVICE, Reason, path_of};
+use crate::refusal_text::{extra_from, text_of};
+use crate::types::MessageType;
 use base64::engine::general_purpose::STANDARD;
-use rasn_compiler::{Modules, Stop};
-use rasn_dynamic::{NormaliseError, Refusal, normalise};
-use rasn_json::{ToJsonError, encode, json};
-use rasn_lint::{Departure, LintError, check as check_der, lint};
+use rasn_dynamic::{Refusal, WriteError, decode};
+use rasn_json::{encode, to_json};
+use rasn_lint::{Departure, LintError, OpenTypes, check as check_der, lint};
+use rasn_schema::{Type, Value, part_type, type_at};
 use rasn_text::{Escaping, is_hidden, visible};
-use rasn_types::error::DecodeError;
-use rasn_types::types::{Codec, Hexadecimal};
+use rasn_types::error::DecodeErrorKind;
+use rasn_types::types::{Codec, Hexadecimal, Tag};
 use std::alloc::{AllocError, Global};
 use std::{fmt, str};
 
+/// How many encodings may be in one another in a message of which all departures are listed: each
+/// of those in open types has its path.
+const LINTED: usize = 256;
+
 /// What every message is worked on with.
 #[derive(Clone, Copy)]
-pub struct Tools<'a, 'text> {
+pub struct Context<'a> {
     pub alloc: Global,
     pub call: &'a Call,
-    pub read: &'a Modules<'text>,
     pub known: &'a Known,
-    /// The type that is asked for.
-    pub wanted: Option<&'a MessageType<'text>>,
+    /// The types that messages may be of: the one that the call names, or all that are known, the
+    /// first of which that reads a message is its type.
+    pub types: &'a [MessageType<'a>],
     /// Whether names are in bold.
     pub is_colored: bool,
 }
@@ -47,235 +58,470 @@ pub enum Answer {
     /// These octets.
     Done(Vec<u8>),
     /// A line for each departure from DER, of which there is one at least.
-    Departures(Vec<String>),
+    Departures(Vec<Reason>),
     /// Why it is refused.
-    Refused(String),
+    Refused(Reason),
 }
 
 /// What is printed, unless memory runs out.
 type Answered = Result<Answer, AllocError>;
 
 /// Returns what is printed for a message: of the type that is asked for, or that its label names,
-/// or of the first of the messages of standards that it is.
+/// or of the first of the known types that reads it.
 ///
 /// # Errors
 /// `AllocError` if memory runs out.
-pub fn answer_to(tools: &Tools<'_, '_>, input: &Input<'_>) -> Result<Answer, AllocError> {
-    if let Some(wanted) = tools.wanted {
-        return answer_by(tools, wanted, input);
+pub fn answer_to(context: &Context<'_>, input: &Input<'_>) -> Result<Answer, AllocError> {
+    if let (true, Some(wanted)) = (context.call.type_name.is_some(), context.types.first()) {
+        return answer_by(context, wanted, input);
     }
-    match type_of_label(input.label.unwrap_or("")) {
-        Some(named) => answer_as(tools, named, input),
-        None => answer_by_trial(tools, input),
+    match labelled(context.types, input.label.unwrap_or("")) {
+        Some(wanted) => answer_by(context, wanted, input),
+        None => answer_by_trial(context, input),
     }
 }
 
-/// Returns what is printed for a message of the first type that it is of.
-fn answer_by_trial(tools: &Tools<'_, '_>, input: &Input<'_>) -> Answered {
+/// Returns the first type that has this label.
+fn labelled<'a>(types: &'a [MessageType<'a>], label: &str) -> Option<&'a MessageType<'a>> {
+    for of in types {
+        if of.labels.contains(&label) {
+            return Some(of);
+        }
+    }
+    None
+}
+
+/// Returns what is printed for a message of the first type that reads it, or else why it is refused
+/// as the one by which most of it is read, if that is more than its header.
+fn answer_by_trial(context: &Context<'_>, input: &Input<'_>) -> Answered {
+    let alloc = context.alloc;
     if input.octets.is_empty() {
         return refused_for(
-            tools.alloc,
-            false,
+            alloc,
             &"no octets; --help says in which forms messages are read",
         );
     }
-    let mut tried = Vec::new(tools.alloc);
-    for named in MESSAGES {
-        match answer_as(tools, *named, input)? {
-            Answer::Refused(_) => {}
-            answer => return Ok(answer),
+    let mut most = match entry_of(alloc, input.octets, 0, 0) {
+        Ok(entry) => entry.header_len,
+        Err(_) => input.octets.len(),
+    };
+    let mut closest = None;
+    for wanted in context.types {
+        if !wanted.is_tried {
+            continue;
         }
-        tried.push(named.1)?;
+        match check(alloc, &as_tried(context, wanted), input.octets) {
+            Ok(()) => return answer_as(context, wanted, input),
+            Err(refusal) if refusal.error.is_out_of_memory() => return Err(AllocError),
+            Err(refusal) => {
+                if refusal.offset > most {
+                    most = refusal.offset;
+                    closest = Some(wanted);
+                }
+            }
+        }
     }
-    let tried = tried.as_slice().join(tools.alloc, ", ")?;
-    let advice = "--type TYPE says why not, and reads other types; dump shows any BER";
-    Ok(Answer::Refused(format!(in tools.alloc;
-        "none of the known messages; {advice}; the known ones are {tried}"
-    )?))
+    match closest {
+        Some(wanted) => answer_as(context, wanted, input),
+        None => {
+            let text = format!(in alloc; "none of the known messages; {ADVICE}")?;
+            refused_for(alloc, &text)
+        }
+    }
 }
 
-/// Returns what is printed for a message of this type of the modules.
-fn answer_as(tools: &Tools<'_, '_>, named: NamedType<'static>, input: &Input<'_>) -> Answered {
-    match message_type(tools.alloc, tools.read, named, tools.call.rules) {
-        Ok(found) => answer_by(tools, &found, input),
-        Err(Stop::OutOfMemory) => Err(AllocError),
-        Err(stop) => refused_for(tools.alloc, false, &stop),
+/// Returns a type with the rules by which a message is tried: `lint` reads by BER.
+fn as_tried<'a>(context: &Context<'_>, wanted: &MessageType<'a>) -> MessageType<'a> {
+    let mut tried = *wanted;
+    if context.call.work == Work::Lint {
+        tried.rule = Codec::Ber;
+    }
+    tried
+}
+
+/// Returns what is printed for a message that seems to be of this type.
+fn answer_as(context: &Context<'_>, wanted: &MessageType<'_>, input: &Input<'_>) -> Answered {
+    match answer_by(context, wanted, input)? {
+        Answer::Refused(reason) => {
+            let mut reason = reason;
+            reason.guess = Some(String::from_str(context.alloc, wanted.name)?);
+            Ok(Answer::Refused(reason))
+        }
+        answer => Ok(answer),
     }
 }
 
 /// Returns what is printed for a message of this type.
-fn answer_by(tools: &Tools<'_, '_>, wanted: &MessageType<'_>, input: &Input<'_>) -> Answered {
+fn answer_by(context: &Context<'_>, wanted: &MessageType<'_>, input: &Input<'_>) -> Answered
+    ensures der { context.now.call.now.work ≡ Check → wanted.now.rule ≡ Der → IfOk result (IsDerVerdict (opens_of wanted.now.holds_open context.now.call.now.open_types) wanted.now input.now.octets.now) }
+    ensures other { context.now.call.now.work ≡ Check → (wanted.now.rule ≡ Der → ⊥) → IfOk result (IsVerdict wanted.now input.now.octets.now) }
+{
     let message = Message {
-        alloc: tools.alloc,
-        call: tools.call,
-        known: tools.known,
-        is_colored: tools.is_colored,
+        context,
         wanted,
-        input,
         octets: input.octets,
+        input,
     };
-    message.answer()
+    match context.call.work {
+        Work::Normalise => message.normalised(),
+        Work::Lint => message.linted(),
+        Work::Json => message.json(),
+        Work::Encode => message.encoded(),
+        Work::Example => message.example(),
+        Work::Check if wanted.rule == Codec::Der => message.checked(),
+        Work::Check => message.read(),
+        Work::Show | Work::Types | Work::Dump => message.shown(),
+    }
 }
 
-/// Returns the refusal for this reason, unless that is that memory ran out.
-fn refused_for<T: fmt::Display>(alloc: Global, is_out_of_memory: bool, reason: &T) -> Answered {
-    if is_out_of_memory {
-        return Err(AllocError);
-    }
-    Ok(Answer::Refused(reason.to_string(alloc)?))
+/// Returns the refusal for this reason.
+fn refused_for<T: fmt::Display>(alloc: Global, reason: &T) -> Answered
+    ensures { IfOk result IsRefusal }
+{
+    Ok(Answer::Refused(Reason::of(alloc, reason)?))
 }
 
 /// A message that is worked on, with its type.
 #[derive(Clone, Copy)]
-struct Message<'m, 'text, 'input> {
-    alloc: Global,
-    call: &'m Call,
-    known: &'m Known,
-    is_colored: bool,
-    wanted: &'m MessageType<'text>,
-    input: &'m Input<'input>,
+struct Message<'m, 'input> {
+    context: &'m Context<'m>,
+    wanted: &'m MessageType<'m>,
     octets: &'input [u8],
+    input: &'m Input<'input>,
 }
 
-impl Message<'_, '_, '_> {
-    /// Returns what is printed for it.
-    fn answer(&self) -> Answered {
-        match self.call.work {
-            Work::Normalise => self.normalised(),
-            Work::Lint => self.linted(),
-            Work::Json => self.json(),
-            Work::Encode => self.encoded(),
-            Work::Check if self.wanted.rule == Codec::Der => self.checked(),
-            _ => self.shown(),
-        }
-    }
-
-    /// Returns why it is refused.
-    fn refused(&self, refusal: &Refusal) -> Answered {
-        let shown = refusal.with_names(&self.wanted.schema, self.wanted.root);
-        self.refused_as(&shown, refusal)
-    }
-
-    /// Returns this refusal as it is shown, with the cause in words for a terminal.
-    fn refused_as<T: fmt::Display>(&self, shown: &T, refusal: &Refusal) -> Answered {
+impl Message<'_, '_> {
+    /// Returns why it is refused. Of octets that a value has after its parts the place is that of
+    /// the first of them.
+    fn refused(&self, refusal: Refusal) -> Answered
+        ensures { IfOk result IsRefusal }
+    {
+        let mut refusal = refusal;
         if refusal.error.is_out_of_memory() {
             return Err(AllocError);
         }
-        Ok(Answer::Refused(self.text_with_cause(shown, refusal)?))
+        let alloc = self.context.alloc;
+        let mut entries = Entries::new(alloc, self.octets);
+        let text = self.text_of(&mut entries, &refusal, &None)?;
+        refusal.offset = self.first_of(&refusal);
+        let shown = refusal.with_names(self.wanted.schema, self.wanted.root);
+        Ok(Answer::Refused(Reason {
+            guess: None,
+            path: path_of(alloc, &shown, &refusal)?,
+            byte: Some(refusal.offset),
+            text,
+        }))
     }
 
-    /// Returns the text of what shows a refusal, with the cause in words for a terminal.
-    fn text_with_cause<T: fmt::Display>(
-        &self,
-        shown: &T,
-        refusal: &Refusal,
-    ) -> Result<String, AllocError> {
+    /// Returns where what is refused begins.
+    fn first_of(&self, refusal: &Refusal) -> usize {
         let octets = self.octets.get(refusal.offset..).unwrap_or(&[]);
-        text_of(self.alloc, shown, &refusal.error, octets)
+        if let DecodeErrorKind::UnexpectedExtraData { length } = &refusal.error.kind {
+            if *length < octets.len() {
+                let extra = extra_from(self.context.alloc, octets, *length);
+                return refusal.offset.saturating_add(extra);
+            }
+        }
+        refusal.offset
     }
 
-    /// Returns why it can't be read, with the place, for which it is read again.
-    fn unread(&self, error: &DecodeError) -> Answered {
-        match check(self.alloc, self.wanted, self.octets) {
-            Ok(()) => refused_for(self.alloc, error.is_out_of_memory(), error),
-            Err(refusal) => self.refused(&refusal),
+    /// Returns the text of a refusal, in words for a terminal. The next of the encodings isn't after
+    /// its place.
+    fn text_of(
+        &self,
+        entries: &mut Entries<'_>,
+        refusal: &Refusal,
+        inner: &Option<Vec<usize>>,
+    ) -> Result<String, AllocError> {
+        let offset = refusal.offset;
+        let end = if matches!(refusal.error.kind, DecodeErrorKind::Incomplete { .. }) {
+            entries.end_at(offset, self.levels_of(refusal, inner))?
+        } else {
+            End::Input
+        };
+        text_of(
+            self.context.alloc,
+            &refusal.error,
+            self.octets.get(offset..).unwrap_or(&[]),
+            end,
+        )
+    }
+
+    /// Returns in how many encodings the one is that is refused: inside an open type there are
+    /// these indices on the way to it.
+    fn levels_of(&self, refusal: &Refusal, inner: &Option<Vec<usize>>) -> usize {
+        if refusal.is_cut {
+            return usize::MAX;
+        }
+        let types = self.wanted.schema.types();
+        let mut id = self.wanted.root;
+        let mut levels = 0usize;
+        for step in &refusal.steps {
+            let Some(ty) = type_at(types, id) else {
+                break;
+            };
+            if !matches!(ty, Type::Choice { .. }) {
+                levels = levels.saturating_add(1);
+            }
+            id = part_type(ty, *step).unwrap_or(id);
+        }
+        match (inner, type_at(types, id)) {
+            (Some(indices), Some(Type::Any { tag })) if *tag != Tag::EOC => {
+                levels.saturating_add(indices.len()).saturating_add(1)
+            }
+            (Some(indices), _) => levels.saturating_add(indices.len()),
+            (None, _) => levels,
+        }
+    }
+
+    /// Returns whether open types are looked into: if no part is of one, no parts are listed for that.
+    fn open_types(&self) -> OpenTypes
+        ensures { result ≡ opens_of self.now.wanted.now.holds_open self.now.context.now.call.now.open_types }
+    {
+        if self.wanted.holds_open {
+            self.context.call.open_types
+        } else {
+            OpenTypes::Unexamined
         }
     }
 
     /// Returns nothing for a message of DER, and else what is to be mended first. Inside an open
     /// type the path goes on by indices.
-    fn checked(&self) -> Answered {
-        let (_, schema, root) = self.wanted.parts();
-        match check_der(self.alloc, schema, root, self.octets, self.call.open_types) {
-            Ok(()) => Ok(Answer::Done(Vec::new(self.alloc))),
-            Err(departure) => {
-                let shown = departure.place_with_names(schema, root);
-                self.refused_as(&shown, &departure.refusal)
-            }
+    fn checked(&self) -> Answered
+        ensures { IfOk result (IsDerVerdict (opens_of self.now.wanted.now.holds_open self.now.context.now.call.now.open_types) self.now.wanted.now self.now.octets.now) }
+    {
+        let (alloc, wanted) = (self.context.alloc, self.wanted);
+        match check_der(
+            alloc,
+            wanted.schema,
+            wanted.root,
+            self.octets,
+            self.open_types(),
+        ) {
+            Ok(()) => Ok(Answer::Done(Vec::new(alloc))),
+            Err(departure) if departure.refusal.error.is_out_of_memory() => Err(AllocError),
+            Err(departure) => self.departed(departure),
         }
+    }
+
+    /// Returns nothing for a message, and else why it is refused.
+    fn read(&self) -> Answered
+        ensures { IfOk result (IsVerdict self.now.wanted.now self.now.octets.now) }
+    {
+        let alloc = self.context.alloc;
+        match check(alloc, self.wanted, self.octets) {
+            Ok(()) => Ok(Answer::Done(Vec::new(alloc))),
+            Err(refusal) if refusal.error.is_out_of_memory() => Err(AllocError),
+            Err(refusal) => self.refused(refusal),
+        }
+    }
+
+    /// Returns what is to be mended first in a message that isn't DER, of which this is a
+    /// departure: the first one that `lint` lists, since the reader of DER has the place of the
+    /// enclosing value where what a value holds isn't in its place.
+    fn departed(&self, found: Departure) -> Answered
+        ensures { IfOk result IsRefusal }
+    {
+        if found.inner.is_some() {
+            return self.refused_at(&found);
+        }
+        let (alloc, (_, schema, root)) = (self.context.alloc, self.wanted.parts());
+        match lint(alloc, schema, root, self.octets, OpenTypes::Unexamined) {
+            Ok(list) => match list.first() {
+                Some(first) => self.refused_at(first),
+                None => self.refused_at(&found),
+            },
+            Err(_) => self.refused(found.refusal),
+        }
+    }
+
+    /// Returns that it is refused for a departure.
+    fn refused_at(&self, departure: &Departure) -> Answered
+        ensures { IfOk result IsRefusal }
+    {
+        if departure.refusal.error.is_out_of_memory() {
+            return Err(AllocError);
+        }
+        let mut entries = Entries::new(self.context.alloc, self.octets);
+        Ok(Answer::Refused(self.departure(&mut entries, departure)?))
+    }
+
+    /// Returns a departure, without what departs, as a reason. The next of the encodings isn't after
+    /// its place.
+    fn departure(
+        &self,
+        entries: &mut Entries<'_>,
+        departure: &Departure,
+    ) -> Result<Reason, AllocError> {
+        let (_, schema, root) = self.wanted.parts();
+        let refusal = &departure.refusal;
+        Ok(Reason {
+            guess: None,
+            path: path_of(
+                self.context.alloc,
+                &departure.place_with_names(schema, root),
+                refusal,
+            )?,
+            byte: Some(refusal.offset),
+            text: self.text_of(entries, refusal, &departure.inner)?,
+        })
     }
 
     /// Returns everything of a message of BER that departs from DER: a line for each departure.
     fn linted(&self) -> Answered {
+        let (alloc, octets) = (self.context.alloc, self.octets);
         let (_, schema, root) = self.wanted.parts();
-        match lint(self.alloc, schema, root, self.octets, self.call.open_types) {
-            Ok(list) if list.is_empty() => Ok(Answer::Done(Vec::new(self.alloc))),
-            Ok(list) => self.departures(list.as_slice()),
+        if check_der(alloc, schema, root, octets, self.open_types()).is_ok() {
+            return Ok(Answer::Done(Vec::new(alloc)));
+        }
+        if let Some(offset) = deeper_at(alloc, octets, LINTED)? {
+            let mut reason = Reason::of(alloc, &"")?;
+            reason.byte = Some(offset);
+            reason.text = format!(in alloc; "more than {LINTED} encodings in one another")?;
+            return Ok(Answer::Refused(reason));
+        }
+        match lint(alloc, schema, root, octets, self.context.call.open_types) {
+            Ok(list) if list.is_empty() => Ok(Answer::Done(Vec::new(alloc))),
+            Ok(list) => self.departures(list),
             Err(LintError::OutOfMemory) => Err(AllocError),
-            Err(LintError::Refused(refusal)) => self.refused(&refusal),
-            Err(error) => refused_for(self.alloc, false, &error),
+            Err(LintError::Refused(refusal)) => self.refused(refusal),
+            Err(LintError::Remainder(count)) => {
+                self.refused(remainder(alloc, self.wanted, octets, count))
+            }
         }
     }
 
-    /// Returns a line for each departure.
-    fn departures(&self, list: &[Departure]) -> Answered {
-        let mut lines = Vec::new(self.alloc);
+    /// Returns a line for each departure, with what departs and the section of X.690.
+    fn departures(&self, list: Vec<Departure>) -> Answered {
+        let (alloc, (_, schema, root)) = (self.context.alloc, self.wanted.parts());
+        let mut lines = Vec::new(alloc);
+        let mut entries = Entries::new(alloc, self.octets);
         for departure in list {
-            let shown = departure.with_names(&self.wanted.schema, self.wanted.root);
-            lines.push(self.text_with_cause(&shown, &departure.refusal)?)?;
+            let mut reason = self.departure(&mut entries, &departure)?;
+            let shown = departure.with_names(schema, root);
+            let (place, whole) = (shown.place.to_string(alloc)?, shown.to_string(alloc)?);
+            let rule = whole.as_str().strip_prefix(place.as_str()).unwrap_or("");
+            reason.text.push_str(rule)?;
+            lines.push(reason)?;
         }
         Ok(Answer::Departures(lines))
     }
 
-    /// Returns its text, in colour if that is asked for.
+    /// Returns it as text or the parts of it, in colour if that is asked for.
     fn shown(&self) -> Answered {
-        let text = match self.text() {
-            Ok(text) => printed(self.alloc, Escaping::Lines, text)?,
-            Err(refusal) => return self.refused(&refusal),
+        let (alloc, call) = (self.context.alloc, self.context.call);
+        let shown = if call.has_offsets {
+            offsets_text(alloc, self.wanted, self.octets)
+        } else {
+            show(alloc, self.context.known, self.wanted, self.octets)
         };
-        if self.is_colored {
-            return Ok(Answer::Done(colored(self.alloc, text.as_str())?.into_bytes()));
+        let text = match shown {
+            Ok(text) => printed(alloc, Escaping::Lines, text)?,
+            Err(refusal) => return self.refused(refusal),
+        };
+        if self.context.is_colored {
+            return Ok(Answer::Done(colored(alloc, text.as_str())?.into_bytes()));
         }
         Ok(Answer::Done(text.into_bytes()))
     }
 
-    /// Returns it as text or the parts of it, or no text if it is only checked.
-    fn text(&self) -> Result<String, Refusal> {
-        let call = self.call;
-        if call.work == Work::Show && !call.has_offsets {
-            return show(self.alloc, self.known, self.wanted, self.octets);
-        }
-        check(self.alloc, self.wanted, self.octets)?;
-        if call.work == Work::Show {
-            return offsets_text(self.alloc, self.wanted, self.octets);
-        }
-        Ok(String::new(self.alloc))
-    }
-
     /// Returns it as JSON: in one line if a line holds a message.
     fn json(&self) -> Answered {
-        let (alloc, octets, layout) = (self.alloc, self.octets, self.call.layout());
-        let (rule, schema, root) = self.wanted.parts();
-        match json(alloc, rule, schema, root, octets, layout) {
+        match read_alone(self.context.alloc, self.wanted, self.octets) {
+            Ok(value) => self.json_of(&value),
+            Err(refusal) => self.refused(refusal),
+        }
+    }
+
+    /// Returns a value of its type as JSON.
+    fn json_of(&self, value: &Value<'_>) -> Answered {
+        let (alloc, (_, schema, root)) = (self.context.alloc, self.wanted.parts());
+        match to_json(alloc, schema, root, value, self.context.call.layout()) {
             Ok(text) => {
                 let mut text = printed(alloc, Escaping::Json, text)?;
                 text.push('\n')?;
                 Ok(Answer::Done(text.into_bytes()))
             }
-            Err(ToJsonError::Decode(error)) => self.unread(&error),
-            Err(ToJsonError::Json(error)) => refused_for(alloc, error.is_out_of_memory(), &error),
+            Err(error) if error.is_out_of_memory() => Err(AllocError),
+            Err(error) => refused_for(alloc, &error),
+        }
+    }
+
+    /// Returns a value of its type as JSON that `encode` encodes.
+    fn example(&self) -> Answered {
+        let (alloc, (_, schema, root)) = (self.context.alloc, self.wanted.parts());
+        match example_of(alloc, schema, root)? {
+            Some(value) => self.json_of(&value),
+            None => refused_for(
+                alloc,
+                &"no value of the type is small enough for an example",
+            ),
         }
     }
 
     /// Returns the octets of the message whose JSON is read.
     fn encoded(&self) -> Answered {
-        let (alloc, wanted) = (self.alloc, self.wanted);
+        let (alloc, (rule, schema, root)) = (self.context.alloc, self.wanted.parts());
         let Ok(text) = str::from_utf8(self.octets) else {
-            return refused_for(alloc, false, &"not UTF-8");
+            return refused_for(alloc, &"not UTF-8");
         };
-        match encode(alloc, wanted.rule, &wanted.schema, wanted.root, text) {
+        match encode(alloc, rule, schema, root, text) {
             Ok(octets) => in_form(alloc, self.input, octets),
-            Err(error) => refused_for(alloc, error.is_out_of_memory(), &error),
+            Err(error) if error.is_out_of_memory() => Err(AllocError),
+            Err(error) => refused_for(alloc, &error),
         }
     }
 
-    /// Returns its DER octets.
+    /// Returns its DER octets, if DER reads these as the same value.
     fn normalised(&self) -> Answered {
-        let (alloc, wanted) = (self.alloc, self.wanted);
-        match normalise(alloc, wanted.rule, &wanted.schema, wanted.root, self.octets) {
-            Ok(octets) => in_form(alloc, self.input, octets),
-            Err(NormaliseError::Decode(error)) => self.unread(&error),
-            Err(error) => refused_for(alloc, error.is_out_of_memory(), &error),
+        match read_alone(self.context.alloc, self.wanted, self.octets) {
+            Ok(value) => self.normal_of(&value),
+            Err(refusal) => self.refused(refusal),
+        }
+    }
+
+    /// Returns the DER octets of a value of its type, if DER reads these as the same value.
+    fn normal_of(&self, value: &Value<'_>) -> Answered {
+        let (alloc, (_, schema, root)) = (self.context.alloc, self.wanted.parts());
+        match rasn_dynamic::encode(alloc, Codec::Der, schema, root, value) {
+            Ok(octets) => {
+                if is_read_back(alloc, self.wanted, value, &octets)? {
+                    return in_form(alloc, self.input, octets);
+                }
+                refused_for(alloc, &"the value isn't read back from its DER octets")
+            }
+            Err(error) => {
+                if is_out_of_memory(&error) {
+                    return Err(AllocError);
+                }
+                refused_for(alloc, &error)
+            }
+        }
+    }
+}
+
+/// Returns whether memory ran out.
+fn is_out_of_memory(error: &WriteError) -> bool {
+    match error {
+        WriteError::Encode(error) => error.is_out_of_memory(),
+        WriteError::Unfit { .. } => false,
+    }
+}
+
+/// Returns whether DER reads the octets, alone, as this value of the type.
+fn is_read_back(
+    alloc: Global,
+    wanted: &MessageType<'_>,
+    value: &Value<'_>,
+    octets: &[u8],
+) -> Result<bool, AllocError> {
+    match decode(alloc, Codec::Der, wanted.schema, wanted.root, octets) {
+        Ok(again) => Ok(again.means_same(value)),
+        Err(error) => {
+            if error.is_out_of_memory() {
+                return Err(AllocError);
+            }
+            Ok(false)
         }
     }
 }

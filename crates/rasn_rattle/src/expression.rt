@@ -129,77 +129,43 @@ pub(crate) fn word(ty: &Type) -> &'static str {
             constraints,
             ..
         } => integer_word(constraints).0,
-        Type::Leaf { kind, tag, .. } => leaf_word(*kind, *tag),
+        Type::Leaf {
+            kind: LeafKind::AnyOctets,
+            tag,
+            ..
+        } => octets_word(*tag),
+        Type::Leaf { kind, .. } => kind.names().rattle,
         Type::SequenceOf { .. } => "Vec<",
         Type::SetOf { .. } => "SetOf<",
         Type::Unknown => "Unknown",
-        _ => "Any",
+        Type::Enumerated { .. }
+        | Type::Any { .. }
+        | Type::Tagged { .. }
+        | Type::Choice { .. }
+        | Type::Sequence { .. }
+        | Type::Set { .. } => "Any",
     }
 }
 
-/// Returns the number of the universal tag that a type's word has (X.680 8.4).
+/// Returns the number of the universal tag that a type's word has (X.680 8.4). A string of any
+/// octets has that of its own.
 fn universal_number(ty: &Type) -> Option<u32> {
     match ty {
-        Type::Leaf { kind, tag, .. } => Some(number_of(*kind, *tag)),
+        Type::Leaf {
+            kind: LeafKind::AnyOctets,
+            tag,
+            ..
+        } if tag.class == Class::Universal => Some(tag.value),
+        Type::Leaf { kind, .. } => Some(kind.names().number),
         Type::SequenceOf { .. } => Some(16),
         Type::SetOf { .. } => Some(17),
-        _ => None,
-    }
-}
-
-/// Returns the number of the universal tag of a kind (X.680 8.4). A string of any octets has that
-/// of its own.
-fn number_of(kind: LeafKind, tag: Tag) -> u32 {
-    match kind {
-        LeafKind::Boolean => 1,
-        LeafKind::BitString | LeafKind::NamedBits => 3,
-        LeafKind::OctetString | LeafKind::FixedOctetString(_) => 4,
-        LeafKind::Null => 5,
-        LeafKind::ObjectIdentifier => 6,
-        LeafKind::Utf8 => 12,
-        LeafKind::Numeric => 18,
-        LeafKind::Printable => 19,
-        LeafKind::Ia5 => 22,
-        LeafKind::UtcTime => 23,
-        LeafKind::GeneralizedTime => 24,
-        LeafKind::Visible => 26,
-        LeafKind::AnyOctets if tag.class == Class::Universal => tag.value,
-        LeafKind::AnyOctets => 27,
-        LeafKind::Bmp => 30,
-        LeafKind::Date => 31,
-        LeafKind::Integer
-        | LeafKind::Signed32
-        | LeafKind::Signed64
-        | LeafKind::Unsigned32
-        | LeafKind::Unsigned64 => 2,
-    }
-}
-
-/// Returns the word of a type whose values hold no others.
-fn leaf_word(kind: LeafKind, tag: Tag) -> &'static str {
-    match kind {
-        LeafKind::Boolean => "bool",
-        LeafKind::Null => "()",
-        LeafKind::ObjectIdentifier => "ObjectIdentifier",
-        LeafKind::BitString => "BitString",
-        LeafKind::NamedBits => "NamedBits",
-        LeafKind::OctetString => "OctetString",
-        LeafKind::FixedOctetString(_) => "FixedOctetString",
-        LeafKind::Integer => "Integer",
-        LeafKind::Signed32 => "i32",
-        LeafKind::Signed64 => "i64",
-        LeafKind::Unsigned32 => "u32",
-        LeafKind::Unsigned64 => "u64",
-        LeafKind::Numeric => "NumericString",
-        LeafKind::Printable => "PrintableString",
-        LeafKind::Visible => "VisibleString",
-        LeafKind::Ia5 => "Ia5String",
-        LeafKind::AnyOctets => octets_word(tag),
-        LeafKind::Bmp => "BmpString",
-        LeafKind::Utf8 => "Utf8String",
-        LeafKind::UtcTime => "UtcTime",
-        LeafKind::GeneralizedTime => "GeneralizedTime",
-        LeafKind::Date => "Date",
+        Type::Enumerated { .. }
+        | Type::Any { .. }
+        | Type::Tagged { .. }
+        | Type::Choice { .. }
+        | Type::Sequence { .. }
+        | Type::Set { .. }
+        | Type::Unknown => None,
     }
 }
 

@@ -11,7 +11,7 @@ use crate::output::File;
 use crate::plan::{Naming, Plan};
 use crate::tags::tag_type;
 use crate::template::push_times;
-use rasn_compiler::Resolved;
+use rasn_compiler::notation_of;
 use rasn_schema::{Schema, Type, TypeId, TypeName};
 use rasn_types::types::Tag;
 use std::alloc::{AllocError, Global};
@@ -20,37 +20,29 @@ use std::collections::BTreeMap;
 /// The type of a list of any components.
 pub(crate) const OPEN_LIST: &str = "Vec<Any>";
 
-/// Returns the files of a crate: a file for each wanted type among those that the resolved type
-/// holds, and for what it is made of, and at last `lib`, which lists the others.
+/// Returns the files of a crate: a file for each wanted type among these, and for what it is made of,
+/// and at last `lib`, which lists the others.
 /// A type that can't be written is an open type, and a comment in its file says why.
 ///
 /// # Errors
 /// `AllocError` if memory runs out.
-pub fn crate_files(
-    options: &Options,
-    resolved: Resolved,
-    held: &Held,
-) -> Result<Vec<File>, AllocError>
+pub fn crate_files(options: &Options, held: Held) -> Result<Vec<File>, AllocError>
     ensures { IfOk result (λ files. EndsWithLib files.items) }
 {
     let alloc = options.alloc;
-    let Resolved {
+    let Held {
         schema,
-        root,
-        unchecked,
-    } = resolved;
-    let names = notation_names(options, &schema, root)?;
-    let resolved = Resolved {
-        schema: schema.with_names(names),
-        root,
-        unchecked,
-    };
-    let module = format!(in alloc; "{}", resolved.notation(alloc)?)?;
+        wanted,
+        foreign,
+    } = held;
+    let names = notation_names(options, &schema)?;
+    let schema = schema.with_names(names);
+    let module = format!(in alloc; "{}", notation_of(alloc, &schema)?)?;
     let none = Type::Unknown;
-    let mut plan = Plan::new(options, &resolved.schema, root, &none)?;
+    let mut plan = Plan::new(options, &schema, &none)?;
     plan.module = module;
-    plan.foreign = plan.foreign_by(held)?;
-    plan.reached = plan.reached_by(held.wanted)?;
+    plan.foreign = plan.foreign_by(foreign.as_slice())?;
+    plan.reached = plan.reached_by(wanted.as_slice())?;
     plan.find_timed()?;
     plan.find_lines()?;
     plan.show_unnamed()?;
@@ -59,14 +51,10 @@ pub fn crate_files(
 }
 
 /// Returns names for all types that a file is written for.
-fn notation_names(
-    options: &Options,
-    schema: &Schema,
-    root: TypeId,
-) -> Result<Vec<TypeName>, AllocError> {
+fn notation_names(options: &Options, schema: &Schema) -> Result<Vec<TypeName>, AllocError> {
     let none = Type::Unknown;
     let alloc = options.alloc;
-    let plan = Plan::new(options, schema, root, &none)?;
+    let plan = Plan::new(options, schema, &none)?;
     let mut names = Vec::new(alloc);
     for (id, naming) in plan.names.iter() {
         names.push(TypeName {

@@ -35,6 +35,6 @@ mod twins;
 mod words;
 
 pub use files::crate_files;
-pub use held_types::{HOLDER_NAMES, Held, Holder, holder_of};
+pub use held_types::{Held, types_held};
 pub use options::{Options, is_crate_name};
 pub use output::{Answers, File};

@@ -51,8 +51,6 @@ pub(crate) struct Plan<'schema> {
     pub(crate) foreign: BTreeMap<usize, String>,
     /// What has no type.
     none: &'schema Type,
-    /// The type that holds all others, for which no file is written.
-    pub(crate) root: usize,
     /// The names that are taken, in small letters.
     used: BTreeSet<String>,
 }
@@ -62,7 +60,6 @@ impl<'schema> Plan<'schema> {
     pub(crate) fn new(
         options: &'schema Options,
         schema: &'schema Schema,
-        root: TypeId,
         none: &'schema Type,
     ) -> Result<Plan<'schema>, AllocError> {
         let alloc = options.alloc;
@@ -79,7 +76,6 @@ impl<'schema> Plan<'schema> {
             timed: BTreeSet::new(alloc),
             foreign: BTreeMap::new(alloc),
             none,
-            root: root.0,
             used: BTreeSet::new(alloc),
         };
         plan.reserve_also()?;
@@ -147,7 +143,7 @@ impl<'schema> Plan<'schema> {
     /// Finds the types that are named ones under other tags.
     fn add_twins(&mut self) -> Result<(), AllocError> {
         for (id, ty) in self.schema.types().iter().enumerate() {
-            if id != self.root && has_file(ty) && !self.is_opened(id) {
+            if has_file(ty) && !self.is_opened(id) {
                 if let Some(twin) = self.twin_of(ty) {
                     self.add_twin(id, twin)?;
                 }
@@ -200,7 +196,7 @@ impl<'schema> Plan<'schema> {
         only
     }
 
-    /// Names the parts of types that have a name, from the root on.
+    /// Names the parts of types that have a name, from the highest number on.
     fn add_parts(&mut self) -> Result<(), AllocError> {
         let count = self.schema.types().len();
         for id in (0..count).rev() {
@@ -261,7 +257,7 @@ impl<'schema> Plan<'schema> {
 
     /// Adds a name for the type with this number, if it has none, with a number if it is taken.
     fn add(&mut self, id: usize, name: &str) -> Result<(), AllocError> {
-        if self.names.contains_key(&id) || id == self.root {
+        if self.names.contains_key(&id) {
             return Ok(());
         }
         let mut notation = String::from_str(self.alloc, name)?;

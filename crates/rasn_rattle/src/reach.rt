@@ -1,9 +1,7 @@
 //! Which types a type leads to.
 use crate::files::OPEN_LIST;
-use crate::held_types::Held;
-use crate::members::inner_of;
 use crate::plan::Plan;
-use rasn_schema::components_of;
+use rasn_schema::TypeId;
 use std::alloc::AllocError;
 use std::collections::{BTreeMap, BTreeSet};
 
@@ -36,29 +34,17 @@ impl Plan<'_> {
         Ok(walk.reached.contains(&to))
     }
 
-    /// Returns the types that the first components of the root are made of, as many as `wanted`, or
-    /// those of them that the options name.
-    pub(crate) fn reached_by(&self, wanted: usize) -> Result<BTreeSet<usize>, AllocError> {
+    /// Returns the types that these are made of, or those of them that the options name.
+    pub(crate) fn reached_by(&self, wanted: &[TypeId]) -> Result<BTreeSet<usize>, AllocError> {
         let mut walk = self.new_walk();
-        for number in 0..wanted {
-            let id = self.held_type(number);
-            if self.is_wanted(id) {
-                self.visit(&mut walk, id)?;
+        for id in wanted {
+            if self.is_wanted(id.0) {
+                self.visit(&mut walk, id.0)?;
             }
         }
         self.visit_parts(&mut walk)?;
         let Walk { reached, .. } = walk;
         Ok(reached)
-    }
-
-    /// Returns the type that a component of the root holds.
-    fn held_type(&self, number: usize) -> usize {
-        let components = components_of(self.type_of(self.root));
-        let Some(component) = components.get(number) else {
-            return self.root;
-        };
-        let id = component.type_id;
-        inner_of(self.type_of(id.0)).unwrap_or(id).0
     }
 
     /// Returns whether a file is wanted for a type.
@@ -70,11 +56,14 @@ impl Plan<'_> {
     }
 
     /// Returns the types that other crates have, with the names of these.
-    pub(crate) fn foreign_by(&self, held: &Held) -> Result<BTreeMap<usize, String>, AllocError> {
+    pub(crate) fn foreign_by(
+        &self,
+        held: &[(TypeId, String)],
+    ) -> Result<BTreeMap<usize, String>, AllocError> {
         let mut foreign = BTreeMap::new(self.alloc);
-        for (number, crate_name) in &held.foreign {
+        for (id, crate_name) in held {
             let mut walk = self.new_walk();
-            self.visit(&mut walk, self.held_type(*number))?;
+            self.visit(&mut walk, id.0)?;
             self.visit_parts(&mut walk)?;
             for id in walk.reached.iter() {
                 let name = String::from_str(self.alloc, crate_name.as_str())?;

@@ -4,7 +4,7 @@
 #![tactic(auto)]
 
 use rasn_compiler::{Modules, Source};
-use rasn_rattle::{File, HOLDER_NAMES, Holder, Options, crate_files, holder_of};
+use rasn_rattle::{File, Options, crate_files, types_held};
 use std::alloc::{AllocError, Global};
 use std::io;
 
@@ -115,32 +115,9 @@ fn print_crate(rt: &HostRuntime, asked: &Asked<'_>) -> io::Result<()> {
     if let Some(ty) = asked.options.unknown_in(&read) {
         println!(rt; "no type {ty} is known")?;
     }
-    let holder = holder_of(&asked.options, &read, wanted)?;
-    print_held(rt, asked, &holder)
-}
-
-/// Prints the files of a crate of the types that a module holds.
-fn print_held(rt: &HostRuntime, asked: &Asked<'_>, holder: &Holder) -> io::Result<()> {
-    let alloc = rt.alloc();
-    let (module, held) = HOLDER_NAMES;
-    let mut sources = Vec::new(alloc);
-    for source in &asked.sources {
-        sources.push(Source {
-            name: source.name,
-            text: source.text,
-        })?;
-    }
-    sources.push(Source {
-        name: module,
-        text: holder.text.as_str(),
-    })?;
-    let read = Modules::parse(alloc, sources.as_slice())?;
-    match read.schema(alloc, module, held) {
-        Ok(resolved) => {
-            let files = crate_files(&asked.options, resolved, &holder.held)?;
-            print_files(rt, asked.name, &files)
-        }
-        Err(stop) => println!(rt; "{stop}"),
+    match types_held(&asked.options, &read, wanted)? {
+        Ok(held) => print_files(rt, asked.name, &crate_files(&asked.options, held)?),
+        Err(found) => println!(rt; "{}", found.fault),
     }
 }
 

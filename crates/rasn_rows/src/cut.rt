@@ -72,13 +72,18 @@ fn is_cut<T: Decode>(alloc: Global, octets: &[u8], rules: Codec) -> bool {
     let mut decoder = Decoder::new(alloc, octets, DecoderOptions::of(rules));
     match T::decode(&mut decoder) {
         Ok(_) => false,
-        Err(error) => matches!(
-            &error.kind,
-            DecodeErrorKind::Incomplete { .. }
-                | DecodeErrorKind::MissingField { .. }
-                | DecodeErrorKind::CodecSpecific {
-                    inner: CodecDecodeError::Ber(BerDecodeErrorKind::UnexpectedEndOfContents),
-                }
-        ),
+        Err(error) => is_of_cut(&error.kind),
     }
+}
+
+/// Returns whether the error is one of a truncated value.
+fn is_of_cut(kind: &DecodeErrorKind) -> bool {
+    matches!(
+        kind,
+        DecodeErrorKind::Incomplete { .. }
+            | DecodeErrorKind::MissingField { .. }
+            | DecodeErrorKind::CodecSpecific {
+                inner: CodecDecodeError::Ber(BerDecodeErrorKind::UnexpectedEndOfContents),
+            }
+    )
 }

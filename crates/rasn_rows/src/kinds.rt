@@ -1,18 +1,25 @@
 //! The types that a row may name. Each function handles some, and calls the next for the others.
 
+use crate::calls::{call, check, written_real};
 use crate::cut::{cut, open};
+use crate::entry::{all, begin, canonical, front, held, inside, normal, whole};
 use crate::lists::SixtyFour;
-use crate::reading::{begun, counted, decoded, decoder_of, read, read_within, tell_within, told};
+use crate::reading::{counted, decoder_of, read, read_within, tell_within};
 use crate::row::{Row, Verb};
-use crate::types::{Amended, Counted, Eight, Graded, Levelled, Padding, Profile, Renewed, Reply};
-use crate::writing::{write, write_value};
+use crate::sorted::sorted;
+use crate::texts::{parse, text};
+use crate::types::{
+    Amended, Counted, Eight, Graded, Lamp, Levelled, Padding, Profile, Renewed, Reply,
+};
+use crate::values::{copied, number, ordered, same, shown};
+use crate::writing::{write, write_value, write_within, written};
 use rasn::de::Decode;
 use rasn::enc::Encode;
 use rasn::types::{
     Any, BitString, BmpString, Bound, Bounded, Constraints, ContextTag, Date, Explicit, Extensible,
     FixedOctetString, GeneralString, GeneralizedTime, GraphicString, Ia5String, Implicit, Integer,
-    NamedBits, NumericString, ObjectIdentifier, OctetString, PrintableString, SetOf, TeletexString,
-    UtcTime, Utf8String, VisibleString,
+    LawfulEq, NamedBits, NumericString, ObjectIdentifier, OctetString, PrintableString, SetOf,
+    TeletexString, UtcTime, Utf8String, VisibleString,
 };
 use rasn_bench::{
     AlgorithmIdentifier, AttributeTypeAndValue, Both, Colour, Event, Grouped, NamedFlag, Pair,
@@ -35,29 +42,18 @@ fn one<T: Decode + Debug>(alloc: Global, row: &Row<'_>) -> Result<String, AllocE
         Verb::Read => read::<T>(alloc, row),
         Verb::Whole => whole::<T>(alloc, row),
         Verb::Begin => begin::<T>(alloc, row),
+        Verb::All => all::<T>(alloc, row),
+        Verb::Front => front::<T>(alloc, row),
         Verb::Tell => tell_within::<T>(alloc, row, &T::CONSTRAINTS),
         Verb::Cut => cut::<T>(alloc, row, &T::CONSTRAINTS),
         Verb::Open => open::<T>(alloc, row),
-        Verb::Write(_) => unknown(alloc),
+        Verb::Inside => inside::<T>(alloc, row),
+        _ => unknown(alloc),
     }
 }
 
-/// Returns the result of `decode`, the entry point of the rules, which refuses further octets only
-/// under DER.
-fn whole<T: Decode + Debug>(alloc: Global, row: &Row<'_>) -> Result<String, AllocError> {
-    let answer = decoded::<T>(alloc, row.rules, &row.octets);
-    told(alloc, &answer)
-}
-
-/// Returns the result of `decode_with_remainder`, the entry point of the rules that returns further
-/// octets.
-fn begin<T: Decode + Debug>(alloc: Global, row: &Row<'_>) -> Result<String, AllocError> {
-    let answer = begun::<T>(alloc, row.rules, &row.octets);
-    told(alloc, &answer)
-}
-
 /// Returns the result of a row whose type has constraints.
-fn bound<T: Decode + Debug>(
+fn bound<T: Decode + Encode + Debug>(
     alloc: Global,
     row: &Row<'_>,
     constraints: &Constraints,
@@ -66,6 +62,7 @@ fn bound<T: Decode + Debug>(
         Verb::Read => read_within::<T>(alloc, row, constraints),
         Verb::Tell => tell_within::<T>(alloc, row, constraints),
         Verb::Cut => cut::<T>(alloc, row, constraints),
+        Verb::Write(rules) => write_within::<T>(alloc, row, rules, constraints),
         _ => unknown(alloc),
     }
 }
@@ -77,16 +74,143 @@ fn unknown(alloc: Global) -> Result<String, AllocError> {
     )
 }
 
+/// Returns the text, if there is one, and otherwise that the row is of no known type.
+fn or_unknown(alloc: Global, text: Option<String>) -> Result<String, AllocError> {
+    match text {
+        Some(text) => Ok(text),
+        None => unknown(alloc),
+    }
+}
+
 /// Returns the result of a row.
 pub fn answer_to(alloc: Global, row: &Row<'_>) -> Result<String, AllocError> {
+    match row.verb {
+        Verb::Normal | Verb::Canonical | Verb::Held => of_lawful(alloc, row),
+        Verb::Show => of_shown(alloc, row),
+        Verb::Copy => of_copied(alloc, row),
+        Verb::Order => of_ordered(alloc, row),
+        Verb::Same => of_same(alloc, row),
+        Verb::Check => or_unknown(alloc, check(alloc, row)?),
+        Verb::Parse => or_unknown(alloc, parse(alloc, row)?),
+        Verb::Text => or_unknown(alloc, text(alloc, row)?),
+        _ => of_number(alloc, row),
+    }
+}
+
+/// Returns the DER octets of a value, or what an open type holds.
+fn lawful<T: Decode + Encode + LawfulEq>(
+    alloc: Global,
+    row: &Row<'_>,
+) -> Result<String, AllocError> {
+    match row.verb {
+        Verb::Normal => normal::<T>(alloc, row),
+        Verb::Canonical => canonical::<T>(alloc, row),
+        Verb::Held => held::<T>(alloc, row),
+        _ => unknown(alloc),
+    }
+}
+
+/// Returns the result of a row of a lawful type.
+fn of_lawful(alloc: Global, row: &Row<'_>) -> Result<String, AllocError> {
     match row.name {
-        "bool" => both::<bool>(alloc, row),
+        "bool" => lawful::<bool>(alloc, row),
+        "i64" => lawful::<i64>(alloc, row),
+        "null" => lawful::<()>(alloc, row),
+        "utctime" => lawful::<UtcTime>(alloc, row),
+        "foo" => lawful::<NamedFlag>(alloc, row),
+        "setof(octets)" => lawful::<SetOf<OctetString>>(alloc, row),
+        _ => unknown(alloc),
+    }
+}
+
+/// Returns the text of a value.
+fn of_shown(alloc: Global, row: &Row<'_>) -> Result<String, AllocError> {
+    match row.name {
+        "integer" => shown::<Integer>(alloc, row),
+        "oid" => shown::<ObjectIdentifier>(alloc, row),
+        "bits" => shown::<BitString>(alloc, row),
+        "octets" => shown::<OctetString>(alloc, row),
+        "any" => shown::<Any>(alloc, row),
+        "visible" => shown::<VisibleString>(alloc, row),
+        "utctime" => shown::<UtcTime>(alloc, row),
+        "gentime" => shown::<GeneralizedTime>(alloc, row),
+        "date" => shown::<Date>(alloc, row),
+        _ => unknown(alloc),
+    }
+}
+
+/// Returns a copy of a value.
+fn of_copied(alloc: Global, row: &Row<'_>) -> Result<String, AllocError> {
+    match row.name {
+        "u8" => copied::<u8>(alloc, row),
+        "integer" => copied::<Integer>(alloc, row),
+        "oid" => copied::<ObjectIdentifier>(alloc, row),
+        "bits" => copied::<BitString>(alloc, row),
+        "octet1" => copied::<FixedOctetString<1>>(alloc, row),
+        "utf8" => copied::<Utf8String>(alloc, row),
+        "ia5" => copied::<Ia5String>(alloc, row),
+        "bmp" => copied::<BmpString>(alloc, row),
+        "any" => copied::<Any>(alloc, row),
+        "implicit0(option(octets))" => {
+            copied::<Implicit<ContextTag<0>, Option<OctetString>>>(alloc, row)
+        }
+        "explicit0(setof(list(i64)))" => {
+            copied::<Explicit<ContextTag<0>, SetOf<Vec<i64>>>>(alloc, row)
+        }
+        _ => unknown(alloc),
+    }
+}
+
+/// Returns how values compare.
+fn of_ordered(alloc: Global, row: &Row<'_>) -> Result<String, AllocError> {
+    match row.name {
+        "integer" => ordered::<Integer>(alloc, row),
+        "oid" => ordered::<ObjectIdentifier>(alloc, row),
+        "octets" => ordered::<OctetString>(alloc, row),
+        "any" => ordered::<Any>(alloc, row),
+        "printable" => ordered::<PrintableString>(alloc, row),
+        "bmp" => ordered::<BmpString>(alloc, row),
+        "gentime" => ordered::<GeneralizedTime>(alloc, row),
+        _ => unknown(alloc),
+    }
+}
+
+/// Returns whether two values are equal.
+fn of_same(alloc: Global, row: &Row<'_>) -> Result<String, AllocError> {
+    match row.name {
+        "bits" => same::<BitString>(alloc, row),
+        "any" => same::<Any>(alloc, row),
+        "bmp" => same::<BmpString>(alloc, row),
+        "gentime" => same::<GeneralizedTime>(alloc, row),
+        "setof(u8)" => same::<SetOf<u8>>(alloc, row),
+        "setof(octets)" => same::<SetOf<OctetString>>(alloc, row),
+        _ => unknown(alloc),
+    }
+}
+
+/// Returns the result of a row of a number.
+fn of_number(alloc: Global, row: &Row<'_>) -> Result<String, AllocError> {
+    match row.name {
         "i8" => both::<i8>(alloc, row),
+        "i16" => both::<i16>(alloc, row),
         "i32" => both::<i32>(alloc, row),
         "i64" => both::<i64>(alloc, row),
+        "i128" => both::<i128>(alloc, row),
         "u8" => both::<u8>(alloc, row),
         "u32" => both::<u32>(alloc, row),
+        "u64" => both::<u64>(alloc, row),
+        "u128" => both::<u128>(alloc, row),
+        "usize" => both::<usize>(alloc, row),
         "integer" => both::<Integer>(alloc, row),
+        "number" => number(alloc, row),
+        _ => of_leaf(alloc, row),
+    }
+}
+
+/// Returns the result of a row of another type without parts.
+fn of_leaf(alloc: Global, row: &Row<'_>) -> Result<String, AllocError> {
+    match row.name {
+        "bool" => both::<bool>(alloc, row),
         "null" => both::<()>(alloc, row),
         "oid" => both::<ObjectIdentifier>(alloc, row),
         _ => of_string(alloc, row),
@@ -142,6 +266,7 @@ fn of_list(alloc: Global, row: &Row<'_>) -> Result<String, AllocError> {
     match row.name {
         "option(bool)" => both::<Option<bool>>(alloc, row),
         "option(i32)" => both::<Option<i32>>(alloc, row),
+        "implicit0(null)" => both::<Implicit<ContextTag<0>, ()>>(alloc, row),
         "implicit0(u8)" => both::<Implicit<ContextTag<0>, u8>>(alloc, row),
         "explicit0(u8)" => both::<Explicit<ContextTag<0>, u8>>(alloc, row),
         "list(u8)" => both::<Vec<u8>>(alloc, row),
@@ -173,6 +298,7 @@ fn of_components(alloc: Global, row: &Row<'_>) -> Result<String, AllocError> {
     match row.name {
         "pair" => both::<Pair>(alloc, row),
         "foo" => both::<NamedFlag>(alloc, row),
+        "both(bool,bool)" => both::<Both<bool, bool>>(alloc, row),
         "both(bool,both(bool,u8))" => both::<Both<bool, Both<bool, u8>>>(alloc, row),
         "both(bool,both(bool,bool))" => both::<Both<bool, Both<bool, bool>>>(alloc, row),
         "grouped" => both::<Grouped>(alloc, row),
@@ -194,6 +320,7 @@ fn of_names(alloc: Global, row: &Row<'_>) -> Result<String, AllocError> {
         "padding" => both::<Padding>(alloc, row),
         "counted" => both::<Counted>(alloc, row),
         "graded" => both::<Graded>(alloc, row),
+        "lamp" => both::<Lamp>(alloc, row),
         "levelled" => both::<Levelled>(alloc, row),
         "renewed" => both::<Renewed>(alloc, row),
         "amended" => both::<Amended>(alloc, row),
@@ -203,7 +330,7 @@ fn of_names(alloc: Global, row: &Row<'_>) -> Result<String, AllocError> {
 }
 
 /// Returns the constraint that a value has this size.
-const fn sized(size: usize) -> Constraints {
+pub const fn sized(size: usize) -> Constraints {
     let constraint = Bounded::Single(size);
     Constraints {
         value: None,
@@ -215,7 +342,7 @@ const fn sized(size: usize) -> Constraints {
 }
 
 /// Returns the constraint that a number is in this range.
-const fn within(start: i128, end: i128) -> Constraints {
+pub const fn within(start: i128, end: i128) -> Constraints {
     let constraint = Bounded::Range {
         start: Some(start),
         end: Some(end),
@@ -235,6 +362,7 @@ fn of_bounds(alloc: Global, row: &Row<'_>) -> Result<String, AllocError> {
         "size1(ia5)" => bound::<Ia5String>(alloc, row, &sized(1)),
         "size1(bmp)" => bound::<BmpString>(alloc, row, &sized(1)),
         "size1(setof(octets))" => bound::<SetOf<OctetString>>(alloc, row, &sized(1)),
+        "size2(list(u8))" => bound::<Vec<u8>>(alloc, row, &sized(2)),
         "size2(octets)" => bound::<OctetString>(alloc, row, &sized(2)),
         "size2(utf8)" => bound::<Utf8String>(alloc, row, &sized(2)),
         "size4(bits)" => bound::<BitString>(alloc, row, &sized(4)),
@@ -253,7 +381,9 @@ fn of_value(alloc: Global, row: &Row<'_>) -> Result<String, AllocError> {
         "tag" => peek(alloc, row),
         "skip" => skip(alloc, row),
         "unmarked" => write_unmarked(alloc, row),
-        _ => unknown(alloc),
+        "real" => write_real(alloc, row),
+        "sorted" | "sorted(option)" => or_unknown(alloc, sorted(alloc, row)?),
+        _ => or_unknown(alloc, call(alloc, row)?),
     }
 }
 
@@ -279,6 +409,14 @@ fn write_unmarked(alloc: Global, row: &Row<'_>) -> Result<String, AllocError> {
     };
     match row.verb {
         Verb::Write(rules) => write_value(alloc, rules, &unmarked),
+        _ => unknown(alloc),
+    }
+}
+
+/// Returns the refusal of a REAL, which isn't supported.
+fn write_real(alloc: Global, row: &Row<'_>) -> Result<String, AllocError> {
+    match row.verb {
+        Verb::Write(rules) => written(alloc, &written_real(alloc, rules)),
         _ => unknown(alloc),
     }
 }

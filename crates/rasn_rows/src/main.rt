@@ -1,13 +1,18 @@
 //! Reads and writes the values of the rows of standard input, and prints each row with its result.
 #![tactic(auto)]
 
+mod calls;
 mod cut;
+mod entry;
 mod kinds;
 mod lists;
 mod octets;
 mod reading;
 mod row;
+mod sorted;
+mod texts;
 mod types;
+mod values;
 mod writing;
 
 use crate::kinds::answer_to;

@@ -4,8 +4,7 @@ use crate::row::Row;
 use rasn::ber::de::{Decoder, DecoderOptions};
 use rasn::de::Decode;
 use rasn::error::DecodeError;
-use rasn::types::{Codec, Constraints};
-use rasn::{ber, cer, der};
+use rasn::types::Constraints;
 use std::alloc::{AllocError, Global};
 use std::fmt::Debug;
 
@@ -62,29 +61,5 @@ pub fn tell_within<T: Decode>(
     match T::decode_with_constraints(&mut decoder_of(alloc, row), constraints) {
         Ok(_) => String::from_str(alloc, "= a value"),
         Err(error) => format!(in alloc; "! {error}"),
-    }
-}
-
-/// Decodes the value that the octets begin with, by the entry point `decode` of these rules. Only
-/// that of DER refuses further octets.
-pub fn decoded<T: Decode>(alloc: Global, rules: Codec, octets: &[u8]) -> Result<T, DecodeError> {
-    match rules {
-        Codec::Ber => ber::decode(alloc, octets),
-        Codec::Cer => cer::decode(alloc, octets),
-        Codec::Der => der::decode(alloc, octets),
-    }
-}
-
-/// Decodes the value that the octets begin with, by the entry point `decode_with_remainder` of
-/// these rules, and returns it with the octets that follow.
-pub fn begun<T: Decode>(
-    alloc: Global,
-    rules: Codec,
-    octets: &[u8],
-) -> Result<(T, &[u8]), DecodeError> {
-    match rules {
-        Codec::Ber => ber::decode_with_remainder(alloc, octets),
-        Codec::Cer => cer::decode_with_remainder(alloc, octets),
-        Codec::Der => der::decode_with_remainder(alloc, octets),
     }
 }

@@ -16,10 +16,11 @@ use Rattle.rasn_schema.specs.declared.named.TypeName.{TypeName}
 use Rattle.rasn_schema_octets.specs.declared.fault.Stop.{Stop}
 use Rattle.rasn_schema_octets.specs.declared.fault.Stop.TheVariants.{OutOfMemory, Default}
 use Rattle.rasn_schema_octets.specs.declared.fault.ReadFault.{ReadFault}
+use Rattle.rasn_schema_octets.specs.declared.fault.ReadFault.TheVariants as fault
 use Rattle.rasn_schema_octets.specs.declared.form.SchemaForm.{SchemaForm}
 use Rattle.rasn_schema_octets.specs.declared.name.NameForm.{NameForm}
 use Rattle.rasn_schema_octets.specs.Forms.{name_form_tree, names_form_tree, type_form_tree, schema_form_tree}
-use Rattle.rasn_schema_octets.specs.Octets.{IsRead, IsWrongOr}
+use Rattle.rasn_schema_octets.specs.Octets.{HasError, IsRead, IsWrongOr}
 use Rattle.rasn_schema_octets.specs.Shallow.{Every, IsShallowType}
 use Rattle.rasn_schema_octets.specs.Shapes.{octets_shape}
 use Rattle.rasn_schema_octets.specs.Stops.{IsMemory, IsReadStop}
@@ -71,3 +72,26 @@ types_refused f (inr k) = inr (λ root unchecked names types h e. k types h (sam
 pub whole_names_refused : {M : Type 0} (f : SchemaForm) → M ⊎ ((made : Option (Vec TypeName Global)) → names_tree made ≡ names_form_tree f.names → ⊥) → M ⊎ NoSchema (schema_form_tree f)
 whole_names_refused f (inl m) = inl m
 whole_names_refused f (inr k) = inr (λ root unchecked names types h e. k names (ap (λ t. first (others (others (others t)))) e))
+
+-- ---- the error of octets that aren't read
+
+pub has_error : (Is : DecodeError → Type 0) (e : DecodeError) → Is e → (f : ReadFault) → HasError (λ d. d ≡ e) f → HasError Is f
+has_error Is e i fault.OutOfMemory k = tt
+has_error Is e i (fault.Octets part offset d) k = subst Is (sym k) i
+has_error Is e i (fault.Version v) k = tt
+has_error Is e i (fault.NoRoot root n) k = tt
+has_error Is e i (fault.Default id n) k = tt
+has_error Is e i (fault.Rule r) k = tt
+
+-- Where the value of the form is wrong, the octets are read.
+pub no_error : (Is : DecodeError → Type 0) (t : Tree) (f : ReadFault) → IsWrongOr t f → HasError Is f
+no_error Is t fault.OutOfMemory w = tt
+no_error Is t (fault.Octets part offset d) w = absurd w
+no_error Is t (fault.Version v) w = tt
+no_error Is t (fault.NoRoot root n) w = tt
+no_error Is t (fault.Default id n) w = tt
+no_error Is t (fault.Rule r) w = tt
+
+pub none_has : {T : Type 0} (Is : DecodeError → Type 0) (t : Tree) (r : Result T ReadFault) → IfErr r (IsWrongOr t) → IfErr r (HasError Is)
+none_has Is t (Ok v) w = tt
+none_has Is t (Err f) w = no_error Is t f w

@@ -2,6 +2,7 @@
 use Rattle.std.specs.Prelude.{◌≡◌, ◌≢◌, ◌⊎◌, ◌≤◌, ◌<◌, ℕ, List, [], ◌∷◌, length, Option, Vec}
 use Rattle.std.specs.Global.{Global}
 use Rattle.rasn_types.specs.declared.types.codec.Codec.TheVariants.{Der}
+use Rattle.rasn_types.specs.declared.error.decode.DecodeError.{DecodeError}
 use Rattle.rasn_types.specs.Bytes.{Bytes}
 use Rattle.rasn_types.specs.Carried.{IsWithinLimits}
 use Rattle.rasn_types.specs.Grammar.{Reads, top}
@@ -45,6 +46,11 @@ abbrev pub IsUnread : List ℕ → ReadFault → Type 0
 IsUnread octets (Octets part offset e) = IsNoValue octets × (offset ≤ length octets) × (e.codec ≡ Der)
 IsUnread octets (Version v) = IsNoValue octets × (v ≢ 1)
 IsUnread octets _ = ⊥
+
+-- This is true of the error of octets that DER doesn't read.
+abbrev pub HasError : (DecodeError → Type 0) → ReadFault → Type 0
+HasError Is (Octets part offset e) = Is e
+HasError Is _ = Unit {0}
 
 -- The value of the form is of this version, and has these parts.
 abbrev pub form_of : ℕ → ℕ → ℕ → Tree → List Tree → Tree

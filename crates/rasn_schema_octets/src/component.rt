@@ -2,7 +2,7 @@
 use crate::node::NodeForm;
 use rasn::error::{DecodeError, EncodeError};
 use rasn::parts::OneOf::{Other, This};
-use rasn::parts::{End, Last, OneOf, Put, Required};
+use rasn::parts::{DecodeAlternatives, DecodeParts, End, Last, OneOf, Put, Required};
 use rasn::types::{AsnType, Constraints, ContextTag, Identifier, Implicit, Tag, Utf8String};
 use rasn::{Decode, Decoder, Encode, Encoder};
 
@@ -51,16 +51,23 @@ type PresenceFormAlternatives = OneOf<
 >;
 
 impl Decode for PresenceForm {
+    ghost use Rattle.std.specs.Prelude.{codes};
+    ghost use Rattle.rasn_de.specs.AlternativeTypes.{DecodesAlternativeBy};
+    ghost use Rattle.rasn_de.specs.ValueErrors.{errors_of, IsErrorByTag};
+
+    ghost errors = { λ _ _ old e new. errors_of (DecodesAlternativeBy ⟦<PresenceFormAlternatives as DecodeAlternatives>⟧.extensible ⟦<PresenceFormAlternatives as DecodeAlternatives>⟧.parts ⟦<PresenceFormAlternatives as DecodeAlternatives>⟧.inner (codes "Presence")) old e new × IsErrorByTag ⟦<PresenceFormAlternatives as DecodeAlternatives>⟧.errors old e new };
+
     fn decode_with_tag_and_constraints(
         decoder: &mut Decoder<'_>,
         _tag: Tag,
         _constraints: &Constraints,
     ) -> Result<PresenceForm, DecodeError> {
-        match decoder.read_choice::<PresenceFormAlternatives>("Presence")? {
-            This(part) => Ok(PresenceForm::Required(part)),
-            Other(This(part)) => Ok(PresenceForm::Optional(part)),
-            Other(Other(This(part))) => Ok(PresenceForm::Addition(part)),
-            Other(Other(Other(Last(part)))) => Ok(PresenceForm::Default(part)),
+        match decoder.read_choice::<PresenceFormAlternatives>("Presence") {
+            Ok(This(part)) => Ok(PresenceForm::Required(part)),
+            Ok(Other(This(part))) => Ok(PresenceForm::Optional(part)),
+            Ok(Other(Other(This(part)))) => Ok(PresenceForm::Addition(part)),
+            Ok(Other(Other(Other(Last(part))))) => Ok(PresenceForm::Default(part)),
+            Err(error) => Err(error),
         }
     }
 }
@@ -136,15 +143,25 @@ impl AsnType for ComponentForm {
     ghost own = { refl };
 }
 
+/// The components of `ComponentForm`, as they are read.
+type ComponentParts = Required<Utf8String, Required<usize, Required<PresenceForm, End>>>;
+
 impl Decode for ComponentForm {
+    ghost use Rattle.rasn_de.specs.PartTypes.{DecodesSequenceParts};
+    ghost use Rattle.rasn_de.specs.ValueErrors.{errors_of};
+
+    ghost errors = { λ tag _. errors_of (DecodesSequenceParts ⟦<ComponentParts as DecodeParts>⟧.parts ⟦<ComponentParts as DecodeParts>⟧.tree ⟦<ComponentParts as DecodeParts>⟧.errors tag) };
+
     fn decode_with_tag_and_constraints(
         decoder: &mut Decoder<'_>,
         tag: Tag,
         _constraints: &Constraints,
     ) -> Result<ComponentForm, DecodeError> {
-        let Required(name, Required(type_id, Required(presence, End))) = decoder.read_sequence(
-            tag,
-        )?;
+        let parts = match decoder.read_sequence::<ComponentParts>(tag) {
+            Ok(parts) => parts,
+            Err(error) => return Err(error),
+        };
+        let Required(name, Required(type_id, Required(presence, End))) = parts;
         Ok(ComponentForm {
             name,
             type_id,

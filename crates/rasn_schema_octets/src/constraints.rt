@@ -6,7 +6,9 @@ ghost use Rattle.rasn_schema_octets.specs.Trees.{bound_tree, index_tree};
 
 use rasn::error::{DecodeError, EncodeError};
 use rasn::parts::OneOf::{Other, This};
-use rasn::parts::{End, Last, OneOf, Optional, Put, PutOptional, Required};
+use rasn::parts::{
+    DecodeAlternatives, DecodeParts, End, Last, OneOf, Optional, Put, PutOptional, Required,
+};
 use rasn::types::{
     AsnType, Bound, Bounded, Constraints, ContextTag, Explicit, Identifier, Implicit, Tag,
 };
@@ -46,13 +48,25 @@ impl<T: AsnType> AsnType for EndsForm<T> {
     ghost own = { refl };
 }
 
+/// The components of `EndsForm`, as they are read.
+type EndsParts<T> = Optional<Explicit<ContextTag<0>, T>, Optional<Explicit<ContextTag<1>, T>, End>>;
+
 impl<T: Decode> Decode for EndsForm<T> {
+    ghost use Rattle.rasn_de.specs.PartTypes.{DecodesSequenceParts};
+    ghost use Rattle.rasn_de.specs.ValueErrors.{errors_of};
+
+    ghost errors = { λ tag _. errors_of (DecodesSequenceParts ⟦<EndsParts<T> as DecodeParts>⟧.parts ⟦<EndsParts<T> as DecodeParts>⟧.tree ⟦<EndsParts<T> as DecodeParts>⟧.errors tag) };
+
     fn decode_with_tag_and_constraints(
         decoder: &mut Decoder<'_>,
         tag: Tag,
         _constraints: &Constraints,
     ) -> Result<EndsForm<T>, DecodeError> {
-        let Optional(start, Optional(end, End)) = decoder.read_sequence(tag)?;
+        let parts = match decoder.read_sequence::<EndsParts<T>>(tag) {
+            Ok(parts) => parts,
+            Err(error) => return Err(error),
+        };
+        let Optional(start, Optional(end, End)) = parts;
         Ok(EndsForm { start, end })
     }
 }
@@ -121,21 +135,28 @@ fn between<T>(ends: EndsForm<T>) -> Bounded<T>
 }
 
 impl<T: Decode> Decode for RangeForm<T> {
+    ghost use Rattle.std.specs.Prelude.{codes};
+    ghost use Rattle.rasn_de.specs.AlternativeTypes.{DecodesAlternativeBy};
+    ghost use Rattle.rasn_de.specs.ValueErrors.{errors_of, IsErrorByTag};
+
+    ghost errors = { λ _ _ old e new. errors_of (DecodesAlternativeBy ⟦<Alternatives<T> as DecodeAlternatives>⟧.extensible ⟦<Alternatives<T> as DecodeAlternatives>⟧.parts ⟦<Alternatives<T> as DecodeAlternatives>⟧.inner (codes "Range")) old e new × IsErrorByTag ⟦<Alternatives<T> as DecodeAlternatives>⟧.errors old e new };
+
     fn decode_with_tag_and_constraints(
         decoder: &mut Decoder<'_>,
         _tag: Tag,
         _constraints: &Constraints,
     ) -> Result<RangeForm<T>, DecodeError> {
-        match decoder.read_choice::<Alternatives<T>>("Range")? {
-            This(_) => Ok(RangeForm {
+        match decoder.read_choice::<Alternatives<T>>("Range") {
+            Ok(This(_)) => Ok(RangeForm {
                 range: Bounded::None,
             }),
-            Other(This(single)) => Ok(RangeForm {
+            Ok(Other(This(single))) => Ok(RangeForm {
                 range: Bounded::Single(single.into_inner()),
             }),
-            Other(Other(Last(ends))) => Ok(RangeForm {
+            Ok(Other(Other(Last(ends)))) => Ok(RangeForm {
                 range: between(ends.into_inner()),
             }),
+            Err(error) => Err(error),
         }
     }
 }
@@ -204,13 +225,25 @@ impl<T: AsnType> AsnType for BoundForm<T> {
     ghost own = { refl };
 }
 
+/// The components of `BoundForm`, as they are read.
+type BoundParts<T> = Required<bool, Required<RangeForm<T>, End>>;
+
 impl<T: Decode> Decode for BoundForm<T> {
+    ghost use Rattle.rasn_de.specs.PartTypes.{DecodesSequenceParts};
+    ghost use Rattle.rasn_de.specs.ValueErrors.{errors_of};
+
+    ghost errors = { λ tag _. errors_of (DecodesSequenceParts ⟦<BoundParts<T> as DecodeParts>⟧.parts ⟦<BoundParts<T> as DecodeParts>⟧.tree ⟦<BoundParts<T> as DecodeParts>⟧.errors tag) };
+
     fn decode_with_tag_and_constraints(
         decoder: &mut Decoder<'_>,
         tag: Tag,
         _constraints: &Constraints,
     ) -> Result<BoundForm<T>, DecodeError> {
-        let Required(extensible, Required(form, End)) = decoder.read_sequence(tag)?;
+        let parts = match decoder.read_sequence::<BoundParts<T>>(tag) {
+            Ok(parts) => parts,
+            Err(error) => return Err(error),
+        };
+        let Required(extensible, Required(form, End)) = parts;
         let RangeForm { range } = form;
         Ok(BoundForm {
             bound: Bound {
@@ -270,13 +303,28 @@ impl AsnType for ConstraintsForm {
     ghost own = { refl };
 }
 
+/// The components of `ConstraintsForm`, as they are read.
+type ConstraintsParts = Optional<
+    Implicit<ContextTag<0>, BoundForm<i128>>,
+    Optional<Implicit<ContextTag<1>, BoundForm<usize>>, End>,
+>;
+
 impl Decode for ConstraintsForm {
+    ghost use Rattle.rasn_de.specs.PartTypes.{DecodesSequenceParts};
+    ghost use Rattle.rasn_de.specs.ValueErrors.{errors_of};
+
+    ghost errors = { λ tag _. errors_of (DecodesSequenceParts ⟦<ConstraintsParts as DecodeParts>⟧.parts ⟦<ConstraintsParts as DecodeParts>⟧.tree ⟦<ConstraintsParts as DecodeParts>⟧.errors tag) };
+
     fn decode_with_tag_and_constraints(
         decoder: &mut Decoder<'_>,
         tag: Tag,
         _constraints: &Constraints,
     ) -> Result<ConstraintsForm, DecodeError> {
-        let Optional(value, Optional(size, End)) = decoder.read_sequence(tag)?;
+        let parts = match decoder.read_sequence::<ConstraintsParts>(tag) {
+            Ok(parts) => parts,
+            Err(error) => return Err(error),
+        };
+        let Optional(value, Optional(size, End)) = parts;
         let constraints = Constraints {
             value: value_of(value),
             size: size_of(size),

@@ -3,10 +3,11 @@ ghost use Rattle.std.specs.Prelude.{◌≡◌, ◌⊎◌, ◌<◌, length, IfOk,
 ghost use Rattle.rasn_types.specs.declared.types.codec.Codec.TheVariants.{Der};
 ghost use Rattle.rasn_types.specs.Errors.{IsOutOfMemory};
 ghost use Rattle.rasn.specs.Headline.{Identifies};
+ghost use Rattle.rasn.specs.Refusals.{FailsAlone};
 ghost use Rattle.rasn_schema_octets.specs.Shapes.{octets_shape};
 ghost use Rattle.rasn_schema_octets.specs.Forms.{schema_form_tree};
 ghost use Rattle.rasn_schema_octets.specs.Mirrors.{Forms, MakesNames, FormsNames};
-ghost use Rattle.rasn_schema_octets.specs.Octets.{schema_tree, IsSchemaOctets, IsRead, IsNoValue, IsReadFault, IsWrongOr, IsWriteFault};
+ghost use Rattle.rasn_schema_octets.specs.Octets.{schema_tree, IsSchemaOctets, IsRead, IsNoValue, IsReadFault, HasError, IsWrongOr, IsWriteFault};
 ghost use Rattle.rasn_schema_octets.specs.Shallow.{Every, IsShallowType};
 
 use crate::fault::{ReadFault, Stop, WriteFault};
@@ -14,9 +15,9 @@ use crate::form::SchemaForm;
 use crate::list::{forms_of, parts_of};
 use crate::locate::read_fault;
 use crate::name::NameForm;
-use rasn::der;
 use rasn::error::DecodeError;
-use rasn::types::{ContextTag, Implicit};
+use rasn::types::{AsnType, ContextTag, Implicit};
+use rasn::{Decode, der};
 use rasn_schema::{Schema, TypeId, TypeName};
 use std::alloc::Global;
 
@@ -57,6 +58,7 @@ pub fn read(alloc: Global, octets: &[u8]) -> Result<Compiled, ReadFault>
     ensures root { IfOk result (λ c. c.root.0 < length c.schema.types.items) }
     ensures shallow { IfOk result (λ c. Every IsShallowType c.schema.types.items) }
     ensures fault { IfErr result (IsReadFault octets.now) }
+    ensures error { IfErr result (HasError (FailsAlone (⟦<SchemaForm as Decode>⟧.errors ⟦<SchemaForm as AsnType>⟧.TAG ⟦<SchemaForm as AsnType>⟧.CONSTRAINTS) Der octets_shape octets.now)) }
 {
     match read_form(alloc, octets) {
         Ok(form) => checked(alloc, form),
@@ -68,6 +70,7 @@ pub fn read(alloc: Global, octets: &[u8]) -> Result<Compiled, ReadFault>
 fn read_form(alloc: Global, octets: &[u8]) -> Result<SchemaForm, DecodeError>
     ensures ok { IfOk result (λ f. IsRead octets.now (schema_form_tree f)) }
     ensures refused { IfErr result (λ e. IsOutOfMemory e.kind ⊎ IsNoValue octets.now) }
+    ensures errors { IfErr result (FailsAlone (⟦<SchemaForm as Decode>⟧.errors ⟦<SchemaForm as AsnType>⟧.TAG ⟦<SchemaForm as AsnType>⟧.CONSTRAINTS) Der octets_shape octets.now) }
     ensures rules { IfErr result (λ e. e.codec ≡ Der) }
 {
     der::decode(alloc, octets)

@@ -2,7 +2,7 @@
 use crate::name::NameForm;
 use crate::types::TypeForm;
 use rasn::error::{DecodeError, EncodeError};
-use rasn::parts::{End, Optional, Put, PutOptional, Required};
+use rasn::parts::{DecodeParts, End, Optional, Put, PutOptional, Required};
 use rasn::types::{AsnType, Constraints, ContextTag, Identifier, Implicit, Tag};
 use rasn::{Decode, Decoder, Encode, Encoder};
 
@@ -44,16 +44,34 @@ impl AsnType for SchemaForm {
     ghost own = { refl };
 }
 
+/// The last components of `SchemaForm`, as they are read.
+type SchemaLastParts = Optional<
+    Implicit<ContextTag<0>, Vec<NameForm>>,
+    Required<Vec<TypeForm>, End>,
+>;
+
+/// All components of `SchemaForm`, as they are read.
+type SchemaParts = Required<u32, Required<usize, Required<usize, SchemaLastParts>>>;
+
 impl Decode for SchemaForm {
+    ghost use Rattle.rasn_de.specs.PartTypes.{DecodesSequenceParts};
+    ghost use Rattle.rasn_de.specs.ValueErrors.{errors_of};
+
+    ghost errors = { λ tag _. errors_of (DecodesSequenceParts ⟦<SchemaParts as DecodeParts>⟧.parts ⟦<SchemaParts as DecodeParts>⟧.tree ⟦<SchemaParts as DecodeParts>⟧.errors tag) };
+
     fn decode_with_tag_and_constraints(
         decoder: &mut Decoder<'_>,
         tag: Tag,
         _constraints: &Constraints,
     ) -> Result<SchemaForm, DecodeError> {
-        let Required(version, Required(root, Required(unchecked, rest))) = decoder.read_sequence(
-            tag,
-        )?;
-        let Optional(names, Required(types, End)) = rest;
+        let parts = match decoder.read_sequence::<SchemaParts>(tag) {
+            Ok(parts) => parts,
+            Err(error) => return Err(error),
+        };
+        let Required(
+            version,
+            Required(root, Required(unchecked, Optional(names, Required(types, End)))),
+        ) = parts;
         Ok(SchemaForm {
             version,
             root,

@@ -6,7 +6,7 @@ ghost use Rattle.rasn_schema_octets.specs.Forms.{plain_number};
 
 use rasn::error::{DecodeError, EncodeError};
 use rasn::parts::OneOf::{Other, This};
-use rasn::parts::{Last, OneOf};
+use rasn::parts::{DecodeAlternatives, Last, OneOf};
 use rasn::types::{AsnType, Constraints, Enumerated, Identifier, Tag};
 use rasn::{Decode, Decoder, Encode, Encoder};
 use rasn_schema::LeafKind;
@@ -132,6 +132,11 @@ impl Enumerated for PlainKind {
 }
 
 impl Decode for PlainKind {
+    ghost use Rattle.rasn_de.specs.Enumerated.{EnumeratedAt};
+    ghost use Rattle.rasn_de.specs.Leaves.{FailsAs};
+
+    ghost errors = { λ tag _ old. FailsAs (EnumeratedAt ⟦<PlainKind as Enumerated>⟧.known old.rule tag old.rest) old };
+
     #[tactic(auto, unfolding(rasn_types::specs::Grammar::Reads))]
     fn decode_with_tag_and_constraints(
         decoder: &mut Decoder<'_>,
@@ -247,19 +252,29 @@ fn plain_of(kind: LeafKind) -> Result<PlainKind, usize>
     }
 }
 
+/// The alternatives of `KindForm`, as they are read.
+type KindAlternatives = OneOf<PlainKind, Last<usize>>;
+
 impl Decode for KindForm {
+    ghost use Rattle.std.specs.Prelude.{codes};
+    ghost use Rattle.rasn_de.specs.AlternativeTypes.{DecodesAlternativeBy};
+    ghost use Rattle.rasn_de.specs.ValueErrors.{errors_of, IsErrorByTag};
+
+    ghost errors = { λ _ _ old e new. errors_of (DecodesAlternativeBy ⟦<KindAlternatives as DecodeAlternatives>⟧.extensible ⟦<KindAlternatives as DecodeAlternatives>⟧.parts ⟦<KindAlternatives as DecodeAlternatives>⟧.inner (codes "Kind")) old e new × IsErrorByTag ⟦<KindAlternatives as DecodeAlternatives>⟧.errors old e new };
+
     fn decode_with_tag_and_constraints(
         decoder: &mut Decoder<'_>,
         _tag: Tag,
         _constraints: &Constraints,
     ) -> Result<KindForm, DecodeError> {
-        match decoder.read_choice::<OneOf<PlainKind, Last<usize>>>("Kind")? {
-            This(plain) => Ok(KindForm {
+        match decoder.read_choice::<KindAlternatives>("Kind") {
+            Ok(This(plain)) => Ok(KindForm {
                 kind: kind_of(plain),
             }),
-            Other(Last(len)) => Ok(KindForm {
+            Ok(Other(Last(len))) => Ok(KindForm {
                 kind: LeafKind::FixedOctetString(len),
             }),
+            Err(error) => Err(error),
         }
     }
 }

@@ -2,7 +2,7 @@
 ghost use Rattle.std.specs.Prelude.{◌≡◌, ◌⊎◌, ◌≤◌, length};
 ghost use Rattle.rasn_types.specs.declared.types.codec.Codec.TheVariants.{Der};
 ghost use Rattle.rasn_types.specs.Errors.{IsOutOfMemory};
-ghost use Rattle.rasn_schema_octets.specs.Octets.{IsNoValue, IsReadFault};
+ghost use Rattle.rasn_schema_octets.specs.Octets.{HasError, IsNoValue, IsReadFault};
 ghost use Rattle.rasn_schema_octets.specs.Stopped.{IsStopped};
 
 use crate::entry::VERSION;
@@ -28,7 +28,8 @@ enum Stopped {
 pub(crate) fn read_fault(alloc: Global, octets: &[u8], error: DecodeError) -> ReadFault
     requires refused { IsOutOfMemory error.kind ⊎ IsNoValue octets.now }
     requires rules { error.codec ≡ Der }
-    ensures { IsReadFault octets.now result }
+    ensures fault { IsReadFault octets.now result }
+    ensures error { HasError (λ e. e ≡ error) result }
 {
     if error.is_out_of_memory() {
         return ReadFault::OutOfMemory;

@@ -1,6 +1,6 @@
 //! Names of types, alternatives and numbers, as octets.
 use rasn::error::{DecodeError, EncodeError};
-use rasn::parts::{End, Put, Required};
+use rasn::parts::{DecodeParts, End, Put, Required};
 use rasn::types::{AsnType, Constraints, Identifier, Tag, Utf8String};
 use rasn::{Decode, Decoder, Encode, Encoder};
 
@@ -35,13 +35,25 @@ impl AsnType for NameForm {
     ghost own = { refl };
 }
 
+/// The components of `NameForm`, as they are read.
+type NameParts = Required<Utf8String, Required<usize, End>>;
+
 impl Decode for NameForm {
+    ghost use Rattle.rasn_de.specs.PartTypes.{DecodesSequenceParts};
+    ghost use Rattle.rasn_de.specs.ValueErrors.{errors_of};
+
+    ghost errors = { λ tag _. errors_of (DecodesSequenceParts ⟦<NameParts as DecodeParts>⟧.parts ⟦<NameParts as DecodeParts>⟧.tree ⟦<NameParts as DecodeParts>⟧.errors tag) };
+
     fn decode_with_tag_and_constraints(
         decoder: &mut Decoder<'_>,
         tag: Tag,
         _constraints: &Constraints,
     ) -> Result<NameForm, DecodeError> {
-        let Required(name, Required(type_id, End)) = decoder.read_sequence(tag)?;
+        let parts = match decoder.read_sequence::<NameParts>(tag) {
+            Ok(parts) => parts,
+            Err(error) => return Err(error),
+        };
+        let Required(name, Required(type_id, End)) = parts;
         Ok(NameForm { name, type_id })
     }
 }
@@ -93,13 +105,25 @@ impl AsnType for NumberForm {
     ghost own = { refl };
 }
 
+/// The components of `NumberForm`, as they are read.
+type NumberParts = Required<Utf8String, Required<isize, End>>;
+
 impl Decode for NumberForm {
+    ghost use Rattle.rasn_de.specs.PartTypes.{DecodesSequenceParts};
+    ghost use Rattle.rasn_de.specs.ValueErrors.{errors_of};
+
+    ghost errors = { λ tag _. errors_of (DecodesSequenceParts ⟦<NumberParts as DecodeParts>⟧.parts ⟦<NumberParts as DecodeParts>⟧.tree ⟦<NumberParts as DecodeParts>⟧.errors tag) };
+
     fn decode_with_tag_and_constraints(
         decoder: &mut Decoder<'_>,
         tag: Tag,
         _constraints: &Constraints,
     ) -> Result<NumberForm, DecodeError> {
-        let Required(name, Required(number, End)) = decoder.read_sequence(tag)?;
+        let parts = match decoder.read_sequence::<NumberParts>(tag) {
+            Ok(parts) => parts,
+            Err(error) => return Err(error),
+        };
+        let Required(name, Required(number, End)) = parts;
         Ok(NumberForm { name, number })
     }
 }

@@ -1,7 +1,7 @@
 //! Defaults as octets: the nodes of a value, each before those that it holds.
 use rasn::error::{DecodeError, EncodeError};
 use rasn::parts::OneOf::{Other, This};
-use rasn::parts::{Last, OneOf};
+use rasn::parts::{DecodeAlternatives, Last, OneOf};
 use rasn::types::{
     AsnType, BitString, BmpString, Constraints, ContextTag, Date, GeneralizedTime, Identifier,
     Implicit, Integer, ObjectIdentifier, OctetString, Tag, Utf8String,
@@ -97,61 +97,70 @@ type NodeFormAlternatives = OneOf<
 >;
 
 impl Decode for NodeForm {
-    ghost use Rattle.std.specs.Prelude.{◌≡◌, IfErr, Err, codes};
-    ghost use Rattle.rasn_de.specs.Decodes.{Decodes};
-    ghost use Rattle.rasn_de.specs.AlternativeTypes.{DecodesAlternative};
-    ghost use Rattle.rasn_schema_octets.specs.Shapes.{node_shape};
-    ghost use Rattle.rasn_schema_octets.specs.Forms.{node_form_tree};
-    ghost use Rattle.rasn_schema_octets.specs.Shapes.{node_alternatives};
+    ghost use Rattle.std.specs.Prelude.{codes};
+    ghost use Rattle.rasn_de.specs.AlternativeTypes.{DecodesAlternativeBy};
+    ghost use Rattle.rasn_de.specs.ValueErrors.{errors_of, IsErrorByTag};
+
+    ghost errors = { λ _ _ old e new. errors_of (DecodesAlternativeBy ⟦<NodeFormAlternatives as DecodeAlternatives>⟧.extensible ⟦<NodeFormAlternatives as DecodeAlternatives>⟧.parts ⟦<NodeFormAlternatives as DecodeAlternatives>⟧.inner (codes "Node")) old e new × IsErrorByTag ⟦<NodeFormAlternatives as DecodeAlternatives>⟧.errors old e new };
 
     fn decode_with_tag_and_constraints(
         decoder: &mut Decoder<'_>,
         _tag: Tag,
         _constraints: &Constraints,
-    ) -> Result<NodeForm, DecodeError>
-        ensures reads { Decodes node_shape node_form_tree decoder.old result decoder.new }
-        ensures rules { IfErr result (λ e. e.codec ≡ decoder.old.rule) }
-        ensures fails { IfErr result (λ e. DecodesAlternative node_alternatives node_form_tree (codes "Node") decoder.old (Err e) decoder.new) }
-    {
-        match decoder.read_choice::<NodeFormAlternatives>("Node")? {
-            This(part) => Ok(NodeForm::Boolean(part)),
-            Other(This(part)) => Ok(NodeForm::Null(part)),
-            Other(Other(This(part))) => Ok(NodeForm::Integer(part)),
-            Other(Other(Other(This(part)))) => Ok(NodeForm::Bits(part)),
-            Other(Other(Other(Other(This(part))))) => Ok(NodeForm::Octets(part)),
-            Other(Other(Other(Other(Other(This(part)))))) => Ok(NodeForm::Text(part)),
-            Other(Other(Other(Other(Other(Other(This(part))))))) => Ok(NodeForm::Units(part)),
-            Other(Other(Other(Other(Other(Other(Other(This(part)))))))) => Ok(NodeForm::Arcs(part)),
-            Other(Other(Other(Other(Other(Other(Other(Other(This(part))))))))) => Ok(
+    ) -> Result<NodeForm, DecodeError> {
+        match decoder.read_choice::<NodeFormAlternatives>("Node") {
+            Ok(This(part)) => Ok(NodeForm::Boolean(part)),
+            Ok(Other(This(part))) => Ok(NodeForm::Null(part)),
+            Ok(Other(Other(This(part)))) => Ok(NodeForm::Integer(part)),
+            Ok(Other(Other(Other(This(part))))) => Ok(NodeForm::Bits(part)),
+            Ok(Other(Other(Other(Other(This(part)))))) => Ok(NodeForm::Octets(part)),
+            Ok(Other(Other(Other(Other(Other(This(part))))))) => Ok(NodeForm::Text(part)),
+            Ok(Other(Other(Other(Other(Other(Other(This(part)))))))) => Ok(NodeForm::Units(part)),
+            Ok(Other(Other(Other(Other(Other(Other(Other(This(part))))))))) => Ok(NodeForm::Arcs(
+                part,
+            )),
+            Ok(Other(Other(Other(Other(Other(Other(Other(Other(This(part)))))))))) => Ok(
                 NodeForm::Instant(part),
             ),
-            Other(Other(Other(Other(Other(Other(Other(Other(Other(This(part)))))))))) => Ok(
+            Ok(Other(Other(Other(Other(Other(Other(Other(Other(Other(This(part))))))))))) => Ok(
                 NodeForm::Day(part),
             ),
-            Other(Other(Other(Other(Other(Other(Other(Other(Other(Other(This(part))))))))))) => Ok(
-                NodeForm::Items(part),
-            ),
-            Other(
-                Other(Other(Other(Other(Other(Other(Other(Other(Other(Other(This(part))))))))))),
-            ) => Ok(NodeForm::Elements(part)),
-            Other(
+            Ok(Other(Other(Other(Other(Other(Other(Other(Other(Other(Other(This(part)))))))))))) =>
+                Ok(NodeForm::Items(part)),
+            Ok(
                 Other(
                     Other(
                         Other(Other(Other(Other(Other(Other(Other(Other(Other(This(part)))))))))),
                     ),
                 ),
-            ) => Ok(NodeForm::Chosen(part)),
-            Other(
+            ) => Ok(NodeForm::Elements(part)),
+            Ok(
                 Other(
                     Other(
                         Other(
                             Other(
-                                Other(Other(Other(Other(Other(Other(Other(Other(Last(part))))))))),
+                                Other(Other(Other(Other(Other(Other(Other(Other(This(part))))))))),
+                            ),
+                        ),
+                    ),
+                ),
+            ) => Ok(NodeForm::Chosen(part)),
+            Ok(
+                Other(
+                    Other(
+                        Other(
+                            Other(
+                                Other(
+                                    Other(
+                                        Other(Other(Other(Other(Other(Other(Other(Last(part)))))))),
+                                    ),
+                                ),
                             ),
                         ),
                     ),
                 ),
             ) => Ok(NodeForm::Absent(part)),
+            Err(error) => Err(error),
         }
     }
 }

@@ -3,7 +3,7 @@ ghost use Rattle.std.specs.Prelude.{◌≡◌};
 
 use rasn::error::{DecodeError, EncodeError};
 use rasn::parts::OneOf::{Other, This};
-use rasn::parts::{Last, OneOf};
+use rasn::parts::{DecodeAlternatives, Last, OneOf};
 use rasn::types::{AsnType, Class, Constraints, ContextTag, Identifier, Implicit, Tag};
 use rasn::{Decode, Decoder, Encode, Encoder};
 
@@ -55,16 +55,23 @@ fn form(class: Class, value: u32) -> TagForm
 }
 
 impl Decode for TagForm {
+    ghost use Rattle.std.specs.Prelude.{codes};
+    ghost use Rattle.rasn_de.specs.AlternativeTypes.{DecodesAlternativeBy};
+    ghost use Rattle.rasn_de.specs.ValueErrors.{errors_of, IsErrorByTag};
+
+    ghost errors = { λ _ _ old e new. errors_of (DecodesAlternativeBy ⟦<Alternatives as DecodeAlternatives>⟧.extensible ⟦<Alternatives as DecodeAlternatives>⟧.parts ⟦<Alternatives as DecodeAlternatives>⟧.inner (codes "Tag")) old e new × IsErrorByTag ⟦<Alternatives as DecodeAlternatives>⟧.errors old e new };
+
     fn decode_with_tag_and_constraints(
         decoder: &mut Decoder<'_>,
         _tag: Tag,
         _constraints: &Constraints,
     ) -> Result<TagForm, DecodeError> {
-        match decoder.read_choice::<Alternatives>("Tag")? {
-            This(value) => Ok(form(Class::Universal, *value)),
-            Other(This(value)) => Ok(form(Class::Application, *value)),
-            Other(Other(This(value))) => Ok(form(Class::Context, *value)),
-            Other(Other(Other(Last(value)))) => Ok(form(Class::Private, *value)),
+        match decoder.read_choice::<Alternatives>("Tag") {
+            Ok(This(value)) => Ok(form(Class::Universal, *value)),
+            Ok(Other(This(value))) => Ok(form(Class::Application, *value)),
+            Ok(Other(Other(This(value)))) => Ok(form(Class::Context, *value)),
+            Ok(Other(Other(Other(Last(value))))) => Ok(form(Class::Private, *value)),
+            Err(error) => Err(error),
         }
     }
 }

@@ -6,7 +6,7 @@ use crate::name::{NameForm, NumberForm};
 use crate::tag::TagForm;
 use rasn::error::{DecodeError, EncodeError};
 use rasn::parts::OneOf::{Other, This};
-use rasn::parts::{End, Last, OneOf, Put, Required};
+use rasn::parts::{DecodeAlternatives, DecodeParts, End, Last, OneOf, Put, Required};
 use rasn::types::{
     AsnType, Constraints, ContextTag, Explicit, Identifier, Implicit, Tag, Utf8String,
 };
@@ -48,14 +48,28 @@ impl AsnType for LeafForm {
     ghost own = { refl };
 }
 
+/// The components of `LeafForm`, as they are read.
+type LeafParts = Required<
+    KindForm,
+    Required<TagForm, Required<ConstraintsForm, Required<Vec<NumberForm>, End>>>,
+>;
+
 impl Decode for LeafForm {
+    ghost use Rattle.rasn_de.specs.PartTypes.{DecodesSequenceParts};
+    ghost use Rattle.rasn_de.specs.ValueErrors.{errors_of};
+
+    ghost errors = { λ tag _. errors_of (DecodesSequenceParts ⟦<LeafParts as DecodeParts>⟧.parts ⟦<LeafParts as DecodeParts>⟧.tree ⟦<LeafParts as DecodeParts>⟧.errors tag) };
+
     fn decode_with_tag_and_constraints(
         decoder: &mut Decoder<'_>,
         tag: Tag,
         _constraints: &Constraints,
     ) -> Result<LeafForm, DecodeError> {
-        let Required(kind, Required(tag, Required(constraints, Required(names, End)))) =
-            decoder.read_sequence(tag)?;
+        let parts = match decoder.read_sequence::<LeafParts>(tag) {
+            Ok(parts) => parts,
+            Err(error) => return Err(error),
+        };
+        let Required(kind, Required(tag, Required(constraints, Required(names, End)))) = parts;
         Ok(LeafForm {
             kind,
             tag,
@@ -119,13 +133,25 @@ impl AsnType for EnumeratedForm {
     ghost own = { refl };
 }
 
+/// The components of `EnumeratedForm`, as they are read.
+type EnumeratedParts = Required<TagForm, Required<Vec<NumberForm>, End>>;
+
 impl Decode for EnumeratedForm {
+    ghost use Rattle.rasn_de.specs.PartTypes.{DecodesSequenceParts};
+    ghost use Rattle.rasn_de.specs.ValueErrors.{errors_of};
+
+    ghost errors = { λ tag _. errors_of (DecodesSequenceParts ⟦<EnumeratedParts as DecodeParts>⟧.parts ⟦<EnumeratedParts as DecodeParts>⟧.tree ⟦<EnumeratedParts as DecodeParts>⟧.errors tag) };
+
     fn decode_with_tag_and_constraints(
         decoder: &mut Decoder<'_>,
         tag: Tag,
         _constraints: &Constraints,
     ) -> Result<EnumeratedForm, DecodeError> {
-        let Required(tag, Required(numbers, End)) = decoder.read_sequence(tag)?;
+        let parts = match decoder.read_sequence::<EnumeratedParts>(tag) {
+            Ok(parts) => parts,
+            Err(error) => return Err(error),
+        };
+        let Required(tag, Required(numbers, End)) = parts;
         Ok(EnumeratedForm { tag, numbers })
     }
 }
@@ -178,13 +204,25 @@ impl AsnType for TaggedForm {
     ghost own = { refl };
 }
 
+/// The components of `TaggedForm`, as they are read.
+type TaggedParts = Required<TagForm, Required<usize, End>>;
+
 impl Decode for TaggedForm {
+    ghost use Rattle.rasn_de.specs.PartTypes.{DecodesSequenceParts};
+    ghost use Rattle.rasn_de.specs.ValueErrors.{errors_of};
+
+    ghost errors = { λ tag _. errors_of (DecodesSequenceParts ⟦<TaggedParts as DecodeParts>⟧.parts ⟦<TaggedParts as DecodeParts>⟧.tree ⟦<TaggedParts as DecodeParts>⟧.errors tag) };
+
     fn decode_with_tag_and_constraints(
         decoder: &mut Decoder<'_>,
         tag: Tag,
         _constraints: &Constraints,
     ) -> Result<TaggedForm, DecodeError> {
-        let Required(tag, Required(inner, End)) = decoder.read_sequence(tag)?;
+        let parts = match decoder.read_sequence::<TaggedParts>(tag) {
+            Ok(parts) => parts,
+            Err(error) => return Err(error),
+        };
+        let Required(tag, Required(inner, End)) = parts;
         Ok(TaggedForm { tag, inner })
     }
 }
@@ -237,13 +275,25 @@ impl AsnType for ChoiceForm {
     ghost own = { refl };
 }
 
+/// The components of `ChoiceForm`, as they are read.
+type ChoiceParts = Required<Utf8String, Required<Vec<NameForm>, End>>;
+
 impl Decode for ChoiceForm {
+    ghost use Rattle.rasn_de.specs.PartTypes.{DecodesSequenceParts};
+    ghost use Rattle.rasn_de.specs.ValueErrors.{errors_of};
+
+    ghost errors = { λ tag _. errors_of (DecodesSequenceParts ⟦<ChoiceParts as DecodeParts>⟧.parts ⟦<ChoiceParts as DecodeParts>⟧.tree ⟦<ChoiceParts as DecodeParts>⟧.errors tag) };
+
     fn decode_with_tag_and_constraints(
         decoder: &mut Decoder<'_>,
         tag: Tag,
         _constraints: &Constraints,
     ) -> Result<ChoiceForm, DecodeError> {
-        let Required(name, Required(alternatives, End)) = decoder.read_sequence(tag)?;
+        let parts = match decoder.read_sequence::<ChoiceParts>(tag) {
+            Ok(parts) => parts,
+            Err(error) => return Err(error),
+        };
+        let Required(name, Required(alternatives, End)) = parts;
         Ok(ChoiceForm { name, alternatives })
     }
 }
@@ -296,13 +346,25 @@ impl AsnType for SequenceForm {
     ghost own = { refl };
 }
 
+/// The components of `SequenceForm`, as they are read.
+type SequenceParts = Required<TagForm, Required<Vec<ComponentForm>, End>>;
+
 impl Decode for SequenceForm {
+    ghost use Rattle.rasn_de.specs.PartTypes.{DecodesSequenceParts};
+    ghost use Rattle.rasn_de.specs.ValueErrors.{errors_of};
+
+    ghost errors = { λ tag _. errors_of (DecodesSequenceParts ⟦<SequenceParts as DecodeParts>⟧.parts ⟦<SequenceParts as DecodeParts>⟧.tree ⟦<SequenceParts as DecodeParts>⟧.errors tag) };
+
     fn decode_with_tag_and_constraints(
         decoder: &mut Decoder<'_>,
         tag: Tag,
         _constraints: &Constraints,
     ) -> Result<SequenceForm, DecodeError> {
-        let Required(tag, Required(components, End)) = decoder.read_sequence(tag)?;
+        let parts = match decoder.read_sequence::<SequenceParts>(tag) {
+            Ok(parts) => parts,
+            Err(error) => return Err(error),
+        };
+        let Required(tag, Required(components, End)) = parts;
         Ok(SequenceForm { tag, components })
     }
 }
@@ -357,13 +419,25 @@ impl AsnType for SetForm {
     ghost own = { refl };
 }
 
+/// The components of `SetForm`, as they are read.
+type SetParts = Required<Utf8String, Required<TagForm, Required<Vec<ComponentForm>, End>>>;
+
 impl Decode for SetForm {
+    ghost use Rattle.rasn_de.specs.PartTypes.{DecodesSequenceParts};
+    ghost use Rattle.rasn_de.specs.ValueErrors.{errors_of};
+
+    ghost errors = { λ tag _. errors_of (DecodesSequenceParts ⟦<SetParts as DecodeParts>⟧.parts ⟦<SetParts as DecodeParts>⟧.tree ⟦<SetParts as DecodeParts>⟧.errors tag) };
+
     fn decode_with_tag_and_constraints(
         decoder: &mut Decoder<'_>,
         tag: Tag,
         _constraints: &Constraints,
     ) -> Result<SetForm, DecodeError> {
-        let Required(name, Required(tag, Required(components, End))) = decoder.read_sequence(tag)?;
+        let parts = match decoder.read_sequence::<SetParts>(tag) {
+            Ok(parts) => parts,
+            Err(error) => return Err(error),
+        };
+        let Required(name, Required(tag, Required(components, End))) = parts;
         Ok(SetForm {
             name,
             tag,
@@ -425,15 +499,25 @@ impl AsnType for ElementsForm {
     ghost own = { refl };
 }
 
+/// The components of `ElementsForm`, as they are read.
+type ElementsParts = Required<TagForm, Required<usize, Required<ConstraintsForm, End>>>;
+
 impl Decode for ElementsForm {
+    ghost use Rattle.rasn_de.specs.PartTypes.{DecodesSequenceParts};
+    ghost use Rattle.rasn_de.specs.ValueErrors.{errors_of};
+
+    ghost errors = { λ tag _. errors_of (DecodesSequenceParts ⟦<ElementsParts as DecodeParts>⟧.parts ⟦<ElementsParts as DecodeParts>⟧.tree ⟦<ElementsParts as DecodeParts>⟧.errors tag) };
+
     fn decode_with_tag_and_constraints(
         decoder: &mut Decoder<'_>,
         tag: Tag,
         _constraints: &Constraints,
     ) -> Result<ElementsForm, DecodeError> {
-        let Required(tag, Required(element, Required(constraints, End))) = decoder.read_sequence(
-            tag,
-        )?;
+        let parts = match decoder.read_sequence::<ElementsParts>(tag) {
+            Ok(parts) => parts,
+            Err(error) => return Err(error),
+        };
+        let Required(tag, Required(element, Required(constraints, End))) = parts;
         Ok(ElementsForm {
             tag,
             element,
@@ -536,39 +620,35 @@ type TypeFormAlternatives = OneOf<
 >;
 
 impl Decode for TypeForm {
-    ghost use Rattle.std.specs.Prelude.{◌≡◌, IfErr, Err, codes};
-    ghost use Rattle.rasn_de.specs.Decodes.{Decodes};
-    ghost use Rattle.rasn_de.specs.AlternativeTypes.{DecodesAlternative};
-    ghost use Rattle.rasn_schema_octets.specs.Shapes.{type_shape};
-    ghost use Rattle.rasn_schema_octets.specs.Forms.{type_form_tree};
-    ghost use Rattle.rasn_schema_octets.specs.Shapes.{type_alternatives};
+    ghost use Rattle.std.specs.Prelude.{codes};
+    ghost use Rattle.rasn_de.specs.AlternativeTypes.{DecodesAlternativeBy};
+    ghost use Rattle.rasn_de.specs.ValueErrors.{errors_of, IsErrorByTag};
+
+    ghost errors = { λ _ _ old e new. errors_of (DecodesAlternativeBy ⟦<TypeFormAlternatives as DecodeAlternatives>⟧.extensible ⟦<TypeFormAlternatives as DecodeAlternatives>⟧.parts ⟦<TypeFormAlternatives as DecodeAlternatives>⟧.inner (codes "Type")) old e new × IsErrorByTag ⟦<TypeFormAlternatives as DecodeAlternatives>⟧.errors old e new };
 
     fn decode_with_tag_and_constraints(
         decoder: &mut Decoder<'_>,
         _tag: Tag,
         _constraints: &Constraints,
-    ) -> Result<TypeForm, DecodeError>
-        ensures reads { Decodes type_shape type_form_tree decoder.old result decoder.new }
-        ensures rules { IfErr result (λ e. e.codec ≡ decoder.old.rule) }
-        ensures fails { IfErr result (λ e. DecodesAlternative type_alternatives type_form_tree (codes "Type") decoder.old (Err e) decoder.new) }
-    {
-        match decoder.read_choice::<TypeFormAlternatives>("Type")? {
-            This(part) => Ok(TypeForm::Leaf(part)),
-            Other(This(part)) => Ok(TypeForm::Enumerated(part)),
-            Other(Other(This(part))) => Ok(TypeForm::Any(part)),
-            Other(Other(Other(This(part)))) => Ok(TypeForm::Tagged(part)),
-            Other(Other(Other(Other(This(part))))) => Ok(TypeForm::Choice(part)),
-            Other(Other(Other(Other(Other(This(part)))))) => Ok(TypeForm::Sequence(part)),
-            Other(Other(Other(Other(Other(Other(This(part))))))) => Ok(TypeForm::Set(part)),
-            Other(Other(Other(Other(Other(Other(Other(This(part)))))))) => Ok(TypeForm::SequenceOf(
-                part,
-            )),
-            Other(Other(Other(Other(Other(Other(Other(Other(This(part))))))))) => Ok(
+    ) -> Result<TypeForm, DecodeError> {
+        match decoder.read_choice::<TypeFormAlternatives>("Type") {
+            Ok(This(part)) => Ok(TypeForm::Leaf(part)),
+            Ok(Other(This(part))) => Ok(TypeForm::Enumerated(part)),
+            Ok(Other(Other(This(part)))) => Ok(TypeForm::Any(part)),
+            Ok(Other(Other(Other(This(part))))) => Ok(TypeForm::Tagged(part)),
+            Ok(Other(Other(Other(Other(This(part)))))) => Ok(TypeForm::Choice(part)),
+            Ok(Other(Other(Other(Other(Other(This(part))))))) => Ok(TypeForm::Sequence(part)),
+            Ok(Other(Other(Other(Other(Other(Other(This(part)))))))) => Ok(TypeForm::Set(part)),
+            Ok(Other(Other(Other(Other(Other(Other(Other(This(part))))))))) => Ok(
+                TypeForm::SequenceOf(part),
+            ),
+            Ok(Other(Other(Other(Other(Other(Other(Other(Other(This(part)))))))))) => Ok(
                 TypeForm::SetOf(part),
             ),
-            Other(Other(Other(Other(Other(Other(Other(Other(Other(Last(part)))))))))) => Ok(
+            Ok(Other(Other(Other(Other(Other(Other(Other(Other(Other(Last(part))))))))))) => Ok(
                 TypeForm::Unknown(part),
             ),
+            Err(error) => Err(error),
         }
     }
 }

@@ -4,6 +4,7 @@
 
 mod departures;
 mod json;
+mod library;
 mod messages;
 mod modules;
 mod octets;

@@ -1,6 +1,7 @@
 //! Rows: what is asked, and of what.
 
 use crate::departures::print_departures;
+use crate::library::print_library;
 use crate::messages::answer_of;
 use crate::modules::print_modules;
 use crate::types::print_types;
@@ -36,6 +37,10 @@ fn print_row<W: Write>(
         "modules" => {
             writeln!(output, "{line}")?;
             print_modules(alloc, read, output)
+        }
+        "library" => {
+            writeln!(output, "{line}")?;
+            print_library(rt, read, rest, output)
         }
         "types" => {
             writeln!(output, "{line}")?;

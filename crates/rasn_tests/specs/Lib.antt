@@ -1,2 +1,1 @@
-pub mod Lamp
 pub mod Signal

@@ -4,7 +4,6 @@ use rasn::types::{Any, Class, Tag};
 use std::alloc::{AllocError, Global};
 
 mod kept;
-mod passed;
 mod written;
 
 /// \[1\]

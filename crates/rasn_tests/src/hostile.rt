@@ -1,5 +1,5 @@
-//! Untrusted input: padded headers, lengths beyond any input, universal 0 and truncated values
-//! (X.690 8.1), closures that drop refusals, and the number of octets that each refusal consumes.
+//! Untrusted input: padded headers, lengths beyond any input and truncated values (X.690 8.1), and
+//! closures that drop refusals.
 ghost use Rattle.rasn_de.specs.Constructed.{Keeps};
 
 use crate::types::NumberAndTruth;
@@ -12,7 +12,6 @@ use std::alloc::AllocError;
 mod closures;
 mod cuts_open;
 mod padding;
-mod taken;
 
 /// Reads SEQUENCE { BOOLEAN }.
 fn one_boolean(decoder: &mut Decoder<'_>) -> Result<NumberAndTruth, DecodeError>

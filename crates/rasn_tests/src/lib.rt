@@ -26,6 +26,7 @@ mod strict;
 mod strings;
 #[cfg(test)]
 mod time;
+#[cfg(test)]
 mod types;
 #[cfg(test)]
 mod values;

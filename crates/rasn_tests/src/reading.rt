@@ -4,45 +4,15 @@
 use rasn_de::ber::de::{Decoder, DecoderOptions};
 use rasn_de::de::Decode;
 use rasn_types::error::{DecodeError, DecodeErrorKind, Needed};
-use rasn_types::types::{
-    Any, BmpString, Bound, Bounded, Codec, Constraints, FixedOctetString, Integer,
-    RestrictedString, StringType,
-};
+use rasn_types::types::Codec;
 use std::alloc::{AllocError, Global};
 use std::borrow::CowSlice;
-use std::cmp::Ordering;
 use std::fmt::{Debug, Display};
 use std::process::Abort;
 
 /// Octets, the rules to read them by, the text of the value or of the error's kind, and the number
 /// of octets consumed.
 pub type Row = (&'static [u8], Codec, &'static str, usize);
-
-/// Returns the constraint that a number is in this range.
-pub fn within(start: i128, end: i128) -> Constraints {
-    let constraint = Bounded::Range {
-        start: Some(start),
-        end: Some(end),
-    };
-    Constraints {
-        value: Some(Bound {
-            constraint,
-            extensible: false,
-        }),
-        size: None,
-    }
-}
-
-/// Returns the constraint that a value has this size.
-pub fn sized(size: usize) -> Constraints {
-    Constraints {
-        value: None,
-        size: Some(Bound {
-            constraint: Bounded::Single(size),
-            extensible: false,
-        }),
-    }
-}
 
 /// Returns a decoder of the octets under these rules.
 pub fn decoder_of(alloc: Global, octets: &[u8], rules: Codec) -> Decoder<'_> {
@@ -124,34 +94,6 @@ pub fn is_incomplete(error: &DecodeError, octets: usize, codec: Codec) -> bool {
     *error == DecodeError { kind, codec }
 }
 
-/// Asserts that the values are equal, and neither is greater.
-pub fn assert_equal<T: Ord + Drop>(rt: &impl Abort, one: T, other: T) {
-    assert_facts(
-        rt,
-        &[
-            one == other,
-            one <= other,
-            one >= other,
-            one.cmp(&other) == Ordering::Equal,
-        ],
-    );
-}
-
-/// Asserts that the second value is greater than the first.
-pub fn assert_ascends<T: Ord + Drop>(rt: &impl Abort, one: T, other: T) {
-    assert_facts(
-        rt,
-        &[
-            one < other,
-            other > one,
-            one != other,
-            !(other < one),
-            !(one > other),
-            one.cmp(&other) == Ordering::Less,
-        ],
-    );
-}
-
 /// Returns the text of a call's result: of the value, or of the error's kind.
 fn answer_text<T: Debug>(
     alloc: Global,
@@ -175,17 +117,6 @@ pub fn assert_answer<T: Debug + Drop>(
     assert_text(rt, answer_text(alloc, rules, &answer), text);
 }
 
-/// Asserts the result of reading INTEGER (0..255) DEFAULT 7 from the octets of each row, and the
-/// number of octets consumed.
-pub fn assert_reads_default(rt: &impl Abort, alloc: Global, rows: &[Row]) {
-    for (octets, rules, text, consumed) in rows {
-        let mut decoder = decoder_of(alloc, octets, *rules);
-        let answer = decoder.decode_default::<u8, _>(|| Ok(7));
-        assert_answer(rt, alloc, *rules, answer, text);
-        assert_row(rt, octets, *rules, decoder.decoded_len() == *consumed);
-    }
-}
-
 /// Asserts the result of reading a value of the type from the octets of each row, and the number of
 /// octets consumed.
 pub fn assert_reads<T: Decode + Debug>(rt: &impl Abort, alloc: Global, rows: &[Row]) {
@@ -194,51 +125,6 @@ pub fn assert_reads<T: Decode + Debug>(rt: &impl Abort, alloc: Global, rows: &[R
         assert_answer(rt, alloc, *rules, T::decode(&mut decoder), text);
         assert_row(rt, octets, *rules, decoder.decoded_len() == *consumed);
     }
-}
-
-/// A value that consists of octets.
-pub trait Octets: Drop {
-    /// Returns the octets.
-    fn octets(&self) -> &[u8];
-}
-
-impl Octets for Any {
-    fn octets(&self) -> &[u8] {
-        self.as_bytes()
-    }
-}
-
-impl Octets for Integer {
-    fn octets(&self) -> &[u8] {
-        self.as_octets()
-    }
-}
-
-impl<S: StringType> Octets for RestrictedString<S> {
-    fn octets(&self) -> &[u8] {
-        self.as_octets()
-    }
-}
-
-impl Octets for BmpString {
-    fn octets(&self) -> &[u8] {
-        self.as_octets()
-    }
-}
-
-impl<const N: usize> Octets for FixedOctetString<N> {
-    fn octets(&self) -> &[u8] {
-        self.as_octets()
-    }
-}
-
-/// Asserts that a call returns a value with these octets.
-pub fn assert_has_octets<T: Octets>(
-    rt: &impl Abort,
-    answer: Result<T, DecodeError>,
-    octets: &[u8],
-) {
-    assert!(rt; value(rt, answer).octets() == octets);
 }
 
 /// Returns whether a call returns these octets, borrowed or owned as `is_borrowed` says.

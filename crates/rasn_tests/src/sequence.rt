@@ -5,5 +5,4 @@ mod fieldless;
 mod fields;
 mod lengths;
 mod nested;
-mod segments;
 mod settings;

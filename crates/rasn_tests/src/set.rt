@@ -2,14 +2,10 @@
 //! calls that write into a vector or with a closure.
 
 mod components;
-mod defaults;
 mod elements;
 mod faults;
 mod order;
 mod outputs;
 mod parts;
-mod reads;
 mod reads_set;
-mod refusals;
 mod set_of;
-mod sorted;

@@ -1,4 +1,3 @@
 //! Encodings that DER alone refuses, since it writes others (X.690 10, 11).
 
-mod defaults;
 mod rules;

@@ -3,6 +3,5 @@
 mod alphabets;
 mod bit_string;
 mod character_string;
-mod checked;
 mod octet_string;
 mod packing;

@@ -5,9 +5,7 @@ use crate::reading::{assert_text, held, kind_text};
 use rasn_enc::ber::enc::{Encoder, EncoderOptions};
 use rasn_enc::enc::Encode;
 use rasn_types::error::EncodeError;
-use rasn_types::types::{
-    BitString, Bound, Bounded, Codec, Constraints, ObjectIdentifier, OctetString,
-};
+use rasn_types::types::{Bound, Bounded, Codec, Constraints, ObjectIdentifier, OctetString};
 use std::alloc::{AllocError, Global};
 use std::process::Abort;
 
@@ -105,12 +103,6 @@ pub fn of_pieces(alloc: Global, pieces: &[Piece<'_>]) -> Result<Vec<u8>, AllocEr
 pub fn repeated(alloc: Global, octet: u8, count: usize) -> Result<Option<OctetString>, AllocError> {
     let octets = vec![in alloc; octet; count]?;
     Ok(Some(OctetString::from_vec(octets)))
-}
-
-/// Returns `count` bits, all set.
-pub fn set_bits(alloc: Global, count: usize) -> Result<Option<BitString>, AllocError> {
-    let octets = vec![in alloc; 0xFF; count / 8 + 1]?;
-    Ok(BitString::new(octets, count))
 }
 
 /// Returns the object identifier of these arcs.

@@ -69,14 +69,21 @@ impl DefaultValue for Active {
 }
 
 impl Decode for Account {
+    ghost use Rattle.rasn_de.specs.PartTypes.{DecodesSequenceParts};
+    ghost use Rattle.rasn_de.specs.ValueErrors.{errors_of};
+
+    ghost errors = { λ tag _. errors_of (DecodesSequenceParts ⟦<Parts as DecodeParts>⟧.parts ⟦<Parts as DecodeParts>⟧.tree ⟦<Parts as DecodeParts>⟧.errors tag) };
+
     fn decode_with_tag_and_constraints(
         decoder: &mut Decoder<'_>,
         tag: Tag,
         _constraints: &Constraints,
     ) -> Result<Account, DecodeError> {
-        let Required(id, Required(name, Defaulted(active, rest))) = decoder.read_sequence::<Parts>(
-            tag,
-        )?;
+        let parts = match decoder.read_sequence::<Parts>(tag) {
+            Ok(parts) => parts,
+            Err(error) => return Err(error),
+        };
+        let Required(id, Required(name, Defaulted(active, rest))) = parts;
         let Required(quota, Optional(email, Required(role, End))) = rest;
         Ok(Account {
             id,

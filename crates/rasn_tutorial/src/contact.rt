@@ -49,14 +49,21 @@ impl Present for Contact {
 }
 
 impl Decode for Contact {
+    ghost use Rattle.std.specs.Prelude.{codes};
+    ghost use Rattle.rasn_de.specs.AlternativeTypes.{DecodesAlternativeBy};
+    ghost use Rattle.rasn_de.specs.ValueErrors.{errors_of, IsErrorByTag};
+
+    ghost errors = { λ _ _ old e new. errors_of (DecodesAlternativeBy ⟦<Alternatives as DecodeAlternatives>⟧.extensible ⟦<Alternatives as DecodeAlternatives>⟧.parts ⟦<Alternatives as DecodeAlternatives>⟧.inner (codes "Contact")) old e new × IsErrorByTag ⟦<Alternatives as DecodeAlternatives>⟧.errors old e new };
+
     fn decode_with_tag_and_constraints(
         decoder: &mut Decoder<'_>,
         _tag: Tag,
         _constraints: &Constraints,
     ) -> Result<Contact, DecodeError> {
-        match decoder.read_choice::<Alternatives>("Contact")? {
-            OneOf::This(address) => Ok(Contact::Email(address)),
-            OneOf::Other(Last(number)) => Ok(Contact::Phone(number)),
+        match decoder.read_choice::<Alternatives>("Contact") {
+            Ok(OneOf::This(address)) => Ok(Contact::Email(address)),
+            Ok(OneOf::Other(Last(number))) => Ok(Contact::Phone(number)),
+            Err(error) => Err(error),
         }
     }
 }

@@ -4,18 +4,18 @@
 mod rust;
 mod words;
 
-use clap::{ArgMatches, Command};
+use clap::Command;
 use rasn_compiler::{Modules, Source};
 use rasn_print::{
-    Call, ColorChoice, Fault, Known, MessageType, Session, Tools, Work, call_of, command, known_of,
-    modules_of, print_types, wanted_type,
+    Call, ColorChoice, Context, Fault, Session, Work, call_of, command, known_of, message_types,
+    modules_of, print_notation, print_types, types_for,
 };
 use rust::{run_rust, rust_command};
 use std::alloc::{AllocError, Global};
 use std::fs::{self, File};
 use std::io::{BufReader, BufWriter, ErrorKind, IsTerminal, Read, Write};
 use std::process::ExitCode;
-use std::{env, fmt, io};
+use std::{env, fmt, io, str};
 use words::{is_marked, name_shown, words_of, words_shown};
 
 /// The exit status of a program that refuses a message.
@@ -51,15 +51,18 @@ fn failed(rt: &HostRuntime, text: &str) -> ExitCode {
 
 /// Runs the program for its arguments. Returns its exit status.
 fn run(rt: &HostRuntime) -> Result<u8, Fault> {
+    let alloc = rt.alloc();
     let words = words_of(rt)?;
-    run_words(rt, words.as_slice())
-}
-
-/// Runs the program for these words.
-fn run_words(rt: &HostRuntime, words: &[String]) -> Result<u8, Fault> {
-    match whole_command(rt.alloc())?.try_get_matches_from(words) {
-        Ok(matches) => run_matches(rt, matches),
-        Err(error) => refuse_words(rt, words, error),
+    let matches = match whole_command(alloc)?.try_get_matches_from(words.as_slice()) {
+        Ok(matches) => matches,
+        Err(error) => return refuse_words(rt, words.as_slice(), error),
+    };
+    if let Some(("rust", inner)) = matches.subcommand() {
+        return run_rust(rt, inner);
+    }
+    match call_of(alloc, &matches)? {
+        Some(call) => run_call(rt, &call),
+        None => Ok(USAGE),
     }
 }
 
@@ -79,17 +82,6 @@ fn refuse_words(rt: &HostRuntime, words: &[String], error: clap::Error) -> Resul
     };
     error.print(rt).map_err(Fault::of_write)?;
     Ok(if error.exit_code() == 0 { 0 } else { USAGE })
-}
-
-/// Runs the call that the command line asks for.
-fn run_matches(rt: &HostRuntime, matches: ArgMatches<'_>) -> Result<u8, Fault> {
-    if let Some(("rust", inner)) = matches.subcommand() {
-        return run_rust(rt, inner);
-    }
-    match call_of(rt.alloc(), &matches)? {
-        Some(call) => run_call(rt, &call),
-        None => Ok(USAGE),
-    }
 }
 
 /// Returns the texts of modules as sources.
@@ -116,55 +108,59 @@ fn run_call(rt: &HostRuntime, call: &Call) -> Result<u8, Fault> {
         if is_marked(name) {
             return unreadable_as(rt, name, &NO_NAME);
         }
-        match fs::read_to_string(rt, name.as_str()) {
+        match read_text(rt, name.as_str()) {
             Ok(text) => texts.push((name.as_str(), text))?,
             Err(error) => return unreadable(rt, name, &error),
         }
     }
     let sources = sources_of(alloc, texts.as_slice())?;
-    run_sources(rt, call, sources.as_slice())
-}
-
-/// Runs a call of the program with these texts of modules.
-fn run_sources(rt: &HostRuntime, call: &Call, sources: &[Source<'_>]) -> Result<u8, Fault> {
-    let read = modules_of(rt.alloc(), sources)?;
-    run_modules(rt, call, &read)
-}
-
-/// Runs a call of the program with these modules.
-fn run_modules(rt: &HostRuntime, call: &Call, read: &Modules<'_>) -> Result<u8, Fault> {
-    let known = known_of(rt.alloc(), read)?;
-    run_known(rt, call, read, &known)
-}
-
-/// Runs a call of the program with these modules and the types of what is in open types.
-fn run_known(
-    rt: &HostRuntime,
-    call: &Call,
-    read: &Modules<'_>,
-    known: &Known,
-) -> Result<u8, Fault> {
-    let wanted = wanted_type(rt.alloc(), read, call)?;
-    run_wanted(rt, call, read, known, wanted.as_ref())
-}
-
-/// Runs a call of the program that asks for this type.
-fn run_wanted<'a, 'text>(
-    rt: &HostRuntime,
-    call: &'a Call,
-    read: &'a Modules<'text>,
-    known: &'a Known,
-    wanted: Option<&'a MessageType<'text>>,
-) -> Result<u8, Fault> {
-    let tools = Tools {
-        alloc: rt.alloc(),
+    let (read, faults) = modules_of(alloc, sources.as_slice())?;
+    eprint!(rt; "{faults}").map_err(Fault::of_write)?;
+    if call.work == Work::Types {
+        let are_whole = run_types(rt, &read, call.type_name.as_ref())? && faults.is_empty();
+        return Ok(if are_whole { 0 } else { REFUSED });
+    }
+    let wanted = types_for(alloc, &read, call)?;
+    let (known, catalog) = known_of(alloc, &read, wanted.as_slice())?;
+    let types = message_types(alloc, &read, &known, &catalog, call)?;
+    let context = Context {
+        alloc,
         call,
-        read,
-        known,
-        wanted,
+        known: &known,
+        types: types.as_slice(),
         is_colored: is_colored(rt, call.color),
     };
-    run_work(rt, tools)
+    run_work(rt, context)
+}
+
+/// Reads a file of modules. Octets that aren't UTF-8 are characters of ISO 8859-1, which a module
+/// has in comments at most.
+pub(crate) fn read_text(rt: &HostRuntime, name: &str) -> io::Result<String> {
+    let octets = fs::read(rt, name)?;
+    let mut text = String::new(rt.alloc());
+    match str::from_utf8(&octets) {
+        Ok(read) => text.push_str(read)?,
+        Err(_) => {
+            for octet in &octets {
+                text.push(char::from(*octet))?;
+            }
+        }
+    }
+    Ok(text)
+}
+
+/// Prints the types of the modules, or one of them. Returns whether each has a schema.
+fn run_types(rt: &HostRuntime, read: &Modules<'_>, name: Option<&String>) -> Result<bool, Fault> {
+    let mut output = BufWriter::new(rt.alloc(), rt.stdout()).map_err(Fault::of_write)?;
+    let are_whole = match name {
+        Some(name) => {
+            print_notation(rt.alloc(), read, name, &mut output)?;
+            true
+        }
+        None => print_types(rt.alloc(), read, &mut output)?,
+    };
+    output.flush().map_err(Fault::of_write)?;
+    Ok(are_whole)
 }
 
 /// Returns whether names are in bold: unless it is asked for, on a terminal where `NO_COLOR` isn't
@@ -177,46 +173,28 @@ fn is_colored(rt: &HostRuntime, color: ColorChoice) -> bool {
     }
 }
 
-/// Runs the work of a call.
-fn run_work(rt: &HostRuntime, tools: Tools<'_, '_>) -> Result<u8, Fault> {
-    let alloc = tools.alloc;
-    let mut output = BufWriter::new(alloc, rt.stdout()).map_err(Fault::of_write)?;
-    if tools.call.work == Work::Types {
-        print_types(alloc, tools.read, &mut output)?;
-        output.flush().map_err(Fault::of_write)?;
-        return Ok(0);
-    }
+/// Runs the work of a call on each file, or on standard input without one. Returns the exit status.
+fn run_work(rt: &HostRuntime, context: Context<'_>) -> Result<u8, Fault> {
+    let output = BufWriter::new(context.alloc, rt.stdout()).map_err(Fault::of_write)?;
     let mut session = Session {
-        tools,
+        context,
         output,
         refusals: rt.stderr(),
         is_refused: false,
     };
-    let status = inputs(rt, tools.call.files.as_slice(), &mut session)?;
-    session.flush()?;
-    if status == 0 && session.is_refused {
-        return Ok(REFUSED);
-    }
-    Ok(status)
-}
-
-/// Works on each file, or on standard input without one. Returns the exit status of files that
-/// can't be read.
-fn inputs<W: Write + Drop, E: Write + Drop>(
-    rt: &HostRuntime,
-    files: &[String],
-    session: &mut Session<'_, '_, W, E>,
-) -> Result<u8, Fault> {
-    if files.is_empty() {
-        return file_source(rt, STDIN, session);
-    }
-    let has_progress = has_progress(rt, session.tools.call.work, files.len());
+    let files = context.call.files.as_slice();
+    let has_progress = has_progress(rt, context.call.work, files.len());
     let mut status = 0;
+    if context.call.work == Work::Example {
+        session.example()?;
+    } else if files.is_empty() {
+        status = file_source(rt, STDIN, &mut session)?;
+    }
     for (index, name) in files.iter().enumerate() {
         if has_progress {
             print_progress(rt, index, files.len())?;
         }
-        let answer = file_source(rt, name.as_str(), session)?;
+        let answer = file_source(rt, name.as_str(), &mut session)?;
         if answer != 0 {
             status = answer;
         }
@@ -224,14 +202,19 @@ fn inputs<W: Write + Drop, E: Write + Drop>(
     if has_progress {
         eprint!(rt; "{ERASED}").map_err(Fault::of_write)?;
     }
-    Ok(status)
+    session.flush()?;
+    Ok(if status == 0 && session.is_refused {
+        REFUSED
+    } else {
+        status
+    })
 }
 
 /// Works on the file with this name. Returns the exit status.
 fn file_source<W: Write + Drop, E: Write + Drop>(
     rt: &HostRuntime,
     name: &str,
-    session: &mut Session<'_, '_, W, E>,
+    session: &mut Session<'_, W, E>,
 ) -> Result<u8, Fault> {
     if name == STDIN {
         return source(rt, "standard input", rt.stdin(), session);
@@ -262,10 +245,10 @@ fn source<R: Read + Drop, W: Write + Drop, E: Write + Drop>(
     rt: &HostRuntime,
     name: &str,
     reader: R,
-    session: &mut Session<'_, '_, W, E>,
+    session: &mut Session<'_, W, E>,
 ) -> Result<u8, Fault> {
     let alloc = rt.alloc();
-    if session.tools.call.has_lines {
+    if session.context.call.has_lines {
         let reader = BufReader::new(alloc, reader).map_err(Fault::of_write)?;
         session.lines(name, reader)?;
         return Ok(0);

@@ -1,13 +1,11 @@
 //! The subcommand `rust`, which writes a crate of typed Rattle for the types of modules.
 
 use crate::words::{is_marked, name_shown};
-use crate::{NO_NAME, REFUSED, USAGE, sources_of, unreadable, unreadable_as};
+use crate::{NO_NAME, REFUSED, USAGE, read_text, sources_of, unreadable, unreadable_as};
 use clap::{Arg, ArgAction, ArgMatches, Command};
-use rasn_compiler::{Modules, Source, Stop};
+use rasn_compiler::{Modules, Source};
 use rasn_print::{Fault, modules_of};
-use rasn_rattle::{
-    File, HOLDER_NAMES, Held, Holder, Options, crate_files, holder_of, is_crate_name,
-};
+use rasn_rattle::{File, Options, crate_files, is_crate_name, types_held};
 use rasn_text::{Escaping, visible};
 use std::alloc::{AllocError, Global};
 use std::{fs, io};
@@ -129,7 +127,7 @@ fn run_options(
         if is_marked(file) {
             return unreadable_as(rt, file, &NO_NAME);
         }
-        match fs::read_to_string(rt, *file) {
+        match read_text(rt, *file) {
             Ok(text) => texts.push((*file, text))?,
             Err(error) => return unreadable(rt, file, &error),
         }
@@ -154,7 +152,7 @@ fn run_files<'a>(
         let Some((crate_name, file)) = value.split_once("=") else {
             return wrong(rt, value, "not CRATE=FILE, as --from has it");
         };
-        match fs::read_to_string(rt, file) {
+        match read_text(rt, file) {
             Ok(text) => {
                 add_from(&mut options, crate_name, file, text.as_str())?;
                 texts.push((file, text))?;
@@ -194,63 +192,32 @@ fn run_texts<'a>(
     options: &Options,
     folder: &str,
 ) -> Result<u8, Fault> {
-    let mut texts = texts;
-    match held_types(options, texts.as_slice(), wanted)? {
-        Ok(Holder { text, held }) => {
-            let (module, _held) = HOLDER_NAMES;
-            texts.push((module, text))?;
-            run_held(rt, texts.as_slice(), &held, options, folder)
-        }
-        Err(faults) => refused(rt, faults.as_str()),
-    }
-}
-
-/// Returns the module that holds the types of the modules of these texts, the first ones, as many
-/// as `wanted`, and of what they import, or the faults of the texts.
-fn held_types<'a>(
-    options: &Options,
-    texts: &'a [(&'a str, String)],
-    wanted: usize,
-) -> Result<Result<Holder, String>, Fault> {
     let alloc = options.alloc();
-    let sources = sources_of(alloc, texts)?;
+    let sources = sources_of(alloc, texts.as_slice())?;
     let own = sources.as_slice().get(..wanted).unwrap_or(&[]);
     let own = Modules::parse(alloc, own)?;
-    let read = match modules_of(alloc, sources.as_slice()) {
-        Ok(read) => read,
-        Err(Fault::Call(faults)) => return Ok(Err(faults)),
-        Err(fault) => return Err(fault),
-    };
+    let (read, faults) = modules_of(alloc, sources.as_slice())?;
+    if !faults.is_empty() {
+        return refused(rt, faults.as_str());
+    }
     if let Some(name) = options.unknown_in(&read) {
         let text = format!(in alloc;
             "no type {name} is known; `soqavise types` prints those that are known"
         )?;
         return Err(Fault::of_call(alloc, &text));
     }
-    Ok(Ok(holder_of(options, &read, own.modules.len())?))
-}
-
-/// Writes the crate of the types that the last of these texts holds.
-fn run_held<'a>(
-    rt: &HostRuntime,
-    texts: &'a [(&'a str, String)],
-    held: &Held,
-    options: &Options,
-    folder: &str,
-) -> Result<u8, Fault> {
-    let alloc = rt.alloc();
-    let sources = sources_of(alloc, texts)?;
-    let read = modules_of(alloc, sources.as_slice())?;
-    let (module, name) = HOLDER_NAMES;
-    match read.schema(alloc, module, name) {
-        Ok(resolved) => {
-            let files = crate_files(options, resolved, held)?;
+    match types_held(options, &read, own.modules.len())? {
+        Ok(held) => {
+            let files = crate_files(options, held)?;
             write_files(rt, folder, options, files.as_slice())
         }
-        Err(Stop::OutOfMemory) => Err(Fault::Memory),
-        Err(stop) => {
-            let stop = visible(alloc, Escaping::Line, stop.to_string(alloc)?.as_str())?;
-            refused(rt, format!(in alloc; "{stop}\n{WITHOUT}")?.as_str())
+        Err(found) => {
+            let fault = visible(
+                alloc,
+                Escaping::Line,
+                found.fault.to_string(alloc)?.as_str(),
+            )?;
+            refused(rt, format!(in alloc; "{fault}\n{WITHOUT}")?.as_str())
         }
     }
 }

@@ -3,10 +3,10 @@
 #![tactic(auto)]
 
 use clap::ArgMatches;
-use rasn_compiler::Modules;
+use rasn_compiler::{Modules, Source};
 use rasn_print::{
-    Call, ColorChoice, Fault, Known, MessageType, Session, Tools, call_of, command, known_of,
-    modules_of, wanted_type,
+    Catalog, ColorChoice, Context, Fault, Known, Session, Work, call_of, command, known_of,
+    message_types, modules_of,
 };
 use std::alloc::{AllocError, Global};
 use std::io::{BufRead, BufReader, BufWriter, Write};
@@ -20,18 +20,42 @@ fn main(rt: HostRuntime) -> ExitCode {
     }
 }
 
+/// A module that isn't built in, as if all calls had `--module points.asn1`: its type Point is used
+/// by Shape, and Shape by itself alone.
+const POINTS: Source<'static> = Source {
+    name: "points.asn1",
+    text: "Points DEFINITIONS AUTOMATIC TAGS ::= BEGIN \
+        Shape ::= [PRIVATE 1] SEQUENCE { points SEQUENCE OF Point, next Shape OPTIONAL } \
+        Point ::= [PRIVATE 2] SEQUENCE { x INTEGER, y INTEGER } \
+        END",
+};
+
+/// The types that calls may ask for.
+#[derive(Clone, Copy)]
+struct Types<'a, 'text> {
+    read: &'a Modules<'text>,
+    known: &'a Known,
+    catalog: &'a Catalog<'text>,
+}
+
 /// Prints each row, and what its call prints.
 fn run_rows(rt: &HostRuntime) -> Result<(), Fault> {
     let alloc = rt.alloc();
-    let read = modules_of(alloc, &[])?;
-    let known = known_of(alloc, &read)?;
+    let (read, _) = modules_of(alloc, &[POINTS])?;
+    let types = read.types(alloc)?;
+    let (known, catalog) = known_of(alloc, &read, types.as_slice())?;
+    let types = Types {
+        read: &read,
+        known: &known,
+        catalog: &catalog,
+    };
     let input = BufReader::new(alloc, rt.stdin()).map_err(Fault::of_write)?;
     let mut output = BufWriter::new(alloc, rt.stdout()).map_err(Fault::of_write)?;
     for line in input.lines(alloc) {
         let line = line.map_err(Fault::of_write)?;
         writeln!(output, "{line}").map_err(Fault::of_write)?;
         if !line.is_empty() && !line.starts_with('#') {
-            let answer = answer_of(alloc, &read, &known, &line)?;
+            let answer = answer_of(alloc, types, &line)?;
             writeln!(output, "{answer}").map_err(Fault::of_write)?;
         }
     }
@@ -39,12 +63,7 @@ fn run_rows(rt: &HostRuntime) -> Result<(), Fault> {
 }
 
 /// Returns what the call of a line prints, and `status 1` if that is its exit status.
-fn answer_of(
-    alloc: Global,
-    read: &Modules<'_>,
-    known: &Known,
-    line: &str,
-) -> Result<String, Fault> {
+fn answer_of(alloc: Global, types: Types<'_, '_>, line: &str) -> Result<String, Fault> {
     let (call, input) = match line.split_once('"') {
         Some((call, text)) => (call.trim_ascii_end(), unquoted(alloc, text)?),
         None => match line.rsplit_once(' ') {
@@ -57,19 +76,18 @@ fn answer_of(
     for word in call.split(' ') {
         words.push(word)?;
     }
-    answer_to_words(alloc, read, known, words.as_slice(), input.as_bytes())
+    answer_to_words(alloc, types, words.as_slice(), input.as_bytes())
 }
 
 /// Returns what the call of these words prints for an input.
 fn answer_to_words(
     alloc: Global,
-    read: &Modules<'_>,
-    known: &Known,
+    types: Types<'_, '_>,
     words: &[&str],
     input: &[u8],
 ) -> Result<String, Fault> {
     match command(alloc)?.try_get_matches_from(words) {
-        Ok(matches) => answer_to_matches(alloc, read, known, matches, input),
+        Ok(matches) => answer_to_matches(alloc, types, matches, input),
         Err(error) => Ok(format!(in alloc; "{error}")?),
     }
 }
@@ -77,36 +95,22 @@ fn answer_to_words(
 /// Returns what the call that a command line asks for prints for an input.
 fn answer_to_matches(
     alloc: Global,
-    read: &Modules<'_>,
-    known: &Known,
+    types: Types<'_, '_>,
     matches: ArgMatches<'_>,
     input: &[u8],
 ) -> Result<String, Fault> {
     let Some(call) = call_of(alloc, &matches)? else {
         return Ok(String::from_str(alloc, "is no call")?);
     };
-    let wanted = wanted_type(alloc, read, &call)?;
-    answer_to_call(alloc, &call, read, known, wanted.as_ref(), input)
-}
-
-/// Returns what a call that asks for this type prints for an input.
-fn answer_to_call<'a, 'text>(
-    alloc: Global,
-    call: &'a Call,
-    read: &'a Modules<'text>,
-    known: &'a Known,
-    wanted: Option<&'a MessageType<'text>>,
-    input: &[u8],
-) -> Result<String, Fault> {
-    let tools = Tools {
+    let wanted = message_types(alloc, types.read, types.known, types.catalog, &call)?;
+    let context = Context {
         alloc,
-        call,
-        read,
-        known,
-        wanted,
+        call: &call,
+        known: types.known,
+        types: wanted.as_slice(),
         is_colored: call.color == ColorChoice::Always,
     };
-    run(tools, input)
+    run(context, input)
 }
 
 /// Returns a text in which `\n` is a line feed, `\e` an escape character and `\m` a byte order mark,
@@ -123,15 +127,17 @@ fn unquoted(alloc: Global, text: &str) -> Result<String, AllocError> {
 }
 
 /// Returns what a call prints for an input.
-fn run(tools: Tools<'_, '_>, input: &[u8]) -> Result<String, Fault> {
-    let alloc = tools.alloc;
+fn run(context: Context<'_>, input: &[u8]) -> Result<String, Fault> {
+    let alloc = context.alloc;
     let mut session = Session {
-        tools,
+        context,
         output: Vec::new(alloc),
         refusals: Vec::new(alloc),
         is_refused: false,
     };
-    if session.tools.call.has_lines {
+    if context.call.work == Work::Example {
+        session.example()?;
+    } else if context.call.has_lines {
         session.lines(
             "input",
             BufReader::new(alloc, input).map_err(Fault::of_write)?,

@@ -1,5 +1,5 @@
 -- A CHOICE is refused in one way if its alternatives are.
-use Rattle.std.proofs.Common.{◌≡◌, ℕ, suc, ◌⊎◌, inl, inr, List, Bool, true, false, Some, Err, refl, sym, ◌∙◌, subst}
+use Rattle.std.proofs.Common.{◌≡◌, ℕ, suc, ◌⊎◌, inl, inr, List, Bool, true, false, Some, Ok, Err, refl, sym, ◌∙◌, subst}
 use Rattle.rasn_types.specs.declared.types.tag.Tag.{Tag}
 use Rattle.rasn_types.specs.declared.error.decode.DecodeError.{DecodeError}
 use Rattle.rasn_types.specs.Errors.{IsOutOfMemory}
@@ -7,7 +7,6 @@ use Rattle.rasn_types.specs.Tags.{form, eoc}
 use Rattle.rasn_types.specs.Framing.{AreOctets, NextTag}
 use Rattle.rasn_types.specs.Shapes.{Tree, Shape, own, Parts, part, Presence, required, addition, optional_by, default_by, IsFirstOf, choice_by}
 use Rattle.rasn_types.specs.Shapes.Parts.{none}
-use Rattle.rasn_types.specs.Grammar.{Reads}
 use Rattle.rasn_types.proofs.Headers.Frames.{next_one}
 use Rattle.rasn_de.specs.State.{State}
 use Rattle.rasn_de.specs.Steps.{PeeksTag}
@@ -15,14 +14,13 @@ use Rattle.rasn_de.specs.Outcomes.{refusal}
 use Rattle.rasn_de.specs.Decodes.{DecodesExactly}
 use Rattle.rasn_de.specs.NamedErrors.{IsNamedError, IsNoValidChoice}
 use Rattle.rasn_de.specs.AlternativeTypes.{ReadsNumberedBy, FailsAtValue, FailsAtAlternativeBy, DecodesAlternativeBy}
-use Rattle.rasn_de.specs.ValueErrors.{Errors, IsErrorOfAlternative, IsErrorByTag}
-use Rattle.rasn_de.proofs.Headers.Ends.{IsEnd-refl}
-use Rattle.rasn_de.proofs.Leaves.Outcomes.{Exact-none}
+use Rattle.rasn_de.specs.Choice.{DecodesChosen}
+use Rattle.rasn_de.specs.ValueErrors.{Errors, errors_of, DecodesOr, IsErrorOfAlternative, IsErrorByTag}
 use Rattle.rasn_de.proofs.Constructed.Optional.{peeks_none}
-use Rattle.rasn_de.proofs.Constructed.Choice.{choice_by_next}
+use Rattle.rasn_de.proofs.Constructed.Choice.{choice_by_decodes}
 use Rattle.rasn_de.proofs.OwnTypes.AlternativeTypes.{own_tag, other_tag, first_known, first_refused, others_read, none_read, unknown_read, choice_by_read}
 use Rattle.rasn.specs.OneRefusal.{same_choice, IsSameError, ReadsShape, IsRefusedOnce, AreApart, FailsByTag, AreRefusedOnce, HaveOwnTags, ErrorsOfChoice}
-use Rattle.rasn.proofs.OneRefusal.Calls.{exactly_apart, peeks_once}
+use Rattle.rasn.proofs.OneRefusal.Calls.{IsExactCall, exactly_apart, peeks_once}
 use Rattle.rasn.proofs.OneRefusal.Open.{open_type_once}
 
 -- The error with the name of the CHOICE.
@@ -112,16 +110,11 @@ module _ {D : Type 0} (ps : Parts) (tree : D → Tree) (name : List ℕ) where
   choice_fails true old e new a = a
 
 module _ {D : Type 0} (extensible : Bool) (ps : Parts) (tree : D → Tree) (name : List ℕ) (errors : Tag → Errors) where
-  choice_exact : HaveOwnTags ps → (old : State) → AreOctets old.rest → (e : DecodeError) (new : State) → ErrorsOfChoice extensible ps tree name errors old e new → DecodesExactly (ReadsShape (choice_by extensible ps)) old (refusal e.kind) new
+  pub choice_exact : HaveOwnTags ps → (old : State) → AreOctets old.rest → (e : DecodeError) (new : State) → ErrorsOfChoice extensible ps tree name errors old e new → DecodesExactly (ReadsShape (choice_by extensible ps)) old (refusal e.kind) new
   choice_exact tags old o e new (a, b) = go (choice_fails ps tree name extensible old e new a)
     where
       go : (PeeksTag old (Err e) × (new ≡ old)) ⊎ ((tag : Tag) × NextTag (form old.rule) old.rest tag × FailsAtAlternativeBy extensible ps name tag old e new) → DecodesExactly (ReadsShape (choice_by extensible ps)) old (refusal e.kind) new
-      go (inl (p, s)) = subst (λ (z : State). DecodesExactly (ReadsShape (choice_by extensible ps)) old (refusal e.kind) z) (sym s) (record {
-        stays = refl;
-        end = IsEnd-refl old.rest;
-        exact = Exact-none e.kind (Reads old.rule (choice_by extensible ps) old.depth old.closing) old.rest
-            (λ t rest r. let n = choice_by_next extensible old.rule ps old.depth old.closing old.rest t rest r in peeks_none old e p n.0 n.1);
-      })
+      go (inl (p, s)) = choice_by_decodes extensible (choice_by extensible ps) ps refl tree old (Err e) new (inl (p, s))
       go (inr (tag, n, x)) = choice_by_read extensible ps (alternatives_fail extensible ps name tag tags old e new n x 0)
 
   choice_once : AreRefusedOnce extensible ps name errors → IsRefusedOnce (ErrorsOfChoice extensible ps tree name errors)
@@ -131,3 +124,19 @@ module _ {D : Type 0} (extensible : Bool) (ps : Parts) (tree : D → Tree) (name
 
   pub choice_apart : HaveOwnTags ps → AreRefusedOnce extensible ps name errors → AreApart (ErrorsOfChoice extensible ps tree name errors) (ReadsShape (choice_by extensible ps))
   choice_apart tags apart = exactly_apart _ (ReadsShape (choice_by extensible ps)) (choice_exact tags) (choice_once apart)
+
+-- A CHOICE that is read by the function of its type for the next tag.
+module _ {D : Type 0} (extensible : Bool) (s : Shape) (ps : Parts) (is : s ≡ choice_by extensible ps) (tree : D → Tree) (errors : Errors) where
+  pub chosen_exact : IsExactCall (DecodesChosen (DecodesOr s tree errors)) (ReadsShape s) tree
+  chosen_exact old o (Ok v) new (tag, n, a) = a.0
+  chosen_exact old o (Err e) new (inl a) = choice_by_decodes extensible s ps is tree old (Err e) new (inl a)
+  chosen_exact old o (Err e) new (inr (tag, n, a)) = a.0
+
+  chosen_once : IsRefusedOnce errors → IsRefusedOnce (errors_of (DecodesChosen (DecodesOr s tree errors)))
+  chosen_once once old o e f new other (inl (a, p), m) (inl (b, q), n) = (peeks_once old e f a b, p ∙ sym q)
+  chosen_once once old o e f new other (inl (a, p), m) (inr (tag, k, b), n) = absurd (peeks_none old e a tag k)
+  chosen_once once old o e f new other (inr (tag, k, a), m) (inl (b, q), n) = absurd (peeks_none old f b tag k)
+  chosen_once once old o e f new other (inr (tag, k, a), m) (inr (t, l, b), n) = once old o e f new other (a.1, m) (b.1, n)
+
+  pub chosen_apart : IsRefusedOnce errors → AreApart (errors_of (DecodesChosen (DecodesOr s tree errors))) (ReadsShape s)
+  chosen_apart once = exactly_apart _ (ReadsShape s) (λ old o e new a. chosen_exact old o (Err e) new a) (chosen_once once)

@@ -9,7 +9,7 @@ use Rattle.rasn_types.specs.Shapes.{Tree, Shape, prefix, option, Key, own_tag, f
 use Rattle.rasn_types.specs.Grammar.{Reads, parts_of}
 use Rattle.rasn_de.specs.State.{State, Call}
 use Rattle.rasn_de.specs.Outcomes.{refusal}
-use Rattle.rasn_de.specs.Decodes.{DecodesExactly}
+use Rattle.rasn_de.specs.Decodes.{DecodesExactly, Decodes}
 use Rattle.rasn_de.specs.ValueErrors.{Errors, errors_of, DecodesOr}
 use Rattle.rasn_de.specs.Prefix.{DecodesPrefixBy}
 use Rattle.rasn_de.specs.Optional.{OnePart, NextIs, DecodesIfSought, DecodesIfPresent, MakesValue, DecodesSoughtOrDefault, DecodesOrDefault, FailsWithDefault, no_look, no_default, no_read, not_compared, present}
@@ -23,6 +23,17 @@ not_looked : (tags : Sought) (s : State) (e : DecodeError) → NextIs tags s (Er
 not_looked (one_tag (Some tag)) s e (needs, n, p) t = peeks_none s e p tag t.1
 not_looked (one_tag None) s e (needs, n, p) t = needs refl
 not_looked (any_of P) s e (needs, n, p) t = peeks_none s e p t.1 t.2
+
+-- What an exact call reads where a value has a default.
+pub made_exact : {D : Type 0} (read : Call D) (s : Shape) (tree : D → Tree) → IsExactCall read (ReadsShape s) tree → (tags : Sought) (made : Result D AllocError → Type 0) (old : State) → AreOctets old.rest → (r : Result D DecodeError) (new : State)
+    → DecodesSoughtOrDefault read tree made tags old r new → DecodesSoughtOrDefault (Decodes s tree) tree made tags old r new
+made_exact read s tree exact tags made old o (Ok v) new (inl a) = inl a
+made_exact read s tree exact tags made old o (Ok v) new (inr (t, k, n)) = inr (t, exact old o (Ok v) new k, n)
+made_exact read s tree exact tags made old o (Err e) new (no_look a q) = no_look a q
+made_exact read s tree exact tags made old o (Err e) new (no_default a m q) = no_default a m q
+made_exact read s tree exact tags made old o (Err e) new (no_read t k) = no_read t (exact old o (Err e) new k)
+made_exact read s tree exact tags made old o (Err e) new (not_compared t v k h m) = not_compared t v (exact old o (Ok v) new k) h m
+made_exact read s tree exact tags made old o (Err e) new (present t v k h u m same w) = present t v (exact old o (Ok v) new k) h u m same w
 
 module _ {D : Type 0} (read : Call D) (s : Shape) (tree : D → Tree) (exact : IsExactCall read (ReadsShape s) tree) (once : IsRefusedOnce (errors_of read)) where
   module _ (tags : Sought) where
@@ -41,11 +52,7 @@ module _ {D : Type 0} (read : Call D) (s : Shape) (tree : D → Tree) (exact : I
 
     module _ (key : Key) (made : Result D AllocError → Type 0) (d : Tree) (is : (v : D) → made (Ok v) → tree v ≡ d) where
       default_exact : (old : State) → AreOctets old.rest → (e : DecodeError) (new : State) → DecodesSoughtOrDefault read tree made tags old (Err e) new → DecodesExactly (ReadsSoughtDefault key tags d s) old (refusal e.kind) new
-      default_exact old o e new (no_look a q) = sought_default_decodes key s tree made tags old (Err e) new (no_look a q) d is
-      default_exact old o e new (no_default a m q) = sought_default_decodes key s tree made tags old (Err e) new (no_default a m q) d is
-      default_exact old o e new (no_read t k) = sought_default_decodes key s tree made tags old (Err e) new (no_read t (exact old o (Err e) new k)) d is
-      default_exact old o e new (not_compared t v k h m) = sought_default_decodes key s tree made tags old (Err e) new (not_compared t v (exact old o (Ok v) new k) h m) d is
-      default_exact old o e new (present t v k h u m same w) = sought_default_decodes key s tree made tags old (Err e) new (present t v (exact old o (Ok v) new k) h u m same w) d is
+      default_exact old o e new a = sought_default_decodes key s tree made tags old (Err e) new (made_exact read s tree exact tags made old o (Err e) new a) d is
 
       not_made : (old : State) (e : DecodeError) → MakesValue made old (Err e) → (IsOutOfMemory e.kind → ⊥) → ⊥
       not_made old e (x, a, w) n = n (ap (λ (y : DecodeError). y.kind) w)

@@ -18,7 +18,7 @@ use Rattle.rasn_de.proofs.Constructed.Optional.{sought_decodes, sought_default_d
 use Rattle.rasn_de.proofs.OwnTypes.Parts.{part_refused, after_part_refused, keeps_then, call_keeps}
 use Rattle.rasn_de.proofs.OwnTypes.PartTypes.{parts_decode}
 use Rattle.rasn.specs.OneRefusal.{Refuses, ReadsShape, IsRefusedOnce, AreApart}
-use Rattle.rasn.proofs.OneRefusal.Calls.{octets_end, exactly_apart}
+use Rattle.rasn.proofs.OneRefusal.Calls.{octets_end, exactly_apart, IsExactCall}
 use Rattle.rasn.proofs.OneRefusal.Inside.{inside_once}
 
 -- What can't be read as a part, or as parts, isn't related to anything.
@@ -74,11 +74,13 @@ module _ {D : Type 0} (ps : Parts) (tree : D → Tree) (errors : Errors) where
   in_parts_exact old (Ok v) new a = a
   in_parts_exact old (Err e) new (f, a) = parts_fail ps old e new f
 
+  pub sequence_exact : needs_no_initializer ps ≡ true → (tag : Tag) → IsExactCall (DecodesSequenceParts ps tree errors tag) (ReadsShape (seq tag ps)) tree
+  sequence_exact plain tag old o r new a = parts_decode ps plain tree (DecodesInParts ps tree errors) tag old (λ _. o) in_parts_exact r new a
+
   module _ (once : IsRefusedOnce errors) where
     in_parts_once : IsRefusedOnce (errors_of (DecodesInParts ps tree errors))
     in_parts_once old o e f new other (a, m) (b, n) = once old o e f new other (a.1, m) (b.1, n)
 
     pub sequence_apart : needs_no_initializer ps ≡ true → (tag : Tag) → AreApart (errors_of (DecodesSequenceParts ps tree errors tag)) (ReadsShape (seq tag ps))
-    sequence_apart plain tag = exactly_apart _ (ReadsShape (seq tag ps))
-        (λ old o e new a. parts_decode ps plain tree (DecodesInParts ps tree errors) tag old (λ _. o) in_parts_exact (Err e) new a)
+    sequence_apart plain tag = exactly_apart _ (ReadsShape (seq tag ps)) (λ old o e new a. sequence_exact plain tag old o (Err e) new a)
         (inside_once (DecodesInParts ps tree errors) (ReadsParts ps) tree (λ old o r new a. in_parts_exact old r new a) (sequence_header tag) in_parts_once)

@@ -125,6 +125,45 @@ module _ {D : Type 0} (extensible : Bool) (ps : Parts) (tree : D → Tree) (name
   made_once rule readings e f m n (inr (inr (a, k))) (inr (inl (j, b, y))) = absurd (repeated ps j readings b b.after readings b.is a)
   made_once rule readings e f m n (inr (inr (a, (k, x, y)))) (inr (inr (b, (j, z, w)))) = named_missing rule k j e f m n (first_lacking 0 (presences ps) readings k j x z) y w
 
+-- ---- what is read as components, each with its errors, is read as components
+
+module _ {D : Type 0} (extensible : Bool) (ps : Parts) (name : List ℕ) (errors : Tag → Errors) (tree : D → Tree) (names : List (List ℕ)) where
+  abbrev Named : Call Tree
+  Named = DecodesOneOf extensible ps name errors
+
+  abbrev Plain : Call Tree
+  Plain = Decodes (choice_by extensible ps) (λ (t : Tree). t)
+
+  plainly : (old : State) (r : Result Tree DecodeError) (new : State) → Named old r new → Plain old r new
+  plainly old r new a = a.0
+
+  element_by : (here : State) (e : DecodeError) (new : State) → RefusesElement Named here e new → RefusesElement Plain here e new
+  element_by here e new (inl a) = inl a.0
+  element_by here e new (inr (v, a, c)) = inr (v, a.0, c)
+
+  component_by : (bs : List (List ℕ)) (here : State) (e : DecodeError) (new : State) → FailsAtComponent (RefusesElement Named) bs here e new → FailsAtComponent (RefusesElement Plain) bs here e new
+  component_by bs here e new (no_tag a p q) = no_tag a p q
+  component_by bs here e new (falls a t n d w q) = falls a t n d w q
+  component_by bs here e new (not_read f w) = not_read f (element_by here e new w)
+
+  slots_by : (old : State) (r : Result (List Tree) DecodeError) (new : State) → DecodesIntoSlots Named old r new → DecodesIntoSlots Plain old r new
+  slots_by old (Ok vs) new (bs, (p, up), end) = (bs, (turn_from_by Named Plain plainly old vs bs new p, up), end)
+  slots_by old (Err e) new (vs, bs, here, (p, up), x, k) = (vs, bs, here, (turn_from_by Named Plain plainly old vs bs here p, up), x, component_by bs here e new k)
+
+  contents_by : (old : State) (r : Result D DecodeError) (new : State) → DecodesNamedContents extensible ps tree name names errors old r new → DecodesSetPartContents extensible ps tree names old r new
+  contents_by old (Ok v) new (fields, a, x) = (fields, slots_by old (Ok fields) new a, x.0)
+  contents_by old (Err e) new (inl a) = inl (slots_by old (Err e) new a)
+  contents_by old (Err e) new (inr (fields, a, x)) = inr (fields, slots_by old (Ok fields) new a, x.0)
+
+  pub contents_exact : IsExactCall (DecodesNamedContents extensible ps tree name names errors) (SortedSetReads extensible ps) tree
+  contents_exact old o r new a = members_decode extensible ps tree names old r new (contents_by old r new a)
+
+  pub set_exact : (tag : Tag) → IsExactCall (DecodesNamedParts extensible ps tree name names errors tag) (ReadsShape (set_by extensible tag ps)) tree
+  set_exact tag old o r new a =
+      set_parts_decode extensible ps tree tag old r new
+      (sorted_parts_decode extensible ps tree names tag old (λ _. o) r new
+      (inside_by (DecodesNamedContents extensible ps tree name names errors) (DecodesSetPartContents extensible ps tree names) (sequence_header tag) old r new a contents_by))
+
 -- ---- the components
 
 module _ (extensible : Bool) (ps : Parts) (name : List ℕ) (errors : Tag → Errors) (apart : AreRefusedOnce extensible ps name errors) where
@@ -227,32 +266,7 @@ module _ (extensible : Bool) (ps : Parts) (name : List ℕ) (errors : Tag → Er
         let p = slots_same old o vs ws new other a b in
         (made_once extensible ps tree names old.rule ws e f m n (subst (λ z. MakesOfReadings {D = D} extensible ps tree names old.rule z (Err e)) p.0 x.0) y.0, p.1)
 
-    choose : (old : State) (r : Result Tree DecodeError) (new : State) → One old r new → Decodes (choice_by extensible ps) itself old r new
-    choose old r new a = a.0
-
-    element_by : (here : State) (e : DecodeError) (new : State) → RefusesElement One here e new → RefusesElement (Decodes (choice_by extensible ps) itself) here e new
-    element_by here e new (inl a) = inl a.0
-    element_by here e new (inr (v, a, c)) = inr (v, a.0, c)
-
-    component_by : (bs : List (List ℕ)) (here : State) (e : DecodeError) (new : State) → FailsAtComponent (RefusesElement One) bs here e new → FailsAtComponent (RefusesElement (Decodes (choice_by extensible ps) itself)) bs here e new
-    component_by bs here e new (no_tag a p q) = no_tag a p q
-    component_by bs here e new (falls a t n d w q) = falls a t n d w q
-    component_by bs here e new (not_read f w) = not_read f (element_by here e new w)
-
-    slots_by : (old : State) (r : Result (List Tree) DecodeError) (new : State) → DecodesIntoSlots One old r new → DecodesIntoSlots (Decodes (choice_by extensible ps) itself) old r new
-    slots_by old (Ok vs) new (bs, (p, up), end) = (bs, (turn_from_by One (Decodes (choice_by extensible ps) itself) choose old vs bs new p, up), end)
-    slots_by old (Err e) new (vs, bs, here, (p, up), x, k) =
-        (vs, bs, here, (turn_from_by One (Decodes (choice_by extensible ps) itself) choose old vs bs here p, up), x, component_by bs here e new k)
-
-    contents_by : (old : State) (r : Result D DecodeError) (new : State) → DecodesNamedContents extensible ps tree name names errors old r new → DecodesSetPartContents extensible ps tree names old r new
-    contents_by old (Ok v) new (fields, a, x) = (fields, slots_by old (Ok fields) new a, x.0)
-    contents_by old (Err e) new (inl a) = inl (slots_by old (Err e) new a)
-    contents_by old (Err e) new (inr (fields, a, x)) = inr (fields, slots_by old (Ok fields) new a, x.0)
-
     pub set_apart : (tag : Tag) → AreApart (errors_of (DecodesNamedParts extensible ps tree name names errors tag)) (ReadsShape (set_by extensible tag ps))
     set_apart tag = exactly_apart _ (ReadsShape (set_by extensible tag ps))
-        (λ old o e new a. set_parts_decode extensible ps tree tag old (Err e) new
-        (sorted_parts_decode extensible ps tree names tag old (λ _. o) (Err e) new
-        (inside_by (DecodesNamedContents extensible ps tree name names errors) (DecodesSetPartContents extensible ps tree names) (sequence_header tag) old (Err e) new a contents_by)))
-        (inside_once (DecodesNamedContents extensible ps tree name names errors) (SortedSetReads extensible ps) tree
-        (λ old o r new a. members_decode extensible ps tree names old r new (contents_by old r new a)) (sequence_header tag) named_once)
+        (λ old o e new a. set_exact extensible ps name errors tree names tag old o (Err e) new a)
+        (inside_once (DecodesNamedContents extensible ps tree name names errors) (SortedSetReads extensible ps) tree (contents_exact extensible ps name errors tree names) (sequence_header tag) named_once)

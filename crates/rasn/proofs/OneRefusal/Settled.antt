@@ -7,7 +7,7 @@ use Rattle.rasn_types.specs.declared.error.decode.DecodeError.{DecodeError}
 use Rattle.rasn_types.specs.Errors.{IsOutOfMemory}
 use Rattle.rasn_types.specs.Tags.{Form, form}
 use Rattle.rasn_types.specs.Framing.{AreOctets, Extent, definite, indefinite, Frame, with_length, without_length, NextTag}
-use Rattle.rasn_types.specs.Shapes.{Tree, Shape, prefix, option, own, looked_for, Sought, one_tag, any_of, done, joined, seq, Parts, part, Presence, required, addition, optional, optional_choice, default, IsFirst}
+use Rattle.rasn_types.specs.Shapes.{Tree, Shape, prefix, option, own, looked_for, Key, own_tag, Sought, one_tag, any_of, sought_by, done, joined, seq, Parts, part, Presence, required, addition, optional, optional_choice, default, default_by, IsFirst}
 use Rattle.rasn_types.specs.Shapes.Parts.{none}
 use Rattle.rasn_types.specs.Trees.{option_tree}
 use Rattle.rasn_de.specs.declared.ber.de.parser.ParseError.{ParseError}
@@ -24,6 +24,7 @@ use Rattle.rasn_types.specs.declared.error.decode.DerDecodeErrorKind.TheVariants
 use Rattle.std.specs.declared.alloc.AllocError.{AllocError}
 use Rattle.rasn_de.specs.Optional.{OnePart, NextIs, DecodesIfSought, DecodesIfPresent, DecodesSoughtOrDefault, DecodesOrDefault, no_look, no_read, present}
 use Rattle.rasn_de.specs.PartTypes.{needs_no_initializer, FailsAtOnePart, IsErrorOfParts, DecodesInParts, DecodesSequenceParts}
+use Rattle.rasn_de.specs.Prefix.{DecodesPrefixBy}
 use Rattle.rasn_de.specs.ValueErrors.{Errors, errors_of, DecodesOr}
 use Rattle.rasn_de.proofs.Headers.Memory.{NoMemory, header_none, identifier_none}
 use Rattle.rasn_de.proofs.Headers.NextTag.{next_parsed, kind_memory}
@@ -33,13 +34,14 @@ use Rattle.rasn_de.proofs.Headers.Results.{chosen}
 use Rattle.rasn_de.proofs.Strings.Reads.{frame_octets}
 use Rattle.rasn_de.proofs.Constructed.Contents.{constructed_header_parsed}
 use Rattle.rasn_de.proofs.Constructed.Opening.{closed_end}
-use Rattle.rasn_de.proofs.Constructed.ValueErrors.{perhaps_or, sought_or, sought_failed, default_or, default_failed}
-use Rattle.rasn_de.proofs.OwnTypes.Parts.{no_parts, part_got, optional_part, optional_fails, default_part, default_fails, own_default_fails}
-use Rattle.rasn_de.proofs.OwnTypes.PartTypes.{parts_decode}
-use Rattle.rasn.specs.OneRefusal.{ReadingBy, ReadsShape, Settles}
+use Rattle.rasn_de.proofs.Constructed.Optional.{sought_default_decodes}
+use Rattle.rasn_de.proofs.Constructed.ValueErrors.{perhaps_or, sought_or, sought_failed}
+use Rattle.rasn_de.proofs.OwnTypes.Parts.{no_parts, part_got, optional_part, optional_fails, default_fails}
+use Rattle.rasn.specs.OneRefusal.{ReadingBy, ReadsShape, Refuses, Settles}
 use Rattle.rasn.proofs.OneRefusal.Calls.{octets_end, IsExactCall, or_settles}
 use Rattle.rasn.proofs.OneRefusal.Inside.{or_exact, prefix_exact}
-use Rattle.rasn.proofs.OneRefusal.Parts.{in_parts_exact}
+use Rattle.rasn.proofs.OneRefusal.Parts.{in_parts_exact, sequence_exact}
+use Rattle.rasn.proofs.OneRefusal.Optional.{made_exact}
 use Rattle.rasn.proofs.OneRefusal.Read.{end_none}
 
 -- What remains is no longer.
@@ -123,10 +125,12 @@ module _ {D : Type 0} (read : Call D) (reads : ReadingBy) (tree : D → Tree) (e
       go (Err p) q = let n = header_fault d old.rule old.depth old.rest o p q in failed (error p.0) (at old p.1) ((kept p.1 n.1, no_value p.0 q refl), kind_memory p.0 n.0)
 
 -- An explicit tag.
-pub prefix_settles : {D : Type 0} (s : Shape) (tree : D → Tree) (errors : Errors) → Settles (DecodesOr s tree errors) → (tag : Tag) → Settles (DecodesOr (prefix tag s) tree (errors_of (DecodesInside (DecodesOr s tree errors) (prefix_header tag))))
+pub prefix_call_settles : {D : Type 0} (s : Shape) (tree : D → Tree) (errors : Errors) → Settles (DecodesOr s tree errors) → (tag : Tag) → Settles (DecodesPrefixBy s tree errors tag)
+prefix_call_settles s tree errors all tag = inside_settles (DecodesOr s tree errors) (ReadsShape s) tree (or_exact s tree errors) all (prefix_header tag)
+
+pub prefix_settles : {D : Type 0} (s : Shape) (tree : D → Tree) (errors : Errors) → Settles (DecodesOr s tree errors) → (tag : Tag) → Settles (DecodesOr (prefix tag s) tree (errors_of (DecodesPrefixBy s tree errors tag)))
 prefix_settles s tree errors all tag =
-    or_settles (DecodesInside (DecodesOr s tree errors) (prefix_header tag)) (prefix tag s) tree (prefix_exact s tree errors tag)
-    (inside_settles (DecodesOr s tree errors) (ReadsShape s) tree (or_exact s tree errors) all (prefix_header tag))
+    or_settles (DecodesPrefixBy s tree errors tag) (prefix tag s) tree (prefix_exact s tree errors tag) (prefix_call_settles s tree errors all tag)
 
 -- The next tag is one that is looked for, or not, or there is none.
 next_or : (tags : Sought) (old : State) → AreOctets old.rest → (NextIs tags old (Ok true) → ⊥) → (NextIs tags old (Ok false) → ⊥) → ((e : DecodeError) → (IsOutOfMemory e.kind → ⊥) → NextIs tags old (Err e) → ⊥) → ⊥
@@ -161,7 +165,7 @@ no_parts_settle v tree is old o b passed failed = passed v old (subst (λ t. Dec
 module _ {X R D : Type 0} (p : Presence) (s : Shape) (ps : Parts) (one : Call X) (first_tree : X → Tree) (first others : Errors) (rest_tree : R → Tree) (tree : D → Tree) (make : X → R → D)
     (is : (x : X) (r : R) → tree (make x r) ≡ joined (first_tree x) (rest_tree r))
     (got : (old : State) (x : X) (new : State) → AreOctets old.rest → one old (Ok x) new → DecodesExactly (OnePart p s) old (Got (first_tree x) new.rest) new)
-    (fails : (old : State) (e : DecodeError) (new : State) → one old (Err e) new → FailsAtOnePart p s old e new × first old e new) where
+    (fails : (old : State) (e : DecodeError) (new : State) → AreOctets old.rest → one old (Err e) new → FailsAtOnePart p s old e new × first old e new) where
   pub part_settles : Settles one → Settles (DecodesInParts ps rest_tree others) → Settles (DecodesInParts (part p s ps) tree (IsErrorOfParts p s first others))
   part_settles first_all rest_all old o b passed failed =
       first_all old o b
@@ -170,13 +174,12 @@ module _ {X R D : Type 0} (p : Presence) (s : Shape) (ps : Parts) (one : Call X)
       rest_all here (octets_end o g.end) (ends_below old.rest here.rest g.end b)
       (λ r new c. passed (make x r) new (subst (λ t. DecodesExactly (ReadsParts (part p s ps)) old (Got t new.rest) new) (sym (is x r)) (part_got p s ps g c)))
       (λ e new c. failed e new ((inr (first_tree x, here, g, c.0.0), inr (first_tree x, here, g, c.0.1)), c.1)))
-      (λ e new a. let f = fails old e new a.0 in failed e new ((inl f.0, inl f.1), a.1))
+      (λ e new a. let f = fails old e new o a.0 in failed e new ((inl f.0, inl f.1), a.1))
 
 -- A SEQUENCE.
 pub sequence_settles : {D : Type 0} (ps : Parts) (tree : D → Tree) (errors : Errors) → Settles (DecodesInParts ps tree errors) → needs_no_initializer ps ≡ true → (tag : Tag) → Settles (DecodesOr (seq tag ps) tree (errors_of (DecodesSequenceParts ps tree errors tag)))
 sequence_settles ps tree errors all plain tag =
-    or_settles (DecodesSequenceParts ps tree errors tag) (seq tag ps) tree
-    (λ old o r new a. parts_decode ps plain tree (DecodesInParts ps tree errors) tag old (λ _. o) (λ old r new a. in_parts_exact ps tree errors old r new a) r new a)
+    or_settles (DecodesSequenceParts ps tree errors tag) (seq tag ps) tree (sequence_exact ps tree errors plain tag)
     (inside_settles (DecodesInParts ps tree errors) _ tree (λ old o r new a. in_parts_exact ps tree errors old r new a) all (sequence_header tag))
 
 -- A part that must be present, one that may be left out, and an addition.
@@ -185,19 +188,19 @@ module _ {A R D : Type 0} (s : Shape) (ps : Parts) (first others : Errors) (firs
     pub required_settles : Settles (DecodesInParts (part required s ps) tree (IsErrorOfParts required s first others))
     required_settles =
         part_settles required s ps (DecodesOr s first_tree first) first_tree first others rest_tree tree make is
-        (λ old x new o a. record { stays = a.0.stays; end = a.0.end; exact = a.0.exact }) (λ old e new a. (record { stays = a.0.stays; end = a.0.end; exact = a.0.exact }, a.1)) all rest_all
+        (λ old x new o a. record { stays = a.0.stays; end = a.0.end; exact = a.0.exact }) (λ old e new o a. (record { stays = a.0.stays; end = a.0.end; exact = a.0.exact }, a.1)) all rest_all
 
     pub addition_settles : Settles (DecodesInParts (part addition s ps) tree (IsErrorOfParts addition s first others))
     addition_settles =
         part_settles addition s ps (DecodesOr s first_tree first) first_tree first others rest_tree tree make is
-        (λ old x new o a. record { stays = a.0.stays; end = a.0.end; exact = a.0.exact }) (λ old e new a. (record { stays = a.0.stays; end = a.0.end; exact = a.0.exact }, a.1)) all rest_all
+        (λ old x new o a. record { stays = a.0.stays; end = a.0.end; exact = a.0.exact }) (λ old e new o a. (record { stays = a.0.stays; end = a.0.end; exact = a.0.exact }, a.1)) all rest_all
 
   pub optional_settles : (make : Option A → R → D) → ((x : Option A) (r : R) → tree (make x r) ≡ joined (option_tree first_tree x) (rest_tree r)) → (tag : Tag) → own s ≡ looked_for tag → Settles (DecodesOr s first_tree first)
       → Settles (DecodesInParts (part optional s ps) tree (IsErrorOfParts optional s (errors_of (DecodesIfPresent (DecodesOr s first_tree first) tag)) others))
   optional_settles make is tag own_is all =
       part_settles optional s ps (DecodesIfPresent (DecodesOr s first_tree first) tag) (option_tree first_tree) (errors_of (DecodesIfPresent (DecodesOr s first_tree first) tag)) others rest_tree tree make is
       (λ old x new o a. optional_part s own_is (perhaps_or s first_tree first tag old (Ok x) new a))
-      (λ old e new a. (optional_fails s own_is (sought_failed s first_tree first (one_tag (looked_for tag)) old e new a), a)) (sought_settles (DecodesOr s first_tree first) all (one_tag (looked_for tag))) rest_all
+      (λ old e new o a. (optional_fails s own_is (sought_failed s first_tree first (one_tag (looked_for tag)) old e new a), a)) (sought_settles (DecodesOr s first_tree first) all (one_tag (looked_for tag))) rest_all
 
 -- A CHOICE that may be left out.
 pub optional_choice_settles : {A R D : Type 0} (s : Shape) (ps : Parts) (first others : Errors) (first_tree : A → Tree) (rest_tree : R → Tree) → Settles (DecodesInParts ps rest_tree others) → (tree : D → Tree) (make : Option A → R → D)
@@ -206,24 +209,38 @@ pub optional_choice_settles : {A R D : Type 0} (s : Shape) (ps : Parts) (first o
 optional_choice_settles s ps first others first_tree rest_tree rest_all tree make is all =
     part_settles optional_choice s ps (DecodesIfSought (DecodesOr s first_tree first) (any_of (IsFirst s))) (option_tree first_tree) (errors_of (DecodesIfSought (DecodesOr s first_tree first) (any_of (IsFirst s)))) others rest_tree tree make is
     (λ old x new o a. sought_or s first_tree first (any_of (IsFirst s)) old (Ok x) new a)
-    (λ old e new a. (sought_failed s first_tree first (any_of (IsFirst s)) old e new a, a)) (sought_settles (DecodesOr s first_tree first) all (any_of (IsFirst s))) rest_all
+    (λ old e new o a. (sought_failed s first_tree first (any_of (IsFirst s)) old e new a, a)) (sought_settles (DecodesOr s first_tree first) all (any_of (IsFirst s))) rest_all
+
+-- A value that has a default is present, and isn't left out.
+pub present_settles : {D : Type 0} (read : Call D) (tree : D → Tree) (made : Result D AllocError → Type 0) → Settles read → (d : D) → made (Ok d) → (tags : Sought) (old : State) → AreOctets old.rest → length old.rest < 2 ^ 63 → NextIs tags old (Ok true)
+    → ((v : D) (new : State) → DecodesSoughtOrDefault read tree made tags old (Ok v) new → ⊥) → ((e : DecodeError) (new : State) → Refuses (errors_of (DecodesSoughtOrDefault read tree made tags)) old e new → ⊥) → ⊥
+present_settles read tree made all d m tags old o b t passed failed =
+    all old o b
+    (λ v new r. passed v new (inr (t, r, λ strict. (d, m, λ same. failed (record { kind = error_kind (parse.Der DefaultValuePresent); codec = old.rule }) new (present t v r strict d m same refl, λ w. cc)))))
+    (λ e new r. failed e new (no_read t r.0, r.1))
 
 -- A value that has a default, if there is such a value.
 sought_default_settles : {D : Type 0} (read : Call D) (tree : D → Tree) (made : Result D AllocError → Type 0) → Settles read → (d : D) → made (Ok d) → (tags : Sought) → Settles (DecodesSoughtOrDefault read tree made tags)
 sought_default_settles read tree made all d m tags old o b passed failed =
     next_or tags old o
-    (λ t. all old o b
-    (λ v new r. passed v new (inr (t, r, λ strict. (d, m, λ same. failed (record { kind = error_kind (parse.Der DefaultValuePresent); codec = old.rule }) new (present t v r strict d m same refl, λ w. cc)))))
-    (λ e new r. failed e new (no_read t r.0, r.1)))
+    (λ t. present_settles read tree made all d m tags old o b t passed failed)
     (λ t. passed d old (inl (t, m, refl)))
     (λ e n t. failed e old (no_look t refl, n))
 
-pub default_settles : {A R D : Type 0} (s : Shape) (ps : Parts) (first others : Errors) (first_tree : A → Tree) (rest_tree : R → Tree) → Settles (DecodesInParts ps rest_tree others) → (tree : D → Tree) (make : A → R → D)
-    → ((x : A) (r : R) → tree (make x r) ≡ joined (first_tree x) (rest_tree r)) → (d : Tree) (v : A) → first_tree v ≡ d → (tag : Tag) → own s ≡ looked_for tag → Settles (DecodesOr s first_tree first)
-    → Settles (DecodesInParts (part (default d) s ps) tree (IsErrorOfParts (default d) s (errors_of (DecodesOrDefault (DecodesOr s first_tree first) first_tree (λ made. IfOk made (λ x. first_tree x ≡ d)) tag)) others))
-default_settles {A = A} s ps first others first_tree rest_tree rest_all tree make is d v there tag own_is all =
-    let made : Result A AllocError → Type 0 = λ made. IfOk made (λ x. first_tree x ≡ d) in
-    part_settles (default d) s ps (DecodesOrDefault (DecodesOr s first_tree first) first_tree made tag) first_tree (errors_of (DecodesOrDefault (DecodesOr s first_tree first) first_tree made tag)) others rest_tree tree make is
-    (λ old x new o a. default_part tag d s own_is (default_or s first_tree first made tag old (Ok x) new a d (λ y q. q)))
-    (λ old e new a. (own_default_fails s d own_is (default_fails s first_tree made d (one_tag (looked_for tag)) old new e (λ y q. q) (default_failed s first_tree first made (one_tag (looked_for tag)) old e new a)), a))
-    (sought_default_settles (DecodesOr s first_tree first) first_tree made all v there (one_tag (looked_for tag))) rest_all
+module _ {A R D : Type 0} (read : Call A) (s : Shape) (first_tree : A → Tree) (exact : IsExactCall read (ReadsShape s) first_tree) (all : Settles read) (ps : Parts) (others : Errors) (rest_tree : R → Tree) (rest_all : Settles (DecodesInParts ps rest_tree others))
+    (tree : D → Tree) (make : A → R → D) (is : (x : A) (r : R) → tree (make x r) ≡ joined (first_tree x) (rest_tree r)) (d : Tree) (v : A) (there : first_tree v ≡ d) where
+  abbrev made : Result A AllocError → Type 0
+  made m = IfOk m (λ x. first_tree x ≡ d)
+
+  -- By the tags that it is recognized by.
+  pub default_settles : (key : Key) → Settles (DecodesInParts (part (default_by key d) s ps) tree (IsErrorOfParts (default_by key d) s (errors_of (DecodesSoughtOrDefault read first_tree (λ m. IfOk m (λ x. first_tree x ≡ d)) (sought_by key s))) others))
+  default_settles key =
+      part_settles (default_by key d) s ps (DecodesSoughtOrDefault read first_tree made (sought_by key s)) first_tree (errors_of (DecodesSoughtOrDefault read first_tree made (sought_by key s))) others rest_tree tree make is
+      (λ old x new o a. sought_default_decodes key s first_tree made (sought_by key s) old (Ok x) new (made_exact read s first_tree exact (sought_by key s) made old o (Ok x) new a) d (λ y q. q))
+      (λ old e new o a. (default_fails s first_tree made d (sought_by key s) old new e (λ y q. q) (made_exact read s first_tree exact (sought_by key s) made old o (Err e) new a), a))
+      (sought_default_settles read first_tree made all v there (sought_by key s)) rest_all
+
+  -- By a tag, which is its own.
+  pub own_default_settles : (tag : Tag) → own s ≡ looked_for tag → Settles (DecodesInParts (part (default d) s ps) tree (IsErrorOfParts (default d) s (errors_of (DecodesOrDefault read first_tree (λ m. IfOk m (λ x. first_tree x ≡ d)) tag)) others))
+  own_default_settles tag own_is =
+      subst (λ g. Settles (DecodesInParts (part (default d) s ps) tree (IsErrorOfParts (default d) s (errors_of (DecodesSoughtOrDefault read first_tree (λ m. IfOk m (λ x. first_tree x ≡ d)) (one_tag g))) others))) own_is (default_settles own_tag)

@@ -39,7 +39,8 @@ use Rattle.rasn.proofs.OneRefusal.Settled.{ends_shorter, inside_settles}
 abbrev pub vec_of : {X : Type 0} (xs : List X) → length xs < 2 ^ 63 → Vec X Global
 vec_of xs b = record { ptr = null_ptr; len = length xs; cap = length xs; alloc = record { memory = record { seal = tt } }; items = xs; ok = (refl, omega arith); small = b }
 
-strict_or : (rule : Codec) (P : Type 0) → ((IsStrict rule → P) → ⊥) → (IsStrict rule → (P → ⊥) → ⊥) → ⊥
+-- The rule is strict or it isn't, and P holds or it doesn't.
+pub strict_or : (rule : Codec) (P : Type 0) → ((IsStrict rule → P) → ⊥) → (IsStrict rule → (P → ⊥) → ⊥) → ⊥
 strict_or Ber P passed failed = passed (λ s. absurd s)
 strict_or Cer P passed failed = passed (λ s. absurd s)
 strict_or Der P passed failed = failed tt (λ p. passed (λ s. p))

@@ -1,8 +1,8 @@
 -- Octets that were worked out by hand are refused.
-use Rattle.std.proofs.Common.{◌≡◌, ◌≢◌, ℕ, ℤ, inl, inr, List, [], ◌∷◌, Result, Ok, Err, refl, sym, subst, arith}
+use Rattle.std.proofs.Common.{◌≡◌, ◌≢◌, ℕ, zero, suc, ℤ, Bool, true, false, ◌≤◌, inl, inr, List, [], ◌∷◌, Result, Ok, Err, refl, sym, subst, arith}
 use Rattle.rasn_types.specs.Tags.{in_universal}
 use Rattle.rasn_types.specs.declared.types.codec.Codec.{Codec}
-use Rattle.rasn_types.specs.declared.types.codec.Codec.TheVariants.{Ber, Der}
+use Rattle.rasn_types.specs.declared.types.codec.Codec.TheVariants.{Ber, Cer, Der}
 use Rattle.rasn_types.specs.declared.types.tag.Tag.{Tag}
 use Rattle.rasn_types.specs.declared.types.constraints.Bounded.TheVariants.{Single}
 use Rattle.rasn_types.specs.declared.error.decode.DerDecodeErrorKind.TheVariants.{NonMinimalInteger, NonMinimalArc}
@@ -13,18 +13,20 @@ use Rattle.rasn_de.specs.Headers.{number128_at, tag_number_at, identifier_by, nu
 use Rattle.rasn_de.specs.Segments.{segments_at, string_of}
 use Rattle.rasn_de.specs.Causes.{Cause, fault, out_of_bound, error_kind}
 use Rattle.rasn_de.specs.State.{at}
-use Rattle.rasn_de.specs.Leaves.{FromContents, definite_at, LeafAt, FailsAs, IntegerIn}
-use Rattle.rasn_de.specs.Enumerated.{NullIn}
+use Rattle.rasn_de.specs.Leaves.{FromContents, definite_at, LeafAt, FailsAs, as_cause, bool_in, IntegerIn}
+use Rattle.rasn_de.specs.Enumerated.{EnumeratedIn, NullIn}
 use Rattle.rasn_de.specs.ObjectIdentifier.{ObjectIdentifierIn}
 use Rattle.rasn_de.specs.OctetString.{octet_string_at}
-use Rattle.rasn_de.specs.CharacterString.{StringCheck, StringAt, ByLength, ByAlphabet}
-use Rattle.rasn_de.specs.BitString.{bit_string_at}
+use Rattle.rasn_de.specs.CharacterString.{StringCheck, StringAt, ByLength, ByAlphabet, BySize, ByUtf8, ByUnits}
+use Rattle.rasn_de.specs.BitString.{bit_string_at, DecodesBitString}
+use Rattle.rasn_de.proofs.Strings.BitString.{bits_decodes}
+use Rattle.rasn_de.proofs.Strings.NamedBits.{named_found}
 use Rattle.rasn_de.proofs.Headers.NextTag.{kind_memory}
 use Rattle.rasn.specs.Headline.{front}
 use Rattle.rasn.specs.OneRefusal.{ReportsBound}
 use Rattle.rasn.proofs.OneRefusal.Decided.{report}
 use Rattle.rasn.proofs.OneRefusal.Leaves.{reports, integer_apart}
-use Rattle.rasn.proofs.OneRefusal.Strings.{string_apart, by_alphabet_once}
+use Rattle.rasn.proofs.OneRefusal.Strings.{string_apart, by_alphabet_once, named_bits_apart}
 use Rattle.rasn_de.proofs.Leaves.Integer.{integer_ensured}
 use Rattle.rasn_de.proofs.Strings.CharacterString.{string_decodes}
 use Rattle.rasn_de.proofs.Strings.Checks.{by_alphabet}
@@ -32,10 +34,15 @@ use Rattle.rasn_types.specs.declared.error.decode.DecodeErrorKind.{DecodeErrorKi
 use Rattle.rasn_types.specs.declared.types.strings.alphabet.Alphabet.TheVariants.{Visible}
 use Rattle.rasn_types.specs.CharacterString.{IsAdmitted}
 use Rattle.rasn_types.specs.Framing.{AreOctets}
-use Rattle.rasn_types.specs.Shapes.{number, numbers}
-use Rattle.std.specs.Prelude.{pos}
+use Rattle.rasn_types.specs.Shapes.{number, numbers, bits, every, Admits}
+use Rattle.rasn_types.specs.BitString.{significant}
+use Rattle.std.specs.Prelude.{pos, Contains, IsUtf8}
+use Rattle.std.specs.Str.{is_utf8, chars}
+use Rattle.std.proofs.lemmas.Str.{is_utf8-from_IsUtf8}
 use Rattle.std.proofs.lemmas.List.Elements.{AllWithin-none, AllWithin-more, All-from_all_within}
-use Rattle.rasn.specs.WorkedKinds.{five, five_errors, text_errors, IsRefusedWith, IsNotRefused, null_errors, small_errors, object_errors, bits_errors, four_errors, WorkedKinds}
+use Rattle.rasn.specs.WorkedKinds.{five, five_errors, text_errors, IsRefusedWith, IsNotRefused, bool_errors, switch_errors, null_errors, small_errors, object_errors, bits_errors, four_errors, long_errors, named_errors, pair, pair_errors, utf8_errors, unit_errors, WorkedKinds}
+use Rattle.rasn.proofs.Worked.RefusedTimes.{day_not_in_month, seconds_left_out, seconds_not_needed, zone_left_out, zone_not_needed, hyphens_kept}
+use Rattle.rasn.proofs.Worked.RefusedOpen.{open_type_cut, second_unknown_cut, open_type_read}
 
 -- Contents that are refused, where the header is read.
 in_contents : {X : Type 0} (read : List ℕ → Result X Cause → Type 0) (rule : Codec) (tag : Tag) (input c rest : List ℕ) (f : ParseError) → definite_at rule tag input ≡ Ok (c, rest) → read c (Err (fault f))
@@ -167,6 +174,109 @@ foreign_character = (
   λ e. cc,
 )
 
+-- BOOLEAN.
+boolean_of_two_octets : IsRefusedWith bool_errors Ber (1 ∷ 2 ∷ 0 ∷ 0 ∷ 9 ∷ []) (error_kind (parse.MismatchedLength 1 2)) (9 ∷ [])
+unfolding number128_at tag_number_at identifier_by number256_at long_at length_at header_by
+boolean_of_two_octets = (in_contents (λ c r. as_cause (bool_in Ber c) ≡ r) Ber (in_universal 1) (1 ∷ 2 ∷ 0 ∷ 0 ∷ 9 ∷ []) (0 ∷ 0 ∷ []) (9 ∷ []) (parse.MismatchedLength 1 2) refl refl, λ e. cc)
+
+neither_true_nor_false : IsRefusedWith bool_errors Der (1 ∷ 1 ∷ 5 ∷ 9 ∷ []) (error_kind (parse.InvalidBool 5)) (9 ∷ [])
+unfolding number128_at tag_number_at identifier_by number256_at long_at length_at header_by
+neither_true_nor_false = (in_contents (λ c r. as_cause (bool_in Der c) ≡ r) Der (in_universal 1) (1 ∷ 1 ∷ 5 ∷ 9 ∷ []) (5 ∷ []) (9 ∷ []) (parse.InvalidBool 5) refl refl, λ e. cc)
+
+five_framed : definite_at Ber (in_universal 1) (1 ∷ 1 ∷ 5 ∷ 9 ∷ []) ≡ Ok (5 ∷ [], 9 ∷ [])
+unfolding number128_at tag_number_at identifier_by number256_at long_at length_at header_by
+five_framed = refl
+
+true_by_any_octet : IsNotRefused bool_errors Ber (1 ∷ 1 ∷ 5 ∷ 9 ∷ [])
+true_by_any_octet e new ((cause, a, h, c, s), n) = let k = subst (λ d. FromContents (λ c r. as_cause (bool_in Ber c) ≡ r) d (Err (cause, new.rest))) five_framed a in let z : ◌≡◌ {A = Result Bool Cause} (Ok true) (Err cause) = k.0 in cc
+
+-- ENUMERATED.
+abbrev off_and_on : List ℤ
+off_and_on = pos 0 ∷ pos 1 ∷ []
+
+two_is_not_named : Contains off_and_on (pos 2) → ⊥
+two_is_not_named (zero, b, e) = cc
+two_is_not_named (suc zero, b, e) = cc
+two_is_not_named (suc (suc k), b, e) = omega (arith, b)
+
+number_without_name : IsRefusedWith switch_errors Der (10 ∷ 1 ∷ 2 ∷ 9 ∷ []) (error_kind (parse.DiscriminantValueNotFound (pos 2))) (9 ∷ [])
+unfolding number128_at tag_number_at identifier_by number256_at long_at length_at header_by
+number_without_name = (
+  in_contents (EnumeratedIn Der off_and_on) Der (in_universal 10) (10 ∷ 1 ∷ 2 ∷ 9 ∷ []) (2 ∷ []) (9 ∷ []) (parse.DiscriminantValueNotFound (pos 2)) refl
+      (inr (inr (((λ e. cc), (λ s. tt)), (omega arith, omega arith), two_is_not_named, refl))),
+  λ e. cc,
+)
+
+one_framed : definite_at Der (in_universal 10) (10 ∷ 1 ∷ 1 ∷ 9 ∷ []) ≡ Ok (1 ∷ [], 9 ∷ [])
+unfolding number128_at tag_number_at identifier_by number256_at long_at length_at header_by
+one_framed = refl
+
+one_is_read : (cause : Cause) → EnumeratedIn Der off_and_on (1 ∷ []) (Err cause) → ⊥
+one_is_read (fault f) (inl (inl (e, w))) = cc
+one_is_read (fault f) (inl (inr (n, s, long, w))) = long tt
+one_is_read (fault f) (inr (inl (is, out, w))) = out (omega arith, omega arith)
+one_is_read (fault f) (inr (inr (is, within, unnamed, w))) = unnamed (1, omega arith, refl)
+one_is_read (out_of_bound z bound) a = a
+
+number_with_name : IsNotRefused switch_errors Der (10 ∷ 1 ∷ 1 ∷ 9 ∷ [])
+number_with_name e new ((cause, a, h, c, s), n) = let k = subst (λ d. FromContents (EnumeratedIn Der off_and_on) d (Err (cause, new.rest))) one_framed a in one_is_read cause k.0
+
+-- An INTEGER of any size, named bits, octets and characters.
+long_number_of_no_octets : IsRefusedWith long_errors Ber (2 ∷ 0 ∷ 9 ∷ []) (error_kind parse.UnexpectedEmptyInput) (9 ∷ [])
+unfolding number128_at tag_number_at identifier_by number256_at long_at length_at header_by
+long_number_of_no_octets = (inr (in_contents (IntegerIn Ber 0 every unconstrained) Ber (in_universal 2) (2 ∷ 0 ∷ 9 ∷ []) [] (9 ∷ []) parse.UnexpectedEmptyInput refl (inl (inl (refl, refl)))), λ e. cc)
+
+bits_framed : (rule : Codec) → bit_string_at rule 128 (in_universal 3) (3 ∷ 2 ∷ 6 ∷ 128 ∷ 9 ∷ []) ≡ Ok (true ∷ false ∷ [], 9 ∷ [])
+unfolding number128_at tag_number_at identifier_by number256_at long_at length_at header_by string_of segments_at
+bits_framed Ber = refl
+bits_framed Cer = refl
+bits_framed Der = refl
+
+bits_there : (rule : Codec) → DecodesBitString (in_universal 3) unconstrained (front rule (3 ∷ 2 ∷ 6 ∷ 128 ∷ 9 ∷ [])) (Ok (true ∷ false ∷ [])) (at (front rule (3 ∷ 2 ∷ 6 ∷ 128 ∷ 9 ∷ [])) (9 ∷ []))
+bits_there rule = ((bits_framed rule, omega arith, tt), refl)
+
+zero_is_trailing : significant (true ∷ false ∷ []) ≢ true ∷ false ∷ []
+zero_is_trailing e = cc
+
+zeros_after_named_bits : IsRefusedWith named_errors Der (3 ∷ 2 ∷ 6 ∷ 128 ∷ 9 ∷ []) (error_kind parse.TrailingZeroBits) (9 ∷ [])
+zeros_after_named_bits = (inr (true ∷ false ∷ [], parse.TrailingZeroBits, bits_there Der, inl (tt, zero_is_trailing, refl), refl), λ e. cc)
+
+bits_octets : AreOctets (3 ∷ 2 ∷ 6 ∷ 128 ∷ 9 ∷ [])
+bits_octets = (omega arith, (omega arith, (omega arith, (omega arith, (omega arith, tt)))))
+
+zeros_in_ber : IsNotRefused named_errors Ber (3 ∷ 2 ∷ 6 ∷ 128 ∷ 9 ∷ [])
+zeros_in_ber e new a =
+    let here = front Ber (3 ∷ 2 ∷ 6 ∷ 128 ∷ 9 ∷ []) in
+    let d = bits_decodes (in_universal 3) unconstrained here (at here (9 ∷ [])) (Ok (true ∷ false ∷ [])) bits_octets (bits_there Ber) in
+    let x = (named_found (in_universal 3) unconstrained here (at here (9 ∷ [])) (true ∷ false ∷ []) d (bits_there Ber) (λ c. absurd c) (0, tt) (true ∷ []) refl).reads in
+    (named_bits_apart (in_universal 3) unconstrained).unread here bits_octets e new a (bits (true ∷ [])) (9 ∷ []) x.exact.0
+
+one_isnt_two : Admits ◌≤◌ pair.size 1 → ⊥
+one_isnt_two (inl e) = cc
+one_isnt_two (inr e) = omega (arith, e)
+
+one_of_two_octets : IsRefusedWith pair_errors Der (4 ∷ 1 ∷ 7 ∷ 9 ∷ []) (error_kind (parse.SizeConstraintNotSatisfied 1 (Single 2))) (9 ∷ [])
+unfolding number128_at tag_number_at identifier_by number256_at long_at length_at header_by string_of segments_at
+one_of_two_octets = (inr (inr ((λ e. cc), in_text (BySize pair.size) (in_universal 4) (4 ∷ 1 ∷ 7 ∷ 9 ∷ []) (7 ∷ []) (9 ∷ []) (parse.SizeConstraintNotSatisfied 1 (Single 2)) (λ e. cc) refl (one_isnt_two, refl))), λ e. cc)
+
+not_utf8 : IsUtf8 (255 ∷ []) → ⊥
+unfolding is_utf8 chars
+not_utf8 u = let e = is_utf8-from_IsUtf8 (255 ∷ []) u in cc
+
+no_character : IsRefusedWith utf8_errors Der (12 ∷ 1 ∷ 255 ∷ 9 ∷ []) (error_kind (parse.StringConversionFailed (in_universal 12))) (9 ∷ [])
+unfolding number128_at tag_number_at identifier_by number256_at long_at length_at header_by string_of segments_at
+no_character = (
+  inr (inr ((λ e. cc), in_text (ByUtf8 unconstrained.size) (in_universal 12) (12 ∷ 1 ∷ 255 ∷ 9 ∷ []) (255 ∷ []) (9 ∷ []) (parse.StringConversionFailed (in_universal 12)) (λ e. cc) refl (inl ((λ ns m. not_utf8 m.0), refl)))),
+  λ e. cc,
+)
+
+half_a_unit : IsRefusedWith unit_errors Der (30 ∷ 1 ∷ 65 ∷ 9 ∷ []) (error_kind (parse.StringConversionFailed (in_universal 30))) (9 ∷ [])
+unfolding number128_at tag_number_at identifier_by number256_at long_at length_at header_by string_of segments_at
+half_a_unit = (
+  inr (inr ((λ e. cc), in_text (ByUnits unconstrained.size) (in_universal 30) (30 ∷ 1 ∷ 65 ∷ 9 ∷ []) (65 ∷ []) (9 ∷ []) (parse.StringConversionFailed (in_universal 30)) (λ e. cc) refl (inl ((λ ns m. m), refl)))),
+  λ e. cc,
+)
+
 pub worked : WorkedKinds
 worked = record {
   null_of_an_octet = null_of_an_octet;
@@ -183,4 +293,24 @@ worked = record {
   number_out_of_bound = number_out_of_bound;
   foreign_character = foreign_character;
   characters_read = characters_read;
+  boolean_of_two_octets = boolean_of_two_octets;
+  neither_true_nor_false = neither_true_nor_false;
+  true_by_any_octet = true_by_any_octet;
+  number_without_name = number_without_name;
+  number_with_name = number_with_name;
+  day_not_in_month = day_not_in_month;
+  seconds_left_out = seconds_left_out;
+  seconds_not_needed = seconds_not_needed;
+  zone_left_out = zone_left_out;
+  zone_not_needed = zone_not_needed;
+  hyphens_kept = hyphens_kept;
+  long_number_of_no_octets = long_number_of_no_octets;
+  zeros_after_named_bits = zeros_after_named_bits;
+  zeros_in_ber = zeros_in_ber;
+  one_of_two_octets = one_of_two_octets;
+  no_character = no_character;
+  half_a_unit = half_a_unit;
+  open_type_cut = open_type_cut;
+  second_unknown_cut = second_unknown_cut;
+  open_type_read = open_type_read;
 }

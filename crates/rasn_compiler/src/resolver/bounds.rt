@@ -18,17 +18,21 @@ struct Range {
 }
 
 impl Range {
-    /// Returns what is in this range and in one that was known before. An extensible one checks
-    /// nothing.
+    /// Returns what is in this range and in one that was known before, which counts without its
+    /// marker (X.680 50.8). An extensible one checks nothing.
     fn within(self, known: Option<Range>) -> Range {
-        match known {
-            Some(known) if self.is_extensible => known,
-            Some(known) if !known.is_extensible => Range {
-                low: greater(self.low, known.low),
-                high: lesser(self.high, known.high),
-                is_extensible: false,
-            },
-            _ => self,
+        let Some(known) = known else {
+            return self;
+        };
+        let (low, high) = if self.is_extensible {
+            (known.low, known.high)
+        } else {
+            (greater(self.low, known.low), lesser(self.high, known.high))
+        };
+        Range {
+            low,
+            high,
+            is_extensible: false,
         }
     }
 

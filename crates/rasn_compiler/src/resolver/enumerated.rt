@@ -18,7 +18,7 @@ const STEPS: usize = 16;
 #[derive(Drop)]
 pub(crate) struct Enumeration {
     pub(crate) numbers: Vec<Numbered>,
-    /// Whether there is a marker among them (X.680 20.1).
+    /// True if a marker is among them, or the module implies one (X.680 13.4, 20.1).
     pub(crate) is_extensible: bool,
 }
 
@@ -114,7 +114,7 @@ impl<'modules, 'text> Resolver<'modules, 'text> {
         let Numbering { numbers, .. } = found;
         Ok(Enumeration {
             numbers,
-            is_extensible: root < names.len(),
+            is_extensible: root < names.len() || self.modules.is_extensible(place.module),
         })
     }
 

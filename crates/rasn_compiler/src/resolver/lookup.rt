@@ -101,14 +101,20 @@ impl<'text> Modules<'text> {
         }
     }
 
-    /// Returns the index of a module that has to be among the texts.
+    /// Returns the index of a module that has to be among the texts. Built-in modules refer to
+    /// built-in ones alone.
     fn loaded(
         &self,
         module: usize,
         name: &'text str,
         position: Position,
     ) -> Result<usize, Halt<'text>> {
-        match self.index_of(name) {
+        let found = if self.is_built_in(module) {
+            self.built_in_index_of(name)
+        } else {
+            self.index_of(name)
+        };
+        match found {
             Some(index) => Ok(index),
             None => Err(self.fault(module, position, Problem::NotLoaded(name))),
         }
@@ -145,12 +151,17 @@ impl<'text> Modules<'text> {
     pub fn is_class(&self, module: &str, name: &str) -> bool
         ensures { IsTrue result → HasModule self.now.modules.items «module».now }
     {
-        let Ok((index, known, position)) = self.type_named(module, name) else {
-            return false;
-        };
+        match self.type_named(module, name) {
+            Ok((index, known, position)) => self.is_class_at(index, known, position),
+            Err(_) => false,
+        }
+    }
+
+    /// Returns whether the name of the module with this index is that of a class.
+    pub(crate) fn is_class_at(&self, index: usize, name: &'text str, position: Position) -> bool {
         let mut at = index;
         let mut outside = None;
-        let mut name = known;
+        let mut name = name;
         for _ in 0..MAX_NAMES {
             let Ok((found, assignment)) = self.meaning(at, outside, name, position) else {
                 return false;

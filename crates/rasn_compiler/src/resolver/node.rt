@@ -1,4 +1,5 @@
 //! Types that are being resolved.
+use crate::fault::Fault;
 use crate::position::Position;
 use crate::tree::Unread;
 use rasn_schema::{Presence, Type};
@@ -21,13 +22,15 @@ impl Place {
 }
 
 /// A type as it is used: a type of a module within an automatic tag (X.680 25.7), without so many
-/// of its explicit tags.
+/// of its explicit tags. An extensible CHOICE is closed where the tag of an unknown alternative
+/// could be that of another part.
 #[derive(Clone, Copy, PartialEq, Eq, PartialOrd, Ord)]
 pub(crate) struct Use {
     pub(crate) place: Place,
     pub(crate) index: usize,
     pub(crate) automatic: Option<u32>,
     pub(crate) peeled: usize,
+    pub(crate) is_closed: bool,
 }
 
 impl Use {
@@ -38,6 +41,7 @@ impl Use {
             index,
             automatic: None,
             peeled: 0,
+            is_closed: false,
         }
     }
 }
@@ -117,13 +121,41 @@ pub(crate) struct Node<'text> {
     /// Whether unknown values come after the components, or an unknown alternative after the others
     /// (X.680 25, 27, 29).
     pub(crate) is_extensible: bool,
+    /// True of a CHOICE that gets no unknown alternative where it is used.
+    pub(crate) is_closed: bool,
     /// The node of the type within its explicit tag, or of its elements.
-    pub(crate) inner: usize,
+    pub(crate) inner: Option<usize>,
     pub(crate) name: &'text str,
     /// Whether the name is the type's own, and not that of a component.
     pub(crate) is_named: bool,
     pub(crate) place: Place,
     pub(crate) position: Position,
+    /// The number of its constraints that a schema doesn't check.
+    pub(crate) unchecked: usize,
+    /// The reason for which it has no schema, unless that is a type that it is made of.
+    pub(crate) spoilt: Option<Spoilt<'text>>,
+}
+
+/// When a type is found to have no schema: an earlier reason comes first.
+#[derive(Clone, Copy, PartialEq, Eq, PartialOrd, Ord)]
+pub(crate) enum Stage {
+    /// Its notation is followed.
+    Resolving,
+    /// Types are put into an order.
+    Ordering,
+    /// The rules of CHOICEs are checked.
+    Choices,
+    /// The rules of other types are checked.
+    Rules,
+    /// Defaults are compared with their types.
+    Defaults,
+}
+
+/// The reason for which a type has no schema.
+#[derive(Drop)]
+pub(crate) struct Spoilt<'text> {
+    pub(crate) stage: Stage,
+    pub(crate) fault: Box<Fault<'text>>,
 }
 
 /// A type that was asked for, and what it is called in errors.

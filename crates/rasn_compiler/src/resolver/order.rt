@@ -1,20 +1,17 @@
 //! The order of a schema's types: the alternatives of a CHOICE have lower numbers than it.
-use crate::fault::{Halt, Problem};
-use crate::modules::Modules;
-use crate::position::Position;
 use crate::resolver::node::Node;
 use crate::tags::MAX_TAGS;
 use rasn_schema::{Type, TypeId};
 use std::alloc::{AllocError, Global};
 
-/// How many CHOICEs may be in one another, each an alternative of the next without a tag: to find the
+/// As many CHOICEs may be in one another, each an alternative of the next without a tag: to find the
 /// alternative that has a tag a reader calls itself for each of them.
 const MAX_CHOICES: usize = 512;
 
-/// What a type has that has more.
-const TOO_MANY_CHOICES: &str = "512 CHOICEs in one another";
+/// The limit of these, as faults name it.
+pub(crate) const TOO_MANY_CHOICES: &str = "512 CHOICEs in one another";
 
-/// How often the types are gone through. In each round the next of the CHOICEs in one another and
+/// The types are gone through as often at most. In each round the next of the CHOICEs in one another and
 /// of a type's tags get their numbers, of which there are no more than this.
 const MAX_ROUNDS: usize = MAX_CHOICES + MAX_TAGS + 2;
 
@@ -35,13 +32,29 @@ impl Order {
         TypeId(self.number(node).unwrap_or(0))
     }
 
+    /// Returns the number of the type within an explicit tag, or of elements.
+    pub(crate) fn inner_id(&self, inner: Option<usize>) -> TypeId {
+        match inner {
+            Some(node) => self.type_id(node),
+            None => TypeId(0),
+        }
+    }
+
     /// Returns the node of a type.
     pub(crate) fn node(&self, id: TypeId) -> usize {
         self.nodes.get(id.0).copied().unwrap_or(0)
     }
 
+    /// Returns whether more CHOICEs are in one another from a node on than may be.
+    pub(crate) fn is_beyond(&self, node: usize) -> bool {
+        match self.choices.get(node) {
+            Some(choices) => *choices > MAX_CHOICES,
+            None => false,
+        }
+    }
+
     /// Returns the number of a node's type, if it has one yet.
-    fn number(&self, node: usize) -> Option<usize> {
+    pub(crate) fn number(&self, node: usize) -> Option<usize> {
         match self.numbers.get(node) {
             Some(number) => *number,
             None => None,
@@ -49,10 +62,11 @@ impl Order {
     }
 
     /// Gives each node a number that may have one now, the last first.
-    fn round(&mut self, nodes: &[Node<'_>]) -> Result<(), AllocError> {
+    fn round(&mut self, nodes: &[Node<'_>], are_spoilt: &[bool]) -> Result<(), AllocError> {
         for back in 0..nodes.len() {
             let node = nodes.len() - 1 - back;
-            if self.number(node).is_none() && self.is_ready(nodes, node) {
+            let is_left = self.number(node).is_none() && !is_spoilt(are_spoilt, node);
+            if is_left && self.is_ready(nodes, node) {
                 self.add(nodes, node)?;
             }
         }
@@ -101,35 +115,48 @@ impl Order {
                 }
                 true
             }
-            Type::Tagged { .. } => match nodes.get(found.inner) {
-                Some(within) => !is_tagged(&within.ty) || self.number(found.inner).is_some(),
+            Type::Tagged { .. } => match found.inner {
+                Some(inner) => !is_tagged(nodes, inner) || self.number(inner).is_some(),
                 None => true,
             },
-            _ => true,
+            Type::Leaf { .. }
+            | Type::Enumerated { .. }
+            | Type::Any { .. }
+            | Type::Sequence { .. }
+            | Type::Set { .. }
+            | Type::SequenceOf { .. }
+            | Type::SetOf { .. }
+            | Type::Unknown => true,
         }
     }
 }
 
 fn is_choice(ty: &Type) -> bool {
-    match ty {
-        Type::Choice { .. } => true,
-        _ => false,
+    matches!(ty, Type::Choice { .. })
+}
+
+fn is_tagged(nodes: &[Node<'_>], node: usize) -> bool {
+    match nodes.get(node) {
+        Some(found) => matches!(found.ty, Type::Tagged { .. }),
+        None => false,
     }
 }
 
-fn is_tagged(ty: &Type) -> bool {
-    match ty {
-        Type::Tagged { .. } => true,
-        _ => false,
+/// Returns whether a node has no schema, as these say.
+pub(crate) fn is_spoilt(are_spoilt: &[bool], node: usize) -> bool {
+    match are_spoilt.get(node) {
+        Some(is_spoilt) => *is_spoilt,
+        None => true,
     }
 }
 
-/// Returns the order of the types that were resolved.
-pub(crate) fn ordered<'text>(
+/// Returns the order of the types that were resolved, without those that are spoilt. Types that
+/// lead back to themselves where that isn't allowed have no number in it.
+pub(crate) fn ordered(
     alloc: Global,
-    modules: &Modules<'text>,
-    nodes: &[Node<'text>],
-) -> Result<Order, Halt<'text>> {
+    nodes: &[Node<'_>],
+    are_spoilt: &[bool],
+) -> Result<Order, AllocError> {
     let mut order = Order {
         numbers: vec![in alloc; None; nodes.len()]?,
         nodes: Vec::with_capacity(alloc, nodes.len())?,
@@ -137,41 +164,10 @@ pub(crate) fn ordered<'text>(
     };
     for _ in 0..MAX_ROUNDS {
         let before = order.nodes.len();
-        order.round(nodes)?;
-        if let Some(node) = first_beyond(nodes, order.choices.as_slice()) {
-            let problem = Problem::Beyond(TOO_MANY_CHOICES);
-            return Err(modules.fault(node.place.module, node.position, problem));
-        }
-        if order.nodes.len() == nodes.len() {
-            return Ok(order);
-        }
+        order.round(nodes, are_spoilt)?;
         if order.nodes.len() == before {
             break;
         }
     }
-    Err(endless(modules, nodes, &order))
-}
-
-/// Returns the first node from which on more CHOICEs are in one another than may be.
-fn first_beyond<'nodes, 'text>(
-    nodes: &'nodes [Node<'text>],
-    choices: &[usize],
-) -> Option<&'nodes Node<'text>> {
-    for (node, count) in nodes.iter().zip(choices) {
-        if *count > MAX_CHOICES {
-            return Some(node);
-        }
-    }
-    None
-}
-
-/// Returns a fault at the first type that has no number.
-fn endless<'text>(modules: &Modules<'text>, nodes: &[Node<'text>], order: &Order) -> Halt<'text> {
-    for (index, node) in nodes.iter().enumerate() {
-        if order.number(index).is_none() {
-            let problem = Problem::Endless(node.name);
-            return modules.fault(node.place.module, node.position, problem);
-        }
-    }
-    modules.fault(0, Position::START, Problem::Beyond(TOO_MANY_CHOICES))
+    Ok(order)
 }

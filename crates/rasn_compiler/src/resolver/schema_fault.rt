@@ -34,6 +34,12 @@ fn part<'text>(node: &Node<'text>, index: Option<usize>) -> (&'text str, Option<
     (node.name, None)
 }
 
+/// Returns the type that breaks a rule.
+pub(crate) fn type_of_error(error: SchemaError) -> TypeId {
+    let (id, _, _) = place(error);
+    id
+}
+
 /// Returns the type that breaks a rule, and the parts of it that do so.
 fn place(error: SchemaError) -> (TypeId, Option<usize>, Option<usize>) {
     match error {

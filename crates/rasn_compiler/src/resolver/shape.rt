@@ -4,7 +4,7 @@ use crate::modules::Modules;
 use crate::position::Position;
 use crate::resolver::components::Components;
 use crate::resolver::enumerated::Enumeration;
-use crate::resolver::leaf::{Plain, universal, universal_type};
+use crate::resolver::leaf::{Plain, plain_type, universal};
 use crate::resolver::node::{Asked, Place, Shape, Unfolded, Use};
 use crate::resolver::scope::Scope;
 use crate::steps::Steps;
@@ -63,10 +63,9 @@ impl<'modules, 'text> Resolver<'modules, 'text> {
     /// Returns a type within an explicit tag (X.680 31.2.7).
     fn tagged(&self, tag: Tag, of: Use) -> Shape<'text> {
         let within = Use {
-            place: of.place,
-            index: of.index,
-            automatic: of.automatic,
             peeled: of.peeled.saturating_add(1),
+            is_closed: false,
+            ..of
         };
         Shape {
             ty: Type::Tagged {
@@ -244,16 +243,14 @@ impl<'modules, 'text> Resolver<'modules, 'text> {
         unfolded: &Unfolded<'text>,
         builtin: Builtin,
     ) -> Result<Type, Halt<'text>> {
-        let (kind, number) = universal_type(builtin);
-        match kind {
-            Plain::Leaf(kind) => {
-                let constraints = self.size_bounds(unfolded, None)?;
-                if builtin == Builtin::UniversalString {
-                    self.count_unchecked(1);
-                }
-                Ok(plain_leaf(self.alloc, unfolded, kind, number, constraints))
+        match plain_type(builtin) {
+            Plain::Leaf(kind) => self.plain_leaf(unfolded, kind, kind.names().number),
+            Plain::Octets(number) => self.plain_leaf(unfolded, LeafKind::AnyOctets, number),
+            Plain::Unparsed(kind, number) => {
+                self.count_unchecked(1);
+                self.plain_leaf(unfolded, kind, number)
             }
-            Plain::Unseen => {
+            Plain::Unseen(number) => {
                 self.count_unchecked(1);
                 Ok(Type::Any {
                     tag: own_tag(unfolded, number),
@@ -265,11 +262,27 @@ impl<'modules, 'text> Resolver<'modules, 'text> {
             }
         }
     }
+
+    /// Resolves a type whose values hold no others, without names. Its universal tag has this
+    /// number.
+    fn plain_leaf(
+        &mut self,
+        unfolded: &Unfolded<'text>,
+        kind: LeafKind,
+        number: u32,
+    ) -> Result<Type, Halt<'text>> {
+        Ok(Type::Leaf {
+            kind,
+            tag: own_tag(unfolded, number),
+            constraints: self.size_bounds(unfolded, None)?,
+            names: Vec::new(self.alloc),
+        })
+    }
 }
 
 /// Returns the explicit tag around what is left of a type once so many are taken off. A CHOICE or
 /// an open type can't have an implicit one (X.680 31.2.7).
-fn prefix(unfolded: &Unfolded<'_>, peeled: usize, is_untagged: bool) -> Option<Tag> {
+pub(crate) fn prefix(unfolded: &Unfolded<'_>, peeled: usize, is_untagged: bool) -> Option<Tag> {
     let explicit = unfolded.tags.explicit.len();
     if peeled == explicit && is_untagged {
         return unfolded.tags.implicit;
@@ -324,20 +337,4 @@ fn type_within(
             alternatives: Vec::new(alloc),
         },
     })
-}
-
-/// Returns a type whose values hold no others, without names.
-fn plain_leaf(
-    alloc: Global,
-    unfolded: &Unfolded<'_>,
-    kind: LeafKind,
-    number: u32,
-    constraints: Constraints,
-) -> Type {
-    Type::Leaf {
-        kind,
-        tag: own_tag(unfolded, number),
-        constraints,
-        names: Vec::new(alloc),
-    }
 }

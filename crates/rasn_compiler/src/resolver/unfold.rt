@@ -5,9 +5,9 @@ use crate::resolver::lookup::{MAX_NAMES, TOO_MANY_NAMES};
 use crate::resolver::mark::Mark;
 use crate::resolver::node::{Asked, Place, Tags, Unfolded, Use};
 use crate::resolver::reference::{Next, steps_of, written_name};
-use crate::resolver::shape::Resolver;
+use crate::resolver::shape::{Resolver, prefix};
 use crate::tags::{MAX_TAGS, TOO_MANY_TAGS};
-use crate::tree::{Tag as WrittenTag, TagClass, Tagging, Type, Unread};
+use crate::tree::{Base, Component, Tag as WrittenTag, TagClass, Tagging, Type, Unread};
 use rasn_types::types::{Class, Tag};
 use std::alloc::{AllocError, Global};
 
@@ -68,9 +68,9 @@ impl<'text> Unfolded<'text> {
         })
     }
 
-    /// Adds the constraints of a type on the way.
+    /// Adds the constraints of a type on the way, of which the last one is the outermost.
     fn add_constraints(&mut self, constraints: &[Unread<'text>]) -> Result<(), AllocError> {
-        for constraint in constraints {
+        for constraint in constraints.iter().rev() {
             self.constraints.push((self.place, *constraint))?;
         }
         Ok(())
@@ -107,11 +107,26 @@ impl<'modules, 'text> Resolver<'modules, 'text> {
     /// Returns the type that a use means, and what it is called.
     pub(crate) fn asked(&mut self, of: Use, name: &'text str) -> Result<Asked<'text>, Halt<'text>> {
         let unfolded = self.unfold(of)?;
+        let is_closed = of.is_closed && self.is_extensible_choice(&unfolded)?;
         Ok(Asked {
-            of: unfolded.same,
+            of: Use {
+                is_closed,
+                ..unfolded.same
+            },
             name: unfolded.same_name.or(unfolded.name).unwrap_or(name),
             is_named: unfolded.same_name.is_some(),
         })
+    }
+
+    /// Returns whether a type is a CHOICE with an extension marker, which no tag is around (X.680
+    /// 29).
+    fn is_extensible_choice(&self, unfolded: &Unfolded<'text>) -> Result<bool, Halt<'text>> {
+        let place = unfolded.place;
+        let Base::Choice(list) = &self.modules.type_at(place.module, unfolded.index)?.base else {
+            return Ok(false);
+        };
+        let is_extensible = self.modules.is_extensible(place.module) || has_marker(list.as_slice());
+        Ok(is_extensible && prefix(unfolded, unfolded.same.peeled, true).is_none())
     }
 
     /// Follows the references of a type to one that is none.
@@ -211,6 +226,16 @@ impl Modules<'_> {
             None => false,
         }
     }
+}
+
+/// Returns whether an extension marker is among alternatives.
+fn has_marker(list: &[Component<'_>]) -> bool {
+    for component in list {
+        if let Component::Marker(_) = component {
+            return true;
+        }
+    }
+    false
 }
 
 /// Returns a tag of the context-specific class.

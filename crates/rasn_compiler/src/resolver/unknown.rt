@@ -8,19 +8,17 @@ use rasn_types::types::Tag;
 use std::alloc::{AllocError, Global};
 
 /// Gives each CHOICE with an extension marker a last alternative of an open type, which is named
-/// `...`. A CHOICE that is used where the tag of an unknown alternative could be that of another
-/// part gets none: an alternative of another CHOICE, a component of a SET, and a component of a
-/// SEQUENCE that follows an optional one, or that is optional and not the last. Unknown values are
-/// the last component of an extensible SEQUENCE.
+/// `...`, unless it is closed or its last alternative is an open type. Unknown values are the last
+/// component of an extensible SEQUENCE.
 pub(crate) fn add_unknown_alternatives(
     alloc: Global,
     nodes: &mut Vec<Node<'_>>,
 ) -> Result<(), AllocError> {
-    let closed = closed_nodes(alloc, nodes.as_slice())?;
+    let open = open_nodes(alloc, nodes.as_slice())?;
     let open_type = nodes.len();
     let mut place = None;
     for (index, node) in nodes.iter_mut().enumerate() {
-        if takes_unknown(node) && !is_closed(closed.as_slice(), index) {
+        if open.get(index).copied().unwrap_or(false) {
             place = Some(node.place);
             add_unknown(node, open_type)?;
         }
@@ -31,12 +29,13 @@ pub(crate) fn add_unknown_alternatives(
     Ok(())
 }
 
-/// Returns whether the type of a node can't have an unknown alternative.
-fn is_closed(closed: &[bool], node: usize) -> bool {
-    match closed.get(node) {
-        Some(closed) => *closed,
-        None => true,
+/// Returns of each node whether it is a CHOICE that gets an unknown alternative.
+fn open_nodes(alloc: Global, nodes: &[Node<'_>]) -> Result<Vec<bool>, AllocError> {
+    let mut open = Vec::with_capacity(alloc, nodes.len())?;
+    for node in nodes {
+        open.push(takes_unknown(node) && !node.is_closed && !has_open_last(nodes, node))?;
     }
+    Ok(open)
 }
 
 /// Returns whether a node is a CHOICE whose alternatives an unknown one may follow.
@@ -66,29 +65,15 @@ fn open_type_node<'text>(alloc: Global, place: Place) -> Node<'text> {
         ty: Type::Any { tag: Tag::EOC },
         parts: Vec::new(alloc),
         is_extensible: false,
-        inner: 0,
+        is_closed: false,
+        inner: None,
         name: MARKER,
         is_named: false,
         place,
         position: Position::START,
+        unchecked: 0,
+        spoilt: None,
     }
-}
-
-/// Returns of each node whether its type can't have an unknown alternative: because of where it is
-/// used, or since its last alternative is an open type.
-fn closed_nodes(alloc: Global, nodes: &[Node<'_>]) -> Result<Vec<bool>, AllocError> {
-    let mut closed = vec![in alloc; false; nodes.len()]?;
-    for (index, node) in nodes.iter().enumerate() {
-        match &node.ty {
-            Type::Choice { .. } | Type::Set { .. } => close_all(&mut closed, node.parts.as_slice()),
-            Type::Sequence { .. } => close_uncertain(&mut closed, node),
-            _ => {}
-        }
-        if has_open_last(nodes, node) {
-            close(&mut closed, index);
-        }
-    }
-    Ok(closed)
 }
 
 /// Returns whether the last part of a node is of an open type.
@@ -109,24 +94,36 @@ fn is_open(ty: &Type) -> bool {
     }
 }
 
-/// Closes the types of all parts.
-fn close_all(closed: &mut Vec<bool>, parts: &[Part<'_>]) {
-    for part in parts {
-        close(closed, part.node);
+/// Closes the CHOICEs that a type is made of where the tag of an unknown alternative could be that
+/// of another part: an alternative of another CHOICE, a component of a SET, and a component of a
+/// SEQUENCE that follows an optional one, or that is optional and not the last (X.680 25.6).
+pub(crate) fn close_parts(ty: &Type, is_extensible: bool, parts: &mut Vec<Part<'_>>) {
+    match ty {
+        Type::Choice { .. } | Type::Set { .. } => {
+            for part in parts.iter_mut() {
+                part.of.is_closed = true;
+            }
+        }
+        Type::Sequence { .. } => close_uncertain(is_extensible, parts),
+        Type::Leaf { .. }
+        | Type::Enumerated { .. }
+        | Type::Any { .. }
+        | Type::Tagged { .. }
+        | Type::SequenceOf { .. }
+        | Type::SetOf { .. }
+        | Type::Unknown => {}
     }
 }
 
-/// Closes the types of the components of a SEQUENCE that are optional, except at its end, or that
-/// follow an optional one (X.680 25.6).
-fn close_uncertain(closed: &mut Vec<bool>, sequence: &Node<'_>) {
-    let count = sequence.parts.len();
+/// Closes the components of a SEQUENCE that are optional, except at its end, or that follow an
+/// optional one.
+fn close_uncertain(is_extensible: bool, parts: &mut Vec<Part<'_>>) {
+    let count = parts.len();
     let mut follows_optional = false;
-    for (index, part) in sequence.parts.iter().enumerate() {
+    for (index, part) in parts.iter_mut().enumerate() {
         let is_optional = is_optional(&part.presence);
-        let is_last = index + 1 == count && !sequence.is_extensible;
-        if follows_optional || (is_optional && !is_last) {
-            close(closed, part.node);
-        }
+        let is_last = index + 1 == count && !is_extensible;
+        part.of.is_closed = follows_optional || (is_optional && !is_last);
         follows_optional = is_optional;
     }
 }
@@ -135,12 +132,5 @@ fn is_optional(presence: &Presence) -> bool {
     match presence {
         Presence::Required | Presence::Addition => false,
         Presence::Optional | Presence::Default(_) => true,
-    }
-}
-
-/// Closes the type of a node.
-fn close(closed: &mut Vec<bool>, node: usize) {
-    if let Some(it) = closed.get_mut(node) {
-        *it = true;
     }
 }

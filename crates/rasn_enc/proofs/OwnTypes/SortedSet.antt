@@ -2,6 +2,8 @@
 -- values.
 use Rattle.std.proofs.Common.{◌≡◌, ◌≢◌, ℕ, zero, suc, ◌+◌, ◌-◌, ◌<◌, ◌≤◌, ◌⊎◌, inl, inr, Bool, true, false, ◌||◌, ◌&&◌, if◌then◌else◌, List, [], ◌∷◌, ◌++◌, map, length, take, drop, get_or, Option, Some, None, MatchOption, refl, sym, ap, ap₂, ◌∙◌, subst, arith, nat_lt, nat_eq, Vec, Result, Ok, Err, OnOk, IfOk, IfErr}
 use Rattle.std.specs.List.{insert}
+use Rattle.std.specs.List.Sorted.{IsSortedBy, IsStableBy}
+use Rattle.std.specs.Cmp.{IsStrictWeakOrder}
 use Rattle.std.proofs.lemmas.Bool.Decides.{nat_tests}
 use Rattle.std.proofs.lemmas.Grind.{common_steps}
 use Rattle.std.proofs.Math.Seq.{take-suc, drop-cons}
@@ -30,8 +32,9 @@ use Rattle.rasn_enc.specs.Any.{IsUntaggedInSetError}
 use Rattle.rasn_enc.specs.Encoding.{AppendsEncoding, EncodeFails, NoEncodingOfPart}
 use Rattle.rasn_enc.specs.Sequence.{EncodePartsFails, NoEncodingOfParts}
 use Rattle.rasn_enc.specs.ValueErrors.{IsAllocErrorOr, IsErrorOfParts}
-use Rattle.rasn_enc.specs.SortedSet.{is_this, is_own, HasOwn, HasLeast, with_component, octets_in, IsWrittenAlone, IsHeldAs, AreFrom, HoldsInOrder, HoldsParts, HaveNoPlaces, FailsAtComponents, IsPartAlone, HoldsUnknown, LackTag}
+use Rattle.rasn_enc.specs.SortedSet.{is_this, is_own, HasOwn, HasLeast, with_component, octets_in, IsWrittenAlone, IsHeldAs, AreFrom, HoldsInOrder, HoldsParts, HaveNoPlaces, FailsAtComponents, IsPartAlone, IsUnknown, HoldsUnknown, LackTag}
 use Rattle.rasn_enc.specs.declared.ber.enc.set_parts.SetComponent.{SetComponent}
+use Rattle.rasn_enc.proofs.Sorting.{inserted, by_insertion, sorted_is}
 use Rattle.rasn_enc.proofs.Leaves.Primitive.{definite_begins, cons_begins, encoded_one}
 
 -- ---- tests of tags
@@ -478,14 +481,41 @@ unknown_more v values x xs q (e, b) = record {
       (c ∷ h.0, (x.tag, v, h.0, refl, b, refl, h.1), held_more n c x h.0 xs (refl, e) refl h.2);
 }
 
--- One more value before those that are held already.
-pub unknown_at : (values : List (List ℕ)) (left : ℕ) (v : List ℕ) (x : SetComponent) (xs ys : List SetComponent) → 0 < left → left ≤ length values → v ≡ get_or values (left - 1) v
-    → (x.octets.items ≡ v) × Begins v x.tag → ys ≡ with_component x xs → HoldsUnknown (drop left values) xs → HoldsUnknown (drop (left - 1) values) ys
-unknown_at values zero v x xs ys h l e b f q = absurd (omega (arith, h))
-unknown_at values (suc k) v x xs ys h l e b f q =
-    let i : suc k - 1 ≡ k = omega arith in
-    let d : drop k values ≡ v ∷ drop (suc k) values = drop-cons values k v l ∙ ap (λ z. z ∷ drop (suc k) values) (sym (e ∙ ap (λ n. get_or values n v) i)) in
-    subst (λ n. HoldsUnknown (drop n values) ys) (sym i) (subst (λ z. HoldsUnknown z ys) (sym d) (subst (HoldsUnknown (v ∷ drop (suc k) values)) (sym f) (unknown_more v (drop (suc k) values) x xs q b)))
+-- ---- and sorted
+
+abbrev pub is_below_in : SetComponent → SetComponent → Bool
+is_below_in x y = is_tag_below x.tag y.tag
+
+not_below : (s t : Tag) → (IsTagBelow s t → ⊥) → is_tag_below s t ≡ false
+not_below s t n = go (is_tag_below s t) refl
+  where
+    go : (b : Bool) → is_tag_below s t ≡ b → is_tag_below s t ≡ false
+    go true q = absurd (n (is_below s t q))
+    go false q = q
+
+pub tags_order : IsStrictWeakOrder is_below_in
+tags_order = record {
+  one_way = λ x y e. not_below y.tag x.tag (λ l. not_below_itself x.tag (below_trans x.tag y.tag x.tag (is_below x.tag y.tag e) l));
+  chain = λ x y z e f. not_below x.tag z.tag (λ l. elim (below_or_same x.tag y.tag) [
+    | inl m ↦ isnt_below x.tag y.tag e m
+    | inr (inl m) ↦ isnt_below y.tag z.tag f (below_trans y.tag x.tag z.tag m l)
+    | inr (inr q) ↦ isnt_below y.tag z.tag f (subst (λ t. IsTagBelow t z.tag) q l)
+  ]);
+}
+
+with_is : (x : SetComponent) (ys : List SetComponent) → with_component x ys ≡ inserted is_below_in x ys
+with_is x [] = refl
+with_is x (y ∷ ys) = ap (λ z. if is_tag_below y.tag x.tag then y ∷ z else x ∷ y ∷ ys) (with_is x ys)
+
+held_by_insertion : (values : List (List ℕ)) (xs : List SetComponent) → Each IsUnknown values xs → HoldsUnknown values (by_insertion is_below_in xs)
+held_by_insertion [] xs e = subst (λ l. HoldsUnknown [] (by_insertion is_below_in l)) (sym e)
+    (record { holds = λ n. ([], refl, record { sorted = []; held = refl; reordered = refl; order = tt; from = tt }) })
+held_by_insertion (v ∷ values) xs (x, more, e, r, others) = subst (λ l. HoldsUnknown (v ∷ values) (by_insertion is_below_in l)) (sym e)
+    (subst (HoldsUnknown (v ∷ values)) (with_is x (by_insertion is_below_in more)) (unknown_more v values x (by_insertion is_below_in more) (held_by_insertion values more others) r))
+
+-- What a stable sort makes of the values is held in the order of their tags.
+pub held_sorted : (values : List (List ℕ)) (xs ys : List SetComponent) → Each IsUnknown values xs → IsSortedBy is_below_in ys → IsStableBy is_below_in xs ys → HoldsUnknown values ys
+held_sorted values xs ys e a s = subst (HoldsUnknown values) (sym (sorted_is is_below_in tags_order xs ys a s)) (held_by_insertion values xs e)
 
 pub lack_at : (values : List (List ℕ)) (k : ℕ) (v : List ℕ) → k < length values → v ≡ get_or values k v → ((tag : Tag) → Begins v tag → ⊥) → LackTag values
 lack_at [] k v h e n = absurd (omega (arith, h))

@@ -1,9 +1,8 @@
 //! Certificates (RFC 5280) made by other programs, and invalid ones.
 
-use crate::asserts::{assert_has, assert_written_as};
+use crate::asserts::{assert_der, assert_has};
 use crate::messages::spoilt::{READ, Spoilt, assert_spoilt};
 use crate::samples::certificate::CERTIFICATE;
-use rasn::WholeMessage;
 use rasn::types::Codec;
 use rasn_pkix::{Certificate, Extensions, Name, Time};
 
@@ -41,15 +40,12 @@ fn has_parts(certificate: &Certificate) -> bool {
 
 #[test]
 fn a_certificate_has_its_parts(rt: HostRuntime) {
-    assert_has(&rt, Certificate::read(rt.alloc(), CERTIFICATE), has_parts);
+    assert_has::<Certificate, _>(&rt, rt.alloc(), CERTIFICATE, has_parts);
 }
 
 #[test]
 fn a_certificate_is_written_back(rt: HostRuntime) {
-    let alloc = rt.alloc();
-    let answer = Certificate::read(alloc, CERTIFICATE);
-    let write = |alloc, certificate: &Certificate| certificate.write(alloc);
-    assert_written_as(&rt, alloc, answer, write, CERTIFICATE);
+    assert_der::<Certificate>(&rt, rt.alloc(), CERTIFICATE);
 }
 
 // An encoding other than the one DER encoding is refused (X.690 8.3.2, 11.1, 11.5, 8.1.1.1). BER

@@ -1,11 +1,8 @@
 //! Signed messages (RFC 5652) made by other programs, and invalid ones.
 
-use crate::asserts::{
-    Answer, ahead_of, assert_decodes, assert_has, assert_read_back, assert_written_as,
-};
+use crate::asserts::{Answer, assert_decodes, assert_der, assert_has, assert_read_back};
 use crate::messages::spoilt::{READ, Spoilt, assert_spoilt};
 use crate::samples::cms::{MESSAGE, STREAMED};
-use rasn::WholeMessage;
 use rasn::types::Codec;
 use rasn_cms::{SignedMessage, SignerIdentifier};
 
@@ -25,15 +22,12 @@ fn has_parts(message: &SignedMessage) -> bool {
 
 #[test]
 fn a_signed_message_has_its_parts(rt: HostRuntime) {
-    assert_has(&rt, SignedMessage::read_der(rt.alloc(), MESSAGE), has_parts);
+    assert_has::<SignedMessage, _>(&rt, rt.alloc(), MESSAGE, has_parts);
 }
 
 #[test]
 fn a_signed_message_is_written_back(rt: HostRuntime) {
-    let alloc = rt.alloc();
-    let answer = SignedMessage::read_der(alloc, MESSAGE);
-    let write = |alloc, message: &SignedMessage| message.write(alloc);
-    assert_written_as(&rt, alloc, answer, write, MESSAGE);
+    assert_der::<SignedMessage>(&rt, rt.alloc(), MESSAGE);
 }
 
 /// Returns whether each signer is identified by its key.
@@ -45,23 +39,14 @@ fn is_signed_by_keys(message: &SignedMessage) -> bool {
 // BER reads indefinite lengths, and contents in segments.
 #[test]
 fn a_streamed_message_is_read(rt: HostRuntime) {
-    let answer = SignedMessage::read_with_remainder(rt.alloc(), STREAMED);
-    assert_has(&rt, ahead_of(&rt, answer, &[]), is_signed_by_keys);
+    assert_has::<SignedMessage, _>(&rt, rt.alloc(), STREAMED, is_signed_by_keys);
 }
 
 // DER has neither (X.690 10.1, 10.2), so the message is written with other octets, which are read
 // as the same message.
 #[test]
 fn a_streamed_message_is_written_in_der(rt: HostRuntime) {
-    let alloc = rt.alloc();
-    let answer = ahead_of(
-        &rt,
-        SignedMessage::read_with_remainder(alloc, STREAMED),
-        &[],
-    );
-    let write = |alloc, message: &SignedMessage| message.write(alloc);
-    let read = |alloc, octets: &[u8]| SignedMessage::read_der(alloc, octets);
-    assert_read_back(&rt, alloc, answer, write, read);
+    assert_read_back::<SignedMessage>(&rt, rt.alloc(), STREAMED);
 }
 
 /// Returns whether a signer is identified by its key.

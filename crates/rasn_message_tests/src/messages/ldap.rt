@@ -1,8 +1,8 @@
 //! LDAP messages (RFC 4511) between OpenLDAP's programs, and invalid ones.
 
 use crate::asserts::{
-    Answer, Rewritten, ahead_of, assert_decodes, assert_has, assert_output, assert_rewrites,
-    assert_written_as,
+    Answer, Rewritten, assert_decodes, assert_has, assert_output, assert_rewrites,
+    assert_written_back, front,
 };
 use crate::samples::ldap::{
     BIND, BIND_CONTINUES, BIND_STEP, BOUND, CHILDREN, DONE, ENTRY, EXTENDED, MODIFIED, MODIFY,
@@ -13,31 +13,49 @@ use rasn::error::EncodeError;
 use rasn::types::{Codec, Implicit, Unknown};
 use rasn_ldap::{
     ChangeOperationName, LdapMessage, MaxInt, ProtocolOp, ResultCodeName, SearchRequest,
-    SearchRequestDerefAliases, SearchRequestScopeName,
+    SearchRequestDerefAliasesName, SearchRequestScopeName,
 };
 use std::alloc::Global;
-use std::process::Abort;
-
-/// Asserts that each of the messages is read, without octets after it, and written back.
-fn assert_written_back(rt: &impl Abort, alloc: Global, messages: &[&[u8]]) {
-    for octets in messages {
-        let answer = ahead_of(rt, LdapMessage::read_with_remainder(alloc, octets), &[]);
-        let write = |alloc, message: &LdapMessage| message.write(alloc);
-        assert_written_as(rt, alloc, answer, write, octets);
-    }
-}
 
 #[test]
 fn requests_are_read_and_written_back(rt: HostRuntime) {
     const ROWS: &[&[u8]] = &[BIND, BIND_STEP, UNBIND, SEARCH, CHILDREN, MODIFY, EXTENDED];
-    assert_written_back(&rt, rt.alloc(), ROWS);
+    assert_written_back::<LdapMessage>(&rt, rt.alloc(), ROWS);
 }
 
 #[test]
 fn answers_are_read_and_written_back(rt: HostRuntime) {
     const ROWS: &[&[u8]] = &[BOUND, BIND_CONTINUES, ENTRY, REFERENCE, DONE, MODIFIED, WHO];
-    assert_written_back(&rt, rt.alloc(), ROWS);
+    assert_written_back::<LdapMessage>(&rt, rt.alloc(), ROWS);
 }
+
+/// A deletion by name (4.8).
+const DELETION: &[u8] = &[
+    0x30, 0x14, 0x02, 0x01, 0x03, 0x4A, 0x0F, 0x63, 0x6E, 0x3D, 0x62, 0x2C, 0x64, 0x63, 0x3D, 0x65,
+    0x78, 0x61, 0x6D, 0x70, 0x6C, 0x65,
+];
+
+/// A new name with the name of the new parent (4.9).
+const MOVE: &[u8] = &[
+    0x30, 0x2B, 0x02, 0x01, 0x04, 0x6C, 0x26, 0x04, 0x0F, 0x63, 0x6E, 0x3D, 0x61, 0x2C, 0x64, 0x63,
+    0x3D, 0x65, 0x78, 0x61, 0x6D, 0x70, 0x6C, 0x65, 0x04, 0x04, 0x63, 0x6E, 0x3D, 0x63, 0x01, 0x01,
+    0xFF, 0x80, 0x0A, 0x64, 0x63, 0x3D, 0x65, 0x78, 0x61, 0x6D, 0x70, 0x6C, 0x65,
+];
+
+/// The result compareTrue (4.10).
+const EQUALITY: &[u8] = &[
+    0x30, 0x0C, 0x02, 0x01, 0x05, 0x6F, 0x07, 0x0A, 0x01, 0x06, 0x04, 0x00, 0x04, 0x00,
+];
+
+/// The request 5 is abandoned (4.11).
+const ABANDONMENT: &[u8] = &[0x30, 0x06, 0x02, 0x01, 0x06, 0x50, 0x01, 0x05];
+
+/// An intermediate response with a name and a value (4.13).
+const INTERMEDIATE: &[u8] = &[
+    0x30, 0x24, 0x02, 0x01, 0x07, 0x79, 0x1F, 0x80, 0x18, 0x31, 0x2E, 0x33, 0x2E, 0x36, 0x2E, 0x31,
+    0x2E, 0x34, 0x2E, 0x31, 0x2E, 0x34, 0x32, 0x30, 0x33, 0x2E, 0x31, 0x2E, 0x39, 0x2E, 0x31, 0x2E,
+    0x34, 0x81, 0x03, 0x80, 0x01, 0x07,
+];
 
 // By hand: the operations that the programs above weren't asked for, each with its response.
 #[test]
@@ -57,22 +75,14 @@ fn further_operations_are_read_and_written_back(rt: HostRuntime) {
             0x65, 0x78, 0x69, 0x73, 0x74, 0x73,
         ],
         // a name (4.8)
-        &[
-            0x30, 0x14, 0x02, 0x01, 0x03, 0x4A, 0x0F, 0x63, 0x6E, 0x3D, 0x62, 0x2C, 0x64, 0x63,
-            0x3D, 0x65, 0x78, 0x61, 0x6D, 0x70, 0x6C, 0x65,
-        ],
+        DELETION,
         // noSuchObject, with the name of the entry above
         &[
             0x30, 0x16, 0x02, 0x01, 0x03, 0x6B, 0x11, 0x0A, 0x01, 0x20, 0x04, 0x0A, 0x64, 0x63,
             0x3D, 0x65, 0x78, 0x61, 0x6D, 0x70, 0x6C, 0x65, 0x04, 0x00,
         ],
         // with the name of the new parent (4.9)
-        &[
-            0x30, 0x2B, 0x02, 0x01, 0x04, 0x6C, 0x26, 0x04, 0x0F, 0x63, 0x6E, 0x3D, 0x61, 0x2C,
-            0x64, 0x63, 0x3D, 0x65, 0x78, 0x61, 0x6D, 0x70, 0x6C, 0x65, 0x04, 0x04, 0x63, 0x6E,
-            0x3D, 0x63, 0x01, 0x01, 0xFF, 0x80, 0x0A, 0x64, 0x63, 0x3D, 0x65, 0x78, 0x61, 0x6D,
-            0x70, 0x6C, 0x65,
-        ],
+        MOVE,
         // a referral (4.1.10)
         &[
             0x30, 0x1D, 0x02, 0x01, 0x04, 0x6D, 0x18, 0x0A, 0x01, 0x0A, 0x04, 0x00, 0x04, 0x00,
@@ -86,97 +96,74 @@ fn further_operations_are_read_and_written_back(rt: HostRuntime) {
             0x73, 0x6E, 0x04, 0x01, 0x78,
         ],
         // compareTrue
-        &[
-            0x30, 0x0C, 0x02, 0x01, 0x05, 0x6F, 0x07, 0x0A, 0x01, 0x06, 0x04, 0x00, 0x04, 0x00,
-        ],
+        EQUALITY,
         // the request 5 (4.11)
-        &[0x30, 0x06, 0x02, 0x01, 0x06, 0x50, 0x01, 0x05],
+        ABANDONMENT,
         // with a name and a value (4.13)
-        &[
-            0x30, 0x24, 0x02, 0x01, 0x07, 0x79, 0x1F, 0x80, 0x18, 0x31, 0x2E, 0x33, 0x2E, 0x36,
-            0x2E, 0x31, 0x2E, 0x34, 0x2E, 0x31, 0x2E, 0x34, 0x32, 0x30, 0x33, 0x2E, 0x31, 0x2E,
-            0x39, 0x2E, 0x31, 0x2E, 0x34, 0x81, 0x03, 0x80, 0x01, 0x07,
-        ],
+        INTERMEDIATE,
     ];
-    assert_written_back(&rt, rt.alloc(), ROWS);
+    assert_written_back::<LdapMessage>(&rt, rt.alloc(), ROWS);
 }
 
-/// Returns the name of an operation that no message of the programs has.
-fn further_operation(message: &LdapMessage) -> &'static str {
+/// Returns whether the message is a deletion of the entry `cn=b,dc=example`.
+fn is_deletion(message: &LdapMessage) -> bool {
     match &message.protocol_op {
-        ProtocolOp::DelRequest(name) if name.as_str() == "cn=b,dc=example" => "delRequest",
-        ProtocolOp::ModDnRequest(request)
-            if request.deleteoldrdn && request.new_superior.is_some() => { "modDNRequest" }
-        ProtocolOp::CompareResponse(result)
-            if result.result_code.named() == Some(ResultCodeName::CompareTrue) => {
-            "compareResponse"
-        }
-        ProtocolOp::AbandonRequest(request) if request.value == 5 => "abandonRequest",
-        ProtocolOp::IntermediateResponse(response) if response.response_name.is_some() => {
-            "intermediateResponse"
-        }
-        _ => "another",
+        ProtocolOp::DelRequest(name) => name.as_str() == "cn=b,dc=example",
+        _ => false,
     }
 }
 
-/// Asserts that the message has this operation, with its parts.
-fn assert_operation(rt: &impl Abort, alloc: Global, octets: &[u8], name: &str) {
-    let answer = ahead_of(rt, LdapMessage::read_with_remainder(alloc, octets), &[]);
-    assert_has(
-        rt,
-        answer,
-        |message: &LdapMessage| further_operation(message) == name,
-    );
+/// Returns whether the message renames an entry, deletes its old name and moves it.
+fn is_move(message: &LdapMessage) -> bool {
+    match &message.protocol_op {
+        ProtocolOp::ModDnRequest(request) => {
+            request.deleteoldrdn && request.new_superior.is_some()
+        }
+        _ => false,
+    }
+}
+
+/// Returns whether the message says that a comparison is true.
+fn is_equality(message: &LdapMessage) -> bool {
+    match &message.protocol_op {
+        ProtocolOp::CompareResponse(result) => {
+            result.result_code.named() == Some(ResultCodeName::CompareTrue)
+        }
+        _ => false,
+    }
+}
+
+/// Returns whether the message abandons the request 5.
+fn is_abandonment(message: &LdapMessage) -> bool {
+    match &message.protocol_op {
+        ProtocolOp::AbandonRequest(request) => request.value == 5,
+        _ => false,
+    }
+}
+
+/// Returns whether the message is an intermediate response with a name.
+fn is_intermediate(message: &LdapMessage) -> bool {
+    match &message.protocol_op {
+        ProtocolOp::IntermediateResponse(response) => response.response_name.is_some(),
+        _ => false,
+    }
 }
 
 #[test]
 fn further_operations_have_their_parts(rt: HostRuntime) {
-    const ROWS: &[(&[u8], &str)] = &[
-        (
-            &[
-                0x30, 0x14, 0x02, 0x01, 0x03, 0x4A, 0x0F, 0x63, 0x6E, 0x3D, 0x62, 0x2C, 0x64, 0x63,
-                0x3D, 0x65, 0x78, 0x61, 0x6D, 0x70, 0x6C, 0x65,
-            ],
-            "delRequest",
-        ),
-        (
-            &[
-                0x30, 0x2B, 0x02, 0x01, 0x04, 0x6C, 0x26, 0x04, 0x0F, 0x63, 0x6E, 0x3D, 0x61, 0x2C,
-                0x64, 0x63, 0x3D, 0x65, 0x78, 0x61, 0x6D, 0x70, 0x6C, 0x65, 0x04, 0x04, 0x63, 0x6E,
-                0x3D, 0x63, 0x01, 0x01, 0xFF, 0x80, 0x0A, 0x64, 0x63, 0x3D, 0x65, 0x78, 0x61, 0x6D,
-                0x70, 0x6C, 0x65,
-            ],
-            "modDNRequest",
-        ),
-        (
-            &[
-                0x30, 0x0C, 0x02, 0x01, 0x05, 0x6F, 0x07, 0x0A, 0x01, 0x06, 0x04, 0x00, 0x04, 0x00,
-            ],
-            "compareResponse",
-        ),
-        (
-            &[0x30, 0x06, 0x02, 0x01, 0x06, 0x50, 0x01, 0x05],
-            "abandonRequest",
-        ),
-        (
-            &[
-                0x30, 0x24, 0x02, 0x01, 0x07, 0x79, 0x1F, 0x80, 0x18, 0x31, 0x2E, 0x33, 0x2E, 0x36,
-                0x2E, 0x31, 0x2E, 0x34, 0x2E, 0x31, 0x2E, 0x34, 0x32, 0x30, 0x33, 0x2E, 0x31, 0x2E,
-                0x39, 0x2E, 0x31, 0x2E, 0x34, 0x81, 0x03, 0x80, 0x01, 0x07,
-            ],
-            "intermediateResponse",
-        ),
-    ];
-    for (octets, name) in ROWS {
-        assert_operation(&rt, rt.alloc(), octets, name);
-    }
+    let alloc = rt.alloc();
+    assert_has::<LdapMessage, _>(&rt, alloc, DELETION, is_deletion);
+    assert_has::<LdapMessage, _>(&rt, alloc, MOVE, is_move);
+    assert_has::<LdapMessage, _>(&rt, alloc, EQUALITY, is_equality);
+    assert_has::<LdapMessage, _>(&rt, alloc, ABANDONMENT, is_abandonment);
+    assert_has::<LdapMessage, _>(&rt, alloc, INTERMEDIATE, is_intermediate);
 }
 
 /// Returns whether these are the parts of the search that `ldapsearch` was given.
 fn has_parts(search: &SearchRequest) -> bool {
     search.base_object.as_str() == "dc=example"
         && search.scope.named() == Some(SearchRequestScopeName::WholeSubtree)
-        && search.deref_aliases == SearchRequestDerefAliases::DerefInSearching
+        && search.deref_aliases.named() == Some(SearchRequestDerefAliasesName::DerefInSearching)
         && search.size_limit.value == 10
         && search.time_limit.value == 5
         && !search.types_only
@@ -195,12 +182,7 @@ fn is_search(message: &LdapMessage) -> bool {
 
 #[test]
 fn a_search_has_its_parts(rt: HostRuntime) {
-    let answer = ahead_of(
-        &rt,
-        LdapMessage::read_with_remainder(rt.alloc(), SEARCH),
-        &[],
-    );
-    assert_has(&rt, answer, is_search);
+    assert_has::<LdapMessage, _>(&rt, rt.alloc(), SEARCH, is_search);
 }
 
 /// Returns the octets of a search's filter.
@@ -253,14 +235,8 @@ fn is_third(message: &LdapMessage) -> bool {
 #[test]
 fn named_numbers_are_read(rt: HostRuntime) {
     let alloc = rt.alloc();
-    let answer = ahead_of(
-        &rt,
-        LdapMessage::read_with_remainder(alloc, BIND_CONTINUES),
-        &[],
-    );
-    assert_has(&rt, answer, is_bind_in_progress);
-    let answer = ahead_of(&rt, LdapMessage::read_with_remainder(alloc, MODIFY), &[]);
-    assert_has(&rt, answer, is_replaced_first);
+    assert_has::<LdapMessage, _>(&rt, alloc, BIND_CONTINUES, is_bind_in_progress);
+    assert_has::<LdapMessage, _>(&rt, alloc, MODIFY, is_replaced_first);
 }
 
 /// Returns whether the message has one component that RFC 4511 doesn't name: NULL.
@@ -294,9 +270,8 @@ fn what_is_unknown_is_kept(rt: HostRuntime) {
         &[0x30, 0x05, 0x02, 0x01, 0x03, 0x51, 0x00],
     ];
     let alloc = rt.alloc();
-    assert_written_back(&rt, alloc, ROWS);
-    let answer = ahead_of(&rt, LdapMessage::read_with_remainder(alloc, NEWER), &[]);
-    assert_has(&rt, answer, has_unknown_null);
+    assert_written_back::<LdapMessage>(&rt, alloc, ROWS);
+    assert_has::<LdapMessage, _>(&rt, alloc, NEWER, has_unknown_null);
 }
 
 // Two messages in one input.
@@ -305,12 +280,8 @@ fn what_follows_a_message_is_left(rt: HostRuntime) {
     const BOTH: &[u8] = &[
         0x30, 0x05, 0x02, 0x01, 0x03, 0x42, 0x00, 0x30, 0x05, 0x02, 0x01, 0x03, 0x42, 0x00,
     ];
-    let answer = ahead_of(
-        &rt,
-        LdapMessage::read_with_remainder(rt.alloc(), BOTH),
-        UNBIND,
-    );
-    assert_has(&rt, answer, is_third);
+    let message = front::<LdapMessage>(&rt, rt.alloc(), BOTH, UNBIND);
+    assert!(rt; is_third(&message));
 }
 
 // BER that isn't in the forms of RFC 4511 5.1 is read, and written in those forms: an indefinite

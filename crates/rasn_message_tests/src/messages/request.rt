@@ -1,9 +1,8 @@
 //! Certification requests (RFC 2986) made by other programs, and invalid ones.
 
-use crate::asserts::{assert_has, assert_written_as};
+use crate::asserts::{assert_der, assert_has};
 use crate::messages::spoilt::{READ, Spoilt, assert_spoilt};
 use crate::samples::request::REQUEST;
-use rasn::WholeMessage;
 use rasn::types::Codec;
 use rasn_pkix::{CertificationRequest, Name};
 
@@ -29,19 +28,12 @@ fn has_parts(request: &CertificationRequest) -> bool {
 
 #[test]
 fn a_request_has_its_parts(rt: HostRuntime) {
-    assert_has(
-        &rt,
-        CertificationRequest::read(rt.alloc(), REQUEST),
-        has_parts,
-    );
+    assert_has::<CertificationRequest, _>(&rt, rt.alloc(), REQUEST, has_parts);
 }
 
 #[test]
 fn a_request_is_written_back(rt: HostRuntime) {
-    let alloc = rt.alloc();
-    let answer = CertificationRequest::read(alloc, REQUEST);
-    let write = |alloc, request: &CertificationRequest| request.write(alloc);
-    assert_written_as(&rt, alloc, answer, write, REQUEST);
+    assert_der::<CertificationRequest>(&rt, rt.alloc(), REQUEST);
 }
 
 // An encoding other than the one DER encoding is refused (X.690 10.1, 11.6). BER reads a SET OF in

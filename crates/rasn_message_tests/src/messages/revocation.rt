@@ -1,10 +1,8 @@
 //! Revocation lists (RFC 5280, 5) made by other programs, and invalid ones.
 
-use crate::asserts::{assert_has, assert_written_as};
+use crate::asserts::{Answer, assert_decodes, assert_der, assert_has};
 use crate::messages::spoilt::{READ, Spoilt, assert_spoilt};
 use crate::samples::revocation::REVOCATION_LIST;
-use rasn::WholeMessage;
-use rasn::error::DecodeErrorKind;
 use rasn::types::Codec;
 use rasn_pkix::{CertificateList, Time, Version};
 
@@ -85,12 +83,8 @@ fn is_empty(list: &CertificateList) -> bool {
 #[test]
 fn revocation_lists_have_their_parts(rt: HostRuntime) {
     let alloc = rt.alloc();
-    assert_has(
-        &rt,
-        CertificateList::read(alloc, REVOCATION_LIST),
-        has_parts,
-    );
-    assert_has(&rt, CertificateList::read(alloc, EMPTY_LIST), is_empty);
+    assert_has::<CertificateList, _>(&rt, alloc, REVOCATION_LIST, has_parts);
+    assert_has::<CertificateList, _>(&rt, alloc, EMPTY_LIST, is_empty);
 }
 
 /// Returns whether the next list is issued at a GeneralizedTime.
@@ -106,24 +100,22 @@ fn is_undated(list: &CertificateList) -> bool {
 // RFC 5280 has one `nextUpdate` at most, of either form of a time.
 #[test]
 fn revocation_lists_have_one_next_update(rt: HostRuntime) {
+    const ROWS: &[Answer<'static>] = &[(
+        TWICE_DATED_LIST,
+        Codec::Der,
+        "UnexpectedExtraData { length: 17 }",
+    )];
     let alloc = rt.alloc();
-    assert_has(&rt, CertificateList::read(alloc, GENERAL_LIST), is_general);
-    assert_has(&rt, CertificateList::read(alloc, UNDATED_LIST), is_undated);
-    let refused = CertificateList::read(alloc, TWICE_DATED_LIST);
-    let kind = refused.map_err(|error| error.kind);
-    assert!(rt;
-        matches!(kind, Err(DecodeErrorKind::UnexpectedExtraData { .. })),
-        "{kind:?}"
-    );
+    assert_has::<CertificateList, _>(&rt, alloc, GENERAL_LIST, is_general);
+    assert_has::<CertificateList, _>(&rt, alloc, UNDATED_LIST, is_undated);
+    assert_decodes::<CertificateList>(&rt, alloc, ROWS);
 }
 
 #[test]
 fn revocation_lists_are_written_back(rt: HostRuntime) {
     let alloc = rt.alloc();
     for octets in [REVOCATION_LIST, EMPTY_LIST, GENERAL_LIST, UNDATED_LIST] {
-        let answer = CertificateList::read(alloc, octets);
-        let write = |alloc, list: &CertificateList| list.write(alloc);
-        assert_written_as(&rt, alloc, answer, write, octets);
+        assert_der::<CertificateList>(&rt, alloc, octets);
     }
 }
 

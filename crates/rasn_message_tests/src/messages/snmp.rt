@@ -1,7 +1,9 @@
 //! SNMP messages (RFC 1157, 1901, 3412 and 3416), those with a community made by net-snmp, and
 //! invalid ones.
 
-use crate::asserts::{Answer, ahead_of, assert_decodes, assert_has, assert_written_as, decoded};
+use crate::asserts::{
+    Answer, assert_decodes, assert_has, assert_output, assert_written_back, decoded, front,
+};
 use crate::messages::spoilt::{Spoilt, assert_spoilt, spoilt};
 use crate::samples::snmp::{
     END_OF_VIEW, GET, GET_BULK, GET_NEXT, INFORM, NOT_WRITABLE, RESPONSE, SET, TRAP,
@@ -45,15 +47,9 @@ fn operation(data: &Pdus) -> &'static str {
 
 /// Asserts that the octets are a message with this alternative of PDUs, and are written back.
 fn assert_is_message(rt: &impl Abort, alloc: Global, octets: &[u8], name: &str) {
-    let answer = ahead_of(rt, Message::read_with_remainder(alloc, octets), &[]);
-    assert_has(
-        rt,
-        answer,
-        |message: &Message| operation(&message.data) == name,
-    );
-    let answer = ahead_of(rt, Message::read_with_remainder(alloc, octets), &[]);
-    let write = |alloc, message: &Message| message.write(alloc);
-    assert_written_as(rt, alloc, answer, write, octets);
+    let message = front::<Message>(rt, alloc, octets, &[]);
+    assert_eq!(rt; operation(&message.data), name);
+    assert_output(rt, message.write(alloc), octets);
 }
 
 #[test]
@@ -305,13 +301,8 @@ fn a_message_of_indefinite_length_is_written_definite(rt: HostRuntime) {
         0x0B, 0x06, 0x07, 0x2B, 0x06, 0x01, 0x02, 0x01, 0x01, 0x05, 0x05, 0x00, 0x00, 0x00, 0xAB,
         0xCD,
     ];
-    let answer = ahead_of(
-        &rt,
-        Message::read_with_remainder(alloc, INDEFINITE),
-        &[0xAB, 0xCD],
-    );
-    let write = |alloc, message: &Message| message.write(alloc);
-    assert_written_as(&rt, alloc, answer, write, GET_NEXT);
+    let message = front::<Message>(&rt, alloc, INDEFINITE, &[0xAB, 0xCD]);
+    assert_output(&rt, message.write(alloc), GET_NEXT);
 }
 
 /// A message of version 3 by hand (RFC 3412, 6; RFC 3414, 2.4): a request without bindings, by
@@ -324,35 +315,42 @@ const DISCOVERY: &[u8] = &[
 ];
 
 /// Returns whether a message of version 3 is the request, with its security parameters.
-fn is_discovery(alloc: Global, message: &SnmpV3Message) -> bool {
+fn is_discovery(message: &SnmpV3Message) -> bool {
     let header = &message.msg_global_data;
-    let ScopedPduData::Plaintext(scoped) = &message.msg_data else {
-        return false;
-    };
-    let octets = message.msg_security_parameters.as_octets();
     message.msg_version.value == VERSION_3
         && header.msg_id.value == 7
         && header.msg_max_size.value == 65507
-        && operation(&scoped.data) == "get-request"
-        && decoded::<UsmSecurityParameters>(alloc, Codec::Ber, octets).is_ok_and(|security| {
-            security.msg_user_name.value.as_octets().is_empty()
-        })
+        && is_get_request(&message.msg_data)
+}
+
+/// Returns whether the data are a get-request that isn't encrypted.
+fn is_get_request(data: &ScopedPduData) -> bool {
+    match data {
+        ScopedPduData::Plaintext(scoped) => operation(&scoped.data) == "get-request",
+        ScopedPduData::EncryptedPdu(_) => false,
+    }
+}
+
+/// Returns whether the octets are security parameters of no user.
+fn are_of_nobody(alloc: Global, octets: &[u8]) -> bool {
+    match decoded::<UsmSecurityParameters>(alloc, Codec::Ber, octets) {
+        Ok(security) => security.msg_user_name.value.as_octets().is_empty(),
+        Err(_) => false,
+    }
 }
 
 #[test]
 fn a_message_of_version_3_is_read_and_written_back(rt: HostRuntime) {
     let alloc = rt.alloc();
-    let answer = ahead_of(
-        &rt,
-        SnmpV3Message::read_with_remainder(alloc, DISCOVERY),
-        &[],
-    );
-    match &answer {
-        Ok(message) => assert!(rt; is_discovery(alloc, message)),
-        Err(error) => assert!(rt; false, "{:?}", error.kind),
-    }
-    let write = |alloc, message: &SnmpV3Message| message.write(alloc);
-    assert_written_as(&rt, alloc, answer, write, DISCOVERY);
+    let message = front::<SnmpV3Message>(&rt, alloc, DISCOVERY, &[]);
+    assert!(rt; is_discovery(&message));
+    assert!(rt; are_of_nobody(alloc, message.msg_security_parameters.as_octets()));
+    assert_written_back::<SnmpV3Message>(&rt, alloc, &[DISCOVERY]);
+}
+
+/// Returns whether the data of a message are encrypted.
+fn is_encrypted(message: &SnmpV3Message) -> bool {
+    matches!(message.msg_data, ScopedPduData::EncryptedPdu(_))
 }
 
 // An OCTET STRING in place of the scoped PDU is an encrypted one. Then a msgMaxSize of 483, an
@@ -387,24 +385,13 @@ fn spoilt_messages_of_version_3_are_refused(rt: HostRuntime) {
         ),
     ];
     let alloc = rt.alloc();
-    let answer = ahead_of(
-        &rt,
-        SnmpV3Message::read_with_remainder(alloc, ENCRYPTED),
-        &[],
-    );
-    assert_has(
-        &rt,
-        answer,
-        |message: &SnmpV3Message| matches!(message.msg_data, ScopedPduData::EncryptedPdu(_)),
-    );
+    assert_has::<SnmpV3Message, _>(&rt, alloc, ENCRYPTED, is_encrypted);
     assert_spoilt::<SnmpV3Message>(&rt, alloc, ENCRYPTED, ROWS);
 }
 
 // The version of net-snmp's response is 1, that of version 2c (RFC 1901, 3).
 #[test]
 fn versions_are_compared_with_their_names(rt: HostRuntime) {
-    let answer = ahead_of(&rt, Message::read_with_remainder(rt.alloc(), RESPONSE), &[]);
-    assert_has(&rt, answer, |message: &Message| {
-        message.version.to_i128() == Some(VERSION_2C)
-    });
+    let message = front::<Message>(&rt, rt.alloc(), RESPONSE, &[]);
+    assert!(rt; message.version.to_i128() == Some(VERSION_2C));
 }

@@ -1,6 +1,6 @@
-//! The contents of values that are moved out, borrowed, copied and compared.
+//! The contents of values that are moved out and borrowed.
 
-use crate::reading::{assert_ascends, assert_facts, held};
+use crate::reading::{assert_facts, held};
 use crate::writing::made;
 use rasn::prelude::*;
 use std::alloc::Global;
@@ -114,73 +114,4 @@ fn goes_over_a_set(rt: HostRuntime) {
         seen = seen.wrapping_mul(10).wrapping_add(*element);
     }
     assert!(rt; seen == 35);
-}
-
-/// Asserts that a copy equals its value.
-fn assert_copied<T: TryClone + PartialEq>(rt: &impl Abort, alloc: Global, value: T) {
-    match value.try_clone(alloc) {
-        Ok(copy) => assert!(rt; copy == value),
-        Err(_) => assert!(rt; false, "no memory"),
-    }
-}
-
-#[test]
-fn copies_values(rt: HostRuntime) {
-    let alloc = rt.alloc();
-    assert_copied(&rt, alloc, worked_bits(&rt, alloc));
-    assert_copied(&rt, alloc, worked_arcs(&rt, alloc));
-    assert_copied(&rt, alloc, Any::new(vec_of(&rt, alloc, &[0x05, 0x00])));
-    assert_copied(
-        &rt,
-        alloc,
-        made(&rt, Integer::from_octets(alloc, &[0x01; 17])),
-    );
-    assert_copied(
-        &rt,
-        alloc,
-        made(&rt, Integer::from_octets(alloc, &[0x01; 24])),
-    );
-    assert_copied(
-        &rt,
-        alloc,
-        made(&rt, Ia5String::from_octets(alloc, b"Jones")),
-    );
-    assert_copied(
-        &rt,
-        alloc,
-        made(&rt, BmpString::from_octets(alloc, &[0x00, 0x4A])),
-    );
-    assert_copied(&rt, alloc, held(&rt, String::from_str(alloc, "Jones")));
-    assert_copied(&rt, alloc, FixedOctetString::new([0x01, 0x23]));
-    assert_copied(&rt, alloc, 7u8);
-}
-
-#[test]
-fn copies_values_of_values(rt: HostRuntime) {
-    let alloc = rt.alloc();
-    let tagged: Implicit<bool, Option<OctetString>> = Implicit::new(Some(OctetString::from_vec(
-        vec_of(&rt, alloc, &[0x01]),
-    )));
-    assert_copied(&rt, alloc, tagged);
-    let mut set = SetOf::new(alloc);
-    held(
-        &rt,
-        set.insert(held(&rt, Vec::from_slice(alloc, &[1i64, 2]))),
-    );
-    held(&rt, set.insert(Vec::new(alloc)));
-    assert_copied(&rt, alloc, Explicit::<bool, SetOf<Vec<i64>>>::new(set));
-}
-
-#[test]
-fn orders_strings(rt: HostRuntime) {
-    let alloc = rt.alloc();
-    let jones = made(&rt, PrintableString::from_octets(alloc, b"Jones"));
-    let smith = made(&rt, PrintableString::from_octets(alloc, b"Smith"));
-    assert_ascends(&rt, jones, smith);
-    let truth = Any::new(vec_of(&rt, alloc, &[0x01, 0x01, 0xFF]));
-    let null = Any::new(vec_of(&rt, alloc, &[0x05, 0x00]));
-    assert_ascends(&rt, truth, null);
-    let low = made(&rt, BmpString::from_octets(alloc, &[0x00, 0xFF]));
-    let high = made(&rt, BmpString::from_octets(alloc, &[0x01, 0x00]));
-    assert_ascends(&rt, low, high);
 }

@@ -1,10 +1,7 @@
 //! The texts of errors, with ranges as X.680 51.4 writes them.
 
 use crate::reading::assert_shown;
-use rasn_de::de::Error;
-use rasn_types::error::{
-    BerEncodeErrorKind, CodecEncodeError, DecodeError, EncodeError, EncodeErrorKind,
-};
+use rasn_types::error::{BerEncodeErrorKind, CodecEncodeError, EncodeError, EncodeErrorKind};
 use rasn_types::types::{Bounded, Codec};
 
 // An open end is MIN or MAX (X.680 51.4).
@@ -24,21 +21,10 @@ fn tells_open_ends(rt: HostRuntime) {
     assert_shown(&rt, alloc, lower, "7..MAX");
 }
 
-// The texts show the name that a type reports, and why a value isn't written.
+// The texts say why a value isn't written.
 #[test]
-fn tells_names(rt: HostRuntime) {
+fn tells_why_a_value_is_not_written(rt: HostRuntime) {
     let alloc = rt.alloc();
-    let time = DecodeError::no_valid_choice(alloc, "Time", Codec::Der);
-    assert_shown(
-        &rt,
-        alloc,
-        time,
-        "DER: no alternative of `Time` has the tag",
-    );
-    let number = DecodeError::missing_field(alloc, "number", Codec::Ber);
-    assert_shown(&rt, alloc, number, "BER: missing component `number`");
-    let number = DecodeError::duplicate_field(alloc, "number", Codec::Ber);
-    assert_shown(&rt, alloc, number, "BER: duplicate component `number`");
     let kind = EncodeErrorKind::CodecSpecific {
         inner: CodecEncodeError::Ber(BerEncodeErrorKind::SetOutOfOrder),
     };

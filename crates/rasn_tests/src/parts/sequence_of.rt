@@ -2,10 +2,9 @@
 
 use crate::writing::{
     INVALID_0_40, assert_output, assert_refuses, assert_written, identifiers_of, made, new_encoder,
-    repeated,
 };
 use rasn_enc::enc::Encode;
-use rasn_types::types::{Bound, Bounded, Class, Codec, Constraints, Identifier, OctetString, Tag};
+use rasn_types::types::{Bound, Bounded, Class, Codec, Constraints, Identifier, Tag};
 use std::alloc::{AllocError, Global};
 
 /// SIZE (2..2)
@@ -26,21 +25,6 @@ fn numbers(alloc: Global, numbers: &[u8]) -> Result<Option<Vec<u8>>, AllocError>
     Ok(Some(numbers))
 }
 
-/// Returns a SEQUENCE OF SEQUENCE OF OCTET STRING, with one string in one list.
-pub fn lists(
-    alloc: Global,
-    octet: u8,
-    count: usize,
-) -> Result<Option<Vec<Vec<OctetString>>>, AllocError> {
-    let mut lists = Vec::new(alloc);
-    if let Some(string) = repeated(alloc, octet, count)? {
-        let mut strings = Vec::new(alloc);
-        strings.push(string)?;
-        lists.push(strings)?;
-    }
-    Ok(Some(lists))
-}
-
 #[test]
 fn calls_write_lists(rt: HostRuntime) {
     let alloc = rt.alloc();
@@ -56,18 +40,6 @@ fn calls_write_lists(rt: HostRuntime) {
         0xA0, 0x06, 0x02, 0x01, 0x05, 0x02, 0x01, 0x07, 0xA3, 0x05, 0x30, 0x03, 0x02, 0x01, 0x09,
     ];
     assert_output(&rt, encoder.output(), FIVE_SEVEN_THEN_NINE);
-}
-
-#[test]
-fn refuses_sizes_of_lists(rt: HostRuntime) {
-    let alloc = rt.alloc();
-    let mut encoder = new_encoder(&rt, alloc, Codec::Der);
-    let one = made(&rt, numbers(encoder.alloc(), &[5]));
-    let answer = one.encode_with_constraints(&mut encoder, &SIZE_2, Identifier::EMPTY);
-    let kind =
-        "SizeConstraintNotSatisfied { size: 1, expected: Range { start: Some(2), end: Some(2) } }";
-    assert_refuses(&rt, alloc, Codec::Der, answer, kind);
-    assert_output(&rt, encoder.output(), &[]);
 }
 
 // The object identifier 1.2 has an encoding, 0.40 doesn't (X.690 8.19.4).

@@ -78,10 +78,11 @@ fn refused_options_write_nothing(rt: HostRuntime) {
     assert_output(&rt, encoder.output(), &[]);
 }
 
-/// Writes a number whose default is 7, with the two calls without constraints.
-fn write_twice(encoder: &mut Encoder, number: u8) -> Result<(), EncodeError> {
+/// Writes a number whose default is 7, with the three calls without constraints.
+fn write_thrice(encoder: &mut Encoder, number: u8) -> Result<(), EncodeError> {
     encoder.encode_default(&number, || Ok(7), NO_IDENTIFIER)?;
-    encoder.encode_default_with_tag(TAG_0, &number, || Ok(7), NO_IDENTIFIER)
+    encoder.encode_default_with_tag(TAG_0, &number, || Ok(7), NO_IDENTIFIER)?;
+    encoder.encode_default_with_explicit_prefix(TAG_0, &number, || Ok(7), NO_IDENTIFIER)
 }
 
 /// Writes a percentage whose default is 7, with the two calls with constraints.
@@ -98,14 +99,18 @@ fn write_percentage_twice(encoder: &mut Encoder, number: u8) -> Result<(), Encod
 
 #[test]
 fn calls_leave_out_defaults(rt: HostRuntime) {
-    let octets = [0x02, 0x01, 0x05, 0x80, 0x01, 0x05];
-    for (number, octets) in [(7u8, [].as_slice()), (5, octets.as_slice())] {
+    const TWICE: &[u8] = &[0x02, 0x01, 0x05, 0x80, 0x01, 0x05];
+    const THRICE: &[u8] = &[
+        0x02, 0x01, 0x05, 0x80, 0x01, 0x05, 0xA0, 0x03, 0x02, 0x01, 0x05,
+    ];
+    const ROWS: &[(u8, &[u8], &[u8])] = &[(7, &[], &[]), (5, THRICE, TWICE)];
+    for (number, thrice, twice) in ROWS {
         let mut encoder = new_encoder(&rt, rt.alloc(), Codec::Der);
-        assert_written(&rt, write_twice(&mut encoder, number));
-        assert_output(&rt, encoder.output(), octets);
+        assert_written(&rt, write_thrice(&mut encoder, *number));
+        assert_output(&rt, encoder.output(), thrice);
         let mut encoder = new_encoder(&rt, rt.alloc(), Codec::Der);
-        assert_written(&rt, write_percentage_twice(&mut encoder, number));
-        assert_output(&rt, encoder.output(), octets);
+        assert_written(&rt, write_percentage_twice(&mut encoder, *number));
+        assert_output(&rt, encoder.output(), twice);
     }
 }
 

@@ -1,14 +1,11 @@
 //! Lines that the program normalises: from an encoding under any of the three rules to that of DER
 //! (X.690 10, 11).
 
-use crate::reading::{assert_text, debug_text};
-use rasn::de::Decode;
-use rasn::enc::Encode;
+use crate::reading::assert_facts;
 use rasn::error::{DecodeError, DecodeErrorKind};
-use rasn::types::{Codec, LawfulEq, OctetString, SetOf, UtcTime};
-use rasn_bench::{NamedFlag, NormaliseError, RunFault, normalise, run_normalise};
+use rasn::types::Codec;
+use rasn_bench::{NormaliseError, RunFault, run_normalise};
 use std::alloc::Global;
-use std::process::Abort;
 
 /// Rows of a line, an arrow and the result.
 const TABLE: &str = "\
@@ -81,135 +78,28 @@ fn all_lines_are_normalised(rt: HostRuntime) {
     assert!(rt; output.as_slice() == b"0101FF\n020107\nmalformed\n".as_slice());
 }
 
-/// Returns whether the result is these octets.
-fn is_normal(answer: Result<Vec<u8>, NormaliseError>, octets: &[u8]) -> bool {
-    match answer {
-        Ok(found) => found.as_slice() == octets,
-        Err(_) => false,
-    }
+/// Returns the error that octets follow the value under these rules.
+fn more(length: usize, codec: Codec) -> NormaliseError {
+    NormaliseError::Decode(DecodeError {
+        codec,
+        kind: DecodeErrorKind::UnexpectedExtraData { length },
+    })
 }
 
-/// Two BER encodings of `Smith` and TRUE, one CER encoding and the DER encoding are all normalised
-/// to the DER encoding.
-#[test]
-fn equal_values_come_out_alike(rt: HostRuntime) {
-    const SMITH: &[u8] = &[
-        0x30, 0x0A, 0x16, 0x05, 0x53, 0x6D, 0x69, 0x74, 0x68, 0x01, 0x01, 0xFF,
-    ];
-    let inputs: [(Codec, &[u8]); 4] = [
-        (
-            Codec::Ber,
-            &[
-                0x30, 0x80, 0x36, 0x80, 0x04, 0x02, 0x53, 0x6D, 0x04, 0x03, 0x69, 0x74, 0x68, 0x00,
-                0x00, 0x01, 0x01, 0x01, 0x00, 0x00,
-            ],
-        ),
-        (
-            Codec::Ber,
-            &[
-                0x30, 0x81, 0x0A, 0x16, 0x05, 0x53, 0x6D, 0x69, 0x74, 0x68, 0x01, 0x01, 0x7F,
-            ],
-        ),
-        (
-            Codec::Cer,
-            &[
-                0x30, 0x80, 0x16, 0x05, 0x53, 0x6D, 0x69, 0x74, 0x68, 0x01, 0x01, 0xFF, 0x00, 0x00,
-            ],
-        ),
-        (Codec::Der, SMITH),
-    ];
-    for (rule, input) in inputs {
-        let answer = normalise::<NamedFlag>(rt.alloc(), rule, input);
-        assert!(rt; is_normal(answer, SMITH), "{input:?}");
-    }
-}
-
-/// Returns the reason why the octets are refused. Panics if they are not.
-fn refusal(rt: &impl Abort, answer: Result<Vec<u8>, NormaliseError>) -> NormaliseError {
-    match answer {
-        Ok(found) => panic!(rt; "{found:?}"),
-        Err(error) => error,
-    }
-}
-
-/// Asserts that the octets of each row are refused, with an error whose text is that of the row.
-fn assert_refuses<T: Decode + Encode + LawfulEq>(
-    rt: &impl Abort,
-    alloc: Global,
-    rows: &[(&[u8], Codec, &'static str)],
-) {
-    for (octets, rule, text) in rows {
-        let refused = refusal(rt, normalise::<T>(alloc, *rule, octets));
-        assert_text(rt, debug_text(alloc, &refused), text);
-    }
-}
-
-// Octets after the value are refused under the rules of the input (X.690 8.1.1.1).
-#[test]
-fn what_is_no_value_alone_is_refused(rt: HostRuntime) {
-    const ROWS: &[(&[u8], Codec, &str)] = &[
-        (
-            &[0x01, 0x01, 0xFF, 0x00],
-            Codec::Cer,
-            "Decode(DecodeError { codec: Cer, kind: UnexpectedExtraData { length: 1 } })",
-        ),
-        (
-            &[0x01, 0x01, 0xFF, 0x00, 0x00],
-            Codec::Der,
-            "Decode(DecodeError { codec: Der, kind: UnexpectedExtraData { length: 2 } })",
-        ),
-        (
-            &[0x01, 0x01, 0x05],
-            Codec::Der,
-            "Decode(DecodeError { codec: Der, kind: InvalidBool { value: 5 } })",
-        ),
-    ];
-    assert_refuses::<bool>(&rt, rt.alloc(), ROWS);
-}
-
-// A SET OF whose elements are out of order isn't written (X.690 11.6).
-#[test]
-fn what_is_not_written_is_refused(rt: HostRuntime) {
-    const ROWS: &[(&[u8], Codec, &str)] = &[(
-        &[0x31, 0x06, 0x04, 0x01, 0x02, 0x04, 0x01, 0x01],
-        Codec::Ber,
-        "Encode(EncodeError { kind: CodecSpecific { inner: Ber(SetOutOfOrder) }, codec: Der })",
-    )];
-    assert_refuses::<SetOf<OctetString>>(&rt, rt.alloc(), ROWS);
-}
-
-// The time 691231235900-0100 is in 2070 in UTC, which a year of two digits can't express
-// (X.680 47).
-#[test]
-fn what_is_read_back_otherwise_is_refused(rt: HostRuntime) {
-    const ROWS: &[(&'static [u8], Codec, &'static str)] = &[(
-        b"\x17\x11691231235900-0100",
-        Codec::Ber,
-        "NotCanonical",
-    )];
-    assert_refuses::<UtcTime>(&rt, rt.alloc(), ROWS);
-}
-
-/// Returns whether the error is that one octet follows the value under CER.
-fn is_one_octet_more_by_cer(cause: NormaliseError) -> bool {
-    cause
-        == NormaliseError::Decode(DecodeError {
-            kind: DecodeErrorKind::UnexpectedExtraData { length: 1 },
-            codec: Codec::Cer,
-        })
+fn are_equal(one: NormaliseError, other: NormaliseError) -> bool {
+    one == other
 }
 
 // Two errors are equal exactly if their kinds and rules are.
 #[test]
 fn causes_are_compared(rt: HostRuntime) {
-    const ROWS: &[(&[u8], Codec, bool)] = &[
-        (&[0x01, 0x01, 0xFF, 0x00], Codec::Cer, true),
-        (&[0x01, 0x01, 0xFF, 0x00], Codec::Der, false),
-        (&[0x01, 0x01, 0xFF, 0x00, 0x00], Codec::Cer, false),
-    ];
-    for (octets, rule, equal) in ROWS {
-        let cause = refusal(&rt, normalise::<bool>(rt.alloc(), *rule, octets));
-        assert!(rt; is_one_octet_more_by_cer(cause) == *equal, "{octets:?}");
-    }
-    assert!(rt; !is_one_octet_more_by_cer(NormaliseError::NotCanonical));
+    assert_facts(
+        &rt,
+        &[
+            are_equal(more(1, Codec::Cer), more(1, Codec::Cer)),
+            !are_equal(more(1, Codec::Cer), more(1, Codec::Der)),
+            !are_equal(more(1, Codec::Cer), more(2, Codec::Cer)),
+            !are_equal(more(1, Codec::Cer), NormaliseError::NotCanonical),
+        ],
+    );
 }

@@ -40,19 +40,10 @@ fn components_come_in_any_order(rt: HostRuntime) {
     assert_rewrites::<Signal>(&rt, rt.alloc(), ROWS);
 }
 
-// DER requires the order of the tags (10.3), and omits a default (11.5).
-#[test]
-fn der_refuses_other_forms(rt: HostRuntime) {
-    const ROWS: &[Answer<'static>] = &[
-        (FALLING, Codec::Der, OUT_OF_ORDER),
-        (SEVEN, Codec::Der, DEFAULT_PRESENT),
-    ];
-    assert_decodes::<Signal>(&rt, rt.alloc(), ROWS);
-}
-
 // No component may be present twice, a required one must be present, and no other may (X.680 27).
+// DER requires the order of the tags (X.690 10.3), and omits a default (11.5).
 #[test]
-fn components_twice_missing_and_unknown_are_refused(rt: HostRuntime) {
+fn other_components_and_other_forms_are_refused(rt: HostRuntime) {
     const MARK_TWICE: &[u8] = &[0x31, 0x06, 0x80, 0x01, 0x05, 0x80, 0x01, 0x06];
     const TRUTH_TWICE: &[u8] = &[
         0x31, 0x09, 0x01, 0x01, 0xFF, 0x01, 0x01, 0x00, 0x80, 0x01, 0x05,
@@ -63,6 +54,8 @@ fn components_twice_missing_and_unknown_are_refused(rt: HostRuntime) {
     const EMPTY: &[u8] = &[0x31, 0x00];
     const UNKNOWN: &[u8] = &[0x31, 0x06, 0x80, 0x01, 0x05, 0x81, 0x01, 0x05];
     const ROWS: &[Answer<'static>] = &[
+        (FALLING, Codec::Der, OUT_OF_ORDER),
+        (SEVEN, Codec::Der, DEFAULT_PRESENT),
         (MARK_TWICE, Codec::Ber, "DuplicateField { name: \"mark\" }"),
         (
             TRUTH_TWICE,

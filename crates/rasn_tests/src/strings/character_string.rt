@@ -1,100 +1,10 @@
 //! Character strings (X.690 8.23), in segments under CER (9.2).
 
-use crate::reading::{assert_answer, assert_has_octets, decoder_of, sized};
 use crate::writing::{assert_output, assert_refuses, assert_written, made, new_encoder};
 use rasn_types::types::{
     BmpString, Bound, Bounded, Codec, Constraints, GeneralString, GraphicString, Ia5String,
     Identifier, NumericString, PrintableString, Tag, TeletexString, VisibleString,
 };
-use std::alloc::{AllocError, Global};
-
-// The size of a UTF8String counts characters, that of a BMPString counts units. The octets are
-// checked before the size.
-#[test]
-fn counts_characters_and_units(rt: HostRuntime) {
-    const FOUR_STRINGS: &[u8] = &[
-        0x0C, 0x03, 0xC3, 0xAB, 0x61, 0x0C, 0x01, 0xC3, 0x1E, 0x02, 0x00, 0x41, 0x1E, 0x03, 0x00,
-        0x41, 0x00,
-    ];
-    let mut decoder = decoder_of(rt.alloc(), FOUR_STRINGS, Codec::Ber);
-    assert_answer(
-        &rt,
-        rt.alloc(),
-        Codec::Ber,
-        decoder.decode_utf8_string(Tag::UTF8_STRING, &sized(2)),
-        "\"ëa\"",
-    );
-    assert_answer(
-        &rt,
-        rt.alloc(),
-        Codec::Ber,
-        decoder.decode_utf8_string(Tag::UTF8_STRING, &Constraints::NONE),
-        "StringConversionFailed { tag: Tag { class: Universal, value: 12 } }",
-    );
-    assert_has_octets(
-        &rt,
-        decoder.decode_bmp_string(Tag::BMP_STRING, &sized(1)),
-        &[0x00, 0x41],
-    );
-    assert!(rt; decoder.decoded_len() == 12);
-    assert_answer(
-        &rt,
-        rt.alloc(),
-        Codec::Ber,
-        decoder.decode_bmp_string(Tag::BMP_STRING, &sized(1)),
-        "StringConversionFailed { tag: Tag { class: Universal, value: 30 } }",
-    );
-    assert!(rt; decoder.decoded_len() == 17);
-}
-
-#[test]
-fn calls_read_numeric_to_ia5(rt: HostRuntime) {
-    const FOUR_STRINGS: &[u8] = &[
-        0x12, 0x01, 0x31, 0x13, 0x01, 0x41, 0x14, 0x01, 0xC8, 0x16, 0x01, 0x41,
-    ];
-    let mut decoder = decoder_of(rt.alloc(), FOUR_STRINGS, Codec::Der);
-    let any = Constraints::NONE;
-    assert_has_octets(
-        &rt,
-        decoder.decode_numeric_string(Tag::NUMERIC_STRING, &any),
-        b"1",
-    );
-    assert_has_octets(
-        &rt,
-        decoder.decode_printable_string(Tag::PRINTABLE_STRING, &any),
-        b"A",
-    );
-    assert_has_octets(
-        &rt,
-        decoder.decode_teletex_string(Tag::TELETEX_STRING, &any),
-        &[0xC8],
-    );
-    assert_has_octets(&rt, decoder.decode_ia5_string(Tag::IA5_STRING, &any), b"A");
-    assert!(rt; decoder.decoded_len() == 12);
-}
-
-#[test]
-fn calls_read_graphic_to_general(rt: HostRuntime) {
-    const THREE_STRINGS: &[u8] = &[0x19, 0x01, 0x41, 0x1A, 0x01, 0x41, 0x1B, 0x01, 0x41];
-    let mut decoder = decoder_of(rt.alloc(), THREE_STRINGS, Codec::Der);
-    let any = Constraints::NONE;
-    assert_has_octets(
-        &rt,
-        decoder.decode_graphic_string(Tag::GRAPHIC_STRING, &any),
-        b"A",
-    );
-    assert_has_octets(
-        &rt,
-        decoder.decode_visible_string(Tag::VISIBLE_STRING, &any),
-        b"A",
-    );
-    assert_has_octets(
-        &rt,
-        decoder.decode_general_string(Tag::GENERAL_STRING, &any),
-        b"A",
-    );
-    assert!(rt; decoder.decoded_len() == 9);
-}
 
 /// SIZE (2)
 const SIZE_2: Constraints = Constraints {
@@ -104,12 +14,6 @@ const SIZE_2: Constraints = Constraints {
         extensible: false,
     }),
 };
-
-/// Returns a UTF8String.
-fn text(alloc: Global, characters: &str) -> Result<Option<String>, AllocError> {
-    let text = String::from_str(alloc, characters)?;
-    Ok(Some(text))
-}
 
 #[test]
 fn calls_write_numeric_to_ia5(rt: HostRuntime) {

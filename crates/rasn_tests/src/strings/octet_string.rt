@@ -1,9 +1,7 @@
-//! OCTET STRING (X.690 8.7), in segments under CER (9.2), and of a fixed size.
+//! OCTET STRING (X.690 8.7), in segments or in one piece.
 
-use crate::reading::{answers_octets, decoder_of, sized};
-use crate::writing::{assert_output, assert_refuses, made, new_encoder, repeated};
-use rasn_enc::enc::Encode;
-use rasn_types::types::{Codec, Constraints, Identifier, Tag};
+use crate::reading::{answers_octets, decoder_of};
+use rasn_types::types::{Codec, Constraints, Tag};
 
 /// The octets A1 B2 C3 in nested segments of definite and indefinite length.
 const SEGMENTS: &[u8] = &[
@@ -32,16 +30,4 @@ fn gathers_segments(rt: HostRuntime) {
         assert!(rt; answers_octets(answer, &[0xA1, 0xB2, 0xC3], *is_borrowed));
         assert!(rt; decoder.remaining().is_empty());
     }
-}
-
-// Three octets are refused if the size has to be two, and nothing is written.
-#[test]
-fn refuses_octets_out_of_bounds(rt: HostRuntime) {
-    let alloc = rt.alloc();
-    let mut encoder = new_encoder(&rt, alloc, Codec::Der);
-    let three = made(&rt, repeated(encoder.alloc(), 0x01, 3));
-    let answer = three.encode_with_constraints(&mut encoder, &sized(2), Identifier::EMPTY);
-    const THREE_NOT_TWO: &str = "SizeConstraintNotSatisfied { size: 3, expected: Single(2) }";
-    assert_refuses(&rt, alloc, Codec::Der, answer, THREE_NOT_TWO);
-    assert_output(&rt, encoder.output(), &[]);
 }

@@ -1,8 +1,11 @@
 use Rattle.std.proofs.Common.{refl}
-use Rattle.rasn.proofs.OneRefusal.Settled.{default_settles}
+use Rattle.rasn_de.specs.ValueErrors.{DecodesOr}
+use Rattle.rasn.proofs.OneRefusal.Inside.{or_exact}
+use Rattle.rasn.proofs.OneRefusal.Settled.{own_default_settles}
 use Rattle.rasn.proofs.refusal_laws.settled_default.Goals as goal
 
 pub returns : goal.returns
 returns g c = λ is d there all rest.
-    default_settles g.V.Value.AsnType.shape g.R.DecodeParts.parts (g.V.Value.Decode.errors g.V.Value.AsnType.TAG g.V.Value.AsnType.CONSTRAINTS) g.R.DecodeParts.errors g.V.Value.AsnType.tree g.R.DecodeParts.tree rest _
-    (λ x r. (x, r)) (λ x r. refl) g.V.DefaultValue.default_tree d there g.V.Value.AsnType.TAG is all
+    let errors = g.V.Value.Decode.errors g.V.Value.AsnType.TAG g.V.Value.AsnType.CONSTRAINTS in
+    own_default_settles (DecodesOr g.V.Value.AsnType.shape g.V.Value.AsnType.tree errors) g.V.Value.AsnType.shape g.V.Value.AsnType.tree (or_exact g.V.Value.AsnType.shape g.V.Value.AsnType.tree errors) all
+    g.R.DecodeParts.parts g.R.DecodeParts.errors g.R.DecodeParts.tree rest _ (λ x r. (x, r)) (λ x r. refl) g.V.DefaultValue.default_tree d there g.V.Value.AsnType.TAG is

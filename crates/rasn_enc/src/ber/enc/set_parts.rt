@@ -7,7 +7,7 @@ ghost use Rattle.rasn_types.specs.Truth.{IsWhether};
 ghost use Rattle.rasn_types.specs.Tags.{IsTagBelow};
 ghost use Rattle.rasn_types.specs.Framing.{Begins};
 ghost use Rattle.rasn_types.specs.Contents.{joined_lists};
-ghost use Rattle.rasn_types.specs.Bytes.{ConstructedEncoding, IsPlacedBy};
+ghost use Rattle.rasn_types.specs.Bytes.{Each, ConstructedEncoding, IsPlacedBy};
 ghost use Rattle.rasn_types.specs.Shapes.{sorted_set, Presence, Shape, Tree, IsFirst, part as part_first, joined};
 ghost use Rattle.rasn_enc.specs.View.{started, appended, Extends};
 ghost use Rattle.rasn_enc.specs.Primitive.{Appends, IsAllocError};
@@ -15,7 +15,7 @@ ghost use Rattle.rasn_enc.specs.Any.{IsUntaggedInSetError};
 ghost use Rattle.rasn_enc.specs.Encoding.{AppendsEncoding, EncodeFails};
 ghost use Rattle.rasn_enc.specs.Sequence.{EncodePartsFails};
 ghost use Rattle.rasn_enc.specs.ValueErrors.{IsAllocErrorOr, IsErrorOfParts};
-ghost use Rattle.rasn_enc.specs.SortedSet.{with_component, octets_in, IsWrittenAlone, HoldsParts, FailsAtComponents, HasOwn, HasLeast, IsPartAlone, HoldsUnknown, LackTag};
+ghost use Rattle.rasn_enc.specs.SortedSet.{with_component, octets_in, IsWrittenAlone, HoldsParts, FailsAtComponents, HasOwn, HasLeast, IsPartAlone, IsUnknown, HoldsUnknown, LackTag};
 
 use crate::ber::enc::any::any_in_set;
 use crate::ber::enc::parts::{
@@ -222,6 +222,34 @@ fn unknown_component(alloc: Global, rule: Codec, value: &Any) -> Result<SetCompo
     }
 }
 
+/// Returns unknown values as components, in their own order.
+///
+/// # Errors
+/// `AnyInSet` if one of the values doesn't begin with an identifier; otherwise only `OutOfMemory`.
+fn components_of(
+    alloc: Global,
+    rule: Codec,
+    values: &[Any],
+) -> Result<Vec<SetComponent>, EncodeError>
+    ensures ok { IfOk result (λ v. Each IsUnknown values.now v.items) }
+    ensures refused { IfErr result (λ e. IsAllocError rule e ⊎ (IsUntaggedInSetError rule e × LackTag values.now)) }
+{
+    let mut components = match Vec::with_capacity(alloc, values.len()) {
+        Ok(empty) => empty,
+        Err(_) => return Err(out_of_memory(rule)),
+    };
+    let mut at = 0;
+    while at < values.len() {
+        let component = unknown_component(alloc, rule, &values[at])?;
+        match components.push(component) {
+            Ok(()) => {}
+            Err(_) => return Err(out_of_memory(rule)),
+        }
+        at += 1;
+    }
+    Ok(components)
+}
+
 /// Returns unknown values as components, in the order of their tags.
 ///
 /// # Errors
@@ -234,14 +262,11 @@ pub fn unknown_components(
     ensures ok { IfOk result (λ v. HoldsUnknown values.now v.items) }
     ensures refused { IfErr result (λ e. IsAllocError rule e ⊎ (IsUntaggedInSetError rule e × LackTag values.now)) }
 {
-    let mut components = Vec::new(alloc);
-    let mut left = values.len();
-    while left > 0 {
-        left -= 1;
-        let component = unknown_component(alloc, rule, &values[left])?;
-        insert_component(&mut components, component, rule)?;
+    let mut components = components_of(alloc, rule, values)?;
+    match components.sort_by_key(|component| component.tag) {
+        Ok(()) => Ok(components),
+        Err(_) => Err(out_of_memory(rule)),
     }
-    Ok(components)
 }
 
 impl EncodeSetParts for End {

@@ -1,4 +1,4 @@
-use Rattle.std.proofs.Common.{◌≡◌, inl, sym, subst}
+use Rattle.std.proofs.Common.{◌≡◌, ◌<◌, ℕ, inl, sym, subst}
 use Rattle.rasn_types.specs.Shapes.{Same}
 use Rattle.rasn_schema.specs.declared.types.Presence.{Presence}
 use Rattle.rasn_schema.specs.declared.types.Presence.TheVariants.{Default}
@@ -15,5 +15,6 @@ default_left p v d e t = subst (λ q. IsLeftOutAs (presence_of q) (tree_of v)) (
 
 pub returns-in-Default-clause-fits : goal.returns-in-Default-clause-fits
 returns-in-Default-clause-fits c =
-    or_ok (ComponentFits (Fits c.args.types.now c.args.below) c.args.component.now) c.try_clone.result c.or_memory.result c.or_memory.ensures.ok
-    (if_ok _ _ c.try_clone.result (λ v e. inl (default_left c.args.component.now.presence v _ c.in-Default.is e)) c.try_clone.ensures.means)
+    let P : Value → Type 0 = λ v. (levels : ℕ) → 0 < levels → ComponentFits (Fits c.args.types.now levels) c.args.component.now v in
+    or_ok P c.or_memory.result c.kept.result c.kept.ensures (or_ok P c.try_clone.result c.or_memory.result c.or_memory.ensures.ok
+    (if_ok _ _ c.try_clone.result (λ v e. λ levels some. inl (default_left c.args.component.now.presence v _ c.in-Default.is e)) c.try_clone.ensures.means))

@@ -6,7 +6,7 @@ use Rattle.rasn_json.proofs.ReadParts.{unknown_found}
 use Rattle.rasn_json.proofs.reader.no_unknown_values.Goals as goal
 
 pub returns-then-is_unknown_at-clause-fits : goal.returns-then-is_unknown_at-clause-fits
-returns-then-is_unknown_at-clause-fits c =
-    fits_below c.args.types.now c.args.below (c.args.below - 1) c.args.component.now.type_id.0 Unknown _ (let n = c.if-below-eq0.false in omega arith)
+returns-then-is_unknown_at-clause-fits c = λ levels some.
+    fits_below c.args.types.now levels (levels - 1) c.args.component.now.type_id.0 Unknown _ (omega (arith, some))
     (unknown_found _ c.is_unknown_at.result c.if-is_unknown_at.true c.is_unknown_at.ensures.found)
     (are_items (EachFits AreOctets) c.new.result (subst (EachFits AreOctets) (sym c.new.ensures.items) tt))

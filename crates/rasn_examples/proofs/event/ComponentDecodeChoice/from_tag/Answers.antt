@@ -1,8 +1,9 @@
 use Rattle.std.proofs.Common.{rules, refl, ap, ◌∙◌}
+use Rattle.rasn_de.proofs.Leaves.Returns.{residual}
 use Rattle.rasn_de.proofs.OwnTypes.Parts.{refused}
 use Rattle.rasn_de.proofs.OwnTypes.Alternatives.{alternative_got, alternative_refused, no_alternative}
 use Rattle.rasn_de.proofs.OwnTypes.Tags.{only, nowhere, tag_is}
-use Rattle.rasn_examples.specs.Event.{context, event_parts, level_tree, component_tree}
+use Rattle.rasn_examples.specs.Event.{context, event_parts, level_tree, component_tree, no_time, no_level, not_confirmed, no_component}
 use Rattle.rasn_examples.proofs.EventComponents.{time_alone}
 use Rattle.rasn_examples.proofs.event.ComponentDecodeChoice.from_tag.Goals as goal
 
@@ -32,3 +33,15 @@ returns-clause-reads c = no_alternative event_parts c.args.tag c.requires (nowhe
 
 pub returns-clause-rules : goal.returns-clause-rules
 returns-clause-rules c = c.no_valid_choice.ensures.0 ∙ c.codec.ensures
+
+pub returns-in_err-time-clause-errors : goal.returns-in_err-time-clause-errors
+returns-in_err-time-clause-errors c = rw (residual _ c.from_residual.ensures.1) (c.args.tag, c.requires, no_time (search rules) c.in_err-time.ensures.errors)
+
+pub returns-in_err-level-clause-errors : goal.returns-in_err-level-clause-errors
+returns-in_err-level-clause-errors c = rw (residual _ c.from_residual-in_err-level.ensures.1) (c.args.tag, c.requires, no_level (tag_is _ _ c.if-eq.ensures) c.in_err-level.ensures.exact)
+
+pub returns-in_err-confirmed-clause-errors : goal.returns-in_err-confirmed-clause-errors
+returns-in_err-confirmed-clause-errors c = rw (residual _ c.from_residual-in_err-confirmed.ensures.1) (c.args.tag, c.requires, not_confirmed (search rules) c.in_err-confirmed.ensures.errors)
+
+pub returns-clause-errors : goal.returns-clause-errors
+returns-clause-errors c = (c.args.tag, c.requires, no_component (nowhere event_parts _ (search rules, (search rules, (search rules, tt)))) (rw c.codec.ensures at c.no_valid_choice.ensures) refl)

@@ -1,18 +1,13 @@
-use Rattle.std.proofs.Common.{◌-◌, inl, inr, arith}
-use Rattle.std.proofs.lemmas.Result.{err_from_is_err_and}
-use Rattle.rasn_enc.proofs.OwnTypes.SortedSet.{unknown_at, lack_at}
+use Rattle.std.proofs.Common.{rules, ◌≡◌}
+use Rattle.std.proofs.lemmas.List.Sorted.{answers_always}
+use Rattle.rasn_enc.specs.declared.ber.enc.set_parts.SetComponent.{SetComponent}
+use Rattle.rasn_enc.proofs.Sorting.{sorted_alike, stable_alike}
+use Rattle.rasn_enc.proofs.TagOrder.{same_order}
+use Rattle.rasn_enc.proofs.OwnTypes.SortedSet.{is_below_in, held_sorted}
 use Rattle.rasn_enc.proofs.ber.enc.set_parts.unknown_components.Goals as goal
 
-pub returns-in_err-component-clause-refused : goal.returns-in_err-component-clause-refused
-returns-in_err-component-clause-refused c =
-    let p = err_from_is_err_and c.from_residual.result c.from_residual.ensures.1 in
-    rw (p.1, p.2) (elim c.in_err-component.ensures.refused [
-      | inl m ↦ inl m
-      | inr h ↦ inr (h.0, lack_at c.args.values.now (c.loop-left.left - 1) _ (omega arith) c.index-values-left.is h.1)
-    ])
-
-pub loop-left-preserved : goal.loop-left-preserved
-loop-left-preserved c = record {
-  within = omega arith;
-  holds = unknown_at c.args.values.now c.loop-left.left _ _ _ _ c.loop-left-test.true c.loop-left.invariant.within c.index-values-left.is c.in_ok-component.ensures.ok c.in_ok-insert_component.ensures.ok c.loop-left.invariant.holds;
-}
+pub returns-in-Ok-clause-ok : goal.returns-in-Ok-clause-ok
+returns-in-Ok-clause-ok c =
+    held_sorted c.args.values.now _ _ c.in_ok-components.ensures.ok
+    (sorted_alike _ is_below_in (λ x y. same_order x.tag y.tag) _ (c.in-Ok.ensures.sorted (λ (x : SetComponent). x.tag) (answers_always _ (λ a r. r ≡ a.0.now.tag) _ (λ f a r h k. search rules))))
+    (stable_alike _ is_below_in (λ x y. same_order x.tag y.tag) _ _ (c.sort_by_key.ensures.stable (λ (x : SetComponent). x.tag) (answers_always _ (λ a r. r ≡ a.0.now.tag) _ (λ f a r h k. search rules))))
