@@ -1,6 +1,7 @@
 -- What isn't settled: a call that does nothing, alternatives and parts without errors, and a SET without a value. What
 -- isn't determined: a call, and a function that is called on components, with more results than one.
 use Rattle.std.specs.Prelude.{◌≡◌, ℕ, List, [], ◌∷◌, true, false, IfOk, None, Some, Ok}
+use Rattle.rasn_types.specs.declared.types.tag.Tag.{Tag}
 use Rattle.rasn_types.specs.Tags.{in_universal}
 use Rattle.rasn_types.specs.declared.types.any.Any.{Any}
 use Rattle.rasn_types.specs.Shapes.{Tree, numbers, done, choice}
@@ -35,6 +36,8 @@ pub record WorkedSettled : Type 0 where
   pub never_made : IsAlwaysMade {L = List Tree} {D = Unit {0}} (λ l r. ⊥) → ⊥
   pub no_initializer : CanMake {I = Unit {0}} {D = Unit {0}} (λ i r. ⊥) None
   pub makes_nothing : CanMake {I = Unit {0}} {D = Unit {0}} (λ i r. ⊥) (Some tt) → ⊥
-  -- A SET of a BOOLEAN and a NULL, and a SEQUENCE with a required part, of which a function makes any result.
+  -- A SET of a BOOLEAN and a NULL, of which a function makes one value or any result; a SEQUENCE with a required part, of
+  -- which it makes any.
+  pub set_of_one_result : (tag : Tag) → IsDetermined (DecodesSetBy {F = Tree} {D = Unit {0}} (DecodesOr (choice two) (λ t. t) choice_errors) (λ v r. r ≡ Ok tt) tag)
   pub set_of_any_result : IsDetermined (DecodesSetBy {F = Tree} {D = Unit {0}} (DecodesOr (choice two) (λ t. t) choice_errors) (λ v r. Unit {0}) (in_universal 17)) → ⊥
   pub sequence_of_any_result : IsDetermined (DecodesInside (DecodesContents {D = Unit {0}} (is_read_by_initializer 1 false true) (MakesInitial {I = Unit {0}} (λ i r. ⊥) None) (λ old r new. new ≡ old)) (sequence_header (in_universal 16))) → ⊥

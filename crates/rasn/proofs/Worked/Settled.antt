@@ -1,5 +1,5 @@
 -- What isn't settled or determined, worked out by hand.
-use Rattle.std.proofs.Common.{◌≡◌, ℕ, inl, inr, [], ◌∷◌, Vec, None, Ok, Err, refl, sym, ap, ◌∙◌, arith, true, false}
+use Rattle.std.proofs.Common.{◌≡◌, ℕ, inl, inr, List, [], ◌∷◌, map, Vec, None, Result, Ok, Err, refl, sym, ap, ◌∙◌, arith, true, false}
 use Rattle.std.specs.Global.{Global}
 use lib.Utf8.{encode}
 use Rattle.rasn_types.specs.declared.types.any.Any.{Any}
@@ -9,7 +9,8 @@ use Rattle.rasn_types.specs.declared.error.decode.DecodeError.{DecodeError}
 use Rattle.rasn_types.specs.Errors.{IsOutOfMemory}
 use Rattle.rasn_types.specs.Tags.{form, in_universal}
 use Rattle.rasn_types.specs.Framing.{NextTag}
-use Rattle.rasn_types.specs.Shapes.{Tree, numbers, done, choice}
+use Rattle.rasn_types.specs.Shapes.{Tree, numbers, done, leaf, null, choice, part, required}
+use Rattle.rasn_types.specs.Trees.{unconstrained}
 use Rattle.rasn_types.specs.Shapes.Parts.{none}
 use Rattle.rasn_types.specs.Grammar.{parts_of}
 use Rattle.rasn_types.proofs.Headers.Frames.{frame_next}
@@ -20,17 +21,21 @@ use Rattle.rasn_de.specs.State.{State, Call, at}
 use Rattle.rasn_de.specs.Constructed.{sequence_header, Keeps, inside, DecodesInside}
 use Rattle.rasn_de.specs.Sequence.{is_read_by_initializer, MakesInitial, DecodesContents}
 use Rattle.rasn_de.specs.Set.{DecodesComponents, DecodesSetBy}
-use Rattle.rasn_de.specs.ValueErrors.{DecodesOr}
+use Rattle.rasn_de.specs.ValueErrors.{DecodesOr, IsErrorOfAlternative}
 use Rattle.rasn_de.specs.SetPartTypes.{ReadsPartAt}
 use Rattle.rasn.specs.Headline.{front}
-use Rattle.rasn.specs.OneRefusal.{IsName, IsSameError}
+use Rattle.rasn.specs.OneRefusal.{IsName, IsSameError, IsRefusedOnce, IsMadeOnce}
+use Rattle.rasn.specs.WorkedKinds.{bool_errors, null_errors}
 use Rattle.rasn.specs.WorkedSettled.{WorkedSettled}
-use Rattle.rasn.specs.WorkedWholes.{two, choice_errors}
+use Rattle.rasn.specs.WorkedWholes.{a_boolean, two, errors_by_tag, choice_errors}
+use Rattle.rasn.proofs.OneRefusal.Alternatives.{no_alternative_apart, alternative_apart, choice_apart}
+use Rattle.rasn.proofs.OneRefusal.Leaves.{boolean_apart, null_apart}
+use Rattle.rasn.proofs.OneRefusal.SetWith.{set_determined}
 use Rattle.rasn.proofs.OneRefusal.SettledAlternatives.{no_alternative_settles}
 use Rattle.rasn.proofs.OneRefusal.SettledLists.{vec_of}
 use Rattle.rasn.proofs.OneRefusal.SettledSets.{no_slots}
 use Rattle.rasn.proofs.ReadBack.Headers.{short}
-use Rattle.rasn.proofs.Worked.RefusedSets.{held, within}
+use Rattle.rasn.proofs.Worked.RefusedSets.{held, within, own_tags}
 
 a_name : IsName (83 ∷ [])
 unfolding encode
@@ -83,6 +88,16 @@ set_rejected : AnySet (empty 49) (Err (some_error Der)) (at (empty 49) [])
 unfolding number128_at tag_number_at identifier_by number256_at long_at length_at header_by
 set_rejected = (keeps 49, inside (held (in_universal 17) [] []) refl (within [] []) (inr (no_items, no_components, tt)) refl)
 
+one_value_made : {L : Type 0} (readings : L → List Tree) → IsMadeOnce readings (λ (l : L) (r : Result (Unit {0}) DecodeError). r ≡ Ok tt)
+one_value_made readings = record { unrefused = λ l m p v e a b. (let q = b.0 in cc); once = λ l m p e f a b. (let q = a.0 in cc) }
+
+-- A BOOLEAN or a NULL is refused as one error.
+two_once : IsRefusedOnce choice_errors
+two_once =
+    let last = alternative_apart false required (leaf null (in_universal 5) unconstrained) none (67 ∷ []) (in_universal 5) null_errors (λ _ _ _ _. Unit {0}) refl (null_apart (in_universal 5)).once (no_alternative_apart false (67 ∷ []) _) in
+    let both = alternative_apart false required a_boolean (part required (leaf null (in_universal 5) unconstrained) none) (67 ∷ []) (in_universal 1) bool_errors (IsErrorOfAlternative (in_universal 5) null_errors (λ _ _ _ _. Unit {0})) refl (boolean_apart (in_universal 1)).once last in
+    (choice_apart false two (λ (t : Tree). t) (67 ∷ []) errors_by_tag own_tags both).once
+
 abbrev AnySequence : Call (Unit {0})
 AnySequence = DecodesInside (DecodesContents {D = Unit {0}} (is_read_by_initializer 1 false true) (MakesInitial {I = Unit {0}} (λ i r. ⊥) None) (λ old r new. new ≡ old)) (sequence_header (in_universal 16))
 
@@ -106,7 +121,7 @@ worked = record {
   any_result = λ d. d.unrefused nothing tt tt (some_error Der) nothing nothing refl (refl, no_memory Der);
   any_error = λ d. errors_differ (d.once nothing tt (some_error Ber) (some_error Der) nothing nothing ((tt, refl), no_memory Ber) ((tt, refl), no_memory Der)).0;
   any_rest = λ d. (let p = ap (λ (z : State). z.rest) (d.left nothing tt tt tt nothing (front Der (0 ∷ [])) refl refl) in cc);
-  one_made = record { unrefused = λ l m p v e a b. (let q = b.0 in cc); once = λ l m p e f a b. (let q = a.0 in cc) };
+  one_made = one_value_made (λ (l : List Tree). l);
   any_made = λ m. m.unrefused [] [] refl tt (some_error Der) tt (tt, no_memory Der);
   any_rejected = λ m. errors_differ (m.once [] [] refl (some_error Ber) (some_error Der) (tt, no_memory Ber) (tt, no_memory Der));
   made_of_more = λ m. m.unrefused [] (done ∷ []) refl tt (some_error Der) refl (tt, no_memory Der);
@@ -114,6 +129,7 @@ worked = record {
   never_made = λ m. m [] (λ v a. a) (λ e a. a.0);
   no_initializer = tt;
   makes_nothing = λ m. m (λ v a. a);
+  set_of_one_result = λ tag. set_determined (choice two) (λ (t : Tree). t) choice_errors (λ v r. r ≡ Ok tt) tag false two refl two_once (one_value_made (λ (v : Vec Tree Global). map (λ (t : Tree). t) v.items));
   set_of_any_result = λ d. d.unrefused (empty 49) (omega arith, (omega arith, tt)) tt (some_error Der) (at (empty 49) []) (at (empty 49) []) set_made (set_rejected, no_memory Der);
   sequence_of_any_result = λ d. d.unrefused (empty 48) (omega arith, (omega arith, tt)) tt (some_error Der) (at (empty 48) []) (at (empty 48) []) sequence_made (sequence_rejected, no_memory Der);
 }
