@@ -55,6 +55,8 @@ uint32_t soq_proved_normalise_by(const uint8_t *schema, size_t schema_length, ui
                                  size_t capacity, size_t *needed, soq_reason *reason, uint8_t *text,
                                  size_t text_capacity);
 
+const char *soq_version(void) { return SOQ_VERSION; }
+
 /* Returns whether an object of this length can be at this address: SOQ_OK, SOQ_NULL_POINTER or
  * SOQ_TOO_LONG. */
 static soq_status soq_tested(const void *at, size_t length) {

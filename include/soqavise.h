@@ -27,6 +27,9 @@
 extern "C" {
 #endif
 
+/* Returns SOQ_VERSION of the library that is linked, which a program compares with that of the header. */
+const char *soq_version(void);
+
 /* The status that a function returns. */
 typedef enum soq_status {
     SOQ_OK = 0,

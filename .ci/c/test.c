@@ -647,6 +647,7 @@ int main(int count, char **words) {
     ENSURE(file != NULL);
     length = fread(octets, 1, sizeof octets, file);
     ENSURE(length > 0 && length < sizeof octets && fclose(file) == 0);
+    ENSURE(strcmp(soq_version(), SOQ_VERSION) == 0);
     guard_pages();
     rows_are_answered();
     spoilt_rows_are_answered();

@@ -199,6 +199,9 @@ _OK, _REFUSED, _OUT_OF_MEMORY, _TOO_SMALL, _UNKNOWN_TYPE, _UNKNOWN_RULE, _BAD_SC
 _OCTETS = [ctypes.c_char_p, ctypes.c_size_t]
 _SIZE = ctypes.POINTER(ctypes.c_size_t)
 
+_LIBRARY.soq_version.restype = ctypes.c_char_p
+__version__: str = _LIBRARY.soq_version().decode()
+
 
 def _function(name: str, *arguments):
     function = getattr(_LIBRARY, name)

@@ -43,6 +43,9 @@ pub use schema::{Kind, Schema, Value};
 use std::error;
 use std::fmt;
 
+/// The version of this crate, which is that of the library it is written for.
+pub const VERSION: &str = env!("CARGO_PKG_VERSION");
+
 /// Why a call has no result.
 #[derive(Clone, Debug, PartialEq, Eq)]
 #[non_exhaustive]
