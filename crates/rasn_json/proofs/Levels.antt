@@ -1,6 +1,6 @@
 -- The JSON of a value, one level deeper.
 use Rattle.std.proofs.Common.{◌≡◌, ℕ, zero, suc, Some, refl, sym, ap, subst, List, Result, Ok, Err, ◌∙◌, arith}
-use Rattle.std.specs.Prelude.{slice_get, IfOk, OnOk, MatchResult, true, false, is_err, is_ok}
+use Rattle.std.specs.Prelude.{slice_get, IfErr, IfOk, OnErr, OnOk, MatchResult, true, false, is_err, is_ok}
 use Rattle.json.specs.Json.{Json}
 use Rattle.rasn_schema.specs.declared.types.«Type».{«Type»}
 use Rattle.rasn_schema.specs.declared.value.Value.{Value}
@@ -48,3 +48,14 @@ or_ok P (Err x) (Err y) m h = tt
 pub passed : {A E F : Type 0} (P : Type 0) (outcome : Result A E) (r : Result A F) (v : A) → MatchResult outcome (λ w. r ≡ Ok w) (λ _. is_err r ≡ true) → r ≡ Ok v → OnOk outcome P → P
 passed P (Ok w) r v m e h = h
 passed P (Err x) r v m e h = absurd (no_error r v m e)
+
+-- The same where nothing is said of the value, and of an error that was kept.
+pub kept_ok : {A E F : Type 0} (P : Type 0) (outcome : Result A E) (r : Result A F) → MatchResult outcome (λ w. r ≡ Ok w) (λ _. is_err r ≡ true) → OnOk outcome P → OnOk r P
+kept_ok P (Ok w) r m h = subst (λ x. OnOk x P) (sym m) h
+kept_ok P (Err x) (Ok v) m h = absurd (not_true m)
+kept_ok P (Err x) (Err y) m h = tt
+
+pub kept_err : {A E F : Type 0} (P : E → Type 0) (outcome : Result A E) (r : Result A F) (e : E) → MatchResult outcome (λ w. r ≡ Ok w) (λ _. is_err r ≡ true) → IfErr outcome (λ x. e ≡ x) → IfErr outcome P → OnErr r (P e)
+kept_err P (Ok w) r e m k h = subst (λ x. OnErr x (P e)) (sym m) tt
+kept_err P (Err x) (Ok v) e m k h = absurd (not_true m)
+kept_err P (Err x) (Err y) e m k h = subst P (sym k) h

@@ -1,6 +1,6 @@
 -- A value that is refused has no JSON, and JSON that is written isn't nested deeper than allowed.
 use Rattle.std.proofs.Common.{ℤ, ◌≡◌, ◌⊎◌, ◌≤◌, ◌<◌, ◌+◌, ◌-◌, ◌++◌, ◌∙◌, ℕ, zero, suc, List, [], ◌∷◌, Bool, false, Option, Some, None, Result, Ok, Err, length, length-append, inl, inr, refl, sym, ap, subst, arith}
-use Rattle.std.specs.Prelude.{◌≢◌, slice_get, IfErr, IfOk, IsErrAnd, MatchOption, OnOk}
+use Rattle.std.specs.Prelude.{◌≢◌, slice_get, IfErr, IfOk, IsErrAnd, MatchOption, OnErr, OnOk}
 use Rattle.std.specs.Cow.{cow_slice_items}
 use Rattle.std.specs.String.{string_bytes}
 use Rattle.std.proofs.lemmas.List.{length-replicate}
@@ -56,6 +56,17 @@ pub fails_as : {A : Type 0} (P Q : JsonError → Type 0) (r : Result A JsonError
 fails_as P Q (Ok v) f h = tt
 fails_as P Q (Err e) f (inl m) = inl m
 fails_as P Q (Err e) f (inr x) = inr (f e x)
+
+-- What holds of an error that is kept.
+pub on_err : {A E : Type 0} (P : Type 0) (r : Result A E) → P → OnErr r P
+on_err P (Ok v) h = tt
+on_err P (Err x) h = h
+
+pub kept_as : {A E : Type 0} (P Q : JsonError → Type 0) (r : Result A E) (e : JsonError) → (P e → Q e)
+    → OnErr r (OrMemory P e) → OnErr r (OrMemory Q e)
+kept_as P Q (Ok v) e f h = tt
+kept_as P Q (Err x) e f (inl m) = inl m
+kept_as P Q (Err x) e f (inr h) = inr (f h)
 
 pub fails_by_memory : {A : Type 0} (P : JsonError → Type 0) (r : Result A JsonError) → IfErr r IsMemory
     → IfErr r (OrMemory P)

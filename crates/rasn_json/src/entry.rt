@@ -1,5 +1,5 @@
 //! Values as JSON text, and octets as JSON text.
-ghost use Rattle.std.specs.Prelude.{◌≡◌, Ok, IfOk, IfErr, IsUtf8, string_bytes};
+ghost use Rattle.std.specs.Prelude.{◌≡◌, Ok, IfOk, IfErr, IsUtf8, OnOk, string_bytes};
 ghost use Rattle.json.specs.Lex.{tokens};
 ghost use Rattle.json.specs.Print.{print};
 ghost use Rattle.json.specs.Layout.{pretty};
@@ -7,6 +7,7 @@ ghost use Rattle.rasn.specs.Headline.{AnsweredAlone};
 ghost use Rattle.rasn_schema.specs.declared.value.Value.{Value};
 ghost use Rattle.rasn_schema.specs.Trees.{tree_of};
 ghost use Rattle.rasn_dynamic.specs.Entry.{FitsType, IsEncoded, shape_of};
+ghost use Rattle.rasn_json.specs.Json.{Appends, JsonWithin};
 ghost use Rattle.rasn_json.specs.Entry.{HasJson, HasNoJson, IsLaidOut, IsNoJsonOf, IsNotEncodedFrom, IsReadAs};
 
 use crate::error::JsonError;
@@ -14,8 +15,8 @@ use crate::kept::Refused;
 use crate::layout::Layout;
 use crate::reader::value_at;
 use crate::syntax::{MAX_NESTING, parse};
-use crate::tokens::Compact;
-use crate::writer::put_at;
+use crate::tokens::{Compact, Tokens};
+use crate::writer::{Place, put_at};
 use json::{Pretty, Scratch, Writer};
 use rasn_dynamic::{WriteError, decode};
 use rasn_schema::{Schema, TypeId, Value};
@@ -63,6 +64,30 @@ pub fn to_json(
     }
 }
 
+/// Appends a value as JSON.
+fn put_whole<T: Tokens>(
+    out: &mut T,
+    alloc: Global,
+    schema: &Schema,
+    id: TypeId,
+    value: &Value<'_>,
+) -> Result<(), JsonError>
+    ensures ok { OnOk result (Appends (JsonWithin schema.now.types.items usize.MAX MAX_NESTING id.0 value.now) (T.Tokens.written out.old) (T.Tokens.written out.new)) }
+    ensures err { IfErr result (HasNoJson schema.now.types.items id.0 value.now) }
+{
+    let place = Place {
+        alloc,
+        types: schema.types(),
+        levels: usize::MAX,
+        depth: MAX_NESTING,
+    };
+    let mut error = JsonError::memory(alloc);
+    match put_at(out, &place, id, value, &mut error) {
+        Ok(()) => Ok(()),
+        Err(Refused) => Err(error),
+    }
+}
+
 /// Returns a value as JSON text without spaces.
 fn compact(
     alloc: Global,
@@ -77,15 +102,7 @@ fn compact(
     let mut out = Compact {
         out: Writer::new(Vec::new(alloc)),
     };
-    put_at(
-        &mut out,
-        alloc,
-        schema.types(),
-        usize::MAX,
-        MAX_NESTING,
-        id,
-        value,
-    )?;
+    put_whole(&mut out, alloc, schema, id, value)?;
     Ok(text_of(out.out.into_inner()))
 }
 
@@ -101,15 +118,7 @@ fn indented(
     ensures err { IfErr result (HasNoJson schema.now.types.items id.0 value.now) }
 {
     let mut out = Pretty::new(alloc);
-    put_at(
-        &mut out,
-        alloc,
-        schema.types(),
-        usize::MAX,
-        MAX_NESTING,
-        id,
-        value,
-    )?;
+    put_whole(&mut out, alloc, schema, id, value)?;
     Ok(text_of(out.into_inner()))
 }
 

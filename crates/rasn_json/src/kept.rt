@@ -1,25 +1,30 @@
 //! Errors that are kept in one place.
 //!
 //! A `JsonError` is large. So that none is moved for each level of a value, the functions that read
-//! values return only whether they did, and put the error where their caller keeps it. What makes
-//! an error isn't inlined in the functions that call themselves, so it takes none of their stack.
-ghost use Rattle.std.specs.Prelude.{◌≡◌, Ok, IsErr, MatchResult};
+//! and write values return only whether they did, and put the error where their caller keeps it.
+//! What makes an error isn't inlined in the functions that call themselves, so it takes none of
+//! their stack.
+ghost use Rattle.std.specs.Prelude.{◌≡◌, Ok, IfErr, IsErr, MatchResult};
+ghost use Rattle.rasn_json.specs.Refusals.{IsMemory, IsOfElement, IsOfItself, IsOfMember, OrMemory};
+ghost use Rattle.rasn_json.specs.declared.error.JsonErrorKind.TheVariants.{NoType, TooDeep, Unfit};
 
 use crate::error::{JsonError, JsonErrorKind};
 use crate::found::{copied, other_form};
 use crate::members::missing_member;
+use crate::write_leaf::unfit;
 use json::Value as Json;
 use rasn_schema::TypeId;
 use std::alloc::Global;
 use std::mem;
 
-/// Says that a value isn't read. The error is stored in the caller's `error`.
+/// Says that a value isn't read, or isn't written. The error is stored in the caller's `error`.
 #[derive(Clone, Copy)]
 pub struct Refused;
 
 /// Keeps the error of an outcome, if it is one.
 pub fn kept<T>(outcome: Result<T, JsonError>, error: &mut JsonError) -> Result<T, Refused>
-    ensures { MatchResult outcome (λ v. result ≡ Ok v) (λ _. IsErr result) }
+    ensures ok { MatchResult outcome (λ v. result ≡ Ok v) (λ _. IsErr result) }
+    ensures err { IfErr outcome (λ e. error.new ≡ e) }
 {
     match outcome {
         Ok(value) => Ok(value),
@@ -30,10 +35,12 @@ pub fn kept<T>(outcome: Result<T, JsonError>, error: &mut JsonError) -> Result<T
     }
 }
 
-/// Keeps the error that types are nested too deep.
+/// Keeps the error that a value is nested too deep.
 #[cold]
 #[inline(never)]
-pub fn refuse_depth(alloc: Global, error: &mut JsonError) -> Refused {
+pub fn refuse_depth(alloc: Global, error: &mut JsonError) -> Refused
+    ensures { IsOfItself TooDeep error.new }
+{
     *error = JsonError::new(alloc, JsonErrorKind::TooDeep);
     Refused
 }
@@ -41,8 +48,20 @@ pub fn refuse_depth(alloc: Global, error: &mut JsonError) -> Refused {
 /// Keeps the error that the schema has no type with this number.
 #[cold]
 #[inline(never)]
-pub fn refuse_type(alloc: Global, id: TypeId, error: &mut JsonError) -> Refused {
+pub fn refuse_type(alloc: Global, id: TypeId, error: &mut JsonError) -> Refused
+    ensures { IsOfItself (NoType id) error.new }
+{
     *error = JsonError::new(alloc, JsonErrorKind::NoType { id });
+    Refused
+}
+
+/// Keeps the error that a value isn't one of its type.
+#[cold]
+#[inline(never)]
+pub fn refuse_unfit(alloc: Global, error: &mut JsonError) -> Refused
+    ensures { IsOfItself Unfit error.new }
+{
+    *error = unfit(alloc);
     Refused
 }
 
@@ -89,7 +108,9 @@ pub fn refuse_missing(alloc: Global, name: &str, error: &mut JsonError) -> Refus
 /// Keeps the error that memory ran out.
 #[cold]
 #[inline(never)]
-pub fn refuse_memory(alloc: Global, error: &mut JsonError) -> Refused {
+pub fn refuse_memory(alloc: Global, error: &mut JsonError) -> Refused
+    ensures { IsMemory error.new }
+{
     *error = JsonError::memory(alloc);
     Refused
 }
@@ -97,7 +118,9 @@ pub fn refuse_memory(alloc: Global, error: &mut JsonError) -> Refused {
 /// Adds to the error of a member that it is the one with this name.
 #[cold]
 #[inline(never)]
-pub fn refuse_in_member(alloc: Global, name: &str, error: &mut JsonError) -> Refused {
+pub fn refuse_in_member(alloc: Global, name: &str, error: &mut JsonError) -> Refused
+    ensures { OrMemory (IsOfMember name.now (λ e. e ≡ error.old)) error.new }
+{
     let inner = mem::replace(error, JsonError::memory(alloc));
     *error = inner.in_member(alloc, name);
     Refused
@@ -106,7 +129,9 @@ pub fn refuse_in_member(alloc: Global, name: &str, error: &mut JsonError) -> Ref
 /// Adds to the error of an element that it is the one with this index.
 #[cold]
 #[inline(never)]
-pub fn refuse_in_element(alloc: Global, index: usize, error: &mut JsonError) -> Refused {
+pub fn refuse_in_element(alloc: Global, index: usize, error: &mut JsonError) -> Refused
+    ensures { OrMemory (IsOfElement index (λ e. e ≡ error.old)) error.new }
+{
     let inner = mem::replace(error, JsonError::memory(alloc));
     *error = inner.in_element(alloc, index);
     Refused

@@ -315,21 +315,33 @@ fn put_day<T: Tokens>(out: &mut T, alloc: Global, day: &Date) -> Result<(), Json
     put(out, alloc, Token::String(text.as_str()))
 }
 
+/// A type whose values hold no others.
+#[derive(Clone, Copy)]
+pub struct Leaf<'types> {
+    pub kind: LeafKind,
+    pub constraints: &'types Constraints,
+    /// The names of its numbers.
+    pub names: &'types [NamedNumber],
+}
+
 /// Appends a value that holds no others. So many arrays and objects may be nested in it.
 pub fn put_leaf<T: Tokens>(
     out: &mut T,
     alloc: Global,
     depth: usize,
-    kind: LeafKind,
-    constraints: &Constraints,
-    names: &[NamedNumber],
+    leaf: Leaf<'_>,
     value: &Value<'_>,
 ) -> Result<(), JsonError>
-    ensures fits { OnOk result (FitsLeaf kind value.now) }
-    ensures json { OnOk result (Appends (LeafJson kind constraints.now names.now value.now) (T.Tokens.written out.old) (T.Tokens.written out.new)) }
-    ensures nested { OnOk result (IsCounted constraints.now value.now → 0 < depth) }
-    ensures err { IfErr result (OrMemory (IsRefusedLeaf depth kind constraints.now names.now value.now)) }
+    ensures fits { OnOk result (FitsLeaf leaf.entry.kind value.now) }
+    ensures json { OnOk result (Appends (LeafJson leaf.entry.kind leaf.entry.constraints.now leaf.entry.names.now value.now) (T.Tokens.written out.old) (T.Tokens.written out.new)) }
+    ensures nested { OnOk result (IsCounted leaf.entry.constraints.now value.now → 0 < depth) }
+    ensures err { IfErr result (OrMemory (IsRefusedLeaf depth leaf.entry.kind leaf.entry.constraints.now leaf.entry.names.now value.now)) }
 {
+    let Leaf {
+        kind,
+        constraints,
+        names,
+    } = leaf;
     if !leaf_fits(kind, value) {
         return Err(unfit(alloc));
     }

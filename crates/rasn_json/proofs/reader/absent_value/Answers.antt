@@ -16,5 +16,5 @@ default_left p v d e t = subst (λ q. IsLeftOutAs (presence_of q) (tree_of v)) (
 pub returns-in-Default-clause-fits : goal.returns-in-Default-clause-fits
 returns-in-Default-clause-fits c =
     let P : Value → Type 0 = λ v. (levels : ℕ) → 0 < levels → ComponentFits (Fits c.args.types.now levels) c.args.component.now v in
-    or_ok P c.or_memory.result c.kept.result c.kept.ensures (or_ok P c.try_clone.result c.or_memory.result c.or_memory.ensures.ok
+    or_ok P c.or_memory.result c.kept.result c.kept.ensures.ok (or_ok P c.try_clone.result c.or_memory.result c.or_memory.ensures.ok
     (if_ok _ _ c.try_clone.result (λ v e. λ levels some. inl (default_left c.args.component.now.presence v _ c.in-Default.is e)) c.try_clone.ensures.means))
