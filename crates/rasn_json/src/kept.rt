@@ -2,7 +2,7 @@
 //!
 //! A `JsonError` is large. So that none is moved for each level of a value, the functions that read
 //! and write values return only whether they did, and put the error where their caller keeps it.
-//! What makes an error isn't inlined in the functions that call themselves, so it takes none of
+//! Functions that make an error aren't inlined in those that call themselves, so they take none of
 //! their stack.
 ghost use Rattle.std.specs.Prelude.{◌≡◌, Ok, IfErr, IsErr, MatchResult};
 ghost use Rattle.rasn_json.specs.Refusals.{IsMemory, IsOfElement, IsOfItself, IsOfMember, OrMemory};

@@ -24,14 +24,14 @@ use rasn_schema::{
 };
 use std::alloc::Global;
 
-/// Where a value is written, and with which types.
+/// The types of a value that is written, and the limits there.
 #[derive(Clone, Copy)]
 pub struct Place<'types> {
     pub alloc: Global,
     pub types: &'types [Type],
-    /// How many types are followed, one after the other.
+    /// Limits the types that are followed, one after the other.
     pub levels: usize,
-    /// How many arrays and objects may be nested there.
+    /// Limits the arrays and objects that are nested there.
     pub depth: usize,
 }
 

@@ -50,10 +50,10 @@ pub(crate) enum End {
 pub(crate) struct Entries<'input> {
     alloc: Global,
     octets: &'input [u8],
-    /// Where each encoding that hasn't ended does at the latest, and whether its length is
-    /// indefinite.
+    /// Holds of each encoding that hasn't ended the last place where it may end, and whether its
+    /// length is indefinite.
     around: Vec<(usize, bool)>,
-    /// Where the next encoding begins, or those that haven't ended do.
+    /// Says where the next encoding begins, or where those end that haven't ended yet.
     pub(crate) at: usize,
 }
 
