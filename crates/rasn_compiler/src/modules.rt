@@ -164,6 +164,12 @@ impl<'text> Modules<'text> {
         index >= self.own
     }
 
+    /// Returns the modules that aren't built in.
+    pub(crate) fn own_modules(&self) -> &[Module<'text>] {
+        let own = self.own.min(self.modules.len());
+        &self.modules.as_slice()[..own]
+    }
+
     /// Returns a module by its index. What every module may use has the index after the last.
     pub(crate) fn module_at(&self, index: usize) -> Option<&Module<'text>> {
         if index == self.modules.len() {

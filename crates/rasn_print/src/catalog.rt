@@ -40,12 +40,26 @@ pub fn modules_of<'text>(
         }
     }
     let read = Modules::parse_with_built_in(alloc, sources.as_slice(), own)?;
-    let mut faults = String::new(alloc);
-    for fault in &read.faults {
-        let line = visible(alloc, Escaping::Line, fault.to_string(alloc)?.as_str())?;
-        writeln!(faults, "{line}")?;
-    }
+    let faults = lines_of(alloc, &read.faults)?;
     Ok((read, faults))
+}
+
+/// Returns what is wrong in modules that aren't built in and spoils none of their types, a line each.
+///
+/// # Errors
+/// `Memory` if memory runs out.
+pub fn warnings_of(alloc: Global, read: &Modules<'_>) -> Result<String, Fault> {
+    lines_of(alloc, &read.warnings(alloc)?)
+}
+
+/// Returns a line for each fault.
+fn lines_of(alloc: Global, faults: &[rasn_compiler::Fault<'_>]) -> Result<String, Fault> {
+    let mut lines = String::new(alloc);
+    for fault in faults {
+        let line = visible(alloc, Escaping::Line, fault.to_string(alloc)?.as_str())?;
+        writeln!(lines, "{line}")?;
+    }
+    Ok(lines)
 }
 
 /// The types of a call by their names, and those that have no schema.

@@ -30,6 +30,7 @@ mod work;
 
 pub use catalog::{
     Catalog, known_of, message_types, modules_of, print_notation, print_types, types_for,
+    warnings_of,
 };
 pub use command_line::{Call, ColorChoice, InputForm, Work, call_of, command};
 pub use fault::Fault;

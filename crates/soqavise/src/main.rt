@@ -8,7 +8,7 @@ use clap::Command;
 use rasn_compiler::{Modules, Source};
 use rasn_print::{
     Call, ColorChoice, Context, Fault, Session, Work, call_of, command, known_of, message_types,
-    modules_of, print_notation, print_types, types_for,
+    modules_of, print_notation, print_types, types_for, warnings_of,
 };
 use rust::{run_rust, rust_command};
 use std::alloc::{AllocError, Global};
@@ -117,6 +117,7 @@ fn run_call(rt: &HostRuntime, call: &Call) -> Result<u8, Fault> {
     let (read, faults) = modules_of(alloc, sources.as_slice())?;
     eprint!(rt; "{faults}").map_err(Fault::of_write)?;
     if call.work == Work::Types {
+        eprint!(rt; "{}", warnings_of(alloc, &read)?).map_err(Fault::of_write)?;
         let are_whole = run_types(rt, &read, call.type_name.as_ref())? && faults.is_empty();
         return Ok(if are_whole { 0 } else { REFUSED });
     }

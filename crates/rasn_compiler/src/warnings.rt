@@ -1,0 +1,279 @@
+//! What is wrong in a module and spoils none of its types.
+use crate::fault::{Fault, Halt, Problem};
+use crate::modules::Modules;
+use crate::position::Position;
+use crate::resolver::{MAX_NAMES, Place, Resolver};
+use crate::steps::Steps;
+use crate::tree::{Assigned, Base, Builtin, Import, Meaning, Module, Tag, TagClass, Tagging, Type};
+use std::alloc::{AllocError, Global};
+use std::collections::BTreeSet;
+
+/// How many types are followed to find out whether a tag may be implicit.
+const MAX_FOLLOWED: usize = 100_000;
+
+/// The modules that are looked at, and what was found in them.
+#[derive(Drop)]
+struct Search<'modules, 'text> {
+    /// What reads values.
+    resolver: Resolver<'modules, 'text>,
+    /// What each module exports, unless that is all.
+    exported: Vec<Option<BTreeSet<&'text str>>>,
+    /// How many types may still be followed.
+    followed: usize,
+    found: Vec<Fault<'text>>,
+}
+
+impl<'text> Modules<'text> {
+    /// Returns what is wrong in the modules that aren't built in and spoils none of their types, in
+    /// the order of the texts: what EXPORTS and IMPORTS name and isn't there (X.680 13.12, 13.16), a
+    /// name that has two meanings, tags that may not be (31.2), and values that aren't of their type
+    /// (16).
+    ///
+    /// # Errors
+    /// `AllocError` if memory runs out.
+    pub fn warnings(&self, alloc: Global) -> Result<Vec<Fault<'text>>, AllocError> {
+        let mut search = Search::new(alloc, self)?;
+        let mut names = BTreeSet::new(alloc);
+        for (index, module) in self.own_modules().iter().enumerate() {
+            if !names.insert(module.name)? {
+                search.warn(module, module.position, module.name, SECOND_MODULE)?;
+            }
+            search.look_at_symbols(module)?;
+            search.look_at_tags(index, module)?;
+            search.look_at_values(index, module)?;
+        }
+        let Search { found, .. } = search;
+        Ok(found)
+    }
+}
+
+const SECOND_MODULE: &str = "is the name of an earlier module too, which it means (X.680 13)";
+
+/// Returns what EXPORTS names, unless it names all.
+fn exported<'text>(
+    alloc: Global,
+    module: &Module<'text>,
+) -> Result<Option<BTreeSet<&'text str>>, AllocError> {
+    let Some(symbols) = &module.exports else {
+        return Ok(None);
+    };
+    let mut names = BTreeSet::new(alloc);
+    for symbol in symbols {
+        let _ = names.insert(symbol.name)?;
+    }
+    Ok(Some(names))
+}
+
+/// Returns the fault of a value of this name that isn't one of its type, or that is made of a name
+/// that isn't defined.
+fn value_fault<'text, T: Drop>(
+    read: Result<T, Halt<'text>>,
+    name: &'text str,
+) -> Result<Option<Fault<'text>>, AllocError> {
+    let fault = match read {
+        Ok(_) => return Ok(None),
+        Err(Halt::OutOfMemory) => return Err(AllocError),
+        Err(Halt::Fault(fault)) => *fault,
+    };
+    let problem = match fault.problem {
+        Problem::Broken(_) | Problem::Expected(_) => {
+            Problem::Doubtful(name, "isn't a value of its type (X.680 16)")
+        }
+        Problem::Undefined(part) if part.starts_with(|first: char| first.is_ascii_lowercase()) => {
+            Problem::Doubtful(part, "isn't defined, in a value (X.680 13)")
+        }
+        _ => return Ok(None),
+    };
+    Ok(Some(Fault { problem, ..fault }))
+}
+
+impl<'modules, 'text> Search<'modules, 'text> {
+    /// Returns a search in which nothing was found yet.
+    fn new(
+        alloc: Global,
+        modules: &'modules Modules<'text>,
+    ) -> Result<Search<'modules, 'text>, AllocError> {
+        let mut names = Vec::with_capacity(alloc, modules.modules.len())?;
+        for module in &modules.modules {
+            names.push(exported(alloc, module)?)?;
+        }
+        Ok(Search {
+            resolver: Resolver {
+                alloc,
+                modules,
+                unchecked: 0,
+                scopes: Vec::new(alloc),
+                steps: Steps::new(Steps::OF_A_TYPE),
+            },
+            exported: names,
+            followed: MAX_FOLLOWED,
+            found: Vec::new(alloc),
+        })
+    }
+
+    /// Adds the values that aren't of their type (X.680 16).
+    fn look_at_values(&mut self, index: usize, module: &Module<'text>) -> Result<(), AllocError> {
+        for assignment in &module.assignments {
+            if let Assigned::Value { of, value } = assignment.assigned {
+                let place = Place::of(index);
+                let position = assignment.position;
+                let read = self.resolver.default_value(place, of, value, position);
+                if let Some(fault) = value_fault(read, assignment.name)? {
+                    self.found.push(fault)?;
+                }
+            }
+        }
+        Ok(())
+    }
+
+    /// Adds what is wrong about a name at a place.
+    fn warn(
+        &mut self,
+        module: &Module<'text>,
+        position: Position,
+        name: &'text str,
+        rule: &'static str,
+    ) -> Result<(), AllocError> {
+        self.found.push(Fault {
+            source: module.source,
+            position,
+            problem: Problem::Doubtful(name, rule),
+        })?;
+        Ok(())
+    }
+
+    /// Adds the names in EXPORTS and IMPORTS that aren't there (X.680 13.12, 13.16).
+    fn look_at_symbols(&mut self, module: &Module<'text>) -> Result<(), AllocError> {
+        if let Some(symbols) = &module.exports {
+            for symbol in symbols {
+                if !module.meanings.contains_key(symbol.name) {
+                    let rule = "is exported, but neither defined nor imported (X.680 13.12)";
+                    self.warn(module, symbol.position, symbol.name, rule)?;
+                }
+            }
+        }
+        for (index, import) in module.imports.iter().enumerate() {
+            for symbol in &import.symbols {
+                if let Some(rule) = self.rule_of_import(module, index, import, symbol.name) {
+                    self.warn(module, symbol.position, symbol.name, rule)?;
+                }
+            }
+        }
+        Ok(())
+    }
+
+    /// Returns the rule that a name in IMPORTS breaks. Of a module that isn't among the texts nothing
+    /// is known.
+    fn rule_of_import(
+        &self,
+        module: &Module<'text>,
+        index: usize,
+        import: &Import<'text>,
+        name: &str,
+    ) -> Option<&'static str> {
+        match module.meanings.get(name)? {
+            Meaning::Assigned(_) => {
+                return Some("is imported and defined, and means what is defined (X.680 14)");
+            }
+            Meaning::Imported(first) if *first != index => {
+                return Some("is imported twice, and means what the first is (X.680 14)");
+            }
+            Meaning::Imported(_) => {}
+        }
+        let other = self.resolver.modules.index_of(import.module)?;
+        if !self
+            .resolver
+            .modules
+            .modules
+            .get(other)?
+            .meanings
+            .contains_key(name)
+        {
+            return Some("isn't defined in the module that it is imported from (X.680 13.16)");
+        }
+        match self.exported.get(other)? {
+            Some(names) if !names.contains(name) => {
+                Some("isn't exported by the module that it is imported from (X.680 13.16)")
+            }
+            _ => None,
+        }
+    }
+
+    /// Adds the tags of the class UNIVERSAL (X.680 31.2), and those that can't be implicit.
+    fn look_at_tags(&mut self, index: usize, module: &Module<'text>) -> Result<(), AllocError> {
+        for ty in &module.types {
+            for tag in &ty.tags {
+                if tag.class == TagClass::Universal {
+                    let rule = "is the class of the standard's own types (X.680 31.2)";
+                    self.warn(module, tag.position, "UNIVERSAL", rule)?;
+                }
+            }
+            if let Some(tag) = implicit(ty) {
+                if self.has_no_tag(index, ty) {
+                    let rule =
+                        "is before a CHOICE or an open type, where a tag is explicit (X.680 31.2.9)";
+                    self.warn(module, tag.position, "IMPLICIT", rule)?;
+                }
+            }
+        }
+        Ok(())
+    }
+
+    /// Returns whether a type of a module, within its own tags, is a CHOICE or an open type without
+    /// one.
+    fn has_no_tag(&mut self, module: usize, ty: &Type<'text>) -> bool {
+        let mut at = module;
+        let mut base = &ty.base;
+        for _ in 0..MAX_NAMES {
+            if self.followed == 0 {
+                return false;
+            }
+            self.followed = self.followed.saturating_sub(1);
+            let Base::Reference {
+                module: outside,
+                name,
+                actuals,
+            } = base
+            else {
+                return is_without_tag(base);
+            };
+            let meant = self
+                .resolver
+                .modules
+                .meaning(at, *outside, name, ty.position);
+            let Ok((found, assignment)) = meant else {
+                return false;
+            };
+            let Assigned::Type(of) = assignment.assigned else {
+                return false;
+            };
+            let Ok(next) = self.resolver.modules.type_at(found, of.0) else {
+                return false;
+            };
+            if !actuals.is_empty() || !next.tags.is_empty() {
+                return false;
+            }
+            at = found;
+            base = &next.base;
+        }
+        false
+    }
+}
+
+/// Returns the innermost tag of a type, if IMPLICIT follows it.
+fn implicit<'ty, 'text>(ty: &'ty Type<'text>) -> Option<&'ty Tag<'text>> {
+    let tag = ty.tags.last()?;
+    if tag.tagging == Some(Tagging::Implicit) {
+        Some(tag)
+    } else {
+        None
+    }
+}
+
+/// Returns whether a type that is no reference is one without a tag.
+fn is_without_tag(base: &Base<'_>) -> bool {
+    matches!(
+        base,
+        Base::Choice(_) | Base::AnyDefinedBy(_) | Base::Builtin(Builtin::Any)
+    )
+}
