@@ -1,6 +1,5 @@
 //! Assignments (X.680 16, X.681 9 to 12, X.683 8).
 use crate::fault::Halt;
-use crate::hint::A_SET;
 use crate::parser::{MAX_DEPTH, Parser};
 use crate::token::Kind;
 use crate::tree::{Assigned, Assignment, Unread};
@@ -91,7 +90,7 @@ impl<'tokens, 'text> Parser<'tokens, 'text> {
         let of = governor?;
         self.expect("::=")?;
         if is_set {
-            let members = self.expect_braces(A_SET)?;
+            let members = self.expect_braces("a set of values in braces")?;
             return Ok(Assigned::Values { of, members });
         }
         let value = self.value()?;

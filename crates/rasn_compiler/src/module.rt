@@ -5,7 +5,7 @@ use crate::fault::{Fault, Halt, Problem};
 use crate::parser::Parser;
 use crate::position::Position;
 use crate::token::Kind;
-use crate::tree::{Assignment, Import, Meaning, Module, Tagging, Unread};
+use crate::tree::{Assignment, Import, Meaning, Module, Symbol, Tagging, Unread};
 use std::alloc::{AllocError, Global};
 use std::collections::{BTreeMap, BTreeSet};
 use std::mem;
@@ -40,8 +40,7 @@ impl<'tokens, 'text> Parser<'tokens, 'text> {
         let exports = self.exports(faults)?;
         let imports = self.imports()?;
         let assignments = self.assignments(faults)?;
-        let made = self.made(source, &head, imports, assignments)?;
-        Ok(Module { exports, ..made })
+        Ok(self.made(source, &head, exports, imports, assignments)?)
     }
 
     /// Returns a module of what was read.
@@ -49,6 +48,7 @@ impl<'tokens, 'text> Parser<'tokens, 'text> {
         &mut self,
         source: &'text str,
         head: &Head<'text>,
+        exports: Option<Vec<Symbol<'text>>>,
         imports: Vec<Import<'text>>,
         assignments: Vec<Assignment<'text>>,
     ) -> Result<Module<'text>, AllocError>
@@ -62,7 +62,7 @@ impl<'tokens, 'text> Parser<'tokens, 'text> {
             identifier: head.identifier,
             tagging: head.tagging,
             is_extensible: head.is_extensible,
-            exports: None,
+            exports,
             imports,
             types: mem::replace(&mut self.types, Vec::new(self.alloc)),
             assignments,

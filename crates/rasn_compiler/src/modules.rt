@@ -166,8 +166,7 @@ impl<'text> Modules<'text> {
 
     /// Returns the modules that aren't built in.
     pub(crate) fn own_modules(&self) -> &[Module<'text>] {
-        let own = self.own.min(self.modules.len());
-        &self.modules.as_slice()[..own]
+        self.modules.as_slice().get(..self.own).unwrap_or(&[])
     }
 
     /// Returns a module by its index. What every module may use has the index after the last.

@@ -367,7 +367,7 @@ impl<'tokens, 'text> Parser<'tokens, 'text> {
 }
 
 /// The types that one word names.
-const BUILTINS: [(&str, Builtin); 28] = [
+pub(crate) const BUILTINS: [(&str, Builtin); 28] = [
     ("BMPString", Builtin::BmpString),
     ("BOOLEAN", Builtin::Boolean),
     ("DATE", Builtin::Date),
@@ -399,7 +399,7 @@ const BUILTINS: [(&str, Builtin); 28] = [
 ];
 
 /// The words that other types begin with.
-const OTHERS: [&str; 10] = [
+pub(crate) const OTHER_TYPES: [&str; 10] = [
     "BIT STRING",
     "CHARACTER STRING",
     "CHOICE",
@@ -411,11 +411,6 @@ const OTHERS: [&str; 10] = [
     "SEQUENCE",
     "SET",
 ];
-
-/// Returns the words that types begin with.
-pub(crate) fn type_words() -> impl Iterator<Item = &'static str> {
-    BUILTINS.iter().map(|(word, _)| *word).chain(OTHERS)
-}
 
 /// Returns the type that the word names alone.
 fn builtin(word: &str) -> Option<Builtin> {

@@ -25,9 +25,9 @@ struct Search<'modules, 'text> {
 
 impl<'text> Modules<'text> {
     /// Returns what is wrong in the modules that aren't built in and spoils none of their types, in
-    /// the order of the texts: what EXPORTS and IMPORTS name and isn't there (X.680 13.12, 13.16), a
-    /// name that has two meanings, tags that may not be (31.2), and values that aren't of their type
-    /// (16).
+    /// the order of the texts: what EXPORTS and IMPORTS name and isn't there (X.680 13.12, 13.16),
+    /// a name that has two meanings, tags that may not be (31.2), and values that aren't of their
+    /// type (16).
     ///
     /// # Errors
     /// `AllocError` if memory runs out.
@@ -38,7 +38,8 @@ impl<'text> Modules<'text> {
             if !names.insert(module.name)? {
                 search.warn(module, module.position, module.name, SECOND_MODULE)?;
             }
-            search.look_at_symbols(module)?;
+            search.look_at_exports(module)?;
+            search.look_at_imports(module)?;
             search.look_at_tags(index, module)?;
             search.look_at_values(index, module)?;
         }
@@ -47,7 +48,11 @@ impl<'text> Modules<'text> {
     }
 }
 
+/// What is wrong about the name of a module that an earlier one has.
 const SECOND_MODULE: &str = "is the name of an earlier module too, which it means (X.680 13)";
+
+/// What is wrong about an implicit tag of a type without a tag.
+const NO_TAG: &str = "is before a CHOICE or an open type, where a tag is explicit (X.680 31.2.9)";
 
 /// Returns what EXPORTS names, unless it names all.
 fn exported<'text>(
@@ -82,7 +87,15 @@ fn value_fault<'text, T: Drop>(
         Problem::Undefined(part) if part.starts_with(|first: char| first.is_ascii_lowercase()) => {
             Problem::Doubtful(part, "isn't defined, in a value (X.680 13)")
         }
-        _ => return Ok(None),
+        Problem::Undefined(_)
+        | Problem::Unexpected { .. }
+        | Problem::Beyond(_)
+        | Problem::OutOfSteps
+        | Problem::NotLoaded(_)
+        | Problem::Endless(_)
+        | Problem::Doubtful(_, _)
+        | Problem::Clash(_, _)
+        | Problem::Unsupported(_) => return Ok(None),
     };
     Ok(Some(Fault { problem, ..fault }))
 }
@@ -142,28 +155,45 @@ impl<'modules, 'text> Search<'modules, 'text> {
         Ok(())
     }
 
-    /// Adds the names in EXPORTS and IMPORTS that aren't there (X.680 13.12, 13.16).
-    fn look_at_symbols(&mut self, module: &Module<'text>) -> Result<(), AllocError> {
-        if let Some(symbols) = &module.exports {
-            for symbol in symbols {
-                if !module.meanings.contains_key(symbol.name) {
-                    let rule = "is exported, but neither defined nor imported (X.680 13.12)";
-                    self.warn(module, symbol.position, symbol.name, rule)?;
-                }
-            }
-        }
-        for (index, import) in module.imports.iter().enumerate() {
-            for symbol in &import.symbols {
-                if let Some(rule) = self.rule_of_import(module, index, import, symbol.name) {
-                    self.warn(module, symbol.position, symbol.name, rule)?;
-                }
+    /// Adds the names in EXPORTS that aren't there (X.680 13.12).
+    fn look_at_exports(&mut self, module: &Module<'text>) -> Result<(), AllocError> {
+        let Some(symbols) = &module.exports else {
+            return Ok(());
+        };
+        for symbol in symbols {
+            if !module.meanings.contains_key(symbol.name) {
+                let rule = "is exported, but neither defined nor imported (X.680 13.12)";
+                self.warn(module, symbol.position, symbol.name, rule)?;
             }
         }
         Ok(())
     }
 
-    /// Returns the rule that a name in IMPORTS breaks. Of a module that isn't among the texts nothing
-    /// is known.
+    /// Adds the names in IMPORTS that aren't there (X.680 13.16).
+    fn look_at_imports(&mut self, module: &Module<'text>) -> Result<(), AllocError> {
+        for (index, import) in module.imports.iter().enumerate() {
+            self.look_at_import(module, index, import)?;
+        }
+        Ok(())
+    }
+
+    /// Adds the names of an import that aren't there.
+    fn look_at_import(
+        &mut self,
+        module: &Module<'text>,
+        index: usize,
+        import: &Import<'text>,
+    ) -> Result<(), AllocError> {
+        for symbol in &import.symbols {
+            if let Some(rule) = self.rule_of_import(module, index, import, symbol.name) {
+                self.warn(module, symbol.position, symbol.name, rule)?;
+            }
+        }
+        Ok(())
+    }
+
+    /// Returns the rule that a name in IMPORTS breaks. Of a module that isn't among the texts
+    /// nothing is known.
     fn rule_of_import(
         &self,
         module: &Module<'text>,
@@ -180,40 +210,42 @@ impl<'modules, 'text> Search<'modules, 'text> {
             }
             Meaning::Imported(_) => {}
         }
-        let other = self.resolver.modules.index_of(import.module)?;
-        if !self
-            .resolver
-            .modules
-            .modules
-            .get(other)?
-            .meanings
-            .contains_key(name)
-        {
+        let modules = self.resolver.modules;
+        let other = modules.index_of(import.module)?;
+        if !modules.modules.get(other)?.meanings.contains_key(name) {
             return Some("isn't defined in the module that it is imported from (X.680 13.16)");
         }
         match self.exported.get(other)? {
             Some(names) if !names.contains(name) => {
                 Some("isn't exported by the module that it is imported from (X.680 13.16)")
             }
-            _ => None,
+            Some(_) | None => None,
         }
     }
 
-    /// Adds the tags of the class UNIVERSAL (X.680 31.2), and those that can't be implicit.
+    /// Adds what is wrong about the tags of types.
     fn look_at_tags(&mut self, index: usize, module: &Module<'text>) -> Result<(), AllocError> {
         for ty in &module.types {
-            for tag in &ty.tags {
-                if tag.class == TagClass::Universal {
-                    let rule = "is the class of the standard's own types (X.680 31.2)";
-                    self.warn(module, tag.position, "UNIVERSAL", rule)?;
-                }
-            }
+            self.look_at_classes(module, ty)?;
             if let Some(tag) = implicit(ty) {
                 if self.has_no_tag(index, ty) {
-                    let rule =
-                        "is before a CHOICE or an open type, where a tag is explicit (X.680 31.2.9)";
-                    self.warn(module, tag.position, "IMPLICIT", rule)?;
+                    self.warn(module, tag.position, "IMPLICIT", NO_TAG)?;
                 }
+            }
+        }
+        Ok(())
+    }
+
+    /// Adds the tags of the class UNIVERSAL (X.680 31.2).
+    fn look_at_classes(
+        &mut self,
+        module: &Module<'text>,
+        ty: &Type<'text>,
+    ) -> Result<(), AllocError> {
+        for tag in &ty.tags {
+            if tag.class == TagClass::Universal {
+                let rule = "is the class of the standard's own types (X.680 31.2)";
+                self.warn(module, tag.position, "UNIVERSAL", rule)?;
             }
         }
         Ok(())
