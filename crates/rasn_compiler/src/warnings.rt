@@ -26,8 +26,8 @@ struct Search<'modules, 'text> {
 impl<'text> Modules<'text> {
     /// Returns what is wrong in the modules that aren't built in and spoils none of their types, in
     /// the order of the texts: what EXPORTS and IMPORTS name and isn't there (X.680 13.12, 13.16),
-    /// a name that has two meanings, tags that may not be (31.2), and values that aren't of their
-    /// type (16).
+    /// a name that has two meanings, tags that may not be (31.2), constraints of another kind than
+    /// their type (51), and values that aren't of their type (16).
     ///
     /// # Errors
     /// `AllocError` if memory runs out.
@@ -40,7 +40,7 @@ impl<'text> Modules<'text> {
             }
             search.look_at_exports(module)?;
             search.look_at_imports(module)?;
-            search.look_at_tags(index, module)?;
+            search.look_at_types(index, module)?;
             search.look_at_values(index, module)?;
         }
         let Search { found, .. } = search;
@@ -223,10 +223,11 @@ impl<'modules, 'text> Search<'modules, 'text> {
         }
     }
 
-    /// Adds what is wrong about the tags of types.
-    fn look_at_tags(&mut self, index: usize, module: &Module<'text>) -> Result<(), AllocError> {
+    /// Adds what is wrong about the tags and the constraints of types.
+    fn look_at_types(&mut self, index: usize, module: &Module<'text>) -> Result<(), AllocError> {
         for ty in &module.types {
             self.look_at_classes(module, ty)?;
+            self.look_at_constraints(module, ty)?;
             if let Some(tag) = implicit(ty) {
                 if self.has_no_tag(index, ty) {
                     self.warn(module, tag.position, "IMPLICIT", NO_TAG)?;
@@ -246,6 +247,20 @@ impl<'modules, 'text> Search<'modules, 'text> {
             if tag.class == TagClass::Universal {
                 let rule = "is the class of the standard's own types (X.680 31.2)";
                 self.warn(module, tag.position, "UNIVERSAL", rule)?;
+            }
+        }
+        Ok(())
+    }
+
+    /// Adds the constraints that the values of a type can't have (X.680 51).
+    fn look_at_constraints(
+        &mut self,
+        module: &Module<'text>,
+        ty: &Type<'text>,
+    ) -> Result<(), AllocError> {
+        for constraint in &ty.constraints {
+            if let Some((name, rule)) = misplaced(&ty.base, constraint.text) {
+                self.warn(module, constraint.position, name, rule)?;
             }
         }
         Ok(())
@@ -307,5 +322,76 @@ fn is_without_tag(base: &Base<'_>) -> bool {
     matches!(
         base,
         Base::Choice(_) | Base::AnyDefinedBy(_) | Base::Builtin(Builtin::Any)
+    )
+}
+
+/// Returns what a constraint of a type begins with, if that is of another kind than its values, and
+/// the rule. What a reference leads to isn't looked at.
+fn misplaced(base: &Base<'_>, text: &str) -> Option<(&'static str, &'static str)> {
+    if text.starts_with("SIZE") && has_no_size(base) {
+        return Some((
+            "SIZE",
+            "is of a type whose values have no size (X.680 51.5)",
+        ));
+    }
+    if !text.contains("..") {
+        return None;
+    }
+    if text.starts_with("MAX") {
+        return Some((
+            "MAX",
+            "begins a range, which MIN or a value begins (X.680 51.4)",
+        ));
+    }
+    if text.starts_with(|first: char| first.is_ascii_digit()) && has_no_number(base) {
+        return Some((
+            "a range of numbers",
+            "is of a type of other values (X.680 51.4)",
+        ));
+    }
+    if text.starts_with('"') && matches!(base, Base::Integer(_)) {
+        return Some((
+            "a range of characters",
+            "is of a type of numbers (X.680 51.4)",
+        ));
+    }
+    None
+}
+
+/// Returns whether the values of a type have no size.
+fn has_no_size(base: &Base<'_>) -> bool {
+    matches!(
+        base,
+        Base::Integer(_)
+            | Base::Enumerated(_)
+            | Base::Sequence(_)
+            | Base::Set(_)
+            | Base::Choice(_)
+            | Base::Builtin(
+                Builtin::Boolean | Builtin::Null | Builtin::Real | Builtin::ObjectIdentifier
+            )
+    )
+}
+
+/// Returns whether the values of a type are no numbers.
+fn has_no_number(base: &Base<'_>) -> bool {
+    matches!(
+        base,
+        Base::BitString(_)
+            | Base::Enumerated(_)
+            | Base::Sequence(_)
+            | Base::Set(_)
+            | Base::Choice(_)
+            | Base::Builtin(
+                Builtin::Boolean
+                    | Builtin::Null
+                    | Builtin::OctetString
+                    | Builtin::ObjectIdentifier
+                    | Builtin::Utf8String
+                    | Builtin::Ia5String
+                    | Builtin::VisibleString
+                    | Builtin::PrintableString
+                    | Builtin::NumericString
+            )
     )
 }
