@@ -164,11 +164,6 @@ impl<'text> Modules<'text> {
         index >= self.own
     }
 
-    /// Returns the modules that aren't built in.
-    pub(crate) fn own_modules(&self) -> &[Module<'text>] {
-        self.modules.as_slice().get(..self.own).unwrap_or(&[])
-    }
-
     /// Returns a module by its index. What every module may use has the index after the last.
     pub(crate) fn module_at(&self, index: usize) -> Option<&Module<'text>> {
         if index == self.modules.len() {

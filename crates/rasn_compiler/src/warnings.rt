@@ -34,7 +34,10 @@ impl<'text> Modules<'text> {
     pub fn warnings(&self, alloc: Global) -> Result<Vec<Fault<'text>>, AllocError> {
         let mut search = Search::new(alloc, self)?;
         let mut names = BTreeSet::new(alloc);
-        for (index, module) in self.own_modules().iter().enumerate() {
+        for (index, module) in self.modules.iter().enumerate() {
+            if self.is_built_in(index) {
+                break;
+            }
             if !names.insert(module.name)? {
                 search.warn(module, module.position, module.name, SECOND_MODULE)?;
             }
@@ -269,42 +272,54 @@ impl<'modules, 'text> Search<'modules, 'text> {
     /// Returns whether a type of a module, within its own tags, is a CHOICE or an open type without
     /// one.
     fn has_no_tag(&mut self, module: usize, ty: &Type<'text>) -> bool {
-        let mut at = module;
-        let mut base = &ty.base;
+        let modules = self.resolver.modules;
+        let Some(mut named) = referred(modules, module, ty) else {
+            return is_without_tag(&ty.base);
+        };
         for _ in 0..MAX_NAMES {
             if self.followed == 0 {
                 return false;
             }
             self.followed = self.followed.saturating_sub(1);
-            let Base::Reference {
-                module: outside,
-                name,
-                actuals,
-            } = base
-            else {
-                return is_without_tag(base);
-            };
-            let meant = self
-                .resolver
-                .modules
-                .meaning(at, *outside, name, ty.position);
-            let Ok((found, assignment)) = meant else {
+            let Ok(ty) = modules.type_at(named.0, named.1) else {
                 return false;
             };
-            let Assigned::Type(of) = assignment.assigned else {
-                return false;
-            };
-            let Ok(next) = self.resolver.modules.type_at(found, of.0) else {
-                return false;
-            };
-            if !actuals.is_empty() || !next.tags.is_empty() {
+            if !ty.tags.is_empty() {
                 return false;
             }
-            at = found;
-            base = &next.base;
+            let Some(next) = referred(modules, named.0, ty) else {
+                return is_without_tag(&ty.base);
+            };
+            named = next;
         }
         false
     }
+}
+
+/// Returns the module and the index there of the type that another one names, without parameters.
+fn referred<'text>(
+    modules: &Modules<'text>,
+    module: usize,
+    ty: &Type<'text>,
+) -> Option<(usize, usize)> {
+    let Base::Reference {
+        module: outside,
+        name,
+        actuals,
+    } = &ty.base
+    else {
+        return None;
+    };
+    if !actuals.is_empty() {
+        return None;
+    }
+    let Ok((found, assignment)) = modules.meaning(module, *outside, name, ty.position) else {
+        return None;
+    };
+    let Assigned::Type(of) = assignment.assigned else {
+        return None;
+    };
+    Some((found, of.0))
 }
 
 /// Returns the innermost tag of a type, if IMPLICIT follows it.
