@@ -9,7 +9,9 @@ use crate::standards::{COUNT, standard};
 use crate::types::MessageType;
 use crate::unused::unused_types;
 use crate::work::printed;
-use rasn_compiler::{Library, Modules, Root, Source, Stop, TypeRef, Unresolved};
+use rasn_compiler::{
+    Fault as ModuleFault, Library, Modules, Root, Source, Stop, TypeRef, Unresolved,
+};
 use rasn_schema::TypeId;
 use rasn_text::{Escaping, visible};
 use rasn_types::types::Codec;
@@ -53,7 +55,7 @@ pub fn warnings_of(alloc: Global, read: &Modules<'_>) -> Result<String, Fault> {
 }
 
 /// Returns a line for each fault.
-fn lines_of(alloc: Global, faults: &[rasn_compiler::Fault<'_>]) -> Result<String, Fault> {
+fn lines_of(alloc: Global, faults: &[ModuleFault<'_>]) -> Result<String, Fault> {
     let mut lines = String::new(alloc);
     for fault in faults {
         let line = visible(alloc, Escaping::Line, fault.to_string(alloc)?.as_str())?;

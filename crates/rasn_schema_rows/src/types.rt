@@ -25,11 +25,7 @@ pub fn print_types<W: Write>(rt: &HostRuntime, name: &str, output: &mut W) -> io
 }
 
 /// Prints what is wrong in a file of modules and spoils none of their types.
-pub fn print_warnings<W: Write>(
-    rt: &HostRuntime,
-    name: &str,
-    output: &mut W,
-) -> io::Result<()> {
+pub fn print_warnings<W: Write>(rt: &HostRuntime, name: &str, output: &mut W) -> io::Result<()> {
     let text = fs::read_to_string(rt, name)?;
     let sources = [Source {
         name,

@@ -117,7 +117,8 @@ fn run_call(rt: &HostRuntime, call: &Call) -> Result<u8, Fault> {
     let (read, faults) = modules_of(alloc, sources.as_slice())?;
     eprint!(rt; "{faults}").map_err(Fault::of_write)?;
     if call.work == Work::Types {
-        eprint!(rt; "{}", warnings_of(alloc, &read)?).map_err(Fault::of_write)?;
+        let warnings = warnings_of(alloc, &read)?;
+        eprint!(rt; "{warnings}").map_err(Fault::of_write)?;
         let are_whole = run_types(rt, &read, call.type_name.as_ref())? && faults.is_empty();
         return Ok(if are_whole { 0 } else { REFUSED });
     }
