@@ -15,4 +15,6 @@ pub mod Alternatives
 pub mod SettledAlternatives
 pub mod Sets
 pub mod SettledSets
+pub mod SequenceWith
+pub mod SetWith
 pub mod Laws

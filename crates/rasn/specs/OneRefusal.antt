@@ -1,7 +1,8 @@
 -- Which inputs are refused, and as what: the relation beside the grammar's.
-use Rattle.std.specs.Prelude.{◌≡◌, ◌<◌, ◌+◌, ◌^◌, ℕ, ℤ, List, [], length, Bool, IsUtf8, Vec, Option, Some, Ok, Err}
+use Rattle.std.specs.Prelude.{◌≡◌, ◌<◌, ◌+◌, ◌^◌, ℕ, ℤ, List, [], length, Bool, IsUtf8, Vec, Option, Some, IfSome, Result, Ok, Err}
 use Rattle.std.specs.Global.{Global}
 use Rattle.std.specs.Borrow.{Bor}
+use Rattle.std.specs.declared.alloc.AllocError.{AllocError}
 use Rattle.rasn_types.specs.declared.types.codec.Codec.{Codec}
 use Rattle.rasn_types.specs.declared.types.tag.Tag.{Tag}
 use Rattle.rasn_types.specs.declared.types.constraints.Bounded.{Bounded}
@@ -133,3 +134,31 @@ pub record AreSlotsSettled {P S : Type 0} (extensible : Bool) (ps : Parts) (tree
   pub put : (names : List (List ℕ)) (slots : S) → length (others slots) + 1 < 2 ^ 63 → (tag : Tag) → SettlesAt tag (PutsByTag extensible ps held others names name errors slots tag)
   -- The parts are made of the slots, or a required one is missing.
   pub made : (slots : S) → ((v : P) → IsGathered extensible ps (held slots) (others slots) (tree v) → ⊥) → ((k : ℕ) → LacksSlot (presences ps) (held slots) k → ⊥) → ⊥
+
+-- A call decodes or refuses each input in one way at most.
+pub record IsDetermined {D : Type 0} (read : Call D) : Type 0 where
+  -- What is decoded isn't refused.
+  pub unrefused : (old : State) → AreOctets old.rest → (v : D) (e : DecodeError) (new other : State) → read old (Ok v) new → Refuses (errors_of read) old e other → ⊥
+  -- Whatever is decoded, one rest remains.
+  pub left : (old : State) → AreOctets old.rest → (v w : D) (new other : State) → read old (Ok v) new → read old (Ok w) other → new ≡ other
+  -- What is refused is refused as one error, and one rest remains.
+  pub once : IsRefusedOnce (errors_of read)
+
+-- A function that is called on components returns this error, other than a failed allocation.
+abbrev pub Rejects : {L D : Type 0} → (L → Result D DecodeError → Type 0) → L → DecodeError → Type 0
+Rejects made fields e = made fields (Err e) × (IsOutOfMemory e.kind → ⊥)
+
+-- Whether a function makes a value of components, and which error it returns, depends on their readings alone.
+pub record IsMadeOnce {L D : Type 0} (readings : L → List Tree) (made : L → Result D DecodeError → Type 0) : Type 0 where
+  -- Where a value is made of components, it returns no error of others with the same readings.
+  pub unrefused : (fields others : L) → readings fields ≡ readings others → (v : D) (e : DecodeError) → made fields (Ok v) → Rejects made others e → ⊥
+  -- The errors of components with the same readings are the same.
+  pub once : (fields others : L) → readings fields ≡ readings others → (e f : DecodeError) → Rejects made fields e → Rejects made others f → IsSameError e f
+
+-- Whatever components a function is called on, it makes a value or returns an error: it isn't so that it does neither.
+abbrev pub IsAlwaysMade : {L D : Type 0} → (L → Result D DecodeError → Type 0) → Type 0
+IsAlwaysMade {L} {D} made = (fields : L) → ((v : D) → made fields (Ok v) → ⊥) → ((e : DecodeError) → Rejects made fields e → ⊥) → ⊥
+
+-- An initializer, if there is one, can make a value.
+abbrev pub CanMake : {I D : Type 0} → (I → Result D AllocError → Type 0) → Option I → Type 0
+CanMake {I} {D} made init = IfSome init (λ i. ((v : D) → made i (Ok v) → ⊥) → ⊥)

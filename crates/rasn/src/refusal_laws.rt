@@ -4,17 +4,22 @@
 #![tactic(auto)]
 
 ghost use Rattle.std.specs.Global.{Global};
-ghost use Rattle.std.specs.Prelude.{◌≡◌, ℕ, List, Some, Vec, true};
+ghost use Rattle.std.specs.Fn.{FnOnceReturnsAtMut};
+ghost use Rattle.std.specs.Prelude.{◌≡◌, ℕ, Bool, List, map, Option, Result, Some, Vec, true};
 ghost use Rattle.rasn_types.specs.declared.types.tag.Tag.{Tag};
 ghost use Rattle.rasn_types.specs.declared.types.constraints.Constraints.{Constraints};
-ghost use Rattle.rasn_types.specs.Shapes.{Parts, choice_by, chosen, list, looked_for, option, own, prefix, seq, set_elements, set_of, tagged_as};
+ghost use Rattle.rasn_types.specs.Shapes.{Parts, choice, choice_by, chosen, list, looked_for, option, own, prefix, seq, set, set_elements, set_of, tagged_as};
 ghost use Rattle.rasn_de.specs.Choice.{DecodesChosen};
-ghost use Rattle.rasn_de.specs.Decodes.{ReadsParts};
+ghost use Rattle.rasn_de.specs.State.{EachCall};
+ghost use Rattle.rasn_de.specs.Decodes.{DecodesParts, ReadsParts};
+ghost use Rattle.rasn_de.specs.Constructed.{LeavesAnEnd};
+ghost use Rattle.rasn_de.specs.Sequence.{DecodesSequenceBy, MakesAllMissing};
+ghost use Rattle.rasn_de.specs.Set.{DecodesSetBy, MakesSet};
 ghost use Rattle.rasn_de.specs.PartTypes.{DecodesInParts, DecodesSequenceParts, needs_no_initializer};
 ghost use Rattle.rasn_de.specs.SetPartTypes.{DecodesNamedParts, name_at, set_by};
 ghost use Rattle.rasn_de.specs.ValueErrors.{DecodesOr, errors_of};
 ghost use Rattle.rasn_types.specs.Trees.{list_tree, option_tree};
-ghost use Rattle.rasn.specs.OneRefusal.{AreApart, AreRefusedOnce, AreSettled, AreSlotsSettled, ErrorsOfChoice, HaveOwnTags, IsName, IsRefusedOnce, LeaveNone, ReadsShape, Settles, SettlesAt};
+ghost use Rattle.rasn.specs.OneRefusal.{AreApart, AreRefusedOnce, AreSettled, AreSlotsSettled, CanMake, ErrorsOfChoice, HaveOwnTags, IsAlwaysMade, IsDetermined, IsMadeOnce, IsName, IsRefusedOnce, LeaveNone, ReadsShape, Settles, SettlesAt};
 ghost use Rattle.rasn.specs.RefusalLaws.{LeavesAreApart, LeavesLeaveNone, LeavesSettle};
 ghost use Rattle.rasn.specs.WorkedKinds.{WorkedKinds};
 ghost use Rattle.rasn.specs.WorkedSettled.{WorkedSettled};
@@ -25,8 +30,11 @@ use crate::parts::{
     DefaultedChoice, DefaultedExplicit, End, ExplicitDefault, Last, OneOf, Optional,
     OptionalChoice, Required,
 };
+use rasn_de::ber::de::Decoder;
 use rasn_de::de::{Decode, DecodeChoice};
-use rasn_types::types::{Any, AsnType, Explicit, FirstTags, SetOf, Unknown};
+use rasn_types::error::DecodeError;
+use rasn_types::types::{Any, AsnType, Constructed, Explicit, FirstTags, SetOf, Unknown};
+use std::alloc::AllocError;
 
 /// Proves that an input is read as a value of a leaf type, or refused as one error, but not both;
 /// and that it is one of them.
@@ -265,6 +273,48 @@ where
 pub fn settled_set<P: DecodeSetParts>()
     ensures { (name : List ℕ) → AreSlotsSettled P.extensible P.parts P.tree P.held P.others name P.errors → (names : List (List ℕ)) → ((k : ℕ) → IsName (name_at names k)) → (tag : Tag)
         → Settles (DecodesOr (set_by P.extensible tag P.parts) P.tree (errors_of (DecodesNamedParts P.extensible P.parts P.tree name names P.errors tag))) }
+{}
+
+/// Proves that a SEQUENCE that `Decoder::decode_sequence` reads by an initializer or a closure is
+/// decoded or refused in one way at most, if the closure's input is; the same of its shape, if the
+/// closure reads its parts; and that each input is decoded or refused, if that is so of the closure.
+pub fn sequence_with<
+    const RC: usize,
+    const EC: usize,
+    D: Constructed<RC, EC>,
+    DF: FnOnce() -> Result<D, AllocError>,
+    F: FnOnce(&mut Decoder<'_>) -> Result<D, DecodeError>,
+>()
+    ensures determined { (default : Option DF) (f : F) → IsDetermined (FnOnceReturnsAtMut F.FnOnce f) → (tag : Tag)
+        → IsDetermined (DecodesSequenceBy RC D.IS_EXTENSIBLE D.HAS_REQUIRED_FIELDS DF.post default F.FnOnce f tag) }
+    ensures apart { (default : Option DF) (f : F) → EachCall (FnOnceReturnsAtMut F.FnOnce f) (DecodesParts D.parts D.tree) → MakesAllMissing D.parts D.tree DF.post default → IsRefusedOnce (errors_of (FnOnceReturnsAtMut F.FnOnce f)) → (tag : Tag)
+        → AreApart (errors_of (DecodesSequenceBy RC D.IS_EXTENSIBLE D.HAS_REQUIRED_FIELDS DF.post default F.FnOnce f tag)) (ReadsShape (seq tag D.parts)) }
+    ensures settled { (default : Option DF) (f : F) → LeavesAnEnd F.FnOnce f → CanMake DF.post default → Settles (FnOnceReturnsAtMut F.FnOnce f) → (tag : Tag)
+        → Settles (DecodesSequenceBy RC D.IS_EXTENSIBLE D.HAS_REQUIRED_FIELDS DF.post default F.FnOnce f tag) }
+    ensures grammar { (default : Option DF) (f : F) → EachCall (FnOnceReturnsAtMut F.FnOnce f) (DecodesParts D.parts D.tree) → MakesAllMissing D.parts D.tree DF.post default → CanMake DF.post default → Settles (FnOnceReturnsAtMut F.FnOnce f) → (tag : Tag)
+        → Settles (DecodesOr (seq tag D.parts) D.tree (errors_of (DecodesSequenceBy RC D.IS_EXTENSIBLE D.HAS_REQUIRED_FIELDS DF.post default F.FnOnce f tag))) }
+{}
+
+/// Proves that a SET that `Decoder::decode_set` reads, component by component, is decoded or
+/// refused in one way at most, if each component is a CHOICE that is refused as one error, and what
+/// the closure makes of components depends on their readings alone; the same of its shape, if the
+/// closure makes its parts; and that each input is decoded or refused, if that is so of components
+/// and of the closure.
+pub fn set_with<
+    const RL: usize,
+    const EL: usize,
+    FIELDS: Decode,
+    SET: Constructed<RL, EL>,
+    F: FnOnce(Vec<FIELDS>) -> Result<SET, DecodeError>,
+>()
+    ensures determined { (extensible : Bool) (alternatives : Parts) → FIELDS.shape ≡ choice_by extensible alternatives → IsRefusedOnce (FIELDS.errors FIELDS.TAG FIELDS.CONSTRAINTS) → (f : F) → IsMadeOnce (λ (v : Vec FIELDS Global). map FIELDS.tree v.items) (F.post f) → (tag : Tag)
+        → IsDetermined (DecodesSetBy (DecodesOr FIELDS.shape FIELDS.tree (FIELDS.errors FIELDS.TAG FIELDS.CONSTRAINTS)) (F.post f) tag) }
+    ensures apart { FIELDS.shape ≡ choice SET.parts → IsRefusedOnce (FIELDS.errors FIELDS.TAG FIELDS.CONSTRAINTS) → (f : F) → ((fields : Vec FIELDS Global) (r : Result SET DecodeError) → F.post f fields r → MakesSet SET.parts SET.tree (map FIELDS.tree fields.items) r) → IsMadeOnce (λ (v : Vec FIELDS Global). map FIELDS.tree v.items) (F.post f) → (tag : Tag)
+        → AreApart (errors_of (DecodesSetBy (DecodesOr FIELDS.shape FIELDS.tree (FIELDS.errors FIELDS.TAG FIELDS.CONSTRAINTS)) (F.post f) tag)) (ReadsShape (set tag SET.parts)) }
+    ensures settled { Settles (DecodesOr FIELDS.shape FIELDS.tree (FIELDS.errors FIELDS.TAG FIELDS.CONSTRAINTS)) → (f : F) → IsAlwaysMade (F.post f) → (tag : Tag)
+        → Settles (DecodesSetBy (DecodesOr FIELDS.shape FIELDS.tree (FIELDS.errors FIELDS.TAG FIELDS.CONSTRAINTS)) (F.post f) tag) }
+    ensures grammar { FIELDS.shape ≡ choice SET.parts → Settles (DecodesOr FIELDS.shape FIELDS.tree (FIELDS.errors FIELDS.TAG FIELDS.CONSTRAINTS)) → (f : F) → ((fields : Vec FIELDS Global) (r : Result SET DecodeError) → F.post f fields r → MakesSet SET.parts SET.tree (map FIELDS.tree fields.items) r) → IsAlwaysMade (F.post f) → (tag : Tag)
+        → Settles (DecodesOr (set tag SET.parts) SET.tree (errors_of (DecodesSetBy (DecodesOr FIELDS.shape FIELDS.tree (FIELDS.errors FIELDS.TAG FIELDS.CONSTRAINTS)) (F.post f) tag))) }
 {}
 
 /// Proves of octets that were worked out by hand as which error leaf types refuse them, and what

@@ -17,7 +17,7 @@ use Rattle.rasn_de.specs.Outcomes.{Exact, refusal}
 use Rattle.rasn_de.specs.Decodes.{DecodesExactly, DecodesBy}
 use Rattle.rasn_de.specs.ValueErrors.{Errors, errors_of, DecodesOr}
 use Rattle.rasn_de.proofs.Headers.Results.{octets_back}
-use Rattle.rasn.specs.OneRefusal.{equal, IsSameError, ReadingBy, ReadsShape, IsRefusedOnce, AreApart, LeaveNone, Settles}
+use Rattle.rasn.specs.OneRefusal.{equal, IsSameError, ReadingBy, ReadsShape, IsRefusedOnce, AreApart, LeaveNone, Settles, IsDetermined}
 
 -- Errors are the same if they are equal, or report the same fault.
 pub equal_errors : {e f : DecodeError} → e ≡ f → IsSameError e f
@@ -52,6 +52,10 @@ exactly_apart errors reads exact one = record {
 abbrev pub IsExactCall : {D : Type 0} → Call D → ReadingBy → (D → Tree) → Type 0
 IsExactCall {D} read reads tree = (old : State) → AreOctets old.rest → (r : Result D DecodeError) (new : State) → read old r new → DecodesBy reads tree old r new
 
+-- What remains where a value is decoded is an end of the input.
+abbrev pub LeaveEnds : {D : Type 0} → Call D → Type 0
+LeaveEnds {D} read = (old : State) → AreOctets old.rest → (v : D) (new : State) → read old (Ok v) new → IsEnd old.rest new.rest
+
 module _ {D : Type 0} (read : Call D) (reads : ReadingBy) (tree : D → Tree) (exact : IsExactCall read reads tree) where
   -- It returns one value, and leaves one rest.
   pub one_value : (old : State) → AreOctets old.rest → (v w : D) (new other : State) → read old (Ok v) new → read old (Ok w) other → (tree v ≡ tree w) × (new ≡ other)
@@ -68,6 +72,12 @@ module _ {D : Type 0} (read : Call D) (reads : ReadingBy) (tree : D → Tree) (e
 
   pub call_apart : IsRefusedOnce (errors_of read) → AreApart (errors_of read) reads
   call_apart one = exactly_apart (errors_of read) reads (λ old o e new a. exact old o (Err e) new a) one
+
+  pub exactly_determined : IsRefusedOnce (errors_of read) → IsDetermined read
+  exactly_determined one = record { unrefused = λ old o v e new other a b. not_both old o v e new other a b.0 b.1; left = λ old o v w new other a b. (one_value old o v w new other a b).1; once = one }
+
+  pub exactly_ends : LeaveEnds read
+  exactly_ends old o v new a = (exact old o (Ok v) new a).end
 
 -- The look at the next tag fails in one way.
 pub peeks_once : (s : State) (e f : DecodeError) → PeeksTag s (Err e) → PeeksTag s (Err f) → IsSameError e f

@@ -17,7 +17,7 @@ use Rattle.rasn_types.proofs.SetOf.Same.{items_one}
 use Rattle.rasn_de.specs.declared.ber.de.parser.ParseError.TheVariants.{SizeConstraintNotSatisfied}
 use Rattle.rasn_de.specs.State.{State, Call, at}
 use Rattle.rasn_de.specs.Constructed.{list_header}
-use Rattle.rasn_de.specs.SequenceOf.{ReadsElements, ReadsSetElements, DecodesInTurn, RefusesElement, FailsAtElement, DecodesElements, DecodesInTurnFrom, IsOutOfOrder, DecodesElementsInOrder, DecodesSized, DecodesSequenceOfBy, DecodesSetOfBy}
+use Rattle.rasn_de.specs.SequenceOf.{ReadsElements, ReadsSetElements, DecodesInTurn, RefusesElement, FailsAtElement, DecodesElements, DecodesInTurnFrom, IsOutOfOrder, DecodesElementsInOrder, DecodesInList, DecodesSized, DecodesSequenceOfBy, DecodesSetOfBy}
 use Rattle.rasn_de.specs.Any.{DecodesOpenType}
 use Rattle.rasn_de.specs.Unknown.{DecodesUnknown}
 use Rattle.rasn_de.specs.Decodes.{Decodes}
@@ -27,10 +27,16 @@ use Rattle.rasn_de.proofs.Any.Unknown.{unknown_decodes}
 use Rattle.rasn_de.proofs.Headers.Tags.{front_in_order}
 use Rattle.rasn_de.proofs.Constructed.SetOfElements.{each_decodes, in_order_decodes}
 use Rattle.rasn_de.proofs.Constructed.ValueErrors.{elements_by, in_order_by, or_decodes, sequence_of_or, set_of_or}
-use Rattle.rasn.specs.OneRefusal.{IsSameError, ReadingBy, ReadsShape, IsRefusedOnce, AreApart}
-use Rattle.rasn.proofs.OneRefusal.Calls.{equal_errors, same_fault, exactly_apart, octets_end, IsExactCall, one_value, not_both}
-use Rattle.rasn.proofs.OneRefusal.Inside.{inside_once, inside_same, inside_not_both, or_exact, or_once}
+use Rattle.rasn.specs.OneRefusal.{IsSameError, ReadingBy, ReadsShape, IsRefusedOnce, AreApart, IsDetermined}
+use Rattle.rasn.proofs.OneRefusal.Calls.{equal_errors, same_fault, exactly_apart, octets_end, IsExactCall, one_value, not_both, exactly_determined}
+use Rattle.rasn.proofs.OneRefusal.Inside.{inside_determined, inside_tree, or_exact, or_once}
 use Rattle.rasn.proofs.OneRefusal.Open.{open_type_once}
+
+-- Where memory suffices, an element can't be read, or it consumes nothing.
+pub refuses : {D : Type 0} (read : Call D) (here : State) (e : DecodeError) (new : State) → (IsOutOfMemory e.kind → ⊥) → FailsAtElement read here e new → RefusesElement read here e new
+refuses read here e new m (inl a) = inl a
+refuses read here e new m (inr (v, a, inl c)) = inr (v, a, c)
+refuses read here e new m (inr (v, a, inr c)) = absurd (m (ap (λ (x : DecodeError). x.kind) c))
 
 module _ {D : Type 0} (read : Call D) (reads : ReadingBy) (tree : D → Tree) (exact : IsExactCall read reads tree) (once : IsRefusedOnce (errors_of read)) where
   -- An element can't be read, or it consumes nothing, and both in one way.
@@ -44,11 +50,6 @@ module _ {D : Type 0} (read : Call D) (reads : ReadingBy) (tree : D → Tree) (e
   pub stuck : (here : State) → AreOctets here.rest → (e : DecodeError) (new next : State) (w : D) → (IsOutOfMemory e.kind → ⊥) → RefusesElement read here e new → read here (Ok w) next → length next.rest ≢ length here.rest → ⊥
   stuck here o e new next w m (inl a) b n = not_both read reads tree exact here o w e next new b a m
   stuck here o e new next w m (inr (v, a, c)) b n = let p = (one_value read reads tree exact here o v w new next a b).1 in n (ap (λ (s : State). length s.rest) (sym p) ∙ c.0)
-
-  refuses : (here : State) (e : DecodeError) (new : State) → (IsOutOfMemory e.kind → ⊥) → FailsAtElement read here e new → RefusesElement read here e new
-  refuses here e new m (inl a) = inl a
-  refuses here e new m (inr (v, a, inl c)) = inr (v, a, c)
-  refuses here e new m (inr (v, a, inr c)) = absurd (m (ap (λ (x : DecodeError). x.kind) c))
 
   -- More elements are read from here, and these are the octets of all.
   pub record GoesOn (here : State) (bs cs : List (List ℕ)) : Type 0 where
@@ -121,9 +122,9 @@ module _ {D : Type 0} (read : Call D) (reads : ReadingBy) (tree : D → Tree) (e
       go (compare old o vs ws a.0 b.0 here there a.1 b.1) (run_end old here vs a.0 a.1 o).1 (run_end old there ws b.0 b.1 o).1
     where
       go : {bs cs : List (List ℕ)} → Compared vs ws bs cs here there → AreOctets here.rest → AreOctets there.rest → IsSameError e f × (new ≡ other)
-      go (same a b s) i j = element_once there j e f new other (subst (λ (z : State). RefusesElement read z e new) s (refuses here e new m k), m) (refuses there f other n l, n)
-      go (longer g) i j = absurd (stuck here i e new g.next g.value m (refuses here e new m k) g.reading g.takes)
-      go (shorter g) i j = absurd (stuck there j f other g.next g.value n (refuses there f other n l) g.reading g.takes)
+      go (same a b s) i j = element_once there j e f new other (subst (λ (z : State). RefusesElement read z e new) s (refuses read here e new m k), m) (refuses read there f other n l, n)
+      go (longer g) i j = absurd (stuck here i e new g.next g.value m (refuses read here e new m k) g.reading g.takes)
+      go (shorter g) i j = absurd (stuck there j f other g.next g.value n (refuses read there f other n l) g.reading g.takes)
 
   -- SET OF.
   disorder_rule : (old here : State) → here ≡ at old here.rest → IsStrict here.rule → IsStrict old.rule
@@ -131,7 +132,7 @@ module _ {D : Type 0} (read : Call D) (reads : ReadingBy) (tree : D → Tree) (e
 
   fails_on : (old here : State) (bs cs : List (List ℕ)) (e : DecodeError) (new : State) → here ≡ at old here.rest → AreOctets here.rest → (IsOutOfMemory e.kind → ⊥) → (IsStrict old.rule → AreAscending IsLess cs)
       → FailsAtElement read here e new ⊎ IsOutOfOrder read bs here e new → GoesOn here bs cs → ⊥
-  fails_on old here bs cs e new s o m up (inl k) g = stuck here o e new g.next g.value m (refuses here e new m k) g.reading g.takes
+  fails_on old here bs cs e new s o m up (inl k) g = stuck here o e new g.next g.value m (refuses read here e new m k) g.reading g.takes
   fails_on old here bs cs e new s o m up (inr (v, b, r, f, l, strict, down, is)) g =
       let x = (one_value read reads tree exact here o v g.value new g.next r g.reading).1 in
       let y : b ≡ g.octets = append_cancel_right b g.octets g.next.rest (ap (λ (z : State). b ++ z.rest) (sym x) ∙ (sym f ∙ g.from)) in
@@ -140,9 +141,9 @@ module _ {D : Type 0} (read : Call D) (reads : ReadingBy) (tree : D → Tree) (e
 
   in_order_one : (bs : List (List ℕ)) (here : State) → AreOctets here.rest → (e f : DecodeError) (new other : State) → (IsOutOfMemory e.kind → ⊥) → (IsOutOfMemory f.kind → ⊥)
       → FailsAtElement read here e new ⊎ IsOutOfOrder read bs here e new → FailsAtElement read here f other ⊎ IsOutOfOrder read bs here f other → IsSameError e f × (new ≡ other)
-  in_order_one bs here o e f new other m n (inl k) (inl l) = element_once here o e f new other (refuses here e new m k, m) (refuses here f other n l, n)
-  in_order_one bs here o e f new other m n (inl k) (inr (w, c, r, g, l, s, d, is)) = absurd (stuck here o e new other w m (refuses here e new m k) r l)
-  in_order_one bs here o e f new other m n (inr (v, b, r, g, k, s, d, is)) (inl l) = absurd (stuck here o f other new v n (refuses here f other n l) r k)
+  in_order_one bs here o e f new other m n (inl k) (inl l) = element_once here o e f new other (refuses read here e new m k, m) (refuses read here f other n l, n)
+  in_order_one bs here o e f new other m n (inl k) (inr (w, c, r, g, l, s, d, is)) = absurd (stuck here o e new other w m (refuses read here e new m k) r l)
+  in_order_one bs here o e f new other m n (inr (v, b, r, g, k, s, d, is)) (inl l) = absurd (stuck here o f other new v n (refuses read here f other n l) r k)
   in_order_one bs here o e f new other m n (inr (v, b, r, g, k, s, d, is)) (inr (w, c, q, h, l, t, u, are)) = (equal_errors (is ∙ sym are), (one_value read reads tree exact here o v w new other r q).1)
 
   pub in_order_once : {L : Type 0} (elements : L → List D) → IsRefusedOnce (errors_of (DecodesElementsInOrder read elements))
@@ -164,14 +165,16 @@ module _ {D : Type 0} (read : Call D) (reads : ReadingBy) (tree : D → Tree) (e
 -- The size of a list is checked after its end.
 module _ {L : Type 0} (read : Call L) (reads : ReadingBy) (trees : L → Tree) (exact : IsExactCall read reads trees) (once : IsRefusedOnce (errors_of read)) (size : L → ℕ) (counted : (v w : L) → trees v ≡ trees w → size v ≡ size w)
     (tag : Tag) (c : Constraints) where
+  in_list : IsDetermined (DecodesInList read tag)
+  in_list = inside_determined read (exactly_determined read reads trees exact once) (list_header tag)
+
   sized_once : IsRefusedOnce (errors_of (DecodesSized read size tag c))
-  sized_once old o e f new other (inl a, m) (inl b, n) = inside_once read reads trees exact (list_header tag) once old o e f new other (a, m) (b, n)
-  sized_once old o e f new other (inl a, m) (inr (w, b, y, d), n) = absurd (inside_not_both read reads trees exact (list_header tag) old o w e other new b a m)
-  sized_once old o e f new other (inr (v, a, x, d), m) (inl b, n) = absurd (inside_not_both read reads trees exact (list_header tag) old o v f new other a b n)
+  sized_once old o e f new other (inl a, m) (inl b, n) = in_list.once old o e f new other (a, m) (b, n)
+  sized_once old o e f new other (inl a, m) (inr (w, b, y, d), n) = absurd (in_list.unrefused old o w e other new b (a, m))
+  sized_once old o e f new other (inr (v, a, x, d), m) (inl b, n) = absurd (in_list.unrefused old o v f new other a (b, n))
   sized_once old o e f new other (inr (v, a, x, d), m) (inr (w, b, y, g), n) =
-      let p = inside_same read reads trees exact (list_header tag) old o v w new other a b in
-      let q : size v ≡ size w = counted v w p.0 in
-      (same_fault (ap (λ z. SizeConstraintNotSatisfied z (constraint_of c.size)) q) d g, p.1)
+      let q : size v ≡ size w = counted v w (inside_tree read reads trees exact (list_header tag) old o v w new other a b) in
+      (same_fault (ap (λ z. SizeConstraintNotSatisfied z (constraint_of c.size)) q) d g, in_list.left old o v w new other a b)
 
 module _ {D : Type 0} (s : Shape) (tree : D → Tree) (errors : Errors) (once : IsRefusedOnce errors) where
   same_length : (vs ws : List D) → list_tree tree vs ≡ list_tree tree ws → length vs ≡ length ws

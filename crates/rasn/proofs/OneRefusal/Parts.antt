@@ -18,8 +18,8 @@ use Rattle.rasn_de.proofs.Constructed.Optional.{sought_decodes, sought_default_d
 use Rattle.rasn_de.proofs.OwnTypes.Parts.{part_refused, after_part_refused, keeps_then, call_keeps}
 use Rattle.rasn_de.proofs.OwnTypes.PartTypes.{parts_decode}
 use Rattle.rasn.specs.OneRefusal.{Refuses, ReadsShape, IsRefusedOnce, AreApart}
-use Rattle.rasn.proofs.OneRefusal.Calls.{octets_end, exactly_apart, IsExactCall}
-use Rattle.rasn.proofs.OneRefusal.Inside.{inside_once}
+use Rattle.rasn.proofs.OneRefusal.Calls.{octets_end, exactly_apart, IsExactCall, exactly_determined}
+use Rattle.rasn.proofs.OneRefusal.Inside.{inside_determined}
 
 -- What can't be read as a part, or as parts, isn't related to anything.
 one_part_fails : (p : Presence) (s : Shape) (old : State) (e : DecodeError) (new : State) → FailsAtOnePart p s old e new → DecodesExactly (OnePart p s) old (refusal e.kind) new
@@ -83,4 +83,4 @@ module _ {D : Type 0} (ps : Parts) (tree : D → Tree) (errors : Errors) where
 
     pub sequence_apart : needs_no_initializer ps ≡ true → (tag : Tag) → AreApart (errors_of (DecodesSequenceParts ps tree errors tag)) (ReadsShape (seq tag ps))
     sequence_apart plain tag = exactly_apart _ (ReadsShape (seq tag ps)) (λ old o e new a. sequence_exact plain tag old o (Err e) new a)
-        (inside_once (DecodesInParts ps tree errors) (ReadsParts ps) tree (λ old o r new a. in_parts_exact old r new a) (sequence_header tag) in_parts_once)
+        (inside_determined (DecodesInParts ps tree errors) (exactly_determined (DecodesInParts ps tree errors) (ReadsParts ps) tree (λ old o r new a. in_parts_exact old r new a) in_parts_once) (sequence_header tag)).once

@@ -1,5 +1,5 @@
 -- A SET is refused in one way if its parts are.
-use Rattle.std.proofs.Common.{◌≡◌, ℕ, zero, suc, ◌+◌, ◌⊎◌, inl, inr, List, [], ◌∷◌, ◌++◌, Bool, Result, Ok, Err, refl, sym, ap, ap₂, ◌∙◌, subst, arith, append_assoc}
+use Rattle.std.proofs.Common.{◌≡◌, ℕ, zero, suc, ◌+◌, ◌⊎◌, inl, inr, List, [], ◌∷◌, ◌++◌, map, Bool, Result, Ok, Err, refl, sym, ap, ap₂, ◌∙◌, subst, arith, append_assoc}
 use Rattle.rasn_types.specs.declared.types.codec.Codec.{Codec}
 use Rattle.rasn_types.specs.declared.types.tag.Tag.{Tag}
 use Rattle.rasn_types.specs.declared.error.decode.DecodeError.{DecodeError}
@@ -16,8 +16,8 @@ use Rattle.rasn_de.specs.Decodes.{Decodes}
 use Rattle.rasn_de.specs.Constructed.{sequence_header}
 use Rattle.rasn_de.specs.NamedErrors.{IsNamedError, IsMissingField, IsDuplicateField}
 use Rattle.rasn_de.specs.SequenceOf.{RefusesElement}
-use Rattle.rasn_de.specs.Set.{FailsAtComponent, no_tag, falls, not_read, DecodesIntoSlots}
-use Rattle.rasn_de.specs.SetPartTypes.{name_at, IsPart, FailsAtSetPart, DecodesOneOf, AreOnce, RepeatsFirst, LacksFirst, MakesOfReadings, DecodesSetPartContents, DecodesNamedContents, DecodesNamedParts, set_by}
+use Rattle.rasn_de.specs.Set.{FailsAtComponent, no_tag, falls, not_read, DecodesUpTo, DecodesIntoSlots, DecodesSetContents}
+use Rattle.rasn_de.specs.SetPartTypes.{name_at, IsPart, FailsAtSetPart, DecodesOneOf, AreOnce, RepeatsFirst, LacksFirst, MakesOfReadings, MakesNamed, DecodesSetPartContents, DecodesNamedContents, DecodesNamedParts, set_by}
 use Rattle.rasn_de.specs.AlternativeTypes.{FailsAtAlternativeBy}
 use Rattle.rasn_de.specs.ValueErrors.{Errors, errors_of}
 use Rattle.rasn_de.proofs.Headers.Begins.{begins_more}
@@ -30,9 +30,9 @@ use Rattle.rasn_de.proofs.Constructed.SortedSetContents.{SortedSetReads}
 use Rattle.rasn_de.proofs.OwnTypes.Components.{not_none}
 use Rattle.rasn_de.proofs.OwnTypes.SetPartTypes.{same_trees}
 use Rattle.rasn_de.proofs.OwnTypes.SortedSetParts.{members_decode, sorted_parts_decode, set_parts_decode}
-use Rattle.rasn.specs.OneRefusal.{same_missing, same_duplicate, IsSameError, ReadsShape, IsRefusedOnce, AreApart, AreRefusedOnce}
-use Rattle.rasn.proofs.OneRefusal.Calls.{equal_errors, exactly_apart, IsExactCall, peeks_once}
-use Rattle.rasn.proofs.OneRefusal.Inside.{inside_once}
+use Rattle.rasn.specs.OneRefusal.{same_missing, same_duplicate, Refuses, IsSameError, ReadingBy, ReadsShape, IsRefusedOnce, AreApart, AreRefusedOnce, Rejects}
+use Rattle.rasn.proofs.OneRefusal.Calls.{equal_errors, exactly_apart, IsExactCall, exactly_determined, peeks_once}
+use Rattle.rasn.proofs.OneRefusal.Inside.{inside_determined}
 use Rattle.rasn.proofs.OneRefusal.Lists.{element_once, stuck, GoesOn, Compared, same, longer, shorter, compare, run_end}
 use Rattle.rasn.proofs.OneRefusal.Alternatives.{FailsAtNext, next_fails, next_once}
 
@@ -164,7 +164,93 @@ module _ {D : Type 0} (extensible : Bool) (ps : Parts) (name : List ℕ) (errors
       (sorted_parts_decode extensible ps tree names tag old (λ _. o) r new
       (inside_by (DecodesNamedContents extensible ps tree name names errors) (DecodesSetPartContents extensible ps tree names) (sequence_header tag) old r new a contents_by))
 
--- ---- the components
+-- ---- components that are read in one way, each as one of some parts
+
+-- The tags are in order as far as the next component.
+tags_on : (bs others : List (List ℕ)) (b l rest : List ℕ) → l ≡ b ++ rest → AreInTagOrder (bs ++ b ∷ others) → AreInTagOrder (bs ++ l ∷ [])
+tags_on bs others b l rest e (tags, each, up) = go (tags_split bs (b ∷ others) tags each)
+  where
+    go : (us : List Tag) × (vs : List Tag) × (tags ≡ us ++ vs) × Each Begins bs us × Each Begins (b ∷ others) vs → AreInTagOrder (bs ++ l ∷ [])
+    go (us, vs, p, x, (t, ts, q, y, z)) =
+        let f : tags ≡ (us ++ t ∷ []) ++ ts = p ∙ (ap (λ w. us ++ w) q ∙ sym (append_assoc us (t ∷ []) ts)) in
+        (us ++ t ∷ [], tags_more bs us l t x (subst (λ w. Begins w t) (sym e) (begins_more b rest t y)), front_in_order IsTagBelow (us ++ t ∷ []) ts (subst (AreAscending IsTagBelow) f up))
+
+module _ {F L : Type 0} (extensible : Bool) (ps : Parts) (read : Call F) (tree : F → Tree) (exact : IsExactCall read (ReadsShape (choice_by extensible ps)) tree) (once : IsRefusedOnce (errors_of read)) (elements : L → List F) where
+  abbrev OneOfThese : ReadingBy
+  OneOfThese = ReadsShape (choice_by extensible ps)
+
+  -- Where a component can't be read, no more are.
+  component_stuck : (old here : State) (bs cs : List (List ℕ)) (e : DecodeError) (new : State) → here ≡ at old here.rest → AreOctets here.rest → (IsOutOfMemory e.kind → ⊥) → (IsStrict old.rule → AreInTagOrder cs)
+      → FailsAtComponent (RefusesElement read) bs here e new → GoesOn read OneOfThese tree exact once here bs cs → ⊥
+  component_stuck old here bs cs e new s o m up (no_tag strict p q) g =
+      let n = choice_by_next extensible here.rule ps here.depth here.closing here.rest (tree g.value) g.next.rest (exact here o (Ok g.value) g.next g.reading).exact.0 in
+      peeks_none here e p n.0 n.1
+  component_stuck old here bs cs e new s o m up (falls strict tag n down w q) g =
+      down (tags_on bs g.others g.octets here.rest g.next.rest g.from (subst AreInTagOrder g.is (up (subst (λ (z : State). IsStrict z.rule) s strict))))
+  component_stuck old here bs cs e new s o m up (not_read f w) g = stuck read OneOfThese tree exact once here o e new g.next g.value m w g.reading g.takes
+
+  component_once : (bs : List (List ℕ)) → IsRefusedOnce (FailsAtComponent (RefusesElement read) bs)
+  component_once bs here o e f new other (no_tag a p q, m) (no_tag b r s, n) = (peeks_once here e f p r, q ∙ sym s)
+  component_once bs here o e f new other (no_tag a p q, m) (falls b t x d w s, n) = absurd (peeks_none here e p t x)
+  component_once bs here o e f new other (no_tag a p q, m) (not_read x w, n) = let y = x a in absurd (peeks_none here e p y.0 y.1)
+  component_once bs here o e f new other (falls a t x d w q, m) (no_tag b r s, n) = absurd (peeks_none here f r t x)
+  component_once bs here o e f new other (falls a t x d w q, m) (falls b u y c v s, n) = (equal_errors (w ∙ sym v), q ∙ sym s)
+  component_once bs here o e f new other (falls a t x d w q, m) (not_read y v, n) = absurd (d (y a).2)
+  component_once bs here o e f new other (not_read x w, m) (no_tag b r s, n) = let y = x b in absurd (peeks_none here f r y.0 y.1)
+  component_once bs here o e f new other (not_read x w, m) (falls b u y c v s, n) = absurd (c (x b).2)
+  component_once bs here o e f new other (not_read x w, m) (not_read y v, n) = element_once read OneOfThese tree exact once here o e f new other (w, m) (v, n)
+
+  abbrev Run : List F → List F → List (List ℕ) → List (List ℕ) → State → State → Type 0
+  Run vs ws bs cs = Compared read OneOfThese tree exact once vs ws bs cs
+
+  abbrev UpTo : Call L
+  UpTo = DecodesUpTo read (RefusesElement read) elements
+
+  up_to_once : IsRefusedOnce (errors_of UpTo)
+  up_to_once old o e f new other ((vs, bs, here, (p, up), x, k), m) ((ws, cs, there, (q, on), y, l), n) = go (compare read OneOfThese tree exact once old o vs ws bs cs here there p q)
+    where
+      i : (here ≡ at old here.rest) × AreOctets here.rest
+      i = run_end read OneOfThese tree exact once old here vs bs p o
+
+      j : (there ≡ at old there.rest) × AreOctets there.rest
+      j = run_end read OneOfThese tree exact once old there ws cs q o
+
+      go : Run vs ws bs cs here there → IsSameError e f × (new ≡ other)
+      go (same a b s) =
+          component_once cs there j.1 e f new other
+          (subst (λ z. FailsAtComponent (RefusesElement read) z there e new) b (subst (λ (z : State). FailsAtComponent (RefusesElement read) bs z e new) s k), m) (l, n)
+      go (longer g) = absurd (component_stuck old here bs cs e new i.0 i.1 m on k g)
+      go (shorter g) = absurd (component_stuck old there cs bs f other j.0 j.1 n up l g)
+
+  pub up_to_unrefused : (old : State) → AreOctets old.rest → (fields : L) (e : DecodeError) (new other : State) → UpTo old (Ok fields) new → Refuses (errors_of UpTo) old e other → ⊥
+  up_to_unrefused old o fields e new other (bs, (p, up), end) ((ws, cs, there, (q, on), y, l), m) = go (compare read OneOfThese tree exact once old o (elements fields) ws bs cs new there p q)
+    where
+      j : (there ≡ at old there.rest) × AreOctets there.rest
+      j = run_end read OneOfThese tree exact once old there ws cs q o
+
+      go : Run (elements fields) ws bs cs new there → ⊥
+      go (same a b s) = y (subst (λ (z : State). Ended z.closing z.rest) s end)
+      go (longer g) = g.more end
+      go (shorter g) = component_stuck old there cs bs e other j.0 j.1 m up l g
+
+  pub up_to_same : (old : State) → AreOctets old.rest → (fields others : L) (new other : State) → UpTo old (Ok fields) new → UpTo old (Ok others) other → (map tree (elements fields) ≡ map tree (elements others)) × (new ≡ other)
+  up_to_same old o fields others new other (bs, (p, up), end) (cs, (q, on), done) = go (compare read OneOfThese tree exact once old o (elements fields) (elements others) bs cs new other p q)
+    where
+      go : Run (elements fields) (elements others) bs cs new other → (map tree (elements fields) ≡ map tree (elements others)) × (new ≡ other)
+      go (same a b s) = (a, s)
+      go (longer g) = absurd (g.more end)
+      go (shorter g) = absurd (g.more done)
+
+  -- What is made of components with the same readings fails as one error.
+  pub up_to_made : {D : Type 0} (made : L → Result D DecodeError → Type 0)
+      → ((fields others : L) → map tree (elements fields) ≡ map tree (elements others) → (e f : DecodeError) → Rejects made fields e → Rejects made others f → IsSameError e f)
+      → (old : State) → AreOctets old.rest → (e f : DecodeError) (new other : State) → Refuses (errors_of (DecodesSetContents UpTo made)) old e new → Refuses (errors_of (DecodesSetContents UpTo made)) old f other → IsSameError e f × (new ≡ other)
+  up_to_made made fails old o e f new other (inl a, m) (inl b, n) = up_to_once old o e f new other (a, m) (b, n)
+  up_to_made made fails old o e f new other (inl a, m) (inr (others, b, y), n) = absurd (up_to_unrefused old o others e other new b (a, m))
+  up_to_made made fails old o e f new other (inr (fields, a, x), m) (inl b, n) = absurd (up_to_unrefused old o fields f new other a (b, n))
+  up_to_made made fails old o e f new other (inr (fields, a, x), m) (inr (others, b, y), n) = let p = up_to_same old o fields others new other a b in (fails fields others p.0 e f (x, m) (y, n), p.1)
+
+-- ---- a SET of parts as types
 
 module _ (extensible : Bool) (ps : Parts) (name : List ℕ) (errors : Tag → Errors) (apart : AreRefusedOnce extensible ps name errors) where
   abbrev One : Call Tree
@@ -188,85 +274,17 @@ module _ (extensible : Bool) (ps : Parts) (name : List ℕ) (errors : Tag → Er
   one_once : IsRefusedOnce (errors_of One)
   one_once old o e f new other (a, m) (b, n) = next_once extensible ps name errors apart old o e f new other (one_fails old e new m a, m) (one_fails old f other n b, n)
 
-  -- The tags are in order as far as the next component.
-  tags_on : (bs others : List (List ℕ)) (b l rest : List ℕ) → l ≡ b ++ rest → AreInTagOrder (bs ++ b ∷ others) → AreInTagOrder (bs ++ l ∷ [])
-  tags_on bs others b l rest e (tags, each, up) = go (tags_split bs (b ∷ others) tags each)
-    where
-      go : (us : List Tag) × (vs : List Tag) × (tags ≡ us ++ vs) × Each Begins bs us × Each Begins (b ∷ others) vs → AreInTagOrder (bs ++ l ∷ [])
-      go (us, vs, p, x, (t, ts, q, y, z)) =
-          let f : tags ≡ (us ++ t ∷ []) ++ ts = p ∙ (ap (λ w. us ++ w) q ∙ sym (append_assoc us (t ∷ []) ts)) in
-          (us ++ t ∷ [], tags_more bs us l t x (subst (λ w. Begins w t) (sym e) (begins_more b rest t y)), front_in_order IsTagBelow (us ++ t ∷ []) ts (subst (AreAscending IsTagBelow) f up))
-
-  -- Where a component can't be read, no more are.
-  component_stuck : (old here : State) (bs cs : List (List ℕ)) (e : DecodeError) (new : State) → here ≡ at old here.rest → AreOctets here.rest → (IsOutOfMemory e.kind → ⊥) → (IsStrict old.rule → AreInTagOrder cs)
-      → FailsAtComponent (RefusesElement One) bs here e new → GoesOn One (ReadsShape (choice_by extensible ps)) itself one_exact one_once here bs cs → ⊥
-  component_stuck old here bs cs e new s o m up (no_tag strict p q) g =
-      let n = choice_by_next extensible here.rule ps here.depth here.closing here.rest g.value g.next.rest g.reading.0.exact.0 in
-      peeks_none here e p n.0 n.1
-  component_stuck old here bs cs e new s o m up (falls strict tag n down w q) g =
-      down (tags_on bs g.others g.octets here.rest g.next.rest g.from (subst AreInTagOrder g.is (up (subst (λ (z : State). IsStrict z.rule) s strict))))
-  component_stuck old here bs cs e new s o m up (not_read f w) g = stuck One (ReadsShape (choice_by extensible ps)) itself one_exact one_once here o e new g.next g.value m w g.reading g.takes
-
-  component_once : (bs : List (List ℕ)) → IsRefusedOnce (FailsAtComponent (RefusesElement One) bs)
-  component_once bs here o e f new other (no_tag a p q, m) (no_tag b r s, n) = (peeks_once here e f p r, q ∙ sym s)
-  component_once bs here o e f new other (no_tag a p q, m) (falls b t x d w s, n) = absurd (peeks_none here e p t x)
-  component_once bs here o e f new other (no_tag a p q, m) (not_read x w, n) = let y = x a in absurd (peeks_none here e p y.0 y.1)
-  component_once bs here o e f new other (falls a t x d w q, m) (no_tag b r s, n) = absurd (peeks_none here f r t x)
-  component_once bs here o e f new other (falls a t x d w q, m) (falls b u y c v s, n) = (equal_errors (w ∙ sym v), q ∙ sym s)
-  component_once bs here o e f new other (falls a t x d w q, m) (not_read y v, n) = absurd (d (y a).2)
-  component_once bs here o e f new other (not_read x w, m) (no_tag b r s, n) = let y = x b in absurd (peeks_none here f r y.0 y.1)
-  component_once bs here o e f new other (not_read x w, m) (falls b u y c v s, n) = absurd (c (x b).2)
-  component_once bs here o e f new other (not_read x w, m) (not_read y v, n) = element_once One (ReadsShape (choice_by extensible ps)) itself one_exact one_once here o e f new other (w, m) (v, n)
-
-  abbrev Run : List Tree → List Tree → List (List ℕ) → List (List ℕ) → State → State → Type 0
-  Run vs ws bs cs = Compared One (ReadsShape (choice_by extensible ps)) itself one_exact one_once vs ws bs cs
-
-  slots_once : IsRefusedOnce (errors_of (DecodesIntoSlots One))
-  slots_once old o e f new other ((vs, bs, here, (p, up), x, k), m) ((ws, cs, there, (q, on), y, l), n) = go (compare One (ReadsShape (choice_by extensible ps)) itself one_exact one_once old o vs ws bs cs here there p q)
-    where
-      i : (here ≡ at old here.rest) × AreOctets here.rest
-      i = run_end One (ReadsShape (choice_by extensible ps)) itself one_exact one_once old here vs bs p o
-
-      j : (there ≡ at old there.rest) × AreOctets there.rest
-      j = run_end One (ReadsShape (choice_by extensible ps)) itself one_exact one_once old there ws cs q o
-
-      go : Run vs ws bs cs here there → IsSameError e f × (new ≡ other)
-      go (same a b s) =
-          component_once cs there j.1 e f new other
-          (subst (λ z. FailsAtComponent (RefusesElement One) z there e new) b (subst (λ (z : State). FailsAtComponent (RefusesElement One) bs z e new) s k), m) (l, n)
-      go (longer g) = absurd (component_stuck old here bs cs e new i.0 i.1 m on k g)
-      go (shorter g) = absurd (component_stuck old there cs bs f other j.0 j.1 n up l g)
-
-  slots_not_both : (old : State) → AreOctets old.rest → (fields : List Tree) (e : DecodeError) (new other : State) → DecodesIntoSlots One old (Ok fields) new → DecodesIntoSlots One old (Err e) other → (IsOutOfMemory e.kind → ⊥) → ⊥
-  slots_not_both old o vs e new other (bs, (p, up), end) (ws, cs, there, (q, on), y, l) m = go (compare One (ReadsShape (choice_by extensible ps)) itself one_exact one_once old o vs ws bs cs new there p q)
-    where
-      j : (there ≡ at old there.rest) × AreOctets there.rest
-      j = run_end One (ReadsShape (choice_by extensible ps)) itself one_exact one_once old there ws cs q o
-
-      go : Run vs ws bs cs new there → ⊥
-      go (same a b s) = y (subst (λ (z : State). Ended z.closing z.rest) s end)
-      go (longer g) = g.more end
-      go (shorter g) = component_stuck old there cs bs e other j.0 j.1 m up l g
-
-  slots_same : (old : State) → AreOctets old.rest → (vs ws : List Tree) (new other : State) → DecodesIntoSlots One old (Ok vs) new → DecodesIntoSlots One old (Ok ws) other → (vs ≡ ws) × (new ≡ other)
-  slots_same old o vs ws new other (bs, (p, up), end) (cs, (q, on), done) = go (compare One (ReadsShape (choice_by extensible ps)) itself one_exact one_once old o vs ws bs cs new other p q)
-    where
-      go : Run vs ws bs cs new other → (vs ≡ ws) × (new ≡ other)
-      go (same a b s) = (same_trees vs ∙ (a ∙ sym (same_trees ws)), s)
-      go (longer g) = absurd (g.more end)
-      go (shorter g) = absurd (g.more done)
-
-  -- ---- the whole SET
   module _ {D : Type 0} (tree : D → Tree) (names : List (List ℕ)) where
     named_once : IsRefusedOnce (errors_of (DecodesNamedContents extensible ps tree name names errors))
-    named_once old o e f new other (inl a, m) (inl b, n) = slots_once old o e f new other (a, m) (b, n)
-    named_once old o e f new other (inl a, m) (inr (ws, b, y), n) = absurd (slots_not_both old o ws e other new b a m)
-    named_once old o e f new other (inr (vs, a, x), m) (inl b, n) = absurd (slots_not_both old o vs f new other a b n)
-    named_once old o e f new other (inr (vs, a, x), m) (inr (ws, b, y), n) =
-        let p = slots_same old o vs ws new other a b in
-        (made_once extensible ps tree names old.rule ws e f m n (subst (λ z. MakesOfReadings {D = D} extensible ps tree names old.rule z (Err e)) p.0 x.0) y.0, p.1)
+    named_once old o = up_to_made extensible ps One itself one_exact one_once (λ (l : List Tree). l) (MakesNamed extensible ps tree names old.rule) fails old o
+      where
+        fails : (fields others : List Tree) → map itself fields ≡ map itself others → (e f : DecodeError) → Rejects (MakesNamed extensible ps tree names old.rule) fields e → Rejects (MakesNamed extensible ps tree names old.rule) others f → IsSameError e f
+        fails fields others p e f (x, m) (y, n) =
+            let q : fields ≡ others = same_trees fields ∙ (p ∙ sym (same_trees others)) in
+            made_once extensible ps tree names old.rule others e f m n (subst (λ z. MakesOfReadings {D = D} extensible ps tree names old.rule z (Err e)) q x.0) y.0
 
     pub set_apart : (tag : Tag) → AreApart (errors_of (DecodesNamedParts extensible ps tree name names errors tag)) (ReadsShape (set_by extensible tag ps))
-    set_apart tag = exactly_apart _ (ReadsShape (set_by extensible tag ps))
-        (λ old o e new a. set_exact extensible ps name errors tree names tag old o (Err e) new a)
-        (inside_once (DecodesNamedContents extensible ps tree name names errors) (SortedSetReads extensible ps) tree (contents_exact extensible ps name errors tree names) (sequence_header tag) named_once)
+    set_apart tag =
+        let contents = DecodesNamedContents extensible ps tree name names errors in
+        exactly_apart _ (ReadsShape (set_by extensible tag ps)) (λ old o e new a. set_exact extensible ps name errors tree names tag old o (Err e) new a)
+        (inside_determined contents (exactly_determined contents (SortedSetReads extensible ps) tree (contents_exact extensible ps name errors tree names) named_once) (sequence_header tag)).once

@@ -37,8 +37,8 @@ use Rattle.rasn_de.proofs.Constructed.Opening.{closed_end}
 use Rattle.rasn_de.proofs.Constructed.Optional.{sought_default_decodes}
 use Rattle.rasn_de.proofs.Constructed.ValueErrors.{perhaps_or, sought_or, sought_failed}
 use Rattle.rasn_de.proofs.OwnTypes.Parts.{no_parts, part_got, optional_part, optional_fails, default_fails}
-use Rattle.rasn.specs.OneRefusal.{ReadingBy, ReadsShape, Refuses, Settles}
-use Rattle.rasn.proofs.OneRefusal.Calls.{octets_end, IsExactCall, or_settles}
+use Rattle.rasn.specs.OneRefusal.{ReadsShape, Refuses, Settles}
+use Rattle.rasn.proofs.OneRefusal.Calls.{octets_end, IsExactCall, LeaveEnds, exactly_ends, or_settles}
 use Rattle.rasn.proofs.OneRefusal.Inside.{or_exact, prefix_exact}
 use Rattle.rasn.proofs.OneRefusal.Parts.{in_parts_exact, sequence_exact}
 use Rattle.rasn.proofs.OneRefusal.Optional.{made_exact}
@@ -83,7 +83,7 @@ header_fault d rule depth l o p e = elim (chosen (nat_eq depth 0) (Err (parse.Ex
         (subst (λ (x : ParseError × List ℕ). x.0 ≢ parse.OutOfMemory) z (λ w. cc), subst (λ (x : ParseError × List ℕ). IsEnd l x.1) z (IsEnd-refl l))
 
 -- What is inside a value is decoded or refused.
-module _ {D : Type 0} (read : Call D) (reads : ReadingBy) (tree : D → Tree) (exact : IsExactCall read reads tree) (all : Settles read) (d : ConstructedHeader) where
+module _ {D : Type 0} (read : Call D) (ends : LeaveEnds read) (all : Settles read) (d : ConstructedHeader) where
   pub inside_settles : Settles (DecodesInside read d)
   inside_settles old o b passed failed = go (constructed_header_at d old.rule old.depth old.rest) refl
     where
@@ -100,7 +100,7 @@ module _ {D : Type 0} (read : Call D) (reads : ReadingBy) (tree : D → Tree) (e
           let s = IsEnd-header (form old.rule) (expected_header d old.rule) old.rest h o e in
           let w = frame_inside old.rest f in
           let octets = (frame_octets old.rest o f).1 in
-          all (contents_state d old h) octets (omega (arith, w, b)) (λ v left r. closing v left r (exact (contents_state d old h) octets (Ok v) left r).end s (end_at h.extent h.rest left.rest) refl)
+          all (contents_state d old h) octets (omega (arith, w, b)) (λ v left r. closing v left r (ends (contents_state d old h) octets v left r) s (end_at h.extent h.rest left.rest) refl)
           (λ e left r. failed e (at old h.rest) ((kept h.rest s, inside h q left r.0 refl), r.1))
         where
           left_end : (x : Extent) (rest left : List ℕ) → IsEnd (octets_inside x rest) left → x ≡ indefinite → IsEnd rest left
@@ -126,7 +126,7 @@ module _ {D : Type 0} (read : Call D) (reads : ReadingBy) (tree : D → Tree) (e
 
 -- An explicit tag.
 pub prefix_call_settles : {D : Type 0} (s : Shape) (tree : D → Tree) (errors : Errors) → Settles (DecodesOr s tree errors) → (tag : Tag) → Settles (DecodesPrefixBy s tree errors tag)
-prefix_call_settles s tree errors all tag = inside_settles (DecodesOr s tree errors) (ReadsShape s) tree (or_exact s tree errors) all (prefix_header tag)
+prefix_call_settles s tree errors all tag = inside_settles (DecodesOr s tree errors) (exactly_ends (DecodesOr s tree errors) (ReadsShape s) tree (or_exact s tree errors)) all (prefix_header tag)
 
 pub prefix_settles : {D : Type 0} (s : Shape) (tree : D → Tree) (errors : Errors) → Settles (DecodesOr s tree errors) → (tag : Tag) → Settles (DecodesOr (prefix tag s) tree (errors_of (DecodesPrefixBy s tree errors tag)))
 prefix_settles s tree errors all tag =
@@ -180,7 +180,7 @@ module _ {X R D : Type 0} (p : Presence) (s : Shape) (ps : Parts) (one : Call X)
 pub sequence_settles : {D : Type 0} (ps : Parts) (tree : D → Tree) (errors : Errors) → Settles (DecodesInParts ps tree errors) → needs_no_initializer ps ≡ true → (tag : Tag) → Settles (DecodesOr (seq tag ps) tree (errors_of (DecodesSequenceParts ps tree errors tag)))
 sequence_settles ps tree errors all plain tag =
     or_settles (DecodesSequenceParts ps tree errors tag) (seq tag ps) tree (sequence_exact ps tree errors plain tag)
-    (inside_settles (DecodesInParts ps tree errors) _ tree (λ old o r new a. in_parts_exact ps tree errors old r new a) all (sequence_header tag))
+    (inside_settles (DecodesInParts ps tree errors) (exactly_ends (DecodesInParts ps tree errors) (ReadsParts ps) tree (λ old o r new a. in_parts_exact ps tree errors old r new a)) all (sequence_header tag))
 
 -- A part that must be present, one that may be left out, and an addition.
 module _ {A R D : Type 0} (s : Shape) (ps : Parts) (first others : Errors) (first_tree : A → Tree) (rest_tree : R → Tree) (rest_all : Settles (DecodesInParts ps rest_tree others)) (tree : D → Tree) where

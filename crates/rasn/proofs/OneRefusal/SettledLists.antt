@@ -30,7 +30,7 @@ use Rattle.rasn_de.proofs.Constructed.NextElement.{passes_more}
 use Rattle.rasn_de.proofs.Constructed.SetOfElements.{each_decodes, in_order_decodes, passes_from}
 use Rattle.rasn_de.proofs.Constructed.ValueErrors.{elements_by, in_order_by, or_decodes, sequence_of_or, set_of_or}
 use Rattle.rasn.specs.OneRefusal.{ReadingBy, ReadsShape, Settles}
-use Rattle.rasn.proofs.OneRefusal.Calls.{octets_end, IsExactCall, or_settles}
+use Rattle.rasn.proofs.OneRefusal.Calls.{octets_end, IsExactCall, exactly_ends, or_settles}
 use Rattle.rasn.proofs.OneRefusal.Inside.{or_exact}
 use Rattle.rasn.proofs.OneRefusal.OpenRead.{open_or}
 use Rattle.rasn.proofs.OneRefusal.Settled.{ends_shorter, inside_settles}
@@ -102,8 +102,9 @@ module _ {D : Type 0} (s : Shape) (tree : D → Tree) (errors : Errors) (all : S
       let elements = λ (v : Vec D Global). v.items in
       or_settles (DecodesSequenceOfBy (DecodesOr s tree errors) tag c) (list tag s c.size) (λ (v : Vec D Global). list_tree tree v.items) (λ old o r new a. sequence_of_or s tree errors tag c old (λ _. o) r new a)
       (sized_settles (DecodesElements (DecodesOr s tree errors) elements) (λ (v : Vec D Global). vec_len v) tag c
-      (inside_settles (DecodesElements (DecodesOr s tree errors) elements) (ReadsElements s) (λ (v : Vec D Global). list_tree tree v.items)
-      (λ old o r new a. each_decodes s tree elements old r new (elements_by (DecodesOr s tree errors) (Decodes s tree) (or_decodes s tree errors) elements old r new a))
+      (inside_settles (DecodesElements (DecodesOr s tree errors) elements)
+      (exactly_ends (DecodesElements (DecodesOr s tree errors) elements) (ReadsElements s) (λ (v : Vec D Global). list_tree tree v.items)
+      (λ old o r new a. each_decodes s tree elements old r new (elements_by (DecodesOr s tree errors) (Decodes s tree) (or_decodes s tree errors) elements old r new a)))
       (elements_settle (DecodesOr s tree errors) (ReadsShape s) tree (or_exact s tree errors) all elements (λ vs b. (vec_of vs b, refl))) (list_header tag)))
 
   pub set_of_settles : Settles (DecodesOr (set_of tag s c.size) (λ (v : List D). set_elements (list_tree tree v)) (errors_of (DecodesSetOfBy (DecodesOr s tree errors) tag c)))
@@ -111,8 +112,9 @@ module _ {D : Type 0} (s : Shape) (tree : D → Tree) (errors : Errors) (all : S
       let elements = λ (v : List D). v in
       or_settles (DecodesSetOfBy (DecodesOr s tree errors) tag c) (set_of tag s c.size) (λ (v : List D). set_elements (list_tree tree v)) (λ old o r new a. set_of_or s tree errors tag c old (λ _. o) r new a)
       (sized_settles (DecodesElementsInOrder (DecodesOr s tree errors) elements) (λ (v : List D). length v) tag c
-      (inside_settles (DecodesElementsInOrder (DecodesOr s tree errors) elements) (ReadsSetElements s) (λ (v : List D). set_elements (list_tree tree v))
-      (λ old o r new a. in_order_decodes s tree elements old r new (in_order_by (DecodesOr s tree errors) (Decodes s tree) (or_decodes s tree errors) elements old r new a))
+      (inside_settles (DecodesElementsInOrder (DecodesOr s tree errors) elements)
+      (exactly_ends (DecodesElementsInOrder (DecodesOr s tree errors) elements) (ReadsSetElements s) (λ (v : List D). set_elements (list_tree tree v))
+      (λ old o r new a. in_order_decodes s tree elements old r new (in_order_by (DecodesOr s tree errors) (Decodes s tree) (or_decodes s tree errors) elements old r new a)))
       (in_order_settle (DecodesOr s tree errors) (ReadsShape s) tree (or_exact s tree errors) all elements (λ vs b. (vs, refl))) (list_header tag)))
 
 -- Unknown values.

@@ -41,7 +41,7 @@ use Rattle.rasn_de.proofs.OwnTypes.Alternatives.{OneAlternative}
 use Rattle.rasn_de.proofs.OwnTypes.Parts.{default_part, default_fails, own_default_fails}
 use Rattle.rasn_de.proofs.OwnTypes.SetPartTypes.{placed_here, placed_other, unknown_refused, unknown_placed, named_refused, next_read, named_takes_nothing, gathered_came, gathered_missing, gathered_optional, ReadTo, none_read, next_passes, all_made, made_twice, made_named, untold_named, named_fails}
 use Rattle.rasn.specs.OneRefusal.{Refuses, IsName, Settles, SettlesAt, PutsByTag, AreSlotsSettled}
-use Rattle.rasn.proofs.OneRefusal.Calls.{octets_end, or_settles}
+use Rattle.rasn.proofs.OneRefusal.Calls.{octets_end, exactly_ends, or_settles}
 use Rattle.rasn.proofs.OneRefusal.OpenRead.{open_or}
 use Rattle.rasn.proofs.OneRefusal.Settled.{ends_shorter, inside_settles, present_settles}
 use Rattle.rasn.proofs.OneRefusal.SettledLists.{vec_of, strict_or}
@@ -275,4 +275,4 @@ module _ {P S : Type 0} (extensible : Bool) (ps : Parts) (tree : P → Tree) (he
   pub set_settles : (tag : Tag) → Settles (DecodesOr (set_by extensible tag ps) tree (errors_of (DecodesNamedParts extensible ps tree name names errors tag)))
   set_settles tag =
       or_settles (DecodesNamedParts extensible ps tree name names errors tag) (set_by extensible tag ps) tree (set_exact extensible ps name errors tree names tag)
-      (inside_settles Contents (SortedSetReads extensible ps) tree (contents_exact extensible ps name errors tree names) contents_settle (sequence_header tag))
+      (inside_settles Contents (exactly_ends Contents (SortedSetReads extensible ps) tree (contents_exact extensible ps name errors tree names)) contents_settle (sequence_header tag))

@@ -399,7 +399,7 @@ null_there =
     let old = front Der (5 ∷ 0 ∷ 9 ∷ []) in
     (null_ensured (in_universal 5) old (at old (9 ∷ [])) (Ok tt) (omega arith, (omega arith, (omega arith, tt))) ((refl, refl), refl)).reads
 
-own_tags : HaveOwnTags two
+pub own_tags : HaveOwnTags two
 own_tags = (refl, (in_universal 1, refl, λ h. elim h [ inl e ↦ one_isnt_five e | inr n ↦ n ]), (refl, (in_universal 5, refl, λ n. n), tt))
 
 pub alternative_read : IsNotRefused choice_errors Der (5 ∷ 0 ∷ 9 ∷ [])
