@@ -98,11 +98,13 @@ impl<'text> Catalog<'text> {
         call: &Call,
         candidates: Candidates,
     ) -> Result<Known<'text>, Fault> {
-        if let Some(read) = self.read {
-            return known_of(alloc, read, call, candidates);
-        }
-        let read = modules_for(alloc, call, candidates)?;
-        known_of(alloc, &read, call, candidates)
+        let Some(read) = self.read else {
+            let read = modules_for(alloc, call, candidates)?;
+            let wanted = types_for(alloc, &read, call, candidates, false)?;
+            return known_of(alloc, &read, call, candidates, wanted);
+        };
+        let wanted = types_for(alloc, read, call, candidates, true)?;
+        known_of(alloc, read, call, candidates, wanted)
     }
 }
 
@@ -174,15 +176,15 @@ fn contents_for(work: Work) -> &'static [&'static str] {
     }
 }
 
-/// Returns the types of these modules that a message of a call may be of, in one schema with those
-/// by which what it holds is shown.
+/// Returns these types of messages of a call in one schema with those by which what they hold is
+/// shown.
 fn known_of<'text>(
     alloc: Global,
     read: &Modules<'text>,
     call: &Call,
     candidates: Candidates,
+    wanted: Vec<TypeRef<'text>>,
 ) -> Result<Known<'text>, Fault> {
-    let wanted = types_for(alloc, read, call, candidates)?;
     let mut all = Vec::from_slice(alloc, wanted.as_slice())?;
     for name in contents_for(call.work) {
         if let Some(of) = read.built_in(CONTENTS, name) {
@@ -229,19 +231,20 @@ fn no_schema(alloc: Global, library: &Library<'_>) -> Fault {
     }
 }
 
-/// Returns the types that a message of a call may be of: of modules that aren't built in those that
-/// no other type of these uses, at most 100, and those of standards.
+/// Returns the types of these modules that a message of a call may be of: of those that aren't built
+/// in, if there are some, the types that no other of them uses, at most 100, and those of standards.
 fn types_for<'text>(
     alloc: Global,
     read: &Modules<'text>,
     call: &Call,
     candidates: Candidates,
+    has_own: bool,
 ) -> Result<Vec<TypeRef<'text>>, Fault> {
     if let (Candidates::Named, Some(name)) = (candidates, &call.type_name) {
         return Ok(vec![in alloc; named_type(alloc, read, name)?]?);
     }
     let mut types = Vec::new(alloc);
-    if candidates == Candidates::Tried {
+    if has_own && candidates == Candidates::Tried {
         let (own, _) = types_by_origin(alloc, read)?;
         types = unused_types(alloc, read, own.as_slice())?;
         types.truncate(MOST_TRIED);

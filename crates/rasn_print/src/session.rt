@@ -1,4 +1,5 @@
 //! Goes over the messages of inputs.
+ghost use Rattle.std.specs.Prelude.{◌≡◌, true};
 
 use crate::catalog::Catalog;
 use crate::command_line::{Call, Work};
@@ -36,12 +37,16 @@ pub struct Session<'a, W: Write + Drop, E: Write + Drop> {
 
 impl<W: Write + Drop, E: Write + Drop> Session<'_, W, E> {
     /// Writes octets.
-    fn write(&mut self, octets: &[u8]) -> Result<(), Fault> {
+    fn write(&mut self, octets: &[u8]) -> Result<(), Fault>
+        ensures { self.new.is_refused ≡ self.old.is_refused }
+    {
         self.output.write_all(octets).map_err(Fault::of_write)
     }
 
     /// Writes why a message of the input with this name is refused.
-    fn refuse<T: fmt::Display>(&mut self, name: &str, reason: &T) -> Result<(), Fault> {
+    fn refuse<T: fmt::Display>(&mut self, name: &str, reason: &T) -> Result<(), Fault>
+        ensures { self.new.is_refused ≡ true }
+    {
         self.is_refused = true;
         let line = line_of(self.alloc, name, reason)?;
         self.refusals
@@ -54,7 +59,9 @@ impl<W: Write + Drop, E: Write + Drop> Session<'_, W, E> {
     /// # Errors
     /// `Write` if it can't be written, `Closed` if its reader has gone, `Memory` if memory runs
     /// out.
-    pub fn flush(&mut self) -> Result<(), Fault> {
+    pub fn flush(&mut self) -> Result<(), Fault>
+        ensures { self.new.is_refused ≡ self.old.is_refused }
+    {
         self.output.flush().map_err(Fault::of_write)
     }
 
@@ -200,7 +207,9 @@ impl<W: Write + Drop, E: Write + Drop> Session<'_, W, E> {
     }
 
     /// Returns what is printed for a message.
-    fn answer(&mut self, input: &Input<'_>) -> Result<Answer, Fault> {
+    fn answer(&mut self, input: &Input<'_>) -> Result<Answer, Fault>
+        ensures { self.new.is_refused ≡ self.old.is_refused }
+    {
         let context = Context {
             alloc: self.alloc,
             call: self.call,
@@ -211,7 +220,9 @@ impl<W: Write + Drop, E: Write + Drop> Session<'_, W, E> {
     }
 
     /// Writes a line for each departure of a message from DER, and how many there are.
-    fn write_departures(&mut self, name: &str, reasons: &[Reason]) -> Result<(), Fault> {
+    fn write_departures(&mut self, name: &str, reasons: &[Reason]) -> Result<(), Fault>
+        ensures { self.new.is_refused ≡ true }
+    {
         let alloc = self.alloc;
         self.is_refused = true;
         for reason in reasons {
@@ -301,7 +312,9 @@ impl<W: Write + Drop, E: Write + Drop> Session<'_, W, E> {
 
     /// Writes for which reasons the line with this number is refused: as objects of JSON if that is
     /// asked for, or else in a line.
-    fn refuse_line(&mut self, name: &str, number: usize, reasons: &[Reason]) -> Result<(), Fault> {
+    fn refuse_line(&mut self, name: &str, number: usize, reasons: &[Reason]) -> Result<(), Fault>
+        ensures { self.new.is_refused ≡ true }
+    {
         let alloc = self.alloc;
         let has_json = self.call.has_json_errors;
         self.is_refused = true;
@@ -327,7 +340,9 @@ impl<W: Write + Drop, E: Write + Drop> Session<'_, W, E> {
     }
 
     /// Returns what is printed for the octets that a line denotes, or for those of its JSON.
-    fn line_answer(&mut self, line: &[u8]) -> Result<Answer, Fault> {
+    fn line_answer(&mut self, line: &[u8]) -> Result<Answer, Fault>
+        ensures { self.new.is_refused ≡ self.old.is_refused }
+    {
         let alloc = self.alloc;
         let line = without_mark(line);
         let Some(octets) = from_line(alloc, self.call.work, line)? else {
